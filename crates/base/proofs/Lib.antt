@@ -1,0 +1,4 @@
+-- The laws that every layer shares.
+pub mod Tests
+pub mod Lists
+pub mod Digits

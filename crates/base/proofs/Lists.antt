@@ -1,0 +1,49 @@
+-- Laws of lists.
+-- Assumes nothing.
+use mathlib.Core.Path.{_≡_, refl}
+use Prim.Native.Nat.{ℕ, _-_, _≤_, _<_}
+use native.Mathlib.Omega.{arith}
+use mathlib.Core.Bool.{Bool, true, false, _&&_, false≢true}
+use mathlib.Core.List.{List, [], _∷_, _++_}
+use lib.Dec.{eqb}
+use lib.ListN.{length, take, drop, length-drop}
+use lib.Seq.{take-all}
+use borrow.Author.Tests.{eq-eqb, eqb-true}
+use Rattle.base.specs.Lists.{All, all-empty, all-cons, every, equal}
+use Rattle.base.proofs.Tests.{and-left, and-right, and-both}
+
+-- ---- parts
+
+-- a part up to the end, as `&s[j..]` has it
+pub rest : (s : List ℕ) (j : ℕ) → take (length s - j) (drop j s) ≡ drop j s
+rest s j = take-all (length s - j) (drop j s) (omega (arith, length-drop j s))
+
+pub cons-same : {x y : ℕ} {xs ys : List ℕ} → x ≡ y → xs ≡ ys → x ∷ xs ≡ y ∷ ys
+cons-same e t = cc
+
+-- ---- every element
+
+pub every-all : (p : ℕ → Bool) (l : List ℕ) → every p l ≡ true → All (λ (x : ℕ). p x ≡ true) l
+unfolding every
+every-all p [] h = all-empty
+every-all p (x ∷ xs) h = all-cons (and-left (p x) (every p xs) h) (every-all p xs (and-right (p x) (every p xs) h))
+
+pub all-every : (p : ℕ → Bool) (l : List ℕ) → All (λ (x : ℕ). p x ≡ true) l → every p l ≡ true
+unfolding every
+all-every p [] h = refl
+all-every p (x ∷ xs) (all-cons e h) = and-both (p x) (every p xs) e (all-every p xs h)
+
+-- ---- equality
+
+pub equal-same : (a b : List ℕ) → equal a b ≡ true → a ≡ b
+unfolding equal
+equal-same [] [] h = refl
+equal-same [] (y ∷ ys) h = absurd (false≢true h)
+equal-same (x ∷ xs) [] h = absurd (false≢true h)
+equal-same (x ∷ xs) (y ∷ ys) h =
+    cons-same (eqb-true x y (and-left (eqb x y) (equal xs ys) h)) (equal-same xs ys (and-right (eqb x y) (equal xs ys) h))
+
+pub equal-refl : (a : List ℕ) → equal a a ≡ true
+unfolding equal
+equal-refl [] = refl
+equal-refl (x ∷ xs) = rw (eq-eqb x x refl) (equal-refl xs)

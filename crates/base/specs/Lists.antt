@@ -1,0 +1,23 @@
+-- Properties of every element of a list, as a predicate and as a test; equality of two lists of numbers as a test.
+-- Assumes nothing.
+use Prim.Native.Nat.{ℕ}
+use mathlib.Core.Bool.{Bool, true, false, _&&_}
+use mathlib.Core.List.{List, [], _∷_}
+use lib.Dec.{eqb}
+
+-- P holds of every element
+pub data All {A : Type 0} (P : A → Type 0) : List A → Type 0 where
+  all-empty : All P []
+  all-cons : {x : A} {xs : List A} → P x → All P xs → All P (x ∷ xs)
+
+-- the test p passes on every element
+unfoldable pub every : (ℕ → Bool) → List ℕ → Bool
+every p [] = true
+every p (x ∷ xs) = p x && every p xs
+
+-- the two lists are the same
+unfoldable pub equal : List ℕ → List ℕ → Bool
+equal [] [] = true
+equal [] (y ∷ ys) = false
+equal (x ∷ xs) [] = false
+equal (x ∷ xs) (y ∷ ys) = eqb x y && equal xs ys
