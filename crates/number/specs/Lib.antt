@@ -1,0 +1,5 @@
+-- The definitions that the contracts cite.
+pub mod Value
+pub mod Reading
+pub mod Spelling
+pub mod Billionths
