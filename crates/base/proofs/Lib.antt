@@ -1,4 +1,7 @@
 -- The laws that every layer shares.
 pub mod Tests
 pub mod Lists
+pub mod All
+pub mod Loops
 pub mod Digits
+pub mod Names
