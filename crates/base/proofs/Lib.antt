@@ -1,5 +1,8 @@
 -- The laws that every layer shares.
 pub mod Tests
 pub mod Lists
+pub mod All
+pub mod Loops
 pub mod Digits
 pub mod Tables
+pub mod Names

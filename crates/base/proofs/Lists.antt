@@ -1,16 +1,17 @@
 -- Laws of lists.
 -- Assumes nothing.
-use mathlib.Core.Path.{_≡_, refl}
-use Prim.Native.Nat.{ℕ, _-_}
+use mathlib.Core.Path.{_≡_, refl, ap, sym}
+use Prim.Native.Nat.{ℕ, suc, _-_}
 use native.Mathlib.Omega.{arith}
-use mathlib.Core.Bool.{Bool, true, false≢true}
+use mathlib.Core.Bool.{Bool, true, false, false≢true, and-false}
+use mathlib.Core.Logic.{⊎-elim}
 use mathlib.Core.List.{List, [], _∷_}
 use lib.Dec.{eqb}
 use lib.ListN.{length, take, drop, length-drop}
 use lib.Seq.{take-all}
 use borrow.Author.Tests.{eq-eqb, eqb-true}
 use Rattle.base.specs.Lists.{All, all-empty, all-cons, every, equal}
-use Rattle.base.proofs.Tests.{and-left, and-right, and-both}
+use Rattle.base.proofs.Tests.{and-left, and-right, and-both, decided}
 
 -- ---- parts
 
@@ -47,3 +48,15 @@ pub equal-refl : (a : List ℕ) → equal a a ≡ true
 unfolding equal
 equal-refl [] = refl
 equal-refl (x ∷ xs) = rw (eq-eqb x x refl) (equal-refl xs)
+
+pub equal-lengths : (a b : List ℕ) → (length a ≡ length b → ⊥) → false ≡ equal a b
+unfolding equal
+equal-lengths [] [] n = absurd (n refl)
+equal-lengths [] (y ∷ ys) n = refl
+equal-lengths (x ∷ xs) [] n = refl
+equal-lengths (x ∷ xs) (y ∷ ys) n =
+    let t : false ≡ equal xs ys = equal-lengths xs ys (λ e. n (ap suc e)) in
+    rw (← t) (sym (and-false (eqb x y)))
+
+pub equal-not : (a b : List ℕ) → (a ≡ b → ⊥) → equal a b ≡ false
+equal-not a b n = ⊎-elim (λ t. absurd (n (equal-same a b t))) (λ f. f) (decided (equal a b))

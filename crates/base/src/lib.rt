@@ -1,7 +1,10 @@
-// What every layer uses: a byte as a number, and whether it is a digit.
+// What every layer uses: a byte as a number, whether it is a digit, whether two texts are the same, and names.
+pub mod name;
+
 ghost use mathlib.Core.Path.{_≡_};
 ghost use Prim.Native.Nat.{_<_};
 ghost use Rattle.base.specs.Digits.{isDigit};
+ghost use Rattle.base.specs.Lists.{equal};
 
 // The byte as a number.
 pub fn wide(b: u8) -> u64
@@ -15,4 +18,21 @@ pub fn is_digit(b: u8) -> bool
     ensures { λ r. ⌜ r ≡ isDigit b ⌝ }
 {
     48 <= b && b <= 57
+}
+
+// Whether two slices hold the same bytes.
+pub fn equal(a: &[u8], b: &[u8]) -> bool
+    ensures { λ r. ⌜ r ≡ equal (now (a .entry)) (now (b .entry)) ⌝ }
+{
+    if a.len() != b.len() {
+        return false;
+    }
+    let mut i = 0;
+    while i < a.len() {
+        if a[i] != b[i] {
+            return false;
+        }
+        i += 1;
+    }
+    true
 }
