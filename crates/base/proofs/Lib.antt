@@ -3,6 +3,7 @@ pub mod Tests
 pub mod Lists
 pub mod All
 pub mod Loops
+pub mod Runs
 pub mod Digits
 pub mod Tables
 pub mod Names

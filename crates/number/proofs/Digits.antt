@@ -1,72 +1,20 @@
--- Laws of runs of digits and of the numbers that they write.
+-- Laws of the numbers that digits write.
 -- Assumes nothing.
 use mathlib.Core.Path.{_≡_, refl, sym, _∙_}
 use Prim.Native.Nat.{ℕ, suc, _+_, _*_, _-_, _^_, _≤_, _<_}
-use native.Mathlib.Nat.{zero-add, add-zero, add-suc, not-suc-le-zero, pow-succ', pow-le-pow-right}
+use native.Mathlib.Nat.{zero-add, add-zero, add-suc, pow-succ', pow-le-pow-right}
 use native.Mathlib.Numerals.{add-one}
 use native.Mathlib.Omega.{arith}
-use mathlib.Core.Bool.{Bool, true, false, _&&_}
+use mathlib.Core.Bool.{true, _&&_}
 use mathlib.Core.List.{List, [], _∷_, _++_}
-use mathlib.Core.Logic.{⊎-elim}
 use lib.Dec.{lit<}
-use lib.ListN.{length, getD, take, drop, drop-of-length-le}
+use lib.ListN.{length, getD, drop, drop-of-length-le}
 use lib.Seq.{drop-cons}
 use Rattle.base.specs.Digits.{isDigit}
 use Rattle.base.specs.Lists.{every}
-use Rattle.base.proofs.Tests.{and-left, and-right, and-both, decided}
+use Rattle.base.proofs.Tests.{and-left, and-right}
 use Rattle.base.proofs.Digits.{digit-low, digit-high}
-use Rattle.number.specs.Reading.{digitRun, DigitText, valueFrom}
-
--- ---- runs of digits
-
-pub run-on : (s : List ℕ) (i : ℕ) (r : Bool) → digitRun s ≡ i + digitRun (drop i s) → i < length s → r ≡ isDigit (getD s i 0) → r ≡ true → digitRun s ≡ i + 1 + digitRun (drop (i + 1) s)
-unfolding digitRun
-run-on s i r inv h e t =
-    let d : digitRun (drop i s) ≡ suc (digitRun (drop (i + 1) s)) = rw (add-one, drop-cons s i 0, sym e ∙ t) in
-    omega arith
-
-pub run-stops : (s : List ℕ) (i : ℕ) (r : Bool) → digitRun s ≡ i + digitRun (drop i s) → i < length s → r ≡ isDigit (getD s i 0) → r ≡ false → i ≡ digitRun s
-unfolding digitRun
-run-stops s i r inv h e t =
-    let d : digitRun (drop i s) ≡ 0 = rw (drop-cons s i 0, sym e ∙ t) in
-    omega arith
-
-pub run-ends : (s : List ℕ) (i : ℕ) → digitRun s ≡ i + digitRun (drop i s) → length s ≤ i → i ≡ digitRun s
-unfolding digitRun
-run-ends s i inv h =
-    let d : digitRun (drop i s) ≡ 0 = rw (drop-of-length-le s h) in
-    omega arith
-
-pub run-all : (s : List ℕ) → length s ≤ digitRun s → every isDigit s ≡ true
-unfolding digitRun every
-run-all [] h = refl
-run-all (x ∷ xs) h =
-    ⊎-elim (λ (d : isDigit x ≡ true). and-both (isDigit x) (every isDigit xs) d (run-all xs (omega (arith, rw d at h))))
-    (λ (d : isDigit x ≡ false). absurd (not-suc-le-zero (rw d at h))) (decided (isDigit x))
-
-pub run-take : (s : List ℕ) → every isDigit (take (digitRun s) s) ≡ true
-unfolding digitRun every
-run-take [] = refl
-run-take (x ∷ xs) =
-    ⊎-elim (λ (d : isDigit x ≡ true). rw d (rw d (run-take xs)))
-    (λ (d : isDigit x ≡ false). rw d) (decided (isDigit x))
-
-pub run-within : (s : List ℕ) → digitRun s ≤ length s
-unfolding digitRun
-run-within [] = omega arith
-run-within (x ∷ xs) =
-    ⊎-elim (λ (d : isDigit x ≡ true). rw d (omega (arith, run-within xs)))
-    (λ (d : isDigit x ≡ false). rw d (omega arith)) (decided (isDigit x))
-
-pub run-digits : (s : List ℕ) → every isDigit s ≡ true → digitRun s ≡ length s
-unfolding digitRun every
-run-digits [] h = refl
-run-digits (x ∷ xs) h = rw (and-left (isDigit x) (every isDigit xs) h, run-digits xs (and-right (isDigit x) (every isDigit xs) h))
-
-pub run-append : (w : List ℕ) (x : ℕ) (f : List ℕ) → every isDigit w ≡ true → isDigit x ≡ false → digitRun (w ++ x ∷ f) ≡ length w
-unfolding digitRun every
-run-append [] x f h d = rw d
-run-append (y ∷ w) x f h d = rw (and-left (isDigit y) (every isDigit w) h, run-append w x f (and-right (isDigit y) (every isDigit w) h) d)
+use Rattle.number.specs.Reading.{DigitText, valueFrom}
 
 -- ---- the number that digits write
 

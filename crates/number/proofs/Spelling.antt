@@ -13,14 +13,16 @@ use lib.ListN.{length, getD, take, drop, length-append, length-take}
 use lib.Seq.{take-append-seam, drop-append-add, getD-append-seam, split-at, take-length}
 use borrow.Author.Tests.{leb-true, eqb-true, eqb-false}
 use Rattle.base.specs.Digits.{isDigit}
+use Rattle.base.specs.Runs.{run}
+use Rattle.base.proofs.Runs.{run-whole, run-take, run-within, run-every, run-append}
 use Rattle.base.proofs.Lists.{rest, every-all, all-every}
 use Rattle.number.specs.declared.Decimal.{Decimal}
 use Rattle.number.specs.declared.Reading.{Reading}
 use Rattle.number.specs.declared.Reading.the-variants.{Number, Unreadable}
 use Rattle.number.specs.Value.{Bounded}
-use Rattle.number.specs.Reading.{digitRun, valueFrom, readFraction, read}
+use Rattle.number.specs.Reading.{point, valueFrom, readFraction, read}
 use Rattle.number.specs.Spelling.{Digits, Spells, whole, fraction}
-use Rattle.number.proofs.Digits.{run-all, run-take, run-within, run-digits, run-append, value-append, value-bound, value-short}
+use Rattle.number.proofs.Digits.{value-append, value-bound, value-short}
 use Rattle.number.proofs.Texts.{fraction-read, read-whole, read-point}
 
 -- ---- a reading that is a number passed every test
@@ -41,80 +43,80 @@ unfolding readFraction
 fraction-inverse before f d e =
     let one = tested (leb 1 (length f)) _ d e in
     let nine = tested (leb (length f) 9) _ d (one .1) in
-    let all = tested (eqb (digitRun f) (length f)) _ d (nine .1) in
-    let run : length f ≤ digitRun f = le-of-eq (sym (eqb-true (digitRun f) (length f) (all .0))) in
+    let all = tested (eqb (run isDigit f) (length f)) _ d (nine .1) in
+    let run : length f ≤ run isDigit f = le-of-eq (sym (eqb-true (run isDigit f) (length f) (all .0))) in
     record {
-      digits = record { all = every-all isDigit f (run-all f run); enough = leb-true 1 (length f) (one .0); few = leb-true (length f) 9 (nine .0) };
+      digits = record { all = every-all isDigit f (run-whole isDigit f run); enough = leb-true 1 (length f) (one .0); few = leb-true (length f) 9 (nine .0) };
       value = sym (number-same _ d (all .1));
     }
 
 -- ---- from the reading to the spelling
 
-module _ (s : List ℕ) (d : Decimal) (one : 1 ≤ digitRun s) (eight : digitRun s ≤ 8) where
-  whole-spells : digitRun s ≡ length s → Number (record { digits = valueFrom 0 s; decimals = 0 }) ≡ Number d → Spells s d
+module _ (s : List ℕ) (d : Decimal) (one : 1 ≤ run isDigit s) (eight : run isDigit s ≤ 8) where
+  whole-spells : run isDigit s ≡ length s → Number (record { digits = valueFrom 0 s; decimals = 0 }) ≡ Number d → Spells s d
   whole-spells full e =
-      whole (record { all = every-all isDigit s (run-all s (le-of-eq (sym full))); enough = rw (← full) one; few = rw (← full) eight })
+      whole (record { all = every-all isDigit s (run-whole isDigit s (le-of-eq (sym full))); enough = rw (← full) one; few = rw (← full) eight })
       (sym (number-same _ d e))
 
-  run-length : length (take (digitRun s) s) ≡ digitRun s
-  run-length = rw length-take (omega (arith, run-within s))
+  whole-length : length (take (run isDigit s) s) ≡ run isDigit s
+  whole-length = rw length-take (omega (arith, run-within isDigit s))
 
-  fraction-spells : (digitRun s ≡ length s → ⊥) → getD s (digitRun s) 0 ≡ 46 → FractionRead (valueFrom 0 (take (digitRun s) s)) (drop (digitRun s + 1) s) d → Spells s d
+  fraction-spells : (run isDigit s ≡ length s → ⊥) → getD s (run isDigit s) 0 ≡ point → FractionRead (valueFrom 0 (take (run isDigit s) s)) (drop (run isDigit s + 1) s) d → Spells s d
   fraction-spells part point r =
-      let inside : digitRun s < length s = omega (arith, run-within s) in
-      let w : List ℕ = take (digitRun s) s in
-      let f : List ℕ = drop (digitRun s + 1) s in
+      let inside : run isDigit s < length s = omega (arith, run-within isDigit s) in
+      let w : List ℕ = take (run isDigit s) s in
+      let f : List ℕ = drop (run isDigit s + 1) s in
       fraction w f
-      (split-at s (digitRun s) 0 inside ∙ rw (point, add-one))
-      (record { all = every-all isDigit w (run-take s); enough = rw run-length one; few = rw run-length eight })
+      (split-at s (run isDigit s) 0 inside ∙ rw (point, add-one))
+      (record { all = every-all isDigit w (run-take isDigit s); enough = rw whole-length one; few = rw whole-length eight })
       (r .digits)
       (r .value ∙ ap (λ (n : ℕ). record { digits = n; decimals = length f }) (sym (value-append 0 w f)))
 
 read-spelled : (s : List ℕ) (d : Decimal) → read s ≡ Number d → Spells s d
 unfolding read
 read-spelled s d e =
-    let one = tested (leb 1 (digitRun s)) _ d e in
-    let eight = tested (leb (digitRun s) 8) _ d (one .1) in
-    ends (leb-true 1 (digitRun s) (one .0)) (leb-true (digitRun s) 8 (eight .0)) (eqb (digitRun s) (length s)) refl (eight .1)
+    let one = tested (leb 1 (run isDigit s)) _ d e in
+    let eight = tested (leb (run isDigit s) 8) _ d (one .1) in
+    ends (leb-true 1 (run isDigit s) (one .0)) (leb-true (run isDigit s) 8 (eight .0)) (eqb (run isDigit s) (length s)) refl (eight .1)
   where
-    ends : 1 ≤ digitRun s → digitRun s ≤ 8 → (t : Bool) → eqb (digitRun s) (length s) ≡ t → cond t (Number (record { digits = valueFrom 0 s; decimals = 0 })) (cond (eqb (getD s (digitRun s) 0) 46) (readFraction (valueFrom 0 (take (digitRun s) s)) (drop (digitRun s + 1) s)) Unreadable) ≡ Number d → Spells s d
+    ends : 1 ≤ run isDigit s → run isDigit s ≤ 8 → (t : Bool) → eqb (run isDigit s) (length s) ≡ t → cond t (Number (record { digits = valueFrom 0 s; decimals = 0 })) (cond (eqb (getD s (run isDigit s) 0) point) (readFraction (valueFrom 0 (take (run isDigit s) s)) (drop (run isDigit s + 1) s)) Unreadable) ≡ Number d → Spells s d
     ends one eight true t h = whole-spells s d one eight (eqb-true _ _ t) h
     ends one eight false t h =
-        let point = tested (eqb (getD s (digitRun s) 0) 46) _ d h in
+        let point = tested (eqb (getD s (run isDigit s) 0) point) _ d h in
         fraction-spells s d one eight (eqb-false _ _ t) (eqb-true _ _ (point .0)) (fraction-inverse _ _ d (point .1))
 
 -- ---- from the spelling to the reading
 
-point-no-digit : isDigit 46 ≡ false
+point-no-digit : isDigit point ≡ false
 unfolding isDigit
 point-no-digit = refl
 
 module _ (w f : List ℕ) (g : Digits 1 8 w) (h : Digits 1 9 f) where
   text : List ℕ
-  text = w ++ 46 ∷ f
+  text = w ++ point ∷ f
 
   after-point : drop (length w + 1) text ≡ f
   unfolding text
-  after-point = drop-append-add w (46 ∷ f) 1
+  after-point = drop-append-add w (point ∷ f) 1
 
   fraction-taken : Number (record { digits = valueFrom (valueFrom 0 w) f; decimals = length f }) ≡ readFraction (valueFrom 0 w) (take (length text - (length w + 1)) (drop (length w + 1) text))
   fraction-taken =
-      let run : digitRun f ≡ length f = run-digits f (all-every isDigit f (h .all)) in
+      let full : run isDigit f ≡ length f = run-every isDigit f (all-every isDigit f (h .all)) in
       rw (rest text (length w + 1), after-point)
-      (fraction-read (valueFrom 0 w) f (digitRun f) (valueFrom (valueFrom 0 w) f) refl refl (le-of-eq (sym run)) (le-of-eq run) (h .enough) (h .few))
+      (fraction-read (valueFrom 0 w) f (run isDigit f) (valueFrom (valueFrom 0 w) f) refl refl (le-of-eq (sym full)) (le-of-eq full) (h .enough) (h .few))
 
-  pub point-read : Number (record { digits = valueFrom (valueFrom 0 w) f; decimals = length f }) ≡ read (w ++ 46 ∷ f)
+  pub point-read : Number (record { digits = valueFrom (valueFrom 0 w) f; decimals = length f }) ≡ read (w ++ point ∷ f)
   unfolding text
   point-read =
-      let run : digitRun text ≡ length w = run-append w 46 f (all-every isDigit w (g .all)) point-no-digit in
-      let inside : length w ≡ length text → ⊥ = λ e. omega (arith, length-append w (46 ∷ f)) in
-      read-point text (length w) (sym run) _ (valueFrom 0 w) (g .enough) (g .few) inside (getD-append-seam w 46 f 0)
-      (ap (valueFrom 0) (sym (take-append-seam w (46 ∷ f)))) fraction-taken
+      let full : run isDigit text ≡ length w = run-append isDigit w point f (all-every isDigit w (g .all)) point-no-digit in
+      let inside : length w ≡ length text → ⊥ = λ e. omega (arith, length-append w (point ∷ f)) in
+      read-point text (length w) (sym full) _ (valueFrom 0 w) (g .enough) (g .few) inside (getD-append-seam w point f 0)
+      (ap (valueFrom 0) (sym (take-append-seam w (point ∷ f)))) fraction-taken
 
 spelled-read : (s : List ℕ) (d : Decimal) → Spells s d → read s ≡ Number d
 spelled-read s d (whole g v) =
-    let run : digitRun s ≡ length s = run-digits s (all-every isDigit s (g .all)) in
-    sym (rw v (read-whole s (length s) (sym run) (valueFrom 0 s) (ap (valueFrom 0) (sym (take-length s))) (g .enough) (g .few) refl))
+    let full : run isDigit s ≡ length s = run-every isDigit s (all-every isDigit s (g .all)) in
+    sym (rw v (read-whole s (length s) (sym full) (valueFrom 0 s) (ap (valueFrom 0) (sym (take-length s))) (g .enough) (g .few) refl))
 spelled-read s d (fraction w f e g h v) = rw (e, v, value-append 0 w f) (sym (point-read w f g h))
 
 -- a text is readable exactly when it is w, or w ++ "." ++ f, of digits, 1 to 8 and 1 to 9 of them; and it reads to what they write

@@ -3,8 +3,10 @@
 ghost use mathlib.Core.Path.{_≡_};
 ghost use Prim.Native.Nat.{_^_, _≤_, _<_};
 ghost use lib.ListN.{length};
+ghost use Rattle.base.specs.Digits.{isDigit};
+ghost use Rattle.base.specs.Runs.{run};
 ghost use Rattle.number.specs.Value.{Bounded, same, greater, less, atLeast, atMost, covers};
-ghost use Rattle.number.specs.Reading.{digitRun, DigitText, valueFrom, readFraction, read, readable};
+ghost use Rattle.number.specs.Reading.{DigitText, valueFrom, readFraction, read, readable};
 ghost use Rattle.number.specs.Billionths.{unit, billionths};
 
 // A number as it is written: its digits as one integer, and how many of them are decimals.
@@ -21,7 +23,7 @@ pub enum Reading {
 
 // How many digits the text begins with.
 fn digit_run(s: &[u8]) -> usize
-    ensures { λ r. ⌜ (r ≡ digitRun (now (s .entry))) × (r ≤ length (now (s .entry))) ⌝ }
+    ensures { λ r. ⌜ (r ≡ run isDigit (now (s .entry))) × (r ≤ length (now (s .entry))) ⌝ }
 {
     let mut i = 0;
     while i < s.len() {

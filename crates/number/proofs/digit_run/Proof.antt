@@ -3,13 +3,14 @@ use borrow.Author.Needs.{needs}
 use mathlib.Core.Path.{_≡_}
 use Prim.Native.Nat.{_+_, _-_, _≤_}
 use lib.ListN.{length, drop}
-use Rattle.number.specs.Reading.{digitRun}
-use Rattle.number.proofs.Digits.{run-on, run-stops, run-ends}
+use Rattle.base.specs.Digits.{isDigit}
+use Rattle.base.specs.Runs.{run}
+use Rattle.base.proofs.Runs.{run-on, run-stops, run-ends}
 use Rattle.number.proofs.digit_run.Statement.{statement}
 use Rattle.number.proofs.digit_run.Tie as tie
 
 abbrev Inv-loop : tie.InvT-loop
-Inv-loop s i₀ i = (i ≤ length s) × (digitRun s ≡ i + digitRun (drop i s))
+Inv-loop s i₀ i = (i ≤ length s) × (run isDigit s ≡ i + run isDigit (drop i s))
 
 abbrev μ-loop : tie.MeasureT-loop
 μ-loop s i₀ i = length s - i
