@@ -5,5 +5,6 @@ pub mod All
 pub mod Loops
 pub mod Runs
 pub mod Digits
-pub mod Tables
+pub mod Below
 pub mod Names
+pub mod Parts

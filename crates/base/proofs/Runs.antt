@@ -1,6 +1,6 @@
 -- Laws of runs: the loop that counts one, and what a run holds.
 -- Assumes nothing.
-use mathlib.Core.Path.{_≡_, refl, sym, _∙_}
+use mathlib.Core.Path.{_≡_, refl, sym, ap, _∙_}
 use Prim.Native.Nat.{ℕ, suc, _+_, _≤_, _<_}
 use native.Mathlib.Nat.{not-suc-le-zero}
 use native.Mathlib.Numerals.{add-one}
@@ -10,7 +10,7 @@ use mathlib.Core.List.{List, [], _∷_, _++_}
 use mathlib.Core.Logic.{⊎-elim}
 use lib.ListN.{length, getD, take, drop, drop-of-length-le}
 use lib.Seq.{drop-cons}
-use Rattle.base.specs.Lists.{every}
+use Rattle.base.specs.Lists.{All, all-empty, all-cons, every}
 use Rattle.base.specs.Runs.{run}
 use Rattle.base.proofs.Tests.{and-left, and-right, and-both, decided}
 
@@ -71,3 +71,8 @@ module _ (p : ℕ → Bool) where
   unfolding run every
   run-append [] x f h d = rw d
   run-append (y ∷ w) x f h d = rw (and-left (p y) (every p w) h, run-append w x f (and-right (p y) (every p w) h) d)
+
+  pub run-then : (w t : List ℕ) → All (λ (x : ℕ). p x ≡ true) w → run p t ≡ 0 → run p (w ++ t) ≡ length w
+  unfolding run
+  run-then [] t all-empty z = z
+  run-then (x ∷ w) t (all-cons h all) z = rw h (ap suc (run-then w t all z))

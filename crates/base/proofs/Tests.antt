@@ -1,8 +1,11 @@
 -- Laws of Boolean tests.
 -- Assumes nothing.
-use mathlib.Core.Path.{_≡_, refl, sym}
+use Prim.Native.Nat.{ℕ}
+use mathlib.Core.Path.{_≡_, refl, sym, ap, _∙_}
 use mathlib.Core.Bool.{Bool, true, false, _&&_, _||_, or-true, true≢false, false≢true}
 use mathlib.Core.Logic.{_⊎_, inl, inr}
+use lib.Dec.{eqb}
+use borrow.Author.Tests.{ne-eqb}
 
 -- ---- conjunction
 
@@ -45,3 +48,7 @@ pub same-test : (a b : Bool) → (a ≡ true → b ≡ true) → (b ≡ true →
 same-test true b f g = sym (f refl)
 same-test false true f g = g refl
 same-test false false f g = refl
+
+-- two numbers that a test tells apart are not equal
+pub apart : (test : ℕ → Bool) (x y : ℕ) → test x ≡ true → test y ≡ false → eqb x y ≡ false
+apart test x y p q = ne-eqb x y (λ e. both-ways p (ap test e ∙ q))

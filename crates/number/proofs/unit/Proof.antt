@@ -8,7 +8,7 @@ use native.Mathlib.Omega.{arith}
 use lib.Dec.{eqb}
 use lib.ListN.{getD}
 use borrow.Author.Tests.{eqb-true}
-use Rattle.base.proofs.Tables.{table-rule}
+use Rattle.base.proofs.Below.{passes-same}
 use Rattle.number.specs.declared.Decimal.{Decimal}
 use Rattle.number.specs.Value.{Bounded}
 use Rattle.number.specs.Billionths.{unit}
@@ -26,13 +26,10 @@ units : List ℕ
 units =
     1000000000 ∷ 100000000 ∷ 10000000 ∷ 1000000 ∷ 100000 ∷ 10000 ∷ 1000 ∷ 100 ∷ 10 ∷ 1 ∷ []
 
-isUnit : ℕ → ℕ → Bool
-isUnit k u = eqb u (10 ^ (9 - k))
-
 unit-found : (d : Decimal) → Bounded d → (getD units (d .decimals) 0 ≡ unit d) × (getD units (d .decimals) 0 ≤ 10 ^ 9)
-unfolding units isUnit unit
+unfolding units unit
 unit-found d b =
-    let e : getD units (d .decimals) 0 ≡ unit d = eqb-true _ _ (table-rule isUnit units refl (d .decimals) (omega (arith, b .few-decimals))) in
+    let e : getD units (d .decimals) 0 ≡ unit d = passes-same (λ (k : ℕ). getD units k 0) (λ (k : ℕ). 10 ^ (9 - k)) 10 refl (d .decimals) (omega (arith, b .few-decimals)) in
     (e, rw e (unit-small d b))
 
 returns : tie.Need-returns

@@ -1,0 +1,7 @@
+-- The filter's text: its tree, its grammar, and the reader that the code follows.
+pub mod Operators
+pub mod Tree
+pub mod Strings
+pub mod Grammar
+pub mod Scan
+pub mod Reader

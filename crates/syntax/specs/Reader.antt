@@ -1,0 +1,76 @@
+-- The reader of filters, as a function that computes: by recursion on the nesting left, and along a chain of items.
+-- Assumes nothing.
+use Prim.Native.Nat.{ℕ, zero, suc}
+use mathlib.Core.Bool.{Bool, true, false, cond}
+use mathlib.Core.Option.{Option, none, some}
+use mathlib.Core.List.{List}
+use lib.Dec.{eqb, leb}
+use lib.ListN.{length}
+use Rattle.syntax.specs.Tree.{Tree, test, join, negation, Connective, and, or, testsOf}
+use Rattle.syntax.specs.Grammar.{round, deepest, mostTests}
+use Rattle.syntax.specs.Scan.{skipAt, testOf, headAt, connectiveAt, closeAt}
+use Rattle.syntax.specs.declared.Head.{Head}
+use Rattle.syntax.specs.declared.FoundConnective.{FoundConnective}
+use Rattle.syntax.specs.declared.FoundClose.{FoundClose}
+
+-- where what was read ends, and its tree
+pub data Parsed : Type 0 where
+  parsed : ℕ → Tree → Parsed
+  unparsed : Parsed
+
+abbrev pub connective : Bool → Connective
+connective true = and
+connective false = or
+
+abbrev pub negatedIf : Bool → Tree → Tree
+negatedIf true f = negation f
+negatedIf false f = f
+
+-- a bracket's filter, and what closes it
+abbrev pub closeBracket : Bool → Tree → FoundClose → Parsed
+closeBracket negated f (FoundClose.At q) = parsed q (negatedIf negated f)
+closeBracket negated f FoundClose.Nothing = unparsed
+
+abbrev pub inBracket : List ℕ → Bool → Parsed → Parsed
+inBracket xs negated (parsed q f) = closeBracket negated f (closeAt xs round q)
+inBracket xs negated unparsed = unparsed
+
+-- an item by what it begins with, where inner reads a filter one bracket deeper
+abbrev pub itemBy : List ℕ → (ℕ → Parsed) → Head → Parsed
+itemBy xs inner (Head.Test r) = parsed (r .value .next) (test (testOf xs r))
+itemBy xs inner (Head.Open q negated) = inBracket xs negated (inner q)
+itemBy xs inner Head.Nothing = unparsed
+
+abbrev pub andThen : (ℕ → Tree → Parsed) → (Tree → Tree) → Parsed → Parsed
+andThen next put (parsed q u) = next q (put u)
+andThen next put unparsed = unparsed
+
+abbrev pub chainBy : ℕ → Tree → (ℕ → Parsed) → (ℕ → Tree → Parsed) → FoundConnective → Parsed
+chainBy p f item next (FoundConnective.Next q a) = andThen next (join (connective a) f) (item q)
+chainBy p f item next FoundConnective.Nothing = parsed p f
+
+-- connectives and items from p on, after the tree f; the first number bounds how many
+unfoldable pub chainOf : ℕ → List ℕ → (ℕ → Parsed) → ℕ → Tree → Parsed
+chainOf zero xs item p f = unparsed
+chainOf (suc k) xs item p f = chainBy p f item (λ q u. chainOf k xs item q u) (connectiveAt xs p)
+
+-- an item and the chain after it: there are fewer connectives than bytes
+unfoldable pub filterOf : List ℕ → (ℕ → Parsed) → ℕ → Parsed
+filterOf xs item p = andThen (λ q f. chainOf (length xs) xs item q f) (λ f. f) (item p)
+
+-- an item at p, with brackets nested at most d deep
+unfoldable pub itemAt : ℕ → List ℕ → ℕ → Parsed
+itemAt zero xs p = itemBy xs (λ q. unparsed) (headAt xs round p)
+itemAt (suc d) xs p = itemBy xs (λ q. filterOf xs (λ k. itemAt d xs k) q) (headAt xs round p)
+
+unfoldable pub filterAt : ℕ → List ℕ → ℕ → Parsed
+filterAt d xs p = filterOf xs (λ k. itemAt d xs k) p
+
+-- a whole text: a filter between spaces, with few enough tests
+abbrev pub whole : List ℕ → Parsed → Option Tree
+whole xs (parsed q f) = cond (eqb (skipAt xs q) (length xs)) (cond (leb (length (testsOf f)) mostTests) (some f) none) none
+whole xs unparsed = none
+
+-- the tree of the text, if it is a filter
+unfoldable pub read : List ℕ → Option Tree
+read xs = whole xs (filterAt deepest xs (skipAt xs 0))

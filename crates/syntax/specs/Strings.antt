@@ -1,0 +1,41 @@
+-- The bytes of values: bare words, and strings between double quotes with their escapes.
+-- Assumes nothing.
+use Prim.Native.Nat.{ℕ}
+use Prim.Native.Char.{code}
+use mathlib.Core.Path.{_≡_}
+use mathlib.Core.Bool.{Bool, true, false, cond, not, _&&_, _||_}
+use mathlib.Core.List.{List, [], _∷_}
+use lib.Dec.{eqb, leb}
+
+-- the double quote and the backslash
+abbrev pub quote : ℕ
+quote = 0x22
+
+abbrev pub backslash : ℕ
+backslash = 0x5c
+
+-- "bytes 0x21 to 0x7E, without ")" and "]""
+unfoldable pub isBare : ℕ → Bool
+isBare b = (leb 0x21 b && leb b 0x7e) && (not (eqb b (code ")")) && not (eqb b (code "]")))
+
+-- "bytes from 0x20 up save double quote and backslash"
+unfoldable pub isPlain : ℕ → Bool
+isPlain b = leb 0x20 b && (not (eqb b quote) && not (eqb b backslash))
+
+-- "the JSON escapes \" \\ \/ \b \f \n \r \t": the byte may follow a backslash
+unfoldable pub isEscape : ℕ → Bool
+isEscape b =
+    eqb b quote || (eqb b backslash || (eqb b (code "/") || (eqb b (code "b")
+    || (eqb b (code "f") || (eqb b (code "n") || (eqb b (code "r") || eqb b (code "t")))))))
+
+-- what a backslash and that byte stand for: backspace, form feed, line feed, carriage return, tab, or the byte itself
+unfoldable pub unescaped : ℕ → ℕ
+unescaped b =
+    cond (eqb b (code "b")) 0x08 (cond (eqb b (code "f")) 0x0c (cond (eqb b (code "n")) 0x0a
+    (cond (eqb b (code "r")) 0x0d (cond (eqb b (code "t")) 0x09 b))))
+
+-- what stands between the quotes, and the value that it writes
+pub data Quoted : List ℕ → List ℕ → Type 0 where
+  nothing-more : Quoted [] []
+  plain : {b : ℕ} {s v : List ℕ} → isPlain b ≡ true → Quoted s v → Quoted (b ∷ s) (b ∷ v)
+  escaped : {b : ℕ} {s v : List ℕ} → isEscape b ≡ true → Quoted s v → Quoted (backslash ∷ b ∷ s) (unescaped b ∷ v)
