@@ -5,12 +5,13 @@ use Prim.Native.Nat.{ℕ, _-_, _≤_, _<_}
 use native.Mathlib.Omega.{arith}
 use mathlib.Core.Bool.{Bool, true, false, _&&_, false≢true}
 use mathlib.Core.List.{List, [], _∷_, _++_}
+use mathlib.Core.Logic.{⊎-elim}
 use lib.Dec.{eqb}
 use lib.ListN.{length, take, drop, length-drop}
 use lib.Seq.{take-all}
 use borrow.Author.Tests.{eq-eqb, eqb-true}
 use Rattle.base.specs.Lists.{All, all-empty, all-cons, every, equal}
-use Rattle.base.proofs.Tests.{and-left, and-right, and-both}
+use Rattle.base.proofs.Tests.{and-left, and-right, and-both, decided}
 
 -- ---- parts
 
@@ -47,3 +48,6 @@ pub equal-refl : (a : List ℕ) → equal a a ≡ true
 unfolding equal
 equal-refl [] = refl
 equal-refl (x ∷ xs) = rw (eq-eqb x x refl) (equal-refl xs)
+
+pub equal-differ : (a b : List ℕ) → (a ≡ b → ⊥) → equal a b ≡ false
+equal-differ a b h = ⊎-elim (λ t. absurd (h (equal-same a b t))) (λ f. f) (decided (equal a b))

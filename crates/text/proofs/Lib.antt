@@ -1,0 +1,7 @@
+-- The laws of texts.
+pub mod Fold
+pub mod Parts
+pub mod Bar
+pub mod Readings
+mod Invariants
+mod Compare
