@@ -1,4 +1,5 @@
 -- The laws that every layer shares.
 pub mod Tests
 pub mod Lists
+pub mod Options
 pub mod Digits

@@ -4,4 +4,4 @@ pub mod Parts
 pub mod Bar
 pub mod Readings
 mod Invariants
-mod Compare
+pub mod Compare
