@@ -5,14 +5,13 @@ use Prim.Native.Nat.{ℕ, _+_, _≤_, _<_}
 use native.Mathlib.Nat.{zero-add}
 use native.Mathlib.Numerals.{add-one}
 use native.Mathlib.Omega.{arith}
-use mathlib.Core.Bool.{Bool, true, false}
 use mathlib.Core.List.{List, [], _∷_, _++_}
 use mathlib.Core.Logic.{_↔_, ⊎-elim}
 use lib.Dec.{eqb}
 use lib.ListN.{length, getD, drop, drop-of-length-le}
 use lib.Seq.{drop-cons}
 use borrow.Author.Tests.{eq-eqb, ne-eqb, eqb-true, eqb-false}
-use Rattle.base.specs.Lists.{All, all-empty, all-cons}
+use Rattle.base.specs.Lists.{all-empty, all-cons}
 use Rattle.base.proofs.Tests.{decided}
 use Rattle.text.specs.Bar.{bar, firstBar, NoBar, FirstBarAt, at-end, behind}
 use Rattle.text.proofs.Invariants.{Passed}

@@ -10,7 +10,7 @@ use lib.ListN.{length, getD, drop, length-drop}
 use lib.Seq.{drop-drop}
 use Rattle.base.proofs.Lists.{equal-differ}
 use Rattle.text.specs.Fold.{foldText}
-use Rattle.text.specs.Parts.{hasPrefix, hasInfix}
+use Rattle.text.specs.Parts.{hasPrefix}
 use Rattle.text.specs.Compare.{same, starts, ends, contains}
 use Rattle.text.proofs.Fold.{foldText-length}
 use Rattle.text.proofs.Parts.{prefix-step, prefix-differ, prefix-past, prefix-short, prefix-equal, prefix-fails, suffix-short, suffix-prefix, infix-found, infix-next, infix-short}
@@ -87,7 +87,7 @@ module _ (a b : List ℕ) where
 
     pub searched-next : (r : Bool) → r ≡ hasPrefix (drop at (foldText a)) (foldText b) → r ≡ false → at ≤ last → Searched a b last (at + 1)
     searched-next r e f h =
-        let some = prefix-fails (drop at (foldText a)) (foldText b) (sym e ∙ f) in
+        let nonempty = prefix-fails (drop at (foldText a)) (foldText b) (sym e ∙ f) in
         record {
           fits = inv .fits;
           end = inv .end;

@@ -1,12 +1,12 @@
 -- Laws of folding.
 -- Assumes nothing.
-use mathlib.Core.Path.{_≡_, sym, _∙_}
+use mathlib.Core.Path.{_≡_, sym}
 use Prim.Native.Nat.{ℕ, _+_, _≤_, _<_}
 use Prim.Native.Char.{code}
-use native.Mathlib.Omega.{arith}
 use mathlib.Core.List.{List, []}
-use lib.ListN.{length, getD, length-map, List·getD-map, drop-of-length-le}
+use lib.ListN.{length, getD, length-map, List·getD-map}
 use borrow.Author.Tests.{le-leb, lt-leb}
+use Rattle.base.proofs.Lists.{length-zero}
 use Rattle.text.specs.Fold.{foldByte, foldText}
 
 pub foldText-length : (s : List ℕ) → length (foldText s) ≡ length s
@@ -14,7 +14,7 @@ unfolding foldText
 foldText-length s = length-map s foldByte
 
 pub foldText-empty : foldText [] ≡ []
-foldText-empty = drop-of-length-le (foldText []) {i = 0} (omega (arith, foldText-length []))
+foldText-empty = length-zero (foldText []) (foldText-length [])
 
 -- ---- the byte at an index, by the byte of the text there
 

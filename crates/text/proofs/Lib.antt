@@ -4,4 +4,4 @@ pub mod Parts
 pub mod Bar
 pub mod Readings
 mod Invariants
-pub mod Compare
+mod Compare

@@ -10,6 +10,6 @@ use lib.Dec.{leb}
 unfoldable pub foldByte : ℕ → ℕ
 foldByte b = cond (leb (code "A") b && leb b (code "Z")) (b + 32) b
 
--- the whole text, folded. Only `foldText-length` and `folded_at` know that this is done byte by byte
+-- the whole text, folded. All else goes by its laws alone, so that a byte may come to fold by the byte before it
 unfoldable pub foldText : List ℕ → List ℕ
 foldText s = map foldByte s

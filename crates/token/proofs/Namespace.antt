@@ -1,31 +1,27 @@
--- Laws of the short names.
+-- Laws of the short names, a row at a time.
 -- Assumes nothing.
-use mathlib.Core.Path.{_≡_, refl, sym, ap, _∙_}
+use mathlib.Core.Path.{_≡_, refl}
 use Prim.Native.Nat.{ℕ}
 use mathlib.Core.Bool.{Bool, true, false}
 use mathlib.Core.List.{List, [], _∷_}
 use Rattle.text.specs.Compare.{same}
 use Rattle.token.specs.Namespace.{Short, shortNames, standsFor, namespaceOf}
 
--- n is what a system stands for by the rows left to try
-pub record Stands (rows : List Short) (s n : List ℕ) : Type 0 where
-  pub is : standsFor rows s ≡ n
-
-pub stands-itself : (s : List ℕ) → Stands [] s s
+pub standsFor-itself : (s : List ℕ) → standsFor [] s ≡ s
 unfolding standsFor
-stands-itself s = record { is = refl }
+standsFor-itself s = refl
 
 module _ (row : Short) (rows : List Short) (s : List ℕ) (q : Bool) (e : q ≡ same s (row .name)) where
-  pub stands-here : q ≡ true → Stands (row ∷ rows) s (row .namespace)
+  pub standsFor-here : q ≡ true → standsFor (row ∷ rows) s ≡ row .namespace
   unfolding standsFor
-  stands-here t = record { is = rw (← e, t) }
+  standsFor-here t = rw (← e, t)
 
-  pub stands-next : (n : List ℕ) → q ≡ false → Stands rows s n → Stands (row ∷ rows) s n
+  pub standsFor-next : (n : List ℕ) → q ≡ false → standsFor rows s ≡ n → standsFor (row ∷ rows) s ≡ n
   unfolding standsFor
-  stands-next n f h = record { is = rw (← e, f) (h .is) }
+  standsFor-next n f h = rw (← e, f) h
 
-pub system-stands : (system s n : List ℕ) (r : Bool) → r ≡ same system n → Stands shortNames s n → r ≡ same system (namespaceOf s)
+pub same-namespace : (system s n : List ℕ) (r : Bool) → r ≡ same system n → standsFor shortNames s ≡ n → r ≡ same system (namespaceOf s)
 unfolding namespaceOf
-system-stands system s n r e h = e ∙ ap (same system) (sym (h .is))
+same-namespace system s n r e h = rw h e
 
-pub ruleset stands = (system-stands, stands-itself, stands-here, stands-next)
+pub ruleset namespace = (same-namespace, standsFor-itself, standsFor-here, standsFor-next)

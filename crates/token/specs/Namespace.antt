@@ -11,6 +11,7 @@ pub record Short : Type 0 where
   pub name : List ℕ
   pub namespace : List ℕ
 
+-- 01: the short names, with the namespaces below its table
 abbrev pub shortNames : List Short
 shortNames =
     record { name = ascii "loinc"; namespace = ascii "http://loinc.org" }
@@ -19,10 +20,11 @@ shortNames =
     ∷ record { name = ascii "ucum"; namespace = ascii "http://unitsofmeasure.org" }
     ∷ []
 
--- what a system stands for by a list of short names: the first name's namespace that it is, case ignored, or itself
+-- the namespace of the first short name that a system is, case ignored; any other system stands for itself
 unfoldable pub standsFor : List Short → List ℕ → List ℕ
 standsFor [] s = s
 standsFor (row ∷ rows) s = cond (same s (row .name)) (row .namespace) (standsFor rows s)
 
+-- what a filter's system stands for
 unfoldable pub namespaceOf : List ℕ → List ℕ
 namespaceOf s = standsFor shortNames s

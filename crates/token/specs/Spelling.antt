@@ -7,6 +7,7 @@ use Rattle.text.specs.Bar.{bar, NoBar}
 use Rattle.token.specs.Card.{Token}
 use Rattle.token.specs.Filter.{Form, any-system, system-code, no-system, any-code}
 
+-- the text has a byte
 abbrev pub NotEmpty : List ℕ → Type 0
 NotEmpty s = 0 < length s
 

@@ -12,5 +12,6 @@ pub data Split : Type 0 where
   no-bar : List ℕ → Split
   at-bar : List ℕ → List ℕ → Split
 
+-- 01: split at its first bar
 unfoldable pub split : List ℕ → Split
 split t = cond (ltb (firstBar t) (length t)) (at-bar (take (firstBar t) t) (drop (firstBar t + 1) t)) (no-bar t)

@@ -1,4 +1,4 @@
-// Tokens: `system|code` on a card, and the four forms of a filter's token, matched against it.
+// Tokens: system and code on a card, and the four forms in a filter, matched against each other.
 // A text is split at its first bar, and the parts before and after it are handed on as slices.
 ghost use mathlib.Core.Path.{_≡_};
 ghost use mathlib.Core.Option.{some};
@@ -33,7 +33,7 @@ pub fn filter_readable(s: &[u8]) -> bool
     s[0] != b'|'
 }
 
-// Whether the token on a card is what the token in a filter asks for. False where either is unreadable.
+// Whether a card's token is what a filter's token asks for; false where either text is unreadable.
 pub fn matches(card: &[u8], filter: &[u8]) -> bool
     ensures { λ r. ⌜ r ≡ matches (now (card .entry)) (now (filter .entry)) ⌝ }
 {
@@ -46,7 +46,7 @@ pub fn matches(card: &[u8], filter: &[u8]) -> bool
     token_matches(b"", card, filter)
 }
 
-// The same for the system and the code of a card's token.
+// Whether the token of a card's system and code is what a filter's token asks for.
 fn token_matches(system: &[u8], code: &[u8], filter: &[u8]) -> bool
     ensures { λ r. ⌜ r ≡ meets (tokenOf (now (system .entry)) (now (code .entry))) (filterForm (now (filter .entry))) ⌝ }
 {
@@ -61,11 +61,11 @@ fn token_matches(system: &[u8], code: &[u8], filter: &[u8]) -> bool
     if filter.len() == 0 {
         return false;
     }
-    // code: whichever system
+    // "code (no bar, whichever system)"
     text::same(code, filter)
 }
 
-// The same for a filter's token with a bar, by the parts before and after it.
+// The same for a filter's token that has a bar, by the parts before and after it.
 fn parts_match(system: &[u8], code: &[u8], before: &[u8], after: &[u8]) -> bool
     ensures { λ r. ⌜ r ≡ meets (some (record { system = now (system .entry); code = now (code .entry) })) (splitForm (at-bar (now (before .entry)) (now (after .entry)))) ⌝ }
 {
@@ -73,17 +73,17 @@ fn parts_match(system: &[u8], code: &[u8], before: &[u8], after: &[u8]) -> bool
         if after.len() == 0 {
             return false;
         }
-        // |code: no system
+        // "|code (no system)"
         if system.len() != 0 {
             return false;
         }
         return text::same(code, after);
     }
     if after.len() == 0 {
-        // system|: every code of it
+        // "system| (every code of it)"
         return system_matches(system, before);
     }
-    // system|code
+    // "system|code"
     if system_matches(system, before) {
         return text::same(code, after);
     }

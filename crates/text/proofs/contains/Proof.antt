@@ -1,7 +1,6 @@
 -- `text::contains` meets its contract: b starts nowhere before the position, and nowhere past the last. Assumes nothing.
 use borrow.Author.Needs.{needs}
 use Prim.Native.Nat.{_+_, _-_}
-use lib.ListN.{length}
 use Rattle.text.proofs.Invariants.{Searched}
 use Rattle.text.proofs.Compare.{contains-short, searched-start, searched-found, searched-next, searched-end}
 use Rattle.text.proofs.contains.Statement.{statement}
