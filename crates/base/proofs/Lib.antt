@@ -1,10 +1,11 @@
 -- The laws that every layer shares.
 pub mod Tests
+pub mod Options
+pub mod Below
 pub mod Lists
 pub mod All
-pub mod Loops
-pub mod Runs
-pub mod Digits
-pub mod Below
-pub mod Names
 pub mod Parts
+pub mod Runs
+pub mod Loops
+pub mod Digits
+pub mod Names

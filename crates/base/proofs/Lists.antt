@@ -7,7 +7,7 @@ use mathlib.Core.Bool.{Bool, true, false, false≢true, and-false}
 use mathlib.Core.Logic.{⊎-elim}
 use mathlib.Core.List.{List, [], _∷_}
 use lib.Dec.{eqb}
-use lib.ListN.{length, take, drop, length-drop}
+use lib.ListN.{length, take, drop, length-drop, drop-of-length-le}
 use lib.Seq.{take-all}
 use borrow.Author.Tests.{eq-eqb, eqb-true}
 use Rattle.base.specs.Lists.{All, all-empty, all-cons, every, equal}
@@ -21,6 +21,9 @@ rest s j = take-all (length s - j) (drop j s) (omega (arith, length-drop j s))
 
 pub cons-same : {x y : ℕ} {xs ys : List ℕ} → x ≡ y → xs ≡ ys → x ∷ xs ≡ y ∷ ys
 cons-same e t = cc
+
+pub length-zero : (s : List ℕ) → length s ≡ 0 → s ≡ []
+length-zero s h = drop-of-length-le s {i = 0} (omega arith)
 
 -- ---- every element
 

@@ -1,15 +1,11 @@
--- Bytes written as text.
+-- Quoted texts as lists of bytes.
 -- Assumes nothing.
-use Prim.Native.Nat.{ℕ, zero, suc}
+use Prim.Native.Nat.{ℕ}
 use Prim.Native.Char.{code}
-use Prim.Native.String.{String, len, charAt}
+use Prim.Native.String.{String, [] as end, _∷_ as _then_}
 use mathlib.Core.List.{List, [], _∷_}
 
--- the numbers of n characters of the text, from the character at i on
-abbrev pub codes : ℕ → ℕ → String → List ℕ
-codes zero i text = []
-codes (suc n) i text = code (charAt text i) ∷ codes n (suc i) text
-
--- the bytes of an ASCII text
+-- the codes of the characters, which for ASCII are the bytes
 abbrev pub ascii : String → List ℕ
-ascii text = codes (len text) 0 text
+ascii end = []
+ascii (c then s) = code c ∷ ascii s

@@ -1,10 +1,11 @@
 -- The definitions that every layer shares.
-pub mod Ascii
+pub mod Options
+pub mod Below
 pub mod Lists
+pub mod Parts
+pub mod Runs
 pub mod Loops
 pub mod Bytes
-pub mod Parts
-pub mod Below
-pub mod Runs
+pub mod Ascii
 pub mod Digits
 pub mod Names

@@ -1,13 +1,10 @@
 -- `number::unit` meets its contract: the table's rule is computed at each of its entries. Assumes nothing.
 use borrow.Author.Needs.{needs}
 use mathlib.Core.Path.{_≡_, refl}
-use mathlib.Core.Bool.{Bool}
 use mathlib.Core.List.{List, [], _∷_}
 use Prim.Native.Nat.{ℕ, _-_, _^_, _≤_}
 use native.Mathlib.Omega.{arith}
-use lib.Dec.{eqb}
 use lib.ListN.{getD}
-use borrow.Author.Tests.{eqb-true}
 use Rattle.base.proofs.Below.{passes-same}
 use Rattle.number.specs.declared.Decimal.{Decimal}
 use Rattle.number.specs.Value.{Bounded}

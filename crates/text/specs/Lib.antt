@@ -1,0 +1,4 @@
+-- Texts: folding, comparisons, the first bar.
+pub mod Fold
+pub mod Compare
+pub mod Bar

@@ -1,0 +1,67 @@
+-- Laws of readable tokens, as the code tests them.
+-- Assumes nothing.
+use mathlib.Core.Path.{_≡_, refl, sym, ap}
+use Prim.Native.Nat.{ℕ, _+_, _-_, _≤_, _<_}
+use native.Mathlib.Omega.{arith}
+use mathlib.Core.Bool.{true, false, not}
+use mathlib.Core.List.{List, [], _∷_}
+use mathlib.Core.Logic.{inl, inr, ⊎-elim}
+use lib.Dec.{eqb, ltb}
+use lib.ListN.{length, getD, take, drop, length-drop}
+use borrow.Author.Tests.{lt-ltb, ltb-true, eqb-true, eqb-false}
+use Rattle.base.specs.Options.{isSome}
+use Rattle.base.proofs.Tests.{decided, same-test}
+use Rattle.base.proofs.Lists.{rest}
+use Rattle.text.specs.Bar.{bar, firstBar}
+use Rattle.token.specs.Card.{tokenOf, splitToken, cardToken, cardReadable}
+use Rattle.token.specs.Filter.{filterReadable}
+use Rattle.token.proofs.Split.{split-none, split-parts}
+use Rattle.token.proofs.Readings.{filterUnreadable-reads}
+
+-- ---- cards
+
+tokenOf-readable : (s c : List ℕ) → isSome (tokenOf s c) ≡ ltb 0 (length c)
+unfolding tokenOf
+tokenOf-readable s [] = refl
+tokenOf-readable s (x ∷ c) = sym (lt-ltb 0 (length (x ∷ c)) (omega arith))
+
+-- one number is below another exactly when something is left
+ltb-left : (m n : ℕ) → ltb m n ≡ ltb 0 (n - m)
+ltb-left m n =
+    same-test (ltb m n) (ltb 0 (n - m)) (λ p. lt-ltb 0 (n - m) (omega (arith, ltb-true m n p))) (λ p. lt-ltb m n (omega (arith, ltb-true 0 (n - m) p)))
+
+module _ (t : List ℕ) (i : ℕ) (e : i ≡ firstBar t) where
+  pub card-readable-no-bar : length t ≤ i → ltb 0 (length t) ≡ cardReadable t
+  unfolding cardReadable cardToken splitToken
+  card-readable-no-bar h = rw (split-none t i e h) (sym (tokenOf-readable [] t))
+
+  pub card-readable-at-bar : i < length t → ltb (i + 1) (length t) ≡ cardReadable t
+  unfolding cardReadable cardToken splitToken
+  card-readable-at-bar h =
+      rw (split-parts t i e h, rest t (i + 1), tokenOf-readable (take i t) (drop (i + 1) t), length-drop (i + 1) t)
+      (ltb-left (i + 1) (length t))
+
+-- ---- filters
+
+readable-otherwise : (t : List ℕ) → (t ≡ [] → ⊥) → (t ≡ bar ∷ [] → ⊥) → true ≡ filterReadable t
+readable-otherwise t a b =
+    ⊎-elim (λ h. sym h) (λ h. absurd (⊎-elim a b (filterUnreadable-reads t .0 h))) (decided (filterReadable t))
+
+pub filter-readable-empty : (t : List ℕ) → length t ≡ 0 → false ≡ filterReadable t
+filter-readable-empty [] h = sym (filterUnreadable-reads [] .1 (inl refl))
+filter-readable-empty (x ∷ t) h = absurd (omega arith)
+
+pub filter-readable-long : (t : List ℕ) → 1 < length t → true ≡ filterReadable t
+filter-readable-long t h = readable-otherwise t (λ e. omega (arith, ap length e)) (λ e. omega (arith, ap length e))
+
+filter-readable-byte : (x : ℕ) → not (eqb x bar) ≡ filterReadable (x ∷ [])
+filter-readable-byte x =
+    ⊎-elim
+    (λ h. rw h (sym (filterUnreadable-reads (x ∷ []) .1 (inr (rw (eqb-true x bar h))))))
+    (λ h. rw h (readable-otherwise (x ∷ []) (λ e. omega (arith, ap length e)) (λ e. eqb-false x bar h (ap (λ (l : List ℕ). getD l 0 0) e))))
+    (decided (eqb x bar))
+
+pub filter-readable-single : (t : List ℕ) → (length t ≡ 0 → ⊥) → length t ≤ 1 → not (eqb (getD t 0 0) bar) ≡ filterReadable t
+filter-readable-single [] h k = absurd (h refl)
+filter-readable-single (x ∷ []) h k = filter-readable-byte x
+filter-readable-single (x ∷ y ∷ t) h k = absurd (omega arith)

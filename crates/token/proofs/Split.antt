@@ -1,0 +1,46 @@
+-- Laws of the split at the first bar.
+-- Assumes nothing.
+use mathlib.Core.Path.{_≡_, refl, sym, subst}
+use Prim.Native.Nat.{ℕ, _+_, _-_, _≤_, _<_}
+use native.Mathlib.Omega.{arith}
+use mathlib.Core.List.{List, _∷_, _++_}
+use lib.ListN.{length, take, drop, length-append}
+use lib.Seq.{take-append-seam, drop-append-add}
+use borrow.Author.Tests.{lt-ltb, le-ltb}
+use Rattle.base.proofs.Lists.{rest}
+use Rattle.text.specs.Bar.{bar, firstBar, NoBar, FirstBarAt, at-end, behind}
+use Rattle.text.proofs.Bar.{firstBar-reads}
+use Rattle.token.specs.Split.{no-bar, at-bar, split}
+
+-- ---- by the index of the first bar, with the parts as slices have them
+
+module _ (t : List ℕ) (i : ℕ) (e : i ≡ firstBar t) where
+  pub split-none : length t ≤ i → split t ≡ no-bar t
+  unfolding split
+  split-none h = rw (← e, le-ltb i (length t) h)
+
+  pub split-parts : i < length t → split t ≡ at-bar (take i t) (take (length t - (i + 1)) (drop (i + 1) t))
+  unfolding split
+  split-parts h = rw (← e, lt-ltb i (length t) h, rest t (i + 1))
+
+-- ---- by the spelling
+
+pub split-no-bar : (c : List ℕ) → NoBar c → split c ≡ no-bar c
+split-no-bar c h =
+    let e : firstBar c ≡ length c = firstBar-reads c (length c) .1 (at-end h refl) in
+    split-none c (length c) (sym e) (omega arith)
+
+pub split-at-bar : (s c : List ℕ) → NoBar s → split (s ++ (bar ∷ c)) ≡ at-bar s c
+unfolding split
+split-at-bar s c h =
+    let t = s ++ (bar ∷ c) in
+    let e : firstBar t ≡ length s = firstBar-reads t (length s) .1 (behind s c refl h refl) in
+    rw (e, lt-ltb (length s) (length t) (omega (arith, length-append s (bar ∷ c))), take-append-seam, drop-append-add)
+
+-- every text has no bar or a first one
+pub split-cases : (P : List ℕ → Type 0) → ((c : List ℕ) → NoBar c → P c) → ((s c : List ℕ) → NoBar s → P (s ++ (bar ∷ c))) → (t : List ℕ) → P t
+split-cases P without with-bar t = go (firstBar-reads t (firstBar t) .0 refl)
+  where
+    go : FirstBarAt t (firstBar t) → P t
+    go (at-end h e) = without t h
+    go (behind s c e h l) = subst P (sym e) (with-bar s c h)

@@ -1,0 +1,20 @@
+-- `token::card_readable` meets its contract: what stands behind the first bar, or the whole text where there is none, is the code. Assumes nothing.
+use borrow.Author.Needs.{needs}
+use Rattle.token.proofs.Readable.{card-readable-at-bar, card-readable-no-bar}
+use Rattle.token.proofs.card_readable.Statement.{statement}
+use Rattle.token.proofs.card_readable.Tie as tie
+
+first-bar-requires : tie.Need-first-bar-requires
+first-bar-requires c κs = search needs
+
+add-result : tie.Need-add-result
+add-result c = search needs
+
+returns : tie.Need-returns
+returns c = search (card-readable-at-bar, needs)
+
+returns-2 : tie.Need-returns-2
+returns-2 c = search (card-readable-no-bar, needs)
+
+pub card-readable-spec : {M : Type 1} → statement M
+card-readable-spec = tie.close (tie.spec first-bar-requires add-result returns returns-2)

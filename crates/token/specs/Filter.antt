@@ -1,0 +1,36 @@
+-- Tokens in filters: the four forms.
+-- Assumes nothing.
+use Prim.Native.Nat.{ℕ}
+use mathlib.Core.Bool.{Bool}
+use mathlib.Core.List.{List, [], _∷_}
+use mathlib.Core.Option.{Option, none, some}
+use Rattle.base.specs.Options.{isSome}
+use Rattle.token.specs.Split.{Split, no-bar, at-bar, split}
+
+-- what a filter's token asks for
+pub data Form : Type 0 where
+  -- code: this code, whichever system
+  any-system : List ℕ → Form
+  -- system|code: this code of this system
+  system-code : List ℕ → List ℕ → Form
+  -- |code: this code with no system
+  no-system : List ℕ → Form
+  -- system|: every code of this system
+  any-code : List ℕ → Form
+
+-- an empty text and a lone bar are no form
+unfoldable pub splitForm : Split → Option Form
+splitForm (no-bar []) = none
+splitForm (no-bar (x ∷ c)) = some (any-system (x ∷ c))
+splitForm (at-bar [] []) = none
+splitForm (at-bar [] (x ∷ c)) = some (no-system (x ∷ c))
+splitForm (at-bar (y ∷ s) []) = some (any-code (y ∷ s))
+splitForm (at-bar (y ∷ s) (x ∷ c)) = some (system-code (y ∷ s) (x ∷ c))
+
+-- the form of a filter's text, if it has one
+unfoldable pub filterForm : List ℕ → Option Form
+filterForm t = splitForm (split t)
+
+-- 01: a readable text of a token in a filter
+unfoldable pub filterReadable : List ℕ → Bool
+filterReadable t = isSome (filterForm t)
