@@ -4,14 +4,15 @@ use mathlib.Core.Path.{_≡_, refl, ap, sym}
 use Prim.Native.Nat.{ℕ, suc, _-_}
 use native.Mathlib.Omega.{arith}
 use mathlib.Core.Bool.{Bool, true, false, false≢true, and-false}
-use mathlib.Core.Logic.{⊎-elim}
+use mathlib.Core.Logic.{inl, inr, ⊎-elim}
 use mathlib.Core.List.{List, [], _∷_}
 use lib.Dec.{eqb}
 use lib.ListN.{length, take, drop, length-drop, drop-of-length-le}
 use lib.Seq.{take-all}
-use borrow.Author.Tests.{eq-eqb, eqb-true}
-use Rattle.base.specs.Lists.{All, all-empty, all-cons, every, equal}
-use Rattle.base.proofs.Tests.{and-left, and-right, and-both, decided}
+use types.Run.{OneOf}
+use borrow.Author.Tests.{eq-eqb, ne-eqb, eqb-true}
+use Rattle.base.specs.Lists.{All, all-empty, all-cons, every, equal, member}
+use Rattle.base.proofs.Tests.{and-left, and-right, and-both, or-right, decided}
 
 -- ---- parts
 
@@ -63,3 +64,18 @@ equal-lengths (x ∷ xs) (y ∷ ys) n =
 
 pub equal-not : (a b : List ℕ) → (a ≡ b → ⊥) → equal a b ≡ false
 equal-not a b n = ⊎-elim (λ t. absurd (n (equal-same a b t))) (λ f. f) (decided (equal a b))
+
+-- ---- membership, as an arm of a `match` tells it of its keys
+
+pub member-arm : (ks : List ℕ) (x : ℕ) → OneOf ks x → true ≡ member x ks
+unfolding member
+member-arm [] x h = absurd h
+member-arm (k ∷ []) x e = rw (eq-eqb x k e)
+member-arm (k ∷ j ∷ ks) x (inl e) = rw (eq-eqb x k e)
+member-arm (k ∷ j ∷ ks) x (inr h) = sym (or-right (eqb x k) (member x (j ∷ ks)) (sym (member-arm (j ∷ ks) x h)))
+
+pub member-rest : (ks : List ℕ) (x : ℕ) → (OneOf ks x → ⊥) → false ≡ member x ks
+unfolding member
+member-rest [] x h = refl
+member-rest (k ∷ []) x h = rw (ne-eqb x k h)
+member-rest (k ∷ j ∷ ks) x h = rw (ne-eqb x k (λ e. h (inl e))) (member-rest (j ∷ ks) x (λ r. h (inr r)))

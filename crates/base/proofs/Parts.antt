@@ -46,6 +46,13 @@ prefix-equal [] (y ∷ ys) h = refl
 prefix-equal (x ∷ xs) [] h = absurd (omega arith)
 prefix-equal (x ∷ xs) (y ∷ ys) h = ap (λ (t : Bool). eqb x y && t) (prefix-equal xs ys (omega arith))
 
+-- as a comparison with the first elements
+pub prefix-take : (xs ys : List ℕ) → length ys ≤ length xs → hasPrefix xs ys ≡ equal (take (length ys) xs) ys
+unfolding hasPrefix equal
+prefix-take xs [] h = refl
+prefix-take [] (y ∷ ys) h = absurd (not-suc-le-zero h)
+prefix-take (x ∷ xs) (y ∷ ys) h = ap (λ (t : Bool). eqb x y && t) (prefix-take xs ys (le-of-suc-le-suc h))
+
 pub prefix-fails : (xs ys : List ℕ) → hasPrefix xs ys ≡ false → 0 < length ys
 unfolding hasPrefix
 prefix-fails xs [] h = absurd (true≢false h)

@@ -11,7 +11,7 @@ use mathlib.Core.Logic.{⊎-elim}
 use lib.ListN.{length, getD, take, drop, drop-of-length-le}
 use lib.Seq.{drop-cons}
 use Rattle.base.specs.Lists.{All, all-empty, all-cons, every}
-use Rattle.base.specs.Runs.{run}
+use Rattle.base.specs.Runs.{run, runEnd, RunEnd}
 use Rattle.base.proofs.Tests.{and-left, and-right, and-both, decided}
 
 -- ---- counting from i on, where the run is what has been passed and the run of what is left
@@ -76,3 +76,33 @@ module _ (p : ℕ → Bool) where
   unfolding run
   run-then [] t all-empty z = z
   run-then (x ∷ w) t (all-cons h all) z = rw h (ap suc (run-then w t all z))
+
+-- ---- a scan from an index on, which has come to i: what is left decides where it ends
+
+pub record Scanned (p : ℕ → Bool) (s : List ℕ) (at i : ℕ) : Type 0 where
+  pub from : at ≤ i
+  pub within : i ≤ length s
+  pub left : runEnd p s at ≡ runEnd p s i
+
+module _ (p : ℕ → Bool) (s : List ℕ) (at : ℕ) where
+  pub scan-starts : at ≤ length s → Scanned p s at at
+  scan-starts h = record { from = omega arith; within = h; left = refl }
+
+  module _ (i : ℕ) (a : Scanned p s at i) where
+    pub scan-on : (r : Bool) → r ≡ p (getD s i 0) → r ≡ true → i < length s → Scanned p s at (i + 1)
+    unfolding run runEnd
+    scan-on r e t h =
+        let d : run p (drop i s) ≡ suc (run p (drop (i + 1) s)) = rw (add-one, drop-cons s i 0, sym e ∙ t) in
+        record { from = omega arith; within = omega arith; left = omega arith }
+
+    pub scan-stops : (r : Bool) → r ≡ p (getD s i 0) → r ≡ false → i < length s → RunEnd p s at i
+    unfolding run runEnd
+    scan-stops r e t h =
+        let d : run p (drop i s) ≡ 0 = rw (drop-cons s i 0, sym e ∙ t) in
+        record { is = omega arith; from = a .from; within = a .within }
+
+    pub scan-ends : length s ≤ i → RunEnd p s at i
+    unfolding run runEnd
+    scan-ends h =
+        let d : run p (drop i s) ≡ 0 = rw (drop-of-length-le s h) in
+        record { is = omega arith; from = a .from; within = a .within }

@@ -1,7 +1,7 @@
 -- Properties of every element of a list, as a predicate and as a test; equality of two lists of numbers as a test.
 -- Assumes nothing.
 use Prim.Native.Nat.{ℕ}
-use mathlib.Core.Bool.{Bool, true, false, _&&_}
+use mathlib.Core.Bool.{Bool, true, false, _&&_, _||_}
 use mathlib.Core.List.{List, [], _∷_}
 use lib.Dec.{eqb}
 
@@ -21,3 +21,8 @@ equal [] [] = true
 equal [] (y ∷ ys) = false
 equal (x ∷ xs) [] = false
 equal (x ∷ xs) (y ∷ ys) = eqb x y && equal xs ys
+
+-- the number is one of those of the list
+unfoldable pub member : ℕ → List ℕ → Bool
+member x [] = false
+member x (k ∷ ks) = eqb x k || member x ks

@@ -1,38 +1,35 @@
 -- Tests: the scans find what the grammar asks for, and all of it.
 -- Assumes nothing.
-use Prim.Native.Nat.{ℕ, zero, suc, _+_, _-_, _≤_, _<_}
+use Prim.Native.Nat.{ℕ, _+_, _-_, _≤_, _<_}
 use native.Mathlib.Omega.{arith}
-use native.Mathlib.Nat.{add-zero, add-suc, suc-add, le-of-suc-le-suc, not-suc-le-zero}
 use mathlib.Core.Path.{_≡_, refl, sym, ap, subst, _∙_}
-use mathlib.Core.Bool.{Bool, true, false, cond, not, _||_, or-true, false≢true, true≢false}
-use mathlib.Core.List.{List, [], _∷_, _++_}
+use mathlib.Core.Bool.{Bool, true, false, cond, or-true}
+use mathlib.Core.List.{List, [], _∷_}
 use mathlib.Core.Logic.{⊎-elim}
 use lib.Dec.{eqb}
-use lib.ListN.{length, getD, take, drop, length-take, length-drop, length-append}
-use lib.Seq.{take-at, length-take-le}
-use borrow.Author.Tests.{eqb-true, eq-eqb, ne-eqb, not-true}
-use Rattle.base.specs.Lists.{All, all-cons, equal}
+use lib.ListN.{length, getD, drop}
+use lib.Seq.{drop-cons, drop-length, length-take-le}
+use borrow.Author.Tests.{eqb-true, eq-eqb, ne-eqb}
+use Rattle.base.specs.Lists.{All, all-cons}
 use Rattle.base.specs.Digits.{isDigit}
 use Rattle.base.specs.Names.{between, isLetter, isNameStart, isNamePart, isName, Name}
 use Rattle.base.specs.Parts.{part}
-use Rattle.base.specs.Runs.{run}
-use Rattle.base.proofs.Tests.{decided, or-either, or-left, apart}
-use Rattle.base.proofs.Lists.{equal-same, equal-refl, equal-not}
-use Rattle.base.proofs.Below.{passes-at, passes-same}
+use Rattle.base.specs.Runs.{run, runEnd, RunEnd}
+use Rattle.base.proofs.Tests.{or-either, or-left, apart}
 use Rattle.base.proofs.Names.{name-iff}
 use Rattle.base.proofs.Runs.{run-within, run-then}
-use Rattle.syntax.specs.Operators.{operatorWords}
 use Rattle.syntax.specs.Strings.{isBare}
-use Rattle.syntax.specs.Tree.{Test, name}
+use Rattle.syntax.specs.Tree.{Test}
 use Rattle.syntax.specs.Grammar.{Stands, Gap, gap, Value, Follows, the-end, a-space, a-close, Operator, TestAt, a-test}
-use Rattle.syntax.specs.Scan.{skipAt, valueAt, contents, follows, findOperator, operatorAt, withOperator, withValue, testValue, testOperator, nameEnd, testAt, testOf}
+use Rattle.syntax.specs.Scan.{isSpace, skipAt, valueAt, follows, operatorAt, withOperator, withValue, testValue, testOperator, nameEnd, testAt, testOf}
 use Rattle.syntax.specs.declared.RawValue.{RawValue}
 use Rattle.syntax.specs.declared.FoundValue.{FoundValue}
 use Rattle.syntax.specs.declared.FoundOperator.{FoundOperator}
 use Rattle.syntax.specs.declared.RawTest.{RawTest}
 use Rattle.syntax.specs.declared.FoundTest.{FoundTest}
-use Rattle.syntax.proofs.Words.{NoSpaceAt, stands-within, stands-after, stands-no-space, taken-stands, skip-gap, gap-skip, gap-rise}
-use Rattle.syntax.proofs.Values.{by-test, part-at, value-derives, Found, value-found, value-no-space, value-rise}
+use Rattle.syntax.proofs.Words.{NoSpaceAt, stands-after, stands-no-space, taken-stands, skip-gap, gap-skip, gap-rise}
+use Rattle.syntax.proofs.Operators.{operator-derives, operator-found, operator-no-space, operator-rise}
+use Rattle.syntax.proofs.Values.{by-test, part-at, value-derives, value-found, value-no-space, value-rise}
 
 -- ---- what follows a value
 
@@ -48,78 +45,6 @@ unfolding follows
 follows-found the-end = refl
 follows-found a-space = refl
 follows-found {close} (a-close {xs = xs}) = rw (eq-eqb close close refl) (or-true (eqb close 0x20))
-
--- ---- operators
-
-never-operator : {X : Type 0} {k : ℕ} → FoundOperator.Nothing ≡ FoundOperator.Is k → X
-never-operator h = let z : _≡_ {A = ℕ} 0 1 = cc in absurd (omega arith)
-
--- the word found is the i-th of those from the j-th on
-find-derives : (j : ℕ) (us : List (List ℕ)) (w : List ℕ) (k : ℕ) → findOperator j us w ≡ FoundOperator.Is k → (i : ℕ) × (k ≡ j + i) × (i < length us) × (getD us i [] ≡ w)
-unfolding findOperator
-find-derives j [] w k h = never-operator h
-find-derives j (u ∷ us) w k h = go (equal w u) refl h (λ e. find-derives (suc j) us w k e)
-  where
-    go : (b : Bool) → equal w u ≡ b → cond b (FoundOperator.Is j) (findOperator (suc j) us w) ≡ FoundOperator.Is k
-        → (findOperator (suc j) us w ≡ FoundOperator.Is k → (i : ℕ) × (k ≡ suc j + i) × (i < length us) × (getD us i [] ≡ w))
-        → (i : ℕ) × (k ≡ j + i) × (i < length (u ∷ us)) × (getD (u ∷ us) i [] ≡ w)
-    go true e h next = let z : j ≡ k = cc in (0, omega arith, omega arith, sym (equal-same w u e))
-    go false e h next = let r = next h in (suc (r .0), omega (arith, r .1), omega (arith, r .2), r .3)
-
-two-letters : (k : ℕ) → k < length operatorWords → length (getD operatorWords k []) ≡ 2
-unfolding operatorWords
-two-letters k h = passes-same (λ (i : ℕ). length (getD operatorWords i [])) (λ (i : ℕ). 2) 19 refl k h
-
-pub operator-derives : (xs : List ℕ) (p k : ℕ) → operatorAt xs p ≡ FoundOperator.Is k → Operator xs p k
-unfolding operatorAt
-operator-derives xs p k h =
-    let r = find-derives 0 operatorWords (take 2 (drop p xs)) k h in
-    let e : k ≡ r .0 = omega (arith, r .1) in
-    record {
-      one-of = rw e (r .2);
-      stands = subst (λ (w : List ℕ). Stands xs p w) (sym (r .3) ∙ ap (λ (i : ℕ). getD operatorWords i []) (sym e)) (taken-stands xs p 2);
-    }
-
-isOperator : ℕ → FoundOperator → Bool
-isOperator k (FoundOperator.Is j) = eqb j k
-isOperator k FoundOperator.Nothing = false
-
-is-operator : (k : ℕ) (f : FoundOperator) → isOperator k f ≡ true → f ≡ FoundOperator.Is k
-unfolding isOperator
-is-operator k (FoundOperator.Is j) h = ap FoundOperator.Is (eqb-true j k h)
-is-operator k FoundOperator.Nothing h = absurd (false≢true h)
-
--- no word stands twice in the list
-each-found : (k : ℕ) → k < length operatorWords → findOperator 0 operatorWords (getD operatorWords k []) ≡ FoundOperator.Is k
-unfolding operatorWords findOperator equal isOperator
-each-found k h = is-operator k _ (passes-at (λ (i : ℕ). isOperator i (findOperator 0 operatorWords (getD operatorWords i []))) 19 refl k h)
-
-pub operator-found : {xs : List ℕ} {p k : ℕ} → Operator xs p k → operatorAt xs p ≡ FoundOperator.Is k
-unfolding operatorAt
-operator-found {xs} {p} {k} o =
-    let w = getD operatorWords k [] in
-    let e : take 2 (drop p xs) ≡ w = ap (take 2) (o .stands .1) ∙ take-at w (o .stands .0) 2 (two-letters k (o .one-of)) in
-    rw e (each-found k (o .one-of))
-
--- no word begins with a space
-startsWithSpace : List ℕ → Bool
-startsWithSpace [] = true
-startsWithSpace (x ∷ xs) = eqb x 0x20
-
-letters-first : (w : List ℕ) → startsWithSpace w ≡ false → (b : ℕ) × (v : List ℕ) × (w ≡ b ∷ v) × (eqb b 0x20 ≡ false)
-unfolding startsWithSpace
-letters-first [] h = absurd (true≢false h)
-letters-first (x ∷ xs) h = (x, xs, refl, h)
-
-pub operator-no-space : {xs : List ℕ} {p k : ℕ} → Operator xs p k → NoSpaceAt xs p
-unfolding operatorWords startsWithSpace
-operator-no-space {xs} {p} {k} o =
-    let t = passes-at (λ (i : ℕ). not (startsWithSpace (getD operatorWords i []))) 19 refl k (o .one-of) in
-    let w = letters-first (getD operatorWords k []) (not-true _ t) in
-    stands-no-space xs p (w .0) (w .1) (rw (w .2) at (o .stands)) (w .3)
-
-pub operator-rise : {xs : List ℕ} {p k : ℕ} → Operator xs p k → p + 2 ≤ length xs
-operator-rise {xs} {p} {k} o = omega (arith, ap length (o .stands .1), length-drop p xs, length-append (getD operatorWords k []) (o .stands .0), two-letters k (o .one-of))
 
 -- ---- a test that is found is one
 
@@ -150,7 +75,7 @@ module _ (xs : List ℕ) (close p e : ℕ) (l : e ≡ p + length (part xs p e)) 
       (λ f. operator-follows (skipAt xs e) (skip-gap xs e f) (operatorAt xs (skipAt xs e)) refl)
 
 name-end-part : (xs : List ℕ) (p : ℕ) → nameEnd xs p ≡ p + length (part xs p (nameEnd xs p))
-unfolding nameEnd
+unfolding runEnd
 name-end-part xs p =
     let k : p + run isNamePart (drop p xs) - p ≡ run isNamePart (drop p xs) = omega arith in
     rw k (ap (λ (m : ℕ). p + m) (sym (length-take-le (run isNamePart (drop p xs)) (drop p xs) (run-within isNamePart (drop p xs)))))
@@ -181,12 +106,12 @@ unfolding run isNamePart isNameStart isLetter between isDigit
 gap-name-end (gap s r) = rw (s .1)
 
 name-end : (xs : List ℕ) (p : ℕ) (n : List ℕ) (s : Stands xs p n) → Name n → {a : ℕ} → Gap xs (p + length n) a → nameEnd xs p ≡ p + length n
-unfolding nameEnd
+unfolding runEnd
 name-end xs p n s h g =
     ap (λ (m : ℕ). p + m) (ap (run isNamePart) (s .1)
     ∙ run-then isNamePart n (s .0) (name-parts n h) (ap (run isNamePart) (sym (stands-after xs p n s)) ∙ gap-name-end g))
 
-gap-moves : {xs : List ℕ} {p q : ℕ} → Gap xs p q → eqb q p ≡ false
+pub gap-moves : {xs : List ℕ} {p q : ℕ} → Gap xs p q → eqb q p ≡ false
 gap-moves {xs} {p} {q} g = ne-eqb q p (λ e. omega (arith, gap-rise g))
 
 pub test-found : {xs : List ℕ} {close p q : ℕ} {t : Test} → TestAt xs close p q t → isBare close ≡ false → TestFound xs close p q t
@@ -212,3 +137,72 @@ test-no-space {xs} (a-test {p = p} {n = n} s h g o i w f) =
 
 pub test-rise : {xs : List ℕ} {close p q : ℕ} {t : Test} → TestAt xs close p q t → (p + 1 ≤ q) × (q ≤ length xs)
 test-rise (a-test s h g o i w f) = let u = gap-rise g in let v = gap-rise i in let z = value-rise w in (omega arith, z .1)
+
+-- ---- as the code finds a test
+
+module _ (xs : List ℕ) (close at : ℕ) where
+  pub follows-end : at ≡ length xs → true ≡ follows close (drop at xs)
+  unfolding follows
+  follows-end h = rw (h, drop-length xs)
+
+  module _ (i : at ≤ length xs) (n : at ≡ length xs → ⊥) where
+    inside : at < length xs
+    inside = omega arith
+
+    pub follows-space : getD xs at 0 ≡ 0x20 → true ≡ follows close (drop at xs)
+    unfolding follows
+    follows-space h = rw (drop-cons xs at 0 inside, eq-eqb _ _ h)
+
+    pub follows-close : (getD xs at 0 ≡ 0x20 → ⊥) → eqb (getD xs at 0) close ≡ follows close (drop at xs)
+    unfolding follows
+    follows-close h = rw (drop-cons xs at 0 inside, ne-eqb _ _ h)
+
+module _ (xs : List ℕ) (close p e k o : ℕ) (b : ℕ) (s : RunEnd isSpace xs o b) where
+  pub test-no-gap : b ≡ o → FoundTest.Nothing ≡ testValue xs close p e k o
+  unfolding testValue
+  test-no-gap h = rw (← s .is, eq-eqb b o h)
+
+  module _ (n : b ≡ o → ⊥) (f : FoundValue) (i : f ≡ valueAt xs b) where
+    pub test-no-value : f ≡ FoundValue.Nothing → FoundTest.Nothing ≡ testValue xs close p e k o
+    unfolding testValue
+    test-no-value h = rw (← s .is, ne-eqb b o n, sym i ∙ h)
+
+    module _ (v : RawValue) (h : f ≡ FoundValue.Value v) (r : Bool) (j : r ≡ follows close (drop (v .next) xs)) where
+      pub test-value : r ≡ true → FoundTest.Test (record { at = p; until = e; operator = k; value = v }) ≡ testValue xs close p e k o
+      unfolding testValue
+      test-value t = rw (← s .is, ne-eqb b o n, sym i ∙ h, sym j ∙ t)
+
+      pub test-not-followed : r ≡ false → FoundTest.Nothing ≡ testValue xs close p e k o
+      unfolding testValue
+      test-not-followed t = rw (← s .is, ne-eqb b o n, sym i ∙ h, sym j ∙ t)
+
+module _ (xs : List ℕ) (close p e a : ℕ) (s : RunEnd isSpace xs e a) where
+  pub operator-no-gap : a ≡ e → FoundTest.Nothing ≡ testOperator xs close p e
+  unfolding testOperator
+  operator-no-gap h = rw (← s .is, eq-eqb a e h)
+
+  module _ (n : a ≡ e → ⊥) (f : FoundOperator) (i : f ≡ operatorAt xs a) where
+    pub test-no-operator : f ≡ FoundOperator.Nothing → FoundTest.Nothing ≡ testOperator xs close p e
+    unfolding testOperator
+    test-no-operator h = rw (← s .is, ne-eqb a e n, sym i ∙ h)
+
+    pub test-operator : (k : ℕ) (r : FoundTest) → f ≡ FoundOperator.Is k → r ≡ testValue xs close p e k (a + 2) → r ≡ testOperator xs close p e
+    unfolding testOperator
+    test-operator k r h t = rw (← s .is, ne-eqb a e n, sym i ∙ h) t
+
+module _ (xs : List ℕ) (close p e : ℕ) (s : RunEnd isNamePart xs p e) (r : Bool) (i : r ≡ isName (part xs p e)) where
+  pub test-no-name : r ≡ false → FoundTest.Nothing ≡ testAt xs close p
+  unfolding testAt
+  test-no-name h = rw (← s .is, sym i ∙ h)
+
+  pub test-name : (t : FoundTest) → r ≡ true → t ≡ testOperator xs close p e → t ≡ testAt xs close p
+  unfolding testAt
+  test-name t h j = rw (← s .is, sym i ∙ h) j
+
+-- a value that is found ends inside the text
+pub value-within : (xs : List ℕ) (p : ℕ) (f : FoundValue) (v : RawValue) → f ≡ valueAt xs p → f ≡ FoundValue.Value v → v .next ≤ length xs
+value-within xs p f v e h = value-rise (value-derives xs p v (sym e ∙ h)) .1
+
+-- an operator that is found ends inside the text
+pub operator-within : (xs : List ℕ) (p k : ℕ) (f : FoundOperator) → f ≡ operatorAt xs p → f ≡ FoundOperator.Is k → p + 2 ≤ length xs
+operator-within xs p k f e h = operator-rise (operator-derives xs p k (sym e ∙ h))

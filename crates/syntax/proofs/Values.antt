@@ -2,25 +2,25 @@
 -- Assumes nothing.
 use Prim.Native.Nat.{ℕ, suc, _+_, _-_, _≤_, _<_}
 use native.Mathlib.Omega.{arith}
-use native.Mathlib.Nat.{add-zero}
+use native.Mathlib.Nat.{add-zero, le-refl, le-of-eq}
 use native.Mathlib.Numerals.{add-one}
 use mathlib.Core.Path.{_≡_, refl, sym, ap, subst, _∙_}
-use mathlib.Core.Bool.{Bool, true, false, cond, not, _&&_, _||_, or-true, or-false, true≢false, false≢true}
-use mathlib.Core.List.{List, [], _∷_, _++_, append-assoc, append-cancel-left}
+use mathlib.Core.Bool.{Bool, true, false, cond, _||_, or-true, or-false, true≢false, false≢true}
+use mathlib.Core.List.{List, [], _∷_, _++_, append-assoc}
 use mathlib.Core.Logic.{_⊎_, inl, inr, ⊎-elim}
 use lib.Dec.{eqb, leb, ltb}
-use lib.ListN.{length, getD, take, drop, length-append, length-drop, take-append-drop}
-use lib.Seq.{drop-drop, getD-drop, take-at, drop-at, length-take-le, drop-cons}
-use borrow.Author.Tests.{eqb-true, eqb-false, eq-eqb, ne-eqb, ltb-true, lt-ltb}
-use Rattle.base.specs.Lists.{All, all-empty, all-cons, every}
+use lib.ListN.{length, getD, take, drop, length-append, length-drop, take-append-drop, drop-of-length-le}
+use lib.Seq.{drop-drop, getD-drop, take-at, length-take-le, drop-cons}
+use borrow.Author.Tests.{eqb-true, eqb-false, eq-eqb, ne-eqb, ltb-true, lt-ltb, le-ltb}
+use Rattle.base.specs.Lists.{All, all-cons, every}
 use Rattle.base.specs.Parts.{part}
-use Rattle.base.specs.Runs.{run}
-use Rattle.base.proofs.Tests.{and-left, and-right, and-both, decided, both-ways, apart}
-use Rattle.base.proofs.Lists.{every-all, all-every, cons-same}
+use Rattle.base.specs.Runs.{run, runEnd, RunEnd}
+use Rattle.base.proofs.Tests.{and-left, decided, apart}
+use Rattle.base.proofs.Lists.{every-all, cons-same}
 use Rattle.base.proofs.Runs.{run-within, run-take, run-then}
-use Rattle.syntax.specs.Strings.{quote, backslash, isBare, isPlain, isEscape, unescaped, Quoted, nothing-more, plain, escaped}
+use Rattle.syntax.specs.Strings.{quote, backslash, isBare, isPlain, isEscape, Quoted, nothing-more, plain, escaped}
 use Rattle.syntax.specs.Grammar.{Stands, Value, bare, string, Follows, the-end, a-space, a-close}
-use Rattle.syntax.specs.Scan.{stepOf, onStep, stringFrom, stringAt, stringValue, bareValue, valueAt, decode, contents, follows}
+use Rattle.syntax.specs.Scan.{stepOf, onStep, stringFrom, stringAt, stringValue, bareValue, valueAt, decode, contents}
 use Rattle.syntax.specs.declared.StringStep.{StringStep}
 use Rattle.syntax.specs.declared.FoundString.{FoundString}
 use Rattle.syntax.specs.declared.RawValue.{RawValue}
@@ -49,6 +49,36 @@ step-is false b =
     by-test (Step false b) (eqb b quote) (λ e. ends-string (eqb-true b quote e))
     (λ q. by-test (Step false b) (eqb b backslash) (λ e. starts-escape (eqb-true b backslash e))
     (λ s. by-test (Step false b) (leb 0x20 b) (λ e. goes-on (rw (e, q, s))) (λ e. too-low e)))
+
+-- ---- the loop of `read_string`, which has come to i: what is left decides
+
+pub record Reading (xs : List ℕ) (at i : ℕ) (pending met : Bool) : Type 0 where
+  pub from : at ≤ i
+  pub within : i ≤ length xs
+  pub left : stringAt xs false false at ≡ stringAt xs pending met i
+
+pub string-starts : (xs : List ℕ) (at : ℕ) → at ≤ length xs → Reading xs at at false false
+string-starts xs at h = record { from = le-refl at; within = h; left = refl }
+
+string-step : (xs : List ℕ) (pending met : Bool) (i : ℕ) → i < length xs → stringAt xs pending met i ≡ onStep (stepOf pending (getD xs i 0)) (λ k. stringAt xs k (met || k) (i + 1)) i met
+unfolding stringAt stringFrom
+string-step xs pending met i h = rw (drop-cons xs i 0 h, add-one i)
+
+module _ (xs : List ℕ) (at i : ℕ) (pending met : Bool) (a : Reading xs at i pending met) where
+  module _ (s : StringStep) (e : s ≡ stepOf pending (getD xs i 0)) (h : i < length xs) where
+    pub string-more : (k m : Bool) → s ≡ StringStep.More k → m ≡ (met || k) → Reading xs at (i + 1) k m
+    string-more k m t f =
+        record { from = omega (arith, a .from); within = omega arith; left = a .left ∙ rw (string-step xs pending met i h, sym e ∙ t, f) }
+
+    pub string-closes : s ≡ StringStep.Close → FoundString.Closed i met ≡ stringAt xs false false at
+    string-closes t = sym (a .left ∙ rw (string-step xs pending met i h, sym e ∙ t))
+
+    pub string-wrong : s ≡ StringStep.Wrong → FoundString.Nothing ≡ stringAt xs false false at
+    string-wrong t = sym (a .left ∙ rw (string-step xs pending met i h, sym e ∙ t))
+
+  pub string-open : length xs ≤ i → FoundString.Nothing ≡ stringAt xs false false at
+  unfolding stringAt stringFrom
+  string-open h = sym (a .left ∙ rw (drop-of-length-le xs h))
 
 -- ---- a string that is found is one
 
@@ -187,8 +217,8 @@ string-derives xs p e found h r =
     let z : drop p xs ≡ (quote ∷ (s ++ (quote ∷ []))) ++ r .tail = h ∙ cons-same refl (r .split ∙ sym (append-assoc s (quote ∷ []) (r .tail))) in
     let n : p + (length s + 2) ≡ e + 1 = omega (arith, r .at) in
     let v : decode false s ≡ contents found (part xs (p + 1) e) =
-          contents-decode found s (⊎-elim (λ t. inl t) (λ (t : (false ≡ false) × (decode false s ≡ s)). inr (t .1)) (r .as-it-stands))
-          ∙ ap (contents found) (sym (part-at xs (p + 1) e s (quote ∷ r .tail) (r .split) (r .at))) in
+    contents-decode found s (⊎-elim (λ t. inl t) (λ (t : (false ≡ false) × (decode false s ≡ s)). inr (t .1)) (r .as-it-stands))
+    ∙ ap (contents found) (sym (part-at xs (p + 1) e s (quote ∷ r .tail) (r .split) (r .at))) in
     subst (λ (w : List ℕ). Value xs p (e + 1) w) v (subst (λ (q : ℕ). Value xs p q (decode false s)) n (string (r .tail, z) (r .quoted)))
 
 bare-derives : (xs : List ℕ) (p b : ℕ) (ys : List ℕ) → drop p xs ≡ b ∷ ys → isBare b ≡ true → (b ≡ quote → ⊥)
@@ -214,7 +244,7 @@ string-value xs p (FoundString.Closed e found) h i =
 string-value xs p FoundString.Nothing h i = tt
 
 value-derived : (xs : List ℕ) (p : ℕ) → Derived xs p (valueAt xs p)
-unfolding valueAt
+unfolding valueAt runEnd
 value-derived xs p =
     by-test (Derived xs p) (ltb p (length xs))
     (λ i. let e : drop p xs ≡ getD xs p 0 ∷ drop (p + 1) xs = rw add-one (drop-cons xs p 0 (ltb-true p (length xs) i)) in
@@ -252,7 +282,7 @@ getD-drop-cons xs p b ys e = sym (ap (λ (n : ℕ). getD xs n 0) (add-zero p)) �
 
 bare-found : (xs : List ℕ) (p b : ℕ) (w : List ℕ) (s : Stands xs p (b ∷ w)) → All (λ (x : ℕ). isBare x ≡ true) (b ∷ w) → (b ≡ quote → ⊥) → run isBare (s .0) ≡ 0
     → Found xs p (p + length (b ∷ w)) (b ∷ w)
-unfolding valueAt
+unfolding valueAt runEnd
 bare-found xs p b w s (all-cons h all) q z =
     let inside : p < length xs = omega (arith, stands-within xs p b w s) in
     let g : getD xs p 0 ≡ b = getD-drop-cons xs p b (w ++ s .0) (s .1) in
@@ -303,3 +333,39 @@ value-no-space {xs} (string {p = p} {s = s} h q) = stands-no-space xs p quote (s
 pub value-rise : {xs : List ℕ} {p q : ℕ} {v : List ℕ} → Value xs p q v → (p + 1 ≤ q) × (q ≤ length xs)
 value-rise {xs} (bare {p = p} {b = b} {w = w} s a n) = (omega arith, stands-within xs p b w s)
 value-rise {xs} (string {p = p} {s = s} h q) = (omega arith, omega (arith, stands-within xs p quote (s ++ (quote ∷ [])) h, length-append s (quote ∷ [])))
+
+-- ---- as the code finds a value
+
+module _ (xs : List ℕ) (at : ℕ) where
+  pub value-end : at ≡ length xs → FoundValue.Nothing ≡ valueAt xs at
+  unfolding valueAt
+  value-end h = rw (le-ltb at (length xs) (le-of-eq (sym h)))
+
+  module _ (i : at ≤ length xs) (n : at ≡ length xs → ⊥) where
+    inside : at < length xs
+    inside = omega arith
+
+    module _ (q : getD xs at 0 ≡ quote) (f : FoundString) (e : f ≡ stringAt xs false false (at + 1)) where
+      pub value-string : (end : ℕ) (found : Bool) → f ≡ FoundString.Closed end found → FoundValue.Value (record { start = at + 1; end = end; escaped = found; next = end + 1 }) ≡ valueAt xs at
+      unfolding valueAt
+      value-string end found h = rw (lt-ltb at (length xs) inside, eq-eqb _ _ q, sym e ∙ h)
+
+      pub value-open : f ≡ FoundString.Nothing → FoundValue.Nothing ≡ valueAt xs at
+      unfolding valueAt
+      value-open h = rw (lt-ltb at (length xs) inside, eq-eqb _ _ q, sym e ∙ h)
+
+    module _ (q : getD xs at 0 ≡ quote → ⊥) (r : Bool) (e : r ≡ isBare (getD xs at 0)) where
+      pub value-bare : (end : ℕ) → RunEnd isBare xs at end → r ≡ true → FoundValue.Value (record { start = at; end = end; escaped = false; next = end }) ≡ valueAt xs at
+      unfolding valueAt
+      value-bare end h t = rw (lt-ltb at (length xs) inside, ne-eqb _ _ q, sym e ∙ t, h .is)
+
+      pub value-none : r ≡ false → FoundValue.Nothing ≡ valueAt xs at
+      unfolding valueAt
+      value-none t = rw (lt-ltb at (length xs) inside, ne-eqb _ _ q, sym e ∙ t)
+
+-- a closing quote stands inside the text
+pub string-within : (xs : List ℕ) (at end : ℕ) (found : Bool) (f : FoundString) → f ≡ stringAt xs false false at → f ≡ FoundString.Closed end found → at ≤ length xs → end < length xs
+unfolding stringAt
+string-within xs at end found f e h i =
+    let r = string-ended (drop at xs) false false at end found (λ t. absurd (false≢true t)) (sym e ∙ h) in
+    omega (arith, r .at, ap length (r .split), length-drop at xs, length-append (r .body) (quote ∷ r .tail))

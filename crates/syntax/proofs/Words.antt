@@ -1,18 +1,19 @@
 -- Words and spaces: the scans find what the grammar asks for, and all of it.
 -- Assumes nothing.
-use Prim.Native.Nat.{ℕ, suc, _+_, _≤_}
+use Prim.Native.Nat.{ℕ, suc, _+_, _-_, _≤_, _<_}
 use native.Mathlib.Omega.{arith}
 use native.Mathlib.Nat.{add-zero}
 use mathlib.Core.Path.{_≡_, refl, sym, ap, _∙_}
 use mathlib.Core.Bool.{Bool, true, false, cond}
-use mathlib.Core.List.{List, [], _∷_, _++_}
+use mathlib.Core.List.{List, [], _∷_}
 use lib.Dec.{eqb}
 use lib.ListN.{length, take, drop, length-drop, length-append, take-append-drop}
 use lib.Seq.{drop-drop, drop-at, drop-length}
 use borrow.Author.Tests.{eqb-true, eqb-false}
-use Rattle.base.specs.Parts.{hasPrefix}
-use Rattle.base.specs.Runs.{run}
-use Rattle.base.proofs.Parts.{prefix-rest, prefix-append}
+use Rattle.base.specs.Lists.{equal}
+use Rattle.base.specs.Parts.{part}
+use Rattle.base.specs.Runs.{run, runEnd}
+use Rattle.base.proofs.Parts.{prefix-rest, prefix-append, prefix-short, prefix-take}
 use Rattle.syntax.specs.Grammar.{Stands, Spaces, no-space, space, Gap, gap}
 use Rattle.syntax.specs.Scan.{isSpace, skipAt, has}
 
@@ -23,6 +24,15 @@ has-stands xs p w e = prefix-rest (drop p xs) w e
 
 pub stands-has : (xs : List ℕ) (p : ℕ) (w : List ℕ) → Stands xs p w → has xs p w ≡ true
 stands-has xs p w s = rw (s .1) (prefix-append w (s .0))
+
+-- as the code finds it
+pub has-short : (xs : List ℕ) (p : ℕ) (w : List ℕ) → length xs - p < length w → false ≡ has xs p w
+has-short xs p w h = sym (prefix-short (drop p xs) w (rw length-drop h))
+
+pub has-equal : (xs : List ℕ) (p end : ℕ) (w : List ℕ) (r : Bool) → r ≡ equal (part xs p end) w → end ≡ p + length w → p ≤ length xs → length w ≤ length xs - p → r ≡ has xs p w
+has-equal xs p end w r e n i h =
+    let k : end - p ≡ length w = omega arith in
+    e ∙ rw k (sym (prefix-take (drop p xs) w (rw length-drop h)))
 
 -- a word that stands lies inside the text
 pub stands-within : (xs : List ℕ) (p b : ℕ) (w : List ℕ) → Stands xs p (b ∷ w) → p + suc (length w) ≤ length xs
@@ -65,7 +75,7 @@ run-spaces xs (y ∷ ys) p e = go (eqb y 0x20) refl (run-spaces xs ys (p + 1) (d
     go false t m = rw add-zero no-space
 
 pub skip-spaces : (xs : List ℕ) (p : ℕ) → Spaces xs p (skipAt xs p)
-unfolding skipAt
+unfolding runEnd
 skip-spaces xs p = run-spaces xs (drop p xs) p refl
 
 spaces-gap : {xs : List ℕ} {p q : ℕ} → Spaces xs p q → (q ≡ p → ⊥) → Gap xs p q
@@ -76,7 +86,7 @@ pub skip-gap : (xs : List ℕ) (p : ℕ) → eqb (skipAt xs p) p ≡ false → G
 skip-gap xs p h = spaces-gap (skip-spaces xs p) (eqb-false _ _ h)
 
 pub spaces-skip : {xs : List ℕ} {p q : ℕ} → Spaces xs p q → NoSpaceAt xs q → skipAt xs p ≡ q
-unfolding skipAt run
+unfolding runEnd run
 spaces-skip {xs} (no-space {p = p}) n = rw n (add-zero p)
 spaces-skip {xs} (space {p = p} {q = q} s k) n =
     let e = spaces-skip k n in

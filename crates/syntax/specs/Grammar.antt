@@ -10,7 +10,7 @@ use Rattle.base.specs.Ascii.{ascii}
 use Rattle.base.specs.Lists.{All}
 use Rattle.base.specs.Names.{Name}
 use Rattle.syntax.specs.Operators.{operatorWords}
-use Rattle.syntax.specs.Tree.{Path, name, Test, Tree, test, join, negation, Connective, and, or, testsOf}
+use Rattle.syntax.specs.Tree.{name, Test, Tree, test, join, negation, Connective, and, or, testsOf}
 use Rattle.syntax.specs.Strings.{quote, isBare, Quoted}
 
 -- ---- words and spaces

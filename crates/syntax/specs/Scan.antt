@@ -1,7 +1,6 @@
 -- What the reader finds at a position of the text: spaces, words, values, tests, connectives, brackets.
 -- Assumes nothing.
 use Prim.Native.Nat.{ℕ, suc, _+_, _≤_}
-use Prim.Native.Char.{code}
 use mathlib.Core.Path.{_≡_}
 use mathlib.Core.Bool.{Bool, true, false, cond, _||_}
 use mathlib.Core.List.{List, [], _∷_}
@@ -11,12 +10,13 @@ use Rattle.base.specs.Ascii.{ascii}
 use Rattle.base.specs.Lists.{equal}
 use Rattle.base.specs.Names.{isNamePart, isName}
 use Rattle.base.specs.Parts.{part, hasPrefix}
-use Rattle.base.specs.Runs.{run}
+use Rattle.base.specs.Runs.{runEnd}
 use Rattle.syntax.specs.Operators.{operatorWords}
 use Rattle.syntax.specs.Strings.{quote, backslash, isBare, isEscape, unescaped}
 use Rattle.syntax.specs.Tree.{Test, name}
 use Rattle.syntax.specs.declared.StringStep.{StringStep}
 use Rattle.syntax.specs.declared.FoundString.{FoundString}
+use Rattle.syntax.specs.declared.Piece.{Piece}
 use Rattle.syntax.specs.declared.RawValue.{RawValue}
 use Rattle.syntax.specs.declared.FoundValue.{FoundValue}
 use Rattle.syntax.specs.declared.FoundOperator.{FoundOperator}
@@ -32,14 +32,8 @@ abbrev pub isSpace : ℕ → Bool
 isSpace b = eqb b 0x20
 
 -- the first position from p on where no space stands
-unfoldable pub skipAt : List ℕ → ℕ → ℕ
-skipAt xs p = p + run isSpace (drop p xs)
-
--- a position r from p on, which the scan f gives
-pub record Ahead (xs : List ℕ) (p r given : ℕ) : Type 0 where
-  pub is : r ≡ given
-  pub from : p ≤ r
-  pub within : r ≤ length xs
+abbrev pub skipAt : List ℕ → ℕ → ℕ
+skipAt xs p = runEnd isSpace xs p
 
 -- the word stands at p
 abbrev pub has : List ℕ → ℕ → List ℕ → Bool
@@ -80,14 +74,24 @@ unfoldable pub valueAt : List ℕ → ℕ → FoundValue
 valueAt xs p =
     cond (ltb p (length xs))
     (cond (eqb (getD xs p 0) quote) (stringValue p (stringAt xs false false (p + 1)))
-    (cond (isBare (getD xs p 0)) (bareValue p (p + run isBare (drop p xs))) FoundValue.Nothing))
+    (cond (isBare (getD xs p 0)) (bareValue p (runEnd isBare xs p)) FoundValue.Nothing))
     FoundValue.Nothing
+
+-- what a byte between the quotes adds to the value
+unfoldable pub pieceOf : Bool → ℕ → Piece
+pieceOf true b = Piece.Byte (unescaped b)
+pieceOf false b = cond (eqb b backslash) Piece.Backslash (Piece.Byte b)
 
 -- the bytes between the quotes with each escape resolved, where pending says that a backslash came before
 unfoldable pub decode : Bool → List ℕ → List ℕ
 decode pending [] = []
 decode true (x ∷ xs) = unescaped x ∷ decode false xs
 decode false (x ∷ xs) = cond (eqb x backslash) (decode true xs) (x ∷ decode false xs)
+
+-- what `decode` leaves: the first r bytes of out are the decoded ones
+pub record Decoded (raw out : List ℕ) (r : ℕ) : Type 0 where
+  pub is : take r out ≡ decode false raw
+  pub few : r ≤ length raw
 
 -- the bytes that a value decodes to, from those that stand in the text
 abbrev pub contents : Bool → List ℕ → List ℕ
@@ -131,8 +135,8 @@ testOperator xs close p e =
     (withOperator (operatorAt xs (skipAt xs e)) λ k. testValue xs close p e k (skipAt xs e + 2))
 
 -- where the name bytes from p on end
-unfoldable pub nameEnd : List ℕ → ℕ → ℕ
-nameEnd xs p = p + run isNamePart (drop p xs)
+abbrev pub nameEnd : List ℕ → ℕ → ℕ
+nameEnd xs p = runEnd isNamePart xs p
 
 unfoldable pub testAt : List ℕ → ℕ → ℕ → FoundTest
 testAt xs close p = cond (isName (part xs p (nameEnd xs p))) (testOperator xs close p (nameEnd xs p)) FoundTest.Nothing

@@ -3,9 +3,11 @@
 use Prim.Native.Nat.{ℕ}
 use Prim.Native.Char.{code}
 use mathlib.Core.Path.{_≡_}
-use mathlib.Core.Bool.{Bool, true, false, cond, not, _&&_, _||_}
+use mathlib.Core.Bool.{Bool, true, cond, not, _&&_}
 use mathlib.Core.List.{List, [], _∷_}
 use lib.Dec.{eqb, leb}
+use Rattle.base.specs.Ascii.{ascii}
+use Rattle.base.specs.Lists.{member}
 
 -- the double quote and the backslash
 abbrev pub quote : ℕ
@@ -24,9 +26,7 @@ isPlain b = leb 0x20 b && (not (eqb b quote) && not (eqb b backslash))
 
 -- "the JSON escapes \" \\ \/ \b \f \n \r \t": the byte may follow a backslash
 unfoldable pub isEscape : ℕ → Bool
-isEscape b =
-    eqb b quote || (eqb b backslash || (eqb b (code "/") || (eqb b (code "b")
-    || (eqb b (code "f") || (eqb b (code "n") || (eqb b (code "r") || eqb b (code "t")))))))
+isEscape b = member b (quote ∷ code "/" ∷ backslash ∷ ascii "bfnrt")
 
 -- what a backslash and that byte stand for: backspace, form feed, line feed, carriage return, tab, or the byte itself
 unfoldable pub unescaped : ℕ → ℕ

@@ -1,6 +1,6 @@
 -- The tree of a filter. A chain of items is the left-nested tree, and round brackets leave no other mark.
 -- Assumes nothing.
-use Prim.Native.Nat.{ℕ}
+use Prim.Native.Nat.{ℕ, _+_, _≤_}
 use mathlib.Core.List.{List, [], _∷_, _++_}
 
 -- what a test is asked of
@@ -28,3 +28,8 @@ unfoldable pub testsOf : Tree → List Test
 testsOf (test t) = t ∷ []
 testsOf (join c f g) = testsOf f ++ testsOf g
 testsOf (negation f) = testsOf f
+
+-- the tests begin one after the other, from position p on and before q
+pub data Rising : ℕ → ℕ → List Test → Type 0 where
+  rising-end : {p q : ℕ} → p ≤ q → Rising p q []
+  rising-next : {p q : ℕ} {t : Test} {ts : List Test} → p ≤ t .at → Rising (t .at + 1) q ts → Rising p q (t ∷ ts)

@@ -1,5 +1,16 @@
 // The filter's text: what stands at a position, each answer with the positions of its parts.
 // Sheets, kinds and cards are no matter of this layer.
+pub mod scan;
+pub mod test;
+pub mod value;
+
+use scan::has;
+use scan::skip;
+use test::read_test;
+ghost use mathlib.Core.Path.{_≡_};
+ghost use Prim.Native.Nat.{_≤_};
+ghost use lib.ListN.{length};
+ghost use Rattle.syntax.specs.Scan.{openAt, headAt, connectiveAt, closeAt};
 
 // A value as it stands in the text: its bytes from start up to end, whether an escape is among them, and where the
 // text goes on.
@@ -29,6 +40,12 @@ pub enum StringStep {
 pub enum FoundString {
     Closed(usize, bool),
     Nothing,
+}
+
+// What a byte of a string adds to the value: a byte, or nothing where a backslash begins an escape.
+pub enum Piece {
+    Byte(u8),
+    Backslash,
 }
 
 pub enum FoundValue {
@@ -64,4 +81,63 @@ pub enum FoundConnective {
 pub enum FoundClose {
     At(usize),
     Nothing,
+}
+
+// A bracket that opens at a position: "(", or "not", spaces and "(", with the spaces after it.
+fn read_open(s: &[u8], at: usize) -> Head
+    requires { ⌜ at ≤ length (now s) ⌝ }
+    ensures { λ r. ⌜ r ≡ openAt (now (s .entry)) at ⌝ }
+{
+    if has(s, at, b"(") {
+        return Head::Open(skip(s, at + 1), false);
+    }
+    if has(s, at, b"not") {
+        let bracket = skip(s, at + 3);
+        if has(s, bracket, b"(") {
+            return Head::Open(skip(s, bracket + 1), true);
+        }
+        return Head::Nothing;
+    }
+    Head::Nothing
+}
+
+// What an item begins with at a position, where `close` closes the bracket around the item.
+pub fn read_head(s: &[u8], close: u8, at: usize) -> Head
+    requires { ⌜ at ≤ length (now s) ⌝ }
+    ensures { λ r. ⌜ r ≡ headAt (now (s .entry)) close at ⌝ }
+{
+    match read_test(s, close, at) {
+        FoundTest::Test(test) => Head::Test(test),
+        FoundTest::Nothing => read_open(s, at),
+    }
+}
+
+// The connective after an item that ends at a position, "with at least one space on both sides".
+pub fn read_connective(s: &[u8], at: usize) -> FoundConnective
+    requires { ⌜ at ≤ length (now s) ⌝ }
+    ensures { λ r. ⌜ r ≡ connectiveAt (now (s .entry)) at ⌝ }
+{
+    let word = skip(s, at);
+    if word == at {
+        return FoundConnective::Nothing;
+    }
+    if has(s, word, b"and ") {
+        return FoundConnective::Next(skip(s, word + 4), true);
+    }
+    if has(s, word, b"or ") {
+        return FoundConnective::Next(skip(s, word + 3), false);
+    }
+    FoundConnective::Nothing
+}
+
+// The byte that closes a bracket after a filter that ends at a position.
+pub fn read_close(s: &[u8], close: u8, at: usize) -> FoundClose
+    requires { ⌜ at ≤ length (now s) ⌝ }
+    ensures { λ r. ⌜ r ≡ closeAt (now (s .entry)) close at ⌝ }
+{
+    let end = skip(s, at);
+    if has(s, end, &[close]) {
+        return FoundClose::At(end + 1);
+    }
+    FoundClose::Nothing
 }

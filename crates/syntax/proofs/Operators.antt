@@ -1,0 +1,152 @@
+-- Operators: the scan finds what the grammar asks for, and all of it.
+-- Assumes nothing.
+use Prim.Native.Nat.{ℕ, suc, _+_, _-_, _≤_, _<_}
+use native.Mathlib.Omega.{arith}
+use native.Mathlib.Numerals.{add-one}
+use mathlib.Core.Path.{_≡_, refl, sym, ap, subst, _∙_}
+use mathlib.Core.Bool.{Bool, true, false, cond, not, _&&_, and-true, false≢true, true≢false}
+use mathlib.Core.List.{List, [], _∷_}
+use lib.Dec.{eqb}
+use lib.ListN.{length, getD, take, drop, length-drop, length-append, drop-of-length-le}
+use lib.Seq.{drop-cons, take-at}
+use borrow.Author.Tests.{eqb-true, not-true}
+use Rattle.base.specs.Lists.{equal}
+use Rattle.base.specs.Below.{passes}
+use Rattle.base.proofs.Below.{passes-at, passes-same}
+use Rattle.base.proofs.Lists.{equal-same}
+use Rattle.syntax.specs.Operators.{operatorWords}
+use Rattle.syntax.specs.Grammar.{Stands, Operator}
+use Rattle.syntax.specs.Scan.{findOperator, operatorAt}
+use Rattle.syntax.specs.declared.FoundOperator.{FoundOperator}
+use Rattle.syntax.proofs.Words.{NoSpaceAt, stands-no-space, taken-stands}
+
+never-operator : {X : Type 0} {k : ℕ} → FoundOperator.Nothing ≡ FoundOperator.Is k → X
+never-operator h = let z : _≡_ {A = ℕ} 0 1 = cc in absurd (omega arith)
+
+-- the word found is the i-th of those from the j-th on
+find-derives : (j : ℕ) (us : List (List ℕ)) (w : List ℕ) (k : ℕ) → findOperator j us w ≡ FoundOperator.Is k → (i : ℕ) × (k ≡ j + i) × (i < length us) × (getD us i [] ≡ w)
+unfolding findOperator
+find-derives j [] w k h = never-operator h
+find-derives j (u ∷ us) w k h = go (equal w u) refl h (λ e. find-derives (suc j) us w k e)
+  where
+    go : (b : Bool) → equal w u ≡ b → cond b (FoundOperator.Is j) (findOperator (suc j) us w) ≡ FoundOperator.Is k
+        → (findOperator (suc j) us w ≡ FoundOperator.Is k → (i : ℕ) × (k ≡ suc j + i) × (i < length us) × (getD us i [] ≡ w))
+        → (i : ℕ) × (k ≡ j + i) × (i < length (u ∷ us)) × (getD (u ∷ us) i [] ≡ w)
+    go true e h next = let z : j ≡ k = cc in (0, omega arith, omega arith, sym (equal-same w u e))
+    go false e h next = let r = next h in (suc (r .0), omega (arith, r .1), omega (arith, r .2), r .3)
+
+two-letters : (k : ℕ) → k < length operatorWords → length (getD operatorWords k []) ≡ 2
+unfolding operatorWords
+two-letters k h = passes-same (λ (i : ℕ). length (getD operatorWords i [])) (λ (i : ℕ). 2) 19 refl k h
+
+pub operator-derives : (xs : List ℕ) (p k : ℕ) → operatorAt xs p ≡ FoundOperator.Is k → Operator xs p k
+unfolding operatorAt
+operator-derives xs p k h =
+    let r = find-derives 0 operatorWords (take 2 (drop p xs)) k h in
+    let e : k ≡ r .0 = omega (arith, r .1) in
+    record {
+      one-of = rw e (r .2);
+      stands = subst (λ (w : List ℕ). Stands xs p w) (sym (r .3) ∙ ap (λ (i : ℕ). getD operatorWords i []) (sym e)) (taken-stands xs p 2);
+    }
+
+isOperator : ℕ → FoundOperator → Bool
+isOperator k (FoundOperator.Is j) = eqb j k
+isOperator k FoundOperator.Nothing = false
+
+is-operator : (k : ℕ) (f : FoundOperator) → isOperator k f ≡ true → f ≡ FoundOperator.Is k
+unfolding isOperator
+is-operator k (FoundOperator.Is j) h = ap FoundOperator.Is (eqb-true j k h)
+is-operator k FoundOperator.Nothing h = absurd (false≢true h)
+
+-- no word stands twice in the list
+each-found : (k : ℕ) → k < length operatorWords → findOperator 0 operatorWords (getD operatorWords k []) ≡ FoundOperator.Is k
+unfolding operatorWords findOperator equal isOperator
+each-found k h = is-operator k _ (passes-at (λ (i : ℕ). isOperator i (findOperator 0 operatorWords (getD operatorWords i []))) 19 refl k h)
+
+pub operator-found : {xs : List ℕ} {p k : ℕ} → Operator xs p k → operatorAt xs p ≡ FoundOperator.Is k
+unfolding operatorAt
+operator-found {xs} {p} {k} o =
+    let w = getD operatorWords k [] in
+    let e : take 2 (drop p xs) ≡ w = ap (take 2) (o .stands .1) ∙ take-at w (o .stands .0) 2 (two-letters k (o .one-of)) in
+    rw e (each-found k (o .one-of))
+
+-- no word begins with a space
+startsWithSpace : List ℕ → Bool
+startsWithSpace [] = true
+startsWithSpace (x ∷ xs) = eqb x 0x20
+
+letters-first : (w : List ℕ) → startsWithSpace w ≡ false → (b : ℕ) × (v : List ℕ) × (w ≡ b ∷ v) × (eqb b 0x20 ≡ false)
+unfolding startsWithSpace
+letters-first [] h = absurd (true≢false h)
+letters-first (x ∷ xs) h = (x, xs, refl, h)
+
+pub operator-no-space : {xs : List ℕ} {p k : ℕ} → Operator xs p k → NoSpaceAt xs p
+unfolding operatorWords startsWithSpace
+operator-no-space {xs} {p} {k} o =
+    let t = passes-at (λ (i : ℕ). not (startsWithSpace (getD operatorWords i []))) 19 refl k (o .one-of) in
+    let w = letters-first (getD operatorWords k []) (not-true _ t) in
+    stands-no-space xs p (w .0) (w .1) (rw (w .2) at (o .stands)) (w .3)
+
+pub operator-rise : {xs : List ℕ} {p k : ℕ} → Operator xs p k → p + 2 ≤ length xs
+operator-rise {xs} {p} {k} o = omega (arith, ap length (o .stands .1), length-drop p xs, length-append (getD operatorWords k []) (o .stands .0), two-letters k (o .one-of))
+
+-- ---- as the code finds one: the k-th word and those after it are left to try
+
+pub record Trying (first second k : ℕ) : Type 0 where
+  pub few : k ≤ 19
+  pub left : findOperator 0 operatorWords (first ∷ second ∷ []) ≡ findOperator k (drop k operatorWords) (first ∷ second ∷ [])
+
+pub trying-starts : (first second : ℕ) → Trying first second 0
+trying-starts first second = record { few = omega arith; left = refl }
+
+many-words : length operatorWords ≡ 19
+unfolding operatorWords
+many-words = refl
+
+try-step : (k : ℕ) (w : List ℕ) → k < 19 → findOperator k (drop k operatorWords) w ≡ cond (equal w (getD operatorWords k [])) (FoundOperator.Is k) (findOperator (k + 1) (drop (k + 1) operatorWords) w)
+unfolding findOperator
+try-step k w h = rw (drop-cons operatorWords k [] (rw many-words h), add-one k)
+
+-- the letters of a word, from two tables of them
+pub letters : (firsts seconds : List ℕ) → passes (λ (k : ℕ). equal (getD firsts k 0 ∷ getD seconds k 0 ∷ []) (getD operatorWords k [])) 19 ≡ true
+    → (k : ℕ) → k < 19 → (a b : ℕ) → equal (a ∷ b ∷ []) (getD operatorWords k []) ≡ (eqb a (getD firsts k 0) && eqb b (getD seconds k 0))
+unfolding equal
+letters firsts seconds t k h a b =
+    let e : getD operatorWords k [] ≡ getD firsts k 0 ∷ getD seconds k 0 ∷ [] =
+    sym (equal-same (getD firsts k 0 ∷ getD seconds k 0 ∷ []) (getD operatorWords k []) (passes-at (λ (k : ℕ). equal (getD firsts k 0 ∷ getD seconds k 0 ∷ []) (getD operatorWords k [])) 19 t k h)) in
+    rw e (ap (λ (r : Bool). eqb a (getD firsts k 0) && r) (and-true (eqb b (getD seconds k 0))))
+
+-- the two bytes at a position
+pub two-bytes : (xs : List ℕ) (p : ℕ) → 2 ≤ length xs - p → take 2 (drop p xs) ≡ getD xs p 0 ∷ getD xs (p + 1) 0 ∷ []
+two-bytes xs p h =
+    let a : p < length xs = omega arith in
+    let b : suc p < length xs = omega arith in
+    rw (drop-cons xs p 0 a, drop-cons xs (suc p) 0 b, add-one p)
+
+module _ (xs : List ℕ) (p : ℕ) where
+  pub operator-short : length xs - p < 2 → FoundOperator.Nothing ≡ operatorAt xs p
+  operator-short h = go (operatorAt xs p) refl
+    where
+      go : (f : FoundOperator) → operatorAt xs p ≡ f → FoundOperator.Nothing ≡ f
+      go (FoundOperator.Is k) e = absurd (short (operator-rise (operator-derives xs p k e)))
+        where
+          short : p + 2 ≤ length xs → ⊥
+          short i = omega arith
+      go FoundOperator.Nothing e = refl
+
+  module _ (h : 2 ≤ length xs - p) (k : ℕ) (t : Trying (getD xs p 0) (getD xs (p + 1) 0) k) where
+    abbrev word : List ℕ
+    word = getD xs p 0 ∷ getD xs (p + 1) 0 ∷ []
+
+    pub trying-found : (r : Bool) → r ≡ equal word (getD operatorWords k []) → r ≡ true → k < 19 → FoundOperator.Is k ≡ operatorAt xs p
+    unfolding operatorAt
+    trying-found r e f g = rw (two-bytes xs p h, t .left, try-step k word g, sym e ∙ f)
+
+    pub trying-next : (r : Bool) → r ≡ equal word (getD operatorWords k []) → r ≡ false → k < 19 → Trying (getD xs p 0) (getD xs (p + 1) 0) (k + 1)
+    trying-next r e f g = record { few = omega arith; left = t .left ∙ rw (try-step k word g, sym e ∙ f) }
+
+    pub trying-ends : 19 ≤ k → FoundOperator.Nothing ≡ operatorAt xs p
+    unfolding operatorAt findOperator
+    trying-ends g =
+        let n : length operatorWords ≤ k = rw many-words g in
+        rw (two-bytes xs p h, t .left, drop-of-length-le operatorWords n)

@@ -1,0 +1,168 @@
+// Tests: a name, an operator and a value, with at least one space between.
+use crate::FoundOperator;
+use crate::FoundTest;
+use crate::FoundValue;
+use crate::RawTest;
+use crate::scan::name_end;
+use crate::scan::skip;
+use crate::value::read_value;
+ghost use mathlib.Core.Path.{_≡_};
+ghost use mathlib.Core.List.{[], _∷_};
+ghost use Prim.Native.Nat.{_+_, _≤_, _<_};
+ghost use lib.ListN.{length, getD, drop};
+ghost use Rattle.base.specs.Lists.{equal};
+ghost use Rattle.syntax.specs.Operators.{operatorWords};
+ghost use Rattle.syntax.specs.Scan.{follows, operatorAt, testValue, testOperator, testAt};
+
+// The letters of the 19 operators: eq ne co sw ew gt lt ge le ap sa eb pr po ss sb in ni re.
+const FIRST_LETTERS: [u8; 19] = [
+    b'e',
+    b'n',
+    b'c',
+    b's',
+    b'e',
+    b'g',
+    b'l',
+    b'g',
+    b'l',
+    b'a',
+    b's',
+    b'e',
+    b'p',
+    b'p',
+    b's',
+    b's',
+    b'i',
+    b'n',
+    b'r',
+];
+
+const SECOND_LETTERS: [u8; 19] = [
+    b'q',
+    b'e',
+    b'o',
+    b'w',
+    b'w',
+    b't',
+    b't',
+    b'e',
+    b'e',
+    b'p',
+    b'a',
+    b'b',
+    b'r',
+    b'o',
+    b's',
+    b'b',
+    b'n',
+    b'i',
+    b'e',
+];
+
+// Whether the two letters are those of an operator.
+fn is_operator(operator: u8, first: u8, second: u8) -> bool
+    requires { ⌜ operator < 19 ⌝ }
+    ensures { λ r. ⌜ r ≡ equal (first ∷ second ∷ []) (getD operatorWords operator []) ⌝ }
+{
+    let k = operator as usize;
+    if first != FIRST_LETTERS[k] {
+        return false;
+    }
+    second == SECOND_LETTERS[k]
+}
+
+// The operator at a position.
+fn read_operator(s: &[u8], at: usize) -> FoundOperator
+    requires { ⌜ at ≤ length (now s) ⌝ }
+    ensures { λ r. ⌜ r ≡ operatorAt (now (s .entry)) at ⌝ }
+{
+    if s.len() - at < 2 {
+        return FoundOperator::Nothing;
+    }
+    let first = s[at];
+    let second = s[at + 1];
+    let mut k = 0;
+    while k < 19 {
+        if is_operator(k, first, second) {
+            return FoundOperator::Is(k);
+        }
+        k += 1;
+    }
+    FoundOperator::Nothing
+}
+
+// Whether a value may end at a position: "after a value comes a space, a ")" or the end", where `close` closes the
+// bracket around the test.
+fn may_follow(s: &[u8], at: usize, close: u8) -> bool
+    requires { ⌜ at ≤ length (now s) ⌝ }
+    ensures { λ r. ⌜ r ≡ follows close (drop at (now (s .entry))) ⌝ }
+{
+    if at == s.len() {
+        return true;
+    }
+    let b = s[at];
+    if b == b' ' {
+        return true;
+    }
+    b == close
+}
+
+// The value of a test at `at` whose name ends at `until` and whose operator ends at `after`.
+fn read_test_value(
+    s: &[u8],
+    close: u8,
+    at: usize,
+    until: usize,
+    operator: u8,
+    after: usize,
+) -> FoundTest
+    requires { ⌜ after ≤ length (now s) ⌝ }
+    ensures { λ r. ⌜ r ≡ testValue (now (s .entry)) close at until operator after ⌝ }
+{
+    let start = skip(s, after);
+    if start == after {
+        return FoundTest::Nothing;
+    }
+    match read_value(s, start) {
+        FoundValue::Value(value) => {
+            let next = value.next;
+            if may_follow(s, next, close) {
+                return FoundTest::Test(RawTest {
+                    at,
+                    until,
+                    operator,
+                    value,
+                });
+            }
+            FoundTest::Nothing
+        }
+        FoundValue::Nothing => FoundTest::Nothing,
+    }
+}
+
+// The operator and the value of a test at `at` whose name ends at `until`.
+fn read_test_operator(s: &[u8], close: u8, at: usize, until: usize) -> FoundTest
+    requires { ⌜ until ≤ length (now s) ⌝ }
+    ensures { λ r. ⌜ r ≡ testOperator (now (s .entry)) close at until ⌝ }
+{
+    let word = skip(s, until);
+    if word == until {
+        return FoundTest::Nothing;
+    }
+    match read_operator(s, word) {
+        FoundOperator::Is(operator) => read_test_value(s, close, at, until, operator, word + 2),
+        FoundOperator::Nothing => FoundTest::Nothing,
+    }
+}
+
+// The test that begins at a position, where `close` closes the bracket around it.
+pub fn read_test(s: &[u8], close: u8, at: usize) -> FoundTest
+    requires { ⌜ at ≤ length (now s) ⌝ }
+    ensures { λ r. ⌜ r ≡ testAt (now (s .entry)) close at ⌝ }
+{
+    let until = name_end(s, at);
+    if base::name::is_name(&s[at..until]) {
+        return read_test_operator(s, close, at, until);
+    }
+    FoundTest::Nothing
+}
