@@ -1,6 +1,6 @@
 -- Laws of Boolean tests.
 -- Assumes nothing.
-use mathlib.Core.Path.{_≡_, refl, sym}
+use mathlib.Core.Path.{_≡_, refl, sym, _∙_}
 use mathlib.Core.Bool.{Bool, true, false, _&&_, _||_, cond, or-true, true≢false, false≢true}
 use mathlib.Core.Logic.{_⊎_, inl, inr}
 
@@ -45,3 +45,20 @@ pub same-test : (a b : Bool) → (a ≡ true → b ≡ true) → (b ≡ true →
 same-test true b f g = sym (f refl)
 same-test false true f g = g refl
 same-test false false f g = refl
+
+-- ---- calls in code: p and q are what the calls answered
+
+pub answered : {a p : Bool} → p ≡ a → p ≡ true → a ≡ true
+answered e h = sym e ∙ h
+
+pub and-on : {a b p q : Bool} → p ≡ a → p ≡ true → q ≡ b → q ≡ (a && b)
+and-on e h f = rw (← e, h) f
+
+pub and-off : {a p : Bool} (b : Bool) → p ≡ a → p ≡ false → p ≡ (a && b)
+and-off b e h = rw (← e, h)
+
+pub or-on : {a p : Bool} (b : Bool) → p ≡ a → p ≡ true → p ≡ (a || b)
+or-on b e h = rw (← e, h)
+
+pub or-off : {a b p q : Bool} → p ≡ a → p ≡ false → q ≡ b → q ≡ (a || b)
+or-off e h f = rw (← e, h) f

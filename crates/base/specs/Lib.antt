@@ -1,3 +1,4 @@
 -- The definitions that every layer shares.
 pub mod Lists
 pub mod Digits
+pub mod Below
