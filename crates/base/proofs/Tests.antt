@@ -52,3 +52,20 @@ same-test false false f g = refl
 -- two numbers that a test tells apart are not equal
 pub apart : (test : ℕ → Bool) (x y : ℕ) → test x ≡ true → test y ≡ false → eqb x y ≡ false
 apart test x y p q = ne-eqb x y (λ e. both-ways p (ap test e ∙ q))
+
+-- ---- calls in code: p and q are what the calls answered
+
+pub answered : {a p : Bool} → p ≡ a → p ≡ true → a ≡ true
+answered e h = sym e ∙ h
+
+pub and-on : {a b p q : Bool} → p ≡ a → p ≡ true → q ≡ b → q ≡ (a && b)
+and-on e h f = rw (← e, h) f
+
+pub and-off : {a p : Bool} (b : Bool) → p ≡ a → p ≡ false → p ≡ (a && b)
+and-off b e h = rw (← e, h)
+
+pub or-on : {a p : Bool} (b : Bool) → p ≡ a → p ≡ true → p ≡ (a || b)
+or-on b e h = rw (← e, h)
+
+pub or-off : {a b p q : Bool} → p ≡ a → p ≡ false → q ≡ b → q ≡ (a || b)
+or-off e h f = rw (← e, h) f

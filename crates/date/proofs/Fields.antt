@@ -1,0 +1,99 @@
+-- Laws of the fields: each test passes exactly where its record holds.
+-- Assumes nothing.
+use Prim.Native.Nat.{ℕ, _+_, _*_, _≤_, _<_}
+use native.Mathlib.Omega.{arith}
+use mathlib.Core.Bool.{Bool, true, _&&_}
+use mathlib.Core.Path.{_≡_}
+use lib.Dec.{leb}
+use borrow.Author.Tests.{leb-true, le-leb}
+use Rattle.base.proofs.Tests.{and-left, and-right, and-both}
+use Rattle.date.specs.Calendar.{leapYear, monthLength}
+use Rattle.date.specs.Spans.{secondOfDay}
+use Rattle.date.specs.Fields.{ValidYear, ValidMonth, ValidDay, ValidTime, ValidZone, between, validYear, validMonth, validDay, validTime, validZone}
+
+-- ---- a test that passed says its record
+
+between-low : (low n high : ℕ) → between low n high ≡ true → low ≤ n
+unfolding between
+between-low low n high h = leb-true low n (and-left (leb low n) (leb n high) h)
+
+between-high : (low n high : ℕ) → between low n high ≡ true → n ≤ high
+unfolding between
+between-high low n high h = leb-true n high (and-right (leb low n) (leb n high) h)
+
+pub year-says : {y : ℕ} → validYear y ≡ true → ValidYear y
+year-says {y} h = record { low = between-low 1 y 9999 h; high = between-high 1 y 9999 h }
+
+pub month-says : {y m : ℕ} → validMonth y m ≡ true → ValidMonth y m
+unfolding validMonth
+month-says {y} {m} h =
+    let month : between 1 m 12 ≡ true = and-right (validYear y) (between 1 m 12) h in
+    record {
+      year = year-says (and-left (validYear y) (between 1 m 12) h);
+      low = between-low 1 m 12 month;
+      high = between-high 1 m 12 month;
+    }
+
+pub day-says : {y m d : ℕ} → validDay y m d ≡ true → ValidDay y m d
+unfolding validDay
+day-says {y} {m} {d} h =
+    let last : ℕ = monthLength (leapYear y) m in
+    let day : between 1 d last ≡ true = and-right (validMonth y m) (between 1 d last) h in
+    record {
+      month = month-says (and-left (validMonth y m) (between 1 d last) h);
+      low = between-low 1 d last day;
+      high = between-high 1 d last day;
+    }
+
+pub time-says : {h m s : ℕ} → validTime h m s ≡ true → ValidTime h m s
+unfolding validTime
+time-says {h} {m} {s} t =
+    let rest : (leb m 59 && leb s 59) ≡ true = and-right (leb h 23) (leb m 59 && leb s 59) t in
+    record {
+      hour = leb-true h 23 (and-left (leb h 23) (leb m 59 && leb s 59) t);
+      minute = leb-true m 59 (and-left (leb m 59) (leb s 59) rest);
+      second = leb-true s 59 (and-right (leb m 59) (leb s 59) rest);
+    }
+
+pub time-bound : {h m s n : ℕ} → ValidTime h m s → n ≡ secondOfDay h m s → n < 86400
+time-bound v e = omega arith
+
+pub zone-says : {h m : ℕ} → validZone h m ≡ true → ValidZone h m
+unfolding validZone
+zone-says {h} {m} t =
+    record {
+      minute = leb-true m 59 (and-left (leb m 59) (leb (h * 60 + m) 840) t);
+      most = leb-true (h * 60 + m) 840 (and-right (leb m 59) (leb (h * 60 + m) 840) t);
+    }
+
+-- ---- where a record holds, its test passes
+
+between-passes : {low n high : ℕ} → low ≤ n → n ≤ high → between low n high ≡ true
+unfolding between
+between-passes {low} {n} {high} p q = and-both (leb low n) (leb n high) (le-leb low n p) (le-leb n high q)
+
+pub year-passes : {y : ℕ} → ValidYear y → validYear y ≡ true
+year-passes v = between-passes (v .low) (v .high)
+
+pub month-passes : {y m : ℕ} → ValidMonth y m → validMonth y m ≡ true
+unfolding validMonth
+month-passes {y} {m} v = and-both (validYear y) (between 1 m 12) (year-passes (v .year)) (between-passes (v .low) (v .high))
+
+pub day-passes : {y m d : ℕ} → ValidDay y m d → validDay y m d ≡ true
+unfolding validDay
+day-passes {y} {m} {d} v =
+    and-both (validMonth y m) (between 1 d (monthLength (leapYear y) m)) (month-passes (v .month)) (between-passes (v .low) (v .high))
+
+pub time-passes : {h m s : ℕ} → ValidTime h m s → validTime h m s ≡ true
+unfolding validTime
+time-passes {h} {m} {s} v = rw (le-leb h 23 (v .hour), le-leb m 59 (v .minute), le-leb s 59 (v .second))
+
+pub zone-passes : {h m : ℕ} → ValidZone h m → validZone h m ≡ true
+unfolding validZone
+zone-passes {h} {m} v = rw (le-leb m 59 (v .minute), le-leb (h * 60 + m) 840 (v .most))
+
+-- ---- a day's test as the code makes it
+
+pub day-test : (y m d : ℕ) {last : ℕ} {p q : Bool} → p ≡ validMonth y m → p ≡ true → last ≡ monthLength (leapYear y) m → q ≡ between 1 d last → q ≡ validDay y m d
+unfolding validDay
+day-test y m d e h l f = rw (← e, h, ← l) f

@@ -1,0 +1,295 @@
+-- Laws of reading: each way through the code gives what the definition says.
+-- Assumes nothing.
+use Prim.Native.Nat.{ℕ, _+_, _*_, _-_, _≤_, _<_}
+use mathlib.Core.Bool.{Bool, true, false, cond}
+use mathlib.Core.Path.{_≡_, refl, sym, ap, _∙_, subst}
+use mathlib.Core.List.{List}
+use native.Mathlib.Omega.{arith}
+use native.Mathlib.Nat.{le-refl, le-trans, le-of-lt, mul-le-mul, mul-le-mul-right, suc-mul}
+use lib.Dec.{eqb, leb, ltb, lit<, lit≤}
+use lib.ListN.{length, getD}
+use lib.IntN.{ℤ, pos, negℤ, natAbs, _-ℤ_, +ℤ-idl}
+use mir.Syntax.{w64}
+use mir.Val.{Fits, SFits, toZ, ofZ}
+use mir.ValLaws.{toZ-ofZ, toZ-pos}
+use borrow.Author.Tests.{eq-eqb, ne-eqb, lt-ltb, le-ltb, le-leb, lt-leb, ltb-true}
+use Rattle.base.specs.Digits.{isDigit}
+use Rattle.base.proofs.Digits.{digit-low, digit-high}
+use Rattle.base.proofs.Tests.{answered}
+use Rattle.date.specs.Texts.{digitOf, pair, twoAt, fourAt, fieldAt, signed, zoneAt, readYear, readMonth, readDay, readLocal, zoned, read, isDate, readable}
+use Rattle.date.specs.Calendar.{leapYear, yearLength, monthLength, dayNumber}
+use Rattle.date.specs.Spans.{daysFrom, secondOfDay, secondFrom, yearDate, monthDate, dayDate, secondDate}
+use Rattle.date.specs.Fields.{validYear, validMonth, validDay, validTime, validZone}
+use Rattle.date.specs.declared.Precision.the-variants.{Year, Month, Day}
+use Rattle.date.specs.declared.Date.{Date}
+use Rattle.date.specs.declared.Reading.{Reading}
+use Rattle.date.specs.declared.Reading.the-variants.{Readable}
+use Rattle.date.proofs.Fields.{zone-says}
+use Rattle.date.proofs.Spans.{less-mag, size-mag, neg-size}
+use Rattle.date.specs.declared.Zone.{Zone}
+use Rattle.date.specs.declared.Zone.the-variants.{Offset}
+
+-- ---- digits
+
+module _ (b : ℕ) {p : Bool} (e : p ≡ isDigit b) where
+  module _ {n : ℕ} (h : p ≡ true) (f : n ≡ b) where
+    pub digit-least : 48 ≤ n
+    digit-least = rw f (digit-low b (answered e h))
+
+    pub digit-value : n - 48 ≡ digitOf b
+    unfolding digitOf
+    digit-value = rw (← e, h, f)
+
+  pub digit-missing : p ≡ false → 10 ≡ digitOf b
+  unfolding digitOf
+  digit-missing h = rw (← e, h)
+
+-- ---- pairs
+
+product-bound : {radix a : ℕ} → radix ≤ 100 → a ≤ radix → a * radix ≤ 10000
+product-bound h p = le-trans (mul-le-mul (le-trans p h) h) (lit≤ tt)
+
+pub product-fits : (radix a : ℕ) → radix ≤ 100 → a ≤ radix → Fits w64 (a * radix)
+product-fits radix a h p = record { fits = omega (arith, product-bound h p) }
+
+pub value-fits : (radix a b : ℕ) → radix ≤ 100 → a < radix → b < radix → Fits w64 (a * radix + b)
+value-fits radix a b h p q = record { fits = omega (arith, product-bound h (le-of-lt p)) }
+
+module _ (radix a b : ℕ) where
+  pub pair-first : radix ≤ a → radix * radix ≡ pair radix a b
+  unfolding pair
+  pair-first h = rw (le-ltb a radix h)
+
+  module _ (h : a < radix) where
+    pub pair-last : radix ≤ b → radix * radix ≡ pair radix a b
+    unfolding pair
+    pair-last k = rw (lt-ltb a radix h, le-ltb b radix k)
+
+    pub pair-value : b < radix → a * radix + b ≡ pair radix a b
+    unfolding pair
+    pair-value k = rw (lt-ltb a radix h, lt-ltb b radix k)
+
+module _ (s : List ℕ) (at : ℕ) {a b n : ℕ} where
+  pub two-is : a ≡ digitOf (getD s at 0) → b ≡ digitOf (getD s (at + 1) 0) → n ≡ pair 10 a b → n ≡ twoAt s at
+  unfolding twoAt
+  two-is e f g = rw (← e, ← f) g
+
+  pub four-is : a ≡ twoAt s at → b ≡ twoAt s (at + 2) → n ≡ pair 100 a b → n ≡ fourAt s at
+  unfolding fourAt
+  four-is e f g = rw (← e, ← f) g
+
+value-most : {radix a b : ℕ} → a < radix → b < radix → a * radix + b < radix * radix
+value-most {radix} {a} {b} p q = omega (arith, mul-le-mul-right radix p, suc-mul a radix)
+
+pair-most : (radix a b : ℕ) → pair radix a b ≤ radix * radix
+unfolding pair
+pair-most radix a b = go (ltb a radix) (ltb b radix) refl refl
+  where
+    go : (s t : Bool) → ltb a radix ≡ s → ltb b radix ≡ t → cond s (cond t (a * radix + b) (radix * radix)) (radix * radix) ≤ radix * radix
+    go true true e f = le-of-lt (value-most (ltb-true a radix e) (ltb-true b radix f))
+    go true false e f = le-refl (radix * radix)
+    go false t e f = le-refl (radix * radix)
+
+pub two-most : (s : List ℕ) (at : ℕ) {n : ℕ} → n ≡ twoAt s at → n ≤ 100
+unfolding twoAt
+two-most s at e = rw e (pair-most 10 (digitOf (getD s at 0)) (digitOf (getD s (at + 1) 0)))
+
+-- ---- a field
+
+module _ (s : List ℕ) (at mark : ℕ) where
+  pub field-digits : {n : ℕ} → getD s at 0 ≡ mark → n ≡ twoAt s (at + 1) → n ≡ fieldAt s at mark
+  unfolding fieldAt
+  field-digits h e = rw (eq-eqb (getD s at 0) mark h) e
+
+  pub field-mark : (getD s at 0 ≡ mark → ⊥) → 100 ≡ fieldAt s at mark
+  unfolding fieldAt
+  field-mark h = rw (ne-eqb (getD s at 0) mark h)
+
+pub field-most : (s : List ℕ) (at mark : ℕ) {n : ℕ} → n ≡ fieldAt s at mark → n ≤ 100
+unfolding fieldAt
+field-most s at mark e = rw e (go (eqb (getD s at 0) mark))
+  where
+    go : (t : Bool) → cond t (twoAt s (at + 1)) 100 ≤ 100
+    go true = two-most s (at + 1) refl
+    go false = le-refl 100
+
+-- ---- the zone
+
+module _ (sign h m : ℕ) where
+  pub signed-minute : 59 < m → Zone.Unreadable ≡ signed sign h m
+  unfolding signed validZone
+  signed-minute p = rw (lt-leb m 59 p)
+
+  module _ (p : m ≤ 59) where
+    pub signed-most : 840 < h * 60 + m → Zone.Unreadable ≡ signed sign h m
+    unfolding signed validZone
+    signed-most q = rw (le-leb m 59 p, lt-leb (h * 60 + m) 840 q)
+
+    module _ (q : h * 60 + m ≤ 840) where
+      minutes-read : toZ w64 (h * 60 + m) ≡ pos (h * 60 + m)
+      minutes-read = toZ-pos w64 (h * 60 + m) (omega arith)
+
+      pub west-fits : SFits w64 (pos 0 -ℤ toZ w64 (h * 60 + m))
+      west-fits = rw minutes-read (record { sfits = omega (arith, less-mag (pos 0) (pos (h * 60 + m)) {h = 1} {k = 841} (lit< tt) (omega arith)) })
+
+      pub signed-east : sign ≡ 43 → Offset (toZ w64 (h * 60 + m)) ≡ signed sign h m
+      unfolding signed validZone
+      signed-east e = rw (le-leb m 59 p, le-leb (h * 60 + m) 840 q, eq-eqb sign 43 e, minutes-read)
+
+      module _ (e : sign ≡ 43 → ⊥) where
+        pub signed-west : sign ≡ 45 → Offset (toZ w64 (ofZ w64 (pos 0 -ℤ toZ w64 (h * 60 + m)))) ≡ signed sign h m
+        unfolding signed validZone
+        signed-west f =
+            let back : toZ w64 (ofZ w64 (pos 0 -ℤ toZ w64 (h * 60 + m))) ≡ negℤ (pos (h * 60 + m)) =
+            toZ-ofZ w64 _ west-fits ∙ ap (λ (x : ℤ). pos 0 -ℤ x) minutes-read ∙ +ℤ-idl (negℤ (pos (h * 60 + m))) in
+            rw (le-leb m 59 p, le-leb (h * 60 + m) 840 q, ne-eqb sign 43 e, eq-eqb sign 45 f) (ap Offset back)
+
+        pub signed-neither : (sign ≡ 45 → ⊥) → Zone.Unreadable ≡ signed sign h m
+        unfolding signed validZone
+        signed-neither f =
+            rw (le-leb m 59 p, le-leb (h * 60 + m) 840 q, ne-eqb sign 43 e, ne-eqb sign 45 f)
+
+module _ (s : List ℕ) (at : ℕ) where
+  module _ (h : length s ≡ at + 1) where
+    pub zone-utc : getD s at 0 ≡ 90 → Offset (pos 0) ≡ zoneAt s at
+    unfolding zoneAt
+    zone-utc e = rw (eq-eqb _ _ h, eq-eqb _ _ e)
+
+    pub zone-letter : (getD s at 0 ≡ 90 → ⊥) → Zone.Unreadable ≡ zoneAt s at
+    unfolding zoneAt
+    zone-letter e = rw (eq-eqb _ _ h, ne-eqb _ _ e)
+
+  module _ (h : length s ≡ at + 1 → ⊥) where
+    pub zone-signed : {a b : ℕ} {z : Zone} → length s ≡ at + 6 → a ≡ twoAt s (at + 1) → b ≡ fieldAt s (at + 3) 58 → z ≡ signed (getD s at 0) a b → z ≡ zoneAt s at
+    unfolding zoneAt
+    zone-signed k e f g = rw (ne-eqb _ _ h, eq-eqb _ _ k, ← e, ← f) g
+
+    pub zone-length : (length s ≡ at + 6 → ⊥) → Zone.Unreadable ≡ zoneAt s at
+    unfolding zoneAt
+    zone-length k = rw (ne-eqb _ _ h, ne-eqb _ _ k)
+
+-- an offset that was read is at most 840 minutes either way
+data Within : Zone → Type 0 where
+  within-offset : {z : ℤ} → natAbs z ≤ 840 → Within (Offset z)
+  within-none : Within Zone.Unreadable
+
+within-bound : {z : ℤ} → Within (Offset z) → natAbs z ≤ 840
+within-bound (within-offset p) = p
+
+within-cond : (t : Bool) {x y : Zone} → Within x → Within y → Within (cond t x y)
+within-cond true p q = p
+within-cond false p q = q
+
+signed-within : (sign h m : ℕ) → Within (signed sign h m)
+unfolding signed
+signed-within sign h m = go (validZone h m) refl
+  where
+    go : (t : Bool) → validZone h m ≡ t → Within (cond t (cond (eqb sign 43) (Offset (pos (h * 60 + m))) (cond (eqb sign 45) (Offset (negℤ (pos (h * 60 + m)))) Zone.Unreadable)) Zone.Unreadable)
+    go true e =
+        let most : h * 60 + m ≤ 840 = zone-says e .most in
+        let west : natAbs (negℤ (pos (h * 60 + m))) ≤ 840 = rw (neg-size (pos (h * 60 + m))) most in
+        within-cond (eqb sign 43) (within-offset most) (within-cond (eqb sign 45) (within-offset west) within-none)
+    go false e = within-none
+
+zone-within : (s : List ℕ) (at : ℕ) → Within (zoneAt s at)
+unfolding zoneAt
+zone-within s at =
+    within-cond (eqb (length s) (at + 1)) (within-cond (eqb (getD s at 0) 90) (within-offset (lit≤ tt)) within-none)
+    (within-cond (eqb (length s) (at + 6)) (signed-within (getD s at 0) (twoAt s (at + 1)) (fieldAt s (at + 3) 58)) within-none)
+
+module _ (s : List ℕ) (at : ℕ) {r : Zone} {z : ℤ} (e : r ≡ zoneAt s at) (f : r ≡ Offset z) where
+  small : natAbs z ≤ 840
+  small = within-bound (subst Within (sym e ∙ f) (zone-within s at))
+
+  zone-back : toZ w64 (ofZ w64 z) ≡ z
+  zone-back = toZ-ofZ w64 z (record { sfits = omega (arith, size-mag z {k = 841} (omega (arith, small))) })
+
+  pub zone-bound : natAbs (toZ w64 (ofZ w64 z)) ≤ 840
+  zone-bound = rw zone-back small
+
+-- ---- the spellings
+
+module _ (s : List ℕ) {y : ℕ} {p : Bool} (e : y ≡ fourAt s 0) (f : p ≡ validYear y) where
+  pub year-on : {first count : ℕ} {d : Date} → p ≡ true → first ≡ dayNumber y 1 1 → count ≡ yearLength y → d ≡ daysFrom Year first count → Readable d ≡ readYear s
+  unfolding readYear yearDate
+  year-on t a b g = rw (← e, ← f, t, ← a, ← b) (ap Readable g)
+
+  pub year-off : p ≡ false → Reading.Unreadable ≡ readYear s
+  unfolding readYear
+  year-off t = rw (← e, ← f, t)
+
+module _ (s : List ℕ) {y m : ℕ} {p : Bool} (e : y ≡ fourAt s 0) (i : m ≡ fieldAt s 4 45) (f : p ≡ validMonth y m) where
+  pub month-on : {first count : ℕ} {d : Date} → p ≡ true → first ≡ dayNumber y m 1 → count ≡ monthLength (leapYear y) m → d ≡ daysFrom Month first count → Readable d ≡ readMonth s
+  unfolding readMonth monthDate
+  month-on t a b g = rw (← e, ← i, ← f, t, ← a, ← b) (ap Readable g)
+
+  pub month-off : p ≡ false → Reading.Unreadable ≡ readMonth s
+  unfolding readMonth
+  month-off t = rw (← e, ← i, ← f, t)
+
+module _ (s : List ℕ) {y m d : ℕ} {p : Bool} (e : y ≡ fourAt s 0) (i : m ≡ fieldAt s 4 45) (j : d ≡ fieldAt s 7 45) (f : p ≡ validDay y m d) where
+  pub day-on : {first : ℕ} {x : Date} → p ≡ true → first ≡ dayNumber y m d → x ≡ daysFrom Day first 1 → Readable x ≡ readDay s
+  unfolding readDay dayDate
+  day-on t a g = rw (← e, ← i, ← j, ← f, t, ← a) (ap Readable g)
+
+  pub day-off : p ≡ false → Reading.Unreadable ≡ readDay s
+  unfolding readDay
+  day-off t = rw (← e, ← i, ← j, ← f, t)
+
+  pub local-day : (offset : ℤ) → p ≡ false → Reading.Unreadable ≡ readLocal s offset
+  unfolding readLocal
+  local-day offset t = rw (← e, ← i, ← j, ← f, t)
+
+  module _ {hour minute second : ℕ} {q : Bool} (t : p ≡ true) (a : hour ≡ fieldAt s 10 84) (b : minute ≡ fieldAt s 13 58) (c : second ≡ fieldAt s 16 58) (g : q ≡ validTime hour minute second) where
+    pub local-time : (offset : ℤ) → q ≡ false → Reading.Unreadable ≡ readLocal s offset
+    unfolding readLocal
+    local-time offset u = rw (← e, ← i, ← j, ← f, t, ← a, ← b, ← c, ← g, u)
+
+    pub local-on : {first from : ℕ} {x : Date} {offset : ℤ} → q ≡ true → first ≡ dayNumber y m d → from ≡ secondOfDay hour minute second → x ≡ secondFrom first from (toZ w64 (ofZ w64 offset)) → SFits w64 offset → Readable x ≡ readLocal s offset
+    unfolding readLocal secondDate
+    local-on {offset = offset} u k l h fits =
+        rw (← e, ← i, ← j, ← f, t, ← a, ← b, ← c, ← g, u, ← k, ← l, ← toZ-ofZ w64 offset fits) (ap Readable h)
+
+-- ---- a text
+
+module _ (s : List ℕ) where
+  pub read-year : {r : Reading} → length s ≡ 4 → r ≡ readYear s → r ≡ read s
+  unfolding read
+  read-year h e = rw (eq-eqb _ _ h) e
+
+  module _ (not4 : length s ≡ 4 → ⊥) where
+    pub read-month : {r : Reading} → length s ≡ 7 → r ≡ readMonth s → r ≡ read s
+    unfolding read
+    read-month h e = rw (ne-eqb _ _ not4, eq-eqb _ _ h) e
+
+    module _ (not7 : length s ≡ 7 → ⊥) where
+      pub read-day : {r : Reading} → length s ≡ 10 → r ≡ readDay s → r ≡ read s
+      unfolding read
+      read-day h e = rw (ne-eqb _ _ not4, ne-eqb _ _ not7, eq-eqb _ _ h) e
+
+      module _ (not10 : length s ≡ 10 → ⊥) where
+        pub read-short : length s < 20 → Reading.Unreadable ≡ read s
+        unfolding read
+        read-short h = rw (ne-eqb _ _ not4, ne-eqb _ _ not7, ne-eqb _ _ not10, lt-ltb _ _ h)
+
+        module _ {zone : Zone} (h : 20 ≤ length s) (e : zone ≡ zoneAt s 19) where
+          read-long : zoned s zone ≡ read s
+          unfolding read
+          read-long = rw (ne-eqb _ _ not4, ne-eqb _ _ not7, ne-eqb _ _ not10, le-ltb _ _ h, ← e)
+
+          pub read-second : {r : Reading} {z : ℤ} → zone ≡ Offset z → r ≡ readLocal s (toZ w64 (ofZ w64 z)) → r ≡ read s
+          unfolding zoned
+          read-second f g = g ∙ ap (readLocal s) (zone-back s 19 e f) ∙ ap (zoned s) (sym f) ∙ read-long
+
+          pub read-no-zone : zone ≡ Zone.Unreadable → Reading.Unreadable ≡ read s
+          unfolding zoned
+          read-no-zone f = ap (zoned s) (sym f) ∙ read-long
+
+module _ (s : List ℕ) {r : Reading} (e : r ≡ read s) where
+  pub readable-on : {d : Date} → r ≡ Readable d → true ≡ readable s
+  unfolding readable isDate
+  readable-on f = rw (← e, f)
+
+  pub readable-off : r ≡ Reading.Unreadable → false ≡ readable s
+  unfolding readable isDate
+  readable-off f = rw (← e, f)

@@ -1,0 +1,18 @@
+-- `date::days::between` meets its contract: the tests are those of the definition. Assumes nothing.
+use borrow.Author.Tests.{le-leb, lt-leb}
+use Rattle.date.specs.Fields.{between}
+use Rattle.date.proofs.days.between.Statement.{statement}
+use Rattle.date.proofs.days.between.Tie as tie
+use Rattle.date.proofs.days.between.Reads as reads
+use Rattle.date.proofs.days.between.Lts as lts
+
+returns : tie.Need-returns
+unfolding between
+returns c = rw (le-leb _ _ (c .if1 .taken))
+
+returns-2 : tie.Need-returns-2
+unfolding between
+returns-2 c = rw (lt-leb _ _ (c .if1 .left))
+
+pub between-spec : {M : Type 1} → statement M
+between-spec = tie.close (tie.spec returns returns-2)

@@ -1,0 +1,8 @@
+-- The definitions of dates.
+pub mod Calendar
+pub mod Fields
+pub mod Spans
+pub mod Texts
+pub mod Spelling
+pub mod Succession
+pub mod Relations

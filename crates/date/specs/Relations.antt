@@ -1,0 +1,71 @@
+-- The relations of two dates, the card's I and the filter's F, as spans from start to end (01: i0 to i1, f0 to f1).
+-- Assumes nothing.
+use Prim.Native.Nat.{ℕ}
+use mathlib.Core.Bool.{Bool, true, false, _&&_, _||_}
+use mathlib.Core.Path.{_≡_}
+use lib.Dec.{eqb}
+use lib.IntN.{ℤ, pos, negsuc}
+use lib.Signed.{ltZ, leZ}
+use Rattle.date.specs.declared.Precision.{Precision}
+use Rattle.date.specs.declared.Precision.the-variants.{Year, Month, Day, Second}
+use Rattle.date.specs.declared.Date.{Date}
+
+-- a number for each precision, to compare them by
+abbrev pub rank : Precision → ℕ
+rank Year = 0
+rank Month = 1
+rank Day = 2
+rank Second = 3
+
+-- two integers are the same
+abbrev pub eqZ : ℤ → ℤ → Bool
+eqZ (pos a) (pos b) = eqb a b
+eqZ (pos a) (negsuc b) = false
+eqZ (negsuc a) (pos b) = false
+eqZ (negsuc a) (negsuc b) = eqb a b
+
+-- A inside B: b0 <= a0 and a1 <= b1
+unfoldable pub inside : Date → Date → Bool
+inside a b = leZ (b .start) (a .start) && leZ (a .end) (b .end)
+
+-- eq: same precision, start and zone offset
+unfoldable pub same : Date → Date → Bool
+same i f = eqb (rank (i .precision)) (rank (f .precision)) && (eqZ (i .start) (f .start) && eqZ (i .offset) (f .offset))
+
+-- gt: i1 > f1
+abbrev pub later : Date → Date → Bool
+later i f = ltZ (f .end) (i .end)
+
+-- lt: i0 < f0
+abbrev pub earlier : Date → Date → Bool
+earlier i f = ltZ (i .start) (f .start)
+
+-- ge: gt or I inside F
+unfoldable pub laterOrInside : Date → Date → Bool
+laterOrInside i f = later i f || inside i f
+
+-- le: lt or I inside F
+unfoldable pub earlierOrInside : Date → Date → Bool
+earlierOrInside i f = earlier i f || inside i f
+
+-- sa: i0 >= f1
+abbrev pub startsAfter : Date → Date → Bool
+startsAfter i f = leZ (f .end) (i .start)
+
+-- eb: i1 <= f0
+abbrev pub endsBefore : Date → Date → Bool
+endsBefore i f = leZ (i .end) (f .start)
+
+-- po: i0 < f1 and f0 < i1
+unfoldable pub overlaps : Date → Date → Bool
+overlaps i f = ltZ (i .start) (f .end) && ltZ (f .start) (i .end)
+
+-- co: F inside I
+abbrev pub covers : Date → Date → Bool
+covers i f = inside f i
+
+-- what eq says
+pub record Same (i f : Date) : Type 0 where
+  pub precision : i .precision ≡ f .precision
+  pub start : i .start ≡ f .start
+  pub offset : i .offset ≡ f .offset

@@ -1,0 +1,111 @@
+// The relations of a card's date `i` and a filter's date `f`, under the words of document 01's row.
+ghost use mathlib.Core.Path.{_≡_};
+ghost use lib.Signed.{ltZ, leZ};
+ghost use Rattle.date.specs.Relations.{rank, inside, same, later, earlier, laterOrInside, earlierOrInside, startsAfter, endsBefore, overlaps, covers};
+use crate::Date;
+use crate::Precision;
+
+// A number for each precision.
+fn rank(p: Precision) -> u8
+    ensures { λ r. ⌜ r ≡ rank p ⌝ }
+{
+    match p {
+        Precision::Year => 0,
+        Precision::Month => 1,
+        Precision::Day => 2,
+        Precision::Second => 3,
+    }
+}
+
+// b0 <= a0.
+fn starts_within(a: Date, b: Date) -> bool
+    ensures { λ r. ⌜ r ≡ leZ (b .start) (a .start) ⌝ }
+{
+    b.start <= a.start
+}
+
+// a1 <= b1.
+fn ends_within(a: Date, b: Date) -> bool
+    ensures { λ r. ⌜ r ≡ leZ (a .end) (b .end) ⌝ }
+{
+    a.end <= b.end
+}
+
+// "inside": a lies whole in b.
+pub fn inside(a: Date, b: Date) -> bool
+    ensures { λ r. ⌜ r ≡ inside a b ⌝ }
+{
+    starts_within(a, b) && ends_within(a, b)
+}
+
+// eq: "same precision, start and zone offset".
+pub fn same(i: Date, f: Date) -> bool
+    ensures { λ r. ⌜ r ≡ same i f ⌝ }
+{
+    let p = i.precision;
+    let q = f.precision;
+    rank(p) == rank(q) && (i.start == f.start && i.offset == f.offset)
+}
+
+// gt: "i1>f1".
+pub fn later(i: Date, f: Date) -> bool
+    ensures { λ r. ⌜ r ≡ later i f ⌝ }
+{
+    i.end > f.end
+}
+
+// lt: "i0<f0".
+pub fn earlier(i: Date, f: Date) -> bool
+    ensures { λ r. ⌜ r ≡ earlier i f ⌝ }
+{
+    i.start < f.start
+}
+
+// ge: "gt or I inside F".
+pub fn later_or_inside(i: Date, f: Date) -> bool
+    ensures { λ r. ⌜ r ≡ laterOrInside i f ⌝ }
+{
+    later(i, f) || inside(i, f)
+}
+
+// le: "lt or I inside F".
+pub fn earlier_or_inside(i: Date, f: Date) -> bool
+    ensures { λ r. ⌜ r ≡ earlierOrInside i f ⌝ }
+{
+    earlier(i, f) || inside(i, f)
+}
+
+// sa: "i0>=f1".
+pub fn starts_after(i: Date, f: Date) -> bool
+    ensures { λ r. ⌜ r ≡ startsAfter i f ⌝ }
+{
+    i.start >= f.end
+}
+
+// eb: "i1<=f0".
+pub fn ends_before(i: Date, f: Date) -> bool
+    ensures { λ r. ⌜ r ≡ endsBefore i f ⌝ }
+{
+    i.end <= f.start
+}
+
+// a0 < b1.
+fn starts_before_end(a: Date, b: Date) -> bool
+    ensures { λ r. ⌜ r ≡ ltZ (a .start) (b .end) ⌝ }
+{
+    a.start < b.end
+}
+
+// po: "i0<f1 and f0<i1".
+pub fn overlaps(i: Date, f: Date) -> bool
+    ensures { λ r. ⌜ r ≡ overlaps i f ⌝ }
+{
+    starts_before_end(i, f) && starts_before_end(f, i)
+}
+
+// co: "F inside I".
+pub fn covers(i: Date, f: Date) -> bool
+    ensures { λ r. ⌜ r ≡ covers i f ⌝ }
+{
+    inside(f, i)
+}

@@ -1,0 +1,48 @@
+// Dates: a text is read to a span of whole seconds with its precision and its zone offset, and two dates are compared.
+// `days` counts days, `seconds` makes dates of them, `reader` reads the spellings, `compare` has the relations.
+mod compare;
+mod days;
+mod reader;
+mod seconds;
+
+pub use compare::covers;
+pub use compare::earlier;
+pub use compare::earlier_or_inside;
+pub use compare::ends_before;
+pub use compare::inside;
+pub use compare::later;
+pub use compare::later_or_inside;
+pub use compare::overlaps;
+pub use compare::same;
+pub use compare::starts_after;
+pub use reader::read;
+pub use reader::readable;
+
+// How much of a date its text gives.
+pub enum Precision {
+    Year,
+    Month,
+    Day,
+    Second,
+}
+
+// A date: the seconds from `start` up to but without `end`, counted from 1970-01-01T00:00:00Z and negative before it.
+// `offset` is the zone's, in minutes, negative west of UTC; 0 where the text has no zone.
+pub struct Date {
+    pub start: i64,
+    pub end: i64,
+    pub precision: Precision,
+    pub offset: i64,
+}
+
+// What a text reads to.
+pub enum Reading {
+    Readable(Date),
+    Unreadable,
+}
+
+// What the end of a text says of the zone: its offset in minutes, or nothing.
+pub enum Zone {
+    Offset(i64),
+    Unreadable,
+}
