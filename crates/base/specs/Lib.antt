@@ -9,3 +9,4 @@ pub mod Bytes
 pub mod Ascii
 pub mod Digits
 pub mod Names
+pub mod Operators

@@ -14,7 +14,7 @@ use Rattle.base.specs.Lists.{equal}
 use Rattle.base.specs.Below.{passes}
 use Rattle.base.proofs.Below.{passes-at, passes-same}
 use Rattle.base.proofs.Lists.{equal-same}
-use Rattle.syntax.specs.Operators.{operatorWords}
+use Rattle.base.specs.Operators.{operatorWords}
 use Rattle.syntax.specs.Grammar.{Stands, Operator}
 use Rattle.syntax.specs.Scan.{findOperator, operatorAt}
 use Rattle.syntax.specs.declared.FoundOperator.{FoundOperator}

@@ -9,7 +9,7 @@ use lib.ListN.{length, getD, drop}
 use Rattle.base.specs.Ascii.{ascii}
 use Rattle.base.specs.Lists.{All}
 use Rattle.base.specs.Names.{Name}
-use Rattle.syntax.specs.Operators.{operatorWords}
+use Rattle.base.specs.Operators.{operatorWords}
 use Rattle.syntax.specs.Tree.{name, Test, Tree, test, join, negation, Connective, and, or, testsOf}
 use Rattle.syntax.specs.Strings.{quote, isBare, Quoted}
 

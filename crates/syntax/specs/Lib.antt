@@ -1,5 +1,4 @@
 -- The filter's text: its tree, its grammar, and the reader that the code follows.
-pub mod Operators
 pub mod Tree
 pub mod Strings
 pub mod Grammar

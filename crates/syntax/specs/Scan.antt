@@ -11,7 +11,7 @@ use Rattle.base.specs.Lists.{equal}
 use Rattle.base.specs.Names.{isNamePart, isName}
 use Rattle.base.specs.Parts.{part, hasPrefix}
 use Rattle.base.specs.Runs.{runEnd}
-use Rattle.syntax.specs.Operators.{operatorWords}
+use Rattle.base.specs.Operators.{operatorWords}
 use Rattle.syntax.specs.Strings.{quote, backslash, isBare, isEscape, unescaped}
 use Rattle.syntax.specs.Tree.{Test, name}
 use Rattle.syntax.specs.declared.StringStep.{StringStep}

@@ -11,7 +11,7 @@ ghost use mathlib.Core.List.{[], _∷_};
 ghost use Prim.Native.Nat.{_+_, _≤_, _<_};
 ghost use lib.ListN.{length, getD, drop};
 ghost use Rattle.base.specs.Lists.{equal};
-ghost use Rattle.syntax.specs.Operators.{operatorWords};
+ghost use Rattle.base.specs.Operators.{operatorWords};
 ghost use Rattle.syntax.specs.Scan.{follows, operatorAt, testValue, testOperator, testAt};
 
 // The letters of the 19 operators: eq ne co sw ew gt lt ge le ap sa eb pr po ss sb in ni re.

@@ -9,7 +9,7 @@ use lib.Dec.{eqb}
 use lib.ListN.{getD}
 use Rattle.base.specs.Ascii.{ascii}
 use Rattle.base.specs.Lists.{equal}
-use Rattle.syntax.specs.Operators.{operatorWords}
+use Rattle.base.specs.Operators.{operatorWords}
 use Rattle.syntax.proofs.Operators.{letters}
 use Rattle.syntax.proofs.test.is_operator.Statement.{statement}
 use Rattle.syntax.proofs.test.is_operator.Tie as tie

@@ -1,0 +1,127 @@
+-- `kind::relate::date_stands` meets its contract: each arm is a case of the definition. Assumes nothing.
+use borrow.Author.Needs.{needs}
+use Rattle.kind.specs.Stands.{dateStands}
+use Rattle.kind.proofs.relate.date_stands.Statement.{statement}
+use Rattle.kind.proofs.relate.date_stands.Tie as tie
+
+enum-told : tie.Need-enum-told
+enum-told c = search needs
+
+same-requires : tie.Need-same-requires
+same-requires c κs = search needs
+
+enum-told-2 : tie.Need-enum-told-2
+enum-told-2 c = search needs
+
+later-requires : tie.Need-later-requires
+later-requires c κs = search needs
+
+enum-told-3 : tie.Need-enum-told-3
+enum-told-3 c = search needs
+
+earlier-requires : tie.Need-earlier-requires
+earlier-requires c κs = search needs
+
+enum-told-4 : tie.Need-enum-told-4
+enum-told-4 c = search needs
+
+later-or-inside-requires : tie.Need-later-or-inside-requires
+later-or-inside-requires c κs = search needs
+
+enum-told-5 : tie.Need-enum-told-5
+enum-told-5 c = search needs
+
+earlier-or-inside-requires : tie.Need-earlier-or-inside-requires
+earlier-or-inside-requires c κs = search needs
+
+enum-told-6 : tie.Need-enum-told-6
+enum-told-6 c = search needs
+
+starts-after-requires : tie.Need-starts-after-requires
+starts-after-requires c κs = search needs
+
+enum-told-7 : tie.Need-enum-told-7
+enum-told-7 c = search needs
+
+ends-before-requires : tie.Need-ends-before-requires
+ends-before-requires c κs = search needs
+
+enum-told-8 : tie.Need-enum-told-8
+enum-told-8 c = search needs
+
+overlaps-requires : tie.Need-overlaps-requires
+overlaps-requires c κs = search needs
+
+enum-told-9 : tie.Need-enum-told-9
+enum-told-9 c = search needs
+
+covers-requires : tie.Need-covers-requires
+covers-requires c κs = search needs
+
+returns : tie.Need-returns
+unfolding dateStands
+returns c = cc
+
+returns-2 : tie.Need-returns-2
+unfolding dateStands
+returns-2 c = cc
+
+returns-3 : tie.Need-returns-3
+unfolding dateStands
+returns-3 c = cc
+
+returns-4 : tie.Need-returns-4
+unfolding dateStands
+returns-4 c = cc
+
+returns-5 : tie.Need-returns-5
+unfolding dateStands
+returns-5 c = cc
+
+returns-6 : tie.Need-returns-6
+unfolding dateStands
+returns-6 c = cc
+
+returns-7 : tie.Need-returns-7
+unfolding dateStands
+returns-7 c = cc
+
+returns-8 : tie.Need-returns-8
+unfolding dateStands
+returns-8 c = cc
+
+returns-9 : tie.Need-returns-9
+unfolding dateStands
+returns-9 c = cc
+
+pub date-stands-spec : {M : Type 1} → statement M
+date-stands-spec =
+    tie.close
+    (tie.spec
+    enum-told
+    same-requires
+    enum-told-2
+    later-requires
+    enum-told-3
+    earlier-requires
+    enum-told-4
+    later-or-inside-requires
+    enum-told-5
+    earlier-or-inside-requires
+    enum-told-6
+    starts-after-requires
+    enum-told-7
+    ends-before-requires
+    enum-told-8
+    overlaps-requires
+    enum-told-9
+    covers-requires
+    returns
+    returns-2
+    returns-3
+    returns-4
+    returns-5
+    returns-6
+    returns-7
+    returns-8
+    returns-9)

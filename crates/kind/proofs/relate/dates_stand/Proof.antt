@@ -1,0 +1,50 @@
+-- `kind::relate::dates_stand` meets its contract: both texts are read. Assumes nothing.
+use borrow.Author.Needs.{needs}
+use Rattle.kind.proofs.Values.{dates-unreadable, date-unreadable, dates-stand}
+use Rattle.kind.proofs.relate.dates_stand.Statement.{statement}
+use Rattle.kind.proofs.relate.dates_stand.Tie as tie
+
+read-requires : tie.Need-read-requires
+read-requires c κs = search needs
+
+enum-known-i : tie.Need-enum-known-i
+enum-known-i c = search needs
+
+enum-told : tie.Need-enum-told
+enum-told c = search needs
+
+returns : tie.Need-returns
+returns c = search (dates-unreadable, needs)
+
+read-requires-2 : tie.Need-read-requires-2
+read-requires-2 c κs = search needs
+
+enum-known-f : tie.Need-enum-known-f
+enum-known-f c = search needs
+
+enum-told-2 : tie.Need-enum-told-2
+enum-told-2 c = search needs
+
+returns-2 : tie.Need-returns-2
+returns-2 c = search (date-unreadable, needs)
+
+date-stands-requires : tie.Need-date-stands-requires
+date-stands-requires c κs = search needs
+
+returns-3 : tie.Need-returns-3
+returns-3 c = search (dates-stand, needs)
+
+pub dates-stand-spec : {M : Type 1} → statement M
+dates-stand-spec =
+    tie.close
+    (tie.spec
+    read-requires
+    enum-known-i
+    enum-told
+    returns
+    read-requires-2
+    enum-known-f
+    enum-told-2
+    returns-2
+    date-stands-requires
+    returns-3)

@@ -1,0 +1,65 @@
+-- Whether a card's text stands in a relation to a filter's value. Texts that are not readable stand in none.
+-- Assumes nothing.
+use Prim.Native.Nat.{ℕ}
+use mathlib.Core.Bool.{Bool, false}
+use mathlib.Core.List.{List}
+use Rattle.text.specs.Compare as texts
+use Rattle.number.specs.Value as number
+use Rattle.number.specs.Reading as numbers
+use Rattle.number.specs.declared.Decimal.{Decimal}
+use Rattle.number.specs.declared.Reading as number-readings
+use Rattle.date.specs.Relations as date
+use Rattle.date.specs.Texts as dates
+use Rattle.date.specs.declared.Date.{Date}
+use Rattle.date.specs.declared.Reading as date-readings
+use Rattle.token.specs.Match as tokens
+use Rattle.kind.specs.declared.StringRelation.{StringRelation}
+use Rattle.kind.specs.declared.NumberRelation.{NumberRelation}
+use Rattle.kind.specs.declared.DateRelation.{DateRelation}
+use Rattle.kind.specs.declared.Relation.{Relation}
+
+-- i is the card's text, f the filter's value
+unfoldable pub stringStands : StringRelation → List ℕ → List ℕ → Bool
+stringStands StringRelation.Same i f = texts.same i f
+stringStands StringRelation.Contains i f = texts.contains i f
+stringStands StringRelation.Starts i f = texts.starts i f
+stringStands StringRelation.Ends i f = texts.ends i f
+
+-- i is the card's number, f the filter's
+unfoldable pub numberStands : NumberRelation → Decimal → Decimal → Bool
+numberStands NumberRelation.Same i f = number.same i f
+numberStands NumberRelation.Greater i f = number.greater i f
+numberStands NumberRelation.Less i f = number.less i f
+numberStands NumberRelation.AtLeast i f = number.atLeast i f
+numberStands NumberRelation.AtMost i f = number.atMost i f
+numberStands NumberRelation.Covers i f = number.covers i f
+
+abbrev pub numbersStand : NumberRelation → number-readings.Reading → number-readings.Reading → Bool
+numbersStand r (number-readings.Reading.Number i) (number-readings.Reading.Number f) = numberStands r i f
+numbersStand r (number-readings.Reading.Number i) number-readings.Reading.Unreadable = false
+numbersStand r number-readings.Reading.Unreadable f = false
+
+-- i is the card's date, f the filter's
+unfoldable pub dateStands : DateRelation → Date → Date → Bool
+dateStands DateRelation.Same i f = date.same i f
+dateStands DateRelation.Later i f = date.later i f
+dateStands DateRelation.Earlier i f = date.earlier i f
+dateStands DateRelation.LaterOrInside i f = date.laterOrInside i f
+dateStands DateRelation.EarlierOrInside i f = date.earlierOrInside i f
+dateStands DateRelation.StartsAfter i f = date.startsAfter i f
+dateStands DateRelation.EndsBefore i f = date.endsBefore i f
+dateStands DateRelation.Overlaps i f = date.overlaps i f
+dateStands DateRelation.Covers i f = date.covers i f
+
+abbrev pub datesStand : DateRelation → date-readings.Reading → date-readings.Reading → Bool
+datesStand r (date-readings.Reading.Readable i) (date-readings.Reading.Readable f) = dateStands r i f
+datesStand r (date-readings.Reading.Readable i) date-readings.Reading.Unreadable = false
+datesStand r date-readings.Reading.Unreadable f = false
+
+-- i is the card's text, f the filter's value
+unfoldable pub stands : Relation → List ℕ → List ℕ → Bool
+stands (Relation.Strings r) i f = stringStands r i f
+stands (Relation.Numbers r) i f = numbersStand r (numbers.read i) (numbers.read f)
+stands (Relation.Dates r) i f = datesStand r (dates.read i) (dates.read f)
+stands Relation.Tokens i f = tokens.matches i f
+stands Relation.References i f = texts.same i f

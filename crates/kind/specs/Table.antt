@@ -1,0 +1,83 @@
+-- Document 01's table: the operators with a meaning for each kind, and the relation that each asks for.
+-- Assumes nothing.
+use Prim.Native.Nat.{ℕ}
+use mathlib.Core.Bool.{Bool, true, false, cond}
+use mathlib.Core.List.{List, [], _∷_}
+use mathlib.Core.Option.{Option, none, some}
+use lib.Dec.{eqb}
+use Rattle.base.specs.Operators.{eq, ne, co, sw, ew, gt, lt, ge, le, sa, eb, pr, po, re}
+use Rattle.kind.specs.Kinds.{string, number, date, token, reference}
+use Rattle.kind.specs.declared.StringRelation.the-variants as strings
+use Rattle.kind.specs.declared.NumberRelation.the-variants as numbers
+use Rattle.kind.specs.declared.DateRelation.the-variants as dates
+use Rattle.kind.specs.declared.Relation.{Relation}
+use Rattle.kind.specs.declared.Relation.the-variants.{Strings, Numbers, Dates, Tokens, References}
+use Rattle.kind.specs.declared.Meaning.{Meaning}
+use Rattle.kind.specs.declared.Meaning.the-variants.{Present, Relates, Differs, Nothing}
+
+-- an operator of a row, and its relation
+pub record Use : Type 0 where
+  pub operator : ℕ
+  pub relation : Relation
+
+abbrev pub means : ℕ → Relation → Use
+means k r = record { operator = k; relation = r }
+
+-- "string: eq same; co holds it somewhere; sw, ew at the start, at the end"
+unfoldable pub stringRow : List Use
+stringRow =
+    means eq (Strings strings.Same) ∷ means co (Strings strings.Contains) ∷ means sw (Strings strings.Starts) ∷ means ew (Strings strings.Ends) ∷ []
+
+-- "number: eq same value and same count of decimals; gt lt ge le by exact value; co: F lies in I's range"
+unfoldable pub numberRow : List Use
+numberRow =
+    means eq (Numbers numbers.Same) ∷ means gt (Numbers numbers.Greater) ∷ means lt (Numbers numbers.Less)
+    ∷ means ge (Numbers numbers.AtLeast) ∷ means le (Numbers numbers.AtMost) ∷ means co (Numbers numbers.Covers) ∷ []
+
+-- "date: eq same precision, start and zone offset; gt; lt; ge; le; sa; eb; po; co F inside I"
+unfoldable pub dateRow : List Use
+dateRow =
+    means eq (Dates dates.Same) ∷ means gt (Dates dates.Later) ∷ means lt (Dates dates.Earlier)
+    ∷ means ge (Dates dates.LaterOrInside) ∷ means le (Dates dates.EarlierOrInside) ∷ means sa (Dates dates.StartsAfter)
+    ∷ means eb (Dates dates.EndsBefore) ∷ means po (Dates dates.Overlaps) ∷ means co (Dates dates.Covers) ∷ []
+
+-- "token: eq by the four forms"
+unfoldable pub tokenRow : List Use
+tokenRow = means eq Tokens ∷ []
+
+-- "reference: re same"
+unfoldable pub referenceRow : List Use
+referenceRow = means re References ∷ []
+
+-- the row of a kind
+unfoldable pub row : ℕ → List Use
+row kind =
+    cond (eqb kind string) stringRow (cond (eqb kind number) numberRow (cond (eqb kind date) dateRow
+    (cond (eqb kind token) tokenRow (cond (eqb kind reference) referenceRow []))))
+
+-- the relation of an operator in a row, if it stands there
+unfoldable pub relationIn : List Use → ℕ → Option Relation
+relationIn [] k = none
+relationIn (u ∷ us) k = cond (eqb k (u .operator)) (some (u .relation)) (relationIn us k)
+
+abbrev pub asked : (Relation → Meaning) → Option Relation → Meaning
+asked how (some r) = how r
+asked how none = Nothing
+
+-- a row has its operators, "and ne if the row has eq": "some text in the set is not eq"
+unfoldable pub rowMeaning : List Use → ℕ → Meaning
+rowMeaning us k = cond (eqb k ne) (asked Differs (relationIn us eq)) (asked Relates (relationIn us k))
+
+-- the one decision over operator and kind: pr, or what the kind's row has
+unfoldable pub meaningOf : ℕ → ℕ → Meaning
+meaningOf k kind = cond (eqb k pr) Present (rowMeaning (row kind) k)
+
+-- the operator has a meaning for the kind
+abbrev pub isMeaning : Meaning → Bool
+isMeaning Present = true
+isMeaning (Relates r) = true
+isMeaning (Differs r) = true
+isMeaning Nothing = false
+
+unfoldable pub hasMeaning : ℕ → ℕ → Bool
+hasMeaning k kind = isMeaning (meaningOf k kind)

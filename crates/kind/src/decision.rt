@@ -1,0 +1,119 @@
+// The one decision over operator and kind: document 01's table, a row for each kind.
+use crate::DateRelation;
+use crate::Meaning;
+use crate::NumberRelation;
+use crate::Relation;
+use crate::StringRelation;
+ghost use mathlib.Core.Path.{_≡_};
+ghost use Rattle.kind.specs.Table.{stringRow, numberRow, dateRow, tokenRow, referenceRow, rowMeaning, meaningOf};
+
+// The numbers of the operators.
+const EQ: u8 = 0;
+
+const NE: u8 = 1;
+
+const CO: u8 = 2;
+
+const SW: u8 = 3;
+
+const EW: u8 = 4;
+
+const GT: u8 = 5;
+
+const LT: u8 = 6;
+
+const GE: u8 = 7;
+
+const LE: u8 = 8;
+
+const SA: u8 = 10;
+
+const EB: u8 = 11;
+
+const PR: u8 = 12;
+
+const PO: u8 = 13;
+
+const RE: u8 = 18;
+
+fn string_meaning(operator: u8) -> Meaning
+    ensures { λ r. ⌜ r ≡ rowMeaning stringRow operator ⌝ }
+{
+    match operator {
+        EQ => Meaning::Relates(Relation::Strings(StringRelation::Same)),
+        NE => Meaning::Differs(Relation::Strings(StringRelation::Same)),
+        CO => Meaning::Relates(Relation::Strings(StringRelation::Contains)),
+        SW => Meaning::Relates(Relation::Strings(StringRelation::Starts)),
+        EW => Meaning::Relates(Relation::Strings(StringRelation::Ends)),
+        _ => Meaning::Nothing,
+    }
+}
+
+fn number_meaning(operator: u8) -> Meaning
+    ensures { λ r. ⌜ r ≡ rowMeaning numberRow operator ⌝ }
+{
+    match operator {
+        EQ => Meaning::Relates(Relation::Numbers(NumberRelation::Same)),
+        NE => Meaning::Differs(Relation::Numbers(NumberRelation::Same)),
+        CO => Meaning::Relates(Relation::Numbers(NumberRelation::Covers)),
+        GT => Meaning::Relates(Relation::Numbers(NumberRelation::Greater)),
+        LT => Meaning::Relates(Relation::Numbers(NumberRelation::Less)),
+        GE => Meaning::Relates(Relation::Numbers(NumberRelation::AtLeast)),
+        LE => Meaning::Relates(Relation::Numbers(NumberRelation::AtMost)),
+        _ => Meaning::Nothing,
+    }
+}
+
+fn date_meaning(operator: u8) -> Meaning
+    ensures { λ r. ⌜ r ≡ rowMeaning dateRow operator ⌝ }
+{
+    match operator {
+        EQ => Meaning::Relates(Relation::Dates(DateRelation::Same)),
+        NE => Meaning::Differs(Relation::Dates(DateRelation::Same)),
+        CO => Meaning::Relates(Relation::Dates(DateRelation::Covers)),
+        GT => Meaning::Relates(Relation::Dates(DateRelation::Later)),
+        LT => Meaning::Relates(Relation::Dates(DateRelation::Earlier)),
+        GE => Meaning::Relates(Relation::Dates(DateRelation::LaterOrInside)),
+        LE => Meaning::Relates(Relation::Dates(DateRelation::EarlierOrInside)),
+        SA => Meaning::Relates(Relation::Dates(DateRelation::StartsAfter)),
+        EB => Meaning::Relates(Relation::Dates(DateRelation::EndsBefore)),
+        PO => Meaning::Relates(Relation::Dates(DateRelation::Overlaps)),
+        _ => Meaning::Nothing,
+    }
+}
+
+fn token_meaning(operator: u8) -> Meaning
+    ensures { λ r. ⌜ r ≡ rowMeaning tokenRow operator ⌝ }
+{
+    match operator {
+        EQ => Meaning::Relates(Relation::Tokens),
+        NE => Meaning::Differs(Relation::Tokens),
+        _ => Meaning::Nothing,
+    }
+}
+
+fn reference_meaning(operator: u8) -> Meaning
+    ensures { λ r. ⌜ r ≡ rowMeaning referenceRow operator ⌝ }
+{
+    match operator {
+        RE => Meaning::Relates(Relation::References),
+        _ => Meaning::Nothing,
+    }
+}
+
+// What an operator means for a kind.
+pub fn meaning_of(operator: u8, kind: u8) -> Meaning
+    ensures { λ r. ⌜ r ≡ meaningOf operator kind ⌝ }
+{
+    if operator == PR {
+        return Meaning::Present;
+    }
+    match kind {
+        1 => string_meaning(operator),
+        2 => number_meaning(operator),
+        3 => date_meaning(operator),
+        4 => token_meaning(operator),
+        5 => reference_meaning(operator),
+        _ => Meaning::Nothing,
+    }
+}

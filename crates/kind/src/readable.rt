@@ -1,0 +1,50 @@
+// Readable texts by kind, on a card and in a filter.
+ghost use mathlib.Core.Path.{_≡_};
+ghost use Rattle.kind.specs.Readable.{cardReadable, filterReadable, isTrue, isFalse, valueReadable};
+
+// Whether a text is readable as its kind on a card.
+pub fn card_readable(kind: u8, text: &[u8]) -> bool
+    ensures { λ r. ⌜ r ≡ cardReadable kind (now (text .entry)) ⌝ }
+{
+    match kind {
+        1 => true,
+        2 => number::readable(text),
+        3 => date::readable(text),
+        4 => token::card_readable(text),
+        5 => text.len() != 0,
+        _ => false,
+    }
+}
+
+// Whether a filter's value is readable as a kind.
+fn filter_readable(kind: u8, value: &[u8]) -> bool
+    ensures { λ r. ⌜ r ≡ filterReadable kind (now (value .entry)) ⌝ }
+{
+    if kind == 4 {
+        return token::filter_readable(value);
+    }
+    card_readable(kind, value)
+}
+
+// Whether the value of pr is true, case ignored.
+pub fn is_true(value: &[u8]) -> bool
+    ensures { λ r. ⌜ r ≡ isTrue (now (value .entry)) ⌝ }
+{
+    text::same(value, b"true")
+}
+
+fn is_false(value: &[u8]) -> bool
+    ensures { λ r. ⌜ r ≡ isFalse (now (value .entry)) ⌝ }
+{
+    text::same(value, b"false")
+}
+
+// Whether a filter's value is readable under an operator and a kind: for pr, whether it is true or false.
+pub fn value_readable(operator: u8, kind: u8, value: &[u8]) -> bool
+    ensures { λ r. ⌜ r ≡ valueReadable operator kind (now (value .entry)) ⌝ }
+{
+    if operator == 12 {
+        return is_true(value) || is_false(value);
+    }
+    filter_readable(kind, value)
+}

@@ -1,0 +1,91 @@
+// Whether a card's text stands in a relation to a filter's value.
+use crate::DateRelation;
+use crate::NumberRelation;
+use crate::Relation;
+use crate::StringRelation;
+use date::Date;
+use number::Decimal;
+ghost use mathlib.Core.Path.{_≡_};
+ghost use Rattle.number.specs.Value.{Bounded};
+ghost use Rattle.kind.specs.Stands.{stringStands, numberStands, dateStands, stands, numbersStand, datesStand};
+ghost use Rattle.number.specs.Reading as numbers;
+ghost use Rattle.date.specs.Texts as dates;
+
+fn string_stands(relation: StringRelation, text: &[u8], value: &[u8]) -> bool
+    ensures { λ r. ⌜ r ≡ stringStands relation (now (text .entry)) (now (value .entry)) ⌝ }
+{
+    match relation {
+        StringRelation::Same => text::same(text, value),
+        StringRelation::Contains => text::contains(text, value),
+        StringRelation::Starts => text::starts(text, value),
+        StringRelation::Ends => text::ends(text, value),
+    }
+}
+
+fn number_stands(relation: NumberRelation, i: Decimal, f: Decimal) -> bool
+    requires { ⌜ Bounded i ⌝ }
+    requires { ⌜ Bounded f ⌝ }
+    ensures { λ r. ⌜ r ≡ numberStands relation i f ⌝ }
+{
+    match relation {
+        NumberRelation::Same => number::same(i, f),
+        NumberRelation::Greater => number::greater(i, f),
+        NumberRelation::Less => number::less(i, f),
+        NumberRelation::AtLeast => number::at_least(i, f),
+        NumberRelation::AtMost => number::at_most(i, f),
+        NumberRelation::Covers => number::covers(i, f),
+    }
+}
+
+fn numbers_stand(relation: NumberRelation, text: &[u8], value: &[u8]) -> bool
+    ensures { λ r. ⌜ r ≡ numbersStand relation (numbers.read (now (text .entry))) (numbers.read (now (value .entry))) ⌝ }
+{
+    let number::Reading::Number(i) = number::read(text) else {
+        return false;
+    };
+    let number::Reading::Number(f) = number::read(value) else {
+        return false;
+    };
+    number_stands(relation, i, f)
+}
+
+fn date_stands(relation: DateRelation, i: Date, f: Date) -> bool
+    ensures { λ r. ⌜ r ≡ dateStands relation i f ⌝ }
+{
+    match relation {
+        DateRelation::Same => date::same(i, f),
+        DateRelation::Later => date::later(i, f),
+        DateRelation::Earlier => date::earlier(i, f),
+        DateRelation::LaterOrInside => date::later_or_inside(i, f),
+        DateRelation::EarlierOrInside => date::earlier_or_inside(i, f),
+        DateRelation::StartsAfter => date::starts_after(i, f),
+        DateRelation::EndsBefore => date::ends_before(i, f),
+        DateRelation::Overlaps => date::overlaps(i, f),
+        DateRelation::Covers => date::covers(i, f),
+    }
+}
+
+fn dates_stand(relation: DateRelation, text: &[u8], value: &[u8]) -> bool
+    ensures { λ r. ⌜ r ≡ datesStand relation (dates.read (now (text .entry))) (dates.read (now (value .entry))) ⌝ }
+{
+    let date::Reading::Readable(i) = date::read(text) else {
+        return false;
+    };
+    let date::Reading::Readable(f) = date::read(value) else {
+        return false;
+    };
+    date_stands(relation, i, f)
+}
+
+// Whether the card's text stands in the relation to the filter's value.
+pub fn stands(relation: Relation, text: &[u8], value: &[u8]) -> bool
+    ensures { λ r. ⌜ r ≡ stands relation (now (text .entry)) (now (value .entry)) ⌝ }
+{
+    match relation {
+        Relation::Strings(r) => string_stands(r, text, value),
+        Relation::Numbers(r) => numbers_stand(r, text, value),
+        Relation::Dates(r) => dates_stand(r, text, value),
+        Relation::Tokens => token::matches(text, value),
+        Relation::References => text::same(text, value),
+    }
+}
