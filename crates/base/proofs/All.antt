@@ -3,9 +3,9 @@
 use Prim.Native.Nat.{ℕ, zero, suc, _<_}
 use native.Mathlib.Omega.{arith}
 use mathlib.Core.List.{List, [], _∷_, _++_}
-use lib.ListN.{length, take, drop, getD, replicate}
+use lib.ListN.{take, drop, getD, replicate}
 use Rattle.base.specs.Lists.{All, all-empty, all-cons}
-use Rattle.base.specs.Bytes.{Byte, Bytes}
+use Rattle.base.specs.Bytes.{Bytes}
 
 module _ {A : Type 0} (P : A → Type 0) where
   pub all-head : {x : A} {xs : List A} → All P (x ∷ xs) → P x

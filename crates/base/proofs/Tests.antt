@@ -45,3 +45,10 @@ pub same-test : (a b : Bool) → (a ≡ true → b ≡ true) → (b ≡ true →
 same-test true b f g = sym (f refl)
 same-test false true f g = g refl
 same-test false false f g = refl
+
+-- ---- choices
+
+-- which of two was chosen, where it was not the second
+pub cond-taken : {X : Type 0} (t : Bool) (x y z : X) → cond t x y ≡ z → (y ≡ z → ⊥) → (t ≡ true) × (x ≡ z)
+cond-taken true x y z h n = (refl, h)
+cond-taken false x y z h n = absurd (n h)

@@ -1,7 +1,7 @@
 -- The definitions that every layer shares.
 pub mod Ascii
 pub mod Lists
-pub mod Loops
+pub mod Parts
 pub mod Bytes
 pub mod Digits
 pub mod Names

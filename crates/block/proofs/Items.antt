@@ -1,0 +1,70 @@
+-- Laws of items: what a walk over them keeps.
+-- Assumes nothing.
+use Prim.Native.Nat.{ℕ, suc, _-_, _≤_, _<_}
+use native.Mathlib.Omega.{arith}
+use mathlib.Core.Path.{_≡_, refl, ap, sym, _∙_}
+use mathlib.Core.Bool.{Bool, true, false, _&&_}
+use mathlib.Core.List.{List, [], _∷_}
+use lib.Dec.{leb}
+use lib.ListN.{getD}
+use borrow.Author.Tests.{le-leb, lt-leb, leb-true}
+use Rattle.base.specs.Parts.{part}
+use Rattle.base.proofs.Tests.{and-left, and-right}
+use Rattle.block.specs.Items.{zeros, next, textAt, laidOut, items, Walk}
+use Rattle.block.proofs.Invariants.{Walked}
+
+-- ---- what the loop over the items keeps
+
+-- some items are left
+laid-first : (k : ℕ) (b : List ℕ) (p : ℕ) → 0 < k → laidOut k b p ≡ (leb (next b p) 508 && laidOut (k - 1) b (next b p))
+unfolding laidOut
+laid-first k b p h = let e : k ≡ suc (k - 1) = omega arith in ap (λ (n : ℕ). laidOut n b p) e
+
+laid-none : (k : ℕ) (b : List ℕ) (p : ℕ) → k ≤ 0 → laidOut k b p ≡ zeros (part b p 508)
+unfolding laidOut
+laid-none k b p h = let e : k ≡ 0 = omega arith in ap (λ (n : ℕ). laidOut n b p) e
+
+module _ (b : List ℕ) (from count : ℕ) where
+  pub walked-start : from ≤ 508 → Walked b from count from count
+  walked-start h = record { within = h; rest = refl }
+
+  module _ (p left end : ℕ) (inv : Walked b from count p left) (l : 0 < left) (e : end ≡ next b p) where
+    pub walked-out : 508 < end → false ≡ laidOut count b from
+    walked-out h =
+        let k : 508 < next b p = omega arith in
+        let none : false ≡ laidOut left b p = rw (laid-first left b p l, lt-leb (next b p) 508 k) in
+        none ∙ inv .rest
+
+    pub walked-next : end ≤ 508 → Walked b from count end (left - 1)
+    walked-next h =
+        let k : next b p ≤ 508 = omega arith in
+        let rest : laidOut (left - 1) b end ≡ laidOut left b p = rw (e, laid-first left b p l, le-leb (next b p) 508 k) in
+        record { within = h; rest = rest ∙ inv .rest }
+
+  pub walked-end : (p left : ℕ) → Walked b from count p left → left ≤ 0 → (z : Bool) → z ≡ zeros (part b p 508) → z ≡ laidOut count b from
+  walked-end p left inv l z e = e ∙ sym (laid-none left b p l) ∙ inv .rest
+
+-- ---- a walk over the items of a block
+
+module _ (b : List ℕ) (p left : ℕ) (w : Walk b p left) (l : 0 < left) where
+  laid-both : (leb (next b p) 508 && laidOut (left - 1) b (next b p)) ≡ true
+  laid-both = sym (laid-first left b p l) ∙ w .laid
+
+  -- the item at p ends at or before byte 507
+  pub walk-within : next b p ≤ 508
+  walk-within = leb-true (next b p) 508 (and-left (leb (next b p) 508) (laidOut (left - 1) b (next b p)) laid-both)
+
+  -- the walk goes on where it ends
+  pub walk-next : Walk b (next b p) (left - 1)
+  walk-next = record { size = w .size; within = walk-within; laid = and-right (leb (next b p) 508) (laidOut (left - 1) b (next b p)) laid-both }
+
+module _ {X : Type 0} (make : ℕ → List ℕ → X) (k : ℕ) (b : List ℕ) (p : ℕ) where
+  -- the first of the items that are left
+  pub items-first : 0 < k → items make k b p ≡ make (getD b p 0) (textAt b p) ∷ items make (k - 1) b (next b p)
+  unfolding items
+  items-first h = let e : k ≡ suc (k - 1) = omega arith in ap (λ (n : ℕ). items make n b p) e
+
+  -- none is left
+  pub items-none : k ≤ 0 → items make k b p ≡ []
+  unfolding items
+  items-none h = let e : k ≡ 0 = omega arith in ap (λ (n : ℕ). items make n b p) e

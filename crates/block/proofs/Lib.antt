@@ -1,0 +1,8 @@
+-- The laws of blocks.
+pub mod Invariants
+pub mod Words
+pub mod Sum
+pub mod Seal
+pub mod Items
+pub mod RoundTrip
+pub mod Readings

@@ -1,0 +1,221 @@
+-- A block is written and read back, and read and written back: a head, the number of items, the items, zeros and the check sum.
+-- Assumes nothing.
+use Prim.Native.Nat.{ℕ, zero, suc, _+_, _-_, _≤_, _<_}
+use native.Mathlib.Omega.{arith}
+use mathlib.Core.Path.{_≡_, refl, ap, ap₂, sym, _∙_, subst}
+use mathlib.Core.Bool.{true}
+use mathlib.Core.List.{List, [], _∷_, _++_, append-assoc}
+use lib.Dec.{leb, eqb}
+use lib.ListN.{length, getD, take, drop, replicate, length-append, length-replicate}
+use lib.Seq.{drop-drop, take-add, take-at, drop-at, length-take-le}
+use borrow.Author.Tests.{le-leb, leb-true, eqb-true}
+use Rattle.base.specs.Bytes.{Bytes}
+use Rattle.base.specs.Lists.{All, all-empty, all-cons, every}
+use Rattle.base.specs.Parts.{part}
+use Rattle.base.proofs.Tests.{and-left, and-right}
+use Rattle.base.proofs.Parts.{part-length, part-cons, part-append, part-bytes}
+use Rattle.block.specs.Words.{wordBytes}
+use Rattle.block.specs.Sum.{sumFrom}
+use Rattle.block.specs.Seal.{IsSealed, padded, seal}
+use Rattle.block.specs.Items.{zeros, next, textAt, laidOut, items, join}
+use Rattle.block.proofs.Words.{at-drop, at-drop-first}
+use Rattle.block.proofs.Seal.{sealed-seal}
+
+-- ---- zeros
+
+zeros-replicate : (n : ℕ) → zeros (replicate n 0) ≡ true
+unfolding zeros every
+zeros-replicate zero = refl
+zeros-replicate (suc n) = zeros-replicate n
+
+zeros-are : (s : List ℕ) → zeros s ≡ true → s ≡ replicate (length s) 0
+unfolding zeros every
+zeros-are [] h = refl
+zeros-are (x ∷ s) h =
+    ap₂ (λ (y : ℕ) (t : List ℕ). y ∷ t) (eqb-true x 0 (and-left (eqb x 0) (zeros s) h)) (zeros-are s (and-right (eqb x 0) (zeros s) h))
+
+-- ---- an item that was written
+
+module _ (b : List ℕ) (p t : ℕ) (s r : List ℕ) (e : drop p b ≡ t ∷ length s ∷ (s ++ r)) where
+  item-tag : getD b p 0 ≡ t
+  item-tag = at-drop-first b p (t ∷ length s ∷ (s ++ r)) e
+
+  item-next : next b p ≡ p + 2 + length s
+  unfolding next
+  item-next = ap (λ (n : ℕ). p + 2 + n) (at-drop b p (t ∷ length s ∷ (s ++ r)) e 1)
+
+  item-from : drop (p + 2) b ≡ s ++ r
+  item-from = sym (drop-drop 2 p b) ∙ ap (drop 2) e
+
+  item-text : textAt b p ≡ s
+  unfolding textAt
+  item-text =
+      let n : next b p - (p + 2) ≡ length s = omega (arith, item-next) in
+      ap₂ take n item-from ∙ take-at s r (length s) refl
+
+  item-rest : drop (next b p) b ≡ r
+  item-rest = ap (λ (n : ℕ). drop n b) item-next ∙ sym (drop-drop (length s) (p + 2) b) ∙ ap (drop (length s)) item-from ∙ drop-at s r (length s) refl
+
+module _ {X : Type 0} (make : ℕ → List ℕ → X) (bytesOf : X → List ℕ) (spelt : (t : ℕ) (s : List ℕ) → bytesOf (make t s) ≡ t ∷ length s ∷ s) where
+  -- ---- written and read back
+
+  module _ (parts : (x : X) → (t : ℕ) × (s : List ℕ) × (x ≡ make t s)) where
+    join-first : (x : X) (xs : List X) (r : List ℕ)
+        → join bytesOf (x ∷ xs) ++ r ≡ parts x .0 ∷ length (parts x .1) ∷ (parts x .1 ++ (join bytesOf xs ++ r))
+    unfolding join
+    join-first x xs r =
+        append-assoc (bytesOf x) (join bytesOf xs) r
+        ∙ ap (λ (l : List ℕ). l ++ (join bytesOf xs ++ r)) (ap bytesOf (parts x .2) ∙ spelt (parts x .0) (parts x .1))
+
+    length-first : (x : X) (xs : List X) → length (join bytesOf (x ∷ xs)) ≡ 2 + length (parts x .1) + length (join bytesOf xs)
+    unfolding join
+    length-first x xs =
+        let item : length (bytesOf x) ≡ suc (suc (length (parts x .1))) = ap length (ap bytesOf (parts x .2) ∙ spelt (parts x .0) (parts x .1)) in
+        omega (arith, length-append (bytesOf x) (join bytesOf xs))
+
+    items-written : (xs : List X) (b : List ℕ) (p : ℕ) (r : List ℕ) (end : ℕ) → drop p b ≡ join bytesOf xs ++ r → p + length (join bytesOf xs) ≡ end → end ≤ 508
+        → zeros (take (508 - end) r) ≡ true → (laidOut (length xs) b p ≡ true) × (items make (length xs) b p ≡ xs)
+    unfolding laidOut items join
+    items-written [] b p r end e l h z =
+        let n : 508 - p ≡ 508 - end = omega arith in
+        (ap₂ (λ (k : ℕ) (t : List ℕ). zeros (take k t)) n e ∙ z, refl)
+    items-written (x ∷ xs) b p r end e l h z =
+        let t = parts x .0 in
+        let s = parts x .1 in
+        let rest = join bytesOf xs ++ r in
+        let first : drop p b ≡ t ∷ length s ∷ (s ++ rest) = e ∙ join-first x xs r in
+        let at : next b p ≡ p + 2 + length s = item-next b p t s rest first in
+        let size = length-first x xs in
+        let within : next b p ≤ 508 = omega arith in
+        let back = items-written xs b (next b p) r end (item-rest b p t s rest first) (omega arith) h z in (
+          rw (le-leb (next b p) 508 within) (back .0),
+          ap₂ (λ (y : X) (ys : List X). y ∷ ys) (ap₂ make (item-tag b p t s rest first) (item-text b p t s rest first) ∙ sym (parts x .2)) (back .1),
+        )
+
+    -- what the block of a head and items holds
+    module _ (head : List ℕ) (xs : List X) (room : length (head ++ (length xs ∷ join bytesOf xs)) ≤ 508) where
+      abbrev written : List ℕ
+      written = seal (head ++ (length xs ∷ join bytesOf xs))
+
+      abbrev after : List ℕ
+      after =
+          let body = head ++ (length xs ∷ join bytesOf xs) in
+          replicate (508 - length body) 0 ++ wordBytes (sumFrom 1 (padded body))
+
+      whole : written ≡ head ++ (length xs ∷ (join bytesOf xs ++ after))
+      unfolding seal padded
+      whole = simp append-assoc
+
+      pub written-head : take (length head) written ≡ head
+      written-head = ap (take (length head)) whole ∙ take-at head (length xs ∷ (join bytesOf xs ++ after)) (length head) refl
+
+      from-count : drop (length head) written ≡ length xs ∷ (join bytesOf xs ++ after)
+      from-count = ap (drop (length head)) whole ∙ drop-at head (length xs ∷ (join bytesOf xs ++ after)) (length head) refl
+
+      pub written-count : getD written (length head) 0 ≡ length xs
+      written-count = at-drop-first written (length head) (length xs ∷ (join bytesOf xs ++ after)) from-count
+
+      both : (laidOut (length xs) written (length head + 1) ≡ true) × (items make (length xs) written (length head + 1) ≡ xs)
+      both =
+          let end = length (head ++ (length xs ∷ join bytesOf xs)) in
+          let size : length head + 1 + length (join bytesOf xs) ≡ end = omega (arith, length-append head (length xs ∷ join bytesOf xs)) in
+          let padding : zeros (take (508 - end) after) ≡ true =
+          ap zeros (take-at (replicate (508 - end) 0) (wordBytes (sumFrom 1 (padded (head ++ (length xs ∷ join bytesOf xs))))) (508 - end) (length-replicate (508 - end) 0))
+          ∙ zeros-replicate (508 - end)
+          in
+          items-written xs written (length head + 1) after end (sym (drop-drop 1 (length head) written) ∙ ap (drop 1) from-count) size room padding
+
+      pub written-laid : laidOut (length xs) written (length head + 1) ≡ true
+      written-laid = both .0
+
+      pub written-items : items make (length xs) written (length head + 1) ≡ xs
+      written-items = both .1
+
+  -- ---- read and written back
+
+  items-length : (k : ℕ) (b : List ℕ) (p : ℕ) → length (items make k b p) ≡ k
+  unfolding items
+  items-length zero b p = refl
+  items-length (suc k) b p = ap suc (items-length k b (next b p))
+
+  module _ (b : List ℕ) (size : 508 ≤ length b) where
+    -- the bytes of the item at p
+    item-bytes : (p : ℕ) → next b p ≤ 508 → bytesOf (make (getD b p 0) (textAt b p)) ≡ part b p (next b p)
+    unfolding textAt next
+    item-bytes p h =
+        let n : length (textAt b p) ≡ getD b (p + 1) 0 = part-length b (p + 2) (next b p) (omega arith) ∙ omega arith in
+        let one : p + 1 + 1 ≡ p + 2 = omega arith in
+        spelt (getD b p 0) (textAt b p)
+        ∙ ap (λ (k : ℕ). getD b p 0 ∷ k ∷ textAt b p) n
+        ∙ sym
+        (part-cons b p (next b p) (omega arith) (omega arith)
+        ∙ ap (λ (t : List ℕ). getD b p 0 ∷ t) (part-cons b (p + 1) (next b p) (omega arith) (omega arith))
+        ∙ ap (λ (k : ℕ). getD b p 0 ∷ getD b (p + 1) 0 ∷ part b k (next b p)) one)
+
+    items-read : (k p : ℕ) → p ≤ 508 → laidOut k b p ≡ true → (n : ℕ) × (part b p 508 ≡ join bytesOf (items make k b p) ++ replicate n 0)
+    unfolding laidOut items join
+    items-read zero p h l = (length (part b p 508), zeros-are (part b p 508) l)
+    items-read (suc k) p h l =
+        let within : next b p ≤ 508 = leb-true (next b p) 508 (and-left (leb (next b p) 508) (laidOut k b (next b p)) l) in
+        let up : p ≤ next b p = unfold next in omega arith in
+        let x = make (getD b p 0) (textAt b p) in
+        let xs = items make k b (next b p) in
+        let back = items-read k (next b p) within (and-right (leb (next b p) 508) (laidOut k b (next b p)) l) in (
+          back .0,
+          sym (part-append b p (next b p) 508 up within)
+              ∙ ap₂ (λ (s t : List ℕ). s ++ t) (sym (item-bytes p within)) (back .1)
+              ∙ sym (append-assoc (bytesOf x) (join bytesOf xs) (replicate (back .0) 0)),
+        )
+
+    items-bytes : Bytes b → (k p : ℕ) → laidOut k b p ≡ true → All (λ (x : X). Bytes (bytesOf x)) (items make k b p)
+    unfolding laidOut items
+    items-bytes h zero p l = all-empty
+    items-bytes h (suc k) p l =
+        let within : next b p ≤ 508 = leb-true (next b p) 508 (and-left (leb (next b p) 508) (laidOut k b (next b p)) l) in
+        all-cons (subst Bytes (sym (item-bytes p within)) (part-bytes b p (next b p) h))
+        (items-bytes h k (next b p) (and-right (leb (next b p) 508) (laidOut k b (next b p)) l))
+
+  -- a sealed block whose byte n says how many items follow it
+  module _ (b : List ℕ) (h : Bytes b) (s : IsSealed b) (n : ℕ) (inside : n < 508) (laid : laidOut (getD b n 0) b (n + 1) ≡ true) where
+    abbrev read : List X
+    read = items make (getD b n 0) b (n + 1)
+
+    pub read-count : length read ≡ getD b n 0
+    read-count = items-length (getD b n 0) b (n + 1)
+
+    long : 508 ≤ length b
+    long = omega (arith, s .size)
+
+    pub read-bytes : All (λ (x : X). Bytes (bytesOf x)) read
+    read-bytes = items-bytes b long h (getD b n 0) (n + 1) laid
+
+    abbrev body : List ℕ
+    body = take n b ++ (length read ∷ join bytesOf read)
+
+    back : (m : ℕ) × (part b (n + 1) 508 ≡ join bytesOf read ++ replicate m 0)
+    back = items-read b long (getD b n 0) (n + 1) (omega arith) laid
+
+    front : take 508 b ≡ body ++ replicate (back .0) 0
+    front =
+        let all : n + (508 - n) ≡ 508 = omega arith in
+        ap (λ (k : ℕ). take k b) (sym all)
+        ∙ take-add n (508 - n) b
+        ∙ ap (λ (t : List ℕ). take n b ++ t)
+        (part-cons b n 508 inside long ∙ ap₂ (λ (k : ℕ) (t : List ℕ). k ∷ t) (sym read-count) (back .1))
+        ∙ sym (append-assoc (take n b) (length read ∷ join bytesOf read) (replicate (back .0) 0))
+
+    size : length body + back .0 ≡ 508
+    size =
+        sym (length-append body (replicate (back .0) 0) ∙ ap (λ (k : ℕ). length body + k) (length-replicate (back .0) 0))
+        ∙ sym (ap length front)
+        ∙ length-take-le 508 b long
+
+    pub read-room : length body ≤ 508
+    read-room = omega (arith, size)
+
+    -- is the seal of the bytes before that, the number and the items
+    pub read-seal : b ≡ seal body
+    unfolding padded
+    read-seal =
+        let m : back .0 ≡ 508 - length body = omega (arith, size) in
+        sealed-seal b h s body (front ∙ ap (λ (k : ℕ). body ++ replicate k 0) m)
