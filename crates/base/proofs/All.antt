@@ -32,6 +32,11 @@ module _ {A : Type 0} (P : A → Type 0) where
   all-replicate zero p = all-empty
   all-replicate (suc n) p = all-cons p (all-replicate n p)
 
+-- what follows of each element
+pub all-map : {A : Type 0} {P Q : A → Type 0} → ((x : A) → P x → Q x) → {xs : List A} → All P xs → All Q xs
+all-map f all-empty = all-empty
+all-map f (all-cons {x} p h) = all-cons (f x p) (all-map f h)
+
 -- ---- bytes
 
 -- the byte at i; past the end stands 0

@@ -2,7 +2,7 @@
 -- Assumes nothing.
 use Prim.Native.Nat.{ℕ, suc, _-_, _≤_, _<_}
 use native.Mathlib.Omega.{arith}
-use mathlib.Core.Path.{_≡_, refl, ap, sym, _∙_}
+use mathlib.Core.Path.{_≡_, refl, ap, sym, _∙_, subst}
 use mathlib.Core.Bool.{Bool, true, false, _&&_}
 use mathlib.Core.List.{List, [], _∷_}
 use lib.Dec.{leb}
@@ -10,8 +10,9 @@ use lib.ListN.{getD}
 use borrow.Author.Tests.{le-leb, lt-leb, leb-true}
 use Rattle.base.specs.Parts.{part}
 use Rattle.base.proofs.Tests.{and-left, and-right}
-use Rattle.block.specs.Items.{zeros, next, textAt, laidOut, items, Walk}
-use Rattle.block.proofs.Invariants.{Walked}
+use Rattle.block.specs.Items.{zeros, next, textAt, laidOut, items, ItemAt, Walk, Step}
+use Rattle.block.specs.declared.Item.{Item}
+use Rattle.block.proofs.Invariants.{Walked, Visited}
 
 -- ---- what the loop over the items keeps
 
@@ -51,20 +52,48 @@ module _ (b : List ℕ) (p left : ℕ) (w : Walk b p left) (l : 0 < left) where
   laid-both = sym (laid-first left b p l) ∙ w .laid
 
   -- the item at p ends at or before byte 507
-  pub walk-within : next b p ≤ 508
+  walk-within : next b p ≤ 508
   walk-within = leb-true (next b p) 508 (and-left (leb (next b p) 508) (laidOut (left - 1) b (next b p)) laid-both)
 
-  -- the walk goes on where it ends
-  pub walk-next : Walk b (next b p) (left - 1)
+  -- and the walk goes on there
+  walk-next : Walk b (next b p) (left - 1)
   walk-next = record { size = w .size; within = walk-within; laid = and-right (leb (next b p) 508) (laidOut (left - 1) b (next b p)) laid-both }
 
-module _ {X : Type 0} (make : ℕ → List ℕ → X) (k : ℕ) (b : List ℕ) (p : ℕ) where
-  -- the first of the items that are left
-  pub items-first : 0 < k → items make k b p ≡ make (getD b p 0) (textAt b p) ∷ items make (k - 1) b (next b p)
+module _ {X : Type 0} (make : ℕ → List ℕ → X) (b : List ℕ) (p left : ℕ) where
+  items-none : left ≤ 0 → items make left b p ≡ []
   unfolding items
-  items-first h = let e : k ≡ suc (k - 1) = omega arith in ap (λ (n : ℕ). items make n b p) e
+  items-none h = let e : left ≡ 0 = omega arith in ap (λ (n : ℕ). items make n b p) e
 
-  -- none is left
-  pub items-none : k ≤ 0 → items make k b p ≡ []
+  items-first : 0 < left → items make left b p ≡ make (getD b p 0) (textAt b p) ∷ items make (left - 1) b (next b p)
   unfolding items
-  items-none h = let e : k ≡ 0 = omega arith in ap (λ (n : ℕ). items make n b p) e
+  items-first h = let e : left ≡ suc (left - 1) = omega arith in ap (λ (n : ℕ). items make n b p) e
+
+  -- what is read at p is a step of the walk
+  pub item-step : Walk b p left → 0 < left → (r : Item) → ItemAt b p r → Step make b p left (r .tag) (r .start) (r .end)
+  unfolding textAt
+  item-step w l r i =
+      record {
+        order = i .order;
+        within = omega (arith, walk-within b p left w l, w .size, i .end);
+        onward = omega (arith, i .start, i .order);
+        walk = subst (λ (e : ℕ). Walk b e (left - 1)) (sym (i .end)) (walk-next b p left w l);
+        first = items-first l ∙ rw (i .tag, i .start, i .end);
+      }
+
+-- ---- a loop over the items: its start, a turn that goes on, one that decides, and its end
+
+module _ {X A : Type 0} (make : ℕ → List ℕ → X) (G : List X → A) (b : List ℕ) (p left : ℕ) where
+  module _ (answer : A) where
+    pub visited-start : Walk b p left → answer ≡ G (items make left b p) → Visited make G answer b p left
+    visited-start w e = record { walk = w; rest = sym e }
+
+    module _ (inv : Visited make G answer b p left) where
+      module _ (tag start end : ℕ) (s : Step make b p left tag start end) where
+        pub visited-next : (G′ : List X → A) → ((xs : List X) → G (make tag (part b start end) ∷ xs) ≡ G′ xs) → Visited make G′ answer b end (left - 1)
+        visited-next G′ f = record { walk = s .walk; rest = sym (f (items make (left - 1) b end)) ∙ sym (ap G (s .first)) ∙ inv .rest }
+
+        pub visited-decides : (x : A) → ((xs : List X) → x ≡ G (make tag (part b start end) ∷ xs)) → x ≡ answer
+        visited-decides x f = f (items make (left - 1) b end) ∙ sym (ap G (s .first)) ∙ inv .rest
+
+      pub visited-end : left ≤ 0 → (x : A) → x ≡ G [] → x ≡ answer
+      visited-end h x e = e ∙ ap G (sym (items-none make b p left h)) ∙ inv .rest

@@ -2,7 +2,7 @@
 -- Assumes nothing.
 use Prim.Native.Nat.{ℕ}
 use native.Mathlib.Omega.{arith}
-use mathlib.Core.Path.{_≡_, refl}
+use mathlib.Core.Path.{_≡_, refl, sym, _∙_}
 use mathlib.Core.Bool.{Bool, true, false}
 use Rattle.block.specs.Readings.{reading}
 use Rattle.block.specs.declared.Checked.{Checked}
@@ -11,22 +11,23 @@ use Rattle.block.specs.declared.Reading.the-variants as answers
 
 -- ---- what a reader answers after the check, and after the layout
 
-module _ (c : Checked) (layout : Bool) where
-  pub reading-size : c ≡ WrongSize → answers.WrongSize ≡ reading c layout
+module _ (r c : Checked) (e : r ≡ c) (layout : Bool) where
+  pub reading-size : r ≡ WrongSize → answers.WrongSize ≡ reading c layout
   unfolding reading
-  reading-size e = rw e
+  reading-size k = rw (sym e ∙ k)
 
-  pub reading-sum : c ≡ WrongSum → answers.WrongSum ≡ reading c layout
+  pub reading-sum : r ≡ WrongSum → answers.WrongSum ≡ reading c layout
   unfolding reading
-  reading-sum e = rw e
+  reading-sum k = rw (sym e ∙ k)
 
-  pub reading-layout : c ≡ Sealed → layout ≡ false → answers.WrongLayout ≡ reading c layout
-  unfolding reading
-  reading-layout e l = rw (e, l)
+  module _ (k : r ≡ Sealed) (t : Bool) (l : t ≡ layout) where
+    pub reading-layout : t ≡ false → answers.WrongLayout ≡ reading c layout
+    unfolding reading
+    reading-layout f = rw (sym e ∙ k, sym l ∙ f)
 
-  pub reading-right : c ≡ Sealed → layout ≡ true → answers.WellFormed ≡ reading c layout
-  unfolding reading
-  reading-right e l = rw (e, l)
+    pub reading-right : t ≡ true → answers.WellFormed ≡ reading c layout
+    unfolding reading
+    reading-right f = rw (sym e ∙ k, sym l ∙ f)
 
 -- a block that reads as well formed has its check and its layout
 pub reading-well-formed : (c : Checked) (layout : Bool) → reading c layout ≡ answers.WellFormed → (c ≡ Sealed) × (layout ≡ true)

@@ -9,17 +9,24 @@ use lib.Dec.{leb, eqb}
 use lib.ListN.{length, getD, take, drop, replicate, length-append, length-replicate}
 use lib.Seq.{drop-drop, take-add, take-at, drop-at, length-take-le}
 use borrow.Author.Tests.{le-leb, leb-true, eqb-true}
-use Rattle.base.specs.Bytes.{Bytes}
+use Rattle.base.specs.Bytes.{Byte, Bytes}
 use Rattle.base.specs.Lists.{All, all-empty, all-cons, every}
 use Rattle.base.specs.Parts.{part}
 use Rattle.base.proofs.Tests.{and-left, and-right}
+use Rattle.base.proofs.All.{all-append}
 use Rattle.base.proofs.Parts.{part-length, part-cons, part-append, part-bytes}
 use Rattle.block.specs.Words.{wordBytes}
 use Rattle.block.specs.Sum.{sumFrom}
 use Rattle.block.specs.Seal.{IsSealed, padded, seal}
 use Rattle.block.specs.Items.{zeros, next, textAt, laidOut, items, join}
 use Rattle.block.proofs.Words.{at-drop, at-drop-first}
-use Rattle.block.proofs.Seal.{sealed-seal}
+use Rattle.block.proofs.Seal.{after, seal-body, sealed-seal}
+
+-- the bytes of one item after the other are bytes
+pub join-bytes : {X : Type 0} (bytesOf : X → List ℕ) {xs : List X} → All (λ (x : X). Bytes (bytesOf x)) xs → Bytes (join bytesOf xs)
+unfolding join
+join-bytes bytesOf all-empty = all-empty
+join-bytes bytesOf (all-cons h t) = all-append Byte h (join-bytes bytesOf t)
 
 -- ---- zeros
 
@@ -94,41 +101,31 @@ module _ {X : Type 0} (make : ℕ → List ℕ → X) (bytesOf : X → List ℕ)
 
     -- what the block of a head and items holds
     module _ (head : List ℕ) (xs : List X) (room : length (head ++ (length xs ∷ join bytesOf xs)) ≤ 508) where
-      abbrev written : List ℕ
-      written = seal (head ++ (length xs ∷ join bytesOf xs))
+      abbrev body : List ℕ
+      body = head ++ (length xs ∷ join bytesOf xs)
 
-      abbrev after : List ℕ
-      after =
-          let body = head ++ (length xs ∷ join bytesOf xs) in
-          replicate (508 - length body) 0 ++ wordBytes (sumFrom 1 (padded body))
+      from-count : drop (length head) (seal body) ≡ length xs ∷ (join bytesOf xs ++ after body)
+      from-count =
+          ap (drop (length head)) (seal-body body ∙ append-assoc head (length xs ∷ join bytesOf xs) (after body))
+          ∙ drop-at head (length xs ∷ (join bytesOf xs ++ after body)) (length head) refl
 
-      whole : written ≡ head ++ (length xs ∷ (join bytesOf xs ++ after))
-      unfolding seal padded
-      whole = simp append-assoc
+      pub written-count : getD (seal body) (length head) 0 ≡ length xs
+      written-count = at-drop-first (seal body) (length head) (length xs ∷ (join bytesOf xs ++ after body)) from-count
 
-      pub written-head : take (length head) written ≡ head
-      written-head = ap (take (length head)) whole ∙ take-at head (length xs ∷ (join bytesOf xs ++ after)) (length head) refl
-
-      from-count : drop (length head) written ≡ length xs ∷ (join bytesOf xs ++ after)
-      from-count = ap (drop (length head)) whole ∙ drop-at head (length xs ∷ (join bytesOf xs ++ after)) (length head) refl
-
-      pub written-count : getD written (length head) 0 ≡ length xs
-      written-count = at-drop-first written (length head) (length xs ∷ (join bytesOf xs ++ after)) from-count
-
-      both : (laidOut (length xs) written (length head + 1) ≡ true) × (items make (length xs) written (length head + 1) ≡ xs)
+      both : (laidOut (length xs) (seal body) (length head + 1) ≡ true) × (items make (length xs) (seal body) (length head + 1) ≡ xs)
       both =
-          let end = length (head ++ (length xs ∷ join bytesOf xs)) in
+          let end = length body in
           let size : length head + 1 + length (join bytesOf xs) ≡ end = omega (arith, length-append head (length xs ∷ join bytesOf xs)) in
-          let padding : zeros (take (508 - end) after) ≡ true =
-          ap zeros (take-at (replicate (508 - end) 0) (wordBytes (sumFrom 1 (padded (head ++ (length xs ∷ join bytesOf xs))))) (508 - end) (length-replicate (508 - end) 0))
+          let padding : zeros (take (508 - end) (after body)) ≡ true =
+          ap zeros (take-at (replicate (508 - end) 0) (wordBytes (sumFrom 1 (padded body))) (508 - end) (length-replicate (508 - end) 0))
           ∙ zeros-replicate (508 - end)
           in
-          items-written xs written (length head + 1) after end (sym (drop-drop 1 (length head) written) ∙ ap (drop 1) from-count) size room padding
+          items-written xs (seal body) (length head + 1) (after body) end (sym (drop-drop 1 (length head) (seal body)) ∙ ap (drop 1) from-count) size room padding
 
-      pub written-laid : laidOut (length xs) written (length head + 1) ≡ true
+      pub written-laid : laidOut (length xs) (seal body) (length head + 1) ≡ true
       written-laid = both .0
 
-      pub written-items : items make (length xs) written (length head + 1) ≡ xs
+      pub written-items : items make (length xs) (seal body) (length head + 1) ≡ xs
       written-items = both .1
 
   -- ---- read and written back
@@ -189,13 +186,13 @@ module _ {X : Type 0} (make : ℕ → List ℕ → X) (bytesOf : X → List ℕ)
     pub read-bytes : All (λ (x : X). Bytes (bytesOf x)) read
     read-bytes = items-bytes b long h (getD b n 0) (n + 1) laid
 
-    abbrev body : List ℕ
-    body = take n b ++ (length read ∷ join bytesOf read)
+    abbrev read-body : List ℕ
+    read-body = take n b ++ (length read ∷ join bytesOf read)
 
     back : (m : ℕ) × (part b (n + 1) 508 ≡ join bytesOf read ++ replicate m 0)
     back = items-read b long (getD b n 0) (n + 1) (omega arith) laid
 
-    front : take 508 b ≡ body ++ replicate (back .0) 0
+    front : take 508 b ≡ read-body ++ replicate (back .0) 0
     front =
         let all : n + (508 - n) ≡ 508 = omega arith in
         ap (λ (k : ℕ). take k b) (sym all)
@@ -204,18 +201,18 @@ module _ {X : Type 0} (make : ℕ → List ℕ → X) (bytesOf : X → List ℕ)
         (part-cons b n 508 inside long ∙ ap₂ (λ (k : ℕ) (t : List ℕ). k ∷ t) (sym read-count) (back .1))
         ∙ sym (append-assoc (take n b) (length read ∷ join bytesOf read) (replicate (back .0) 0))
 
-    size : length body + back .0 ≡ 508
+    size : length read-body + back .0 ≡ 508
     size =
-        sym (length-append body (replicate (back .0) 0) ∙ ap (λ (k : ℕ). length body + k) (length-replicate (back .0) 0))
+        sym (length-append read-body (replicate (back .0) 0) ∙ ap (λ (k : ℕ). length read-body + k) (length-replicate (back .0) 0))
         ∙ sym (ap length front)
         ∙ length-take-le 508 b long
 
-    pub read-room : length body ≤ 508
+    pub read-room : length read-body ≤ 508
     read-room = omega (arith, size)
 
     -- is the seal of the bytes before that, the number and the items
-    pub read-seal : b ≡ seal body
+    pub read-seal : b ≡ seal read-body
     unfolding padded
     read-seal =
-        let m : back .0 ≡ 508 - length body = omega (arith, size) in
-        sealed-seal b h s body (front ∙ ap (λ (k : ℕ). body ++ replicate k 0) m)
+        let m : back .0 ≡ 508 - length read-body = omega (arith, size) in
+        sealed-seal b h s read-body (front ∙ ap (λ (k : ℕ). read-body ++ replicate k 0) m)

@@ -1,14 +1,14 @@
 -- Laws of size and check sum: what the code's tests decide, and that a block which is sealed is the seal of its body.
 -- Assumes nothing.
-use Prim.Native.Nat.{ℕ, suc, _-_, _^_, _≤_, _<_}
+use Prim.Native.Nat.{ℕ, _-_, _^_, _≤_, _<_}
 use native.Mathlib.Omega.{arith}
 use mathlib.Core.Path.{_≡_, refl, ap, ap₂, sym, _∙_}
 use mathlib.Core.Bool.{cond}
 use mathlib.Core.Logic.{_↔_}
-use mathlib.Core.List.{List, [], _∷_, _++_, append-nil}
+use mathlib.Core.List.{List, [], _++_, append-nil, append-assoc}
 use lib.Dec.{eqb}
-use lib.ListN.{length, getD, take, drop, length-append, length-replicate, take-append-drop, drop-of-length-le}
-use lib.Seq.{drop-cons, take-at, drop-at}
+use lib.ListN.{length, take, drop, replicate, length-append, length-replicate, length-drop, take-append-drop}
+use lib.Seq.{take-all, take-at, drop-at}
 use borrow.Author.Tests.{eq-eqb, ne-eqb, eqb-true}
 use Rattle.base.specs.Bytes.{Byte, Bytes}
 use Rattle.base.proofs.Tests.{cond-taken}
@@ -16,6 +16,7 @@ use Rattle.base.proofs.All.{all-append, all-replicate}
 use Rattle.block.specs.Words.{word, wordBytes}
 use Rattle.block.specs.Sum.{sumFrom, checkSum}
 use Rattle.block.specs.Seal.{check, IsSealed, padded, seal}
+use Rattle.block.specs.declared.Checked.{Checked}
 use Rattle.block.specs.declared.Checked.the-variants.{Sealed, WrongSize, WrongSum}
 use Rattle.block.proofs.Words.{bytes-word, length-word, word-written, word-read}
 use Rattle.block.proofs.Sum.{sum-largest}
@@ -52,7 +53,19 @@ check-sealed b h =
 pub check-iff : (b : List ℕ) → (check b ≡ Sealed) ↔ IsSealed b
 check-iff b = (check-sealed b, (λ s. sym (check-right b (s .size) (checkSum b) (word b 508) refl refl (s .sum))))
 
+-- the size of a block that was checked
+pub check-length : (b : List ℕ) (r : Checked) → r ≡ check b → r ≡ Sealed → length b ≡ 512
+check-length b r e k = check-sealed b (sym e ∙ k) .size
+
 -- ---- the seal of a body
+
+-- what follows a body in its seal
+abbrev pub after : List ℕ → List ℕ
+after body = replicate (508 - length body) 0 ++ wordBytes (sumFrom 1 (padded body))
+
+pub seal-body : (body : List ℕ) → seal body ≡ body ++ after body
+unfolding seal padded
+seal-body body = append-assoc body (replicate (508 - length body) 0) (wordBytes (sumFrom 1 (padded body)))
 
 module _ (body : List ℕ) (room : length body ≤ 508) where
   length-padded : length (padded body) ≡ 508
@@ -90,14 +103,8 @@ module _ (body : List ℕ) (room : length body ≤ 508) where
 module _ (b : List ℕ) (h : Bytes b) (s : IsSealed b) where
   last-four : drop 508 b ≡ wordBytes (checkSum b)
   last-four =
-      let at : (i : ℕ) → i < 512 → drop i b ≡ getD b i 0 ∷ drop (suc i) b = λ i l. drop-cons b i 0 (omega (arith, s .size)) in
-      at 508 (omega arith)
-      ∙ ap (λ (t : List ℕ). getD b 508 0 ∷ t) (at 509 (omega arith)
-      ∙ ap (λ (t : List ℕ). getD b 509 0 ∷ t) (at 510 (omega arith)
-      ∙ ap (λ (t : List ℕ). getD b 510 0 ∷ t) (at 511 (omega arith)
-      ∙ ap (λ (t : List ℕ). getD b 511 0 ∷ t) (drop-of-length-le b {i = 512} (omega (arith, s .size))))))
-      ∙ sym (word-read b h 508)
-      ∙ ap wordBytes (sym (s .sum))
+      let all : length (drop 508 b) ≤ 4 = omega (arith, length-drop 508 b, s .size) in
+      sym (take-all 4 (drop 508 b) all) ∙ sym (word-read b 508 h (omega (arith, s .size))) ∙ ap wordBytes (sym (s .sum))
 
   -- a sealed block is the seal of the body that its first 508 bytes pad
   pub sealed-seal : (body : List ℕ) → take 508 b ≡ padded body → b ≡ seal body

@@ -1,6 +1,6 @@
 -- Items: what a block lists, a sheet its parameters and a card its entries. An item is a byte, the length of a text, and the text.
 -- Assumes nothing.
-use Prim.Native.Nat.{ℕ, zero, suc, _+_, _≤_}
+use Prim.Native.Nat.{ℕ, zero, suc, _+_, _-_, _≤_, _<_}
 use mathlib.Core.Path.{_≡_}
 use mathlib.Core.Bool.{Bool, true, _&&_}
 use mathlib.Core.List.{List, [], _∷_, _++_}
@@ -46,6 +46,14 @@ pub record Walk (b : List ℕ) (p left : ℕ) : Type 0 where
   pub size : length b ≡ 512
   pub within : p ≤ 508
   pub laid : laidOut left b p ≡ true
+
+-- what a step of the walk learns: the item at p has the first byte `tag` and its text from `start` to `end`, where the walk goes on
+pub record Step {X : Type 0} (make : ℕ → List ℕ → X) (b : List ℕ) (p left tag start end : ℕ) : Type 0 where
+  pub order : start ≤ end
+  pub within : end ≤ length b
+  pub onward : p < end
+  pub walk : Walk b end (left - 1)
+  pub first : items make left b p ≡ make tag (part b start end) ∷ items make (left - 1) b end
 
 -- ---- writing
 

@@ -1,0 +1,34 @@
+-- `card::card_layout` meets its contract: the tests are those of the definition, in its order. Assumes nothing.
+use borrow.Author.Needs.{needs}
+use Rattle.card.proofs.Read.{layout-first-not, layout-many, layout-entries}
+use Rattle.card.proofs.card_layout.Statement.{statement}
+use Rattle.card.proofs.card_layout.Tie as tie
+
+shared-slice-read-if1 : tie.Need-shared-slice-read-if1
+shared-slice-read-if1 c = search needs
+
+returns : tie.Need-returns
+returns c = search (layout-first-not, needs)
+
+shared-slice-read-count : tie.Need-shared-slice-read-count
+shared-slice-read-count c = search needs
+
+returns-2 : tie.Need-returns-2
+returns-2 c = search (layout-many, needs)
+
+laid-out-requires : tie.Need-laid-out-requires
+laid-out-requires c κs = search needs
+
+returns-3 : tie.Need-returns-3
+returns-3 c = search (layout-entries, needs)
+
+pub card-layout-spec : {M : Type 1} → statement M
+card-layout-spec =
+    tie.close
+    (tie.spec
+    shared-slice-read-if1
+    returns
+    shared-slice-read-count
+    returns-2
+    laid-out-requires
+    returns-3)
