@@ -1,16 +1,16 @@
--- Laws of items: what a walk over them keeps.
+-- Laws of items: their layout in a block, and a walk over them.
 -- Assumes nothing.
-use Prim.Native.Nat.{ℕ, suc, _-_, _≤_, _<_}
+use Prim.Native.Nat.{ℕ, suc, _+_, _-_, _≤_, _<_}
 use native.Mathlib.Omega.{arith}
 use mathlib.Core.Path.{_≡_, refl, ap, sym, _∙_, subst}
 use mathlib.Core.Bool.{Bool, true, false, _&&_}
 use mathlib.Core.List.{List, [], _∷_}
-use lib.Dec.{leb}
-use lib.ListN.{getD}
-use borrow.Author.Tests.{le-leb, lt-leb, leb-true}
+use lib.Dec.{leb, eqb}
+use lib.ListN.{length, getD}
+use borrow.Author.Tests.{eq-eqb, ne-eqb, eqb-true, le-leb, lt-leb, leb-true}
 use Rattle.base.specs.Parts.{part}
 use Rattle.base.proofs.Tests.{and-left, and-right}
-use Rattle.block.specs.Items.{zeros, next, textAt, laidOut, items, ItemAt, Walk, Step}
+use Rattle.block.specs.Items.{zeros, next, textAt, laidOut, hasLayout, items, ItemAt, Walk, Step}
 use Rattle.block.specs.declared.Item.{Item}
 use Rattle.block.proofs.Invariants.{Walked, Visited}
 
@@ -44,6 +44,41 @@ module _ (b : List ℕ) (from count : ℕ) where
 
   pub walked-end : (p left : ℕ) → Walked b from count p left → left ≤ 0 → (z : Bool) → z ≡ zeros (part b p 508) → z ≡ laidOut count b from
   walked-end p left inv l z e = e ∙ sym (laid-none left b p l) ∙ inv .rest
+
+-- ---- what the tests of a layout decide, and what a layout has
+
+module _ (b : List ℕ) (first at most : ℕ) where
+  pub layout-first-not : (getD b 0 0 ≡ first → ⊥) → false ≡ hasLayout first at most b
+  unfolding hasLayout
+  layout-first-not n = rw (ne-eqb (getD b 0 0) first n)
+
+  module _ (f : getD b 0 0 ≡ first) where
+    pub layout-many : most < getD b at 0 → false ≡ hasLayout first at most b
+    unfolding hasLayout
+    layout-many n = rw (eq-eqb (getD b 0 0) first f, lt-leb (getD b at 0) most n)
+
+    pub layout-laid : getD b at 0 ≤ most → (r : Bool) → r ≡ laidOut (getD b at 0) b (at + 1) → r ≡ hasLayout first at most b
+    unfolding hasLayout
+    layout-laid n r e = rw (eq-eqb (getD b 0 0) first f, le-leb (getD b at 0) most n) e
+
+  module _ (h : hasLayout first at most b ≡ true) where
+    after-first : (leb (getD b at 0) most && laidOut (getD b at 0) b (at + 1)) ≡ true
+    unfolding hasLayout
+    after-first = and-right (eqb (getD b 0 0) first) (leb (getD b at 0) most && laidOut (getD b at 0) b (at + 1)) h
+
+    pub layout-first : getD b 0 0 ≡ first
+    unfolding hasLayout
+    layout-first = eqb-true (getD b 0 0) first (and-left (eqb (getD b 0 0) first) (leb (getD b at 0) most && laidOut (getD b at 0) b (at + 1)) h)
+
+    pub layout-count : getD b at 0 ≤ most
+    layout-count = leb-true (getD b at 0) most (and-left (leb (getD b at 0) most) (laidOut (getD b at 0) b (at + 1)) after-first)
+
+    pub layout-items : laidOut (getD b at 0) b (at + 1) ≡ true
+    layout-items = and-right (leb (getD b at 0) most) (laidOut (getD b at 0) b (at + 1)) after-first
+
+    -- where a walk over the items starts
+    pub walk-start : length b ≡ 512 → at < 508 → Walk b (at + 1) (getD b at 0)
+    walk-start s l = record { size = s; within = omega arith; laid = layout-items }
 
 -- ---- a walk over the items of a block
 

@@ -4,10 +4,14 @@ use Prim.Native.Nat.{ℕ}
 use native.Mathlib.Omega.{arith}
 use mathlib.Core.Path.{_≡_, refl, sym, _∙_}
 use mathlib.Core.Bool.{Bool, true, false}
+use mathlib.Core.Logic.{_↔_}
+use mathlib.Core.List.{List}
+use Rattle.block.specs.Seal.{check, IsSealed}
 use Rattle.block.specs.Readings.{reading}
 use Rattle.block.specs.declared.Checked.{Checked}
 use Rattle.block.specs.declared.Checked.the-variants.{Sealed, WrongSize, WrongSum}
 use Rattle.block.specs.declared.Reading.the-variants as answers
+use Rattle.block.proofs.Seal.{check-iff}
 
 -- ---- what a reader answers after the check, and after the layout
 
@@ -29,10 +33,17 @@ module _ (r c : Checked) (e : r ≡ c) (layout : Bool) where
     unfolding reading
     reading-right f = rw (sym e ∙ k, sym l ∙ f)
 
--- a block that reads as well formed has its check and its layout
-pub reading-well-formed : (c : Checked) (layout : Bool) → reading c layout ≡ answers.WellFormed → (c ≡ Sealed) × (layout ≡ true)
+-- ---- a block reads as well formed exactly where it is sealed and its layout is right
+
+reading-sealed : (c : Checked) (layout : Bool) → reading c layout ≡ answers.WellFormed → (c ≡ Sealed) × (layout ≡ true)
 unfolding reading
-reading-well-formed WrongSize layout h = absurd (let z : _≡_ {A = ℕ} 0 1 = cc in omega arith)
-reading-well-formed WrongSum layout h = absurd (let z : _≡_ {A = ℕ} 0 1 = cc in omega arith)
-reading-well-formed Sealed true h = (refl, refl)
-reading-well-formed Sealed false h = absurd (let z : _≡_ {A = ℕ} 0 1 = cc in omega arith)
+reading-sealed WrongSize layout h = absurd (let z : _≡_ {A = ℕ} 0 1 = cc in omega arith)
+reading-sealed WrongSum layout h = absurd (let z : _≡_ {A = ℕ} 0 1 = cc in omega arith)
+reading-sealed Sealed true h = (refl, refl)
+reading-sealed Sealed false h = absurd (let z : _≡_ {A = ℕ} 0 1 = cc in omega arith)
+
+pub reading-iff : (b : List ℕ) (layout : Bool) → (reading (check b) layout ≡ answers.WellFormed) ↔ (IsSealed b × (layout ≡ true))
+reading-iff b layout = (
+  (λ h. let r = reading-sealed (check b) layout h in (check-iff b .0 (r .0), r .1)),
+  (λ h. sym (reading-right (check b) (check b) refl layout (check-iff b .1 (h .0)) layout refl (h .1))),
+)

@@ -1,4 +1,4 @@
--- A block is written and read back, and read and written back: a head, the number of items, the items, zeros and the check sum.
+-- A block is written and read back, and read and written back: a first byte, a head, the number of items, the items, zeros and the check sum.
 -- Assumes nothing.
 use Prim.Native.Nat.{ℕ, zero, suc, _+_, _-_, _≤_, _<_}
 use native.Mathlib.Omega.{arith}
@@ -7,7 +7,7 @@ use mathlib.Core.Bool.{true}
 use mathlib.Core.List.{List, [], _∷_, _++_, append-assoc}
 use lib.Dec.{leb, eqb}
 use lib.ListN.{length, getD, take, drop, replicate, length-append, length-replicate}
-use lib.Seq.{drop-drop, take-add, take-at, drop-at, length-take-le}
+use lib.Seq.{drop-drop, take-at, drop-at, length-take-le}
 use borrow.Author.Tests.{le-leb, leb-true, eqb-true}
 use Rattle.base.specs.Bytes.{Byte, Bytes}
 use Rattle.base.specs.Lists.{All, all-empty, all-cons, every}
@@ -17,13 +17,15 @@ use Rattle.base.proofs.All.{all-append}
 use Rattle.base.proofs.Parts.{part-length, part-cons, part-append, part-bytes}
 use Rattle.block.specs.Words.{wordBytes}
 use Rattle.block.specs.Sum.{sumFrom}
-use Rattle.block.specs.Seal.{IsSealed, padded, seal}
-use Rattle.block.specs.Items.{zeros, next, textAt, laidOut, items, join}
+use Rattle.block.specs.Seal.{padded, seal}
+use Rattle.block.specs.Items.{zeros, next, textAt, laidOut, hasLayout, items, join}
+use Rattle.block.proofs.Contents.{Held, Written}
 use Rattle.block.proofs.Words.{at-drop, at-drop-first}
-use Rattle.block.proofs.Seal.{after, seal-body, sealed-seal}
+use Rattle.block.proofs.Seal.{after, seal-body, seal-bytes, seal-sealed, sealed-seal}
+use Rattle.block.proofs.Items.{layout-laid, layout-first, layout-count, layout-items}
 
 -- the bytes of one item after the other are bytes
-pub join-bytes : {X : Type 0} (bytesOf : X → List ℕ) {xs : List X} → All (λ (x : X). Bytes (bytesOf x)) xs → Bytes (join bytesOf xs)
+join-bytes : {X : Type 0} (bytesOf : X → List ℕ) {xs : List X} → All (λ (x : X). Bytes (bytesOf x)) xs → Bytes (join bytesOf xs)
 unfolding join
 join-bytes bytesOf all-empty = all-empty
 join-bytes bytesOf (all-cons h t) = all-append Byte h (join-bytes bytesOf t)
@@ -99,34 +101,50 @@ module _ {X : Type 0} (make : ℕ → List ℕ → X) (bytesOf : X → List ℕ)
           ap₂ (λ (y : X) (ys : List X). y ∷ ys) (ap₂ make (item-tag b p t s rest first) (item-text b p t s rest first) ∙ sym (parts x .2)) (back .1),
         )
 
-    -- what the block of a head and items holds
-    module _ (head : List ℕ) (xs : List X) (room : length (head ++ (length xs ∷ join bytesOf xs)) ≤ 508) where
+    -- what is held by the block of a first byte, a head, the number of items and the items
+    module _ (first : ℕ) (head : List ℕ) (xs : List X) (most : ℕ) where
       abbrev body : List ℕ
-      body = head ++ (length xs ∷ join bytesOf xs)
+      body = first ∷ (head ++ (length xs ∷ join bytesOf xs))
 
-      from-count : drop (length head) (seal body) ≡ length xs ∷ (join bytesOf xs ++ after body)
+      abbrev at : ℕ
+      at = length (first ∷ head)
+
+      from-count : drop at (seal body) ≡ length xs ∷ (join bytesOf xs ++ after body)
       from-count =
-          ap (drop (length head)) (seal-body body ∙ append-assoc head (length xs ∷ join bytesOf xs) (after body))
-          ∙ drop-at head (length xs ∷ (join bytesOf xs ++ after body)) (length head) refl
+          ap (drop at) (seal-body body ∙ append-assoc (first ∷ head) (length xs ∷ join bytesOf xs) (after body))
+          ∙ drop-at (first ∷ head) (length xs ∷ (join bytesOf xs ++ after body)) at refl
 
-      pub written-count : getD (seal body) (length head) 0 ≡ length xs
-      written-count = at-drop-first (seal body) (length head) (length xs ∷ (join bytesOf xs ++ after body)) from-count
+      count : getD (seal body) at 0 ≡ length xs
+      count = at-drop-first (seal body) at (length xs ∷ (join bytesOf xs ++ after body)) from-count
 
-      both : (laidOut (length xs) (seal body) (length head + 1) ≡ true) × (items make (length xs) (seal body) (length head + 1) ≡ xs)
-      both =
-          let end = length body in
-          let size : length head + 1 + length (join bytesOf xs) ≡ end = omega (arith, length-append head (length xs ∷ join bytesOf xs)) in
-          let padding : zeros (take (508 - end) (after body)) ≡ true =
-          ap zeros (take-at (replicate (508 - end) 0) (wordBytes (sumFrom 1 (padded body))) (508 - end) (length-replicate (508 - end) 0))
-          ∙ zeros-replicate (508 - end)
-          in
-          items-written xs (seal body) (length head + 1) (after body) end (sym (drop-drop 1 (length head) (seal body)) ∙ ap (drop 1) from-count) size room padding
+      module _ (room : length body ≤ 508) where
+        back : (laidOut (length xs) (seal body) (at + 1) ≡ true) × (items make (length xs) (seal body) (at + 1) ≡ xs)
+        back =
+            let end = length body in
+            let size : at + 1 + length (join bytesOf xs) ≡ end = omega (arith, length-append head (length xs ∷ join bytesOf xs)) in
+            let padding : zeros (take (508 - end) (after body)) ≡ true =
+            ap zeros (take-at (replicate (508 - end) 0) (wordBytes (sumFrom 1 (padded body))) (508 - end) (length-replicate (508 - end) 0))
+            ∙ zeros-replicate (508 - end)
+            in
+            items-written xs (seal body) (at + 1) (after body) end (sym (drop-drop 1 at (seal body)) ∙ ap (drop 1) from-count) size room padding
 
-      pub written-laid : laidOut (length xs) (seal body) (length head + 1) ≡ true
-      written-laid = both .0
+        layout : length xs ≤ most → hasLayout first at most (seal body) ≡ true
+        layout few =
+            let b = seal body in
+            let starts : getD b 0 0 ≡ first = ap (λ (l : List ℕ). getD l 0 0) (seal-body body) in
+            let laid : laidOut (getD b at 0) b (at + 1) ≡ true = ap (λ (k : ℕ). laidOut k b (at + 1)) count ∙ back .0 in
+            sym (layout-laid b first at most starts (omega (arith, count)) true (sym laid))
 
-      pub written-items : items make (length xs) (seal body) (length head + 1) ≡ xs
-      written-items = both .1
+      pub held : most < 256 → Byte first → Bytes head → Written bytesOf most body (seal body) xs → Held make first at most (seal body) xs
+      held small f h w =
+          let n : Byte (length xs) = omega (arith, w .few) in
+          let bytes : Bytes body = all-cons f (all-append Byte h (all-cons n (join-bytes bytesOf (w .each)))) in
+          record {
+            bytes = seal-bytes body (w .room) bytes;
+            sealed = seal-sealed body (w .room) bytes;
+            layout = layout (w .room) (w .few);
+            same = ap (λ (k : ℕ). items make k (seal body) (at + 1)) count ∙ back (w .room) .1;
+          }
 
   -- ---- read and written back
 
@@ -172,47 +190,46 @@ module _ {X : Type 0} (make : ℕ → List ℕ → X) (bytesOf : X → List ℕ)
         all-cons (subst Bytes (sym (item-bytes p within)) (part-bytes b p (next b p) h))
         (items-bytes h k (next b p) (and-right (leb (next b p) 508) (laidOut k b (next b p)) l))
 
-  -- a sealed block whose byte n says how many items follow it
-  module _ (b : List ℕ) (h : Bytes b) (s : IsSealed b) (n : ℕ) (inside : n < 508) (laid : laidOut (getD b n 0) b (n + 1) ≡ true) where
-    abbrev read : List X
-    read = items make (getD b n 0) b (n + 1)
-
-    pub read-count : length read ≡ getD b n 0
-    read-count = items-length (getD b n 0) b (n + 1)
+  -- how a block is written that holds items behind the byte at `at`
+  module _ (b : List ℕ) (first at most : ℕ) (xs : List X) (above : 0 < at) (inside : at < 508) (h : Held make first at most b xs) where
+    length-held : length xs ≡ getD b at 0
+    length-held = ap length (sym (h .same)) ∙ items-length (getD b at 0) b (at + 1)
 
     long : 508 ≤ length b
-    long = omega (arith, s .size)
+    long = omega (arith, h .sealed .size)
 
-    pub read-bytes : All (λ (x : X). Bytes (bytesOf x)) read
-    read-bytes = items-bytes b long h (getD b n 0) (n + 1) laid
+    laid : laidOut (getD b at 0) b (at + 1) ≡ true
+    laid = layout-items b first at most (h .layout)
 
-    abbrev read-body : List ℕ
-    read-body = take n b ++ (length read ∷ join bytesOf read)
+    abbrev held-body : List ℕ
+    held-body = first ∷ (part b 1 at ++ (length xs ∷ join bytesOf xs))
 
-    back : (m : ℕ) × (part b (n + 1) 508 ≡ join bytesOf read ++ replicate m 0)
-    back = items-read b long (getD b n 0) (n + 1) (omega arith) laid
+    back-from : (m : ℕ) × (part b (at + 1) 508 ≡ join bytesOf xs ++ replicate m 0)
+    back-from =
+        let r = items-read b long (getD b at 0) (at + 1) (omega arith) laid in
+        (r .0, r .1 ∙ ap (λ (l : List X). join bytesOf l ++ replicate (r .0) 0) (h .same))
 
-    front : take 508 b ≡ read-body ++ replicate (back .0) 0
+    front : take 508 b ≡ held-body ++ replicate (back-from .0) 0
     front =
-        let all : n + (508 - n) ≡ 508 = omega arith in
-        ap (λ (k : ℕ). take k b) (sym all)
-        ∙ take-add n (508 - n) b
-        ∙ ap (λ (t : List ℕ). take n b ++ t)
-        (part-cons b n 508 inside long ∙ ap₂ (λ (k : ℕ) (t : List ℕ). k ∷ t) (sym read-count) (back .1))
-        ∙ sym (append-assoc (take n b) (length read ∷ join bytesOf read) (replicate (back .0) 0))
+        part-cons b 0 508 (omega arith) long
+        ∙ ap₂ (λ (x : ℕ) (t : List ℕ). x ∷ t) (layout-first b first at most (h .layout))
+        (sym (part-append b 1 at 508 (omega arith) (omega arith))
+        ∙ ap (λ (t : List ℕ). part b 1 at ++ t) (part-cons b at 508 inside long ∙ ap₂ (λ (k : ℕ) (t : List ℕ). k ∷ t) (sym length-held) (back-from .1))
+        ∙ sym (append-assoc (part b 1 at) (length xs ∷ join bytesOf xs) (replicate (back-from .0) 0)))
 
-    size : length read-body + back .0 ≡ 508
+    size : length held-body + back-from .0 ≡ 508
     size =
-        sym (length-append read-body (replicate (back .0) 0) ∙ ap (λ (k : ℕ). length read-body + k) (length-replicate (back .0) 0))
+        sym (length-append held-body (replicate (back-from .0) 0) ∙ ap (λ (k : ℕ). length held-body + k) (length-replicate (back-from .0) 0))
         ∙ sym (ap length front)
         ∙ length-take-le 508 b long
 
-    pub read-room : length read-body ≤ 508
-    read-room = omega (arith, size)
-
-    -- is the seal of the bytes before that, the number and the items
-    pub read-seal : b ≡ seal read-body
+    pub written : Written bytesOf most held-body b xs
     unfolding padded
-    read-seal =
-        let m : back .0 ≡ 508 - length read-body = omega (arith, size) in
-        sealed-seal b h s read-body (front ∙ ap (λ (k : ℕ). read-body ++ replicate k 0) m)
+    written =
+        let m : back-from .0 ≡ 508 - length held-body = omega (arith, size) in
+        record {
+          few = omega (arith, length-held, layout-count b first at most (h .layout));
+          each = subst (λ (l : List X). All (λ (x : X). Bytes (bytesOf x)) l) (h .same) (items-bytes b long (h .bytes) (getD b at 0) (at + 1) laid);
+          room = omega (arith, size);
+          same = sealed-seal b (h .bytes) (h .sealed) held-body (front ∙ ap (λ (k : ℕ). held-body ++ replicate k 0) m);
+        }

@@ -29,6 +29,10 @@ unfoldable pub laidOut : ℕ → List ℕ → ℕ → Bool
 laidOut zero b p = zeros (part b p 508)
 laidOut (suc k) b p = leb (next b p) 508 && laidOut k b (next b p)
 
+-- the first byte is `first`, the byte at `at` says how many items follow it, `most` or fewer, and they and the padding are laid out
+unfoldable pub hasLayout : (first at most : ℕ) → List ℕ → Bool
+hasLayout first at most b = eqb (getD b 0 0) first && (leb (getD b at 0) most && laidOut (getD b at 0) b (at + 1))
+
 -- the k items from p on, each made of its first byte and its text
 unfoldable pub items : {X : Type 0} → (ℕ → List ℕ → X) → ℕ → List ℕ → ℕ → List X
 items make zero b p = []

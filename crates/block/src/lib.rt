@@ -5,7 +5,7 @@ ghost use lib.ListN.{length};
 ghost use Rattle.block.specs.Words.{word};
 ghost use Rattle.block.specs.Sum.{checkSum};
 ghost use Rattle.block.specs.Seal.{check};
-ghost use Rattle.block.specs.Items.{zeros, laidOut, ItemAt};
+ghost use Rattle.block.specs.Items.{zeros, laidOut, hasLayout, ItemAt};
 
 // What the size and the check sum of a block are.
 pub enum Checked {
@@ -106,7 +106,7 @@ pub fn item_at(block: &[u8], at: usize) -> Item
 }
 
 // Whether `count` items from `from` on end at or before byte 507, and the bytes from there to 507 are zero.
-pub fn laid_out(block: &[u8], from: usize, count: u8) -> bool
+fn laid_out(block: &[u8], from: usize, count: u8) -> bool
     requires { ⌜ length (now block) ≡ 512 ⌝ }
     requires { ⌜ from ≤ 508 ⌝ }
     ensures { λ r. ⌜ r ≡ laidOut count (now (block .entry)) from ⌝ }
@@ -123,4 +123,21 @@ pub fn laid_out(block: &[u8], from: usize, count: u8) -> bool
         left -= 1;
     }
     zeros(&block[at..508])
+}
+
+// Whether the first byte is `first`, the byte at `at` says how many items follow it, `most` or fewer, and they and the padding
+// are laid out.
+pub fn has_layout(block: &[u8], first: u8, at: usize, most: u8) -> bool
+    requires { ⌜ length (now block) ≡ 512 ⌝ }
+    requires { ⌜ at < 508 ⌝ }
+    ensures { λ r. ⌜ r ≡ hasLayout first at most (now (block .entry)) ⌝ }
+{
+    if block[0] != first {
+        return false;
+    }
+    let count = block[at];
+    if count > most {
+        return false;
+    }
+    laid_out(block, at + 1, count)
 }

@@ -1,27 +1,26 @@
 -- A card is written and read back, and read and written back.
 -- Assumes nothing.
-use Prim.Native.Nat.{ℕ, _+_}
+use Prim.Native.Nat.{ℕ, _≤_}
 use native.Mathlib.Omega.{arith}
-use mathlib.Core.Path.{_≡_, refl, ap, ap₂, sym, _∙_}
-use mathlib.Core.Bool.{true}
+use mathlib.Core.Path.{_≡_, refl, ap, sym, _∙_, subst}
 use mathlib.Core.List.{List, _∷_, _++_, append-assoc}
-use lib.ListN.{length, getD, take, drop}
-use borrow.Author.Tests.{eq-eqb, le-leb}
+use lib.ListN.{length, drop}
 use Rattle.base.specs.Bytes.{Byte, Bytes}
 use Rattle.base.specs.Lists.{all-cons}
-use Rattle.base.proofs.All.{all-append, all-map}
-use Rattle.base.proofs.Parts.{part-cons}
+use Rattle.base.specs.Parts.{part}
+use Rattle.base.proofs.All.{all-map}
 use Rattle.block.specs.Words.{wordBytes}
-use Rattle.block.specs.Seal.{check, IsSealed, seal}
-use Rattle.block.specs.Items.{laidOut, items, join}
+use Rattle.block.specs.Seal.{seal}
+use Rattle.block.specs.Items.{hasLayout, join}
 use Rattle.block.specs.declared.Reading.the-variants.{WellFormed}
+use Rattle.block.proofs.Contents.{Held, Written}
 use Rattle.block.proofs.Words.{bytes-word, word-written, word-read, word-small}
-use Rattle.block.proofs.Seal.{after, seal-body, check-iff, seal-bytes, seal-sealed}
-use Rattle.block.proofs.Readings.{reading-right}
-use Rattle.block.proofs.RoundTrip.{join-bytes, written-count, written-laid, written-items, read-count, read-bytes, read-room, read-seal}
-use Rattle.card.specs.Card.{Entry, entry, recordNumber, entryCount, entriesOf, cardLayout, readCard}
+use Rattle.block.proofs.Seal.{after, seal-body}
+use Rattle.block.proofs.Readings.{reading-iff}
+use Rattle.block.proofs.RoundTrip.{held, written}
+use Rattle.card.specs.Card.{Entry, entry, recordNumber, entryCount, entriesOf, readCard}
 use Rattle.card.specs.Encode.{entryBytes, cardBody, encodeCard, WellFormedEntry, WellFormedCard, ReadsAs}
-use Rattle.card.proofs.Read.{parts}
+use Rattle.card.proofs.Read.{card-length, card-held}
 
 -- ---- an entry
 
@@ -43,90 +42,52 @@ entry-well-formed e (all-cons i (all-cons n t)) = record { index = i; size = ome
 -- ---- written and read back
 
 module _ (n : ℕ) (es : List Entry) (h : WellFormedCard n es) where
-  body-bytes : Bytes (cardBody n es)
-  unfolding cardBody
-  body-bytes =
-      let first : Byte 0x43 = omega arith in
-      let count : Byte (length es) = omega (arith, h .count) in
-      all-cons first (all-append Byte (bytes-word n) (all-cons count (join-bytes entryBytes (all-map entry-bytes (h .entries)))))
-
-  encoded-bytes : Bytes (encodeCard n es)
-  unfolding encodeCard
-  encoded-bytes = seal-bytes (cardBody n es) (h .room) body-bytes
-
-  encoded-sealed : IsSealed (encodeCard n es)
-  unfolding encodeCard
-  encoded-sealed = seal-sealed (cardBody n es) (h .room) body-bytes
-
-  -- what the bytes begin with
-  encoded-start : encodeCard n es ≡ 0x43 ∷ (wordBytes n ++ ((length es ∷ join entryBytes es) ++ after (cardBody n es)))
-  unfolding encodeCard cardBody
-  encoded-start = seal-body (cardBody n es) ∙ ap (λ (t : List ℕ). 0x43 ∷ t) (append-assoc (wordBytes n) (length es ∷ join entryBytes es) (after (cardBody n es)))
-
   encoded-number : recordNumber (encodeCard n es) ≡ n
-  unfolding recordNumber
-  encoded-number = word-written (encodeCard n es) 1 n ((length es ∷ join entryBytes es) ++ after (cardBody n es)) (h .number) (ap (drop 1) encoded-start)
+  unfolding recordNumber encodeCard cardBody
+  encoded-number =
+      let rest = length es ∷ join entryBytes es in
+      let start : drop 1 (seal (cardBody n es)) ≡ wordBytes n ++ (rest ++ after (cardBody n es)) =
+      ap (drop 1) (seal-body (cardBody n es)) ∙ append-assoc (wordBytes n) rest (after (cardBody n es))
+      in
+      word-written (seal (cardBody n es)) 1 n (rest ++ after (cardBody n es)) (h .number) start
 
-  encoded-count : entryCount (encodeCard n es) ≡ length es
-  unfolding entryCount encodeCard cardBody wordBytes
-  encoded-count = written-count entry entryBytes entry-spelt entry-parts (0x43 ∷ wordBytes n) es (h .room)
-
-  encoded-laid : laidOut (length es) (encodeCard n es) 6 ≡ true
+  encoded-held : Held entry 0x43 5 64 (encodeCard n es) es
   unfolding encodeCard cardBody wordBytes
-  encoded-laid = written-laid entry entryBytes entry-spelt entry-parts (0x43 ∷ wordBytes n) es (h .room)
-
-  encoded-items : items entry (length es) (encodeCard n es) 6 ≡ es
-  unfolding encodeCard cardBody wordBytes
-  encoded-items = written-items entry entryBytes entry-spelt entry-parts (0x43 ∷ wordBytes n) es (h .room)
-
-  encoded-layout : cardLayout (encodeCard n es) ≡ true
-  unfolding cardLayout
-  encoded-layout =
-      let first : getD (encodeCard n es) 0 0 ≡ 0x43 = ap (λ (l : List ℕ). getD l 0 0) encoded-start in
-      rw (eq-eqb (getD (encodeCard n es) 0 0) 0x43 first, encoded-count, le-leb (length es) 64 (h .count)) encoded-laid
+  encoded-held =
+      held entry entryBytes entry-spelt entry-parts 0x43 (wordBytes n) es 64 (omega arith) (omega arith) (bytes-word n)
+      (record { few = h .count; each = all-map entry-bytes (h .entries); room = h .room; same = refl })
 
   -- a well-formed card that is written is read back
   pub encoded-reads : ReadsAs (encodeCard n es) n es
-  unfolding readCard entriesOf
+  unfolding readCard entriesOf entryCount
   encoded-reads =
-      let b = encodeCard n es in
       record {
-        bytes = encoded-bytes;
-        reading = sym (reading-right (check b) (check b) refl (cardLayout b) (check-iff b .1 encoded-sealed) (cardLayout b) refl encoded-layout);
+        bytes = encoded-held .bytes;
+        reading = reading-iff (encodeCard n es) (hasLayout 0x43 5 64 (encodeCard n es)) .1 (encoded-held .sealed, encoded-held .layout);
         number = encoded-number;
-        entries = ap (λ (k : ℕ). items entry k b 6) encoded-count ∙ encoded-items;
+        entries = encoded-held .same;
       }
 
 -- ---- read and written back
 
 module _ (b : List ℕ) (h : Bytes b) (r : readCard b ≡ WellFormed) where
-  laid : laidOut (getD b 5 0) b (5 + 1) ≡ true
-  unfolding entryCount
-  laid = parts b r .laid
+  read-written : Written entryBytes 64 (0x43 ∷ (part b 1 5 ++ (length (entriesOf b) ∷ join entryBytes (entriesOf b)))) b (entriesOf b)
+  read-written = written entry entryBytes entry-spelt b 0x43 5 64 (entriesOf b) (omega arith) (omega arith) (card-held b r h)
 
-  -- the bytes before the number of entries
-  head : 0x43 ∷ wordBytes (recordNumber b) ≡ take 5 b
-  unfolding recordNumber
-  head =
-      let size = parts b r .sealed .size in
-      ap₂ (λ (x : ℕ) (t : List ℕ). x ∷ t) (sym (parts b r .first)) (word-read b 1 h (omega arith))
-      ∙ sym (part-cons b 0 5 (omega arith) (omega arith))
-
-  body : cardBody (recordNumber b) (entriesOf b) ≡ take 5 b ++ (length (entriesOf b) ∷ join entryBytes (entriesOf b))
-  unfolding cardBody
-  body = ap (λ (l : List ℕ). l ++ (length (entriesOf b) ∷ join entryBytes (entriesOf b))) head
+  body : 0x43 ∷ (part b 1 5 ++ (length (entriesOf b) ∷ join entryBytes (entriesOf b))) ≡ cardBody (recordNumber b) (entriesOf b)
+  unfolding cardBody recordNumber
+  body = ap (λ (l : List ℕ). 0x43 ∷ (l ++ (length (entriesOf b) ∷ join entryBytes (entriesOf b)))) (sym (word-read b 1 h (omega (arith, card-length b r))))
 
   pub read-well-formed : WellFormedCard (recordNumber b) (entriesOf b)
-  unfolding entriesOf entryCount recordNumber
+  unfolding recordNumber
   read-well-formed =
-      let s = parts b r .sealed in
       record {
         number = word-small b 1 h;
-        count = omega (arith, parts b r .count, read-count entry entryBytes entry-spelt b h s 5 (omega arith) laid);
-        entries = all-map entry-well-formed (read-bytes entry entryBytes entry-spelt b h s 5 (omega arith) laid);
-        room = rw body (read-room entry entryBytes entry-spelt b h s 5 (omega arith) laid);
+        count = read-written .few;
+        entries = all-map entry-well-formed (read-written .each);
+        room = subst (λ (l : List ℕ). length l ≤ 508) body (read-written .room);
       }
 
   pub read-encoded : b ≡ encodeCard (recordNumber b) (entriesOf b)
-  unfolding encodeCard entriesOf entryCount
-  read-encoded = read-seal entry entryBytes entry-spelt b h (parts b r .sealed) 5 (omega arith) laid ∙ ap seal (sym body)
+  unfolding encodeCard
+  read-encoded = read-written .same ∙ ap seal body

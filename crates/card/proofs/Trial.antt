@@ -10,9 +10,9 @@ use Rattle.base.proofs.Lists.{every-all}
 use Rattle.block.specs.Words.{wordBytes}
 use Rattle.block.specs.Sum.{sumFrom, checkSum}
 use Rattle.block.specs.Seal.{check, padded, seal}
-use Rattle.block.specs.Items.{zeros, next, textAt, laidOut, items, join}
+use Rattle.block.specs.Items.{zeros, next, textAt, laidOut, hasLayout, items, join}
 use Rattle.block.specs.Readings.{reading}
-use Rattle.card.specs.Card.{recordNumber, entryCount, entriesOf, cardLayout, readCard}
+use Rattle.card.specs.Card.{recordNumber, entryCount, entriesOf, readCard}
 use Rattle.card.specs.Encode.{entryBytes, cardBody, encodeCard, ReadsAs}
 use Rattle.card.specs.Trial.{trialEntries, trialCard}
 
@@ -21,7 +21,7 @@ unfolding trialEntries trialCard encodeCard cardBody entryBytes seal padded sumF
 trial-encoded = refl
 
 pub trial-reads : ReadsAs trialCard 7 trialEntries
-unfolding trialEntries trialCard readCard reading check checkSum sumFrom cardLayout entryCount laidOut zeros every next recordNumber entriesOf items textAt
+unfolding trialEntries trialCard readCard reading check checkSum sumFrom hasLayout entryCount laidOut zeros every next recordNumber entriesOf items textAt
 trial-reads =
     record {
       bytes = all-map (λ (x : ℕ). ltb-true x 256) (every-all (λ (x : ℕ). ltb x 256) trialCard refl);

@@ -1,13 +1,11 @@
 -- Cards, as they are read: 01's rules, in its order.
 -- Assumes nothing.
 use Prim.Native.Nat.{ℕ}
-use mathlib.Core.Bool.{Bool, _&&_}
 use mathlib.Core.List.{List}
-use lib.Dec.{leb, eqb}
 use lib.ListN.{getD}
 use Rattle.block.specs.Words.{word}
 use Rattle.block.specs.Seal.{check}
-use Rattle.block.specs.Items.{laidOut, items, Step}
+use Rattle.block.specs.Items.{hasLayout, items, Step}
 use Rattle.block.specs.Readings.{reading}
 use Rattle.block.specs.declared.Reading.{Reading}
 use Rattle.card.specs.declared.Entry.{Entry as Found}
@@ -32,13 +30,9 @@ entryCount b = getD b 5 0
 unfoldable pub entriesOf : List ℕ → List Entry
 entriesOf b = items entry (entryCount b) b 6
 
--- "byte 0 is 0x43", 0 to 64 entries, their end and the padding
-unfoldable pub cardLayout : List ℕ → Bool
-cardLayout b = eqb (getD b 0 0) 0x43 && (leb (entryCount b) 64 && laidOut (entryCount b) b 6)
-
--- what the bytes are, as a card
+-- what the bytes are, as a card: "byte 0 is 0x43", and byte 5 says that 0 to 64 entries follow it
 unfoldable pub readCard : List ℕ → Reading
-readCard b = reading (check b) (cardLayout b)
+readCard b = reading (check b) (hasLayout 0x43 5 64 b)
 
 -- r says where the entry at `at` stands, with `left` entries to come
 abbrev pub EntryAt : List ℕ → (at left : ℕ) → Found → Type 0

@@ -5,9 +5,8 @@ use block::Checked;
 use block::Reading;
 ghost use mathlib.Core.Path.{_≡_};
 ghost use Prim.Native.Nat.{_<_};
-ghost use lib.ListN.{length};
 ghost use Rattle.block.specs.Items.{Walk};
-ghost use Rattle.card.specs.Card.{recordNumber, entryCount, cardLayout, readCard, EntryAt};
+ghost use Rattle.card.specs.Card.{recordNumber, entryCount, readCard, EntryAt};
 
 // Where the first entry stands.
 pub const FIRST_ENTRY: usize = 6;
@@ -20,23 +19,8 @@ pub struct Entry {
     pub end: usize,
 }
 
-// Whether the layout of 512 bytes is a card's: "byte 0 is 0x43", "byte 5 the number of entries, 0 to 64", and the entries
-// "end at or before byte 507; bytes from there to 507 are zero".
-fn card_layout(card: &[u8]) -> bool
-    requires { ⌜ length (now card) ≡ 512 ⌝ }
-    ensures { λ r. ⌜ r ≡ cardLayout (now (card .entry)) ⌝ }
-{
-    if card[0] != 0x43 {
-        return false;
-    }
-    let count = card[5];
-    if count > 64 {
-        return false;
-    }
-    block::laid_out(card, FIRST_ENTRY, count)
-}
-
-// What any bytes are, as a card: well formed (01: sound), or one of the refusals 20, 21 and 22.
+// What any bytes are, as a card: well formed (01: sound), or one of the refusals 20, 21 and 22. "Byte 0 is 0x43; bytes 1 to 4
+// the record number, low byte first; byte 5 the number of entries, 0 to 64".
 pub fn read_card(card: &[u8]) -> Reading
     ensures { λ r. ⌜ r ≡ readCard (now (card .entry)) ⌝ }
 {
@@ -44,7 +28,7 @@ pub fn read_card(card: &[u8]) -> Reading
         Checked::WrongSize => Reading::WrongSize,
         Checked::WrongSum => Reading::WrongSum,
         Checked::Sealed => {
-            if card_layout(card) {
+            if block::has_layout(card, 0x43, 5, 64) {
                 Reading::WellFormed
             } else {
                 Reading::WrongLayout
