@@ -18,6 +18,10 @@ module _ {A : Type 0} (P : A → Type 0) where
   all-append all-empty k = k
   all-append (all-cons p h) k = all-cons p (all-append h k)
 
+  pub all-right : (xs : List A) {ys : List A} → All P (xs ++ ys) → All P ys
+  all-right [] h = h
+  all-right (x ∷ xs) (all-cons p h) = all-right xs h
+
   pub all-take : (n : ℕ) {xs : List A} → All P xs → All P (take n xs)
   all-take zero h = all-empty
   all-take (suc n) all-empty = all-empty

@@ -1,6 +1,6 @@
 -- Laws of items: their layout in a block, and a walk over them.
 -- Assumes nothing.
-use Prim.Native.Nat.{ℕ, suc, _+_, _-_, _≤_, _<_}
+use Prim.Native.Nat.{ℕ, zero, suc, _+_, _-_, _≤_, _<_}
 use native.Mathlib.Omega.{arith}
 use mathlib.Core.Path.{_≡_, refl, ap, sym, _∙_, subst}
 use mathlib.Core.Bool.{Bool, true, false, _&&_}
@@ -94,6 +94,11 @@ module _ (b : List ℕ) (p left : ℕ) (w : Walk b p left) (l : 0 < left) where
   walk-next : Walk b (next b p) (left - 1)
   walk-next = record { size = w .size; within = walk-within; laid = and-right (leb (next b p) 508) (laidOut (left - 1) b (next b p)) laid-both }
 
+pub items-length : {X : Type 0} (make : ℕ → List ℕ → X) (k : ℕ) (b : List ℕ) (p : ℕ) → length (items make k b p) ≡ k
+unfolding items
+items-length make zero b p = refl
+items-length make (suc k) b p = ap suc (items-length make k b (next b p))
+
 module _ {X : Type 0} (make : ℕ → List ℕ → X) (b : List ℕ) (p left : ℕ) where
   items-none : left ≤ 0 → items make left b p ≡ []
   unfolding items
@@ -124,11 +129,12 @@ module _ {X A : Type 0} (make : ℕ → List ℕ → X) (G : List X → A) (b : 
 
     module _ (inv : Visited make G answer b p left) where
       module _ (tag start end : ℕ) (s : Step make b p left tag start end) where
-        pub visited-next : (G′ : List X → A) → ((xs : List X) → G (make tag (part b start end) ∷ xs) ≡ G′ xs) → Visited make G′ answer b end (left - 1)
-        visited-next G′ f = record { walk = s .walk; rest = sym (f (items make (left - 1) b end)) ∙ sym (ap G (s .first)) ∙ inv .rest }
+        pub visited-next : (G′ : List X → A) → G (make tag (part b start end) ∷ items make (left - 1) b end) ≡ G′ (items make (left - 1) b end)
+            → Visited make G′ answer b end (left - 1)
+        visited-next G′ e = record { walk = s .walk; rest = sym e ∙ sym (ap G (s .first)) ∙ inv .rest }
 
-        pub visited-decides : (x : A) → ((xs : List X) → x ≡ G (make tag (part b start end) ∷ xs)) → x ≡ answer
-        visited-decides x f = f (items make (left - 1) b end) ∙ sym (ap G (s .first)) ∙ inv .rest
+        pub visited-decides : (x : A) → x ≡ G (make tag (part b start end) ∷ items make (left - 1) b end) → x ≡ answer
+        visited-decides x e = e ∙ sym (ap G (s .first)) ∙ inv .rest
 
       pub visited-end : left ≤ 0 → (x : A) → x ≡ G [] → x ≡ answer
       visited-end h x e = e ∙ ap G (sym (items-none make b p left h)) ∙ inv .rest

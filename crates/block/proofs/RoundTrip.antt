@@ -22,7 +22,7 @@ use Rattle.block.specs.Items.{zeros, next, textAt, laidOut, hasLayout, i
 use Rattle.block.proofs.Contents.{Held, Written}
 use Rattle.block.proofs.Words.{at-drop, at-drop-first}
 use Rattle.block.proofs.Seal.{after, seal-body, seal-bytes, seal-sealed, sealed-seal}
-use Rattle.block.proofs.Items.{layout-laid, layout-first, layout-count, layout-items}
+use Rattle.block.proofs.Items.{layout-laid, layout-first, layout-count, layout-items, items-length}
 
 -- the bytes of one item after the other are bytes
 join-bytes : {X : Type 0} (bytesOf : X → List ℕ) {xs : List X} → All (λ (x : X). Bytes (bytesOf x)) xs → Bytes (join bytesOf xs)
@@ -148,11 +148,6 @@ module _ {X : Type 0} (make : ℕ → List ℕ → X) (bytesOf : X → List ℕ)
 
   -- ---- read and written back
 
-  items-length : (k : ℕ) (b : List ℕ) (p : ℕ) → length (items make k b p) ≡ k
-  unfolding items
-  items-length zero b p = refl
-  items-length (suc k) b p = ap suc (items-length k b (next b p))
-
   module _ (b : List ℕ) (size : 508 ≤ length b) where
     -- the bytes of the item at p
     item-bytes : (p : ℕ) → next b p ≤ 508 → bytesOf (make (getD b p 0) (textAt b p)) ≡ part b p (next b p)
@@ -193,7 +188,7 @@ module _ {X : Type 0} (make : ℕ → List ℕ → X) (bytesOf : X → List ℕ)
   -- how a block is written that holds items behind the byte at `at`
   module _ (b : List ℕ) (first at most : ℕ) (xs : List X) (above : 0 < at) (inside : at < 508) (h : Held make first at most b xs) where
     length-held : length xs ≡ getD b at 0
-    length-held = ap length (sym (h .same)) ∙ items-length (getD b at 0) b (at + 1)
+    length-held = ap length (sym (h .same)) ∙ items-length make (getD b at 0) b (at + 1)
 
     long : 508 ≤ length b
     long = omega (arith, h .sealed .size)
