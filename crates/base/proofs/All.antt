@@ -18,6 +18,10 @@ module _ {A : Type 0} (P : A → Type 0) where
   all-append all-empty k = k
   all-append (all-cons p h) k = all-cons p (all-append h k)
 
+  pub all-right : (xs : List A) {ys : List A} → All P (xs ++ ys) → All P ys
+  all-right [] h = h
+  all-right (x ∷ xs) (all-cons p h) = all-right xs h
+
   pub all-take : (n : ℕ) {xs : List A} → All P xs → All P (take n xs)
   all-take zero h = all-empty
   all-take (suc n) all-empty = all-empty
@@ -31,6 +35,11 @@ module _ {A : Type 0} (P : A → Type 0) where
   pub all-replicate : (n : ℕ) {x : A} → P x → All P (replicate n x)
   all-replicate zero p = all-empty
   all-replicate (suc n) p = all-cons p (all-replicate n p)
+
+-- what follows of each element
+pub all-map : {A : Type 0} {P Q : A → Type 0} → ((x : A) → P x → Q x) → {xs : List A} → All P xs → All Q xs
+all-map f all-empty = all-empty
+all-map f (all-cons {x} p h) = all-cons (f x p) (all-map f h)
 
 -- ---- bytes
 

@@ -5,7 +5,9 @@ pub mod Below
 pub mod Lists
 pub mod All
 pub mod Parts
+pub mod Affixes
 pub mod Runs
+pub mod Invariants
 pub mod Loops
 pub mod Digits
 pub mod Names

@@ -10,7 +10,7 @@ use lib.ListN.{length, drop, getD, drop-of-length-le}
 use lib.Seq.{drop-cons}
 use borrow.Author.Tests.{eq-eqb, ne-eqb}
 use Rattle.base.specs.Lists.{every, equal}
-use Rattle.base.specs.Loops.{Passed, Agreed}
+use Rattle.base.proofs.Invariants.{Passed, Agreed}
 
 -- ---- a test of every element
 

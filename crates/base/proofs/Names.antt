@@ -1,17 +1,22 @@
 -- Laws of names: what the code's tests decide, and the rule's words.
 -- Assumes nothing.
-use Prim.Native.Nat.{ℕ, _-_}
+use Prim.Native.Nat.{ℕ, _-_, _≤_}
 use native.Mathlib.Omega.{arith}
-use mathlib.Core.Path.{_≡_, refl, ap, sym, _∙_}
-use mathlib.Core.Bool.{Bool, true, false, not, _&&_, false≢true}
-use mathlib.Core.Logic.{_↔_}
+use mathlib.Core.Path.{_≡_, refl, ap, sym, _∙_, subst}
+use mathlib.Core.Bool.{Bool, true, false, not, _&&_, _||_, false≢true}
+use mathlib.Core.Logic.{_↔_, ⊎-elim}
 use mathlib.Core.List.{List, [], _∷_}
+use lib.Dec.{leb, eqb}
 use lib.ListN.{length, take, drop, getD}
-use borrow.Author.Tests.{not-true}
+use borrow.Author.Tests.{not-true, leb-true, eqb-true}
 use Rattle.base.specs.Ascii.{ascii}
-use Rattle.base.specs.Lists.{every, equal}
-use Rattle.base.specs.Names.{isNameStart, isNamePart, isReserved, isName, Name}
-use Rattle.base.proofs.Tests.{and-left, and-right, both-ways}
+use Rattle.base.specs.Bytes.{Byte, Bytes}
+use Rattle.base.specs.Digits.{isDigit}
+use Rattle.base.specs.Lists.{all-cons, every, equal}
+use Rattle.base.specs.Names.{between, isLetter, isNameStart, isNamePart, isReserved, isName, Name}
+use Rattle.base.proofs.Tests.{and-left, and-right, or-either, both-ways}
+use Rattle.base.proofs.All.{all-map}
+use Rattle.base.proofs.Digits.{digit-high}
 use Rattle.base.proofs.Lists.{rest, every-all, all-every, equal-not}
 
 -- ---- reserved words
@@ -94,3 +99,32 @@ name-back n h =
 
 pub name-iff : (n : List ℕ) → (isName n ≡ true) ↔ Name n
 name-iff n = (name-there n, name-back n)
+
+-- ---- the bytes of a name
+
+between-high : (low high b : ℕ) → between low high b ≡ true → b ≤ high
+unfolding between
+between-high low high b h = leb-true b high (and-right (leb low b) (leb b high) h)
+
+letter-byte : (b : ℕ) → isLetter b ≡ true → Byte b
+unfolding isLetter
+letter-byte b h =
+    ⊎-elim (λ k. omega (arith, between-high 65 90 b k)) (λ k. omega (arith, between-high 97 122 b k)) (or-either (between 65 90 b) (between 97 122 b) h)
+
+start-byte : (b : ℕ) → isNameStart b ≡ true → Byte b
+unfolding isNameStart
+start-byte b h = ⊎-elim (λ k. omega (arith, eqb-true b 95 k)) (letter-byte b) (or-either (eqb b 95) (isLetter b) h)
+
+part-byte : (b : ℕ) → isNamePart b ≡ true → Byte b
+unfolding isNamePart
+part-byte b h =
+    ⊎-elim (start-byte b)
+    (λ k. ⊎-elim (λ e. omega (arith, eqb-true b 45 e)) (λ d. omega (arith, digit-high b d)) (or-either (eqb b 45) (isDigit b) k))
+    (or-either (isNameStart b) (eqb b 45 || isDigit b) h)
+
+pub name-bytes : (n : List ℕ) → Name n → Bytes n
+name-bytes n h = subst Bytes (sym (h .spelt)) (all-cons (start-byte (h .first) (h .starts)) (all-map part-byte (h .goes-on)))
+
+-- a name is not empty
+pub name-length : (n : List ℕ) → Name n → 1 ≤ length n
+name-length n h = omega (arith, ap length (h .spelt))

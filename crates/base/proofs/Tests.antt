@@ -2,7 +2,7 @@
 -- Assumes nothing.
 use Prim.Native.Nat.{ℕ}
 use mathlib.Core.Path.{_≡_, refl, sym, ap, _∙_}
-use mathlib.Core.Bool.{Bool, true, false, _&&_, _||_, or-true, true≢false, false≢true}
+use mathlib.Core.Bool.{Bool, true, false, _&&_, _||_, cond, or-true, true≢false, false≢true}
 use mathlib.Core.Logic.{_⊎_, inl, inr}
 use lib.Dec.{eqb}
 use borrow.Author.Tests.{ne-eqb}
@@ -69,3 +69,10 @@ or-on b e h = rw (← e, h)
 
 pub or-off : {a b p q : Bool} → p ≡ a → p ≡ false → q ≡ b → q ≡ (a || b)
 or-off e h f = rw (← e, h) f
+
+-- ---- choices
+
+-- which of two was chosen, where it was not the second
+pub cond-taken : {X : Type 0} (t : Bool) (x y z : X) → cond t x y ≡ z → (y ≡ z → ⊥) → (t ≡ true) × (x ≡ z)
+cond-taken true x y z h n = (refl, h)
+cond-taken false x y z h n = absurd (n h)

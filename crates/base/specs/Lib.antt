@@ -3,8 +3,8 @@ pub mod Options
 pub mod Below
 pub mod Lists
 pub mod Parts
+pub mod Affixes
 pub mod Runs
-pub mod Loops
 pub mod Bytes
 pub mod Ascii
 pub mod Digits

@@ -14,7 +14,7 @@ use Rattle.base.specs.Ascii.{ascii}
 use Rattle.base.specs.Digits.{isDigit}
 use Rattle.base.specs.Lists.{every, equal}
 use Rattle.base.specs.Names.{between, isLetter, isNameStart, isNamePart, isReserved, isName}
-use Rattle.base.specs.Parts.{hasPrefix}
+use Rattle.base.specs.Affixes.{hasPrefix}
 use Rattle.base.specs.Runs.{run, runEnd, RunEnd}
 use Rattle.syntax.specs.Tree.{Connective, and, or}
 use Rattle.syntax.specs.Grammar.{Stands, Spaces, no-space, space, connectiveWord, Connects, connects, Opens, opens, opens-not, Closes, closes}

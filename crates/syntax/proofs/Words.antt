@@ -13,7 +13,7 @@ use borrow.Author.Tests.{eqb-true, eqb-false}
 use Rattle.base.specs.Lists.{equal}
 use Rattle.base.specs.Parts.{part}
 use Rattle.base.specs.Runs.{run, runEnd}
-use Rattle.base.proofs.Parts.{prefix-rest, prefix-append, prefix-short, prefix-take}
+use Rattle.base.proofs.Affixes.{prefix-rest, prefix-append, prefix-short, prefix-take}
 use Rattle.syntax.specs.Grammar.{Stands, Spaces, no-space, space, Gap, gap}
 use Rattle.syntax.specs.Scan.{isSpace, skipAt, has}
 

@@ -9,7 +9,8 @@ use lib.ListN.{length, getD, take, drop}
 use Rattle.base.specs.Ascii.{ascii}
 use Rattle.base.specs.Lists.{equal}
 use Rattle.base.specs.Names.{isNamePart, isName}
-use Rattle.base.specs.Parts.{part, hasPrefix}
+use Rattle.base.specs.Parts.{part}
+use Rattle.base.specs.Affixes.{hasPrefix}
 use Rattle.base.specs.Runs.{runEnd}
 use Rattle.base.specs.Operators.{operatorWords}
 use Rattle.syntax.specs.Strings.{quote, backslash, isBare, isEscape, unescaped}

@@ -10,10 +10,10 @@ use lib.ListN.{length, getD, drop, length-drop}
 use lib.Seq.{drop-drop}
 use Rattle.base.proofs.Lists.{equal-not}
 use Rattle.text.specs.Fold.{foldText}
-use Rattle.base.specs.Parts.{hasPrefix}
+use Rattle.base.specs.Affixes.{hasPrefix}
 use Rattle.text.specs.Compare.{same, starts, ends, contains}
 use Rattle.text.proofs.Fold.{foldText-length}
-use Rattle.base.proofs.Parts.{prefix-step, prefix-differ, prefix-past, prefix-short, prefix-equal, prefix-fails, suffix-short, suffix-prefix, infix-found, infix-next, infix-short}
+use Rattle.base.proofs.Affixes.{prefix-step, prefix-differ, prefix-past, prefix-short, prefix-equal, prefix-fails, suffix-short, suffix-prefix, infix-found, infix-next, infix-short}
 use Rattle.text.proofs.Invariants.{Compared, Searched}
 
 -- ---- `begins_at`: x and y are the folded bytes

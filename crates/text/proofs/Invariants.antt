@@ -5,7 +5,7 @@ use Prim.Native.Nat.{ℕ, _+_, _-_, _≤_}
 use mathlib.Core.List.{List}
 use lib.ListN.{length, drop}
 use Rattle.text.specs.Fold.{foldText}
-use Rattle.base.specs.Parts.{hasPrefix, hasInfix}
+use Rattle.base.specs.Affixes.{hasPrefix, hasInfix}
 use Rattle.text.specs.Compare.{contains}
 use Rattle.text.specs.Bar.{firstBar}
 

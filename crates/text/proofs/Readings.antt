@@ -9,7 +9,7 @@ use Rattle.base.proofs.Lists.{equal-same, equal-refl}
 use Rattle.text.specs.Fold.{foldText}
 use Rattle.text.specs.Compare.{same, starts, ends, contains}
 use Rattle.text.proofs.Fold.{foldText-empty}
-use Rattle.base.proofs.Parts.{prefix-rest, prefix-append, suffix-rest, suffix-append, infix-rest, infix-append}
+use Rattle.base.proofs.Affixes.{prefix-rest, prefix-append, suffix-rest, suffix-append, infix-rest, infix-append}
 
 module _ (a b : List ℕ) where
   pub same-reads : (same a b ≡ true) ↔ (foldText a ≡ foldText b)

@@ -5,7 +5,7 @@ use mathlib.Core.Bool.{Bool}
 use mathlib.Core.List.{List}
 use Rattle.base.specs.Lists.{equal}
 use Rattle.text.specs.Fold.{foldText}
-use Rattle.base.specs.Parts.{hasPrefix, hasSuffix, hasInfix}
+use Rattle.base.specs.Affixes.{hasPrefix, hasSuffix, hasInfix}
 
 -- the two are the same
 unfoldable pub same : List ℕ → List ℕ → Bool

@@ -4,7 +4,7 @@ ghost use mathlib.Core.Path.{_≡_};
 ghost use Prim.Native.Nat.{_+_, _≤_, _<_};
 ghost use lib.ListN.{length, getD, drop};
 ghost use Rattle.text.specs.Fold.{foldText};
-ghost use Rattle.base.specs.Parts.{hasPrefix};
+ghost use Rattle.base.specs.Affixes.{hasPrefix};
 ghost use Rattle.text.specs.Compare.{same, starts, ends, contains};
 ghost use Rattle.text.specs.Bar.{firstBar};
 

@@ -2,7 +2,7 @@
 use Prim.Native.Nat.{_-_}
 use borrow.Author.Needs.{needs}
 use lib.ListN.{length}
-use Rattle.base.specs.Loops.{Agreed}
+use Rattle.base.proofs.Invariants.{Agreed}
 use Rattle.base.proofs.Lists.{equal-lengths}
 use Rattle.base.proofs.Loops.{agreed-start, agreed-next, agreed-not, agreed-end}
 use Rattle.base.proofs.equal.Statement.{statement}

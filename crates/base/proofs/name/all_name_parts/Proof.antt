@@ -3,7 +3,7 @@ use Prim.Native.Nat.{_-_}
 use mathlib.Core.Path.{sym, _∙_}
 use borrow.Author.Needs.{needs}
 use lib.ListN.{length}
-use Rattle.base.specs.Loops.{Passed}
+use Rattle.base.proofs.Invariants.{Passed}
 use Rattle.base.specs.Names.{isNamePart}
 use Rattle.base.proofs.Loops.{passed-start, passed-next, passed-not, passed-end}
 use Rattle.base.proofs.name.all_name_parts.Statement.{statement}

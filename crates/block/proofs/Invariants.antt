@@ -1,0 +1,25 @@
+-- What the loops over a block keep.
+-- Assumes nothing.
+use Prim.Native.Nat.{ℕ, _+_, _≤_}
+use mathlib.Core.Path.{_≡_}
+use mathlib.Core.List.{List}
+use lib.ListN.{take, drop}
+use Rattle.block.specs.Sum.{sumFrom, checkSum}
+use Rattle.block.specs.Items.{laidOut, items, Walk}
+
+-- the sum of the bytes before i, with the place of the byte at i
+pub record Summed (b : List ℕ) (sum place i : ℕ) : Type 0 where
+  pub within : i ≤ 508
+  pub next : place ≡ i + 1
+  pub whole : sum + sumFrom place (drop i (take 508 b)) ≡ checkSum b
+  pub most : checkSum b ≤ 32967930
+
+-- the items before p end at p, and those that are left decide
+pub record Walked (b : List ℕ) (from count p left : ℕ) : Type 0 where
+  pub within : p ≤ 508
+  pub rest : laidOut left b p ≡ laidOut count b from
+
+-- a loop over items: the answer is what G says of those to come
+pub record Visited {X A : Type 0} (make : ℕ → List ℕ → X) (G : List X → A) (answer : A) (b : List ℕ) (p left : ℕ) : Type 0 where
+  pub walk : Walk b p left
+  pub rest : G (items make left b p) ≡ answer

@@ -1,0 +1,140 @@
+-- Laws of items: their layout in a block, and a walk over them.
+-- Assumes nothing.
+use Prim.Native.Nat.{ℕ, zero, suc, _+_, _-_, _≤_, _<_}
+use native.Mathlib.Omega.{arith}
+use mathlib.Core.Path.{_≡_, refl, ap, sym, _∙_, subst}
+use mathlib.Core.Bool.{Bool, true, false, _&&_}
+use mathlib.Core.List.{List, [], _∷_}
+use lib.Dec.{leb, eqb}
+use lib.ListN.{length, getD}
+use borrow.Author.Tests.{eq-eqb, ne-eqb, eqb-true, le-leb, lt-leb, leb-true}
+use Rattle.base.specs.Parts.{part}
+use Rattle.base.proofs.Tests.{and-left, and-right}
+use Rattle.block.specs.Items.{zeros, next, textAt, laidOut, hasLayout, items, ItemAt, Walk, Step}
+use Rattle.block.specs.declared.Item.{Item}
+use Rattle.block.proofs.Invariants.{Walked, Visited}
+
+-- ---- what the loop over the items keeps
+
+-- some items are left
+laid-first : (k : ℕ) (b : List ℕ) (p : ℕ) → 0 < k → laidOut k b p ≡ (leb (next b p) 508 && laidOut (k - 1) b (next b p))
+unfolding laidOut
+laid-first k b p h = let e : k ≡ suc (k - 1) = omega arith in ap (λ (n : ℕ). laidOut n b p) e
+
+laid-none : (k : ℕ) (b : List ℕ) (p : ℕ) → k ≤ 0 → laidOut k b p ≡ zeros (part b p 508)
+unfolding laidOut
+laid-none k b p h = let e : k ≡ 0 = omega arith in ap (λ (n : ℕ). laidOut n b p) e
+
+module _ (b : List ℕ) (from count : ℕ) where
+  pub walked-start : from ≤ 508 → Walked b from count from count
+  walked-start h = record { within = h; rest = refl }
+
+  module _ (p left end : ℕ) (inv : Walked b from count p left) (l : 0 < left) (e : end ≡ next b p) where
+    pub walked-out : 508 < end → false ≡ laidOut count b from
+    walked-out h =
+        let k : 508 < next b p = omega arith in
+        let none : false ≡ laidOut left b p = rw (laid-first left b p l, lt-leb (next b p) 508 k) in
+        none ∙ inv .rest
+
+    pub walked-next : end ≤ 508 → Walked b from count end (left - 1)
+    walked-next h =
+        let k : next b p ≤ 508 = omega arith in
+        let rest : laidOut (left - 1) b end ≡ laidOut left b p = rw (e, laid-first left b p l, le-leb (next b p) 508 k) in
+        record { within = h; rest = rest ∙ inv .rest }
+
+  pub walked-end : (p left : ℕ) → Walked b from count p left → left ≤ 0 → (z : Bool) → z ≡ zeros (part b p 508) → z ≡ laidOut count b from
+  walked-end p left inv l z e = e ∙ sym (laid-none left b p l) ∙ inv .rest
+
+-- ---- what the tests of a layout decide, and what a layout has
+
+module _ (b : List ℕ) (first at most : ℕ) where
+  pub layout-first-not : (getD b 0 0 ≡ first → ⊥) → false ≡ hasLayout first at most b
+  unfolding hasLayout
+  layout-first-not n = rw (ne-eqb (getD b 0 0) first n)
+
+  module _ (f : getD b 0 0 ≡ first) where
+    pub layout-many : most < getD b at 0 → false ≡ hasLayout first at most b
+    unfolding hasLayout
+    layout-many n = rw (eq-eqb (getD b 0 0) first f, lt-leb (getD b at 0) most n)
+
+    pub layout-laid : getD b at 0 ≤ most → (r : Bool) → r ≡ laidOut (getD b at 0) b (at + 1) → r ≡ hasLayout first at most b
+    unfolding hasLayout
+    layout-laid n r e = rw (eq-eqb (getD b 0 0) first f, le-leb (getD b at 0) most n) e
+
+  module _ (h : hasLayout first at most b ≡ true) where
+    after-first : (leb (getD b at 0) most && laidOut (getD b at 0) b (at + 1)) ≡ true
+    unfolding hasLayout
+    after-first = and-right (eqb (getD b 0 0) first) (leb (getD b at 0) most && laidOut (getD b at 0) b (at + 1)) h
+
+    pub layout-first : getD b 0 0 ≡ first
+    unfolding hasLayout
+    layout-first = eqb-true (getD b 0 0) first (and-left (eqb (getD b 0 0) first) (leb (getD b at 0) most && laidOut (getD b at 0) b (at + 1)) h)
+
+    pub layout-count : getD b at 0 ≤ most
+    layout-count = leb-true (getD b at 0) most (and-left (leb (getD b at 0) most) (laidOut (getD b at 0) b (at + 1)) after-first)
+
+    pub layout-items : laidOut (getD b at 0) b (at + 1) ≡ true
+    layout-items = and-right (leb (getD b at 0) most) (laidOut (getD b at 0) b (at + 1)) after-first
+
+    -- where a walk over the items starts
+    pub walk-start : length b ≡ 512 → at < 508 → Walk b (at + 1) (getD b at 0)
+    walk-start s l = record { size = s; within = omega arith; laid = layout-items }
+
+-- ---- a walk over the items of a block
+
+module _ (b : List ℕ) (p left : ℕ) (w : Walk b p left) (l : 0 < left) where
+  laid-both : (leb (next b p) 508 && laidOut (left - 1) b (next b p)) ≡ true
+  laid-both = sym (laid-first left b p l) ∙ w .laid
+
+  -- the item at p ends at or before byte 507
+  walk-within : next b p ≤ 508
+  walk-within = leb-true (next b p) 508 (and-left (leb (next b p) 508) (laidOut (left - 1) b (next b p)) laid-both)
+
+  -- and the walk goes on there
+  walk-next : Walk b (next b p) (left - 1)
+  walk-next = record { size = w .size; within = walk-within; laid = and-right (leb (next b p) 508) (laidOut (left - 1) b (next b p)) laid-both }
+
+pub items-length : {X : Type 0} (make : ℕ → List ℕ → X) (k : ℕ) (b : List ℕ) (p : ℕ) → length (items make k b p) ≡ k
+unfolding items
+items-length make zero b p = refl
+items-length make (suc k) b p = ap suc (items-length make k b (next b p))
+
+module _ {X : Type 0} (make : ℕ → List ℕ → X) (b : List ℕ) (p left : ℕ) where
+  items-none : left ≤ 0 → items make left b p ≡ []
+  unfolding items
+  items-none h = let e : left ≡ 0 = omega arith in ap (λ (n : ℕ). items make n b p) e
+
+  items-first : 0 < left → items make left b p ≡ make (getD b p 0) (textAt b p) ∷ items make (left - 1) b (next b p)
+  unfolding items
+  items-first h = let e : left ≡ suc (left - 1) = omega arith in ap (λ (n : ℕ). items make n b p) e
+
+  -- what is read at p is a step of the walk
+  pub item-step : Walk b p left → 0 < left → (r : Item) → ItemAt b p r → Step make b p left (r .tag) (r .start) (r .end)
+  unfolding textAt
+  item-step w l r i =
+      record {
+        order = i .order;
+        within = omega (arith, walk-within b p left w l, w .size, i .end);
+        onward = omega (arith, i .start, i .order);
+        walk = subst (λ (e : ℕ). Walk b e (left - 1)) (sym (i .end)) (walk-next b p left w l);
+        first = items-first l ∙ rw (i .tag, i .start, i .end);
+      }
+
+-- ---- a loop over the items: its start, a turn that goes on, one that decides, and its end
+
+module _ {X A : Type 0} (make : ℕ → List ℕ → X) (G : List X → A) (b : List ℕ) (p left : ℕ) where
+  module _ (answer : A) where
+    pub visited-start : Walk b p left → answer ≡ G (items make left b p) → Visited make G answer b p left
+    visited-start w e = record { walk = w; rest = sym e }
+
+    module _ (inv : Visited make G answer b p left) where
+      module _ (tag start end : ℕ) (s : Step make b p left tag start end) where
+        pub visited-next : (G′ : List X → A) → G (make tag (part b start end) ∷ items make (left - 1) b end) ≡ G′ (items make (left - 1) b end)
+            → Visited make G′ answer b end (left - 1)
+        visited-next G′ e = record { walk = s .walk; rest = sym e ∙ sym (ap G (s .first)) ∙ inv .rest }
+
+        pub visited-decides : (x : A) → x ≡ G (make tag (part b start end) ∷ items make (left - 1) b end) → x ≡ answer
+        visited-decides x e = e ∙ sym (ap G (s .first)) ∙ inv .rest
+
+      pub visited-end : left ≤ 0 → (x : A) → x ≡ G [] → x ≡ answer
+      visited-end h x e = e ∙ ap G (sym (items-none make b p left h)) ∙ inv .rest

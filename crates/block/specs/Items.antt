@@ -1,0 +1,67 @@
+-- Items: what a block lists, a sheet its parameters and a card its entries. An item is a byte, the length of a text, and the text.
+-- Assumes nothing.
+use Prim.Native.Nat.{ℕ, zero, suc, _+_, _-_, _≤_, _<_}
+use mathlib.Core.Path.{_≡_}
+use mathlib.Core.Bool.{Bool, true, _&&_}
+use mathlib.Core.List.{List, [], _∷_, _++_}
+use lib.Dec.{leb, eqb}
+use lib.ListN.{length, getD}
+use Rattle.base.specs.Lists.{every}
+use Rattle.base.specs.Parts.{part}
+use Rattle.block.specs.declared.Item.{Item}
+
+-- ---- reading
+
+-- every byte is zero
+unfoldable pub zeros : List ℕ → Bool
+zeros = every (λ (x : ℕ). eqb x 0)
+
+-- where the item after the one at p starts
+unfoldable pub next : List ℕ → ℕ → ℕ
+next b p = p + 2 + getD b (p + 1) 0
+
+-- the text of the item at p
+unfoldable pub textAt : List ℕ → ℕ → List ℕ
+textAt b p = part b (p + 2) (next b p)
+
+-- "entries end at or before byte 507; bytes from there to 507 are zero": so it is with the k items from p on
+unfoldable pub laidOut : ℕ → List ℕ → ℕ → Bool
+laidOut zero b p = zeros (part b p 508)
+laidOut (suc k) b p = leb (next b p) 508 && laidOut k b (next b p)
+
+-- the first byte is `first`, the byte at `at` says how many items follow it, `most` or fewer, and they and the padding are laid out
+unfoldable pub hasLayout : (first at most : ℕ) → List ℕ → Bool
+hasLayout first at most b = eqb (getD b 0 0) first && (leb (getD b at 0) most && laidOut (getD b at 0) b (at + 1))
+
+-- the k items from p on, each made of its first byte and its text
+unfoldable pub items : {X : Type 0} → (ℕ → List ℕ → X) → ℕ → List ℕ → ℕ → List X
+items make zero b p = []
+items make (suc k) b p = make (getD b p 0) (textAt b p) ∷ items make k b (next b p)
+
+-- r says where the item at p of b stands
+pub record ItemAt (b : List ℕ) (p : ℕ) (r : Item) : Type 0 where
+  pub tag : r .tag ≡ getD b p 0
+  pub start : r .start ≡ p + 2
+  pub end : r .end ≡ next b p
+  pub order : r .start ≤ r .end
+
+-- a walk over the items of a block stands at p, with `left` items to come
+pub record Walk (b : List ℕ) (p left : ℕ) : Type 0 where
+  pub size : length b ≡ 512
+  pub within : p ≤ 508
+  pub laid : laidOut left b p ≡ true
+
+-- what a step of the walk learns: the item at p has the first byte `tag` and its text from `start` to `end`, where the walk goes on
+pub record Step {X : Type 0} (make : ℕ → List ℕ → X) (b : List ℕ) (p left tag start end : ℕ) : Type 0 where
+  pub order : start ≤ end
+  pub within : end ≤ length b
+  pub onward : p < end
+  pub walk : Walk b end (left - 1)
+  pub first : items make left b p ≡ make tag (part b start end) ∷ items make (left - 1) b end
+
+-- ---- writing
+
+-- the bytes of one after the other
+unfoldable pub join : {X : Type 0} → (X → List ℕ) → List X → List ℕ
+join bytesOf [] = []
+join bytesOf (x ∷ xs) = bytesOf x ++ join bytesOf xs

@@ -1,0 +1,29 @@
+-- Size and check sum of a block: as a test, and as what makes a block of its body.
+-- Assumes nothing.
+use Prim.Native.Nat.{ℕ, _-_}
+use mathlib.Core.Path.{_≡_}
+use mathlib.Core.Bool.{cond}
+use mathlib.Core.List.{List, _++_}
+use lib.Dec.{eqb}
+use lib.ListN.{length, replicate}
+use Rattle.block.specs.Words.{word, wordBytes}
+use Rattle.block.specs.Sum.{checkSum, sumFrom}
+use Rattle.block.specs.declared.Checked.{Checked}
+use Rattle.block.specs.declared.Checked.the-variants.{Sealed, WrongSize, WrongSum}
+
+-- "both are 512 bytes, each with its own check: bytes 508 to 511, low byte first, hold the sum"
+unfoldable pub check : List ℕ → Checked
+check b = cond (eqb (length b) 512) (cond (eqb (checkSum b) (word b 508)) Sealed WrongSum) WrongSize
+
+-- the same, part by part
+pub record IsSealed (b : List ℕ) : Type 0 where
+  pub size : length b ≡ 512
+  pub sum : checkSum b ≡ word b 508
+
+-- a body of at most 508 bytes, with zeros from its end to byte 507
+unfoldable pub padded : List ℕ → List ℕ
+padded body = body ++ replicate (508 - length body) 0
+
+-- the block of a body of at most 508 bytes: the body, zeros to byte 507 and the check sum
+unfoldable pub seal : List ℕ → List ℕ
+seal body = padded body ++ wordBytes (sumFrom 1 (padded body))

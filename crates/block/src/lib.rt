@@ -1,0 +1,143 @@
+// Blocks of 512 bytes, which sheets and cards are: the size, the check sum, numbers of four bytes, and the items that a block lists.
+ghost use mathlib.Core.Path.{_≡_};
+ghost use Prim.Native.Nat.{_+_, _≤_, _<_};
+ghost use lib.ListN.{length};
+ghost use Rattle.block.specs.Words.{word};
+ghost use Rattle.block.specs.Sum.{checkSum};
+ghost use Rattle.block.specs.Seal.{check};
+ghost use Rattle.block.specs.Items.{zeros, laidOut, hasLayout, ItemAt};
+
+// What the size and the check sum of a block are.
+pub enum Checked {
+    Sealed,
+    WrongSize,
+    WrongSum,
+}
+
+// What reading a sheet or a card answers: 01's sound, or the refusals 1, 2, 3 of a sheet and 20, 21, 22 of a card.
+pub enum Reading {
+    WellFormed,
+    WrongSize,
+    WrongSum,
+    WrongLayout,
+}
+
+// An item: its first byte, and where its text starts and ends. The next item starts where the text ends.
+pub struct Item {
+    pub tag: u8,
+    pub start: usize,
+    pub end: usize,
+}
+
+// The byte as a number of 32 bits.
+fn wide(b: u8) -> u32
+    ensures { λ r. ⌜ (r ≡ b) × (r < 256) ⌝ }
+{
+    b as u32
+}
+
+// The number that the four bytes from `at` hold, low byte first.
+pub fn word(block: &[u8], at: usize) -> u32
+    requires { ⌜ at + 4 ≤ length (now block) ⌝ }
+    ensures { λ r. ⌜ r ≡ word (now (block .entry)) at ⌝ }
+{
+    let a = wide(block[at]);
+    let b = wide(block[at + 1]);
+    let c = wide(block[at + 2]);
+    let d = wide(block[at + 3]);
+    a + 256 * (b + 256 * (c + 256 * d))
+}
+
+// The sum of the first 508 bytes, each times its place counted from 1. The place has a counter of its own, of the sum's
+// width, so that the loop is compiled to vector instructions.
+pub fn check_sum(block: &[u8]) -> u32
+    requires { ⌜ 508 ≤ length (now block) ⌝ }
+    ensures { λ r. ⌜ r ≡ checkSum (now (block .entry)) ⌝ }
+{
+    let mut sum: u32 = 0;
+    let mut place: u32 = 1;
+    let mut i: usize = 0;
+    while i < 508 {
+        sum += wide(block[i]) * place;
+        place += 1;
+        i += 1;
+    }
+    sum
+}
+
+// Whether a block has its size, and its bytes 508 to 511 its check sum.
+pub fn check(block: &[u8]) -> Checked
+    ensures { λ r. ⌜ r ≡ check (now (block .entry)) ⌝ }
+{
+    if block.len() != 512 {
+        return Checked::WrongSize;
+    }
+    if check_sum(block) != word(block, 508) {
+        return Checked::WrongSum;
+    }
+    Checked::Sealed
+}
+
+// Whether every byte is zero.
+fn zeros(s: &[u8]) -> bool
+    ensures { λ r. ⌜ r ≡ zeros (now (s .entry)) ⌝ }
+{
+    let mut i = 0;
+    while i < s.len() {
+        if s[i] != 0 {
+            return false;
+        }
+        i += 1;
+    }
+    true
+}
+
+// The item at `at`. No other function knows how an item begins.
+pub fn item_at(block: &[u8], at: usize) -> Item
+    requires { ⌜ at + 2 ≤ length (now block) ⌝ }
+    ensures { λ r. ⌜ ItemAt (now (block .entry)) at r ⌝ }
+{
+    let start = at + 2;
+    Item {
+        tag: block[at],
+        start,
+        end: start + block[at + 1] as usize,
+    }
+}
+
+// Whether `count` items from `from` on end at or before byte 507, and the bytes from there to 507 are zero.
+fn laid_out(block: &[u8], from: usize, count: u8) -> bool
+    requires { ⌜ length (now block) ≡ 512 ⌝ }
+    requires { ⌜ from ≤ 508 ⌝ }
+    ensures { λ r. ⌜ r ≡ laidOut count (now (block .entry)) from ⌝ }
+{
+    let mut at = from;
+    let mut left = count;
+    while left > 0 {
+        let item = item_at(block, at);
+        let end = item.end;
+        if end > 508 {
+            return false;
+        }
+        at = end;
+        left -= 1;
+    }
+    zeros(&block[at..508])
+}
+
+// Whether the first byte is `first`, the byte at `at` says how many items follow it, `most` or fewer, and they and the padding
+// are laid out.
+pub fn has_layout(block: &[u8], first: u8, at: usize, most: u8) -> bool
+    requires { ⌜ length (now block) ≡ 512 ⌝ }
+    requires { ⌜ at < 508 ⌝ }
+    ensures { λ r. ⌜ r ≡ hasLayout first at most (now (block .entry)) ⌝ }
+{
+    if block[0] != first {
+        return false;
+    }
+    let count = block[at];
+    if count > most {
+        return false;
+    }
+    laid_out(block, at + 1, count)
+}

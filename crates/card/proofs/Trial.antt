@@ -1,0 +1,31 @@
+-- Document 01's trial card is well formed and reads as 01 says, by computation.
+-- Assumes nothing.
+use Prim.Native.Nat.{ℕ}
+use mathlib.Core.Path.{_≡_, refl}
+use lib.Dec.{ltb}
+use borrow.Author.Tests.{ltb-true}
+use Rattle.base.specs.Lists.{every}
+use Rattle.base.proofs.All.{all-map}
+use Rattle.base.proofs.Lists.{every-all}
+use Rattle.block.specs.Words.{wordBytes}
+use Rattle.block.specs.Sum.{sumFrom, checkSum}
+use Rattle.block.specs.Seal.{check, padded, seal}
+use Rattle.block.specs.Items.{zeros, next, textAt, laidOut, hasLayout, items, join}
+use Rattle.block.specs.Readings.{reading}
+use Rattle.card.specs.Card.{recordNumber, entryCount, entriesOf, readCard}
+use Rattle.card.specs.Encode.{entryBytes, cardBody, encodeCard, ReadsAs}
+use Rattle.card.specs.Trial.{trialEntries, trialCard}
+
+pub trial-encoded : encodeCard 7 trialEntries ≡ trialCard
+unfolding trialEntries trialCard encodeCard cardBody entryBytes seal padded sumFrom wordBytes join
+trial-encoded = refl
+
+pub trial-reads : ReadsAs trialCard 7 trialEntries
+unfolding trialEntries trialCard readCard reading check checkSum sumFrom hasLayout entryCount laidOut zeros every next recordNumber entriesOf items textAt
+trial-reads =
+    record {
+      bytes = all-map (λ (x : ℕ). ltb-true x 256) (every-all (λ (x : ℕ). ltb x 256) trialCard refl);
+      reading = refl;
+      number = refl;
+      entries = refl;
+    }

@@ -1,0 +1,39 @@
+-- Cards, as they are read: 01's rules, in its order.
+-- Assumes nothing.
+use Prim.Native.Nat.{ℕ}
+use mathlib.Core.List.{List}
+use lib.ListN.{getD}
+use Rattle.block.specs.Words.{word}
+use Rattle.block.specs.Seal.{check}
+use Rattle.block.specs.Items.{hasLayout, items, Step}
+use Rattle.block.specs.Readings.{reading}
+use Rattle.block.specs.declared.Reading.{Reading}
+use Rattle.card.specs.declared.Entry.{Entry as Found}
+
+-- an entry: the index of its parameter on the sheet (01: place), and the text
+pub record Entry : Type 0 where
+  pub index : ℕ
+  pub text : List ℕ
+
+abbrev pub entry : ℕ → List ℕ → Entry
+entry i t = record { index = i; text = t }
+
+-- "bytes 1 to 4 the record number, low byte first"
+unfoldable pub recordNumber : List ℕ → ℕ
+recordNumber b = word b 1
+
+-- "byte 5 the number of entries"
+unfoldable pub entryCount : List ℕ → ℕ
+entryCount b = getD b 5 0
+
+-- "from byte 6, for each: parameter place on the sheet (from 0), length 0 to 255, text"
+unfoldable pub entriesOf : List ℕ → List Entry
+entriesOf b = items entry (entryCount b) b 6
+
+-- what the bytes are, as a card: "byte 0 is 0x43", and byte 5 says that 0 to 64 entries follow it
+unfoldable pub readCard : List ℕ → Reading
+readCard b = reading (check b) (hasLayout 0x43 5 64 b)
+
+-- r says where the entry at `at` stands, with `left` entries to come
+abbrev pub EntryAt : List ℕ → (at left : ℕ) → Found → Type 0
+EntryAt b at left r = Step entry b at left (r .index) (r .start) (r .end)

@@ -1,0 +1,7 @@
+-- The laws of sheets.
+pub mod Parameters
+pub mod Read
+pub mod Search
+pub mod RoundTrip
+pub mod Sheets
+pub mod Trial
