@@ -1,0 +1,47 @@
+-- What is wrong with a test on a sheet, whatever the card: lines 14 to 17 of document 01's table.
+-- Assumes nothing.
+use Prim.Native.Nat.{ℕ}
+use mathlib.Core.Bool.{Bool, cond}
+use mathlib.Core.List.{List, [], _∷_}
+use Rattle.base.specs.Lists.{member}
+use Rattle.base.specs.Operators.{ap, ss, sb, «in», ni}
+use Rattle.sheet.specs.Sheet.{Parameter}
+use Rattle.sheet.specs.declared.Found.{Found}
+use Rattle.syntax.specs.Tree.{Test}
+use Rattle.kind.specs.Table.{hasMeaning}
+use Rattle.kind.specs.Readable.{valueReadable}
+use Rattle.judge.specs.Sets.{lookup}
+use Rattle.judge.specs.declared.Fault.{Fault}
+use Rattle.judge.specs.declared.FirstFault.{FirstFault}
+
+-- "word is ap, ss, sb, in or ni"
+unfoldable pub unsupported : ℕ → Bool
+unsupported k = member k (ap ∷ ss ∷ sb ∷ «in» ∷ ni ∷ [])
+
+-- the fault of an operator and a value at what the path names: the line with the lowest number
+abbrev pub faultAt : Found → ℕ → List ℕ → Fault
+faultAt Found.Missing k v = Fault.UnknownName
+faultAt (Found.At i kind) k v =
+    cond (unsupported k) Fault.Unsupported
+    (cond (hasMeaning k kind)
+    (cond (valueReadable k kind v) Fault.Nothing Fault.Unreadable)
+    Fault.NoMeaning)
+
+unfoldable pub testFault : List Parameter → Test → Fault
+testFault ps t = faultAt (lookup ps (t .path)) (t .operator) (t .value)
+
+-- the first of two, where it is a fault, and else the second
+abbrev pub orElse : FirstFault → FirstFault → FirstFault
+orElse a b = byFault (a .fault)
+  where
+    byFault : Fault → FirstFault
+    byFault Fault.Nothing = b
+    byFault Fault.UnknownName = a
+    byFault Fault.Unsupported = a
+    byFault Fault.NoMeaning = a
+    byFault Fault.Unreadable = a
+
+-- "the first test in the text decides": its fault, and the position of its first byte
+unfoldable pub firstFault : List Parameter → List Test → FirstFault
+firstFault ps [] = record { fault = Fault.Nothing; position = 0 }
+firstFault ps (t ∷ ts) = orElse (record { fault = testFault ps t; position = t .at }) (firstFault ps ts)

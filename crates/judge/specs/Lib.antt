@@ -1,0 +1,5 @@
+-- The meaning of tests on sheets and cards, and of filters.
+pub mod Sets
+pub mod Faults
+pub mod Verdicts
+pub mod Placed

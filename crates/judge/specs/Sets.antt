@@ -1,0 +1,39 @@
+-- Paths on a sheet, the texts of a card under them, and which cards conform to a sheet.
+-- Assumes nothing.
+use Prim.Native.Nat.{ℕ}
+use mathlib.Core.Bool.{Bool, true, false, cond, _&&_}
+use mathlib.Core.List.{List, [], _∷_}
+use lib.Dec.{eqb}
+use Rattle.sheet.specs.Sheet.{Parameter}
+use Rattle.sheet.specs.Find.{find, kindOf}
+use Rattle.sheet.specs.declared.Found.{Found}
+use Rattle.sheet.specs.declared.Kind.{Kind}
+use Rattle.card.specs.Card.{Entry}
+use Rattle.syntax.specs.Tree.{Path, name}
+use Rattle.kind.specs.Readable.{cardReadable}
+
+-- index and kind of the parameter that a path names
+unfoldable pub lookup : List Parameter → Path → Found
+lookup ps (name n) = find n ps
+
+-- the entry's text belongs to the parameter with the index
+abbrev pub isUnder : ℕ → Entry → Bool
+isUnder i e = eqb (e .index) i
+
+-- 01: the set of a name: "the card's texts under it"
+unfoldable pub valuesAt : ℕ → List Entry → List (List ℕ)
+valuesAt i [] = []
+valuesAt i (e ∷ es) = cond (isUnder i e) (e .text ∷ valuesAt i es) (valuesAt i es)
+
+abbrev pub readableAs : Kind → List ℕ → Bool
+readableAs (Kind.Known k) t = cardReadable k t
+readableAs Kind.Unknown t = false
+
+-- "each place is on the sheet and each text is readable as its kind"
+unfoldable pub entryConforms : List Parameter → Entry → Bool
+entryConforms ps e = readableAs (kindOf (e .index) ps) (e .text)
+
+-- 01: a card fits a sheet, where it is well formed
+unfoldable pub conforms : List Parameter → List Entry → Bool
+conforms ps [] = true
+conforms ps (e ∷ es) = entryConforms ps e && conforms ps es
