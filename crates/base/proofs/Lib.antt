@@ -3,3 +3,4 @@ pub mod Tests
 pub mod Lists
 pub mod Digits
 pub mod Below
+pub mod Integers

@@ -46,6 +46,23 @@ same-test true b f g = sym (f refl)
 same-test false true f g = g refl
 same-test false false f g = refl
 
+-- ---- choices
+
+-- what holds of both sides of a choice, each where its test sends there, holds of the choice
+pub cond-elim {ℓ} : {A : Type ℓ} (P : A → Type 0) (t : Bool) {x y : A} → (t ≡ true → P x) → (t ≡ false → P y) → P (cond t x y)
+cond-elim P true f g = f refl
+cond-elim P false f g = g refl
+
+-- a choice came by one of its two ways
+pub cond-either {ℓ} : {A : Type ℓ} (t : Bool) (x y : A) {v : A} → cond t x y ≡ v → ((t ≡ true) × (x ≡ v)) ⊎ ((t ≡ false) × (y ≡ v))
+cond-either true x y e = inl (refl, e)
+cond-either false x y e = inr (refl, e)
+
+-- by the first, where the second is something else
+pub cond-first {ℓ} : {A : Type ℓ} (t : Bool) (x y : A) {v : A} → (y ≡ v → ⊥) → cond t x y ≡ v → (t ≡ true) × (x ≡ v)
+cond-first true x y other e = (refl, e)
+cond-first false x y other e = absurd (other e)
+
 -- ---- calls in code: p and q are what the calls answered
 
 pub answered : {a p : Bool} → p ≡ a → p ≡ true → a ≡ true

@@ -2,3 +2,4 @@
 pub mod Lists
 pub mod Digits
 pub mod Below
+pub mod Integers

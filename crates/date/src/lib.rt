@@ -40,9 +40,3 @@ pub enum Reading {
     Readable(Date),
     Unreadable,
 }
-
-// What the end of a text says of the zone: its offset in minutes, or nothing.
-pub enum Zone {
-    Offset(i64),
-    Unreadable,
-}
