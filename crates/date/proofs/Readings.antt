@@ -5,10 +5,10 @@ use mathlib.Core.Path.{_≡_, refl}
 use mathlib.Core.List.{List}
 use native.Mathlib.Omega.{arith}
 use lib.Dec.{lit≤}
-use lib.IntN.{ℤ, pos, natAbs}
+use lib.IntN.{ℤ, pos}
 use Rattle.base.proofs.Integers.{natAbs-neg}
 use Rattle.date.specs.Calendar.{yearLength}
-use Rattle.date.specs.Fields.{ValidDay, ValidTime}
+use Rattle.date.specs.Fields.{ValidDay, ValidTime, ValidOffset}
 use Rattle.date.specs.Spans.{dateOf, daysFrom, secondFrom, yearDate, monthDate, dayDate, secondDate, Proper}
 use Rattle.date.specs.Texts.{read}
 use Rattle.date.specs.Spelling.{SpellsZone, spells-utc, spells-east, spells-west, Spells, spells-year, spells-month, spells-day, spells-second}
@@ -21,7 +21,7 @@ use Rattle.date.proofs.Fields.{time-bound}
 use Rattle.date.proofs.Spans.{instant-mag, instant-order}
 use Rattle.date.proofs.Sound.{reads-spells}
 
-date-proper : (p : Precision) (from to : ℕ) (z : ℤ) → from < to → to < 2 ^ 40 → natAbs z ≤ 840 → Proper (dateOf p from to z)
+date-proper : (p : Precision) (from to : ℕ) (z : ℤ) → from < to → to < 2 ^ 40 → ValidOffset z → Proper (dateOf p from to z)
 unfolding dateOf
 date-proper p from to z h k q =
     record {
@@ -34,12 +34,12 @@ days-proper : (p : Precision) (first count : ℕ) → 1 ≤ count → first + co
 unfolding daysFrom
 days-proper p first count h k = date-proper p _ _ (pos 0) (omega arith) (omega arith) (lit≤ tt)
 
-zone-size : {zone : List ℕ} {offset : ℤ} → SpellsZone zone offset → natAbs offset ≤ 840
+zone-size : {zone : List ℕ} {offset : ℤ} → SpellsZone zone offset → ValidOffset offset
 zone-size spells-utc = lit≤ tt
 zone-size (spells-east v) = v .most
 zone-size (spells-west {h} {m} v) = rw (natAbs-neg (pos (h * 60 + m))) (v .most)
 
-second-proper : {y m d hour minute second : ℕ} (offset : ℤ) → ValidDay y m d → ValidTime hour minute second → natAbs offset ≤ 840 → Proper (secondDate y m d hour minute second offset)
+second-proper : {y m d hour minute second : ℕ} (offset : ℤ) → ValidDay y m d → ValidTime hour minute second → ValidOffset offset → Proper (secondDate y m d hour minute second offset)
 unfolding secondDate secondFrom
 second-proper offset v t q =
     date-proper Second _ _ offset (omega arith) (omega (arith, day-bound v refl, time-bound t refl)) q

@@ -1,6 +1,6 @@
 -- Laws of spans: the signed arithmetic of instants, their size and their order.
 -- Assumes nothing.
-use Prim.Native.Nat.{ℕ, suc, _+_, _*_, _^_, _<_, _≤_}
+use Prim.Native.Nat.{ℕ, suc, _+_, _*_, _^_, _<_}
 use mathlib.Core.Bool.{true}
 use mathlib.Core.Path.{_≡_, refl, sym, ap, _∙_}
 use native.Mathlib.Omega.{arith}
@@ -12,6 +12,7 @@ use mir.Val.{SFits, toZ, ofZ}
 use mir.ValLaws.{toZ-ofZ, toZ-pos}
 use Rattle.base.proofs.Integers.{natAbs-neg, mag-natAbs, mag-less, ltZ-add}
 use Rattle.date.specs.Calendar.{leapYear, yearLength, monthLength, daysBeforeMonth, daysOfYears, dayNumber}
+use Rattle.date.specs.Fields.{ValidOffset}
 use Rattle.date.specs.Spans.{epoch, instant, dateOf, secondFrom}
 use Rattle.date.specs.declared.Date.{Date}
 use Rattle.date.specs.declared.Precision.{Precision}
@@ -20,11 +21,11 @@ use Rattle.date.specs.declared.Precision.the-variants.{Second}
 -- ---- zone offsets
 
 -- an offset of at most 14:00 either way is read back from the bits of an i64
-pub offset-back : (z : ℤ) → natAbs z ≤ 840 → toZ w64 (ofZ w64 z) ≡ z
+pub offset-back : (z : ℤ) → ValidOffset z → toZ w64 (ofZ w64 z) ≡ z
 offset-back z q = toZ-ofZ w64 z (record { sfits = omega (arith, mag-natAbs z {k = 841} (omega arith)) })
 
 -- in seconds
-offset-seconds : (z : ℤ) → natAbs z ≤ 840 → natAbs (z *ℤ pos 60) < 50401
+offset-seconds : (z : ℤ) → ValidOffset z → natAbs (z *ℤ pos 60) < 50401
 offset-seconds (pos a) q = omega arith
 offset-seconds (negsuc a) q = rw (natAbs-neg (pos (suc a * 60))) (omega arith)
 
@@ -39,7 +40,7 @@ instant-epoch : (n : ℕ) (z : ℤ) → pos n -ℤ pos 62135596800 -ℤ z *ℤ p
 unfolding instant
 instant-epoch n z = ap (λ (e : ℕ). pos n -ℤ pos e -ℤ z *ℤ pos 60) (sym epoch-is)
 
-module _ (n : ℕ) (z : ℤ) (p : n < 2 ^ 40) (q : natAbs z ≤ 840) where
+module _ (n : ℕ) (z : ℤ) (p : n < 2 ^ 40) (q : ValidOffset z) where
   since-mag : mag (pos n -ℤ pos 62135596800) < 2 ^ 40 + 2 ^ 40
   since-mag = mag-less (pos n) (pos 62135596800) {k = 2 ^ 40} p (lit< tt)
 

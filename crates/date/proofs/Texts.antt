@@ -8,7 +8,7 @@ use native.Mathlib.Nat.{le-refl, le-trans, le-of-lt, mul-le-mul, mul-le-mul-righ
 use native.Mathlib.Omega.{arith}
 use lib.Dec.{eqb, ltb, lit<, lit≤}
 use lib.ListN.{length, getD}
-use lib.IntN.{ℤ, pos, negℤ, natAbs, _-ℤ_, +ℤ-idl}
+use lib.IntN.{ℤ, pos, negℤ, _-ℤ_, +ℤ-idl}
 use mir.Syntax.{w64}
 use mir.Val.{Fits, SFits, toZ, ofZ}
 use mir.ValLaws.{toZ-ofZ, toZ-pos}
@@ -18,7 +18,7 @@ use Rattle.base.proofs.Digits.{digit-low}
 use Rattle.base.proofs.Integers.{natAbs-neg, mag-less}
 use Rattle.base.proofs.Tests.{answered, cond-elim}
 use Rattle.date.specs.Calendar.{leapYear, yearLength, monthLength, dayNumber}
-use Rattle.date.specs.Fields.{validYear, validMonth, validDay, validTime, validZone}
+use Rattle.date.specs.Fields.{validYear, validMonth, validDay, validTime, validZone, ValidOffset}
 use Rattle.date.specs.Spans.{daysFrom, secondOfDay, secondFrom, yearDate, monthDate, dayDate, secondDate}
 use Rattle.date.specs.Marks.{hyphen, colon, plus, letterT, letterZ}
 use Rattle.date.specs.Texts.{digitOf, pair, twoAt, fourAt, fieldAt, signed, zoneAt, readYear, readMonth, readDay, readLocal, zoned, read, isDate, readable}
@@ -168,10 +168,10 @@ module _ (s : List ℕ) (at : ℕ) where
 
 -- an offset that was read is at most 840 minutes either way
 data Within : Zone → Type 0 where
-  within-offset : {z : ℤ} → natAbs z ≤ 840 → Within (Offset z)
+  within-offset : {z : ℤ} → ValidOffset z → Within (Offset z)
   within-none : Within Zone.Unreadable
 
-within-bound : {z : ℤ} → Within (Offset z) → natAbs z ≤ 840
+within-bound : {z : ℤ} → Within (Offset z) → ValidOffset z
 within-bound (within-offset p) = p
 
 signed-within : (sign h m : ℕ) → Within (signed sign h m)
@@ -179,7 +179,7 @@ unfolding signed
 signed-within sign h m =
     cond-elim Within (validZone h m)
     (λ e. let most : h * 60 + m ≤ 840 = zone-says e .most in
-    let west : natAbs (negℤ (pos (h * 60 + m))) ≤ 840 = rw (natAbs-neg (pos (h * 60 + m))) most in
+    let west : ValidOffset (negℤ (pos (h * 60 + m))) = rw (natAbs-neg (pos (h * 60 + m))) most in
     cond-elim Within (eqb sign plus) (λ f. within-offset most)
     (λ f. cond-elim Within (eqb sign hyphen) (λ g. within-offset west) (λ g. within-none)))
     (λ e. within-none)
@@ -192,13 +192,13 @@ zone-within s at =
     (λ e. cond-elim Within (eqb (length s) (at + 6)) (λ f. signed-within (getD s at 0) (twoAt s (at + 1)) (fieldAt s (at + 3) colon)) (λ f. within-none))
 
 module _ (s : List ℕ) (at : ℕ) {r : Zone} {z : ℤ} (e : r ≡ zoneAt s at) (f : r ≡ Offset z) where
-  small : natAbs z ≤ 840
+  small : ValidOffset z
   small = within-bound (subst Within (sym e ∙ f) (zone-within s at))
 
   zone-back : toZ w64 (ofZ w64 z) ≡ z
   zone-back = offset-back z small
 
-  pub zone-bound : natAbs (toZ w64 (ofZ w64 z)) ≤ 840
+  pub zone-bound : ValidOffset (toZ w64 (ofZ w64 z))
   zone-bound = rw zone-back small
 
 -- ---- the spellings

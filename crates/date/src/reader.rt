@@ -1,15 +1,16 @@
-// The spellings of dates.
+// Reads the spellings of dates. A number that is not there is read as one that is too large for its field, and the tests
+// of the fields refuse it.
 ghost use mathlib.Core.Path.{_≡_};
 ghost use Prim.Native.Nat.{_+_, _≤_};
 ghost use lib.ListN.{length};
-ghost use lib.IntN.{natAbs};
+ghost use Rattle.date.specs.Fields.{ValidOffset};
 ghost use Rattle.date.specs.Texts.{digitOf, pair, twoAt, fourAt, fieldAt, signed, zoneAt, readYear, readMonth, readDay, readLocal, read, readable};
 use crate::Precision;
 use crate::Reading;
 use crate::days;
 use crate::seconds;
 
-// What the end of a text says of the zone: its offset in minutes, negative west of UTC, or nothing.
+// What the end of a text reads to: the zone's offset in minutes, negative west of UTC.
 enum Zone {
     Offset(i64),
     Unreadable,
@@ -66,7 +67,8 @@ fn field_at(s: &[u8], at: usize, mark: u8) -> u64
     100
 }
 
-// "a zone of +hh:mm or -hh:mm, at most 14:00 either way, minutes 00 to 59": the signed offset, east positive.
+// The offset of "a zone of +hh:mm or -hh:mm, at most 14:00 either way, minutes 00 to 59". Its sign is made here, and
+// nowhere else.
 fn signed(sign: u8, h: u64, m: u64) -> Zone
     requires { ⌜ (h ≤ 100) × (m ≤ 100) ⌝ }
     ensures { λ r. ⌜ r ≡ signed sign h m ⌝ }
@@ -85,7 +87,7 @@ fn signed(sign: u8, h: u64, m: u64) -> Zone
     Zone::Unreadable
 }
 
-// The zone from a position to the end: "Z or a zone".
+// The zone from a position to the end of the text: "Z or a zone".
 fn zone_at(s: &[u8], at: usize) -> Zone
     requires { ⌜ at + 1 ≤ length (now s) ⌝ }
     ensures { λ r. ⌜ r ≡ zoneAt (now (s .entry)) at ⌝ }
@@ -151,7 +153,8 @@ fn read_day(s: &[u8]) -> Reading
 
 // YYYY-MM-DDThh:mm:ss: the second, at a zone offset.
 fn read_local(s: &[u8], offset: i64) -> Reading
-    requires { ⌜ (19 ≤ length (now s)) × (natAbs offset ≤ 840) ⌝ }
+    requires { ⌜ 19 ≤ length (now s) ⌝ }
+    requires { ⌜ ValidOffset offset ⌝ }
     ensures { λ r. ⌜ r ≡ readLocal (now (s .entry)) offset ⌝ }
 {
     let y = four_at(s, 0);
