@@ -19,6 +19,8 @@ use Rattle.date.proofs.Fields.{year-passes, month-passes, day-passes, t
 use Rattle.date.proofs.Texts.{read-year, read-month, read-day, read-long}
 use Rattle.date.proofs.Positions.{two-reads, field-reads, four-reads}
 
+-- ---- a year, a month, a day
+
 year-reads : {y : ℕ} → ValidYear y → Readable (yearDate y) ≡ read (yearText y)
 unfolding yearText four two readYear
 year-reads {y} v = read-year (yearText y) refl (rw (four-reads y [] (omega arith), year-passes v))
@@ -27,8 +29,8 @@ month-reads : {y m : ℕ} → ValidMonth y m → Readable (monthDate y m) ≡ re
 unfolding yearText monthText four two readMonth
 month-reads {y} {m} v =
     let s : List ℕ = monthText y m in
-    let four : length s ≡ 4 → ⊥ = omega arith in
-    read-month s four refl
+    let not4 : length s ≡ 4 → ⊥ = omega arith in
+    read-month s not4 refl
     (rw (four-reads y (hyphen ∷ two m) (omega arith), field-reads s 4 hyphen m (omega arith) refl refl refl, month-passes v))
 
 day-reads : {y m d : ℕ} → ValidDay y m d → Readable (dayDate y m d) ≡ read (dayText y m d)
@@ -40,6 +42,8 @@ day-reads {y} {m} {d} v =
     read-day s not4 not7 refl
     (rw (four-reads y ((hyphen ∷ two m) ++ (hyphen ∷ two d)) (omega arith), field-reads s 4 hyphen m (omega arith) refl refl refl, field-reads s 7 hyphen d (day-below v) refl refl refl, day-passes v))
 
+-- ---- a second, before its zone
+
 module _ {y m d hour minute second : ℕ} (v : ValidDay y m d) (t : ValidTime hour minute second) (zone : List ℕ) where
   abbrev whole : List ℕ
   whole = localText y m d hour minute second ++ zone
@@ -48,6 +52,8 @@ module _ {y m d hour minute second : ℕ} (v : ValidDay y m d) (t : ValidTime ho
   unfolding yearText monthText dayText localText four two readLocal
   local-reads offset =
       rw (four-reads y ((hyphen ∷ two m) ++ (hyphen ∷ two d) ++ (letterT ∷ two hour) ++ (colon ∷ two minute) ++ (colon ∷ two second) ++ zone) (omega arith), field-reads whole 4 hyphen m (omega arith) refl refl refl, field-reads whole 7 hyphen d (day-below v) refl refl refl, field-reads whole 10 letterT hour (omega arith) refl refl refl, field-reads whole 13 colon minute (omega arith) refl refl refl, field-reads whole 16 colon second (omega arith) refl refl refl, day-passes v, time-passes t)
+
+-- ---- its zone
 
 module _ (y m d hour minute second : ℕ) where
   signed-reads : (sign : ℕ) {h k : ℕ} → ValidZone h k → zoneAt (localText y m d hour minute second ++ signedText sign h k) 19 ≡ signed sign h k
@@ -77,6 +83,8 @@ second-reads {y} {m} {d} {hour} {minute} {second} {zone} {offset} v t z =
     let not7 : length s ≡ 7 → ⊥ = omega arith in
     let not10 : length s ≡ 10 → ⊥ = omega arith in
     sym (local-reads v t zone offset) ∙ read-long s not4 not7 not10 l (sym (zone-reads y m d hour minute second z))
+
+-- ---- every spelling
 
 pub spells-reads : {s : List ℕ} {d : Date} → Spells s d → read s ≡ Readable d
 spells-reads (spells-year v) = sym (year-reads v)

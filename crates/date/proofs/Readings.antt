@@ -34,10 +34,10 @@ days-proper : (p : Precision) (first count : ℕ) → 1 ≤ count → first + co
 unfolding daysFrom
 days-proper p first count h k = date-proper p _ _ (pos 0) (omega arith) (omega arith) (lit≤ tt)
 
-zone-size : {zone : List ℕ} {offset : ℤ} → SpellsZone zone offset → ValidOffset offset
-zone-size spells-utc = lit≤ tt
-zone-size (spells-east v) = v .most
-zone-size (spells-west {h} {m} v) = rw (natAbs-neg (pos (h * 60 + m))) (v .most)
+spells-offset : {zone : List ℕ} {offset : ℤ} → SpellsZone zone offset → ValidOffset offset
+spells-offset spells-utc = lit≤ tt
+spells-offset (spells-east v) = v .most
+spells-offset (spells-west {h} {m} v) = rw (natAbs-neg (pos (h * 60 + m))) (v .most)
 
 second-proper : {y m d hour minute second : ℕ} (offset : ℤ) → ValidDay y m d → ValidTime hour minute second → ValidOffset offset → Proper (secondDate y m d hour minute second offset)
 unfolding secondDate secondFrom
@@ -49,7 +49,7 @@ unfolding yearDate monthDate dayDate yearLength
 spells-proper (spells-year v) = days-proper Year _ _ (omega arith) (year-small v refl refl)
 spells-proper (spells-month v) = days-proper Month _ _ (month-first v) (month-small v refl refl)
 spells-proper (spells-day v) = days-proper Day _ _ (lit≤ tt) (day-small v refl)
-spells-proper (spells-second v t z) = second-proper _ v t (zone-size z)
+spells-proper (spells-second v t z) = second-proper _ v t (spells-offset z)
 
 pub read-proper : (s : List ℕ) {d : Date} → read s ≡ Readable d → Proper d
 read-proper s e = spells-proper (reads-spells s e)

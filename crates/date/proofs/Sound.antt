@@ -27,11 +27,15 @@ use Rattle.date.proofs.Calendar.{day-below}
 use Rattle.date.proofs.Fields.{year-says, month-says, day-says, time-says, zone-says}
 use Rattle.date.proofs.Positions.{two-part, field-part, four-part}
 
+-- ---- a refusal is no value
+
 no-date : {d : Date} → Reading.Unreadable ≡ Readable d → ⊥
 no-date e = let z : _≡_ {A = ℕ} 0 1 = cc in omega arith
 
 no-offset : {z : ℤ} → Zone.Unreadable ≡ Offset z → ⊥
 no-offset e = let z : _≡_ {A = ℕ} 0 1 = cc in omega arith
+
+-- ---- the text as far as its fields are numbers
 
 -- the first n bytes of s are the text
 record Begins (s text : List ℕ) (n : ℕ) : Type 0 where
@@ -177,6 +181,8 @@ long-spelled s e =
     (λ p. absurd (no-date (p .1)))
     (λ p. zoned-spelled s (ltb-false (length s) 20 (p .0)) (zoneAt s 19) refl (p .1))
     (cond-either (ltb (length s) 20) _ _ e)
+
+-- ---- every text
 
 pub reads-spells : (s : List ℕ) {d : Date} → read s ≡ Readable d → Spells s d
 unfolding read

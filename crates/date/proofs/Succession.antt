@@ -54,24 +54,34 @@ next-day-number y m d h k l last =
 
 -- ---- spans
 
-days-meet : (p q : Precision) (n k n′ k′ : ℕ) → n′ ≡ n + k → daysFrom q n′ k′ .start ≡ daysFrom p n k .end
+days-meet : (p : Precision) (n k n′ k′ : ℕ) → n′ ≡ n + k → daysFrom p n′ k′ .start ≡ daysFrom p n k .end
 unfolding daysFrom dateOf
-days-meet p q n k n′ k′ e = ap (λ (j : ℕ). instant (j * 86400) (pos 0)) e
+days-meet p n k n′ k′ e = ap (λ (j : ℕ). instant (j * 86400) (pos 0)) e
 
 -- the next year starts where the year ends
 pub next-year : (y : ℕ) → 1 ≤ y → yearDate (y + 1) .start ≡ yearDate y .end
 unfolding yearDate
-next-year y h = days-meet Year Year _ _ _ _ (year-number y h)
+next-year y h = days-meet Year _ _ _ _ (year-number y h)
 
 -- the next month starts where the month ends
 pub next-month : (y m : ℕ) → 1 ≤ y → m ≤ 12 → monthDate (nextMonth y m .year) (nextMonth y m .month) .start ≡ monthDate y m .end
 unfolding monthDate
-next-month y m h k = days-meet Month Month _ _ _ _ (next-month-number y m h k)
+next-month y m h k = days-meet Month _ _ _ _ (next-month-number y m h k)
 
 -- the next day starts where the day ends
 pub next-day : (y m d : ℕ) → 1 ≤ y → m ≤ 12 → 1 ≤ d → d ≤ monthLength (leapYear y) m → dayDate (nextDay y m d .year) (nextDay y m d .month) (nextDay y m d .day) .start ≡ dayDate y m d .end
 unfolding dayDate
-next-day y m d h k l last = days-meet Day Day _ _ _ _ (next-day-number y m d h k l last)
+next-day y m d h k l last = days-meet Day _ _ _ _ (next-day-number y m d h k l last)
+
+-- a year starts with its first month
+pub year-opens : (y : ℕ) → yearDate y .start ≡ monthDate y 1 .start
+unfolding yearDate monthDate daysFrom dateOf
+year-opens y = refl
+
+-- a month starts with its first day
+pub month-opens : (y m : ℕ) → monthDate y m .start ≡ dayDate y m 1 .start
+unfolding monthDate dayDate daysFrom dateOf
+month-opens y m = refl
 
 -- ---- the two ends of the calendar
 

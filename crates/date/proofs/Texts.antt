@@ -192,14 +192,14 @@ zone-within s at =
     (λ e. cond-elim Within (eqb (length s) (at + 6)) (λ f. signed-within (getD s at 0) (twoAt s (at + 1)) (fieldAt s (at + 3) colon)) (λ f. within-none))
 
 module _ (s : List ℕ) (at : ℕ) {r : Zone} {z : ℤ} (e : r ≡ zoneAt s at) (f : r ≡ Offset z) where
-  small : ValidOffset z
-  small = within-bound (subst Within (sym e ∙ f) (zone-within s at))
+  zone-small : ValidOffset z
+  zone-small = within-bound (subst Within (sym e ∙ f) (zone-within s at))
 
   zone-back : toZ w64 (ofZ w64 z) ≡ z
-  zone-back = offset-back z small
+  zone-back = offset-back z zone-small
 
   pub zone-bound : ValidOffset (toZ w64 (ofZ w64 z))
-  zone-bound = rw zone-back small
+  zone-bound = rw zone-back zone-small
 
 -- ---- the spellings
 

@@ -14,7 +14,8 @@ use Rattle.date.specs.declared.Precision.the-variants.{Year, Month, Day,
 unfoldable pub epoch : ℕ
 epoch = dayNumber 1970 1 1 * 86400
 
--- the instant, in seconds from 1970-01-01T00:00:00Z, of the local second n counted from 0001-01-01T00:00:00, at a zone offset in minutes
+-- the instant, in seconds from 1970-01-01T00:00:00Z, of the local second n, which counts from 0001-01-01T00:00:00 on a
+-- clock with this zone offset in minutes: the offset is subtracted with its sign
 unfoldable pub instant : ℕ → ℤ → ℤ
 instant n offset = pos n -ℤ pos epoch -ℤ offset *ℤ pos 60
 

@@ -8,12 +8,13 @@ use Rattle.date.specs.Spans.{yearDate, monthDate, dayDate, secondDate}
 use Rattle.date.specs.Marks.{hyphen, colon, plus, letterT, letterZ}
 use Rattle.date.specs.declared.Date.{Date}
 
--- ---- writers; - is 45, T 84, : 58, Z 90, + 43
+-- ---- writers
 
--- the digits of a number below a hundred, and below ten thousand
+-- the two digits of a number below a hundred; the digit n is the byte 48 + n
 unfoldable pub two : ℕ → List ℕ
 two n = (48 + n / 10) ∷ (48 + n % 10) ∷ []
 
+-- the four digits of a number below ten thousand
 unfoldable pub four : ℕ → List ℕ
 four n = two (n / 100) ++ two (n % 100)
 
@@ -33,19 +34,19 @@ dayText y m d = monthText y m ++ (hyphen ∷ two d)
 unfoldable pub localText : ℕ → ℕ → ℕ → ℕ → ℕ → ℕ → List ℕ
 localText y m d hour minute second = dayText y m d ++ (letterT ∷ two hour) ++ (colon ∷ two minute) ++ (colon ∷ two second)
 
--- a sign and hh:mm
+-- +hh:mm or -hh:mm
 unfoldable pub signedText : ℕ → ℕ → ℕ → List ℕ
 signedText sign h m = (sign ∷ two h) ++ (colon ∷ two m)
 
--- ---- relations
+-- ---- which text spells what
 
--- a text spells a zone offset in minutes
+-- a zone: Z, east or west of UTC, in minutes
 pub data SpellsZone : List ℕ → ℤ → Type 0 where
   spells-utc : SpellsZone (letterZ ∷ []) (pos 0)
   spells-east : {h m : ℕ} → ValidZone h m → SpellsZone (signedText plus h m) (pos (h * 60 + m))
   spells-west : {h m : ℕ} → ValidZone h m → SpellsZone (signedText hyphen h m) (negℤ (pos (h * 60 + m)))
 
--- a text spells a date
+-- a date: YYYY, YYYY-MM, YYYY-MM-DD, YYYY-MM-DDThh:mm:ss with a zone
 pub data Spells : List ℕ → Date → Type 0 where
   spells-year : {y : ℕ} → ValidYear y → Spells (yearText y) (yearDate y)
   spells-month : {y m : ℕ} → ValidMonth y m → Spells (monthText y m) (monthDate y m)

@@ -1,4 +1,4 @@
--- What a text of a date reads to.
+-- What a text reads to, computed. `Spelling` says the same by the writers, and a theorem that the two agree.
 -- Assumes nothing.
 use Prim.Native.Nat.{ℕ, _+_, _*_, _-_}
 use mathlib.Core.Bool.{Bool, true, false, cond}
@@ -39,7 +39,7 @@ fieldAt s at mark = cond (eqb (getD s at 0) mark) (twoAt s (at + 1)) 100
 
 -- ---- the zone
 
--- the signed offset of a sign, hours and minutes: + (43) is east, - (45) west
+-- the signed offset of a sign, hours and minutes: + is east, - west
 unfoldable pub signed : ℕ → ℕ → ℕ → Zone
 signed sign h m =
     cond (validZone h m)
@@ -47,13 +47,13 @@ signed sign h m =
     (cond (eqb sign hyphen) (Offset (negℤ (pos (h * 60 + m)))) Zone.Unreadable))
     Zone.Unreadable
 
--- the zone from a position to the end: Z (90), or a sign, hh, : (58), mm
+-- the zone from a position to the end: Z, or a sign and hh:mm
 unfoldable pub zoneAt : List ℕ → ℕ → Zone
 zoneAt s at =
     cond (eqb (length s) (at + 1)) (cond (eqb (getD s at 0) letterZ) (Offset (pos 0)) Zone.Unreadable)
     (cond (eqb (length s) (at + 6)) (signed (getD s at 0) (twoAt s (at + 1)) (fieldAt s (at + 3) colon)) Zone.Unreadable)
 
--- ---- the spellings; - is 45, T 84, : 58
+-- ---- the spellings
 
 -- YYYY
 unfoldable pub readYear : List ℕ → Reading
