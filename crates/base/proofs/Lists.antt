@@ -2,11 +2,11 @@
 -- Assumes nothing.
 use mathlib.Core.Path.{_≡_, refl}
 use Prim.Native.Nat.{ℕ, _+_, _-_, _≤_, _<_}
+use native.Mathlib.Numerals.{add-one}
 use native.Mathlib.Omega.{arith}
 use mathlib.Core.Bool.{Bool, true, false, _&&_, false≢true}
 use mathlib.Core.List.{List, [], _∷_, _++_}
 use lib.Dec.{eqb}
-use native.Mathlib.Numerals.{add-one}
 use lib.ListN.{length, getD, take, drop, length-drop}
 use lib.Seq.{take-all, drop-cons}
 use borrow.Author.Tests.{eq-eqb, eqb-true}
@@ -19,12 +19,12 @@ use Rattle.base.proofs.Tests.{and-left, and-right, and-both}
 pub rest : (s : List ℕ) (j : ℕ) → take (length s - j) (drop j s) ≡ drop j s
 rest s j = take-all (length s - j) (drop j s) (omega (arith, length-drop j s))
 
+pub cons-same : {x y : ℕ} {xs ys : List ℕ} → x ≡ y → xs ≡ ys → x ∷ xs ≡ y ∷ ys
+cons-same e t = cc
+
 -- the rest from an index: the element there, and the rest from the next index
 pub drop-next : (s : List ℕ) (i : ℕ) → i < length s → drop i s ≡ getD s i 0 ∷ drop (i + 1) s
 drop-next s i h = rw (add-one i) (drop-cons s i 0 h)
-
-pub cons-same : {x y : ℕ} {xs ys : List ℕ} → x ≡ y → xs ≡ ys → x ∷ xs ≡ y ∷ ys
-cons-same e t = cc
 
 -- ---- every element
 

@@ -55,9 +55,6 @@ time-says {h} {m} {s} t =
       second = leb-true s 59 (and-right (leb m 59) (leb s 59) rest);
     }
 
-pub time-bound : {h m s n : ℕ} → ValidTime h m s → n ≡ secondOfDay h m s → n < 86400
-time-bound v e = omega arith
-
 pub zone-says : {h m : ℕ} → validZone h m ≡ true → ValidZone h m
 unfolding validZone
 zone-says {h} {m} t =
@@ -91,6 +88,11 @@ time-passes {h} {m} {s} v = rw (le-leb h 23 (v .hour), le-leb m 59 (v .minute), 
 pub zone-passes : {h m : ℕ} → ValidZone h m → validZone h m ≡ true
 unfolding validZone
 zone-passes {h} {m} v = rw (le-leb m 59 (v .minute), le-leb (h * 60 + m) 840 (v .most))
+
+-- ---- a time lies within its day
+
+pub time-bound : {h m s n : ℕ} → ValidTime h m s → n ≡ secondOfDay h m s → n < 86400
+time-bound v e = omega arith
 
 -- ---- a day's test as the code makes it
 
