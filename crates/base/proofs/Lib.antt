@@ -2,6 +2,7 @@
 pub mod Tests
 pub mod Options
 pub mod Below
+pub mod Integers
 pub mod Lists
 pub mod All
 pub mod Parts

@@ -1,14 +1,15 @@
 -- Laws of lists.
 -- Assumes nothing.
 use mathlib.Core.Path.{_≡_, refl, ap, sym}
-use Prim.Native.Nat.{ℕ, suc, _-_}
+use Prim.Native.Nat.{ℕ, suc, _+_, _-_, _<_}
+use native.Mathlib.Numerals.{add-one}
 use native.Mathlib.Omega.{arith}
 use mathlib.Core.Bool.{Bool, true, false, false≢true, and-false}
 use mathlib.Core.Logic.{inl, inr, ⊎-elim}
 use mathlib.Core.List.{List, [], _∷_}
 use lib.Dec.{eqb}
-use lib.ListN.{length, take, drop, length-drop, drop-of-length-le}
-use lib.Seq.{take-all}
+use lib.ListN.{length, getD, take, drop, length-drop, drop-of-length-le}
+use lib.Seq.{take-all, drop-cons}
 use types.Run.{OneOf}
 use borrow.Author.Tests.{eq-eqb, ne-eqb, eqb-true}
 use Rattle.base.specs.Lists.{All, all-empty, all-cons, every, equal, member}
@@ -25,6 +26,10 @@ cons-same e t = cc
 
 pub length-zero : (s : List ℕ) → length s ≡ 0 → s ≡ []
 length-zero s h = drop-of-length-le s {i = 0} (omega arith)
+
+-- the rest from an index: the element there, and the rest from the next index
+pub drop-next : (s : List ℕ) (i : ℕ) → i < length s → drop i s ≡ getD s i 0 ∷ drop (i + 1) s
+drop-next s i h = rw (add-one i) (drop-cons s i 0 h)
 
 -- ---- every element
 

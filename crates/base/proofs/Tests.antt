@@ -53,6 +53,23 @@ same-test false false f g = refl
 pub apart : (test : ℕ → Bool) (x y : ℕ) → test x ≡ true → test y ≡ false → eqb x y ≡ false
 apart test x y p q = ne-eqb x y (λ e. both-ways p (ap test e ∙ q))
 
+-- ---- choices
+
+-- what holds of both sides of a choice, each where its test sends there, holds of the choice
+pub cond-elim {ℓ} : {A : Type ℓ} (P : A → Type 0) (t : Bool) {x y : A} → (t ≡ true → P x) → (t ≡ false → P y) → P (cond t x y)
+cond-elim P true f g = f refl
+cond-elim P false f g = g refl
+
+-- a choice came by one of its two ways
+pub cond-either {ℓ} : {A : Type ℓ} (t : Bool) (x y : A) {v : A} → cond t x y ≡ v → ((t ≡ true) × (x ≡ v)) ⊎ ((t ≡ false) × (y ≡ v))
+cond-either true x y e = inl (refl, e)
+cond-either false x y e = inr (refl, e)
+
+-- by the first, where the second is something else
+pub cond-first {ℓ} : {A : Type ℓ} (t : Bool) (x y : A) {v : A} → (y ≡ v → ⊥) → cond t x y ≡ v → (t ≡ true) × (x ≡ v)
+cond-first true x y other e = (refl, e)
+cond-first false x y other e = absurd (other e)
+
 -- ---- calls in code: p and q are what the calls answered
 
 pub answered : {a p : Bool} → p ≡ a → p ≡ true → a ≡ true
@@ -69,10 +86,3 @@ or-on b e h = rw (← e, h)
 
 pub or-off : {a b p q : Bool} → p ≡ a → p ≡ false → q ≡ b → q ≡ (a || b)
 or-off e h f = rw (← e, h) f
-
--- ---- choices
-
--- which of two was chosen, where it was not the second
-pub cond-taken : {X : Type 0} (t : Bool) (x y z : X) → cond t x y ≡ z → (y ≡ z → ⊥) → (t ≡ true) × (x ≡ z)
-cond-taken true x y z h n = (refl, h)
-cond-taken false x y z h n = absurd (n h)

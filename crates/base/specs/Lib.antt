@@ -1,6 +1,7 @@
 -- The definitions that every layer shares.
 pub mod Options
 pub mod Below
+pub mod Integers
 pub mod Lists
 pub mod Parts
 pub mod Affixes

@@ -11,7 +11,7 @@ use lib.ListN.{length, take, drop, replicate, length-append, length-replicate, l
 use lib.Seq.{take-all, take-at, drop-at}
 use borrow.Author.Tests.{eq-eqb, ne-eqb, eqb-true}
 use Rattle.base.specs.Bytes.{Byte, Bytes}
-use Rattle.base.proofs.Tests.{cond-taken}
+use Rattle.base.proofs.Tests.{cond-first}
 use Rattle.base.proofs.All.{all-append, all-replicate}
 use Rattle.block.specs.Words.{word, wordBytes}
 use Rattle.block.specs.Sum.{sumFrom, checkSum}
@@ -45,8 +45,8 @@ size-not-sealed e = let z : _≡_ {A = ℕ} 0 1 = cc in omega arith
 check-sealed : (b : List ℕ) → check b ≡ Sealed → IsSealed b
 unfolding check
 check-sealed b h =
-    let p = cond-taken (eqb (length b) 512) (cond (eqb (checkSum b) (word b 508)) Sealed WrongSum) WrongSize Sealed h size-not-sealed in
-    let q = cond-taken (eqb (checkSum b) (word b 508)) Sealed WrongSum Sealed (p .1) sum-not-sealed in
+    let p = cond-first (eqb (length b) 512) (cond (eqb (checkSum b) (word b 508)) Sealed WrongSum) WrongSize size-not-sealed h in
+    let q = cond-first (eqb (checkSum b) (word b 508)) Sealed WrongSum sum-not-sealed (p .1) in
     record { size = eqb-true (length b) 512 (p .0); sum = eqb-true (checkSum b) (word b 508) (q .0) }
 
 -- the test says so exactly where the size and the sum are right

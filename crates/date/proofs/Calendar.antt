@@ -1,27 +1,23 @@
 -- Laws of the calendar: the arithmetic of months is the sum of their lengths, that of years the sum of theirs.
 -- Assumes nothing.
 use Prim.Native.Nat.{ℕ, zero, suc, _+_, _*_, _-_, _/_, _%_, _≤_, _<_}
+use mathlib.Core.Bool.{Bool, true, false, not, _&&_, _||_}
 use mathlib.Core.Path.{_≡_, refl, sym, ap, _∙_}
-use mathlib.Core.Bool.{Bool, true, false, not, cond, _&&_, _||_}
-use mathlib.Core.Logic.{_⊎_, inl, inr, ⊎-elim}
-use native.Mathlib.Omega.{arith}
-use native.Mathlib.Nat.{mod-lt, div-add-mod', mul-add-div-right, mul-add-mod-self-right, div-eq-of-lt, mod-eq-of-lt, div-self, mod-self, mod-mod-of-dvd, dvd-of-mod-eq-zero, zero-mod}
-use native.Mathlib.Numerals.{add-one}
 use native.Mathlib.Decide.{ℕ-discrete}
+use native.Mathlib.Nat.{mod-lt, div-add-mod', mul-add-div-right, mul-add-mod-self-right, div-eq-of-lt, mod-eq-of-lt, div-self, mod-self, mod-mod-of-dvd, dvd-of-mod-eq-zero, zero-mod}
+use native.Mathlib.Omega.{arith}
 use lib.Dec.{eqb, leb, lit<, lit≤}
 use borrow.Author.Tests.{eqb-true, eq-eqb, ne-eqb, leb-true, le-leb, lt-leb}
-use Rattle.base.specs.Below.{passes}
 use Rattle.base.proofs.Below.{passes-at, passes-same}
 use Rattle.base.proofs.Tests.{both-ways}
 use Rattle.date.specs.Calendar.{leapYear, leapDay, yearLength, monthLength, daysBeforeMonth, daysOfYears, dayNumber}
-use Rattle.date.specs.Fields.{ValidYear, ValidMonth, ValidDay}
+use Rattle.date.specs.Arithmetic.{lengthByNumber, beforeByNumber, leapYears}
+use Rattle.date.specs.Fields.{ValidYear, ValidMonth, ValidDay, between}
+use Rattle.date.proofs.Fields.{between-low, between-high}
 
 -- ---- months
 
 -- the length of a month by arithmetic
-abbrev lengthByNumber : Bool → ℕ → ℕ
-lengthByNumber leap m = cond (eqb m 2) (28 + leapDay leap) (cond (eqb m 0) 0 (30 + (m + m / 8) % 2))
-
 length-by-number : (leap : Bool) (m : ℕ) → m ≤ 12 → lengthByNumber leap m ≡ monthLength leap m
 unfolding monthLength
 length-by-number true m h = passes-same (lengthByNumber true) (monthLength true) 13 refl m (omega arith)
@@ -42,13 +38,7 @@ length-other {y} {m} h v =
     let z : m ≡ 0 → ⊥ = omega arith in
     rw (← length-by-number (leapYear y) m (v .high), ne-eqb m 2 h, ne-eqb m 0 z)
 
--- the days before a month by arithmetic
-abbrev beforeByNumber : Bool → ℕ → ℕ
-beforeByNumber leap m =
-    cond (leb m 2) ((367 * m - 362) / 12)
-    (cond leap ((367 * m - 362) / 12 - 1) ((367 * m - 362) / 12 - 2))
-
--- for each month of either kind of year, they are the sum of the lengths of the earlier months
+-- for each month of either kind of year, the days before it by arithmetic are the sum of the lengths of the earlier months
 pub days-before-month : (leap : Bool) (m : ℕ) → m ≤ 12 → beforeByNumber leap m ≡ daysBeforeMonth leap m
 unfolding daysBeforeMonth monthLength
 days-before-month true m h = passes-same (beforeByNumber true) (daysBeforeMonth true) 13 refl m (omega arith)
@@ -66,23 +56,29 @@ module _ {y m : ℕ} (v : ValidMonth y m) where
     before-common t = rw (← days-before-month (leapYear y) m (v .high), lt-leb m 2 h, ← e, t)
 
 -- a month ends within its year
-abbrev endsWithin : Bool → ℕ → Bool
-endsWithin leap m = leb (daysBeforeMonth leap m + monthLength leap m) (365 + leapDay leap)
-
 month-ends : (leap : Bool) (m : ℕ) → m ≤ 12 → daysBeforeMonth leap m + monthLength leap m ≤ 365 + leapDay leap
 unfolding daysBeforeMonth monthLength
-month-ends true m h = leb-true _ _ (passes-at (endsWithin true) 13 refl m (omega arith))
-month-ends false m h = leb-true _ _ (passes-at (endsWithin false) 13 refl m (omega arith))
+month-ends true m h =
+    leb-true _ _ (passes-at (λ (k : ℕ). leb (daysBeforeMonth true k + monthLength true k) 366) 13 refl m (omega arith))
+month-ends false m h =
+    leb-true _ _ (passes-at (λ (k : ℕ). leb (daysBeforeMonth false k + monthLength false k) 365) 13 refl m (omega arith))
 
--- a month has a first day
-abbrev hasDay : Bool → ℕ → Bool
-hasDay leap before = leb 1 (monthLength leap (suc before))
+-- a month has 1 to 31 days
+month-days : (leap : Bool) (m : ℕ) → 1 ≤ m → m ≤ 12 → between 1 (monthLength leap m) 31 ≡ true
+unfolding monthLength between
+month-days leap zero l h = let z : ⊥ = omega arith in absurd z
+month-days true (suc n) l h = passes-at (λ (k : ℕ). between 1 (monthLength true (suc k)) 31) 12 refl n (omega arith)
+month-days false (suc n) l h = passes-at (λ (k : ℕ). between 1 (monthLength false (suc k)) 31) 12 refl n (omega arith)
 
-month-has-day : (leap : Bool) (m : ℕ) → 1 ≤ m → m ≤ 12 → 1 ≤ monthLength leap m
-unfolding monthLength
-month-has-day leap zero l h = let z : ⊥ = omega arith in absurd z
-month-has-day true (suc m) l h = leb-true _ _ (passes-at (hasDay true) 12 refl m (omega arith))
-month-has-day false (suc m) l h = leb-true _ _ (passes-at (hasDay false) 12 refl m (omega arith))
+pub month-first : {y m : ℕ} → ValidMonth y m → 1 ≤ monthLength (leapYear y) m
+month-first {y} {m} v = between-low 1 _ 31 (month-days (leapYear y) m (v .low) (v .high))
+
+month-last : {y m : ℕ} → ValidMonth y m → monthLength (leapYear y) m ≤ 31
+month-last {y} {m} v = between-high 1 _ 31 (month-days (leapYear y) m (v .low) (v .high))
+
+-- a day of a month has at most two digits
+pub day-below : {y m d : ℕ} → ValidDay y m d → d < 100
+day-below v = omega (arith, month-last (v .month))
 
 -- the twelve months make up the year
 pub months-year : (leap : Bool) → daysBeforeMonth leap 13 ≡ 365 + leapDay leap
@@ -114,7 +110,7 @@ multiple k b n d h =
     eq-eqb (n % k) 0
     (sym (mod-mod-of-dvd k n (dvd-of-mod-eq-zero k d)) ∙ ap (λ (j : ℕ). j % k) (eqb-true (n % b) 0 h) ∙ zero-mod k)
 
--- the leap years among the first n years, of which one more is one more by the rule of leap years
+-- what one more year adds to the count of leap years is by the rule of leap years
 leap-rule : (x y z : ℕ) (by4 by100 by400 : Bool) → y ≤ x → (by100 ≡ true → by4 ≡ true) → (by400 ≡ true → by100 ≡ true) → x + leapDay by4 - (y + leapDay by100) + (z + leapDay by400) ≡ x - y + z + leapDay (by4 && (not by100 || by400))
 leap-rule x y z true true true h p q = omega arith
 leap-rule x y z true true false h p q = omega arith
@@ -124,16 +120,13 @@ leap-rule x y z false true c h p q = both-ways (p refl) refl
 leap-rule x y z false false true h p q = both-ways (q refl) refl
 leap-rule x y z false false false h p q = omega arith
 
-abbrev leapYears : ℕ → ℕ
-leapYears n = n / 4 - n / 100 + n / 400
-
 leap-years-next : (n : ℕ) → leapYears (suc n) ≡ leapYears n + leapDay (leapYear (suc n))
 unfolding leapYear
 leap-years-next n =
     rw (quotient-next n 4 (lit< tt), quotient-next n 100 (lit< tt), quotient-next n 400 (lit< tt))
     (leap-rule (n / 4) (n / 100) (n / 400) _ _ _ (omega arith) (multiple 4 100 (suc n) refl) (multiple 100 400 (suc n) refl))
 
--- the days of the first n years, as the code has them, are the sum of the lengths
+-- the days of the years 1 to n by arithmetic are the sum of their lengths
 pub days-of-years : (n : ℕ) → 365 * n + leapYears n ≡ daysOfYears n
 unfolding daysOfYears yearLength
 days-of-years zero = refl
@@ -169,7 +162,7 @@ day-bound v e = omega (arith, day-number-bound v)
 
 -- a month and a year have a first day, and their spans are short
 pub month-starts : {y m : ℕ} → ValidMonth y m → ValidDay y m 1
-month-starts {y} {m} v = record { month = v; low = lit≤ tt; high = month-has-day (leapYear y) m (v .low) (v .high) }
+month-starts v = record { month = v; low = lit≤ tt; high = month-first v }
 
 pub year-starts : {y : ℕ} → ValidYear y → ValidDay y 1 1
 year-starts v = month-starts (record { year = v; low = lit≤ tt; high = lit≤ tt })
@@ -178,14 +171,13 @@ pub day-small : {y m d n : ℕ} → ValidDay y m d → n ≡ dayNumber y m d →
 day-small v e = omega (arith, day-number-bound v)
 
 pub month-small : {y m n k : ℕ} → ValidMonth y m → n ≡ dayNumber y m 1 → k ≡ monthLength (leapYear y) m → n + k < 4000000
-month-small {y} {m} v e f =
-    omega (arith, day-number-bound (month-starts v), month-ends (leapYear y) m (v .high), leap-day-most (leapYear y))
+month-small v e f = omega (arith, day-number-bound (month-starts v), month-last v)
 
 pub year-small : {y n k : ℕ} → ValidYear y → n ≡ dayNumber y 1 1 → k ≡ yearLength y → n + k < 4000000
 unfolding yearLength
 year-small {y} v e f = omega (arith, day-number-bound (year-starts v), leap-day-most (leapYear y))
 
 -- the number of a day as the code has it
-pub day-number-is : (y m d : ℕ) {before : ℕ} → before ≡ daysBeforeMonth (leapYear y) m → 365 * (y - 1) + ((y - 1) / 4 - (y - 1) / 100 + (y - 1) / 400) + before + (d - 1) ≡ dayNumber y m d
+pub day-number-is : (y m d : ℕ) {before : ℕ} → before ≡ daysBeforeMonth (leapYear y) m → 365 * (y - 1) + leapYears (y - 1) + before + (d - 1) ≡ dayNumber y m d
 unfolding dayNumber
 day-number-is y m d e = rw (days-of-years (y - 1), e)

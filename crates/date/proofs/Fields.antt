@@ -1,23 +1,23 @@
 -- Laws of the fields: each test passes exactly where its record holds.
 -- Assumes nothing.
 use Prim.Native.Nat.{ℕ, _+_, _*_, _≤_, _<_}
-use native.Mathlib.Omega.{arith}
 use mathlib.Core.Bool.{Bool, true, _&&_}
 use mathlib.Core.Path.{_≡_}
+use native.Mathlib.Omega.{arith}
 use lib.Dec.{leb}
 use borrow.Author.Tests.{leb-true, le-leb}
 use Rattle.base.proofs.Tests.{and-left, and-right, and-both}
 use Rattle.date.specs.Calendar.{leapYear, monthLength}
-use Rattle.date.specs.Spans.{secondOfDay}
 use Rattle.date.specs.Fields.{ValidYear, ValidMonth, ValidDay, ValidTime, ValidZone, between, validYear, validMonth, validDay, validTime, validZone}
+use Rattle.date.specs.Spans.{secondOfDay}
 
 -- ---- a test that passed says its record
 
-between-low : (low n high : ℕ) → between low n high ≡ true → low ≤ n
+pub between-low : (low n high : ℕ) → between low n high ≡ true → low ≤ n
 unfolding between
 between-low low n high h = leb-true low n (and-left (leb low n) (leb n high) h)
 
-between-high : (low n high : ℕ) → between low n high ≡ true → n ≤ high
+pub between-high : (low n high : ℕ) → between low n high ≡ true → n ≤ high
 unfolding between
 between-high low n high h = leb-true n high (and-right (leb low n) (leb n high) h)
 
@@ -55,9 +55,6 @@ time-says {h} {m} {s} t =
       second = leb-true s 59 (and-right (leb m 59) (leb s 59) rest);
     }
 
-pub time-bound : {h m s n : ℕ} → ValidTime h m s → n ≡ secondOfDay h m s → n < 86400
-time-bound v e = omega arith
-
 pub zone-says : {h m : ℕ} → validZone h m ≡ true → ValidZone h m
 unfolding validZone
 zone-says {h} {m} t =
@@ -91,6 +88,11 @@ time-passes {h} {m} {s} v = rw (le-leb h 23 (v .hour), le-leb m 59 (v .minute), 
 pub zone-passes : {h m : ℕ} → ValidZone h m → validZone h m ≡ true
 unfolding validZone
 zone-passes {h} {m} v = rw (le-leb m 59 (v .minute), le-leb (h * 60 + m) 840 (v .most))
+
+-- ---- a time lies within its day
+
+pub time-bound : {h m s n : ℕ} → ValidTime h m s → n ≡ secondOfDay h m s → n < 86400
+time-bound v e = omega arith
 
 -- ---- a day's test as the code makes it
 

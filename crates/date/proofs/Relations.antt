@@ -1,48 +1,23 @@
 -- Laws of the relations: what eq says, and the tests of the code, which compare signed numbers by their bits.
 -- Assumes nothing.
-use Prim.Native.Nat.{ℕ, zero, suc, _-_, _^_}
-use mathlib.Core.Bool.{Bool, true, _&&_, false≢true}
+use Prim.Native.Nat.{ℕ, zero, suc}
+use mathlib.Core.Bool.{Bool, true, _&&_}
 use mathlib.Core.Path.{_≡_, refl, sym, ap, _∙_}
 use mathlib.Core.Logic.{_↔_}
-use native.Mathlib.Omega.{arith}
 use lib.Dec.{eqb}
-use lib.IntN.{ℤ, pos, negsuc}
 use mir.Syntax.{w64}
 use mir.Val.{SFits, ofZ}
 use borrow.Author.Tests.{eq-eqb, ne-eqb, eqb-true}
-use Rattle.base.proofs.Tests.{and-left, and-right, same-test}
-use Rattle.date.specs.Relations.{rank, eqZ, same, Same}
+use Rattle.base.specs.Integers.{eqZ}
+use Rattle.base.proofs.Integers.{eqZ-same, eqZ-refl, eqZ-bits}
+use Rattle.base.proofs.Tests.{and-left, and-right}
+use Rattle.date.specs.Relations.{rank, same, Same}
+use Rattle.date.specs.declared.Date.{Date}
 use Rattle.date.specs.declared.Precision.{Precision}
 use Rattle.date.specs.declared.Precision.the-variants.{Year, Month, Day, Second}
-use Rattle.date.specs.declared.Date.{Date}
 
--- ---- equality of integers
+-- ---- the three ways through the code of eq: by precision, by start, by offset
 
-eqZ-same : (a b : ℤ) → eqZ a b ≡ true → a ≡ b
-eqZ-same (pos a) (pos b) h = ap pos (eqb-true a b h)
-eqZ-same (pos a) (negsuc b) h = absurd (false≢true h)
-eqZ-same (negsuc a) (pos b) h = absurd (false≢true h)
-eqZ-same (negsuc a) (negsuc b) h = ap negsuc (eqb-true a b h)
-
-eqZ-refl : (a : ℤ) → eqZ a a ≡ true
-eqZ-refl (pos a) = eq-eqb a a refl
-eqZ-refl (negsuc a) = eq-eqb a a refl
-
-same-numbers : (a b c d : ℕ) → (a ≡ b → c ≡ d) → (c ≡ d → a ≡ b) → eqb a b ≡ eqb c d
-same-numbers a b c d f g =
-    same-test (eqb a b) (eqb c d) (λ e. eq-eqb c d (f (eqb-true a b e))) (λ e. eq-eqb a b (g (eqb-true c d e)))
-
--- two numbers that fit are the same where their bits are
-eq-bits : (a b : ℤ) → SFits w64 a → SFits w64 b → eqb (ofZ w64 a) (ofZ w64 b) ≡ eqZ a b
-eq-bits (pos a) (pos b) p q = refl
-eq-bits (pos a) (negsuc b) p q = ne-eqb _ _ (λ (h : a ≡ 2 ^ 64 - suc b). omega arith)
-eq-bits (negsuc a) (pos b) p q = ne-eqb _ _ (λ (h : 2 ^ 64 - suc a ≡ b). omega arith)
-eq-bits (negsuc a) (negsuc b) p q =
-    same-numbers (2 ^ 64 - suc a) (2 ^ 64 - suc b) a b (λ h. omega arith) (λ h. omega arith)
-
--- ---- eq
-
--- the three ways through the code: by precision, by start, by offset
 module _ (i f : Date) {p q : ℕ} (e : p ≡ rank (i .precision)) (g : q ≡ rank (f .precision)) where
   pub same-precision : (p ≡ q → ⊥) → eqb p q ≡ same i f
   unfolding same
@@ -51,14 +26,15 @@ module _ (i f : Date) {p q : ℕ} (e : p ≡ rank (i .precision)) (g : q ≡ ran
   module _ (h : p ≡ q) (a : SFits w64 (i .start)) (b : SFits w64 (f .start)) where
     pub same-start : (ofZ w64 (i .start) ≡ ofZ w64 (f .start) → ⊥) → eqb (ofZ w64 (i .start)) (ofZ w64 (f .start)) ≡ same i f
     unfolding same
-    same-start k = rw (← e, ← g, eq-eqb p q h, ← eq-bits (i .start) (f .start) a b, ne-eqb _ _ k)
+    same-start k = rw (← e, ← g, eq-eqb p q h, ← eqZ-bits (i .start) (f .start) a b, ne-eqb _ _ k)
 
     pub same-offset : ofZ w64 (i .start) ≡ ofZ w64 (f .start) → SFits w64 (i .offset) → SFits w64 (f .offset) → eqb (ofZ w64 (i .offset)) (ofZ w64 (f .offset)) ≡ same i f
     unfolding same
     same-offset k c d =
-        rw (← e, ← g, eq-eqb p q h, ← eq-bits (i .start) (f .start) a b, eq-eqb _ _ k) (eq-bits (i .offset) (f .offset) c d)
+        rw (← e, ← g, eq-eqb p q h, ← eqZ-bits (i .start) (f .start) a b, eq-eqb _ _ k) (eqZ-bits (i .offset) (f .offset) c d)
 
--- eq says that precision, start and zone offset are the same
+-- ---- eq says that precision, start and zone offset are the same
+
 abbrev byRank : ℕ → Precision
 byRank zero = Year
 byRank (suc zero) = Month

@@ -1,58 +1,33 @@
--- Laws of spans: the signed arithmetic of instants, their order and their size.
+-- Laws of spans: the signed arithmetic of instants, their size and their order.
 -- Assumes nothing.
-use Prim.Native.Nat.{ℕ, zero, suc, _+_, _*_, _-_, _^_, _<_, _≤_}
-use mathlib.Core.Bool.{Bool, true, false, cond}
+use Prim.Native.Nat.{ℕ, suc, _+_, _*_, _^_, _<_}
+use mathlib.Core.Bool.{true}
 use mathlib.Core.Path.{_≡_, refl, sym, ap, _∙_}
 use native.Mathlib.Omega.{arith}
-use lib.Dec.{ltb, lit<}
-use lib.IntN.{ℤ, pos, negsuc, negℤ, natAbs, subℕ, _+ℤ_, _-ℤ_, _*ℤ_, +ℤ-assoc}
+use lib.Dec.{lit<}
+use lib.IntN.{ℤ, pos, negsuc, negℤ, natAbs, _+ℤ_, _-ℤ_, _*ℤ_, +ℤ-assoc}
 use lib.Signed.{ltZ, mag}
 use mir.Syntax.{w64}
 use mir.Val.{SFits, toZ, ofZ}
 use mir.ValLaws.{toZ-ofZ, toZ-pos}
-use borrow.Author.Tests.{ltb-true, ltb-false, lt-ltb}
+use Rattle.base.proofs.Integers.{natAbs-neg, mag-natAbs, mag-less, ltZ-add}
 use Rattle.date.specs.Calendar.{leapYear, yearLength, monthLength, daysBeforeMonth, daysOfYears, dayNumber}
+use Rattle.date.specs.Fields.{ValidOffset}
 use Rattle.date.specs.Spans.{epoch, instant, dateOf, secondFrom}
-use Rattle.date.specs.declared.Precision.the-variants.{Second}
-use Rattle.date.specs.declared.Precision.{Precision}
 use Rattle.date.specs.declared.Date.{Date}
+use Rattle.date.specs.declared.Precision.{Precision}
+use Rattle.date.specs.declared.Precision.the-variants.{Second}
 
--- ---- sizes: `mag z` below 2^63 says that z fits
+-- ---- zone offsets
 
-cond-mag : (t : Bool) (x y : ℕ) {h : ℕ} → (t ≡ true → x < h) → (t ≡ false → y < h) → mag (cond t (negsuc x) (pos y)) < h
-cond-mag true x y p q = p refl
-cond-mag false x y p q = q refl
+-- an offset of at most 14:00 either way is read back from the bits of an i64
+pub offset-back : (z : ℤ) → ValidOffset z → toZ w64 (ofZ w64 z) ≡ z
+offset-back z q = toZ-ofZ w64 z (record { sfits = omega (arith, mag-natAbs z {k = 841} (omega arith)) })
 
-sub-mag : (a b : ℕ) {h k : ℕ} → a < h → b ≤ k → mag (subℕ a b) < h + k
-sub-mag a b p q = cond-mag (ltb a b) (b - suc a) (a - b) (λ e. omega (arith, ltb-true a b e)) (λ e. omega arith)
-
-add-mag : (x y : ℤ) {h k : ℕ} → mag x < h → mag y < k → mag (x +ℤ y) < h + k
-add-mag (pos a) (pos b) p q = omega arith
-add-mag (pos a) (negsuc b) p q = sub-mag a (suc b) p q
-add-mag (negsuc a) (pos b) {h} {k} p q = omega (arith, sub-mag b (suc a) q p)
-add-mag (negsuc a) (negsuc b) p q = omega arith
-
-neg-mag : (x : ℤ) {k : ℕ} → natAbs x < k → mag (negℤ x) < k
-neg-mag (pos zero) p = p
-neg-mag (pos (suc n)) p = omega arith
-neg-mag (negsuc n) p = p
-
-pub less-mag : (x y : ℤ) {h k : ℕ} → mag x < h → natAbs y < k → mag (x -ℤ y) < h + k
-less-mag x y p q = add-mag x (negℤ y) p (neg-mag y q)
-
-pub neg-size : (x : ℤ) → natAbs (negℤ x) ≡ natAbs x
-neg-size (pos zero) = refl
-neg-size (pos (suc n)) = refl
-neg-size (negsuc n) = refl
-
--- a zone offset in seconds
-offset-size : (z : ℤ) → natAbs z ≤ 840 → natAbs (z *ℤ pos 60) < 50401
-offset-size (pos a) q = omega arith
-offset-size (negsuc a) q = rw (neg-size (pos (suc a * 60))) (omega arith)
-
-pub size-mag : (z : ℤ) {k : ℕ} → natAbs z < k → mag z < k
-size-mag (pos a) p = p
-size-mag (negsuc a) p = omega arith
+-- in seconds
+offset-seconds : (z : ℤ) → ValidOffset z → natAbs (z *ℤ pos 60) < 50401
+offset-seconds (pos a) q = omega arith
+offset-seconds (negsuc a) q = rw (natAbs-neg (pos (suc a * 60))) (omega arith)
 
 -- ---- instants
 
@@ -65,43 +40,49 @@ instant-epoch : (n : ℕ) (z : ℤ) → pos n -ℤ pos 62135596800 -ℤ z *ℤ p
 unfolding instant
 instant-epoch n z = ap (λ (e : ℕ). pos n -ℤ pos e -ℤ z *ℤ pos 60) (sym epoch-is)
 
-module _ (n : ℕ) (z : ℤ) (p : n < 2 ^ 40) (q : natAbs z ≤ 840) where
+module _ (n : ℕ) (z : ℤ) (p : n < 2 ^ 40) (q : ValidOffset z) where
   since-mag : mag (pos n -ℤ pos 62135596800) < 2 ^ 40 + 2 ^ 40
-  since-mag = less-mag (pos n) (pos 62135596800) {k = 2 ^ 40} p (lit< tt)
+  since-mag = mag-less (pos n) (pos 62135596800) {k = 2 ^ 40} p (lit< tt)
 
   exact-mag : mag (pos n -ℤ pos 62135596800 -ℤ z *ℤ pos 60) < 2 ^ 42
-  exact-mag = omega (arith, less-mag (pos n -ℤ pos 62135596800) (z *ℤ pos 60) since-mag (offset-size z q))
+  exact-mag = omega (arith, mag-less (pos n -ℤ pos 62135596800) (z *ℤ pos 60) since-mag (offset-seconds z q))
 
-  -- an instant is small
   pub instant-mag : mag (instant n z) < 2 ^ 42
   instant-mag = rw (← instant-epoch n z) exact-mag
 
-  -- ---- as the code computes it
+  -- each operation of the code fits, and is read back from its bits
   pub since-fits : SFits w64 (toZ w64 n -ℤ pos 62135596800)
   since-fits = rw (toZ-pos w64 n (omega arith)) (record { sfits = omega (arith, since-mag) })
 
-  since-read : toZ w64 (ofZ w64 (toZ w64 n -ℤ pos 62135596800)) ≡ pos n -ℤ pos 62135596800
-  since-read = toZ-ofZ w64 _ since-fits ∙ ap (λ (x : ℤ). x -ℤ pos 62135596800) (toZ-pos w64 n (omega arith))
+  since-back : toZ w64 (ofZ w64 (toZ w64 n -ℤ pos 62135596800)) ≡ pos n -ℤ pos 62135596800
+  since-back = toZ-ofZ w64 _ since-fits ∙ ap (λ (x : ℤ). x -ℤ pos 62135596800) (toZ-pos w64 n (omega arith))
 
-  offset-read : toZ w64 (ofZ w64 z) ≡ z
-  offset-read = toZ-ofZ w64 z (record { sfits = omega (arith, size-mag z {k = 841} (omega arith)) })
+  pub seconds-fits : SFits w64 (toZ w64 (ofZ w64 z) *ℤ pos 60)
+  seconds-fits =
+      rw (offset-back z q) (record { sfits = omega (arith, mag-natAbs (z *ℤ pos 60) (offset-seconds z q)) })
 
-  pub offset-fits : SFits w64 (toZ w64 (ofZ w64 z) *ℤ pos 60)
-  offset-fits = rw offset-read (record { sfits = omega (arith, size-mag (z *ℤ pos 60) (offset-size z q)) })
+  seconds-back : toZ w64 (ofZ w64 (toZ w64 (ofZ w64 z) *ℤ pos 60)) ≡ z *ℤ pos 60
+  seconds-back = toZ-ofZ w64 _ seconds-fits ∙ ap (λ (x : ℤ). x *ℤ pos 60) (offset-back z q)
 
-  seconds-read : toZ w64 (ofZ w64 (toZ w64 (ofZ w64 z) *ℤ pos 60)) ≡ z *ℤ pos 60
-  seconds-read = toZ-ofZ w64 _ offset-fits ∙ ap (λ (x : ℤ). x *ℤ pos 60) offset-read
-
-  whole-read : toZ w64 (ofZ w64 (toZ w64 n -ℤ pos 62135596800)) -ℤ toZ w64 (ofZ w64 (toZ w64 (ofZ w64 z) *ℤ pos 60)) ≡ pos n -ℤ pos 62135596800 -ℤ z *ℤ pos 60
-  whole-read = rw (since-read, seconds-read)
+  difference-back : toZ w64 (ofZ w64 (toZ w64 n -ℤ pos 62135596800)) -ℤ toZ w64 (ofZ w64 (toZ w64 (ofZ w64 z) *ℤ pos 60)) ≡ pos n -ℤ pos 62135596800 -ℤ z *ℤ pos 60
+  difference-back = rw (since-back, seconds-back)
 
   pub instant-fits : SFits w64 (toZ w64 (ofZ w64 (toZ w64 n -ℤ pos 62135596800)) -ℤ toZ w64 (ofZ w64 (toZ w64 (ofZ w64 z) *ℤ pos 60)))
-  instant-fits = rw whole-read (record { sfits = omega (arith, exact-mag) })
+  instant-fits = rw difference-back (record { sfits = omega (arith, exact-mag) })
 
   pub instant-is : toZ w64 (ofZ w64 (toZ w64 (ofZ w64 (toZ w64 n -ℤ pos 62135596800)) -ℤ toZ w64 (ofZ w64 (toZ w64 (ofZ w64 z) *ℤ pos 60)))) ≡ instant n z
-  instant-is = toZ-ofZ w64 _ instant-fits ∙ whole-read ∙ instant-epoch n z
+  instant-is = toZ-ofZ w64 _ instant-fits ∙ difference-back ∙ instant-epoch n z
 
--- the date as the code stores it: signed numbers are read back from their bits
+-- two instants at one offset are in the order of their local seconds
+pub instant-order : (a b : ℕ) (z : ℤ) → a < b → ltZ (instant a z) (instant b z) ≡ true
+unfolding instant
+instant-order a b z h =
+    rw (+ℤ-assoc (pos a) (negℤ (pos epoch)) (negℤ (z *ℤ pos 60)), +ℤ-assoc (pos b) (negℤ (pos epoch)) (negℤ (z *ℤ pos 60)))
+    (ltZ-add a b (negℤ (pos epoch) +ℤ negℤ (z *ℤ pos 60)) h)
+
+-- ---- dates, as the code stores them
+
+-- a date whose signed numbers are read back from their bits
 abbrev stored : Precision → ℤ → ℤ → ℤ → Date
 stored p from to offset =
     record { start = toZ w64 (ofZ w64 from); end = toZ w64 (ofZ w64 to); precision = p; offset = toZ w64 (ofZ w64 offset) }

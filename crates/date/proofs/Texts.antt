@@ -1,33 +1,35 @@
 -- Laws of reading: each way through the code gives what the definition says.
 -- Assumes nothing.
 use Prim.Native.Nat.{ℕ, _+_, _*_, _-_, _≤_, _<_}
-use mathlib.Core.Bool.{Bool, true, false, cond}
+use mathlib.Core.Bool.{Bool, true, false}
 use mathlib.Core.Path.{_≡_, refl, sym, ap, _∙_, subst}
 use mathlib.Core.List.{List}
-use native.Mathlib.Omega.{arith}
 use native.Mathlib.Nat.{le-refl, le-trans, le-of-lt, mul-le-mul, mul-le-mul-right, suc-mul}
-use lib.Dec.{eqb, leb, ltb, lit<, lit≤}
+use native.Mathlib.Omega.{arith}
+use lib.Dec.{eqb, ltb, lit<, lit≤}
 use lib.ListN.{length, getD}
-use lib.IntN.{ℤ, pos, negℤ, natAbs, _-ℤ_, +ℤ-idl}
+use lib.IntN.{ℤ, pos, negℤ, _-ℤ_, +ℤ-idl}
 use mir.Syntax.{w64}
 use mir.Val.{Fits, SFits, toZ, ofZ}
 use mir.ValLaws.{toZ-ofZ, toZ-pos}
 use borrow.Author.Tests.{eq-eqb, ne-eqb, lt-ltb, le-ltb, le-leb, lt-leb, ltb-true}
 use Rattle.base.specs.Digits.{isDigit}
-use Rattle.base.proofs.Digits.{digit-low, digit-high}
-use Rattle.base.proofs.Tests.{answered}
-use Rattle.date.specs.Texts.{digitOf, pair, twoAt, fourAt, fieldAt, signed, zoneAt, readYear, readMonth, readDay, readLocal, zoned, read, isDate, readable}
+use Rattle.base.proofs.Digits.{digit-low}
+use Rattle.base.proofs.Integers.{natAbs-neg, mag-less}
+use Rattle.base.proofs.Tests.{answered, cond-elim}
 use Rattle.date.specs.Calendar.{leapYear, yearLength, monthLength, dayNumber}
+use Rattle.date.specs.Fields.{validYear, validMonth, validDay, validTime, validZone, ValidOffset}
 use Rattle.date.specs.Spans.{daysFrom, secondOfDay, secondFrom, yearDate, monthDate, dayDate, secondDate}
-use Rattle.date.specs.Fields.{validYear, validMonth, validDay, validTime, validZone}
-use Rattle.date.specs.declared.Precision.the-variants.{Year, Month, Day}
+use Rattle.date.specs.Marks.{hyphen, colon, plus, letterT, letterZ}
+use Rattle.date.specs.Texts.{digitOf, pair, twoAt, fourAt, fieldAt, signed, zoneAt, readYear, readMonth, readDay, readLocal, zoned, read, isDate, readable}
 use Rattle.date.specs.declared.Date.{Date}
+use Rattle.date.specs.declared.Precision.the-variants.{Year, Month, Day}
 use Rattle.date.specs.declared.Reading.{Reading}
 use Rattle.date.specs.declared.Reading.the-variants.{Readable}
+use Rattle.date.specs.declared.reader.Zone.{Zone}
+use Rattle.date.specs.declared.reader.Zone.the-variants.{Offset}
 use Rattle.date.proofs.Fields.{zone-says}
-use Rattle.date.proofs.Spans.{less-mag, size-mag, neg-size}
-use Rattle.date.specs.declared.Zone.{Zone}
-use Rattle.date.specs.declared.Zone.the-variants.{Offset}
+use Rattle.date.proofs.Spans.{offset-back}
 
 -- ---- digits
 
@@ -78,17 +80,15 @@ module _ (s : List ℕ) (at : ℕ) {a b n : ℕ} where
   unfolding fourAt
   four-is e f g = rw (← e, ← f) g
 
-value-most : {radix a b : ℕ} → a < radix → b < radix → a * radix + b < radix * radix
+value-most : {radix a b : ℕ} → a < radix → b < radix → a * radix + b ≤ radix * radix
 value-most {radix} {a} {b} p q = omega (arith, mul-le-mul-right radix p, suc-mul a radix)
 
 pair-most : (radix a b : ℕ) → pair radix a b ≤ radix * radix
 unfolding pair
-pair-most radix a b = go (ltb a radix) (ltb b radix) refl refl
-  where
-    go : (s t : Bool) → ltb a radix ≡ s → ltb b radix ≡ t → cond s (cond t (a * radix + b) (radix * radix)) (radix * radix) ≤ radix * radix
-    go true true e f = le-of-lt (value-most (ltb-true a radix e) (ltb-true b radix f))
-    go true false e f = le-refl (radix * radix)
-    go false t e f = le-refl (radix * radix)
+pair-most radix a b =
+    cond-elim (λ (n : ℕ). n ≤ radix * radix) (ltb a radix)
+    (λ e. cond-elim (λ (n : ℕ). n ≤ radix * radix) (ltb b radix) (λ f. value-most (ltb-true a radix e) (ltb-true b radix f)) (λ f. le-refl (radix * radix)))
+    (λ e. le-refl (radix * radix))
 
 pub two-most : (s : List ℕ) (at : ℕ) {n : ℕ} → n ≡ twoAt s at → n ≤ 100
 unfolding twoAt
@@ -107,11 +107,9 @@ module _ (s : List ℕ) (at mark : ℕ) where
 
 pub field-most : (s : List ℕ) (at mark : ℕ) {n : ℕ} → n ≡ fieldAt s at mark → n ≤ 100
 unfolding fieldAt
-field-most s at mark e = rw e (go (eqb (getD s at 0) mark))
-  where
-    go : (t : Bool) → cond t (twoAt s (at + 1)) 100 ≤ 100
-    go true = two-most s (at + 1) refl
-    go false = le-refl 100
+field-most s at mark e =
+    rw e
+    (cond-elim (λ (n : ℕ). n ≤ 100) (eqb (getD s at 0) mark) (λ f. two-most s (at + 1) refl) (λ f. le-refl 100))
 
 -- ---- the zone
 
@@ -130,37 +128,37 @@ module _ (sign h m : ℕ) where
       minutes-read = toZ-pos w64 (h * 60 + m) (omega arith)
 
       pub west-fits : SFits w64 (pos 0 -ℤ toZ w64 (h * 60 + m))
-      west-fits = rw minutes-read (record { sfits = omega (arith, less-mag (pos 0) (pos (h * 60 + m)) {h = 1} {k = 841} (lit< tt) (omega arith)) })
+      west-fits = rw minutes-read (record { sfits = omega (arith, mag-less (pos 0) (pos (h * 60 + m)) {h = 1} {k = 841} (lit< tt) (omega arith)) })
 
-      pub signed-east : sign ≡ 43 → Offset (toZ w64 (h * 60 + m)) ≡ signed sign h m
+      pub signed-east : sign ≡ plus → Offset (toZ w64 (h * 60 + m)) ≡ signed sign h m
       unfolding signed validZone
-      signed-east e = rw (le-leb m 59 p, le-leb (h * 60 + m) 840 q, eq-eqb sign 43 e, minutes-read)
+      signed-east e = rw (le-leb m 59 p, le-leb (h * 60 + m) 840 q, eq-eqb sign plus e, minutes-read)
 
-      module _ (e : sign ≡ 43 → ⊥) where
-        pub signed-west : sign ≡ 45 → Offset (toZ w64 (ofZ w64 (pos 0 -ℤ toZ w64 (h * 60 + m)))) ≡ signed sign h m
+      module _ (e : sign ≡ plus → ⊥) where
+        pub signed-west : sign ≡ hyphen → Offset (toZ w64 (ofZ w64 (pos 0 -ℤ toZ w64 (h * 60 + m)))) ≡ signed sign h m
         unfolding signed validZone
         signed-west f =
             let back : toZ w64 (ofZ w64 (pos 0 -ℤ toZ w64 (h * 60 + m))) ≡ negℤ (pos (h * 60 + m)) =
             toZ-ofZ w64 _ west-fits ∙ ap (λ (x : ℤ). pos 0 -ℤ x) minutes-read ∙ +ℤ-idl (negℤ (pos (h * 60 + m))) in
-            rw (le-leb m 59 p, le-leb (h * 60 + m) 840 q, ne-eqb sign 43 e, eq-eqb sign 45 f) (ap Offset back)
+            rw (le-leb m 59 p, le-leb (h * 60 + m) 840 q, ne-eqb sign plus e, eq-eqb sign hyphen f) (ap Offset back)
 
-        pub signed-neither : (sign ≡ 45 → ⊥) → Zone.Unreadable ≡ signed sign h m
+        pub signed-neither : (sign ≡ hyphen → ⊥) → Zone.Unreadable ≡ signed sign h m
         unfolding signed validZone
         signed-neither f =
-            rw (le-leb m 59 p, le-leb (h * 60 + m) 840 q, ne-eqb sign 43 e, ne-eqb sign 45 f)
+            rw (le-leb m 59 p, le-leb (h * 60 + m) 840 q, ne-eqb sign plus e, ne-eqb sign hyphen f)
 
 module _ (s : List ℕ) (at : ℕ) where
   module _ (h : length s ≡ at + 1) where
-    pub zone-utc : getD s at 0 ≡ 90 → Offset (pos 0) ≡ zoneAt s at
+    pub zone-utc : getD s at 0 ≡ letterZ → Offset (pos 0) ≡ zoneAt s at
     unfolding zoneAt
     zone-utc e = rw (eq-eqb _ _ h, eq-eqb _ _ e)
 
-    pub zone-letter : (getD s at 0 ≡ 90 → ⊥) → Zone.Unreadable ≡ zoneAt s at
+    pub zone-letter : (getD s at 0 ≡ letterZ → ⊥) → Zone.Unreadable ≡ zoneAt s at
     unfolding zoneAt
     zone-letter e = rw (eq-eqb _ _ h, ne-eqb _ _ e)
 
   module _ (h : length s ≡ at + 1 → ⊥) where
-    pub zone-signed : {a b : ℕ} {z : Zone} → length s ≡ at + 6 → a ≡ twoAt s (at + 1) → b ≡ fieldAt s (at + 3) 58 → z ≡ signed (getD s at 0) a b → z ≡ zoneAt s at
+    pub zone-signed : {a b : ℕ} {z : Zone} → length s ≡ at + 6 → a ≡ twoAt s (at + 1) → b ≡ fieldAt s (at + 3) colon → z ≡ signed (getD s at 0) a b → z ≡ zoneAt s at
     unfolding zoneAt
     zone-signed k e f g = rw (ne-eqb _ _ h, eq-eqb _ _ k, ← e, ← f) g
 
@@ -170,42 +168,38 @@ module _ (s : List ℕ) (at : ℕ) where
 
 -- an offset that was read is at most 840 minutes either way
 data Within : Zone → Type 0 where
-  within-offset : {z : ℤ} → natAbs z ≤ 840 → Within (Offset z)
+  within-offset : {z : ℤ} → ValidOffset z → Within (Offset z)
   within-none : Within Zone.Unreadable
 
-within-bound : {z : ℤ} → Within (Offset z) → natAbs z ≤ 840
+within-bound : {z : ℤ} → Within (Offset z) → ValidOffset z
 within-bound (within-offset p) = p
-
-within-cond : (t : Bool) {x y : Zone} → Within x → Within y → Within (cond t x y)
-within-cond true p q = p
-within-cond false p q = q
 
 signed-within : (sign h m : ℕ) → Within (signed sign h m)
 unfolding signed
-signed-within sign h m = go (validZone h m) refl
-  where
-    go : (t : Bool) → validZone h m ≡ t → Within (cond t (cond (eqb sign 43) (Offset (pos (h * 60 + m))) (cond (eqb sign 45) (Offset (negℤ (pos (h * 60 + m)))) Zone.Unreadable)) Zone.Unreadable)
-    go true e =
-        let most : h * 60 + m ≤ 840 = zone-says e .most in
-        let west : natAbs (negℤ (pos (h * 60 + m))) ≤ 840 = rw (neg-size (pos (h * 60 + m))) most in
-        within-cond (eqb sign 43) (within-offset most) (within-cond (eqb sign 45) (within-offset west) within-none)
-    go false e = within-none
+signed-within sign h m =
+    cond-elim Within (validZone h m)
+    (λ e. let most : h * 60 + m ≤ 840 = zone-says e .most in
+    let west : ValidOffset (negℤ (pos (h * 60 + m))) = rw (natAbs-neg (pos (h * 60 + m))) most in
+    cond-elim Within (eqb sign plus) (λ f. within-offset most)
+    (λ f. cond-elim Within (eqb sign hyphen) (λ g. within-offset west) (λ g. within-none)))
+    (λ e. within-none)
 
 zone-within : (s : List ℕ) (at : ℕ) → Within (zoneAt s at)
 unfolding zoneAt
 zone-within s at =
-    within-cond (eqb (length s) (at + 1)) (within-cond (eqb (getD s at 0) 90) (within-offset (lit≤ tt)) within-none)
-    (within-cond (eqb (length s) (at + 6)) (signed-within (getD s at 0) (twoAt s (at + 1)) (fieldAt s (at + 3) 58)) within-none)
+    cond-elim Within (eqb (length s) (at + 1))
+    (λ e. cond-elim Within (eqb (getD s at 0) letterZ) (λ f. within-offset (lit≤ tt)) (λ f. within-none))
+    (λ e. cond-elim Within (eqb (length s) (at + 6)) (λ f. signed-within (getD s at 0) (twoAt s (at + 1)) (fieldAt s (at + 3) colon)) (λ f. within-none))
 
 module _ (s : List ℕ) (at : ℕ) {r : Zone} {z : ℤ} (e : r ≡ zoneAt s at) (f : r ≡ Offset z) where
-  small : natAbs z ≤ 840
-  small = within-bound (subst Within (sym e ∙ f) (zone-within s at))
+  zone-small : ValidOffset z
+  zone-small = within-bound (subst Within (sym e ∙ f) (zone-within s at))
 
   zone-back : toZ w64 (ofZ w64 z) ≡ z
-  zone-back = toZ-ofZ w64 z (record { sfits = omega (arith, size-mag z {k = 841} (omega (arith, small))) })
+  zone-back = offset-back z zone-small
 
-  pub zone-bound : natAbs (toZ w64 (ofZ w64 z)) ≤ 840
-  zone-bound = rw zone-back small
+  pub zone-bound : ValidOffset (toZ w64 (ofZ w64 z))
+  zone-bound = rw zone-back zone-small
 
 -- ---- the spellings
 
@@ -218,7 +212,7 @@ module _ (s : List ℕ) {y : ℕ} {p : Bool} (e : y ≡ fourAt s 0) (f : p ≡ v
   unfolding readYear
   year-off t = rw (← e, ← f, t)
 
-module _ (s : List ℕ) {y m : ℕ} {p : Bool} (e : y ≡ fourAt s 0) (i : m ≡ fieldAt s 4 45) (f : p ≡ validMonth y m) where
+module _ (s : List ℕ) {y m : ℕ} {p : Bool} (e : y ≡ fourAt s 0) (i : m ≡ fieldAt s 4 hyphen) (f : p ≡ validMonth y m) where
   pub month-on : {first count : ℕ} {d : Date} → p ≡ true → first ≡ dayNumber y m 1 → count ≡ monthLength (leapYear y) m → d ≡ daysFrom Month first count → Readable d ≡ readMonth s
   unfolding readMonth monthDate
   month-on t a b g = rw (← e, ← i, ← f, t, ← a, ← b) (ap Readable g)
@@ -227,7 +221,7 @@ module _ (s : List ℕ) {y m : ℕ} {p : Bool} (e : y ≡ fourAt s 0) (i : m ≡
   unfolding readMonth
   month-off t = rw (← e, ← i, ← f, t)
 
-module _ (s : List ℕ) {y m d : ℕ} {p : Bool} (e : y ≡ fourAt s 0) (i : m ≡ fieldAt s 4 45) (j : d ≡ fieldAt s 7 45) (f : p ≡ validDay y m d) where
+module _ (s : List ℕ) {y m d : ℕ} {p : Bool} (e : y ≡ fourAt s 0) (i : m ≡ fieldAt s 4 hyphen) (j : d ≡ fieldAt s 7 hyphen) (f : p ≡ validDay y m d) where
   pub day-on : {first : ℕ} {x : Date} → p ≡ true → first ≡ dayNumber y m d → x ≡ daysFrom Day first 1 → Readable x ≡ readDay s
   unfolding readDay dayDate
   day-on t a g = rw (← e, ← i, ← j, ← f, t, ← a) (ap Readable g)
@@ -240,7 +234,7 @@ module _ (s : List ℕ) {y m d : ℕ} {p : Bool} (e : y ≡ fourAt s 0) (i : m �
   unfolding readLocal
   local-day offset t = rw (← e, ← i, ← j, ← f, t)
 
-  module _ {hour minute second : ℕ} {q : Bool} (t : p ≡ true) (a : hour ≡ fieldAt s 10 84) (b : minute ≡ fieldAt s 13 58) (c : second ≡ fieldAt s 16 58) (g : q ≡ validTime hour minute second) where
+  module _ {hour minute second : ℕ} {q : Bool} (t : p ≡ true) (a : hour ≡ fieldAt s 10 letterT) (b : minute ≡ fieldAt s 13 colon) (c : second ≡ fieldAt s 16 colon) (g : q ≡ validTime hour minute second) where
     pub local-time : (offset : ℤ) → q ≡ false → Reading.Unreadable ≡ readLocal s offset
     unfolding readLocal
     local-time offset u = rw (← e, ← i, ← j, ← f, t, ← a, ← b, ← c, ← g, u)
@@ -273,7 +267,7 @@ module _ (s : List ℕ) where
         read-short h = rw (ne-eqb _ _ not4, ne-eqb _ _ not7, ne-eqb _ _ not10, lt-ltb _ _ h)
 
         module _ {zone : Zone} (h : 20 ≤ length s) (e : zone ≡ zoneAt s 19) where
-          read-long : zoned s zone ≡ read s
+          pub read-long : zoned s zone ≡ read s
           unfolding read
           read-long = rw (ne-eqb _ _ not4, ne-eqb _ _ not7, ne-eqb _ _ not10, le-ltb _ _ h, ← e)
 

@@ -3,6 +3,7 @@
 use Prim.Native.Nat.{ℕ, _+_, _*_, _≤_}
 use mathlib.Core.Bool.{Bool, _&&_}
 use lib.Dec.{leb}
+use lib.IntN.{ℤ, natAbs}
 use Rattle.date.specs.Calendar.{leapYear, monthLength}
 
 -- ---- records
@@ -34,6 +35,10 @@ pub record ValidTime (h m s : ℕ) : Type 0 where
 pub record ValidZone (h m : ℕ) : Type 0 where
   pub minute : m ≤ 59
   pub most : h * 60 + m ≤ 840
+
+-- an offset in minutes that such a zone has, on either side
+abbrev pub ValidOffset : ℤ → Type 0
+ValidOffset offset = natAbs offset ≤ 840
 
 -- ---- tests
 

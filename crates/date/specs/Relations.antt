@@ -1,14 +1,14 @@
 -- The relations of two dates, the card's I and the filter's F, as spans from start to end (01: i0 to i1, f0 to f1).
 -- Assumes nothing.
 use Prim.Native.Nat.{ℕ}
-use mathlib.Core.Bool.{Bool, true, false, _&&_, _||_}
+use mathlib.Core.Bool.{Bool, _&&_, _||_}
 use mathlib.Core.Path.{_≡_}
 use lib.Dec.{eqb}
-use lib.IntN.{ℤ, pos, negsuc}
 use lib.Signed.{ltZ, leZ}
+use Rattle.base.specs.Integers.{eqZ}
+use Rattle.date.specs.declared.Date.{Date}
 use Rattle.date.specs.declared.Precision.{Precision}
 use Rattle.date.specs.declared.Precision.the-variants.{Year, Month, Day, Second}
-use Rattle.date.specs.declared.Date.{Date}
 
 -- a number for each precision, to compare them by
 abbrev pub rank : Precision → ℕ
@@ -16,13 +16,6 @@ rank Year = 0
 rank Month = 1
 rank Day = 2
 rank Second = 3
-
--- two integers are the same
-abbrev pub eqZ : ℤ → ℤ → Bool
-eqZ (pos a) (pos b) = eqb a b
-eqZ (pos a) (negsuc b) = false
-eqZ (negsuc a) (pos b) = false
-eqZ (negsuc a) (negsuc b) = eqb a b
 
 -- A inside B: b0 <= a0 and a1 <= b1
 unfoldable pub inside : Date → Date → Bool

@@ -1,17 +1,21 @@
 -- The span of seconds that a year, a month, a day or a second is, start in, end out.
 -- Assumes nothing.
-use Prim.Native.Nat.{ℕ, _+_, _*_}
+use Prim.Native.Nat.{ℕ, _+_, _*_, _^_, _<_}
+use mathlib.Core.Bool.{true}
+use mathlib.Core.Path.{_≡_}
 use lib.IntN.{ℤ, pos, _-ℤ_, _*ℤ_}
+use lib.Signed.{ltZ, mag}
 use Rattle.date.specs.Calendar.{leapYear, yearLength, monthLength, dayNumber}
+use Rattle.date.specs.declared.Date.{Date}
 use Rattle.date.specs.declared.Precision.{Precision}
 use Rattle.date.specs.declared.Precision.the-variants.{Year, Month, Day, Second}
-use Rattle.date.specs.declared.Date.{Date}
 
 -- the seconds from 0001-01-01T00:00:00 to 1970-01-01T00:00:00
 unfoldable pub epoch : ℕ
 epoch = dayNumber 1970 1 1 * 86400
 
--- the instant, in seconds from 1970-01-01T00:00:00Z, of the local second n counted from 0001-01-01T00:00:00, at a zone offset in minutes
+-- the instant, in seconds from 1970-01-01T00:00:00Z, of the local second n, which counts from 0001-01-01T00:00:00 on a
+-- clock with this zone offset in minutes: the offset is subtracted with its sign
 unfoldable pub instant : ℕ → ℤ → ℤ
 instant n offset = pos n -ℤ pos epoch -ℤ offset *ℤ pos 60
 
@@ -45,3 +49,11 @@ dayDate y m d = daysFrom Day (dayNumber y m d) 1
 
 unfoldable pub secondDate : ℕ → ℕ → ℕ → ℕ → ℕ → ℕ → ℤ → Date
 secondDate y m d hour minute second offset = secondFrom (dayNumber y m d) (secondOfDay hour minute second) offset
+
+-- ---- a law of every date that is read
+
+-- the span is not empty, and lies within 2^42 seconds of 1970
+pub record Proper (d : Date) : Type 0 where
+  pub order : ltZ (d .start) (d .end) ≡ true
+  pub start-small : mag (d .start) < 2 ^ 42
+  pub end-small : mag (d .end) < 2 ^ 42

@@ -5,14 +5,16 @@ use mathlib.Core.List.{List, [], _∷_, _++_}
 use lib.IntN.{ℤ, pos, negℤ}
 use Rattle.date.specs.Fields.{ValidYear, ValidMonth, ValidDay, ValidTime, ValidZone}
 use Rattle.date.specs.Spans.{yearDate, monthDate, dayDate, secondDate}
+use Rattle.date.specs.Marks.{hyphen, colon, plus, letterT, letterZ}
 use Rattle.date.specs.declared.Date.{Date}
 
--- ---- writers; - is 45, T 84, : 58, Z 90, + 43
+-- ---- writers
 
--- the digits of a number below a hundred, and below ten thousand
+-- the two digits of a number below a hundred; the digit n is the byte 48 + n
 unfoldable pub two : ℕ → List ℕ
 two n = (48 + n / 10) ∷ (48 + n % 10) ∷ []
 
+-- the four digits of a number below ten thousand
 unfoldable pub four : ℕ → List ℕ
 four n = two (n / 100) ++ two (n % 100)
 
@@ -22,31 +24,31 @@ yearText y = four y
 
 -- YYYY-MM
 unfoldable pub monthText : ℕ → ℕ → List ℕ
-monthText y m = yearText y ++ (45 ∷ two m)
+monthText y m = yearText y ++ (hyphen ∷ two m)
 
 -- YYYY-MM-DD
 unfoldable pub dayText : ℕ → ℕ → ℕ → List ℕ
-dayText y m d = monthText y m ++ (45 ∷ two d)
+dayText y m d = monthText y m ++ (hyphen ∷ two d)
 
--- Thh:mm:ss
-unfoldable pub timeText : ℕ → ℕ → ℕ → List ℕ
-timeText hour minute second = (84 ∷ two hour) ++ (58 ∷ two minute) ++ (58 ∷ two second)
+-- YYYY-MM-DDThh:mm:ss
+unfoldable pub localText : ℕ → ℕ → ℕ → ℕ → ℕ → ℕ → List ℕ
+localText y m d hour minute second = dayText y m d ++ (letterT ∷ two hour) ++ (colon ∷ two minute) ++ (colon ∷ two second)
 
--- a sign and hh:mm
+-- +hh:mm or -hh:mm
 unfoldable pub signedText : ℕ → ℕ → ℕ → List ℕ
-signedText sign h m = (sign ∷ two h) ++ (58 ∷ two m)
+signedText sign h m = (sign ∷ two h) ++ (colon ∷ two m)
 
--- ---- relations
+-- ---- which text spells what
 
--- a text spells a zone offset in minutes
+-- a zone: Z, east or west of UTC, in minutes
 pub data SpellsZone : List ℕ → ℤ → Type 0 where
-  spells-utc : SpellsZone (90 ∷ []) (pos 0)
-  spells-east : {h m : ℕ} → ValidZone h m → SpellsZone (signedText 43 h m) (pos (h * 60 + m))
-  spells-west : {h m : ℕ} → ValidZone h m → SpellsZone (signedText 45 h m) (negℤ (pos (h * 60 + m)))
+  spells-utc : SpellsZone (letterZ ∷ []) (pos 0)
+  spells-east : {h m : ℕ} → ValidZone h m → SpellsZone (signedText plus h m) (pos (h * 60 + m))
+  spells-west : {h m : ℕ} → ValidZone h m → SpellsZone (signedText hyphen h m) (negℤ (pos (h * 60 + m)))
 
--- a text spells a date
+-- a date: YYYY, YYYY-MM, YYYY-MM-DD, YYYY-MM-DDThh:mm:ss with a zone
 pub data Spells : List ℕ → Date → Type 0 where
   spells-year : {y : ℕ} → ValidYear y → Spells (yearText y) (yearDate y)
   spells-month : {y m : ℕ} → ValidMonth y m → Spells (monthText y m) (monthDate y m)
   spells-day : {y m d : ℕ} → ValidDay y m d → Spells (dayText y m d) (dayDate y m d)
-  spells-second : {y m d hour minute second : ℕ} {zone : List ℕ} {offset : ℤ} → ValidDay y m d → ValidTime hour minute second → SpellsZone zone offset → Spells (dayText y m d ++ timeText hour minute second ++ zone) (secondDate y m d hour minute second offset)
+  spells-second : {y m d hour minute second : ℕ} {zone : List ℕ} {offset : ℤ} → ValidDay y m d → ValidTime hour minute second → SpellsZone zone offset → Spells (localText y m d hour minute second ++ zone) (secondDate y m d hour minute second offset)

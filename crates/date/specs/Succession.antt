@@ -5,6 +5,7 @@ use mathlib.Core.Bool.{cond}
 use lib.Dec.{ltb}
 use Rattle.date.specs.Calendar.{leapYear, monthLength}
 
+-- a month and a day of any year
 pub record CalendarMonth : Type 0 where
   pub year : ℕ
   pub month : ℕ

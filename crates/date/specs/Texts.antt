@@ -1,18 +1,19 @@
--- What a text of a date reads to.
+-- What a text reads to, computed. `Spelling` says the same by the writers, and a theorem that the two agree.
 -- Assumes nothing.
 use Prim.Native.Nat.{ℕ, _+_, _*_, _-_}
 use mathlib.Core.Bool.{Bool, true, false, cond}
 use mathlib.Core.List.{List}
-use lib.Dec.{eqb, leb, ltb}
+use lib.Dec.{eqb, ltb}
 use lib.ListN.{length, getD}
 use lib.IntN.{ℤ, pos, negℤ}
 use Rattle.base.specs.Digits.{isDigit}
 use Rattle.date.specs.Fields.{validYear, validMonth, validDay, validTime, validZone}
 use Rattle.date.specs.Spans.{yearDate, monthDate, dayDate, secondDate}
-use Rattle.date.specs.declared.Zone.{Zone}
-use Rattle.date.specs.declared.Zone.the-variants.{Offset}
+use Rattle.date.specs.Marks.{hyphen, colon, plus, letterT, letterZ}
 use Rattle.date.specs.declared.Reading.{Reading}
 use Rattle.date.specs.declared.Reading.the-variants.{Readable}
+use Rattle.date.specs.declared.reader.Zone.{Zone}
+use Rattle.date.specs.declared.reader.Zone.the-variants.{Offset}
 
 -- ---- fields
 
@@ -38,21 +39,21 @@ fieldAt s at mark = cond (eqb (getD s at 0) mark) (twoAt s (at + 1)) 100
 
 -- ---- the zone
 
--- the signed offset of a sign, hours and minutes: + (43) is east, - (45) west
+-- the signed offset of a sign, hours and minutes: + is east, - west
 unfoldable pub signed : ℕ → ℕ → ℕ → Zone
 signed sign h m =
     cond (validZone h m)
-    (cond (eqb sign 43) (Offset (pos (h * 60 + m)))
-    (cond (eqb sign 45) (Offset (negℤ (pos (h * 60 + m)))) Zone.Unreadable))
+    (cond (eqb sign plus) (Offset (pos (h * 60 + m)))
+    (cond (eqb sign hyphen) (Offset (negℤ (pos (h * 60 + m)))) Zone.Unreadable))
     Zone.Unreadable
 
--- the zone from a position to the end: Z (90), or a sign, hh, : (58), mm
+-- the zone from a position to the end: Z, or a sign and hh:mm
 unfoldable pub zoneAt : List ℕ → ℕ → Zone
 zoneAt s at =
-    cond (eqb (length s) (at + 1)) (cond (eqb (getD s at 0) 90) (Offset (pos 0)) Zone.Unreadable)
-    (cond (eqb (length s) (at + 6)) (signed (getD s at 0) (twoAt s (at + 1)) (fieldAt s (at + 3) 58)) Zone.Unreadable)
+    cond (eqb (length s) (at + 1)) (cond (eqb (getD s at 0) letterZ) (Offset (pos 0)) Zone.Unreadable)
+    (cond (eqb (length s) (at + 6)) (signed (getD s at 0) (twoAt s (at + 1)) (fieldAt s (at + 3) colon)) Zone.Unreadable)
 
--- ---- the spellings; - is 45, T 84, : 58
+-- ---- the spellings
 
 -- YYYY
 unfoldable pub readYear : List ℕ → Reading
@@ -61,22 +62,22 @@ readYear s = cond (validYear (fourAt s 0)) (Readable (yearDate (fourAt s 0))) Re
 -- YYYY-MM
 unfoldable pub readMonth : List ℕ → Reading
 readMonth s =
-    cond (validMonth (fourAt s 0) (fieldAt s 4 45)) (Readable (monthDate (fourAt s 0) (fieldAt s 4 45))) Reading.Unreadable
+    cond (validMonth (fourAt s 0) (fieldAt s 4 hyphen)) (Readable (monthDate (fourAt s 0) (fieldAt s 4 hyphen))) Reading.Unreadable
 
 -- YYYY-MM-DD
 unfoldable pub readDay : List ℕ → Reading
 readDay s =
-    cond (validDay (fourAt s 0) (fieldAt s 4 45) (fieldAt s 7 45))
-    (Readable (dayDate (fourAt s 0) (fieldAt s 4 45) (fieldAt s 7 45)))
+    cond (validDay (fourAt s 0) (fieldAt s 4 hyphen) (fieldAt s 7 hyphen))
+    (Readable (dayDate (fourAt s 0) (fieldAt s 4 hyphen) (fieldAt s 7 hyphen)))
     Reading.Unreadable
 
 -- YYYY-MM-DDThh:mm:ss, at a zone offset
 unfoldable pub readLocal : List ℕ → ℤ → Reading
 readLocal s offset =
-    cond (validDay (fourAt s 0) (fieldAt s 4 45) (fieldAt s 7 45))
-    (cond (validTime (fieldAt s 10 84) (fieldAt s 13 58) (fieldAt s 16 58))
+    cond (validDay (fourAt s 0) (fieldAt s 4 hyphen) (fieldAt s 7 hyphen))
+    (cond (validTime (fieldAt s 10 letterT) (fieldAt s 13 colon) (fieldAt s 16 colon))
     (Readable
-    (secondDate (fourAt s 0) (fieldAt s 4 45) (fieldAt s 7 45) (fieldAt s 10 84) (fieldAt s 13 58) (fieldAt s 16 58) offset))
+    (secondDate (fourAt s 0) (fieldAt s 4 hyphen) (fieldAt s 7 hyphen) (fieldAt s 10 letterT) (fieldAt s 13 colon) (fieldAt s 16 colon) offset))
     Reading.Unreadable)
     Reading.Unreadable
 

@@ -1,11 +1,12 @@
-// The relations of a card's date `i` and a filter's date `f`, under the words of document 01's row.
+// The relations of a card's date `i` and a filter's date `f`. Over each stand the operation that asks for it and the rule;
+// a span runs from i0 to i1, or f0 to f1.
 ghost use mathlib.Core.Path.{_≡_};
 ghost use lib.Signed.{ltZ, leZ};
 ghost use Rattle.date.specs.Relations.{rank, inside, same, later, earlier, laterOrInside, earlierOrInside, startsAfter, endsBefore, overlaps, covers};
 use crate::Date;
 use crate::Precision;
 
-// A number for each precision.
+// A number for each precision, to compare two by.
 fn rank(p: Precision) -> u8
     ensures { λ r. ⌜ r ≡ rank p ⌝ }
 {
@@ -17,21 +18,21 @@ fn rank(p: Precision) -> u8
     }
 }
 
-// b0 <= a0.
+// Whether a starts no earlier than b.
 fn starts_within(a: Date, b: Date) -> bool
     ensures { λ r. ⌜ r ≡ leZ (b .start) (a .start) ⌝ }
 {
     b.start <= a.start
 }
 
-// a1 <= b1.
+// Whether a ends no later than b.
 fn ends_within(a: Date, b: Date) -> bool
     ensures { λ r. ⌜ r ≡ leZ (a .end) (b .end) ⌝ }
 {
     a.end <= b.end
 }
 
-// "inside": a lies whole in b.
+// "inside": whether a lies whole in b.
 pub fn inside(a: Date, b: Date) -> bool
     ensures { λ r. ⌜ r ≡ inside a b ⌝ }
 {
@@ -89,7 +90,7 @@ pub fn ends_before(i: Date, f: Date) -> bool
     i.end <= f.start
 }
 
-// a0 < b1.
+// Whether a starts before b ends.
 fn starts_before_end(a: Date, b: Date) -> bool
     ensures { λ r. ⌜ r ≡ ltZ (a .start) (b .end) ⌝ }
 {

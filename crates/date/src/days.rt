@@ -1,4 +1,5 @@
-// The Gregorian calendar in days, and the tests of a text's fields.
+// The Gregorian calendar, used throughout: lengths of years and months and numbers of days, by arithmetic. And which
+// numbers may stand in the fields of a date's text.
 ghost use mathlib.Core.Path.{_≡_};
 ghost use Rattle.date.specs.Calendar.{leapYear, yearLength, monthLength, daysBeforeMonth, dayNumber};
 ghost use Rattle.date.specs.Fields.{between, validYear, validMonth, validDay, validTime, ValidMonth, ValidDay};
@@ -20,7 +21,7 @@ pub fn year_length(y: u64) -> u64
     365
 }
 
-// The days of a month: 30 or 31 by turns, with July and August both long, but for February.
+// The days of a month: February's by the kind of year, the others' 30 or 31 by turns, July and August both 31.
 pub fn month_length(y: u64, m: u64) -> u64
     requires { ⌜ ValidMonth y m ⌝ }
     ensures { λ r. ⌜ r ≡ monthLength (leapYear y) m ⌝ }
@@ -34,7 +35,8 @@ pub fn month_length(y: u64, m: u64) -> u64
     30 + (m + m / 8) % 2
 }
 
-// The days of the year before a month, by arithmetic on the month's number; after February one or two fewer.
+// The days of the year before a month, by arithmetic on its number: February counts as 30 there, so after it one or two
+// days are taken off.
 fn days_before_month(y: u64, m: u64) -> u64
     requires { ⌜ ValidMonth y m ⌝ }
     ensures { λ r. ⌜ r ≡ daysBeforeMonth (leapYear y) m ⌝ }
@@ -49,7 +51,8 @@ fn days_before_month(y: u64, m: u64) -> u64
     n - 2
 }
 
-// The number of a day, 0 on 0001-01-01: whole years, with a day more for each leap year, months, days.
+// The number of a day, 0 on 0001-01-01: the days of the whole years, one more in each leap year, of the months and of
+// this month before it.
 pub fn day_number(y: u64, m: u64, d: u64) -> u64
     requires { ⌜ ValidDay y m d ⌝ }
     ensures { λ r. ⌜ r ≡ dayNumber y m d ⌝ }
@@ -65,28 +68,28 @@ fn between(low: u64, n: u64, high: u64) -> bool
     low <= n && n <= high
 }
 
-// "Years 0001 to 9999".
+// Whether a year can be written: "Years 0001 to 9999".
 pub fn valid_year(y: u64) -> bool
     ensures { λ r. ⌜ r ≡ validYear y ⌝ }
 {
     between(1, y, 9999)
 }
 
-// "months 01 to 12".
+// Whether it is a month of such a year: "months 01 to 12".
 pub fn valid_month(y: u64, m: u64) -> bool
     ensures { λ r. ⌜ r ≡ validMonth y m ⌝ }
 {
     valid_year(y) && between(1, m, 12)
 }
 
-// "only days which that month has".
+// Whether it is a day of such a month: "only days which that month has".
 pub fn valid_day(y: u64, m: u64, d: u64) -> bool
     ensures { λ r. ⌜ r ≡ validDay y m d ⌝ }
 {
     valid_month(y, m) && between(1, d, month_length(y, m))
 }
 
-// "hours 00 to 23, seconds 00 to 59".
+// Whether it is a time of the day: "hours 00 to 23, seconds 00 to 59".
 pub fn valid_time(h: u64, m: u64, s: u64) -> bool
     ensures { λ r. ⌜ r ≡ validTime h m s ⌝ }
 {

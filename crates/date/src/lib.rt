@@ -1,5 +1,6 @@
-// Dates: a text is read to a span of whole seconds with its precision and its zone offset, and two dates are compared.
-// `days` counts days, `seconds` makes dates of them, `reader` reads the spellings, `compare` has the relations.
+// Dates. A text reads to a span of whole seconds, with its precision and its zone offset, or is unreadable; two dates
+// stand in the relations that the filter's operations ask for. `days` has the calendar, `seconds` makes dates of numbers
+// of days and seconds, `reader` reads the texts and `compare` has the relations.
 mod compare;
 mod days;
 mod reader;
@@ -18,7 +19,7 @@ pub use compare::starts_after;
 pub use reader::read;
 pub use reader::readable;
 
-// How much of a date its text gives.
+// The smallest unit that a date's text gives.
 pub enum Precision {
     Year,
     Month,
@@ -35,14 +36,8 @@ pub struct Date {
     pub offset: i64,
 }
 
-// What a text reads to.
+// What a text reads to: a date, where it is readable as one.
 pub enum Reading {
     Readable(Date),
-    Unreadable,
-}
-
-// What the end of a text says of the zone: its offset in minutes, or nothing.
-pub enum Zone {
-    Offset(i64),
     Unreadable,
 }

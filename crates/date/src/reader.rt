@@ -1,17 +1,23 @@
-// The spellings of dates.
+// Reads the spellings of dates. A number that is not there is read as one that is too large for its field, and the tests
+// of the fields refuse it.
 ghost use mathlib.Core.Path.{_≡_};
 ghost use Prim.Native.Nat.{_+_, _≤_};
 ghost use lib.ListN.{length};
-ghost use lib.IntN.{natAbs};
+ghost use Rattle.date.specs.Fields.{ValidOffset};
 ghost use Rattle.date.specs.Texts.{digitOf, pair, twoAt, fourAt, fieldAt, signed, zoneAt, readYear, readMonth, readDay, readLocal, read, readable};
 use crate::Precision;
 use crate::Reading;
-use crate::Zone;
 use crate::days;
 use crate::seconds;
 
+// What the end of a text reads to: the zone's offset in minutes, negative west of UTC.
+enum Zone {
+    Offset(i64),
+    Unreadable,
+}
+
 // The number that a digit writes; 10 where the byte is no digit.
-fn digit(b: u8) -> u64
+fn digit_of(b: u8) -> u64
     ensures { λ r. ⌜ r ≡ digitOf b ⌝ }
 {
     if base::is_digit(b) {
@@ -35,33 +41,34 @@ fn pair(radix: u64, a: u64, b: u64) -> u64
 }
 
 // The number of the two digits at a position; 100 where one is no digit.
-fn two(s: &[u8], at: usize) -> u64
+fn two_at(s: &[u8], at: usize) -> u64
     requires { ⌜ at + 2 ≤ length (now s) ⌝ }
     ensures { λ r. ⌜ r ≡ twoAt (now (s .entry)) at ⌝ }
 {
-    pair(10, digit(s[at]), digit(s[at + 1]))
+    pair(10, digit_of(s[at]), digit_of(s[at + 1]))
 }
 
 // The number of the four digits at a position; 10000 where one is no digit.
-fn four(s: &[u8], at: usize) -> u64
+fn four_at(s: &[u8], at: usize) -> u64
     requires { ⌜ at + 4 ≤ length (now s) ⌝ }
     ensures { λ r. ⌜ r ≡ fourAt (now (s .entry)) at ⌝ }
 {
-    pair(100, two(s, at), two(s, at + 2))
+    pair(100, two_at(s, at), two_at(s, at + 2))
 }
 
 // The number of the two digits behind a mark at a position; 100 where the mark or a digit is missing.
-fn field(s: &[u8], at: usize, mark: u8) -> u64
+fn field_at(s: &[u8], at: usize, mark: u8) -> u64
     requires { ⌜ at + 3 ≤ length (now s) ⌝ }
     ensures { λ r. ⌜ r ≡ fieldAt (now (s .entry)) at mark ⌝ }
 {
     if s[at] == mark {
-        return two(s, at + 1);
+        return two_at(s, at + 1);
     }
     100
 }
 
-// "a zone of +hh:mm or -hh:mm, at most 14:00 either way, minutes 00 to 59": the signed offset, east positive.
+// The offset of "a zone of +hh:mm or -hh:mm, at most 14:00 either way, minutes 00 to 59". Its sign is made here, and
+// nowhere else.
 fn signed(sign: u8, h: u64, m: u64) -> Zone
     requires { ⌜ (h ≤ 100) × (m ≤ 100) ⌝ }
     ensures { λ r. ⌜ r ≡ signed sign h m ⌝ }
@@ -80,8 +87,8 @@ fn signed(sign: u8, h: u64, m: u64) -> Zone
     Zone::Unreadable
 }
 
-// The zone from a position to the end: "Z or a zone".
-fn zone(s: &[u8], at: usize) -> Zone
+// The zone from a position to the end of the text: "Z or a zone".
+fn zone_at(s: &[u8], at: usize) -> Zone
     requires { ⌜ at + 1 ≤ length (now s) ⌝ }
     ensures { λ r. ⌜ r ≡ zoneAt (now (s .entry)) at ⌝ }
 {
@@ -92,7 +99,7 @@ fn zone(s: &[u8], at: usize) -> Zone
         return Zone::Unreadable;
     }
     if s.len() == at + 6 {
-        return signed(s[at], two(s, at + 1), field(s, at + 3, b':'));
+        return signed(s[at], two_at(s, at + 1), field_at(s, at + 3, b':'));
     }
     Zone::Unreadable
 }
@@ -102,7 +109,7 @@ fn read_year(s: &[u8]) -> Reading
     requires { ⌜ 4 ≤ length (now s) ⌝ }
     ensures { λ r. ⌜ r ≡ readYear (now (s .entry)) ⌝ }
 {
-    let y = four(s, 0);
+    let y = four_at(s, 0);
     if days::valid_year(y) {
         return Reading::Readable(seconds::days_from(
             Precision::Year,
@@ -118,8 +125,8 @@ fn read_month(s: &[u8]) -> Reading
     requires { ⌜ 7 ≤ length (now s) ⌝ }
     ensures { λ r. ⌜ r ≡ readMonth (now (s .entry)) ⌝ }
 {
-    let y = four(s, 0);
-    let m = field(s, 4, b'-');
+    let y = four_at(s, 0);
+    let m = field_at(s, 4, b'-');
     if days::valid_month(y, m) {
         return Reading::Readable(seconds::days_from(
             Precision::Month,
@@ -135,9 +142,9 @@ fn read_day(s: &[u8]) -> Reading
     requires { ⌜ 10 ≤ length (now s) ⌝ }
     ensures { λ r. ⌜ r ≡ readDay (now (s .entry)) ⌝ }
 {
-    let y = four(s, 0);
-    let m = field(s, 4, b'-');
-    let d = field(s, 7, b'-');
+    let y = four_at(s, 0);
+    let m = field_at(s, 4, b'-');
+    let d = field_at(s, 7, b'-');
     if days::valid_day(y, m, d) {
         return Reading::Readable(seconds::days_from(Precision::Day, days::day_number(y, m, d), 1));
     }
@@ -146,16 +153,17 @@ fn read_day(s: &[u8]) -> Reading
 
 // YYYY-MM-DDThh:mm:ss: the second, at a zone offset.
 fn read_local(s: &[u8], offset: i64) -> Reading
-    requires { ⌜ (19 ≤ length (now s)) × (natAbs offset ≤ 840) ⌝ }
+    requires { ⌜ 19 ≤ length (now s) ⌝ }
+    requires { ⌜ ValidOffset offset ⌝ }
     ensures { λ r. ⌜ r ≡ readLocal (now (s .entry)) offset ⌝ }
 {
-    let y = four(s, 0);
-    let m = field(s, 4, b'-');
-    let d = field(s, 7, b'-');
+    let y = four_at(s, 0);
+    let m = field_at(s, 4, b'-');
+    let d = field_at(s, 7, b'-');
     if days::valid_day(y, m, d) {
-        let hour = field(s, 10, b'T');
-        let minute = field(s, 13, b':');
-        let second = field(s, 16, b':');
+        let hour = field_at(s, 10, b'T');
+        let minute = field_at(s, 13, b':');
+        let second = field_at(s, 16, b':');
         if days::valid_time(hour, minute, second) {
             return Reading::Readable(seconds::second_from(
                 days::day_number(y, m, d),
@@ -183,7 +191,7 @@ pub fn read(s: &[u8]) -> Reading
     if s.len() < 20 {
         return Reading::Unreadable;
     }
-    match zone(s, 19) {
+    match zone_at(s, 19) {
         Zone::Offset(offset) => read_local(s, offset),
         Zone::Unreadable => Reading::Unreadable,
     }

@@ -14,10 +14,10 @@ use lib.Seq.{take-append-seam, drop-append-add, getD-append-seam, split-at, take
 use borrow.Author.Tests.{leb-true, eqb-true, eqb-false}
 use Rattle.base.specs.Digits.{isDigit}
 use Rattle.base.specs.Runs.{run}
+use Rattle.base.proofs.Tests.{cond-first}
 use Rattle.base.proofs.Runs.{run-whole, run-take, run-within, run-every, run-append}
 use Rattle.base.proofs.Lists.{rest, every-all, all-every}
 use Rattle.number.specs.declared.Decimal.{Decimal}
-use Rattle.number.specs.declared.Reading.{Reading}
 use Rattle.number.specs.declared.Reading.the-variants.{Number, Unreadable}
 use Rattle.number.specs.Value.{Bounded}
 use Rattle.number.specs.Reading.{point, valueFrom, readFraction, read}
@@ -30,9 +30,8 @@ use Rattle.number.proofs.Texts.{fraction-read, read-whole, read-point}
 number-same : (a b : Decimal) → Number a ≡ Number b → a ≡ b
 number-same a b e = cc
 
-tested : (t : Bool) (x : Reading) (d : Decimal) → cond t x Unreadable ≡ Number d → (t ≡ true) × (x ≡ Number d)
-tested true x d e = (refl, e)
-tested false x d e = let z : _≡_ {A = ℕ} 0 1 = cc in absurd (omega arith)
+never-number : {d : Decimal} → Unreadable ≡ Number d → ⊥
+never-number h = let z : _≡_ {A = ℕ} 0 1 = cc in omega arith
 
 pub record FractionRead (before : ℕ) (f : List ℕ) (d : Decimal) : Type 0 where
   pub digits : Digits 1 9 f
@@ -41,9 +40,9 @@ pub record FractionRead (before : ℕ) (f : List ℕ) (d : Decimal) : Type 0 whe
 fraction-inverse : (before : ℕ) (f : List ℕ) (d : Decimal) → readFraction before f ≡ Number d → FractionRead before f d
 unfolding readFraction
 fraction-inverse before f d e =
-    let one = tested (leb 1 (length f)) _ d e in
-    let nine = tested (leb (length f) 9) _ d (one .1) in
-    let all = tested (eqb (run isDigit f) (length f)) _ d (nine .1) in
+    let one = cond-first (leb 1 (length f)) _ Unreadable never-number e in
+    let nine = cond-first (leb (length f) 9) _ Unreadable never-number (one .1) in
+    let all = cond-first (eqb (run isDigit f) (length f)) _ Unreadable never-number (nine .1) in
     let run : length f ≤ run isDigit f = le-of-eq (sym (eqb-true (run isDigit f) (length f) (all .0))) in
     record {
       digits = record { all = every-all isDigit f (run-whole isDigit f run); enough = leb-true 1 (length f) (one .0); few = leb-true (length f) 9 (nine .0) };
@@ -75,14 +74,14 @@ module _ (s : List ℕ) (d : Decimal) (one : 1 ≤ run isDigit s) (eight : run i
 read-spelled : (s : List ℕ) (d : Decimal) → read s ≡ Number d → Spells s d
 unfolding read
 read-spelled s d e =
-    let one = tested (leb 1 (run isDigit s)) _ d e in
-    let eight = tested (leb (run isDigit s) 8) _ d (one .1) in
+    let one = cond-first (leb 1 (run isDigit s)) _ Unreadable never-number e in
+    let eight = cond-first (leb (run isDigit s) 8) _ Unreadable never-number (one .1) in
     ends (leb-true 1 (run isDigit s) (one .0)) (leb-true (run isDigit s) 8 (eight .0)) (eqb (run isDigit s) (length s)) refl (eight .1)
   where
     ends : 1 ≤ run isDigit s → run isDigit s ≤ 8 → (t : Bool) → eqb (run isDigit s) (length s) ≡ t → cond t (Number (record { digits = valueFrom 0 s; decimals = 0 })) (cond (eqb (getD s (run isDigit s) 0) point) (readFraction (valueFrom 0 (take (run isDigit s) s)) (drop (run isDigit s + 1) s)) Unreadable) ≡ Number d → Spells s d
     ends one eight true t h = whole-spells s d one eight (eqb-true _ _ t) h
     ends one eight false t h =
-        let point = tested (eqb (getD s (run isDigit s) 0) point) _ d h in
+        let point = cond-first (eqb (getD s (run isDigit s) 0) point) _ Unreadable never-number h in
         fraction-spells s d one eight (eqb-false _ _ t) (eqb-true _ _ (point .0)) (fraction-inverse _ _ d (point .1))
 
 -- ---- from the spelling to the reading

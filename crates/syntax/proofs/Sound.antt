@@ -2,13 +2,14 @@
 -- Assumes nothing.
 use Prim.Native.Nat.{ℕ, zero, suc}
 use native.Mathlib.Omega.{arith}
-use mathlib.Core.Path.{_≡_, refl, subst}
+use mathlib.Core.Path.{_≡_, subst}
 use mathlib.Core.Bool.{Bool, true, false, cond}
-use mathlib.Core.Option.{Option, none, some}
+use mathlib.Core.Option.{none, some}
 use mathlib.Core.List.{List}
 use lib.Dec.{eqb, leb}
 use lib.ListN.{length}
 use borrow.Author.Tests.{eqb-true, leb-true}
+use Rattle.base.proofs.Tests.{cond-first}
 use Rattle.syntax.specs.Tree.{Test, Tree, join, testsOf}
 use Rattle.syntax.specs.Grammar.{Spaces, TestAt, Opens, round, Item, item-test, item-bracket, item-not, Filter, one-item, one-more, deepest, mostTests, Spells}
 use Rattle.syntax.specs.Scan.{skipAt, testOf, testAt, openAt, testOr, headAt, connectiveAt, closeAt}
@@ -108,10 +109,6 @@ filter-derived d xs p = filter-of xs d (λ k. itemAt d xs k) (λ k. item-derived
 never-some : {A X : Type 0} {a : A} → none ≡ some a → X
 never-some h = let z : _≡_ {A = ℕ} 0 1 = cc in absurd (omega arith)
 
-tested : {A : Type 0} (b : Bool) (o : Option A) (a : A) → cond b o none ≡ some a → (b ≡ true) × (o ≡ some a)
-tested true o a h = (refl, h)
-tested false o a h = never-some h
-
 pub read-sound : (xs : List ℕ) (f : Tree) → read xs ≡ some f → Spells xs f
 unfolding read
 read-sound xs f e = go (filterAt deepest xs (skipAt xs 0)) (filter-derived deepest xs (skipAt xs 0)) e
@@ -119,8 +116,8 @@ read-sound xs f e = go (filterAt deepest xs (skipAt xs 0)) (filter-derived deepe
     go : (g : Parsed) → FilterDerived xs deepest (skipAt xs 0) g → whole xs g ≡ some f → Spells xs f
     go unparsed l h = never-some h
     go (parsed m u) l h =
-        let t = tested (eqb (skipAt xs m) (length xs)) (cond (leb (length (testsOf u)) mostTests) (some u) none) f h in
-        let c = tested (leb (length (testsOf u)) mostTests) (some u) f (t .1) in
+        let t = cond-first (eqb (skipAt xs m) (length xs)) (cond (leb (length (testsOf u)) mostTests) (some u) none) none never-some h in
+        let c = cond-first (leb (length (testsOf u)) mostTests) (some u) none never-some (t .1) in
         let z : u ≡ f = let k = c .1 in cc in
         subst (Spells xs) z (record {
           from = skipAt xs 0;

@@ -26,7 +26,7 @@ use Rattle.syntax.specs.declared.FoundTest.{FoundTest}
 use Rattle.syntax.specs.declared.FoundConnective.{FoundConnective}
 use Rattle.syntax.specs.declared.FoundClose.{FoundClose}
 use Rattle.syntax.proofs.Words.{has-stands, stands-has, stands-within, stands-after, NoSpaceAt, stands-no-space, end-no-space, skip-spaces, skip-gap, spaces-skip, gap-skip, spaces-rise, gap-rise}
-use Rattle.syntax.proofs.Values.{by-test}
+use Rattle.base.proofs.Tests.{cond-elim}
 use Rattle.syntax.proofs.Tests.{gap-moves}
 
 -- ---- what is found is there
@@ -39,9 +39,9 @@ OpenDerived xs p Head.Nothing = Unit {0}
 pub open-derived : (xs : List ℕ) (p : ℕ) → OpenDerived xs p (openAt xs p)
 unfolding openAt
 open-derived xs p =
-    by-test (OpenDerived xs p) (has xs p (ascii "(")) (λ e. opens (has-stands xs p (ascii "(") e) (skip-spaces xs (p + 1)))
-    (λ n. by-test (OpenDerived xs p) (has xs p (ascii "not"))
-    (λ e. by-test (OpenDerived xs p) (has xs (skipAt xs (p + 3)) (ascii "("))
+    cond-elim (OpenDerived xs p) (has xs p (ascii "(")) (λ e. opens (has-stands xs p (ascii "(") e) (skip-spaces xs (p + 1)))
+    (λ n. cond-elim (OpenDerived xs p) (has xs p (ascii "not"))
+    (λ e. cond-elim (OpenDerived xs p) (has xs (skipAt xs (p + 3)) (ascii "("))
     (λ f. opens-not (has-stands xs p (ascii "not") e) (skip-spaces xs (p + 3)) (has-stands xs (skipAt xs (p + 3)) (ascii "(") f) (skip-spaces xs (skipAt xs (p + 3) + 1)))
     (λ f. tt))
     (λ e. tt))
@@ -54,10 +54,10 @@ pub connective-derived : (xs : List ℕ) (p : ℕ) → ConnectiveDerived xs p (c
 unfolding connectiveAt
 connective-derived xs p =
     let a : ℕ = skipAt xs p in
-    by-test (ConnectiveDerived xs p) (eqb a p) (λ e. tt)
-    (λ n. by-test (ConnectiveDerived xs p) (has xs a (ascii "and "))
+    cond-elim (ConnectiveDerived xs p) (eqb a p) (λ e. tt)
+    (λ n. cond-elim (ConnectiveDerived xs p) (has xs a (ascii "and "))
     (λ e. connects {c = and} (skip-gap xs p n) (has-stands xs a (ascii "and ") e) (skip-spaces xs (a + 4)))
-    (λ m. by-test (ConnectiveDerived xs p) (has xs a (ascii "or "))
+    (λ m. cond-elim (ConnectiveDerived xs p) (has xs a (ascii "or "))
     (λ e. connects {c = or} (skip-gap xs p n) (has-stands xs a (ascii "or ") e) (skip-spaces xs (a + 3)))
     (λ e. tt)))
 
@@ -68,7 +68,7 @@ CloseDerived xs close p FoundClose.Nothing = Unit {0}
 pub close-derived : (xs : List ℕ) (close p : ℕ) → CloseDerived xs close p (closeAt xs close p)
 unfolding closeAt
 close-derived xs close p =
-    by-test (CloseDerived xs close p) (has xs (skipAt xs p) (close ∷ []))
+    cond-elim (CloseDerived xs close p) (has xs (skipAt xs p) (close ∷ []))
     (λ e. closes (skip-spaces xs p) (has-stands xs (skipAt xs p) (close ∷ []) e)) (λ e. tt)
 
 -- ---- what is there is found

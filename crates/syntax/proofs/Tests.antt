@@ -15,7 +15,7 @@ use Rattle.base.specs.Digits.{isDigit}
 use Rattle.base.specs.Names.{between, isLetter, isNameStart, isNamePart, isName, Name}
 use Rattle.base.specs.Parts.{part}
 use Rattle.base.specs.Runs.{run, runEnd, RunEnd}
-use Rattle.base.proofs.Tests.{or-either, or-left, apart}
+use Rattle.base.proofs.Tests.{or-either, or-left, apart, cond-elim}
 use Rattle.base.proofs.Names.{name-iff}
 use Rattle.base.proofs.Runs.{run-within, run-then}
 use Rattle.syntax.specs.Strings.{isBare}
@@ -29,7 +29,7 @@ use Rattle.syntax.specs.declared.RawTest.{RawTest}
 use Rattle.syntax.specs.declared.FoundTest.{FoundTest}
 use Rattle.syntax.proofs.Words.{NoSpaceAt, stands-after, stands-no-space, taken-stands, skip-gap, gap-skip, gap-rise}
 use Rattle.syntax.proofs.Operators.{operator-derives, operator-found, operator-no-space, operator-rise}
-use Rattle.syntax.proofs.Values.{by-test, part-at, value-derives, value-found, value-no-space, value-rise}
+use Rattle.syntax.proofs.Values.{part-at, value-derives, value-found, value-no-space, value-rise}
 
 -- ---- what follows a value
 
@@ -56,7 +56,7 @@ module _ (xs : List ℕ) (close p e : ℕ) (l : e ≡ p + length (part xs p e)) 
   value-follows : (a k : ℕ) → Gap xs e a → Operator xs a k → (b : ℕ) → Gap xs (a + 2) b → (f : FoundValue) → valueAt xs b ≡ f
       → TestDerived xs close p (withValue f λ v. cond (follows close (drop (v .next) xs)) (FoundTest.Test (record { at = p; until = e; operator = k; value = v })) FoundTest.Nothing)
   value-follows a k g o b h (FoundValue.Value v) i =
-      by-test (TestDerived xs close p) (follows close (drop (v .next) xs))
+      cond-elim (TestDerived xs close p) (follows close (drop (v .next) xs))
       (λ f. a-test s n (subst (λ (m : ℕ). Gap xs m a) l g) o h (value-derives xs b v i) (follows-derives close (drop (v .next) xs) f))
       (λ f. tt)
   value-follows a k g o b h FoundValue.Nothing i = tt
@@ -64,14 +64,14 @@ module _ (xs : List ℕ) (close p e : ℕ) (l : e ≡ p + length (part xs p e)) 
   operator-follows : (a : ℕ) → Gap xs e a → (f : FoundOperator) → operatorAt xs a ≡ f → TestDerived xs close p (withOperator f λ k. testValue xs close p e k (a + 2))
   unfolding testValue
   operator-follows a g (FoundOperator.Is k) i =
-      by-test (TestDerived xs close p) (eqb (skipAt xs (a + 2)) (a + 2)) (λ f. tt)
+      cond-elim (TestDerived xs close p) (eqb (skipAt xs (a + 2)) (a + 2)) (λ f. tt)
       (λ f. value-follows a k g (operator-derives xs a k i) (skipAt xs (a + 2)) (skip-gap xs (a + 2) f) (valueAt xs (skipAt xs (a + 2))) refl)
   operator-follows a g FoundOperator.Nothing i = tt
 
   name-follows : TestDerived xs close p (testOperator xs close p e)
   unfolding testOperator
   name-follows =
-      by-test (TestDerived xs close p) (eqb (skipAt xs e) e) (λ f. tt)
+      cond-elim (TestDerived xs close p) (eqb (skipAt xs e) e) (λ f. tt)
       (λ f. operator-follows (skipAt xs e) (skip-gap xs e f) (operatorAt xs (skipAt xs e)) refl)
 
 name-end-part : (xs : List ℕ) (p : ℕ) → nameEnd xs p ≡ p + length (part xs p (nameEnd xs p))
@@ -83,7 +83,7 @@ name-end-part xs p =
 pub test-derived : (xs : List ℕ) (close p : ℕ) → TestDerived xs close p (testAt xs close p)
 unfolding testAt
 test-derived xs close p =
-    by-test (TestDerived xs close p) (isName (part xs p (nameEnd xs p)))
+    cond-elim (TestDerived xs close p) (isName (part xs p (nameEnd xs p)))
     (λ n. name-follows xs close p (nameEnd xs p) (name-end-part xs p) (taken-stands xs p (nameEnd xs p - p)) (name-iff (part xs p (nameEnd xs p)) .0 n))
     (λ n. tt)
 

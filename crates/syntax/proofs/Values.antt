@@ -5,7 +5,7 @@ use native.Mathlib.Omega.{arith}
 use native.Mathlib.Nat.{add-zero, le-refl, le-of-eq}
 use native.Mathlib.Numerals.{add-one}
 use mathlib.Core.Path.{_≡_, refl, sym, ap, subst, _∙_}
-use mathlib.Core.Bool.{Bool, true, false, cond, _||_, or-true, or-false, true≢false, false≢true}
+use mathlib.Core.Bool.{Bool, true, false, _||_, or-true, or-false, true≢false, false≢true}
 use mathlib.Core.List.{List, [], _∷_, _++_, append-assoc}
 use mathlib.Core.Logic.{_⊎_, inl, inr, ⊎-elim}
 use lib.Dec.{eqb, leb, ltb}
@@ -15,7 +15,7 @@ use borrow.Author.Tests.{eqb-true, eqb-false, eq-eqb, ne-eqb, ltb-true, lt-ltb, 
 use Rattle.base.specs.Lists.{All, all-cons, every}
 use Rattle.base.specs.Parts.{part}
 use Rattle.base.specs.Runs.{run, runEnd, RunEnd}
-use Rattle.base.proofs.Tests.{and-left, decided, apart}
+use Rattle.base.proofs.Tests.{and-left, decided, apart, cond-elim}
 use Rattle.base.proofs.Lists.{every-all, cons-same}
 use Rattle.base.proofs.Runs.{run-within, run-take, run-then}
 use Rattle.syntax.specs.Strings.{quote, backslash, isBare, isPlain, isEscape, Quoted, nothing-more, plain, escaped}
@@ -37,18 +37,13 @@ data Step : Bool → ℕ → StringStep → Type 0 where
   goes-on : {b : ℕ} → isPlain b ≡ true → Step false b (StringStep.More false)
   too-low : {b : ℕ} → leb 0x20 b ≡ false → Step false b StringStep.Wrong
 
--- a test by cases, with what it says in each
-pub by-test {κ} : {A : Type 0} (P : A → Type κ) {x y : A} (b : Bool) → (b ≡ true → P x) → (b ≡ false → P y) → P (cond b x y)
-by-test P true f g = f refl
-by-test P false f g = g refl
-
 step-is : (pending : Bool) (b : ℕ) → Step pending b (stepOf pending b)
 unfolding stepOf isPlain
-step-is true b = by-test (Step true b) (isEscape b) (λ e. ends-escape e) (λ e. no-escape e)
+step-is true b = cond-elim (Step true b) (isEscape b) (λ e. ends-escape e) (λ e. no-escape e)
 step-is false b =
-    by-test (Step false b) (eqb b quote) (λ e. ends-string (eqb-true b quote e))
-    (λ q. by-test (Step false b) (eqb b backslash) (λ e. starts-escape (eqb-true b backslash e))
-    (λ s. by-test (Step false b) (leb 0x20 b) (λ e. goes-on (rw (e, q, s))) (λ e. too-low e)))
+    cond-elim (Step false b) (eqb b quote) (λ e. ends-string (eqb-true b quote e))
+    (λ q. cond-elim (Step false b) (eqb b backslash) (λ e. starts-escape (eqb-true b backslash e))
+    (λ s. cond-elim (Step false b) (leb 0x20 b) (λ e. goes-on (rw (e, q, s))) (λ e. too-low e)))
 
 -- ---- the loop of `read_string`, which has come to i: what is left decides
 
@@ -246,11 +241,11 @@ string-value xs p FoundString.Nothing h i = tt
 value-derived : (xs : List ℕ) (p : ℕ) → Derived xs p (valueAt xs p)
 unfolding valueAt runEnd
 value-derived xs p =
-    by-test (Derived xs p) (ltb p (length xs))
+    cond-elim (Derived xs p) (ltb p (length xs))
     (λ i. let e : drop p xs ≡ getD xs p 0 ∷ drop (p + 1) xs = rw add-one (drop-cons xs p 0 (ltb-true p (length xs) i)) in
-    by-test (Derived xs p) (eqb (getD xs p 0) quote)
+    cond-elim (Derived xs p) (eqb (getD xs p 0) quote)
     (λ q. string-value xs p (stringAt xs false false (p + 1)) (e ∙ cons-same (eqb-true (getD xs p 0) quote q) refl) refl)
-    (λ q. by-test (Derived xs p) (isBare (getD xs p 0)) (λ h. bare-value e q h) (λ h. tt)))
+    (λ q. cond-elim (Derived xs p) (isBare (getD xs p 0)) (λ h. bare-value e q h) (λ h. tt)))
     (λ i. tt)
   where
     bare-value : drop p xs ≡ getD xs p 0 ∷ drop (p + 1) xs → eqb (getD xs p 0) quote ≡ false → isBare (getD xs p 0) ≡ true → Derived xs p (bareValue p (p + run isBare (drop p xs)))

@@ -4,10 +4,6 @@ use Rattle.date.specs.Relations.{earlierOrInside}
 use borrow.Author.Needs.{needs}
 use Rattle.date.proofs.compare.earlier_or_inside.Statement.{statement}
 use Rattle.date.proofs.compare.earlier_or_inside.Tie as tie
-use Rattle.date.proofs.compare.earlier_or_inside.Reads as reads
-use Rattle.date.proofs.compare.earlier_or_inside.Lts as lts
-use Rattle.date.proofs.compare.earlier.Reads as earlier-reads
-use Rattle.date.proofs.compare.inside.Reads as inside-reads
 
 earlier-requires : tie.Need-earlier-requires
 earlier-requires c κs = search needs

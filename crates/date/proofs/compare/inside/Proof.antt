@@ -4,10 +4,6 @@ use Rattle.date.specs.Relations.{inside}
 use borrow.Author.Needs.{needs}
 use Rattle.date.proofs.compare.inside.Statement.{statement}
 use Rattle.date.proofs.compare.inside.Tie as tie
-use Rattle.date.proofs.compare.inside.Reads as reads
-use Rattle.date.proofs.compare.inside.Lts as lts
-use Rattle.date.proofs.compare.ends_within.Reads as ends-within-reads
-use Rattle.date.proofs.compare.starts_within.Reads as starts-within-reads
 
 starts-within-requires : tie.Need-starts-within-requires
 starts-within-requires c κs = search needs

@@ -4,10 +4,6 @@ use Rattle.date.specs.Relations.{laterOrInside}
 use borrow.Author.Needs.{needs}
 use Rattle.date.proofs.compare.later_or_inside.Statement.{statement}
 use Rattle.date.proofs.compare.later_or_inside.Tie as tie
-use Rattle.date.proofs.compare.later_or_inside.Reads as reads
-use Rattle.date.proofs.compare.later_or_inside.Lts as lts
-use Rattle.date.proofs.compare.inside.Reads as inside-reads
-use Rattle.date.proofs.compare.later.Reads as later-reads
 
 later-requires : tie.Need-later-requires
 later-requires c κs = search needs

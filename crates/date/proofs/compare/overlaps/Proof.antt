@@ -4,9 +4,6 @@ use Rattle.date.specs.Relations.{overlaps}
 use borrow.Author.Needs.{needs}
 use Rattle.date.proofs.compare.overlaps.Statement.{statement}
 use Rattle.date.proofs.compare.overlaps.Tie as tie
-use Rattle.date.proofs.compare.overlaps.Reads as reads
-use Rattle.date.proofs.compare.overlaps.Lts as lts
-use Rattle.date.proofs.compare.starts_before_end.Reads as starts-before-end-reads
 
 starts-before-end-requires : tie.Need-starts-before-end-requires
 starts-before-end-requires c κs = search needs

@@ -3,9 +3,6 @@ use Rattle.date.proofs.Relations.{same-precision, same-start, same-offs
 use borrow.Author.Needs.{needs}
 use Rattle.date.proofs.compare.same.Statement.{statement}
 use Rattle.date.proofs.compare.same.Tie as tie
-use Rattle.date.proofs.compare.same.Reads as reads
-use Rattle.date.proofs.compare.same.Lts as lts
-use Rattle.date.proofs.compare.rank.Reads as rank-reads
 
 rank-requires : tie.Need-rank-requires
 rank-requires c κs = search needs

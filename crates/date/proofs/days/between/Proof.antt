@@ -3,8 +3,6 @@ use borrow.Author.Tests.{le-leb, lt-leb}
 use Rattle.date.specs.Fields.{between}
 use Rattle.date.proofs.days.between.Statement.{statement}
 use Rattle.date.proofs.days.between.Tie as tie
-use Rattle.date.proofs.days.between.Reads as reads
-use Rattle.date.proofs.days.between.Lts as lts
 
 returns : tie.Need-returns
 unfolding between

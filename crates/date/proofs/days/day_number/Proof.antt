@@ -4,9 +4,6 @@ use Rattle.date.proofs.Calendar.{day-of-year, day-number-is}
 use borrow.Author.Needs.{needs}
 use Rattle.date.proofs.days.day_number.Statement.{statement}
 use Rattle.date.proofs.days.day_number.Tie as tie
-use Rattle.date.proofs.days.day_number.Reads as reads
-use Rattle.date.proofs.days.day_number.Lts as lts
-use Rattle.date.proofs.days.days_before_month.Reads as days-before-month-reads
 
 sub-p : tie.Need-sub-p
 sub-p c = search needs

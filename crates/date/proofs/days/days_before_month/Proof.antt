@@ -3,9 +3,6 @@ use Rattle.date.proofs.Calendar.{before-early, before-leap, before-comm
 use borrow.Author.Needs.{needs}
 use Rattle.date.proofs.days.days_before_month.Statement.{statement}
 use Rattle.date.proofs.days.days_before_month.Tie as tie
-use Rattle.date.proofs.days.days_before_month.Reads as reads
-use Rattle.date.proofs.days.days_before_month.Lts as lts
-use Rattle.date.proofs.days.leap_year.Reads as leap-year-reads
 
 mul-n : tie.Need-mul-n
 mul-n c = search needs

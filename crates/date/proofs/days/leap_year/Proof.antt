@@ -3,8 +3,6 @@ use borrow.Author.Tests.{eq-eqb, ne-eqb}
 use Rattle.date.specs.Calendar.{leapYear}
 use Rattle.date.proofs.days.leap_year.Statement.{statement}
 use Rattle.date.proofs.days.leap_year.Tie as tie
-use Rattle.date.proofs.days.leap_year.Reads as reads
-use Rattle.date.proofs.days.leap_year.Lts as lts
 
 returns : tie.Need-returns
 unfolding leapYear

@@ -5,11 +5,6 @@ use Rattle.date.proofs.Fields.{month-says, day-test}
 use borrow.Author.Needs.{needs}
 use Rattle.date.proofs.days.valid_day.Statement.{statement}
 use Rattle.date.proofs.days.valid_day.Tie as tie
-use Rattle.date.proofs.days.valid_day.Reads as reads
-use Rattle.date.proofs.days.valid_day.Lts as lts
-use Rattle.date.proofs.days.between.Reads as between-reads
-use Rattle.date.proofs.days.month_length.Reads as month-length-reads
-use Rattle.date.proofs.days.valid_month.Reads as valid-month-reads
 
 valid-month-requires : tie.Need-valid-month-requires
 valid-month-requires c κs = search needs

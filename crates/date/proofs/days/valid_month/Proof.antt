@@ -4,10 +4,6 @@ use Rattle.date.specs.Fields.{validMonth}
 use borrow.Author.Needs.{needs}
 use Rattle.date.proofs.days.valid_month.Statement.{statement}
 use Rattle.date.proofs.days.valid_month.Tie as tie
-use Rattle.date.proofs.days.valid_month.Reads as reads
-use Rattle.date.proofs.days.valid_month.Lts as lts
-use Rattle.date.proofs.days.between.Reads as between-reads
-use Rattle.date.proofs.days.valid_year.Reads as valid-year-reads
 
 valid-year-requires : tie.Need-valid-year-requires
 valid-year-requires c κs = search needs

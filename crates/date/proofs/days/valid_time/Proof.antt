@@ -3,8 +3,6 @@ use borrow.Author.Tests.{le-leb, lt-leb}
 use Rattle.date.specs.Fields.{validTime}
 use Rattle.date.proofs.days.valid_time.Statement.{statement}
 use Rattle.date.proofs.days.valid_time.Tie as tie
-use Rattle.date.proofs.days.valid_time.Reads as reads
-use Rattle.date.proofs.days.valid_time.Lts as lts
 
 returns : tie.Need-returns
 unfolding validTime

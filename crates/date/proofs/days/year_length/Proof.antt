@@ -3,9 +3,6 @@ use Rattle.date.proofs.Calendar.{year-leap, year-common}
 use borrow.Author.Needs.{needs}
 use Rattle.date.proofs.days.year_length.Statement.{statement}
 use Rattle.date.proofs.days.year_length.Tie as tie
-use Rattle.date.proofs.days.year_length.Reads as reads
-use Rattle.date.proofs.days.year_length.Lts as lts
-use Rattle.date.proofs.days.leap_year.Reads as leap-year-reads
 
 leap-year-requires : tie.Need-leap-year-requires
 leap-year-requires c κs = search needs

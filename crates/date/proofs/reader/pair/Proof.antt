@@ -4,8 +4,6 @@ use Rattle.date.proofs.Texts.{product-fits, value-fits, pair-first, pai
 use borrow.Author.Needs.{needs}
 use Rattle.date.proofs.reader.pair.Statement.{statement}
 use Rattle.date.proofs.reader.pair.Tie as tie
-use Rattle.date.proofs.reader.pair.Reads as reads
-use Rattle.date.proofs.reader.pair.Lts as lts
 
 mul-result : tie.Need-mul-result
 mul-result c = search (product-fits, le-of-lt, needs)

@@ -3,13 +3,6 @@ use Rattle.date.proofs.Texts.{zone-bound, read-year, read-month, read-d
 use borrow.Author.Needs.{needs}
 use Rattle.date.proofs.reader.read.Statement.{statement}
 use Rattle.date.proofs.reader.read.Tie as tie
-use Rattle.date.proofs.reader.read.Reads as reads
-use Rattle.date.proofs.reader.read.Lts as lts
-use Rattle.date.proofs.reader.read_day.Reads as read-day-reads
-use Rattle.date.proofs.reader.read_local.Reads as read-local-reads
-use Rattle.date.proofs.reader.read_month.Reads as read-month-reads
-use Rattle.date.proofs.reader.read_year.Reads as read-year-reads
-use Rattle.date.proofs.reader.zone.Reads as zone-reads
 
 read-year-requires : tie.Need-read-year-requires
 read-year-requires c κs = search needs
@@ -32,8 +25,8 @@ returns-3 c = search (read-day, needs)
 returns-4 : tie.Need-returns-4
 returns-4 c = search (read-short, needs)
 
-zone-requires : tie.Need-zone-requires
-zone-requires c κs = search needs
+zone-at-requires : tie.Need-zone-at-requires
+zone-at-requires c κs = search needs
 
 enum-known-offset : tie.Need-enum-known-offset
 enum-known-offset c = search needs
@@ -61,7 +54,7 @@ read-spec =
     read-day-requires
     returns-3
     returns-4
-    zone-requires
+    zone-at-requires
     enum-known-offset
     read-local-requires
     enum-told

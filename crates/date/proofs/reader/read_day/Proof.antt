@@ -6,22 +6,15 @@ use Rattle.date.proofs.Texts.{day-on, day-off}
 use borrow.Author.Needs.{needs}
 use Rattle.date.proofs.reader.read_day.Statement.{statement}
 use Rattle.date.proofs.reader.read_day.Tie as tie
-use Rattle.date.proofs.reader.read_day.Reads as reads
-use Rattle.date.proofs.reader.read_day.Lts as lts
-use Rattle.date.proofs.days.day_number.Reads as day-number-reads
-use Rattle.date.proofs.days.valid_day.Reads as valid-day-reads
-use Rattle.date.proofs.reader.field.Reads as field-reads
-use Rattle.date.proofs.reader.four.Reads as four-reads
-use Rattle.date.proofs.seconds.days_from.Reads as days-from-reads
 
-four-requires : tie.Need-four-requires
-four-requires c κs = search needs
+four-at-requires : tie.Need-four-at-requires
+four-at-requires c κs = search needs
 
-field-requires : tie.Need-field-requires
-field-requires c κs = search needs
+field-at-requires : tie.Need-field-at-requires
+field-at-requires c κs = search needs
 
-field-requires-2 : tie.Need-field-requires-2
-field-requires-2 c κs = search needs
+field-at-requires-2 : tie.Need-field-at-requires-2
+field-at-requires-2 c κs = search needs
 
 valid-day-requires : tie.Need-valid-day-requires
 valid-day-requires c κs = search needs
@@ -42,9 +35,9 @@ pub read-day-spec : {M : Type 1} → statement M
 read-day-spec =
     tie.close
     (tie.spec
-    four-requires
-    field-requires
-    field-requires-2
+    four-at-requires
+    field-at-requires
+    field-at-requires-2
     valid-day-requires
     day-number-requires
     days-from-requires

@@ -6,36 +6,27 @@ use Rattle.date.proofs.Texts.{local-on, local-day, local-time}
 use borrow.Author.Needs.{needs}
 use Rattle.date.proofs.reader.read_local.Statement.{statement}
 use Rattle.date.proofs.reader.read_local.Tie as tie
-use Rattle.date.proofs.reader.read_local.Reads as reads
-use Rattle.date.proofs.reader.read_local.Lts as lts
-use Rattle.date.proofs.days.day_number.Reads as day-number-reads
-use Rattle.date.proofs.days.valid_day.Reads as valid-day-reads
-use Rattle.date.proofs.days.valid_time.Reads as valid-time-reads
-use Rattle.date.proofs.reader.field.Reads as field-reads
-use Rattle.date.proofs.reader.four.Reads as four-reads
-use Rattle.date.proofs.seconds.second_from.Reads as second-from-reads
-use Rattle.date.proofs.seconds.second_of_day.Reads as second-of-day-reads
 
-four-requires : tie.Need-four-requires
-four-requires c κs = search needs
+four-at-requires : tie.Need-four-at-requires
+four-at-requires c κs = search needs
 
-field-requires : tie.Need-field-requires
-field-requires c κs = search needs
+field-at-requires : tie.Need-field-at-requires
+field-at-requires c κs = search needs
 
-field-requires-2 : tie.Need-field-requires-2
-field-requires-2 c κs = search needs
+field-at-requires-2 : tie.Need-field-at-requires-2
+field-at-requires-2 c κs = search needs
 
 valid-day-requires : tie.Need-valid-day-requires
 valid-day-requires c κs = search needs
 
-field-requires-3 : tie.Need-field-requires-3
-field-requires-3 c κs = search needs
+field-at-requires-3 : tie.Need-field-at-requires-3
+field-at-requires-3 c κs = search needs
 
-field-requires-4 : tie.Need-field-requires-4
-field-requires-4 c κs = search needs
+field-at-requires-4 : tie.Need-field-at-requires-4
+field-at-requires-4 c κs = search needs
 
-field-requires-5 : tie.Need-field-requires-5
-field-requires-5 c κs = search needs
+field-at-requires-5 : tie.Need-field-at-requires-5
+field-at-requires-5 c κs = search needs
 
 valid-time-requires : tie.Need-valid-time-requires
 valid-time-requires c κs = search needs
@@ -62,13 +53,13 @@ pub read-local-spec : {M : Type 1} → statement M
 read-local-spec =
     tie.close
     (tie.spec
-    four-requires
-    field-requires
-    field-requires-2
+    four-at-requires
+    field-at-requires
+    field-at-requires-2
     valid-day-requires
-    field-requires-3
-    field-requires-4
-    field-requires-5
+    field-at-requires-3
+    field-at-requires-4
+    field-at-requires-5
     valid-time-requires
     day-number-requires
     second-of-day-requires

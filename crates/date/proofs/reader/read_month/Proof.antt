@@ -6,20 +6,12 @@ use Rattle.date.proofs.Texts.{month-on, month-off}
 use borrow.Author.Needs.{needs}
 use Rattle.date.proofs.reader.read_month.Statement.{statement}
 use Rattle.date.proofs.reader.read_month.Tie as tie
-use Rattle.date.proofs.reader.read_month.Reads as reads
-use Rattle.date.proofs.reader.read_month.Lts as lts
-use Rattle.date.proofs.days.day_number.Reads as day-number-reads
-use Rattle.date.proofs.days.month_length.Reads as month-length-reads
-use Rattle.date.proofs.days.valid_month.Reads as valid-month-reads
-use Rattle.date.proofs.reader.field.Reads as field-reads
-use Rattle.date.proofs.reader.four.Reads as four-reads
-use Rattle.date.proofs.seconds.days_from.Reads as days-from-reads
 
-four-requires : tie.Need-four-requires
-four-requires c κs = search needs
+four-at-requires : tie.Need-four-at-requires
+four-at-requires c κs = search needs
 
-field-requires : tie.Need-field-requires
-field-requires c κs = search needs
+field-at-requires : tie.Need-field-at-requires
+field-at-requires c κs = search needs
 
 valid-month-requires : tie.Need-valid-month-requires
 valid-month-requires c κs = search needs
@@ -43,8 +35,8 @@ pub read-month-spec : {M : Type 1} → statement M
 read-month-spec =
     tie.close
     (tie.spec
-    four-requires
-    field-requires
+    four-at-requires
+    field-at-requires
     valid-month-requires
     day-number-requires
     month-length-requires

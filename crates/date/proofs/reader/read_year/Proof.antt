@@ -6,16 +6,9 @@ use Rattle.date.proofs.Texts.{year-on, year-off}
 use borrow.Author.Needs.{needs}
 use Rattle.date.proofs.reader.read_year.Statement.{statement}
 use Rattle.date.proofs.reader.read_year.Tie as tie
-use Rattle.date.proofs.reader.read_year.Reads as reads
-use Rattle.date.proofs.reader.read_year.Lts as lts
-use Rattle.date.proofs.days.day_number.Reads as day-number-reads
-use Rattle.date.proofs.days.valid_year.Reads as valid-year-reads
-use Rattle.date.proofs.days.year_length.Reads as year-length-reads
-use Rattle.date.proofs.reader.four.Reads as four-reads
-use Rattle.date.proofs.seconds.days_from.Reads as days-from-reads
 
-four-requires : tie.Need-four-requires
-four-requires c κs = search needs
+four-at-requires : tie.Need-four-at-requires
+four-at-requires c κs = search needs
 
 valid-year-requires : tie.Need-valid-year-requires
 valid-year-requires c κs = search needs
@@ -39,7 +32,7 @@ pub read-year-spec : {M : Type 1} → statement M
 read-year-spec =
     tie.close
     (tie.spec
-    four-requires
+    four-at-requires
     valid-year-requires
     day-number-requires
     year-length-requires

@@ -3,9 +3,6 @@ use Rattle.date.proofs.Texts.{readable-on, readable-off}
 use borrow.Author.Needs.{needs}
 use Rattle.date.proofs.reader.readable.Statement.{statement}
 use Rattle.date.proofs.reader.readable.Tie as tie
-use Rattle.date.proofs.reader.readable.Reads as reads
-use Rattle.date.proofs.reader.readable.Lts as lts
-use Rattle.date.proofs.reader.read.Reads as read-reads
 
 read-requires : tie.Need-read-requires
 read-requires c κs = search needs

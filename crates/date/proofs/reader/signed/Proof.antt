@@ -3,8 +3,6 @@ use Rattle.date.proofs.Texts.{west-fits, signed-minute, signed-most, si
 use borrow.Author.Needs.{needs}
 use Rattle.date.proofs.reader.signed.Statement.{statement}
 use Rattle.date.proofs.reader.signed.Tie as tie
-use Rattle.date.proofs.reader.signed.Reads as reads
-use Rattle.date.proofs.reader.signed.Lts as lts
 
 mul-minutes : tie.Need-mul-minutes
 mul-minutes c = search needs

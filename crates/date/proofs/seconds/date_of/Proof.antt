@@ -3,9 +3,6 @@ use Rattle.date.proofs.Spans.{date-of-is}
 use borrow.Author.Needs.{needs}
 use Rattle.date.proofs.seconds.date_of.Statement.{statement}
 use Rattle.date.proofs.seconds.date_of.Tie as tie
-use Rattle.date.proofs.seconds.date_of.Reads as reads
-use Rattle.date.proofs.seconds.date_of.Lts as lts
-use Rattle.date.proofs.seconds.instant.Reads as instant-reads
 
 instant-requires : tie.Need-instant-requires
 instant-requires c κs = search needs

@@ -3,9 +3,6 @@ use Rattle.date.specs.Spans.{daysFrom}
 use borrow.Author.Needs.{needs}
 use Rattle.date.proofs.seconds.days_from.Statement.{statement}
 use Rattle.date.proofs.seconds.days_from.Tie as tie
-use Rattle.date.proofs.seconds.days_from.Reads as reads
-use Rattle.date.proofs.seconds.days_from.Lts as lts
-use Rattle.date.proofs.seconds.date_of.Reads as date-of-reads
 
 mul-date-of : tie.Need-mul-date-of
 mul-date-of c = search needs

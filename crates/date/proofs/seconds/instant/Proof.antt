@@ -1,10 +1,8 @@
 -- `date::seconds::instant` meets its contract: each signed operation fits, and their bits read back to the instant. Assumes nothing.
-use Rattle.date.proofs.Spans.{since-fits, offset-fits, instant-fits, instant-is}
+use Rattle.date.proofs.Spans.{since-fits, seconds-fits, instant-fits, instant-is}
 use borrow.Author.Needs.{needs}
 use Rattle.date.proofs.seconds.instant.Statement.{statement}
 use Rattle.date.proofs.seconds.instant.Tie as tie
-use Rattle.date.proofs.seconds.instant.Reads as reads
-use Rattle.date.proofs.seconds.instant.Lts as lts
 
 cast-result : tie.Need-cast-result
 cast-result c = search needs
@@ -13,7 +11,7 @@ sub-result : tie.Need-sub-result
 sub-result c = search (since-fits, needs)
 
 mul-result : tie.Need-mul-result
-mul-result c = search (offset-fits, needs)
+mul-result c = search (seconds-fits, needs)
 
 sub-result-2 : tie.Need-sub-result-2
 sub-result-2 c = search (instant-fits, needs)

@@ -3,9 +3,6 @@ use Rattle.date.proofs.Spans.{second-from-is}
 use borrow.Author.Needs.{needs}
 use Rattle.date.proofs.seconds.second_from.Statement.{statement}
 use Rattle.date.proofs.seconds.second_from.Tie as tie
-use Rattle.date.proofs.seconds.second_from.Reads as reads
-use Rattle.date.proofs.seconds.second_from.Lts as lts
-use Rattle.date.proofs.seconds.date_of.Reads as date-of-reads
 
 mul-from : tie.Need-mul-from
 mul-from c = search needs

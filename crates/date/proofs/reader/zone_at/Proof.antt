@@ -1,13 +1,8 @@
--- `date::reader::zone` meets its contract: the two lengths of a zone, and what each reads to. Assumes nothing.
+-- `date::reader::zone_at` meets its contract: the two lengths of a zone, and what each reads to. Assumes nothing.
 use Rattle.date.proofs.Texts.{two-most, field-most, zone-utc, zone-letter, zone-signed, zone-length}
 use borrow.Author.Needs.{needs}
-use Rattle.date.proofs.reader.zone.Statement.{statement}
-use Rattle.date.proofs.reader.zone.Tie as tie
-use Rattle.date.proofs.reader.zone.Reads as reads
-use Rattle.date.proofs.reader.zone.Lts as lts
-use Rattle.date.proofs.reader.field.Reads as field-reads
-use Rattle.date.proofs.reader.signed.Reads as signed-reads
-use Rattle.date.proofs.reader.two.Reads as two-reads
+use Rattle.date.proofs.reader.zone_at.Statement.{statement}
+use Rattle.date.proofs.reader.zone_at.Tie as tie
 
 add-if1 : tie.Need-add-if1
 add-if1 c = search needs
@@ -27,17 +22,17 @@ add-if3 c = search needs
 shared-slice-read-signed : tie.Need-shared-slice-read-signed
 shared-slice-read-signed c = search needs
 
-add-two : tie.Need-add-two
-add-two c = search needs
+add-two-at : tie.Need-add-two-at
+add-two-at c = search needs
 
-two-requires : tie.Need-two-requires
-two-requires c κs = search needs
+two-at-requires : tie.Need-two-at-requires
+two-at-requires c κs = search needs
 
-add-field : tie.Need-add-field
-add-field c = search needs
+add-field-at : tie.Need-add-field-at
+add-field-at c = search needs
 
-field-requires : tie.Need-field-requires
-field-requires c κs = search needs
+field-at-requires : tie.Need-field-at-requires
+field-at-requires c κs = search needs
 
 signed-requires : tie.Need-signed-requires
 signed-requires c κs = search (two-most, field-most, needs)
@@ -48,8 +43,8 @@ returns-3 c = search (zone-signed, needs)
 returns-4 : tie.Need-returns-4
 returns-4 c = search (zone-length, needs)
 
-pub zone-spec : {M : Type 1} → statement M
-zone-spec =
+pub zone-at-spec : {M : Type 1} → statement M
+zone-at-spec =
     tie.close
     (tie.spec
     add-if1
@@ -58,10 +53,10 @@ zone-spec =
     returns-2
     add-if3
     shared-slice-read-signed
-    add-two
-    two-requires
-    add-field
-    field-requires
+    add-two-at
+    two-at-requires
+    add-field-at
+    field-at-requires
     signed-requires
     returns-3
     returns-4)
