@@ -1,0 +1,157 @@
+-- Check, match and select over lists of bytes, as functions that compute: refusals in the order of document 01's table.
+-- Assumes nothing.
+use Prim.Native.Nat.{ℕ, zero, suc, _+_, _*_, _-_, _/_, _%_}
+use mathlib.Core.Bool.{Bool, true, false, cond, not, _&&_, _||_}
+use mathlib.Core.Option.{Option, none, some}
+use mathlib.Core.List.{List, [], _∷_, _++_}
+use lib.Dec.{leb, eqb, ltb}
+use lib.ListN.{length, take, drop}
+use Rattle.base.specs.Parts.{part}
+use Rattle.block.specs.declared.Reading.{Reading}
+use Rattle.sheet.specs.Sheet.{Parameter, parametersOf, readSheet}
+use Rattle.card.specs.Card.{Entry, recordNumber, entriesOf, readCard}
+use Rattle.syntax.specs.Tree.{Test, Tree, testsOf}
+use Rattle.syntax.specs.Reader.{read}
+use Rattle.judge.specs.Sets.{conforms}
+use Rattle.judge.specs.Faults.{firstFault}
+use Rattle.judge.specs.Verdicts.{filterSays}
+use Rattle.judge.specs.declared.Fault.{Fault}
+use Rattle.judge.specs.declared.FirstFault.{FirstFault}
+use Rattle.sirophan.specs.Answers.{Answer, yesOrNo, count, refused}
+
+-- what was found, or a refusal: its number and its place
+pub data Step (A : Type 0) : Type 0 where
+  found : A → Step A
+  stop : ℕ → ℕ → Step A
+
+infixl 20 _>>=_
+abbrev pub _>>=_ : {A B : Type 0} → Step A → (A → Step B) → Step B
+found a >>= next = next a
+stop n p >>= next = stop n p
+
+abbrev pub answer : Step Answer → Answer
+answer (found a) = a
+answer (stop n p) = refused n p
+
+-- ---- the sheet: 1, 2, 3
+
+abbrev pub sheetStep : Reading → List Parameter → Step (List Parameter)
+sheetStep Reading.WellFormed ps = found ps
+sheetStep Reading.WrongSize ps = stop 1 0
+sheetStep Reading.WrongSum ps = stop 2 0
+sheetStep Reading.WrongLayout ps = stop 3 0
+
+unfoldable pub takeSheet : List ℕ → Step (List Parameter)
+takeSheet sheet = sheetStep (readSheet sheet) (parametersOf sheet)
+
+-- ---- the filter: 10, 11, and 14 to 17 for the first test at fault
+
+abbrev pub treeStep : Option Tree → Step Tree
+treeStep (some f) = found f
+treeStep none = stop 11 0
+
+unfoldable pub takeFilter : List ℕ → Step Tree
+takeFilter text = cond (eqb (length text) 0 || ltb 1024 (length text)) (stop 10 0) (treeStep (read text))
+
+abbrev pub faultStep : Fault → ℕ → Step (Unit {0})
+faultStep Fault.Nothing p = found tt
+faultStep Fault.UnknownName p = stop 14 p
+faultStep Fault.Unsupported p = stop 15 p
+faultStep Fault.NoMeaning p = stop 16 p
+faultStep Fault.Unreadable p = stop 17 p
+
+unfoldable pub testsStep : List Parameter → List Test → Step (Unit {0})
+testsStep ps ts = faultStep (firstFault ps ts .fault) (firstFault ps ts .position)
+
+-- the parameters of the sheet and the tree of the filter
+pub record Prepared : Type 0 where
+  pub parameters : List Parameter
+  pub filter : Tree
+
+unfoldable pub prepare : List ℕ → List ℕ → Step Prepared
+prepare sheet text = do
+  ps ← takeSheet sheet
+  f ← takeFilter text
+  u ← testsStep ps (testsOf f)
+  found (record { parameters = ps; filter = f })
+
+-- ---- cards: 20 to 23
+
+-- a card that conforms: its record number and its entries
+pub record Card : Type 0 where
+  pub number : ℕ
+  pub entries : List Entry
+
+abbrev pub cardStep : Reading → Bool → Card → ℕ → Step Card
+cardStep Reading.WrongSize fits c i = stop 20 i
+cardStep Reading.WrongSum fits c i = stop 21 i
+cardStep Reading.WrongLayout fits c i = stop 22 i
+cardStep Reading.WellFormed true c i = found c
+cardStep Reading.WellFormed false c i = stop 23 i
+
+-- the card with the index i in its run
+unfoldable pub takeCard : List Parameter → ℕ → List ℕ → Step Card
+takeCard ps i b = cardStep (readCard b) (conforms ps (entriesOf b)) (record { number = recordNumber b; entries = entriesOf b }) i
+
+-- ---- check and match
+
+unfoldable pub checkAnswer : List ℕ → List ℕ → Answer
+checkAnswer sheet text = answer (do
+  p ← prepare sheet text
+  found (count (length (testsOf (p .filter)))))
+
+unfoldable pub matchAnswer : List ℕ → List ℕ → List ℕ → Answer
+matchAnswer sheet text card = answer (do
+  p ← prepare sheet text
+  c ← takeCard (p .parameters) 0 card
+  found (yesOrNo (filterSays (p .parameters) (c .entries) (p .filter))))
+
+-- ---- select
+
+-- n blocks of 512 bytes, from the first on
+unfoldable pub blocks : ℕ → List ℕ → List (List ℕ)
+blocks zero bytes = []
+blocks (suc n) bytes = take 512 bytes ∷ blocks n (drop 512 bytes)
+
+-- "no whole number of blocks, or over 128": 20
+unfoldable pub takeRun : List ℕ → Step (List (List ℕ))
+takeRun cards =
+    cond (eqb (length cards % 512) 0 && leb (length cards) 65536) (found (blocks (length cards / 512) cards)) (stop 20 0)
+
+-- "for 21 to 23 the first faulty card decides, and on it the lower number"; i is the index of the first
+unfoldable pub takeCards : List Parameter → ℕ → List (List ℕ) → Step (List Card)
+takeCards ps i [] = found []
+takeCards ps i (b ∷ bs) = do
+  c ← takeCard ps i b
+  cs ← takeCards ps (suc i) bs
+  found (c ∷ cs)
+
+-- the record numbers of the cards on which the filter says yes, in card order and repeats kept
+unfoldable pub matching : List Parameter → Tree → List Card → List ℕ
+matching ps f [] = []
+matching ps f (c ∷ cs) = cond (filterSays ps (c .entries) f) (c .number ∷ matching ps f cs) (matching ps f cs)
+
+-- 30: "list shorter than the matches", place the number of matches
+unfoldable pub takeRoom : ℕ → List ℕ → Step (List ℕ)
+takeRoom room numbers = cond (leb (length numbers) room) (found numbers) (stop 30 (length numbers))
+
+-- the numbers that a selection writes, for a list of `room` cells
+unfoldable pub selection : List ℕ → List ℕ → List ℕ → ℕ → Step (List ℕ)
+selection sheet text cards room = do
+  p ← prepare sheet text
+  bs ← takeRun cards
+  cs ← takeCards (p .parameters) 0 bs
+  takeRoom room (matching (p .parameters) (p .filter) cs)
+
+unfoldable pub selectAnswer : List ℕ → List ℕ → List ℕ → ℕ → Answer
+selectAnswer sheet text cards room = answer (do
+  ns ← selection sheet text cards room
+  found (count (length ns)))
+
+-- the list's cells after a selection: the numbers from the first cell on, and later cells as they were; on a refusal all of them
+abbrev pub written : Step (List ℕ) → List ℕ → List ℕ
+written (found ns) list = ns ++ drop (length ns) list
+written (stop n p) list = list
+
+unfoldable pub selectCells : List ℕ → List ℕ → List ℕ → List ℕ → List ℕ
+selectCells sheet text cards list = written (selection sheet text cards (length list)) list

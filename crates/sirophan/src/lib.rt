@@ -1,0 +1,59 @@
+// Sirophan: which cards of an archive match a filter. A filter either has a meaning on every card that fits the sheet, and
+// is answered exactly, or is refused with a number and a place.
+
+// Why an operation refuses, in the order of the numbers of refusal.
+pub enum Reason {
+    // 1: the sheet is not 512 bytes.
+    SheetSize,
+    // 2: the sheet's check sum is wrong.
+    SheetSum,
+    // 3: the sheet breaks its layout or names.
+    SheetLayout,
+    // 10: the filter is empty or over 1,024 bytes.
+    FilterSize,
+    // 11: the text is no filter by the grammar.
+    NoFilter,
+    // 14: a test's name is not on the sheet.
+    UnknownName,
+    // 15: a test's operator is ap, ss, sb, in or ni.
+    Unsupported,
+    // 16: another operator without a meaning for the kind.
+    NoMeaning,
+    // 17: a test's value is unreadable.
+    Unreadable,
+    // 20: match: the card is not 512 bytes; select: no whole number of blocks, or over 128.
+    CardSize,
+    // 21: a card's check sum is wrong.
+    CardSum,
+    // 22: a card breaks its layout.
+    CardLayout,
+    // 23: a card is well formed but does not conform to the sheet.
+    CardMisfit,
+    // 30: the list is shorter than the matches.
+    ShortList,
+}
+
+// A refusal: why, and where. The place is a test's first byte, a card's index, the number of matches, or 0.
+pub struct Refusal {
+    pub reason: Reason,
+    pub place: usize,
+}
+
+// What check answers: the number of tests, or a refusal.
+pub enum Checked {
+    Tests(usize),
+    Refused(Refusal),
+}
+
+// What match answers.
+pub enum Matched {
+    Yes,
+    No,
+    Refused(Refusal),
+}
+
+// What select answers: the number of matching cards, or a refusal.
+pub enum Selected {
+    Count(usize),
+    Refused(Refusal),
+}
