@@ -18,14 +18,18 @@ use Rattle.judge.specs.declared.FirstFault.{FirstFault}
 unfoldable pub unsupported : ℕ → Bool
 unsupported k = member k (ap ∷ ss ∷ sb ∷ «in» ∷ ni ∷ [])
 
--- the fault of an operator and a value at what the path names: the line with the lowest number
-abbrev pub faultAt : Found → ℕ → List ℕ → Fault
-faultAt Found.Missing k v = Fault.UnknownName
-faultAt (Found.At i kind) k v =
+-- the fault of an operator and a value for a kind: the line with the lowest number
+unfoldable pub kindFault : ℕ → ℕ → List ℕ → Fault
+kindFault k kind v =
     cond (unsupported k) Fault.Unsupported
     (cond (hasMeaning k kind)
     (cond (valueReadable k kind v) Fault.Nothing Fault.Unreadable)
     Fault.NoMeaning)
+
+-- the same at what the path names
+abbrev pub faultAt : Found → ℕ → List ℕ → Fault
+faultAt Found.Missing k v = Fault.UnknownName
+faultAt (Found.At i kind) k v = kindFault k kind v
 
 unfoldable pub testFault : List Parameter → Test → Fault
 testFault ps t = faultAt (lookup ps (t .path)) (t .operator) (t .value)

@@ -4,6 +4,7 @@ use Prim.Native.Nat.{ℕ}
 use mathlib.Core.Bool.{Bool, true, false, cond, _&&_}
 use mathlib.Core.List.{List, [], _∷_}
 use lib.Dec.{eqb}
+use lib.ListN.{getD}
 use Rattle.sheet.specs.Sheet.{Parameter}
 use Rattle.sheet.specs.Find.{find, kindOf}
 use Rattle.sheet.specs.declared.Found.{Found}
@@ -37,3 +38,8 @@ entryConforms ps e = readableAs (kindOf (e .index) ps) (e .text)
 unfoldable pub conforms : List Parameter → List Entry → Bool
 conforms ps [] = true
 conforms ps (e ∷ es) = entryConforms ps e && conforms ps es
+
+-- the same from a table of the kinds by index, where 0 is no kind
+unfoldable pub conformsTo : List ℕ → List Entry → Bool
+conformsTo kinds [] = true
+conformsTo kinds (e ∷ es) = cardReadable (getD kinds (e .index) 0) (e .text) && conformsTo kinds es

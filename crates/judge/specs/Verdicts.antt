@@ -10,6 +10,7 @@ use Rattle.syntax.specs.Tree.{Test, Connective, and, or, Tree, test, join, nega
 use Rattle.kind.specs.Table.{meaningOf}
 use Rattle.kind.specs.Readable.{isTrue}
 use Rattle.kind.specs.Stands.{stands}
+use Rattle.kind.specs.declared.Relation.{Relation}
 use Rattle.kind.specs.declared.Meaning.{Meaning}
 use Rattle.judge.specs.Sets.{lookup, valuesAt}
 
@@ -24,12 +25,21 @@ unfoldable pub isEmpty : List (List ℕ) → Bool
 isEmpty [] = true
 isEmpty (x ∷ xs) = false
 
+-- the text stands in the relation to the value, or, where differs, does not
+abbrev pub related : Bool → Relation → List ℕ → List ℕ → Bool
+related false r v x = stands r x v
+related true r v x = not (stands r x v)
+
+-- the same of an entry's text, where under says that it belongs to the set
+abbrev pub entryRelated : Bool → Bool → Relation → List ℕ → List ℕ → Bool
+entryRelated under differs r v x = under && related differs r v x
+
 -- "a test says yes when some text in the set stands in the relation; on an empty set it says no, save pr, where pr true asks
 -- for a set that is not empty and pr false for an empty one"; "ne: some text in the set is not eq"
 unfoldable pub saysOf : Meaning → List ℕ → List (List ℕ) → Bool
 saysOf Meaning.Present v set = cond (isTrue v) (not (isEmpty set)) (isEmpty set)
-saysOf (Meaning.Relates r) v set = someValue (λ x. stands r x v) set
-saysOf (Meaning.Differs r) v set = someValue (λ x. not (stands r x v)) set
+saysOf (Meaning.Relates r) v set = someValue (related false r v) set
+saysOf (Meaning.Differs r) v set = someValue (related true r v) set
 saysOf Meaning.Nothing v set = false
 
 -- an operator and a value at what the path names

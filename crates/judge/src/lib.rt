@@ -1,4 +1,12 @@
 // Tests judged on a sheet and on a card: a test's fault, whether a card conforms to a sheet, what a test says of a card.
+mod faults;
+mod sets;
+mod tests;
+mod verdicts;
+
+pub use sets::conforms;
+pub use tests::test_fault;
+pub use tests::test_says;
 
 // What is wrong with a test on a sheet, whatever the card.
 pub enum Fault {

@@ -2,6 +2,7 @@
 pub mod Parameters
 pub mod Read
 pub mod Search
+pub mod Filling
 pub mod RoundTrip
 pub mod Sheets
 pub mod Trial

@@ -1,10 +1,10 @@
 -- How a parameter is found by its name, and its kind by its index.
 -- Assumes nothing.
-use Prim.Native.Nat.{ℕ, zero, suc}
+use Prim.Native.Nat.{ℕ, zero, suc, _-_}
 use mathlib.Core.Path.{_≡_}
 use mathlib.Core.Bool.{cond}
-use mathlib.Core.List.{List, [], _∷_, _++_}
-use lib.ListN.{length}
+use mathlib.Core.List.{List, [], _∷_, _++_, map}
+use lib.ListN.{length, replicate}
 use Rattle.base.specs.Lists.{equal}
 use Rattle.sheet.specs.Sheet.{Parameter}
 use Rattle.sheet.specs.declared.Found.{Found}
@@ -33,3 +33,11 @@ pub record Listed (ps : List Parameter) (i : ℕ) (p : Parameter) : Type 0 where
   pub after : List Parameter
   pub split : ps ≡ before ++ (p ∷ after)
   pub index : length before ≡ i
+
+-- the list with zeros up to a length
+unfoldable pub padded : ℕ → List ℕ → List ℕ
+padded n xs = xs ++ replicate (n - length xs) 0
+
+-- the kinds by index, and 0 past the last, in 32 cells
+unfoldable pub kindsOf : List Parameter → List ℕ
+kindsOf ps = padded 32 (map (λ p. p .kind) ps)

@@ -10,7 +10,7 @@ ghost use Prim.Native.Nat.{_<_};
 ghost use lib.ListN.{length};
 ghost use Rattle.block.specs.Items.{items, Walk};
 ghost use Rattle.sheet.specs.Sheet.{parameter, parameterCount, parametersOf, isParameter, areParameters, absent, distinct, sheetLayout, readSheet, ParameterAt};
-ghost use Rattle.sheet.specs.Find.{find, kindOf};
+ghost use Rattle.sheet.specs.Find.{find, kindOf, kindsOf};
 
 // A parameter: its kind (1 string, 2 number, 3 date, 4 token, 5 reference), and where its name starts and ends in the sheet. The
 // next parameter starts where the name ends.
@@ -207,4 +207,23 @@ pub fn kind_of(sheet: &[u8], index: u8) -> Kind
         before -= 1;
     }
     Kind::Unknown
+}
+
+// The kinds of a well-formed sheet's parameters by their index, and 0 past the last.
+pub fn kinds(sheet: &[u8]) -> [u8; 32]
+    requires { ⌜ readSheet (now sheet) ≡ Reading.WellFormed ⌝ }
+    ensures { λ r. ⌜ r ≡ kindsOf (parametersOf (now (sheet .entry))) ⌝ }
+{
+    let mut kinds = [0u8; 32];
+    let mut at = 2;
+    let mut left = parameter_count(sheet);
+    let mut index: usize = 0;
+    while left > 0 {
+        let p = parameter_at(sheet, at, left);
+        kinds[index] = p.kind;
+        at = p.end;
+        left -= 1;
+        index += 1;
+    }
+    kinds
 }

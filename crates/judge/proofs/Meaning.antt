@@ -1,0 +1,174 @@
+-- The fault and the verdict of a test, as the code decides them.
+-- Assumes nothing.
+use Prim.Native.Nat.{ℕ, _≤_, _<_}
+use native.Mathlib.Omega.{arith}
+use mathlib.Core.Path.{_≡_, refl, sym, ap, _∙_}
+use mathlib.Core.Bool.{Bool, true, false, not, _||_}
+use mathlib.Core.List.{List}
+use lib.Dec.{eqb, leb}
+use lib.ListN.{take}
+use borrow.Author.Tests.{ne-eqb, le-leb, not-true}
+use Rattle.base.specs.Lists.{member}
+use Rattle.base.specs.Parts.{part}
+use Rattle.base.specs.Below.{passes}
+use Rattle.base.proofs.Below.{passes-at}
+use Rattle.sheet.specs.Sheet.{Parameter}
+use Rattle.sheet.specs.Find.{find}
+use Rattle.sheet.specs.declared.Found.{Found}
+use Rattle.card.specs.Card.{Entry}
+use Rattle.syntax.specs.Scan.{decode, Decoded, testOf}
+use Rattle.syntax.specs.declared.RawTest.{RawTest}
+use Rattle.kind.specs.Table.{meaningOf, isMeaning, hasMeaning}
+use Rattle.kind.specs.Readable.{isTrue, valueReadable}
+use Rattle.kind.specs.declared.Relation.{Relation}
+use Rattle.kind.specs.declared.Meaning.{Meaning}
+use Rattle.judge.specs.Faults.{unsupported, kindFault, faultAt, testFault}
+use Rattle.judge.specs.Sets.{lookup, valuesAt}
+use Rattle.judge.specs.Verdicts.{isEmpty, someValue, related, saysOf, saysAt, testSays}
+use Rattle.judge.specs.declared.Fault.{Fault}
+use Rattle.judge.proofs.Entries.{hasValue}
+
+-- ---- operators that are not supported
+
+-- below 14 only ap is among them, and from 14 to 17 all are
+low-rule : passes (λ (j : ℕ). eqb j 9 || not (unsupported j)) 14 ≡ true
+unfolding unsupported member
+low-rule = refl
+
+range-rule : passes (λ (j : ℕ). not (leb 14 j) || unsupported j) 18 ≡ true
+unfolding unsupported member
+range-rule = refl
+
+module _ (k : ℕ) where
+  pub unsupported-ap : k ≡ 9 → true ≡ unsupported k
+  unfolding unsupported member
+  unsupported-ap e = rw e
+
+  pub unsupported-low : (k ≡ 9 → ⊥) → k < 14 → false ≡ unsupported k
+  unsupported-low n h =
+      let t = passes-at (λ (j : ℕ). eqb j 9 || not (unsupported j)) 14 low-rule k h in
+      sym (not-true (unsupported k) (rw (ne-eqb k 9 n) at t))
+
+  pub unsupported-range : 14 ≤ k → k < 18 → true ≡ unsupported k
+  unsupported-range l h =
+      let t = passes-at (λ (j : ℕ). not (leb 14 j) || unsupported j) 18 range-rule k h in
+      sym (rw (le-leb 14 k l) at t)
+
+  pub unsupported-high : 18 ≤ k → false ≡ unsupported k
+  unfolding unsupported member
+  unsupported-high h =
+      let far : (j : ℕ) → j < 18 → k ≡ j → ⊥ = λ j i e. omega arith in
+      rw (ne-eqb k 9 (far 9 (omega arith)), ne-eqb k 14 (far 14 (omega arith)), ne-eqb k 15 (far 15 (omega arith)), ne-eqb k 16 (far 16 (omega arith)), ne-eqb k 17 (far 17 (omega arith)))
+
+-- ---- meanings
+
+module _ (k kind : ℕ) (m : Meaning) (e : m ≡ meaningOf k kind) where
+  pub has-present : m ≡ Meaning.Present → true ≡ hasMeaning k kind
+  unfolding hasMeaning
+  has-present h = ap isMeaning (sym h ∙ e)
+
+  pub has-relation : (r : Relation) → m ≡ Meaning.Relates r → true ≡ hasMeaning k kind
+  unfolding hasMeaning
+  has-relation r h = ap isMeaning (sym h ∙ e)
+
+  pub has-difference : (r : Relation) → m ≡ Meaning.Differs r → true ≡ hasMeaning k kind
+  unfolding hasMeaning
+  has-difference r h = ap isMeaning (sym h ∙ e)
+
+  pub has-nothing : m ≡ Meaning.Nothing → false ≡ hasMeaning k kind
+  unfolding hasMeaning
+  has-nothing h = ap isMeaning (sym h ∙ e)
+
+-- ---- faults
+
+module _ (k kind : ℕ) (v : List ℕ) (u : Bool) (e : u ≡ unsupported k) where
+  pub fault-unsupported : u ≡ true → Fault.Unsupported ≡ kindFault k kind v
+  unfolding kindFault
+  fault-unsupported h = rw (sym e ∙ h)
+
+  module _ (h : u ≡ false) (m : Bool) (f : m ≡ hasMeaning k kind) where
+    pub fault-meaning : m ≡ false → Fault.NoMeaning ≡ kindFault k kind v
+    unfolding kindFault
+    fault-meaning i = rw (sym e ∙ h, sym f ∙ i)
+
+    module _ (i : m ≡ true) (r : Bool) (g : r ≡ valueReadable k kind v) where
+      pub fault-nothing : r ≡ true → Fault.Nothing ≡ kindFault k kind v
+      unfolding kindFault
+      fault-nothing j = rw (sym e ∙ h, sym f ∙ i, sym g ∙ j)
+
+      pub fault-unreadable : r ≡ false → Fault.Unreadable ≡ kindFault k kind v
+      unfolding kindFault
+      fault-unreadable j = rw (sym e ∙ h, sym f ∙ i, sym g ∙ j)
+
+module _ (f found : Found) (k : ℕ) (v : List ℕ) (e : f ≡ found) where
+  pub fault-found : (i kind : ℕ) (r : Fault) → f ≡ Found.At i kind → r ≡ kindFault k kind v → r ≡ faultAt found k v
+  fault-found i kind r h g = rw (sym e ∙ h) g
+
+  pub fault-missing : f ≡ Found.Missing → Fault.UnknownName ≡ faultAt found k v
+  fault-missing h = rw (sym e ∙ h)
+
+  -- ---- verdicts
+
+  pub says-found : (es : List Entry) (i kind : ℕ) (m : Meaning) (r : Bool) → f ≡ Found.At i kind → m ≡ meaningOf k kind → r ≡ saysOf m v (valuesAt i es) → r ≡ saysAt found k v es
+  says-found es i kind m r h g s = rw (sym e ∙ h, ← g) s
+
+  pub says-missing : (es : List Entry) → f ≡ Found.Missing → false ≡ saysAt found k v es
+  says-missing es h = rw (sym e ∙ h)
+
+not-not : (b : Bool) → not (not b) ≡ b
+not-not true = refl
+not-not false = refl
+
+module _ (m : Meaning) (v : List ℕ) (i : ℕ) (es : List Entry) (r : Bool) where
+  pub says-present : (t : Bool) → m ≡ Meaning.Present → t ≡ isTrue v → t ≡ true → r ≡ hasValue i es → r ≡ saysOf m v (valuesAt i es)
+  unfolding saysOf
+  says-present t e f h g = rw (e, sym f ∙ h) g
+
+  pub says-absent : (t : Bool) → m ≡ Meaning.Present → t ≡ isTrue v → t ≡ false → r ≡ hasValue i es → not r ≡ saysOf m v (valuesAt i es)
+  unfolding saysOf
+  says-absent t e f h g = rw (e, sym f ∙ h, g) (not-not (isEmpty (valuesAt i es)))
+
+  pub says-relates : (s : Relation) → m ≡ Meaning.Relates s → r ≡ someValue (related false s v) (valuesAt i es) → r ≡ saysOf m v (valuesAt i es)
+  unfolding saysOf
+  says-relates s e g = rw e g
+
+  pub says-differs : (s : Relation) → m ≡ Meaning.Differs s → r ≡ someValue (related true s v) (valuesAt i es) → r ≡ saysOf m v (valuesAt i es)
+  unfolding saysOf
+  says-differs s e g = rw e g
+
+pub says-nothing : (m : Meaning) (v : List ℕ) (set : List (List ℕ)) → m ≡ Meaning.Nothing → false ≡ saysOf m v set
+unfolding saysOf
+says-nothing m v set e = rw e
+
+-- ---- tests as they stand in the text
+
+module _ (raw out : List ℕ) (n : ℕ) (d : Decoded raw out n) where
+  pub decoded-fault : (f : Found) (k : ℕ) (r : Fault) → r ≡ faultAt f k (take n out) → r ≡ faultAt f k (decode false raw)
+  decoded-fault f k r e = rw (← d .is) e
+
+  pub decoded-says : (f : Found) (k : ℕ) (es : List Entry) (r : Bool) → r ≡ saysAt f k (take n out) es → r ≡ saysAt f k (decode false raw) es
+  decoded-says f k es r e = rw (← d .is) e
+
+module _ (ps : List Parameter) (xs : List ℕ) (t : RawTest) where
+  abbrev found-at : Found
+  found-at = find (part xs (t .at) (t .until)) ps
+
+  abbrev raw-value : List ℕ
+  raw-value = part xs (t .value .start) (t .value .end)
+
+  pub fault-escaped : (r : Fault) → t .value .escaped ≡ true → r ≡ faultAt found-at (t .operator) (decode false raw-value) → r ≡ testFault ps (testOf xs t)
+  unfolding testFault lookup
+  fault-escaped r e h = rw e h
+
+  pub fault-plain : (r : Fault) → t .value .escaped ≡ false → r ≡ faultAt found-at (t .operator) raw-value → r ≡ testFault ps (testOf xs t)
+  unfolding testFault lookup
+  fault-plain r e h = rw e h
+
+  module _ (es : List Entry) (r : Bool) where
+    pub says-escaped : t .value .escaped ≡ true → r ≡ saysAt found-at (t .operator) (decode false raw-value) es → r ≡ testSays ps es (testOf xs t)
+    unfolding testSays lookup
+    says-escaped e h = rw e h
+
+    pub says-plain : t .value .escaped ≡ false → r ≡ saysAt found-at (t .operator) raw-value es → r ≡ testSays ps es (testOf xs t)
+    unfolding testSays lookup
+    says-plain e h = rw e h

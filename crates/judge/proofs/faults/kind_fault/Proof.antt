@@ -1,0 +1,38 @@
+-- `judge::faults::kind_fault` meets its contract: the tests are those of the definition. Assumes nothing.
+use borrow.Author.Needs.{needs}
+use Rattle.judge.proofs.Meaning.{fault-unsupported, fault-meaning, fault-nothing, fault-unreadable}
+use Rattle.judge.proofs.faults.kind_fault.Statement.{statement}
+use Rattle.judge.proofs.faults.kind_fault.Tie as tie
+
+unsupported-requires : tie.Need-unsupported-requires
+unsupported-requires c κs = search needs
+
+returns : tie.Need-returns
+returns c = search (fault-unsupported, needs)
+
+has-meaning-requires : tie.Need-has-meaning-requires
+has-meaning-requires c κs = search needs
+
+value-readable-requires : tie.Need-value-readable-requires
+value-readable-requires c κs = search needs
+
+returns-2 : tie.Need-returns-2
+returns-2 c = search (fault-nothing, needs)
+
+returns-3 : tie.Need-returns-3
+returns-3 c = search (fault-unreadable, needs)
+
+returns-4 : tie.Need-returns-4
+returns-4 c = search (fault-meaning, needs)
+
+pub kind-fault-spec : {M : Type 1} → statement M
+kind-fault-spec =
+    tie.close
+    (tie.spec
+    unsupported-requires
+    returns
+    has-meaning-requires
+    value-readable-requires
+    returns-2
+    returns-3
+    returns-4)

@@ -1,0 +1,70 @@
+-- `judge::sets::some_value` meets its contract: the entries to come decide. Assumes nothing.
+use borrow.Author.Needs.{needs}
+use Rattle.block.proofs.Invariants.{Visited}
+use Rattle.block.proofs.Items.{visited-next, visited-decides, visited-end}
+use Rattle.card.specs.Card.{entry, entriesOf}
+use Rattle.card.proofs.Entries.{entries-start}
+use Rattle.judge.proofs.Entries.{someRelated, some-here, some-next, some-end}
+use Rattle.judge.proofs.sets.some_value.Statement.{statement}
+use Rattle.judge.proofs.sets.some_value.Tie as tie
+
+abbrev Inv-loop : tie.InvT-loop
+Inv-loop card index differs relation value at₀ left₀ at left = Visited entry (someRelated differs relation value index) (someRelated differs relation value index (entriesOf card)) card at left
+
+abbrev μ-loop : tie.MeasureT-loop
+μ-loop card index differs relation value at₀ left₀ at left = left
+
+entry-count-requires : tie.Need-entry-count-requires Inv-loop μ-loop
+entry-count-requires c κs = search needs
+
+loop-holds : tie.Need-loop-holds Inv-loop μ-loop
+loop-holds c = search (entries-start, needs)
+
+entry-at-requires : tie.Need-entry-at-requires Inv-loop μ-loop
+entry-at-requires c κs = search needs
+
+sub-entry-related : tie.Need-sub-entry-related Inv-loop μ-loop
+sub-entry-related c = search needs
+
+part-entry-related-start : tie.Need-part-entry-related-start Inv-loop μ-loop
+part-entry-related-start c = search needs
+
+part-entry-related-end : tie.Need-part-entry-related-end Inv-loop μ-loop
+part-entry-related-end c = search needs
+
+entry-related-requires : tie.Need-entry-related-requires Inv-loop μ-loop
+entry-related-requires c κs = search needs
+
+returns : tie.Need-returns Inv-loop μ-loop
+returns c = search (visited-decides, some-here, needs)
+
+sub-left : tie.Need-sub-left Inv-loop μ-loop
+sub-left c = search needs
+
+loop-less : tie.Need-loop-less Inv-loop μ-loop
+loop-less c = search needs
+
+loop-again : tie.Need-loop-again Inv-loop μ-loop
+loop-again c = search (visited-next, some-next, needs)
+
+returns-2 : tie.Need-returns-2 Inv-loop μ-loop
+returns-2 c = search (visited-end, some-end, needs)
+
+pub some-value-spec : {M : Type 1} → statement M
+some-value-spec =
+    tie.close
+    (tie.spec
+    Inv-loop
+    μ-loop
+    entry-count-requires
+    loop-holds
+    entry-at-requires
+    sub-entry-related
+    part-entry-related-start
+    part-entry-related-end
+    entry-related-requires
+    returns
+    sub-left
+    loop-less
+    loop-again
+    returns-2)

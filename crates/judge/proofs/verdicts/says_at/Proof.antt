@@ -1,0 +1,38 @@
+-- `judge::verdicts::says_at` meets its contract: what the name is on the sheet decides. Assumes nothing.
+use borrow.Author.Needs.{needs}
+use Rattle.judge.proofs.Meaning.{says-found, says-missing}
+use Rattle.judge.proofs.verdicts.says_at.Statement.{statement}
+use Rattle.judge.proofs.verdicts.says_at.Tie as tie
+
+find-requires : tie.Need-find-requires
+find-requires c κs = search needs
+
+enum-known-index : tie.Need-enum-known-index
+enum-known-index c = search needs
+
+meaning-of-requires : tie.Need-meaning-of-requires
+meaning-of-requires c κs = search needs
+
+says-of-requires : tie.Need-says-of-requires
+says-of-requires c κs = search needs
+
+enum-told : tie.Need-enum-told
+enum-told c = search needs
+
+returns : tie.Need-returns
+returns c = search (says-found, needs)
+
+returns-2 : tie.Need-returns-2
+returns-2 c = search (says-missing, needs)
+
+pub says-at-spec : {M : Type 1} → statement M
+says-at-spec =
+    tie.close
+    (tie.spec
+    find-requires
+    enum-known-index
+    meaning-of-requires
+    says-of-requires
+    enum-told
+    returns
+    returns-2)

@@ -1,0 +1,59 @@
+// The fault of a test on a sheet, whatever the card.
+use crate::Fault;
+use block::Reading;
+use kind::Meaning;
+use sheet::Found;
+ghost use mathlib.Core.Path.{_≡_};
+ghost use Rattle.sheet.specs.Sheet.{parametersOf, readSheet};
+ghost use Rattle.sheet.specs.Find.{find};
+ghost use Rattle.kind.specs.Table.{hasMeaning};
+ghost use Rattle.judge.specs.Faults.{unsupported, kindFault, faultAt};
+
+// "word is ap, ss, sb, in or ni".
+fn unsupported(operator: u8) -> bool
+    ensures { λ r. ⌜ r ≡ unsupported operator ⌝ }
+{
+    match operator {
+        9 | 14 | 15 | 16 | 17 => true,
+        _ => false,
+    }
+}
+
+// Whether an operator has a meaning for a kind.
+fn has_meaning(operator: u8, kind: u8) -> bool
+    ensures { λ r. ⌜ r ≡ hasMeaning operator kind ⌝ }
+{
+    match kind::meaning_of(operator, kind) {
+        Meaning::Present => true,
+        Meaning::Relates(_) => true,
+        Meaning::Differs(_) => true,
+        Meaning::Nothing => false,
+    }
+}
+
+// The fault of an operator and a value for a kind, the lowest in number.
+fn kind_fault(operator: u8, kind: u8, value: &[u8]) -> Fault
+    ensures { λ r. ⌜ r ≡ kindFault operator kind (now (value .entry)) ⌝ }
+{
+    if unsupported(operator) {
+        return Fault::Unsupported;
+    }
+    if has_meaning(operator, kind) {
+        if kind::value_readable(operator, kind, value) {
+            return Fault::Nothing;
+        }
+        return Fault::Unreadable;
+    }
+    Fault::NoMeaning
+}
+
+// The fault of a test with this name, operator and value on a well-formed sheet.
+pub fn fault_at(sheet: &[u8], name: &[u8], operator: u8, value: &[u8]) -> Fault
+    requires { ⌜ readSheet (now sheet) ≡ Reading.WellFormed ⌝ }
+    ensures { λ r. ⌜ r ≡ faultAt (find (now (name .entry)) (parametersOf (now (sheet .entry)))) operator (now (value .entry)) ⌝ }
+{
+    match sheet::find(sheet, name) {
+        Found::At { index: _, kind } => kind_fault(operator, kind, value),
+        Found::Missing => Fault::UnknownName,
+    }
+}

@@ -1,0 +1,105 @@
+// The texts of a card: whether they conform to a sheet, and those under one parameter.
+use block::Reading;
+use kind::Relation;
+ghost use mathlib.Core.Path.{_≡_};
+ghost use mathlib.Core.Bool.{not};
+ghost use lib.ListN.{getD};
+ghost use Rattle.card.specs.Card.{entriesOf, readCard};
+ghost use Rattle.kind.specs.Readable.{cardReadable};
+ghost use Rattle.judge.specs.Sets.{valuesAt, conformsTo};
+ghost use Rattle.judge.specs.Verdicts.{someValue, isEmpty, related, entryRelated};
+
+// Whether the text of an entry is readable as the kind of its parameter.
+fn entry_conforms(kinds: &[u8], index: u8, text: &[u8]) -> bool
+    ensures { λ r. ⌜ r ≡ cardReadable (getD (now (kinds .entry)) index 0) (now (text .entry)) ⌝ }
+{
+    let i = index as usize;
+    if i < kinds.len() {
+        return kind::card_readable(kinds[i], text);
+    }
+    false
+}
+
+// Whether a well-formed card conforms to a sheet with these kinds (01: fits).
+pub fn conforms(kinds: &[u8], card: &[u8]) -> bool
+    requires { ⌜ readCard (now card) ≡ Reading.WellFormed ⌝ }
+    ensures { λ r. ⌜ r ≡ conformsTo (now (kinds .entry)) (entriesOf (now (card .entry))) ⌝ }
+{
+    let mut at = card::FIRST_ENTRY;
+    let mut left = card::entry_count(card);
+    while left > 0 {
+        let e = card::entry_at(card, at, left);
+        let start = e.start;
+        let end = e.end;
+        if !entry_conforms(kinds, e.index, &card[start..end]) {
+            return false;
+        }
+        at = end;
+        left -= 1;
+    }
+    true
+}
+
+// Whether a well-formed card has a text under a parameter.
+pub fn has_value(card: &[u8], index: u8) -> bool
+    requires { ⌜ readCard (now card) ≡ Reading.WellFormed ⌝ }
+    ensures { λ r. ⌜ r ≡ not (isEmpty (valuesAt index (entriesOf (now (card .entry))))) ⌝ }
+{
+    let mut at = card::FIRST_ENTRY;
+    let mut left = card::entry_count(card);
+    while left > 0 {
+        let e = card::entry_at(card, at, left);
+        if e.index == index {
+            return true;
+        }
+        at = e.end;
+        left -= 1;
+    }
+    false
+}
+
+// Whether a text stands in a relation to a value, or, where `differs`, does not.
+fn text_related(differs: bool, relation: Relation, value: &[u8], text: &[u8]) -> bool
+    ensures { λ r. ⌜ r ≡ related differs relation (now (value .entry)) (now (text .entry)) ⌝ }
+{
+    if differs {
+        return !kind::stands(relation, text, value);
+    }
+    kind::stands(relation, text, value)
+}
+
+// Whether an entry's text belongs to a parameter and is related to a value.
+fn entry_related(under: bool, differs: bool, relation: Relation, value: &[u8], text: &[u8]) -> bool
+    ensures { λ r. ⌜ r ≡ entryRelated under differs relation (now (value .entry)) (now (text .entry)) ⌝ }
+{
+    if under {
+        return text_related(differs, relation, value, text);
+    }
+    false
+}
+
+// Whether some text under a parameter stands in a relation to a value, or, where `differs`, some text does not.
+pub fn some_value(card: &[u8], index: u8, differs: bool, relation: Relation, value: &[u8]) -> bool
+    requires { ⌜ readCard (now card) ≡ Reading.WellFormed ⌝ }
+    ensures { λ r. ⌜ r ≡ someValue (related differs relation (now (value .entry))) (valuesAt index (entriesOf (now (card .entry)))) ⌝ }
+{
+    let mut at = card::FIRST_ENTRY;
+    let mut left = card::entry_count(card);
+    while left > 0 {
+        let e = card::entry_at(card, at, left);
+        let start = e.start;
+        let end = e.end;
+        if entry_related(
+            e.index == index,
+            differs,
+            relation,
+            value,
+            &card[start..end],
+        ) {
+            return true;
+        }
+        at = end;
+        left -= 1;
+    }
+    false
+}
