@@ -2,7 +2,7 @@
 -- Assumes nothing.
 use Prim.Native.Nat.{ℕ, _≤_}
 use native.Mathlib.Omega.{arith}
-use mathlib.Core.Path.{_≡_, refl, sym, _∙_, subst}
+use mathlib.Core.Path.{_≡_, refl, ap, sym, _∙_, subst}
 use mathlib.Core.Bool.{Bool, true, false, _&&_}
 use mathlib.Core.List.{List}
 use lib.ListN.{length, getD}
@@ -75,5 +75,5 @@ pub parameters-start : {A : Type 0} (G : List Parameter → A) (b : List ℕ) (n
     → answer ≡ G (parametersOf b) → Visited parameter G answer b 2 n
 unfolding parametersOf parameterCount
 parameters-start G b n answer e h a =
-    let walk = walk-start b 0x50 1 32 (blocked b h) (sheet-length b h) (omega arith) in
-    subst (λ (k : ℕ). Visited parameter G answer b 2 k) (sym e) (visited-start parameter G b 2 (getD b 1 0) answer walk a)
+    let walk = subst (Walk b 2) (sym e) (walk-start b 0x50 1 32 (blocked b h) (sheet-length b h) (omega arith)) in
+    visited-start parameter G b 2 n answer walk (a ∙ ap (λ (k : ℕ). G (items parameter k b 2)) (sym e))
