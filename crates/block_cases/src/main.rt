@@ -8,12 +8,12 @@ use build::sealed;
 use build::sealed_with;
 use show::card_line;
 use show::card_lines;
-use show::find_line;
-use show::kind_line;
 use show::sheet_line;
+use show::sheet_lines;
 
-// ---- cards. A case is a label, a colon and the bytes before the padding.
+// ---- cards
 
+// A case: a label, a colon and the bytes before the padding.
 fn card(case: &[u8]) {
     let end = label_end(case);
     card_line(&case[0..end], &sealed(&case[end..]));
@@ -35,6 +35,7 @@ fn trial_card() {
     card_line(b"card 7, its check sum changed:", &damaged(body, 511, 1));
 }
 
+// Sizes and layouts.
 fn cards() {
     card_line(b"card of 511 bytes:", &[0u8; 511]);
     card_line(b"card of 513 bytes:", &[0u8; 513]);
@@ -44,6 +45,7 @@ fn cards() {
     card(b"card with byte 0 of a sheet:\x50\x01\0\0\0\0");
 }
 
+// Numbers of entries, their end and the padding.
 fn card_ends() {
     card(b"card with 64 entries:\x43\x01\0\0\0\x40");
     card(b"card with 65 entries:\x43\x01\0\0\0\x41");
@@ -71,6 +73,7 @@ fn card_ends() {
 
 // ---- sheets
 
+// A case as above.
 fn sheet(case: &[u8]) {
     let end = label_end(case);
     sheet_line(&case[0..end], &sealed(&case[end..]));
@@ -79,16 +82,11 @@ fn sheet(case: &[u8]) {
 // Document 01's trial sheet.
 fn trial_sheet() {
     let body = b"\x50\x05\x01\x05title\x03\x09birthdate\x04\x04code\x02\x05pages\x05\x07subject";
-    let sheet = sealed(body);
-    sheet_line(b"trial sheet:", &sheet);
-    find_line(&sheet, b"title");
-    find_line(&sheet, b"subject");
-    find_line(&sheet, b"Title");
-    kind_line(&sheet, 4);
-    kind_line(&sheet, 5);
+    sheet_lines(b"trial sheet:", &sealed(body));
     sheet_line(b"trial sheet, a letter changed:", &damaged(body, 4, b'T'));
 }
 
+// Sizes, layouts and numbers of parameters.
 fn sheets() {
     sheet_line(b"sheet of 511 bytes:", &[0u8; 511]);
     sheet(b"sheet with no parameters:\x50\0");
@@ -105,6 +103,7 @@ fn sheets() {
     );
 }
 
+// Kinds, lengths of names and names that are there twice.
 fn parameters() {
     sheet(b"sheet with kind 0:\x50\x01\0\x01a");
     sheet(b"sheet with kind 6:\x50\x01\x06\x01a");
@@ -115,6 +114,7 @@ fn parameters() {
     sheet(b"sheet with a name in small and in capital:\x50\x02\x01\x01a\x02\x01A");
 }
 
+// What is a name.
 fn names() {
     sheet(b"sheet with name a-9_Z:\x50\x01\x01\x05a-9_Z");
     sheet(b"sheet with name _:\x50\x01\x01\x01_");

@@ -7,10 +7,12 @@ ghost use mathlib.Core.Path.{_≡_};
 ghost use Rattle.card.specs.Card.{readCard};
 ghost use Rattle.sheet.specs.Sheet.{readSheet};
 
+// Writes a text.
 fn text(t: &[u8]) {
     io::write_all(STDOUT_FILENO, t);
 }
 
+// Writes a number after a text.
 fn labelled(label: &[u8], n: u64) {
     text(label);
     io::print_decimal(STDOUT_FILENO, n);
@@ -99,28 +101,20 @@ pub fn sheet_line(label: &[u8], sheet: &[u8]) {
     }
 }
 
-fn found(index: u8, kind: u8) {
-    labelled(b": index ", base::wide(index));
-    labelled(b", kind ", base::wide(kind));
+// What a name is on a sheet: index and kind of its parameter.
+fn name_line(name: &[u8], f: Found) {
+    text(name);
+    match f {
+        Found::At { index, kind } => {
+            labelled(b": index ", base::wide(index));
+            labelled(b", kind ", base::wide(kind));
+        }
+        Found::Missing => text(b": missing"),
+    }
     text(b"\n");
 }
 
-fn name_line(name: &[u8], f: Found) {
-    text(b"  name ");
-    text(name);
-    match f {
-        Found::At { index, kind } => found(index, kind),
-        Found::Missing => text(b": missing\n"),
-    }
-}
-
-// What a name is on a sheet that is well formed.
-pub fn find_line(sheet: &[u8], name: &[u8]) {
-    if let Reading::WellFormed = sheet::read_sheet(sheet) {
-        name_line(name, sheet::find(sheet, name));
-    }
-}
-
+// What an index is on a sheet: the kind of its parameter.
 fn index_line(index: u8, k: Kind) {
     labelled(b"  index ", base::wide(index));
     match k {
@@ -130,9 +124,21 @@ fn index_line(index: u8, k: Kind) {
     text(b"\n");
 }
 
-// The kind at an index of a sheet that is well formed.
-pub fn kind_line(sheet: &[u8], index: u8) {
+// Some names and indexes on a well-formed sheet.
+fn parameter_lines(sheet: &[u8])
+    requires { ⌜ readSheet (now sheet) ≡ Reading.WellFormed ⌝ }
+{
+    name_line(b"  title", sheet::find(sheet, b"title"));
+    name_line(b"  subject", sheet::find(sheet, b"subject"));
+    name_line(b"  Title", sheet::find(sheet, b"Title"));
+    index_line(4, sheet::kind_of(sheet, 4));
+    index_line(5, sheet::kind_of(sheet, 5));
+}
+
+// What some bytes are as a sheet, with the parameters.
+pub fn sheet_lines(label: &[u8], sheet: &[u8]) {
+    sheet_line(label, sheet);
     if let Reading::WellFormed = sheet::read_sheet(sheet) {
-        index_line(index, sheet::kind_of(sheet, index));
+        parameter_lines(sheet);
     }
 }
