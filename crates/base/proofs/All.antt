@@ -11,9 +11,6 @@ module _ {A : Type 0} (P : A → Type 0) where
   pub all-head : {x : A} {xs : List A} → All P (x ∷ xs) → P x
   all-head (all-cons p h) = p
 
-  pub all-tail : {x : A} {xs : List A} → All P (x ∷ xs) → All P xs
-  all-tail (all-cons p h) = h
-
   pub all-append : {xs ys : List A} → All P xs → All P ys → All P (xs ++ ys)
   all-append all-empty k = k
   all-append (all-cons p h) k = all-cons p (all-append h k)

@@ -1,17 +1,25 @@
 -- Laws of parts of lists.
 -- Assumes nothing.
 use Prim.Native.Nat.{ℕ, suc, _+_, _-_, _≤_, _<_}
+use native.Mathlib.Nat.{add-zero}
 use native.Mathlib.Numerals.{add-one}
 use native.Mathlib.Omega.{arith}
 use mathlib.Core.Path.{_≡_, ap, sym, _∙_}
 use mathlib.Core.List.{List, _∷_, _++_}
 use lib.ListN.{length, getD, take, drop, length-drop}
-use lib.Seq.{drop-cons, drop-drop, take-add, length-take-le}
+use lib.Seq.{getD-drop, drop-cons, drop-drop, take-add, length-take-le}
 use Rattle.base.specs.Bytes.{Byte, Bytes}
 use Rattle.base.specs.Parts.{part}
 use Rattle.base.proofs.All.{all-take, all-drop}
 
 module _ (s : List ℕ) where
+  -- what stands in s from p on
+  pub drop-at-index : (p : ℕ) (t : List ℕ) → drop p s ≡ t → (k : ℕ) → getD s (p + k) 0 ≡ getD t k 0
+  drop-at-index p t e k = sym (getD-drop p s k 0) ∙ ap (λ (l : List ℕ). getD l k 0) e
+
+  pub drop-first : (p : ℕ) (t : List ℕ) → drop p s ≡ t → getD s p 0 ≡ getD t 0 0
+  drop-first p t e = ap (λ (n : ℕ). getD s n 0) (sym (add-zero p)) ∙ drop-at-index p t e 0
+
   pub part-length : (a e : ℕ) → e ≤ length s → length (part s a e) ≡ e - a
   part-length a e h = length-take-le (e - a) (drop a s) (rw (length-drop a s) (omega arith))
 

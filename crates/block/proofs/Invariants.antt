@@ -14,12 +14,12 @@ pub record Summed (b : List ℕ) (sum place i : ℕ) : Type 0 where
   pub whole : sum + sumFrom place (drop i (take 508 b)) ≡ checkSum b
   pub most : checkSum b ≤ 32967930
 
--- the items before p end at p, and those that are left decide
-pub record Walked (b : List ℕ) (from count p left : ℕ) : Type 0 where
+-- the items before p are laid out up to p, and those that are left decide
+pub record LaidTo (b : List ℕ) (from count p left : ℕ) : Type 0 where
   pub within : p ≤ 508
   pub rest : laidOut left b p ≡ laidOut count b from
 
--- a loop over items: the answer is what G says of those to come
+-- a loop over items, whose answer is what G says of those to come. A turn may change G, and not the answer.
 pub record Visited {X A : Type 0} (make : ℕ → List ℕ → X) (G : List X → A) (answer : A) (b : List ℕ) (p left : ℕ) : Type 0 where
   pub walk : Walk b p left
   pub rest : G (items make left b p) ≡ answer

@@ -12,7 +12,7 @@ use Rattle.base.specs.Parts.{part}
 use Rattle.base.proofs.Tests.{and-left, and-right}
 use Rattle.block.specs.Items.{zeros, next, textAt, laidOut, hasLayout, items, ItemAt, Walk, Step}
 use Rattle.block.specs.declared.Item.{Item}
-use Rattle.block.proofs.Invariants.{Walked, Visited}
+use Rattle.block.proofs.Invariants.{LaidTo, Visited}
 
 -- ---- what the loop over the items keeps
 
@@ -26,24 +26,24 @@ unfolding laidOut
 laid-none k b p h = let e : k ≡ 0 = omega arith in ap (λ (n : ℕ). laidOut n b p) e
 
 module _ (b : List ℕ) (from count : ℕ) where
-  pub walked-start : from ≤ 508 → Walked b from count from count
-  walked-start h = record { within = h; rest = refl }
+  pub laid-to-start : from ≤ 508 → LaidTo b from count from count
+  laid-to-start h = record { within = h; rest = refl }
 
-  module _ (p left end : ℕ) (inv : Walked b from count p left) (l : 0 < left) (e : end ≡ next b p) where
-    pub walked-out : 508 < end → false ≡ laidOut count b from
-    walked-out h =
+  module _ (p left end : ℕ) (inv : LaidTo b from count p left) (l : 0 < left) (e : end ≡ next b p) where
+    pub laid-to-past : 508 < end → false ≡ laidOut count b from
+    laid-to-past h =
         let k : 508 < next b p = omega arith in
         let none : false ≡ laidOut left b p = rw (laid-first left b p l, lt-leb (next b p) 508 k) in
         none ∙ inv .rest
 
-    pub walked-next : end ≤ 508 → Walked b from count end (left - 1)
-    walked-next h =
+    pub laid-to-next : end ≤ 508 → LaidTo b from count end (left - 1)
+    laid-to-next h =
         let k : next b p ≤ 508 = omega arith in
         let rest : laidOut (left - 1) b end ≡ laidOut left b p = rw (e, laid-first left b p l, le-leb (next b p) 508 k) in
         record { within = h; rest = rest ∙ inv .rest }
 
-  pub walked-end : (p left : ℕ) → Walked b from count p left → left ≤ 0 → (z : Bool) → z ≡ zeros (part b p 508) → z ≡ laidOut count b from
-  walked-end p left inv l z e = e ∙ sym (laid-none left b p l) ∙ inv .rest
+  pub laid-to-end : (p left : ℕ) → LaidTo b from count p left → left ≤ 0 → (z : Bool) → z ≡ zeros (part b p 508) → z ≡ laidOut count b from
+  laid-to-end p left inv l z e = e ∙ sym (laid-none left b p l) ∙ inv .rest
 
 -- ---- what the tests of a layout decide, and what a layout has
 

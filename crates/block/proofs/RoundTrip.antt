@@ -14,13 +14,12 @@ use Rattle.base.specs.Lists.{All, all-empty, all-cons, every}
 use Rattle.base.specs.Parts.{part}
 use Rattle.base.proofs.Tests.{and-left, and-right}
 use Rattle.base.proofs.All.{all-append}
-use Rattle.base.proofs.Parts.{part-length, part-cons, part-append, part-bytes}
+use Rattle.base.proofs.Parts.{drop-at-index, drop-first, part-length, part-cons, part-append, part-bytes}
 use Rattle.block.specs.Words.{wordBytes}
 use Rattle.block.specs.Sum.{sumFrom}
 use Rattle.block.specs.Seal.{padded, seal}
 use Rattle.block.specs.Items.{zeros, next, textAt, laidOut, hasLayout, items, join}
 use Rattle.block.proofs.Contents.{Held, Written}
-use Rattle.block.proofs.Words.{at-drop, at-drop-first}
 use Rattle.block.proofs.Seal.{after, seal-body, seal-bytes, seal-sealed, sealed-seal}
 use Rattle.block.proofs.Items.{layout-laid, layout-first, layout-count, layout-items, items-length}
 
@@ -43,15 +42,21 @@ zeros-are [] h = refl
 zeros-are (x ∷ s) h =
     ap₂ (λ (y : ℕ) (t : List ℕ). y ∷ t) (eqb-true x 0 (and-left (eqb x 0) (zeros s) h)) (zeros-are s (and-right (eqb x 0) (zeros s) h))
 
+-- the padding of a seal
+after-zeros : (body : List ℕ) → zeros (take (508 - length body) (after body)) ≡ true
+after-zeros body =
+    let n = 508 - length body in
+    ap zeros (take-at (replicate n 0) (wordBytes (sumFrom 1 (padded body))) n (length-replicate n 0)) ∙ zeros-replicate n
+
 -- ---- an item that was written
 
 module _ (b : List ℕ) (p t : ℕ) (s r : List ℕ) (e : drop p b ≡ t ∷ length s ∷ (s ++ r)) where
   item-tag : getD b p 0 ≡ t
-  item-tag = at-drop-first b p (t ∷ length s ∷ (s ++ r)) e
+  item-tag = drop-first b p (t ∷ length s ∷ (s ++ r)) e
 
   item-next : next b p ≡ p + 2 + length s
   unfolding next
-  item-next = ap (λ (n : ℕ). p + 2 + n) (at-drop b p (t ∷ length s ∷ (s ++ r)) e 1)
+  item-next = ap (λ (n : ℕ). p + 2 + n) (drop-at-index b p (t ∷ length s ∷ (s ++ r)) e 1)
 
   item-from : drop (p + 2) b ≡ s ++ r
   item-from = sym (drop-drop 2 p b) ∙ ap (drop 2) e
@@ -76,9 +81,9 @@ module _ {X : Type 0} (make : ℕ → List ℕ → X) (bytesOf : X → List ℕ)
         append-assoc (bytesOf x) (join bytesOf xs) r
         ∙ ap (λ (l : List ℕ). l ++ (join bytesOf xs ++ r)) (ap bytesOf (parts x .2) ∙ spelt (parts x .0) (parts x .1))
 
-    length-first : (x : X) (xs : List X) → length (join bytesOf (x ∷ xs)) ≡ 2 + length (parts x .1) + length (join bytesOf xs)
+    join-length : (x : X) (xs : List X) → length (join bytesOf (x ∷ xs)) ≡ 2 + length (parts x .1) + length (join bytesOf xs)
     unfolding join
-    length-first x xs =
+    join-length x xs =
         let item : length (bytesOf x) ≡ suc (suc (length (parts x .1))) = ap length (ap bytesOf (parts x .2) ∙ spelt (parts x .0) (parts x .1)) in
         omega (arith, length-append (bytesOf x) (join bytesOf xs))
 
@@ -94,7 +99,7 @@ module _ {X : Type 0} (make : ℕ → List ℕ → X) (bytesOf : X → List ℕ)
         let rest = join bytesOf xs ++ r in
         let first : drop p b ≡ t ∷ length s ∷ (s ++ rest) = e ∙ join-first x xs r in
         let at : next b p ≡ p + 2 + length s = item-next b p t s rest first in
-        let size = length-first x xs in
+        let size = join-length x xs in
         let within : next b p ≤ 508 = omega arith in
         let back = items-written xs b (next b p) r end (item-rest b p t s rest first) (omega arith) h z in (
           rw (le-leb (next b p) 508 within) (back .0),
@@ -115,18 +120,14 @@ module _ {X : Type 0} (make : ℕ → List ℕ → X) (bytesOf : X → List ℕ)
           ∙ drop-at (first ∷ head) (length xs ∷ (join bytesOf xs ++ after body)) at refl
 
       count : getD (seal body) at 0 ≡ length xs
-      count = at-drop-first (seal body) at (length xs ∷ (join bytesOf xs ++ after body)) from-count
+      count = drop-first (seal body) at (length xs ∷ (join bytesOf xs ++ after body)) from-count
 
       module _ (room : length body ≤ 508) where
         back : (laidOut (length xs) (seal body) (at + 1) ≡ true) × (items make (length xs) (seal body) (at + 1) ≡ xs)
         back =
             let end = length body in
             let size : at + 1 + length (join bytesOf xs) ≡ end = omega (arith, length-append head (length xs ∷ join bytesOf xs)) in
-            let padding : zeros (take (508 - end) (after body)) ≡ true =
-            ap zeros (take-at (replicate (508 - end) 0) (wordBytes (sumFrom 1 (padded body))) (508 - end) (length-replicate (508 - end) 0))
-            ∙ zeros-replicate (508 - end)
-            in
-            items-written xs (seal body) (at + 1) (after body) end (sym (drop-drop 1 at (seal body)) ∙ ap (drop 1) from-count) size room padding
+            items-written xs (seal body) (at + 1) (after body) end (sym (drop-drop 1 at (seal body)) ∙ ap (drop 1) from-count) size room (after-zeros body)
 
         layout : length xs ≤ most → hasLayout first at most (seal body) ≡ true
         layout few =
@@ -187,8 +188,8 @@ module _ {X : Type 0} (make : ℕ → List ℕ → X) (bytesOf : X → List ℕ)
 
   -- how a block is written that holds items behind the byte at `at`
   module _ (b : List ℕ) (first at most : ℕ) (xs : List X) (above : 0 < at) (inside : at < 508) (h : Held make first at most b xs) where
-    length-held : length xs ≡ getD b at 0
-    length-held = ap length (sym (h .same)) ∙ items-length make (getD b at 0) b (at + 1)
+    held-length : length xs ≡ getD b at 0
+    held-length = ap length (sym (h .same)) ∙ items-length make (getD b at 0) b (at + 1)
 
     long : 508 ≤ length b
     long = omega (arith, h .sealed .size)
@@ -209,7 +210,7 @@ module _ {X : Type 0} (make : ℕ → List ℕ → X) (bytesOf : X → List ℕ)
         part-cons b 0 508 (omega arith) long
         ∙ ap₂ (λ (x : ℕ) (t : List ℕ). x ∷ t) (layout-first b first at most (h .layout))
         (sym (part-append b 1 at 508 (omega arith) (omega arith))
-        ∙ ap (λ (t : List ℕ). part b 1 at ++ t) (part-cons b at 508 inside long ∙ ap₂ (λ (k : ℕ) (t : List ℕ). k ∷ t) (sym length-held) (back-from .1))
+        ∙ ap (λ (t : List ℕ). part b 1 at ++ t) (part-cons b at 508 inside long ∙ ap₂ (λ (k : ℕ) (t : List ℕ). k ∷ t) (sym held-length) (back-from .1))
         ∙ sym (append-assoc (part b 1 at) (length xs ∷ join bytesOf xs) (replicate (back-from .0) 0)))
 
     size : length held-body + back-from .0 ≡ 508
@@ -223,7 +224,7 @@ module _ {X : Type 0} (make : ℕ → List ℕ → X) (bytesOf : X → List ℕ)
     written =
         let m : back-from .0 ≡ 508 - length held-body = omega (arith, size) in
         record {
-          few = omega (arith, length-held, layout-count b first at most (h .layout));
+          few = omega (arith, held-length, layout-count b first at most (h .layout));
           each = subst (λ (l : List X). All (λ (x : X). Bytes (bytesOf x)) l) (h .same) (items-bytes b long (h .bytes) (getD b at 0) (at + 1) laid);
           room = omega (arith, size);
           same = sealed-seal b (h .bytes) (h .sealed) held-body (front ∙ ap (λ (k : ℕ). held-body ++ replicate k 0) m);

@@ -18,7 +18,7 @@ use Rattle.block.specs.Sum.{sumFrom, checkSum}
 use Rattle.block.specs.Seal.{check, IsSealed, padded, seal}
 use Rattle.block.specs.declared.Checked.{Checked}
 use Rattle.block.specs.declared.Checked.the-variants.{Sealed, WrongSize, WrongSum}
-use Rattle.block.proofs.Words.{bytes-word, length-word, word-written, word-read}
+use Rattle.block.proofs.Words.{word-bytes, word-length, word-written, word-read}
 use Rattle.block.proofs.Sum.{sum-largest}
 
 -- ---- what the tests decide
@@ -68,33 +68,33 @@ unfolding seal padded
 seal-body body = append-assoc body (replicate (508 - length body) 0) (wordBytes (sumFrom 1 (padded body)))
 
 module _ (body : List ℕ) (room : length body ≤ 508) where
-  length-padded : length (padded body) ≡ 508
+  padded-length : length (padded body) ≡ 508
   unfolding padded
-  length-padded = simp (length-append, length-replicate) (omega arith)
+  padded-length = simp (length-append, length-replicate) (omega arith)
 
-  pub take-seal : take 508 (seal body) ≡ padded body
+  take-seal : take 508 (seal body) ≡ padded body
   unfolding seal
-  take-seal = take-at (padded body) (wordBytes (sumFrom 1 (padded body))) 508 length-padded
+  take-seal = take-at (padded body) (wordBytes (sumFrom 1 (padded body))) 508 padded-length
 
   module _ (h : Bytes body) where
-    bytes-padded : Bytes (padded body)
+    padded-bytes : Bytes (padded body)
     unfolding padded
-    bytes-padded = all-append Byte h (all-replicate Byte (508 - length body) (omega arith))
+    padded-bytes = all-append Byte h (all-replicate Byte (508 - length body) (omega arith))
 
     -- a seal is a list of bytes
     pub seal-bytes : Bytes (seal body)
     unfolding seal
-    seal-bytes = all-append Byte bytes-padded (bytes-word (sumFrom 1 (padded body)))
+    seal-bytes = all-append Byte padded-bytes (word-bytes (sumFrom 1 (padded body)))
 
     -- with the size and the check sum of a block
     pub seal-sealed : IsSealed (seal body)
     unfolding seal checkSum
     seal-sealed =
         let n = sumFrom 1 (padded body) in
-        let small : n < 2 ^ 32 = omega (arith, sum-largest bytes-padded length-padded) in
-        let last : drop 508 (seal body) ≡ wordBytes n ++ [] = drop-at (padded body) (wordBytes n) 508 length-padded ∙ sym (append-nil (wordBytes n)) in
+        let small : n < 2 ^ 32 = omega (arith, sum-largest padded-bytes padded-length) in
+        let last : drop 508 (seal body) ≡ wordBytes n ++ [] = drop-at (padded body) (wordBytes n) 508 padded-length ∙ sym (append-nil (wordBytes n)) in
         record {
-          size = length-append (padded body) (wordBytes n) ∙ omega (arith, length-padded, length-word n);
+          size = length-append (padded body) (wordBytes n) ∙ omega (arith, padded-length, word-length n);
           sum = ap (sumFrom 1) take-seal ∙ sym (word-written (seal body) 508 n [] small last);
         }
 

@@ -6,32 +6,24 @@ use native.Mathlib.Omega.{arith}
 use mathlib.Core.Path.{_≡_, refl, ap, ap₂, sym, _∙_}
 use mathlib.Core.List.{List, [], _∷_, _++_}
 use lib.ListN.{length, getD, take, drop}
-use lib.Seq.{getD-drop}
 use Rattle.base.specs.Bytes.{Bytes}
 use Rattle.base.specs.Lists.{all-empty, all-cons}
 use Rattle.base.specs.Parts.{part}
 use Rattle.base.proofs.All.{bytes-at}
-use Rattle.base.proofs.Parts.{part-cons}
+use Rattle.base.proofs.Parts.{drop-at-index, drop-first, part-cons}
 use Rattle.block.specs.Words.{word, wordBytes}
 
 low-byte : (n : ℕ) → n % 256 < 256
 low-byte n = omega arith
 
-pub bytes-word : (n : ℕ) → Bytes (wordBytes n)
+pub word-bytes : (n : ℕ) → Bytes (wordBytes n)
 unfolding wordBytes
-bytes-word n =
+word-bytes n =
     all-cons (low-byte n) (all-cons (low-byte (n / 256)) (all-cons (low-byte (n / 256 / 256)) (all-cons (low-byte (n / 256 / 256 / 256)) all-empty)))
 
-pub length-word : (n : ℕ) → length (wordBytes n) ≡ 4
+pub word-length : (n : ℕ) → length (wordBytes n) ≡ 4
 unfolding wordBytes
-length-word n = refl
-
--- what stands in b from p on
-pub at-drop : (b : List ℕ) (p : ℕ) (t : List ℕ) → drop p b ≡ t → (k : ℕ) → getD b (p + k) 0 ≡ getD t k 0
-at-drop b p t e k = sym (getD-drop p b k 0) ∙ ap (λ (l : List ℕ). getD l k 0) e
-
-pub at-drop-first : (b : List ℕ) (p : ℕ) (t : List ℕ) → drop p b ≡ t → getD b p 0 ≡ getD t 0 0
-at-drop-first b p t e = ap (λ (n : ℕ). getD b n 0) (sym (add-zero p)) ∙ at-drop b p t e 0
+word-length n = refl
 
 four : (n : ℕ) → n < 2 ^ 32 → n % 256 + 256 * (n / 256 % 256 + 256 * (n / 256 / 256 % 256 + 256 * (n / 256 / 256 / 256 % 256))) ≡ n
 four n h = omega arith
@@ -40,7 +32,7 @@ four n h = omega arith
 pub word-written : (b : List ℕ) (p n : ℕ) (r : List ℕ) → n < 2 ^ 32 → drop p b ≡ wordBytes n ++ r → word b p ≡ n
 unfolding wordBytes
 word-written b p n r h e =
-    rw (at-drop-first b p (wordBytes n ++ r) e, at-drop b p (wordBytes n ++ r) e 1, at-drop b p (wordBytes n ++ r) e 2, at-drop b p (wordBytes n ++ r) e 3) (four n h)
+    rw (drop-first b p (wordBytes n ++ r) e, drop-at-index b p (wordBytes n ++ r) e 1, drop-at-index b p (wordBytes n ++ r) e 2, drop-at-index b p (wordBytes n ++ r) e 3) (four n h)
 
 -- the lowest byte of a number, and what stands above it
 low : (a q : ℕ) → a < 256 → (a + 256 * q) % 256 ≡ a
@@ -55,18 +47,20 @@ digits a b c d ha hb hc hd =
     rw (low a (b + 256 * (c + 256 * d)) ha, high a (b + 256 * (c + 256 * d)) ha, low b (c + 256 * d) hb, high b (c + 256 * d) hb, low c d hc, high c d hc, mod-eq-of-lt hd)
 
 module _ (b : List ℕ) (p : ℕ) where
-  four-bytes : p + 4 ≤ length b → part b p (p + 4) ≡ getD b p 0 ∷ getD b (p + 1) 0 ∷ getD b (p + 2) 0 ∷ getD b (p + 3) 0 ∷ []
-  four-bytes l =
-      let at : (k : ℕ) → k < 4 → part b (p + k) (p + 4) ≡ getD b (p + k) 0 ∷ part b (p + (k + 1)) (p + 4) = λ k m.
+  -- the byte at p + k of the four
+  byte-first : (k : ℕ) → k < 4 → p + 4 ≤ length b → part b (p + k) (p + 4) ≡ getD b (p + k) 0 ∷ part b (p + (k + 1)) (p + 4)
+  byte-first k m l =
       let e : p + k + 1 ≡ p + (k + 1) = omega arith in
       part-cons b (p + k) (p + 4) (omega arith) (omega arith) ∙ ap (λ (j : ℕ). getD b (p + k) 0 ∷ part b j (p + 4)) e
-      in
+
+  four-bytes : p + 4 ≤ length b → part b p (p + 4) ≡ getD b p 0 ∷ getD b (p + 1) 0 ∷ getD b (p + 2) 0 ∷ getD b (p + 3) 0 ∷ []
+  four-bytes l =
       let none : p + 4 - (p + 4) ≡ 0 = omega arith in
       ap (λ (j : ℕ). part b j (p + 4)) (sym (add-zero p))
-      ∙ at 0 (omega arith)
-      ∙ ap₂ (λ (j : ℕ) (t : List ℕ). getD b j 0 ∷ t) (add-zero p) (at 1 (omega arith)
-      ∙ ap (λ (t : List ℕ). getD b (p + 1) 0 ∷ t) (at 2 (omega arith)
-      ∙ ap (λ (t : List ℕ). getD b (p + 2) 0 ∷ t) (at 3 (omega arith)
+      ∙ byte-first 0 (omega arith) l
+      ∙ ap₂ (λ (j : ℕ) (t : List ℕ). getD b j 0 ∷ t) (add-zero p) (byte-first 1 (omega arith) l
+      ∙ ap (λ (t : List ℕ). getD b (p + 1) 0 ∷ t) (byte-first 2 (omega arith) l
+      ∙ ap (λ (t : List ℕ). getD b (p + 2) 0 ∷ t) (byte-first 3 (omega arith) l
       ∙ ap (λ (k : ℕ). getD b (p + 3) 0 ∷ take k (drop (p + 4) b)) none)))
 
   module _ (h : Bytes b) where

@@ -7,18 +7,22 @@ ghost use Rattle.block.specs.Sum.{checkSum};
 ghost use Rattle.block.specs.Seal.{check};
 ghost use Rattle.block.specs.Items.{zeros, laidOut, hasLayout, ItemAt};
 
-// What the size and the check sum of a block are.
+// What the size and the check sum of a block are: both right, or which is wrong.
 pub enum Checked {
     Sealed,
     WrongSize,
     WrongSum,
 }
 
-// What reading a sheet or a card answers: 01's sound, or the refusals 1, 2, 3 of a sheet and 20, 21, 22 of a card.
+// What reading a sheet or a card answers.
 pub enum Reading {
+    // 01: sound.
     WellFormed,
+    // Not 512 bytes: refusal 1 of a sheet, 20 of a card.
     WrongSize,
+    // The check sum is wrong: refusal 2 of a sheet, 21 of a card.
     WrongSum,
+    // The layout is wrong, or a sheet's names are: refusal 3 of a sheet, 22 of a card.
     WrongLayout,
 }
 

@@ -12,21 +12,21 @@ use Rattle.block.specs.Words.{wordBytes}
 use Rattle.block.specs.Items.{join}
 use Rattle.block.specs.declared.Reading.the-variants.{WellFormed}
 use Rattle.card.specs.Card.{Entry, entry, recordNumber, entriesOf, readCard}
-use Rattle.card.specs.Encode.{entryBytes, cardBody, encodeCard, WellFormedEntry, WellFormedCard, CardBlock, ReadsAs}
-use Rattle.card.proofs.RoundTrip.{encoded-reads, read-well-formed, read-encoded}
+use Rattle.card.specs.Encode.{entryBytes, cardBody, encodeCard, WellFormedEntry, WellFormedCard, CardBlock, ReadsAsCard}
+use Rattle.card.proofs.RoundTrip.{encoded-card-reads, card-well-formed, card-encoded}
 
 -- bytes read as a card exactly where the card is well formed and the bytes are its encoding
-pub reads-iff : (b : List ℕ) (n : ℕ) (es : List Entry) → ReadsAs b n es ↔ (WellFormedCard n es × (b ≡ encodeCard n es))
-reads-iff b n es = (there, back)
+pub card-reads-iff : (b : List ℕ) (n : ℕ) (es : List Entry) → ReadsAsCard b n es ↔ (WellFormedCard n es × (b ≡ encodeCard n es))
+card-reads-iff b n es = (there, back)
   where
-    there : ReadsAs b n es → WellFormedCard n es × (b ≡ encodeCard n es)
+    there : ReadsAsCard b n es → WellFormedCard n es × (b ≡ encodeCard n es)
     there r =
-        let w = read-well-formed b (r .bytes) (r .reading) in
-        let e = read-encoded b (r .bytes) (r .reading) in
+        let w = card-well-formed b (r .bytes) (r .reading) in
+        let e = card-encoded b (r .bytes) (r .reading) in
         (rw (r .number, r .entries) at w, rw (r .number, r .entries) at e)
 
-    back : WellFormedCard n es × (b ≡ encodeCard n es) → ReadsAs b n es
-    back h = subst (λ (l : List ℕ). ReadsAs l n es) (sym (h .1)) (encoded-reads n es (h .0))
+    back : WellFormedCard n es × (b ≡ encodeCard n es) → ReadsAsCard b n es
+    back h = subst (λ (l : List ℕ). ReadsAsCard l n es) (sym (h .1)) (encoded-card-reads n es (h .0))
 
 -- bytes read as well formed exactly where they are some card's
 pub card-iff : (b : List ℕ) → (Bytes b × (readCard b ≡ WellFormed)) ↔ CardBlock b
@@ -34,11 +34,11 @@ card-iff b = (there, back)
   where
     there : Bytes b × (readCard b ≡ WellFormed) → CardBlock b
     there h =
-        record { number = recordNumber b; entries = entriesOf b; well-formed = read-well-formed b (h .0) (h .1); encoded = read-encoded b (h .0) (h .1) }
+        record { number = recordNumber b; entries = entriesOf b; well-formed = card-well-formed b (h .0) (h .1); encoded = card-encoded b (h .0) (h .1) }
 
     back : CardBlock b → Bytes b × (readCard b ≡ WellFormed)
     back c =
-        let r = reads-iff b (c .number) (c .entries) .1 (c .well-formed, c .encoded) in
+        let r = card-reads-iff b (c .number) (c .entries) .1 (c .well-formed, c .encoded) in
         (r .bytes, r .reading)
 
 -- ---- cards that there are
@@ -56,8 +56,8 @@ module _ (n : ℕ) (h : n < 2 ^ 32) where
       let e : WellFormedEntry (entry i t) = record { index = omega arith; size = omega arith; text = hb } in
       record { number = h; count = omega arith; entries = all-cons e all-empty; room = rw (append-nil t) (omega arith) }
 
-  pub empty-card-reads : ReadsAs (encodeCard n []) n []
-  empty-card-reads = encoded-reads n [] empty-card
+  pub empty-card-reads : ReadsAsCard (encodeCard n []) n []
+  empty-card-reads = encoded-card-reads n [] empty-card
 
-  pub one-entry-card-reads : (i : ℕ) (t : List ℕ) → i < 32 → length t ≤ 20 → Bytes t → ReadsAs (encodeCard n (entry i t ∷ [])) n (entry i t ∷ [])
-  one-entry-card-reads i t hi ht hb = encoded-reads n (entry i t ∷ []) (one-entry-card i t hi ht hb)
+  pub one-entry-card-reads : (i : ℕ) (t : List ℕ) → i < 32 → length t ≤ 20 → Bytes t → ReadsAsCard (encodeCard n (entry i t ∷ [])) n (entry i t ∷ [])
+  one-entry-card-reads i t hi ht hb = encoded-card-reads n (entry i t ∷ []) (one-entry-card i t hi ht hb)

@@ -2,9 +2,9 @@
 -- `visited-decides` and `visited-end` of crate `block`. Assumes nothing.
 use Prim.Native.Nat.{ℕ}
 use native.Mathlib.Omega.{arith}
-use mathlib.Core.Path.{_≡_, sym, subst}
+use mathlib.Core.Path.{_≡_, ap, sym, _∙_, subst}
 use mathlib.Core.List.{List}
-use lib.ListN.{getD}
+use Rattle.block.specs.Items.{items, Walk}
 use Rattle.block.specs.declared.Reading.the-variants.{WellFormed}
 use Rattle.block.proofs.Invariants.{Visited}
 use Rattle.block.proofs.Items.{walk-start, visited-start}
@@ -12,9 +12,12 @@ use Rattle.card.specs.Card.{Entry, entry, entryCount, entriesOf, readCar
 use Rattle.card.proofs.Read.{card-length, card-layout}
 
 -- n entries are to come from the first on, as many as `entry_count` answers
+pub entries-walk : (b : List ℕ) (n : ℕ) → n ≡ entryCount b → readCard b ≡ WellFormed → Walk b 6 n
+unfolding entryCount
+entries-walk b n e h = subst (Walk b 6) (sym e) (walk-start b 0x43 5 64 (card-layout b h) (card-length b h) (omega arith))
+
 pub entries-start : {A : Type 0} (G : List Entry → A) (b : List ℕ) (n : ℕ) (answer : A) → n ≡ entryCount b → readCard b ≡ WellFormed → answer ≡ G (entriesOf b)
     → Visited entry G answer b 6 n
-unfolding entriesOf entryCount
+unfolding entriesOf
 entries-start G b n answer e h a =
-    let walk = walk-start b 0x43 5 64 (card-layout b h) (card-length b h) (omega arith) in
-    subst (λ (k : ℕ). Visited entry G answer b 6 k) (sym e) (visited-start entry G b 6 (getD b 5 0) answer walk a)
+    visited-start entry G b 6 n answer (entries-walk b n e h) (a ∙ ap (λ (k : ℕ). G (items entry k b 6)) (sym e))

@@ -14,12 +14,12 @@ use Rattle.block.specs.Seal.{seal}
 use Rattle.block.specs.Items.{hasLayout, join}
 use Rattle.block.specs.declared.Reading.the-variants.{WellFormed}
 use Rattle.block.proofs.Contents.{Held, Written}
-use Rattle.block.proofs.Words.{bytes-word, word-written, word-read, word-small}
+use Rattle.block.proofs.Words.{word-bytes, word-written, word-read, word-small}
 use Rattle.block.proofs.Seal.{after, seal-body}
 use Rattle.block.proofs.Readings.{reading-iff}
 use Rattle.block.proofs.RoundTrip.{held, written}
 use Rattle.card.specs.Card.{Entry, entry, recordNumber, entryCount, entriesOf, readCard}
-use Rattle.card.specs.Encode.{entryBytes, cardBody, encodeCard, WellFormedEntry, WellFormedCard, ReadsAs}
+use Rattle.card.specs.Encode.{entryBytes, cardBody, encodeCard, WellFormedEntry, WellFormedCard, ReadsAsCard}
 use Rattle.card.proofs.Read.{card-length, card-held}
 
 -- ---- an entry
@@ -42,25 +42,25 @@ entry-well-formed e (all-cons i (all-cons n t)) = record { index = i; size = ome
 -- ---- written and read back
 
 module _ (n : ℕ) (es : List Entry) (h : WellFormedCard n es) where
+  -- what stands after byte 0
+  encoded-rest : drop 1 (encodeCard n es) ≡ wordBytes n ++ ((length es ∷ join entryBytes es) ++ after (cardBody n es))
+  unfolding encodeCard cardBody
+  encoded-rest = ap (drop 1) (seal-body (cardBody n es)) ∙ append-assoc (wordBytes n) (length es ∷ join entryBytes es) (after (cardBody n es))
+
   encoded-number : recordNumber (encodeCard n es) ≡ n
-  unfolding recordNumber encodeCard cardBody
-  encoded-number =
-      let rest = length es ∷ join entryBytes es in
-      let start : drop 1 (seal (cardBody n es)) ≡ wordBytes n ++ (rest ++ after (cardBody n es)) =
-      ap (drop 1) (seal-body (cardBody n es)) ∙ append-assoc (wordBytes n) rest (after (cardBody n es))
-      in
-      word-written (seal (cardBody n es)) 1 n (rest ++ after (cardBody n es)) (h .number) start
+  unfolding recordNumber
+  encoded-number = word-written (encodeCard n es) 1 n ((length es ∷ join entryBytes es) ++ after (cardBody n es)) (h .number) encoded-rest
 
   encoded-held : Held entry 0x43 5 64 (encodeCard n es) es
   unfolding encodeCard cardBody wordBytes
   encoded-held =
-      held entry entryBytes entry-spelt entry-parts 0x43 (wordBytes n) es 64 (omega arith) (omega arith) (bytes-word n)
+      held entry entryBytes entry-spelt entry-parts 0x43 (wordBytes n) es 64 (omega arith) (omega arith) (word-bytes n)
       (record { few = h .count; each = all-map entry-bytes (h .entries); room = h .room; same = refl })
 
   -- a well-formed card that is written is read back
-  pub encoded-reads : ReadsAs (encodeCard n es) n es
+  pub encoded-card-reads : ReadsAsCard (encodeCard n es) n es
   unfolding readCard entriesOf entryCount
-  encoded-reads =
+  encoded-card-reads =
       record {
         bytes = encoded-held .bytes;
         reading = reading-iff (encodeCard n es) (hasLayout 0x43 5 64 (encodeCard n es)) .1 (encoded-held .sealed, encoded-held .layout);
@@ -78,9 +78,9 @@ module _ (b : List ℕ) (h : Bytes b) (r : readCard b ≡ WellFormed) where
   unfolding cardBody recordNumber
   body = ap (λ (l : List ℕ). 0x43 ∷ (l ++ (length (entriesOf b) ∷ join entryBytes (entriesOf b)))) (sym (word-read b 1 h (omega (arith, card-length b r))))
 
-  pub read-well-formed : WellFormedCard (recordNumber b) (entriesOf b)
+  pub card-well-formed : WellFormedCard (recordNumber b) (entriesOf b)
   unfolding recordNumber
-  read-well-formed =
+  card-well-formed =
       record {
         number = word-small b 1 h;
         count = read-written .few;
@@ -88,6 +88,6 @@ module _ (b : List ℕ) (h : Bytes b) (r : readCard b ≡ WellFormed) where
         room = subst (λ (l : List ℕ). length l ≤ 508) body (read-written .room);
       }
 
-  pub read-encoded : b ≡ encodeCard (recordNumber b) (entriesOf b)
+  pub card-encoded : b ≡ encodeCard (recordNumber b) (entriesOf b)
   unfolding encodeCard
-  read-encoded = read-written .same ∙ ap seal body
+  card-encoded = read-written .same ∙ ap seal body

@@ -13,16 +13,16 @@ use Rattle.block.specs.Seal.{check, padded, seal}
 use Rattle.block.specs.Items.{zeros, next, textAt, laidOut, hasLayout, items, join}
 use Rattle.block.specs.Readings.{reading}
 use Rattle.card.specs.Card.{recordNumber, entryCount, entriesOf, readCard}
-use Rattle.card.specs.Encode.{entryBytes, cardBody, encodeCard, ReadsAs}
+use Rattle.card.specs.Encode.{entryBytes, cardBody, encodeCard, ReadsAsCard}
 use Rattle.card.specs.Trial.{trialEntries, trialCard}
 
-pub trial-encoded : encodeCard 7 trialEntries ≡ trialCard
+pub trial-card-encoded : encodeCard 7 trialEntries ≡ trialCard
 unfolding trialEntries trialCard encodeCard cardBody entryBytes seal padded sumFrom wordBytes join
-trial-encoded = refl
+trial-card-encoded = refl
 
-pub trial-reads : ReadsAs trialCard 7 trialEntries
+pub trial-card-reads : ReadsAsCard trialCard 7 trialEntries
 unfolding trialEntries trialCard readCard reading check checkSum sumFrom hasLayout entryCount laidOut zeros every next recordNumber entriesOf items textAt
-trial-reads =
+trial-card-reads =
     record {
       bytes = all-map (λ (x : ℕ). ltb-true x 256) (every-all (λ (x : ℕ). ltb x 256) trialCard refl);
       reading = refl;

@@ -8,7 +8,7 @@ use Rattle.block.specs.Seal.{check}
 use Rattle.block.specs.Items.{hasLayout, items, Step}
 use Rattle.block.specs.Readings.{reading}
 use Rattle.block.specs.declared.Reading.{Reading}
-use Rattle.card.specs.declared.Entry.{Entry as Found}
+use Rattle.card.specs.declared.Entry.{Entry as Span}
 
 -- an entry: the index of its parameter on the sheet (01: place), and the text
 pub record Entry : Type 0 where
@@ -35,5 +35,5 @@ unfoldable pub readCard : List ℕ → Reading
 readCard b = reading (check b) (hasLayout 0x43 5 64 b)
 
 -- r says where the entry at `at` stands, with `left` entries to come
-abbrev pub EntryAt : List ℕ → (at left : ℕ) → Found → Type 0
+abbrev pub EntryAt : List ℕ → (at left : ℕ) → Span → Type 0
 EntryAt b at left r = Step entry b at left (r .index) (r .start) (r .end)

@@ -45,7 +45,7 @@ pub record CardBlock (b : List ℕ) : Type 0 where
   pub encoded : b ≡ encodeCard number entries
 
 -- the bytes read as a card with the number n and the entries es
-pub record ReadsAs (b : List ℕ) (n : ℕ) (es : List Entry) : Type 0 where
+pub record ReadsAsCard (b : List ℕ) (n : ℕ) (es : List Entry) : Type 0 where
   pub bytes : Bytes b
   pub reading : readCard b ≡ WellFormed
   pub number : recordNumber b ≡ n

@@ -14,7 +14,7 @@ use Rattle.base.proofs.Tests.{and-left, and-right, and-both, both-ways}
 use Rattle.base.proofs.Lists.{equal-refl, equal-not}
 use Rattle.base.proofs.Names.{name-iff, name-length}
 use Rattle.sheet.specs.Sheet.{Parameter, parameter, isParameter, areParameters, absent, distinct}
-use Rattle.sheet.specs.Encode.{WellFormedParameter, Distinct, distinct-empty, distinct-cons}
+use Rattle.sheet.specs.Encode.{WellFormedParameter, Absent, Distinct, distinct-empty, distinct-cons}
 
 -- ---- one parameter
 
@@ -114,20 +114,17 @@ parameters-back (p ∷ ps) (all-cons w h) = and-both (isParameter p) (areParamet
 pub parameters-iff : (ps : List Parameter) → (areParameters ps ≡ true) ↔ All WellFormedParameter ps
 parameters-iff ps = (parameters-there ps, parameters-back ps)
 
-absent-there : (n : List ℕ) (ps : List Parameter) → absent n ps ≡ true → All (λ (q : Parameter). q .name ≡ n → ⊥) ps
+absent-there : (n : List ℕ) (ps : List Parameter) → absent n ps ≡ true → Absent n ps
 unfolding absent
 absent-there n [] h = all-empty
 absent-there n (p ∷ ps) h =
     let f = not-true (equal (p .name) n) (and-left (not (equal (p .name) n)) (absent n ps) h) in
     all-cons (λ e. both-ways (ap (λ (l : List ℕ). equal l n) e ∙ equal-refl n) f) (absent-there n ps (and-right (not (equal (p .name) n)) (absent n ps) h))
 
-absent-back : (n : List ℕ) (ps : List Parameter) → All (λ (q : Parameter). q .name ≡ n → ⊥) ps → absent n ps ≡ true
+absent-back : (n : List ℕ) (ps : List Parameter) → Absent n ps → absent n ps ≡ true
 unfolding absent
 absent-back n [] h = refl
 absent-back n (p ∷ ps) (all-cons d h) = rw (equal-not (p .name) n d) (absent-back n ps h)
-
-pub absent-iff : (n : List ℕ) (ps : List Parameter) → (absent n ps ≡ true) ↔ All (λ (q : Parameter). q .name ≡ n → ⊥) ps
-absent-iff n ps = (absent-there n ps, absent-back n ps)
 
 distinct-there : (ps : List Parameter) → distinct ps ≡ true → Distinct ps
 unfolding distinct

@@ -2,7 +2,7 @@
 -- Assumes nothing.
 use Prim.Native.Nat.{ℕ, _≤_}
 use native.Mathlib.Omega.{arith}
-use mathlib.Core.Path.{_≡_, refl, sym, _∙_, subst}
+use mathlib.Core.Path.{_≡_, refl, ap, sym, _∙_, subst}
 use mathlib.Core.Bool.{Bool, true, false, _&&_}
 use mathlib.Core.List.{List}
 use lib.ListN.{length, getD}
@@ -48,32 +48,32 @@ module _ (b : List ℕ) (h : readSheet b ≡ WellFormed) where
   unfolding readSheet
   sheet-layout = reading-iff b (sheetLayout b) .0 h .1
 
-  blocked : hasLayout 0x50 1 32 b ≡ true
+  block-layout : hasLayout 0x50 1 32 b ≡ true
   unfolding sheetLayout
-  blocked = and-left (hasLayout 0x50 1 32 b) (areParameters (parametersOf b) && distinct (parametersOf b)) sheet-layout
+  block-layout = and-left (hasLayout 0x50 1 32 b) (areParameters (parametersOf b) && distinct (parametersOf b)) sheet-layout
 
-  named : (areParameters (parametersOf b) && distinct (parametersOf b)) ≡ true
+  kinds-and-names : (areParameters (parametersOf b) && distinct (parametersOf b)) ≡ true
   unfolding sheetLayout
-  named = and-right (hasLayout 0x50 1 32 b) (areParameters (parametersOf b) && distinct (parametersOf b)) sheet-layout
+  kinds-and-names = and-right (hasLayout 0x50 1 32 b) (areParameters (parametersOf b) && distinct (parametersOf b)) sheet-layout
 
   pub sheet-parameters : areParameters (parametersOf b) ≡ true
-  sheet-parameters = and-left (areParameters (parametersOf b)) (distinct (parametersOf b)) named
+  sheet-parameters = and-left (areParameters (parametersOf b)) (distinct (parametersOf b)) kinds-and-names
 
   pub sheet-names : distinct (parametersOf b) ≡ true
-  sheet-names = and-right (areParameters (parametersOf b)) (distinct (parametersOf b)) named
+  sheet-names = and-right (areParameters (parametersOf b)) (distinct (parametersOf b)) kinds-and-names
 
   pub sheet-count : length (parametersOf b) ≤ 32
   unfolding parametersOf parameterCount
-  sheet-count = omega (arith, items-length parameter (getD b 1 0) b 2, layout-count b 0x50 1 32 blocked)
+  sheet-count = omega (arith, items-length parameter (getD b 1 0) b 2, layout-count b 0x50 1 32 block-layout)
 
   pub sheet-held : Bytes b → Held parameter 0x50 1 32 b (parametersOf b)
   unfolding readSheet parametersOf parameterCount
-  sheet-held bytes = record { bytes = bytes; sealed = reading-iff b (sheetLayout b) .0 h .0; layout = blocked; same = refl }
+  sheet-held bytes = record { bytes = bytes; sealed = reading-iff b (sheetLayout b) .0 h .0; layout = block-layout; same = refl }
 
 -- n parameters are to come from the first on, as many as `parameter_count` answers
 pub parameters-start : {A : Type 0} (G : List Parameter → A) (b : List ℕ) (n : ℕ) (answer : A) → n ≡ parameterCount b → readSheet b ≡ WellFormed
     → answer ≡ G (parametersOf b) → Visited parameter G answer b 2 n
 unfolding parametersOf parameterCount
 parameters-start G b n answer e h a =
-    let walk = walk-start b 0x50 1 32 (blocked b h) (sheet-length b h) (omega arith) in
-    subst (λ (k : ℕ). Visited parameter G answer b 2 k) (sym e) (visited-start parameter G b 2 (getD b 1 0) answer walk a)
+    let walk = subst (Walk b 2) (sym e) (walk-start b 0x50 1 32 (block-layout b h) (sheet-length b h) (omega arith)) in
+    visited-start parameter G b 2 n answer walk (a ∙ ap (λ (k : ℕ). G (items parameter k b 2)) (sym e))

@@ -15,7 +15,7 @@ use Rattle.block.proofs.Contents.{Held, Written}
 use Rattle.block.proofs.Readings.{reading-iff}
 use Rattle.block.proofs.RoundTrip.{held, written}
 use Rattle.sheet.specs.Sheet.{Parameter, parameter, parameterCount, parametersOf, sheetLayout, readSheet}
-use Rattle.sheet.specs.Encode.{parameterBytes, sheetBody, encodeSheet, WellFormedParameter, WellFormedSheet, ReadsAs}
+use Rattle.sheet.specs.Encode.{parameterBytes, sheetBody, encodeSheet, WellFormedParameter, WellFormedSheet, ReadsAsSheet}
 use Rattle.sheet.proofs.Parameters.{parameters-iff, distinct-iff}
 use Rattle.sheet.proofs.Read.{sheet-parameters, sheet-names, sheet-held}
 
@@ -53,9 +53,9 @@ module _ (ps : List Parameter) (h : WellFormedSheet ps) where
   encoded-layout = rw (encoded-held .layout, encoded-parameters, parameters-iff ps .1 (h .parameters)) (distinct-iff ps .1 (h .names))
 
   -- a well-formed sheet that is written is read back
-  pub encoded-reads : ReadsAs (encodeSheet ps) ps
+  pub encoded-sheet-reads : ReadsAsSheet (encodeSheet ps) ps
   unfolding readSheet
-  encoded-reads =
+  encoded-sheet-reads =
       record {
         bytes = encoded-held .bytes;
         reading = reading-iff (encodeSheet ps) (sheetLayout (encodeSheet ps)) .1 (encoded-held .sealed, encoded-layout);
@@ -69,8 +69,8 @@ module _ (b : List ℕ) (h : Bytes b) (r : readSheet b ≡ WellFormed) where
   unfolding sheetBody
   read-written = written parameter parameterBytes parameter-spelt b 0x50 1 32 (parametersOf b) (omega arith) (omega arith) (sheet-held b r h)
 
-  pub read-well-formed : WellFormedSheet (parametersOf b)
-  read-well-formed =
+  pub sheet-well-formed : WellFormedSheet (parametersOf b)
+  sheet-well-formed =
       record {
         count = read-written .few;
         parameters = parameters-iff (parametersOf b) .0 (sheet-parameters b r);
@@ -78,6 +78,6 @@ module _ (b : List ℕ) (h : Bytes b) (r : readSheet b ≡ WellFormed) where
         room = read-written .room;
       }
 
-  pub read-encoded : b ≡ encodeSheet (parametersOf b)
+  pub sheet-encoded : b ≡ encodeSheet (parametersOf b)
   unfolding encodeSheet
-  read-encoded = read-written .same
+  sheet-encoded = read-written .same

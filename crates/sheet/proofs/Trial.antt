@@ -15,16 +15,16 @@ use Rattle.block.specs.Seal.{check, padded, seal}
 use Rattle.block.specs.Items.{zeros, next, textAt, laidOut, hasLayout, items, join}
 use Rattle.block.specs.Readings.{reading}
 use Rattle.sheet.specs.Sheet.{parameterCount, parametersOf, isParameter, areParameters, absent, distinct, sheetLayout, readSheet}
-use Rattle.sheet.specs.Encode.{parameterBytes, sheetBody, encodeSheet, ReadsAs}
+use Rattle.sheet.specs.Encode.{parameterBytes, sheetBody, encodeSheet, ReadsAsSheet}
 use Rattle.sheet.specs.Trial.{trialParameters, trialSheet}
 
-pub trial-encoded : encodeSheet trialParameters ≡ trialSheet
+pub trial-sheet-encoded : encodeSheet trialParameters ≡ trialSheet
 unfolding trialParameters trialSheet encodeSheet sheetBody parameterBytes seal padded sumFrom wordBytes join
-trial-encoded = refl
+trial-sheet-encoded = refl
 
-pub trial-reads : ReadsAs trialSheet trialParameters
+pub trial-sheet-reads : ReadsAsSheet trialSheet trialParameters
 unfolding trialParameters trialSheet readSheet reading check checkSum sumFrom sheetLayout hasLayout parameterCount laidOut zeros every next parametersOf items textAt areParameters isParameter between isName isNameStart isLetter isNamePart isDigit isReserved equal distinct absent
-trial-reads =
+trial-sheet-reads =
     record {
       bytes = all-map (λ (x : ℕ). ltb-true x 256) (every-all (λ (x : ℕ). ltb x 256) trialSheet refl);
       reading = refl;

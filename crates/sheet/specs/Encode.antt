@@ -32,10 +32,14 @@ pub record WellFormedParameter (p : Parameter) : Type 0 where
   pub longest : length (p .name) ≤ 30
   pub name : Name (p .name)
 
+-- no parameter has the name n
+abbrev pub Absent : List ℕ → List Parameter → Type 0
+Absent n = All (λ (p : Parameter). p .name ≡ n → ⊥)
+
 -- no name stands twice
 pub data Distinct : List Parameter → Type 0 where
   distinct-empty : Distinct []
-  distinct-cons : {p : Parameter} {ps : List Parameter} → All (λ (q : Parameter). q .name ≡ p .name → ⊥) ps → Distinct ps → Distinct (p ∷ ps)
+  distinct-cons : {p : Parameter} {ps : List Parameter} → Absent (p .name) ps → Distinct ps → Distinct (p ∷ ps)
 
 -- a sheet that can be written: 0 to 32 parameters that end at or before byte 507
 pub record WellFormedSheet (ps : List Parameter) : Type 0 where
@@ -51,7 +55,7 @@ pub record SheetBlock (b : List ℕ) : Type 0 where
   pub encoded : b ≡ encodeSheet parameters
 
 -- the bytes read as a sheet with the parameters ps
-pub record ReadsAs (b : List ℕ) (ps : List Parameter) : Type 0 where
+pub record ReadsAsSheet (b : List ℕ) (ps : List Parameter) : Type 0 where
   pub bytes : Bytes b
   pub reading : readSheet b ≡ WellFormed
   pub parameters : parametersOf b ≡ ps

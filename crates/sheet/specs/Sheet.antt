@@ -11,7 +11,7 @@ use Rattle.block.specs.Seal.{check}
 use Rattle.block.specs.Items.{hasLayout, items, Step}
 use Rattle.block.specs.Readings.{reading}
 use Rattle.block.specs.declared.Reading.{Reading}
-use Rattle.sheet.specs.declared.Parameter.{Parameter as Found}
+use Rattle.sheet.specs.declared.Parameter.{Parameter as Span}
 
 -- a parameter: its kind (1 string, 2 number, 3 date, 4 token, 5 reference) and its name
 pub record Parameter : Type 0 where
@@ -57,5 +57,5 @@ unfoldable pub readSheet : List ℕ → Reading
 readSheet b = reading (check b) (sheetLayout b)
 
 -- r says where the parameter at `at` stands, with `left` parameters to come
-abbrev pub ParameterAt : List ℕ → (at left : ℕ) → Found → Type 0
+abbrev pub ParameterAt : List ℕ → (at left : ℕ) → Span → Type 0
 ParameterAt b at left r = Step parameter b at left (r .kind) (r .start) (r .end)

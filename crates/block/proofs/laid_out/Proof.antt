@@ -1,24 +1,24 @@
 -- `block::laid_out` meets its contract: the items that are left decide, and after the last the padding. Assumes nothing.
 use borrow.Author.Needs.{needs}
-use Rattle.block.proofs.Invariants.{Walked}
-use Rattle.block.proofs.Items.{walked-start, walked-out, walked-next, walked-end}
+use Rattle.block.proofs.Invariants.{LaidTo}
+use Rattle.block.proofs.Items.{laid-to-start, laid-to-past, laid-to-next, laid-to-end}
 use Rattle.block.proofs.laid_out.Statement.{statement}
 use Rattle.block.proofs.laid_out.Tie as tie
 
 abbrev Inv-loop : tie.InvT-loop
-Inv-loop block from count at₀ left₀ at left = Walked block from count at left
+Inv-loop block from count at₀ left₀ at left = LaidTo block from count at left
 
 abbrev μ-loop : tie.MeasureT-loop
 μ-loop block from count at₀ left₀ at left = left
 
 loop-holds : tie.Need-loop-holds Inv-loop μ-loop
-loop-holds c = search (walked-start, needs)
+loop-holds c = search (laid-to-start, needs)
 
 item-at-requires : tie.Need-item-at-requires Inv-loop μ-loop
 item-at-requires c κs = search needs
 
 returns : tie.Need-returns Inv-loop μ-loop
-returns c = search (walked-out, needs)
+returns c = search (laid-to-past, needs)
 
 sub-left : tie.Need-sub-left Inv-loop μ-loop
 sub-left c = search needs
@@ -27,7 +27,7 @@ loop-less : tie.Need-loop-less Inv-loop μ-loop
 loop-less c = search needs
 
 loop-again : tie.Need-loop-again Inv-loop μ-loop
-loop-again c = search (walked-next, needs)
+loop-again c = search (laid-to-next, needs)
 
 sub-zeros : tie.Need-sub-zeros Inv-loop μ-loop
 sub-zeros c = search needs
@@ -42,7 +42,7 @@ zeros-requires : tie.Need-zeros-requires Inv-loop μ-loop
 zeros-requires c κs = search needs
 
 returns-2 : tie.Need-returns-2 Inv-loop μ-loop
-returns-2 c = search (walked-end, needs)
+returns-2 c = search (laid-to-end, needs)
 
 pub laid-out-spec : {M : Type 1} → statement M
 laid-out-spec =
