@@ -2,4 +2,3 @@
 pub mod Sets
 pub mod Faults
 pub mod Verdicts
-pub mod Placed

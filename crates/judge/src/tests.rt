@@ -15,7 +15,7 @@ ghost use Rattle.card.specs.Card.{entriesOf, readCard};
 ghost use Rattle.syntax.specs.Scan.{decode as decoded, testOf};
 ghost use Rattle.judge.specs.Faults.{faultAt, testFault};
 ghost use Rattle.judge.specs.Verdicts.{saysAt, testSays};
-ghost use Rattle.judge.specs.Placed.{Placed};
+ghost use Rattle.syntax.specs.Placed.{Placed};
 
 // `fault_at` with the bytes of a string that has escapes.
 fn escaped_fault(sheet: &[u8], name: &[u8], operator: u8, raw: &[u8]) -> Fault

@@ -15,7 +15,7 @@ use Rattle.syntax.specs.Strings.{isBare}
 use Rattle.syntax.specs.Tree.{Test, Tree, test, Connective, and, or, testsOf}
 use Rattle.syntax.specs.Grammar.{Opens, opens, opens-not, round, Item, item-test, item-bracket, item-not, Filter, one-item, one-more, mostTests, Spells}
 use Rattle.syntax.specs.Scan.{testOf, headAt, connectiveAt}
-use Rattle.syntax.specs.Reader.{Parsed, parsed, connective, inBracket, andThen, chainBy, chainOf, filterOf, itemAt, filterAt, read}
+use Rattle.syntax.specs.Reader.{Parsed, parsed, unparsed, connective, inBracket, andThen, chainBy, chainOf, filterOf, itemAt, filterAt, read}
 use Rattle.syntax.specs.declared.RawTest.{RawTest}
 use Rattle.syntax.specs.declared.Head.{Head}
 use Rattle.syntax.proofs.Words.{NoSpaceAt, stands-no-space, end-no-space, spaces-skip}
@@ -68,6 +68,20 @@ module _ (xs : List ℕ) (p : ℕ) where
   pub open-step : (d : ℕ) {q : ℕ} {b : Bool} → headAt xs round p ≡ Head.Open q b → itemAt (suc d) xs p ≡ inBracket xs b (filterAt d xs q)
   unfolding itemAt filterAt
   open-step d e = rw e
+
+  -- as the code goes: one bracket fewer left, none left, nothing there
+  pub opened-step : (d : ℕ) {q : ℕ} {b : Bool} → headAt xs round p ≡ Head.Open q b → (d ≡ 0 → ⊥) → itemAt d xs p ≡ inBracket xs b (filterAt (d - 1) xs q)
+  opened-step zero e n = absurd (n refl)
+  opened-step (suc d) e n = rw (sub-one (suc d)) (open-step d e)
+
+  pub deep-step : (d : ℕ) {q : ℕ} {b : Bool} → headAt xs round p ≡ Head.Open q b → d ≡ 0 → itemAt d xs p ≡ unparsed
+  unfolding itemAt
+  deep-step d e z = rw (z, e)
+
+  pub nothing-step : (d : ℕ) → headAt xs round p ≡ Head.Nothing → itemAt d xs p ≡ unparsed
+  unfolding itemAt
+  nothing-step zero e = rw e
+  nothing-step (suc d) e = rw e
 
 pub filter-step : (d : ℕ) (xs : List ℕ) (p : ℕ) → filterAt d xs p ≡ andThen (λ q f. chainOf (length xs) xs (λ k. itemAt d xs k) q f) (λ f. f) (itemAt d xs p)
 unfolding filterAt filterOf

@@ -6,6 +6,7 @@ pub mod Decoding
 pub mod Operators
 pub mod Tests
 pub mod Structure
+pub mod Places
 pub mod Sound
 pub mod Complete
 pub mod Spelling

@@ -364,3 +364,9 @@ unfolding stringAt
 string-within xs at end found f e h i =
     let r = string-ended (drop at xs) false false at end found (λ t. absurd (false≢true t)) (sym e ∙ h) in
     omega (arith, r .at, ap length (r .split), length-drop at xs, length-append (r .body) (quote ∷ r .tail))
+
+pub string-ahead : (xs : List ℕ) (at end : ℕ) (found : Bool) (f : FoundString) → f ≡ stringAt xs false false at → f ≡ FoundString.Closed end found → at ≤ end
+unfolding stringAt
+string-ahead xs at end found f e h =
+    let r = string-ended (drop at xs) false false at end found (λ t. absurd (false≢true t)) (sym e ∙ h) in
+    omega (arith, r .at)

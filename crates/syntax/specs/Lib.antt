@@ -4,3 +4,4 @@ pub mod Strings
 pub mod Grammar
 pub mod Scan
 pub mod Reader
+pub mod Placed

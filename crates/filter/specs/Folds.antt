@@ -1,0 +1,46 @@
+-- What is gathered over a tree: from each test, by each connective, by each negation.
+-- Assumes nothing.
+use Prim.Native.Nat.{ℕ, _+_}
+use mathlib.Core.Bool.{Bool, true, false, cond, not, _&&_, _||_}
+use mathlib.Core.List.{List, [], _∷_}
+use Rattle.sheet.specs.Sheet.{Parameter}
+use Rattle.card.specs.Card.{Entry}
+use Rattle.syntax.specs.Tree.{Test, Connective, and, or, Tree, test, join, negation}
+use Rattle.judge.specs.Faults.{orElse, firstFault}
+use Rattle.judge.specs.Verdicts.{testSays}
+use Rattle.filter.specs.declared.Summary.{Summary}
+
+-- a value for a test, for two values joined by and (true) or or, and for a negated value
+pub record Fold (A : Type 0) : Type 0 where
+  pub one : Test → A
+  pub both : Bool → A → A → A
+  pub negate : A → A
+
+abbrev pub isAnd : Connective → Bool
+isAnd and = true
+isAnd or = false
+
+unfoldable pub foldTree : {A : Type 0} → Fold A → Tree → A
+foldTree φ (test t) = φ .one t
+foldTree φ (join c f g) = φ .both (isAnd c) (foldTree φ f) (foldTree φ g)
+foldTree φ (negation f) = φ .negate (foldTree φ f)
+
+-- reading: the number of tests and the first fault
+abbrev pub joinSummaries : Summary → Summary → Summary
+joinSummaries a b = record { tests = a .tests + b .tests; first = orElse (a .first) (b .first) }
+
+abbrev pub reading : List Parameter → Fold Summary
+reading ps =
+    record {
+      one = λ t. record { tests = 1; first = firstFault ps (t ∷ []) };
+      both = λ o a b. joinSummaries a b;
+      negate = λ a. a;
+    }
+
+-- judging: what the filter says
+abbrev pub joinVerdicts : Bool → Bool → Bool → Bool
+joinVerdicts true a b = a && b
+joinVerdicts false a b = a || b
+
+abbrev pub judging : List Parameter → List Entry → Fold Bool
+judging ps es = record { one = testSays ps es; both = joinVerdicts; negate = not }

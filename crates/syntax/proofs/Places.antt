@@ -1,0 +1,123 @@
+-- What the scans find lies inside the text, in order, and ahead of where they began.
+-- Assumes nothing.
+use Prim.Native.Nat.{ℕ, suc, _+_, _≤_, _<_}
+use native.Mathlib.Omega.{arith}
+use mathlib.Core.Path.{_≡_, refl, sym, ap, _∙_}
+use mathlib.Core.Bool.{Bool, true, false, cond, false≢true}
+use mathlib.Core.List.{List, _∷_}
+use lib.Dec.{eqb, ltb}
+use lib.ListN.{length, getD, drop, length-drop}
+use borrow.Author.Tests.{ltb-true}
+use Rattle.base.specs.Names.{isNamePart, isName}
+use Rattle.base.specs.Parts.{part}
+use Rattle.base.specs.Runs.{run, runEnd}
+use Rattle.base.proofs.Tests.{cond-elim}
+use Rattle.base.proofs.Runs.{run-within}
+use Rattle.syntax.specs.Strings.{quote, isBare}
+use Rattle.syntax.specs.Placed.{PlacedValue, Placed}
+use Rattle.syntax.specs.Scan.{skipAt, stringAt, stringValue, bareValue, valueAt, follows, operatorAt, withOperator, withValue, testValue, testOperator, nameEnd, testAt, openAt, testOr, headAt, connectiveAt, closeAt}
+use Rattle.syntax.specs.declared.FoundString.{FoundString}
+use Rattle.syntax.specs.declared.FoundValue.{FoundValue}
+use Rattle.syntax.specs.declared.FoundOperator.{FoundOperator}
+use Rattle.syntax.specs.declared.RawTest.{RawTest}
+use Rattle.syntax.specs.declared.FoundTest.{FoundTest}
+use Rattle.syntax.specs.declared.Head.{Head}
+use Rattle.syntax.specs.declared.FoundConnective.{FoundConnective}
+use Rattle.syntax.specs.declared.FoundClose.{FoundClose}
+use Rattle.syntax.proofs.Values.{string-within, string-ahead}
+use Rattle.syntax.proofs.Tests.{TestDerived, test-derived, test-rise}
+use Rattle.syntax.proofs.Structure.{OpenDerived, open-derived, opens-rise, ConnectiveDerived, connective-derived, connects-rise, CloseDerived, close-derived, closes-rise}
+
+-- ---- values
+
+abbrev ValuePlaced : List ℕ → FoundValue → Type 0
+ValuePlaced xs (FoundValue.Value v) = PlacedValue xs v
+ValuePlaced xs FoundValue.Nothing = Unit {0}
+
+run-end-within : (p : ℕ → Bool) (xs : List ℕ) (at : ℕ) → at ≤ length xs → (at ≤ runEnd p xs at) × (runEnd p xs at ≤ length xs)
+unfolding runEnd
+run-end-within p xs at h = (omega arith, omega (arith, run-within p (drop at xs), length-drop at xs))
+
+string-placed : (xs : List ℕ) (p : ℕ) (f : FoundString) → stringAt xs false false (p + 1) ≡ f → p + 1 ≤ length xs → ValuePlaced xs (stringValue p f)
+string-placed xs p (FoundString.Closed e found) i h =
+    let k = string-within xs (p + 1) e found _ refl i h in
+    record { order = string-ahead xs (p + 1) e found _ refl i; within = omega arith }
+string-placed xs p FoundString.Nothing i h = tt
+
+value-placed : (xs : List ℕ) (p : ℕ) → ValuePlaced xs (valueAt xs p)
+unfolding valueAt
+value-placed xs p =
+    cond-elim (ValuePlaced xs) (ltb p (length xs))
+    (λ i. let h : p < length xs = ltb-true p (length xs) i in
+    let k : p ≤ length xs = omega arith in
+    let s : p + 1 ≤ length xs = omega arith in
+    cond-elim (ValuePlaced xs) (eqb (getD xs p 0) quote) (λ q. string-placed xs p (stringAt xs false false (p + 1)) refl s)
+    (λ q. cond-elim (ValuePlaced xs) (isBare (getD xs p 0)) (λ b. let r = run-end-within isBare xs p k in record { order = r .0; within = r .1 }) (λ b. tt)))
+    (λ i. tt)
+
+-- ---- tests
+
+abbrev TestPlaced : List ℕ → FoundTest → Type 0
+TestPlaced xs (FoundTest.Test r) = Placed xs r
+TestPlaced xs FoundTest.Nothing = Unit {0}
+
+module _ (xs : List ℕ) (close p e : ℕ) (h : p ≤ e) (i : e ≤ length xs) where
+  with-value : (k : ℕ) (f : FoundValue) → ValuePlaced xs f
+      → TestPlaced xs (withValue f λ v. cond (follows close (drop (v .next) xs)) (FoundTest.Test (record { at = p; until = e; operator = k; value = v })) FoundTest.Nothing)
+  with-value k (FoundValue.Value v) q =
+      cond-elim (TestPlaced xs) (follows close (drop (v .next) xs)) (λ f. record { name-order = h; name-within = i; value = q }) (λ f. tt)
+  with-value k FoundValue.Nothing q = tt
+
+  value-follows : (k o : ℕ) → TestPlaced xs (testValue xs close p e k o)
+  unfolding testValue
+  value-follows k o =
+      cond-elim (TestPlaced xs) (eqb (skipAt xs o) o) (λ f. tt) (λ f. with-value k (valueAt xs (skipAt xs o)) (value-placed xs (skipAt xs o)))
+
+  with-operator : (a : ℕ) (f : FoundOperator) → TestPlaced xs (withOperator f λ k. testValue xs close p e k (a + 2))
+  with-operator a (FoundOperator.Is k) = value-follows k (a + 2)
+  with-operator a FoundOperator.Nothing = tt
+
+  operator-follows : TestPlaced xs (testOperator xs close p e)
+  unfolding testOperator
+  operator-follows =
+      cond-elim (TestPlaced xs) (eqb (skipAt xs e) e) (λ f. tt) (λ f. with-operator (skipAt xs e) (operatorAt xs (skipAt xs e)))
+
+test-placed : (xs : List ℕ) (close p : ℕ) → p ≤ length xs → TestPlaced xs (testAt xs close p)
+unfolding testAt
+test-placed xs close p h =
+    let r = run-end-within isNamePart xs p h in
+    cond-elim (TestPlaced xs) (isName (part xs p (nameEnd xs p))) (λ n. operator-follows xs close p (nameEnd xs p) (r .0) (r .1)) (λ n. tt)
+
+-- ---- what an item begins with, connectives and closing bytes, as the code finds them
+
+abbrev HeadPlaced : List ℕ → ℕ → Head → Type 0
+HeadPlaced xs p (Head.Test r) = Placed xs r × (p + 1 ≤ r .value .next) × (r .value .next ≤ length xs)
+HeadPlaced xs p (Head.Open q b) = (p + 1 ≤ q) × (q ≤ length xs)
+HeadPlaced xs p Head.Nothing = Unit {0}
+
+open-placed : (xs : List ℕ) (p : ℕ) (h : Head) → OpenDerived xs p h → HeadPlaced xs p h
+open-placed xs p (Head.Test r) o = absurd o
+open-placed xs p (Head.Open q b) o = opens-rise o
+open-placed xs p Head.Nothing o = tt
+
+head-or : (xs : List ℕ) (close p : ℕ) (t : FoundTest) (h : Head) → TestPlaced xs t → TestDerived xs close p t → HeadPlaced xs p h → HeadPlaced xs p (testOr t h)
+head-or xs close p (FoundTest.Test r) h a b c = let u = test-rise b in (a, u .0, u .1)
+head-or xs close p FoundTest.Nothing h a b c = c
+
+head-placed : (xs : List ℕ) (close p : ℕ) → p ≤ length xs → HeadPlaced xs p (headAt xs close p)
+unfolding headAt
+head-placed xs close p i =
+    head-or xs close p (testAt xs close p) (openAt xs p) (test-placed xs close p i) (test-derived xs close p) (open-placed xs p (openAt xs p) (open-derived xs p))
+
+module _ (xs : List ℕ) (close p : ℕ) (h : Head) (e : h ≡ headAt xs close p) (i : p ≤ length xs) where
+  pub head-test-placed : (r : RawTest) → h ≡ Head.Test r → Placed xs r × (p + 1 ≤ r .value .next) × (r .value .next ≤ length xs)
+  head-test-placed r f = rw (sym e ∙ f) at (head-placed xs close p i)
+
+  pub head-open-ahead : (q : ℕ) (b : Bool) → h ≡ Head.Open q b → (p + 1 ≤ q) × (q ≤ length xs)
+  head-open-ahead q b f = rw (sym e ∙ f) at (head-placed xs close p i)
+
+pub connective-ahead : (xs : List ℕ) (p q : ℕ) (a : Bool) (f : FoundConnective) → f ≡ connectiveAt xs p → f ≡ FoundConnective.Next q a → (p + 1 ≤ q) × (q ≤ length xs)
+connective-ahead xs p q a f e h = connects-rise (rw (sym e ∙ h) at (connective-derived xs p))
+
+pub close-ahead : (xs : List ℕ) (close p q : ℕ) (f : FoundClose) → f ≡ closeAt xs close p → f ≡ FoundClose.At q → (p + 1 ≤ q) × (q ≤ length xs)
+close-ahead xs close p q f e h = closes-rise (rw (sym e ∙ h) at (close-derived xs close p))
