@@ -1,6 +1,10 @@
 // Filters read and judged: a filter and an item call each other, and the text left and the nesting left fall.
+mod check;
+mod verdict;
 
+pub use check::check_filter;
 use judge::FirstFault;
+pub use verdict::judge_filter;
 
 // A position in the filter's text, and how many brackets may still open around it.
 pub struct Spot {

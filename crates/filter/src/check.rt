@@ -1,0 +1,153 @@
+// Reading a filter: its tests are counted, and the first fault among them is kept.
+use crate::Spot;
+use crate::Summary;
+use crate::Walked;
+use block::Reading;
+use judge::Fault;
+use judge::FirstFault;
+use judge::test_fault;
+use syntax::FoundClose;
+use syntax::FoundConnective;
+use syntax::Head;
+use syntax::RawTest;
+use syntax::read_close;
+use syntax::read_connective;
+use syntax::read_head;
+ghost use mathlib.Core.Path.{_≡_};
+ghost use Prim.Native.Nat.{_+_, _≤_};
+ghost use lib.ListN.{length};
+ghost use Rattle.sheet.specs.Sheet.{parametersOf, readSheet};
+ghost use Rattle.syntax.specs.Placed.{Placed};
+ghost use Rattle.syntax.specs.Scan.{testOf};
+ghost use Rattle.syntax.specs.Reader.{itemAt, filterAt};
+ghost use Rattle.judge.specs.Faults.{orElse};
+ghost use Rattle.filter.specs.Folds.{joinSummaries, reading};
+ghost use Rattle.filter.specs.Walks.{answerOf};
+
+// The first of two, where it is a fault, and else the second.
+fn first_of(a: FirstFault, b: FirstFault) -> FirstFault
+    ensures { λ r. ⌜ r ≡ orElse a b ⌝ }
+{
+    let fault = a.fault;
+    match fault {
+        Fault::Nothing => b,
+        Fault::UnknownName => a,
+        Fault::Unsupported => a,
+        Fault::NoMeaning => a,
+        Fault::Unreadable => a,
+    }
+}
+
+// One test: its fault, if it has one, at its first byte.
+fn test_summary(sheet: &[u8], filter: &[u8], test: RawTest) -> Summary
+    requires { ⌜ readSheet (now sheet) ≡ Reading.WellFormed ⌝ }
+    requires { ⌜ length (now filter) ≤ 1024 ⌝ }
+    requires { ⌜ Placed (now filter) test ⌝ }
+    ensures { λ r. ⌜ r ≡ reading (parametersOf (now (sheet .entry))) .one (testOf (now (filter .entry)) test) ⌝ }
+{
+    let here = FirstFault {
+        fault: test_fault(sheet, filter, test),
+        position: test.at,
+    };
+    let none = FirstFault {
+        fault: Fault::Nothing,
+        position: 0,
+    };
+    Summary {
+        tests: 1,
+        first: first_of(here, none),
+    }
+}
+
+// What two parts gather together, the first part's fault before the second's.
+fn join_summaries(a: Summary, b: Summary) -> Summary
+    requires { ⌜ a .tests + b .tests ≤ 1024 ⌝ }
+    ensures { λ r. ⌜ r ≡ joinSummaries a b ⌝ }
+{
+    let one = a.first;
+    let two = b.first;
+    Summary {
+        tests: a.tests + b.tests,
+        first: first_of(one, two),
+    }
+}
+
+// The item at a spot: "a test, a filter in round brackets, or not followed by a filter in round brackets".
+fn check_item(sheet: &[u8], filter: &[u8], spot: Spot) -> Walked
+    requires { ⌜ readSheet (now sheet) ≡ Reading.WellFormed ⌝ }
+    requires { ⌜ length (now filter) ≤ 1024 ⌝ }
+    requires { ⌜ spot .at ≤ length (now filter) ⌝ }
+    ensures { λ r. ⌜ r ≡ answerOf Walked.Done Walked.Nothing (reading (parametersOf (now (sheet .entry)))) (itemAt (spot .deep) (now (filter .entry)) (spot .at)) ⌝ }
+{
+    let at = spot.at;
+    let deep = spot.deep;
+    let head = read_head(filter, b')', at);
+    match head {
+        Head::Test(test) => {
+            let summary = test_summary(sheet, filter, test);
+            let value = test.value;
+            Walked::Done(value.next, summary)
+        }
+        Head::Open(next, _) => {
+            if deep == 0 {
+                return Walked::Nothing;
+            }
+            let inner = check_filter(
+                sheet,
+                filter,
+                Spot {
+                    at: next,
+                    deep: deep - 1,
+                },
+            );
+            match inner {
+                Walked::Done(end, summary) => {
+                    let close = read_close(filter, b')', end);
+                    match close {
+                        FoundClose::At(after) => Walked::Done(after, summary),
+                        FoundClose::Nothing => Walked::Nothing,
+                    }
+                }
+                Walked::Nothing => Walked::Nothing,
+            }
+        }
+        Head::Nothing => Walked::Nothing,
+    }
+}
+
+// The filter at a spot: "one or more items joined by and or or", from left to right.
+pub fn check_filter(sheet: &[u8], filter: &[u8], spot: Spot) -> Walked
+    requires { ⌜ readSheet (now sheet) ≡ Reading.WellFormed ⌝ }
+    requires { ⌜ length (now filter) ≤ 1024 ⌝ }
+    requires { ⌜ spot .at ≤ length (now filter) ⌝ }
+    ensures { λ r. ⌜ r ≡ answerOf Walked.Done Walked.Nothing (reading (parametersOf (now (sheet .entry)))) (filterAt (spot .deep) (now (filter .entry)) (spot .at)) ⌝ }
+{
+    let at = spot.at;
+    let deep = spot.deep;
+    let first = check_item(sheet, filter, Spot { at, deep });
+    let Walked::Done(first_end, first_summary) = first else {
+        return Walked::Nothing;
+    };
+    let mut end = first_end;
+    let mut summary = first_summary;
+    loop {
+        let connective = read_connective(filter, end);
+        match connective {
+            FoundConnective::Next(next, _) => {
+                let item = check_item(sheet, filter, Spot { at: next, deep });
+                match item {
+                    Walked::Done(item_end, item_summary) => {
+                        end = item_end;
+                        summary = join_summaries(summary, item_summary);
+                    }
+                    Walked::Nothing => {
+                        return Walked::Nothing;
+                    }
+                }
+            }
+            FoundConnective::Nothing => {
+                return Walked::Done(end, summary);
+            }
+        }
+    }
+}

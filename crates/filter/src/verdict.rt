@@ -1,0 +1,123 @@
+// Judging a filter on a card: every test is judged, and a connective never skips one.
+use crate::Judged;
+use crate::Spot;
+use block::Reading;
+use judge::test_says;
+use syntax::FoundClose;
+use syntax::FoundConnective;
+use syntax::Head;
+use syntax::read_close;
+use syntax::read_connective;
+use syntax::read_head;
+ghost use mathlib.Core.Path.{_≡_};
+ghost use mathlib.Core.Bool.{cond, not};
+ghost use Prim.Native.Nat.{_≤_};
+ghost use lib.ListN.{length};
+ghost use Rattle.sheet.specs.Sheet.{parametersOf, readSheet};
+ghost use Rattle.card.specs.Card.{entriesOf, readCard};
+ghost use Rattle.syntax.specs.Reader.{itemAt, filterAt};
+ghost use Rattle.filter.specs.Folds.{joinVerdicts, judging};
+ghost use Rattle.filter.specs.Walks.{answerOf};
+
+// The verdict, or after not the opposite.
+fn negated_if(negate: bool, says: bool) -> bool
+    ensures { λ r. ⌜ r ≡ cond negate (not says) says ⌝ }
+{
+    if negate {
+        return !says;
+    }
+    says
+}
+
+// Two verdicts joined by and, or by or.
+fn joined(and: bool, a: bool, b: bool) -> bool
+    ensures { λ r. ⌜ r ≡ joinVerdicts and a b ⌝ }
+{
+    if and {
+        return a && b;
+    }
+    a || b
+}
+
+// The item at a spot.
+fn judge_item(sheet: &[u8], card: &[u8], filter: &[u8], spot: Spot) -> Judged
+    requires { ⌜ readSheet (now sheet) ≡ Reading.WellFormed ⌝ }
+    requires { ⌜ readCard (now card) ≡ Reading.WellFormed ⌝ }
+    requires { ⌜ length (now filter) ≤ 1024 ⌝ }
+    requires { ⌜ spot .at ≤ length (now filter) ⌝ }
+    ensures { λ r. ⌜ r ≡ answerOf Judged.Done Judged.Nothing (judging (parametersOf (now (sheet .entry))) (entriesOf (now (card .entry)))) (itemAt (spot .deep) (now (filter .entry)) (spot .at)) ⌝ }
+{
+    let at = spot.at;
+    let deep = spot.deep;
+    let head = read_head(filter, b')', at);
+    match head {
+        Head::Test(test) => {
+            let says = test_says(sheet, card, filter, test);
+            let value = test.value;
+            Judged::Done(value.next, says)
+        }
+        Head::Open(next, negate) => {
+            if deep == 0 {
+                return Judged::Nothing;
+            }
+            let inner = judge_filter(
+                sheet,
+                card,
+                filter,
+                Spot {
+                    at: next,
+                    deep: deep - 1,
+                },
+            );
+            match inner {
+                Judged::Done(end, says) => {
+                    let close = read_close(filter, b')', end);
+                    match close {
+                        FoundClose::At(after) => Judged::Done(after, negated_if(negate, says)),
+                        FoundClose::Nothing => Judged::Nothing,
+                    }
+                }
+                Judged::Nothing => Judged::Nothing,
+            }
+        }
+        Head::Nothing => Judged::Nothing,
+    }
+}
+
+// The filter at a spot, its items joined from left to right, and and or equal in rank.
+pub fn judge_filter(sheet: &[u8], card: &[u8], filter: &[u8], spot: Spot) -> Judged
+    requires { ⌜ readSheet (now sheet) ≡ Reading.WellFormed ⌝ }
+    requires { ⌜ readCard (now card) ≡ Reading.WellFormed ⌝ }
+    requires { ⌜ length (now filter) ≤ 1024 ⌝ }
+    requires { ⌜ spot .at ≤ length (now filter) ⌝ }
+    ensures { λ r. ⌜ r ≡ answerOf Judged.Done Judged.Nothing (judging (parametersOf (now (sheet .entry))) (entriesOf (now (card .entry)))) (filterAt (spot .deep) (now (filter .entry)) (spot .at)) ⌝ }
+{
+    let at = spot.at;
+    let deep = spot.deep;
+    let first = judge_item(sheet, card, filter, Spot { at, deep });
+    let Judged::Done(first_end, first_says) = first else {
+        return Judged::Nothing;
+    };
+    let mut end = first_end;
+    let mut says = first_says;
+    loop {
+        let connective = read_connective(filter, end);
+        match connective {
+            FoundConnective::Next(next, and) => {
+                let item = judge_item(sheet, card, filter, Spot { at: next, deep });
+                match item {
+                    Judged::Done(item_end, item_says) => {
+                        end = item_end;
+                        says = joined(and, says, item_says);
+                    }
+                    Judged::Nothing => {
+                        return Judged::Nothing;
+                    }
+                }
+            }
+            FoundConnective::Nothing => {
+                return Judged::Done(end, says);
+            }
+        }
+    }
+}
