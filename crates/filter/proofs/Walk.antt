@@ -88,6 +88,9 @@ module _ {A R : Type 0} (done : ℕ → A → R) (nothing : R) (cases : Cases do
         let w = was-done (filterAt d xs p) e h in
         record { tree = w .tree; read = w .read; value = w .value; derives = subst (FilterDerived xs d p) (w .read) (filter-derived d xs p) }
 
+    pub was-none : r ≡ answer (filterAt d xs p) → r ≡ nothing → filterAt d xs p ≡ unparsed
+    was-none e h = was-nothing (filterAt d xs p) e h
+
     pub item-ahead : (q : ℕ) (a : A) → r ≡ answer (itemAt d xs p) → r ≡ done q a → (p + 1 ≤ q) × (q ≤ length xs)
     item-ahead q a e h = item-rise (was-item q a e h .derives)
 

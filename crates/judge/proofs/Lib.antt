@@ -1,3 +1,4 @@
 -- The laws that the proofs cite.
 pub mod Entries
 pub mod Meaning
+pub mod Table

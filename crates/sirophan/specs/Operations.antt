@@ -1,12 +1,11 @@
 -- Check, match and select over lists of bytes, as functions that compute: refusals in the order of document 01's table.
 -- Assumes nothing.
-use Prim.Native.Nat.{ℕ, zero, suc, _+_, _*_, _-_, _/_, _%_}
-use mathlib.Core.Bool.{Bool, true, false, cond, not, _&&_, _||_}
+use Prim.Native.Nat.{ℕ, zero, suc, _+_, _/_, _%_}
+use mathlib.Core.Bool.{Bool, true, false, cond, _&&_, _||_}
 use mathlib.Core.Option.{Option, none, some}
 use mathlib.Core.List.{List, [], _∷_, _++_}
 use lib.Dec.{leb, eqb, ltb}
 use lib.ListN.{length, take, drop}
-use Rattle.base.specs.Parts.{part}
 use Rattle.block.specs.declared.Reading.{Reading}
 use Rattle.sheet.specs.Sheet.{Parameter, parametersOf, readSheet}
 use Rattle.card.specs.Card.{Entry, recordNumber, entriesOf, readCard}
@@ -16,7 +15,6 @@ use Rattle.judge.specs.Sets.{conforms}
 use Rattle.judge.specs.Faults.{firstFault}
 use Rattle.judge.specs.Verdicts.{filterSays}
 use Rattle.judge.specs.declared.Fault.{Fault}
-use Rattle.judge.specs.declared.FirstFault.{FirstFault}
 use Rattle.sirophan.specs.Answers.{Answer, yesOrNo, count, refused}
 
 -- what was found, or a refusal: its number and its place
@@ -94,6 +92,13 @@ unfoldable pub takeCard : List Parameter → ℕ → List ℕ → Step Card
 takeCard ps i b = cardStep (readCard b) (conforms ps (entriesOf b)) (record { number = recordNumber b; entries = entriesOf b }) i
 
 -- ---- check and match
+
+-- the answer of check for a filter on a well-formed sheet
+unfoldable pub filterAnswer : List Parameter → List ℕ → Answer
+filterAnswer ps text = answer (do
+  f ← takeFilter text
+  u ← testsStep ps (testsOf f)
+  found (count (length (testsOf f))))
 
 unfoldable pub checkAnswer : List ℕ → List ℕ → Answer
 checkAnswer sheet text = answer (do

@@ -1,5 +1,10 @@
 // Sirophan: which cards of an archive match a filter. A filter either has a meaning on every card that fits the sheet, and
 // is answered exactly, or is refused with a number and a place.
+mod reading;
+mod verdict;
+
+pub use reading::check;
+pub use verdict::match_card;
 
 // Why an operation refuses, in the order of the numbers of refusal.
 pub enum Reason {
@@ -56,4 +61,10 @@ pub enum Matched {
 pub enum Selected {
     Count(usize),
     Refused(Refusal),
+}
+
+// What judging one card answers.
+pub enum CardVerdict {
+    Says(bool),
+    Refused(Reason),
 }

@@ -1,0 +1,99 @@
+-- What check's answer tells of the sheet and the filter, and the answer of match from it.
+-- Assumes nothing.
+use Prim.Native.Nat.{ℕ}
+use native.Mathlib.Omega.{arith}
+use mathlib.Core.Path.{_≡_, refl, sym, ap, _∙_}
+use mathlib.Core.Bool.{Bool, true, false, cond, _||_}
+use mathlib.Core.Option.{Option, none, some}
+use mathlib.Core.List.{List}
+use lib.Dec.{eqb, ltb}
+use lib.ListN.{length}
+use borrow.Author.Tests.{ltb-false}
+use Rattle.block.specs.declared.Reading.{Reading}
+use Rattle.sheet.specs.Sheet.{Parameter, parametersOf, readSheet}
+use Rattle.syntax.specs.Tree.{Tree, testsOf}
+use Rattle.syntax.specs.Reader.{read}
+use Rattle.judge.specs.Verdicts.{filterSays}
+use Rattle.sirophan.specs.declared.Checked.{Checked}
+use Rattle.sirophan.specs.declared.Matched.{Matched}
+use Rattle.sirophan.specs.declared.Refusal.{Refusal}
+use Rattle.sirophan.specs.declared.CardVerdict.{CardVerdict}
+use Rattle.sirophan.specs.Answers.{Answer, count, refused, yesOrNo, numberOf, refusalAnswer, checkedAnswer, matchedAnswer}
+use Rattle.sirophan.specs.Operations.{Step, found, stop, _>>=_, answer, treeStep, takeFilter, testsStep, takeSheet, sheetStep, Prepared, prepare, Card, takeCard, checkAnswer, matchAnswer}
+use Rattle.sirophan.specs.Passing.{Passing, cardVerdict, verdictStep}
+
+-- ---- check has passed them
+
+-- what was found first, where something was found after it
+taken : {A B : Type 0} (s : Step A) (next : A → Step B) (b : B) → (s >>= next) ≡ found b → (a : A) × (s ≡ found a) × (next a ≡ found b)
+taken (found a) next b h = (a, refl, h)
+taken (stop n p) next b h = absurd (let z : _≡_ {A = ℕ} 0 1 = cc in omega arith)
+
+prepared-found : (s : Step Prepared) (n : ℕ) → answer (s >>= λ p. found (count (length (testsOf (p .filter))))) ≡ count n → (p : Prepared) × (s ≡ found p)
+prepared-found (found p) n h = (p, refl)
+prepared-found (stop m p) n h = absurd (let z : _≡_ {A = ℕ} 0 1 = cc in omega arith)
+
+sheet-found : (r : Reading) (ps qs : List Parameter) → sheetStep r ps ≡ found qs → (r ≡ Reading.WellFormed) × (ps ≡ qs)
+sheet-found Reading.WellFormed ps qs h = (refl, cc)
+sheet-found Reading.WrongSize ps qs h = (cc, cc)
+sheet-found Reading.WrongSum ps qs h = (cc, cc)
+sheet-found Reading.WrongLayout ps qs h = (cc, cc)
+
+tree-found : (o : Option Tree) (f : Tree) → treeStep o ≡ found f → o ≡ some f
+tree-found (some g) f h = cc
+tree-found none f h = cc
+
+text-found : (a b : Bool) (o : Option Tree) (f : Tree) → cond (a || b) (stop 10 0) (treeStep o) ≡ found f → (b ≡ false) × (o ≡ some f)
+text-found true b o f h = (cc, cc)
+text-found false true o f h = (cc, cc)
+text-found false false o f h = (refl, tree-found o f h)
+
+pub passing : (b xs : List ℕ) (c : Checked) (n : ℕ) → checkedAnswer c ≡ checkAnswer b xs → c ≡ Checked.Tests n → Passing b xs
+unfolding checkedAnswer checkAnswer prepare takeSheet takeFilter
+passing b xs c n e h =
+    let (p, is) = prepared-found (prepare b xs) n (sym e ∙ ap checkedAnswer h) in
+    let (ps, s, rest) = taken (takeSheet b) (λ qs. takeFilter xs >>= λ f. testsStep qs (testsOf f) >>= λ u. found (record { parameters = qs; filter = f })) p is in
+    let (f, t, last) = taken (takeFilter xs) (λ f. testsStep ps (testsOf f) >>= λ u. found (record { parameters = ps; filter = f })) p rest in
+    let (u, v, made) = taken (testsStep ps (testsOf f)) (λ u. found (record { parameters = ps; filter = f })) p last in
+    let (well, same) = sheet-found (readSheet b) (parametersOf b) ps s in
+    let (short, reads) = text-found (eqb (length xs) 0) (ltb 1024 (length xs)) (read xs) f t in
+    record {
+      tree = f;
+      sheet-well-formed = well;
+      short = ltb-false 1024 (length xs) short;
+      reads = reads;
+      prepared = is ∙ sym made ∙ ap (λ (qs : List Parameter). found (record { parameters = qs; filter = f })) (sym same);
+    }
+
+-- ---- match
+
+match-step : (s : Step Prepared) (next : Prepared → Step Answer) (n p : ℕ) → answer (s >>= λ q. found (count (length (testsOf (q .filter))))) ≡ refused n p → answer (s >>= next) ≡ refused n p
+match-step (found q) next n p h = cc
+match-step (stop m q) next n p h = h
+
+pub match-refused : (b xs card : List ℕ) (c : Checked) (r : Refusal) → checkedAnswer c ≡ checkAnswer b xs → c ≡ Checked.Refused r → matchedAnswer (Matched.Refused r) ≡ matchAnswer b xs card
+unfolding checkedAnswer matchedAnswer refusalAnswer checkAnswer matchAnswer
+match-refused b xs card c r e h =
+    sym (match-step (prepare b xs) _ (numberOf (r .reason)) (r .place) (sym e ∙ ap checkedAnswer h))
+
+yes-or-no-after : (s : Step Card) (g : Card → Bool) → (s >>= λ c. found (yesOrNo (g c))) ≡ (s >>= λ c. found (g c)) >>= λ b. found (yesOrNo b)
+yes-or-no-after (found c) g = refl
+yes-or-no-after (stop n p) g = refl
+
+module _ (b xs card : List ℕ) (p : Passing b xs) (v : CardVerdict) (e : (i : ℕ) → verdictStep v i ≡ cardVerdict (parametersOf b) (read xs) i card) where
+  match-is : matchAnswer b xs card ≡ answer (verdictStep v 0 >>= λ y. found (yesOrNo y))
+  unfolding matchAnswer cardVerdict
+  match-is =
+      rw (p .prepared, e 0, p .reads) (ap answer (yes-or-no-after (takeCard (parametersOf b) 0 card) (λ c. filterSays (parametersOf b) (c .entries) (p .tree))))
+
+  pub match-yes : (y : Bool) → v ≡ CardVerdict.Says y → y ≡ true → matchedAnswer Matched.Yes ≡ matchAnswer b xs card
+  unfolding matchedAnswer
+  match-yes y h k = sym (match-is ∙ rw (h, k))
+
+  pub match-no : (y : Bool) → v ≡ CardVerdict.Says y → y ≡ false → matchedAnswer Matched.No ≡ matchAnswer b xs card
+  unfolding matchedAnswer
+  match-no y h k = sym (match-is ∙ rw (h, k))
+
+  pub match-card-refused : (r : Refusal) → v ≡ CardVerdict.Refused (r .reason) → r .place ≡ 0 → matchedAnswer (Matched.Refused r) ≡ matchAnswer b xs card
+  unfolding matchedAnswer refusalAnswer
+  match-card-refused r h z = sym (match-is ∙ rw (h, z))

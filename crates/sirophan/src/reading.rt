@@ -1,0 +1,79 @@
+// Check: a sheet and a filter are read, and the first refusal in the order of the table decides.
+use crate::Checked;
+use crate::Reason;
+use crate::Refusal;
+use block::Reading;
+use filter::Spot;
+use filter::Summary;
+use filter::Walked;
+use filter::check_filter;
+use judge::Fault;
+use syntax::scan::skip;
+ghost use mathlib.Core.Path.{_≡_};
+ghost use Rattle.sheet.specs.Sheet.{parametersOf, readSheet};
+ghost use Rattle.sirophan.specs.Answers.{refused, checkedAnswer, numberOf};
+ghost use Rattle.sirophan.specs.Passing.{summaryAnswer};
+ghost use Rattle.sirophan.specs.Operations.{filterAnswer, checkAnswer};
+
+// A refusal as check's answer.
+fn refuse(reason: Reason, place: usize) -> Checked
+    ensures { λ r. ⌜ checkedAnswer r ≡ refused (numberOf reason) place ⌝ }
+{
+    Checked::Refused(Refusal { reason, place })
+}
+
+// The answer for a text that is a filter: the first fault, or the number of tests.
+fn outcome(summary: Summary) -> Checked
+    ensures { λ r. ⌜ checkedAnswer r ≡ summaryAnswer summary ⌝ }
+{
+    let first = summary.first;
+    let fault = first.fault;
+    match fault {
+        Fault::Nothing => Checked::Tests(summary.tests),
+        Fault::UnknownName => refuse(Reason::UnknownName, first.position),
+        Fault::Unsupported => refuse(Reason::Unsupported, first.position),
+        Fault::NoMeaning => refuse(Reason::NoMeaning, first.position),
+        Fault::Unreadable => refuse(Reason::Unreadable, first.position),
+    }
+}
+
+// The filter on a well-formed sheet.
+fn check_text(sheet: &[u8], filter: &[u8]) -> Checked
+    requires { ⌜ readSheet (now sheet) ≡ Reading.WellFormed ⌝ }
+    ensures { λ r. ⌜ checkedAnswer r ≡ filterAnswer (parametersOf (now (sheet .entry))) (now (filter .entry)) ⌝ }
+{
+    if filter.len() == 0 {
+        return refuse(Reason::FilterSize, 0);
+    }
+    if filter.len() > 1024 {
+        return refuse(Reason::FilterSize, 0);
+    }
+    let start = skip(filter, 0);
+    let walked = check_filter(sheet, filter, Spot { at: start, deep: 8 });
+    match walked {
+        Walked::Done(end, summary) => {
+            let after = skip(filter, end);
+            if after != filter.len() {
+                return refuse(Reason::NoFilter, 0);
+            }
+            if summary.tests > 32 {
+                return refuse(Reason::NoFilter, 0);
+            }
+            outcome(summary)
+        }
+        Walked::Nothing => refuse(Reason::NoFilter, 0),
+    }
+}
+
+// How many tests a filter has, where every test has a meaning on every card that fits the sheet; or why not, and where.
+pub fn check(sheet: &[u8], filter: &[u8]) -> Checked
+    ensures { λ r. ⌜ checkedAnswer r ≡ checkAnswer (now (sheet .entry)) (now (filter .entry)) ⌝ }
+{
+    let reading = sheet::read_sheet(sheet);
+    match reading {
+        Reading::WellFormed => check_text(sheet, filter),
+        Reading::WrongSize => refuse(Reason::SheetSize, 0),
+        Reading::WrongSum => refuse(Reason::SheetSum, 0),
+        Reading::WrongLayout => refuse(Reason::SheetLayout, 0),
+    }
+}

@@ -1,0 +1,79 @@
+// Match: a card under a sheet and a filter that check has passed.
+use crate::CardVerdict;
+use crate::Checked;
+use crate::Matched;
+use crate::Reason;
+use crate::Refusal;
+use crate::reading::check;
+use block::Reading;
+use filter::Judged;
+use filter::Spot;
+use filter::judge_filter;
+use judge::conforms;
+use syntax::scan::skip;
+ghost use mathlib.Core.Path.{_≡_};
+ghost use Prim.Native.Nat.{ℕ};
+ghost use Rattle.sheet.specs.Sheet.{parametersOf};
+ghost use Rattle.sheet.specs.Find.{kindsOf};
+ghost use Rattle.card.specs.Card.{entriesOf, readCard};
+ghost use Rattle.syntax.specs.Reader.{read};
+ghost use Rattle.sirophan.specs.Answers.{matchedAnswer};
+ghost use Rattle.sirophan.specs.Operations.{matchAnswer};
+ghost use Rattle.sirophan.specs.Passing.{Passing, textSays, cardVerdict, verdictStep};
+
+// What a filter that check has passed says of a well-formed card.
+fn says(sheet: &[u8], filter: &[u8], card: &[u8]) -> bool
+    requires { ⌜ Passing (now sheet) (now filter) ⌝ }
+    requires { ⌜ readCard (now card) ≡ Reading.WellFormed ⌝ }
+    ensures { λ r. ⌜ r ≡ textSays (parametersOf (now (sheet .entry))) (entriesOf (now (card .entry))) (read (now (filter .entry))) ⌝ }
+{
+    let start = skip(filter, 0);
+    let judged = judge_filter(sheet, card, filter, Spot { at: start, deep: 8 });
+    match judged {
+        Judged::Done(_, says) => says,
+        Judged::Nothing => false,
+    }
+}
+
+// The verdict on a card, or why it is refused; `kinds` are those of the sheet.
+pub fn judge_card(sheet: &[u8], kinds: &[u8], filter: &[u8], card: &[u8]) -> CardVerdict
+    requires { ⌜ Passing (now sheet) (now filter) ⌝ }
+    requires { ⌜ now kinds ≡ kindsOf (parametersOf (now sheet)) ⌝ }
+    ensures { λ r. ⌜ ((i : ℕ) → verdictStep r i ≡ cardVerdict (parametersOf (now (sheet .entry))) (read (now (filter .entry))) i (now (card .entry))) ⌝ }
+{
+    let reading = card::read_card(card);
+    match reading {
+        Reading::WellFormed => {
+            if conforms(kinds, card) {
+                return CardVerdict::Says(says(sheet, filter, card));
+            }
+            CardVerdict::Refused(Reason::CardMisfit)
+        }
+        Reading::WrongSize => CardVerdict::Refused(Reason::CardSize),
+        Reading::WrongSum => CardVerdict::Refused(Reason::CardSum),
+        Reading::WrongLayout => CardVerdict::Refused(Reason::CardLayout),
+    }
+}
+
+// Whether a card matches a filter on a sheet, or why there is no answer, and where.
+pub fn match_card(sheet: &[u8], filter: &[u8], card: &[u8]) -> Matched
+    ensures { λ r. ⌜ matchedAnswer r ≡ matchAnswer (now (sheet .entry)) (now (filter .entry)) (now (card .entry)) ⌝ }
+{
+    let checked = check(sheet, filter);
+    match checked {
+        Checked::Refused(refusal) => Matched::Refused(refusal),
+        Checked::Tests(_) => {
+            let kinds = sheet::kinds(sheet);
+            let verdict = judge_card(sheet, &kinds, filter, card);
+            match verdict {
+                CardVerdict::Says(yes) => {
+                    if yes {
+                        return Matched::Yes;
+                    }
+                    Matched::No
+                }
+                CardVerdict::Refused(reason) => Matched::Refused(Refusal { reason, place: 0 }),
+            }
+        }
+    }
+}
