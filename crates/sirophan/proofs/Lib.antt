@@ -1,0 +1,7 @@
+-- The proofs of the promises.
+pub mod Readable
+pub mod Meaning
+pub mod Cards
+pub mod Faults
+pub mod Prepare
+pub mod Demand

@@ -1,3 +1,8 @@
--- The operations: what they answer, in document 01's numbers, and how the answers come about.
+-- The operations: what they answer, in document 01's numbers, and how the answers come about; what the promises about them say.
 pub mod Answers
 pub mod Operations
+pub mod Readable
+pub mod Meaning
+pub mod Numbers
+pub mod Demand
+pub mod Witness
