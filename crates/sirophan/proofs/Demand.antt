@@ -14,7 +14,7 @@ use Rattle.syntax.specs.Grammar.{Spells}
 use Rattle.sirophan.specs.Answers.{count, refused}
 use Rattle.sirophan.specs.Operations.{Step, found, stop, testsStep, Prepared, prepare, checkAnswer, matchAnswer}
 use Rattle.sirophan.specs.Meaning.{Meaningful}
-use Rattle.sirophan.specs.Demand.{Demand}
+use Rattle.sirophan.specs.Demand.{Demand, MeetsDemand}
 use Rattle.sirophan.proofs.Cards.{conforms-size, conforms-bytes, conforms-taken}
 use Rattle.sirophan.proofs.Prepare.{check-by, match-by, Scan, all-mean, one-refused, scan, prepared}
 
@@ -65,6 +65,5 @@ module _ (sheet text : List ℕ) (s : SheetBlock sheet) (f : Tree) (short : leng
         };
       }
 
-  -- "Take any sound sheet and any text of at most 1,024 bytes that is a filter by the grammar. .."
-  pub demand : Demand ps f (checkAnswer sheet text) (matchAnswer sheet text)
-  demand = meets refl (scan ps (s .well-formed) (testsOf f))
+pub demand-met : MeetsDemand checkAnswer matchAnswer
+demand-met sheet text s f short spells = meets sheet text s f short spells refl (scan (s .parameters) (s .well-formed) (testsOf f))

@@ -5,3 +5,6 @@ pub mod Cards
 pub mod Faults
 pub mod Prepare
 pub mod Demand
+pub mod Determinacy
+pub mod Impossible
+pub mod Trial

@@ -1,6 +1,6 @@
 -- The letter's third demand on check and match, sentence by sentence.
 -- Assumes nothing.
-use Prim.Native.Nat.{ℕ}
+use Prim.Native.Nat.{ℕ, _≤_}
 use mathlib.Core.Path.{_≡_}
 use mathlib.Core.Logic.{_↔_}
 use mathlib.Core.List.{List, _∷_, _++_}
@@ -8,8 +8,10 @@ use lib.ListN.{length}
 use Rattle.base.specs.Bytes.{Bytes}
 use Rattle.base.specs.Lists.{All}
 use Rattle.sheet.specs.Sheet.{Parameter}
+use Rattle.sheet.specs.Encode.{SheetBlock}
 use Rattle.card.specs.Card.{Entry}
 use Rattle.syntax.specs.Tree.{Test, Tree, testsOf}
+use Rattle.syntax.specs.Grammar.{Spells}
 use Rattle.judge.specs.Verdicts.{filterSays}
 use Rattle.sirophan.specs.Answers.{Answer, yesOrNo, count, refused}
 use Rattle.sirophan.specs.Meaning.{Conforms, LacksMeaning, Meaningful}
@@ -46,3 +48,14 @@ pub record Demand (ps : List Parameter) (f : Tree) (check : Answer) (match : Lis
   pub verdict : check ≡ count (length (testsOf f)) → (card : List ℕ) (es : List Entry) → Conforms ps card es → match card ≡ yesOrNo (filterSays ps es f)
   -- "If it does not, the check refuses, and match refuses alike, .."
   pub refuses : (check ≡ count (length (testsOf f)) → ⊥) → RefusesAlike ps f check match
+
+-- a check and a match meet it: "Take any sound sheet and any text of at most 1,024 bytes that is a filter by the grammar."
+abbrev pub MeetsDemand : (check : List ℕ → List ℕ → Answer) → (match : List ℕ → List ℕ → List ℕ → Answer) → Type 0
+MeetsDemand check match =
+    (sheet text : List ℕ) (s : SheetBlock sheet) (f : Tree) → length text ≤ 1024 → Spells text f → Demand (s .parameters) f (check sheet text) (match sheet text)
+
+-- two checks answer alike, and so do two matches, on each card that conforms, and on every list where the check refuses
+pub record Agree (ps : List Parameter) (f : Tree) (check check′ : Answer) (match match′ : List ℕ → Answer) : Type 0 where
+  pub checks : check ≡ check′
+  pub conforming : (card : List ℕ) (es : List Entry) → Conforms ps card es → match card ≡ match′ card
+  pub refusals : (check ≡ count (length (testsOf f)) → ⊥) → (any : List ℕ) → match any ≡ match′ any

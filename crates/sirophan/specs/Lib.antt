@@ -6,3 +6,4 @@ pub mod Meaning
 pub mod Numbers
 pub mod Demand
 pub mod Witness
+pub mod Trial
