@@ -8,3 +8,5 @@ pub mod Demand
 pub mod Determinacy
 pub mod Impossible
 pub mod Trial
+pub mod Runs
+pub mod Selection

@@ -3,22 +3,28 @@
 use Prim.Native.Nat.{ℕ, _≤_}
 use native.Mathlib.Omega.{arith}
 use mathlib.Core.Path.{_≡_, refl, ap}
+use mathlib.Core.Bool.{_||_}
+use mathlib.Core.Option.{Option, none, some}
 use mathlib.Core.List.{List, [], _∷_, _++_}
+use lib.Dec.{eqb, ltb}
 use lib.ListN.{length}
 use borrow.Author.Tests.{ne-eqb, le-ltb}
 use Rattle.base.specs.Lists.{All, all-empty, all-cons}
-use Rattle.sheet.specs.Sheet.{Parameter}
+use Rattle.base.proofs.Tests.{cond-elim}
+use Rattle.block.specs.declared.Reading.{Reading}
+use Rattle.sheet.specs.Sheet.{Parameter, parametersOf, readSheet}
 use Rattle.sheet.specs.Encode.{WellFormedSheet, SheetBlock}
 use Rattle.sheet.proofs.Sheets.{reads-iff}
 use Rattle.syntax.specs.Tree.{Test, Tree, testsOf}
 use Rattle.syntax.specs.Grammar.{Spells}
+use Rattle.syntax.specs.Reader.{read}
 use Rattle.syntax.proofs.Spelling.{read-spells, spells-not-empty}
 use Rattle.judge.specs.Faults.{testFault, orElse, firstFault}
 use Rattle.judge.specs.declared.Fault.{Fault}
 use Rattle.judge.specs.declared.FirstFault.{FirstFault}
 use Rattle.judge.specs.Verdicts.{filterSays}
 use Rattle.sirophan.specs.Answers.{yesOrNo, count}
-use Rattle.sirophan.specs.Operations.{Step, found, stop, _>>=_, takeSheet, takeFilter, faultStep, testsStep, Prepared, prepare, answer, takeCard, checkAnswer, matchAnswer}
+use Rattle.sirophan.specs.Operations.{Step, found, stop, _>>=_, sheetStep, takeSheet, treeStep, takeFilter, faultStep, testsStep, Prepared, prepare, answer, takeCard, checkAnswer, matchAnswer}
 use Rattle.sirophan.specs.Meaning.{Meaningful}
 use Rattle.sirophan.proofs.Faults.{Refused, Outcome, means, refuses, outcome}
 
@@ -87,3 +93,44 @@ pub prepared : (sheet text : List ℕ) (s : SheetBlock sheet) (f : Tree) → len
     → prepare sheet text ≡ (testsStep (s .parameters) (testsOf f) >>= λ u. found (record { parameters = s .parameters; filter = f }))
 unfolding prepare
 prepared sheet text s f short spells = rw (sheet-taken sheet s, filter-taken text f short spells)
+
+-- ---- the numbers of these refusals
+
+-- a step found something, or was refused with a number of at most `most`
+data AtMost {A : Type 0} (most : ℕ) : Step A → Type 0 where
+  found-at-most : {x : A} → AtMost most (found x)
+  stop-at-most : (n p : ℕ) → n ≤ most → AtMost most (stop n p)
+
+at-most-then : {A B : Type 0} {most : ℕ} {s : Step A} {next : A → Step B} → AtMost most s → ((x : A) → AtMost most (next x)) → AtMost most (s >>= next)
+at-most-then (found-at-most {x = x}) h = h x
+at-most-then (stop-at-most n p l) h = stop-at-most n p l
+
+at-most-number : {A : Type 0} {most : ℕ} {s : Step A} → AtMost most s → (n p : ℕ) → s ≡ stop n p → n ≤ most
+at-most-number found-at-most n p e = absurd (let z : _≡_ {A = ℕ} 0 1 = cc in omega arith)
+at-most-number (stop-at-most m q l) n p e = let z : m ≡ n = cc in omega arith
+
+sheet-at-most : (r : Reading) (ps : List Parameter) → AtMost 17 (sheetStep r ps)
+sheet-at-most Reading.WellFormed ps = found-at-most
+sheet-at-most Reading.WrongSize ps = stop-at-most 1 0 (omega arith)
+sheet-at-most Reading.WrongSum ps = stop-at-most 2 0 (omega arith)
+sheet-at-most Reading.WrongLayout ps = stop-at-most 3 0 (omega arith)
+
+tree-at-most : (o : Option Tree) → AtMost 17 (treeStep o)
+tree-at-most (some f) = found-at-most
+tree-at-most none = stop-at-most 11 0 (omega arith)
+
+fault-at-most : (fault : Fault) (p : ℕ) → AtMost 17 (faultStep fault p)
+fault-at-most Fault.Nothing p = found-at-most
+fault-at-most Fault.UnknownName p = stop-at-most 14 p (omega arith)
+fault-at-most Fault.Unsupported p = stop-at-most 15 p (omega arith)
+fault-at-most Fault.NoMeaning p = stop-at-most 16 p (omega arith)
+fault-at-most Fault.Unreadable p = stop-at-most 17 p (omega arith)
+
+pub prepare-number : (sheet text : List ℕ) (n p : ℕ) → prepare sheet text ≡ stop n p → n ≤ 17
+unfolding prepare takeSheet takeFilter testsStep
+prepare-number sheet text =
+    at-most-number
+    (at-most-then (sheet-at-most (readSheet sheet) (parametersOf sheet))
+    (λ ps. at-most-then
+    (cond-elim (AtMost 17) (eqb (length text) 0 || ltb 1024 (length text)) (λ _. stop-at-most 10 0 (omega arith)) (λ _. tree-at-most (read text)))
+    (λ f. at-most-then (fault-at-most (firstFault ps (testsOf f) .fault) (firstFault ps (testsOf f) .position)) (λ u. found-at-most))))

@@ -7,3 +7,4 @@ pub mod Numbers
 pub mod Demand
 pub mod Witness
 pub mod Trial
+pub mod Selection
