@@ -23,16 +23,17 @@ use Rattle.date.specs.Fields.{between}
 use Rattle.date.specs.Texts as dates
 use Rattle.token.specs.Split.{split}
 use Rattle.token.specs.Card as tokens
+use Rattle.block.specs.declared.Reading.the-variants.{WellFormed}
 use Rattle.sheet.specs.Sheet.{Parameter}
 use Rattle.sheet.specs.Encode.{WellFormedParameter, WellFormedSheet}
 use Rattle.sheet.specs.Find.{Listed}
-use Rattle.card.specs.Card.{Entry, entry}
+use Rattle.card.specs.Card.{Entry, entry, recordNumber, entriesOf, readCard}
 use Rattle.card.specs.Encode.{encodeCard, ReadsAs}
 use Rattle.card.proofs.Read.{card-length}
 use Rattle.card.proofs.Cards.{reads-iff, empty-card, one-entry-card}
 use Rattle.kind.specs.Kinds.{date}
 use Rattle.kind.specs.Readable.{cardReadable}
-use Rattle.judge.specs.Sets.{valuesAt}
+use Rattle.judge.specs.Sets.{valuesAt, conforms}
 use Rattle.sirophan.specs.Operations.{Card, found, takeCard}
 use Rattle.sirophan.specs.Readable.{ReadableOnCard}
 use Rattle.sirophan.specs.Meaning.{Conforms}
@@ -59,6 +60,12 @@ module _ {ps : List Parameter} {b : List ℕ} {es : List Entry} (c : Conforms ps
   pub conforms-taken : (i : ℕ) → takeCard ps i b ≡ found card
   unfolding takeCard
   conforms-taken i = rw (conforms-reads .reading, conforms-reads .number, conforms-reads .entries, entries-iff ps es .1 (c .entries))
+
+-- a card that reads as well formed, and whose entries conform, conforms
+pub reads-conforms : (ps : List Parameter) (b : List ℕ) → Bytes b → readCard b ≡ WellFormed → conforms ps (entriesOf b) ≡ true → Conforms ps b (entriesOf b)
+reads-conforms ps b bytes r h =
+    let w = reads-iff b (recordNumber b) (entriesOf b) .0 (record { bytes = bytes; reading = r; number = refl; entries = refl }) in
+    record { number = recordNumber b; well-formed = w .0; encoded = w .1; entries = entries-iff ps (entriesOf b) .0 h }
 
 -- ---- a text for each kind
 

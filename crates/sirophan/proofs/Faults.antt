@@ -45,7 +45,7 @@ pub record Refused (ps : List Parameter) (t : Test) (n : ℕ) : Type 0 where
 
 -- what a test comes to, as a step of the operations
 pub data Outcome (ps : List Parameter) (t : Test) : Step (Unit {0}) → Type 0 where
-  means : Meaningful ps t → Outcome ps t (found tt)
+  means : Meaningful ps t → ((n : ℕ) → TestLine ps t n → ⊥) → Outcome ps t (found tt)
   refuses : {n : ℕ} → Refused ps t n → Outcome ps t (stop n (t .at))
 
 module _ (ps : List Parameter) (w : WellFormedSheet ps) (t : Test) where
@@ -135,13 +135,25 @@ module _ (ps : List Parameter) (w : WellFormedSheet ps) (t : Test) where
       (refused-at i k j 17
       (record { line = line-17 j r; lowest = lowest-from 17 (omega arith) (λ l n. n i k j) (λ l. u) (λ l i′ k′ j′. subst (λ (m : ℕ). HasOperator m (t .operator)) (same-kind j j′) o) })
       (λ es v. unreadable j v r))
-  outcome-by (judged-right {i = i} {k = k} j o r) = means (λ card es c. never es)
+  outcome-by (judged-right {i = i} {k = k} j o r) = means (λ card es c. never es) no-line
     where
+      has : {i′ k′ : ℕ} → Names ps (t .path) i′ k′ → HasOperator k′ (t .operator)
+      has j′ = subst (λ (m : ℕ). HasOperator m (t .operator)) (same-kind j j′) o
+
+      reads : {i′ k′ : ℕ} → Names ps (t .path) i′ k′ → ReadableValue k′ (t .value) (t .operator)
+      reads j′ = subst (λ (m : ℕ). ReadableValue m (t .value) (t .operator)) (same-kind j j′) r
+
       never : (es : List Entry) → LacksMeaning ps es t → ⊥
       never es (not-on-sheet n) = n i k j
       never es (neither e n) = pr-readable r e n
-      never es (lacks-operator j′ v n) = n (subst (λ (m : ℕ). HasOperator m (t .operator)) (same-kind j j′) o)
-      never es (unreadable j′ v n) = n (subst (λ (m : ℕ). ReadableValue m (t .value) (t .operator)) (same-kind j j′) r)
+      never es (lacks-operator j′ v n) = n (has j′)
+      never es (unreadable j′ v n) = n (reads j′)
+
+      no-line : (n : ℕ) → TestLine ps t n → ⊥
+      no-line n (line-14 m) = m i k j
+      no-line n (line-15 u) = both-ways (operator-iff k (t .operator) .1 o) (unsupported-lacks k (t .operator) u)
+      no-line n (line-16 j′ u m) = m (has j′)
+      no-line n (line-17 j′ m) = m (reads j′)
 
   pub outcome : Outcome ps t (faultStep (testFault ps t) (t .at))
   outcome = outcome-by judged

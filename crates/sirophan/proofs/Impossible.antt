@@ -65,7 +65,7 @@ title-means : Meaningful trialParameters titleTest
 title-means = meaning (outcome-as titleTest Fault.Nothing (faults-found .0))
   where
     meaning : Outcome trialParameters titleTest (found tt) → Meaningful trialParameters titleTest
-    meaning (means m) = m
+    meaning (means m _) = m
 
 code-lacks : Meaningful trialParameters codeTest → ⊥
 code-lacks m = shown (outcome-as codeTest Fault.NoMeaning (faults-found .1))

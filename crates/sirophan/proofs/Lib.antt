@@ -10,3 +10,8 @@ pub mod Impossible
 pub mod Trial
 pub mod Runs
 pub mod Selection
+pub mod Deciding
+pub mod Blocks
+pub mod CheckTable
+pub mod MatchTable
+pub mod SelectTable

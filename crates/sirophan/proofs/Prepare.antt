@@ -41,7 +41,7 @@ step-or-else Fault.NoMeaning p rest = refl
 step-or-else Fault.Unreadable p rest = refl
 
 module _ (ps : List Parameter) where
-  tests-next : (t : Test) (ts : List Test) → testsStep ps (t ∷ ts) ≡ (faultStep (testFault ps t) (t .at) >>= λ u. testsStep ps ts)
+  pub tests-next : (t : Test) (ts : List Test) → testsStep ps (t ∷ ts) ≡ (faultStep (testFault ps t) (t .at) >>= λ u. testsStep ps ts)
   unfolding testsStep firstFault
   tests-next t ts = step-or-else (testFault ps t) (t .at) (firstFault ps ts)
 
@@ -53,8 +53,8 @@ module _ (ps : List Parameter) where
 
   scan-next : {t : Test} {ts : List Test} {first rest : Step (Unit {0})} → Outcome ps t first → Scan ts rest → Scan (t ∷ ts) (first >>= λ u. rest)
   scan-next {t = t} {ts = ts} (refuses {n = n} r) s = one-refused [] t ts n refl all-empty r
-  scan-next (means m) (all-mean ms) = all-mean (all-cons m ms)
-  scan-next {t = t} (means m) (one-refused before u after n e ms r) = one-refused (t ∷ before) u after n (ap (λ (l : List Test). t ∷ l) e) (all-cons m ms) r
+  scan-next (means m _) (all-mean ms) = all-mean (all-cons m ms)
+  scan-next {t = t} (means m _) (one-refused before u after n e ms r) = one-refused (t ∷ before) u after n (ap (λ (l : List Test). t ∷ l) e) (all-cons m ms) r
 
   pub scan : WellFormedSheet ps → (ts : List Test) → Scan ts (testsStep ps ts)
   scan w [] = unfold testsStep firstFault in all-mean all-empty

@@ -4,7 +4,7 @@ use Prim.Native.Nat.{ℕ, zero, suc, _*_, _/_, _%_, _≤_}
 use native.Mathlib.Omega.{arith}
 use mathlib.Core.Path.{_≡_, refl, ap, ap₂, sym, _∙_, subst}
 use mathlib.Core.Bool.{_&&_}
-use mathlib.Core.Logic.{_↔_}
+use mathlib.Core.Logic.{_↔_, _⊎_, inl, inr}
 use mathlib.Core.List.{List, _∷_, _++_, flatten}
 use lib.Dec.{eqb, leb}
 use lib.ListN.{length, take, drop, length-append, length-drop, take-append-drop}
@@ -12,8 +12,8 @@ use lib.Seq.{take-at, drop-at, length-take-le}
 use borrow.Author.Tests.{eq-eqb, eqb-true, le-leb, leb-true}
 use Rattle.base.specs.Lists.{All, all-empty, all-cons}
 use Rattle.base.proofs.Lists.{length-zero}
-use Rattle.base.proofs.Tests.{and-left, and-right, cond-first}
-use Rattle.sirophan.specs.Operations.{found, stop, blocks, takeRun}
+use Rattle.base.proofs.Tests.{and-left, and-right, cond-first, cond-elim}
+use Rattle.sirophan.specs.Operations.{Step, found, stop, blocks, takeRun}
 use Rattle.sirophan.specs.Selection.{Run}
 
 -- ---- written and read back
@@ -76,3 +76,10 @@ run-back cards bs r =
 -- a list is taken as a run of blocks exactly where it is one
 pub run-iff : (cards : List ℕ) (bs : List (List ℕ)) → (takeRun cards ≡ found bs) ↔ Run cards bs
 run-iff cards bs = (run-there cards bs, run-back cards bs)
+
+-- and refused with 20 where it is none
+pub run-or-none : (cards : List ℕ) → ((bs : List (List ℕ)) × (takeRun cards ≡ found bs)) ⊎ (takeRun cards ≡ stop 20 0)
+unfolding takeRun
+run-or-none cards =
+    cond-elim (λ (s : Step (List (List ℕ))). ((bs : List (List ℕ)) × (s ≡ found bs)) ⊎ (s ≡ stop 20 0)) (eqb (length cards % 512) 0 && leb (length cards) 65536)
+    (λ _. inl (blocks (length cards / 512) cards, refl)) (λ _. inr refl)

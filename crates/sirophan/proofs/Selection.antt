@@ -103,7 +103,7 @@ module _ (sheet text : List ℕ) (p : Prepared) (e : prepare sheet text ≡ foun
   numbers-next b bs true h = rw h
   numbers-next b bs false h = rw h
 
-  matching-numbers : {bs : List (List ℕ)} → All (Taken ps) bs → matching ps f (map cardOf bs) ≡ matchingNumbers sheet text bs
+  pub matching-numbers : {bs : List (List ℕ)} → All (Taken ps) bs → matching ps f (map cardOf bs) ≡ matchingNumbers sheet text bs
   unfolding matching
   matching-numbers all-empty = refl
   matching-numbers (all-cons {x = b} {xs = bs} t ts) =
@@ -134,11 +134,8 @@ module _ (sheet text : List ℕ) (bs : List (List ℕ)) (room : ℕ) where
     selected-cards (one-stopped before b after n j split k ts m s) =
         card-refused n j m
         (record {
-          before = before;
           card = b;
-          after = after;
-          run = split;
-          index = omega arith;
+          at = record { before = before; after = after; split = split; index = omega arith };
           refuses = match-stopped sheet text p e n b s;
           earlier = all-map (taken-not-refused sheet text p e) ts;
         })

@@ -8,3 +8,4 @@ pub mod Demand
 pub mod Witness
 pub mod Trial
 pub mod Selection
+pub mod Refusals

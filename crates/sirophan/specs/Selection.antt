@@ -40,15 +40,19 @@ occurrences x ns = length (filter (λ n. ℕ-discrete n x) ns)
 abbrev pub bearing : ℕ → List (List ℕ) → List (List ℕ)
 bearing x bs = filter (λ b. ℕ-discrete (recordNumber b) x) bs
 
+-- the card with the index i of the run is b
+pub record CardAt (bs : List (List ℕ)) (i : ℕ) (b : List ℕ) : Type 0 where
+  pub before : List (List ℕ)
+  pub after : List (List ℕ)
+  pub split : bs ≡ before ++ (b ∷ after)
+  pub index : length before ≡ i
+
 -- match refuses the card with the index i with the number n, and none before it
 pub record RefusesCard (sheet text : List ℕ) (bs : List (List ℕ)) (n i : ℕ) : Type 0 where
-  pub before : List (List ℕ)
   pub card : List ℕ
-  pub after : List (List ℕ)
-  pub run : bs ≡ before ++ (card ∷ after)
-  pub index : length before ≡ i
+  pub at : CardAt bs i card
   pub refuses : matchAnswer sheet text card ≡ refused n 0
-  pub earlier : All (λ (b : List ℕ). (m p : ℕ) → matchAnswer sheet text b ≡ refused m p → ⊥) before
+  pub earlier : All (λ (b : List ℕ). (m p : ℕ) → matchAnswer sheet text b ≡ refused m p → ⊥) (at .before)
 
 -- what select answers, and writes into the list, by what match answers on each card of the run
 pub record SelectsByMatch (sheet text cards list : List ℕ) (bs : List (List ℕ)) : Type 0 where
