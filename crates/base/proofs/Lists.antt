@@ -1,6 +1,6 @@
 -- Laws of lists.
 -- Assumes nothing.
-use mathlib.Core.Path.{_≡_, refl, ap, sym}
+use mathlib.Core.Path.{_≡_, refl, ap, sym, _∙_}
 use Prim.Native.Nat.{ℕ, suc, _+_, _-_, _<_}
 use native.Mathlib.Numerals.{add-one}
 use native.Mathlib.Omega.{arith}
@@ -13,7 +13,7 @@ use lib.Seq.{take-all, drop-cons}
 use types.Run.{OneOf}
 use borrow.Author.Tests.{eq-eqb, ne-eqb, eqb-true}
 use Rattle.base.specs.Lists.{All, all-empty, all-cons, every, equal, member}
-use Rattle.base.proofs.Tests.{and-left, and-right, and-both, or-right, decided}
+use Rattle.base.proofs.Tests.{and-left, and-right, and-both, or-either, or-right, decided}
 
 -- ---- parts
 
@@ -84,3 +84,13 @@ unfolding member
 member-rest [] x h = refl
 member-rest (k ∷ []) x h = rw (ne-eqb x k h)
 member-rest (k ∷ j ∷ ks) x h = rw (ne-eqb x k (λ e. h (inl e))) (member-rest (j ∷ ks) x (λ r. h (inr r)))
+
+-- what every element passes, a member passes
+pub every-member : (p : ℕ → Bool) (ks : List ℕ) (x : ℕ) → every p ks ≡ true → member x ks ≡ true → p x ≡ true
+unfolding every member
+every-member p [] x h m = absurd (false≢true m)
+every-member p (k ∷ ks) x h m =
+    ⊎-elim
+    (λ e. ap p (eqb-true x k e) ∙ and-left (p k) (every p ks) h)
+    (λ r. every-member p ks x (and-right (p k) (every p ks) h) r)
+    (or-either (eqb x k) (member x ks) m)

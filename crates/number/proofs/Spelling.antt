@@ -5,7 +5,7 @@ use Prim.Native.Nat.{ℕ, _+_, _-_, _≤_, _<_}
 use native.Mathlib.Nat.{le-of-eq}
 use native.Mathlib.Numerals.{add-one}
 use native.Mathlib.Omega.{arith}
-use mathlib.Core.Bool.{Bool, true, false, cond}
+use mathlib.Core.Bool.{Bool, true, false, cond, false≢true}
 use mathlib.Core.List.{List, _∷_, _++_}
 use mathlib.Core.Logic.{_↔_}
 use lib.Dec.{leb, eqb, lit≤}
@@ -18,9 +18,10 @@ use Rattle.base.proofs.Tests.{cond-first}
 use Rattle.base.proofs.Runs.{run-whole, run-take, run-within, run-every, run-append}
 use Rattle.base.proofs.Lists.{rest, every-all, all-every}
 use Rattle.number.specs.declared.Decimal.{Decimal}
+use Rattle.number.specs.declared.Reading.{Reading}
 use Rattle.number.specs.declared.Reading.the-variants.{Number, Unreadable}
 use Rattle.number.specs.Value.{Bounded}
-use Rattle.number.specs.Reading.{point, valueFrom, readFraction, read}
+use Rattle.number.specs.Reading.{point, valueFrom, readFraction, read, isNumber, readable}
 use Rattle.number.specs.Spelling.{Digits, Spells, whole, fraction}
 use Rattle.number.proofs.Digits.{value-append, value-bound, value-short}
 use Rattle.number.proofs.Texts.{fraction-read, read-whole, read-point}
@@ -135,3 +136,16 @@ spelled-bounded s d (fraction w f e g h v) =
 -- what is read keeps to the bounds that the relations ask for
 pub read-bounded : (s : List ℕ) (d : Decimal) → read s ≡ Number d → Bounded d
 read-bounded s d e = spelled-bounded s d (read-spelled s d e)
+
+-- a text is readable exactly where it spells a number
+readable-number : (s : List ℕ) (r : Reading) → read s ≡ r → isNumber r ≡ true → (d : Decimal) × Spells s d
+readable-number s (Number d) e h = (d, read-spelled s d e)
+readable-number s Unreadable e h = absurd (false≢true h)
+
+spells-readable : (s : List ℕ) → (d : Decimal) × Spells s d → readable s ≡ true
+unfolding readable
+spells-readable s h = rw (spelled-read s (h .0) (h .1))
+
+pub readable-spells : (s : List ℕ) → (readable s ≡ true) ↔ ((d : Decimal) × Spells s d)
+unfolding readable
+readable-spells s = (readable-number s (read s) refl, spells-readable s)

@@ -1,4 +1,20 @@
--- The laws that the proofs cite.
+-- The laws that the code's proofs cite, and the proofs of the promises.
 pub mod Checking
 pub mod Judging
 pub mod Passing
+pub mod Readable
+pub mod Meaning
+pub mod Cards
+pub mod Faults
+pub mod Prepare
+pub mod Demand
+pub mod Determinacy
+pub mod Impossible
+pub mod Trial
+pub mod Runs
+pub mod Selection
+pub mod Deciding
+pub mod Blocks
+pub mod CheckTable
+pub mod MatchTable
+pub mod SelectTable

@@ -1,0 +1,123 @@
+-- Conforming cards: how they read, and two that there are, the card with no entries and the card with one.
+-- Assumes nothing.
+use Prim.Native.Nat.{ℕ, _+_, _-_, _≤_, _<_}
+use native.Mathlib.Omega.{arith}
+use mathlib.Core.Path.{_≡_, refl, ap, sym, _∙_, subst}
+use mathlib.Core.Bool.{true}
+use mathlib.Core.List.{List, [], _∷_, cons≢nil}
+use lib.Dec.{eqb}
+use lib.ListN.{length, length-append}
+use borrow.Author.Tests.{eq-eqb}
+use Rattle.base.specs.Ascii.{ascii}
+use Rattle.base.specs.Bytes.{Bytes}
+use Rattle.base.specs.Digits.{isDigit}
+use Rattle.base.specs.Lists.{All, all-empty, all-cons}
+use Rattle.base.specs.Runs.{run}
+use Rattle.base.specs.Below.{passes}
+use Rattle.base.proofs.All.{all-head, all-right}
+use Rattle.base.proofs.Below.{passes-at}
+use Rattle.base.proofs.Tests.{cond-elim}
+use Rattle.text.specs.Bar.{firstBar}
+use Rattle.number.specs.Reading as numbers
+use Rattle.date.specs.Fields.{between}
+use Rattle.date.specs.Texts as dates
+use Rattle.token.specs.Split.{split}
+use Rattle.token.specs.Card as tokens
+use Rattle.block.specs.declared.Reading.the-variants.{WellFormed}
+use Rattle.sheet.specs.Sheet.{Parameter}
+use Rattle.sheet.specs.Encode.{WellFormedParameter, WellFormedSheet}
+use Rattle.sheet.specs.Find.{Listed}
+use Rattle.card.specs.Card.{Entry, entry, recordNumber, entriesOf, readCard}
+use Rattle.card.specs.Encode.{encodeCard, ReadsAsCard}
+use Rattle.card.proofs.Read.{card-length}
+use Rattle.card.proofs.Cards.{card-reads-iff, empty-card, one-entry-card}
+use Rattle.kind.specs.Kinds.{date}
+use Rattle.kind.specs.Readable.{cardReadable}
+use Rattle.judge.specs.Sets.{valuesAt, conforms}
+use Rattle.sirophan.specs.Operations.{Card, found, takeCard}
+use Rattle.sirophan.specs.Readable.{ReadableOnCard}
+use Rattle.sirophan.specs.Meaning.{Conforms}
+use Rattle.sirophan.specs.Witness.{witnessText}
+use Rattle.sirophan.proofs.Readable.{card-iff}
+use Rattle.sirophan.proofs.Meaning.{entries-iff}
+
+-- ---- reading
+
+module _ {ps : List Parameter} {b : List ℕ} {es : List Entry} (c : Conforms ps b es) where
+  pub conforms-reads : ReadsAsCard b (c .number) es
+  conforms-reads = card-reads-iff b (c .number) es .1 (c .well-formed, c .encoded)
+
+  pub conforms-size : length b ≡ 512
+  conforms-size = card-length b (conforms-reads .reading)
+
+  pub conforms-bytes : Bytes b
+  conforms-bytes = conforms-reads .bytes
+
+  abbrev card : Card
+  card = record { number = c .number; entries = es }
+
+  -- it is taken with its record number and its entries
+  pub conforms-taken : (i : ℕ) → takeCard ps i b ≡ found card
+  unfolding takeCard
+  conforms-taken i = rw (conforms-reads .reading, conforms-reads .number, conforms-reads .entries, entries-iff ps es .1 (c .entries))
+
+-- a card that reads as well formed, and whose entries conform, conforms
+pub reads-conforms : (ps : List Parameter) (b : List ℕ) → Bytes b → readCard b ≡ WellFormed → conforms ps (entriesOf b) ≡ true → Conforms ps b (entriesOf b)
+reads-conforms ps b bytes r h =
+    let w = card-reads-iff b (recordNumber b) (entriesOf b) .0 (record { bytes = bytes; reading = r; number = refl; entries = refl }) in
+    record { number = recordNumber b; well-formed = w .0; encoded = w .1; entries = entries-iff ps (entriesOf b) .0 h }
+
+-- ---- a text for each kind
+
+witness-reads : passes (λ k. cardReadable (k + 1) (witnessText (k + 1))) 5 ≡ true
+unfolding cardReadable witnessText numbers.readable numbers.read run isDigit dates.readable dates.isDate dates.read dates.readYear dates.fourAt dates.twoAt dates.pair dates.digitOf between tokens.cardReadable tokens.cardToken tokens.splitToken tokens.tokenOf split firstBar
+witness-reads = refl
+
+pub witness-readable : (kind : ℕ) → 1 ≤ kind → kind ≤ 5 → ReadableOnCard kind (witnessText kind)
+witness-readable kind low high =
+    let e : kind - 1 + 1 ≡ kind = omega arith in
+    let reads = passes-at (λ k. cardReadable (k + 1) (witnessText (k + 1))) 5 witness-reads (kind - 1) (omega arith) in
+    card-iff kind (witnessText kind) .0 (subst (λ (k : ℕ). cardReadable k (witnessText k) ≡ true) e reads)
+
+witness-short : (kind : ℕ) → length (witnessText kind) ≤ 20
+unfolding witnessText
+witness-short kind = cond-elim (λ t. length t ≤ 20) (eqb kind date) {x = ascii "1974"} {y = ascii "1"} (λ _. omega arith) (λ _. omega arith)
+
+witness-bytes : (kind : ℕ) → Bytes (witnessText kind)
+unfolding witnessText
+witness-bytes kind =
+    cond-elim Bytes (eqb kind date)
+    (λ _. all-cons (omega arith) (all-cons (omega arith) (all-cons (omega arith) (all-cons (omega arith) all-empty))))
+    (λ _. all-cons (omega arith) all-empty)
+
+-- ---- two cards
+
+module _ (ps : List Parameter) where
+  pub empty-conforms : Conforms ps (encodeCard 0 []) []
+  empty-conforms = record { number = 0; well-formed = empty-card 0 (omega arith); encoded = refl; entries = all-empty }
+
+  module _ (w : WellFormedSheet ps) (i : ℕ) (p : Parameter) (l : Listed ps i p) where
+    abbrev pub one-entry : List Entry
+    one-entry = entry i (witnessText (p .kind)) ∷ []
+
+    listed-well-formed : WellFormedParameter p
+    listed-well-formed =
+        all-head WellFormedParameter (all-right WellFormedParameter (l .before) (subst (All WellFormedParameter) (l .split) (w .parameters)))
+
+    pub one-entry-conforms : Conforms ps (encodeCard 0 one-entry) one-entry
+    one-entry-conforms =
+        let index : i < 32 = omega (arith, w .count, ap length (l .split), length-append (l .before) (p ∷ l .after), l .index) in
+        let readable = witness-readable (p .kind) (listed-well-formed .lowest) (listed-well-formed .highest) in
+        record {
+          number = 0;
+          well-formed = one-entry-card 0 (omega arith) i (witnessText (p .kind)) index (witness-short (p .kind)) (witness-bytes (p .kind));
+          encoded = refl;
+          entries = all-cons (record { parameter = p; listed = l; readable = readable }) all-empty;
+        }
+
+    -- the parameter has a value on it
+    pub one-entry-value : valuesAt i one-entry ≡ [] → ⊥
+    unfolding valuesAt
+    one-entry-value e =
+        let value : valuesAt i one-entry ≡ witnessText (p .kind) ∷ [] = rw (eq-eqb i i refl) in
+        cons≢nil (sym value ∙ e)

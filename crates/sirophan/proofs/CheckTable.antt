@@ -1,0 +1,234 @@
+-- The table of refusals for check: sheet, text and tests are decided one after the other, each by its lines.
+-- Assumes nothing.
+use Prim.Native.Nat.{ℕ, _≤_, _<_}
+use native.Mathlib.Nat.{le-of-eq}
+use native.Mathlib.Omega.{arith}
+use mathlib.Core.Path.{_≡_, refl, ap, sym, _∙_, subst}
+use mathlib.Core.Bool.{true, _||_}
+use mathlib.Core.Logic.{_↔_, _⊎_, inl, inr, ⊎-elim}
+use mathlib.Core.Option.{Option, none, some}
+use mathlib.Core.List.{List, _∷_, List·Memᴰ, List·Memᴰ·head, List·Memᴰ·tail, List·Memᴰ·cases-cons, List·Memᴰ·not-nil}
+use lib.Dec.{eqb, ltb}
+use lib.ListN.{length}
+use borrow.Author.Tests.{eq-eqb, eqb-true, lt-ltb, ltb-true}
+use Rattle.base.specs.Bytes.{Bytes}
+use Rattle.base.proofs.Tests.{or-either, or-left, or-right, both-ways, cond-elim}
+use Rattle.block.specs.Words.{word}
+use Rattle.block.specs.Sum.{checkSum}
+use Rattle.block.specs.declared.Reading.{Reading}
+use Rattle.sheet.specs.Sheet.{Parameter, parametersOf}
+use Rattle.sheet.specs.Encode.{WellFormedSheet, SheetBlock}
+use Rattle.sheet.proofs.Sheets.{sheet-reads-iff}
+use Rattle.syntax.specs.Tree.{Test, Tree, testsOf, Rising, rising-end, rising-next}
+use Rattle.syntax.specs.Grammar.{Spells}
+use Rattle.syntax.specs.Reader.{read}
+use Rattle.syntax.proofs.Spelling.{read-spells, spells-unique, tests-rise}
+use Rattle.judge.specs.Faults.{firstFault}
+use Rattle.sirophan.specs.Answers.{count, refused}
+use Rattle.sirophan.specs.Operations.{Step, found, _>>=_, sheetStep, takeSheet, treeStep, takeFilter, testsStep, Prepared, prepare, checkAnswer}
+use Rattle.sirophan.specs.Numbers.{rank, TestLine, line-14, line-15, line-16, line-17}
+use Rattle.sirophan.specs.Refusals.{group, Before, lower-group, earlier-place, lower-rank, Decides, SheetLine, line-1, line-2, line-3, TextLine, line-10, line-11, TestsLine, line-of-test, CheckLine}
+use Rattle.sirophan.proofs.Faults.{Outcome, means, refuses, outcome}
+use Rattle.sirophan.proofs.Prepare.{tests-next}
+use Rattle.sirophan.proofs.Blocks.{ReadsTo, size-wrong, sum-wrong, layout-wrong, all-right, sheet-reads-to}
+use Rattle.sirophan.proofs.Deciding.{apart-at, later-place, no-lower-rank, Decided, none-holds, one-decides, decided-as, decided-then, decided-found, decided-answer}
+
+-- ---- the sheet
+
+-- of two lines at one place, the one that comes before has the lower number, where it has in another group
+pub lower-number : {m n p : ℕ} → (group m < group n → m < n) → Before m p n p → m < n
+unfolding rank
+lower-number f (lower-group h) = f h
+lower-number f (earlier-place g h) = absurd (omega arith)
+lower-number f (lower-rank g e h) = h
+
+-- the parameters found are those of the sheet
+abbrev pub OfSheet : List ℕ → List Parameter → Type 0
+OfSheet sheet ps = (s : SheetBlock sheet) × (s .parameters ≡ ps)
+
+module _ (sheet : List ℕ) where
+  -- one sheet has the bytes
+  pub sheet-parameters : (s : SheetBlock sheet) → parametersOf sheet ≡ s .parameters
+  sheet-parameters s = sheet-reads-iff sheet (s .parameters) .1 (s .well-formed, s .encoded) .parameters
+
+  sheet-first : (n : ℕ) → group n ≡ n → n ≤ 3 → (1 < n → length sheet ≡ 512) → (2 < n → checkSum sheet ≡ word sheet 508)
+      → (m q : ℕ) → SheetLine sheet m q → Before m q n 0 → ⊥
+  unfolding group
+  sheet-first n g h a b m q (line-1 u) k = u (a (lower-number (λ l. omega arith) k))
+  sheet-first n g h a b m q (line-2 u) k = u (b (lower-number (λ l. omega arith) k))
+  sheet-first n g h a b m q (line-3 u) k = let l : 3 < n = lower-number (λ l. omega arith) k in omega arith
+
+  sheet-none : length sheet ≡ 512 → checkSum sheet ≡ word sheet 508 → SheetBlock sheet → (m q : ℕ) → SheetLine sheet m q → ⊥
+  sheet-none a b s m q (line-1 u) = u a
+  sheet-none a b s m q (line-2 u) = u b
+  sheet-none a b s m q (line-3 u) = u s
+
+  sheet-step : {r : Reading} → ReadsTo sheet (SheetBlock sheet) r → Decided (OfSheet sheet) (SheetLine sheet) (sheetStep r (parametersOf sheet))
+  unfolding group
+  sheet-step (size-wrong u) =
+      one-decides (record { holds = line-1 u; first = sheet-first 1 refl (omega arith) (λ l. absurd (omega arith)) (λ l. absurd (omega arith)) })
+  sheet-step (sum-wrong a u) =
+      one-decides (record { holds = line-2 u; first = sheet-first 2 refl (omega arith) (λ l. a) (λ l. absurd (omega arith)) })
+  sheet-step (layout-wrong a b u) =
+      one-decides (record { holds = line-3 u; first = sheet-first 3 refl (omega arith) (λ l. a) (λ l. b) })
+  sheet-step (all-right a b s) = none-holds (s, sym (sheet-parameters s)) (sheet-none a b s)
+
+  sheet-decided : Bytes sheet → Decided (OfSheet sheet) (SheetLine sheet) (takeSheet sheet)
+  unfolding takeSheet
+  sheet-decided bytes = sheet-step (sheet-reads-to sheet bytes)
+
+-- ---- the text
+
+module _ (text : List ℕ) where
+  abbrev SizeWrong : Type 0
+  SizeWrong = (length text ≡ 0) ⊎ (1024 < length text)
+
+  text-first : (n : ℕ) → group n ≡ n → n ≤ 11 → (10 < n → SizeWrong → ⊥) → (m q : ℕ) → TextLine text m q → Before m q n 0 → ⊥
+  unfolding group
+  text-first n g h a m q (line-10 u) k = a (lower-number (λ l. omega arith) k) u
+  text-first n g h a m q (line-11 u) k = let l : 11 < n = lower-number (λ l. omega arith) k in omega arith
+
+  text-none : (SizeWrong → ⊥) → (f : Tree) → Spells text f → (m q : ℕ) → TextLine text m q → ⊥
+  text-none a f s m q (line-10 u) = a u
+  text-none a f s m q (line-11 u) = u f s
+
+  tree-step : (SizeWrong → ⊥) → (o : Option Tree) → read text ≡ o → Decided (Spells text) (TextLine text) (treeStep o)
+  unfolding group
+  tree-step a (some f) e = let s = read-spells text f .0 e in none-holds s (text-none a f s)
+  tree-step a none e =
+      one-decides
+      (record {
+        holds = line-11 (λ f s. let r = read-spells text f .1 s in let z : _≡_ {A = ℕ} 0 1 = cc in omega arith);
+        first = text-first 11 refl (omega arith) (λ l. a);
+      })
+
+  size-there : (eqb (length text) 0 || ltb 1024 (length text)) ≡ true → SizeWrong
+  size-there h = ⊎-elim (λ e. inl (eqb-true (length text) 0 e)) (λ e. inr (ltb-true 1024 (length text) e)) (or-either (eqb (length text) 0) (ltb 1024 (length text)) h)
+
+  size-back : SizeWrong → (eqb (length text) 0 || ltb 1024 (length text)) ≡ true
+  size-back =
+      ⊎-elim
+      (λ e. or-left (eqb (length text) 0) (ltb 1024 (length text)) (eq-eqb (length text) 0 e))
+      (λ e. or-right (eqb (length text) 0) (ltb 1024 (length text)) (lt-ltb 1024 (length text) e))
+
+  text-decided : Decided (Spells text) (TextLine text) (takeFilter text)
+  unfolding takeFilter group
+  text-decided =
+      cond-elim (Decided (Spells text) (TextLine text)) (eqb (length text) 0 || ltb 1024 (length text))
+      (λ h. one-decides (record { holds = line-10 (size-there h); first = text-first 10 refl (omega arith) (λ l. absurd (omega arith)) }))
+      (λ h. tree-step (λ w. both-ways (size-back w) h) (read text) refl)
+
+-- ---- the tests
+
+test-group : {ps : List Parameter} {t : Test} {n : ℕ} → TestLine ps t n → group n ≡ 14
+unfolding group
+test-group (line-14 u) = refl
+test-group (line-15 u) = refl
+test-group (line-16 j u o) = refl
+test-group (line-17 j r) = refl
+
+-- a test among others does not begin before they do
+rising-member : {p q : ℕ} {t : Test} {ts : List Test} → Rising p q ts → List·Memᴰ t ts → p ≤ t .at
+rising-member (rising-end h) m = absurd (List·Memᴰ·not-nil m)
+rising-member {p = p} {t = t} (rising-next {t = u} {ts = ts} h r) m =
+    ⊎-elim (λ e. let same : t .at ≡ u .at = ap (λ (x : Test). x .at) e in omega arith) (λ k. let l = rising-member r k in omega arith) (List·Memᴰ·cases-cons m)
+
+module _ (ps : List Parameter) where
+  -- a line of one test, and of some test among others
+  abbrev HeadLine : Test → ℕ → ℕ → Type 0
+  HeadLine t n p = TestLine ps t n × (p ≡ t .at)
+
+  abbrev LineAmong : List Test → ℕ → ℕ → Type 0
+  LineAmong ts n p = (t : Test) × List·Memᴰ t ts × HeadLine t n p
+
+  head-decided : {t : Test} {s : Step (Unit {0})} → Outcome ps t s → Decided (λ u. Unit {0}) (HeadLine t) s
+  head-decided (means m no-line) = none-holds tt (λ n p l. no-line n (l .0))
+  head-decided {t = t} (refuses r) =
+      one-decides
+      (record {
+        holds = (r .table .line, refl);
+        first = λ m q l. no-lower-rank (test-group (l .0) ∙ sym (test-group (r .table .line))) (le-of-eq (sym (l .1))) (r .table .lowest m (l .0));
+      })
+
+  among-cons : (t : Test) (ts : List Test) (n p : ℕ) → (HeadLine t n p ⊎ LineAmong ts n p) ↔ LineAmong (t ∷ ts) n p
+  among-cons t ts n p = (
+    ⊎-elim (λ l. (t, List·Memᴰ·head refl, l)) (λ l. (l .0, List·Memᴰ·tail (l .1), l .2)),
+    (λ l. ⊎-elim (λ e. inl (subst (λ (u : Test). HeadLine u n p) e (l .2))) (λ m. inr (l .0, m, l .2)) (List·Memᴰ·cases-cons (l .1))),
+  )
+
+  tests-decided : WellFormedSheet ps → {p q : ℕ} {ts : List Test} → Rising p q ts → Decided (λ u. Unit {0}) (LineAmong ts) (testsStep ps ts)
+  tests-decided w (rising-end h) = unfold testsStep firstFault in none-holds tt (λ n p l. List·Memᴰ·not-nil (l .1))
+  tests-decided w (rising-next {t = t} {ts = ts} h r) =
+      rw (tests-next ps t ts)
+      (decided-as (among-cons t ts)
+      (decided-then (HeadLine t) (LineAmong ts)
+      (λ m q n p l k. later-place (test-group (l .2 .0) ∙ sym (test-group (k .0))) (let g = rising-member r (l .1) in omega arith))
+      (head-decided (outcome ps w t)) (λ u e k. tests-decided w r)))
+
+-- ---- check
+
+module _ (sheet text : List ℕ) where
+  -- what is prepared: the sheet's parameters and the text's tree
+  abbrev pub Ready : Prepared → Type 0
+  Ready r = (s : SheetBlock sheet) × (s .parameters ≡ r .parameters) × Spells text (r .filter)
+
+  module _ (s : SheetBlock sheet) (f : Tree) (spells : Spells text f) where
+    among-there : (n p : ℕ) → LineAmong (s .parameters) (testsOf f) n p → TestsLine sheet text n p
+    among-there n p l = subst (TestsLine sheet text n) (sym (l .2 .1)) (line-of-test s spells (l .1) (l .2 .0))
+
+    among-back : {n p : ℕ} → TestsLine sheet text n p → LineAmong (s .parameters) (testsOf f) n p
+    among-back (line-of-test s′ {f = f′} {t = t} {n = n} spells′ m l) =
+        let same : s′ .parameters ≡ s .parameters = sym (sheet-parameters sheet s′) ∙ sheet-parameters sheet s in
+        let member : List·Memᴰ t (testsOf f) = subst (λ (g : Tree). List·Memᴰ t (testsOf g)) (spells-unique text f′ f spells′ spells) m in
+        (t, member, (subst (λ (ps : List Parameter). TestLine ps t n) same l, refl))
+
+    filter-decided : Decided Ready (TestsLine sheet text) (testsStep (s .parameters) (testsOf f) >>= λ u. found (record { parameters = s .parameters; filter = f }))
+    filter-decided =
+        decided-found (λ u. record { parameters = s .parameters; filter = f }) (λ u _. (s, refl, spells))
+        (decided-as (λ n p. (among-there n p, among-back)) (tests-decided (s .parameters) (s .well-formed) (tests-rise text f spells)))
+
+  sheet-group : (n p : ℕ) → SheetLine sheet n p → group n ≤ 3
+  unfolding group
+  sheet-group n p (line-1 u) = omega arith
+  sheet-group n p (line-2 u) = omega arith
+  sheet-group n p (line-3 u) = omega arith
+
+  text-group : (n p : ℕ) → TextLine text n p → (3 < group n) × (group n ≤ 11)
+  unfolding group
+  text-group n p (line-10 u) = (omega arith, omega arith)
+  text-group n p (line-11 u) = (omega arith, omega arith)
+
+  tests-group : (n p : ℕ) → TestsLine sheet text n p → group n ≡ 14
+  tests-group n p (line-of-test s spells m l) = test-group l
+
+  -- those after the sheet's
+  later-groups : (n p : ℕ) → TextLine text n p ⊎ TestsLine sheet text n p → (3 < group n) × (group n ≤ 14)
+  later-groups n p (inl l) = let g = text-group n p l in (omega arith, omega arith)
+  later-groups n p (inr l) = let g = tests-group n p l in (omega arith, omega arith)
+
+  pub check-group : (n p : ℕ) → CheckLine sheet text n p → group n ≤ 14
+  check-group n p (inl l) = let g = sheet-group n p l in omega arith
+  check-group n p (inr l) = later-groups n p l .1
+
+  -- what follows the sheet
+  text-step : (s : SheetBlock sheet)
+      → Decided Ready (λ n p. TextLine text n p ⊎ TestsLine sheet text n p)
+      (takeFilter text >>= λ f. testsStep (s .parameters) (testsOf f) >>= λ u. found (record { parameters = s .parameters; filter = f }))
+  text-step s =
+      decided-then (TextLine text) (TestsLine sheet text)
+      (apart-at (TextLine text) (TestsLine sheet text) 11 (λ n p l. text-group n p l .1) (λ n p l. let g = tests-group n p l in omega arith))
+      (text-decided text) (λ f _ spells. filter-decided s f spells)
+
+  pub prepare-decided : Bytes sheet → Decided Ready (CheckLine sheet text) (prepare sheet text)
+  unfolding prepare
+  prepare-decided bytes =
+      decided-then (SheetLine sheet) (λ n p. TextLine text n p ⊎ TestsLine sheet text n p)
+      (apart-at (SheetLine sheet) (λ n p. TextLine text n p ⊎ TestsLine sheet text n p) 3 sheet-group (λ n p l. later-groups n p l .0))
+      (sheet-decided sheet bytes) (λ ps _ of-sheet. rw (← of-sheet .1) (text-step (of-sheet .0)))
+
+  -- check is refused with a number and a place exactly where that line of the table decides
+  pub check-table : Bytes sheet → (n p : ℕ) → (checkAnswer sheet text ≡ refused n p) ↔ Decides (CheckLine sheet text) n p
+  unfolding checkAnswer
+  check-table bytes =
+      decided-answer (CheckLine sheet text)
+      (decided-found (λ r. count (length (testsOf (r .filter)))) (λ r _ n p e. let z : _≡_ {A = ℕ} 0 1 = cc in omega arith) (prepare-decided bytes))

@@ -1,0 +1,69 @@
+-- Check and match meet the letter's third demand.
+-- Assumes nothing.
+use Prim.Native.Nat.{ℕ, _≤_}
+use native.Mathlib.Omega.{arith}
+use mathlib.Core.Path.{_≡_, refl, sym, _∙_, subst}
+use mathlib.Core.List.{List}
+use lib.ListN.{length}
+use Rattle.base.specs.Lists.{All}
+use Rattle.base.proofs.All.{all-head, all-right}
+use Rattle.sheet.specs.Sheet.{Parameter}
+use Rattle.sheet.specs.Encode.{SheetBlock}
+use Rattle.syntax.specs.Tree.{Tree, testsOf}
+use Rattle.syntax.specs.Grammar.{Spells}
+use Rattle.sirophan.specs.Answers.{count, refused}
+use Rattle.sirophan.specs.Operations.{Step, found, stop, testsStep, Prepared, prepare, checkAnswer, matchAnswer}
+use Rattle.sirophan.specs.Meaning.{Meaningful}
+use Rattle.sirophan.specs.Demand.{Demand, MeetsDemand}
+use Rattle.sirophan.proofs.Cards.{conforms-size, conforms-bytes, conforms-taken}
+use Rattle.sirophan.proofs.Prepare.{check-by, match-by, Scan, all-mean, one-refused, scan, prepared}
+
+count-not-refused : {m n p : ℕ} → refused n p ≡ count m → ⊥
+count-not-refused h = let z : _≡_ {A = ℕ} 0 1 = cc in omega arith
+
+module _ (sheet text : List ℕ) (s : SheetBlock sheet) (f : Tree) (short : length text ≤ 1024) (spells : Spells text f) where
+  abbrev ps : List Parameter
+  ps = s .parameters
+
+  abbrev ready : Prepared
+  ready = record { parameters = ps; filter = f }
+
+  meets : {tests : Step (Unit {0})} → testsStep ps (testsOf f) ≡ tests → Scan ps (testsOf f) tests → Demand ps f (checkAnswer sheet text) (matchAnswer sheet text)
+  meets e (all-mean m) =
+      let done : prepare sheet text ≡ found ready = prepared sheet text s f short spells ∙ rw e in
+      let passed : checkAnswer sheet text ≡ count (length (testsOf f)) = check-by sheet text (found ready) done in
+      record {
+        passes = ((λ _. m), (λ _. passed));
+        verdict = λ _ card es c. match-by sheet text (found ready) done card ∙ rw (conforms-taken c 0);
+        refuses = λ n. absurd (n passed);
+      }
+  meets e (one-refused before t after n split m r) =
+      let done : prepare sheet text ≡ stop n (t .at) = prepared sheet text s f short spells ∙ rw e in
+      let failed : checkAnswer sheet text ≡ refused n (t .at) = check-by sheet text (stop n (t .at)) done in
+      let senseless : All (Meaningful ps) (testsOf f) → ⊥ =
+      λ all. all-head (Meaningful ps) (all-right (Meaningful ps) before (subst (All (Meaningful ps)) split all)) (r .card) (r .entries) (r .conforms) (r .lacks)
+      in
+      record {
+        passes = ((λ p. absurd (count-not-refused (sym failed ∙ p))), (λ all. absurd (senseless all)));
+        verdict = λ p. absurd (count-not-refused (sym failed ∙ p));
+        refuses = λ _. record {
+          before = before;
+          test = t;
+          after = after;
+          tests = split;
+          number = n;
+          checked = failed;
+          matched = match-by sheet text (stop n (t .at)) done;
+          first = m;
+          table = r .table;
+          card = r .card;
+          entries = r .entries;
+          size = conforms-size (r .conforms);
+          bytes = conforms-bytes (r .conforms);
+          conforms = r .conforms;
+          lacks = r .lacks;
+        };
+      }
+
+pub demand-met : MeetsDemand checkAnswer matchAnswer
+demand-met sheet text s f short spells = meets sheet text s f short spells refl (scan (s .parameters) (s .well-formed) (testsOf f))

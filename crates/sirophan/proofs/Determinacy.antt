@@ -1,0 +1,67 @@
+-- The demand leaves nothing free: any two checks and matches that meet it on a sheet and a filter agree.
+-- Assumes nothing.
+use Prim.Native.Nat.{ℕ}
+use native.Mathlib.Decide.{ℕ-discrete}
+use native.Mathlib.Omega.{arith}
+use mathlib.Core.Path.{_≡_, ap, ap₂, sym, _∙_, subst}
+use mathlib.Core.List.{List, [], _∷_, _++_}
+use lib.ListN.{length}
+use Rattle.base.specs.Lists.{All, all-cons}
+use Rattle.base.proofs.All.{all-head}
+use Rattle.sheet.specs.Sheet.{Parameter}
+use Rattle.syntax.specs.Tree.{Test, Tree, testsOf}
+use Rattle.sirophan.specs.Answers.{Answer, count, refused}
+use Rattle.sirophan.specs.Meaning.{Meaningful}
+use Rattle.sirophan.specs.Numbers.{rank, Numbered}
+use Rattle.sirophan.specs.Demand.{RefusesAlike, Demand, Agree}
+
+-- ---- answers and ranks
+
+is-count : (a : Answer) (n : ℕ) → Dec (a ≡ count n)
+is-count Answer.yes n = no (λ h. let z : _≡_ {A = ℕ} 0 1 = cc in omega arith)
+is-count Answer.no n = no (λ h. let z : _≡_ {A = ℕ} 0 1 = cc in omega arith)
+is-count (refused m p) n = no (λ h. let z : _≡_ {A = ℕ} 0 1 = cc in omega arith)
+is-count (count m) n = same (ℕ-discrete m n)
+  where
+    same : Dec (m ≡ n) → Dec (count m ≡ count n)
+    same (yes e) = yes (ap count e)
+    same (no e) = no (λ h. let z : m ≡ n = cc in e z)
+
+-- the table gives a test one number
+pub numbered-unique : {ps : List Parameter} {t : Test} {n m : ℕ} → Numbered ps t n → Numbered ps t m → n ≡ m
+unfolding rank
+numbered-unique {n = n} {m = m} a b = omega (arith, a .lowest m (b .line), b .lowest n (a .line))
+
+-- the first of a list that lacks a property is one
+first-unique : {A : Type 0} (P : A → Type 0) (b b′ : List A) (x x′ : A) (a a′ : List A) → b ++ (x ∷ a) ≡ b′ ++ (x′ ∷ a′)
+    → All P b → All P b′ → (P x → ⊥) → (P x′ → ⊥) → x ≡ x′
+first-unique P [] [] x x′ a a′ e p p′ n n′ = cc
+first-unique P [] (y ∷ b′) x x′ a a′ e p p′ n n′ = let z : y ≡ x = cc in absurd (n (subst P z (all-head P p′)))
+first-unique P (y ∷ b) [] x x′ a a′ e p p′ n n′ = let z : y ≡ x′ = cc in absurd (n′ (subst P z (all-head P p)))
+first-unique P (y ∷ b) (y′ ∷ b′) x x′ a a′ e (all-cons q p) (all-cons q′ p′) n n′ =
+    let z : b ++ (x ∷ a) ≡ b′ ++ (x′ ∷ a′) = cc in
+    first-unique P b b′ x x′ a a′ z p p′ n n′
+
+-- ---- the theorem
+
+module _ (ps : List Parameter) (f : Tree) (check check′ : Answer) (match match′ : List ℕ → Answer) where
+  refusals-agree : RefusesAlike ps f check match → RefusesAlike ps f check′ match′ → Agree ps f check check′ match match′
+  refusals-agree r r′ =
+      let test : r .test ≡ r′ .test =
+      first-unique (Meaningful ps) (r .before) (r′ .before) (r .test) (r′ .test) (r .after) (r′ .after) (sym (r .tests) ∙ r′ .tests) (r .first) (r′ .first)
+      (λ m. m (r .card) (r .entries) (r .conforms) (r .lacks)) (λ m. m (r′ .card) (r′ .entries) (r′ .conforms) (r′ .lacks))
+      in
+      let number : r .number ≡ r′ .number = numbered-unique (subst (λ (t : Test). Numbered ps t (r .number)) test (r .table)) (r′ .table) in
+      let same : refused (r .number) (r .test .at) ≡ refused (r′ .number) (r′ .test .at) = ap₂ refused number (ap (λ (t : Test). t .at) test) in
+      let any : (b : List ℕ) → match b ≡ match′ b = λ b. r .matched b ∙ same ∙ sym (r′ .matched b) in
+      record { checks = r .checked ∙ same ∙ sym (r′ .checked); conforming = λ card es c. any card; refusals = λ _. any }
+
+  pub demand-determines : Demand ps f check match → Demand ps f check′ match′ → Agree ps f check check′ match match′
+  demand-determines d d′ = by-check (is-count check (length (testsOf f))) (is-count check′ (length (testsOf f)))
+    where
+      by-check : Dec (check ≡ count (length (testsOf f))) → Dec (check′ ≡ count (length (testsOf f))) → Agree ps f check check′ match match′
+      by-check (yes e) (yes e′) =
+          record { checks = e ∙ sym e′; conforming = λ card es c. d .verdict e card es c ∙ sym (d′ .verdict e′ card es c); refusals = λ n. absurd (n e) }
+      by-check (yes e) (no n) = absurd (n (d′ .passes .1 (d .passes .0 e)))
+      by-check (no n) (yes e) = absurd (n (d .passes .1 (d′ .passes .0 e)))
+      by-check (no n) (no n′) = refusals-agree (d .refuses n) (d′ .refuses n′)

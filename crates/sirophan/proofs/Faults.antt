@@ -1,0 +1,160 @@
+-- The fault of a test is the number that the table gives it, and it has one exactly where it lacks a meaning on some conforming card.
+-- Assumes nothing.
+use Prim.Native.Nat.{ℕ, _≤_, _<_}
+use native.Mathlib.Omega.{arith}
+use mathlib.Core.Path.{_≡_, refl, subst}
+use mathlib.Core.Bool.{true, false}
+use mathlib.Core.List.{List, []}
+use Rattle.base.specs.Operators.{pr}
+use Rattle.base.proofs.Tests.{both-ways, cond-elim}
+use Rattle.sheet.specs.Sheet.{Parameter, parameter}
+use Rattle.sheet.specs.Encode.{WellFormedSheet}
+use Rattle.sheet.specs.Find.{Listed}
+use Rattle.sheet.specs.declared.Found.{Found}
+use Rattle.card.specs.Card.{Entry}
+use Rattle.card.specs.Encode.{encodeCard}
+use Rattle.syntax.specs.Tree.{Path, Test}
+use Rattle.kind.specs.Table.{hasMeaning}
+use Rattle.kind.specs.Readable.{valueReadable}
+use Rattle.judge.specs.Sets.{lookup, valuesAt}
+use Rattle.judge.specs.Faults.{unsupported, kindFault, faultAt, testFault}
+use Rattle.judge.specs.declared.Fault.{Fault}
+use Rattle.sirophan.specs.Operations.{Step, found, stop, faultStep}
+use Rattle.sirophan.specs.Readable.{TrueOrFalse, ReadableValue, value-of-pr, value-of-kind}
+use Rattle.sirophan.specs.Meaning.{Conforms, Names, names, NotOnSheet, HasOperator, LacksMeaning, not-on-sheet, neither, lacks-operator, unreadable, Meaningful}
+use Rattle.sirophan.specs.Numbers.{rank, TestLine, line-14, line-15, line-16, line-17, Numbered}
+use Rattle.sirophan.proofs.Readable.{value-iff}
+use Rattle.sirophan.proofs.Meaning.{operator-iff, unsupported-lacks, names-iff, missing-iff}
+use Rattle.sirophan.proofs.Cards.{empty-conforms, one-entry, one-entry-conforms, one-entry-value}
+
+names-listed : {ps : List Parameter} {path : Path} {i k : ℕ} → Names ps path i k → (n : List ℕ) × Listed ps i (parameter k n)
+names-listed (names {n = n} l) = (n, l)
+
+-- a readable value of pr is true or false
+pr-readable : {kind k : ℕ} {v : List ℕ} → ReadableValue kind v k → k ≡ pr → (TrueOrFalse v → ⊥) → ⊥
+pr-readable (value-of-pr h) e n = n h
+pr-readable (value-of-kind m h) e n = m e
+
+-- the table gives the test the number n, and there is a conforming card on which it lacks a meaning
+pub record Refused (ps : List Parameter) (t : Test) (n : ℕ) : Type 0 where
+  pub table : Numbered ps t n
+  pub card : List ℕ
+  pub entries : List Entry
+  pub conforms : Conforms ps card entries
+  pub lacks : LacksMeaning ps entries t
+
+-- what a test comes to, as a step of the operations
+pub data Outcome (ps : List Parameter) (t : Test) : Step (Unit {0}) → Type 0 where
+  means : Meaningful ps t → ((n : ℕ) → TestLine ps t n → ⊥) → Outcome ps t (found tt)
+  refuses : {n : ℕ} → Refused ps t n → Outcome ps t (stop n (t .at))
+
+module _ (ps : List Parameter) (w : WellFormedSheet ps) (t : Test) where
+  -- ---- a fault in the rules' words
+
+  data Judged : Fault → Type 0 where
+    judged-unknown : NotOnSheet ps (t .path) → Judged Fault.UnknownName
+    judged-unsupported : {i k : ℕ} → Names ps (t .path) i k → unsupported (t .operator) ≡ true → Judged Fault.Unsupported
+    judged-meaningless : {i k : ℕ} → Names ps (t .path) i k → unsupported (t .operator) ≡ false → (HasOperator k (t .operator) → ⊥) → Judged Fault.NoMeaning
+    judged-unreadable : {i k : ℕ} → Names ps (t .path) i k → unsupported (t .operator) ≡ false → HasOperator k (t .operator)
+        → (ReadableValue k (t .value) (t .operator) → ⊥) → Judged Fault.Unreadable
+    judged-right : {i k : ℕ} → Names ps (t .path) i k → HasOperator k (t .operator) → ReadableValue k (t .value) (t .operator) → Judged Fault.Nothing
+
+  judged-at : (o : Found) → lookup ps (t .path) ≡ o → Judged (faultAt o (t .operator) (t .value))
+  unfolding kindFault
+  judged-at Found.Missing e = judged-unknown (missing-iff ps (w .names) (t .path) .0 e)
+  judged-at (Found.At i k) e =
+      let there = names-iff ps (w .names) (t .path) i k .0 e in
+      cond-elim Judged (unsupported (t .operator)) (judged-unsupported there)
+      (λ u. cond-elim Judged (hasMeaning (t .operator) k)
+      (λ m. cond-elim Judged (valueReadable (t .operator) k (t .value))
+      (λ r. judged-right there (operator-iff k (t .operator) .0 m) (value-iff k (t .value) (t .operator) .0 r))
+      (λ n. judged-unreadable there u (operator-iff k (t .operator) .0 m) (λ r. both-ways (value-iff k (t .value) (t .operator) .1 r) n)))
+      (λ n. judged-meaningless there u (λ h. both-ways (operator-iff k (t .operator) .1 h) n)))
+
+  judged : Judged (testFault ps t)
+  unfolding testFault
+  judged = judged-at (lookup ps (t .path)) refl
+
+  -- one parameter is named
+  same-kind : {i k i′ k′ : ℕ} → Names ps (t .path) i k → Names ps (t .path) i′ k′ → k ≡ k′
+  same-kind {i = i} {k = k} {i′ = i′} {k′ = k′} j j′ =
+      let e = names-iff ps (w .names) (t .path) i k .1 j in
+      let e′ = names-iff ps (w .names) (t .path) i′ k′ .1 j′ in
+      cc
+
+  -- ---- the table's number
+
+  -- a line ranks at n or after, where the lines before n do not hold
+  lowest-from : (n : ℕ) → n ≤ 17 → (14 < n → NotOnSheet ps (t .path) → ⊥) → (15 < n → unsupported (t .operator) ≡ false)
+      → (16 < n → (i k : ℕ) → Names ps (t .path) i k → HasOperator k (t .operator)) → (m : ℕ) → TestLine ps t m → rank n ≤ rank m
+  unfolding rank
+  lowest-from n h a b c m (line-14 u) = let z : 14 < n → ⊥ = λ l. a l u in omega arith
+  lowest-from n h a b c m (line-15 u) = let z : 15 < n → ⊥ = λ l. both-ways u (b l) in omega arith
+  lowest-from n h a b c m (line-16 {i = i} {k = k} j u o) = let z : 16 < n → ⊥ = λ l. o (c l i k j) in omega arith
+  lowest-from n h a b c m (line-17 j r) = h
+
+  -- ---- what a test comes to: a meaning on every conforming card, or a refusal
+
+  -- a test whose path names a parameter lacks a meaning on the card with one entry under it
+  refused-at : (i k : ℕ) → Names ps (t .path) i k → (n : ℕ) → Numbered ps t n
+      → ((es : List Entry) → (valuesAt i es ≡ [] → ⊥) → LacksMeaning ps es t) → Refused ps t n
+  refused-at i k j n table lacks =
+      let p = parameter k (names-listed j .0) in
+      let l = names-listed j .1 in
+      let es = one-entry ps w i p l in
+      record {
+        table = table;
+        card = encodeCard 0 es;
+        entries = es;
+        conforms = one-entry-conforms ps w i p l;
+        lacks = lacks es (one-entry-value ps w i p l);
+      }
+
+  outcome-by : {fault : Fault} → Judged fault → Outcome ps t (faultStep fault (t .at))
+  outcome-by (judged-unknown u) =
+      refuses
+      (record {
+        table = record { line = line-14 u; lowest = lowest-from 14 (omega arith) (λ l. absurd (omega arith)) (λ l. absurd (omega arith)) (λ l. absurd (omega arith)) };
+        card = encodeCard 0 [];
+        entries = [];
+        conforms = empty-conforms ps;
+        lacks = not-on-sheet u;
+      })
+  outcome-by (judged-unsupported {i = i} {k = k} j u) =
+      let lacking : HasOperator k (t .operator) → ⊥ = λ h. both-ways (operator-iff k (t .operator) .1 h) (unsupported-lacks k (t .operator) u) in
+      refuses
+      (refused-at i k j 15
+      (record { line = line-15 u; lowest = lowest-from 15 (omega arith) (λ l n. n i k j) (λ l. absurd (omega arith)) (λ l. absurd (omega arith)) })
+      (λ es v. lacks-operator j v lacking))
+  outcome-by (judged-meaningless {i = i} {k = k} j u o) =
+      refuses
+      (refused-at i k j 16
+      (record { line = line-16 j u o; lowest = lowest-from 16 (omega arith) (λ l n. n i k j) (λ l. u) (λ l. absurd (omega arith)) })
+      (λ es v. lacks-operator j v o))
+  outcome-by (judged-unreadable {i = i} {k = k} j u o r) =
+      refuses
+      (refused-at i k j 17
+      (record { line = line-17 j r; lowest = lowest-from 17 (omega arith) (λ l n. n i k j) (λ l. u) (λ l i′ k′ j′. subst (λ (m : ℕ). HasOperator m (t .operator)) (same-kind j j′) o) })
+      (λ es v. unreadable j v r))
+  outcome-by (judged-right {i = i} {k = k} j o r) = means (λ card es c. never es) no-line
+    where
+      has : {i′ k′ : ℕ} → Names ps (t .path) i′ k′ → HasOperator k′ (t .operator)
+      has j′ = subst (λ (m : ℕ). HasOperator m (t .operator)) (same-kind j j′) o
+
+      reads : {i′ k′ : ℕ} → Names ps (t .path) i′ k′ → ReadableValue k′ (t .value) (t .operator)
+      reads j′ = subst (λ (m : ℕ). ReadableValue m (t .value) (t .operator)) (same-kind j j′) r
+
+      never : (es : List Entry) → LacksMeaning ps es t → ⊥
+      never es (not-on-sheet n) = n i k j
+      never es (neither e n) = pr-readable r e n
+      never es (lacks-operator j′ v n) = n (has j′)
+      never es (unreadable j′ v n) = n (reads j′)
+
+      no-line : (n : ℕ) → TestLine ps t n → ⊥
+      no-line n (line-14 m) = m i k j
+      no-line n (line-15 u) = both-ways (operator-iff k (t .operator) .1 o) (unsupported-lacks k (t .operator) u)
+      no-line n (line-16 j′ u m) = m (has j′)
+      no-line n (line-17 j′ m) = m (reads j′)
+
+  pub outcome : Outcome ps t (faultStep (testFault ps t) (t .at))
+  outcome = outcome-by judged

@@ -1,0 +1,117 @@
+-- Programs that the demand on check and match shuts out, shown on the trial sheet.
+-- Assumes nothing.
+use Prim.Native.Nat.{ℕ}
+use native.Mathlib.Omega.{arith}
+use mathlib.Core.Path.{_≡_, refl, subst}
+use mathlib.Core.List.{List, []}
+use mathlib.Core.Option.{some}
+use Rattle.base.specs.Ascii.{ascii}
+use Rattle.base.specs.Lists.{all-empty, all-cons, every, equal, member}
+use Rattle.base.specs.Affixes.{hasPrefix}
+use Rattle.base.specs.Digits.{isDigit}
+use Rattle.base.specs.Names.{between, isLetter, isNameStart, isNamePart, isReserved, isName}
+use Rattle.base.specs.Operators.{operatorWords}
+use Rattle.base.specs.Runs.{run, runEnd}
+use Rattle.base.proofs.All.{all-head}
+use Rattle.sheet.specs.Encode.{WellFormedSheet}
+use Rattle.sheet.specs.Find.{findFrom, find}
+use Rattle.sheet.specs.Trial.{trialParameters, trialSheet}
+use Rattle.sheet.proofs.Sheets.{sheet-reads-iff}
+use Rattle.sheet.proofs.Trial.{trial-sheet-reads}
+use Rattle.card.specs.Encode.{encodeCard}
+use Rattle.syntax.specs.Tree.{Test, test, testsOf}
+use Rattle.syntax.specs.Grammar.{Spells}
+use Rattle.syntax.specs.Strings.{isBare}
+use Rattle.syntax.specs.Scan.{stepOf, stringFrom, stringAt, valueAt, follows, findOperator, operatorAt, testValue, testOperator, testAt, openAt, headAt, connectiveAt, closeAt}
+use Rattle.syntax.specs.Reader.{chainOf, filterOf, itemAt, filterAt, read}
+use Rattle.syntax.proofs.Spelling.{read-spells}
+use Rattle.kind.specs.Table.{stringRow, tokenRow, row, relationIn, rowMeaning, meaningOf, hasMeaning}
+use Rattle.kind.specs.Readable.{cardReadable, filterReadable, valueReadable}
+use Rattle.judge.specs.Sets.{lookup, valuesAt}
+use Rattle.judge.specs.Faults.{unsupported, kindFault, testFault}
+use Rattle.judge.specs.Verdicts.{someValue, saysOf, testSays, evaluate, filterSays}
+use Rattle.judge.specs.declared.Fault.{Fault}
+use Rattle.sirophan.specs.Answers.{Answer, yes, no, count, refused}
+use Rattle.sirophan.specs.Operations.{found, stop, faultStep}
+use Rattle.sirophan.specs.Meaning.{Meaningful}
+use Rattle.sirophan.specs.Demand.{RefusesAlike, Demand}
+use Rattle.sirophan.specs.Trial.{titleTest, codeTest}
+use Rattle.sirophan.proofs.Cards.{empty-conforms}
+use Rattle.sirophan.proofs.Faults.{Outcome, means, refuses, outcome}
+
+-- ---- the two filters
+
+trees-read : (read (ascii "title co \"BOOK\"") ≡ some (test titleTest)) × (read (ascii "code gt 5") ≡ some (test codeTest))
+unfolding titleTest codeTest testsOf read filterAt itemAt filterOf chainOf closeAt connectiveAt headAt openAt testAt testOperator testValue operatorAt findOperator follows valueAt stringAt stringFrom stepOf isBare runEnd run operatorWords isName isReserved isNamePart isNameStart isLetter between isDigit hasPrefix equal every
+trees-read = (refl, refl)
+
+pub title-spelled : Spells (ascii "title co \"BOOK\"") (test titleTest)
+title-spelled = read-spells (ascii "title co \"BOOK\"") (test titleTest) .0 (trees-read .0)
+
+pub code-spelled : Spells (ascii "code gt 5") (test codeTest)
+code-spelled = read-spells (ascii "code gt 5") (test codeTest) .0 (trees-read .1)
+
+faults-found : (testFault trialParameters titleTest ≡ Fault.Nothing) × (testFault trialParameters codeTest ≡ Fault.NoMeaning)
+unfolding titleTest codeTest trialParameters testFault kindFault lookup find findFrom equal unsupported member hasMeaning meaningOf rowMeaning relationIn row stringRow tokenRow valueReadable filterReadable cardReadable
+faults-found = (refl, refl)
+
+trial-well-formed : WellFormedSheet trialParameters
+trial-well-formed = sheet-reads-iff trialSheet trialParameters .0 trial-sheet-reads .0
+
+outcome-as : (t : Test) (fault : Fault) → testFault trialParameters t ≡ fault → Outcome trialParameters t (faultStep fault (t .at))
+outcome-as t fault e = subst (λ (k : Fault). Outcome trialParameters t (faultStep k (t .at))) e (outcome trialParameters trial-well-formed t)
+
+title-means : Meaningful trialParameters titleTest
+title-means = meaning (outcome-as titleTest Fault.Nothing (faults-found .0))
+  where
+    meaning : Outcome trialParameters titleTest (found tt) → Meaningful trialParameters titleTest
+    meaning (means m _) = m
+
+code-lacks : Meaningful trialParameters codeTest → ⊥
+code-lacks m = shown (outcome-as codeTest Fault.NoMeaning (faults-found .1))
+  where
+    shown : Outcome trialParameters codeTest (stop 16 (codeTest .at)) → ⊥
+    shown (refuses r) = m (r .card) (r .entries) (r .conforms) (r .lacks)
+
+-- ---- what no check does, and no match
+
+module _ (check : Answer) (match : List ℕ → Answer) where
+  -- a filter with a meaning is passed, and match judges the card with no entries
+  module _ (d : Demand trialParameters (test titleTest) check match) where
+    passed : check ≡ count 1
+    unfolding testsOf
+    passed = d .passes .1 (all-cons title-means all-empty)
+
+    judged : match (encodeCard 0 []) ≡ no
+    unfolding testsOf filterSays evaluate testSays saysOf someValue valuesAt lookup find findFrom equal trialParameters titleTest meaningOf rowMeaning relationIn row stringRow
+    judged = d .verdict passed (encodeCard 0 []) [] (empty-conforms trialParameters)
+
+  -- a filter without is refused, and match refuses alike
+  module _ (d : Demand trialParameters (test codeTest) check match) where
+    refused-alike : RefusesAlike trialParameters (test codeTest) check match
+    unfolding testsOf
+    refused-alike = d .refuses (λ e. code-lacks (all-head (Meaningful trialParameters) (d .passes .0 e)))
+
+-- a check that refuses everything
+pub check-refuses-all : (n p : ℕ) (match : List ℕ → Answer) → Demand trialParameters (test titleTest) (refused n p) match → ⊥
+check-refuses-all n p match d = let e = passed (refused n p) match d in let z : _≡_ {A = ℕ} 0 1 = cc in omega arith
+
+-- a count made up
+pub check-miscounts : (n : ℕ) → (n ≡ 1 → ⊥) → (match : List ℕ → Answer) → Demand trialParameters (test titleTest) (count n) match → ⊥
+check-miscounts n other match d = let e = passed (count n) match d in let z : n ≡ 1 = cc in other z
+
+-- a check that passes everything
+pub check-passes-all : (n : ℕ) (match : List ℕ → Answer) → Demand trialParameters (test codeTest) (count n) match → ⊥
+check-passes-all n match d = let e = refused-alike (count n) match d .checked in let z : _≡_ {A = ℕ} 0 1 = cc in omega arith
+
+-- a match that refuses everything
+pub match-refuses-all : (n p : ℕ) (check : Answer) → Demand trialParameters (test titleTest) check (λ card. refused n p) → ⊥
+match-refuses-all n p check d = let e = judged check (λ card. refused n p) d in let z : _≡_ {A = ℕ} 0 1 = cc in omega arith
+
+-- a match that says yes to all
+pub match-says-yes : (check : Answer) → Demand trialParameters (test titleTest) check (λ card. yes) → ⊥
+match-says-yes check d = let e = judged check (λ card. yes) d in let z : _≡_ {A = ℕ} 0 1 = cc in omega arith
+
+-- a match that answers no where a test has no meaning
+pub match-says-no : (check : Answer) → Demand trialParameters (test codeTest) check (λ card. no) → ⊥
+match-says-no check d = let e = refused-alike check (λ card. no) d .matched [] in let z : _≡_ {A = ℕ} 0 1 = cc in omega arith

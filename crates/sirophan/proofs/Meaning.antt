@@ -1,0 +1,162 @@
+-- What is found on a sheet, which operators have a meaning and which cards conform: the computed tests are the rules.
+-- Assumes nothing.
+use Prim.Native.Nat.{ℕ}
+use native.Mathlib.Omega.{arith}
+use mathlib.Core.Path.{_≡_, refl, ap, sym, _∙_, subst}
+use mathlib.Core.Bool.{true, false, cond, not, false≢true}
+use mathlib.Core.Logic.{_↔_}
+use mathlib.Core.Option.{Option, none, some}
+use mathlib.Core.List.{List, [], _∷_, List·Memᴰ, List·Memᴰ·head, List·Memᴰ·tail}
+use lib.Dec.{eqb}
+use borrow.Author.Tests.{not-true, eq-eqb, eqb-true}
+use Rattle.base.specs.Lists.{All, all-empty, all-cons, every}
+use Rattle.base.specs.Operators.{eq, ne, ap as approximately, pr, ss, sb, «in», ni}
+use Rattle.base.specs.Options.{isSome}
+use Rattle.base.proofs.Lists.{every-member}
+use Rattle.base.proofs.Tests.{and-left, and-right, and-both, both-ways, cond-elim}
+use Rattle.sheet.specs.Sheet.{Parameter, parameter}
+use Rattle.sheet.specs.Encode.{Distinct}
+use Rattle.sheet.specs.Find.{kindOf}
+use Rattle.sheet.specs.declared.Found.{Found}
+use Rattle.sheet.specs.declared.Kind.{Kind}
+use Rattle.sheet.proofs.Listed.{find-iff, kind-iff}
+use Rattle.card.specs.Card.{Entry}
+use Rattle.syntax.specs.Tree.{Path, name}
+use Rattle.kind.specs.Table.{Use, means, stringRow, numberRow, dateRow, tokenRow, referenceRow, row, relationIn, asked, rowMeaning, meaningOf, isMeaning, hasMeaning}
+use Rattle.kind.specs.Kinds.{string, number, date, token, reference}
+use Rattle.kind.specs.declared.Meaning.{Meaning}
+use Rattle.kind.specs.declared.Relation.{Relation}
+use Rattle.judge.specs.Sets.{lookup, readableAs, entryConforms, conforms}
+use Rattle.judge.specs.Faults.{unsupported}
+use Rattle.sirophan.specs.Meaning.{EntryConforms, Names, names, NotOnSheet, InRow, HasOperator, operator-of-row, operator-pr, operator-ne}
+use Rattle.sirophan.proofs.Readable.{card-iff}
+
+-- ---- the rows of the table
+
+-- what holds of each row, and of no row, holds of the row of every kind
+by-row : (P : List Use → Type 0) → P stringRow → P numberRow → P dateRow → P tokenRow → P referenceRow → P [] → (kind : ℕ) → P (row kind)
+unfolding row
+by-row P s n d t r e kind =
+    cond-elim P (eqb kind string) (λ _. s)
+    (λ _. cond-elim P (eqb kind number) (λ _. n)
+    (λ _. cond-elim P (eqb kind date) (λ _. d)
+    (λ _. cond-elim P (eqb kind token) (λ _. t)
+    (λ _. cond-elim P (eqb kind reference) (λ _. r) (λ _. e)))))
+
+row-there : (us : List Use) (k : ℕ) → isSome (relationIn us k) ≡ true → InRow k us
+unfolding relationIn
+row-there [] k h = absurd (false≢true h)
+row-there (u ∷ us) k h =
+    cond-elim (λ (o : Option Relation). isSome o ≡ true → InRow k (u ∷ us)) (eqb k (u .operator))
+    (λ e g. (u .relation, List·Memᴰ·head (ap (λ (o : ℕ). means o (u .relation)) (eqb-true k (u .operator) e))))
+    (λ e g. let w = row-there us k g in (w .0, List·Memᴰ·tail (w .1)))
+    h
+
+row-back : {us : List Use} {k : ℕ} {r : Relation} → List·Memᴰ (means k r) us → isSome (relationIn us k) ≡ true
+unfolding relationIn
+row-back {k = k} (List·Memᴰ·head {x = u} e) = rw (eq-eqb k (u .operator) (ap (λ (v : Use). v .operator) e))
+row-back {k = k} (List·Memᴰ·tail {x = u} {xs = us} m) =
+    let r = row-back m in
+    cond-elim (λ (o : Option Relation). isSome o ≡ true) (eqb k (u .operator)) (λ e. refl) (λ e. r)
+
+-- ---- operators
+
+asked-some : (how : Relation → Meaning) → ((r : Relation) → isMeaning (how r) ≡ true) → (o : Option Relation) → isMeaning (asked how o) ≡ isSome o
+asked-some how h (some r) = h r
+asked-some how h none = refl
+
+-- no row has ne of its own
+ne-not-in-row : (kind : ℕ) → isSome (relationIn (row kind) ne) ≡ false
+unfolding relationIn stringRow numberRow dateRow tokenRow referenceRow
+ne-not-in-row = by-row (λ us. isSome (relationIn us ne) ≡ false) refl refl refl refl refl refl
+
+module _ (kind : ℕ) where
+  operator-there : (k : ℕ) → hasMeaning k kind ≡ true → HasOperator kind k
+  unfolding hasMeaning meaningOf rowMeaning
+  operator-there k =
+      cond-elim (λ (m : Meaning). isMeaning m ≡ true → HasOperator kind k) (eqb k pr)
+      (λ e h. subst (HasOperator kind) (sym (eqb-true k pr e)) operator-pr)
+      (λ _. cond-elim (λ (m : Meaning). isMeaning m ≡ true → HasOperator kind k) (eqb k ne)
+      (λ e h. subst (HasOperator kind) (sym (eqb-true k ne e)) (operator-ne (row-there (row kind) eq (sym (asked-some Meaning.Differs (λ r. refl) (relationIn (row kind) eq)) ∙ h))))
+      (λ e h. operator-of-row (row-there (row kind) k (sym (asked-some Meaning.Relates (λ r. refl) (relationIn (row kind) k)) ∙ h))))
+
+  operator-back : {k : ℕ} → HasOperator kind k → hasMeaning k kind ≡ true
+  unfolding hasMeaning meaningOf rowMeaning
+  operator-back operator-pr = refl
+  operator-back (operator-ne w) = asked-some Meaning.Differs (λ r. refl) (relationIn (row kind) eq) ∙ row-back (w .1)
+  operator-back (operator-of-row {k = k} w) =
+      let some-relation : isSome (relationIn (row kind) k) ≡ true = row-back (w .1) in
+      cond-elim (λ (m : Meaning). isMeaning m ≡ true) (eqb k pr) (λ _. refl)
+      (λ _. cond-elim (λ (m : Meaning). isMeaning m ≡ true) (eqb k ne)
+      (λ e. both-ways some-relation (ap (λ (o : ℕ). isSome (relationIn (row kind) o)) (eqb-true k ne e) ∙ ne-not-in-row kind))
+      (λ _. asked-some Meaning.Relates (λ r. refl) (relationIn (row kind) k) ∙ some-relation))
+
+  pub operator-iff : (k : ℕ) → (hasMeaning k kind ≡ true) ↔ HasOperator kind k
+  operator-iff k = (operator-there k, operator-back)
+
+-- no kind has ap, ss, sb, in or ni
+five-lack : (kind : ℕ) → every (λ k. not (hasMeaning k kind)) (approximately ∷ ss ∷ sb ∷ «in» ∷ ni ∷ []) ≡ true
+unfolding every hasMeaning meaningOf rowMeaning relationIn stringRow numberRow dateRow tokenRow referenceRow
+five-lack =
+    by-row (λ us. every (λ k. not (isMeaning (cond (eqb k pr) Meaning.Present (rowMeaning us k)))) (approximately ∷ ss ∷ sb ∷ «in» ∷ ni ∷ []) ≡ true)
+    refl refl refl refl refl refl
+
+pub unsupported-lacks : (kind k : ℕ) → unsupported k ≡ true → hasMeaning k kind ≡ false
+unfolding unsupported
+unsupported-lacks kind k h = not-true (hasMeaning k kind) (every-member (λ o. not (hasMeaning o kind)) (approximately ∷ ss ∷ sb ∷ «in» ∷ ni ∷ []) k (five-lack kind) h)
+
+-- ---- names
+
+module _ (ps : List Parameter) (d : Distinct ps) where
+  names-there : (path : Path) (i k : ℕ) → lookup ps path ≡ Found.At i k → Names ps path i k
+  unfolding lookup
+  names-there (name n) i k h = names (find-iff n ps d i k .0 h)
+
+  names-back : {path : Path} {i k : ℕ} → Names ps path i k → lookup ps path ≡ Found.At i k
+  unfolding lookup
+  names-back (names {n = n} {i = i} {k = k} l) = find-iff n ps d i k .1 l
+
+  -- a path is found exactly where it names a parameter
+  pub names-iff : (path : Path) (i k : ℕ) → (lookup ps path ≡ Found.At i k) ↔ Names ps path i k
+  names-iff path i k = (names-there path i k, names-back)
+
+  missing-there : (path : Path) → lookup ps path ≡ Found.Missing → NotOnSheet ps path
+  missing-there path h i k m = let e = names-back m in let z : _≡_ {A = ℕ} 0 1 = cc in omega arith
+
+  missing-back : (path : Path) (o : Found) → lookup ps path ≡ o → NotOnSheet ps path → o ≡ Found.Missing
+  missing-back path (Found.At i k) e n = absurd (n i k (names-there path i k e))
+  missing-back path Found.Missing e n = refl
+
+  -- and missing exactly where it names none
+  pub missing-iff : (path : Path) → (lookup ps path ≡ Found.Missing) ↔ NotOnSheet ps path
+  missing-iff path = (missing-there path, (λ n. missing-back path (lookup ps path) refl n))
+
+-- ---- cards
+
+module _ (ps : List Parameter) where
+  entry-there : (e : Entry) (o : Kind) → kindOf (e .index) ps ≡ o → readableAs o (e .text) ≡ true → EntryConforms ps e
+  entry-there e (Kind.Known k) g h =
+      let l = kind-iff (e .index) ps k .0 g in
+      record { parameter = parameter k (l .0); listed = l .1; readable = card-iff k (e .text) .0 h }
+  entry-there e Kind.Unknown g h = absurd (false≢true h)
+
+  entry-back : (e : Entry) → EntryConforms ps e → entryConforms ps e ≡ true
+  unfolding entryConforms
+  entry-back e c =
+      let k = c .parameter .kind in
+      ap (λ (o : Kind). readableAs o (e .text)) (kind-iff (e .index) ps k .1 (c .parameter .name, c .listed)) ∙ card-iff k (e .text) .1 (c .readable)
+
+  entries-there : (es : List Entry) → conforms ps es ≡ true → All (EntryConforms ps) es
+  unfolding conforms entryConforms
+  entries-there [] h = all-empty
+  entries-there (e ∷ es) h =
+      all-cons (entry-there e (kindOf (e .index) ps) refl (and-left (entryConforms ps e) (conforms ps es) h)) (entries-there es (and-right (entryConforms ps e) (conforms ps es) h))
+
+  entries-back : (es : List Entry) → All (EntryConforms ps) es → conforms ps es ≡ true
+  unfolding conforms
+  entries-back [] h = refl
+  entries-back (e ∷ es) (all-cons c h) = and-both (entryConforms ps e) (conforms ps es) (entry-back e c) (entries-back es h)
+
+  -- the entries of a card conform exactly where each does
+  pub entries-iff : (es : List Entry) → (conforms ps es ≡ true) ↔ All (EntryConforms ps) es
+  entries-iff es = (entries-there es, entries-back es)

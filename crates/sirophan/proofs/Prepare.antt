@@ -1,0 +1,136 @@
+-- What the operations prepare: the parameters of a well-formed sheet, the tree that a text spells, and the first test that is refused.
+-- Assumes nothing.
+use Prim.Native.Nat.{ℕ, _≤_}
+use native.Mathlib.Omega.{arith}
+use mathlib.Core.Path.{_≡_, refl, ap}
+use mathlib.Core.Bool.{_||_}
+use mathlib.Core.Option.{Option, none, some}
+use mathlib.Core.List.{List, [], _∷_, _++_}
+use lib.Dec.{eqb, ltb}
+use lib.ListN.{length}
+use borrow.Author.Tests.{ne-eqb, le-ltb}
+use Rattle.base.specs.Lists.{All, all-empty, all-cons}
+use Rattle.base.proofs.Tests.{cond-elim}
+use Rattle.block.specs.declared.Reading.{Reading}
+use Rattle.sheet.specs.Sheet.{Parameter, parametersOf, readSheet}
+use Rattle.sheet.specs.Encode.{WellFormedSheet, SheetBlock}
+use Rattle.sheet.proofs.Sheets.{sheet-reads-iff}
+use Rattle.syntax.specs.Tree.{Test, Tree, testsOf}
+use Rattle.syntax.specs.Grammar.{Spells}
+use Rattle.syntax.specs.Reader.{read}
+use Rattle.syntax.proofs.Spelling.{read-spells, spells-not-empty}
+use Rattle.judge.specs.Faults.{testFault, orElse, firstFault}
+use Rattle.judge.specs.declared.Fault.{Fault}
+use Rattle.judge.specs.declared.FirstFault.{FirstFault}
+use Rattle.judge.specs.Verdicts.{filterSays}
+use Rattle.sirophan.specs.Answers.{yesOrNo, count}
+use Rattle.sirophan.specs.Operations.{Step, found, stop, _>>=_, sheetStep, takeSheet, treeStep, takeFilter, faultStep, testsStep, Prepared, prepare, answer, takeCard, checkAnswer, matchAnswer}
+use Rattle.sirophan.specs.Meaning.{Meaningful}
+use Rattle.sirophan.proofs.Faults.{Refused, Outcome, means, refuses, outcome}
+
+-- ---- tests
+
+-- the first of two faults, as a step
+step-or-else : (fault : Fault) (p : ℕ) (rest : FirstFault)
+    → faultStep (orElse (record { fault = fault; position = p }) rest .fault) (orElse (record { fault = fault; position = p }) rest .position)
+    ≡ (faultStep fault p >>= λ u. faultStep (rest .fault) (rest .position))
+step-or-else Fault.Nothing p rest = refl
+step-or-else Fault.UnknownName p rest = refl
+step-or-else Fault.Unsupported p rest = refl
+step-or-else Fault.NoMeaning p rest = refl
+step-or-else Fault.Unreadable p rest = refl
+
+module _ (ps : List Parameter) where
+  pub tests-next : (t : Test) (ts : List Test) → testsStep ps (t ∷ ts) ≡ (faultStep (testFault ps t) (t .at) >>= λ u. testsStep ps ts)
+  unfolding testsStep firstFault
+  tests-next t ts = step-or-else (testFault ps t) (t .at) (firstFault ps ts)
+
+  -- what the tests come to: each has a meaning on every conforming card, or one is the first that is refused
+  pub data Scan (ts : List Test) : Step (Unit {0}) → Type 0 where
+    all-mean : All (Meaningful ps) ts → Scan ts (found tt)
+    one-refused : (before : List Test) (t : Test) (after : List Test) (n : ℕ) → ts ≡ before ++ (t ∷ after) → All (Meaningful ps) before → Refused ps t n
+        → Scan ts (stop n (t .at))
+
+  scan-next : {t : Test} {ts : List Test} {first rest : Step (Unit {0})} → Outcome ps t first → Scan ts rest → Scan (t ∷ ts) (first >>= λ u. rest)
+  scan-next {t = t} {ts = ts} (refuses {n = n} r) s = one-refused [] t ts n refl all-empty r
+  scan-next (means m _) (all-mean ms) = all-mean (all-cons m ms)
+  scan-next {t = t} (means m _) (one-refused before u after n e ms r) = one-refused (t ∷ before) u after n (ap (λ (l : List Test). t ∷ l) e) (all-cons m ms) r
+
+  pub scan : WellFormedSheet ps → (ts : List Test) → Scan ts (testsStep ps ts)
+  scan w [] = unfold testsStep firstFault in all-mean all-empty
+  scan w (t ∷ ts) = rw (tests-next t ts) (scan-next (outcome ps w t) (scan w ts))
+
+-- ---- check and match, by what is prepared
+
+module _ (sheet text : List ℕ) (r : Step Prepared) (e : prepare sheet text ≡ r) where
+  pub check-by : checkAnswer sheet text ≡ answer (r >>= λ p. found (count (length (testsOf (p .filter)))))
+  unfolding checkAnswer
+  check-by = rw e
+
+  pub match-by : (card : List ℕ)
+      → matchAnswer sheet text card ≡ answer (r >>= λ p. takeCard (p .parameters) 0 card >>= λ c. found (yesOrNo (filterSays (p .parameters) (c .entries) (p .filter))))
+  unfolding matchAnswer
+  match-by card = rw e
+
+-- ---- sheet and text
+
+pub sheet-taken : (sheet : List ℕ) (s : SheetBlock sheet) → takeSheet sheet ≡ found (s .parameters)
+unfolding takeSheet
+sheet-taken sheet s =
+    let r = sheet-reads-iff sheet (s .parameters) .1 (s .well-formed, s .encoded) in
+    rw (r .reading, r .parameters)
+
+spells-length : (text : List ℕ) (f : Tree) → Spells text f → length text ≡ 0 → ⊥
+spells-length [] f s e = spells-not-empty f s
+spells-length (x ∷ xs) f s e = omega arith
+
+pub filter-taken : (text : List ℕ) (f : Tree) → length text ≤ 1024 → Spells text f → takeFilter text ≡ found f
+unfolding takeFilter
+filter-taken text f short s =
+    rw (ne-eqb (length text) 0 (spells-length text f s), le-ltb 1024 (length text) short, read-spells text f .1 s)
+
+pub prepared : (sheet text : List ℕ) (s : SheetBlock sheet) (f : Tree) → length text ≤ 1024 → Spells text f
+    → prepare sheet text ≡ (testsStep (s .parameters) (testsOf f) >>= λ u. found (record { parameters = s .parameters; filter = f }))
+unfolding prepare
+prepared sheet text s f short spells = rw (sheet-taken sheet s, filter-taken text f short spells)
+
+-- ---- the numbers of these refusals
+
+-- a step found something, or was refused with a number of at most `most`
+data AtMost {A : Type 0} (most : ℕ) : Step A → Type 0 where
+  found-at-most : {x : A} → AtMost most (found x)
+  stop-at-most : (n p : ℕ) → n ≤ most → AtMost most (stop n p)
+
+at-most-then : {A B : Type 0} {most : ℕ} {s : Step A} {next : A → Step B} → AtMost most s → ((x : A) → AtMost most (next x)) → AtMost most (s >>= next)
+at-most-then (found-at-most {x = x}) h = h x
+at-most-then (stop-at-most n p l) h = stop-at-most n p l
+
+at-most-number : {A : Type 0} {most : ℕ} {s : Step A} → AtMost most s → (n p : ℕ) → s ≡ stop n p → n ≤ most
+at-most-number found-at-most n p e = absurd (let z : _≡_ {A = ℕ} 0 1 = cc in omega arith)
+at-most-number (stop-at-most m q l) n p e = let z : m ≡ n = cc in omega arith
+
+sheet-at-most : (r : Reading) (ps : List Parameter) → AtMost 17 (sheetStep r ps)
+sheet-at-most Reading.WellFormed ps = found-at-most
+sheet-at-most Reading.WrongSize ps = stop-at-most 1 0 (omega arith)
+sheet-at-most Reading.WrongSum ps = stop-at-most 2 0 (omega arith)
+sheet-at-most Reading.WrongLayout ps = stop-at-most 3 0 (omega arith)
+
+tree-at-most : (o : Option Tree) → AtMost 17 (treeStep o)
+tree-at-most (some f) = found-at-most
+tree-at-most none = stop-at-most 11 0 (omega arith)
+
+fault-at-most : (fault : Fault) (p : ℕ) → AtMost 17 (faultStep fault p)
+fault-at-most Fault.Nothing p = found-at-most
+fault-at-most Fault.UnknownName p = stop-at-most 14 p (omega arith)
+fault-at-most Fault.Unsupported p = stop-at-most 15 p (omega arith)
+fault-at-most Fault.NoMeaning p = stop-at-most 16 p (omega arith)
+fault-at-most Fault.Unreadable p = stop-at-most 17 p (omega arith)
+
+pub prepare-number : (sheet text : List ℕ) (n p : ℕ) → prepare sheet text ≡ stop n p → n ≤ 17
+unfolding prepare takeSheet takeFilter testsStep
+prepare-number sheet text =
+    at-most-number
+    (at-most-then (sheet-at-most (readSheet sheet) (parametersOf sheet))
+    (λ ps. at-most-then
+    (cond-elim (AtMost 17) (eqb (length text) 0 || ltb 1024 (length text)) (λ _. stop-at-most 10 0 (omega arith)) (λ _. tree-at-most (read text)))
+    (λ f. at-most-then (fault-at-most (firstFault ps (testsOf f) .fault) (firstFault ps (testsOf f) .position)) (λ u. found-at-most))))

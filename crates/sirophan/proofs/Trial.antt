@@ -1,0 +1,64 @@
+-- Document 01's trial card: match gives what the table says, over the bytes of the trial sheet and of card 7.
+-- Assumes nothing.
+use mathlib.Core.Path.{_≡_, refl}
+use mathlib.Core.List.{List, [], _∷_, map, head-eq-of-cons-eq, tail-eq-of-cons-eq}
+use Rattle.base.specs.Lists.{All, all-empty, all-cons, every, equal, member}
+use Rattle.base.specs.Affixes.{hasPrefix, hasInfix}
+use Rattle.base.specs.Digits.{isDigit}
+use Rattle.base.specs.Names as names
+use Rattle.base.specs.Names.{isLetter, isNameStart, isNamePart, isReserved, isName}
+use Rattle.base.specs.Operators.{operatorWords}
+use Rattle.base.specs.Runs.{run, runEnd}
+use Rattle.text.specs.Fold.{foldByte, foldText}
+use Rattle.text.specs.Compare as texts
+use Rattle.text.specs.Bar.{firstBar}
+use Rattle.number.specs.Reading as numbers
+use Rattle.number.specs.Value as number
+use Rattle.date.specs.Fields as fields
+use Rattle.date.specs.Calendar as calendar
+use Rattle.date.specs.Spans as spans
+use Rattle.date.specs.Texts as dates
+use Rattle.date.specs.Relations as date
+use Rattle.token.specs.Split.{split}
+use Rattle.token.specs.Card as tokens
+use Rattle.token.specs.Filter as forms
+use Rattle.token.specs.Namespace.{standsFor, namespaceOf}
+use Rattle.token.specs.Match as token
+use Rattle.block.specs.Sum.{sumFrom, checkSum}
+use Rattle.block.specs.Seal as block
+use Rattle.block.specs.Items.{zeros, next, textAt, laidOut, hasLayout, items}
+use Rattle.block.specs.Readings.{reading}
+use Rattle.sheet.specs.Sheet.{parameterCount, parametersOf, isParameter, areParameters, absent, distinct, sheetLayout, readSheet}
+use Rattle.sheet.specs.Find.{findFrom, find, kindOf}
+use Rattle.sheet.specs.Trial.{trialSheet}
+use Rattle.card.specs.Card.{entryCount, entriesOf, readCard}
+use Rattle.card.specs.Trial.{trialCard}
+use Rattle.syntax.specs.Tree.{testsOf}
+use Rattle.syntax.specs.Strings.{isBare}
+use Rattle.syntax.specs.Scan.{stepOf, stringFrom, stringAt, valueAt, follows, findOperator, operatorAt, testValue, testOperator, testAt, openAt, headAt, connectiveAt, closeAt}
+use Rattle.syntax.specs.Reader.{chainOf, filterOf, itemAt, filterAt, read}
+use Rattle.kind.specs.Table as table
+use Rattle.kind.specs.Readable as kind
+use Rattle.kind.specs.Stands.{stringStands, numberStands, dateStands, stands}
+use Rattle.judge.specs.Sets.{lookup, valuesAt, entryConforms, conforms}
+use Rattle.judge.specs.Faults.{unsupported, kindFault, testFault, firstFault}
+use Rattle.judge.specs.Verdicts.{someValue, isEmpty, saysOf, testSays, evaluate, filterSays}
+use Rattle.sirophan.specs.Answers.{Answer}
+use Rattle.sirophan.specs.Operations.{takeSheet, takeFilter, testsStep, prepare, takeCard, matchAnswer}
+use Rattle.sirophan.specs.Trial.{Row, trialRows}
+
+-- two functions that agree on a list agree on each element
+all-same : {A B : Type 0} (f g : A → B) (xs : List A) → map f xs ≡ map g xs → All (λ (x : A). f x ≡ g x) xs
+all-same f g [] e = all-empty
+all-same f g (x ∷ xs) e = all-cons (head-eq-of-cons-eq e) (all-same f g xs (tail-eq-of-cons-eq e))
+
+-- what match gives for each row of a table, on the trial sheet and card 7
+abbrev given : List Row → List Answer
+given = map (λ r. matchAnswer trialSheet (r .filter) trialCard)
+
+trial-computed : given trialRows ≡ map (λ r. r .gives) trialRows
+unfolding trialRows trialSheet trialCard matchAnswer takeCard prepare testsStep takeFilter takeSheet filterSays evaluate testSays saysOf isEmpty someValue firstFault testFault kindFault unsupported conforms entryConforms valuesAt lookup stands dateStands numberStands stringStands kind.valueReadable kind.isTrue kind.filterReadable kind.cardReadable table.hasMeaning table.meaningOf table.rowMeaning table.relationIn table.row table.tokenRow table.dateRow table.numberRow table.stringRow read filterAt itemAt filterOf chainOf closeAt connectiveAt headAt openAt testAt testOperator testValue operatorAt findOperator follows valueAt stringAt stringFrom stepOf isBare testsOf readCard entriesOf entryCount kindOf find findFrom readSheet sheetLayout distinct absent areParameters isParameter parametersOf parameterCount reading items hasLayout laidOut textAt next zeros block.check checkSum sumFrom token.matches token.meets token.asks namespaceOf standsFor forms.filterReadable forms.filterForm forms.splitForm tokens.cardReadable tokens.cardToken tokens.splitToken tokens.tokenOf split firstBar date.inside date.same date.earlierOrInside dates.readable dates.isDate dates.read dates.readYear dates.readMonth dates.fieldAt dates.fourAt dates.twoAt dates.pair dates.digitOf spans.monthDate spans.yearDate spans.daysFrom spans.dateOf spans.instant spans.epoch calendar.dayNumber calendar.daysOfYears calendar.daysBeforeMonth calendar.monthLength calendar.yearLength calendar.leapYear fields.validMonth fields.between number.same number.greater number.atLeast number.covers number.halfUnit number.exactValue number.plus number.isEqual number.isAtMost number.isLess numbers.readable numbers.read numbers.readFraction numbers.valueFrom texts.same texts.contains foldText foldByte runEnd run operatorWords isName isReserved isNamePart isNameStart isLetter names.between isDigit hasInfix hasPrefix member equal every
+trial-computed = refl
+
+pub trial-rows : All (λ (r : Row). matchAnswer trialSheet (r .filter) trialCard ≡ r .gives) trialRows
+trial-rows = all-same (λ r. matchAnswer trialSheet (r .filter) trialCard) (λ r. r .gives) trialRows trial-computed

@@ -1,0 +1,31 @@
+-- Numbers of refusal: their rank, and lines 14 to 17 of document 01's table, which are about a test.
+-- Assumes nothing.
+use Prim.Native.Nat.{ℕ, _≤_}
+use mathlib.Core.Path.{_≡_}
+use mathlib.Core.Bool.{true, false}
+use mathlib.Core.List.{List}
+use Rattle.sheet.specs.Sheet.{Parameter}
+use Rattle.syntax.specs.Tree.{Test}
+use Rattle.judge.specs.Faults.{unsupported}
+use Rattle.sirophan.specs.Readable.{ReadableValue}
+use Rattle.sirophan.specs.Meaning.{Names, NotOnSheet, HasOperator}
+
+-- "lowest line first": where a line stands among the others
+unfoldable pub rank : ℕ → ℕ
+rank n = n
+
+-- the line with the number holds for the test
+pub data TestLine (ps : List Parameter) (t : Test) : ℕ → Type 0 where
+  -- "name not on the sheet"
+  line-14 : NotOnSheet ps (t .path) → TestLine ps t 14
+  -- "word is ap, ss, sb, in or ni"
+  line-15 : unsupported (t .operator) ≡ true → TestLine ps t 15
+  -- "another word without a meaning for the kind"
+  line-16 : {i k : ℕ} → Names ps (t .path) i k → unsupported (t .operator) ≡ false → (HasOperator k (t .operator) → ⊥) → TestLine ps t 16
+  -- "value unreadable"
+  line-17 : {i k : ℕ} → Names ps (t .path) i k → (ReadableValue k (t .value) (t .operator) → ⊥) → TestLine ps t 17
+
+-- the number that the table gives the test: "within it the lower number"
+pub record Numbered (ps : List Parameter) (t : Test) (n : ℕ) : Type 0 where
+  pub line : TestLine ps t n
+  pub lowest : (m : ℕ) → TestLine ps t m → rank n ≤ rank m

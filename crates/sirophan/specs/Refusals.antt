@@ -1,0 +1,98 @@
+-- Document 01's table of refusals: when each line holds and at which place, and which of the lines that hold decides.
+-- Assumes nothing.
+use Prim.Native.Nat.{ℕ, _<_}
+use mathlib.Core.Path.{_≡_}
+use mathlib.Core.Bool.{_&&_, cond}
+use mathlib.Core.Logic.{_⊎_}
+use mathlib.Core.List.{List, List·Memᴰ}
+use lib.Dec.{leb}
+use lib.ListN.{length}
+use Rattle.block.specs.Words.{word}
+use Rattle.block.specs.Sum.{checkSum}
+use Rattle.sheet.specs.Encode.{SheetBlock}
+use Rattle.card.specs.Card.{Entry}
+use Rattle.card.specs.Encode.{CardBlock}
+use Rattle.syntax.specs.Tree.{Test, Tree, testsOf}
+use Rattle.syntax.specs.Grammar.{Spells}
+use Rattle.sirophan.specs.Meaning.{Conforms}
+use Rattle.sirophan.specs.Numbers.{rank, TestLine}
+use Rattle.sirophan.specs.Selection.{Run, CardAt, matchingCards}
+
+-- ---- which line decides
+
+-- lines 14 to 17 go together, and so do 21 to 23
+unfoldable pub group : ℕ → ℕ
+group n = cond (leb 14 n && leb n 17) 14 (cond (leb 21 n && leb n 23) 21 n)
+
+-- line m at the place q comes before line n at the place p: "lowest line first"; "for 14 to 17 the first test in the text
+-- decides, and within it the lower number"; "for 21 to 23 the first faulty card decides, and on it the lower number"
+pub data Before (m q n p : ℕ) : Type 0 where
+  lower-group : group m < group n → Before m q n p
+  earlier-place : group m ≡ group n → q < p → Before m q n p
+  lower-rank : group m ≡ group n → q ≡ p → rank m < rank n → Before m q n p
+
+-- of the lines that hold, line n at the place p comes first
+pub record Decides (Line : ℕ → ℕ → Type 0) (n p : ℕ) : Type 0 where
+  pub holds : Line n p
+  pub first : (m q : ℕ) → Line m q → Before m q n p → ⊥
+
+-- ---- check
+
+pub data SheetLine (sheet : List ℕ) : ℕ → ℕ → Type 0 where
+  -- "sheet is not 512 bytes"
+  line-1 : (length sheet ≡ 512 → ⊥) → SheetLine sheet 1 0
+  -- "sheet's check sum is wrong": that of its first 508 bytes is not the number in the last four
+  line-2 : (checkSum sheet ≡ word sheet 508 → ⊥) → SheetLine sheet 2 0
+  -- "sheet breaks its layout or names": no well-formed sheet has these bytes
+  line-3 : (SheetBlock sheet → ⊥) → SheetLine sheet 3 0
+
+pub data TextLine (text : List ℕ) : ℕ → ℕ → Type 0 where
+  -- "filter is empty or over 1,024 bytes"
+  line-10 : (length text ≡ 0) ⊎ (1024 < length text) → TextLine text 10 0
+  -- "text is no filter by the grammar": it spells no tree
+  line-11 : ((f : Tree) → Spells text f → ⊥) → TextLine text 11 0
+
+pub data TestsLine (sheet text : List ℕ) : ℕ → ℕ → Type 0 where
+  -- 14 to 17, at the "first byte of the test"
+  line-of-test : (s : SheetBlock sheet) {f : Tree} {t : Test} {n : ℕ} → Spells text f → List·Memᴰ t (testsOf f) → TestLine (s .parameters) t n
+      → TestsLine sheet text n (t .at)
+
+abbrev pub CheckLine : (sheet text : List ℕ) → ℕ → ℕ → Type 0
+CheckLine sheet text n p = SheetLine sheet n p ⊎ (TextLine text n p ⊎ TestsLine sheet text n p)
+
+-- ---- match
+
+-- the lines that are about one card
+pub data CardLine (sheet card : List ℕ) : ℕ → Type 0 where
+  -- "card's check sum is wrong"
+  line-21 : (checkSum card ≡ word card 508 → ⊥) → CardLine sheet card 21
+  -- "card breaks its layout": no well-formed card has these bytes
+  line-22 : (CardBlock card → ⊥) → CardLine sheet card 22
+  -- "card is sound but doesn't fit"
+  line-23 : (s : SheetBlock sheet) → CardBlock card → ((es : List Entry) → Conforms (s .parameters) card es → ⊥) → CardLine sheet card 23
+
+pub data OneCardLine (sheet card : List ℕ) : ℕ → ℕ → Type 0 where
+  -- "match: card is not 512 bytes"
+  line-20-match : (length card ≡ 512 → ⊥) → OneCardLine sheet card 20 0
+  line-of-card : {n : ℕ} → CardLine sheet card n → OneCardLine sheet card n 0
+
+abbrev pub MatchLine : (sheet text card : List ℕ) → ℕ → ℕ → Type 0
+MatchLine sheet text card n p = CheckLine sheet text n p ⊎ OneCardLine sheet card n p
+
+-- ---- select, into a list of `room` cells
+
+pub data RunLine (cards : List ℕ) : ℕ → ℕ → Type 0 where
+  -- "select: no whole number of blocks, or over 128"
+  line-20-select : ((bs : List (List ℕ)) → Run cards bs → ⊥) → RunLine cards 20 0
+
+pub data CardsLine (sheet cards : List ℕ) : ℕ → ℕ → Type 0 where
+  -- 21 to 23, at the "card's index"
+  line-of-card-at : {bs : List (List ℕ)} {n i : ℕ} {b : List ℕ} → Run cards bs → CardAt bs i b → CardLine sheet b n → CardsLine sheet cards n i
+
+pub data RoomLine (sheet text cards : List ℕ) (room : ℕ) : ℕ → ℕ → Type 0 where
+  -- "list shorter than the matches", at the "number of matches"
+  line-30 : {bs : List (List ℕ)} → Run cards bs → room < length (matchingCards sheet text bs)
+      → RoomLine sheet text cards room 30 (length (matchingCards sheet text bs))
+
+abbrev pub SelectLine : (sheet text cards : List ℕ) → (room : ℕ) → ℕ → ℕ → Type 0
+SelectLine sheet text cards room n p = CheckLine sheet text n p ⊎ (RunLine cards n p ⊎ (CardsLine sheet cards n p ⊎ RoomLine sheet text cards room n p))

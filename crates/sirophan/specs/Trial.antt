@@ -1,0 +1,44 @@
+-- Document 01's trial card: the rows of its table that are marked to be proved.
+-- Assumes nothing.
+use Prim.Native.Nat.{ℕ}
+use mathlib.Core.List.{List, [], _∷_}
+use Rattle.base.specs.Ascii.{ascii}
+use Rattle.base.specs.Operators.{co, gt}
+use Rattle.syntax.specs.Tree.{Test, name}
+use Rattle.sirophan.specs.Answers.{Answer, yes, no, refused}
+
+-- a filter, and what match gives on card 7
+pub record Row : Type 0 where
+  pub filter : List ℕ
+  pub gives : Answer
+
+abbrev pub row : List ℕ → Answer → Row
+row filter gives = record { filter = filter; gives = gives }
+
+unfoldable pub trialRows : List Row
+trialRows =
+    row (ascii "title co \"BOOK\"") yes
+    ∷ row (ascii "birthdate le 1974-06") yes
+    ∷ row (ascii "birthdate lt 1974-06") no
+    ∷ row (ascii "birthdate eb 1974-07") yes
+    ∷ row (ascii "birthdate eq 1974") no
+    ∷ row (ascii "birthdate ne 1980") yes
+    ∷ row (ascii "not (birthdate eq 1980)") no
+    ∷ row (ascii "pages eq 12") no
+    ∷ row (ascii "pages ge 12") yes
+    ∷ row (ascii "pages co 12.04") yes
+    ∷ row (ascii "pages co 12.05") no
+    ∷ row (ascii "code eq LOINC|1234-5") yes
+    ∷ row (ascii "title pr true or pages gt 20 and pages gt 30") no
+    ∷ row (ascii "code gt 5") (refused 16 0)
+    ∷ []
+
+-- ---- two filters that show which programs the demand on check and match shuts out
+
+-- a test that has a meaning on every card that conforms to the trial sheet
+unfoldable pub titleTest : Test
+titleTest = record { at = 0; path = name (ascii "title"); operator = co; value = ascii "BOOK" }
+
+-- a test that lacks one where there is a code
+unfoldable pub codeTest : Test
+codeTest = record { at = 0; path = name (ascii "code"); operator = gt; value = ascii "5" }

@@ -1,0 +1,11 @@
+-- A text for each kind that is readable on a card: what an entry can hold that shows a parameter with a value.
+-- Assumes nothing.
+use Prim.Native.Nat.{ℕ}
+use mathlib.Core.Bool.{cond}
+use mathlib.Core.List.{List}
+use lib.Dec.{eqb}
+use Rattle.base.specs.Ascii.{ascii}
+use Rattle.kind.specs.Kinds.{date}
+
+unfoldable pub witnessText : ℕ → List ℕ
+witnessText kind = cond (eqb kind date) (ascii "1974") (ascii "1")
