@@ -1,4 +1,5 @@
--- The proofs of the promises.
+-- The proofs of the promises; `Promises` has all the statements.
+pub mod Outcomes
 pub mod Readable
 pub mod Meaning
 pub mod Cards
@@ -7,11 +8,13 @@ pub mod Prepare
 pub mod Demand
 pub mod Determinacy
 pub mod Impossible
-pub mod Trial
+pub mod Verdicts
 pub mod Runs
 pub mod Selection
-pub mod Deciding
 pub mod Blocks
+pub mod Deciding
 pub mod CheckTable
 pub mod MatchTable
 pub mod SelectTable
+pub mod Trial
+pub mod Promises
