@@ -2,7 +2,8 @@
 -- Assumes nothing.
 use Prim.Native.Nat.{ℕ, zero, suc, _<_}
 use native.Mathlib.Omega.{arith}
-use mathlib.Core.List.{List, [], _∷_, _++_}
+use mathlib.Core.Path.{_≡_, subst}
+use mathlib.Core.List.{List, [], _∷_, _++_, map, head-eq-of-cons-eq, tail-eq-of-cons-eq}
 use lib.ListN.{take, drop, getD, replicate}
 use Rattle.base.specs.Lists.{All, all-empty, all-cons}
 use Rattle.base.specs.Bytes.{Bytes}
@@ -18,6 +19,10 @@ module _ {A : Type 0} (P : A → Type 0) where
   pub all-right : (xs : List A) {ys : List A} → All P (xs ++ ys) → All P ys
   all-right [] h = h
   all-right (x ∷ xs) (all-cons p h) = all-right xs h
+
+  pub all-left : (xs ys : List A) → All P (xs ++ ys) → All P xs
+  all-left [] ys h = all-empty
+  all-left (x ∷ xs) ys (all-cons p h) = all-cons p (all-left xs ys h)
 
   pub all-take : (n : ℕ) {xs : List A} → All P xs → All P (take n xs)
   all-take zero h = all-empty
@@ -37,6 +42,21 @@ module _ {A : Type 0} (P : A → Type 0) where
 pub all-map : {A : Type 0} {P Q : A → Type 0} → ((x : A) → P x → Q x) → {xs : List A} → All P xs → All Q xs
 all-map f all-empty = all-empty
 all-map f (all-cons {x} p h) = all-cons (f x p) (all-map f h)
+
+-- two functions that agree on a list agree on each element
+pub all-same : {A B : Type 0} (f g : A → B) (xs : List A) → map f xs ≡ map g xs → All (λ (x : A). f x ≡ g x) xs
+all-same f g [] e = all-empty
+all-same f g (x ∷ xs) e = all-cons (head-eq-of-cons-eq e) (all-same f g xs (tail-eq-of-cons-eq e))
+
+-- the first element that lacks a property is one
+pub first-unique : {A : Type 0} (P : A → Type 0) (b b′ : List A) (x x′ : A) (a a′ : List A) → b ++ (x ∷ a) ≡ b′ ++ (x′ ∷ a′)
+    → All P b → All P b′ → (P x → ⊥) → (P x′ → ⊥) → x ≡ x′
+first-unique P [] [] x x′ a a′ e p p′ n n′ = cc
+first-unique P [] (y ∷ b′) x x′ a a′ e p p′ n n′ = let z : y ≡ x = cc in absurd (n (subst P z (all-head P p′)))
+first-unique P (y ∷ b) [] x x′ a a′ e p p′ n n′ = let z : y ≡ x′ = cc in absurd (n′ (subst P z (all-head P p)))
+first-unique P (y ∷ b) (y′ ∷ b′) x x′ a a′ e (all-cons q p) (all-cons q′ p′) n n′ =
+    let z : b ++ (x ∷ a) ≡ b′ ++ (x′ ∷ a′) = cc in
+    first-unique P b b′ x x′ a a′ z p p′ n n′
 
 -- ---- bytes
 

@@ -5,8 +5,8 @@ use Prim.Native.Nat.{ℕ, suc, _+_, _-_, _<_}
 use native.Mathlib.Numerals.{add-one}
 use native.Mathlib.Omega.{arith}
 use mathlib.Core.Bool.{Bool, true, false, false≢true, and-false}
-use mathlib.Core.Logic.{inl, inr, ⊎-elim}
-use mathlib.Core.List.{List, [], _∷_}
+use mathlib.Core.Logic.{inl, inr, ⊎-elim, ite}
+use mathlib.Core.List.{List, [], _∷_, map, filter}
 use lib.Dec.{eqb}
 use lib.ListN.{length, getD, take, drop, length-drop, drop-of-length-le}
 use lib.Seq.{take-all, drop-cons}
@@ -94,3 +94,16 @@ every-member p (k ∷ ks) x h m =
     (λ e. ap p (eqb-true x k e) ∙ and-left (p k) (every p ks) h)
     (λ r. every-member p ks x (and-right (p k) (every p ks) h) r)
     (or-either (eqb x k) (member x ks) m)
+
+-- ---- what passes a decision
+
+module _ {A B : Type 0} {P : B → Type 0} (d : (y : B) → Dec (P y)) (f : A → B) where
+  filter-next : (x : A) (ys : List B) (xs : List A) → length ys ≡ length xs → (c : Dec (P (f x)))
+      → length (ite {C = List B} c (f x ∷ ys) ys) ≡ length (ite {C = List A} c (x ∷ xs) xs)
+  filter-next x ys xs e (yes p) = ap suc e
+  filter-next x ys xs e (no n) = e
+
+  -- as many pass before a map as after it
+  pub filter-map : (xs : List A) → length (filter d (map f xs)) ≡ length (filter (λ x. d (f x)) xs)
+  filter-map [] = refl
+  filter-map (x ∷ xs) = filter-next x (filter d (map f xs)) (filter (λ x. d (f x)) xs) (filter-map xs) (d (f x))

@@ -23,13 +23,7 @@ use Rattle.sheet.proofs.Sheets as sheets
 use Rattle.card.specs.Card.{readCard}
 use Rattle.card.specs.Encode.{CardBlock}
 use Rattle.card.proofs.Cards as cards
-
--- IsBlock says that the bytes are a block that can be written
-pub data ReadsTo (b : List ℕ) (IsBlock : Type 0) : Reading → Type 0 where
-  size-wrong : (length b ≡ 512 → ⊥) → ReadsTo b IsBlock Reading.WrongSize
-  sum-wrong : length b ≡ 512 → (checkSum b ≡ word b 508 → ⊥) → ReadsTo b IsBlock Reading.WrongSum
-  layout-wrong : length b ≡ 512 → checkSum b ≡ word b 508 → (IsBlock → ⊥) → ReadsTo b IsBlock Reading.WrongLayout
-  all-right : length b ≡ 512 → checkSum b ≡ word b 508 → IsBlock → ReadsTo b IsBlock Reading.WellFormed
+use Rattle.sirophan.proofs.Outcomes.{ReadsTo, size-wrong, sum-wrong, layout-wrong, all-right}
 
 reads-to : (b : List ℕ) (IsBlock : Type 0) (layout : Bool) → (reading (check b) layout ≡ Reading.WellFormed → IsBlock) → (IsBlock → reading (check b) layout ≡ Reading.WellFormed)
     → ReadsTo b IsBlock (reading (check b) layout)

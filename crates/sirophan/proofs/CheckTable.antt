@@ -3,7 +3,7 @@
 use Prim.Native.Nat.{ℕ, _≤_, _<_}
 use native.Mathlib.Nat.{le-of-eq}
 use native.Mathlib.Omega.{arith}
-use mathlib.Core.Path.{_≡_, refl, ap, sym, _∙_, subst}
+use mathlib.Core.Path.{_≡_, refl, sym, _∙_, subst}
 use mathlib.Core.Bool.{true, _||_}
 use mathlib.Core.Logic.{_↔_, _⊎_, inl, inr, ⊎-elim}
 use mathlib.Core.Option.{Option, none, some}
@@ -22,16 +22,17 @@ use Rattle.sheet.proofs.Sheets.{sheet-reads-iff}
 use Rattle.syntax.specs.Tree.{Test, Tree, testsOf, Rising, rising-end, rising-next}
 use Rattle.syntax.specs.Grammar.{Spells}
 use Rattle.syntax.specs.Reader.{read}
-use Rattle.syntax.proofs.Spelling.{read-spells, spells-unique, tests-rise}
+use Rattle.syntax.proofs.Spelling.{read-spells, spells-unique, tests-rise, rising-member}
 use Rattle.judge.specs.Faults.{firstFault}
 use Rattle.sirophan.specs.Answers.{count, refused}
 use Rattle.sirophan.specs.Operations.{Step, found, _>>=_, sheetStep, takeSheet, treeStep, takeFilter, testsStep, Prepared, prepare, checkAnswer}
 use Rattle.sirophan.specs.Numbers.{rank, TestLine, line-14, line-15, line-16, line-17}
 use Rattle.sirophan.specs.Refusals.{group, Before, lower-group, earlier-place, lower-rank, Decides, SheetLine, line-1, line-2, line-3, TextLine, line-10, line-11, TestsLine, line-of-test, CheckLine}
-use Rattle.sirophan.proofs.Faults.{Outcome, means, refuses, outcome}
+use Rattle.sirophan.proofs.Outcomes.{ReadsTo, size-wrong, sum-wrong, layout-wrong, all-right, TestOutcome, test-means, test-refused, Decided, none-holds, one-decides}
+use Rattle.sirophan.proofs.Faults.{outcome}
 use Rattle.sirophan.proofs.Prepare.{tests-next}
-use Rattle.sirophan.proofs.Blocks.{ReadsTo, size-wrong, sum-wrong, layout-wrong, all-right, sheet-reads-to}
-use Rattle.sirophan.proofs.Deciding.{apart-at, later-place, no-lower-rank, Decided, none-holds, one-decides, decided-as, decided-then, decided-found, decided-answer}
+use Rattle.sirophan.proofs.Blocks.{sheet-reads-to}
+use Rattle.sirophan.proofs.Deciding.{apart-at, later-place, no-lower-rank, decided-as, decided-then, decided-found, decided-answer}
 
 -- ---- the sheet
 
@@ -127,12 +128,6 @@ test-group (line-15 u) = refl
 test-group (line-16 j u o) = refl
 test-group (line-17 j r) = refl
 
--- a test among others does not begin before they do
-rising-member : {p q : ℕ} {t : Test} {ts : List Test} → Rising p q ts → List·Memᴰ t ts → p ≤ t .at
-rising-member (rising-end h) m = absurd (List·Memᴰ·not-nil m)
-rising-member {p = p} {t = t} (rising-next {t = u} {ts = ts} h r) m =
-    ⊎-elim (λ e. let same : t .at ≡ u .at = ap (λ (x : Test). x .at) e in omega arith) (λ k. let l = rising-member r k in omega arith) (List·Memᴰ·cases-cons m)
-
 module _ (ps : List Parameter) where
   -- a line of one test, and of some test among others
   abbrev HeadLine : Test → ℕ → ℕ → Type 0
@@ -141,9 +136,9 @@ module _ (ps : List Parameter) where
   abbrev LineAmong : List Test → ℕ → ℕ → Type 0
   LineAmong ts n p = (t : Test) × List·Memᴰ t ts × HeadLine t n p
 
-  head-decided : {t : Test} {s : Step (Unit {0})} → Outcome ps t s → Decided (λ u. Unit {0}) (HeadLine t) s
-  head-decided (means m no-line) = none-holds tt (λ n p l. no-line n (l .0))
-  head-decided {t = t} (refuses r) =
+  head-decided : {t : Test} {s : Step (Unit {0})} → TestOutcome ps t s → Decided (λ u. Unit {0}) (HeadLine t) s
+  head-decided (test-means m no-line) = none-holds tt (λ n p l. no-line n (l .0))
+  head-decided {t = t} (test-refused r) =
       one-decides
       (record {
         holds = (r .table .line, refl);

@@ -5,9 +5,10 @@ use native.Mathlib.Omega.{arith}
 use mathlib.Core.Path.{_≡_, refl, ap₂, sym}
 use mathlib.Core.Logic.{_↔_, _⊎_, inl, inr, ⊎-elim}
 use Rattle.sirophan.specs.Answers.{Answer, refused}
-use Rattle.sirophan.specs.Operations.{Step, found, stop, _>>=_, answer}
+use Rattle.sirophan.specs.Operations.{Step, found, _>>=_, answer}
 use Rattle.sirophan.specs.Numbers.{rank}
 use Rattle.sirophan.specs.Refusals.{group, Before, lower-group, earlier-place, lower-rank, Decides}
+use Rattle.sirophan.proofs.Outcomes.{Decided, none-holds, one-decides, NotRefused}
 
 -- ---- the order
 
@@ -53,11 +54,6 @@ apart-at Line Line′ g up above m q n p l k = let a = up n p k in let b = above
 
 -- ---- steps
 
--- a step found something of which Known holds, where no line does; or it was refused by the line that decides
-pub data Decided {A : Type 0} (Known : A → Type 0) (Line : ℕ → ℕ → Type 0) : Step A → Type 0 where
-  none-holds : {x : A} → Known x → ((n p : ℕ) → Line n p → ⊥) → Decided Known Line (found x)
-  one-decides : {n p : ℕ} → Decides Line n p → Decided Known Line (stop n p)
-
 -- the same by other words for the lines
 pub decided-as : {A : Type 0} {Known : A → Type 0} {Line Line′ : ℕ → ℕ → Type 0} → ((n p : ℕ) → Line n p ↔ Line′ n p) → {s : Step A} → Decided Known Line s → Decided Known Line′ s
 decided-as f (none-holds k h) = none-holds k (λ n p l. h n p (f n p .1 l))
@@ -84,9 +80,6 @@ decided-found g f (none-holds {x = x} known none) = none-holds (f x known) none
 decided-found g f (one-decides d) = one-decides d
 
 -- ---- answers
-
-abbrev pub NotRefused : Answer → Type 0
-NotRefused a = (n p : ℕ) → a ≡ refused n p → ⊥
 
 -- an operation is refused with a number and a place exactly where that line decides
 pub decided-answer : (Line : ℕ → ℕ → Type 0) {s : Step Answer} → Decided NotRefused Line s → (n p : ℕ) → (answer s ≡ refused n p) ↔ Decides Line n p

@@ -16,7 +16,8 @@ use Rattle.sirophan.specs.Operations.{Step, found, stop, testsStep, Prep
 use Rattle.sirophan.specs.Meaning.{Meaningful}
 use Rattle.sirophan.specs.Demand.{Demand, MeetsDemand}
 use Rattle.sirophan.proofs.Cards.{conforms-size, conforms-bytes, conforms-taken}
-use Rattle.sirophan.proofs.Prepare.{check-by, match-by, Scan, all-mean, one-refused, scan, prepared}
+use Rattle.sirophan.proofs.Outcomes.{TestsOutcome, all-mean, one-refused}
+use Rattle.sirophan.proofs.Prepare.{check-by, match-by, tests-outcome, prepared}
 
 count-not-refused : {m n p : ℕ} → refused n p ≡ count m → ⊥
 count-not-refused h = let z : _≡_ {A = ℕ} 0 1 = cc in omega arith
@@ -28,7 +29,7 @@ module _ (sheet text : List ℕ) (s : SheetBlock sheet) (f : Tree) (short : leng
   abbrev ready : Prepared
   ready = record { parameters = ps; filter = f }
 
-  meets : {tests : Step (Unit {0})} → testsStep ps (testsOf f) ≡ tests → Scan ps (testsOf f) tests → Demand ps f (checkAnswer sheet text) (matchAnswer sheet text)
+  meets : {tests : Step (Unit {0})} → testsStep ps (testsOf f) ≡ tests → TestsOutcome ps (testsOf f) tests → Demand ps f (checkAnswer sheet text) (matchAnswer sheet text)
   meets e (all-mean m) =
       let done : prepare sheet text ≡ found ready = prepared sheet text s f short spells ∙ rw e in
       let passed : checkAnswer sheet text ≡ count (length (testsOf f)) = check-by sheet text (found ready) done in
@@ -66,4 +67,4 @@ module _ (sheet text : List ℕ) (s : SheetBlock sheet) (f : Tree) (short : leng
       }
 
 pub demand-met : MeetsDemand checkAnswer matchAnswer
-demand-met sheet text s f short spells = meets sheet text s f short spells refl (scan (s .parameters) (s .well-formed) (testsOf f))
+demand-met sheet text s f short spells = meets sheet text s f short spells refl (tests-outcome (s .parameters) (s .well-formed) (testsOf f))

@@ -4,10 +4,9 @@ use Prim.Native.Nat.{ℕ}
 use native.Mathlib.Decide.{ℕ-discrete}
 use native.Mathlib.Omega.{arith}
 use mathlib.Core.Path.{_≡_, ap, ap₂, sym, _∙_, subst}
-use mathlib.Core.List.{List, [], _∷_, _++_}
+use mathlib.Core.List.{List}
 use lib.ListN.{length}
-use Rattle.base.specs.Lists.{All, all-cons}
-use Rattle.base.proofs.All.{all-head}
+use Rattle.base.proofs.All.{first-unique}
 use Rattle.sheet.specs.Sheet.{Parameter}
 use Rattle.syntax.specs.Tree.{Test, Tree, testsOf}
 use Rattle.sirophan.specs.Answers.{Answer, count, refused}
@@ -31,16 +30,6 @@ is-count (count m) n = same (ℕ-discrete m n)
 pub numbered-unique : {ps : List Parameter} {t : Test} {n m : ℕ} → Numbered ps t n → Numbered ps t m → n ≡ m
 unfolding rank
 numbered-unique {n = n} {m = m} a b = omega (arith, a .lowest m (b .line), b .lowest n (a .line))
-
--- the first of a list that lacks a property is one
-first-unique : {A : Type 0} (P : A → Type 0) (b b′ : List A) (x x′ : A) (a a′ : List A) → b ++ (x ∷ a) ≡ b′ ++ (x′ ∷ a′)
-    → All P b → All P b′ → (P x → ⊥) → (P x′ → ⊥) → x ≡ x′
-first-unique P [] [] x x′ a a′ e p p′ n n′ = cc
-first-unique P [] (y ∷ b′) x x′ a a′ e p p′ n n′ = let z : y ≡ x = cc in absurd (n (subst P z (all-head P p′)))
-first-unique P (y ∷ b) [] x x′ a a′ e p p′ n n′ = let z : y ≡ x′ = cc in absurd (n′ (subst P z (all-head P p)))
-first-unique P (y ∷ b) (y′ ∷ b′) x x′ a a′ e (all-cons q p) (all-cons q′ p′) n n′ =
-    let z : b ++ (x ∷ a) ≡ b′ ++ (x′ ∷ a′) = cc in
-    first-unique P b b′ x x′ a a′ z p p′ n n′
 
 -- ---- the theorem
 

@@ -3,7 +3,7 @@
 use Prim.Native.Nat.{ℕ, _≤_, _<_}
 use native.Mathlib.Omega.{arith}
 use mathlib.Core.Path.{_≡_, refl, subst}
-use mathlib.Core.Bool.{true, false}
+use mathlib.Core.Bool.{false}
 use mathlib.Core.List.{List, []}
 use Rattle.base.specs.Operators.{pr}
 use Rattle.base.proofs.Tests.{both-ways, cond-elim}
@@ -19,13 +19,14 @@ use Rattle.kind.specs.Readable.{valueReadable}
 use Rattle.judge.specs.Sets.{lookup, valuesAt}
 use Rattle.judge.specs.Faults.{unsupported, kindFault, faultAt, testFault}
 use Rattle.judge.specs.declared.Fault.{Fault}
-use Rattle.sirophan.specs.Operations.{Step, found, stop, faultStep}
+use Rattle.sirophan.specs.Operations.{faultStep}
 use Rattle.sirophan.specs.Readable.{TrueOrFalse, ReadableValue, value-of-pr, value-of-kind}
-use Rattle.sirophan.specs.Meaning.{Conforms, Names, names, NotOnSheet, HasOperator, LacksMeaning, not-on-sheet, neither, lacks-operator, unreadable, Meaningful}
+use Rattle.sirophan.specs.Meaning.{Names, names, NotOnSheet, HasOperator, LacksMeaning, not-on-sheet, neither, lacks-operator, unreadable}
 use Rattle.sirophan.specs.Numbers.{rank, TestLine, line-14, line-15, line-16, line-17, Numbered}
 use Rattle.sirophan.proofs.Readable.{value-iff}
 use Rattle.sirophan.proofs.Meaning.{operator-iff, unsupported-lacks, names-iff, missing-iff}
 use Rattle.sirophan.proofs.Cards.{empty-conforms, one-entry, one-entry-conforms, one-entry-value}
+use Rattle.sirophan.proofs.Outcomes.{Judged, judged-unknown, judged-unsupported, judged-meaningless, judged-unreadable, judged-right, Refused, TestOutcome, test-means, test-refused}
 
 names-listed : {ps : List Parameter} {path : Path} {i k : ℕ} → Names ps path i k → (n : List ℕ) × Listed ps i (parameter k n)
 names-listed (names {n = n} l) = (n, l)
@@ -35,43 +36,22 @@ pr-readable : {kind k : ℕ} {v : List ℕ} → ReadableValue kind v k → k ≡
 pr-readable (value-of-pr h) e n = n h
 pr-readable (value-of-kind m h) e n = m e
 
--- the table gives the test the number n, and there is a conforming card on which it lacks a meaning
-pub record Refused (ps : List Parameter) (t : Test) (n : ℕ) : Type 0 where
-  pub table : Numbered ps t n
-  pub card : List ℕ
-  pub entries : List Entry
-  pub conforms : Conforms ps card entries
-  pub lacks : LacksMeaning ps entries t
-
--- what a test comes to, as a step of the operations
-pub data Outcome (ps : List Parameter) (t : Test) : Step (Unit {0}) → Type 0 where
-  means : Meaningful ps t → ((n : ℕ) → TestLine ps t n → ⊥) → Outcome ps t (found tt)
-  refuses : {n : ℕ} → Refused ps t n → Outcome ps t (stop n (t .at))
-
 module _ (ps : List Parameter) (w : WellFormedSheet ps) (t : Test) where
-  -- ---- a fault in the rules' words
+  -- ---- the fault
 
-  data Judged : Fault → Type 0 where
-    judged-unknown : NotOnSheet ps (t .path) → Judged Fault.UnknownName
-    judged-unsupported : {i k : ℕ} → Names ps (t .path) i k → unsupported (t .operator) ≡ true → Judged Fault.Unsupported
-    judged-meaningless : {i k : ℕ} → Names ps (t .path) i k → unsupported (t .operator) ≡ false → (HasOperator k (t .operator) → ⊥) → Judged Fault.NoMeaning
-    judged-unreadable : {i k : ℕ} → Names ps (t .path) i k → unsupported (t .operator) ≡ false → HasOperator k (t .operator)
-        → (ReadableValue k (t .value) (t .operator) → ⊥) → Judged Fault.Unreadable
-    judged-right : {i k : ℕ} → Names ps (t .path) i k → HasOperator k (t .operator) → ReadableValue k (t .value) (t .operator) → Judged Fault.Nothing
-
-  judged-at : (o : Found) → lookup ps (t .path) ≡ o → Judged (faultAt o (t .operator) (t .value))
+  judged-at : (o : Found) → lookup ps (t .path) ≡ o → Judged ps t (faultAt o (t .operator) (t .value))
   unfolding kindFault
   judged-at Found.Missing e = judged-unknown (missing-iff ps (w .names) (t .path) .0 e)
   judged-at (Found.At i k) e =
       let there = names-iff ps (w .names) (t .path) i k .0 e in
-      cond-elim Judged (unsupported (t .operator)) (judged-unsupported there)
-      (λ u. cond-elim Judged (hasMeaning (t .operator) k)
-      (λ m. cond-elim Judged (valueReadable (t .operator) k (t .value))
+      cond-elim (Judged ps t) (unsupported (t .operator)) (judged-unsupported there)
+      (λ u. cond-elim (Judged ps t) (hasMeaning (t .operator) k)
+      (λ m. cond-elim (Judged ps t) (valueReadable (t .operator) k (t .value))
       (λ r. judged-right there (operator-iff k (t .operator) .0 m) (value-iff k (t .value) (t .operator) .0 r))
       (λ n. judged-unreadable there u (operator-iff k (t .operator) .0 m) (λ r. both-ways (value-iff k (t .value) (t .operator) .1 r) n)))
       (λ n. judged-meaningless there u (λ h. both-ways (operator-iff k (t .operator) .1 h) n)))
 
-  judged : Judged (testFault ps t)
+  judged : Judged ps t (testFault ps t)
   unfolding testFault
   judged = judged-at (lookup ps (t .path)) refl
 
@@ -110,9 +90,9 @@ module _ (ps : List Parameter) (w : WellFormedSheet ps) (t : Test) where
         lacks = lacks es (one-entry-value ps w i p l);
       }
 
-  outcome-by : {fault : Fault} → Judged fault → Outcome ps t (faultStep fault (t .at))
+  outcome-by : {fault : Fault} → Judged ps t fault → TestOutcome ps t (faultStep fault (t .at))
   outcome-by (judged-unknown u) =
-      refuses
+      test-refused
       (record {
         table = record { line = line-14 u; lowest = lowest-from 14 (omega arith) (λ l. absurd (omega arith)) (λ l. absurd (omega arith)) (λ l. absurd (omega arith)) };
         card = encodeCard 0 [];
@@ -122,21 +102,21 @@ module _ (ps : List Parameter) (w : WellFormedSheet ps) (t : Test) where
       })
   outcome-by (judged-unsupported {i = i} {k = k} j u) =
       let lacking : HasOperator k (t .operator) → ⊥ = λ h. both-ways (operator-iff k (t .operator) .1 h) (unsupported-lacks k (t .operator) u) in
-      refuses
+      test-refused
       (refused-at i k j 15
       (record { line = line-15 u; lowest = lowest-from 15 (omega arith) (λ l n. n i k j) (λ l. absurd (omega arith)) (λ l. absurd (omega arith)) })
       (λ es v. lacks-operator j v lacking))
   outcome-by (judged-meaningless {i = i} {k = k} j u o) =
-      refuses
+      test-refused
       (refused-at i k j 16
       (record { line = line-16 j u o; lowest = lowest-from 16 (omega arith) (λ l n. n i k j) (λ l. u) (λ l. absurd (omega arith)) })
       (λ es v. lacks-operator j v o))
   outcome-by (judged-unreadable {i = i} {k = k} j u o r) =
-      refuses
+      test-refused
       (refused-at i k j 17
       (record { line = line-17 j r; lowest = lowest-from 17 (omega arith) (λ l n. n i k j) (λ l. u) (λ l i′ k′ j′. subst (λ (m : ℕ). HasOperator m (t .operator)) (same-kind j j′) o) })
       (λ es v. unreadable j v r))
-  outcome-by (judged-right {i = i} {k = k} j o r) = means (λ card es c. never es) no-line
+  outcome-by (judged-right {i = i} {k = k} j o r) = test-means (λ card es c. never es) no-line
     where
       has : {i′ k′ : ℕ} → Names ps (t .path) i′ k′ → HasOperator k′ (t .operator)
       has j′ = subst (λ (m : ℕ). HasOperator m (t .operator)) (same-kind j j′) o
@@ -156,5 +136,5 @@ module _ (ps : List Parameter) (w : WellFormedSheet ps) (t : Test) where
       no-line n (line-16 j′ u m) = m (has j′)
       no-line n (line-17 j′ m) = m (reads j′)
 
-  pub outcome : Outcome ps t (faultStep (testFault ps t) (t .at))
+  pub outcome : TestOutcome ps t (faultStep (testFault ps t) (t .at))
   outcome = outcome-by judged

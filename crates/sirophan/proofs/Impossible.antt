@@ -37,7 +37,8 @@ use Rattle.sirophan.specs.Meaning.{Meaningful}
 use Rattle.sirophan.specs.Demand.{RefusesAlike, Demand}
 use Rattle.sirophan.specs.Trial.{titleTest, codeTest}
 use Rattle.sirophan.proofs.Cards.{empty-conforms}
-use Rattle.sirophan.proofs.Faults.{Outcome, means, refuses, outcome}
+use Rattle.sirophan.proofs.Outcomes.{TestOutcome, test-means, test-refused}
+use Rattle.sirophan.proofs.Faults.{outcome}
 
 -- ---- the two filters
 
@@ -58,20 +59,20 @@ faults-found = (refl, refl)
 trial-well-formed : WellFormedSheet trialParameters
 trial-well-formed = sheet-reads-iff trialSheet trialParameters .0 trial-sheet-reads .0
 
-outcome-as : (t : Test) (fault : Fault) → testFault trialParameters t ≡ fault → Outcome trialParameters t (faultStep fault (t .at))
-outcome-as t fault e = subst (λ (k : Fault). Outcome trialParameters t (faultStep k (t .at))) e (outcome trialParameters trial-well-formed t)
+outcome-as : (t : Test) (fault : Fault) → testFault trialParameters t ≡ fault → TestOutcome trialParameters t (faultStep fault (t .at))
+outcome-as t fault e = subst (λ (k : Fault). TestOutcome trialParameters t (faultStep k (t .at))) e (outcome trialParameters trial-well-formed t)
 
 title-means : Meaningful trialParameters titleTest
 title-means = meaning (outcome-as titleTest Fault.Nothing (faults-found .0))
   where
-    meaning : Outcome trialParameters titleTest (found tt) → Meaningful trialParameters titleTest
-    meaning (means m _) = m
+    meaning : TestOutcome trialParameters titleTest (found tt) → Meaningful trialParameters titleTest
+    meaning (test-means m _) = m
 
 code-lacks : Meaningful trialParameters codeTest → ⊥
 code-lacks m = shown (outcome-as codeTest Fault.NoMeaning (faults-found .1))
   where
-    shown : Outcome trialParameters codeTest (stop 16 (codeTest .at)) → ⊥
-    shown (refuses r) = m (r .card) (r .entries) (r .conforms) (r .lacks)
+    shown : TestOutcome trialParameters codeTest (stop 16 (codeTest .at)) → ⊥
+    shown (test-refused r) = m (r .card) (r .entries) (r .conforms) (r .lacks)
 
 -- ---- what no check does, and no match
 

@@ -1,7 +1,8 @@
--- The laws that the code's proofs cite, and the proofs of the promises.
+-- The laws that the code's proofs cite, and the proofs of the promises; `Promises` has all the statements.
 pub mod Checking
 pub mod Judging
 pub mod Passing
+pub mod Outcomes
 pub mod Readable
 pub mod Meaning
 pub mod Cards
@@ -10,11 +11,13 @@ pub mod Prepare
 pub mod Demand
 pub mod Determinacy
 pub mod Impossible
-pub mod Trial
+pub mod Verdicts
 pub mod Runs
 pub mod Selection
-pub mod Deciding
 pub mod Blocks
+pub mod Deciding
 pub mod CheckTable
 pub mod MatchTable
 pub mod SelectTable
+pub mod Trial
+pub mod Promises

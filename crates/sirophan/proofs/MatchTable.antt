@@ -27,9 +27,9 @@ use Rattle.sirophan.specs.Numbers.{rank}
 use Rattle.sirophan.specs.Refusals.{group, Before, Decides, CheckLine, CardLine, line-21, line-22, line-23, OneCardLine, line-20-match, line-of-card, MatchLine}
 use Rattle.sirophan.proofs.Meaning.{entries-iff}
 use Rattle.sirophan.proofs.Cards.{conforms-reads, reads-conforms}
-use Rattle.sirophan.proofs.Blocks.{ReadsTo, size-wrong, sum-wrong, layout-wrong, all-right, card-reads-to}
-use Rattle.sirophan.proofs.Selection.{cardOf, Taken}
-use Rattle.sirophan.proofs.Deciding.{apart-at, later-group, no-lower-rank, Decided, none-holds, one-decides, decided-as, decided-then, decided-found, NotRefused, decided-answer}
+use Rattle.sirophan.proofs.Outcomes.{ReadsTo, size-wrong, sum-wrong, layout-wrong, all-right, cardOf, Taken, Decided, none-holds, one-decides, NotRefused}
+use Rattle.sirophan.proofs.Blocks.{card-reads-to}
+use Rattle.sirophan.proofs.Deciding.{apart-at, later-group, no-lower-rank, decided-as, decided-then, decided-found, decided-answer}
 use Rattle.sirophan.proofs.CheckTable.{sheet-parameters, check-group, Ready, prepare-decided}
 
 -- ---- one card

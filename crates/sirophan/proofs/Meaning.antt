@@ -65,10 +65,14 @@ asked-some : (how : Relation → Meaning) → ((r : Relation) → isMeaning (how
 asked-some how h (some r) = h r
 asked-some how h none = refl
 
--- no row has ne of its own
-ne-not-in-row : (kind : ℕ) → isSome (relationIn (row kind) ne) ≡ false
+-- no row has ne or pr of its own
+pub ne-not-in-row : (kind : ℕ) → relationIn (row kind) ne ≡ none
 unfolding relationIn stringRow numberRow dateRow tokenRow referenceRow
-ne-not-in-row = by-row (λ us. isSome (relationIn us ne) ≡ false) refl refl refl refl refl refl
+ne-not-in-row = by-row (λ us. relationIn us ne ≡ none) refl refl refl refl refl refl
+
+pub pr-not-in-row : (kind : ℕ) → relationIn (row kind) pr ≡ none
+unfolding relationIn stringRow numberRow dateRow tokenRow referenceRow
+pr-not-in-row = by-row (λ us. relationIn us pr ≡ none) refl refl refl refl refl refl
 
 module _ (kind : ℕ) where
   operator-there : (k : ℕ) → hasMeaning k kind ≡ true → HasOperator kind k
@@ -88,7 +92,7 @@ module _ (kind : ℕ) where
       let some-relation : isSome (relationIn (row kind) k) ≡ true = row-back (w .1) in
       cond-elim (λ (m : Meaning). isMeaning m ≡ true) (eqb k pr) (λ _. refl)
       (λ _. cond-elim (λ (m : Meaning). isMeaning m ≡ true) (eqb k ne)
-      (λ e. both-ways some-relation (ap (λ (o : ℕ). isSome (relationIn (row kind) o)) (eqb-true k ne e) ∙ ne-not-in-row kind))
+      (λ e. both-ways some-relation (ap (λ (o : ℕ). isSome (relationIn (row kind) o)) (eqb-true k ne e) ∙ ap isSome (ne-not-in-row kind)))
       (λ _. asked-some Meaning.Relates (λ r. refl) (relationIn (row kind) k) ∙ some-relation))
 
   pub operator-iff : (k : ℕ) → (hasMeaning k kind ≡ true) ↔ HasOperator kind k

@@ -5,11 +5,11 @@ use native.Mathlib.Omega.{arith}
 use mathlib.Core.Path.{_≡_, refl, ap}
 use mathlib.Core.Bool.{_||_}
 use mathlib.Core.Option.{Option, none, some}
-use mathlib.Core.List.{List, [], _∷_, _++_}
+use mathlib.Core.List.{List, [], _∷_}
 use lib.Dec.{eqb, ltb}
 use lib.ListN.{length}
 use borrow.Author.Tests.{ne-eqb, le-ltb}
-use Rattle.base.specs.Lists.{All, all-empty, all-cons}
+use Rattle.base.specs.Lists.{all-empty, all-cons}
 use Rattle.base.proofs.Tests.{cond-elim}
 use Rattle.block.specs.declared.Reading.{Reading}
 use Rattle.sheet.specs.Sheet.{Parameter, parametersOf, readSheet}
@@ -25,8 +25,8 @@ use Rattle.judge.specs.declared.FirstFault.{FirstFault}
 use Rattle.judge.specs.Verdicts.{filterSays}
 use Rattle.sirophan.specs.Answers.{yesOrNo, count}
 use Rattle.sirophan.specs.Operations.{Step, found, stop, _>>=_, sheetStep, takeSheet, treeStep, takeFilter, faultStep, testsStep, Prepared, prepare, answer, takeCard, checkAnswer, matchAnswer}
-use Rattle.sirophan.specs.Meaning.{Meaningful}
-use Rattle.sirophan.proofs.Faults.{Refused, Outcome, means, refuses, outcome}
+use Rattle.sirophan.proofs.Outcomes.{TestOutcome, test-means, test-refused, TestsOutcome, all-mean, one-refused, AtMost, found-at-most, stop-at-most}
+use Rattle.sirophan.proofs.Faults.{outcome}
 
 -- ---- tests
 
@@ -45,20 +45,14 @@ module _ (ps : List Parameter) where
   unfolding testsStep firstFault
   tests-next t ts = step-or-else (testFault ps t) (t .at) (firstFault ps ts)
 
-  -- what the tests come to: each has a meaning on every conforming card, or one is the first that is refused
-  pub data Scan (ts : List Test) : Step (Unit {0}) → Type 0 where
-    all-mean : All (Meaningful ps) ts → Scan ts (found tt)
-    one-refused : (before : List Test) (t : Test) (after : List Test) (n : ℕ) → ts ≡ before ++ (t ∷ after) → All (Meaningful ps) before → Refused ps t n
-        → Scan ts (stop n (t .at))
+  outcome-next : {t : Test} {ts : List Test} {first rest : Step (Unit {0})} → TestOutcome ps t first → TestsOutcome ps ts rest → TestsOutcome ps (t ∷ ts) (first >>= λ u. rest)
+  outcome-next {t = t} {ts = ts} (test-refused {n = n} r) s = one-refused [] t ts n refl all-empty r
+  outcome-next (test-means m _) (all-mean ms) = all-mean (all-cons m ms)
+  outcome-next {t = t} (test-means m _) (one-refused before u after n e ms r) = one-refused (t ∷ before) u after n (ap (λ (l : List Test). t ∷ l) e) (all-cons m ms) r
 
-  scan-next : {t : Test} {ts : List Test} {first rest : Step (Unit {0})} → Outcome ps t first → Scan ts rest → Scan (t ∷ ts) (first >>= λ u. rest)
-  scan-next {t = t} {ts = ts} (refuses {n = n} r) s = one-refused [] t ts n refl all-empty r
-  scan-next (means m _) (all-mean ms) = all-mean (all-cons m ms)
-  scan-next {t = t} (means m _) (one-refused before u after n e ms r) = one-refused (t ∷ before) u after n (ap (λ (l : List Test). t ∷ l) e) (all-cons m ms) r
-
-  pub scan : WellFormedSheet ps → (ts : List Test) → Scan ts (testsStep ps ts)
-  scan w [] = unfold testsStep firstFault in all-mean all-empty
-  scan w (t ∷ ts) = rw (tests-next t ts) (scan-next (outcome ps w t) (scan w ts))
+  pub tests-outcome : WellFormedSheet ps → (ts : List Test) → TestsOutcome ps ts (testsStep ps ts)
+  tests-outcome w [] = unfold testsStep firstFault in all-mean all-empty
+  tests-outcome w (t ∷ ts) = rw (tests-next t ts) (outcome-next (outcome ps w t) (tests-outcome w ts))
 
 -- ---- check and match, by what is prepared
 
@@ -95,11 +89,6 @@ unfolding prepare
 prepared sheet text s f short spells = rw (sheet-taken sheet s, filter-taken text f short spells)
 
 -- ---- the numbers of these refusals
-
--- a step found something, or was refused with a number of at most `most`
-data AtMost {A : Type 0} (most : ℕ) : Step A → Type 0 where
-  found-at-most : {x : A} → AtMost most (found x)
-  stop-at-most : (n p : ℕ) → n ≤ most → AtMost most (stop n p)
 
 at-most-then : {A B : Type 0} {most : ℕ} {s : Step A} {next : A → Step B} → AtMost most s → ((x : A) → AtMost most (next x)) → AtMost most (s >>= next)
 at-most-then (found-at-most {x = x}) h = h x

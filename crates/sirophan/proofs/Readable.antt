@@ -95,11 +95,11 @@ word-iff : (w v : List ℕ) → foldText w ≡ w → (same v w ≡ true) ↔ (fo
 word-iff w v e = ((λ h. same-reads v w .0 h ∙ e), (λ h. same-reads v w .1 (h ∙ sym e)))
 
 module _ (v : List ℕ) where
-  true-iff : (isTrue v ≡ true) ↔ (foldText v ≡ ascii "true")
+  pub true-iff : (isTrue v ≡ true) ↔ (foldText v ≡ ascii "true")
   unfolding isTrue foldText foldByte
   true-iff = word-iff (ascii "true") v refl
 
-  false-iff : (isFalse v ≡ true) ↔ (foldText v ≡ ascii "false")
+  pub false-iff : (isFalse v ≡ true) ↔ (foldText v ≡ ascii "false")
   unfolding isFalse foldText foldByte
   false-iff = word-iff (ascii "false") v refl
 

@@ -11,7 +11,7 @@ use lib.ListN.{length, length-append, length-map}
 use borrow.Author.Tests.{leb-true, leb-false}
 use Rattle.base.specs.Bytes.{Byte, Bytes}
 use Rattle.base.specs.Lists.{All, all-empty, all-cons}
-use Rattle.base.proofs.All.{all-right}
+use Rattle.base.proofs.All.{all-left, all-right}
 use Rattle.base.proofs.Tests.{cond-elim}
 use Rattle.sheet.specs.Sheet.{Parameter}
 use Rattle.sheet.specs.Encode.{SheetBlock}
@@ -21,9 +21,10 @@ use Rattle.sirophan.specs.Operations.{found, stop, _>>=_, Prepared, prep
 use Rattle.sirophan.specs.Numbers.{rank}
 use Rattle.sirophan.specs.Selection.{Run, CardAt, matchingCards}
 use Rattle.sirophan.specs.Refusals.{group, Before, Decides, CheckLine, CardLine, RunLine, line-20-select, CardsLine, line-of-card-at, RoomLine, line-30, SelectLine}
+use Rattle.sirophan.proofs.Outcomes.{cardOf, Taken, Decided, none-holds, one-decides}
 use Rattle.sirophan.proofs.Runs.{run-iff, run-or-none}
-use Rattle.sirophan.proofs.Selection.{cardOf, Taken, matching-numbers}
-use Rattle.sirophan.proofs.Deciding.{apart-at, later-place, no-lower-rank, Decided, none-holds, one-decides, decided-as, decided-then, decided-found, decided-answer}
+use Rattle.sirophan.proofs.Selection.{matching-numbers}
+use Rattle.sirophan.proofs.Deciding.{apart-at, later-place, no-lower-rank, decided-as, decided-then, decided-found, decided-answer}
 use Rattle.sirophan.proofs.CheckTable.{check-group, prepare-decided}
 use Rattle.sirophan.proofs.MatchTable.{card-group, LineAt, card-decided}
 
@@ -115,10 +116,6 @@ module _ (sheet : List ℕ) (s : SheetBlock sheet) where
         (i, b, subst (λ (cs : List (List ℕ)). CardAt cs i b) (run-unique run′ run) a, l, omega arith)
 
 -- the cards of a run of bytes are bytes
-all-left : {A : Type 0} (P : A → Type 0) (xs ys : List A) → All P (xs ++ ys) → All P xs
-all-left P [] ys h = all-empty
-all-left P (x ∷ xs) ys (all-cons p h) = all-cons p (all-left P xs ys h)
-
 flatten-bytes : (bs : List (List ℕ)) → Bytes (flatten bs) → All Bytes bs
 unfolding flatten
 flatten-bytes [] h = all-empty

@@ -1,17 +1,18 @@
 -- A selection goes by match: it writes the numbers of the cards on which match answers yes, and refuses the first card that match refuses.
 -- Assumes nothing.
-use Prim.Native.Nat.{ℕ, suc, _+_, _≤_, _<_}
+use Prim.Native.Nat.{ℕ, suc, _≤_, _<_}
 use native.Mathlib.Decide.{ℕ-discrete}
 use native.Mathlib.Omega.{arith}
 use mathlib.Core.Path.{_≡_, refl, ap, sym, _∙_, subst}
 use mathlib.Core.Bool.{Bool, true, false, cond}
-use mathlib.Core.Logic.{_⊎_, inl, inr, ⊎-elim, ite}
+use mathlib.Core.Logic.{_⊎_, inl, inr, ⊎-elim}
 use mathlib.Core.List.{List, [], _∷_, _++_, map, filter}
 use lib.Dec.{leb}
 use lib.ListN.{length, drop, length-map}
 use borrow.Author.Tests.{leb-false}
 use Rattle.base.specs.Lists.{All, all-empty, all-cons}
 use Rattle.base.proofs.All.{all-map}
+use Rattle.base.proofs.Lists.{filter-map}
 use Rattle.base.proofs.Tests.{cond-elim}
 use Rattle.block.specs.declared.Reading.{Reading}
 use Rattle.sheet.specs.Sheet.{Parameter}
@@ -22,22 +23,13 @@ use Rattle.judge.specs.Verdicts.{filterSays}
 use Rattle.sirophan.specs.Answers.{yesOrNo, count, refused}
 use Rattle.sirophan.specs.Operations.{Step, found, stop, _>>=_, answer, Prepared, prepare, Card, cardStep, takeCard, takeRun, takeCards, matching, takeRoom, selection, matchAnswer, selectAnswer, written, selectCells}
 use Rattle.sirophan.specs.Selection.{Run, isYes, matchingCards, matchingNumbers, occurrences, bearing, RefusesCard, SelectsByMatch}
+use Rattle.sirophan.proofs.Outcomes.{cardOf, Taken, Stopped, CardsOutcome, all-taken, one-stopped, SelectionOutcome, not-prepared, card-refused, no-room, numbers-found}
 use Rattle.sirophan.proofs.Prepare.{match-by, prepare-number}
 use Rattle.sirophan.proofs.Runs.{run-iff}
 
 -- ---- a card, at whatever index
 
--- the number and the entries of a block's card
-abbrev pub cardOf : List ℕ → Card
-cardOf b = record { number = recordNumber b; entries = entriesOf b }
-
 module _ (ps : List Parameter) where
-  abbrev pub Taken : List ℕ → Type 0
-  Taken b = (i : ℕ) → takeCard ps i b ≡ found (cardOf b)
-
-  abbrev pub Stopped : ℕ → List ℕ → Type 0
-  Stopped n b = (i : ℕ) → takeCard ps i b ≡ stop n i
-
   card-steps : (r : Reading) (fits : Bool) (c : Card) → ((i : ℕ) → cardStep r fits c i ≡ found c) ⊎ ((n : ℕ) × (n ≤ 23) × ((i : ℕ) → cardStep r fits c i ≡ stop n i))
   card-steps Reading.WrongSize fits c = inr (20, omega arith, λ i. refl)
   card-steps Reading.WrongSum fits c = inr (21, omega arith, λ i. refl)
@@ -46,29 +38,23 @@ module _ (ps : List Parameter) where
   card-steps Reading.WellFormed false c = inr (23, omega arith, λ i. refl)
 
   -- a card is taken, or refused with one number
-  pub taken-or-stopped : (b : List ℕ) → Taken b ⊎ ((n : ℕ) × (n ≤ 23) × Stopped n b)
+  pub taken-or-stopped : (b : List ℕ) → Taken ps b ⊎ ((n : ℕ) × (n ≤ 23) × Stopped ps n b)
   unfolding takeCard
   taken-or-stopped b = card-steps (readCard b) (conforms ps (entriesOf b)) (cardOf b)
 
   -- ---- the cards of a run
 
-  -- each is taken, or one is the first that is refused
-  pub data CardsScan (i : ℕ) (bs : List (List ℕ)) : Step (List Card) → Type 0 where
-    all-taken : All Taken bs → CardsScan i bs (found (map cardOf bs))
-    one-stopped : (before : List (List ℕ)) (b : List ℕ) (after : List (List ℕ)) (n j : ℕ) → bs ≡ before ++ (b ∷ after) → j ≡ i + length before → All Taken before
-        → n ≤ 23 → Stopped n b → CardsScan i bs (stop n j)
-
-  cards-next : {i : ℕ} {b : List ℕ} {bs : List (List ℕ)} {rest : Step (List Card)} → Taken b → CardsScan (suc i) bs rest
-      → CardsScan i (b ∷ bs) (rest >>= λ cs. found (cardOf b ∷ cs))
+  cards-next : {i : ℕ} {b : List ℕ} {bs : List (List ℕ)} {rest : Step (List Card)} → Taken ps b → CardsOutcome ps (suc i) bs rest
+      → CardsOutcome ps i (b ∷ bs) (rest >>= λ cs. found (cardOf b ∷ cs))
   cards-next t (all-taken ts) = all-taken (all-cons t ts)
   cards-next {i = i} {b = b} t (one-stopped before c after n j e k ts m s) =
       one-stopped (b ∷ before) c after n j (ap (λ (l : List (List ℕ)). b ∷ l) e) (omega arith) (all-cons t ts) m s
 
-  pub cards-scan : (i : ℕ) (bs : List (List ℕ)) → CardsScan i bs (takeCards ps i bs)
+  pub cards-outcome : (i : ℕ) (bs : List (List ℕ)) → CardsOutcome ps i bs (takeCards ps i bs)
   unfolding takeCards
-  cards-scan i [] = all-taken all-empty
-  cards-scan i (b ∷ bs) =
-      let rest = cards-scan (suc i) bs in
+  cards-outcome i [] = all-taken all-empty
+  cards-outcome i (b ∷ bs) =
+      let rest = cards-outcome (suc i) bs in
       ⊎-elim
       (λ t. rw (t i) (cards-next t rest))
       (λ s. rw (s .2 i) (one-stopped [] b bs (s .0) i refl (omega arith) all-empty (s .1) (s .2)))
@@ -111,25 +97,18 @@ module _ (sheet text : List ℕ) (p : Prepared) (e : prepare sheet text ≡ foun
 
 -- ---- a selection from a run
 
--- what a selection comes to, for a list of `room` cells
-data Selected (sheet text : List ℕ) (bs : List (List ℕ)) (room : ℕ) : Step (List ℕ) → Type 0 where
-  not-prepared : (n i : ℕ) → n ≤ 17 → Selected sheet text bs room (stop n i)
-  card-refused : (n i : ℕ) → n ≤ 23 → RefusesCard sheet text bs n i → Selected sheet text bs room (stop n i)
-  no-room : (i : ℕ) → i ≡ length (matchingCards sheet text bs) → room < i → Selected sheet text bs room (stop 30 i)
-  numbers-found : Selected sheet text bs room (found (matchingNumbers sheet text bs))
-
 module _ (sheet text : List ℕ) (bs : List (List ℕ)) (room : ℕ) where
   -- the matches fit into the list, or they do not
-  selected-room : (numbers : List ℕ) → numbers ≡ matchingNumbers sheet text bs → Selected sheet text bs room (takeRoom room numbers)
+  selected-room : (numbers : List ℕ) → numbers ≡ matchingNumbers sheet text bs → SelectionOutcome sheet text bs room (takeRoom room numbers)
   unfolding takeRoom
   selected-room numbers e =
       let few : length numbers ≡ length (matchingCards sheet text bs) = ap length e ∙ length-map (matchingCards sheet text bs) recordNumber in
-      cond-elim (Selected sheet text bs room) (leb (length numbers) room)
-      (λ _. subst (λ (ns : List ℕ). Selected sheet text bs room (found ns)) (sym e) numbers-found)
+      cond-elim (SelectionOutcome sheet text bs room) (leb (length numbers) room)
+      (λ _. subst (λ (ns : List ℕ). SelectionOutcome sheet text bs room (found ns)) (sym e) numbers-found)
       (λ h. no-room (length numbers) few (leb-false (length numbers) room h))
 
   module _ (p : Prepared) (e : prepare sheet text ≡ found p) where
-    selected-cards : {cards : Step (List Card)} → CardsScan (p .parameters) 0 bs cards → Selected sheet text bs room (cards >>= λ cs. takeRoom room (matching (p .parameters) (p .filter) cs))
+    selected-cards : {cards : Step (List Card)} → CardsOutcome (p .parameters) 0 bs cards → SelectionOutcome sheet text bs room (cards >>= λ cs. takeRoom room (matching (p .parameters) (p .filter) cs))
     selected-cards (all-taken ts) = selected-room (matching (p .parameters) (p .filter) (map cardOf bs)) (matching-numbers sheet text p e ts)
     selected-cards (one-stopped before b after n j split k ts m s) =
         card-refused n j m
@@ -140,18 +119,18 @@ module _ (sheet text : List ℕ) (bs : List (List ℕ)) (room : ℕ) where
           earlier = all-map (taken-not-refused sheet text p e) ts;
         })
 
-  selected : (cards : List ℕ) → Run cards bs → Selected sheet text bs room (selection sheet text cards room)
+  selected : (cards : List ℕ) → Run cards bs → SelectionOutcome sheet text bs room (selection sheet text cards room)
   unfolding selection
   selected cards run = by-prepare (prepare sheet text) refl
     where
       by-prepare : (r : Step Prepared) → prepare sheet text ≡ r
-          → Selected sheet text bs room (r >>= λ p. takeRun cards >>= λ cs. takeCards (p .parameters) 0 cs >>= λ ds. takeRoom room (matching (p .parameters) (p .filter) ds))
+          → SelectionOutcome sheet text bs room (r >>= λ p. takeRun cards >>= λ cs. takeCards (p .parameters) 0 cs >>= λ ds. takeRoom room (matching (p .parameters) (p .filter) ds))
       by-prepare (stop n i) e = not-prepared n i (prepare-number sheet text n i e)
-      by-prepare (found p) e = rw (run-iff cards bs .1 run) (selected-cards p e (cards-scan (p .parameters) 0 bs))
+      by-prepare (found p) e = rw (run-iff cards bs .1 run) (selected-cards p e (cards-outcome (p .parameters) 0 bs))
 
--- ---- the theorem
+-- ---- the theorems
 
-module _ (sheet text cards list : List ℕ) (bs : List (List ℕ)) where
+module _ (sheet text cards list : List ℕ) where
   module _ (s : Step (List ℕ)) (e : selection sheet text cards (length list) ≡ s) where
     answer-by : selectAnswer sheet text cards (length list) ≡ answer (s >>= λ ns. found (count (length ns)))
     unfolding selectAnswer
@@ -161,57 +140,53 @@ module _ (sheet text cards list : List ℕ) (bs : List (List ℕ)) where
     unfolding selectCells
     cells-by = rw e
 
-  by-refusal : (n i : ℕ) → selection sheet text cards (length list) ≡ stop n i → (21 ≤ n → n ≤ 23 → RefusesCard sheet text bs n i)
-      → (n ≡ 30 → (i ≡ length (matchingCards sheet text bs)) × (length list < i)) → SelectsByMatch sheet text cards list bs
-  by-refusal n i e card room =
-      let refusal : selectAnswer sheet text cards (length list) ≡ refused n i = answer-by (stop n i) e in
-      record {
-        counts = λ m h. absurd (let z : _≡_ {A = ℕ} 0 1 = cc in omega arith);
-        writes = λ m h. absurd (let z : _≡_ {A = ℕ} 0 1 = cc in omega arith);
-        refuses = λ m j h low high.
-            let number : n ≡ m = cc in
-            let place : i ≡ j = cc in
-            rw (← number, ← place) (card (omega arith) (omega arith));
-        lacks-room = λ j h.
-            let number : n ≡ 30 = cc in
-            let place : i ≡ j = cc in
-            rw (← place) (room number);
-        keeps = λ m j h. cells-by (stop n i) e;
-      }
+  -- "no refusal writes to a list"
+  pub refusal-keeps : (n i : ℕ) → selectAnswer sheet text cards (length list) ≡ refused n i → selectCells sheet text cards list ≡ list
+  refusal-keeps n i h = by-step (selection sheet text cards (length list)) refl
+    where
+      by-step : (s : Step (List ℕ)) → selection sheet text cards (length list) ≡ s → selectCells sheet text cards list ≡ list
+      by-step (stop m j) e = cells-by (stop m j) e
+      by-step (found ns) e = absurd (let a = answer-by (found ns) e in let z : _≡_ {A = ℕ} 0 1 = cc in omega arith)
 
-  by-numbers : selection sheet text cards (length list) ≡ found (matchingNumbers sheet text bs) → SelectsByMatch sheet text cards list bs
-  by-numbers e =
-      let ns = matchingNumbers sheet text bs in
-      let counted : selectAnswer sheet text cards (length list) ≡ count (length ns) = answer-by (found ns) e in
-      record {
-        counts = λ m h. let same : m ≡ length ns = cc in same ∙ length-map (matchingCards sheet text bs) recordNumber;
-        writes = λ m h. let same : length ns ≡ m = cc in cells-by (found ns) e ∙ ap (λ (k : ℕ). ns ++ drop k list) same;
-        refuses = λ m j h. absurd (let z : _≡_ {A = ℕ} 0 1 = cc in omega arith);
-        lacks-room = λ j h. absurd (let z : _≡_ {A = ℕ} 0 1 = cc in omega arith);
-        keeps = λ m j h. absurd (let z : _≡_ {A = ℕ} 0 1 = cc in omega arith);
-      }
+  module _ (bs : List (List ℕ)) where
+    by-refusal : (n i : ℕ) → selection sheet text cards (length list) ≡ stop n i → (21 ≤ n → n ≤ 23 → RefusesCard sheet text bs n i)
+        → (n ≡ 30 → (i ≡ length (matchingCards sheet text bs)) × (length list < i)) → SelectsByMatch sheet text cards list bs
+    by-refusal n i e card room =
+        let refusal : selectAnswer sheet text cards (length list) ≡ refused n i = answer-by (stop n i) e in
+        record {
+          counts = λ m h. absurd (let z : _≡_ {A = ℕ} 0 1 = cc in omega arith);
+          writes = λ m h. absurd (let z : _≡_ {A = ℕ} 0 1 = cc in omega arith);
+          refuses = λ m j h low high.
+              let number : n ≡ m = cc in
+              let place : i ≡ j = cc in
+              rw (← number, ← place) (card (omega arith) (omega arith));
+          lacks-room = λ j h.
+              let number : n ≡ 30 = cc in
+              let place : i ≡ j = cc in
+              rw (← place) (room number);
+        }
 
-  by-selection : {s : Step (List ℕ)} → selection sheet text cards (length list) ≡ s → Selected sheet text bs (length list) s → SelectsByMatch sheet text cards list bs
-  by-selection e (not-prepared n i l) = by-refusal n i e (λ low high. absurd (omega arith)) (λ h. absurd (omega arith))
-  by-selection e (card-refused n i l r) = by-refusal n i e (λ low high. r) (λ h. absurd (omega arith))
-  by-selection e (no-room i k l) = by-refusal 30 i e (λ low high. absurd (omega arith)) (λ h. (k, l))
-  by-selection e numbers-found = by-numbers e
+    by-numbers : selection sheet text cards (length list) ≡ found (matchingNumbers sheet text bs) → SelectsByMatch sheet text cards list bs
+    by-numbers e =
+        let ns = matchingNumbers sheet text bs in
+        let counted : selectAnswer sheet text cards (length list) ≡ count (length ns) = answer-by (found ns) e in
+        record {
+          counts = λ m h. let same : m ≡ length ns = cc in same ∙ length-map (matchingCards sheet text bs) recordNumber;
+          writes = λ m h. let same : length ns ≡ m = cc in cells-by (found ns) e ∙ ap (λ (k : ℕ). ns ++ drop k list) same;
+          refuses = λ m j h. absurd (let z : _≡_ {A = ℕ} 0 1 = cc in omega arith);
+          lacks-room = λ j h. absurd (let z : _≡_ {A = ℕ} 0 1 = cc in omega arith);
+        }
 
-  pub selects-by-match : Run cards bs → SelectsByMatch sheet text cards list bs
-  selects-by-match run = by-selection refl (selected sheet text bs (length list) cards run)
+    by-selection : {s : Step (List ℕ)} → selection sheet text cards (length list) ≡ s → SelectionOutcome sheet text bs (length list) s → SelectsByMatch sheet text cards list bs
+    by-selection e (not-prepared n i l) = by-refusal n i e (λ low high. absurd (omega arith)) (λ h. absurd (omega arith))
+    by-selection e (card-refused n i l r) = by-refusal n i e (λ low high. r) (λ h. absurd (omega arith))
+    by-selection e (no-room i k l) = by-refusal 30 i e (λ low high. absurd (omega arith)) (λ h. (k, l))
+    by-selection e numbers-found = by-numbers e
+
+    pub selects-by-match : Run cards bs → SelectsByMatch sheet text cards list bs
+    selects-by-match run = by-selection refl (selected sheet text bs (length list) cards run)
 
 -- ---- record numbers
-
-module _ {A B : Type 0} {P : B → Type 0} (d : (y : B) → Dec (P y)) (f : A → B) where
-  filter-next : (x : A) (ys : List B) (xs : List A) → length ys ≡ length xs → (c : Dec (P (f x)))
-      → length (ite {C = List B} c (f x ∷ ys) ys) ≡ length (ite {C = List A} c (x ∷ xs) xs)
-  filter-next x ys xs e (yes p) = ap suc e
-  filter-next x ys xs e (no n) = e
-
-  -- as many pass before a map as after it
-  filter-map : (xs : List A) → length (filter d (map f xs)) ≡ length (filter (λ x. d (f x)) xs)
-  filter-map [] = refl
-  filter-map (x ∷ xs) = filter-next x (filter d (map f xs)) (filter (λ x. d (f x)) xs) (filter-map xs) (d (f x))
 
 -- a record number stands among those of the matches as often as matching cards bear it
 pub matching-occurrences : (sheet text : List ℕ) (bs : List (List ℕ)) (x : ℕ) → occurrences x (matchingNumbers sheet text bs) ≡ length (bearing x (matchingCards sheet text bs))

@@ -1,14 +1,15 @@
 -- Document 01's trial card: match gives what the table says, over the bytes of the trial sheet and of card 7.
 -- Assumes nothing.
 use mathlib.Core.Path.{_≡_, refl}
-use mathlib.Core.List.{List, [], _∷_, map, head-eq-of-cons-eq, tail-eq-of-cons-eq}
-use Rattle.base.specs.Lists.{All, all-empty, all-cons, every, equal, member}
+use mathlib.Core.List.{List, map}
+use Rattle.base.specs.Lists.{All, every, equal, member}
 use Rattle.base.specs.Affixes.{hasPrefix, hasInfix}
 use Rattle.base.specs.Digits.{isDigit}
 use Rattle.base.specs.Names as names
 use Rattle.base.specs.Names.{isLetter, isNameStart, isNamePart, isReserved, isName}
 use Rattle.base.specs.Operators.{operatorWords}
 use Rattle.base.specs.Runs.{run, runEnd}
+use Rattle.base.proofs.All.{all-same}
 use Rattle.text.specs.Fold.{foldByte, foldText}
 use Rattle.text.specs.Compare as texts
 use Rattle.text.specs.Bar.{firstBar}
@@ -46,11 +47,6 @@ use Rattle.judge.specs.Verdicts.{someValue, isEmpty, saysOf, testSays, evaluate
 use Rattle.sirophan.specs.Answers.{Answer}
 use Rattle.sirophan.specs.Operations.{takeSheet, takeFilter, testsStep, prepare, takeCard, matchAnswer}
 use Rattle.sirophan.specs.Trial.{Row, trialRows}
-
--- two functions that agree on a list agree on each element
-all-same : {A B : Type 0} (f g : A → B) (xs : List A) → map f xs ≡ map g xs → All (λ (x : A). f x ≡ g x) xs
-all-same f g [] e = all-empty
-all-same f g (x ∷ xs) e = all-cons (head-eq-of-cons-eq e) (all-same f g xs (tail-eq-of-cons-eq e))
 
 -- what match gives for each row of a table, on the trial sheet and card 7
 abbrev given : List Row → List Answer

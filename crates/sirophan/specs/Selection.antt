@@ -66,5 +66,3 @@ pub record SelectsByMatch (sheet text cards list : List ℕ) (bs : List (List �
   -- 30: "list shorter than the matches", and the place is their number
   pub lacks-room : (i : ℕ) → selectAnswer sheet text cards (length list) ≡ refused 30 i
       → (i ≡ length (matchingCards sheet text bs)) × (length list < i)
-  -- "no refusal writes to a list"
-  pub keeps : (n i : ℕ) → selectAnswer sheet text cards (length list) ≡ refused n i → selectCells sheet text cards list ≡ list

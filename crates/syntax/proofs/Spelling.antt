@@ -3,10 +3,10 @@
 use Prim.Native.Nat.{ℕ, _+_, _≤_}
 use native.Mathlib.Nat.{le-refl}
 use native.Mathlib.Omega.{arith}
-use mathlib.Core.Path.{_≡_}
-use mathlib.Core.Logic.{_↔_}
+use mathlib.Core.Path.{_≡_, ap}
+use mathlib.Core.Logic.{_↔_, ⊎-elim}
 use mathlib.Core.Option.{some}
-use mathlib.Core.List.{List, [], _∷_, _++_}
+use mathlib.Core.List.{List, [], _∷_, _++_, List·Memᴰ, List·Memᴰ·cases-cons, List·Memᴰ·not-nil}
 use lib.ListN.{length}
 use Rattle.syntax.specs.Tree.{name, Test, Tree, testsOf, Rising, rising-end, rising-next}
 use Rattle.syntax.specs.Grammar.{TestAt, a-test, Item, item-test, item-bracket, item-not, Filter, one-item, one-more, Spells}
@@ -69,6 +69,12 @@ pub tests-rise : (xs : List ℕ) (f : Tree) → Spells xs f → Rising 0 (length
 tests-rise xs f s =
     let low : 0 ≤ s .from = omega arith in
     rising-lower low (rising-longer (filter-rise (s .filter) .1) (filter-rising (s .filter)))
+
+-- no test begins before the first position
+pub rising-member : {p q : ℕ} {t : Test} {ts : List Test} → Rising p q ts → List·Memᴰ t ts → p ≤ t .at
+rising-member (rising-end h) m = absurd (List·Memᴰ·not-nil m)
+rising-member {p = p} {t = t} (rising-next {t = u} {ts = ts} h r) m =
+    ⊎-elim (λ e. let same : t .at ≡ u .at = ap (λ (x : Test). x .at) e in omega arith) (λ k. let l = rising-member r k in omega arith) (List·Memᴰ·cases-cons m)
 
 -- so there are fewer tests than bytes
 rising-count : {p q : ℕ} {ts : List Test} → Rising p q ts → p + length ts ≤ q

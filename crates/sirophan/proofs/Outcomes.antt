@@ -1,0 +1,116 @@
+-- How the steps of the operations come out, in the rules' words: the cases that the proofs go by.
+-- Assumes nothing.
+use Prim.Native.Nat.{ℕ, _+_, _≤_, _<_}
+use mathlib.Core.Path.{_≡_}
+use mathlib.Core.Bool.{true, false}
+use mathlib.Core.Option.{some}
+use mathlib.Core.List.{List, _∷_, _++_, map}
+use lib.ListN.{length}
+use Rattle.base.specs.Lists.{All}
+use Rattle.base.specs.Operators.{eq, ne, pr}
+use Rattle.block.specs.Words.{word}
+use Rattle.block.specs.Sum.{checkSum}
+use Rattle.block.specs.declared.Reading.{Reading}
+use Rattle.sheet.specs.Sheet.{Parameter}
+use Rattle.card.specs.Card.{Entry, recordNumber, entriesOf}
+use Rattle.syntax.specs.Tree.{Test}
+use Rattle.kind.specs.Table.{row, relationIn}
+use Rattle.kind.specs.declared.Meaning.{Meaning}
+use Rattle.kind.specs.declared.Relation.{Relation}
+use Rattle.judge.specs.Faults.{unsupported}
+use Rattle.judge.specs.declared.Fault.{Fault}
+use Rattle.sirophan.specs.Answers.{Answer, refused}
+use Rattle.sirophan.specs.Operations.{Step, found, stop, Card, takeCard}
+use Rattle.sirophan.specs.Readable.{ReadableValue}
+use Rattle.sirophan.specs.Meaning.{Conforms, Names, NotOnSheet, HasOperator, LacksMeaning, Meaningful}
+use Rattle.sirophan.specs.Numbers.{TestLine, Numbered}
+use Rattle.sirophan.specs.Selection.{matchingCards, matchingNumbers, RefusesCard}
+use Rattle.sirophan.specs.Refusals.{Decides}
+
+-- ---- blocks
+
+-- what reading says of a block's bytes, where IsBlock says that they are a block that can be written
+pub data ReadsTo (b : List ℕ) (IsBlock : Type 0) : Reading → Type 0 where
+  size-wrong : (length b ≡ 512 → ⊥) → ReadsTo b IsBlock Reading.WrongSize
+  sum-wrong : length b ≡ 512 → (checkSum b ≡ word b 508 → ⊥) → ReadsTo b IsBlock Reading.WrongSum
+  layout-wrong : length b ≡ 512 → checkSum b ≡ word b 508 → (IsBlock → ⊥) → ReadsTo b IsBlock Reading.WrongLayout
+  all-right : length b ≡ 512 → checkSum b ≡ word b 508 → IsBlock → ReadsTo b IsBlock Reading.WellFormed
+
+-- ---- tests
+
+-- what an operator means for a kind, by the kind's row
+pub data MeansFor (operator kind : ℕ) : Meaning → Type 0 where
+  means-present : operator ≡ pr → MeansFor operator kind Meaning.Present
+  means-relation : {r : Relation} → relationIn (row kind) operator ≡ some r → MeansFor operator kind (Meaning.Relates r)
+  means-other : {r : Relation} → operator ≡ ne → relationIn (row kind) eq ≡ some r → MeansFor operator kind (Meaning.Differs r)
+  means-nothing : MeansFor operator kind Meaning.Nothing
+
+-- the fault of a test
+pub data Judged (ps : List Parameter) (t : Test) : Fault → Type 0 where
+  judged-unknown : NotOnSheet ps (t .path) → Judged ps t Fault.UnknownName
+  judged-unsupported : {i k : ℕ} → Names ps (t .path) i k → unsupported (t .operator) ≡ true → Judged ps t Fault.Unsupported
+  judged-meaningless : {i k : ℕ} → Names ps (t .path) i k → unsupported (t .operator) ≡ false → (HasOperator k (t .operator) → ⊥) → Judged ps t Fault.NoMeaning
+  judged-unreadable : {i k : ℕ} → Names ps (t .path) i k → unsupported (t .operator) ≡ false → HasOperator k (t .operator)
+      → (ReadableValue k (t .value) (t .operator) → ⊥) → Judged ps t Fault.Unreadable
+  judged-right : {i k : ℕ} → Names ps (t .path) i k → HasOperator k (t .operator) → ReadableValue k (t .value) (t .operator) → Judged ps t Fault.Nothing
+
+-- the table gives the test the number n, and there is a conforming card on which it lacks a meaning
+pub record Refused (ps : List Parameter) (t : Test) (n : ℕ) : Type 0 where
+  pub table : Numbered ps t n
+  pub card : List ℕ
+  pub entries : List Entry
+  pub conforms : Conforms ps card entries
+  pub lacks : LacksMeaning ps entries t
+
+-- a test has a meaning on every conforming card, and no line of the table holds for it, or it is refused
+pub data TestOutcome (ps : List Parameter) (t : Test) : Step (Unit {0}) → Type 0 where
+  test-means : Meaningful ps t → ((n : ℕ) → TestLine ps t n → ⊥) → TestOutcome ps t (found tt)
+  test-refused : {n : ℕ} → Refused ps t n → TestOutcome ps t (stop n (t .at))
+
+-- each of the tests has a meaning on every conforming card, or one is the first that is refused
+pub data TestsOutcome (ps : List Parameter) (ts : List Test) : Step (Unit {0}) → Type 0 where
+  all-mean : All (Meaningful ps) ts → TestsOutcome ps ts (found tt)
+  one-refused : (before : List Test) (t : Test) (after : List Test) (n : ℕ) → ts ≡ before ++ (t ∷ after) → All (Meaningful ps) before → Refused ps t n
+      → TestsOutcome ps ts (stop n (t .at))
+
+-- ---- cards
+
+-- the number and the entries of a block's card
+abbrev pub cardOf : List ℕ → Card
+cardOf b = record { number = recordNumber b; entries = entriesOf b }
+
+-- at whatever index, the card is taken, or refused with the number n
+abbrev pub Taken : List Parameter → List ℕ → Type 0
+Taken ps b = (i : ℕ) → takeCard ps i b ≡ found (cardOf b)
+
+abbrev pub Stopped : List Parameter → ℕ → List ℕ → Type 0
+Stopped ps n b = (i : ℕ) → takeCard ps i b ≡ stop n i
+
+-- each of the cards from the index i on is taken, or one is the first that is refused
+pub data CardsOutcome (ps : List Parameter) (i : ℕ) (bs : List (List ℕ)) : Step (List Card) → Type 0 where
+  all-taken : All (Taken ps) bs → CardsOutcome ps i bs (found (map cardOf bs))
+  one-stopped : (before : List (List ℕ)) (b : List ℕ) (after : List (List ℕ)) (n j : ℕ) → bs ≡ before ++ (b ∷ after) → j ≡ i + length before
+      → All (Taken ps) before → n ≤ 23 → Stopped ps n b → CardsOutcome ps i bs (stop n j)
+
+-- a selection from a run, for a list of `room` cells
+pub data SelectionOutcome (sheet text : List ℕ) (bs : List (List ℕ)) (room : ℕ) : Step (List ℕ) → Type 0 where
+  not-prepared : (n i : ℕ) → n ≤ 17 → SelectionOutcome sheet text bs room (stop n i)
+  card-refused : (n i : ℕ) → n ≤ 23 → RefusesCard sheet text bs n i → SelectionOutcome sheet text bs room (stop n i)
+  no-room : (i : ℕ) → i ≡ length (matchingCards sheet text bs) → room < i → SelectionOutcome sheet text bs room (stop 30 i)
+  numbers-found : SelectionOutcome sheet text bs room (found (matchingNumbers sheet text bs))
+
+-- ---- any step
+
+-- it found something, or was refused with a number of at most `most`
+pub data AtMost {A : Type 0} (most : ℕ) : Step A → Type 0 where
+  found-at-most : {x : A} → AtMost most (found x)
+  stop-at-most : (n p : ℕ) → n ≤ most → AtMost most (stop n p)
+
+-- it found something of which Known holds, where no line of the table does; or it was refused by the line that decides
+pub data Decided {A : Type 0} (Known : A → Type 0) (Line : ℕ → ℕ → Type 0) : Step A → Type 0 where
+  none-holds : {x : A} → Known x → ((n p : ℕ) → Line n p → ⊥) → Decided Known Line (found x)
+  one-decides : {n p : ℕ} → Decides Line n p → Decided Known Line (stop n p)
+
+-- the answer is no refusal
+abbrev pub NotRefused : Answer → Type 0
+NotRefused a = (n p : ℕ) → a ≡ refused n p → ⊥

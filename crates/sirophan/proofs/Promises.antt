@@ -1,0 +1,153 @@
+-- The promises, grouped by the letter's demands; each is proved where its one line says. The contracts of check, match_card and select say that the
+-- code answers as checkAnswer, matchAnswer and selectAnswer do, and leaves the list's cells as selectCells says. Assumes nothing.
+use Prim.Native.Nat.{ℕ, _≤_}
+use mathlib.Core.Path.{_≡_}
+use mathlib.Core.Bool.{true}
+use mathlib.Core.Logic.{_↔_}
+use mathlib.Core.Option.{some}
+use mathlib.Core.List.{List}
+use lib.ListN.{length}
+use Rattle.base.specs.Ascii.{ascii}
+use Rattle.base.specs.Bytes.{Bytes}
+use Rattle.base.specs.Lists.{All}
+use Rattle.block.specs.declared.Reading.the-variants.{WellFormed}
+use Rattle.sheet.specs.Sheet.{Parameter, readSheet}
+use Rattle.sheet.specs.Encode.{SheetBlock}
+use Rattle.sheet.specs.Trial.{trialParameters, trialSheet}
+use Rattle.sheet.proofs.Sheets as sheets
+use Rattle.card.specs.Card.{Entry, readCard}
+use Rattle.card.specs.Encode.{CardBlock}
+use Rattle.card.specs.Trial.{trialCard}
+use Rattle.card.proofs.Cards as cards
+use Rattle.syntax.specs.Tree.{Tree, test, testsOf, Rising}
+use Rattle.syntax.specs.Grammar.{Spells}
+use Rattle.syntax.specs.Reader.{read}
+use Rattle.syntax.proofs.Spelling as spelling
+use Rattle.kind.specs.Readable.{cardReadable, valueReadable}
+use Rattle.kind.specs.Stands.{stands}
+use Rattle.kind.specs.Table.{hasMeaning}
+use Rattle.kind.specs.declared.Relation.{Relation}
+use Rattle.sirophan.specs.Answers.{Answer, yes, no, count, refused}
+use Rattle.sirophan.specs.Operations.{checkAnswer, matchAnswer, selectAnswer, selectCells}
+use Rattle.sirophan.specs.Readable.{ReadableOnCard, ReadableValue}
+use Rattle.sirophan.specs.Meaning.{HasOperator, Conforms}
+use Rattle.sirophan.specs.Verdicts.{StandsIn, Verdict}
+use Rattle.sirophan.specs.Demand.{Demand, MeetsDemand, Agree}
+use Rattle.sirophan.specs.Selection.{Run, matchingCards, matchingNumbers, occurrences, bearing, SelectsByMatch}
+use Rattle.sirophan.specs.Refusals.{Decides, CheckLine, MatchLine, SelectLine}
+use Rattle.sirophan.specs.Trial.{Row, trialRows, titleTest, codeTest}
+use Rattle.sirophan.proofs.Readable as readable
+use Rattle.sirophan.proofs.Meaning as meaning
+use Rattle.sirophan.proofs.Verdicts as verdicts
+use Rattle.sirophan.proofs.Demand as demand
+use Rattle.sirophan.proofs.Determinacy as determinacy
+use Rattle.sirophan.proofs.Impossible as impossible
+use Rattle.sirophan.proofs.Selection as selection
+use Rattle.sirophan.proofs.CheckTable as check-table
+use Rattle.sirophan.proofs.MatchTable as match-table
+use Rattle.sirophan.proofs.SelectTable as select-table
+use Rattle.sirophan.proofs.Trial as trial
+
+-- ---- demand 1: an answer or a refusal, and a refusal writes nothing
+
+-- each operation is refused with a number and a place exactly where that line of the table holds and none before it does
+pub check-refused : (sheet text : List ℕ) → Bytes sheet → (n p : ℕ) → (checkAnswer sheet text ≡ refused n p) ↔ Decides (CheckLine sheet text) n p
+check-refused = check-table.check-table
+
+pub match-refused : (sheet text card : List ℕ) → Bytes sheet → Bytes card → (n p : ℕ)
+    → (matchAnswer sheet text card ≡ refused n p) ↔ Decides (MatchLine sheet text card) n p
+match-refused = match-table.match-table
+
+pub select-refused : (sheet text cards : List ℕ) (room : ℕ) → Bytes sheet → Bytes cards → (n p : ℕ)
+    → (selectAnswer sheet text cards room ≡ refused n p) ↔ Decides (SelectLine sheet text cards room) n p
+select-refused = select-table.select-table
+
+pub refusal-keeps-list : (sheet text cards list : List ℕ) (n i : ℕ) → selectAnswer sheet text cards (length list) ≡ refused n i → selectCells sheet text cards list ≡ list
+refusal-keeps-list = selection.refusal-keeps
+
+-- ---- demand 2: the answer is the meaning
+
+-- what is read is what can be written, and what the grammar spells
+pub sheet-read : (b : List ℕ) → (Bytes b × (readSheet b ≡ WellFormed)) ↔ SheetBlock b
+sheet-read = sheets.sheet-iff
+
+pub card-read : (b : List ℕ) → (Bytes b × (readCard b ≡ WellFormed)) ↔ CardBlock b
+card-read = cards.card-iff
+
+pub filter-read : (text : List ℕ) (f : Tree) → (read text ≡ some f) ↔ Spells text f
+filter-read = spelling.read-spells
+
+pub filter-unique : (text : List ℕ) (f g : Tree) → Spells text f → Spells text g → f ≡ g
+filter-unique = spelling.spells-unique
+
+-- the tests of a tree stand in the order of the text
+pub tests-in-order : (text : List ℕ) (f : Tree) → Spells text f → Rising 0 (length text) (testsOf f)
+tests-in-order = spelling.tests-rise
+
+-- readable texts, operators with a meaning and relations are those of the rules
+pub card-text-readable : (kind : ℕ) (t : List ℕ) → (cardReadable kind t ≡ true) ↔ ReadableOnCard kind t
+card-text-readable = readable.card-iff
+
+pub value-readable : (kind : ℕ) (v : List ℕ) (operator : ℕ) → (valueReadable operator kind v ≡ true) ↔ ReadableValue kind v operator
+value-readable = readable.value-iff
+
+pub operator-has-meaning : (kind operator : ℕ) → (hasMeaning operator kind ≡ true) ↔ HasOperator kind operator
+operator-has-meaning = meaning.operator-iff
+
+pub text-stands : (r : Relation) (x v : List ℕ) → (stands r x v ≡ true) ↔ StandsIn r x v
+text-stands = verdicts.stands-iff
+
+-- where check passes, match answers yes exactly where the filter says yes of the card, and no where it does not
+pub match-verdict : (sheet text : List ℕ) (s : SheetBlock sheet) (f : Tree) → length text ≤ 1024 → Spells text f → checkAnswer sheet text ≡ count (length (testsOf f))
+    → (card : List ℕ) (es : List Entry) → Conforms (s .parameters) card es → Verdict (s .parameters) es f (matchAnswer sheet text card)
+match-verdict = verdicts.match-verdict
+
+-- a selection lists the record numbers of the cards on which match answers yes, in card order
+pub select-by-match : (sheet text cards list : List ℕ) (bs : List (List ℕ)) → Run cards bs → SelectsByMatch sheet text cards list bs
+select-by-match = selection.selects-by-match
+
+-- each as often as matching cards bear it
+pub select-occurrences : (sheet text : List ℕ) (bs : List (List ℕ)) (x : ℕ) → occurrences x (matchingNumbers sheet text bs) ≡ length (bearing x (matchingCards sheet text bs))
+select-occurrences = selection.matching-occurrences
+
+-- ---- demand 3: what check passes and what it refuses
+
+pub check-and-match : MeetsDemand checkAnswer matchAnswer
+check-and-match = demand.demand-met
+
+-- nothing is left free
+pub demand-determines : (ps : List Parameter) (f : Tree) (check check′ : Answer) (match match′ : List ℕ → Answer) → Demand ps f check match → Demand ps f check′ match′
+    → Agree ps f check check′ match match′
+demand-determines = determinacy.demand-determines
+
+-- two filters for the trial sheet: `title co "BOOK"`, with a meaning on every conforming card, and `code gt 5`, without
+pub title-filter : Spells (ascii "title co \"BOOK\"") (test titleTest)
+title-filter = impossible.title-spelled
+
+pub code-filter : Spells (ascii "code gt 5") (test codeTest)
+code-filter = impossible.code-spelled
+
+-- they shut out: a check that refuses everything, a count made up, a check that passes everything, a match that refuses everything,
+-- one that says yes to all, and one that answers no where there is no meaning
+pub check-never-refuses-all : (n p : ℕ) (match : List ℕ → Answer) → Demand trialParameters (test titleTest) (refused n p) match → ⊥
+check-never-refuses-all = impossible.check-refuses-all
+
+pub check-never-miscounts : (n : ℕ) → (n ≡ 1 → ⊥) → (match : List ℕ → Answer) → Demand trialParameters (test titleTest) (count n) match → ⊥
+check-never-miscounts = impossible.check-miscounts
+
+pub check-never-passes-all : (n : ℕ) (match : List ℕ → Answer) → Demand trialParameters (test codeTest) (count n) match → ⊥
+check-never-passes-all = impossible.check-passes-all
+
+pub match-never-refuses-all : (n p : ℕ) (check : Answer) → Demand trialParameters (test titleTest) check (λ card. refused n p) → ⊥
+match-never-refuses-all = impossible.match-refuses-all
+
+pub match-never-says-yes-to-all : (check : Answer) → Demand trialParameters (test titleTest) check (λ card. yes) → ⊥
+match-never-says-yes-to-all = impossible.match-says-yes
+
+pub match-never-says-no-without-meaning : (check : Answer) → Demand trialParameters (test codeTest) check (λ card. no) → ⊥
+match-never-says-no-without-meaning = impossible.match-says-no
+
+-- ---- the trial card
+
+pub trial-table : All (λ (r : Row). matchAnswer trialSheet (r .filter) trialCard ≡ r .gives) trialRows
+trial-table = trial.trial-rows

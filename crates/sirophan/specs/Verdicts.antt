@@ -1,0 +1,70 @@
+-- What a test and a filter say of a card, in document 01's words: by the spellings of what they compare.
+-- Assumes nothing.
+use Prim.Native.Nat.{ℕ}
+use mathlib.Core.Path.{_≡_}
+use mathlib.Core.Bool.{true}
+use mathlib.Core.Logic.{_↔_, _⊎_}
+use mathlib.Core.Option.{some}
+use mathlib.Core.List.{List, [], _++_, List·Memᴰ}
+use Rattle.base.specs.Ascii.{ascii}
+use Rattle.base.specs.Operators.{eq, ne, pr}
+use Rattle.text.specs.Fold.{foldText}
+use Rattle.number.specs.Spelling as numbers
+use Rattle.number.specs.declared.Decimal.{Decimal}
+use Rattle.date.specs.Spelling as dates
+use Rattle.date.specs.declared.Date.{Date}
+use Rattle.token.specs.Card.{Token}
+use Rattle.token.specs.Filter.{Form}
+use Rattle.token.specs.Match.{asks}
+use Rattle.token.specs.Spelling.{CardSpells, FilterSpells}
+use Rattle.sheet.specs.Sheet.{Parameter}
+use Rattle.card.specs.Card.{Entry}
+use Rattle.syntax.specs.Tree.{Test, Tree, test, join, negation, and, or}
+use Rattle.kind.specs.Table.{row, relationIn}
+use Rattle.kind.specs.Stands.{numberStands, dateStands}
+use Rattle.kind.specs.declared.StringRelation.{StringRelation}
+use Rattle.kind.specs.declared.NumberRelation.{NumberRelation}
+use Rattle.kind.specs.declared.DateRelation.{DateRelation}
+use Rattle.kind.specs.declared.Relation.{Relation}
+use Rattle.judge.specs.Sets.{valuesAt}
+use Rattle.sirophan.specs.Answers.{Answer, yes, no}
+use Rattle.sirophan.specs.Meaning.{Names}
+
+-- the card's text x stands in the relation to the filter's value v; "text comparisons ignore the case of A to Z"
+pub data StandsIn : Relation → List ℕ → List ℕ → Type 0 where
+  -- "eq same; co holds it somewhere; sw, ew at the start, at the end"
+  string-same : {x v : List ℕ} → foldText x ≡ foldText v → StandsIn (Relation.Strings StringRelation.Same) x v
+  string-contains : {x v : List ℕ} (p q : List ℕ) → foldText x ≡ p ++ (foldText v ++ q) → StandsIn (Relation.Strings StringRelation.Contains) x v
+  string-starts : {x v : List ℕ} (q : List ℕ) → foldText x ≡ foldText v ++ q → StandsIn (Relation.Strings StringRelation.Starts) x v
+  string-ends : {x v : List ℕ} (p : List ℕ) → foldText x ≡ p ++ foldText v → StandsIn (Relation.Strings StringRelation.Ends) x v
+  -- two numbers by exact value, two dates by their spans
+  numbers-stand : {r : NumberRelation} {x v : List ℕ} {i f : Decimal} → numbers.Spells x i → numbers.Spells v f → numberStands r i f ≡ true → StandsIn (Relation.Numbers r) x v
+  dates-stand : {r : DateRelation} {x v : List ℕ} {i f : Date} → dates.Spells x i → dates.Spells v f → dateStands r i f ≡ true → StandsIn (Relation.Dates r) x v
+  -- "eq by the four forms"
+  tokens-stand : {x v : List ℕ} {i : Token} {f : Form} → CardSpells x i → FilterSpells v f → asks f i ≡ true → StandsIn Relation.Tokens x v
+  -- "re same"
+  references-same : {x v : List ℕ} → foldText x ≡ foldText v → StandsIn Relation.References x v
+
+-- the test says yes of a card with the entries es
+pub data Says (ps : List Parameter) (es : List Entry) (t : Test) : Type 0 where
+  -- "pr true asks for a set that is not empty and pr false for an empty one"
+  says-present : {i k : ℕ} → Names ps (t .path) i k → t .operator ≡ pr → foldText (t .value) ≡ ascii "true" → (valuesAt i es ≡ [] → ⊥) → Says ps es t
+  says-absent : {i k : ℕ} → Names ps (t .path) i k → t .operator ≡ pr → foldText (t .value) ≡ ascii "false" → valuesAt i es ≡ [] → Says ps es t
+  -- "some text in the set stands in the relation"
+  says-relates : {i k : ℕ} {r : Relation} {x : List ℕ} → Names ps (t .path) i k → relationIn (row k) (t .operator) ≡ some r → List·Memᴰ x (valuesAt i es)
+      → StandsIn r x (t .value) → Says ps es t
+  -- "ne: some text in the set is not eq"
+  says-differs : {i k : ℕ} {r : Relation} {x : List ℕ} → Names ps (t .path) i k → t .operator ≡ ne → relationIn (row k) eq ≡ some r → List·Memᴰ x (valuesAt i es)
+      → (StandsIn r x (t .value) → ⊥) → Says ps es t
+
+-- the filter says yes: "a filter's yes or no joins those of its items from left to right", as its tree is nested; "after not the opposite"
+abbrev pub FilterSays : (ps : List Parameter) → (es : List Entry) → Tree → Type 0
+FilterSays ps es (test t) = Says ps es t
+FilterSays ps es (join and f g) = FilterSays ps es f × FilterSays ps es g
+FilterSays ps es (join or f g) = FilterSays ps es f ⊎ FilterSays ps es g
+FilterSays ps es (negation f) = FilterSays ps es f → ⊥
+
+-- the answer is the filter's yes or no of the card
+pub record Verdict (ps : List Parameter) (es : List Entry) (f : Tree) (answer : Answer) : Type 0 where
+  pub is-yes : (answer ≡ yes) ↔ FilterSays ps es f
+  pub is-no : (answer ≡ no) ↔ (FilterSays ps es f → ⊥)
