@@ -29,7 +29,7 @@ fn span(d: Date) {
 }
 
 // What a text reads to.
-fn read(t: &[u8]) {
+pub fn read(t: &[u8]) {
     about(b"date", t);
     match date::read(t) {
         Reading::Readable(d) => span(d),
@@ -67,74 +67,8 @@ fn pair(card: &[u8], filter: &[u8]) {
 }
 
 // How a card's date and a filter's compare.
-fn compare(card: &[u8], filter: &[u8]) {
+pub fn compare(card: &[u8], filter: &[u8]) {
     against(b"date", card, filter);
     pair(card, filter);
     write(b"\n");
-}
-
-fn years() {
-    read(b"");
-    read(b"0000");
-    read(b"0001");
-    read(b"1970");
-    read(b"1974");
-    read(b"9999");
-    read(b"10000");
-    read(b"-1974");
-}
-
-fn days() {
-    read(b"1974-06");
-    read(b"1974-00");
-    read(b"1974-13");
-    read(b"1974-6");
-    read(b"2000-02-29");
-    read(b"1900-02-29");
-    read(b"1974-04-31");
-    read(b"9999-12-31");
-}
-
-fn times() {
-    read(b"1970-01-01T00:00:00Z");
-    read(b"1969-12-31T23:59:59Z");
-    read(b"2024-02-29T12:30:15-05:30");
-    read(b"9999-12-31T23:59:59-14:00");
-    read(b"0001-01-01T00:00:00+14:00");
-    read(b"1970-01-01T00:00:00-00:00");
-}
-
-fn wrong_times() {
-    read(b"1970-01-01T00:00:00+14:01");
-    read(b"1970-01-01T00:00:00+13:60");
-    read(b"1970-01-01T23:59:60Z");
-    read(b"1970-01-01T24:00:00Z");
-    read(b"1970-01-01t00:00:00Z");
-    read(b"1970-01-01T00:00:00z");
-    read(b"1970-01-01T00:00:00.5Z");
-    read(b"1970-01-01T00:00:00");
-}
-
-fn pairs() {
-    compare(b"1974-06", b"1974-06");
-    compare(b"1974-06", b"1974-07");
-    compare(b"1974-06", b"1974");
-    compare(b"1974", b"1974-06");
-    compare(b"1980", b"1974-06");
-    compare(b"1974-06", b"1980");
-}
-
-fn zones() {
-    compare(b"1970-01-01T00:00:00-00:00", b"1970-01-01T00:00:00Z");
-    compare(b"1970-01-01T01:00:00+01:00", b"1970-01-01T00:00:00Z");
-    compare(b"1970-01-01", b"1970-01-01T23:59:59Z");
-}
-
-pub fn lines() {
-    years();
-    days();
-    times();
-    wrong_times();
-    pairs();
-    zones();
 }

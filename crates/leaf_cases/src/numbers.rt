@@ -21,7 +21,7 @@ fn reading(r: Reading) {
 }
 
 // What a text reads to.
-fn read(t: &[u8]) {
+pub fn read(t: &[u8]) {
     about(b"number", t);
     reading(number::read(t));
 }
@@ -51,54 +51,8 @@ fn pair(card: &[u8], filter: &[u8]) {
 }
 
 // How a card's number and a filter's compare.
-fn compare(card: &[u8], filter: &[u8]) {
+pub fn compare(card: &[u8], filter: &[u8]) {
     against(b"number", card, filter);
     pair(card, filter);
     write(b"\n");
-}
-
-fn whole() {
-    read(b"");
-    read(b"0");
-    read(b"00012");
-    read(b"12345678");
-    read(b"123456789");
-    read(b"-1");
-    read(b"+1");
-    read(b"1e3");
-}
-
-fn fractions() {
-    read(b"1.");
-    read(b".5");
-    read(b"0.50");
-    read(b"1.123456789");
-    read(b"1.1234567890");
-    read(b"1.2.3");
-    read(b"99999999.999999999");
-}
-
-fn exact() {
-    compare(b"0.0", b"0");
-    compare(b"012", b"12");
-    compare(b"12.0", b"12");
-    compare(b"99999999.999999999", b"99999999");
-    compare(b"0.000000001", b"0");
-}
-
-fn ranges() {
-    compare(b"12.0", b"12.04");
-    compare(b"12.0", b"12.05");
-    compare(b"12.0", b"11.95");
-    compare(b"12.0", b"11.94");
-    compare(b"0", b"0");
-    compare(b"0", b"0.5");
-    compare(b"0.000000001", b"0.000000001");
-}
-
-pub fn lines() {
-    whole();
-    fractions();
-    exact();
-    ranges();
 }

@@ -43,7 +43,7 @@ fn labelled_head(label: &[u8], t: &[u8]) {
 }
 
 // The same under the text itself.
-fn head(t: &[u8]) {
+pub fn head(t: &[u8]) {
     labelled_head(t, t);
 }
 
@@ -83,40 +83,7 @@ fn close(t: &[u8], at: usize) {
     write(b"\n");
 }
 
-fn items() {
-    head(b"title co \"BOOK\"");
-    head(b"  a eq b");
-    head(b"not(a eq b)");
-    head(b"not  ( a eq b)");
-    head(b"( a eq b)");
-    head(b"not eq 5");
-    head(b"android eq 5");
-    head(b"");
-}
-
-fn words() {
-    head(b"a  eq   b  ");
-    head(b"a eq and");
-    head(b"a eq (");
-    head(b"a eq x)");
-    head(b"a eq x]");
-    head(b"a eq");
-    head(b"a EQ b");
-    head(b"9 eq b");
-}
-
-fn strings() {
-    head(b"a eq \"\"");
-    head(b"a eq \"x)y\"");
-    head(b"a eq \"x\\n\\\"\"");
-    head(b"a eq \"\\u0041\"");
-    head(b"a eq \"a\"b");
-    head(b"a eq \"x\\\"");
-    head(b"a eq \"x");
-    head(b"a eq x\"y");
-}
-
-fn bytes() {
+pub fn bytes() {
     labelled_head(b"a, tab, eq b", b"a\teq b");
     labelled_head(b"a eq, tab, b", b"a eq\tb");
     labelled_head(b"a eq, byte 7f", b"a eq \x7f");
@@ -125,7 +92,7 @@ fn bytes() {
     labelled_head(b"a eq, byte 1f in a string", b"a eq \"\x1f\"");
 }
 
-fn connectives() {
+pub fn connectives() {
     connective(b"a eq b and c eq d", 6);
     connective(b"a eq b  or  c eq d", 6);
     connective(b" or ", 0);
@@ -135,18 +102,9 @@ fn connectives() {
     connective(b"a eq b", 6);
 }
 
-fn closes() {
+pub fn closes() {
     close(b"(a eq b)", 7);
     close(b"(a eq b  ) ", 7);
     close(b"(a eq b", 7);
     close(b"(a eq b ]", 7);
-}
-
-pub fn lines() {
-    items();
-    words();
-    strings();
-    bytes();
-    connectives();
-    closes();
 }
