@@ -83,6 +83,7 @@ fn close(t: &[u8], at: usize) {
     write(b"\n");
 }
 
+// Items with bytes that cannot be printed.
 pub fn bytes() {
     labelled_head(b"a, tab, eq b", b"a\teq b");
     labelled_head(b"a eq, tab, b", b"a eq\tb");
@@ -92,6 +93,7 @@ pub fn bytes() {
     labelled_head(b"a eq, byte 1f in a string", b"a eq \"\x1f\"");
 }
 
+// Words after an item.
 pub fn connectives() {
     connective(b"a eq b and c eq d", 6);
     connective(b"a eq b  or  c eq d", 6);
@@ -102,6 +104,7 @@ pub fn connectives() {
     connective(b"a eq b", 6);
 }
 
+// Ends of brackets.
 pub fn closes() {
     close(b"(a eq b)", 7);
     close(b"(a eq b  ) ", 7);
