@@ -1,5 +1,6 @@
 -- The proofs of the promises; `Promises` has all the statements.
 pub mod Outcomes
+pub mod Answers
 pub mod Readable
 pub mod Meaning
 pub mod Cards
