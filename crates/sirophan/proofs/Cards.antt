@@ -73,7 +73,7 @@ witness-reads : passes (λ k. cardReadable (k + 1) (witnessText (k + 1))) 5 ≡ 
 unfolding cardReadable witnessText numbers.readable numbers.read run isDigit dates.readable dates.isDate dates.read dates.readYear dates.fourAt dates.twoAt dates.pair dates.digitOf between tokens.cardReadable tokens.cardToken tokens.splitToken tokens.tokenOf split firstBar
 witness-reads = refl
 
-pub witness-readable : (kind : ℕ) → 1 ≤ kind → kind ≤ 5 → ReadableOnCard kind (witnessText kind)
+witness-readable : (kind : ℕ) → 1 ≤ kind → kind ≤ 5 → ReadableOnCard kind (witnessText kind)
 witness-readable kind low high =
     let e : kind - 1 + 1 ≡ kind = omega arith in
     let reads = passes-at (λ k. cardReadable (k + 1) (witnessText (k + 1))) 5 witness-reads (kind - 1) (omega arith) in

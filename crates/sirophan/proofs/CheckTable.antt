@@ -28,6 +28,7 @@ use Rattle.sirophan.specs.Answers.{count, refused}
 use Rattle.sirophan.specs.Operations.{Step, found, _>>=_, sheetStep, takeSheet, treeStep, takeFilter, testsStep, Prepared, prepare, checkAnswer}
 use Rattle.sirophan.specs.Numbers.{rank, TestLine, line-14, line-15, line-16, line-17}
 use Rattle.sirophan.specs.Refusals.{group, Before, lower-group, earlier-place, lower-rank, Decides, SheetLine, line-1, line-2, line-3, TextLine, line-10, line-11, TestsLine, line-of-test, CheckLine}
+use Rattle.sirophan.proofs.Answers.{count-not-refused}
 use Rattle.sirophan.proofs.Outcomes.{ReadsTo, size-wrong, sum-wrong, layout-wrong, all-right, TestOutcome, test-means, test-refused, Decided, none-holds, one-decides}
 use Rattle.sirophan.proofs.Faults.{outcome}
 use Rattle.sirophan.proofs.Prepare.{tests-next}
@@ -36,15 +37,15 @@ use Rattle.sirophan.proofs.Deciding.{apart-at, later-place, no-lower-ra
 
 -- ---- the sheet
 
--- of two lines at one place, the one that comes before has the lower number, where it has in another group
-pub lower-number : {m n p : ℕ} → (group m < group n → m < n) → Before m p n p → m < n
+-- of two lines at one place, the one that comes before has the lower number, if groups go by numbers
+lower-number : {m n p : ℕ} → (group m < group n → m < n) → Before m p n p → m < n
 unfolding rank
 lower-number f (lower-group h) = f h
 lower-number f (earlier-place g h) = absurd (omega arith)
 lower-number f (lower-rank g e h) = h
 
 -- the parameters found are those of the sheet
-abbrev pub OfSheet : List ℕ → List Parameter → Type 0
+abbrev OfSheet : List ℕ → List Parameter → Type 0
 OfSheet sheet ps = (s : SheetBlock sheet) × (s .parameters ≡ ps)
 
 module _ (sheet : List ℕ) where
@@ -52,6 +53,7 @@ module _ (sheet : List ℕ) where
   pub sheet-parameters : (s : SheetBlock sheet) → parametersOf sheet ≡ s .parameters
   sheet-parameters s = sheet-reads-iff sheet (s .parameters) .1 (s .well-formed, s .encoded) .parameters
 
+  -- none comes before n, where the lines of lower numbers do not hold
   sheet-first : (n : ℕ) → group n ≡ n → n ≤ 3 → (1 < n → length sheet ≡ 512) → (2 < n → checkSum sheet ≡ word sheet 508)
       → (m q : ℕ) → SheetLine sheet m q → Before m q n 0 → ⊥
   unfolding group
@@ -84,6 +86,7 @@ module _ (text : List ℕ) where
   abbrev SizeWrong : Type 0
   SizeWrong = (length text ≡ 0) ⊎ (1024 < length text)
 
+  -- none comes before n, where 10 does not hold if it is lower
   text-first : (n : ℕ) → group n ≡ n → n ≤ 11 → (10 < n → SizeWrong → ⊥) → (m q : ℕ) → TextLine text m q → Before m q n 0 → ⊥
   unfolding group
   text-first n g h a m q (line-10 u) k = a (lower-number (λ l. omega arith) k) u
@@ -226,4 +229,4 @@ module _ (sheet text : List ℕ) where
   unfolding checkAnswer
   check-table bytes =
       decided-answer (CheckLine sheet text)
-      (decided-found (λ r. count (length (testsOf (r .filter)))) (λ r _ n p e. let z : _≡_ {A = ℕ} 0 1 = cc in omega arith) (prepare-decided bytes))
+      (decided-found (λ r. count (length (testsOf (r .filter)))) (λ r _. count-not-refused (length (testsOf (r .filter)))) (prepare-decided bytes))

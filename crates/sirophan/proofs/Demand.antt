@@ -1,7 +1,6 @@
 -- Check and match meet the letter's third demand.
 -- Assumes nothing.
 use Prim.Native.Nat.{ℕ, _≤_}
-use native.Mathlib.Omega.{arith}
 use mathlib.Core.Path.{_≡_, refl, sym, _∙_, subst}
 use mathlib.Core.List.{List}
 use lib.ListN.{length}
@@ -15,12 +14,10 @@ use Rattle.sirophan.specs.Answers.{count, refused}
 use Rattle.sirophan.specs.Operations.{Step, found, stop, testsStep, Prepared, prepare, checkAnswer, matchAnswer}
 use Rattle.sirophan.specs.Meaning.{Meaningful}
 use Rattle.sirophan.specs.Demand.{Demand, MeetsDemand}
+use Rattle.sirophan.proofs.Answers.{count-not-refused}
 use Rattle.sirophan.proofs.Cards.{conforms-size, conforms-bytes, conforms-taken}
 use Rattle.sirophan.proofs.Outcomes.{TestsOutcome, all-mean, one-refused}
 use Rattle.sirophan.proofs.Prepare.{check-by, match-by, tests-outcome, prepared}
-
-count-not-refused : {m n p : ℕ} → refused n p ≡ count m → ⊥
-count-not-refused h = let z : _≡_ {A = ℕ} 0 1 = cc in omega arith
 
 module _ (sheet text : List ℕ) (s : SheetBlock sheet) (f : Tree) (short : length text ≤ 1024) (spells : Spells text f) where
   abbrev ps : List Parameter
@@ -45,8 +42,8 @@ module _ (sheet text : List ℕ) (s : SheetBlock sheet) (f : Tree) (short : leng
       λ all. all-head (Meaningful ps) (all-right (Meaningful ps) before (subst (All (Meaningful ps)) split all)) (r .card) (r .entries) (r .conforms) (r .lacks)
       in
       record {
-        passes = ((λ p. absurd (count-not-refused (sym failed ∙ p))), (λ all. absurd (senseless all)));
-        verdict = λ p. absurd (count-not-refused (sym failed ∙ p));
+        passes = ((λ p. absurd (count-not-refused (length (testsOf f)) n (t .at) (sym p ∙ failed))), (λ all. absurd (senseless all)));
+        verdict = λ p. absurd (count-not-refused (length (testsOf f)) n (t .at) (sym p ∙ failed));
         refuses = λ _. record {
           before = before;
           test = t;

@@ -1,7 +1,6 @@
 -- The demand leaves nothing free: any two checks and matches that meet it on a sheet and a filter agree.
 -- Assumes nothing.
 use Prim.Native.Nat.{ℕ}
-use native.Mathlib.Decide.{ℕ-discrete}
 use native.Mathlib.Omega.{arith}
 use mathlib.Core.Path.{_≡_, ap, ap₂, sym, _∙_, subst}
 use mathlib.Core.List.{List}
@@ -13,25 +12,12 @@ use Rattle.sirophan.specs.Answers.{Answer, count, refused}
 use Rattle.sirophan.specs.Meaning.{Meaningful}
 use Rattle.sirophan.specs.Numbers.{rank, Numbered}
 use Rattle.sirophan.specs.Demand.{RefusesAlike, Demand, Agree}
-
--- ---- answers and ranks
-
-is-count : (a : Answer) (n : ℕ) → Dec (a ≡ count n)
-is-count Answer.yes n = no (λ h. let z : _≡_ {A = ℕ} 0 1 = cc in omega arith)
-is-count Answer.no n = no (λ h. let z : _≡_ {A = ℕ} 0 1 = cc in omega arith)
-is-count (refused m p) n = no (λ h. let z : _≡_ {A = ℕ} 0 1 = cc in omega arith)
-is-count (count m) n = same (ℕ-discrete m n)
-  where
-    same : Dec (m ≡ n) → Dec (count m ≡ count n)
-    same (yes e) = yes (ap count e)
-    same (no e) = no (λ h. let z : m ≡ n = cc in e z)
+use Rattle.sirophan.proofs.Answers.{is-count}
 
 -- the table gives a test one number
-pub numbered-unique : {ps : List Parameter} {t : Test} {n m : ℕ} → Numbered ps t n → Numbered ps t m → n ≡ m
+numbered-unique : {ps : List Parameter} {t : Test} {n m : ℕ} → Numbered ps t n → Numbered ps t m → n ≡ m
 unfolding rank
 numbered-unique {n = n} {m = m} a b = omega (arith, a .lowest m (b .line), b .lowest n (a .line))
-
--- ---- the theorem
 
 module _ (ps : List Parameter) (f : Tree) (check check′ : Answer) (match match′ : List ℕ → Answer) where
   refusals-agree : RefusesAlike ps f check match → RefusesAlike ps f check′ match′ → Agree ps f check check′ match match′

@@ -3,6 +3,7 @@ pub mod Checking
 pub mod Judging
 pub mod Passing
 pub mod Outcomes
+pub mod Answers
 pub mod Readable
 pub mod Meaning
 pub mod Cards

@@ -25,6 +25,7 @@ use Rattle.sirophan.specs.Operations.{found, stop, _>>=_, Prepared, Card
 use Rattle.sirophan.specs.Meaning.{Conforms}
 use Rattle.sirophan.specs.Numbers.{rank}
 use Rattle.sirophan.specs.Refusals.{group, Before, Decides, CheckLine, CardLine, line-21, line-22, line-23, OneCardLine, line-20-match, line-of-card, MatchLine}
+use Rattle.sirophan.proofs.Answers.{verdict-not-refused}
 use Rattle.sirophan.proofs.Meaning.{entries-iff}
 use Rattle.sirophan.proofs.Cards.{conforms-reads, reads-conforms}
 use Rattle.sirophan.proofs.Outcomes.{ReadsTo, size-wrong, sum-wrong, layout-wrong, all-right, cardOf, Taken, Decided, none-holds, one-decides, NotRefused}
@@ -52,6 +53,7 @@ module _ (sheet : List ℕ) where
     card-lowest n h a c m (line-22 u) = let z : 22 < n → ⊥ = λ l. u (c l) in omega arith
     card-lowest n h a c m (line-23 s′ k v) = h
 
+    -- where the card conforms, none holds
     card-none : checkSum b ≡ word b 508 → CardBlock b → (es : List Entry) → Conforms ps b es → (m : ℕ) → CardLine sheet b m → ⊥
     card-none a c es k m (line-21 u) = u a
     card-none a c es k m (line-22 u) = u c
@@ -63,9 +65,11 @@ module _ (sheet : List ℕ) where
     abbrev pub LineAt : ℕ → ℕ → ℕ → Type 0
     LineAt i n p = CardLine sheet b n × (p ≡ i)
 
-    abbrev pub TakenAs : Card → Type 0
+    -- and what is found where none holds
+    abbrev TakenAs : Card → Type 0
     TakenAs c = Taken ps b × (c ≡ cardOf b)
 
+    -- the line that ranks lowest decides
     card-decides : (i n : ℕ) → CardLine sheet b n → ((m : ℕ) → CardLine sheet b m → rank n ≤ rank m) → Decided TakenAs (LineAt i) (stop n i)
     card-decides i n l lowest =
         one-decides (record { holds = (l, refl); first = λ m q k. no-lower-rank (card-group (k .0) ∙ sym (card-group l)) (le-of-eq (sym (k .1))) (lowest m (k .0)) })
@@ -100,6 +104,7 @@ module _ (sheet text card : List ℕ) where
   wrong-size (layout-wrong a b u) n = absurd (n a)
   wrong-size (all-right a b k) n = absurd (n a)
 
+  -- none comes before 20
   size-first : (m q : ℕ) → OneCardLine sheet card m q → Before m q 20 0 → ⊥
   unfolding group
   size-first m q (line-20-match u) = no-lower-rank refl (le-refl 0) (le-refl (rank 20))
@@ -125,16 +130,12 @@ module _ (sheet text card : List ℕ) where
   one-group n p (line-20-match u) = omega arith
   one-group n p (line-of-card l) = let g = card-group sheet l in omega arith
 
-  verdict-given : (v : Bool) → NotRefused (yesOrNo v)
-  verdict-given true n p e = let z : _≡_ {A = ℕ} 0 1 = cc in omega arith
-  verdict-given false n p e = let z : _≡_ {A = ℕ} 0 1 = cc in omega arith
-
   verdict-decided : Bytes card → (r : Prepared) → Ready sheet text r
       → Decided NotRefused (OneCardLine sheet card) (takeCard (r .parameters) 0 card >>= λ c. found (yesOrNo (filterSays (r .parameters) (c .entries) (r .filter))))
   verdict-decided bytes r ready =
       rw (← ready .1)
       (decided-found (λ (c : Card). yesOrNo (filterSays (ready .0 .parameters) (c .entries) (r .filter)))
-      (λ c _. verdict-given (filterSays (ready .0 .parameters) (c .entries) (r .filter))) (one-decided (ready .0) bytes))
+      (λ c _. verdict-not-refused (filterSays (ready .0 .parameters) (c .entries) (r .filter))) (one-decided (ready .0) bytes))
 
   -- match is refused with a number and a place exactly where that line of the table decides
   pub match-table : Bytes sheet → Bytes card → (n p : ℕ) → (matchAnswer sheet text card ≡ refused n p) ↔ Decides (MatchLine sheet text card) n p

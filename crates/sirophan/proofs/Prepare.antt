@@ -68,7 +68,7 @@ module _ (sheet text : List ℕ) (r : Step Prepared) (e : prepare sheet text ≡
 
 -- ---- sheet and text
 
-pub sheet-taken : (sheet : List ℕ) (s : SheetBlock sheet) → takeSheet sheet ≡ found (s .parameters)
+sheet-taken : (sheet : List ℕ) (s : SheetBlock sheet) → takeSheet sheet ≡ found (s .parameters)
 unfolding takeSheet
 sheet-taken sheet s =
     let r = sheet-reads-iff sheet (s .parameters) .1 (s .well-formed, s .encoded) in
@@ -78,7 +78,7 @@ spells-length : (text : List ℕ) (f : Tree) → Spells text f → length text �
 spells-length [] f s e = spells-not-empty f s
 spells-length (x ∷ xs) f s e = omega arith
 
-pub filter-taken : (text : List ℕ) (f : Tree) → length text ≤ 1024 → Spells text f → takeFilter text ≡ found f
+filter-taken : (text : List ℕ) (f : Tree) → length text ≤ 1024 → Spells text f → takeFilter text ≡ found f
 unfolding takeFilter
 filter-taken text f short s =
     rw (ne-eqb (length text) 0 (spells-length text f s), le-ltb 1024 (length text) short, read-spells text f .1 s)

@@ -82,7 +82,7 @@ module _ (kind : ℕ) (t : List ℕ) where
       (λ e. rw e)
       (decided (eqb kind token))
 
-  pub filter-iff : (filterReadable kind t ≡ true) ↔ ReadableInFilter kind t
+  filter-iff : (filterReadable kind t ≡ true) ↔ ReadableInFilter kind t
   filter-iff =
       let reads = token-spelling.filterReadable-reads t in (
         (λ h. kind-there FilterToken t (forms.filterReadable t) reads kind (sym filter-by-kind ∙ h)),

@@ -21,6 +21,7 @@ use Rattle.sirophan.specs.Operations.{found, stop, _>>=_, Prepared, prep
 use Rattle.sirophan.specs.Numbers.{rank}
 use Rattle.sirophan.specs.Selection.{Run, CardAt, matchingCards}
 use Rattle.sirophan.specs.Refusals.{group, Before, Decides, CheckLine, CardLine, RunLine, line-20-select, CardsLine, line-of-card-at, RoomLine, line-30, SelectLine}
+use Rattle.sirophan.proofs.Answers.{count-not-refused}
 use Rattle.sirophan.proofs.Outcomes.{cardOf, Taken, Decided, none-holds, one-decides}
 use Rattle.sirophan.proofs.Runs.{run-iff, run-or-none}
 use Rattle.sirophan.proofs.Selection.{matching-numbers}
@@ -203,6 +204,6 @@ module _ (sheet text cards : List ℕ) (room : ℕ) where
   unfolding selectAnswer selection
   select-table sheet-bytes bytes =
       decided-answer (SelectLine sheet text cards room)
-      (decided-found (λ (ns : List ℕ). count (length ns)) (λ ns _ n p h. let z : _≡_ {A = ℕ} 0 1 = cc in omega arith)
+      (decided-found (λ (ns : List ℕ). count (length ns)) (λ ns _. count-not-refused (length ns))
       (decided-then (CheckLine sheet text) RestLine (apart-at (CheckLine sheet text) RestLine 14 (check-group sheet text) rest-group)
       (prepare-decided sheet text sheet-bytes) (λ r e ready. rest-decided bytes r e (ready .0) (ready .1))))

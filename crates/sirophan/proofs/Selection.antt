@@ -23,6 +23,7 @@ use Rattle.judge.specs.Verdicts.{filterSays}
 use Rattle.sirophan.specs.Answers.{yesOrNo, count, refused}
 use Rattle.sirophan.specs.Operations.{Step, found, stop, _>>=_, answer, Prepared, prepare, Card, cardStep, takeCard, takeRun, takeCards, matching, takeRoom, selection, matchAnswer, selectAnswer, written, selectCells}
 use Rattle.sirophan.specs.Selection.{Run, isYes, matchingCards, matchingNumbers, occurrences, bearing, RefusesCard, SelectsByMatch}
+use Rattle.sirophan.proofs.Answers.{verdict-not-refused}
 use Rattle.sirophan.proofs.Outcomes.{cardOf, Taken, Stopped, CardsOutcome, all-taken, one-stopped, SelectionOutcome, not-prepared, card-refused, no-room, numbers-found}
 use Rattle.sirophan.proofs.Prepare.{match-by, prepare-number}
 use Rattle.sirophan.proofs.Runs.{run-iff}
@@ -38,7 +39,7 @@ module _ (ps : List Parameter) where
   card-steps Reading.WellFormed false c = inr (23, omega arith, λ i. refl)
 
   -- a card is taken, or refused with one number
-  pub taken-or-stopped : (b : List ℕ) → Taken ps b ⊎ ((n : ℕ) × (n ≤ 23) × Stopped ps n b)
+  taken-or-stopped : (b : List ℕ) → Taken ps b ⊎ ((n : ℕ) × (n ≤ 23) × Stopped ps n b)
   unfolding takeCard
   taken-or-stopped b = card-steps (readCard b) (conforms ps (entriesOf b)) (cardOf b)
 
@@ -50,7 +51,7 @@ module _ (ps : List Parameter) where
   cards-next {i = i} {b = b} t (one-stopped before c after n j e k ts m s) =
       one-stopped (b ∷ before) c after n j (ap (λ (l : List (List ℕ)). b ∷ l) e) (omega arith) (all-cons t ts) m s
 
-  pub cards-outcome : (i : ℕ) (bs : List (List ℕ)) → CardsOutcome ps i bs (takeCards ps i bs)
+  cards-outcome : (i : ℕ) (bs : List (List ℕ)) → CardsOutcome ps i bs (takeCards ps i bs)
   unfolding takeCards
   cards-outcome i [] = all-taken all-empty
   cards-outcome i (b ∷ bs) =
@@ -74,10 +75,6 @@ module _ (sheet text : List ℕ) (p : Prepared) (e : prepare sheet text ≡ foun
 
   match-stopped : (n : ℕ) (b : List ℕ) → Stopped ps n b → matchAnswer sheet text b ≡ refused n 0
   match-stopped n b s = match-by sheet text (found p) e b ∙ rw (s 0)
-
-  verdict-not-refused : (v : Bool) (n i : ℕ) → yesOrNo v ≡ refused n i → ⊥
-  verdict-not-refused true n i h = let z : _≡_ {A = ℕ} 0 1 = cc in omega arith
-  verdict-not-refused false n i h = let z : _≡_ {A = ℕ} 0 1 = cc in omega arith
 
   taken-not-refused : (b : List ℕ) → Taken ps b → (n i : ℕ) → matchAnswer sheet text b ≡ refused n i → ⊥
   taken-not-refused b t n i h = verdict-not-refused (filterSays ps (entriesOf b) f) n i (sym (match-taken b t) ∙ h)

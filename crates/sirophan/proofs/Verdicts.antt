@@ -205,7 +205,7 @@ module _ (ps : List Parameter) (w : WellFormedSheet ps) (es : List Entry) (t : T
       at-parameter (Meaning.Differs r) j (rw n (other-means k r e)) (some-back (λ x. not (stands r x (t .value))) m differs)
 
   -- a test with a meaning says yes exactly where the rules do
-  pub says-iff : (LacksMeaning ps es t → ⊥) → (testSays ps es t ≡ true) ↔ Says ps es t
+  says-iff : (LacksMeaning ps es t → ⊥) → (testSays ps es t ≡ true) ↔ Says ps es t
   unfolding testSays
   says-iff meaning = (says-there meaning (lookup ps (t .path)) refl, says-back)
 
@@ -216,7 +216,7 @@ module _ (ps : List Parameter) (w : WellFormedSheet ps) (es : List Entry) where
   HasMeaning t = LacksMeaning ps es t → ⊥
 
   -- where each test has a meaning on the card, the filter says yes exactly where the rules do
-  pub filter-says-iff : (f : Tree) → All HasMeaning (testsOf f) → (filterSays ps es f ≡ true) ↔ FilterSays ps es f
+  filter-says-iff : (f : Tree) → All HasMeaning (testsOf f) → (filterSays ps es f ≡ true) ↔ FilterSays ps es f
   unfolding filterSays evaluate testsOf
   filter-says-iff (test t) h = says-iff ps w es t (all-head HasMeaning h)
   filter-says-iff (join and f g) h =
@@ -236,7 +236,7 @@ module _ (ps : List Parameter) (w : WellFormedSheet ps) (es : List Entry) where
       let i = filter-says-iff f h in
       ((λ e s. both-ways (i .1 s) (not-true a e)), (λ n. ⊎-elim (λ e. absurd (n (i .0 e))) (λ e. ap not e) (decided a)))
 
-  pub verdict-by : (f : Tree) → All HasMeaning (testsOf f) → Verdict ps es f (yesOrNo (filterSays ps es f))
+  verdict-by : (f : Tree) → All HasMeaning (testsOf f) → Verdict ps es f (yesOrNo (filterSays ps es f))
   verdict-by f h =
       let i = filter-says-iff f h in
       record {

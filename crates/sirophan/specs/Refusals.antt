@@ -38,6 +38,7 @@ pub record Decides (Line : ℕ → ℕ → Type 0) (n p : ℕ) : Type 0 where
 
 -- ---- check
 
+-- the lines about the sheet
 pub data SheetLine (sheet : List ℕ) : ℕ → ℕ → Type 0 where
   -- "sheet is not 512 bytes"
   line-1 : (length sheet ≡ 512 → ⊥) → SheetLine sheet 1 0
@@ -46,12 +47,14 @@ pub data SheetLine (sheet : List ℕ) : ℕ → ℕ → Type 0 where
   -- "sheet breaks its layout or names": no well-formed sheet has these bytes
   line-3 : (SheetBlock sheet → ⊥) → SheetLine sheet 3 0
 
+-- about the text
 pub data TextLine (text : List ℕ) : ℕ → ℕ → Type 0 where
   -- "filter is empty or over 1,024 bytes"
   line-10 : (length text ≡ 0) ⊎ (1024 < length text) → TextLine text 10 0
   -- "text is no filter by the grammar": it spells no tree
   line-11 : ((f : Tree) → Spells text f → ⊥) → TextLine text 11 0
 
+-- about its tests
 pub data TestsLine (sheet text : List ℕ) : ℕ → ℕ → Type 0 where
   -- 14 to 17, at the "first byte of the test"
   line-of-test : (s : SheetBlock sheet) {f : Tree} {t : Test} {n : ℕ} → Spells text f → List·Memᴰ t (testsOf f) → TestLine (s .parameters) t n
@@ -62,7 +65,7 @@ CheckLine sheet text n p = SheetLine sheet n p ⊎ (TextLine text n p ⊎ TestsL
 
 -- ---- match
 
--- the lines that are about one card
+-- the lines about a card of 512 bytes
 pub data CardLine (sheet card : List ℕ) : ℕ → Type 0 where
   -- "card's check sum is wrong"
   line-21 : (checkSum card ≡ word card 508 → ⊥) → CardLine sheet card 21
@@ -71,6 +74,7 @@ pub data CardLine (sheet card : List ℕ) : ℕ → Type 0 where
   -- "card is sound but doesn't fit"
   line-23 : (s : SheetBlock sheet) → CardBlock card → ((es : List Entry) → Conforms (s .parameters) card es → ⊥) → CardLine sheet card 23
 
+-- about the card that match is given
 pub data OneCardLine (sheet card : List ℕ) : ℕ → ℕ → Type 0 where
   -- "match: card is not 512 bytes"
   line-20-match : (length card ≡ 512 → ⊥) → OneCardLine sheet card 20 0
@@ -81,14 +85,17 @@ MatchLine sheet text card n p = CheckLine sheet text n p ⊎ OneCardLine sheet c
 
 -- ---- select, into a list of `room` cells
 
+-- the lines about the run
 pub data RunLine (cards : List ℕ) : ℕ → ℕ → Type 0 where
   -- "select: no whole number of blocks, or over 128"
   line-20-select : ((bs : List (List ℕ)) → Run cards bs → ⊥) → RunLine cards 20 0
 
+-- about its cards
 pub data CardsLine (sheet cards : List ℕ) : ℕ → ℕ → Type 0 where
   -- 21 to 23, at the "card's index"
   line-of-card-at : {bs : List (List ℕ)} {n i : ℕ} {b : List ℕ} → Run cards bs → CardAt bs i b → CardLine sheet b n → CardsLine sheet cards n i
 
+-- about the list
 pub data RoomLine (sheet text cards : List ℕ) (room : ℕ) : ℕ → ℕ → Type 0 where
   -- "list shorter than the matches", at the "number of matches"
   line-30 : {bs : List (List ℕ)} → Run cards bs → room < length (matchingCards sheet text bs)

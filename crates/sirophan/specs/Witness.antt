@@ -7,5 +7,6 @@ use lib.Dec.{eqb}
 use Rattle.base.specs.Ascii.{ascii}
 use Rattle.kind.specs.Kinds.{date}
 
+-- a date has four digits at least; one digit is a string, a number, a token and a reference
 unfoldable pub witnessText : ℕ → List ℕ
 witnessText kind = cond (eqb kind date) (ascii "1974") (ascii "1")
