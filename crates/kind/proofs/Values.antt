@@ -5,10 +5,8 @@ use mathlib.Core.Path.{_≡_, sym, _∙_}
 use mathlib.Core.Bool.{Bool, false}
 use mathlib.Core.List.{List}
 use Rattle.number.specs.Reading as numbers
-use Rattle.number.specs.Value.{Bounded}
 use Rattle.number.specs.declared.Decimal.{Decimal}
 use Rattle.number.specs.declared.Reading as number-readings
-use Rattle.number.proofs.Spelling.{read-bounded}
 use Rattle.date.specs.Texts as dates
 use Rattle.date.specs.declared.Date.{Date}
 use Rattle.date.specs.declared.Reading as date-readings
@@ -17,9 +15,6 @@ use Rattle.kind.specs.declared.DateRelation.{DateRelation}
 use Rattle.kind.specs.Stands.{numberStands, numbersStand, dateStands, datesStand}
 
 -- ---- numbers
-
-pub number-bounded : (t : List ℕ) (r : number-readings.Reading) (d : Decimal) → r ≡ numbers.read t → r ≡ number-readings.Reading.Number d → Bounded d
-number-bounded t r d e h = read-bounded t d (sym e ∙ h)
 
 module _ (relation : NumberRelation) (i f : List ℕ) (r : number-readings.Reading) (e : r ≡ numbers.read i) where
   pub numbers-unreadable : r ≡ number-readings.Reading.Unreadable → false ≡ numbersStand relation (numbers.read i) (numbers.read f)

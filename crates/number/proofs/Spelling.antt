@@ -137,6 +137,10 @@ spelled-bounded s d (fraction w f e g h v) =
 pub read-bounded : (s : List ℕ) (d : Decimal) → read s ≡ Number d → Bounded d
 read-bounded s d e = spelled-bounded s d (read-spelled s d e)
 
+-- the same of an answer that was told to be a number
+pub number-bounded : (s : List ℕ) (r : Reading) (d : Decimal) → r ≡ read s → r ≡ Number d → Bounded d
+number-bounded s r d e h = read-bounded s d (sym e ∙ h)
+
 -- a text is readable exactly where it spells a number
 readable-number : (s : List ℕ) (r : Reading) → read s ≡ r → isNumber r ≡ true → (d : Decimal) × Spells s d
 readable-number s (Number d) e h = (d, read-spelled s d e)

@@ -57,12 +57,6 @@ pub enum Matched {
     Refused(Refusal),
 }
 
-// What select answers: the number of matching cards, or a refusal.
-pub enum Selected {
-    Count(usize),
-    Refused(Refusal),
-}
-
 // What judging one card answers.
 pub enum CardVerdict {
     Says(bool),

@@ -1,6 +1,7 @@
 -- `kind::relate::numbers_stand` meets its contract: both texts are read, and what is read keeps to the bounds. Assumes nothing.
 use borrow.Author.Needs.{needs}
-use Rattle.kind.proofs.Values.{number-bounded, numbers-unreadable, value-unreadable, numbers-stand}
+use Rattle.number.proofs.Spelling.{number-bounded}
+use Rattle.kind.proofs.Values.{numbers-unreadable, value-unreadable, numbers-stand}
 use Rattle.kind.proofs.relate.numbers_stand.Statement.{statement}
 use Rattle.kind.proofs.relate.numbers_stand.Tie as tie
 

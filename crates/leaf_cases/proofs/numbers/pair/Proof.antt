@@ -1,18 +1,8 @@
 -- `leaf_cases::numbers::pair` is safe: what is read keeps to the bounds of numbers. Assumes nothing.
-use Prim.Native.Nat.{ℕ}
-use mathlib.Core.Path.{_≡_, sym, _∙_}
-use mathlib.Core.List.{List}
 use borrow.Author.Needs.{needs}
-use Rattle.number.specs.Reading.{read}
-use Rattle.number.specs.Value.{Bounded}
-use Rattle.number.specs.declared.Decimal.{Decimal}
-use Rattle.number.specs.declared.Reading.{Reading}
-use Rattle.number.proofs.Spelling.{read-bounded}
+use Rattle.number.proofs.Spelling.{number-bounded}
 use Rattle.leaf_cases.proofs.numbers.pair.Statement.{statement}
 use Rattle.leaf_cases.proofs.numbers.pair.Tie as tie
-
-number-bounded : (t : List ℕ) (r : Reading) (d : Decimal) → r ≡ read t → r ≡ Reading.Number d → Bounded d
-number-bounded t r d e h = read-bounded t d (sym e ∙ h)
 
 read-requires : tie.Need-read-requires
 read-requires c κs = search needs
