@@ -14,10 +14,10 @@ ghost use Rattle.sheet.specs.Find.{find, kindOf};
 
 // A parameter: its kind (1 string, 2 number, 3 date, 4 token, 5 reference), and where its name starts and ends in the sheet. The
 // next parameter starts where the name ends.
-pub struct Parameter {
-    pub kind: u8,
-    pub start: usize,
-    pub end: usize,
+struct Parameter {
+    kind: u8,
+    start: usize,
+    end: usize,
 }
 
 // What a name is on a sheet: a parameter's, with its index and kind, or none's.
