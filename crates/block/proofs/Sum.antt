@@ -12,6 +12,7 @@ use Rattle.base.specs.Bytes.{Bytes}
 use Rattle.base.specs.Lists.{all-empty, all-cons}
 use Rattle.base.proofs.All.{all-take, bytes-of}
 use Rattle.block.specs.Sum.{sumFrom, checkSum}
+use Rattle.block.specs.Seal.{HasSize}
 use Rattle.block.proofs.Invariants.{Summed}
 
 -- no bytes sum to more than as many bytes 255
@@ -29,18 +30,21 @@ sum-largest {s} h e = rw e at (sum-most 1 h)
 
 -- ---- the loop that sums
 
-module _ (b : List ℕ) (h : 508 ≤ length b) where
+module _ (b : List ℕ) (h : HasSize b) where
+  front-length : length (take 508 b) ≡ 508
+  front-length = length-take-le 508 b (omega (arith, h))
+
   pub summed-start : ((i : ℕ) → getD b i 0 < 256) → Summed b 0 1 0
   unfolding checkSum
   summed-start k =
-      record { within = omega arith; next = refl; whole = zero-add _; most = sum-largest (all-take _ 508 (bytes-of b k)) (length-take-le 508 b h) }
+      record { within = omega arith; next = refl; whole = zero-add _; most = sum-largest (all-take _ 508 (bytes-of b k)) front-length }
 
   module _ (sum place i x : ℕ) (inv : Summed b sum place i) (l : i < 508) (e : x ≡ getD b i 0) where
     -- the byte at i is the first of those that are left
     split : sumFrom place (drop i (take 508 b)) ≡ x * place + sumFrom (place + 1) (drop (i + 1) (take 508 b))
     unfolding sumFrom
     split =
-        let k : i < length (take 508 b) = rw (length-take-le 508 b h) l in
+        let k : i < length (take 508 b) = rw front-length l in
         let g : getD (take 508 b) i 0 ≡ x = getD-take 508 b i 0 l ∙ sym e in
         rw (add-one place, add-one i, drop-cons (take 508 b) i 0, g)
 
@@ -53,5 +57,5 @@ module _ (b : List ℕ) (h : 508 ≤ length b) where
   pub summed-end : (sum place i : ℕ) → Summed b sum place i → 508 ≤ i → sum ≡ checkSum b
   unfolding sumFrom
   summed-end sum place i inv l =
-      let z : drop i (take 508 b) ≡ [] = drop-of-length-le (take 508 b) {i = i} (rw (length-take-le 508 b h) l) in
+      let z : drop i (take 508 b) ≡ [] = drop-of-length-le (take 508 b) {i = i} (rw front-length l) in
       omega (arith, inv .whole, ap (sumFrom place) z)

@@ -8,6 +8,7 @@ use lib.Dec.{leb, eqb}
 use lib.ListN.{length, getD}
 use Rattle.base.specs.Lists.{every}
 use Rattle.base.specs.Parts.{part}
+use Rattle.block.specs.Seal.{HasSize}
 use Rattle.block.specs.declared.Item.{Item}
 
 -- ---- reading
@@ -47,7 +48,7 @@ pub record ItemAt (b : List ℕ) (p : ℕ) (r : Item) : Type 0 where
 
 -- a walk over the items of a block stands at p, with `left` items to come
 pub record Walk (b : List ℕ) (p left : ℕ) : Type 0 where
-  pub size : length b ≡ 512
+  pub size : HasSize b
   pub within : p ≤ 508
   pub laid : laidOut left b p ≡ true
 

@@ -11,13 +11,17 @@ use Rattle.block.specs.Sum.{checkSum, sumFrom}
 use Rattle.block.specs.declared.Checked.{Checked}
 use Rattle.block.specs.declared.Checked.the-variants.{Sealed, WrongSize, WrongSum}
 
+-- the bytes are as many as a block's
+abbrev pub HasSize : List ℕ → Type 0
+HasSize b = length b ≡ 512
+
 -- "both are 512 bytes, each with its own check: bytes 508 to 511, low byte first, hold the sum"
 unfoldable pub check : List ℕ → Checked
 check b = cond (eqb (length b) 512) (cond (eqb (checkSum b) (word b 508)) Sealed WrongSum) WrongSize
 
 -- the same, part by part
 pub record IsSealed (b : List ℕ) : Type 0 where
-  pub size : length b ≡ 512
+  pub size : HasSize b
   pub sum : checkSum b ≡ word b 508
 
 -- a body of at most 508 bytes, with zeros from its end to byte 507

@@ -4,7 +4,7 @@ ghost use Prim.Native.Nat.{_+_, _≤_, _<_};
 ghost use lib.ListN.{length};
 ghost use Rattle.block.specs.Words.{word};
 ghost use Rattle.block.specs.Sum.{checkSum};
-ghost use Rattle.block.specs.Seal.{check};
+ghost use Rattle.block.specs.Seal.{HasSize, check};
 ghost use Rattle.block.specs.Items.{zeros, laidOut, hasLayout, ItemAt};
 
 // What the size and the check sum of a block are: both right, or which is wrong.
@@ -55,7 +55,7 @@ pub fn word(block: &[u8], at: usize) -> u32
 // The sum of the first 508 bytes, each times its place counted from 1. The place has a counter of its own, of the sum's
 // width, so that the loop is compiled to vector instructions.
 pub fn check_sum(block: &[u8]) -> u32
-    requires { ⌜ 508 ≤ length (now block) ⌝ }
+    requires { ⌜ HasSize (now block) ⌝ }
     ensures { λ r. ⌜ r ≡ checkSum (now (block .entry)) ⌝ }
 {
     let mut sum: u32 = 0;
@@ -111,7 +111,7 @@ pub fn item_at(block: &[u8], at: usize) -> Item
 
 // Whether `count` items from `from` on end at or before byte 507, and the bytes from there to 507 are zero.
 fn laid_out(block: &[u8], from: usize, count: u8) -> bool
-    requires { ⌜ length (now block) ≡ 512 ⌝ }
+    requires { ⌜ HasSize (now block) ⌝ }
     requires { ⌜ from ≤ 508 ⌝ }
     ensures { λ r. ⌜ r ≡ laidOut count (now (block .entry)) from ⌝ }
 {
@@ -132,7 +132,7 @@ fn laid_out(block: &[u8], from: usize, count: u8) -> bool
 // Whether the first byte is `first`, the byte at `at` says how many items follow it, `most` or fewer, and they and the padding
 // are laid out.
 pub fn has_layout(block: &[u8], first: u8, at: usize, most: u8) -> bool
-    requires { ⌜ length (now block) ≡ 512 ⌝ }
+    requires { ⌜ HasSize (now block) ⌝ }
     requires { ⌜ at < 508 ⌝ }
     ensures { λ r. ⌜ r ≡ hasLayout first at most (now (block .entry)) ⌝ }
 {

@@ -50,14 +50,15 @@ pub fn damaged(body: &[u8], at: usize, byte: u8) -> [u8; 512] {
     with_byte(sealed(body), at, byte)
 }
 
-// Where the label of a case ends, its colon included.
-pub fn label_end(case: &[u8]) -> usize
-    ensures { λ r. ⌜ r ≤ length (now (case .entry)) ⌝ }
+// Where the byte first stands in the text from `from` on, or the end of the text.
+pub fn place_of(text: &[u8], from: usize, byte: u8) -> usize
+    requires { ⌜ from ≤ length (now text) ⌝ }
+    ensures { λ r. ⌜ (from ≤ r) × (r ≤ length (now (text .entry))) ⌝ }
 {
-    let mut i = 0;
-    while i < case.len() {
-        if case[i] == b':' {
-            return i + 1;
+    let mut i = from;
+    while i < text.len() {
+        if text[i] == byte {
+            return i;
         }
         i += 1;
     }

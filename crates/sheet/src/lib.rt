@@ -7,17 +7,17 @@ use block::Checked;
 use block::Reading;
 ghost use mathlib.Core.Path.{_≡_};
 ghost use Prim.Native.Nat.{_<_};
-ghost use lib.ListN.{length};
+ghost use Rattle.block.specs.Seal.{HasSize};
 ghost use Rattle.block.specs.Items.{items, Walk};
 ghost use Rattle.sheet.specs.Sheet.{parameter, parameterCount, parametersOf, isParameter, areParameters, absent, distinct, sheetLayout, readSheet, ParameterAt};
 ghost use Rattle.sheet.specs.Find.{find, kindOf, kindsOf};
 
 // A parameter: its kind (1 string, 2 number, 3 date, 4 token, 5 reference), and where its name starts and ends in the sheet. The
 // next parameter starts where the name ends.
-pub struct Parameter {
-    pub kind: u8,
-    pub start: usize,
-    pub end: usize,
+struct Parameter {
+    kind: u8,
+    start: usize,
+    end: usize,
 }
 
 // What a name is on a sheet: a parameter's, with its index and kind, or none's.
@@ -125,7 +125,7 @@ fn distinct(sheet: &[u8], count: u8) -> bool
 
 // Whether layout, kinds and names of 512 bytes are a sheet's.
 fn sheet_layout(sheet: &[u8]) -> bool
-    requires { ⌜ length (now sheet) ≡ 512 ⌝ }
+    requires { ⌜ HasSize (now sheet) ⌝ }
     ensures { λ r. ⌜ r ≡ sheetLayout (now (sheet .entry)) ⌝ }
 {
     if !block::has_layout(sheet, 0x50, 1, 32) {

@@ -1,3 +1,4 @@
+-- `block::item_at` meets its contract: the length of a text is a byte. Assumes nothing.
 use Prim.Native.Nat.{_+_}
 use native.Mathlib.Omega.{arith}
 use borrow.Author.Needs.{needs}
@@ -5,31 +6,24 @@ use Rattle.block.specs.Items.{next}
 use Rattle.block.proofs.item_at.Statement.{statement}
 use Rattle.block.proofs.item_at.Tie as tie
 
--- src/lib.rt:100:17
 add-start : tie.Need-add-start
 add-start c = search needs
 
--- src/lib.rt:102:14
 shared-slice-read-t5 : tie.Need-shared-slice-read-t5
 shared-slice-read-t5 c = search needs
 
--- src/lib.rt:104:28
 add-t6 : tie.Need-add-t6
 add-t6 c = search needs
 
--- src/lib.rt:104:22
 shared-slice-read-t8 : tie.Need-shared-slice-read-t8
 shared-slice-read-t8 c = search needs
 
--- src/lib.rt:104:22
 cast-t9 : tie.Need-cast-t9
 cast-t9 c = omega (arith, c .shared-slice-known2 .given (c .before .before .args .at + 1))
 
--- src/lib.rt:104:14
 add-t10 : tie.Need-add-t10
 add-t10 c = omega (arith, c .shared-slice-known2 .given (c .before .before .args .at + 1))
 
--- src/lib.rt:96:1
 returns : tie.Need-returns
 unfolding next
 returns c = search needs

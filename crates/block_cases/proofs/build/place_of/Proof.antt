@@ -1,24 +1,21 @@
--- `block_cases::build::label_end` meets its contract: the index stays within the case. Assumes nothing.
+-- `block_cases::build::place_of` meets its contract: the index stays within the text. Assumes nothing.
 use Prim.Native.Nat.{_-_, _≤_}
 use lib.ListN.{length}
 use borrow.Author.Needs.{needs}
-use Rattle.block_cases.proofs.build.label_end.Statement.{statement}
-use Rattle.block_cases.proofs.build.label_end.Tie as tie
+use Rattle.block_cases.proofs.build.place_of.Statement.{statement}
+use Rattle.block_cases.proofs.build.place_of.Tie as tie
 
 abbrev Inv-loop : tie.InvT-loop
-Inv-loop case i₀ i = i ≤ length case
+Inv-loop text from byte i₀ i = (from ≤ i) × (i ≤ length text)
 
 abbrev μ-loop : tie.MeasureT-loop
-μ-loop case i₀ i = length case - i
+μ-loop text from byte i₀ i = length text - i
 
 loop-holds : tie.Need-loop-holds Inv-loop μ-loop
 loop-holds c = search needs
 
 shared-slice-read-if1 : tie.Need-shared-slice-read-if1 Inv-loop μ-loop
 shared-slice-read-if1 c = search needs
-
-add-result : tie.Need-add-result Inv-loop μ-loop
-add-result c = search needs
 
 returns : tie.Need-returns Inv-loop μ-loop
 returns c = search needs
@@ -35,15 +32,14 @@ loop-again c = search needs
 returns-2 : tie.Need-returns-2 Inv-loop μ-loop
 returns-2 c = search needs
 
-pub label-end-spec : {M : Type 1} → statement M
-label-end-spec =
+pub place-of-spec : {M : Type 1} → statement M
+place-of-spec =
     tie.close
     (tie.spec
     Inv-loop
     μ-loop
     loop-holds
     shared-slice-read-if1
-    add-result
     returns
     add-i
     loop-less
