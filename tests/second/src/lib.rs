@@ -5,6 +5,7 @@
 //! the differential test compares the two.
 
 pub mod block;
+pub mod cases;
 pub mod date;
 pub mod filter;
 pub mod meaning;
