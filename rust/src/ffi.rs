@@ -13,21 +13,13 @@ impl Answer {
     pub fn into_result(self) -> Result<usize, Refusal> {
         match self.refusal {
             0 => Ok(self.value),
-            number => Err(Refusal {
-                number,
-                place: self.value,
-            }),
+            number => Err(Refusal { number, place: self.value }),
         }
     }
 }
 
 unsafe extern "C" {
-    pub fn sirophan_check(
-        sheet: *const u8,
-        sheet_len: usize,
-        filter: *const u8,
-        filter_len: usize,
-    ) -> Answer;
+    pub fn sirophan_check(sheet: *const u8, sheet_len: usize, filter: *const u8, filter_len: usize) -> Answer;
 
     pub fn sirophan_match(
         sheet: *const u8,

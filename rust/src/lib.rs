@@ -23,9 +23,7 @@ pub use refusal::Refusal;
 /// If it passes, every test has a meaning on every card that fits the sheet.
 pub fn check(sheet: &[u8], filter: &[u8]) -> Result<usize, Refusal> {
     // SAFETY: each pointer comes with the length of the slice that it is of, and both are only read.
-    let answer = unsafe {
-        ffi::sirophan_check(sheet.as_ptr(), sheet.len(), filter.as_ptr(), filter.len())
-    };
+    let answer = unsafe { ffi::sirophan_check(sheet.as_ptr(), sheet.len(), filter.as_ptr(), filter.len()) };
     answer.into_result()
 }
 
@@ -33,26 +31,14 @@ pub fn check(sheet: &[u8], filter: &[u8]) -> Result<usize, Refusal> {
 pub fn matches(sheet: &[u8], filter: &[u8], card: &[u8]) -> Result<bool, Refusal> {
     // SAFETY: each pointer comes with the length of the slice that it is of, and all are only read.
     let answer = unsafe {
-        ffi::sirophan_match(
-            sheet.as_ptr(),
-            sheet.len(),
-            filter.as_ptr(),
-            filter.len(),
-            card.as_ptr(),
-            card.len(),
-        )
+        ffi::sirophan_match(sheet.as_ptr(), sheet.len(), filter.as_ptr(), filter.len(), card.as_ptr(), card.len())
     };
     answer.into_result().map(|value| value == 1)
 }
 
 /// Selects from a run of 0 to 128 cards: writes the record numbers of those that match into the list, in card order
 /// from its first cell on, and answers how many they are. Later cells stay, and a refusal leaves the whole list as it is.
-pub fn select(
-    sheet: &[u8],
-    filter: &[u8],
-    cards: &[u8],
-    list: &mut [u32],
-) -> Result<usize, Refusal> {
+pub fn select(sheet: &[u8], filter: &[u8], cards: &[u8], list: &mut [u32]) -> Result<usize, Refusal> {
     // SAFETY: each pointer comes with the length of the slice that it is of. Only the list is written, and it cannot
     // overlap the others, since it is borrowed for writing.
     let answer = unsafe {

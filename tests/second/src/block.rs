@@ -27,13 +27,7 @@ pub enum Kind {
 
 impl Kind {
     /// The kinds in the order of their numbers, from 1.
-    pub const ALL: [Kind; 5] = [
-        Kind::String,
-        Kind::Number,
-        Kind::Date,
-        Kind::Token,
-        Kind::Reference,
-    ];
+    pub const ALL: [Kind; 5] = [Kind::String, Kind::Number, Kind::Date, Kind::Token, Kind::Reference];
 
     /// The kind with this number on a sheet.
     pub fn from_number(number: u8) -> Option<Kind> {
@@ -121,10 +115,7 @@ pub fn is_name(text: &[u8]) -> bool {
     let begins = |byte: u8| byte == b'_' || byte.is_ascii_alphabetic();
     let goes_on = |byte: u8| begins(byte) || byte == b'-' || byte.is_ascii_digit();
     let is_word = [&b"and"[..], b"or", b"not"].contains(&text);
-    !is_word
-        && text
-            .split_first()
-            .is_some_and(|(&first, rest)| begins(first) && rest.iter().all(|&byte| goes_on(byte)))
+    !is_word && text.split_first().is_some_and(|(&first, rest)| begins(first) && rest.iter().all(|&byte| goes_on(byte)))
 }
 
 /// The bytes that the check sum is over, when size and check sum are right.

@@ -51,18 +51,13 @@ pub enum Operation {
 impl Cases {
     /// Reads the file, or says which line cannot be read.
     pub fn read(file: &str) -> Result<Cases, String> {
-        let mut found = Cases {
-            blocks: Vec::new(),
-            cases: Vec::new(),
-        };
+        let mut found = Cases { blocks: Vec::new(), cases: Vec::new() };
         let lines = file.lines().zip(1..);
         let is_told = |(line, _): &(&str, u32)| !line.trim().is_empty() && !line.starts_with('#');
         let mut lines = lines.filter(is_told).peekable();
         while let Some((line, number)) = lines.next() {
             let parts = indented(&mut lines);
-            found
-                .definition(line, &parts)
-                .ok_or(format!("line {number}: {line}"))?;
+            found.definition(line, &parts).ok_or(format!("line {number}: {line}"))?;
         }
         Ok(found)
     }
@@ -76,19 +71,13 @@ impl Cases {
                 Ok(tests) => format!("tests {tests}"),
                 Err(refusal) => spell_refusal(refusal),
             },
-            Operation::Match { card } => {
-                match operations::matches(sheet, &case.filter, bytes(*card)) {
-                    Ok(true) => "yes".to_string(),
-                    Ok(false) => "no".to_string(),
-                    Err(refusal) => spell_refusal(refusal),
-                }
-            }
+            Operation::Match { card } => match operations::matches(sheet, &case.filter, bytes(*card)) {
+                Ok(true) => "yes".to_string(),
+                Ok(false) => "no".to_string(),
+                Err(refusal) => spell_refusal(refusal),
+            },
             Operation::Select { cards, cells } => {
-                let cards: Vec<u8> = cards
-                    .iter()
-                    .flat_map(|&card| bytes(card))
-                    .copied()
-                    .collect();
+                let cards: Vec<u8> = cards.iter().flat_map(|&card| bytes(card)).copied().collect();
                 let mut list = vec![UNTOUCHED; *cells];
                 let mut answer = match operations::select(sheet, &case.filter, &cards, &mut list) {
                     Ok(count) => format!("count {count}"),
@@ -118,14 +107,9 @@ impl Cases {
             }
             (["damaged", name, "from", other], None) => return self.damaged(name, other, parts),
             (["check", _], Some(_)) => Operation::Check,
-            (["match", _, card], Some(_)) => Operation::Match {
-                card: self.index(card)?,
-            },
+            (["match", _, card], Some(_)) => Operation::Match { card: self.index(card)? },
             (["select", _, cards @ .., "into", cells], Some(_)) => Operation::Select {
-                cards: cards
-                    .iter()
-                    .map(|card| self.index(card))
-                    .collect::<Option<_>>()?,
+                cards: cards.iter().map(|card| self.index(card)).collect::<Option<_>>()?,
                 cells: cells.parse().ok()?,
             },
             _ => return None,

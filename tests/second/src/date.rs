@@ -62,12 +62,7 @@ impl Date {
                 let zone = read_zone(zone)?;
                 let start = midnight(year, month, day) + read_clock(clock)? - 60 * zone;
                 let (precision, end) = (Precision::Second, start + 1);
-                Some(Date {
-                    precision,
-                    zone,
-                    start,
-                    end,
-                })
+                Some(Date { precision, zone, start, end })
             }
             _ => None,
         }
@@ -76,12 +71,7 @@ impl Date {
     /// A date with no zone is read as UTC.
     fn without_zone(precision: Precision, start: i64, end: i64) -> Date {
         let zone = 0;
-        Date {
-            precision,
-            zone,
-            start,
-            end,
-        }
+        Date { precision, zone, start, end }
     }
 
     /// Same precision, start and zone.
@@ -105,9 +95,7 @@ fn field(digits: &[u8], length: usize, least: i64, most: i64) -> Option<i64> {
     if digits.len() != length || !digits.iter().all(u8::is_ascii_digit) {
         return None;
     }
-    let value = digits
-        .iter()
-        .fold(0, |value, digit| 10 * value + i64::from(digit - b'0'));
+    let value = digits.iter().fold(0, |value, digit| 10 * value + i64::from(digit - b'0'));
     (least <= value && value <= most).then_some(value)
 }
 
@@ -180,14 +168,8 @@ mod tests {
         assert_eq!(date("9999-12-31").end, 253_402_300_800);
         assert_eq!(date("1970").start, 0);
         assert_eq!(date("1969-12-31T23:59:59Z").start, -1);
-        assert_eq!(
-            date("0001-01-01T00:00:00+14:00").start,
-            -62_135_596_800 - 50_400
-        );
-        assert_eq!(
-            date("9999-12-31T23:59:59-14:00").end,
-            253_402_300_800 + 50_400
-        );
+        assert_eq!(date("0001-01-01T00:00:00+14:00").start, -62_135_596_800 - 50_400);
+        assert_eq!(date("9999-12-31T23:59:59-14:00").end, 253_402_300_800 + 50_400);
     }
 
     /// The day's end is the next day's start all the way through, so that the calendar has no hole and no overlap.
@@ -249,10 +231,7 @@ mod tests {
         let west = date("1974-06-30T20:30:00-02:30");
         assert!(utc.start == east.start && utc.start == west.start);
         assert!(!utc.same(east) && !east.same(west));
-        assert!(
-            utc.same(date("1974-06-30T23:00:00+00:00"))
-                && utc.same(date("1974-06-30T23:00:00-00:00"))
-        );
+        assert!(utc.same(date("1974-06-30T23:00:00+00:00")) && utc.same(date("1974-06-30T23:00:00-00:00")));
         assert!(!date("1974-01").same(date("1974-01-01")));
     }
 }

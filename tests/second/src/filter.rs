@@ -221,12 +221,7 @@ impl<'a> Reader<'a> {
             return None;
         }
         let name = name.to_vec();
-        Some(Test {
-            place,
-            name,
-            operation,
-            value,
-        })
+        Some(Test { place, name, operation, value })
     }
 
     /// One or more bytes 0x21 to 0x7E without ")" and "]".
@@ -380,10 +375,7 @@ mod tests {
     fn values() {
         assert_eq!(value("a eq b(\"\\c"), b"b(\"\\c");
         assert_eq!(value("a eq \"b c\""), b"b c");
-        assert_eq!(
-            value(r#"a eq "\"\\\/\b\f\n\r\t""#),
-            b"\"\\/\x08\x0C\x0A\x0D\x09"
-        );
+        assert_eq!(value(r#"a eq "\"\\\/\b\f\n\r\t""#), b"\"\\/\x08\x0C\x0A\x0D\x09");
         assert_eq!(value("a eq \"\u{7F}\u{E4}]\""), "\u{7F}\u{E4}]".as_bytes());
     }
 

@@ -7,7 +7,9 @@
 pub mod block;
 pub mod cases;
 pub mod date;
+pub mod differential;
 pub mod filter;
+pub mod generate;
 pub mod meaning;
 pub mod number;
 pub mod operations;

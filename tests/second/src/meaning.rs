@@ -66,10 +66,7 @@ pub fn question(test: &Test, sheet: &Sheet) -> Result<Question, Fault> {
     let place = place.ok_or(Fault::UnknownName)?;
     let kind = sheet.parameters[place].kind;
     let operation = test.operation;
-    if matches!(
-        operation,
-        Operation::Ap | Operation::Ss | Operation::Sb | Operation::In | Operation::Ni
-    ) {
+    if matches!(operation, Operation::Ap | Operation::Ss | Operation::Sb | Operation::In | Operation::Ni) {
         return Err(Fault::UnservedOperation);
     }
     if !has_meaning(kind, operation) {
@@ -139,9 +136,7 @@ impl Asks {
     fn holds(&self, value: &Value) -> bool {
         match (self, value) {
             (Asks::String(operation, part), Value::String(text)) => string(*operation, text, part),
-            (Asks::Number(operation, filter), Value::Number(card)) => {
-                number(*operation, *card, *filter)
-            }
+            (Asks::Number(operation, filter), Value::Number(card)) => number(*operation, *card, *filter),
             (Asks::Date(operation, filter), Value::Date(card)) => date(*operation, *card, *filter),
             (Asks::Token(operation, pattern), Value::Token(card)) => {
                 pattern.matches(*card) == (*operation == Operation::Eq)

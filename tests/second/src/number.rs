@@ -87,11 +87,7 @@ mod tests {
         assert!(decimal("012").same(decimal("12")));
         assert!(!decimal("12").same(decimal("12.0")));
         assert!(decimal("12").order(decimal("12.0")).is_eq());
-        assert!(
-            decimal("99999999.999999999")
-                .order(decimal("99999999"))
-                .is_gt()
-        );
+        assert!(decimal("99999999.999999999").order(decimal("99999999")).is_gt());
         assert!(decimal("0.000000001").order(decimal("0")).is_gt());
     }
 

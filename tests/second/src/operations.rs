@@ -30,14 +30,9 @@ pub fn matches(sheet: &[u8], filter: &[u8], card: &[u8]) -> Result<bool, Refusal
 }
 
 /// Writes the record numbers of the matching cards into the list and answers how many they are.
-pub fn select(
-    sheet: &[u8],
-    filter: &[u8],
-    cards: &[u8],
-    list: &mut [u32],
-) -> Result<usize, Refusal> {
+pub fn select(sheet: &[u8], filter: &[u8], cards: &[u8], list: &mut [u32]) -> Result<usize, Refusal> {
     let asked = Asked::read(sheet, filter)?;
-    if cards.len() % block::SIZE != 0 || cards.len() / block::SIZE > MOST_CARDS {
+    if !cards.len().is_multiple_of(block::SIZE) || cards.len() / block::SIZE > MOST_CARDS {
         return Err(refused(20, 0));
     }
     let mut found = Vec::new();

@@ -7,8 +7,7 @@ pub fn same(left: &[u8], right: &[u8]) -> bool {
 
 /// The text holds the part at its start.
 pub fn starts(text: &[u8], part: &[u8]) -> bool {
-    text.get(..part.len())
-        .is_some_and(|start| same(start, part))
+    text.get(..part.len()).is_some_and(|start| same(start, part))
 }
 
 /// The text holds the part at its end.

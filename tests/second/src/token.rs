@@ -49,25 +49,19 @@ impl Pattern {
             (system, b"") => (system, None),
             (system, code) => (system, Some(code)),
         };
-        Some(Pattern {
-            system: system.map(namespace).map(<[u8]>::to_vec),
-            code: code.map(<[u8]>::to_vec),
-        })
+        Some(Pattern { system: system.map(namespace).map(<[u8]>::to_vec), code: code.map(<[u8]>::to_vec) })
     }
 
     /// Whether the token is one that the filter asks for.
     pub fn matches(&self, token: Token) -> bool {
-        let asks =
-            |part: &Option<Vec<u8>>, held| part.as_ref().is_none_or(|part| text::same(part, held));
+        let asks = |part: &Option<Vec<u8>>, held| part.as_ref().is_none_or(|part| text::same(part, held));
         asks(&self.system, token.system) && asks(&self.code, token.code)
     }
 }
 
 /// The system that a filter's system stands for.
 fn namespace(system: &[u8]) -> &[u8] {
-    let short = NAMESPACES
-        .iter()
-        .find(|(short, _)| text::same(short, system));
+    let short = NAMESPACES.iter().find(|(short, _)| text::same(short, system));
     short.map_or(system, |(_, full)| full)
 }
 
@@ -88,11 +82,7 @@ mod tests {
             ("s||", true, true),
         ] {
             assert_eq!(Token::read(text.as_bytes()).is_some(), on_card, "{text}");
-            assert_eq!(
-                Pattern::read(text.as_bytes()).is_some(),
-                in_filter,
-                "{text}"
-            );
+            assert_eq!(Pattern::read(text.as_bytes()).is_some(), in_filter, "{text}");
         }
     }
 
@@ -114,11 +104,7 @@ mod tests {
             ("loinc|", "loinc|x", false),
             ("ucum|", "http://unitsofmeasure.org|mg", true),
             ("snomed|", "http://snomed.info/sct|1", true),
-            (
-                "rxnorm|",
-                "http://www.nlm.nih.gov/research/umls/rxnorm|1",
-                true,
-            ),
+            ("rxnorm|", "http://www.nlm.nih.gov/research/umls/rxnorm|1", true),
             ("loinc", "http://loinc.org|x", false),
             ("loinc", "s|LOINC", true),
             ("s|a|b", "s|a|b", true),

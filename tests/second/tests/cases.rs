@@ -9,10 +9,7 @@ fn answers_found_by_hand() {
     for (case, number) in cases.cases.iter().zip(1..) {
         let answer = cases.answer(case);
         if answer != case.answer {
-            others.push(format!(
-                "{number} `{}`: {answer}, by hand {}",
-                case.written, case.answer
-            ));
+            others.push(format!("{number} `{}`: {answer}, by hand {}", case.written, case.answer));
         }
     }
     assert!(others.is_empty(), "{}", others.join("\n"));

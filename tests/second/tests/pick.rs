@@ -13,9 +13,7 @@ fn block(name: &str) -> Vec<u8> {
 
 /// This many cards with record numbers from 0, all without entries.
 fn blank_cards(count: u32) -> Vec<u8> {
-    (0..count)
-        .flat_map(|record| write_card(record, &[]).unwrap())
-        .collect()
+    (0..count).flat_map(|record| write_card(record, &[]).unwrap()).collect()
 }
 
 #[test]
@@ -42,11 +40,7 @@ fn one_line_feed_is_dropped() {
 #[test]
 fn runs_of_128_cards() {
     let sheet = block("ward");
-    let numbers = |count: u32| {
-        (0..count)
-            .map(|record| format!("{record}\n"))
-            .collect::<String>()
-    };
+    let numbers = |count: u32| (0..count).map(|record| format!("{record}\n")).collect::<String>();
     let says = |cards: &[u8]| output(&sheet, b"title pr false", cards);
     for count in [0, 1, 127, 128, 129, 256, 300] {
         let expected = format!("{}{count} of {count}\n", numbers(count));
@@ -67,12 +61,6 @@ fn runs_of_128_cards() {
 #[test]
 fn refused_before_any_card() {
     let cards = blank_cards(1);
-    assert_eq!(
-        output(&block("ward-short"), b"title pr false", &cards),
-        "refused 1 at 0\n"
-    );
-    assert_eq!(
-        output(&block("ward"), b"title pr false and code gt 5", &[]),
-        "refused 16 at 19\n"
-    );
+    assert_eq!(output(&block("ward-short"), b"title pr false", &cards), "refused 1 at 0\n");
+    assert_eq!(output(&block("ward"), b"title pr false and code gt 5", &[]), "refused 16 at 19\n");
 }

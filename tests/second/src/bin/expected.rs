@@ -1,33 +1,61 @@
 //! Prints what the program `trial` must print: for each case of `tests/cases.txt` its number, the filter as written
-//! and the answer. With `--bytes` it prints the blocks and cases as lists of bytes instead, to make that program of.
+//! and the answer.
+//!
+//! `expected --against FILE` compares that with what the program printed; its last line counts the lines that agree.
+//! `expected --bytes` prints the blocks and the cases as lists of bytes, to make that program of.
 
 use second::cases::{Cases, Operation};
 use std::process::ExitCode;
 
 fn main() -> ExitCode {
-    let with_bytes = match std::env::args().skip(1).collect::<Vec<_>>().as_slice() {
-        [] => false,
-        [option] if option == "--bytes" => true,
-        _ => {
-            eprintln!("usage: expected [--bytes]");
+    let cases = match Cases::read(include_str!("../../../cases.txt")) {
+        Ok(cases) => cases,
+        Err(line) => {
+            eprintln!("cases.txt cannot be read at {line}");
             return ExitCode::FAILURE;
         }
     };
-    match Cases::read(include_str!("../../../cases.txt")) {
-        Ok(cases) if with_bytes => print_bytes(&cases),
-        Ok(cases) => print_answers(&cases),
-        Err(line) => {
-            eprintln!("cases.txt cannot be read at {line}");
+    let arguments: Vec<String> = std::env::args().skip(1).collect();
+    let arguments: Vec<&str> = arguments.iter().map(String::as_str).collect();
+    match arguments[..] {
+        [] => lines(&cases).iter().for_each(|line| println!("{line}")),
+        ["--bytes"] => print_bytes(&cases),
+        ["--against", file] => return compare(&lines(&cases), file),
+        _ => {
+            eprintln!("usage: expected [--against FILE | --bytes]");
             return ExitCode::FAILURE;
         }
     }
     ExitCode::SUCCESS
 }
 
-fn print_answers(cases: &Cases) {
-    for (case, number) in cases.cases.iter().zip(1..) {
-        println!("{number} `{}` {}", case.written, cases.answer(case));
+fn lines(cases: &Cases) -> Vec<String> {
+    let numbered = cases.cases.iter().zip(1..);
+    numbered.map(|(case, number)| format!("{number} `{}` {}", case.written, cases.answer(case))).collect()
+}
+
+/// Compares line by line; a line that is missing or too many does not agree either.
+fn compare(expected: &[String], file: &str) -> ExitCode {
+    let printed = match std::fs::read(file) {
+        Ok(bytes) => String::from_utf8_lossy(&bytes).into_owned(),
+        Err(reason) => {
+            eprintln!("{file} cannot be read: {reason}");
+            return ExitCode::FAILURE;
+        }
+    };
+    let printed: Vec<&str> = printed.lines().collect();
+    let mut passed = 0;
+    for index in 0..expected.len().max(printed.len()) {
+        let (ours, theirs) = (expected.get(index).map(String::as_str), printed.get(index).copied());
+        if ours == theirs {
+            passed += 1;
+        } else {
+            println!("line {}: {theirs:?}, expected {ours:?}", index + 1);
+        }
     }
+    let failed = expected.len().max(printed.len()) - passed;
+    println!("{passed} passed, {failed} failed");
+    if failed == 0 { ExitCode::SUCCESS } else { ExitCode::FAILURE }
 }
 
 /// A line for each block and each case. A case names blocks by their number; `written` is the text before its answer.
@@ -45,10 +73,6 @@ fn print_bytes(cases: &Cases) {
             }
         };
         let written = format!("{number} `{}` ", case.written);
-        println!(
-            "case {number} {asks} filter {:?} written {:?}",
-            case.filter,
-            written.as_bytes()
-        );
+        println!("case {number} {asks} filter {:?} written {:?}", case.filter, written.as_bytes());
     }
 }
