@@ -45,11 +45,13 @@ impl Outcome {
 
     /// Prints the counts; the last line is for the gate.
     pub fn print(&self, seed: u64, time: Duration) {
-        for (mode, count) in &self.modes {
-            println!("{count:>8} {mode}");
-        }
-        for ((operation, answer), count) in &self.answers {
-            println!("{count:>8} {operation}: {answer}");
+        let listed = |counts: Vec<String>| counts.join(", ");
+        let modes = self.modes.iter().map(|(mode, count)| format!("{mode} {count}"));
+        println!("cases: {}", listed(modes.collect()));
+        for operation in ["check", "match", "select"] {
+            let answers = self.answers.iter().filter(|((of, _), _)| *of == operation);
+            let answers = answers.map(|((_, answer), count)| format!("{answer} {count}"));
+            println!("{operation}: {}", listed(answers.collect()));
         }
         let cases = self.passed + self.failed;
         let verdicts = self.verdicts();
@@ -88,7 +90,7 @@ fn compare(library: &impl Library, case: &Case, answers: &mut BTreeMap<(&'static
     };
 
     let (ours, theirs) = (operations::check(sheet, filter), library.check(sheet, filter));
-    note("check", told(ours, |_| "a number of tests"));
+    note("check", told(ours, |_| "tests"));
     differences.extend(difference("check", ours, theirs));
 
     let (ours, theirs) = (operations::matches(sheet, filter, card), library.matches(sheet, filter, card));
@@ -110,7 +112,7 @@ fn compare(library: &impl Library, case: &Case, answers: &mut BTreeMap<(&'static
 fn told<T>(answer: Result<T, Refusal>, tell: impl Fn(T) -> &'static str) -> String {
     match answer {
         Ok(answer) => tell(answer).to_string(),
-        Err(refusal) => format!("refused {:>2}", refusal.number),
+        Err(refusal) => format!("refused-{:02}", refusal.number),
     }
 }
 

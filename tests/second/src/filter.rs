@@ -157,7 +157,8 @@ struct Reader<'a> {
 }
 
 impl<'a> Reader<'a> {
-    /// Items joined by and or or, up to the end or to a closing bracket; spaces may stand at either end.
+    /// Items joined by and or or, up to the end or to a closing bracket; spaces may stand at either end. So what
+    /// follows an item is a space, a closing bracket or the end.
     fn filter(&mut self, depth_left: usize) -> Option<Filter<Test>> {
         self.spaces();
         let first = self.item(depth_left)?;
@@ -217,9 +218,6 @@ impl<'a> Reader<'a> {
             Some(b'"') => self.string()?,
             _ => self.bare_word()?,
         };
-        if !matches!(self.peek(), None | Some(b' ' | b')')) {
-            return None;
-        }
         let name = name.to_vec();
         Some(Test { place, name, operation, value })
     }

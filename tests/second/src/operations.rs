@@ -22,9 +22,6 @@ pub fn check(sheet: &[u8], filter: &[u8]) -> Result<usize, Refusal> {
 /// Answers whether the card matches the filter.
 pub fn matches(sheet: &[u8], filter: &[u8], card: &[u8]) -> Result<bool, Refusal> {
     let asked = Asked::read(sheet, filter)?;
-    if card.len() != block::SIZE {
-        return Err(refused(20, 0));
-    }
     let (_, verdict) = asked.judge(card, 0)?;
     Ok(verdict)
 }

@@ -16,23 +16,31 @@ const ROUNDS: usize = 3;
 /// How many cards are selected from at a time.
 const RUN: usize = 128;
 
-/// The filters, by what they are, from one test to 32.
+/// The filters, by the number and kind of their tests.
 fn filters() -> Vec<(&'static str, String)> {
-    let mixed = ["title co \"book 4\"", "birthdate le 1974-06", "code eq loinc|1234-5", "pages ge 100"];
-    let mixed_of = |count: usize| {
-        let tests: Vec<&str> = mixed.into_iter().cycle().take(count).collect();
-        tests.chunks(4).map(|four| format!("({})", four.join(" or "))).collect::<Vec<_>>().join(" and ")
-    };
     vec![
         ("1, presence", "subject pr true".into()),
         ("1, number", "pages ge 100".into()),
         ("1, date", "birthdate le 1974-06".into()),
         ("1, token", "code eq loinc|1234-5".into()),
         ("1, string", "title co \"book 4\"".into()),
-        ("4, mixed", mixed_of(4)),
-        ("12, mixed", mixed_of(12)),
-        ("32, mixed", mixed_of(32)),
+        ("4, mixed", mixed(4)),
+        ("12, mixed", mixed(12)),
+        ("32, mixed", mixed(32)),
     ]
+}
+
+/// So many tests of four kinds, in brackets of four.
+fn mixed(count: usize) -> String {
+    let test = |index: usize| match index % 4 {
+        0 => format!("title co \"book {index}\""),
+        1 => format!("birthdate le {}-06", 1930 + index),
+        2 => format!("code eq loinc|{}-5", 1230 + index),
+        _ => format!("pages ge {}", 10 * index),
+    };
+    let tests: Vec<String> = (0..count).map(test).collect();
+    let brackets: Vec<String> = tests.chunks(4).map(|four| format!("({})", four.join(" or "))).collect();
+    brackets.join(" and ")
 }
 
 fn sheet() -> Vec<u8> {

@@ -50,7 +50,8 @@ fn compare(expected: &[String], file: &str) -> ExitCode {
         if ours == theirs {
             passed += 1;
         } else {
-            println!("line {}: {theirs:?}, expected {ours:?}", index + 1);
+            let told = |line: Option<&str>| line.unwrap_or("no line").to_string();
+            println!("line {}: {}\nexpected: {}", index + 1, told(theirs), told(ours));
         }
     }
     let failed = expected.len().max(printed.len()) - passed;

@@ -102,34 +102,10 @@ fn parameters(random: &mut Random, most: usize) -> Vec<(Kind, Vec<u8>)> {
 }
 
 /// A name, often one that is easily mistaken for another or for a word of the grammar.
-pub fn name(random: &mut Random) -> Vec<u8> {
+fn name(random: &mut Random) -> Vec<u8> {
     let known = [
-        "title",
-        "Title",
-        "titl",
-        "titles",
-        "birthdate",
-        "code",
-        "pages",
-        "subject",
-        "_",
-        "_id",
-        "a",
-        "A",
-        "a-",
-        "a_",
-        "And",
-        "OR",
-        "nOt",
-        "and-",
-        "not-x",
-        "orb",
-        "eq",
-        "true",
-        "android",
-        "n",
-        "no",
-        "a1",
+        "title", "Title", "titl", "titles", "birth", "code", "pages", "subject", "_", "_id", "a", "A", "a-", "a_",
+        "a1", "And", "OR", "nOt", "and-", "not-x", "orb", "n", "no", "eq", "true", "android",
     ];
     if !random.once_in(3) {
         return random.one(&known).into();

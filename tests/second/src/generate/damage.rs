@@ -34,8 +34,8 @@ fn content(random: &mut Random, block: &mut [u8], count_at: usize, bad_heads: &[
             block[at] ^= 1 << random.below(8);
             return;
         }
-        2 => (0, random.one(&[SHEET, CARD, 0, block[0] + 1, block[0] - 1])),
-        3 => (count_at, random.one(&[count.wrapping_sub(1), count + 1, 0, 255])),
+        2 => (0, random.one(&[SHEET, CARD, 0, block[0] ^ 1, block[0] ^ 0x20])),
+        3 => (count_at, random.one(&[count.wrapping_sub(1), count.wrapping_add(1), 0, 255])),
         4 if end < SUMMED => (random.one(&[end, end, SUMMED - 1, SUMMED - 1, (end + SUMMED) / 2]), 1),
         _ if heads.is_empty() => (count_at, 1),
         5 => (random.one(&heads), random.one(bad_heads)),

@@ -148,6 +148,17 @@ pub fn bracket(random: &mut Random, filter: &[u8]) -> Vec<u8> {
     text
 }
 
+/// The filter with one byte changed; in half of the cases that is a byte of the grammar, or the one behind it.
+pub fn one_byte_changed(random: &mut Random, filter: &[u8]) -> Vec<u8> {
+    let is_of_grammar = |&at: &usize| b" ()\"\\".contains(&filter[at]);
+    let places: Vec<usize> = (0..filter.len()).filter(is_of_grammar).collect();
+    if random.once_in(2) {
+        return texts::one_byte_changed(random, filter);
+    }
+    let at = random.one(&places) + random.below(2);
+    texts::changed_at(random, filter, at)
+}
+
 /// Writes some spaces, mostly the least number.
 fn spaces(random: &mut Random, least: usize, text: &mut Vec<u8>) {
     let more = if random.once_in(8) { 1 + random.below(2) } else { 0 };

@@ -67,7 +67,7 @@ fn full_card(random: &mut Random) -> Case {
     archive.cards.retain(|card| card.entries.is_empty());
     let count = random.one(&[2, 3, 8, 63, 64, 65]);
     let lengths = shares(end(random) - 6 - 2 * count, count);
-    let entry = |length| (0, vec![random.one(b"abB "); length]);
+    let entry = |length| (0, vec![random.one(b"abcdefghijkABCDEFGHIJK "); length]);
     let entries: Vec<_> = lengths.into_iter().map(entry).collect();
     let mut head = vec![block::CARD];
     head.extend(record(random).to_le_bytes());

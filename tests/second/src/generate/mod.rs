@@ -59,9 +59,15 @@ pub fn files(seed: u64, number: u64) -> Files {
     }
     let mut filter = modes::good_filter(random, &archive, 3);
     if random.once_in(8) {
-        filter = texts::one_byte_changed(random, &filter);
+        filter = filters::one_byte_changed(random, &filter);
     }
-    filter.extend_from_slice(random.one(&["\n", "\n", "", "\n\n", "\r\n"]).as_bytes());
+    let line_end = match random.below(10) {
+        0 => "\n\n",
+        1 => "\r\n",
+        2 | 3 => "",
+        _ => "\n",
+    };
+    filter.extend_from_slice(line_end.as_bytes());
     let count = random.one(&[0, 1, 3, 127, 128, 129, 255, 256, 257, 300]);
     let mut cards: Vec<u8> = archive.run().into_iter().cycle().take(count * SIZE).collect();
     if count > 0 && random.once_in(3) {

@@ -8,7 +8,7 @@ use super::limits;
 use super::random::Random;
 use super::texts;
 use crate::block::{self, Kind};
-use crate::filter::{DEEPEST, MOST_TESTS};
+use crate::filter::{DEEPEST, MOST_TESTS, OPERATIONS};
 
 /// A mode: how often it is drawn, and what makes its inputs.
 pub struct Mode {
@@ -17,12 +17,13 @@ pub struct Mode {
     pub make: fn(&mut Random) -> Case,
 }
 
-pub const MODES: [Mode; 12] = [
-    Mode { name: "tests over cards", weight: 20, make: tests_over_cards },
+pub const MODES: [Mode; 13] = [
+    Mode { name: "tests over cards", weight: 18, make: tests_over_cards },
     Mode { name: "one test over many cards", weight: 25, make: one_test },
-    Mode { name: "long chains", weight: 8, make: long_chain },
+    Mode { name: "long chains", weight: 7, make: long_chain },
     Mode { name: "one byte of a filter changed", weight: 12, make: one_byte },
     Mode { name: "doubtful tests", weight: 6, make: doubtful_tests },
+    Mode { name: "every operation", weight: 3, make: every_operation },
     Mode { name: "values on the edge", weight: 5, make: edge_values },
     Mode { name: "damaged sheets", weight: 5, make: damaged_sheet },
     Mode { name: "damaged cards", weight: 6, make: damaged_cards },
@@ -100,11 +101,11 @@ fn long_chain(random: &mut Random) -> Case {
     case_of(random, &archive, filter)
 }
 
-/// A good filter in which exactly one byte is another, or more or less.
+/// A good filter with exactly one byte exchanged, put in or taken out.
 fn one_byte(random: &mut Random) -> Case {
     let archive = Archive::new(random, 3, 3, 4);
     let filter = good_filter(random, &archive, 3);
-    let filter = texts::one_byte_changed(random, &filter);
+    let filter = filters::one_byte_changed(random, &filter);
     case_of(random, &archive, filter)
 }
 
@@ -121,6 +122,17 @@ fn doubtful_tests(random: &mut Random) -> Case {
     case_of(random, &archive, filter)
 }
 
+/// One test of any operation, whether its kind has it or not, with a value that the kind can read.
+fn every_operation(random: &mut Random) -> Case {
+    let archive = Archive::new(random, 3, 2, 3);
+    let (place, kind) = archive.parameter(random);
+    let (word, _) = random.one(&OPERATIONS);
+    let text = archive.text_under(random, place);
+    let value = texts::near_in_filter(random, kind, &text);
+    let filter = filters::spell_test(random, archive.name(place), word, &value);
+    case_of(random, &archive, filter)
+}
+
 /// One test whose value is on the edge of what can be read.
 fn edge_values(random: &mut Random) -> Case {
     let archive = Archive::new(random, 2, 2, 2);
@@ -131,6 +143,7 @@ fn edge_values(random: &mut Random) -> Case {
     case_of(random, &archive, filter)
 }
 
+/// A damaged sheet under good cards.
 fn damaged_sheet(random: &mut Random) -> Case {
     let mut archive = Archive::new(random, 8, 2, 3);
     let filter = good_filter(random, &archive, 2);
@@ -186,7 +199,7 @@ fn several_faults(random: &mut Random) -> Case {
         damage::sheet(random, &mut case.sheet);
     }
     match random.below(4) {
-        0 => case.filter = texts::one_byte_changed(random, &case.filter),
+        0 => case.filter = filters::one_byte_changed(random, &case.filter),
         1 => case.filter.resize(random.one(&[0, 1025]), b' '),
         2 => case.filter = doubtful_tests(random).filter,
         _ => {}

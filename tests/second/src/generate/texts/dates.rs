@@ -4,6 +4,18 @@ use super::one_byte_changed;
 use crate::date::{self, Date, Precision};
 use crate::generate::random::Random;
 
+/// Dates at the ends of the calendar. By their zone the last two lie outside every year that can be written.
+const CALENDAR_ENDS: [&str; 6] = [
+    "0001",
+    "9999",
+    "0001-01-01T00:00:00Z",
+    "9999-12-31T23:59:59Z",
+    "0001-01-01T00:00:00+00:01",
+    "9999-12-31T23:59:59-00:01",
+];
+
+const PRECISIONS: [Precision; 4] = [Precision::Year, Precision::Month, Precision::Day, Precision::Second];
+
 /// The mean length of a year in seconds.
 const MEAN_YEAR: i64 = date::DAY * 146_097 / 400;
 
@@ -59,6 +71,7 @@ impl Written {
     }
 }
 
+/// A zone as written; UTC has three spellings.
 fn spell_zone(zone: i64, random: &mut Random) -> String {
     let sign = match zone.signum() {
         0 => random.one(&["Z", "Z", "+", "-"]),
@@ -72,18 +85,7 @@ fn spell_zone(zone: i64, random: &mut Random) -> String {
     format!("{sign}{:02}:{:02}", minutes / 60, minutes % 60)
 }
 
-/// Dates at the ends of the calendar. By their zone the last two lie outside every year that can be written.
-const CALENDAR_ENDS: [&str; 6] = [
-    "0001",
-    "9999",
-    "0001-01-01T00:00:00Z",
-    "9999-12-31T23:59:59Z",
-    "0001-01-01T00:00:00+00:01",
-    "9999-12-31T23:59:59-00:01",
-];
-
-const PRECISIONS: [Precision; 4] = [Precision::Year, Precision::Month, Precision::Day, Precision::Second];
-
+/// A zone in minutes, often UTC or one of the widest.
 fn zone(random: &mut Random) -> i64 {
     match random.below(3) {
         0 => 0,
@@ -188,17 +190,22 @@ pub fn on_the_edge(random: &mut Random) -> Vec<u8> {
         }
     }
     let mut text = written.spell(precision);
-    if random.once_in(4) {
+    if random.once_in(3) {
         other_separator(random, &mut text);
     }
     text
 }
 
-/// Exchanges one of the bytes that are not digits for another such byte.
+/// Exchanges one of the bytes that are not digits for another such byte, or for the same letter in the other case.
 fn other_separator(random: &mut Random, text: &mut [u8]) {
     let is_separator = |&at: &usize| !text[at].is_ascii_digit();
     let separators: Vec<usize> = (0..text.len()).filter(is_separator).collect();
-    if !separators.is_empty() {
-        text[random.one(&separators)] = random.one(b"TtZz-+: ./_");
+    if separators.is_empty() {
+        return;
+    }
+    let letters: Vec<usize> = separators.iter().copied().filter(|&at| text[at].is_ascii_alphabetic()).collect();
+    match letters[..] {
+        [letter, ..] if random.once_in(2) => text[letter] = random.one(&[text[letter] ^ 0x20, b' ', b'-']),
+        _ => text[random.one(&separators)] = random.one(b"TtZz-+: ./_"),
     }
 }

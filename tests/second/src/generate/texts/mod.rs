@@ -86,17 +86,22 @@ pub fn on_the_edge(random: &mut Random, kind: Kind) -> Vec<u8> {
 
 /// The text with one byte exchanged, put in or taken out.
 pub fn one_byte_changed(random: &mut Random, text: &[u8]) -> Vec<u8> {
+    let at = random.below(text.len() + 1);
+    changed_at(random, text, at)
+}
+
+/// The text with the byte at this place exchanged or taken out, or with one put in before it.
+pub fn changed_at(random: &mut Random, text: &[u8], at: usize) -> Vec<u8> {
     let mut changed = text.to_vec();
-    if text.is_empty() {
-        return vec![telling_byte(random)];
+    if at == text.len() {
+        changed.push(telling_byte(random));
+        return changed;
     }
-    let at = random.below(text.len());
     match random.below(6) {
         0 => changed.insert(at, telling_byte(random)),
-        1 => changed.push(telling_byte(random)),
-        2 => drop(changed.remove(at)),
-        3 => changed[at] ^= 0x20,
-        4 => changed[at] = changed[at].wrapping_add(random.one(&[1, 255])),
+        1 => drop(changed.remove(at)),
+        2 => changed[at] ^= 0x20,
+        3 => changed[at] = changed[at].wrapping_add(random.one(&[1, 255])),
         _ => changed[at] = telling_byte(random),
     }
     changed
