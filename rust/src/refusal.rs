@@ -29,7 +29,7 @@ impl Refusal {
             14 => "The sheet has no parameter of this name.",
             15 => "The operations ap, ss, sb, in and ni are not served.",
             16 => "The operation has no meaning for a parameter of this kind.",
-            17 => "The value cannot be read as the parameter's kind asks.",
+            17 => "The value cannot be read as the parameter's kind, or for pr as true or false.",
             20 => "The card is not 512 bytes long, or the run is no whole number of cards or over 128.",
             21 => "The card's check sum is wrong.",
             22 => "The card breaks its layout.",

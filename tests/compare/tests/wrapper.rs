@@ -44,7 +44,7 @@ fn a_caret_under_the_test() {
         refusal.render(filter),
         "title pr true or pages gt twelve\n\
          \x20                ^\n\
-         refused 17 at 17: The value cannot be read as the parameter's kind asks."
+         refused 17 at 17: The value cannot be read as the parameter's kind, or for pr as true or false."
     );
 }
 
