@@ -150,9 +150,9 @@ pub fn bracket(random: &mut Random, filter: &[u8]) -> Vec<u8> {
 
 /// The filter with one byte changed; in half of the cases that is a byte of the grammar, or the one behind it.
 pub fn one_byte_changed(random: &mut Random, filter: &[u8]) -> Vec<u8> {
-    let is_of_grammar = |&at: &usize| b" ()\"\\".contains(&filter[at]);
-    let places: Vec<usize> = (0..filter.len()).filter(is_of_grammar).collect();
-    if random.once_in(2) {
+    let byte_of_grammar = random.one(b" ()\"\\");
+    let places: Vec<usize> = (0..filter.len()).filter(|&at| filter[at] == byte_of_grammar).collect();
+    if places.is_empty() || random.once_in(2) {
         return texts::one_byte_changed(random, filter);
     }
     let at = random.one(&places) + random.below(2);

@@ -60,15 +60,19 @@ fn full_sheet(random: &mut Random) -> Case {
     case
 }
 
-/// A card with up to 65 entries, whose texts fill it.
+/// A card with up to 65 entries, whose texts fill it and differ from each other.
 fn full_card(random: &mut Random) -> Case {
     let mut archive = Archive::new(random, 3, 3, 3);
     archive.parameters[0].0 = Kind::String;
     archive.cards.retain(|card| card.entries.is_empty());
     let count = random.one(&[2, 3, 8, 63, 64, 65]);
     let lengths = shares(end(random) - 6 - 2 * count, count);
-    let entry = |length| (0, vec![random.one(b"abcdefghijkABCDEFGHIJK "); length]);
-    let entries: Vec<_> = lengths.into_iter().map(entry).collect();
+    let mut entries = Vec::new();
+    for (index, length) in lengths.into_iter().enumerate() {
+        let mut text = vec![b'a' + index as u8 / 8; length];
+        text[length - 1] = b'a' + index as u8 % 8;
+        entries.push((0, text));
+    }
     let mut head = vec![block::CARD];
     head.extend(record(random).to_le_bytes());
     head.push(count as u8);
