@@ -1,0 +1,226 @@
+//! The cases of `tests/cases.txt`: reading them, answering them, and spelling an answer.
+//!
+//! The head of that file says how it is written.
+
+use crate::block::{self, Kind};
+use crate::operations::{self, Refusal};
+use std::fmt::Write;
+use std::iter::Peekable;
+
+/// What the cells of a list hold before a selection.
+pub const UNTOUCHED: u32 = 999;
+
+/// The words for the kinds, in the order of their numbers.
+const KINDS: [&str; 5] = ["string", "number", "date", "token", "reference"];
+
+/// A block by name: a sheet or a card, sound or damaged.
+#[derive(Debug)]
+pub struct Block {
+    pub name: String,
+    pub bytes: Vec<u8>,
+}
+
+/// Everything that the file holds, in its order. A case names blocks by their index.
+#[derive(Debug)]
+pub struct Cases {
+    pub blocks: Vec<Block>,
+    pub cases: Vec<Case>,
+}
+
+/// One case.
+#[derive(Debug)]
+pub struct Case {
+    pub operation: Operation,
+    pub sheet: usize,
+    /// The filter as the file writes it.
+    pub written: String,
+    /// The filter's bytes.
+    pub filter: Vec<u8>,
+    /// The answer that the file gives, found by hand.
+    pub answer: String,
+}
+
+/// What a case asks for.
+#[derive(Debug)]
+pub enum Operation {
+    Check,
+    Match { card: usize },
+    Select { cards: Vec<usize>, cells: usize },
+}
+
+impl Cases {
+    /// Reads the file, or says which line cannot be read.
+    pub fn read(file: &str) -> Result<Cases, String> {
+        let mut found = Cases { blocks: Vec::new(), cases: Vec::new() };
+        let lines = file.lines().zip(1..);
+        let is_told = |(line, _): &(&str, u32)| !line.trim().is_empty() && !line.starts_with('#');
+        let mut lines = lines.filter(is_told).peekable();
+        while let Some((line, number)) = lines.next() {
+            let parts = indented(&mut lines);
+            found.definition(line, &parts).ok_or(format!("line {number}: {line}"))?;
+        }
+        Ok(found)
+    }
+
+    /// What the second implementation answers.
+    pub fn answer(&self, case: &Case) -> String {
+        let bytes = |index: usize| self.blocks[index].bytes.as_slice();
+        let sheet = bytes(case.sheet);
+        match &case.operation {
+            Operation::Check => match operations::check(sheet, &case.filter) {
+                Ok(tests) => format!("tests {tests}"),
+                Err(refusal) => spell_refusal(refusal),
+            },
+            Operation::Match { card } => match operations::matches(sheet, &case.filter, bytes(*card)) {
+                Ok(true) => "yes".to_string(),
+                Ok(false) => "no".to_string(),
+                Err(refusal) => spell_refusal(refusal),
+            },
+            Operation::Select { cards, cells } => {
+                let cards: Vec<u8> = cards.iter().flat_map(|&card| bytes(card)).copied().collect();
+                let mut list = vec![UNTOUCHED; *cells];
+                let mut answer = match operations::select(sheet, &case.filter, &cards, &mut list) {
+                    Ok(count) => format!("count {count}"),
+                    Err(refusal) => spell_refusal(refusal),
+                };
+                answer.push_str(" cells");
+                for cell in list {
+                    write!(answer, " {cell}").unwrap();
+                }
+                answer
+            }
+        }
+    }
+
+    /// Reads a line that is not indented, with the indented ones below it.
+    fn definition(&mut self, line: &str, parts: &[&str]) -> Option<()> {
+        let (head, filter, answer) = match line.split('`').collect::<Vec<_>>()[..] {
+            [head] => (head, None, ""),
+            [head, filter, answer] => (head, Some(filter), answer.trim()),
+            _ => return None,
+        };
+        let words: Vec<&str> = head.split_whitespace().collect();
+        let operation = match (words.as_slice(), filter) {
+            (["sheet", name], None) => return self.sheet(name, parts),
+            (["card", name, "on", sheet, "record", record], None) => {
+                return self.card(name, sheet, record.parse().ok()?, parts);
+            }
+            (["damaged", name, "from", other], None) => return self.damaged(name, other, parts),
+            (["check", _], Some(_)) => Operation::Check,
+            (["match", _, card], Some(_)) => Operation::Match { card: self.index(card)? },
+            (["select", _, cards @ .., "into", cells], Some(_)) => Operation::Select {
+                cards: cards.iter().map(|card| self.index(card)).collect::<Option<_>>()?,
+                cells: cells.parse().ok()?,
+            },
+            _ => return None,
+        };
+        let written = filter?.to_string();
+        self.cases.push(Case {
+            operation,
+            sheet: self.index(words[1])?,
+            filter: bytes_of(&written)?,
+            written,
+            answer: answer.to_string(),
+        });
+        parts.is_empty().then_some(())
+    }
+
+    /// A sheet; each part is a kind, by word or number, and a name.
+    fn sheet(&mut self, name: &str, parts: &[&str]) -> Option<()> {
+        let mut parameters = Vec::new();
+        for part in parts {
+            let (kind, name) = part.split_once(' ')?;
+            let kind = match KINDS.iter().position(|known| *known == kind) {
+                Some(index) => Kind::ALL[index].number(),
+                None => kind.parse().ok()?,
+            };
+            parameters.push((kind, bytes_of(name.trim())?));
+        }
+        let bytes = block::write_sheet(&borrowed(&parameters))?;
+        self.block(name, bytes)
+    }
+
+    /// A card; each part is a parameter, by name or by place, and a text in backquotes.
+    fn card(&mut self, name: &str, sheet: &str, record: u32, parts: &[&str]) -> Option<()> {
+        let sheet = block::read_sheet(&self.blocks[self.index(sheet)?].bytes).ok()?;
+        let mut entries = Vec::new();
+        for part in parts {
+            let (name, text) = part.split_once(' ')?;
+            let mut names = sheet.parameters.iter().map(|parameter| &parameter.name);
+            let place = match names.position(|known| known == name.as_bytes()) {
+                Some(place) => u8::try_from(place).ok()?,
+                None => name.parse().ok()?,
+            };
+            let text = text.trim().strip_prefix('`')?.strip_suffix('`')?;
+            entries.push((place, bytes_of(text)?));
+        }
+        let bytes = block::write_card(record, &borrowed(&entries))?;
+        self.block(name, bytes)
+    }
+
+    /// A copy of another block; each part changes it.
+    fn damaged(&mut self, name: &str, other: &str, parts: &[&str]) -> Option<()> {
+        let mut bytes = self.blocks[self.index(other)?].bytes.clone();
+        for part in parts {
+            let words: Vec<&str> = part.split_whitespace().collect();
+            match words[..] {
+                ["size", size] => bytes.resize(size.parse().ok()?, 0),
+                ["byte", place, value] => {
+                    let place: usize = place.parse().ok()?;
+                    *bytes.get_mut(place)? = u8::from_str_radix(value, 16).ok()?;
+                }
+                ["sum"] => block::store_sum(&mut bytes),
+                _ => return None,
+            }
+        }
+        self.block(name, bytes)
+    }
+
+    fn block(&mut self, name: &str, bytes: Vec<u8>) -> Option<()> {
+        if self.index(name).is_some() {
+            return None;
+        }
+        let name = name.to_string();
+        self.blocks.push(Block { name, bytes });
+        Some(())
+    }
+
+    fn index(&self, name: &str) -> Option<usize> {
+        self.blocks.iter().position(|block| block.name == name)
+    }
+}
+
+fn spell_refusal(refusal: Refusal) -> String {
+    format!("{} at {}", refusal.number, refusal.place)
+}
+
+/// The indented lines that come next.
+fn indented<'a>(lines: &mut Peekable<impl Iterator<Item = (&'a str, u32)>>) -> Vec<&'a str> {
+    let mut parts = Vec::new();
+    while let Some((line, _)) = lines.next_if(|(line, _)| line.starts_with(' ')) {
+        parts.push(line.trim());
+    }
+    parts
+}
+
+fn borrowed(entries: &[(u8, Vec<u8>)]) -> Vec<(u8, &[u8])> {
+    let entries = entries.iter();
+    entries.map(|(head, text)| (*head, &text[..])).collect()
+}
+
+/// The bytes that a text of the file stands for: `{0A}` is the byte with that number, `{12*ab}` is ab twelve times.
+fn bytes_of(written: &str) -> Option<Vec<u8>> {
+    let mut bytes = Vec::new();
+    let mut rest = written;
+    while let Some((plain, from_brace)) = rest.split_once('{') {
+        bytes.extend_from_slice(plain.as_bytes());
+        let (inside, behind) = from_brace.split_once('}')?;
+        match inside.split_once('*') {
+            Some((times, text)) => bytes.extend(text.repeat(times.parse().ok()?).bytes()),
+            None => bytes.push(u8::from_str_radix(inside, 16).ok()?),
+        }
+        rest = behind;
+    }
+    bytes.extend_from_slice(rest.as_bytes());
+    Some(bytes)
+}

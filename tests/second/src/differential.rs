@@ -1,0 +1,132 @@
+//! The differential test: a library under test beside the second implementation, on generated inputs.
+
+use crate::generate::{self, Case};
+use crate::operations::{self, Refusal};
+use std::collections::BTreeMap;
+use std::fmt::Debug;
+use std::time::Duration;
+
+/// The seed and the number of cases where none are named.
+pub const SEED: u64 = 1974;
+pub const CASES: u64 = 200_000;
+
+/// Cells behind the list that is lent, which must stay as they are.
+const GUARD: usize = 4;
+
+/// How many differences are printed in full.
+const PRINTED: u64 = 3;
+
+/// What can be tested: the three operations.
+pub trait Library {
+    fn check(&self, sheet: &[u8], filter: &[u8]) -> Result<usize, Refusal>;
+    fn matches(&self, sheet: &[u8], filter: &[u8], card: &[u8]) -> Result<bool, Refusal>;
+    fn select(&self, sheet: &[u8], filter: &[u8], cards: &[u8], list: &mut [u32]) -> Result<usize, Refusal>;
+}
+
+/// What a run of the test found.
+#[derive(Debug, Default)]
+pub struct Outcome {
+    /// How many cases agree in every answer and every cell.
+    pub passed: u64,
+    /// How many do not.
+    pub failed: u64,
+    /// How often each operation gave each answer, by the second implementation.
+    pub answers: BTreeMap<(&'static str, String), u64>,
+    /// How many cases each mode made.
+    pub modes: BTreeMap<&'static str, u64>,
+}
+
+impl Outcome {
+    /// How many cases end in yes or no.
+    pub fn verdicts(&self) -> u64 {
+        let count = |answer: &str| self.answers.get(&("match", answer.to_string()));
+        ["yes", "no"].into_iter().filter_map(count).sum()
+    }
+
+    /// Prints the counts; the last line is for the gate.
+    pub fn print(&self, seed: u64, time: Duration) {
+        let listed = |counts: Vec<String>| counts.join(", ");
+        let modes = self.modes.iter().map(|(mode, count)| format!("{mode} {count}"));
+        println!("cases: {}", listed(modes.collect()));
+        for operation in ["check", "match", "select"] {
+            let answers = self.answers.iter().filter(|((of, _), _)| *of == operation);
+            let answers = answers.map(|((_, answer), count)| format!("{answer} {count}"));
+            println!("{operation}: {}", listed(answers.collect()));
+        }
+        let cases = self.passed + self.failed;
+        let verdicts = self.verdicts();
+        println!("seed {seed}, {cases} cases in {:.1} s, {verdicts} of them end in yes or no", time.as_secs_f64());
+        println!("{} passed, {} failed", self.passed, self.failed);
+    }
+}
+
+/// Compares the library with the second implementation on this many cases and prints the first differences.
+pub fn run(library: &impl Library, seed: u64, cases: u64) -> Outcome {
+    let mut outcome = Outcome::default();
+    for number in 0..cases {
+        let (case, mode) = generate::case(seed, number);
+        *outcome.modes.entry(mode).or_default() += 1;
+        let differences = compare(library, &case, &mut outcome.answers);
+        if differences.is_empty() {
+            outcome.passed += 1;
+            continue;
+        }
+        outcome.failed += 1;
+        if outcome.failed <= PRINTED {
+            println!("seed {seed}, case {number} ({mode}):");
+            differences.iter().for_each(|difference| println!("  {difference}"));
+            print_case(&case);
+        }
+    }
+    outcome
+}
+
+/// Runs each operation on both sides and tells where they differ.
+fn compare(library: &impl Library, case: &Case, answers: &mut BTreeMap<(&'static str, String), u64>) -> Vec<String> {
+    let Case { sheet, filter, card, cards, list } = case;
+    let mut differences = Vec::new();
+    let mut note = |operation: &'static str, answer: String| {
+        *answers.entry((operation, answer)).or_default() += 1;
+    };
+
+    let (ours, theirs) = (operations::check(sheet, filter), library.check(sheet, filter));
+    note("check", told(ours, |_| "tests"));
+    differences.extend(difference("check", ours, theirs));
+
+    let (ours, theirs) = (operations::matches(sheet, filter, card), library.matches(sheet, filter, card));
+    note("match", told(ours, |yes| if yes { "yes" } else { "no" }));
+    differences.extend(difference("match", ours, theirs));
+
+    let lent = list.len();
+    let mut our_list = list.clone();
+    our_list.resize(lent + GUARD, 0);
+    let mut their_list = our_list.clone();
+    let ours = operations::select(sheet, filter, cards, &mut our_list[..lent]);
+    let theirs = library.select(sheet, filter, cards, &mut their_list[..lent]);
+    note("select", told(ours, |count| if count > 0 { "some cards" } else { "no cards" }));
+    differences.extend(difference("select", ours, theirs));
+    differences.extend(difference("list", our_list, their_list));
+    differences
+}
+
+fn told<T>(answer: Result<T, Refusal>, tell: impl Fn(T) -> &'static str) -> String {
+    match answer {
+        Ok(answer) => tell(answer).to_string(),
+        Err(refusal) => format!("refused-{:02}", refusal.number),
+    }
+}
+
+fn difference<T: PartialEq + Debug>(what: &str, ours: T, theirs: T) -> Option<String> {
+    (ours != theirs).then(|| format!("{what}: {theirs:?}, and the second implementation {ours:?}"))
+}
+
+fn print_case(case: &Case) {
+    println!("  filter as text: {:?}", String::from_utf8_lossy(&case.filter));
+    println!("  list: {:?}", case.list);
+    for (name, bytes) in
+        [("sheet", &case.sheet), ("filter", &case.filter), ("card", &case.card), ("cards", &case.cards)]
+    {
+        let hex: String = bytes.iter().map(|byte| format!("{byte:02x}")).collect();
+        println!("  {name}: {hex}");
+    }
+}

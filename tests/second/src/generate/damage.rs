@@ -1,0 +1,82 @@
+//! Damage to blocks: each kind breaks one rule of their layout, or comes as near to that as it can without.
+
+use super::archive::Archive;
+use super::random::Random;
+use crate::block::{self, CARD, SHEET, SIZE, SUMMED};
+
+/// Where a block has its number of entries; the entries follow it.
+const SHEET_COUNT: usize = 1;
+const CARD_COUNT: usize = 5;
+
+/// Damages the block of a sheet.
+pub fn sheet(random: &mut Random, block: &mut Vec<u8>) {
+    if random.once_in(8) {
+        let size = random.one(&[0, 1, SUMMED, SIZE - 1, SIZE + 1, 2 * SIZE]);
+        return block.resize(size, 0);
+    }
+    content(random, block, SHEET_COUNT, &[0, 6, 255]);
+}
+
+/// Damages the block of a card on a sheet with this many parameters.
+pub fn card(random: &mut Random, block: &mut [u8], parameters: usize) {
+    let past = parameters as u8;
+    content(random, block, CARD_COUNT, &[past, past + 1, 255]);
+}
+
+/// Changes a byte and stores the sum anew, or changes a byte and lets the sum be wrong.
+fn content(random: &mut Random, block: &mut [u8], count_at: usize, bad_heads: &[u8]) {
+    let (heads, end) = heads(block, count_at);
+    let count = block[count_at];
+    let (at, value) = match random.below(9) {
+        0 | 1 => {
+            let anywhere = random.below(SIZE);
+            let at = random.one(&[anywhere, anywhere, 0, SUMMED - 1, SUMMED, SIZE - 1]);
+            block[at] ^= 1 << random.below(8);
+            return;
+        }
+        2 => (0, random.one(&[SHEET, CARD, 0, block[0] ^ 1, block[0] ^ 0x20])),
+        3 => (count_at, random.one(&[count.wrapping_sub(1), count.wrapping_add(1), 0, 255])),
+        4 if end < SUMMED => (random.one(&[end, end, SUMMED - 1, SUMMED - 1, (end + SUMMED) / 2]), 1),
+        _ if heads.is_empty() => (count_at, 1),
+        5 => (random.one(&heads), random.one(bad_heads)),
+        6 => {
+            let at = random.one(&heads) + 1;
+            (at, random.one(&[block[at].wrapping_sub(1), block[at].wrapping_add(1), 0, 31, 255]))
+        }
+        7 => (random.below(SUMMED), random.byte()),
+        _ => {
+            let head = random.one(&heads);
+            let first = (head + 2).min(SUMMED - 1);
+            (first, random.one(b"-0_ .\x00\xE4"))
+        }
+    };
+    block[at] = value;
+    block::store_sum(block);
+}
+
+/// The names of the sheet with one that is not allowed: a word of the grammar, a name that stands there already, one
+/// that is empty or too long.
+pub fn bad_names(random: &mut Random, archive: &mut Archive) {
+    let name = match random.below(6) {
+        0 => archive.name(random.below(archive.parameters.len())).to_vec(),
+        1 => Vec::new(),
+        2 => vec![b'a'; block::LONGEST_NAME + 1],
+        _ => random.one(&["and", "or", "not", "And", "nor"]).into(),
+    };
+    let place = random.below(archive.parameters.len());
+    archive.parameters[place].1 = name;
+}
+
+/// Where the entries begin, and where the last one ends, as far as the block holds them.
+fn heads(block: &[u8], count_at: usize) -> (Vec<usize>, usize) {
+    let mut heads = Vec::new();
+    let mut at = count_at + 1;
+    for _ in 0..block[count_at] {
+        if at + 1 >= SUMMED {
+            break;
+        }
+        heads.push(at);
+        at += 2 + usize::from(block[at + 1]);
+    }
+    (heads, at)
+}

@@ -1,0 +1,166 @@
+//! Texts of filters: tests over what cards hold, joined and put in brackets, with spaces wherever they may stand.
+
+use super::archive::Archive;
+use super::random::Random;
+use super::texts;
+use crate::block::Kind;
+use crate::filter::OPERATIONS;
+use crate::meaning::has_meaning;
+
+/// A test that has a meaning; its value is near a text that some card holds under its name.
+pub fn test(random: &mut Random, archive: &Archive) -> Vec<u8> {
+    let (place, kind) = archive.parameter(random);
+    let word = served_word(random, kind);
+    let value = match word {
+        b"pr" => truth(random),
+        _ => {
+            let text = archive.text_under(random, place);
+            texts::near_in_filter(random, kind, &text)
+        }
+    };
+    spell_test(random, archive.name(place), word, &value)
+}
+
+/// A test that may lack its meaning for any reason: its name, its operation or its value.
+pub fn doubtful_test(random: &mut Random, archive: &Archive) -> Vec<u8> {
+    let (place, kind) = archive.parameter(random);
+    let mut name = archive.name(place).to_vec();
+    if random.once_in(4) {
+        name = match random.below(3) {
+            0 => texts::one_byte_changed(random, &name),
+            1 => [&name[..], &name[..]].concat(),
+            _ => random.one(&["ward", "And", "NOT", "not-x", "android", "_", "Title", "or"]).into(),
+        };
+    }
+    let word = match random.below(3) {
+        0 => random.one(&OPERATIONS).0,
+        _ => served_word(random, kind),
+    };
+    let value = match random.below(4) {
+        0 => truth(random),
+        1 => {
+            let text = archive.text_under(random, place);
+            texts::near(random, kind, &text)
+        }
+        2 if word == b"pr" => random.one(&["", "tru", "truee", "yes", "1", "falsee", "fals"]).into(),
+        _ => {
+            let other = random.one(&Kind::ALL);
+            let kind = if random.once_in(4) { other } else { kind };
+            texts::on_the_edge(random, kind)
+        }
+    };
+    spell_test(random, &name, word, &value)
+}
+
+/// true or false, in any case.
+pub fn truth(random: &mut Random) -> Vec<u8> {
+    let mut value: Vec<u8> = random.one(&["true", "false"]).into();
+    for byte in &mut value {
+        if random.once_in(4) {
+            byte.make_ascii_uppercase();
+        }
+    }
+    value
+}
+
+/// The word of an operation that the kind has.
+pub fn served_word(random: &mut Random, kind: Kind) -> &'static [u8] {
+    loop {
+        let (word, operation) = random.one(&OPERATIONS);
+        if has_meaning(kind, operation) {
+            return word;
+        }
+    }
+}
+
+/// The text of a test.
+pub fn spell_test(random: &mut Random, name: &[u8], word: &[u8], value: &[u8]) -> Vec<u8> {
+    let mut text = name.to_vec();
+    spaces(random, 1, &mut text);
+    text.extend_from_slice(word);
+    spaces(random, 1, &mut text);
+    spell_value(random, value, &mut text);
+    text
+}
+
+/// Writes a value as a bare word or as a string. A byte that a string cannot hold gives way to another.
+fn spell_value(random: &mut Random, value: &[u8], text: &mut Vec<u8>) {
+    let may_stand = |byte: &u8| byte.is_ascii_graphic() && *byte != b')' && *byte != b']';
+    let may_be_bare = !value.is_empty() && value[0] != b'"' && value.iter().all(may_stand);
+    if may_be_bare && !random.once_in(3) {
+        text.extend_from_slice(value);
+        return;
+    }
+    text.push(b'"');
+    for &byte in value {
+        match byte {
+            b'"' | b'\\' => text.extend([b'\\', byte]),
+            b'/' if random.once_in(2) => text.extend(b"\\/"),
+            0x08 => text.extend(b"\\b"),
+            0x0C => text.extend(b"\\f"),
+            0x0A => text.extend(b"\\n"),
+            0x0D => text.extend(b"\\r"),
+            0x09 => text.extend(b"\\t"),
+            0x00..=0x1F => text.push(b'?'),
+            _ => text.push(byte),
+        }
+    }
+    text.push(b'"');
+}
+
+/// Joins the tests, in their order, with brackets no deeper than this, and with spaces at either end.
+pub fn join(random: &mut Random, tests: &[Vec<u8>], depth: usize) -> Vec<u8> {
+    let mut text = Vec::new();
+    spaces(random, 0, &mut text);
+    let mut rest = tests;
+    while !rest.is_empty() {
+        if rest.len() < tests.len() {
+            spaces(random, 1, &mut text);
+            text.extend_from_slice(random.one(&[b"and", &b"or"[..]]));
+            spaces(random, 1, &mut text);
+        }
+        // A bracket takes some of the tests that are left.
+        let in_bracket = depth > 0 && random.once_in(3);
+        let taken = if in_bracket { 1 + random.below(rest.len()) } else { 1 };
+        let (here, behind) = rest.split_at(taken);
+        if in_bracket {
+            let inner = join(random, here, depth - 1);
+            text.extend(bracket(random, &inner));
+        } else {
+            text.extend_from_slice(&here[0]);
+        }
+        rest = behind;
+    }
+    spaces(random, 0, &mut text);
+    text
+}
+
+/// The filter in brackets, after not in half of the cases.
+pub fn bracket(random: &mut Random, filter: &[u8]) -> Vec<u8> {
+    let mut text = Vec::new();
+    if random.once_in(2) {
+        text.extend_from_slice(b"not");
+        spaces(random, 0, &mut text);
+    }
+    text.push(b'(');
+    text.extend_from_slice(filter);
+    text.push(b')');
+    text
+}
+
+/// The filter with one byte changed; in half of the cases that is a byte of the grammar, or the one behind it.
+pub fn one_byte_changed(random: &mut Random, filter: &[u8]) -> Vec<u8> {
+    let byte_of_grammar = random.one(b" ()\"\\");
+    let places: Vec<usize> = (0..filter.len()).filter(|&at| filter[at] == byte_of_grammar).collect();
+    if places.is_empty() || random.once_in(2) {
+        return texts::one_byte_changed(random, filter);
+    }
+    let at = random.one(&places) + random.below(2);
+    texts::changed_at(random, filter, at)
+}
+
+/// Writes some spaces, mostly the least number.
+fn spaces(random: &mut Random, least: usize, text: &mut Vec<u8>) {
+    let more = if random.once_in(8) { 1 + random.below(2) } else { 0 };
+    text.resize(text.len() + least + more, b' ');
+}

@@ -1,0 +1,217 @@
+//! Inputs that go to a limit of the definition, or one past it.
+
+use super::Case;
+use super::archive::{Archive, Card, record};
+use super::filters;
+use super::modes::{case_of, cells};
+use super::random::Random;
+use super::texts;
+use crate::block::{self, Kind, SUMMED};
+use crate::filter::{DEEPEST, LONGEST, MOST_TESTS};
+use crate::operations::{self, MOST_CARDS};
+
+/// One of the inputs of this file.
+pub fn make(random: &mut Random) -> Case {
+    match random.below(8) {
+        0 => full_sheet(random),
+        1 => full_card(random),
+        2 => full_run(random),
+        3 => fitting_list(random),
+        4 => long_filter(random),
+        5 => deep_filter(random),
+        6 => many_tests(random),
+        _ => long_text(random),
+    }
+}
+
+/// Where the entries of a full block end: at the last byte that they may use, one before it or one past it.
+fn end(random: &mut Random) -> usize {
+    random.one(&[SUMMED - 1, SUMMED, SUMMED, SUMMED + 1])
+}
+
+/// A sheet whose names fill it, with up to 33 parameters.
+fn full_sheet(random: &mut Random) -> Case {
+    let mut archive = Archive::new(random, 1, 3, 2);
+    archive.cards[0].entries.clear();
+    let count = random.one(&[16, 17, 31, 32, 33]);
+    let bytes = shares(end(random) - 2 - 2 * count, count);
+    let letter = b"abcdefghijklmnopqrstuvwxyzABCDEFGHI";
+    let mut parameters: Vec<(u8, Vec<u8>)> = Vec::new();
+    for (index, length) in bytes.into_iter().enumerate() {
+        let mut name = vec![b'-'; length];
+        name[0] = letter[index];
+        parameters.push((1 + random.below(5) as u8, name));
+    }
+    // The names have room to change places in length, so that one can be at the limit or past it.
+    if random.once_in(2) {
+        let longest = block::LONGEST_NAME + random.below(2);
+        let spare = longest - parameters[0].1.len();
+        let (first, rest) = parameters.split_at_mut(1);
+        if rest[0].1.len() > spare {
+            rest[0].1.truncate(rest[0].1.len() - spare);
+            first[0].1.resize(longest, b'-');
+        }
+    }
+    let asked = parameters[random.one(&[0, count - 1])].1.clone();
+    let value = filters::truth(random);
+    let filter = filters::spell_test(random, &asked, b"pr", &value);
+    let mut case = case_of(random, &archive, filter);
+    case.sheet = overlong(&[block::SHEET, count as u8], &parameters);
+    case
+}
+
+/// A card with up to 65 entries, whose texts fill it and differ from each other.
+fn full_card(random: &mut Random) -> Case {
+    let mut archive = Archive::new(random, 3, 3, 3);
+    archive.parameters[0].0 = Kind::String;
+    archive.cards.retain(|card| card.entries.is_empty());
+    let count = random.one(&[2, 3, 8, 63, 64, 65]);
+    let lengths = shares(end(random) - 6 - 2 * count, count);
+    let mut entries = Vec::new();
+    for (index, length) in lengths.into_iter().enumerate() {
+        let mut text = vec![b'a' + index as u8 / 8; length];
+        text[length - 1] = b'a' + index as u8 % 8;
+        entries.push((0, text));
+    }
+    let mut head = vec![block::CARD];
+    head.extend(record(random).to_le_bytes());
+    head.push(count as u8);
+    let block = overlong(&head, &entries);
+
+    archive.cards.push(Card { record: 0, entries });
+    let last = archive.cards.len() - 1;
+    let text = archive.cards[last].entries[random.one(&[0, count - 1])].1.clone();
+    let value = texts::near_in_filter(random, Kind::String, &text);
+    let word = random.one(&[b"eq", b"ne", b"co", b"sw", b"ew"]);
+    let filter = filters::spell_test(random, archive.name(0), word, &value);
+    let mut case = case_of(random, &archive, filter);
+    case.cards.truncate(last * block::SIZE);
+    case.cards.extend_from_slice(&block);
+    case.card = block;
+    case
+}
+
+/// A run of about 128 cards, perhaps with a part of one more.
+fn full_run(random: &mut Random) -> Case {
+    let cards = random.one(&[0, 1, MOST_CARDS - 1, MOST_CARDS, MOST_CARDS, MOST_CARDS + 1, 2 * MOST_CARDS]);
+    let archive = Archive::new(random, 3, cards, 2);
+    let test = filters::test(random, &archive);
+    let mut case = case_of(random, &archive, test);
+    let more = random.one(&[0, 0, 0, 1, block::SIZE - 1]);
+    case.cards.resize(case.cards.len() + more, 0);
+    if random.once_in(2) {
+        case.list = cells(random, MOST_CARDS);
+    }
+    case
+}
+
+/// A list that is as long as the matches are many, one shorter or one longer.
+fn fitting_list(random: &mut Random) -> Case {
+    let cards = 1 + random.below(12);
+    let archive = Archive::new(random, 2, cards, 3);
+    let test = filters::test(random, &archive);
+    let mut case = case_of(random, &archive, test);
+    let mut list = [0; MOST_CARDS];
+    let matches = operations::select(&case.sheet, &case.filter, &case.cards, &mut list).unwrap_or(0);
+    let length = (matches + random.below(3)).saturating_sub(1);
+    case.list = cells(random, length);
+    case
+}
+
+/// A filter of about 1,024 bytes, or of none or one.
+fn long_filter(random: &mut Random) -> Case {
+    let archive = Archive::new(random, 3, 2, 3);
+    let length = random.one(&[0, 1, LONGEST - 1, LONGEST, LONGEST, LONGEST + 1]);
+    let test = filters::test(random, &archive);
+    let mut filter = match random.below(4) {
+        0 => [test, vec![b' '; LONGEST]].concat(),
+        1 => [b"a".repeat(LONGEST - 20), b" eq ".to_vec(), b"b".repeat(30)].concat(),
+        2 => [test, b" and ".to_vec(), archive.name(0).to_vec(), b" eq ".to_vec(), vec![b'x'; LONGEST]].concat(),
+        _ => [vec![b' '; LONGEST - test.len() % LONGEST], test].concat(),
+    };
+    if filter.len() > length && random.once_in(2) {
+        filter.drain(..filter.len() - length);
+    }
+    filter.truncate(length);
+    case_of(random, &archive, filter)
+}
+
+/// Brackets around a filter, about 8 deep.
+fn deep_filter(random: &mut Random) -> Case {
+    let archive = Archive::new(random, 2, 3, 3);
+    let depth = random.one(&[DEEPEST - 1, DEEPEST, DEEPEST, DEEPEST + 1]);
+    let mut filter = filters::test(random, &archive);
+    for level in 0..depth {
+        filter = filters::bracket(random, &filter);
+        if level + 1 < depth && random.once_in(4) {
+            let test = filters::test(random, &archive);
+            filter = match random.below(2) {
+                0 => [filter, b" or ".to_vec(), test].concat(),
+                _ => [test, b" and ".to_vec(), filter].concat(),
+            };
+        }
+    }
+    case_of(random, &archive, filter)
+}
+
+/// About 32 tests.
+fn many_tests(random: &mut Random) -> Case {
+    let archive = Archive::new(random, 2, 3, 3);
+    let count = random.one(&[MOST_TESTS - 1, MOST_TESTS, MOST_TESTS, MOST_TESTS + 1]);
+    let test = |_| {
+        let value = filters::truth(random);
+        [archive.name(0), b" pr ", &value].concat()
+    };
+    let mut tests: Vec<Vec<u8>> = (0..count).map(test).collect();
+    if random.once_in(4) {
+        let last = tests.len() - 1;
+        tests[last] = filters::doubtful_test(random, &archive);
+    }
+    let depth = random.below(4);
+    let filter = filters::join(random, &tests, depth);
+    case_of(random, &archive, filter)
+}
+
+/// A text of about 255 bytes, and a value that may be longer.
+fn long_text(random: &mut Random) -> Case {
+    let mut archive = Archive::new(random, 1, 2, 1);
+    let kind = random.one(&[Kind::String, Kind::Token, Kind::Reference]);
+    archive.parameters[0].0 = kind;
+    let length = texts::LONGEST - random.below(3);
+    let mut text: Vec<u8> = (0..length).map(|_| random.one(b"abAB")).collect();
+    if kind == Kind::Token && random.once_in(2) {
+        text[random.below(length - 1)] = b'|';
+    }
+    let card = Card { record: record(random), entries: vec![(0, text.clone())] };
+    archive.cards = vec![card.clone(), card];
+    let mut value = texts::near_in_filter(random, kind, &text);
+    if random.once_in(4) {
+        value.extend_from_slice(&text[..random.below(60)]);
+    }
+    let word: &[u8] = match kind {
+        Kind::String => random.one(&[b"eq", b"ne", b"co", b"sw", b"ew"]),
+        Kind::Token => random.one(&[b"eq", b"ne"]),
+        _ => b"re",
+    };
+    let filter = filters::spell_test(random, archive.name(0), word, &value);
+    case_of(random, &archive, filter)
+}
+
+/// A number of bytes in so many shares, as even as can be and at most 255 each.
+fn shares(bytes: usize, count: usize) -> Vec<usize> {
+    let share = |index| bytes / count + usize::from(index < bytes % count);
+    (0..count).map(|index| share(index).min(texts::LONGEST)).collect()
+}
+
+/// A block of these entries, even if they go on past their last place; what does is lost to the check sum.
+fn overlong(head: &[u8], entries: &[(u8, Vec<u8>)]) -> Vec<u8> {
+    let mut block = head.to_vec();
+    for (head, text) in entries {
+        block.extend([*head, text.len() as u8]);
+        block.extend_from_slice(text);
+    }
+    block.truncate(SUMMED);
+    block.resize(block::SIZE, 0);
+    block::store_sum(&mut block);
+    block
+}

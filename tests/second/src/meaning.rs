@@ -1,0 +1,191 @@
+//! What a test asks of a card: which operations a kind has, which values are readable, and the yes or no.
+
+use crate::block::{Card, Kind, Sheet};
+use crate::date::Date;
+use crate::filter::{Operation, Test};
+use crate::number::Decimal;
+use crate::text;
+use crate::token::{Pattern, Token};
+
+/// Why a test has no meaning on some card that fits the sheet. The first that holds, in this order, is the one told.
+#[derive(Clone, Copy, Debug, PartialEq, Eq)]
+pub enum Fault {
+    UnknownName,
+    UnservedOperation,
+    NoMeaningForKind,
+    UnreadableValue,
+}
+
+/// A test with its meaning: what it asks of the texts under one place of the sheet.
+#[derive(Clone, Debug, PartialEq, Eq)]
+pub struct Question {
+    pub place: usize,
+    asks: Asks,
+}
+
+#[derive(Clone, Debug, PartialEq, Eq)]
+enum Asks {
+    Present(bool),
+    String(Operation, Vec<u8>),
+    Number(Operation, Decimal),
+    Date(Operation, Date),
+    Token(Operation, Pattern),
+    Reference(Vec<u8>),
+}
+
+/// A card's text, read as its kind.
+#[derive(Clone, Copy, Debug, PartialEq, Eq)]
+pub enum Value<'a> {
+    String(&'a [u8]),
+    Number(Decimal),
+    Date(Date),
+    Token(Token<'a>),
+    Reference(&'a [u8]),
+}
+
+/// Whether the kind's row of the table has the operation; besides, every kind has pr, and ne where it has eq.
+pub fn has_meaning(kind: Kind, operation: Operation) -> bool {
+    use Operation::*;
+    match operation {
+        Pr => true,
+        Ne => has_meaning(kind, Eq),
+        _ => match kind {
+            Kind::String => matches!(operation, Eq | Co | Sw | Ew),
+            Kind::Number => matches!(operation, Eq | Gt | Lt | Ge | Le | Co),
+            Kind::Date => matches!(operation, Eq | Gt | Lt | Ge | Le | Sa | Eb | Po | Co),
+            Kind::Token => matches!(operation, Eq),
+            Kind::Reference => matches!(operation, Re),
+        },
+    }
+}
+
+/// What the test asks, or why it has no meaning.
+pub fn question(test: &Test, sheet: &Sheet) -> Result<Question, Fault> {
+    let mut parameters = sheet.parameters.iter();
+    let place = parameters.position(|parameter| parameter.name == test.name);
+    let place = place.ok_or(Fault::UnknownName)?;
+    let kind = sheet.parameters[place].kind;
+    let operation = test.operation;
+    if matches!(operation, Operation::Ap | Operation::Ss | Operation::Sb | Operation::In | Operation::Ni) {
+        return Err(Fault::UnservedOperation);
+    }
+    if !has_meaning(kind, operation) {
+        return Err(Fault::NoMeaningForKind);
+    }
+    let asks = asks(kind, operation, &test.value).ok_or(Fault::UnreadableValue)?;
+    Ok(Question { place, asks })
+}
+
+/// Reads the filter's value for an operation that the kind has.
+fn asks(kind: Kind, operation: Operation, value: &[u8]) -> Option<Asks> {
+    if operation == Operation::Pr {
+        return read_truth(value).map(Asks::Present);
+    }
+    match kind {
+        Kind::String => Some(Asks::String(operation, value.to_vec())),
+        Kind::Number => Some(Asks::Number(operation, Decimal::read(value)?)),
+        Kind::Date => Some(Asks::Date(operation, Date::read(value)?)),
+        Kind::Token => Some(Asks::Token(operation, Pattern::read(value)?)),
+        Kind::Reference => (!value.is_empty()).then(|| Asks::Reference(value.to_vec())),
+    }
+}
+
+/// The value of pr: true or false, case ignored, and nothing else.
+fn read_truth(value: &[u8]) -> Option<bool> {
+    match value.to_ascii_lowercase().as_slice() {
+        b"true" => Some(true),
+        b"false" => Some(false),
+        _ => None,
+    }
+}
+
+/// Reads a card's text as its kind.
+pub fn read_value(kind: Kind, text: &[u8]) -> Option<Value<'_>> {
+    match kind {
+        Kind::String => Some(Value::String(text)),
+        Kind::Number => Decimal::read(text).map(Value::Number),
+        Kind::Date => Date::read(text).map(Value::Date),
+        Kind::Token => Token::read(text).map(Value::Token),
+        Kind::Reference => (!text.is_empty()).then_some(Value::Reference(text)),
+    }
+}
+
+/// The card's values with their places, if the card fits the sheet.
+pub fn values<'a>(card: &Card<'a>, sheet: &Sheet) -> Option<Vec<(usize, Value<'a>)>> {
+    let value = |&(place, text)| {
+        let place = usize::from(place);
+        let parameter = sheet.parameters.get(place)?;
+        Some((place, read_value(parameter.kind, text)?))
+    };
+    card.entries.iter().map(value).collect()
+}
+
+impl Question {
+    /// The test's yes or no on a card with these values.
+    pub fn verdict(&self, values: &[(usize, Value)]) -> bool {
+        let mut set = values.iter().filter(|(place, _)| *place == self.place);
+        match &self.asks {
+            Asks::Present(wanted) => set.next().is_some() == *wanted,
+            asks => set.any(|(_, value)| asks.holds(value)),
+        }
+    }
+}
+
+impl Asks {
+    /// Whether one of the card's values stands in the relation asked for.
+    fn holds(&self, value: &Value) -> bool {
+        match (self, value) {
+            (Asks::String(operation, part), Value::String(text)) => string(*operation, text, part),
+            (Asks::Number(operation, filter), Value::Number(card)) => number(*operation, *card, *filter),
+            (Asks::Date(operation, filter), Value::Date(card)) => date(*operation, *card, *filter),
+            (Asks::Token(operation, pattern), Value::Token(card)) => {
+                pattern.matches(*card) == (*operation == Operation::Eq)
+            }
+            (Asks::Reference(wanted), Value::Reference(text)) => text::same(text, wanted),
+            _ => unreachable!("the values under a place have the kind of that place"),
+        }
+    }
+}
+
+fn string(operation: Operation, text: &[u8], part: &[u8]) -> bool {
+    match operation {
+        Operation::Eq => text::same(text, part),
+        Operation::Ne => !text::same(text, part),
+        Operation::Co => text::contains(text, part),
+        Operation::Sw => text::starts(text, part),
+        Operation::Ew => text::ends(text, part),
+        _ => unreachable!("no such operation on strings"),
+    }
+}
+
+fn number(operation: Operation, card: Decimal, filter: Decimal) -> bool {
+    let order = card.order(filter);
+    match operation {
+        Operation::Eq => card.same(filter),
+        Operation::Ne => !card.same(filter),
+        Operation::Gt => order.is_gt(),
+        Operation::Lt => order.is_lt(),
+        Operation::Ge => order.is_ge(),
+        Operation::Le => order.is_le(),
+        Operation::Co => card.range_holds(filter),
+        _ => unreachable!("no such operation on numbers"),
+    }
+}
+
+fn date(operation: Operation, card: Date, filter: Date) -> bool {
+    let ends_later = card.end > filter.end;
+    let starts_earlier = card.start < filter.start;
+    match operation {
+        Operation::Eq => card.same(filter),
+        Operation::Ne => !card.same(filter),
+        Operation::Gt => ends_later,
+        Operation::Lt => starts_earlier,
+        Operation::Ge => ends_later || card.inside(filter),
+        Operation::Le => starts_earlier || card.inside(filter),
+        Operation::Sa => card.start >= filter.end,
+        Operation::Eb => card.end <= filter.start,
+        Operation::Po => card.overlaps(filter),
+        Operation::Co => filter.inside(card),
+        _ => unreachable!("no such operation on dates"),
+    }
+}

@@ -1,0 +1,44 @@
+//! The generated inputs reach what they are meant to reach, and come out the same every time.
+
+use second::differential::{Library, run};
+use second::generate;
+use second::operations::{self, Refusal};
+
+/// The second implementation beside itself.
+struct Second;
+
+impl Library for Second {
+    fn check(&self, sheet: &[u8], filter: &[u8]) -> Result<usize, Refusal> {
+        operations::check(sheet, filter)
+    }
+
+    fn matches(&self, sheet: &[u8], filter: &[u8], card: &[u8]) -> Result<bool, Refusal> {
+        operations::matches(sheet, filter, card)
+    }
+
+    fn select(&self, sheet: &[u8], filter: &[u8], cards: &[u8], list: &mut [u32]) -> Result<usize, Refusal> {
+        operations::select(sheet, filter, cards, list)
+    }
+}
+
+#[test]
+fn every_answer_and_mostly_verdicts() {
+    let cases = 4000;
+    let outcome = run(&Second, 1, cases);
+    assert_eq!((outcome.passed, outcome.failed), (cases, 0));
+    assert!(3 * outcome.verdicts() >= cases, "{} of {cases} end in yes or no", outcome.verdicts());
+    for number in [1, 2, 3, 10, 11, 14, 15, 16, 17, 20, 21, 22, 23, 30] {
+        let answer = ("select", format!("refused-{number:02}"));
+        assert!(outcome.answers.contains_key(&answer), "no selection is refused by {number}");
+    }
+}
+
+#[test]
+fn the_same_every_time() {
+    for number in 0..100 {
+        let (one, other) = (generate::case(7, number), generate::case(7, number));
+        assert_eq!(format!("{one:?}"), format!("{other:?}"));
+        let (one, other) = (generate::files(7, number), generate::files(7, number));
+        assert_eq!(format!("{one:?}"), format!("{other:?}"));
+    }
+}
