@@ -41,11 +41,11 @@ outcome-tests s e = rw e
 
 module _ (ps : List Parameter) (xs : List ℕ) (c : Checked) where
   pub text-empty : length xs ≡ 0 → checkedAnswer c ≡ refused (numberOf Reason.FilterSize) 0 → checkedAnswer c ≡ filterAnswer ps xs
-  unfolding filterAnswer takeFilter numberOf
+  unfolding filterAnswer takeFilter
   text-empty h e = e ∙ rw (eq-eqb (length xs) 0 h)
 
   pub text-long : 1024 < length xs → checkedAnswer c ≡ refused (numberOf Reason.FilterSize) 0 → checkedAnswer c ≡ filterAnswer ps xs
-  unfolding filterAnswer takeFilter numberOf
+  unfolding filterAnswer takeFilter
   text-long h e =
       let n : length xs ≡ 0 → ⊥ = λ z. omega arith in
       e ∙ rw (ne-eqb (length xs) 0 n, lt-ltb 1024 (length xs) h)
@@ -56,7 +56,7 @@ module _ (ps : List Parameter) (xs : List ℕ) (n : length xs ≡ 0 → ⊥) (l 
   text-read o e = rw (ne-eqb (length xs) 0 n, le-ltb 1024 (length xs) l, e)
 
   text-none : (c : Checked) → read xs ≡ none → checkedAnswer c ≡ refused (numberOf Reason.NoFilter) 0 → checkedAnswer c ≡ filterAnswer ps xs
-  unfolding filterAnswer numberOf
+  unfolding filterAnswer
   text-none c e h = h ∙ rw (text-read none e)
 
   module _ (start : ℕ) (s : RunEnd isSpace xs 0 start) (w : Walked) (e : w ≡ answerOf Walked.Done Walked.Nothing (reading ps) (filterAt 8 xs start)) where

@@ -18,7 +18,7 @@ yesOrNo true = yes
 yesOrNo false = no
 
 -- the numbers of refusal
-unfoldable pub numberOf : Reason → ℕ
+abbrev pub numberOf : Reason → ℕ
 numberOf Reason.SheetSize = 1
 numberOf Reason.SheetSum = 2
 numberOf Reason.SheetLayout = 3

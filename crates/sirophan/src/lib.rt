@@ -1,8 +1,10 @@
 // Sirophan: which cards of an archive match a filter. A filter either has a meaning on every card that fits the sheet, and
 // is answered exactly, or is refused with a number and a place.
+mod numbers;
 mod reading;
 mod verdict;
 
+pub use numbers::number;
 pub use reading::check;
 pub use verdict::match_card;
 

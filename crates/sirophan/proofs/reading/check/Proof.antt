@@ -2,7 +2,6 @@
 use borrow.Author.Needs.{needs}
 use mathlib.Core.Path.{refl, sym, _∙_}
 use Rattle.block.specs.declared.Reading.{Reading}
-use Rattle.sirophan.specs.Answers.{numberOf}
 use Rattle.sirophan.proofs.Checking.{check-sheet, check-filter}
 use Rattle.sirophan.proofs.reading.check.Statement.{statement}
 use Rattle.sirophan.proofs.reading.check.Tie as tie
@@ -38,15 +37,12 @@ returns : tie.Need-returns
 returns c = search (check-filter, needs)
 
 returns-2 : tie.Need-returns-2
-unfolding numberOf
 returns-2 c = check-sheet _ _ _ (c .before .before .before .read-sheet .ensures) _ Reading.WrongSize 1 (λ ps. refl) (c .before .enum-told2 .given .1) (c .refuse .ensures)
 
 returns-3 : tie.Need-returns-3
-unfolding numberOf
 returns-3 c = check-sheet _ _ _ (c .before .before .before .read-sheet .ensures) _ Reading.WrongSum 2 (λ ps. refl) (c .before .enum-told3 .given .1) (c .refuse2 .ensures)
 
 returns-4 : tie.Need-returns-4
-unfolding numberOf
 returns-4 c = check-sheet _ _ _ (c .before .before .before .read-sheet .ensures) _ Reading.WrongLayout 3 (λ ps. refl) (c .before .enum-told4 .given .1) (c .refuse3 .ensures)
 
 pub check-spec : {M : Type 1} → statement M

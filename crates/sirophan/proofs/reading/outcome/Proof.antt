@@ -2,7 +2,6 @@
 use borrow.Author.Needs.{needs}
 use mathlib.Core.Path.{refl}
 use Rattle.judge.specs.declared.Fault.{Fault}
-use Rattle.sirophan.specs.Answers.{numberOf}
 use Rattle.sirophan.proofs.Checking.{outcome-fault, outcome-tests}
 use Rattle.sirophan.proofs.reading.outcome.Statement.{statement}
 use Rattle.sirophan.proofs.reading.outcome.Tie as tie
@@ -38,19 +37,15 @@ returns : tie.Need-returns
 returns c = search (outcome-tests, needs)
 
 returns-2 : tie.Need-returns-2
-unfolding numberOf
 returns-2 c = outcome-fault _ _ Fault.UnknownName 14 (λ p. refl) (c .before .enum-told2 .given .1) (c .refuse .ensures)
 
 returns-3 : tie.Need-returns-3
-unfolding numberOf
 returns-3 c = outcome-fault _ _ Fault.Unsupported 15 (λ p. refl) (c .before .enum-told3 .given .1) (c .refuse2 .ensures)
 
 returns-4 : tie.Need-returns-4
-unfolding numberOf
 returns-4 c = outcome-fault _ _ Fault.NoMeaning 16 (λ p. refl) (c .before .enum-told4 .given .1) (c .refuse3 .ensures)
 
 returns-5 : tie.Need-returns-5
-unfolding numberOf
 returns-5 c = outcome-fault _ _ Fault.Unreadable 17 (λ p. refl) (c .before .enum-told5 .given .1) (c .refuse4 .ensures)
 
 pub outcome-spec : {M : Type 1} → statement M

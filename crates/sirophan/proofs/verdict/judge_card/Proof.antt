@@ -2,7 +2,6 @@
 use borrow.Author.Needs.{needs}
 use mathlib.Core.Path.{refl, sym, _∙_}
 use Rattle.block.specs.declared.Reading.{Reading}
-use Rattle.sirophan.specs.Answers.{numberOf}
 use Rattle.sirophan.proofs.Judging.{card-refused, card-misfit, card-says}
 use Rattle.sirophan.proofs.verdict.judge_card.Statement.{statement}
 use Rattle.sirophan.proofs.verdict.judge_card.Tie as tie
@@ -32,19 +31,15 @@ enum-told-4 : tie.Need-enum-told-4
 enum-told-4 c = search needs
 
 returns-2 : tie.Need-returns-2
-unfolding numberOf
 returns-2 c = search (card-misfit, needs)
 
 returns-3 : tie.Need-returns-3
-unfolding numberOf
 returns-3 c = card-refused _ _ _ _ (c .before .before .read-card .ensures) Reading.WrongSize 20 (λ o d i. refl) (c .enum-told2 .given .1)
 
 returns-4 : tie.Need-returns-4
-unfolding numberOf
 returns-4 c = card-refused _ _ _ _ (c .before .before .read-card .ensures) Reading.WrongSum 21 (λ o d i. refl) (c .enum-told3 .given .1)
 
 returns-5 : tie.Need-returns-5
-unfolding numberOf
 returns-5 c = card-refused _ _ _ _ (c .before .before .read-card .ensures) Reading.WrongLayout 22 (λ o d i. refl) (c .enum-told4 .given .1)
 
 pub judge-card-spec : {M : Type 1} → statement M
