@@ -4,6 +4,7 @@ use crate::write::write;
 use sirophan::Checked;
 use sirophan::Matched;
 use sirophan::Refusal;
+use sirophan::Selected;
 
 // A refusal: its number and its place.
 fn refused(r: Refusal) {
@@ -26,5 +27,28 @@ pub fn matched(m: Matched) {
         Matched::Yes => write(b"yes"),
         Matched::No => write(b"no"),
         Matched::Refused(r) => refused(r),
+    }
+}
+
+// What select answered.
+pub fn selected(s: Selected) {
+    match s {
+        Selected::Count(n) => labelled(b"count ", n as u64),
+        Selected::Refused(r) => refused(r),
+    }
+}
+
+// A cell of a list.
+fn cell(n: u32) {
+    labelled(b" ", n as u64);
+}
+
+// The cells of a list.
+pub fn cells(list: &[u32]) {
+    write(b" cells");
+    let mut i = 0;
+    while i < list.len() {
+        cell(list[i]);
+        i += 1;
     }
 }

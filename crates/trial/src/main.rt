@@ -1,5 +1,6 @@
 // Runs check, match and select on the cases of cases.bin, and prints a line for each: its label and what was answered.
 mod answers;
+mod ask;
 mod record;
 mod write;
 
@@ -7,7 +8,7 @@ use record::cases;
 use record::load;
 use write::write;
 
-// The largest case has 129 cards, which is one more than a run may have.
+// Room for the parts of a case. The largest has 129 cards, one more than a run may have.
 const LARGEST: usize = 70000;
 
 // Runs a file of cases: their number, the cases, and nothing after them. Answers whether that is what the file held.
@@ -32,7 +33,7 @@ fn main() {
         return;
     }
     if !run(fd) {
-        write(b"cases.bin is damaged or cut short\n");
+        write(b"cases.bin is damaged, cut short or cannot be read\n");
     }
     libc::close(fd);
 }

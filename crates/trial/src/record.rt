@@ -1,8 +1,7 @@
 // A case in the file: six numbers, which are the operation (0 check, 1 match, 2 select), the lengths of its label, sheet,
 // filter and cards, and the cells of its list; then the bytes of label, sheet, filter and cards. A number is four bytes, low
 // byte first.
-use crate::answers::checked;
-use crate::answers::matched;
+use crate::ask::ask;
 use crate::write::write;
 ghost use Prim.Native.Nat.{_≤_};
 ghost use lib.ListN.{length};
@@ -40,23 +39,6 @@ fn read_head(numbers: &[u8; 24]) -> Head
     }
 }
 
-// Asks an operation and prints its answer after the label; whether there is such an operation.
-fn ask(operation: u32, label: &[u8], sheet: &[u8], filter: &[u8], cards: &[u8]) -> bool {
-    match operation {
-        0 => {
-            write(label);
-            checked(sirophan::check(sheet, filter));
-            true
-        }
-        1 => {
-            write(label);
-            matched(sirophan::match_card(sheet, filter, cards));
-            true
-        }
-        _ => false,
-    }
-}
-
 // Takes the bytes of a case apart and asks what it asks.
 fn answer(h: Head, bytes: &[u8]) -> bool
     requires { ⌜ (h .label ≤ h .sheet) × (h .sheet ≤ h .filter) × (h .filter ≤ h .cards) × (h .cards ≤ length (now bytes)) ⌝ }
@@ -67,6 +49,7 @@ fn answer(h: Head, bytes: &[u8]) -> bool
     let cards = h.cards;
     ask(
         h.operation,
+        h.cells,
         &bytes[0..label],
         &bytes[label..sheet],
         &bytes[sheet..filter],
