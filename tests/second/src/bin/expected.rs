@@ -30,6 +30,7 @@ fn main() -> ExitCode {
     ExitCode::SUCCESS
 }
 
+/// The line of each case.
 fn lines(cases: &Cases) -> Vec<String> {
     let labelled = cases.cases.iter().zip(labels(cases));
     labelled.map(|(case, label)| label + &cases.answer(case)).collect()
@@ -41,8 +42,10 @@ fn labels(cases: &Cases) -> Vec<String> {
     numbered.map(|(case, number)| format!("{number} `{}` ", case.written)).collect()
 }
 
+/// Writes to standard output, or says why it cannot.
 fn write(bytes: &[u8]) -> ExitCode {
-    match std::io::stdout().write_all(bytes) {
+    let mut output = std::io::stdout();
+    match output.write_all(bytes).and_then(|()| output.flush()) {
         Ok(()) => ExitCode::SUCCESS,
         Err(reason) => {
             eprintln!("the cases cannot be written: {reason}");
@@ -97,6 +100,7 @@ fn packed(cases: &Cases) -> Vec<u8> {
     bytes
 }
 
+/// A number in four bytes, low byte first.
 fn number(number: usize) -> [u8; 4] {
     u32::try_from(number).unwrap().to_le_bytes()
 }
