@@ -3,21 +3,23 @@
 use Prim.Native.Nat.{ℕ, _+_, _-_, _≤_, _<_}
 use native.Mathlib.Omega.{arith}
 use mathlib.Core.Path.{_≡_, refl, sym, ap, subst, _∙_}
-use mathlib.Core.Bool.{Bool, true, false, cond, or-true}
+use mathlib.Core.Bool.{Bool, true, false, cond, not, or-true}
 use mathlib.Core.List.{List, [], _∷_}
 use mathlib.Core.Logic.{⊎-elim}
 use lib.Dec.{eqb}
-use lib.ListN.{length, getD, drop}
+use lib.ListN.{length, getD, take, drop}
 use lib.Seq.{drop-cons, drop-length, length-take-le}
 use borrow.Author.Tests.{eqb-true, eq-eqb, ne-eqb}
-use Rattle.base.specs.Lists.{All, all-cons}
+use Rattle.base.specs.Lists.{All, all-cons, every}
 use Rattle.base.specs.Digits.{isDigit}
-use Rattle.base.specs.Names.{between, isLetter, isNameStart, isNamePart, isName, Name}
+use Rattle.base.specs.Names.{between, isLetter, isNameStart, isNamePart, isReserved, isName, Name}
 use Rattle.base.specs.Parts.{part}
 use Rattle.base.specs.Runs.{run, runEnd, RunEnd}
-use Rattle.base.proofs.Tests.{or-either, or-left, apart, cond-elim}
-use Rattle.base.proofs.Names.{name-iff}
-use Rattle.base.proofs.Runs.{run-within, run-then}
+use Rattle.base.proofs.Tests.{and-right, or-either, or-left, apart, cond-elim}
+use Rattle.base.proofs.Lists.{rest}
+use Rattle.base.proofs.Names.{name-iff, name-empty, name-start-not, name-not-reserved}
+use Rattle.base.proofs.Parts.{part-length, part-cons}
+use Rattle.base.proofs.Runs.{run-within, run-take, run-then}
 use Rattle.syntax.specs.Strings.{isBare}
 use Rattle.syntax.specs.Tree.{Test}
 use Rattle.syntax.specs.Grammar.{Stands, Gap, gap, Value, Follows, the-end, a-space, a-close, Operator, TestAt, a-test}
@@ -189,6 +191,43 @@ module _ (xs : List ℕ) (close p e a : ℕ) (s : RunEnd isSpace xs e a) where
     pub test-operator : (k : ℕ) (r : FoundTest) → f ≡ FoundOperator.Is k → r ≡ testValue xs close p e k (a + 2) → r ≡ testOperator xs close p e
     unfolding testOperator
     test-operator k r h t = rw (← s .is, ne-eqb a e n, sym i ∙ h) t
+
+-- a run of bytes with which a name may go on is a name where it begins as one and is not reserved
+module _ (xs : List ℕ) (p e : ℕ) (s : RunEnd isNamePart xs p e) where
+  pub run-empty : e ≡ p → false ≡ isName (part xs p e)
+  run-empty h = name-empty (part xs p e) (part-length xs p e (s .within) ∙ omega arith)
+
+  pub run-inside : (e ≡ p → ⊥) → p < length xs
+  run-inside n = omega (arith, s .from, s .within)
+
+  run-parts : every isNamePart (part xs p e) ≡ true
+  unfolding runEnd
+  run-parts =
+      let w : e - p ≡ run isNamePart (drop p xs) = omega (arith, s .is) in
+      rw w (run-take isNamePart (drop p xs))
+
+  module _ (n : e ≡ p → ⊥) (r : Bool) (i : r ≡ isNameStart (getD xs p 0)) where
+    run-cons : part xs p e ≡ getD xs p 0 ∷ part xs (p + 1) e
+    run-cons = part-cons xs p e (omega (arith, s .from)) (s .within)
+
+    run-full : length (part xs p e) ≡ 0 → ⊥
+    run-full h = omega (arith, s .from, part-length xs p e (s .within))
+
+    run-starts : r ≡ isNameStart (getD (part xs p e) 0 0)
+    run-starts = i ∙ ap isNameStart (sym (ap (λ (l : List ℕ). getD l 0 0) run-cons))
+
+    pub run-start-not : r ≡ false → false ≡ isName (part xs p e)
+    run-start-not f = name-start-not (part xs p e) run-full r run-starts f
+
+    run-goes-on : true ≡ every isNamePart (take (length (part xs p e) - 1) (drop 1 (part xs p e)))
+    unfolding every
+    run-goes-on =
+        sym
+        (ap (every isNamePart) (rest (part xs p e) 1 ∙ ap (drop 1) run-cons)
+        ∙ and-right (isNamePart (getD xs p 0)) (every isNamePart (part xs (p + 1) e)) (sym (ap (every isNamePart) run-cons) ∙ run-parts))
+
+    pub run-name : r ≡ true → (w : Bool) → w ≡ isReserved (part xs p e) → not w ≡ isName (part xs p e)
+    run-name t w k = name-not-reserved (part xs p e) run-full r run-starts t true run-goes-on refl w k
 
 module _ (xs : List ℕ) (close p e : ℕ) (s : RunEnd isNamePart xs p e) (r : Bool) (i : r ≡ isName (part xs p e)) where
   pub test-no-name : r ≡ false → FoundTest.Nothing ≡ testAt xs close p

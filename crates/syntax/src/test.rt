@@ -6,12 +6,17 @@ use crate::RawTest;
 use crate::scan::name_end;
 use crate::scan::skip;
 use crate::value::read_value;
+use base::name::is_name_start;
+use base::name::is_reserved;
 ghost use mathlib.Core.Path.{_≡_};
 ghost use mathlib.Core.List.{[], _∷_};
 ghost use Prim.Native.Nat.{_+_, _≤_, _<_};
 ghost use lib.ListN.{length, getD, drop};
 ghost use Rattle.base.specs.Lists.{equal};
+ghost use Rattle.base.specs.Names.{isNamePart, isName};
 ghost use Rattle.base.specs.Operators.{operatorWords};
+ghost use Rattle.base.specs.Parts.{part};
+ghost use Rattle.base.specs.Runs.{RunEnd};
 ghost use Rattle.syntax.specs.Scan.{follows, operatorAt, testValue, testOperator, testAt};
 
 // The letters of the 19 operators: eq ne co sw ew gt lt ge le ap sa eb pr po ss sb in ni re.
@@ -155,13 +160,27 @@ fn read_test_operator(s: &[u8], close: u8, at: usize, until: usize) -> FoundTest
     }
 }
 
+// Whether the bytes from `at` up to `until`, with each of which a name may go on, are a name.
+fn is_name_run(s: &[u8], at: usize, until: usize) -> bool
+    requires { ⌜ RunEnd isNamePart (now s) at until ⌝ }
+    ensures { λ r. ⌜ r ≡ isName (part (now (s .entry)) at until) ⌝ }
+{
+    if until == at {
+        return false;
+    }
+    if !is_name_start(s[at]) {
+        return false;
+    }
+    !is_reserved(&s[at..until])
+}
+
 // The test that begins at a position, where `close` closes the bracket around it.
 pub fn read_test(s: &[u8], close: u8, at: usize) -> FoundTest
     requires { ⌜ at ≤ length (now s) ⌝ }
     ensures { λ r. ⌜ r ≡ testAt (now (s .entry)) close at ⌝ }
 {
     let until = name_end(s, at);
-    if base::name::is_name(&s[at..until]) {
+    if is_name_run(s, at, until) {
         return read_test_operator(s, close, at, until);
     }
     FoundTest::Nothing
