@@ -4,13 +4,13 @@ use Prim.Native.Nat.{ℕ, _+_, _≤_, _<_}
 use native.Mathlib.Numerals.{add-one}
 use native.Mathlib.Omega.{arith}
 use mathlib.Core.Path.{_≡_, refl, ap, sym, _∙_}
-use mathlib.Core.Bool.{Bool, true, false}
+use mathlib.Core.Bool.{Bool, true, false, _&&_}
 use mathlib.Core.List.{List}
 use lib.ListN.{length, drop, getD, drop-of-length-le}
 use lib.Seq.{drop-cons}
 use borrow.Author.Tests.{eq-eqb, ne-eqb}
 use Rattle.base.specs.Lists.{every, equal}
-use Rattle.base.proofs.Invariants.{Passed, Agreed}
+use Rattle.base.proofs.Invariants.{Passed, Counted, Agreed}
 
 -- ---- a test of every element
 
@@ -33,6 +33,34 @@ module _ (p : ℕ → Bool) (s : List ℕ) where
   pub passed-end : (i : ℕ) → Passed p s i → length s ≤ i → true ≡ every p s
   unfolding every
   passed-end i inv h = ap (every p) (sym (drop-of-length-le s h)) ∙ inv .left
+
+-- ---- the same, for a loop that goes on to the end
+
+and-after : (a b c : Bool) → ((a && b) && c) ≡ (a && (b && c))
+and-after true b c = refl
+and-after false b c = refl
+
+and-true : (a : Bool) → a ≡ (a && true)
+and-true true = refl
+and-true false = refl
+
+module _ (p : ℕ → Bool) (s : List ℕ) where
+  pub counted-start : Counted p s true 0
+  counted-start = record { within = omega arith; left = refl }
+
+  module _ (all : Bool) (i : ℕ) (inv : Counted p s all i) where
+    pub counted-next : (r : Bool) → i < length s → r ≡ (all && p (getD s i 0)) → Counted p s r (i + 1)
+    unfolding every
+    counted-next r h e =
+        let left : (p (getD s i 0) && every p (drop (i + 1) s)) ≡ every p (drop i s) = rw (add-one, drop-cons s i 0) in
+        record {
+          within = omega arith;
+          left = ap (λ (b : Bool). b && every p (drop (i + 1) s)) e ∙ and-after all (p (getD s i 0)) (every p (drop (i + 1) s)) ∙ ap (λ (b : Bool). all && b) left ∙ inv .left;
+        }
+
+    pub counted-end : length s ≤ i → all ≡ every p s
+    unfolding every
+    counted-end h = and-true all ∙ ap (λ (l : List ℕ). all && every p l) (sym (drop-of-length-le s h)) ∙ inv .left
 
 -- ---- two lists
 

@@ -1,6 +1,8 @@
 // Blocks of 512 bytes, which sheets and cards are: the size, the check sum, numbers of four bytes, and the items that a block lists.
 ghost use mathlib.Core.Path.{_≡_};
+ghost use mathlib.Core.Bool.{_&&_};
 ghost use Prim.Native.Nat.{_+_, _≤_, _<_};
+ghost use lib.Dec.{eqb};
 ghost use lib.ListN.{length};
 ghost use Rattle.block.specs.Words.{word};
 ghost use Rattle.block.specs.Sum.{checkSum};
@@ -82,18 +84,25 @@ pub fn check(block: &[u8]) -> Checked
     Checked::Sealed
 }
 
-// Whether every byte is zero.
+// Whether `all` holds and the byte is zero.
+fn and_zero(all: bool, b: u8) -> bool
+    ensures { λ r. ⌜ r ≡ (all && eqb b 0) ⌝ }
+{
+    let zero = b == 0;
+    all && zero
+}
+
+// Whether every byte is zero. The loop goes on to the end, so that it takes many bytes a turn.
 fn zeros(s: &[u8]) -> bool
     ensures { λ r. ⌜ r ≡ zeros (now (s .entry)) ⌝ }
 {
+    let mut all = true;
     let mut i = 0;
     while i < s.len() {
-        if s[i] != 0 {
-            return false;
-        }
+        all = and_zero(all, s[i]);
         i += 1;
     }
-    true
+    all
 }
 
 // The item at `at`. No other function knows how an item begins.
