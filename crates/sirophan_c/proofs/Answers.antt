@@ -1,0 +1,38 @@
+-- Each case of an operation's answer, told by its two numbers.
+-- Assumes nothing.
+use Prim.Native.Nat.{ℕ}
+use mathlib.Core.Path.{_≡_, sym, ap, _∙_}
+use Rattle.sirophan.specs.Answers as paper
+use Rattle.sirophan.specs.Answers.{numberOf, refusalAnswer, checkedAnswer, matchedAnswer}
+use Rattle.sirophan.specs.declared.Refusal.{Refusal}
+use Rattle.sirophan.specs.declared.Checked.{Checked}
+use Rattle.sirophan.specs.declared.Matched.{Matched}
+use Rattle.sirophan_c.specs.declared.Answer.{Answer}
+use Rattle.sirophan_c.specs.Answers.{answer, told}
+
+pub refusal-told : (r : Refusal) (n : ℕ) → n ≡ numberOf (r .reason) → answer n (r .place) ≡ told (refusalAnswer r)
+unfolding told refusalAnswer
+refusal-told r n e = ap (λ (m : ℕ). answer m (r .place)) e
+
+module _ (a : paper.Answer) where
+  module _ (c : Checked) (e : checkedAnswer c ≡ a) where
+    pub tests-told : (n : ℕ) → c ≡ Checked.Tests n → answer 0 n ≡ told a
+    unfolding told checkedAnswer
+    tests-told n h = ap told (ap checkedAnswer (sym h) ∙ e)
+
+    pub check-refusal-told : (r : Refusal) (t : Answer) → c ≡ Checked.Refused r → t ≡ told (refusalAnswer r) → t ≡ told a
+    unfolding checkedAnswer
+    check-refusal-told r t h o = o ∙ ap told (ap checkedAnswer (sym h) ∙ e)
+
+  module _ (m : Matched) (e : matchedAnswer m ≡ a) where
+    pub yes-told : m ≡ Matched.Yes → answer 0 1 ≡ told a
+    unfolding told matchedAnswer
+    yes-told h = ap told (ap matchedAnswer (sym h) ∙ e)
+
+    pub no-told : m ≡ Matched.No → answer 0 0 ≡ told a
+    unfolding told matchedAnswer
+    no-told h = ap told (ap matchedAnswer (sym h) ∙ e)
+
+    pub match-refusal-told : (r : Refusal) (t : Answer) → m ≡ Matched.Refused r → t ≡ told (refusalAnswer r) → t ≡ told a
+    unfolding matchedAnswer
+    match-refusal-told r t h o = o ∙ ap told (ap matchedAnswer (sym h) ∙ e)
