@@ -2,6 +2,9 @@
 pub mod Checking
 pub mod Judging
 pub mod Passing
+pub mod Writing
+pub mod Gathering
+pub mod Selecting
 pub mod Outcomes
 pub mod Answers
 pub mod Readable

@@ -18,7 +18,7 @@ use Rattle.sirophan.specs.declared.Checked.{Checked}
 use Rattle.sirophan.specs.declared.Matched.{Matched}
 use Rattle.sirophan.specs.declared.Refusal.{Refusal}
 use Rattle.sirophan.specs.declared.CardVerdict.{CardVerdict}
-use Rattle.sirophan.specs.Answers.{Answer, count, refused, yesOrNo, numberOf, refusalAnswer, checkedAnswer, matchedAnswer}
+use Rattle.sirophan.specs.Answers.{count, refused, yesOrNo, numberOf, refusalAnswer, checkedAnswer, matchedAnswer}
 use Rattle.sirophan.specs.Operations.{Step, found, stop, _>>=_, answer, treeStep, takeFilter, testsStep, takeSheet, sheetStep, Prepared, prepare, Card, takeCard, checkAnswer, matchAnswer}
 use Rattle.sirophan.specs.Passing.{Passing, cardVerdict, verdictStep}
 
@@ -65,16 +65,21 @@ passing b xs c n e h =
       prepared = is ∙ sym made ∙ ap (λ (qs : List Parameter). found (record { parameters = qs; filter = f })) (sym same);
     }
 
+-- ---- check has refused
+
+stopped : (s : Step Prepared) (n p : ℕ) → answer (s >>= λ q. found (count (length (testsOf (q .filter))))) ≡ refused n p → s ≡ stop n p
+stopped (found q) n p h = cc
+stopped (stop m q) n p h = cc
+
+pub prepare-stopped : (b xs : List ℕ) (c : Checked) (r : Refusal) → checkedAnswer c ≡ checkAnswer b xs → c ≡ Checked.Refused r → prepare b xs ≡ stop (numberOf (r .reason)) (r .place)
+unfolding checkedAnswer refusalAnswer checkAnswer
+prepare-stopped b xs c r e h = stopped (prepare b xs) (numberOf (r .reason)) (r .place) (sym e ∙ ap checkedAnswer h)
+
 -- ---- match
 
-match-step : (s : Step Prepared) (next : Prepared → Step Answer) (n p : ℕ) → answer (s >>= λ q. found (count (length (testsOf (q .filter))))) ≡ refused n p → answer (s >>= next) ≡ refused n p
-match-step (found q) next n p h = cc
-match-step (stop m q) next n p h = h
-
 pub match-refused : (b xs card : List ℕ) (c : Checked) (r : Refusal) → checkedAnswer c ≡ checkAnswer b xs → c ≡ Checked.Refused r → matchedAnswer (Matched.Refused r) ≡ matchAnswer b xs card
-unfolding checkedAnswer matchedAnswer refusalAnswer checkAnswer matchAnswer
-match-refused b xs card c r e h =
-    sym (match-step (prepare b xs) _ (numberOf (r .reason)) (r .place) (sym e ∙ ap checkedAnswer h))
+unfolding matchedAnswer refusalAnswer matchAnswer
+match-refused b xs card c r e h = rw (prepare-stopped b xs c r e h)
 
 yes-or-no-after : (s : Step Card) (g : Card → Bool) → (s >>= λ c. found (yesOrNo (g c))) ≡ (s >>= λ c. found (g c)) >>= λ b. found (yesOrNo b)
 yes-or-no-after (found c) g = refl

@@ -6,6 +6,7 @@ use Rattle.sirophan.specs.declared.Reason.{Reason}
 use Rattle.sirophan.specs.declared.Refusal.{Refusal}
 use Rattle.sirophan.specs.declared.Checked.{Checked}
 use Rattle.sirophan.specs.declared.Matched.{Matched}
+use Rattle.sirophan.specs.declared.Selected.{Selected}
 
 -- "a yes, a no, a count, or a refusal holding a number and a place"
 pub data Answer : Type 0 where
@@ -45,3 +46,7 @@ unfoldable pub matchedAnswer : Matched → Answer
 matchedAnswer Matched.Yes = yes
 matchedAnswer Matched.No = no
 matchedAnswer (Matched.Refused r) = refusalAnswer r
+
+unfoldable pub selectedAnswer : Selected → Answer
+selectedAnswer (Selected.Count n) = count n
+selectedAnswer (Selected.Refused r) = refusalAnswer r

@@ -2,6 +2,7 @@
 pub mod Answers
 pub mod Operations
 pub mod Passing
+pub mod Selecting
 pub mod Readable
 pub mod Meaning
 pub mod Verdicts

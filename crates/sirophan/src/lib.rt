@@ -2,10 +2,12 @@
 // is answered exactly, or is refused with a number and a place.
 mod numbers;
 mod reading;
+mod run;
 mod verdict;
 
 pub use numbers::number;
 pub use reading::check;
+pub use run::select;
 pub use verdict::match_card;
 
 // Why an operation refuses, in the order of the numbers of refusal.
@@ -56,6 +58,12 @@ pub enum Checked {
 pub enum Matched {
     Yes,
     No,
+    Refused(Refusal),
+}
+
+// What select answers: how many record numbers it has written into the list, or a refusal.
+pub enum Selected {
+    Count(usize),
     Refused(Refusal),
 }
 

@@ -36,7 +36,7 @@ fn says(sheet: &[u8], filter: &[u8], card: &[u8]) -> bool
 }
 
 // The verdict on a card, or why it is refused; `kinds` are those of the sheet.
-fn judge_card(sheet: &[u8], kinds: &[u8], filter: &[u8], card: &[u8]) -> CardVerdict
+pub fn judge_card(sheet: &[u8], kinds: &[u8], filter: &[u8], card: &[u8]) -> CardVerdict
     requires { ⌜ Passing (now sheet) (now filter) ⌝ }
     requires { ⌜ now kinds ≡ kindsOf (parametersOf (now sheet)) ⌝ }
     ensures { λ r. ⌜ ((i : ℕ) → verdictStep r i ≡ cardVerdict (parametersOf (now (sheet .entry))) (read (now (filter .entry))) i (now (card .entry))) ⌝ }

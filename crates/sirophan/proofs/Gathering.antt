@@ -1,0 +1,155 @@
+-- The loop of `gather`: what the run comes to is the numbers gathered, and then what the cards to come add to them.
+-- Assumes nothing.
+use Prim.Native.Nat.{ℕ, suc, _+_, _-_, _*_, _/_, _%_, _≤_, _<_, zero-le}
+use native.Mathlib.Nat.{sub-zero}
+use native.Mathlib.Numerals.{add-one}
+use native.Mathlib.Omega.{arith}
+use mathlib.Core.Path.{_≡_, refl, sym, ap, _∙_}
+use mathlib.Core.Bool.{Bool, true, false, cond}
+use mathlib.Core.Option.{Option}
+use mathlib.Core.List.{List, [], _∷_, _++_, append-assoc, append-nil}
+use lib.ListN.{length, take, drop, set, length-set}
+use lib.Seq.{take-suc-set, drop-drop}
+use Rattle.base.specs.Parts.{part}
+use Rattle.block.specs.declared.Reading.{Reading}
+use Rattle.sheet.specs.Sheet.{Parameter}
+use Rattle.card.specs.Card.{recordNumber, entriesOf, readCard}
+use Rattle.syntax.specs.Tree.{Tree}
+use Rattle.judge.specs.Sets.{conforms}
+use Rattle.sirophan.specs.declared.CardVerdict.{CardVerdict}
+use Rattle.sirophan.specs.declared.Refusal.{Refusal}
+use Rattle.sirophan.specs.declared.Selected.{Selected}
+use Rattle.sirophan.specs.Operations.{Step, found, stop, _>>=_, blocks, Card, cardStep, takeCard}
+use Rattle.sirophan.specs.Passing.{textSays, cardVerdict, verdictStep}
+use Rattle.sirophan.specs.Selecting.{runNumbers, Gathers}
+
+-- ---- a card that has a verdict is well formed
+
+step-well-formed : (r : Reading) (fits : Bool) (c : Card) (i : ℕ) (g : Card → Bool) (y : Bool) → (cardStep r fits c i >>= λ d. found (g d)) ≡ found y → r ≡ Reading.WellFormed
+step-well-formed Reading.WellFormed fits c i g y h = refl
+step-well-formed Reading.WrongSize fits c i g y h = cc
+step-well-formed Reading.WrongSum fits c i g y h = cc
+step-well-formed Reading.WrongLayout fits c i g y h = cc
+
+judged-well-formed : (ps : List Parameter) (f : Option Tree) (b : List ℕ) (y : Bool) → cardVerdict ps f 0 b ≡ found y → readCard b ≡ Reading.WellFormed
+unfolding cardVerdict takeCard
+judged-well-formed ps f b y h =
+    step-well-formed (readCard b) (conforms ps (entriesOf b)) (record { number = recordNumber b; entries = entriesOf b }) 0 (λ c. textSays ps (c .entries) f) y h
+
+-- ---- the loop
+
+-- numbers, and then those that are found
+abbrev onto : List ℕ → Step (List ℕ) → Step (List ℕ)
+onto ns s = s >>= λ ms. found (ns ++ ms)
+
+onto-none : (s : Step (List ℕ)) → s ≡ onto [] s
+onto-none (found ns) = refl
+onto-none (stop n p) = refl
+
+onto-more : (ns : List ℕ) (x : ℕ) (s : Step (List ℕ)) → onto ns (s >>= λ ms. found (x ∷ ms)) ≡ onto (ns ++ (x ∷ [])) s
+onto-more ns x (found ms) = rw (append-assoc ns (x ∷ []) ms)
+onto-more ns x (stop n p) = refl
+
+onto-same : (s : Step (List ℕ)) → (s >>= λ ms. found ms) ≡ s
+onto-same (found ms) = refl
+onto-same (stop n p) = refl
+
+pub record Gathering (ps : List Parameter) (f : Option Tree) (cards entry buffer : List ℕ) (at count : ℕ) : Type 0 where
+  -- the index of the card at `at`, and how many cards there are
+  pub index : ℕ
+  pub total : ℕ
+  pub at-index : at ≡ index * 512
+  pub size : length cards ≡ total * 512
+  pub seen : index ≤ total
+  pub few : count ≤ index
+  pub room : total ≤ length buffer
+  pub long : length buffer ≡ length entry
+  pub rest : runNumbers ps f 0 (blocks total cards) ≡ onto (take count buffer) (runNumbers ps f index (blocks (total - index) (drop at cards)))
+
+module _ (ps : List Parameter) (f : Option Tree) (cards : List ℕ) where
+  pub gathering-start : (buffer : List ℕ) → length cards % 512 ≡ 0 → length cards / 512 ≤ length buffer → Gathering ps f cards buffer buffer 0 0
+  gathering-start buffer w h =
+      record {
+        index = 0;
+        total = length cards / 512;
+        at-index = refl;
+        size = omega arith;
+        seen = zero-le;
+        few = zero-le;
+        room = h;
+        long = refl;
+        rest = rw (sub-zero (length cards / 512)) (onto-none (runNumbers ps f 0 (blocks (length cards / 512) cards)));
+      }
+
+  module _ {entry buffer : List ℕ} {at count : ℕ} (g : Gathering ps f cards entry buffer at count) where
+    pub gathering-part : at < length cards → at + 512 ≤ length cards
+    gathering-part h = omega (arith, g .at-index, g .size)
+
+    pub gathering-room : at < length cards → count < length buffer
+    gathering-room h = omega (arith, g .at-index, g .size, g .few, g .room)
+
+    module _ (h : at < length cards) (v : CardVerdict) (e : (i : ℕ) → verdictStep v i ≡ cardVerdict ps f i (part cards at (at + 512))) where
+      abbrev later : Step (List ℕ)
+      later = runNumbers ps f (suc (g .index)) (blocks (g .total - suc (g .index)) (drop (at + 512) cards))
+
+      -- the card at `at`, and then the cards after it
+      split : runNumbers ps f 0 (blocks (g .total) cards)
+          ≡ onto (take count buffer) (verdictStep v (g .index) >>= λ y. later >>= λ ns. found (cond y (recordNumber (part cards at (at + 512)) ∷ ns) ns))
+      unfolding runNumbers blocks
+      split =
+          let n : g .total - g .index ≡ suc (g .total - suc (g .index)) = omega (arith, g .at-index, g .size) in
+          let m : at + 512 - at ≡ 512 = omega arith in
+          g .rest ∙ rw (n, e (g .index), m, ← drop-drop 512 at cards)
+
+      pub gathering-well-formed : (y : Bool) → v ≡ CardVerdict.Says y → readCard (part cards at (at + 512)) ≡ Reading.WellFormed
+      gathering-well-formed y s = judged-well-formed ps f (part cards at (at + 512)) y (sym (e 0) ∙ ap (λ (w : CardVerdict). verdictStep w 0) s)
+
+      next-seen : suc (g .index) ≤ g .total
+      next-seen = omega (arith, g .at-index, g .size)
+
+      pub gathering-match : (y : Bool) (x : ℕ) → v ≡ CardVerdict.Says y → y ≡ true → x ≡ recordNumber (part cards at (at + 512)) → Gathering ps f cards entry (set buffer count x) (at + 512) (count + 1)
+      gathering-match y x s t r =
+          record {
+            index = suc (g .index);
+            total = g .total;
+            at-index = omega (arith, g .at-index);
+            size = g .size;
+            seen = next-seen;
+            few = omega (arith, g .few);
+            room = rw (length-set buffer count x) (g .room);
+            long = length-set buffer count x ∙ g .long;
+            rest = split ∙ rw (s, t, ← r, add-one count, take-suc-set buffer count x (gathering-room h)) (onto-more (take count buffer) x later);
+          }
+
+      pub gathering-other : (y : Bool) → v ≡ CardVerdict.Says y → y ≡ false → Gathering ps f cards entry buffer (at + 512) count
+      gathering-other y s t =
+          record {
+            index = suc (g .index);
+            total = g .total;
+            at-index = omega (arith, g .at-index);
+            size = g .size;
+            seen = next-seen;
+            few = omega (arith, g .few);
+            room = g .room;
+            long = g .long;
+            rest = split ∙ rw (s, t, onto-same later);
+          }
+
+      pub gathering-refused : (r : Refusal) → v ≡ CardVerdict.Refused (r .reason) → r .place ≡ at / 512 → Gathers ps f cards (Selected.Refused r) buffer
+      gathering-refused r s t =
+          let i : at / 512 ≡ g .index = omega (arith, g .at-index) in
+          let n : length cards / 512 ≡ g .total = omega (arith, g .size) in
+          record {
+            numbers = rw (n, t, i) (sym (split ∙ rw s));
+            room = λ k z. absurd (let z : _≡_ {A = ℕ} 0 1 = cc in omega arith);
+          }
+
+    pub gathering-end : length cards ≤ at → Gathers ps f cards (Selected.Count count) buffer
+    unfolding runNumbers blocks
+    gathering-end h =
+        let d : g .total - g .index ≡ 0 = omega (arith, g .at-index, g .size) in
+        let n : length cards / 512 ≡ g .total = omega (arith, g .size) in
+        record {
+          numbers = rw n (sym (g .rest ∙ rw (d) (ap found (append-nil (take count buffer)))));
+          room = λ k z. let s : count ≡ k = cc in omega (arith, g .few, g .seen, g .room);
+        }
