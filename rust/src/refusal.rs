@@ -33,7 +33,7 @@ impl Refusal {
             20 => "The card is not 512 bytes long, or the run is no whole number of cards or over 128.",
             21 => "The card's check sum is wrong.",
             22 => "The card breaks its layout.",
-            23 => "The card does not fit the sheet: an entry's parameter is not on it, or a text cannot be read as its kind.",
+            23 => "The card does not fit the sheet: a parameter is not on it, or a text cannot be read as its kind.",
             30 => "The list is shorter than the number of matching cards.",
             _ => "This number is not known to this version.",
         }
