@@ -1,8 +1,9 @@
 //! The benchmark: how many cards per second the proved library selects from, beside the second implementation, and
 //! beside a lower bound that does nothing but sum the first 508 bytes of each card.
 //!
-//! `bench [CARDS [ROUNDS]]` prints a table in Markdown. Each number is the best of the rounds, in which the three take
-//! turns; the archives are made of a fixed seed.
+//! `bench [CARDS [ROUNDS]]` prints a table in Markdown. The archives are made of a fixed seed. They are measured slice by
+//! slice, the three taking turns on each, and for each slice the least time of the rounds counts, so that what else the
+//! machine does disturbs little.
 
 use second::block::{self, SIZE, SUMMED};
 use second::generate::Random;
@@ -12,9 +13,11 @@ use std::process::ExitCode;
 use std::time::Instant;
 
 const CARDS: usize = 100_000;
-const ROUNDS: usize = 3;
+const ROUNDS: usize = 6;
 /// How many cards are selected from at a time.
 const RUN: usize = 128;
+/// How many bytes are measured at a time.
+const SLICE: usize = 8 * RUN * SIZE;
 
 /// The filters, by the number and kind of their tests.
 fn filters() -> Vec<(&'static str, String)> {
@@ -89,39 +92,71 @@ fn archive(cards: usize, most_entries: usize) -> Vec<u8> {
 }
 
 /// How many cards match; the operation is asked run by run.
-fn matching(archive: &[u8], select: impl Fn(&[u8], &mut [u32]) -> usize) -> usize {
+fn matching(cards: &[u8], select: impl Fn(&[u8], &mut [u32]) -> usize) -> usize {
     let mut list = [0; RUN];
-    archive.chunks(RUN * SIZE).map(|run| select(black_box(run), &mut list)).sum()
+    cards.chunks(RUN * SIZE).map(|run| select(black_box(run), &mut list)).sum()
 }
 
-/// The least time that a piece of work took so far, with what it answered.
-fn keep_best(best: &mut f64, work: impl Fn() -> usize) -> usize {
-    let began = Instant::now();
-    let answer = black_box(work());
-    *best = best.min(began.elapsed().as_secs_f64());
-    answer
+/// The sum of the cards' check sums.
+fn summed(cards: &[u8]) -> usize {
+    cards.chunks(SIZE).map(|card| block::check_sum(&black_box(card)[..SUMMED]) as usize).sum()
 }
 
+/// Work on cards, which answers a number.
+type Work<'a> = dyn Fn(&[u8]) -> usize + 'a;
+
+/// Work with the least time that each slice of the archive took so far.
+struct Measured<'a> {
+    work: Box<Work<'a>>,
+    best: Vec<f64>,
+}
+
+impl<'a> Measured<'a> {
+    fn new(archive: &[u8], work: impl Fn(&[u8]) -> usize + 'a) -> Measured<'a> {
+        Measured { work: Box::new(work), best: vec![f64::MAX; archive.len().div_ceil(SLICE)] }
+    }
+
+    /// Does the work on one slice and answers what it answers.
+    fn measure(&mut self, index: usize, slice: &[u8]) -> usize {
+        let began = Instant::now();
+        let answer = black_box((self.work)(slice));
+        self.best[index] = self.best[index].min(began.elapsed().as_secs_f64());
+        answer
+    }
+
+    fn seconds(&self) -> f64 {
+        self.best.iter().sum()
+    }
+}
+
+/// Prints the rows of one archive.
 fn measure(kind: &str, archive: &[u8], rounds: usize) {
-    let sheet = sheet();
-    let cards = archive.len() / SIZE;
+    let sheet = &sheet();
     for (name, filter) in filters() {
         let filter = filter.as_bytes();
-        let (mut proved, mut plain, mut sum) = (f64::MAX, f64::MAX, f64::MAX);
-        let mut found = 0;
-        for _ in 0..rounds {
-            found = keep_best(&mut proved, || {
-                matching(archive, |run, list| sirophan::select(&sheet, filter, run, list).expect("a good filter"))
-            });
-            let also_found = keep_best(&mut plain, || {
-                matching(archive, |run, list| operations::select(&sheet, filter, run, list).expect("a good filter"))
-            });
-            assert_eq!(found, also_found, "the two select the same number of cards");
-            keep_best(&mut sum, || {
-                archive.chunks(SIZE).map(|card| block::check_sum(&black_box(card)[..SUMMED]) as usize).sum()
-            });
+        let mut measured = [
+            Measured::new(archive, move |cards| {
+                matching(cards, |run, list| sirophan::select(sheet, filter, run, list).expect("a good filter"))
+            }),
+            Measured::new(archive, move |cards| {
+                matching(cards, |run, list| operations::select(sheet, filter, run, list).expect("a good filter"))
+            }),
+            Measured::new(archive, summed),
+        ];
+        let mut answers = [0; 3];
+        for round in 0..rounds {
+            answers = [0; 3];
+            for (index, slice) in archive.chunks(SLICE).enumerate() {
+                for turn in 0..3 {
+                    let which = (turn + round) % 3;
+                    answers[which] += measured[which].measure(index, slice);
+                }
+            }
         }
-        let speed = |seconds: f64| cards as f64 / seconds / 1e6;
+        let [found, also_found, _] = answers;
+        assert_eq!(found, also_found, "the two select the same number of cards");
+        let [proved, plain, sum] = measured.map(|measured| measured.seconds());
+        let speed = |seconds: f64| (archive.len() / SIZE) as f64 / seconds / 1e6;
         println!(
             "| {kind} | {name} | {found} | {:.2} | {:.2} | {:.2} | {:.2} | {:.2} |",
             speed(proved),
