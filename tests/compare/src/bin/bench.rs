@@ -1,9 +1,9 @@
 //! The benchmark: how many cards per second the proved library selects from, beside the second implementation, and
 //! beside a lower bound that does nothing but sum the first 508 bytes of each card.
 //!
-//! `bench [CARDS [ROUNDS]]` prints a table in Markdown. The archives are made of a fixed seed. They are measured slice by
-//! slice, the three taking turns on each, and for each slice the least time of the rounds counts, so that what else the
-//! machine does disturbs little.
+//! `bench [CARDS [ROUNDS [ROWS]]]` prints a table in Markdown, or those of its rows that begin with ROWS, such as
+//! `full | 32`. The archives are made of a fixed seed. They are measured slice by slice, the three taking turns on each,
+//! and for each slice the least time of the rounds counts, so that what else the machine does disturbs little.
 
 use second::block::{self, SIZE, SUMMED};
 use second::generate::Random;
@@ -129,10 +129,14 @@ impl<'a> Measured<'a> {
     }
 }
 
-/// Prints the rows of one archive.
-fn measure(kind: &str, archive: &[u8], rounds: usize) {
+/// Prints the rows of one archive that begin with the text.
+fn measure(kind: &str, archive: &[u8], rounds: usize, rows: &str) {
     let sheet = &sheet();
     for (name, filter) in filters() {
+        let row = format!("{kind} | {name}");
+        if !row.starts_with(rows) {
+            continue;
+        }
         let filter = filter.as_bytes();
         let mut measured = [
             Measured::new(archive, move |cards| {
@@ -158,7 +162,7 @@ fn measure(kind: &str, archive: &[u8], rounds: usize) {
         let [proved, plain, sum] = measured.map(|measured| measured.seconds());
         let speed = |seconds: f64| (archive.len() / SIZE) as f64 / seconds / 1e6;
         println!(
-            "| {kind} | {name} | {found} | {:.2} | {:.2} | {:.2} | {:.2} | {:.2} |",
+            "| {row} | {found} | {:.2} | {:.2} | {:.2} | {:.2} | {:.2} |",
             speed(proved),
             speed(plain),
             speed(sum),
@@ -169,17 +173,18 @@ fn measure(kind: &str, archive: &[u8], rounds: usize) {
 }
 
 fn main() -> ExitCode {
-    let mut arguments = std::env::args().skip(1).map(|argument| argument.parse());
-    let (Ok(cards), Ok(rounds)) = (arguments.next().unwrap_or(Ok(CARDS)), arguments.next().unwrap_or(Ok(ROUNDS)))
-    else {
-        eprintln!("usage: bench [CARDS [ROUNDS]]");
+    let arguments: Vec<String> = std::env::args().skip(1).collect();
+    let number = |index: usize, otherwise| arguments.get(index).map_or(Ok(otherwise), |text| text.parse());
+    let (Ok(cards), Ok(rounds)) = (number(0, CARDS), number(1, ROUNDS)) else {
+        eprintln!("usage: bench [CARDS [ROUNDS [ROWS]]]");
         return ExitCode::FAILURE;
     };
+    let rows = arguments.get(2).map_or("", |text| text);
     println!("{cards} cards in runs of {RUN}; millions of cards per second, the best of {rounds} rounds.\n");
     println!("| cards | tests | match | Sirophan | plain Rust | sum only | to plain Rust | to sum only |");
     println!("|---|---|---:|---:|---:|---:|---:|---:|");
     for (kind, most_entries) in [("sparse", 1), ("usual", 6), ("full", 64)] {
-        measure(kind, &archive(cards, most_entries), rounds);
+        measure(kind, &archive(cards, most_entries), rounds, rows);
     }
     ExitCode::SUCCESS
 }
