@@ -16,7 +16,7 @@ use Rattle.sheet.specs.Sheet.{Parameter}
 use Rattle.card.specs.Card.{recordNumber, entriesOf, readCard}
 use Rattle.syntax.specs.Tree.{Tree}
 use Rattle.judge.specs.Sets.{conforms}
-use Rattle.sirophan.specs.declared.CardVerdict.{CardVerdict}
+use Rattle.sirophan.specs.declared.verdict.CardVerdict.{CardVerdict}
 use Rattle.sirophan.specs.declared.Refusal.{Refusal}
 use Rattle.sirophan.specs.declared.Selected.{Selected}
 use Rattle.sirophan.specs.Operations.{Step, found, stop, _>>=_, blocks, Card, cardStep, takeCard}

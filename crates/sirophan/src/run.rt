@@ -1,10 +1,10 @@
 // Select: the record numbers of the cards of a run that match.
-use crate::CardVerdict;
 use crate::Checked;
 use crate::Reason;
 use crate::Refusal;
 use crate::Selected;
 use crate::reading::check;
+use crate::verdict::CardVerdict;
 use crate::verdict::judge_card;
 ghost use mathlib.Core.Path.{_≡_};
 ghost use mathlib.Core.List.{_++_};
