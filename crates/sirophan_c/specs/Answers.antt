@@ -1,0 +1,16 @@
+-- An answer of document 01 as C gets it: two numbers.
+-- Assumes nothing.
+use Prim.Native.Nat.{ℕ}
+use Rattle.sirophan.specs.Answers as paper
+use Rattle.sirophan.specs.Answers.{yes, no, count, refused}
+use Rattle.sirophan_c.specs.declared.Answer.{Answer}
+
+abbrev pub answer : ℕ → ℕ → Answer
+answer refusal value = record { refusal = refusal; value = value }
+
+-- the number of the refusal, 0 where there is none; and the count, 1 for yes and 0 for no, or the refusal's place
+unfoldable pub told : paper.Answer → Answer
+told yes = answer 0 1
+told no = answer 0 0
+told (count n) = answer 0 n
+told (refused n p) = answer n p

@@ -1,0 +1,69 @@
+/*
+ * Sirophan: which catalogue cards of an archive match a FHIR R4 _filter.
+ *
+ * A sheet says which parameters the cards have and of which kind each is; a card holds a record number and search
+ * values. Both are blocks of 512 bytes. A filter is a text of at most 1,024 bytes. None of them is trusted: each
+ * function checks all that it is given, and for every input it ends with an answer or with a numbered refusal.
+ *
+ * A pointer comes with the number of elements that it points to. It may be anything, but not NULL, where that number
+ * is 0. The list must not overlap the other arguments. The functions keep nothing and may be called from any thread.
+ *
+ * Link with libsirophan_c.a, which `rt staticlib sirophan_c` writes into target/staticlib (x86-64).
+ */
+#ifndef SIROPHAN_H
+#define SIROPHAN_H
+
+#include <stddef.h>
+#include <stdint.h>
+
+#ifdef __cplusplus
+extern "C" {
+#endif
+
+/* The numbers of refusal. The first that holds, in this order, is the one that is given. */
+enum {
+    SIROPHAN_SHEET_SIZE = 1,    /* the sheet is not 512 bytes */
+    SIROPHAN_SHEET_SUM = 2,     /* the sheet's check sum is wrong */
+    SIROPHAN_SHEET_LAYOUT = 3,  /* the sheet breaks its layout, or a name on it is not allowed */
+    SIROPHAN_FILTER_SIZE = 10,  /* the filter is empty or over 1,024 bytes */
+    SIROPHAN_NO_FILTER = 11,    /* the text is no filter by the grammar */
+    SIROPHAN_UNKNOWN_NAME = 14, /* a name is not on the sheet; place: the test's first byte, as for 15 to 17 */
+    SIROPHAN_UNSUPPORTED = 15,  /* the operator is ap, ss, sb, in or ni */
+    SIROPHAN_NO_MEANING = 16,   /* another operator without a meaning for the parameter's kind */
+    SIROPHAN_UNREADABLE = 17,   /* the value cannot be read */
+    SIROPHAN_CARD_SIZE = 20,    /* the card is not 512 bytes; the run is no whole number of cards, or over 128 */
+    SIROPHAN_CARD_SUM = 21,     /* a card's check sum is wrong; place: the card's index, as for 22 and 23 */
+    SIROPHAN_CARD_LAYOUT = 22,  /* a card breaks its layout */
+    SIROPHAN_CARD_MISFIT = 23,  /* a card does not fit the sheet */
+    SIROPHAN_SHORT_LIST = 30    /* the list is shorter than the matches; place: their number */
+};
+
+/* An answer. */
+typedef struct sirophan_answer {
+    uint32_t refusal; /* the number of the refusal, or 0 if there is none */
+    size_t value;     /* the count, or 1 for yes and 0 for no; of a refusal its place, 0 where none is named above */
+} sirophan_answer;
+
+/* Answers how many tests the filter has. If it does, every test has a meaning on every card that fits the sheet. */
+sirophan_answer sirophan_check(const uint8_t *sheet, size_t sheet_len,
+                               const uint8_t *filter, size_t filter_len);
+
+/* Answers whether the card matches the filter: 1 for yes, 0 for no. */
+sirophan_answer sirophan_match(const uint8_t *sheet, size_t sheet_len,
+                               const uint8_t *filter, size_t filter_len,
+                               const uint8_t *card, size_t card_len);
+
+/*
+ * Writes the record numbers of the matching cards into the list, in card order from its first cell on, and answers
+ * how many they are. cards_len is in bytes, list_len in cells. Later cells stay, and a refusal writes nothing.
+ */
+sirophan_answer sirophan_select(const uint8_t *sheet, size_t sheet_len,
+                                const uint8_t *filter, size_t filter_len,
+                                const uint8_t *cards, size_t cards_len,
+                                uint32_t *list, size_t list_len);
+
+#ifdef __cplusplus
+}
+#endif
+
+#endif

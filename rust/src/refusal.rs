@@ -1,0 +1,82 @@
+//! A refusal, and how it is told to a person.
+
+use std::error::Error;
+use std::fmt;
+
+/// A numbered refusal with its place.
+#[derive(Clone, Copy, Debug, PartialEq, Eq, Hash)]
+pub struct Refusal {
+    /// The number, which says why there is no answer.
+    pub number: u32,
+    /// For 14 to 17 the first byte of the test in the filter, for 21 to 23 the card's index in the run, for 30 the
+    /// number of matching cards, and 0 for all others.
+    pub place: usize,
+}
+
+/// How many characters of the filter [`Refusal::render`] shows before and behind the place.
+const SHOWN_BEFORE: usize = 30;
+const SHOWN_BEHIND: usize = 46;
+
+impl Refusal {
+    /// What the number means, in one sentence.
+    pub fn sentence(&self) -> &'static str {
+        match self.number {
+            1 => "The sheet is not 512 bytes long.",
+            2 => "The sheet's check sum is wrong.",
+            3 => "The sheet breaks its layout, or a name on it is not allowed.",
+            10 => "The filter is empty or longer than 1,024 bytes.",
+            11 => "The text is no filter by the grammar.",
+            14 => "The sheet has no parameter of this name.",
+            15 => "The operators ap, ss, sb, in and ni have no meaning for any kind.",
+            16 => "The operator has no meaning for a parameter of this kind.",
+            17 => "The value cannot be read as the parameter's kind, or for pr as true or false.",
+            20 => "The card is not 512 bytes long, or the run is no whole number of cards or over 128.",
+            21 => "The card's check sum is wrong.",
+            22 => "The card breaks its layout.",
+            23 => "The card does not fit the sheet: a parameter is not on it, or a text cannot be read as its kind.",
+            30 => "The list is shorter than the number of matching cards.",
+            _ => "This number is not known to this version.",
+        }
+    }
+
+    /// The refusal as a person would want to see it. Where a test of the filter is at fault, the filter is shown with
+    /// a caret under the test's first byte.
+    pub fn render(&self, filter: &[u8]) -> String {
+        match self.number {
+            14..=17 => format!("{}\n{self}", caret(filter, self.place)),
+            _ => self.to_string(),
+        }
+    }
+}
+
+/// `refused 16 at 0: ` and the sentence.
+impl fmt::Display for Refusal {
+    fn fmt(&self, f: &mut fmt::Formatter) -> fmt::Result {
+        let Refusal { number, place } = self;
+        write!(f, "refused {number} at {place}: {}", self.sentence())
+    }
+}
+
+impl Error for Refusal {}
+
+/// Two lines: the filter around the place, and a caret under it. Dots stand for what is left out.
+fn caret(filter: &[u8], place: usize) -> String {
+    let (before, behind) = filter.split_at(place.min(filter.len()));
+    let before = printable(before);
+    let behind = printable(behind);
+    let skipped = before.len().saturating_sub(SHOWN_BEFORE);
+    let kept = behind.len().min(SHOWN_BEHIND);
+    let dots = |left_out: bool| if left_out { "..." } else { "" };
+
+    let start = dots(skipped > 0);
+    let line: String = before[skipped..].iter().chain(&behind[..kept]).collect();
+    let indent = start.len() + before.len() - skipped;
+    let end = dots(kept < behind.len());
+    format!("{start}{line}{end}\n{:indent$}^", "")
+}
+
+/// The characters of a text, with a mark for each that is not UTF-8 or would not print.
+fn printable(text: &[u8]) -> Vec<char> {
+    let mark = |c: char| if c.is_control() { char::REPLACEMENT_CHARACTER } else { c };
+    String::from_utf8_lossy(text).chars().map(mark).collect()
+}

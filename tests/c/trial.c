@@ -1,0 +1,158 @@
+/*
+ * Uses the C interface on the trial archive and checks the answers.
+ * The last line is 'N passed, M failed'; the status is 0 exactly when M is 0.
+ */
+#include <stdio.h>
+#include <string.h>
+
+#include "sirophan.h"
+
+enum { BLOCK = 512, SUMMED = 508, CARDS = 3, UNTOUCHED = 999 };
+
+static int passed, failed;
+
+/* A block that is being written. */
+typedef struct block {
+    uint8_t bytes[BLOCK];
+    size_t end;
+} block;
+
+static void put_entry(block *b, uint8_t head, const char *text) {
+    size_t length = strlen(text);
+    b->bytes[b->end] = head;
+    b->bytes[b->end + 1] = (uint8_t)length;
+    memcpy(b->bytes + b->end + 2, text, length);
+    b->end += 2 + length;
+}
+
+static void store_sum(block *b) {
+    uint32_t sum = 0;
+    for (uint32_t place = 0; place < SUMMED; place++) sum += b->bytes[place] * (place + 1);
+    for (int i = 0; i < 4; i++) b->bytes[SUMMED + i] = (uint8_t)(sum >> (8 * i));
+}
+
+static block trial_sheet(void) {
+    block b = {.bytes = {0x50, 5}, .end = 2};
+    put_entry(&b, 1, "title");
+    put_entry(&b, 3, "birthdate");
+    put_entry(&b, 4, "code");
+    put_entry(&b, 2, "pages");
+    put_entry(&b, 5, "subject");
+    store_sum(&b);
+    return b;
+}
+
+/* A card of the trial archive: the values are in the sheet's order, and one that is NULL is left out. */
+static block card(uint32_t record, const char *const texts[5], const char *second_date) {
+    block b = {.bytes = {0x43, (uint8_t)record, (uint8_t)(record >> 8)}, .end = 6};
+    for (uint8_t place = 0; place < 5; place++) {
+        if (texts[place] == NULL) continue;
+        put_entry(&b, place, texts[place]);
+        b.bytes[5]++;
+    }
+    if (second_date != NULL) {
+        put_entry(&b, 1, second_date);
+        b.bytes[5]++;
+    }
+    store_sum(&b);
+    return b;
+}
+
+static void expect(const char *what, sirophan_answer answer, uint32_t refusal, size_t value) {
+    if (answer.refusal == refusal && answer.value == value) {
+        passed++;
+        return;
+    }
+    failed++;
+    printf("%s: refusal %lu, value %zu; expected %lu, %zu\n", what, (unsigned long)answer.refusal, answer.value,
+           (unsigned long)refusal, value);
+}
+
+static void expect_cells(const char *what, const uint32_t *list, const uint32_t *wanted, size_t cells) {
+    if (memcmp(list, wanted, cells * sizeof *list) == 0) {
+        passed++;
+        return;
+    }
+    failed++;
+    printf("%s: cells", what);
+    for (size_t i = 0; i < cells; i++) printf(" %lu", (unsigned long)list[i]);
+    printf("\n");
+}
+
+/* A filter, and what match answers to it for card 7. */
+typedef struct row {
+    const char *filter;
+    uint32_t refusal;
+    size_t value;
+} row;
+
+static const row trial_table[] = {
+    {"title co \"BOOK\"", 0, 1},
+    {"birthdate le 1974-06", 0, 1},
+    {"birthdate lt 1974-06", 0, 0},
+    {"birthdate eb 1974-07", 0, 1},
+    {"birthdate eq 1974", 0, 0},
+    {"birthdate ne 1980", 0, 1},
+    {"not (birthdate eq 1980)", 0, 0},
+    {"pages eq 12", 0, 0},
+    {"pages ge 12", 0, 1},
+    {"pages co 12.04", 0, 1},
+    {"pages co 12.05", 0, 0},
+    {"code eq LOINC|1234-5", 0, 1},
+    {"title pr true or pages gt 20 and pages gt 30", 0, 0},
+    {"code gt 5", SIROPHAN_NO_MEANING, 0},
+    {"pages gt twelve", SIROPHAN_UNREADABLE, 0},
+    {"ward eq 4", SIROPHAN_UNKNOWN_NAME, 0},
+    {"title ap x", SIROPHAN_UNSUPPORTED, 0},
+    {"title eq", SIROPHAN_NO_FILTER, 0},
+    {"title eq \"a\"b", SIROPHAN_NO_FILTER, 0},
+    {"title pr true or code gt 5", SIROPHAN_NO_MEANING, 17},
+};
+
+int main(void) {
+    block sheet = trial_sheet();
+    block archive[CARDS] = {
+        card(7, (const char *const[5]){"Ward book 4", "1974-06", "http://loinc.org|1234-5", "12.0", "Patient/17"},
+             "1980"),
+        card(19, (const char *const[5]){"Ward book 5", "1975-01-31", "1234-5", "250", NULL}, NULL),
+        card(300, (const char *const[5]){"ward BOOK 40", "1974-06-30T23:00:00Z", NULL, "12", "Patient/17"}, NULL),
+    };
+    uint8_t cards[CARDS * BLOCK];
+    for (size_t i = 0; i < CARDS; i++) memcpy(cards + i * BLOCK, archive[i].bytes, BLOCK);
+
+#define SHEET sheet.bytes, BLOCK
+#define FILTER(text) (const uint8_t *)(text), strlen(text)
+
+    for (size_t i = 0; i < sizeof trial_table / sizeof *trial_table; i++) {
+        row r = trial_table[i];
+        expect(r.filter, sirophan_match(SHEET, FILTER(r.filter), cards, BLOCK), r.refusal, r.value);
+    }
+    expect("three tests", sirophan_check(SHEET, FILTER("title pr true or (pages gt 20 and pages gt 30)")), 0, 3);
+    expect("empty filter", sirophan_check(SHEET, FILTER("")), SIROPHAN_FILTER_SIZE, 0);
+    expect("short sheet", sirophan_check(sheet.bytes, BLOCK - 1, FILTER("title pr true")), SIROPHAN_SHEET_SIZE, 0);
+    expect("a card as sheet", sirophan_check(cards, BLOCK, FILTER("title pr true")), SIROPHAN_SHEET_LAYOUT, 0);
+    expect("short card", sirophan_match(SHEET, FILTER("title pr true"), cards, BLOCK - 1), SIROPHAN_CARD_SIZE, 0);
+
+    const char *filter = "title sw \"ward book 4\"";
+    uint32_t list[4] = {UNTOUCHED, UNTOUCHED, UNTOUCHED, UNTOUCHED};
+    expect("list too short", sirophan_select(SHEET, FILTER(filter), cards, sizeof cards, list, 1),
+           SIROPHAN_SHORT_LIST, 2);
+    expect_cells("list too short", list, (const uint32_t[4]){UNTOUCHED, UNTOUCHED, UNTOUCHED, UNTOUCHED}, 4);
+    expect("two of three", sirophan_select(SHEET, FILTER(filter), cards, sizeof cards, list, 3), 0, 2);
+    expect_cells("two of three", list, (const uint32_t[4]){7, 300, UNTOUCHED, UNTOUCHED}, 4);
+    expect("no cards", sirophan_select(SHEET, FILTER(filter), cards, 0, list, 0), 0, 0);
+
+    cards[2 * BLOCK] ^= 1;
+    expect("third card damaged", sirophan_select(SHEET, FILTER(filter), cards, sizeof cards, list, 4),
+           SIROPHAN_CARD_SUM, 2);
+    expect_cells("third card damaged", list, (const uint32_t[4]){7, 300, UNTOUCHED, UNTOUCHED}, 4);
+
+    sheet.bytes[2] = 4;
+    expect("sheet damaged", sirophan_match(SHEET, FILTER(filter), cards, BLOCK), SIROPHAN_SHEET_SUM, 0);
+    /* The title is now a token, for which sw has no meaning: a refusal, not a quiet no. */
+    store_sum(&sheet);
+    expect("title as a token", sirophan_match(SHEET, FILTER(filter), cards, BLOCK), SIROPHAN_NO_MEANING, 0);
+
+    printf("%d passed, %d failed\n", passed, failed);
+    return failed == 0 ? 0 : 1;
+}

@@ -1,0 +1,190 @@
+//! The benchmark: how many cards per second the proved library selects from, beside the second implementation, and
+//! beside a lower bound that does nothing but sum the first 508 bytes of each card.
+//!
+//! `bench [CARDS [ROUNDS [ROWS]]]` prints a table in Markdown, or those of its rows that begin with ROWS, such as
+//! `full | 32`. The archives are made of a fixed seed. They are measured slice by slice, the three taking turns on each,
+//! and for each slice the least time of the rounds counts, so that what else the machine does disturbs little.
+
+use second::block::{self, SIZE, SUMMED};
+use second::generate::Random;
+use second::operations;
+use std::hint::black_box;
+use std::process::ExitCode;
+use std::time::Instant;
+
+const CARDS: usize = 100_000;
+const ROUNDS: usize = 6;
+/// How many cards are selected from at a time.
+const RUN: usize = 128;
+/// How many bytes are measured at a time.
+const SLICE: usize = 8 * RUN * SIZE;
+
+/// The filters, by the number and kind of their tests.
+fn filters() -> Vec<(&'static str, String)> {
+    vec![
+        ("1, presence", "subject pr true".into()),
+        ("1, number", "pages ge 100".into()),
+        ("1, date", "birthdate le 1974-06".into()),
+        ("1, token", "code eq loinc|1234-5".into()),
+        ("1, string", "title co \"book 4\"".into()),
+        ("4, mixed", mixed(4)),
+        ("12, mixed", mixed(12)),
+        ("32, mixed", mixed(32)),
+    ]
+}
+
+/// So many tests of four kinds, in brackets of four.
+fn mixed(count: usize) -> String {
+    let test = |index: usize| match index % 4 {
+        0 => format!("title co \"book {index}\""),
+        1 => format!("birthdate le {}-06", 1930 + index),
+        2 => format!("code eq loinc|{}-5", 1230 + index),
+        _ => format!("pages ge {}", 10 * index),
+    };
+    let tests: Vec<String> = (0..count).map(test).collect();
+    let brackets: Vec<String> = tests.chunks(4).map(|four| format!("({})", four.join(" or "))).collect();
+    brackets.join(" and ")
+}
+
+fn sheet() -> Vec<u8> {
+    let parameters: [(u8, &[u8]); 5] = [(1, b"title"), (3, b"birthdate"), (4, b"code"), (2, b"pages"), (5, b"subject")];
+    block::write_sheet(&parameters).expect("five names have room")
+}
+
+/// One entry of a card, of one of the five parameters.
+fn entry(random: &mut Random) -> (u8, String) {
+    let place = random.below(5) as u8;
+    let year = random.between(1900, 1999);
+    let (month, day) = (random.between(1, 12), random.between(1, 28));
+    let text = match place {
+        0 => format!("Ward book {}, volume {}", random.below(500), random.below(9)),
+        1 => match random.below(3) {
+            0 => format!("{year}"),
+            1 => format!("{year}-{month:02}-{day:02}"),
+            _ => format!("{year}-{month:02}-{day:02}T{:02}:30:00+01:00", random.below(24)),
+        },
+        2 => format!("http://loinc.org|{}-{}", 1230 + random.below(9), random.below(10)),
+        3 => format!("{}.{}", random.below(300), random.below(10)),
+        _ => format!("Patient/{}", random.below(100_000)),
+    };
+    (place, text)
+}
+
+/// Cards with up to this many entries, or as many as have room.
+fn archive(cards: usize, most_entries: usize) -> Vec<u8> {
+    let mut random = Random::new(1974, most_entries as u64);
+    let mut archive = Vec::with_capacity(cards * SIZE);
+    for record in 0..cards as u32 {
+        let mut entries = Vec::new();
+        let mut room = SUMMED - 6;
+        while entries.len() < most_entries {
+            let (place, text) = entry(&mut random);
+            if room < 2 + text.len() {
+                break;
+            }
+            room -= 2 + text.len();
+            entries.push((place, text));
+        }
+        let entries: Vec<_> = entries.iter().map(|(place, text)| (*place, text.as_bytes())).collect();
+        archive.extend(block::write_card(record, &entries).expect("the entries have room"));
+    }
+    archive
+}
+
+/// How many cards match; the operation is asked run by run.
+fn matching(cards: &[u8], select: impl Fn(&[u8], &mut [u32]) -> usize) -> usize {
+    let mut list = [0; RUN];
+    cards.chunks(RUN * SIZE).map(|run| select(black_box(run), &mut list)).sum()
+}
+
+/// The sum of the cards' check sums.
+fn summed(cards: &[u8]) -> usize {
+    cards.chunks(SIZE).map(|card| block::check_sum(&black_box(card)[..SUMMED]) as usize).sum()
+}
+
+/// Work on cards, which answers a number.
+type Work<'a> = dyn Fn(&[u8]) -> usize + 'a;
+
+/// Work with the least time that each slice of the archive took so far.
+struct Measured<'a> {
+    work: Box<Work<'a>>,
+    best: Vec<f64>,
+}
+
+impl<'a> Measured<'a> {
+    fn new(archive: &[u8], work: impl Fn(&[u8]) -> usize + 'a) -> Measured<'a> {
+        Measured { work: Box::new(work), best: vec![f64::MAX; archive.len().div_ceil(SLICE)] }
+    }
+
+    /// Does the work on one slice and answers what it answers.
+    fn measure(&mut self, index: usize, slice: &[u8]) -> usize {
+        let began = Instant::now();
+        let answer = black_box((self.work)(slice));
+        self.best[index] = self.best[index].min(began.elapsed().as_secs_f64());
+        answer
+    }
+
+    fn seconds(&self) -> f64 {
+        self.best.iter().sum()
+    }
+}
+
+/// Prints the rows of one archive that begin with the text.
+fn measure(kind: &str, archive: &[u8], rounds: usize, rows: &str) {
+    let sheet = &sheet();
+    for (name, filter) in filters() {
+        let row = format!("{kind} | {name}");
+        if !row.starts_with(rows) {
+            continue;
+        }
+        let filter = filter.as_bytes();
+        let mut measured = [
+            Measured::new(archive, move |cards| {
+                matching(cards, |run, list| sirophan::select(sheet, filter, run, list).expect("a good filter"))
+            }),
+            Measured::new(archive, move |cards| {
+                matching(cards, |run, list| operations::select(sheet, filter, run, list).expect("a good filter"))
+            }),
+            Measured::new(archive, summed),
+        ];
+        let mut answers = [0; 3];
+        for round in 0..rounds {
+            answers = [0; 3];
+            for (index, slice) in archive.chunks(SLICE).enumerate() {
+                for turn in 0..3 {
+                    let which = (turn + round) % 3;
+                    answers[which] += measured[which].measure(index, slice);
+                }
+            }
+        }
+        let [found, also_found, _] = answers;
+        assert_eq!(found, also_found, "the two select the same number of cards");
+        let [proved, plain, sum] = measured.map(|measured| measured.seconds());
+        let speed = |seconds: f64| (archive.len() / SIZE) as f64 / seconds / 1e6;
+        println!(
+            "| {row} | {found} | {:.2} | {:.2} | {:.2} | {:.2} | {:.2} |",
+            speed(proved),
+            speed(plain),
+            speed(sum),
+            plain / proved,
+            sum / proved,
+        );
+    }
+}
+
+fn main() -> ExitCode {
+    let arguments: Vec<String> = std::env::args().skip(1).collect();
+    let number = |index: usize, otherwise| arguments.get(index).map_or(Ok(otherwise), |text| text.parse());
+    let (Ok(cards), Ok(rounds)) = (number(0, CARDS), number(1, ROUNDS)) else {
+        eprintln!("usage: bench [CARDS [ROUNDS [ROWS]]]");
+        return ExitCode::FAILURE;
+    };
+    let rows = arguments.get(2).map_or("", |text| text);
+    println!("{cards} cards in runs of {RUN}; millions of cards per second, the best of {rounds} rounds.\n");
+    println!("| cards | tests | match | Sirophan | plain Rust | sum only | to plain Rust | to sum only |");
+    println!("|---|---|---:|---:|---:|---:|---:|---:|");
+    for (kind, most_entries) in [("sparse", 1), ("usual", 6), ("full", 64)] {
+        measure(kind, &archive(cards, most_entries), rounds, rows);
+    }
+    ExitCode::SUCCESS
+}

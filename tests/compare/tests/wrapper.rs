@@ -1,0 +1,87 @@
+//! The Rust interface: its answers on the trial archive, and how it tells a refusal to a person.
+
+use second::block::{write_card, write_sheet};
+use sirophan::{Refusal, check, matches, select};
+
+fn sheet() -> Vec<u8> {
+    write_sheet(&[(1, b"title"), (2, b"pages")]).unwrap()
+}
+
+fn card(record: u32, title: &str) -> Vec<u8> {
+    write_card(record, &[(0, title.as_bytes()), (1, b"12.0")]).unwrap()
+}
+
+#[test]
+fn answers() {
+    let cards = [card(7, "Ward book 4"), card(19, "Ward book 5"), card(300, "ward book 40")].concat();
+    let filter = b"title sw \"ward book 4\"";
+    assert_eq!(check(&sheet(), b"title pr true or pages gt 1"), Ok(2));
+    assert_eq!(matches(&sheet(), filter, &cards[..512]), Ok(true));
+    assert_eq!(matches(&sheet(), filter, &cards[512..1024]), Ok(false));
+    let mut list = [9; 4];
+    assert_eq!(select(&sheet(), filter, &cards, &mut list), Ok(2));
+    assert_eq!(list, [7, 300, 9, 9]);
+    assert_eq!(select(&sheet(), filter, &[], &mut []), Ok(0));
+}
+
+#[test]
+fn refusals() {
+    let refused = |number, place| Refusal { number, place };
+    assert_eq!(check(&[], b"title pr true"), Err(refused(1, 0)));
+    assert_eq!(check(&sheet(), b""), Err(refused(10, 0)));
+    assert_eq!(check(&sheet(), b"title pr true or pages gt x"), Err(refused(17, 17)));
+    let mut list = [9];
+    let cards = [card(1, "x"), card(2, "x")].concat();
+    assert_eq!(select(&sheet(), b"title eq x", &cards, &mut list), Err(refused(30, 2)));
+    assert_eq!(list, [9]);
+}
+
+#[test]
+fn a_caret_under_the_test() {
+    let filter = b"title pr true or pages gt twelve";
+    let refusal = check(&sheet(), filter).unwrap_err();
+    assert_eq!(
+        refusal.render(filter),
+        "title pr true or pages gt twelve\n\
+         \x20                ^\n\
+         refused 17 at 17: The value cannot be read as the parameter's kind, or for pr as true or false."
+    );
+}
+
+#[test]
+fn a_caret_in_a_long_filter() {
+    let filter = [&b"title eq aaaaaaaaaaaaaaaaaaaaaaa or "[..], b"ward eq ", &[b'b'; 60]].concat();
+    let refusal = check(&sheet(), &filter).unwrap_err();
+    let rendered = refusal.render(&filter);
+    let lines: Vec<&str> = rendered.lines().collect();
+    assert_eq!(lines[0], format!("...eq aaaaaaaaaaaaaaaaaaaaaaa or ward eq {}...", "b".repeat(38)));
+    assert_eq!(lines[1].find('^'), lines[0].find("ward"));
+}
+
+#[test]
+fn a_caret_behind_bytes_that_do_not_print() {
+    let filter = b"title eq \"\xE4\x7F\xC3\xA4\" or ward eq 4";
+    let refusal = check(&sheet(), filter).unwrap_err();
+    assert_eq!(refusal.place, 19);
+    let rendered = refusal.render(filter);
+    let lines: Vec<&str> = rendered.lines().collect();
+    assert_eq!(lines[0], "title eq \"\u{FFFD}\u{FFFD}\u{E4}\" or ward eq 4");
+    let before = lines[0].split("ward").next().unwrap().chars().count();
+    assert_eq!(lines[1], format!("{}^", " ".repeat(before)));
+}
+
+#[test]
+fn no_caret_where_the_place_is_not_in_the_filter() {
+    let refusal = matches(&sheet(), b"title pr true", &[]).unwrap_err();
+    assert_eq!(refusal.render(b"title pr true"), refusal.to_string());
+    assert!(refusal.to_string().starts_with("refused 20 at 0: "));
+}
+
+#[test]
+fn a_sentence_for_each_number() {
+    let sentence = |number| Refusal { number, place: 0 }.sentence();
+    let mut sentences: Vec<&str> = [1, 2, 3, 10, 11, 14, 15, 16, 17, 20, 21, 22, 23, 30, 99].map(sentence).into();
+    sentences.sort();
+    sentences.dedup();
+    assert_eq!(sentences.len(), 15);
+}
