@@ -12,7 +12,7 @@ use sirophan::select;
 ghost use Prim.Native.Nat.{_≤_, _<_};
 ghost use mathlib.Core.Path.{_≡_};
 ghost use lib.ListN.{length};
-ghost use Rattle.pick.specs.Bounds.{PlaceBound, Countable, Added, RunAdded, FullRunAdded};
+ghost use Rattle.pick.specs.Bounds.{PlaceBound, mostCards, Countable, Added, RunAdded};
 
 // The bytes of 128 cards. A run of fewer is the last.
 const FULL_RUN: usize = 65536;
@@ -48,7 +48,7 @@ fn add_run(totals: Totals, count: usize, size: usize) -> Totals
 // A refusal's place in the file: a card's index, the place of 21 to 23, counts over the runs before as well.
 fn place_in_file(number: u32, place: usize, cards_before: u64) -> u64
     requires { ⌜ PlaceBound number place ⌝ }
-    requires { ⌜ «cards_before» < 18014398509481984 ⌝ }
+    requires { ⌜ «cards_before» < mostCards ⌝ }
 {
     let place = place as u64;
     if number < 21 {
@@ -90,7 +90,7 @@ fn print_run(sheet: &[u8], filter: &[u8], cards: &[u8], totals: Totals) -> Turn
 fn next_run(sheet: &[u8], filter: &[u8], fd: i32, buffer: &mut [u8], totals: Totals) -> Turn
     requires { ⌜ length (now buffer) ≡ 65536 ⌝ }
     requires { ⌜ Countable totals ⌝ }
-    ensures { λ r. ⌜ FullRunAdded totals r ⌝ }
+    ensures { λ r. ⌜ RunAdded totals 65536 r ⌝ }
 {
     let Filled::Bytes(size) = fill(fd, buffer) else {
         print_failure(b"cards.bin", b"read");

@@ -1,19 +1,20 @@
 -- `pick::runs::print_matches` is safe and ends: each turn adds 128 cards, and no more cards match than there are.
 -- Assumes nothing.
-use Prim.Native.Nat.{_-_, _≤_}
+use Prim.Native.Nat.{_+_, _-_, _≤_, _<_}
 use native.Mathlib.Omega.{arith}
 use mathlib.Core.Path.{_≡_}
 use lib.ListN.{length}
 use borrow.Author.Needs.{needs}
+use Rattle.pick.specs.Bounds.{mostCards}
 use Rattle.pick.proofs.Bounds.{more-added}
 use Rattle.pick.proofs.runs.print_matches.Statement.{statement}
 use Rattle.pick.proofs.runs.print_matches.Tie as tie
 
 abbrev Inv-loop : tie.InvT-loop
-Inv-loop sheet filter fd buffer₀ totals₀ buffer totals = (length buffer ≡ 65536) × (totals .matches ≤ totals .cards) × (totals .cards ≤ 18014398509482111)
+Inv-loop sheet filter fd buffer₀ totals₀ buffer totals = (length buffer ≡ 65536) × (totals .matches ≤ totals .cards) × (totals .cards < mostCards + 128)
 
 abbrev μ-loop : tie.MeasureT-loop
-μ-loop sheet filter fd buffer₀ totals₀ buffer totals = 18014398509482112 - totals .cards
+μ-loop sheet filter fd buffer₀ totals₀ buffer totals = mostCards + 128 - totals .cards
 
 loop-holds : tie.Need-loop-holds Inv-loop μ-loop
 loop-holds c = search needs
