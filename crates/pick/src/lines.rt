@@ -30,6 +30,11 @@ fn put_number(n: u64, buffer: &mut [u8], at: usize) -> usize
     put(&digits[..count], buffer, at)
 }
 
+// A number of 32 bits as one of 64.
+pub fn wide(x: u32) -> u64 {
+    x as u64
+}
+
 // Puts the numbers into the buffer, each on a line, and answers how many bytes they take.
 fn put_lines(numbers: &[u32], buffer: &mut [u8]) -> usize
     requires { ⌜ 21 * length (now numbers) ≤ length (now buffer) ⌝ }
@@ -44,11 +49,6 @@ fn put_lines(numbers: &[u32], buffer: &mut [u8]) -> usize
         i += 1;
     }
     at
-}
-
-// A number of 32 bits as one of 64.
-pub fn wide(x: u32) -> u64 {
-    x as u64
 }
 
 // Prints the record numbers of a run, each on a line, and answers whether they were written.
@@ -81,9 +81,9 @@ pub fn print_count(matches: u64, cards: u64) {
     io::write_all(STDOUT_FILENO, &buffer[0..size]);
 }
 
-// Prints that a file could not be opened or read, as `cards.bin cannot be read`.
+// Prints what cannot be done with a file, as `cards.bin cannot be read`. The words around the two texts take 12 bytes.
 pub fn print_failure(file: &[u8], done: &[u8])
-    requires { ⌜ length (now file) + length (now done) ≤ 46 ⌝ }
+    requires { ⌜ length (now file) + length (now done) ≤ 52 ⌝ }
 {
     let mut buffer = [0u8; 64];
     let name = put(file, &mut buffer, 0);

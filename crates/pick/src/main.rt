@@ -14,7 +14,7 @@ ghost use Rattle.pick.specs.Bounds.{Fills};
 
 // Reads a file into the buffer, as much as there is room for, or prints why that cannot be done.
 fn load(file: &[u8], buffer: &mut [u8]) -> Filled
-    requires { ⌜ length (now file) ≤ 40 ⌝ }
+    requires { ⌜ length (now file) ≤ 46 ⌝ }
     ensures { λ r. ⌜ Fills r (length (now (buffer .exit))) ⌝ }
 {
     let fd = os::open_read(file);
@@ -54,7 +54,7 @@ fn pick(sheet: &[u8], filter: &[u8]) {
     libc::close(fd);
 }
 
-// A buffer has one byte more than a file may have, so that a longer file is seen to be too long.
+// Each buffer has room for one byte more than its file may have, so that a file that is too long is refused and not cut.
 fn main() {
     let mut sheet = [0u8; 513];
     let Filled::Bytes(size) = load(b"sheet.bin", &mut sheet) else {
