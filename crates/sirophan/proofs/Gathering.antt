@@ -16,7 +16,7 @@ use Rattle.sheet.specs.Sheet.{Parameter}
 use Rattle.card.specs.Card.{recordNumber, entriesOf, readCard}
 use Rattle.syntax.specs.Tree.{Tree}
 use Rattle.judge.specs.Sets.{conforms}
-use Rattle.sirophan.specs.declared.CardVerdict.{CardVerdict}
+use Rattle.sirophan.specs.declared.verdict.CardVerdict.{CardVerdict}
 use Rattle.sirophan.specs.declared.Refusal.{Refusal}
 use Rattle.sirophan.specs.declared.Selected.{Selected}
 use Rattle.sirophan.specs.Operations.{Step, found, stop, _>>=_, blocks, Card, cardStep, takeCard}
@@ -88,6 +88,9 @@ module _ (ps : List Parameter) (f : Option Tree) (cards : List ℕ) where
     pub gathering-room : at < length cards → count < length buffer
     gathering-room h = omega (arith, g .at-index, g .size, g .few, g .room)
 
+    pub gathering-well-formed : (b : List ℕ) (v : CardVerdict) → ((i : ℕ) → verdictStep v i ≡ cardVerdict ps f i b) → (y : Bool) → v ≡ CardVerdict.Says y → readCard b ≡ Reading.WellFormed
+    gathering-well-formed b v e y s = judged-well-formed ps f b y (sym (e 0) ∙ ap (λ (w : CardVerdict). verdictStep w 0) s)
+
     module _ (h : at < length cards) (v : CardVerdict) (e : (i : ℕ) → verdictStep v i ≡ cardVerdict ps f i (part cards at (at + 512))) where
       abbrev later : Step (List ℕ)
       later = runNumbers ps f (suc (g .index)) (blocks (g .total - suc (g .index)) (drop (at + 512) cards))
@@ -100,9 +103,6 @@ module _ (ps : List Parameter) (f : Option Tree) (cards : List ℕ) where
           let n : g .total - g .index ≡ suc (g .total - suc (g .index)) = omega (arith, g .at-index, g .size) in
           let m : at + 512 - at ≡ 512 = omega arith in
           g .rest ∙ rw (n, e (g .index), m, ← drop-drop 512 at cards)
-
-      pub gathering-well-formed : (y : Bool) → v ≡ CardVerdict.Says y → readCard (part cards at (at + 512)) ≡ Reading.WellFormed
-      gathering-well-formed y s = judged-well-formed ps f (part cards at (at + 512)) y (sym (e 0) ∙ ap (λ (w : CardVerdict). verdictStep w 0) s)
 
       next-seen : suc (g .index) ≤ g .total
       next-seen = omega (arith, g .at-index, g .size)

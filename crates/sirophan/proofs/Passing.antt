@@ -17,7 +17,7 @@ use Rattle.judge.specs.Verdicts.{filterSays}
 use Rattle.sirophan.specs.declared.Checked.{Checked}
 use Rattle.sirophan.specs.declared.Matched.{Matched}
 use Rattle.sirophan.specs.declared.Refusal.{Refusal}
-use Rattle.sirophan.specs.declared.CardVerdict.{CardVerdict}
+use Rattle.sirophan.specs.declared.verdict.CardVerdict.{CardVerdict}
 use Rattle.sirophan.specs.Answers.{count, refused, yesOrNo, numberOf, refusalAnswer, checkedAnswer, matchedAnswer}
 use Rattle.sirophan.specs.Operations.{Step, found, stop, _>>=_, answer, treeStep, takeFilter, testsStep, takeSheet, sheetStep, Prepared, prepare, Card, takeCard, checkAnswer, matchAnswer}
 use Rattle.sirophan.specs.Passing.{Passing, cardVerdict, verdictStep}

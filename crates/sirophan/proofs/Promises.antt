@@ -1,5 +1,5 @@
--- The promises, grouped by the letter's demands; each is proved where its one line says. The contracts of check and match_card say that the
--- code answers as checkAnswer and matchAnswer do; selectAnswer and selectCells have no code yet. Assumes nothing.
+-- The promises, grouped by the letter's demands; each is proved where its one line says. The contracts of check, match_card and select say
+-- that the code answers as checkAnswer, matchAnswer and selectAnswer do, and leaves the list as selectCells says. Assumes nothing.
 use Prim.Native.Nat.{ℕ, _≤_}
 use mathlib.Core.Path.{_≡_}
 use mathlib.Core.Bool.{true}

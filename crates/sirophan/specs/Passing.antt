@@ -15,7 +15,7 @@ use Rattle.judge.specs.Verdicts.{filterSays}
 use Rattle.filter.specs.declared.Summary.{Summary}
 use Rattle.sirophan.specs.Answers.{Answer, count, numberOf}
 use Rattle.sirophan.specs.Operations.{Step, found, stop, _>>=_, answer, faultStep, prepare, takeCard}
-use Rattle.sirophan.specs.declared.CardVerdict.{CardVerdict}
+use Rattle.sirophan.specs.declared.verdict.CardVerdict.{CardVerdict}
 
 -- the answer of check for a text that is a filter, from what was gathered reading it
 unfoldable pub summaryAnswer : Summary → Answer

@@ -66,9 +66,3 @@ pub enum Selected {
     Count(usize),
     Refused(Refusal),
 }
-
-// What judging one card answers.
-pub enum CardVerdict {
-    Says(bool),
-    Refused(Reason),
-}

@@ -1,10 +1,10 @@
 // Select: the record numbers of the cards of a run that match.
-use crate::CardVerdict;
 use crate::Checked;
 use crate::Reason;
 use crate::Refusal;
 use crate::Selected;
 use crate::reading::check;
+use crate::verdict::CardVerdict;
 use crate::verdict::judge_card;
 ghost use mathlib.Core.Path.{_≡_};
 ghost use mathlib.Core.List.{_++_};
@@ -82,15 +82,15 @@ fn select_cards(sheet: &[u8], filter: &[u8], cards: &[u8], list: &mut [u32]) -> 
     let mut buffer = [0u32; 128];
     let gathered = gather(sheet, &kinds, filter, cards, &mut buffer);
     match gathered {
-        Selected::Count(count) => {
-            if count > list.len() {
+        Selected::Count(matches) => {
+            if matches > list.len() {
                 return Selected::Refused(Refusal {
                     reason: Reason::ShortList,
-                    place: count,
+                    place: matches,
                 });
             }
-            write(&buffer[0..count], list);
-            Selected::Count(count)
+            write(&buffer[0..matches], list);
+            Selected::Count(matches)
         }
         Selected::Refused(refusal) => Selected::Refused(refusal),
     }

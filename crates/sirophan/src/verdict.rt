@@ -1,5 +1,4 @@
 // Match: a card under a sheet and a filter that check has passed.
-use crate::CardVerdict;
 use crate::Checked;
 use crate::Matched;
 use crate::Reason;
@@ -20,6 +19,12 @@ ghost use Rattle.syntax.specs.Reader.{read};
 ghost use Rattle.sirophan.specs.Answers.{matchedAnswer};
 ghost use Rattle.sirophan.specs.Operations.{matchAnswer};
 ghost use Rattle.sirophan.specs.Passing.{Passing, textSays, cardVerdict, verdictStep};
+
+// What judging one card answers: the filter's yes or no, or why the card is refused.
+pub enum CardVerdict {
+    Says(bool),
+    Refused(Reason),
+}
 
 // What a filter that check has passed says of a well-formed card.
 fn says(sheet: &[u8], filter: &[u8], card: &[u8]) -> bool

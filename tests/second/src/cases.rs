@@ -6,6 +6,7 @@ use crate::block::{self, Kind};
 use crate::operations::{self, Refusal};
 use std::fmt::Write;
 use std::iter::Peekable;
+use std::slice;
 
 /// What the cells of a list hold before a selection.
 pub const UNTOUCHED: u32 = 999;
@@ -62,22 +63,36 @@ impl Cases {
         Ok(found)
     }
 
+    /// The bytes of the sheet.
+    pub fn sheet_of(&self, case: &Case) -> &[u8] {
+        &self.blocks[case.sheet].bytes
+    }
+
+    /// The bytes of the cards, one card after the other; none for a check.
+    pub fn cards_of(&self, case: &Case) -> Vec<u8> {
+        let cards = match &case.operation {
+            Operation::Check => &[],
+            Operation::Match { card } => slice::from_ref(card),
+            Operation::Select { cards, .. } => cards.as_slice(),
+        };
+        cards.iter().flat_map(|&card| &self.blocks[card].bytes).copied().collect()
+    }
+
     /// What the second implementation answers.
     pub fn answer(&self, case: &Case) -> String {
-        let bytes = |index: usize| self.blocks[index].bytes.as_slice();
-        let sheet = bytes(case.sheet);
+        let sheet = self.sheet_of(case);
+        let cards = self.cards_of(case);
         match &case.operation {
             Operation::Check => match operations::check(sheet, &case.filter) {
                 Ok(tests) => format!("tests {tests}"),
                 Err(refusal) => spell_refusal(refusal),
             },
-            Operation::Match { card } => match operations::matches(sheet, &case.filter, bytes(*card)) {
+            Operation::Match { .. } => match operations::matches(sheet, &case.filter, &cards) {
                 Ok(true) => "yes".to_string(),
                 Ok(false) => "no".to_string(),
                 Err(refusal) => spell_refusal(refusal),
             },
-            Operation::Select { cards, cells } => {
-                let cards: Vec<u8> = cards.iter().flat_map(|&card| bytes(card)).copied().collect();
+            Operation::Select { cells, .. } => {
                 let mut list = vec![UNTOUCHED; *cells];
                 let mut answer = match operations::select(sheet, &case.filter, &cards, &mut list) {
                     Ok(count) => format!("count {count}"),
@@ -108,10 +123,10 @@ impl Cases {
             (["damaged", name, "from", other], None) => return self.damaged(name, other, parts),
             (["check", _], Some(_)) => Operation::Check,
             (["match", _, card], Some(_)) => Operation::Match { card: self.index(card)? },
-            (["select", _, cards @ .., "into", cells], Some(_)) => Operation::Select {
-                cards: cards.iter().map(|card| self.index(card)).collect::<Option<_>>()?,
-                cells: cells.parse().ok()?,
-            },
+            (["select", _, cards @ .., "into", cells], Some(_)) => {
+                let cards = cards.iter().map(|card| self.repeated(card)).collect::<Option<Vec<_>>>()?;
+                Operation::Select { cards: cards.concat(), cells: cells.parse().ok()? }
+            }
             _ => return None,
         };
         let written = filter?.to_string();
@@ -183,6 +198,12 @@ impl Cases {
         let name = name.to_string();
         self.blocks.push(Block { name, bytes });
         Some(())
+    }
+
+    /// A card by its name, or as often as the number before "*" says.
+    fn repeated(&self, card: &str) -> Option<Vec<usize>> {
+        let (times, name) = card.split_once('*').unwrap_or(("1", card));
+        Some(vec![self.index(name)?; times.parse().ok()?])
     }
 
     fn index(&self, name: &str) -> Option<usize> {

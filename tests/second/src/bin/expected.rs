@@ -2,9 +2,10 @@
 //! and the answer.
 //!
 //! `expected --against FILE` compares that with what the program printed; its last line counts the lines that agree.
-//! `expected --bytes` prints the blocks and the cases as lists of bytes, to make that program of.
+//! `expected --cases` writes the file of cases that the program reads, to standard output.
 
 use second::cases::{Cases, Operation};
+use std::io::Write;
 use std::process::ExitCode;
 
 fn main() -> ExitCode {
@@ -19,19 +20,38 @@ fn main() -> ExitCode {
     let arguments: Vec<&str> = arguments.iter().map(String::as_str).collect();
     match arguments[..] {
         [] => lines(&cases).iter().for_each(|line| println!("{line}")),
-        ["--bytes"] => print_bytes(&cases),
+        ["--cases"] => return write(&packed(&cases)),
         ["--against", file] => return compare(&lines(&cases), file),
         _ => {
-            eprintln!("usage: expected [--against FILE | --bytes]");
+            eprintln!("usage: expected [--cases | --against FILE]");
             return ExitCode::FAILURE;
         }
     }
     ExitCode::SUCCESS
 }
 
+/// The line of each case.
 fn lines(cases: &Cases) -> Vec<String> {
+    let labelled = cases.cases.iter().zip(labels(cases));
+    labelled.map(|(case, label)| label + &cases.answer(case)).collect()
+}
+
+/// What each line has before the answer: the case's number and the filter as written.
+fn labels(cases: &Cases) -> Vec<String> {
     let numbered = cases.cases.iter().zip(1..);
-    numbered.map(|(case, number)| format!("{number} `{}` {}", case.written, cases.answer(case))).collect()
+    numbered.map(|(case, number)| format!("{number} `{}` ", case.written)).collect()
+}
+
+/// Writes to standard output, or says why it cannot.
+fn write(bytes: &[u8]) -> ExitCode {
+    let mut output = std::io::stdout();
+    match output.write_all(bytes).and_then(|()| output.flush()) {
+        Ok(()) => ExitCode::SUCCESS,
+        Err(reason) => {
+            eprintln!("the cases cannot be written: {reason}");
+            ExitCode::FAILURE
+        }
+    }
 }
 
 /// Compares line by line; a line that is missing or too many does not agree either.
@@ -59,21 +79,28 @@ fn compare(expected: &[String], file: &str) -> ExitCode {
     if failed == 0 { ExitCode::SUCCESS } else { ExitCode::FAILURE }
 }
 
-/// A line for each block and each case. A case names blocks by their number; `written` is the text before its answer.
-fn print_bytes(cases: &Cases) {
-    for (number, block) in cases.blocks.iter().enumerate() {
-        println!("block {number} {} {:?}", block.name, block.bytes);
-    }
-    for (case, number) in cases.cases.iter().zip(1..) {
-        let sheet = case.sheet;
-        let asks = match &case.operation {
-            Operation::Check => format!("check sheet {sheet}"),
-            Operation::Match { card } => format!("match sheet {sheet} card {card}"),
-            Operation::Select { cards, cells } => {
-                format!("select sheet {sheet} cards {cards:?} cells {cells}")
-            }
+/// The cases in the form that the program reads: their number; then for each case six numbers, which are the operation
+/// (0 check, 1 match, 2 select), the lengths of label, sheet, filter and cards, and the cells of the list; then the bytes
+/// of label, sheet, filter and cards. A number is four bytes, low byte first. A label is what the line has before the
+/// answer.
+fn packed(cases: &Cases) -> Vec<u8> {
+    let mut bytes = number(cases.cases.len()).to_vec();
+    for (case, label) in cases.cases.iter().zip(labels(cases)) {
+        let (operation, cells) = match case.operation {
+            Operation::Check => (0, 0),
+            Operation::Match { .. } => (1, 0),
+            Operation::Select { cells, .. } => (2, cells),
         };
-        let written = format!("{number} `{}` ", case.written);
-        println!("case {number} {asks} filter {:?} written {:?}", case.filter, written.as_bytes());
+        let parts = [label.as_bytes(), cases.sheet_of(case), &case.filter, &cases.cards_of(case)];
+        bytes.extend(number(operation));
+        bytes.extend(parts.iter().flat_map(|part| number(part.len())));
+        bytes.extend(number(cells));
+        bytes.extend(parts.concat());
     }
+    bytes
+}
+
+/// A number in four bytes, low byte first.
+fn number(number: usize) -> [u8; 4] {
+    u32::try_from(number).unwrap().to_le_bytes()
 }

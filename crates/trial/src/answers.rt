@@ -1,0 +1,54 @@
+// Answers in words.
+use crate::write::labelled;
+use crate::write::write;
+use sirophan::Checked;
+use sirophan::Matched;
+use sirophan::Refusal;
+use sirophan::Selected;
+
+// A refusal: its number and its place.
+fn refused(r: Refusal) {
+    let reason = r.reason;
+    labelled(b"", sirophan::number(reason) as u64);
+    labelled(b" at ", r.place as u64);
+}
+
+// What check answered.
+pub fn checked(c: Checked) {
+    match c {
+        Checked::Tests(n) => labelled(b"tests ", n as u64),
+        Checked::Refused(r) => refused(r),
+    }
+}
+
+// What match answered.
+pub fn matched(m: Matched) {
+    match m {
+        Matched::Yes => write(b"yes"),
+        Matched::No => write(b"no"),
+        Matched::Refused(r) => refused(r),
+    }
+}
+
+// What select answered.
+pub fn selected(s: Selected) {
+    match s {
+        Selected::Count(n) => labelled(b"count ", n as u64),
+        Selected::Refused(r) => refused(r),
+    }
+}
+
+// A cell of a list.
+fn cell(n: u32) {
+    labelled(b" ", n as u64);
+}
+
+// The cells of a list.
+pub fn cells(list: &[u32]) {
+    write(b" cells");
+    let mut i = 0;
+    while i < list.len() {
+        cell(list[i]);
+        i += 1;
+    }
+}

@@ -1,0 +1,58 @@
+// The three operations on the parts of a case. Each prints the case's label and what was answered.
+use crate::answers::cells;
+use crate::answers::checked;
+use crate::answers::matched;
+use crate::answers::selected;
+use crate::write::write;
+
+// Check.
+fn ask_check(label: &[u8], sheet: &[u8], filter: &[u8]) {
+    write(label);
+    checked(sirophan::check(sheet, filter));
+}
+
+// Match.
+fn ask_match(label: &[u8], sheet: &[u8], filter: &[u8], card: &[u8]) {
+    write(label);
+    matched(sirophan::match_card(sheet, filter, card));
+}
+
+// Select, with the cells that it leaves.
+fn ask_select(label: &[u8], sheet: &[u8], filter: &[u8], cards: &[u8], list: &mut [u32]) {
+    write(label);
+    selected(sirophan::select(sheet, filter, cards, list));
+    cells(list);
+}
+
+// The same on a list of `size` cells that hold 999; whether there is room for it.
+fn ask_select_into(size: usize, label: &[u8], sheet: &[u8], filter: &[u8], cards: &[u8]) -> bool {
+    if size > 128 {
+        return false;
+    }
+    let mut list = [999u32; 128];
+    ask_select(label, sheet, filter, cards, &mut list[0..size]);
+    true
+}
+
+// The operation with this number: 0 check, 1 match, 2 select; whether it could be asked.
+pub fn ask(
+    operation: u32,
+    size: usize,
+    label: &[u8],
+    sheet: &[u8],
+    filter: &[u8],
+    cards: &[u8],
+) -> bool {
+    match operation {
+        0 => {
+            ask_check(label, sheet, filter);
+            true
+        }
+        1 => {
+            ask_match(label, sheet, filter, cards);
+            true
+        }
+        2 => ask_select_into(size, label, sheet, filter, cards),
+        _ => false,
+    }
+}
