@@ -1,0 +1,4 @@
+-- Laws that the program's proofs share.
+pub mod Bounds
+pub mod Digits
+pub mod Selecting

@@ -1,0 +1,2 @@
+-- What the parts of the program owe each other.
+pub mod Bounds

@@ -1,0 +1,129 @@
+// The runs of a file of cards: up to 128 at a time are selected from, and their numbers printed.
+use crate::files::Filled;
+use crate::files::fill;
+use crate::lines::print_count;
+use crate::lines::print_failure;
+use crate::lines::print_numbers;
+use crate::lines::print_refusal;
+use crate::lines::wide;
+use sirophan::Selected;
+use sirophan::number;
+use sirophan::select;
+ghost use Prim.Native.Nat.{_≤_, _<_};
+ghost use mathlib.Core.Path.{_≡_};
+ghost use lib.ListN.{length};
+ghost use Rattle.pick.specs.Bounds.{PlaceBound, mostCards, Countable, Added, RunAdded};
+
+// The bytes of 128 cards. A run of fewer is the last.
+const FULL_RUN: usize = 65536;
+
+// No file has so many cards: its size would be 2^63 bytes.
+const MOST_CARDS: u64 = 1 << 54;
+
+// What the runs so far come to.
+struct Totals {
+    matches: u64,
+    cards: u64,
+}
+
+// What a run leads to: the totals with it, or the end of the output.
+enum Turn {
+    More(Totals),
+    Ended,
+}
+
+// The totals with a run of `size` bytes, of which `count` cards match.
+fn add_run(totals: Totals, count: usize, size: usize) -> Totals
+    requires { ⌜ Countable totals ⌝ }
+    requires { ⌜ count ≤ 128 ⌝ }
+    requires { ⌜ size ≤ 65536 ⌝ }
+    ensures { λ r. ⌜ Added totals size r ⌝ }
+{
+    Totals {
+        matches: totals.matches + count as u64,
+        cards: totals.cards + (size / 512) as u64,
+    }
+}
+
+// A refusal's place in the file: a card's index, the place of 21 to 23, counts over the runs before as well.
+fn place_in_file(number: u32, place: usize, cards_before: u64) -> u64
+    requires { ⌜ PlaceBound number place ⌝ }
+    requires { ⌜ «cards_before» < mostCards ⌝ }
+{
+    let place = place as u64;
+    if number < 21 {
+        return place;
+    }
+    if number > 23 {
+        return place;
+    }
+    cards_before + place
+}
+
+// Prints the record numbers of the cards of a run that match, or a refusal.
+fn print_run(sheet: &[u8], filter: &[u8], cards: &[u8], totals: Totals) -> Turn
+    requires { ⌜ Countable totals ⌝ }
+    requires { ⌜ length (now cards) ≤ 65536 ⌝ }
+    ensures { λ r. ⌜ RunAdded totals (length (now (cards .entry))) r ⌝ }
+{
+    let mut list = [0u32; 128];
+    let selected = select(sheet, filter, cards, &mut list);
+    match selected {
+        Selected::Count(count) => {
+            if !print_numbers(&list[0..count]) {
+                return Turn::Ended;
+            }
+            Turn::More(add_run(totals, count, cards.len()))
+        }
+        Selected::Refused(refusal) => {
+            let reason = refusal.reason;
+            let number = number(reason);
+            let place = place_in_file(number, refusal.place, totals.cards);
+            print_refusal(wide(number), place);
+            Turn::Ended
+        }
+    }
+}
+
+// Reads the next run and prints what it gives, and after the last run the count. The last run has fewer cards than a full
+// one, and may have none.
+fn next_run(sheet: &[u8], filter: &[u8], fd: i32, buffer: &mut [u8], totals: Totals) -> Turn
+    requires { ⌜ length (now buffer) ≡ 65536 ⌝ }
+    requires { ⌜ Countable totals ⌝ }
+    ensures { λ r. ⌜ RunAdded totals 65536 r ⌝ }
+{
+    let Filled::Bytes(size) = fill(fd, buffer) else {
+        print_failure(b"cards.bin", b"read");
+        return Turn::Ended;
+    };
+    let Turn::More(more) = print_run(sheet, filter, &buffer[0..size], totals) else {
+        return Turn::Ended;
+    };
+    if size < FULL_RUN {
+        print_count(more.matches, more.cards);
+        return Turn::Ended;
+    }
+    Turn::More(more)
+}
+
+// Prints that there are more cards than can be counted.
+fn print_too_many() {
+    print_failure(b"cards.bin", b"counted");
+}
+
+// Prints what the filter selects from the cards of a file, run by run.
+pub fn print_matches(sheet: &[u8], filter: &[u8], fd: i32, buffer: &mut [u8])
+    requires { ⌜ length (now buffer) ≡ 65536 ⌝ }
+{
+    let mut totals = Totals {
+        matches: 0,
+        cards: 0,
+    };
+    while totals.cards < MOST_CARDS {
+        let Turn::More(more) = next_run(sheet, filter, fd, buffer, totals) else {
+            return;
+        };
+        totals = more;
+    }
+    print_too_many();
+}
