@@ -1,4 +1,6 @@
 -- Laws that the program's proofs share.
 pub mod Bounds
 pub mod Digits
+pub mod Places
 pub mod Selecting
+pub mod Texts

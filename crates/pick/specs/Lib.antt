@@ -1,2 +1,4 @@
 -- What the parts of the program owe each other.
 pub mod Bounds
+pub mod Places
+pub mod Texts

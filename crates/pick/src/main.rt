@@ -9,8 +9,10 @@ use files::fill;
 use lines::print_failure;
 use runs::print_matches;
 ghost use Prim.Native.Nat.{_≤_};
+ghost use mathlib.Core.Path.{_≡_};
 ghost use lib.ListN.{length};
 ghost use Rattle.pick.specs.Bounds.{Fills};
+ghost use Rattle.pick.specs.Texts.{withoutLineFeed};
 
 // Reads a file into the buffer, as much as there is room for, or prints why that cannot be done.
 fn load(file: &[u8], buffer: &mut [u8]) -> Filled
@@ -31,7 +33,9 @@ fn load(file: &[u8], buffer: &mut [u8]) -> Filled
 }
 
 // A text without its last byte, where that is a line feed.
-fn without_line_feed(text: &[u8]) -> &[u8] {
+fn without_line_feed(text: &[u8]) -> &[u8]
+    ensures { λ r. ⌜ now r ≡ withoutLineFeed (now (text .entry)) ⌝ }
+{
     if text.len() == 0 {
         return text;
     }

@@ -12,6 +12,7 @@ use sirophan::select;
 ghost use Prim.Native.Nat.{_≤_, _<_};
 ghost use mathlib.Core.Path.{_≡_};
 ghost use lib.ListN.{length};
+ghost use Rattle.pick.specs.Places.{placeInFile};
 ghost use Rattle.pick.specs.Bounds.{PlaceBound, mostCards, Countable, Added, RunAdded};
 
 // The bytes of 128 cards. A run of fewer is the last.
@@ -49,6 +50,7 @@ fn add_run(totals: Totals, count: usize, size: usize) -> Totals
 fn place_in_file(number: u32, place: usize, cards_before: u64) -> u64
     requires { ⌜ PlaceBound number place ⌝ }
     requires { ⌜ «cards_before» < mostCards ⌝ }
+    ensures { λ r. ⌜ r ≡ placeInFile number place «cards_before» ⌝ }
 {
     let place = place as u64;
     if number < 21 {
