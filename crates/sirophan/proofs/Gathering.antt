@@ -104,36 +104,28 @@ module _ (ps : List Parameter) (f : Option Tree) (cards : List ℕ) where
           let m : at + 512 - at ≡ 512 = omega arith in
           g .rest ∙ rw (n, e (g .index), m, ← drop-drop 512 at cards)
 
-      next-seen : suc (g .index) ≤ g .total
-      next-seen = omega (arith, g .at-index, g .size)
+      next : (filled : List ℕ) (n : ℕ) → length filled ≡ length buffer → n ≤ suc (g .index)
+          → runNumbers ps f 0 (blocks (g .total) cards) ≡ onto (take n filled) later → Gathering ps f cards entry filled (at + 512) n
+      next filled n l few rest =
+          record {
+            index = suc (g .index);
+            total = g .total;
+            at-index = omega (arith, g .at-index);
+            size = g .size;
+            seen = omega (arith, g .at-index, g .size);
+            few = few;
+            room = rw l (g .room);
+            long = l ∙ g .long;
+            rest = rest;
+          }
 
       pub gathering-match : (y : Bool) (x : ℕ) → v ≡ CardVerdict.Says y → y ≡ true → x ≡ recordNumber (part cards at (at + 512)) → Gathering ps f cards entry (set buffer count x) (at + 512) (count + 1)
       gathering-match y x s t r =
-          record {
-            index = suc (g .index);
-            total = g .total;
-            at-index = omega (arith, g .at-index);
-            size = g .size;
-            seen = next-seen;
-            few = omega (arith, g .few);
-            room = rw (length-set buffer count x) (g .room);
-            long = length-set buffer count x ∙ g .long;
-            rest = split ∙ rw (s, t, ← r, add-one count, take-suc-set buffer count x (gathering-room h)) (onto-more (take count buffer) x later);
-          }
+          next (set buffer count x) (count + 1) (length-set buffer count x) (omega (arith, g .few))
+          (split ∙ rw (s, t, ← r, add-one count, take-suc-set buffer count x (gathering-room h)) (onto-more (take count buffer) x later))
 
       pub gathering-other : (y : Bool) → v ≡ CardVerdict.Says y → y ≡ false → Gathering ps f cards entry buffer (at + 512) count
-      gathering-other y s t =
-          record {
-            index = suc (g .index);
-            total = g .total;
-            at-index = omega (arith, g .at-index);
-            size = g .size;
-            seen = next-seen;
-            few = omega (arith, g .few);
-            room = g .room;
-            long = g .long;
-            rest = split ∙ rw (s, t, onto-same later);
-          }
+      gathering-other y s t = next buffer count refl (omega (arith, g .few)) (split ∙ rw (s, t, onto-same later))
 
       pub gathering-refused : (r : Refusal) → v ≡ CardVerdict.Refused (r .reason) → r .place ≡ at / 512 → Gathers ps f cards (Selected.Refused r) buffer
       gathering-refused r s t =
