@@ -1,21 +1,21 @@
 -- What the scans find lies inside the text, in order, and ahead of where they began.
 -- Assumes nothing.
-use Prim.Native.Nat.{ℕ, suc, _+_, _≤_, _<_}
+use Prim.Native.Nat.{ℕ, _+_, _≤_, _<_}
 use native.Mathlib.Omega.{arith}
-use mathlib.Core.Path.{_≡_, refl, sym, ap, _∙_}
-use mathlib.Core.Bool.{Bool, true, false, cond, false≢true}
-use mathlib.Core.List.{List, _∷_}
+use mathlib.Core.Path.{_≡_, refl, sym, _∙_}
+use mathlib.Core.Bool.{Bool, false, cond}
+use mathlib.Core.List.{List}
 use lib.Dec.{eqb, ltb}
 use lib.ListN.{length, getD, drop, length-drop}
 use borrow.Author.Tests.{ltb-true}
 use Rattle.base.specs.Names.{isNamePart, isName}
 use Rattle.base.specs.Parts.{part}
-use Rattle.base.specs.Runs.{run, runEnd}
+use Rattle.base.specs.Runs.{runEnd}
 use Rattle.base.proofs.Tests.{cond-elim}
 use Rattle.base.proofs.Runs.{run-within}
 use Rattle.syntax.specs.Strings.{quote, isBare}
 use Rattle.syntax.specs.Placed.{PlacedValue, Placed}
-use Rattle.syntax.specs.Scan.{skipAt, stringAt, stringValue, bareValue, valueAt, follows, operatorAt, withOperator, withValue, testValue, testOperator, nameEnd, testAt, openAt, testOr, headAt, connectiveAt, closeAt}
+use Rattle.syntax.specs.Scan.{skipAt, stringAt, stringValue, valueAt, follows, operatorAt, withOperator, withValue, testValue, testOperator, nameEnd, testAt, openAt, testOr, headAt, connectiveAt, closeAt}
 use Rattle.syntax.specs.declared.FoundString.{FoundString}
 use Rattle.syntax.specs.declared.FoundValue.{FoundValue}
 use Rattle.syntax.specs.declared.FoundOperator.{FoundOperator}
@@ -26,7 +26,7 @@ use Rattle.syntax.specs.declared.FoundConnective.{FoundConnective}
 use Rattle.syntax.specs.declared.FoundClose.{FoundClose}
 use Rattle.syntax.proofs.Values.{string-within, string-ahead}
 use Rattle.syntax.proofs.Tests.{TestDerived, test-derived, test-rise}
-use Rattle.syntax.proofs.Structure.{OpenDerived, open-derived, opens-rise, ConnectiveDerived, connective-derived, connects-rise, CloseDerived, close-derived, closes-rise}
+use Rattle.syntax.proofs.Structure.{OpenDerived, open-derived, opens-rise, connective-derived, connects-rise, close-derived, closes-rise}
 
 -- ---- values
 
