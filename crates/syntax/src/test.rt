@@ -19,61 +19,18 @@ ghost use Rattle.base.specs.Parts.{part};
 ghost use Rattle.base.specs.Runs.{RunEnd};
 ghost use Rattle.syntax.specs.Scan.{follows, operatorAt, testValue, testOperator, testAt};
 
-// The letters of the 19 operators: eq ne co sw ew gt lt ge le ap sa eb pr po ss sb in ni re.
-const FIRST_LETTERS: [u8; 19] = [
-    b'e',
-    b'n',
-    b'c',
-    b's',
-    b'e',
-    b'g',
-    b'l',
-    b'g',
-    b'l',
-    b'a',
-    b's',
-    b'e',
-    b'p',
-    b'p',
-    b's',
-    b's',
-    b'i',
-    b'n',
-    b'r',
-];
-
-const SECOND_LETTERS: [u8; 19] = [
-    b'q',
-    b'e',
-    b'o',
-    b'w',
-    b'w',
-    b't',
-    b't',
-    b'e',
-    b'e',
-    b'p',
-    b'a',
-    b'b',
-    b'r',
-    b'o',
-    b's',
-    b'b',
-    b'n',
-    b'i',
-    b'e',
-];
-
-// Whether the two letters are those of an operator.
+// Whether the two letters are those of an operator: eq ne co sw ew gt lt ge le ap sa eb pr po ss sb in ni re.
 fn is_operator(operator: u8, first: u8, second: u8) -> bool
     requires { ⌜ operator < 19 ⌝ }
     ensures { λ r. ⌜ r ≡ equal (first ∷ second ∷ []) (getD operatorWords operator []) ⌝ }
 {
+    let firsts = b"encseglglaseppssinr";
+    let seconds = b"qeowwtteepabrosbnie";
     let k = operator as usize;
-    if first != FIRST_LETTERS[k] {
+    if first != firsts[k] {
         return false;
     }
-    second == SECOND_LETTERS[k]
+    second == seconds[k]
 }
 
 // The operator at a position.

@@ -29,19 +29,19 @@ module _ (k first second : ℕ) (h : k < 19) where
   unfolding firsts seconds operatorWords equal
   second-decides e = sym (letters firsts seconds refl k h first second ∙ rw (eq-eqb _ _ e))
 
-array-read-if1 : tie.Need-array-read-if1
-array-read-if1 c = search needs
+element-copy-out-if1 : tie.Need-element-copy-out-if1
+element-copy-out-if1 c = search needs
 
 returns : tie.Need-returns
 unfolding firsts
 returns c = first-differs _ _ _ (search needs) (c .if1 .taken)
 
-array-read-result : tie.Need-array-read-result
-array-read-result c = search needs
+element-copy-out-result : tie.Need-element-copy-out-result
+element-copy-out-result c = search needs
 
 returns-2 : tie.Need-returns-2
 unfolding firsts seconds
-returns-2 c = second-decides _ _ _ (search needs) (c .if1 .left)
+returns-2 c = second-decides _ _ _ (search needs) (c .before .if1 .left)
 
 pub is-operator-spec : {M : Type 1} → statement M
-is-operator-spec = tie.close (tie.spec array-read-if1 returns array-read-result returns-2)
+is-operator-spec = tie.close (tie.spec element-copy-out-if1 returns element-copy-out-result returns-2)
