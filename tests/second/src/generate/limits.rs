@@ -12,7 +12,7 @@ use crate::operations::{self, MOST_CARDS};
 
 /// One of the inputs of this file.
 pub fn make(random: &mut Random) -> Case {
-    match random.below(8) {
+    match random.below(9) {
         0 => full_sheet(random),
         1 => full_card(random),
         2 => full_run(random),
@@ -20,7 +20,8 @@ pub fn make(random: &mut Random) -> Case {
         4 => long_filter(random),
         5 => deep_filter(random),
         6 => many_tests(random),
-        _ => long_text(random),
+        7 => long_text(random),
+        _ => empty_sheet(random),
     }
 }
 
@@ -57,6 +58,15 @@ fn full_sheet(random: &mut Random) -> Case {
     let filter = filters::spell_test(random, &asked, b"pr", &value);
     let mut case = case_of(random, &archive, filter);
     case.sheet = overlong(&[block::SHEET, count as u8], &parameters);
+    case
+}
+
+/// A sheet without parameters. It is sound, so a filter is refused for its names.
+fn empty_sheet(random: &mut Random) -> Case {
+    let archive = Archive::new(random, 1, 3, 2);
+    let filter = filters::test(random, &archive);
+    let mut case = case_of(random, &archive, filter);
+    case.sheet = overlong(&[block::SHEET, 0], &[]);
     case
 }
 
