@@ -153,7 +153,7 @@ pub fn near(random: &mut Random, text: &[u8]) -> Vec<u8> {
     }
 }
 
-/// A date with one part at a limit or one past it, or with another byte between two parts.
+/// A date with one part at a limit or one past it, with another byte between two parts, or with one behind them.
 pub fn on_the_edge(random: &mut Random) -> Vec<u8> {
     let mut written = written(random);
     let mut precision = Precision::Second;
@@ -190,8 +190,10 @@ pub fn on_the_edge(random: &mut Random) -> Vec<u8> {
         }
     }
     let mut text = written.spell(precision);
-    if random.once_in(3) {
-        other_separator(random, &mut text);
+    match random.below(6) {
+        0 | 1 => other_separator(random, &mut text),
+        2 => text.push(random.one(b"-:TZ0 ")),
+        _ => {}
     }
     text
 }
