@@ -4,7 +4,7 @@ use Prim.Native.Nat.{ℕ, _+_, _≤_, _<_}
 use native.Mathlib.Numerals.{add-one}
 use native.Mathlib.Omega.{arith}
 use mathlib.Core.Path.{_≡_, refl, ap, sym, _∙_}
-use mathlib.Core.Bool.{Bool, true, false, _&&_}
+use mathlib.Core.Bool.{Bool, true, false, _&&_, and-true, and-assoc}
 use mathlib.Core.List.{List}
 use lib.ListN.{length, drop, getD, drop-of-length-le}
 use lib.Seq.{drop-cons}
@@ -36,14 +36,6 @@ module _ (p : ℕ → Bool) (s : List ℕ) where
 
 -- ---- the same, for a loop that goes on to the end
 
-and-after : (a b c : Bool) → ((a && b) && c) ≡ (a && (b && c))
-and-after true b c = refl
-and-after false b c = refl
-
-and-true : (a : Bool) → a ≡ (a && true)
-and-true true = refl
-and-true false = refl
-
 module _ (p : ℕ → Bool) (s : List ℕ) where
   pub counted-start : Counted p s true 0
   counted-start = record { within = omega arith; left = refl }
@@ -55,12 +47,12 @@ module _ (p : ℕ → Bool) (s : List ℕ) where
         let left : (p (getD s i 0) && every p (drop (i + 1) s)) ≡ every p (drop i s) = rw (add-one, drop-cons s i 0) in
         record {
           within = omega arith;
-          left = ap (λ (b : Bool). b && every p (drop (i + 1) s)) e ∙ and-after all (p (getD s i 0)) (every p (drop (i + 1) s)) ∙ ap (λ (b : Bool). all && b) left ∙ inv .left;
+          left = ap (λ (b : Bool). b && every p (drop (i + 1) s)) e ∙ and-assoc all (p (getD s i 0)) (every p (drop (i + 1) s)) ∙ ap (λ (b : Bool). all && b) left ∙ inv .left;
         }
 
     pub counted-end : length s ≤ i → all ≡ every p s
     unfolding every
-    counted-end h = and-true all ∙ ap (λ (l : List ℕ). all && every p l) (sym (drop-of-length-le s h)) ∙ inv .left
+    counted-end h = sym (and-true all) ∙ ap (λ (l : List ℕ). all && every p l) (sym (drop-of-length-le s h)) ∙ inv .left
 
 -- ---- two lists
 

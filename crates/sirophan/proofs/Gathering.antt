@@ -13,28 +13,23 @@ use lib.Seq.{take-suc-set, drop-drop}
 use Rattle.base.specs.Parts.{part}
 use Rattle.block.specs.declared.Reading.{Reading}
 use Rattle.sheet.specs.Sheet.{Parameter}
-use Rattle.card.specs.Card.{recordNumber, entriesOf, readCard}
+use Rattle.card.specs.Card.{recordNumber, readCard}
 use Rattle.syntax.specs.Tree.{Tree}
-use Rattle.judge.specs.Sets.{conforms}
 use Rattle.sirophan.specs.declared.verdict.CardVerdict.{CardVerdict}
 use Rattle.sirophan.specs.declared.Refusal.{Refusal}
 use Rattle.sirophan.specs.declared.Selected.{Selected}
-use Rattle.sirophan.specs.Operations.{Step, found, stop, _>>=_, blocks, Card, cardStep, takeCard}
+use Rattle.sirophan.specs.Operations.{Step, found, stop, _>>=_, blocks, takeCard}
 use Rattle.sirophan.specs.Passing.{textSays, cardVerdict, verdictStep}
 use Rattle.sirophan.specs.Selecting.{runNumbers, Gathers}
+use Rattle.sirophan.proofs.Passing.{taken, card-taken}
 
 -- ---- a card that has a verdict is well formed
 
-step-well-formed : (r : Reading) (fits : Bool) (c : Card) (i : ℕ) (g : Card → Bool) (y : Bool) → (cardStep r fits c i >>= λ d. found (g d)) ≡ found y → r ≡ Reading.WellFormed
-step-well-formed Reading.WellFormed fits c i g y h = refl
-step-well-formed Reading.WrongSize fits c i g y h = cc
-step-well-formed Reading.WrongSum fits c i g y h = cc
-step-well-formed Reading.WrongLayout fits c i g y h = cc
-
 judged-well-formed : (ps : List Parameter) (f : Option Tree) (b : List ℕ) (y : Bool) → cardVerdict ps f 0 b ≡ found y → readCard b ≡ Reading.WellFormed
-unfolding cardVerdict takeCard
+unfolding cardVerdict
 judged-well-formed ps f b y h =
-    step-well-formed (readCard b) (conforms ps (entriesOf b)) (record { number = recordNumber b; entries = entriesOf b }) 0 (λ c. textSays ps (c .entries) f) y h
+    let (c, t, says) = taken (takeCard ps 0 b) (λ c. found (textSays ps (c .entries) f)) y h in
+    card-taken ps 0 b c t .0
 
 -- ---- the loop
 

@@ -11,21 +11,23 @@ use lib.ListN.{length}
 use borrow.Author.Tests.{ltb-false}
 use Rattle.block.specs.declared.Reading.{Reading}
 use Rattle.sheet.specs.Sheet.{Parameter, parametersOf, readSheet}
+use Rattle.card.specs.Card.{recordNumber, entriesOf, readCard}
 use Rattle.syntax.specs.Tree.{Tree, testsOf}
 use Rattle.syntax.specs.Reader.{read}
+use Rattle.judge.specs.Sets.{conforms}
 use Rattle.judge.specs.Verdicts.{filterSays}
 use Rattle.sirophan.specs.declared.Checked.{Checked}
 use Rattle.sirophan.specs.declared.Matched.{Matched}
 use Rattle.sirophan.specs.declared.Refusal.{Refusal}
 use Rattle.sirophan.specs.declared.verdict.CardVerdict.{CardVerdict}
 use Rattle.sirophan.specs.Answers.{count, refused, yesOrNo, numberOf, refusalAnswer, checkedAnswer, matchedAnswer}
-use Rattle.sirophan.specs.Operations.{Step, found, stop, _>>=_, answer, treeStep, takeFilter, testsStep, takeSheet, sheetStep, Prepared, prepare, Card, takeCard, checkAnswer, matchAnswer}
+use Rattle.sirophan.specs.Operations.{Step, found, stop, _>>=_, answer, treeStep, takeFilter, testsStep, takeSheet, sheetStep, Prepared, prepare, Card, cardStep, takeCard, checkAnswer, matchAnswer}
 use Rattle.sirophan.specs.Passing.{Passing, cardVerdict, verdictStep}
 
 -- ---- check has passed them
 
 -- what was found first, where something was found after it
-taken : {A B : Type 0} (s : Step A) (next : A → Step B) (b : B) → (s >>= next) ≡ found b → (a : A) × (s ≡ found a) × (next a ≡ found b)
+pub taken : {A B : Type 0} (s : Step A) (next : A → Step B) (b : B) → (s >>= next) ≡ found b → (a : A) × (s ≡ found a) × (next a ≡ found b)
 taken (found a) next b h = (a, refl, h)
 taken (stop n p) next b h = absurd (let z : _≡_ {A = ℕ} 0 1 = cc in omega arith)
 
@@ -64,6 +66,22 @@ passing b xs c n e h =
       reads = reads;
       prepared = is ∙ sym made ∙ ap (λ (qs : List Parameter). found (record { parameters = qs; filter = f })) (sym same);
     }
+
+-- ---- a card
+
+card-found : (r : Reading) (fits : Bool) (c : Card) (i : ℕ) (d : Card) → cardStep r fits c i ≡ found d → (r ≡ Reading.WellFormed) × (d ≡ c)
+card-found Reading.WellFormed true c i d h = (refl, cc)
+card-found Reading.WellFormed false c i d h = (cc, cc)
+card-found Reading.WrongSize fits c i d h = (cc, cc)
+card-found Reading.WrongSum fits c i d h = (cc, cc)
+card-found Reading.WrongLayout fits c i d h = (cc, cc)
+
+-- a card that is taken is well formed, and has its record number
+pub card-taken : (ps : List Parameter) (i : ℕ) (b : List ℕ) (d : Card) → takeCard ps i b ≡ found d → (readCard b ≡ Reading.WellFormed) × (d .number ≡ recordNumber b)
+unfolding takeCard
+card-taken ps i b d h =
+    let (well, same) = card-found (readCard b) (conforms ps (entriesOf b)) (record { number = recordNumber b; entries = entriesOf b }) i d h in
+    (well, ap (λ (c : Card). c .number) same)
 
 -- ---- check has refused
 

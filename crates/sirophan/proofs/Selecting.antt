@@ -3,29 +3,27 @@
 use Prim.Native.Nat.{ℕ, suc, _%_, _≤_, _<_}
 use native.Mathlib.Nat.{sub-zero}
 use mathlib.Core.Path.{_≡_, refl, sym, ap, _∙_}
-use mathlib.Core.Bool.{Bool, true, false, cond}
+use mathlib.Core.Bool.{cond}
 use mathlib.Core.Option.{Option, some}
 use mathlib.Core.List.{List, [], _∷_, _++_}
 use lib.ListN.{length, take, drop}
 use lib.Seq.{length-take-le}
 use borrow.Author.Tests.{eq-eqb, ne-eqb, le-leb, lt-leb}
 use Rattle.base.specs.Parts.{part}
-use Rattle.block.specs.declared.Reading.{Reading}
 use Rattle.sheet.specs.Sheet.{Parameter, parametersOf}
 use Rattle.syntax.specs.Tree.{Tree}
 use Rattle.syntax.specs.Reader.{read}
-use Rattle.judge.specs.Sets.{conforms}
 use Rattle.judge.specs.Verdicts.{filterSays}
-use Rattle.card.specs.Card.{recordNumber, entriesOf, readCard}
+use Rattle.card.specs.Card.{recordNumber}
 use Rattle.sirophan.specs.declared.Checked.{Checked}
 use Rattle.sirophan.specs.declared.Reason.{Reason}
 use Rattle.sirophan.specs.declared.Refusal.{Refusal}
 use Rattle.sirophan.specs.declared.Selected.{Selected}
 use Rattle.sirophan.specs.Answers.{numberOf, refusalAnswer, checkedAnswer, selectedAnswer}
-use Rattle.sirophan.specs.Operations.{Step, found, stop, _>>=_, checkAnswer, Card, cardStep, takeCard, takeRun, takeCards, matching, takeRoom, selection, selectAnswer, selectCells}
+use Rattle.sirophan.specs.Operations.{Step, found, stop, _>>=_, checkAnswer, Card, takeCard, takeRun, takeCards, matching, takeRoom, selection, selectAnswer, selectCells}
 use Rattle.sirophan.specs.Passing.{Passing, cardVerdict}
 use Rattle.sirophan.specs.Selecting.{runNumbers, gatheredStep, Gathers, Selects}
-use Rattle.sirophan.proofs.Passing.{prepare-stopped}
+use Rattle.sirophan.proofs.Passing.{card-taken, prepare-stopped}
 
 -- ---- the numbers of a run are those of its matching cards
 
@@ -37,23 +35,11 @@ numbers-next ps f (found d) b (found ds) e = rw (e d refl)
 numbers-next ps f (found d) b (stop n p) e = refl
 numbers-next ps f (stop n p) b cs e = refl
 
-card-found : (r : Reading) (fits : Bool) (c : Card) (i : ℕ) (d : Card) → cardStep r fits c i ≡ found d → d ≡ c
-card-found Reading.WellFormed true c i d h = cc
-card-found Reading.WellFormed false c i d h = cc
-card-found Reading.WrongSize fits c i d h = cc
-card-found Reading.WrongSum fits c i d h = cc
-card-found Reading.WrongLayout fits c i d h = cc
-
-card-number : (ps : List Parameter) (i : ℕ) (b : List ℕ) (d : Card) → takeCard ps i b ≡ found d → d .number ≡ recordNumber b
-unfolding takeCard
-card-number ps i b d h =
-    ap (λ (c : Card). c .number) (card-found (readCard b) (conforms ps (entriesOf b)) (record { number = recordNumber b; entries = entriesOf b }) i d h)
-
 run-numbers : (ps : List Parameter) (f : Tree) (i : ℕ) (bs : List (List ℕ)) → runNumbers ps (some f) i bs ≡ takeCards ps i bs >>= λ cs. found (matching ps f cs)
 unfolding runNumbers takeCards matching cardVerdict
 run-numbers ps f i [] = refl
 run-numbers ps f i (b ∷ bs) =
-    rw (run-numbers ps f (suc i) bs) (numbers-next ps f (takeCard ps i b) b (takeCards ps (suc i) bs) (card-number ps i b))
+    rw (run-numbers ps f (suc i) bs) (numbers-next ps f (takeCard ps i b) b (takeCards ps (suc i) bs) (λ d h. card-taken ps i b d h .1))
 
 after : {A B : Type 0} (s : Step A) (g h : A → Step B) → ((a : A) → g a ≡ h a) → (s >>= g) ≡ (s >>= h)
 after (found a) g h e = e a

@@ -35,9 +35,9 @@ pub extern "C" fn sirophan_check(sheet: &[u8], filter: &[u8]) -> Answer
 {
     let checked = sirophan::check(sheet, filter);
     match checked {
-        Checked::Tests(count) => Answer {
+        Checked::Tests(tests) => Answer {
             refusal: 0,
-            value: count,
+            value: tests,
         },
         Checked::Refused(refusal) => refused(refusal),
     }
