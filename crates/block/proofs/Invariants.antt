@@ -1,17 +1,17 @@
 -- What the loops over a block keep.
 -- Assumes nothing.
-use Prim.Native.Nat.{ℕ, _+_, _≤_}
+use Prim.Native.Nat.{ℕ, _+_, _*_, _≤_}
 use mathlib.Core.Path.{_≡_}
 use mathlib.Core.List.{List}
-use lib.ListN.{take, drop}
+use Rattle.base.specs.Parts.{part}
 use Rattle.block.specs.Sum.{sumFrom, checkSum}
 use Rattle.block.specs.Items.{laidOut, items, Walk}
 
--- the sum of the bytes before i, with the place of the byte at i
-pub record Summed (b : List ℕ) (sum place i : ℕ) : Type 0 where
-  pub within : i ≤ 508
+-- the sums over both halves before i, with the place of the byte at i: `sum` by the place in the half, `second` of the second half's bytes
+pub record Summed (b : List ℕ) (sum second place i : ℕ) : Type 0 where
+  pub within : i ≤ 254
   pub next : place ≡ i + 1
-  pub whole : sum + sumFrom place (drop i (take 508 b)) ≡ checkSum b
+  pub whole : sum + 254 * second + sumFrom place (part b i 254) + sumFrom (place + 254) (part b (254 + i) 508) ≡ checkSum b
   pub most : checkSum b ≤ 32967930
 
 -- the items before p are laid out up to p, and those that are left decide
