@@ -3,7 +3,7 @@
 use mathlib.Core.Path.{_≡_, ap}
 use Prim.Native.Nat.{ℕ, _+_, _-_, _≤_, _<_}
 use native.Mathlib.Omega.{arith}
-use mathlib.Core.Bool.{Bool, true, false}
+use mathlib.Core.Bool.{Bool, true, false, _&&_, and-comm}
 use mathlib.Core.List.{List, []}
 use mathlib.Core.Option.{some}
 use lib.ListN.{length, take, drop}
@@ -43,14 +43,16 @@ module _ (t : Token) (s c : List ℕ) where
     unfolding meets asks
     parts-any-code r hc e = rw (length-zero c hc, splitForm-any-code s (omega arith)) e
 
-    module _ (hc : length c ≡ 0 → ⊥) (q : Bool) (e : q ≡ same (t .system) (namespaceOf s)) where
-      pub parts-other-system : q ≡ false → false ≡ meets (some t) (splitForm (at-bar s c))
+    module _ (hc : length c ≡ 0 → ⊥) (q : Bool) (e : q ≡ same (t .code) c) where
+      meets-system-code : meets (some t) (splitForm (at-bar s c)) ≡ (q && same (t .system) (namespaceOf s))
       unfolding meets asks
-      parts-other-system f = rw (splitForm-system-code s c (omega arith) (omega arith), ← e, f)
+      meets-system-code = rw (splitForm-system-code s c (omega arith) (omega arith), ← e) (and-comm (same (t .system) (namespaceOf s)) q)
 
-      pub parts-system-code : (r : Bool) → q ≡ true → r ≡ same (t .code) c → r ≡ meets (some t) (splitForm (at-bar s c))
-      unfolding meets asks
-      parts-system-code r p er = rw (splitForm-system-code s c (omega arith) (omega arith), ← e, p) er
+      pub parts-other-code : q ≡ false → q ≡ meets (some t) (splitForm (at-bar s c))
+      parts-other-code f = rw (meets-system-code, f)
+
+      pub parts-system-code : (r : Bool) → q ≡ true → r ≡ same (t .system) (namespaceOf s) → r ≡ meets (some t) (splitForm (at-bar s c))
+      parts-system-code r p er = rw (meets-system-code, p) er
 
 -- ---- `token_matches`: s and c are the card's system and code
 

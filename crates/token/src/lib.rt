@@ -83,11 +83,8 @@ fn parts_match(system: &[u8], code: &[u8], before: &[u8], after: &[u8]) -> bool
         // "system| (every code of it)"
         return system_matches(system, before);
     }
-    // "system|code"
-    if system_matches(system, before) {
-        return text::same(code, after);
-    }
-    false
+    // "system|code"; the codes come first, since they differ more often than the systems
+    text::same(code, after) && system_matches(system, before)
 }
 
 // Whether a card's system is the one that a filter names: a short name stands for its namespace, any other for itself.
