@@ -1,6 +1,6 @@
 -- Operators: the scan finds what the grammar asks for, and all of it.
 -- Assumes nothing.
-use Prim.Native.Nat.{ℕ, suc, _+_, _-_, _≤_, _<_}
+use Prim.Native.Nat.{ℕ, suc, _+_, _*_, _-_, _≤_, _<_}
 use native.Mathlib.Omega.{arith}
 use native.Mathlib.Numerals.{add-one}
 use mathlib.Core.Path.{_≡_, refl, sym, ap, subst, _∙_}
@@ -9,9 +9,9 @@ use mathlib.Core.List.{List, [], _∷_}
 use lib.Dec.{eqb}
 use lib.ListN.{length, getD, take, drop, length-drop, length-append, drop-of-length-le}
 use lib.Seq.{drop-cons, take-at}
-use borrow.Author.Tests.{eqb-true, not-true}
+use borrow.Author.Tests.{eqb-true, eqb-false, eq-eqb, ne-eqb, not-true}
+use Rattle.base.specs.Ascii.{ascii}
 use Rattle.base.specs.Lists.{equal}
-use Rattle.base.specs.Below.{passes}
 use Rattle.base.proofs.Below.{passes-at, passes-same}
 use Rattle.base.proofs.Lists.{equal-same}
 use Rattle.base.specs.Operators.{operatorWords}
@@ -92,12 +92,17 @@ operator-rise {xs} {p} {k} o = omega (arith, ap length (o .stands .1), length-dr
 
 -- ---- as the code finds one: the k-th word and those after it are left to try
 
-pub record Trying (first second k : ℕ) : Type 0 where
+-- the letters of all words, one word after the other
+unfoldable pub operatorLetters : List ℕ
+operatorLetters = ascii "eqnecoswewgtltgeleapsaebprposssbinnire"
+
+pub record Trying (words : List ℕ) (first second k : ℕ) : Type 0 where
+  pub letters : words ≡ operatorLetters
   pub few : k ≤ 19
   pub left : findOperator 0 operatorWords (first ∷ second ∷ []) ≡ findOperator k (drop k operatorWords) (first ∷ second ∷ [])
 
-pub trying-starts : (first second : ℕ) → Trying first second 0
-trying-starts first second = record { few = omega arith; left = refl }
+pub trying-starts : (words : List ℕ) (first second : ℕ) → words ≡ operatorLetters → Trying words first second 0
+trying-starts words first second e = record { letters = e; few = omega arith; left = refl }
 
 many-words : length operatorWords ≡ 19
 unfolding operatorWords
@@ -107,14 +112,29 @@ try-step : (k : ℕ) (w : List ℕ) → k < 19 → findOperator k (drop k operat
 unfolding findOperator
 try-step k w h = rw (drop-cons operatorWords k [] (rw many-words h), add-one k)
 
--- the letters of a word, from two tables of them
-pub letters : (firsts seconds : List ℕ) → passes (λ (k : ℕ). equal (getD firsts k 0 ∷ getD seconds k 0 ∷ []) (getD operatorWords k [])) 19 ≡ true
-    → (k : ℕ) → k < 19 → (a b : ℕ) → equal (a ∷ b ∷ []) (getD operatorWords k []) ≡ (eqb a (getD firsts k 0) && eqb b (getD seconds k 0))
+-- two letters are compared as one number
+pub letters-same : (a b c d m n : ℕ) → b < 256 → d < 256 → m ≡ a * 256 + b → n ≡ c * 256 + d → eqb m n ≡ (eqb a c && eqb b d)
+letters-same a b c d m n h k u v = go (eqb a c) (eqb b d) refl refl
+  where
+    go : (p q : Bool) → eqb a c ≡ p → eqb b d ≡ q → eqb m n ≡ (p && q)
+    go true true e f = let i = eqb-true a c e in let j = eqb-true b d f in eq-eqb m n (omega arith)
+    go true false e f = let i = eqb-true a c e in ne-eqb m n (λ (g : m ≡ n). eqb-false b d f (omega arith))
+    go false q e f = ne-eqb m n (λ (g : m ≡ n). eqb-false a c e (omega arith))
+
+-- the letters of the k-th word stand from 2 * k on
+abbrev lettersOf : List ℕ → ℕ → List ℕ
+lettersOf words k = getD words (2 * k) 0 ∷ getD words (2 * k + 1) 0 ∷ []
+
+each-spelt : (k : ℕ) → k < 19 → equal (lettersOf operatorLetters k) (getD operatorWords k []) ≡ true
+unfolding operatorLetters operatorWords equal
+each-spelt k h = passes-at (λ (k : ℕ). equal (lettersOf operatorLetters k) (getD operatorWords k [])) 19 refl k h
+
+letters-decide : (words : List ℕ) → words ≡ operatorLetters → (k : ℕ) → k < 19 → (a b : ℕ)
+    → equal (a ∷ b ∷ []) (getD operatorWords k []) ≡ (eqb a (getD words (2 * k) 0) && eqb b (getD words (2 * k + 1) 0))
 unfolding equal
-letters firsts seconds t k h a b =
-    let e : getD operatorWords k [] ≡ getD firsts k 0 ∷ getD seconds k 0 ∷ [] =
-    sym (equal-same (getD firsts k 0 ∷ getD seconds k 0 ∷ []) (getD operatorWords k []) (passes-at (λ (k : ℕ). equal (getD firsts k 0 ∷ getD seconds k 0 ∷ []) (getD operatorWords k [])) 19 t k h)) in
-    rw e (ap (λ (r : Bool). eqb a (getD firsts k 0) && r) (and-true (eqb b (getD seconds k 0))))
+letters-decide words e k h a b =
+    let s = sym (equal-same (lettersOf operatorLetters k) (getD operatorWords k []) (each-spelt k h)) in
+    rw (s, e) (ap (λ (r : Bool). eqb a (getD operatorLetters (2 * k) 0) && r) (and-true (eqb b (getD operatorLetters (2 * k + 1) 0))))
 
 -- the two bytes at a position
 pub two-bytes : (xs : List ℕ) (p : ℕ) → 2 ≤ length xs - p → take 2 (drop p xs) ≡ getD xs p 0 ∷ getD xs (p + 1) 0 ∷ []
@@ -134,16 +154,20 @@ module _ (xs : List ℕ) (p : ℕ) where
           short i = omega arith
       go FoundOperator.Nothing e = refl
 
-  module _ (h : 2 ≤ length xs - p) (k : ℕ) (t : Trying (getD xs p 0) (getD xs (p + 1) 0) k) where
+  module _ (h : 2 ≤ length xs - p) (words : List ℕ) (k : ℕ) (t : Trying words (getD xs p 0) (getD xs (p + 1) 0) k) where
     abbrev word : List ℕ
     word = getD xs p 0 ∷ getD xs (p + 1) 0 ∷ []
 
-    pub trying-found : (r : Bool) → r ≡ equal word (getD operatorWords k []) → r ≡ true → k < 19 → FoundOperator.Is k ≡ operatorAt xs p
-    unfolding operatorAt
-    trying-found r e f g = rw (two-bytes xs p h, t .left, try-step k word g, sym e ∙ f)
+    module _ (r : Bool) (e : r ≡ (eqb (getD xs p 0) (getD words (2 * k) 0) && eqb (getD xs (p + 1) 0) (getD words (2 * k + 1) 0))) (g : k < 19) where
+      tried : equal word (getD operatorWords k []) ≡ r
+      tried = letters-decide words (t .letters) k g (getD xs p 0) (getD xs (p + 1) 0) ∙ sym e
 
-    pub trying-next : (r : Bool) → r ≡ equal word (getD operatorWords k []) → r ≡ false → k < 19 → Trying (getD xs p 0) (getD xs (p + 1) 0) (k + 1)
-    trying-next r e f g = record { few = omega arith; left = t .left ∙ rw (try-step k word g, sym e ∙ f) }
+      pub trying-found : r ≡ true → FoundOperator.Is k ≡ operatorAt xs p
+      unfolding operatorAt
+      trying-found f = rw (two-bytes xs p h, t .left, try-step k word g, tried ∙ f)
+
+      pub trying-next : r ≡ false → Trying words (getD xs p 0) (getD xs (p + 1) 0) (k + 1)
+      trying-next f = record { letters = t .letters; few = omega arith; left = t .left ∙ rw (try-step k word g, tried ∙ f) }
 
     pub trying-ends : 19 ≤ k → FoundOperator.Nothing ≡ operatorAt xs p
     unfolding operatorAt findOperator

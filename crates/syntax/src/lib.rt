@@ -21,11 +21,12 @@ pub struct RawValue {
     pub next: usize,
 }
 
-// A test as it stands in the text: its name from `at` up to `until`, its operator's number, its value.
+// A test as it stands in the text: its name from `at` up to `until`, its operator's number, its value. The operator stands
+// second, as a bracket's `not` does in `Head`: a byte there, so that no number is written in pieces.
 pub struct RawTest {
     pub at: usize,
-    pub until: usize,
     pub operator: u8,
+    pub until: usize,
     pub value: RawValue,
 }
 

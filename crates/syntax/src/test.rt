@@ -8,32 +8,33 @@ use crate::scan::skip;
 use crate::value::read_value;
 use base::name::is_name_start;
 use base::name::is_reserved;
+use base::wide;
 ghost use mathlib.Core.Path.{_≡_};
-ghost use mathlib.Core.List.{[], _∷_};
-ghost use Prim.Native.Nat.{_+_, _≤_, _<_};
-ghost use lib.ListN.{length, getD, drop};
-ghost use Rattle.base.specs.Lists.{equal};
+ghost use mathlib.Core.Bool.{_&&_};
+ghost use Prim.Native.Nat.{_+_, _*_, _≤_};
+ghost use lib.Dec.{eqb};
+ghost use lib.ListN.{length, drop};
 ghost use Rattle.base.specs.Names.{isNamePart, isName};
-ghost use Rattle.base.specs.Operators.{operatorWords};
 ghost use Rattle.base.specs.Parts.{part};
 ghost use Rattle.base.specs.Runs.{RunEnd};
 ghost use Rattle.syntax.specs.Scan.{follows, operatorAt, testValue, testOperator, testAt};
 
-// Whether the two letters are those of an operator: eq ne co sw ew gt lt ge le ap sa eb pr po ss sb in ni re.
-fn is_operator(operator: u8, first: u8, second: u8) -> bool
-    requires { ⌜ operator < 19 ⌝ }
-    ensures { λ r. ⌜ r ≡ equal (first ∷ second ∷ []) (getD operatorWords operator []) ⌝ }
+// Two letters as one number.
+fn letters(first: u8, second: u8) -> u64
+    ensures { λ r. ⌜ r ≡ first * 256 + second ⌝ }
 {
-    let firsts = b"encseglglaseppssinr";
-    let seconds = b"qeowwtteepabrosbnie";
-    let k = operator as usize;
-    if first != firsts[k] {
-        return false;
-    }
-    second == seconds[k]
+    wide(first) * 256 + wide(second)
 }
 
-// The operator at a position.
+// Whether two letters are those of a word. They are compared as one number, which takes half the instructions.
+fn same_letters(first: u8, second: u8, one: u8, two: u8) -> bool
+    ensures { λ r. ⌜ r ≡ (eqb first one && eqb second two) ⌝ }
+{
+    letters(first, second) == letters(one, two)
+}
+
+// The operator at a position. The words stand in one text outside the loop, since a text in the code is copied each time it is
+// come to.
 fn read_operator(s: &[u8], at: usize) -> FoundOperator
     requires { ⌜ at ≤ length (now s) ⌝ }
     ensures { λ r. ⌜ r ≡ operatorAt (now (s .entry)) at ⌝ }
@@ -43,9 +44,11 @@ fn read_operator(s: &[u8], at: usize) -> FoundOperator
     }
     let first = s[at];
     let second = s[at + 1];
-    let mut k = 0;
+    let words = b"eqnecoswewgtltgeleapsaebprposssbinnire";
+    let mut k: u8 = 0;
     while k < 19 {
-        if is_operator(k, first, second) {
+        let i = 2 * k as usize;
+        if same_letters(first, second, words[i], words[i + 1]) {
             return FoundOperator::Is(k);
         }
         k += 1;

@@ -1,15 +1,16 @@
 -- `syntax::test::read_operator` meets its contract. The loop's invariant: the words left to try decide. Assumes nothing.
 use borrow.Author.Needs.{needs}
 use Prim.Native.Nat.{_-_}
-use Rattle.syntax.proofs.Operators.{Trying, trying-starts, operator-short, trying-found, trying-next, trying-ends}
+use mathlib.Core.Path.{refl}
+use Rattle.syntax.proofs.Operators.{operatorLetters, Trying, trying-starts, operator-short, trying-found, trying-next, trying-ends}
 use Rattle.syntax.proofs.test.read_operator.Statement.{statement}
 use Rattle.syntax.proofs.test.read_operator.Tie as tie
 
 abbrev Inv-loop : tie.InvT-loop
-Inv-loop s at first second k₀ k = Trying first second k
+Inv-loop s at first second words k₀ k = Trying words first second k
 
 abbrev μ-loop : tie.MeasureT-loop
-μ-loop s at first second k₀ k = 19 - k
+μ-loop s at first second words k₀ k = 19 - k
 
 sub-if1 : tie.Need-sub-if1 Inv-loop μ-loop
 sub-if1 c = search needs
@@ -27,10 +28,26 @@ shared-slice-read-second : tie.Need-shared-slice-read-second Inv-loop μ-loop
 shared-slice-read-second c = search needs
 
 loop-holds : tie.Need-loop-holds Inv-loop μ-loop
-loop-holds c = search (trying-starts, needs)
+unfolding operatorLetters
+loop-holds c = trying-starts _ _ _ refl
 
-is-operator-requires : tie.Need-is-operator-requires Inv-loop μ-loop
-is-operator-requires c κs = search needs
+cast-i : tie.Need-cast-i Inv-loop μ-loop
+cast-i c = search needs
+
+mul-i : tie.Need-mul-i Inv-loop μ-loop
+mul-i c = search needs
+
+element-copy-out-same-letters : tie.Need-element-copy-out-same-letters Inv-loop μ-loop
+element-copy-out-same-letters c = search needs
+
+add-same-letters : tie.Need-add-same-letters Inv-loop μ-loop
+add-same-letters c = search needs
+
+element-copy-out-same-letters-2 : tie.Need-element-copy-out-same-letters-2 Inv-loop μ-loop
+element-copy-out-same-letters-2 c = search needs
+
+same-letters-requires : tie.Need-same-letters-requires Inv-loop μ-loop
+same-letters-requires c κs = search needs
 
 returns-2 : tie.Need-returns-2 Inv-loop μ-loop
 returns-2 c = search (trying-found, needs)
@@ -59,7 +76,12 @@ read-operator-spec =
     add-second
     shared-slice-read-second
     loop-holds
-    is-operator-requires
+    cast-i
+    mul-i
+    element-copy-out-same-letters
+    add-same-letters
+    element-copy-out-same-letters-2
+    same-letters-requires
     returns-2
     add-k
     loop-less
