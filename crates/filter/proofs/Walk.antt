@@ -162,30 +162,35 @@ module _ {A R : Type 0} (done : ℕ → A → R) (nothing : R) (cases : Cases do
           within = u .1;
         }
 
-  module _ (xs : List ℕ) (d p m : ℕ) (a : A) (k : Chain xs d p m a) (c : FoundConnective) (e : c ≡ connectiveAt xs m) where
-    pub chain-ends : c ≡ FoundConnective.Nothing → done m a ≡ answer (filterAt d xs p)
+module _ {A R : Type 0} (done : ℕ → A → R) (nothing : R) (cases : Cases done nothing) (φ : Fold A) (xs : List ℕ) (d p m : ℕ) (a : A) (k : Chain done nothing cases φ xs d p m a) (c : FoundConnective) (e : c ≡ connectiveAt xs m) where
+  pub chain-ends : c ≡ FoundConnective.Nothing → done m a ≡ answerOf done nothing φ (filterAt d xs p)
+  unfolding answerOf
+  chain-ends h = rw (k .reads, chain-step (k .left) xs _ m (k .tree) (omega (arith, k .enough)), sym e ∙ h, k .value)
+
+  -- the next item is walked for what ψ gathers, which may be less than φ does
+  module _ (q : ℕ) (o : Bool) (h : c ≡ FoundConnective.Next q o) (ψ : Fold A) (r : R) (f : r ≡ answerOf done nothing ψ (itemAt d xs q)) where
+    pub chain-no-item : r ≡ nothing → nothing ≡ answerOf done nothing φ (filterAt d xs p)
     unfolding answerOf
-    chain-ends h = rw (k .reads, chain-step (k .left) xs _ m (k .tree) (omega (arith, k .enough)), sym e ∙ h, k .value)
+    chain-no-item i =
+        rw (k .reads, chain-step (k .left) xs (λ k. itemAt d xs k) m (k .tree) (omega (arith, k .enough)), sym e ∙ h, was-nothing done nothing cases ψ (itemAt d xs q) f i)
 
-    module _ (q : ℕ) (o : Bool) (h : c ≡ FoundConnective.Next q o) (r : R) (f : r ≡ answer (itemAt d xs q)) where
-      pub chain-no-item : r ≡ nothing → nothing ≡ answer (filterAt d xs p)
-      unfolding answerOf
-      chain-no-item i = rw (k .reads, chain-step (k .left) xs (λ k. itemAt d xs k) m (k .tree) (omega (arith, k .enough)), sym e ∙ h, was-nothing (itemAt d xs q) f i)
+    pub chain-takes : (n : ℕ) (b v : A) → r ≡ done n b → ((g : Tree) → b ≡ foldTree ψ g → v ≡ φ .both o a (foldTree φ g)) → Chain done nothing cases φ xs d p n v
+    unfolding foldTree
+    chain-takes n b v i z =
+        let w = was-item done nothing cases ψ xs d q r n b f i in
+        let u = item-rise (w .derives) in
+        let y = connective-ahead xs m q o c e h in
+        let j : ConnectiveDerived xs m (FoundConnective.Next q o) = subst (ConnectiveDerived xs m) (sym e ∙ h) (connective-derived xs m) in
+        record {
+          left = k .left - 1;
+          tree = join (connective o) (k .tree) (w .tree);
+          reads = rw (k .reads, chain-step (k .left) xs (λ k. itemAt d xs k) m (k .tree) (omega (arith, k .enough)), sym e ∙ h, w .read);
+          enough = omega (arith, k .enough);
+          value = z (w .tree) (w .value) ∙ ap (λ (x : Bool). φ .both x a (foldTree φ (w .tree))) (sym (and-is o)) ∙ ap (λ (x : A). φ .both (isAnd (connective o)) x (foldTree φ (w .tree))) (k .value);
+          derives = one-more (k .derives) j (w .derives);
+          from = omega (arith, k .from);
+          within = u .1;
+        }
 
-      pub chain-goes-on : (n : ℕ) (b v : A) → r ≡ done n b → v ≡ φ .both o a b → Chain xs d p n v
-      unfolding foldTree
-      chain-goes-on n b v i z =
-          let w = was-item xs d q r n b f i in
-          let u = item-rise (w .derives) in
-          let y = connective-ahead xs m q o c e h in
-          let j : ConnectiveDerived xs m (FoundConnective.Next q o) = subst (ConnectiveDerived xs m) (sym e ∙ h) (connective-derived xs m) in
-          record {
-            left = k .left - 1;
-            tree = join (connective o) (k .tree) (w .tree);
-            reads = rw (k .reads, chain-step (k .left) xs (λ k. itemAt d xs k) m (k .tree) (omega (arith, k .enough)), sym e ∙ h, w .read);
-            enough = omega (arith, k .enough);
-            value = z ∙ ap (λ (x : Bool). φ .both x a b) (sym (and-is o)) ∙ ap (λ (x : A). φ .both (isAnd (connective o)) x b) (k .value) ∙ ap (λ (x : A). φ .both (isAnd (connective o)) (foldTree φ (k .tree)) x) (w .value);
-            derives = one-more (k .derives) j (w .derives);
-            from = omega (arith, k .from);
-            within = u .1;
-          }
+  pub chain-goes-on : (q : ℕ) (o : Bool) → c ≡ FoundConnective.Next q o → (r : R) → r ≡ answerOf done nothing φ (itemAt d xs q) → (n : ℕ) (b v : A) → r ≡ done n b → v ≡ φ .both o a b → Chain done nothing cases φ xs d p n v
+  chain-goes-on q o h r f n b v i z = chain-takes q o h φ r f n b v i (λ g s. z ∙ ap (φ .both o a) s)

@@ -1,7 +1,7 @@
 -- What is gathered over a tree: from each test, by each connective, by each negation.
 -- Assumes nothing.
 use Prim.Native.Nat.{_+_}
-use mathlib.Core.Bool.{Bool, true, false, not, _&&_, _||_}
+use mathlib.Core.Bool.{Bool, true, false, cond, not, _&&_, _||_}
 use mathlib.Core.List.{List, [], _∷_}
 use Rattle.sheet.specs.Sheet.{Parameter}
 use Rattle.card.specs.Card.{Entry}
@@ -42,5 +42,16 @@ abbrev pub joinVerdicts : Bool → Bool → Bool → Bool
 joinVerdicts true a b = a && b
 joinVerdicts false a b = a || b
 
-abbrev pub judging : List Parameter → List Entry → Fold Bool
-judging ps es = record { one = testSays ps es; both = joinVerdicts; negate = not }
+-- whether a verdict that is joined to a by and (true) or or can change it
+abbrev pub undecided : Bool → Bool → Bool
+undecided true a = a
+undecided false a = not a
+
+-- where the verdict is not needed, no test is judged, and what is gathered says nothing of the filter
+unfoldable pub judging : (needed : Bool) → List Parameter → List Entry → Fold Bool
+judging needed ps es =
+    record {
+      one = λ t. needed && testSays ps es t;
+      both = λ o a b. cond needed (joinVerdicts o a b) a;
+      negate = not;
+    }

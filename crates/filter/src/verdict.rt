@@ -1,4 +1,5 @@
-// Judging a filter on a card: every test is judged, and a connective never skips one.
+// Judging a filter on a card. A test whose join is already decided is read and not judged: the verdict is the same, and
+// that the test has a meaning was for check to say, before any card.
 use crate::Judged;
 use crate::Spot;
 use block::Reading;
@@ -6,17 +7,20 @@ use judge::test_says;
 use syntax::FoundClose;
 use syntax::FoundConnective;
 use syntax::Head;
+use syntax::RawTest;
 use syntax::read_close;
 use syntax::read_connective;
 use syntax::read_head;
 ghost use mathlib.Core.Path.{_≡_};
-ghost use mathlib.Core.Bool.{cond, not};
+ghost use mathlib.Core.Bool.{cond, not, _&&_};
 ghost use Prim.Native.Nat.{_≤_};
 ghost use lib.ListN.{length};
 ghost use Rattle.sheet.specs.Sheet.{parametersOf, readSheet};
 ghost use Rattle.card.specs.Card.{entriesOf, readCard};
+ghost use Rattle.syntax.specs.Placed.{Placed};
+ghost use Rattle.syntax.specs.Scan.{testOf};
 ghost use Rattle.syntax.specs.Reader.{itemAt, filterAt};
-ghost use Rattle.filter.specs.Folds.{joinVerdicts, judging};
+ghost use Rattle.filter.specs.Folds.{undecided, judging};
 ghost use Rattle.filter.specs.Walks.{answerOf};
 
 // The verdict, or after not the opposite.
@@ -29,30 +33,51 @@ fn negated_if(negate: bool, says: bool) -> bool
     says
 }
 
-// Two verdicts joined by and, or by or.
-fn joined(and: bool, a: bool, b: bool) -> bool
-    ensures { λ r. ⌜ r ≡ joinVerdicts and a b ⌝ }
+// Whether what an item says after a connective is needed: after and where the filter says yes so far, after or where no.
+fn item_needed(needed: bool, and: bool, says: bool) -> bool
+    ensures { λ r. ⌜ r ≡ (needed && undecided and says) ⌝ }
 {
     if and {
-        return a && b;
+        return needed && says;
     }
-    a || b
+    needed && !says
+}
+
+// What the filter says after an item: what the item says where that is needed, and else what it said before.
+fn after_item(needed: bool, says: bool, item: bool) -> bool
+    ensures { λ r. ⌜ r ≡ cond needed item says ⌝ }
+{
+    if needed { item } else { says }
+}
+
+// What a test says, where that is needed.
+fn test_verdict(needed: bool, sheet: &[u8], card: &[u8], filter: &[u8], test: RawTest) -> bool
+    requires { ⌜ readSheet (now sheet) ≡ Reading.WellFormed ⌝ }
+    requires { ⌜ readCard (now card) ≡ Reading.WellFormed ⌝ }
+    requires { ⌜ length (now filter) ≤ 1024 ⌝ }
+    requires { ⌜ Placed (now filter) test ⌝ }
+    ensures { λ r. ⌜ r ≡ judging needed (parametersOf (now (sheet .entry))) (entriesOf (now (card .entry))) .one (testOf (now (filter .entry)) test) ⌝ }
+{
+    if needed {
+        return test_says(sheet, card, filter, test);
+    }
+    false
 }
 
 // The item at a spot.
-fn judge_item(sheet: &[u8], card: &[u8], filter: &[u8], spot: Spot) -> Judged
+fn judge_item(needed: bool, sheet: &[u8], card: &[u8], filter: &[u8], spot: Spot) -> Judged
     requires { ⌜ readSheet (now sheet) ≡ Reading.WellFormed ⌝ }
     requires { ⌜ readCard (now card) ≡ Reading.WellFormed ⌝ }
     requires { ⌜ length (now filter) ≤ 1024 ⌝ }
     requires { ⌜ spot .at ≤ length (now filter) ⌝ }
-    ensures { λ r. ⌜ r ≡ answerOf Judged.Done Judged.Nothing (judging (parametersOf (now (sheet .entry))) (entriesOf (now (card .entry)))) (itemAt (spot .deep) (now (filter .entry)) (spot .at)) ⌝ }
+    ensures { λ r. ⌜ r ≡ answerOf Judged.Done Judged.Nothing (judging needed (parametersOf (now (sheet .entry))) (entriesOf (now (card .entry)))) (itemAt (spot .deep) (now (filter .entry)) (spot .at)) ⌝ }
 {
     let at = spot.at;
     let deep = spot.deep;
     let head = read_head(filter, b')', at);
     match head {
         Head::Test(test) => {
-            let says = test_says(sheet, card, filter, test);
+            let says = test_verdict(needed, sheet, card, filter, test);
             let value = test.value;
             Judged::Done(value.next, says)
         }
@@ -61,6 +86,7 @@ fn judge_item(sheet: &[u8], card: &[u8], filter: &[u8], spot: Spot) -> Judged
                 return Judged::Nothing;
             }
             let inner = judge_filter(
+                needed,
                 sheet,
                 card,
                 filter,
@@ -84,17 +110,18 @@ fn judge_item(sheet: &[u8], card: &[u8], filter: &[u8], spot: Spot) -> Judged
     }
 }
 
-// The filter at a spot, its items joined from left to right, and and or equal in rank.
-pub fn judge_filter(sheet: &[u8], card: &[u8], filter: &[u8], spot: Spot) -> Judged
+// The filter at a spot, its items joined from left to right, and and or equal in rank. Where what it says is not needed, no test is
+// judged, and only where the filter ends is told.
+pub fn judge_filter(needed: bool, sheet: &[u8], card: &[u8], filter: &[u8], spot: Spot) -> Judged
     requires { ⌜ readSheet (now sheet) ≡ Reading.WellFormed ⌝ }
     requires { ⌜ readCard (now card) ≡ Reading.WellFormed ⌝ }
     requires { ⌜ length (now filter) ≤ 1024 ⌝ }
     requires { ⌜ spot .at ≤ length (now filter) ⌝ }
-    ensures { λ r. ⌜ r ≡ answerOf Judged.Done Judged.Nothing (judging (parametersOf (now (sheet .entry))) (entriesOf (now (card .entry)))) (filterAt (spot .deep) (now (filter .entry)) (spot .at)) ⌝ }
+    ensures { λ r. ⌜ r ≡ answerOf Judged.Done Judged.Nothing (judging needed (parametersOf (now (sheet .entry))) (entriesOf (now (card .entry)))) (filterAt (spot .deep) (now (filter .entry)) (spot .at)) ⌝ }
 {
     let at = spot.at;
     let deep = spot.deep;
-    let first = judge_item(sheet, card, filter, Spot { at, deep });
+    let first = judge_item(needed, sheet, card, filter, Spot { at, deep });
     let Judged::Done(first_end, first_says) = first else {
         return Judged::Nothing;
     };
@@ -104,11 +131,12 @@ pub fn judge_filter(sheet: &[u8], card: &[u8], filter: &[u8], spot: Spot) -> Jud
         let connective = read_connective(filter, end);
         match connective {
             FoundConnective::Next(next, and) => {
-                let item = judge_item(sheet, card, filter, Spot { at: next, deep });
+                let asked = item_needed(needed, and, says);
+                let item = judge_item(asked, sheet, card, filter, Spot { at: next, deep });
                 match item {
                     Judged::Done(item_end, item_says) => {
                         end = item_end;
-                        says = joined(and, says, item_says);
+                        says = after_item(asked, says, item_says);
                     }
                     Judged::Nothing => {
                         return Judged::Nothing;

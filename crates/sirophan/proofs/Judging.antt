@@ -33,21 +33,21 @@ kept-tree true true f g h = cc
 kept-tree true false f g h = cc
 kept-tree false c f g h = cc
 
-module _ (ps : List Parameter) (es : List Entry) (b xs : List ℕ) (p : Passing b xs) (start : ℕ) (s : RunEnd isSpace xs 0 start) (w : Judged) (e : w ≡ answerOf Judged.Done Judged.Nothing (judging ps es) (filterAt 8 xs start)) where
+module _ (ps : List Parameter) (es : List Entry) (b xs : List ℕ) (p : Passing b xs) (start : ℕ) (s : RunEnd isSpace xs 0 start) (w : Judged) (e : w ≡ answerOf Judged.Done Judged.Nothing (judging true ps es) (filterAt 8 xs start)) where
   read-from : (g : Parsed) → filterAt 8 xs start ≡ g → whole xs g ≡ some (p .tree)
   unfolding read
   read-from g h = (rw (← h, s .is) refl) ∙ p .reads
 
   pub says-done : (q : ℕ) (a : Bool) → w ≡ Judged.Done q a → a ≡ textSays ps es (read xs)
   says-done q a h =
-      let was = was-filter Judged.Done Judged.Nothing judged-cases (judging ps es) xs 8 start w q a e h in
+      let was = was-filter Judged.Done Judged.Nothing judged-cases (judging true ps es) xs 8 start w q a e h in
       let f = was .tree in
       let same : f ≡ p .tree = kept-tree (eqb (skipAt xs q) (length xs)) (leb (length (testsOf f)) 32) f (p .tree) (read-from (parsed q f) (was .read)) in
       was .value ∙ judging-is ps es f ∙ rw (p .reads) (ap (filterSays ps es) same)
 
   pub says-nothing : (r : Bool) → w ≡ Judged.Nothing → r ≡ textSays ps es (read xs)
   says-nothing r h =
-      let z : none ≡ some (p .tree) = read-from unparsed (was-none Judged.Done Judged.Nothing judged-cases (judging ps es) xs 8 start w e h) in
+      let z : none ≡ some (p .tree) = read-from unparsed (was-none Judged.Done Judged.Nothing judged-cases (judging true ps es) xs 8 start w e h) in
       cc
 
 -- ---- one card

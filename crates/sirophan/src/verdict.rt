@@ -33,7 +33,7 @@ fn says(sheet: &[u8], filter: &[u8], card: &[u8]) -> bool
     ensures { λ r. ⌜ r ≡ textSays (parametersOf (now (sheet .entry))) (entriesOf (now (card .entry))) (read (now (filter .entry))) ⌝ }
 {
     let start = skip(filter, 0);
-    let judged = judge_filter(sheet, card, filter, Spot { at: start, deep: 8 });
+    let judged = judge_filter(true, sheet, card, filter, Spot { at: start, deep: 8 });
     match judged {
         Judged::Done(_, says) => says,
         Judged::Nothing => false,

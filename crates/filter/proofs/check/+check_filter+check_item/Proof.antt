@@ -107,7 +107,7 @@ check-filter-loop-holds : (t : ℕ) → check-filter-lts.Need-loop-holds (
   join-summaries-reads.Asked,
   join-summaries-reads.Learnt,
 ) (check-filter-at t) check-filter.Post check-filter-Inv-loop check-filter-μ-loop
-check-filter-loop-holds t c = search (chain-starts, walked-cases, needs)
+check-filter-loop-holds t c = search (chain-starts, needs)
 
 check-filter-read-connective-requires : (t : ℕ) → check-filter-lts.Need-read-connective-requires (
   check-item-below t,
@@ -177,7 +177,7 @@ check-filter-loop-again : (t : ℕ) → check-filter-lts.Need-loop-again (
   join-summaries-reads.Asked,
   join-summaries-reads.Learnt,
 ) (check-filter-at t) check-filter.Post check-filter-Inv-loop check-filter-μ-loop
-check-filter-loop-again t c = search (chain-goes-on, walked-cases, needs)
+check-filter-loop-again t c = search (chain-goes-on, needs)
 
 check-filter-enum-told-2 : (t : ℕ) → check-filter-lts.Need-enum-told-2 (
   check-item-below t,
@@ -197,7 +197,7 @@ check-filter-returns-2 : (t : ℕ) → check-filter-lts.Need-returns-2 (
   join-summaries-reads.Asked,
   join-summaries-reads.Learnt,
 ) (check-filter-at t) check-filter.Post check-filter-Inv-loop check-filter-μ-loop
-check-filter-returns-2 t c = search (chain-no-item, walked-cases, needs)
+check-filter-returns-2 t c = search (chain-no-item, needs)
 
 check-filter-enum-told-3 : (t : ℕ) → check-filter-lts.Need-enum-told-3 (
   check-item-below t,
