@@ -1,88 +1,21 @@
--- How large the numbers are that select answers: no count is larger than the list, and the place of a refused card is its index.
+-- How large the numbers are that a run's selection answers.
 -- Assumes nothing.
 use Prim.Native.Nat.{ℕ, _≤_}
-use native.Mathlib.Omega.{arith}
-use mathlib.Core.Path.{_≡_, refl, ap, sym, _∙_}
-use mathlib.Core.Logic.{⊎-elim}
+use mathlib.Core.Path.{_≡_, sym, _∙_}
 use mathlib.Core.List.{List}
-use lib.Dec.{leb}
-use lib.ListN.{length, length-append}
-use borrow.Author.Tests.{leb-true}
-use Rattle.base.proofs.Tests.{cond-elim}
+use lib.ListN.{length}
 use Rattle.sirophan.specs.declared.Refusal.{Refusal}
 use Rattle.sirophan.specs.declared.Selected.{Selected}
-use Rattle.sirophan.specs.Answers.{count, refused, numberOf, refusalAnswer, selectedAnswer}
-use Rattle.sirophan.specs.Operations.{Step, found, stop, _>>=_, answer, Prepared, prepare, takeRun, takeCards, matching, takeRoom, selection, selectAnswer}
+use Rattle.sirophan.specs.Answers.{numberOf, refusalAnswer, selectedAnswer}
 use Rattle.sirophan.specs.Selecting.{Selects}
-use Rattle.sirophan.proofs.Prepare.{prepare-number}
-use Rattle.sirophan.proofs.Runs.{run-iff, run-or-none}
-use Rattle.sirophan.proofs.Promises.{select-by-match}
+use Rattle.sirophan.proofs.Promises.{select-count-within, select-place-within}
 use Rattle.pick.specs.Bounds.{PlaceBound}
 
--- what a selection for `room` cells comes to
-data Bounded (room : ℕ) : Step (List ℕ) → Type 0 where
-  listed : {ns : List ℕ} → length ns ≤ room → Bounded room (found ns)
-  stopped : {n p : ℕ} → PlaceBound n p → Bounded room (stop n p)
+module _ (sheet text cards list : List ℕ) {r : Selected} {exit : List ℕ} (s : Selects sheet text cards list r exit) where
+  pub selected-count : (n : ℕ) → r ≡ Selected.Count n → n ≤ length list
+  unfolding selectedAnswer
+  selected-count n e = select-count-within sheet text cards list n (sym (s .answers) ∙ rw e)
 
-bounded-then : {A : Type 0} {room : ℕ} (s : Step A) {next : A → Step (List ℕ)}
-    → ((n p : ℕ) → s ≡ stop n p → PlaceBound n p) → ((a : A) → s ≡ found a → Bounded room (next a)) → Bounded room (s >>= next)
-bounded-then (found a) f g = g a refl
-bounded-then (stop n p) f g = stopped (f n p refl)
-
--- a refusal with another number than 21 to 23
-other-number : {n p : ℕ} → (21 ≤ n → n ≤ 23 → ⊥) → PlaceBound n p
-other-number h = record { within = λ low high. absurd (h low high) }
-
-module _ (sheet text cards list : List ℕ) where
-  module _ (q : Prepared) (bs : List (List ℕ)) (e : prepare sheet text ≡ found q) (f : takeRun cards ≡ found bs) (n p : ℕ) where
-    card-answer : takeCards (q .parameters) 0 bs ≡ stop n p → selectAnswer sheet text cards (length list) ≡ refused n p
-    unfolding selectAnswer selection
-    card-answer g = rw (e, f, g)
-
-    -- a card that is refused stands in the run at its place
-    card-place : takeCards (q .parameters) 0 bs ≡ stop n p → PlaceBound n p
-    card-place g = record {
-      within = λ low high.
-          let run = run-iff cards bs .0 f in
-          let few = run .few in
-          let card = select-by-match sheet text cards list bs run .refuses n p (card-answer g) low high in
-          let index = card .at .index in
-          omega (arith, simp length-append at (ap length (card .at .split)));
-    }
-
-  run-place : (n p : ℕ) → takeRun cards ≡ stop n p → PlaceBound n p
-  run-place n p e =
-      other-number (λ low high. ⊎-elim (λ w. let f = w .1 in let z : _≡_ {A = ℕ} 0 1 = cc in omega arith) (λ f. let z : n ≡ 20 = cc in omega arith) (run-or-none cards))
-
-  selection-bounded : Bounded (length list) (selection sheet text cards (length list))
-  unfolding selection takeRoom
-  selection-bounded =
-      bounded-then (prepare sheet text) (λ n p e. other-number (λ low high. omega (arith, prepare-number sheet text n p e)))
-      (λ q e. bounded-then (takeRun cards) run-place
-      (λ bs f. bounded-then (takeCards (q .parameters) 0 bs) (card-place q bs e f)
-      (λ cs g. let ns = matching (q .parameters) (q .filter) cs in
-      cond-elim (Bounded (length list)) (leb (length ns) (length list)) (λ h. listed (leb-true (length ns) (length list) h))
-      (λ _. stopped (other-number (λ low high. omega arith))))))
-
-  -- ---- what select answers
-
-  module _ {r : Selected} {exit : List ℕ} (s : Selects sheet text cards list r exit) where
-    pub selected-count : (n : ℕ) → r ≡ Selected.Count n → n ≤ length list
-    unfolding selectedAnswer selectAnswer
-    selected-count n e = by-bound selection-bounded (sym (s .answers) ∙ rw e)
-      where
-        by-bound : {t : Step (List ℕ)} → Bounded (length list) t → answer (t >>= λ ns. found (count (length ns))) ≡ count n → n ≤ length list
-        by-bound (listed {ns = ns} h) a = let same : length ns ≡ n = cc in omega arith
-        by-bound (stopped h) a = absurd (let z : _≡_ {A = ℕ} 0 1 = cc in omega arith)
-
-    pub selected-place : (x : Refusal) → r ≡ Selected.Refused x → PlaceBound (numberOf (x .reason)) (x .place)
-    unfolding selectedAnswer refusalAnswer selectAnswer
-    selected-place x e = by-bound selection-bounded (sym (s .answers) ∙ rw e)
-      where
-        by-bound : {t : Step (List ℕ)} → Bounded (length list) t → answer (t >>= λ ns. found (count (length ns))) ≡ refused (numberOf (x .reason)) (x .place)
-            → PlaceBound (numberOf (x .reason)) (x .place)
-        by-bound (listed h) a = absurd (let z : _≡_ {A = ℕ} 0 1 = cc in omega arith)
-        by-bound (stopped {n = n} {p = p} h) a =
-            let number : n ≡ numberOf (x .reason) = cc in
-            let place : p ≡ x .place = cc in
-            rw (← number, ← place) h
+  pub selected-place : (x : Refusal) → r ≡ Selected.Refused x → PlaceBound (numberOf (x .reason)) (x .place)
+  unfolding selectedAnswer refusalAnswer
+  selected-place x e = record { within = select-place-within sheet text cards list (numberOf (x .reason)) (x .place) (sym (s .answers) ∙ rw e) }

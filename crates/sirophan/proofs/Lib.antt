@@ -18,6 +18,7 @@ pub mod Impossible
 pub mod Verdicts
 pub mod Runs
 pub mod Selection
+pub mod Bounds
 pub mod Blocks
 pub mod Deciding
 pub mod CheckTable

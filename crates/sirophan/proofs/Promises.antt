@@ -1,6 +1,6 @@
 -- The promises, grouped by the letter's demands; each is proved where its one line says. The contracts of check, match_card and select say
 -- that the code answers as checkAnswer, matchAnswer and selectAnswer do, and leaves the list as selectCells says. Assumes nothing.
-use Prim.Native.Nat.{ℕ, _≤_}
+use Prim.Native.Nat.{ℕ, _≤_, _<_}
 use mathlib.Core.Path.{_≡_}
 use mathlib.Core.Bool.{true}
 use mathlib.Core.Logic.{_↔_}
@@ -43,6 +43,7 @@ use Rattle.sirophan.proofs.Demand as demand
 use Rattle.sirophan.proofs.Determinacy as determinacy
 use Rattle.sirophan.proofs.Impossible as impossible
 use Rattle.sirophan.proofs.Selection as selection
+use Rattle.sirophan.proofs.Bounds as bounds
 use Rattle.sirophan.proofs.CheckTable as check-table
 use Rattle.sirophan.proofs.MatchTable as match-table
 use Rattle.sirophan.proofs.SelectTable as select-table
@@ -109,6 +110,13 @@ select-by-match = selection.selects-by-match
 -- each as often as matching cards bear it
 pub select-occurrences : (sheet text : List ℕ) (bs : List (List ℕ)) (x : ℕ) → occurrences x (matchingNumbers sheet text bs) ≡ length (bearing x (matchingCards sheet text bs))
 select-occurrences = selection.matching-occurrences
+
+-- what select answers is small: a count is no larger than the list, the place of a refused card no larger than the run
+pub select-count-within : (sheet text cards list : List ℕ) (n : ℕ) → selectAnswer sheet text cards (length list) ≡ count n → n ≤ length list
+select-count-within = bounds.count-within
+
+pub select-place-within : (sheet text cards list : List ℕ) (n p : ℕ) → selectAnswer sheet text cards (length list) ≡ refused n p → 21 ≤ n → n ≤ 23 → p < 128
+select-place-within = bounds.place-within
 
 -- ---- demand 3: what check passes and what it refuses
 

@@ -1,0 +1,84 @@
+-- How large the numbers are that select answers: no count is larger than the list, and the place of a refused card is its index.
+-- Assumes nothing.
+use Prim.Native.Nat.{ℕ, _≤_, _<_}
+use native.Mathlib.Omega.{arith}
+use mathlib.Core.Path.{_≡_, refl, ap}
+use mathlib.Core.Logic.{⊎-elim}
+use mathlib.Core.List.{List}
+use lib.Dec.{leb}
+use lib.ListN.{length, length-append}
+use borrow.Author.Tests.{leb-true}
+use Rattle.base.proofs.Tests.{cond-elim}
+use Rattle.sirophan.specs.Answers.{count, refused}
+use Rattle.sirophan.specs.Operations.{Step, found, stop, _>>=_, answer, Prepared, prepare, takeRun, takeCards, matching, takeRoom, selection, selectAnswer}
+use Rattle.sirophan.proofs.Prepare.{prepare-number}
+use Rattle.sirophan.proofs.Runs.{run-iff, run-or-none}
+use Rattle.sirophan.proofs.Selection.{selects-by-match}
+
+-- the place of the refusals 21 to 23 is the index of a card of the run
+record PlaceBound (number place : ℕ) : Type 0 where
+  within : 21 ≤ number → number ≤ 23 → place < 128
+
+-- what a selection for `room` cells comes to
+data Bounded (room : ℕ) : Step (List ℕ) → Type 0 where
+  listed : {ns : List ℕ} → length ns ≤ room → Bounded room (found ns)
+  stopped : {n p : ℕ} → PlaceBound n p → Bounded room (stop n p)
+
+bounded-then : {A : Type 0} {room : ℕ} (s : Step A) {next : A → Step (List ℕ)}
+    → ((n p : ℕ) → s ≡ stop n p → PlaceBound n p) → ((a : A) → s ≡ found a → Bounded room (next a)) → Bounded room (s >>= next)
+bounded-then (found a) f g = g a refl
+bounded-then (stop n p) f g = stopped (f n p refl)
+
+-- a refusal with another number than 21 to 23
+other-number : {n p : ℕ} → (21 ≤ n → n ≤ 23 → ⊥) → PlaceBound n p
+other-number h = record { within = λ low high. absurd (h low high) }
+
+module _ (sheet text cards list : List ℕ) where
+  module _ (q : Prepared) (bs : List (List ℕ)) (e : prepare sheet text ≡ found q) (f : takeRun cards ≡ found bs) (n p : ℕ) where
+    card-answer : takeCards (q .parameters) 0 bs ≡ stop n p → selectAnswer sheet text cards (length list) ≡ refused n p
+    unfolding selectAnswer selection
+    card-answer g = rw (e, f, g)
+
+    -- a card that is refused stands in the run at its place
+    card-place : takeCards (q .parameters) 0 bs ≡ stop n p → PlaceBound n p
+    card-place g = record {
+      within = λ low high.
+          let run = run-iff cards bs .0 f in
+          let few = run .few in
+          let card = selects-by-match sheet text cards list bs run .refuses n p (card-answer g) low high in
+          let index = card .at .index in
+          omega (arith, simp length-append at (ap length (card .at .split)));
+    }
+
+  run-place : (n p : ℕ) → takeRun cards ≡ stop n p → PlaceBound n p
+  run-place n p e =
+      other-number (λ low high. ⊎-elim (λ w. let f = w .1 in let z : _≡_ {A = ℕ} 0 1 = cc in omega arith) (λ f. let z : n ≡ 20 = cc in omega arith) (run-or-none cards))
+
+  selection-bounded : Bounded (length list) (selection sheet text cards (length list))
+  unfolding selection takeRoom
+  selection-bounded =
+      bounded-then (prepare sheet text) (λ n p e. other-number (λ low high. omega (arith, prepare-number sheet text n p e)))
+      (λ q e. bounded-then (takeRun cards) run-place
+      (λ bs f. bounded-then (takeCards (q .parameters) 0 bs) (card-place q bs e f)
+      (λ cs g. let ns = matching (q .parameters) (q .filter) cs in
+      cond-elim (Bounded (length list)) (leb (length ns) (length list)) (λ h. listed (leb-true (length ns) (length list) h))
+      (λ _. stopped (other-number (λ low high. omega arith))))))
+
+  pub count-within : (n : ℕ) → selectAnswer sheet text cards (length list) ≡ count n → n ≤ length list
+  unfolding selectAnswer
+  count-within n = by-bound selection-bounded
+    where
+      by-bound : {t : Step (List ℕ)} → Bounded (length list) t → answer (t >>= λ ns. found (count (length ns))) ≡ count n → n ≤ length list
+      by-bound (listed {ns = ns} h) a = let same : length ns ≡ n = cc in omega arith
+      by-bound (stopped h) a = absurd (let z : _≡_ {A = ℕ} 0 1 = cc in omega arith)
+
+  pub place-within : (n p : ℕ) → selectAnswer sheet text cards (length list) ≡ refused n p → 21 ≤ n → n ≤ 23 → p < 128
+  unfolding selectAnswer
+  place-within n p = by-bound selection-bounded
+    where
+      by-bound : {t : Step (List ℕ)} → Bounded (length list) t → answer (t >>= λ ns. found (count (length ns))) ≡ refused n p → 21 ≤ n → n ≤ 23 → p < 128
+      by-bound (listed h) a = absurd (let z : _≡_ {A = ℕ} 0 1 = cc in omega arith)
+      by-bound (stopped {n = m} {p = q} h) a =
+          let number : m ≡ n = cc in
+          let place : q ≡ p = cc in
+          rw (← number, ← place) (h .within)
