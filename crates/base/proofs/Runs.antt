@@ -10,8 +10,9 @@ use mathlib.Core.List.{List, [], _∷_, _++_}
 use mathlib.Core.Logic.{⊎-elim}
 use lib.ListN.{length, getD, take, drop, drop-of-length-le}
 use lib.Seq.{drop-cons}
+use borrow.Author.Tests.{eq-eqb, ne-eqb}
 use Rattle.base.specs.Lists.{All, all-empty, all-cons, every}
-use Rattle.base.specs.Runs.{run, runEnd, RunEnd}
+use Rattle.base.specs.Runs.{run, runEnd, differs, RunEnd}
 use Rattle.base.proofs.Tests.{and-left, and-right, and-both, decided}
 
 -- ---- counting from i on, where the run is what has been passed and the run of what is left
@@ -106,3 +107,11 @@ module _ (p : ℕ → Bool) (s : List ℕ) (at : ℕ) where
     scan-ends h =
         let d : run p (drop i s) ≡ 0 = rw (drop-of-length-le s h) in
         record { is = omega arith; from = a .from; within = a .within }
+
+-- a scan for x
+module _ (x : ℕ) (s : List ℕ) (at i : ℕ) (a : Scanned (differs x) s at i) (h : i < length s) where
+  pub scan-finds : getD s i 0 ≡ x → RunEnd (differs x) s at i
+  scan-finds e = scan-stops (differs x) s at i a false (rw (eq-eqb _ _ e)) refl h
+
+  pub scan-passes : (getD s i 0 ≡ x → ⊥) → Scanned (differs x) s at (i + 1)
+  scan-passes n = scan-on (differs x) s at i a true (rw (ne-eqb _ _ n)) refl h

@@ -1,10 +1,12 @@
-// What every layer uses: a byte as a number, whether it is a digit, whether two texts are the same, and names.
+// What every layer uses: a byte as a number, whether it is a digit, whether two texts are the same, where a byte stands, and names.
 pub mod name;
 
 ghost use mathlib.Core.Path.{_≡_};
-ghost use Prim.Native.Nat.{_<_};
+ghost use Prim.Native.Nat.{_≤_, _<_};
+ghost use lib.ListN.{length};
 ghost use Rattle.base.specs.Digits.{isDigit};
 ghost use Rattle.base.specs.Lists.{equal};
+ghost use Rattle.base.specs.Runs.{differs, RunEnd};
 
 // The byte as a number.
 pub fn wide(b: u8) -> u64
@@ -35,4 +37,19 @@ pub fn equal(a: &[u8], b: &[u8]) -> bool
         i += 1;
     }
     true
+}
+
+// The first position from `from` on where the byte stands, or the end.
+pub fn place_of(s: &[u8], from: usize, byte: u8) -> usize
+    requires { ⌜ from ≤ length (now s) ⌝ }
+    ensures { λ r. ⌜ RunEnd (differs byte) (now (s .entry)) from r ⌝ }
+{
+    let mut i = from;
+    while i < s.len() {
+        if s[i] == byte {
+            return i;
+        }
+        i += 1;
+    }
+    i
 }

@@ -1,6 +1,4 @@
 // Blocks to try.
-ghost use Prim.Native.Nat.{_≤_};
-ghost use lib.ListN.{length};
 
 // A block of zeros with `body` at its start, as much of it as there is room for.
 fn filled(body: &[u8]) -> [u8; 512] {
@@ -48,19 +46,4 @@ pub fn sealed_with(body: &[u8], at: usize, byte: u8) -> [u8; 512] {
 // The block of a body, whose byte at `at` was changed after that.
 pub fn damaged(body: &[u8], at: usize, byte: u8) -> [u8; 512] {
     with_byte(sealed(body), at, byte)
-}
-
-// Where the byte first stands in the text from `from` on, or the end of the text.
-pub fn place_of(text: &[u8], from: usize, byte: u8) -> usize
-    requires { ⌜ from ≤ length (now text) ⌝ }
-    ensures { λ r. ⌜ (from ≤ r) × (r ≤ length (now (text .entry))) ⌝ }
-{
-    let mut i = from;
-    while i < text.len() {
-        if text[i] == byte {
-            return i;
-        }
-        i += 1;
-    }
-    i
 }

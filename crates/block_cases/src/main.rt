@@ -2,8 +2,8 @@
 mod build;
 mod show;
 
+use base::place_of;
 use build::damaged;
-use build::place_of;
 use build::sealed;
 use build::sealed_with;
 use show::card_line;

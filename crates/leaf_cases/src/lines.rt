@@ -1,21 +1,5 @@
 // Cases of one layer after each other, each ended by a line feed: in its layer, which a letter names, each gives a line.
-ghost use Prim.Native.Nat.{_≤_};
-ghost use lib.ListN.{length};
-
-// The first position from `at` on where a byte stands, or the end.
-fn find(t: &[u8], at: usize, byte: u8) -> usize
-    requires { ⌜ at ≤ length (now t) ⌝ }
-    ensures { λ r. ⌜ (at ≤ r) × (r ≤ length (now (t .entry))) ⌝ }
-{
-    let mut i = at;
-    while i < t.len() {
-        if t[i] == byte {
-            return i;
-        }
-        i += 1;
-    }
-    i
-}
+use base::place_of;
 
 // A case of one text.
 fn reading(layer: u8, case: &[u8]) {
@@ -31,7 +15,7 @@ fn reading(layer: u8, case: &[u8]) {
 pub fn readings(layer: u8, cases: &[u8]) {
     let mut at = 0;
     while at < cases.len() {
-        let end = find(cases, at, b'\n');
+        let end = place_of(cases, at, b'\n');
         reading(layer, &cases[at..end]);
         at = end + 1;
     }
@@ -49,7 +33,7 @@ fn comparison(layer: u8, a: &[u8], b: &[u8]) {
 
 // The same with "~" between the two.
 fn parted(layer: u8, case: &[u8]) {
-    let end = find(case, 0, b'~');
+    let end = place_of(case, 0, b'~');
     if end < case.len() {
         let after = end + 1;
         comparison(layer, &case[0..end], &case[after..]);
@@ -60,7 +44,7 @@ fn parted(layer: u8, case: &[u8]) {
 pub fn comparisons(layer: u8, cases: &[u8]) {
     let mut at = 0;
     while at < cases.len() {
-        let end = find(cases, at, b'\n');
+        let end = place_of(cases, at, b'\n');
         parted(layer, &cases[at..end]);
         at = end + 1;
     }

@@ -1,45 +1,31 @@
 -- Laws of the first bar.
 -- Assumes nothing.
 use mathlib.Core.Path.{_≡_, refl, sym, ap, _∙_}
-use Prim.Native.Nat.{ℕ, _+_, _≤_, _<_}
-use native.Mathlib.Nat.{zero-add}
-use native.Mathlib.Numerals.{add-one}
+use Prim.Native.Nat.{ℕ, _+_, _≤_}
 use native.Mathlib.Omega.{arith}
+use mathlib.Core.Bool.{true, false}
 use mathlib.Core.List.{List, [], _∷_, _++_}
 use mathlib.Core.Logic.{_↔_, ⊎-elim}
 use lib.Dec.{eqb}
-use lib.ListN.{length, getD, drop, drop-of-length-le}
-use lib.Seq.{drop-cons}
-use borrow.Author.Tests.{eq-eqb, ne-eqb, eqb-true, eqb-false}
+use lib.ListN.{length}
+use borrow.Author.Tests.{ne-eqb, eqb-true, eqb-false}
 use Rattle.base.specs.Lists.{all-empty, all-cons}
+use Rattle.base.specs.Runs.{run, runEnd, differs, RunEnd}
 use Rattle.base.proofs.Tests.{decided}
 use Rattle.text.specs.Bar.{bar, firstBar, NoBar, FirstBarAt, at-end, behind}
-use Rattle.text.proofs.Invariants.{Passed}
 
 -- ---- `first_bar`
 
-module _ (s : List ℕ) where
-  pub passed-start : Passed s 0
-  passed-start = record { within = omega arith; left = rw zero-add }
+bar-run : (s : List ℕ) → run (differs bar) s ≡ firstBar s
+unfolding run firstBar
+bar-run [] = refl
+bar-run (x ∷ xs) =
+    ⊎-elim (λ (t : eqb x bar ≡ true). rw t) (λ (f : eqb x bar ≡ false). rw f (omega (arith, bar-run xs))) (decided (eqb x bar))
 
-  module _ (i : ℕ) (inv : Passed s i) where
-    pub passed-here : i < length s → getD s i 0 ≡ bar → i ≡ firstBar s
-    unfolding firstBar
-    passed-here h e =
-        let z : firstBar (drop i s) ≡ 0 = rw (drop-cons s i 0, eq-eqb _ _ e) in
-        omega arith
-
-    pub passed-next : i < length s → (getD s i 0 ≡ bar → ⊥) → Passed s (i + 1)
-    unfolding firstBar
-    passed-next h ne =
-        let e : firstBar (drop i s) ≡ firstBar (drop (i + 1) s) + 1 = rw (add-one i, drop-cons s i 0, ne-eqb _ _ ne) in
-        record { within = omega arith; left = omega arith }
-
-    pub passed-end : length s ≤ i → i ≡ firstBar s
-    unfolding firstBar
-    passed-end h =
-        let z : firstBar (drop i s) ≡ 0 = rw (drop-of-length-le s h) in
-        omega arith
+module _ (s : List ℕ) (r : ℕ) (e : RunEnd (differs bar) s 0 r) where
+  pub bar-place : (r ≡ firstBar s) × (r ≤ length s)
+  unfolding runEnd
+  bar-place = (omega (arith, e .is, bar-run s), e .within)
 
 -- ---- as a number and as a property
 

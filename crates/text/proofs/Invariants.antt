@@ -7,7 +7,6 @@ use lib.ListN.{length, drop}
 use Rattle.text.specs.Fold.{foldText}
 use Rattle.base.specs.Affixes.{hasPrefix, hasInfix}
 use Rattle.text.specs.Compare.{contains}
-use Rattle.text.specs.Bar.{firstBar}
 
 -- `begins_at`: i bytes of b were found in a from at on
 pub record Compared (a b : List ℕ) (at i : ℕ) : Type 0 where
@@ -20,8 +19,3 @@ pub record Searched (a b : List ℕ) (last at : ℕ) : Type 0 where
   pub end : last ≡ length a - length b
   pub within : at ≤ length a
   pub left : contains a b ≡ hasInfix (drop at (foldText a)) (foldText b)
-
--- `first_bar`: no bar stands before i
-pub record Passed (s : List ℕ) (i : ℕ) : Type 0 where
-  pub within : i ≤ length s
-  pub left : firstBar s ≡ i + firstBar (drop i s)

@@ -90,12 +90,5 @@ pub fn contains(a: &[u8], b: &[u8]) -> bool
 pub fn first_bar(s: &[u8]) -> usize
     ensures { λ r. ⌜ (r ≡ firstBar (now (s .entry))) × (r ≤ length (now (s .entry))) ⌝ }
 {
-    let mut i = 0;
-    while i < s.len() {
-        if s[i] == b'|' {
-            return i;
-        }
-        i += 1;
-    }
-    i
+    base::place_of(s, 0, b'|')
 }

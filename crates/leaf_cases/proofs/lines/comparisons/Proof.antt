@@ -14,8 +14,8 @@ abbrev μ-loop : tie.MeasureT-loop
 loop-holds : tie.Need-loop-holds Inv-loop μ-loop
 loop-holds c = search needs
 
-find-requires : tie.Need-find-requires Inv-loop μ-loop
-find-requires c κs = search needs
+place-of-requires : tie.Need-place-of-requires Inv-loop μ-loop
+place-of-requires c κs = search needs
 
 sub-parted : tie.Need-sub-parted Inv-loop μ-loop
 sub-parted c = search needs
@@ -48,7 +48,7 @@ comparisons-spec =
     Inv-loop
     μ-loop
     loop-holds
-    find-requires
+    place-of-requires
     sub-parted
     part-parted-start
     part-parted-end

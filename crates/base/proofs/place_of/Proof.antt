@@ -1,24 +1,26 @@
--- `block_cases::build::place_of` meets its contract: the index stays within the text. Assumes nothing.
-use Prim.Native.Nat.{_-_, _≤_}
-use lib.ListN.{length}
+-- `base::place_of` meets its contract. The loop's invariant: what is left decides where the run ends. Assumes nothing.
 use borrow.Author.Needs.{needs}
-use Rattle.block_cases.proofs.build.place_of.Statement.{statement}
-use Rattle.block_cases.proofs.build.place_of.Tie as tie
+use Prim.Native.Nat.{_-_}
+use lib.ListN.{length}
+use Rattle.base.specs.Runs.{differs}
+use Rattle.base.proofs.Runs.{Scanned, scan-starts, scan-finds, scan-passes, scan-ends}
+use Rattle.base.proofs.place_of.Statement.{statement}
+use Rattle.base.proofs.place_of.Tie as tie
 
 abbrev Inv-loop : tie.InvT-loop
-Inv-loop text from byte i₀ i = (from ≤ i) × (i ≤ length text)
+Inv-loop s from byte i₀ i = Scanned (differs byte) s from i
 
 abbrev μ-loop : tie.MeasureT-loop
-μ-loop text from byte i₀ i = length text - i
+μ-loop s from byte i₀ i = length s - i
 
 loop-holds : tie.Need-loop-holds Inv-loop μ-loop
-loop-holds c = search needs
+loop-holds c = search (scan-starts, needs)
 
 shared-slice-read-if1 : tie.Need-shared-slice-read-if1 Inv-loop μ-loop
 shared-slice-read-if1 c = search needs
 
 returns : tie.Need-returns Inv-loop μ-loop
-returns c = search needs
+returns c = search (scan-finds, needs)
 
 add-i : tie.Need-add-i Inv-loop μ-loop
 add-i c = search needs
@@ -27,10 +29,10 @@ loop-less : tie.Need-loop-less Inv-loop μ-loop
 loop-less c = search needs
 
 loop-again : tie.Need-loop-again Inv-loop μ-loop
-loop-again c = search needs
+loop-again c = search (scan-passes, needs)
 
 returns-2 : tie.Need-returns-2 Inv-loop μ-loop
-returns-2 c = search needs
+returns-2 c = search (scan-ends, needs)
 
 pub place-of-spec : {M : Type 1} → statement M
 place-of-spec =
