@@ -1,6 +1,6 @@
 -- `block::check_sum` meets its contract: the sums so far and those of what is left of both halves are the whole, which is at most
 -- 32,967,930, so that nothing wraps. Assumes nothing.
-use Prim.Native.Nat.{_+_, _-_, _*_, _≤_}
+use Prim.Native.Nat.{_+_, _-_, _≤_}
 use native.Mathlib.Omega.{arith}
 use borrow.Author.Needs.{needs}
 use Rattle.block.proofs.Invariants.{Summed}
