@@ -35,7 +35,7 @@ fn content(random: &mut Random, block: &mut [u8], count_at: usize, bad_heads: &[
             return;
         }
         2 => (0, random.one(&[SHEET, CARD, 0, block[0] ^ 1, block[0] ^ 0x20])),
-        3 => (count_at, random.one(&[count.wrapping_sub(1), count.wrapping_add(1), 0, 255])),
+        3 => (count_at, random.one(&[count.wrapping_sub(1), count.wrapping_add(1), count ^ 64, count ^ 128, 0, 255])),
         4 if end < SUMMED => (random.one(&[end, end, SUMMED - 1, SUMMED - 1, (end + SUMMED) / 2]), 1),
         _ if heads.is_empty() => (count_at, 1),
         5 => (random.one(&heads), random.one(bad_heads)),
@@ -55,12 +55,19 @@ fn content(random: &mut Random, block: &mut [u8], count_at: usize, bad_heads: &[
 }
 
 /// The names of the sheet with one that is not allowed: a word of the grammar, a name that stands there already, one
-/// that is empty or too long.
+/// that is empty or too long, one with a byte beside those of names.
 pub fn bad_names(random: &mut Random, archive: &mut Archive) {
-    let name = match random.below(6) {
-        0 => archive.name(random.below(archive.parameters.len())).to_vec(),
+    let known = archive.name(random.below(archive.parameters.len())).to_vec();
+    let name = match random.below(9) {
+        0 => known,
         1 => Vec::new(),
         2 => vec![b'a'; block::LONGEST_NAME + 1],
+        3..=5 => {
+            let mut name = known;
+            let at = random.below(name.len());
+            name[at] = random.one(b"@[`{./: ^~-09");
+            name
+        }
         _ => random.one(&["and", "or", "not", "And", "nor"]).into(),
     };
     let place = random.below(archive.parameters.len());

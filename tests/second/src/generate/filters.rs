@@ -83,7 +83,8 @@ pub fn spell_test(random: &mut Random, name: &[u8], word: &[u8], value: &[u8]) -
     text
 }
 
-/// Writes a value as a bare word or as a string. A byte that a string cannot hold gives way to another.
+/// Writes a value as a bare word or as a string. A byte that a string cannot hold gives way to another. Now and then a
+/// backslash and a letter stand behind the value.
 fn spell_value(random: &mut Random, value: &[u8], text: &mut Vec<u8>) {
     let may_stand = |byte: &u8| byte.is_ascii_graphic() && *byte != b')' && *byte != b']';
     let may_be_bare = !value.is_empty() && value[0] != b'"' && value.iter().all(may_stand);
@@ -104,6 +105,9 @@ fn spell_value(random: &mut Random, value: &[u8], text: &mut Vec<u8>) {
             0x00..=0x1F => text.push(b'?'),
             _ => text.push(byte),
         }
+    }
+    if random.once_in(64) {
+        text.extend([b'\\', random.one(b"'0BNTavux\"\\/bfnrt")]);
     }
     text.push(b'"');
 }
@@ -132,6 +136,28 @@ pub fn join(random: &mut Random, tests: &[Vec<u8>], depth: usize) -> Vec<u8> {
         rest = behind;
     }
     spaces(random, 0, &mut text);
+    text
+}
+
+/// Two tests between which a connective is missing or misspelled, or of which the first follows not without a bracket.
+pub fn misjoin(random: &mut Random, tests: &[Vec<u8>; 2]) -> Vec<u8> {
+    let mut text = Vec::new();
+    let denied = random.once_in(3);
+    if denied {
+        text.extend_from_slice(b"not");
+        spaces(random, 1, &mut text);
+    }
+    let [first, second] = tests;
+    text.extend_from_slice(first);
+    spaces(random, 1, &mut text);
+    let wrong = ["", "AND", "Or", "nor", "an", "ands", "o", "not", "and not", "or or", "]", ","];
+    text.extend_from_slice(if denied { "and" } else { random.one(&wrong) }.as_bytes());
+    spaces(random, 1, &mut text);
+    if random.once_in(2) {
+        text.extend(bracket(random, second));
+    } else {
+        text.extend_from_slice(second);
+    }
     text
 }
 

@@ -2,6 +2,7 @@
 
 use super::Case;
 use super::archive::{Archive, Card, record};
+use super::damage;
 use super::filters;
 use super::modes::{case_of, cells};
 use super::random::Random;
@@ -64,13 +65,14 @@ fn full_sheet(random: &mut Random) -> Case {
 /// A sheet without parameters. It is sound, so a filter is refused for its names.
 fn empty_sheet(random: &mut Random) -> Case {
     let archive = Archive::new(random, 1, 3, 2);
-    let filter = filters::test(random, &archive);
+    let test = filters::test(random, &archive);
+    let filter = filters::join(random, &[test], 1);
     let mut case = case_of(random, &archive, filter);
     case.sheet = overlong(&[block::SHEET, 0], &[]);
     case
 }
 
-/// A card with up to 65 entries, whose texts fill it and differ from each other.
+/// A card with up to 65 entries, whose texts fill it, some with large check sums, and differ from each other.
 fn full_card(random: &mut Random) -> Case {
     let mut archive = Archive::new(random, 3, 3, 3);
     archive.parameters[0].0 = Kind::String;
@@ -78,9 +80,10 @@ fn full_card(random: &mut Random) -> Case {
     let count = random.one(&[2, 3, 8, 63, 64, 65]);
     let lengths = shares(end(random) - 6 - 2 * count, count);
     let mut entries = Vec::new();
+    let first = random.one(b"a\xE8");
     for (index, length) in lengths.into_iter().enumerate() {
-        let mut text = vec![b'a' + index as u8 / 8; length];
-        text[length - 1] = b'a' + index as u8 % 8;
+        let mut text = vec![first + index as u8 / 8; length];
+        text[length - 1] = first + index as u8 % 8;
         entries.push((0, text));
     }
     let mut head = vec![block::CARD];
@@ -101,12 +104,16 @@ fn full_card(random: &mut Random) -> Case {
     case
 }
 
-/// A run of about 128 cards, perhaps with a part of one more.
+/// A run of about 128 cards, perhaps with a part of one more, or with a damaged one anywhere.
 fn full_run(random: &mut Random) -> Case {
     let cards = random.one(&[0, 1, MOST_CARDS - 1, MOST_CARDS, MOST_CARDS, MOST_CARDS + 1, 2 * MOST_CARDS]);
     let archive = Archive::new(random, 3, cards, 2);
     let test = filters::test(random, &archive);
     let mut case = case_of(random, &archive, test);
+    if cards > 0 && random.once_in(3) {
+        let at = block::SIZE * random.below(cards);
+        damage::card(random, &mut case.cards[at..at + block::SIZE], archive.parameters.len());
+    }
     let more = random.one(&[0, 0, 0, 1, block::SIZE - 1]);
     case.cards.resize(case.cards.len() + more, 0);
     if random.once_in(2) {
@@ -192,11 +199,14 @@ fn long_text(random: &mut Random) -> Case {
     if kind == Kind::Token && random.once_in(2) {
         text[random.below(length - 1)] = b'|';
     }
+    text[length - 1] = random.one(b"az");
     let card = Card { record: record(random), entries: vec![(0, text.clone())] };
     archive.cards = vec![card.clone(), card];
     let mut value = texts::near_in_filter(random, kind, &text);
-    if random.once_in(4) {
-        value.extend_from_slice(&text[..random.below(60)]);
+    match random.below(6) {
+        0 => value.extend_from_slice(&text[..random.below(60)]),
+        1 => value = text[length - 1 - random.below(4)..].to_vec(),
+        _ => {}
     }
     let word: &[u8] = match kind {
         Kind::String => random.one(&[b"eq", b"ne", b"co", b"sw", b"ew"]),

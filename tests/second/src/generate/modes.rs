@@ -17,11 +17,12 @@ pub struct Mode {
     pub make: fn(&mut Random) -> Case,
 }
 
-pub const MODES: [Mode; 13] = [
+pub const MODES: [Mode; 14] = [
     Mode { name: "tests over cards", weight: 18, make: tests_over_cards },
     Mode { name: "one test over many cards", weight: 25, make: one_test },
     Mode { name: "long chains", weight: 7, make: long_chain },
     Mode { name: "one byte of a filter changed", weight: 12, make: one_byte },
+    Mode { name: "tests joined wrongly", weight: 1, make: misjoined },
     Mode { name: "doubtful tests", weight: 6, make: doubtful_tests },
     Mode { name: "every operation", weight: 3, make: every_operation },
     Mode { name: "values on the edge", weight: 5, make: edge_values },
@@ -106,6 +107,14 @@ fn one_byte(random: &mut Random) -> Case {
     let archive = Archive::new(random, 3, 3, 4);
     let filter = good_filter(random, &archive, 3);
     let filter = filters::one_byte_changed(random, &filter);
+    case_of(random, &archive, filter)
+}
+
+/// Two good tests that no filter joins so.
+fn misjoined(random: &mut Random) -> Case {
+    let archive = Archive::new(random, 3, 3, 4);
+    let tests = [filters::test(random, &archive), filters::test(random, &archive)];
+    let filter = filters::misjoin(random, &tests);
     case_of(random, &archive, filter)
 }
 

@@ -5,7 +5,8 @@ use crate::generate::random::Random;
 use crate::token::NAMESPACES;
 
 const CODES: [&str; 8] = ["1234-5", "1234-6", "a", "A", "a|b", "|", "loinc", "mg"];
-const SYSTEMS: [&str; 5] = ["", "urn:x", "http://loinc.org/", "http://loinc.or", "Loinc"];
+const SYSTEMS: [&str; 9] =
+    ["", "urn:x", "http://loinc.org/", "http://loinc.or", "Loinc", "loinc2", "loin", "snomedct", "ucu"];
 
 /// A token on a card, most often with one of the known systems.
 pub fn readable(random: &mut Random) -> Vec<u8> {
