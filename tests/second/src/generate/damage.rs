@@ -38,7 +38,11 @@ fn content(random: &mut Random, block: &mut [u8], count_at: usize, bad_heads: &[
         3 => (count_at, random.one(&[count.wrapping_sub(1), count.wrapping_add(1), count ^ 64, count ^ 128, 0, 255])),
         4 if end < SUMMED => (random.one(&[end, end, SUMMED - 1, SUMMED - 1, (end + SUMMED) / 2]), 1),
         _ if heads.is_empty() => (count_at, 1),
-        5 => (random.one(&heads), random.one(bad_heads)),
+        5 => {
+            let at = random.one(&heads);
+            let other_bit = block[at] ^ random.one(&[16, 32, 64, 128]);
+            (at, if random.once_in(3) { other_bit } else { random.one(bad_heads) })
+        }
         6 => {
             let at = random.one(&heads) + 1;
             (at, random.one(&[block[at].wrapping_sub(1), block[at].wrapping_add(1), 0, 31, 255]))

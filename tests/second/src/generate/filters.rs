@@ -106,8 +106,10 @@ fn spell_value(random: &mut Random, value: &[u8], text: &mut Vec<u8>) {
             _ => text.push(byte),
         }
     }
-    if random.once_in(64) {
-        text.extend([b'\\', random.one(b"'0BNTavux\"\\/bfnrt")]);
+    match random.below(128) {
+        0 | 1 => text.extend([b'\\', random.one(b"')0BNTavx \"\\/bfnrt")]),
+        2 => text.extend(b"\\u0041"),
+        _ => {}
     }
     text.push(b'"');
 }
@@ -139,24 +141,25 @@ pub fn join(random: &mut Random, tests: &[Vec<u8>], depth: usize) -> Vec<u8> {
     text
 }
 
-/// Two tests between which a connective is missing or misspelled, or of which the first follows not without a bracket.
+/// Two tests with a word of the grammar too many, missing or misspelled: before them, between them or behind them.
 pub fn misjoin(random: &mut Random, tests: &[Vec<u8>; 2]) -> Vec<u8> {
-    let mut text = Vec::new();
-    let denied = random.once_in(3);
-    if denied {
-        text.extend_from_slice(b"not");
-        spaces(random, 1, &mut text);
-    }
-    let [first, second] = tests;
-    text.extend_from_slice(first);
-    spaces(random, 1, &mut text);
-    let wrong = ["", "AND", "Or", "nor", "an", "ands", "o", "not", "and not", "or or", "]", ","];
-    text.extend_from_slice(if denied { "and" } else { random.one(&wrong) }.as_bytes());
-    spaces(random, 1, &mut text);
+    let wrong =
+        ["", "AND", "Or", "nor", "an", "ands", "o", "not", "or or", "and and", "and not", "or (", ") or", "]", ","];
+    let [before, between, behind] = match random.below(4) {
+        0 => [random.one(&["not", "not not", "and", "or", "not and", "("]), "and", ""],
+        1 => ["", "or", random.one(&["and", "or", "not", "and not", "()", ")", "]"])],
+        _ => ["", random.one(&wrong), ""],
+    };
+    let first = &tests[0];
+    let mut second = tests[1].clone();
     if random.once_in(2) {
-        text.extend(bracket(random, second));
-    } else {
-        text.extend_from_slice(second);
+        second = bracket(random, &second);
+    }
+    let parts = [before.as_bytes(), first, between.as_bytes(), &second, behind.as_bytes()];
+    let mut text = Vec::new();
+    for part in parts {
+        text.extend_from_slice(part);
+        spaces(random, usize::from(!part.is_empty()), &mut text);
     }
     text
 }

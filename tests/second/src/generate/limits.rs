@@ -104,11 +104,15 @@ fn full_card(random: &mut Random) -> Case {
     case
 }
 
-/// A run of about 128 cards, perhaps with a part of one more, or with a damaged one anywhere.
+/// A run of about 128 cards, perhaps with a part of one more, or with a damaged one anywhere; perhaps all of them match.
 fn full_run(random: &mut Random) -> Case {
     let cards = random.one(&[0, 1, MOST_CARDS - 1, MOST_CARDS, MOST_CARDS, MOST_CARDS + 1, 2 * MOST_CARDS]);
-    let archive = Archive::new(random, 3, cards, 2);
-    let test = filters::test(random, &archive);
+    let most_entries = random.one(&[0, 2]);
+    let archive = Archive::new(random, 3, cards, most_entries);
+    let test = match most_entries {
+        0 => filters::spell_test(random, archive.name(0), b"pr", b"false"),
+        _ => filters::test(random, &archive),
+    };
     let mut case = case_of(random, &archive, test);
     if cards > 0 && random.once_in(3) {
         let at = block::SIZE * random.below(cards);
@@ -206,6 +210,7 @@ fn long_text(random: &mut Random) -> Case {
     match random.below(6) {
         0 => value.extend_from_slice(&text[..random.below(60)]),
         1 => value = text[length - 1 - random.below(4)..].to_vec(),
+        2 => value = [&text[..], &[b'a'; 256]].concat(),
         _ => {}
     }
     let word: &[u8] = match kind {

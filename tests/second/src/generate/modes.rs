@@ -22,7 +22,7 @@ pub const MODES: [Mode; 14] = [
     Mode { name: "one test over many cards", weight: 25, make: one_test },
     Mode { name: "long chains", weight: 7, make: long_chain },
     Mode { name: "one byte of a filter changed", weight: 12, make: one_byte },
-    Mode { name: "tests joined wrongly", weight: 1, make: misjoined },
+    Mode { name: "tests joined wrongly", weight: 2, make: misjoined },
     Mode { name: "doubtful tests", weight: 6, make: doubtful_tests },
     Mode { name: "every operation", weight: 3, make: every_operation },
     Mode { name: "values on the edge", weight: 5, make: edge_values },

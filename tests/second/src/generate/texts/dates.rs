@@ -97,7 +97,9 @@ fn zone(random: &mut Random) -> i64 {
 /// A date that can be read, often at the end of a month, a year, a leap year's February or the calendar.
 fn written(random: &mut Random) -> Written {
     let year = match random.below(3) {
-        0 => random.one(&[1, 4, 100, 400, 1600, 1700, 1900, 1969, 1970, 1972, 2000, 2023, 2024, 4000, 9996, 9999]),
+        0 => {
+            random.one(&[1, 4, 100, 400, 1600, 1700, 1800, 1900, 1969, 1970, 1972, 2000, 2023, 2024, 4000, 9996, 9999])
+        }
         1 => random.between(1, 9999),
         _ => random.between(1960, 2030),
     };
@@ -172,7 +174,7 @@ pub fn on_the_edge(random: &mut Random) -> Vec<u8> {
             precision = random.one(&[Precision::Day, Precision::Second]);
         }
         3 => {
-            written.year = random.one(&[1600, 1700, 1900, 2000, 2100, 2023, 2024, 3200, 4000]);
+            written.year = random.one(&[1600, 1700, 1800, 1900, 2000, 2100, 2200, 2023, 2024, 3200, 4000]);
             (written.month, written.day) = (2, 29);
             precision = random.one(&[Precision::Day, Precision::Second]);
         }

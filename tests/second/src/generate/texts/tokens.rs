@@ -39,6 +39,7 @@ pub fn near(random: &mut Random, text: &[u8]) -> Vec<u8> {
     let mut system = match random.below(4) {
         0 => system(random),
         1 => short_name(own_system),
+        2 if random.once_in(4) => words::near(random, &short_name(own_system)),
         _ => own_system.to_vec(),
     };
     let mut code = match random.below(5) {
