@@ -30,7 +30,7 @@ fn content(random: &mut Random, block: &mut [u8], count_at: usize, bad_heads: &[
     let (at, value) = match random.below(9) {
         0 | 1 => {
             let anywhere = random.below(SIZE);
-            let at = random.one(&[anywhere, anywhere, 0, SUMMED - 1, SUMMED, SIZE - 1]);
+            let at = random.one(&[anywhere, anywhere, 0, SUMMED - 1, SUMMED, SUMMED + 1, SUMMED + 2, SIZE - 1]);
             block[at] ^= 1 << random.below(8);
             return;
         }

@@ -141,7 +141,11 @@ pub fn near(random: &mut Random, text: &[u8]) -> Vec<u8> {
         1 => given.end + random.one(&[-1, 0, 0, 1]),
         _ => given.start + random.one(&[-date::DAY, -1, 0, 0, 0, 1, date::DAY]),
     };
-    let zone = if random.once_in(3) { given.zone } else { zone(random) };
+    let zone = match random.below(6) {
+        0 | 1 => given.zone,
+        2 => -given.zone,
+        _ => zone(random),
+    };
     let precision = match random.below(3) {
         0 => given.precision,
         _ => random.one(&PRECISIONS),

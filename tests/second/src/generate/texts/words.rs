@@ -15,7 +15,7 @@ pub fn readable(random: &mut Random) -> Vec<u8> {
     let letter = |_| match few {
         true => random.one(b"aAb"),
         false if random.once_in(8) => random.byte(),
-        false => random.one(b"Ward bok4zZ@[`{\"\\/\x08\x0C\n\r\t\xC4\xE4"),
+        false => random.one(b"Ward bok4zZ@[`{\"\\/\x08\x0C\n\r\t\xC0\xE0\xC4\xE4"),
     };
     (0..length).map(letter).collect()
 }
