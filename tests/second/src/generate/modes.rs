@@ -110,7 +110,7 @@ fn one_byte(random: &mut Random) -> Case {
     case_of(random, &archive, filter)
 }
 
-/// Two good tests that no filter joins so.
+/// Two good tests, mostly joined as no filter joins them.
 fn misjoined(random: &mut Random) -> Case {
     let archive = Archive::new(random, 3, 3, 4);
     let tests = [filters::test(random, &archive), filters::test(random, &archive)];
