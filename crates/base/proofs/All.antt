@@ -43,6 +43,16 @@ pub all-map : {A : Type 0} {P Q : A → Type 0} → ((x : A) → P x → Q x) �
 all-map f all-empty = all-empty
 all-map f (all-cons {x} p h) = all-cons (f x p) (all-map f h)
 
+-- what holds of every element of the type
+pub all-every : {A : Type 0} {P : A → Type 0} → ((x : A) → P x) → (xs : List A) → All P xs
+all-every h [] = all-empty
+all-every h (x ∷ xs) = all-cons (h x) (all-every h xs)
+
+-- two properties as one
+pub all-both : {A : Type 0} {P Q : A → Type 0} {xs : List A} → All P xs → All Q xs → All (λ (x : A). P x × Q x) xs
+all-both all-empty all-empty = all-empty
+all-both (all-cons p ps) (all-cons q qs) = all-cons (p, q) (all-both ps qs)
+
 -- two functions that agree on a list agree on each element
 pub all-same : {A B : Type 0} (f g : A → B) (xs : List A) → map f xs ≡ map g xs → All (λ (x : A). f x ≡ g x) xs
 all-same f g [] e = all-empty

@@ -11,7 +11,7 @@ use Rattle.block.specs.Seal.{IsSealed, seal}
 use Rattle.block.specs.Items.{hasLayout, items}
 
 -- b is read as a block whose first byte is `first`, with the items xs after the byte at `at`
-pub record Held {X : Type 0} (make : ℕ → List ℕ → X) (first at most : ℕ) (b : List ℕ) (xs : List X) : Type 0 where
+pub record Held {X : Type 0} (make : ℕ → ℕ → List ℕ → X) (first at most : ℕ) (b : List ℕ) (xs : List X) : Type 0 where
   pub bytes : Bytes b
   pub sealed : IsSealed b
   pub layout : hasLayout first at most b ≡ true

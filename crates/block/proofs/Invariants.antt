@@ -20,6 +20,6 @@ pub record LaidTo (b : List ℕ) (from count p left : ℕ) : Type 0 where
   pub rest : laidOut left b p ≡ laidOut count b from
 
 -- a loop over items, whose answer is what G says of those to come. A turn may change G, and not the answer.
-pub record Visited {X A : Type 0} (make : ℕ → List ℕ → X) (G : List X → A) (answer : A) (b : List ℕ) (p left : ℕ) : Type 0 where
+pub record Visited {X A : Type 0} (make : ℕ → ℕ → List ℕ → X) (G : List X → A) (answer : A) (b : List ℕ) (p left : ℕ) : Type 0 where
   pub walk : Walk b p left
   pub rest : G (items make left b p) ≡ answer

@@ -3,14 +3,15 @@
 use Prim.Native.Nat.{ℕ, zero, suc, _+_, _-_, _≤_, _<_}
 use native.Mathlib.Omega.{arith}
 use mathlib.Core.Path.{_≡_, refl, ap, sym, _∙_, subst}
-use mathlib.Core.Bool.{Bool, true, false, _&&_}
+use mathlib.Core.Bool.{Bool, true, false, cond, _&&_, or-true}
 use mathlib.Core.List.{List, [], _∷_}
 use lib.Dec.{leb, eqb}
 use lib.ListN.{length, getD}
 use borrow.Author.Tests.{eq-eqb, ne-eqb, eqb-true, le-leb, lt-leb, leb-true}
 use Rattle.base.specs.Parts.{part}
-use Rattle.base.proofs.Tests.{and-left, and-right}
-use Rattle.block.specs.Items.{zeros, next, textAt, laidOut, hasLayout, items, ItemAt, Walk, Step}
+use mathlib.Core.Logic.{⊎-elim}
+use Rattle.base.proofs.Tests.{and-left, and-right, or-either}
+use Rattle.block.specs.Items.{zeros, hasMarks, lengthAt, next, markAt, textAt, laidOut, hasLayout, hasEither, items, ItemAt, Walk, Step}
 use Rattle.block.specs.declared.Item.{Item}
 use Rattle.block.proofs.Invariants.{LaidTo, Visited}
 
@@ -80,6 +81,62 @@ module _ (b : List ℕ) (first at most : ℕ) where
     pub walk-start : length b ≡ 512 → at < 508 → Walk b (at + 1) (getD b at 0)
     walk-start s l = record { size = s; within = omega arith; laid = layout-items }
 
+-- either of two first bytes
+module _ (b : List ℕ) (plain marked at most : ℕ) (r : Bool) (e : r ≡ hasLayout plain at most b) where
+  pub either-plain : r ≡ true → true ≡ hasEither plain marked at most b
+  unfolding hasEither
+  either-plain h = rw (sym e ∙ h)
+
+  pub either-marked : (t : Bool) → r ≡ false → t ≡ hasLayout marked at most b → t ≡ hasEither plain marked at most b
+  unfolding hasEither
+  either-marked t h f = rw (sym e ∙ h) f
+
+-- a block with either layout has that of its own first byte
+pub either-own : (b : List ℕ) (plain marked at most : ℕ) → hasEither plain marked at most b ≡ true → hasLayout (getD b 0 0) at most b ≡ true
+unfolding hasEither
+either-own b plain marked at most h =
+    ⊎-elim (λ (l : hasLayout plain at most b ≡ true). subst (λ (f : ℕ). hasLayout f at most b ≡ true) (sym (layout-first b plain at most l)) l)
+    (λ (l : hasLayout marked at most b ≡ true). subst (λ (f : ℕ). hasLayout f at most b ≡ true) (sym (layout-first b marked at most l)) l)
+    (or-either (hasLayout plain at most b) (hasLayout marked at most b) h)
+
+-- which is one of the two
+pub either-form : (b : List ℕ) (plain marked at most : ℕ) → hasEither plain marked at most b ≡ true → (w : Bool) × (getD b 0 0 ≡ cond w marked plain)
+unfolding hasEither
+either-form b plain marked at most h =
+    ⊎-elim (λ (l : hasLayout plain at most b ≡ true). (false, layout-first b plain at most l)) (λ (l : hasLayout marked at most b ≡ true). (true, layout-first b marked at most l))
+    (or-either (hasLayout plain at most b) (hasLayout marked at most b) h)
+
+-- a block with the layout of one of them has either
+pub own-either : (b : List ℕ) (plain marked at most : ℕ) (w : Bool) → hasLayout (cond w marked plain) at most b ≡ true → hasEither plain marked at most b ≡ true
+unfolding hasEither
+own-either b plain marked at most true h = rw h (or-true (hasLayout plain at most b))
+own-either b plain marked at most false h = rw h
+
+-- ---- an item as the code finds it
+
+module _ (b : List ℕ) (p : ℕ) (w : Bool) (e : w ≡ hasMarks (getD b 0 0)) where
+  pub item-marked : w ≡ true → (n : ℕ) → n ≡ getD b (p + 2) 0 → ItemAt b p (record { tag = getD b p 0; mark = getD b (p + 1) 0; start = p + 3; end = p + 3 + n })
+  unfolding markAt next lengthAt
+  item-marked h n i =
+      let k : hasMarks (getD b 0 0) ≡ true = sym e ∙ h in
+      let z : p + 3 ≡ p + 2 + 1 = omega arith in
+      record { tag = refl; mark = rw k; start = rw k z; end = rw (k, i) (ap (λ (n : ℕ). n + getD b (p + 2) 0) z); ahead = omega arith; order = omega arith }
+
+  pub item-plain : w ≡ false → (n : ℕ) → n ≡ getD b (p + 1) 0 → ItemAt b p (record { tag = getD b p 0; mark = 0; start = p + 2; end = p + 2 + n })
+  unfolding markAt next lengthAt
+  item-plain h n i =
+      let k : hasMarks (getD b 0 0) ≡ false = sym e ∙ h in
+      let z : p + 2 ≡ p + 1 + 1 = omega arith in
+      record { tag = refl; mark = rw k; start = rw k z; end = rw (k, i) (ap (λ (n : ℕ). n + getD b (p + 1) 0) z); ahead = omega arith; order = omega arith }
+
+pub marks-first : (first : ℕ) → first ≡ 0x44 → true ≡ hasMarks first
+unfolding hasMarks
+marks-first first h = rw h
+
+pub marks-other : (first : ℕ) → (first ≡ 0x44 → ⊥) → eqb first 0x51 ≡ hasMarks first
+unfolding hasMarks
+marks-other first h = rw (ne-eqb first 0x44 h)
+
 -- ---- a walk over the items of a block
 
 module _ (b : List ℕ) (p left : ℕ) (w : Walk b p left) (l : 0 < left) where
@@ -94,46 +151,46 @@ module _ (b : List ℕ) (p left : ℕ) (w : Walk b p left) (l : 0 < left) where
   walk-next : Walk b (next b p) (left - 1)
   walk-next = record { size = w .size; within = walk-within; laid = and-right (leb (next b p) 508) (laidOut (left - 1) b (next b p)) laid-both }
 
-pub items-length : {X : Type 0} (make : ℕ → List ℕ → X) (k : ℕ) (b : List ℕ) (p : ℕ) → length (items make k b p) ≡ k
+pub items-length : {X : Type 0} (make : ℕ → ℕ → List ℕ → X) (k : ℕ) (b : List ℕ) (p : ℕ) → length (items make k b p) ≡ k
 unfolding items
 items-length make zero b p = refl
 items-length make (suc k) b p = ap suc (items-length make k b (next b p))
 
-module _ {X : Type 0} (make : ℕ → List ℕ → X) (b : List ℕ) (p left : ℕ) where
+module _ {X : Type 0} (make : ℕ → ℕ → List ℕ → X) (b : List ℕ) (p left : ℕ) where
   items-none : left ≤ 0 → items make left b p ≡ []
   unfolding items
   items-none h = let e : left ≡ 0 = omega arith in ap (λ (n : ℕ). items make n b p) e
 
-  items-first : 0 < left → items make left b p ≡ make (getD b p 0) (textAt b p) ∷ items make (left - 1) b (next b p)
+  items-first : 0 < left → items make left b p ≡ make (getD b p 0) (markAt b p) (textAt b p) ∷ items make (left - 1) b (next b p)
   unfolding items
   items-first h = let e : left ≡ suc (left - 1) = omega arith in ap (λ (n : ℕ). items make n b p) e
 
   -- what is read at p is a step of the walk
-  pub item-step : Walk b p left → 0 < left → (r : Item) → ItemAt b p r → Step make b p left (r .tag) (r .start) (r .end)
+  pub item-step : Walk b p left → 0 < left → (r : Item) → ItemAt b p r → Step make b p left (r .tag) (r .mark) (r .start) (r .end)
   unfolding textAt
   item-step w l r i =
       record {
         order = i .order;
         within = omega (arith, walk-within b p left w l, w .size, i .end);
-        onward = omega (arith, i .start, i .order);
+        onward = omega (arith, i .ahead, i .order);
         walk = subst (λ (e : ℕ). Walk b e (left - 1)) (sym (i .end)) (walk-next b p left w l);
-        first = items-first l ∙ rw (i .tag, i .start, i .end);
+        first = items-first l ∙ rw (i .tag, i .mark, i .start, i .end);
       }
 
 -- ---- a loop over the items: its start, a turn that goes on, one that decides, and its end
 
-module _ {X A : Type 0} (make : ℕ → List ℕ → X) (G : List X → A) (b : List ℕ) (p left : ℕ) where
+module _ {X A : Type 0} (make : ℕ → ℕ → List ℕ → X) (G : List X → A) (b : List ℕ) (p left : ℕ) where
   module _ (answer : A) where
     pub visited-start : Walk b p left → answer ≡ G (items make left b p) → Visited make G answer b p left
     visited-start w e = record { walk = w; rest = sym e }
 
     module _ (inv : Visited make G answer b p left) where
-      module _ (tag start end : ℕ) (s : Step make b p left tag start end) where
-        pub visited-next : (G′ : List X → A) → G (make tag (part b start end) ∷ items make (left - 1) b end) ≡ G′ (items make (left - 1) b end)
+      module _ (tag mark start end : ℕ) (s : Step make b p left tag mark start end) where
+        pub visited-next : (G′ : List X → A) → G (make tag mark (part b start end) ∷ items make (left - 1) b end) ≡ G′ (items make (left - 1) b end)
             → Visited make G′ answer b end (left - 1)
         visited-next G′ e = record { walk = s .walk; rest = sym e ∙ sym (ap G (s .first)) ∙ inv .rest }
 
-        pub visited-decides : (x : A) → x ≡ G (make tag (part b start end) ∷ items make (left - 1) b end) → x ≡ answer
+        pub visited-decides : (x : A) → x ≡ G (make tag mark (part b start end) ∷ items make (left - 1) b end) → x ≡ answer
         visited-decides x e = e ∙ sym (ap G (s .first)) ∙ inv .rest
 
       pub visited-end : left ≤ 0 → (x : A) → x ≡ G [] → x ≡ answer

@@ -7,7 +7,7 @@ ghost use lib.ListN.{length};
 ghost use Rattle.block.specs.Words.{word};
 ghost use Rattle.block.specs.Sum.{checkSum};
 ghost use Rattle.block.specs.Seal.{HasSize, check};
-ghost use Rattle.block.specs.Items.{zeros, laidOut, hasLayout, ItemAt};
+ghost use Rattle.block.specs.Items.{zeros, hasMarks, laidOut, hasLayout, hasEither, ItemAt};
 
 // What the size and the check sum of a block are: both right, or which is wrong.
 pub enum Checked {
@@ -28,9 +28,11 @@ pub enum Reading {
     WrongLayout,
 }
 
-// An item: its first byte, and where its text starts and ends. The next item starts where the text ends.
+// An item: its first byte, its mark (0 in a block without marks), and where its text starts and ends. The next item starts
+// where the text ends.
 pub struct Item {
     pub tag: u8,
+    pub mark: u8,
     pub start: usize,
     pub end: usize,
 }
@@ -117,16 +119,43 @@ fn zeros(s: &[u8]) -> bool
     all
 }
 
+// Whether the items of a block with this first byte have marks: 0x44 of a card, 0x51 of a sheet.
+pub fn has_marks(first: u8) -> bool
+    ensures { λ r. ⌜ r ≡ hasMarks first ⌝ }
+{
+    if first == 0x44 {
+        return true;
+    }
+    first == 0x51
+}
+
+// The byte as a size.
+fn size(b: u8) -> usize
+    ensures { λ r. ⌜ (r ≡ b) × (r < 256) ⌝ }
+{
+    b as usize
+}
+
 // The item at `at`. No other function knows how an item begins.
 pub fn item_at(block: &[u8], at: usize) -> Item
-    requires { ⌜ at + 2 ≤ length (now block) ⌝ }
+    requires { ⌜ at + 3 ≤ length (now block) ⌝ }
     ensures { λ r. ⌜ ItemAt (now (block .entry)) at r ⌝ }
 {
+    if has_marks(block[0]) {
+        let start = at + 3;
+        return Item {
+            tag: block[at],
+            mark: block[at + 1],
+            start,
+            end: start + size(block[at + 2]),
+        };
+    }
     let start = at + 2;
     Item {
         tag: block[at],
+        mark: 0,
         start,
-        end: start + block[at + 1] as usize,
+        end: start + size(block[at + 1]),
     }
 }
 
@@ -165,4 +194,16 @@ pub fn has_layout(block: &[u8], first: u8, at: usize, most: u8) -> bool
         return false;
     }
     laid_out(block, at + 1, count)
+}
+
+// The same with either of two first bytes.
+pub fn has_either(block: &[u8], plain: u8, marked: u8, at: usize, most: u8) -> bool
+    requires { ⌜ HasSize (now block) ⌝ }
+    requires { ⌜ at < 508 ⌝ }
+    ensures { λ r. ⌜ r ≡ hasEither plain marked at most (now (block .entry)) ⌝ }
+{
+    if has_layout(block, plain, at, most) {
+        return true;
+    }
+    has_layout(block, marked, at, most)
 }

@@ -4,6 +4,7 @@ use Prim.Native.Nat.{ℕ}
 use native.Mathlib.Omega.{arith}
 use mathlib.Core.Path.{_≡_, ap, sym, _∙_, subst}
 use mathlib.Core.List.{List}
+use lib.ListN.{getD}
 use Rattle.block.specs.Items.{items, Walk}
 use Rattle.block.specs.declared.Reading.the-variants.{WellFormed}
 use Rattle.block.proofs.Invariants.{Visited}
@@ -14,7 +15,7 @@ use Rattle.card.proofs.Read.{card-length, card-layout}
 -- n entries are to come from the first on, as many as `entry_count` answers
 pub entries-walk : (b : List ℕ) (n : ℕ) → n ≡ entryCount b → readCard b ≡ WellFormed → Walk b 6 n
 unfolding entryCount
-entries-walk b n e h = subst (Walk b 6) (sym e) (walk-start b 0x43 5 64 (card-layout b h) (card-length b h) (omega arith))
+entries-walk b n e h = subst (Walk b 6) (sym e) (walk-start b (getD b 0 0) 5 64 (card-layout b h) (card-length b h) (omega arith))
 
 pub entries-start : {A : Type 0} (G : List Entry → A) (b : List ℕ) (n : ℕ) (answer : A) → n ≡ entryCount b → readCard b ≡ WellFormed → answer ≡ G (entriesOf b)
     → Visited entry G answer b 6 n

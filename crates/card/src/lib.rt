@@ -11,16 +11,17 @@ ghost use Rattle.card.specs.Card.{recordNumber, entryCount, readCard, En
 // Where the first entry stands.
 pub const FIRST_ENTRY: usize = 6;
 
-// An entry: the index of its parameter, and where its text starts and ends in the card. The next entry starts where the
-// text ends.
+// An entry: the index of its parameter, the number of its occurrence (0 on a card without them), and where its text starts and
+// ends in the card. The next entry starts where the text ends.
 pub struct Entry {
     pub index: u8,
+    pub occurrence: u8,
     pub start: usize,
     pub end: usize,
 }
 
-// What any bytes are, as a card: well formed (01: sound), or one of the refusals 20, 21 and 22. "Byte 0 is 0x43; bytes 1 to 4
-// the record number, low byte first; byte 5 the number of entries, 0 to 64".
+// What any bytes are, as a card: well formed (01: sound), or one of the refusals 20, 21 and 22. "Byte 0 is 0x43" or, with
+// occurrences, 0x44; "bytes 1 to 4 the record number, low byte first; byte 5 the number of entries, 0 to 64".
 pub fn read_card(card: &[u8]) -> Reading
     ensures { λ r. ⌜ r ≡ readCard (now (card .entry)) ⌝ }
 {
@@ -28,7 +29,7 @@ pub fn read_card(card: &[u8]) -> Reading
         Checked::WrongSize => Reading::WrongSize,
         Checked::WrongSum => Reading::WrongSum,
         Checked::Sealed => {
-            if block::has_layout(card, 0x43, 5, 64) {
+            if block::has_either(card, 0x43, 0x44, 5, 64) {
                 Reading::WellFormed
             } else {
                 Reading::WrongLayout
@@ -62,6 +63,7 @@ pub fn entry_at(card: &[u8], at: usize, left: u8) -> Entry
     let item = block::item_at(card, at);
     Entry {
         index: item.tag,
+        occurrence: item.mark,
         start: item.start,
         end: item.end,
     }

@@ -18,8 +18,8 @@ enum-told-2 c = search needs
 enum-told-3 : tie.Need-enum-told-3
 enum-told-3 c = search needs
 
-has-layout-requires : tie.Need-has-layout-requires
-has-layout-requires c κs = search (check-length, needs)
+has-either-requires : tie.Need-has-either-requires
+has-either-requires c κs = search (check-length, needs)
 
 returns : tie.Need-returns
 unfolding readCard
@@ -45,7 +45,7 @@ read-card-spec =
     enum-told
     enum-told-2
     enum-told-3
-    has-layout-requires
+    has-either-requires
     returns
     returns-2
     returns-3
