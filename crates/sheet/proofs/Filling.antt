@@ -47,15 +47,15 @@ filled-more kinds index p ps h k =
     let n : 32 - index - suc (length (kinds-of ps)) ≡ 32 - (index + 1) - length (kinds-of ps) = omega arith in
     rw (n, add-one index, take-suc-set kinds index (p .kind) h, append-assoc)
 
-pub filling-next : (b kinds : List ℕ) (p left index kind start end : ℕ) → Filling b kinds p left index → Step parameter b p left kind start end → 0 < left
+pub filling-next : (b kinds : List ℕ) (p left index kind bundle start end : ℕ) → Filling b kinds p left index → Step parameter b p left kind bundle start end → 0 < left
     → Filling b (set kinds index kind) end (left - 1) (index + 1)
-filling-next b kinds p left index kind start end f s l =
+filling-next b kinds p left index kind bundle start end f s l =
     let h : index < length kinds = omega (arith, f .size, f .few) in
     let k : index < 32 = omega (arith, f .few) in
     let a : index < index + 1 = omega arith in
     let n : 32 - index ≡ suc (32 - (index + 1)) = omega arith in
     record {
-      visited = visited-next parameter (filled kinds index) b p left (kindsOf (parametersOf b)) (f .visited) kind start end s (filled (set kinds index kind) (index + 1)) (filled-more kinds index (parameter kind (part b start end)) (items parameter (left - 1) b end) h k);
+      visited = visited-next parameter (filled kinds index) b p left (kindsOf (parametersOf b)) (f .visited) kind bundle start end s (filled (set kinds index kind) (index + 1)) (filled-more kinds index (parameter kind bundle (part b start end)) (items parameter (left - 1) b end) h k);
       size = length-set kinds index kind ∙ f .size;
       zeros = drop-set-lt (index + 1) kinds index kind a ∙ sym (drop-drop 1 index kinds) ∙ ap (drop 1) (f .zeros ∙ ap (λ (m : ℕ). replicate m 0) n);
       few = omega (arith, f .few);

@@ -2,6 +2,7 @@
 -- Assumes nothing.
 use Prim.Native.Nat.{ℕ}
 use mathlib.Core.Path.{_≡_, refl}
+use mathlib.Core.Bool.{true, false}
 use lib.Dec.{ltb}
 use borrow.Author.Tests.{ltb-true}
 use Rattle.base.specs.Digits.{isDigit}
@@ -12,21 +13,38 @@ use Rattle.base.proofs.Lists.{every-all}
 use Rattle.block.specs.Words.{wordBytes}
 use Rattle.block.specs.Sum.{sumFrom, checkSum}
 use Rattle.block.specs.Seal.{check, padded, seal}
-use Rattle.block.specs.Items.{zeros, next, textAt, laidOut, hasLayout, items, join}
+use Rattle.block.specs.Items.{zeros, hasMarks, lengthAt, next, markAt, textAt, laidOut, hasLayout, hasEither, items, join}
 use Rattle.block.specs.Readings.{reading}
-use Rattle.sheet.specs.Sheet.{parameterCount, parametersOf, isParameter, areParameters, absent, distinct, sheetLayout, readSheet}
+use Rattle.sheet.specs.Sheet.{parameterCount, parametersOf, isKind, isParameter, areParameters, clashes, absent, distinct, kindAt, hasParent, haveParents, areRight, sheetLayout, readSheet}
 use Rattle.sheet.specs.Encode.{parameterBytes, sheetBody, encodeSheet, ReadsAsSheet}
-use Rattle.sheet.specs.Trial.{trialParameters, trialSheet}
+use Rattle.sheet.specs.Trial.{trialParameters, trialSheet, bundleParameters, bundleSheet}
 
-pub trial-sheet-encoded : encodeSheet trialParameters ≡ trialSheet
+pub trial-sheet-encoded : encodeSheet false trialParameters ≡ trialSheet
 unfolding trialParameters trialSheet encodeSheet sheetBody parameterBytes seal padded sumFrom wordBytes join
 trial-sheet-encoded = refl
 
-pub trial-sheet-reads : ReadsAsSheet trialSheet trialParameters
-unfolding trialParameters trialSheet readSheet reading check checkSum sumFrom sheetLayout hasLayout parameterCount laidOut zeros every next parametersOf items textAt areParameters isParameter between isName isNameStart isLetter isNamePart isDigit isReserved equal distinct absent
+pub trial-sheet-reads : ReadsAsSheet trialSheet false trialParameters
+unfolding trialParameters trialSheet readSheet reading check checkSum sumFrom sheetLayout hasEither hasLayout hasMarks parameterCount laidOut zeros every next lengthAt markAt parametersOf items textAt areRight areParameters isParameter isKind between isName isNameStart isLetter isNamePart isDigit isReserved equal distinct absent clashes haveParents hasParent
 trial-sheet-reads =
     record {
+      first = refl;
       bytes = all-map (λ (x : ℕ). ltb-true x 256) (every-all (λ (x : ℕ). ltb x 256) trialSheet refl);
+      reading = refl;
+      parameters = refl;
+    }
+
+-- so is the sheet with bundles
+
+pub bundle-sheet-encoded : encodeSheet true bundleParameters ≡ bundleSheet
+unfolding bundleParameters bundleSheet encodeSheet sheetBody parameterBytes seal padded sumFrom wordBytes join
+bundle-sheet-encoded = refl
+
+pub bundle-sheet-reads : ReadsAsSheet bundleSheet true bundleParameters
+unfolding bundleParameters bundleSheet readSheet reading check checkSum sumFrom sheetLayout hasEither hasLayout hasMarks parameterCount laidOut zeros every next lengthAt markAt parametersOf items textAt areRight areParameters isParameter isKind between isName isNameStart isLetter isNamePart isDigit isReserved equal distinct absent clashes haveParents hasParent kindAt
+bundle-sheet-reads =
+    record {
+      first = refl;
+      bytes = all-map (λ (x : ℕ). ltb-true x 256) (every-all (λ (x : ℕ). ltb x 256) bundleSheet refl);
       reading = refl;
       parameters = refl;
     }

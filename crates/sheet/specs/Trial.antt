@@ -8,11 +8,11 @@ use Rattle.sheet.specs.Sheet.{Parameter, parameter}
 
 unfoldable pub trialParameters : List Parameter
 trialParameters =
-    parameter 1 (ascii "title")
-    ∷ parameter 3 (ascii "birthdate")
-    ∷ parameter 4 (ascii "code")
-    ∷ parameter 2 (ascii "pages")
-    ∷ parameter 5 (ascii "subject")
+    parameter 1 0 (ascii "title")
+    ∷ parameter 3 0 (ascii "birthdate")
+    ∷ parameter 4 0 (ascii "code")
+    ∷ parameter 2 0 (ascii "pages")
+    ∷ parameter 5 0 (ascii "subject")
     ∷ []
 
 -- its 512 bytes: 5 parameters, 466 zeros and the check sum
@@ -26,3 +26,29 @@ trialSheet =
     ++ (5 ∷ 7 ∷ ascii "subject")
     ++ replicate 466 0
     ++ (252 ∷ 39 ∷ 1 ∷ 0 ∷ [])
+
+-- a sheet with bundles: related with type and target, marriage with date and name; and title
+unfoldable pub bundleParameters : List Parameter
+bundleParameters =
+    parameter 7 0 (ascii "related")
+    ∷ parameter 4 1 (ascii "type")
+    ∷ parameter 5 1 (ascii "target")
+    ∷ parameter 7 0 (ascii "marriage")
+    ∷ parameter 3 4 (ascii "date")
+    ∷ parameter 1 4 (ascii "name")
+    ∷ parameter 1 0 (ascii "title")
+    ∷ []
+
+-- its 512 bytes: 7 parameters, 447 zeros and the check sum
+unfoldable pub bundleSheet : List ℕ
+bundleSheet =
+    (0x51 ∷ 7 ∷ [])
+    ++ (7 ∷ 0 ∷ 7 ∷ ascii "related")
+    ++ (4 ∷ 1 ∷ 4 ∷ ascii "type")
+    ++ (5 ∷ 1 ∷ 6 ∷ ascii "target")
+    ++ (7 ∷ 0 ∷ 8 ∷ ascii "marriage")
+    ++ (3 ∷ 4 ∷ 4 ∷ ascii "date")
+    ++ (1 ∷ 4 ∷ 4 ∷ ascii "name")
+    ++ (1 ∷ 0 ∷ 5 ∷ ascii "title")
+    ++ replicate 447 0
+    ++ (102 ∷ 15 ∷ 2 ∷ 0 ∷ [])

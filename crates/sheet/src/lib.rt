@@ -1,21 +1,24 @@
-// Parameter sheets: blocks of 512 bytes that list the parameters of a catalogue, each with its kind and its name. A reader asks
-// `read_sheet` first; the parameters of a well-formed sheet are then found by name with `find`, and their kinds by index with
-// `kind_of`.
+// Parameter sheets: blocks of 512 bytes that list the parameters of a catalogue, each with its kind, its bundle and its name. A
+// reader asks `read_sheet` first; the parameters of a well-formed sheet are then found by name with `find`, and `kinds` gives their
+// kinds by index.
 use base::equal;
 use base::name::is_name;
 use block::Checked;
 use block::Reading;
 ghost use mathlib.Core.Path.{_≡_};
+ghost use mathlib.Core.Bool.{_&&_};
 ghost use Prim.Native.Nat.{_<_};
+ghost use lib.Dec.{eqb};
 ghost use Rattle.block.specs.Seal.{HasSize};
 ghost use Rattle.block.specs.Items.{items, Walk};
-ghost use Rattle.sheet.specs.Sheet.{parameter, parameterCount, parametersOf, isParameter, areParameters, absent, distinct, sheetLayout, readSheet, ParameterAt};
-ghost use Rattle.sheet.specs.Find.{find, kindOf, kindsOf};
+ghost use Rattle.sheet.specs.Sheet.{parameter, parameterCount, parametersOf, isKind, isParameter, areParameters, clashes, absent, distinct, kindAt, hasParent, haveParents, areRight, sheetLayout, readSheet, ParameterAt};
+ghost use Rattle.sheet.specs.Find.{find, kindsOf};
 
-// A parameter: its kind (1 string, 2 number, 3 date, 4 token, 5 reference), and where its name starts and ends in the sheet. The
-// next parameter starts where the name ends.
+// A parameter: its kind (1 string, 2 number, 3 date, 4 token, 5 reference, 7 bundle), its bundle (0, or a bundle's index plus 1),
+// and where its name starts and ends in the sheet. The next parameter starts where the name ends.
 struct Parameter {
     kind: u8,
+    bundle: u8,
     start: usize,
     end: usize,
 }
@@ -24,12 +27,6 @@ struct Parameter {
 pub enum Found {
     At { index: u8, kind: u8 },
     Missing,
-}
-
-// The kind of the parameter with some index, if there is such a parameter.
-pub enum Kind {
-    Known(u8),
-    Unknown,
 }
 
 // The parameter at `at`, where `left` parameters are to come.
@@ -41,19 +38,33 @@ fn parameter_at(sheet: &[u8], at: usize, left: u8) -> Parameter
     let item = block::item_at(sheet, at);
     Parameter {
         kind: item.tag,
+        bundle: item.mark,
         start: item.start,
         end: item.end,
     }
 }
 
-// Whether a kind is 1 to 5, and a name has at most 30 bytes and is one by the rule.
-fn is_parameter(kind: u8, name: &[u8]) -> bool
-    ensures { λ r. ⌜ r ≡ isParameter (parameter kind (now (name .entry))) ⌝ }
+// Whether a kind is 1 to 5 or, on a sheet with bundles, 7.
+fn is_kind(marked: bool, kind: u8) -> bool
+    ensures { λ r. ⌜ r ≡ isKind marked kind ⌝ }
 {
     if kind < 1 {
         return false;
     }
-    if kind > 5 {
+    if kind <= 5 {
+        return true;
+    }
+    if kind == 7 {
+        return marked;
+    }
+    false
+}
+
+// Whether a kind is right, and a name has at most 30 bytes and is one by the rule.
+fn is_parameter(marked: bool, kind: u8, bundle: u8, name: &[u8]) -> bool
+    ensures { λ r. ⌜ r ≡ isParameter marked (parameter kind bundle (now (name .entry))) ⌝ }
+{
+    if !is_kind(marked, kind) {
         return false;
     }
     if name.len() > 30 {
@@ -63,9 +74,9 @@ fn is_parameter(kind: u8, name: &[u8]) -> bool
 }
 
 // Whether the kinds and the names of the `count` parameters are right.
-fn are_parameters(sheet: &[u8], count: u8) -> bool
+fn are_parameters(sheet: &[u8], marked: bool, count: u8) -> bool
     requires { ⌜ Walk (now sheet) 2 count ⌝ }
-    ensures { λ r. ⌜ r ≡ areParameters (items parameter count (now (sheet .entry)) 2) ⌝ }
+    ensures { λ r. ⌜ r ≡ areParameters marked (items parameter count (now (sheet .entry)) 2) ⌝ }
 {
     let mut at = 2;
     let mut left = count;
@@ -73,7 +84,7 @@ fn are_parameters(sheet: &[u8], count: u8) -> bool
         let p = parameter_at(sheet, at, left);
         let start = p.start;
         let end = p.end;
-        if !is_parameter(p.kind, &sheet[start..end]) {
+        if !is_parameter(marked, p.kind, p.bundle, &sheet[start..end]) {
             return false;
         }
         at = end;
@@ -82,10 +93,27 @@ fn are_parameters(sheet: &[u8], count: u8) -> bool
     true
 }
 
-// Whether none of the `count` parameters from `from` on has the name.
-fn absent(sheet: &[u8], from: usize, count: u8, name: &[u8]) -> bool
+// Whether the same name is one too many in the bundles `a` and `c`: "members of different bundles may share a name; no other two
+// may".
+fn clashes(a: u8, c: u8, same: bool) -> bool
+    ensures { λ r. ⌜ r ≡ clashes a c same ⌝ }
+{
+    if same {
+        if c == 0 {
+            return true;
+        }
+        if a == 0 {
+            return true;
+        }
+        return a == c;
+    }
+    false
+}
+
+// Whether none of the `count` parameters from `from` on has a name that clashes with this one in the bundle.
+fn absent(sheet: &[u8], from: usize, count: u8, bundle: u8, name: &[u8]) -> bool
     requires { ⌜ Walk (now sheet) from count ⌝ }
-    ensures { λ r. ⌜ r ≡ absent (now (name .entry)) (items parameter count (now (sheet .entry)) from) ⌝ }
+    ensures { λ r. ⌜ r ≡ absent bundle (now (name .entry)) (items parameter count (now (sheet .entry)) from) ⌝ }
 {
     let mut at = from;
     let mut left = count;
@@ -93,7 +121,8 @@ fn absent(sheet: &[u8], from: usize, count: u8, name: &[u8]) -> bool
         let p = parameter_at(sheet, at, left);
         let start = p.start;
         let end = p.end;
-        if equal(&sheet[start..end], name) {
+        let same = equal(&sheet[start..end], name);
+        if clashes(p.bundle, bundle, same) {
             return false;
         }
         at = end;
@@ -114,7 +143,7 @@ fn distinct(sheet: &[u8], count: u8) -> bool
         let start = p.start;
         let end = p.end;
         let rest = left - 1;
-        if !absent(sheet, end, rest, &sheet[start..end]) {
+        if !absent(sheet, end, rest, p.bundle, &sheet[start..end]) {
             return false;
         }
         at = end;
@@ -123,23 +152,85 @@ fn distinct(sheet: &[u8], count: u8) -> bool
     true
 }
 
-// Whether layout, kinds and names of 512 bytes are a sheet's.
+// The kind of the parameter with the index among the `count`, 0 past the last.
+fn kind_at(sheet: &[u8], count: u8, index: u8) -> u8
+    requires { ⌜ Walk (now sheet) 2 count ⌝ }
+    ensures { λ r. ⌜ r ≡ kindAt index (items parameter count (now (sheet .entry)) 2) ⌝ }
+{
+    let mut at = 2;
+    let mut left = count;
+    let mut before = index;
+    while left > 0 {
+        let p = parameter_at(sheet, at, left);
+        if before == 0 {
+            return p.kind;
+        }
+        at = p.end;
+        left -= 1;
+        before -= 1;
+    }
+    0
+}
+
+// Whether a parameter of this kind stands at the top, or is no bundle and stands in one.
+fn has_parent(sheet: &[u8], count: u8, kind: u8, bundle: u8) -> bool
+    requires { ⌜ Walk (now sheet) 2 count ⌝ }
+    ensures { λ r. ⌜ r ≡ hasParent (items parameter count (now (sheet .entry)) 2) kind bundle ⌝ }
+{
+    if bundle == 0 {
+        return true;
+    }
+    if kind == 7 {
+        return false;
+    }
+    kind_at(sheet, count, bundle - 1) == 7
+}
+
+// Whether it is so with each of the `count` parameters.
+fn have_parents(sheet: &[u8], count: u8) -> bool
+    requires { ⌜ Walk (now sheet) 2 count ⌝ }
+    ensures { λ r. ⌜ r ≡ haveParents (items parameter count (now (sheet .entry)) 2) (items parameter count (now (sheet .entry)) 2) ⌝ }
+{
+    let mut at = 2;
+    let mut left = count;
+    while left > 0 {
+        let p = parameter_at(sheet, at, left);
+        if !has_parent(sheet, count, p.kind, p.bundle) {
+            return false;
+        }
+        at = p.end;
+        left -= 1;
+    }
+    true
+}
+
+// Whether kinds, names and bundles of the `count` parameters are right.
+fn are_right(sheet: &[u8], marked: bool, count: u8) -> bool
+    requires { ⌜ Walk (now sheet) 2 count ⌝ }
+    ensures { λ r. ⌜ r ≡ areRight marked (items parameter count (now (sheet .entry)) 2) ⌝ }
+{
+    if !are_parameters(sheet, marked, count) {
+        return false;
+    }
+    if !distinct(sheet, count) {
+        return false;
+    }
+    have_parents(sheet, count)
+}
+
+// Whether layout, kinds, names and bundles of 512 bytes are a sheet's.
 fn sheet_layout(sheet: &[u8]) -> bool
     requires { ⌜ HasSize (now sheet) ⌝ }
     ensures { λ r. ⌜ r ≡ sheetLayout (now (sheet .entry)) ⌝ }
 {
-    if !block::has_layout(sheet, 0x50, 1, 32) {
+    if !block::has_either(sheet, 0x50, 0x51, 1, 32) {
         return false;
     }
-    let count = sheet[1];
-    if !are_parameters(sheet, count) {
-        return false;
-    }
-    distinct(sheet, count)
+    are_right(sheet, block::has_marks(sheet[0]), sheet[1])
 }
 
-// What any bytes are, as a sheet: well formed (01: sound), or one of the refusals 1, 2 and 3. "Byte 0 is 0x50; byte 1 the number
-// of parameters, 0 to 32".
+// What any bytes are, as a sheet: well formed (01: sound), or one of the refusals 1, 2 and 3. "Byte 0 is 0x50" or, with bundles,
+// 0x51; "byte 1 the number of parameters, 0 to 32".
 pub fn read_sheet(sheet: &[u8]) -> Reading
     ensures { λ r. ⌜ r ≡ readSheet (now (sheet .entry)) ⌝ }
 {
@@ -164,10 +255,21 @@ pub fn parameter_count(sheet: &[u8]) -> u8
     sheet[1]
 }
 
-// Index and kind of the parameter that has the name, on a well-formed sheet.
-pub fn find(sheet: &[u8], name: &[u8]) -> Found
+// Whether a parameter's bundle is the one asked for, and its name too.
+fn is_named(a: u8, c: u8, same: bool) -> bool
+    ensures { λ r. ⌜ r ≡ (eqb a c && same) ⌝ }
+{
+    if a == c {
+        return same;
+    }
+    false
+}
+
+// Index and kind of the parameter that has the name in a bundle (0 at the top, else the bundle's index plus 1), on a well-formed
+// sheet.
+pub fn find(sheet: &[u8], bundle: u8, name: &[u8]) -> Found
     requires { ⌜ readSheet (now sheet) ≡ Reading.WellFormed ⌝ }
-    ensures { λ r. ⌜ r ≡ find (now (name .entry)) (parametersOf (now (sheet .entry))) ⌝ }
+    ensures { λ r. ⌜ r ≡ find bundle (now (name .entry)) (parametersOf (now (sheet .entry))) ⌝ }
 {
     let mut at = 2;
     let mut left = parameter_count(sheet);
@@ -176,7 +278,8 @@ pub fn find(sheet: &[u8], name: &[u8]) -> Found
         let p = parameter_at(sheet, at, left);
         let start = p.start;
         let end = p.end;
-        if equal(&sheet[start..end], name) {
+        let same = equal(&sheet[start..end], name);
+        if is_named(p.bundle, bundle, same) {
             return Found::At {
                 index,
                 kind: p.kind,
@@ -187,26 +290,6 @@ pub fn find(sheet: &[u8], name: &[u8]) -> Found
         index += 1;
     }
     Found::Missing
-}
-
-// The kind of the parameter with the index, on a well-formed sheet.
-pub fn kind_of(sheet: &[u8], index: u8) -> Kind
-    requires { ⌜ readSheet (now sheet) ≡ Reading.WellFormed ⌝ }
-    ensures { λ r. ⌜ r ≡ kindOf index (parametersOf (now (sheet .entry))) ⌝ }
-{
-    let mut at = 2;
-    let mut left = parameter_count(sheet);
-    let mut before = index;
-    while left > 0 {
-        let p = parameter_at(sheet, at, left);
-        if before == 0 {
-            return Kind::Known(p.kind);
-        }
-        at = p.end;
-        left -= 1;
-        before -= 1;
-    }
-    Kind::Unknown
 }
 
 // The kinds of a well-formed sheet's parameters by their index, and 0 past the last.

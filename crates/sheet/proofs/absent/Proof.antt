@@ -9,10 +9,10 @@ use Rattle.sheet.proofs.absent.Statement.{statement}
 use Rattle.sheet.proofs.absent.Tie as tie
 
 abbrev Inv-loop : tie.InvT-loop
-Inv-loop sheet from count name at₀ left₀ at left = Visited parameter (absent name) (absent name (items parameter count sheet from)) sheet at left
+Inv-loop sheet from count bundle name at₀ left₀ at left = Visited parameter (absent bundle name) (absent bundle name (items parameter count sheet from)) sheet at left
 
 abbrev μ-loop : tie.MeasureT-loop
-μ-loop sheet from count name at₀ left₀ at left = left
+μ-loop sheet from count bundle name at₀ left₀ at left = left
 
 loop-holds : tie.Need-loop-holds Inv-loop μ-loop
 loop-holds c = search (visited-start, needs)
@@ -31,6 +31,9 @@ part-equal-end c = search needs
 
 equal-requires : tie.Need-equal-requires Inv-loop μ-loop
 equal-requires c κs = search needs
+
+clashes-requires : tie.Need-clashes-requires Inv-loop μ-loop
+clashes-requires c κs = search needs
 
 returns : tie.Need-returns Inv-loop μ-loop
 returns c = search (visited-decides, absent-not, needs)
@@ -59,6 +62,7 @@ absent-spec =
     part-equal-start
     part-equal-end
     equal-requires
+    clashes-requires
     returns
     sub-left
     loop-less

@@ -10,10 +10,10 @@ use Rattle.sheet.proofs.are_parameters.Statement.{statement}
 use Rattle.sheet.proofs.are_parameters.Tie as tie
 
 abbrev Inv-loop : tie.InvT-loop
-Inv-loop sheet count at₀ left₀ at left = Visited parameter areParameters (areParameters (items parameter count sheet 2)) sheet at left
+Inv-loop sheet marked count at₀ left₀ at left = Visited parameter (areParameters marked) (areParameters marked (items parameter count sheet 2)) sheet at left
 
 abbrev μ-loop : tie.MeasureT-loop
-μ-loop sheet count at₀ left₀ at left = left
+μ-loop sheet marked count at₀ left₀ at left = left
 
 loop-holds : tie.Need-loop-holds Inv-loop μ-loop
 loop-holds c = search (visited-start, needs)

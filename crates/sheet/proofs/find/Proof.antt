@@ -11,10 +11,10 @@ use Rattle.sheet.proofs.find.Statement.{statement}
 use Rattle.sheet.proofs.find.Tie as tie
 
 abbrev Inv-loop : tie.InvT-loop
-Inv-loop sheet name at₀ left₀ index₀ at left index = (index + left ≤ 255) × Visited parameter (findFrom index name) (find name (parametersOf sheet)) sheet at left
+Inv-loop sheet bundle name at₀ left₀ index₀ at left index = (index + left ≤ 255) × Visited parameter (findFrom index bundle name) (find bundle name (parametersOf sheet)) sheet at left
 
 abbrev μ-loop : tie.MeasureT-loop
-μ-loop sheet name at₀ left₀ index₀ at left index = left
+μ-loop sheet bundle name at₀ left₀ index₀ at left index = left
 
 parameter-count-requires : tie.Need-parameter-count-requires Inv-loop μ-loop
 parameter-count-requires c κs = search needs
@@ -36,6 +36,9 @@ part-equal-end c = search needs
 
 equal-requires : tie.Need-equal-requires Inv-loop μ-loop
 equal-requires c κs = search needs
+
+is-named-requires : tie.Need-is-named-requires Inv-loop μ-loop
+is-named-requires c κs = search needs
 
 returns : tie.Need-returns Inv-loop μ-loop
 returns c = search (visited-decides, find-here, needs)
@@ -68,6 +71,7 @@ find-spec =
     part-equal-start
     part-equal-end
     equal-requires
+    is-named-requires
     returns
     sub-left
     add-index

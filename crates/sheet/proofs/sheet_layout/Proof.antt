@@ -1,39 +1,39 @@
--- `sheet::sheet_layout` meets its contract: the tests are those of the definition, in its order. Assumes nothing.
-use borrow.Author.Tests.{not-true, not-false}
+-- `sheet::sheet_layout` meets its contract. Assumes nothing.
 use borrow.Author.Needs.{needs}
-use Rattle.sheet.proofs.Read.{layout-not, layout-walk, parameters-not, names-decide}
+use borrow.Author.Tests.{not-true, not-false}
+use Rattle.sheet.proofs.Read.{layout-not, layout-walk, layout-right}
 use Rattle.sheet.proofs.sheet_layout.Statement.{statement}
 use Rattle.sheet.proofs.sheet_layout.Tie as tie
 
-has-layout-requires : tie.Need-has-layout-requires
-has-layout-requires c κs = search needs
+has-either-requires : tie.Need-has-either-requires
+has-either-requires c κs = search needs
 
 returns : tie.Need-returns
 returns c = search (layout-not, not-true, needs)
 
-shared-slice-read-count : tie.Need-shared-slice-read-count
-shared-slice-read-count c = search needs
+shared-slice-read-has-marks : tie.Need-shared-slice-read-has-marks
+shared-slice-read-has-marks c = search needs
 
-are-parameters-requires : tie.Need-are-parameters-requires
-are-parameters-requires c κs = search (layout-walk, not-false, needs)
+has-marks-requires : tie.Need-has-marks-requires
+has-marks-requires c κs = search needs
+
+shared-slice-read-are-right : tie.Need-shared-slice-read-are-right
+shared-slice-read-are-right c = search needs
+
+are-right-requires : tie.Need-are-right-requires
+are-right-requires c κs = search (layout-walk, not-false, needs)
 
 returns-2 : tie.Need-returns-2
-returns-2 c = search (parameters-not, not-true, not-false, needs)
-
-distinct-requires : tie.Need-distinct-requires
-distinct-requires c κs = search (layout-walk, not-false, needs)
-
-returns-3 : tie.Need-returns-3
-returns-3 c = search (names-decide, not-false, needs)
+returns-2 c = search (layout-right, not-false, needs)
 
 pub sheet-layout-spec : {M : Type 1} → statement M
 sheet-layout-spec =
     tie.close
     (tie.spec
-    has-layout-requires
+    has-either-requires
     returns
-    shared-slice-read-count
-    are-parameters-requires
-    returns-2
-    distinct-requires
-    returns-3)
+    shared-slice-read-has-marks
+    has-marks-requires
+    shared-slice-read-are-right
+    are-right-requires
+    returns-2)
