@@ -28,6 +28,13 @@ fn trial_sheet() {
     sheet_line(b"trial sheet, a letter changed:", &damaged(body, 4, b'T'));
 }
 
+// A card with occurrences: three relations and a title.
+fn occurrences() {
+    let body =
+        b"\x44\x08\0\0\0\x07\x01\x01\x0dhas-component\x02\x01\x0dObservation/3\x01\x02\x0cderived-from\x02\x02\x0dObservation/4\x01\xff\x0dhas-component\x02\xff\x0dObservation/4\x06\0\x0bWard book 4";
+    card_lines(b"card with occurrences:", &sealed(body));
+}
+
 // Blocks of another size.
 fn sizes() {
     card_line(b"card of 511 bytes:", &[0u8; 511]);
@@ -91,6 +98,7 @@ fn cases(lines: &[u8]) {
 fn main() {
     trial_card();
     trial_sheet();
+    occurrences();
     sizes();
     ends();
     cases(
@@ -101,6 +109,8 @@ fn main() {
         card with byte 0 of a sheet:\x50\x01\0\0\0\0\n\
         card with 64 entries:\x43\x01\0\0\0\x40\n\
         card with 65 entries:\x43\x01\0\0\0\x41\n\
+        card with occurrences and no entries:\x44\x01\0\0\0\0\n\
+        card with byte 0 of a sheet with bundles:\x51\x01\0\0\0\0\n\
         sheet with no parameters:\x50\0\n\
         sheet with byte 0 of a card:\x43\0\n\
         sheet with 32 parameters:\x50\x20\x01\x01A\x01\x01B\x01\x01C\x01\x01D\x01\x01E\x01\x01F\x01\x01G\x01\x01H\x01\x01I\x01\x01J\x01\x01K\x01\x01L\x01\x01M\x01\x01N\
@@ -124,6 +134,19 @@ fn main() {
         sheet with name not:\x50\x01\x01\x03not\n\
         sheet with name And:\x50\x01\x01\x03And\n\
         sheet with name android:\x50\x01\x01\x07android\n\
+        sheet without bundles, kind 7:\x50\x01\x07\x01a\n\
+        sheet with bundles, kind 7:\x51\x01\x07\0\x01a\n\
+        sheet with bundles, kind 6:\x51\x01\x06\0\x01a\n\
+        sheet with bundles, two members:\x51\x03\x07\0\x01a\x04\x01\x01b\x05\x01\x01c\n\
+        sheet with bundles, members first:\x51\x03\x04\x03\x01b\x05\x03\x01c\x07\0\x01a\n\
+        sheet with bundles, a bundle in a bundle:\x51\x02\x07\0\x01a\x07\x01\x01b\n\
+        sheet with bundles, a bundle in itself:\x51\x01\x07\x01\x01a\n\
+        sheet with bundles, a parent that is no bundle:\x51\x02\x01\0\x01a\x04\x01\x01b\n\
+        sheet with bundles, a parent past the last:\x51\x02\x07\0\x01a\x04\x03\x01b\n\
+        sheet with bundles, a name in two of them:\x51\x04\x07\0\x01a\x07\0\x01b\x04\x01\x01c\x05\x02\x01c\n\
+        sheet with bundles, a name twice in one:\x51\x03\x07\0\x01a\x04\x01\x01c\x05\x01\x01c\n\
+        sheet with bundles, a name at the top and in one:\x51\x03\x07\0\x01a\x04\x01\x01c\x05\0\x01c\n\
+        sheet with bundles, a member with its bundle's name:\x51\x02\x07\0\x01a\x04\x01\x01a\n\
         ",
     );
 }

@@ -2,7 +2,6 @@
 use block::Reading;
 use libc::STDOUT_FILENO;
 use sheet::Found;
-use sheet::Kind;
 ghost use mathlib.Core.Path.{_≡_};
 ghost use Rattle.card.specs.Card.{readCard};
 ghost use Rattle.sheet.specs.Sheet.{readSheet};
@@ -49,9 +48,10 @@ pub fn card_line(label: &[u8], card: &[u8]) {
     }
 }
 
-// An entry: the index of its parameter, and its text.
-fn entry_line(index: u8, t: &[u8]) {
+// An entry: the index of its parameter, its occurrence, and its text.
+fn entry_line(index: u8, occurrence: u8, t: &[u8]) {
     labelled(b"  entry of ", base::wide(index));
+    labelled(b", occurrence ", base::wide(occurrence));
     text(b": ");
     text(t);
     text(b"\n");
@@ -67,7 +67,7 @@ fn entry_lines(card: &[u8])
         let e = card::entry_at(card, at, left);
         let start = e.start;
         let end = e.end;
-        entry_line(e.index, &card[start..end]);
+        entry_line(e.index, e.occurrence, &card[start..end]);
         at = end;
         left -= 1;
     }
@@ -114,25 +114,13 @@ fn name_line(name: &[u8], f: Found) {
     text(b"\n");
 }
 
-// What an index is on a sheet: the kind of its parameter.
-fn index_line(index: u8, k: Kind) {
-    labelled(b"  index ", base::wide(index));
-    match k {
-        Kind::Known(kind) => labelled(b": kind ", base::wide(kind)),
-        Kind::Unknown => text(b": no parameter"),
-    }
-    text(b"\n");
-}
-
-// Some names and indexes on a well-formed sheet.
+// Some names on a well-formed sheet.
 fn parameter_lines(sheet: &[u8])
     requires { ⌜ readSheet (now sheet) ≡ Reading.WellFormed ⌝ }
 {
-    name_line(b"  title", sheet::find(sheet, b"title"));
-    name_line(b"  subject", sheet::find(sheet, b"subject"));
-    name_line(b"  Title", sheet::find(sheet, b"Title"));
-    index_line(4, sheet::kind_of(sheet, 4));
-    index_line(5, sheet::kind_of(sheet, 5));
+    name_line(b"  title", sheet::find(sheet, 0, b"title"));
+    name_line(b"  subject", sheet::find(sheet, 0, b"subject"));
+    name_line(b"  Title", sheet::find(sheet, 0, b"Title"));
 }
 
 // What some bytes are as a sheet, with the parameters.

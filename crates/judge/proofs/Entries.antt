@@ -25,12 +25,12 @@ none-readable t = refl
 pub past-readable : (kinds : List ℕ) (i : ℕ) (t : List ℕ) → length kinds ≤ i → false ≡ cardReadable (getD kinds i 0) t
 past-readable kinds i t h = rw (List·getD-eq-default kinds 0 {n = i} h) (none-readable t)
 
-module _ (kinds : List ℕ) (i : ℕ) (t : List ℕ) (es : List Entry) (r : Bool) (e : r ≡ cardReadable (getD kinds i 0) t) where
-  pub conforms-next : r ≡ true → conformsTo kinds (entry i t ∷ es) ≡ conformsTo kinds es
+module _ (kinds : List ℕ) (i o : ℕ) (t : List ℕ) (es : List Entry) (r : Bool) (e : r ≡ cardReadable (getD kinds i 0) t) where
+  pub conforms-next : r ≡ true → conformsTo kinds (entry i o t ∷ es) ≡ conformsTo kinds es
   unfolding conformsTo
   conforms-next h = rw (sym e ∙ h)
 
-  pub conforms-not : r ≡ false → false ≡ conformsTo kinds (entry i t ∷ es)
+  pub conforms-not : r ≡ false → false ≡ conformsTo kinds (entry i o t ∷ es)
   unfolding conformsTo
   conforms-not h = rw (sym e ∙ h)
 
@@ -43,12 +43,12 @@ conforms-end kinds = refl
 abbrev pub hasValue : ℕ → List Entry → Bool
 hasValue i es = not (isEmpty (valuesAt i es))
 
-module _ (i j : ℕ) (t : List ℕ) (es : List Entry) where
-  pub value-here : j ≡ i → true ≡ hasValue i (entry j t ∷ es)
+module _ (i j o : ℕ) (t : List ℕ) (es : List Entry) where
+  pub value-here : j ≡ i → true ≡ hasValue i (entry j o t ∷ es)
   unfolding valuesAt isEmpty
   value-here h = rw (eq-eqb j i h)
 
-  pub value-next : (j ≡ i → ⊥) → hasValue i (entry j t ∷ es) ≡ hasValue i es
+  pub value-next : (j ≡ i → ⊥) → hasValue i (entry j o t ∷ es) ≡ hasValue i es
   unfolding valuesAt isEmpty
   value-next h = rw (ne-eqb j i h)
 
@@ -70,20 +70,20 @@ entry-under under differs r v x b u e = rw u e
 abbrev pub someRelated : Bool → Relation → List ℕ → ℕ → List Entry → Bool
 someRelated differs r v i es = someValue (related differs r v) (valuesAt i es)
 
-module _ (differs : Bool) (r : Relation) (v : List ℕ) (i j : ℕ) (t : List ℕ) (es : List Entry) (b : Bool) (e : b ≡ entryRelated (eqb j i) differs r v t) where
-  pub some-here : b ≡ true → true ≡ someRelated differs r v i (entry j t ∷ es)
+module _ (differs : Bool) (r : Relation) (v : List ℕ) (i j o : ℕ) (t : List ℕ) (es : List Entry) (b : Bool) (e : b ≡ entryRelated (eqb j i) differs r v t) where
+  pub some-here : b ≡ true → true ≡ someRelated differs r v i (entry j o t ∷ es)
   unfolding valuesAt someValue
   some-here h = go (eqb j i) refl
     where
-      go : (u : Bool) → eqb j i ≡ u → true ≡ someRelated differs r v i (entry j t ∷ es)
+      go : (u : Bool) → eqb j i ≡ u → true ≡ someRelated differs r v i (entry j o t ∷ es)
       go true q = rw (q, sym (rw q at e) ∙ h)
       go false q = both-ways h (rw q at e)
 
-  pub some-next : b ≡ false → someRelated differs r v i (entry j t ∷ es) ≡ someRelated differs r v i es
+  pub some-next : b ≡ false → someRelated differs r v i (entry j o t ∷ es) ≡ someRelated differs r v i es
   unfolding valuesAt someValue
   some-next h = go (eqb j i) refl
     where
-      go : (u : Bool) → eqb j i ≡ u → someRelated differs r v i (entry j t ∷ es) ≡ someRelated differs r v i es
+      go : (u : Bool) → eqb j i ≡ u → someRelated differs r v i (entry j o t ∷ es) ≡ someRelated differs r v i es
       go true q = rw (q, sym (rw q at e) ∙ h)
       go false q = rw q
 

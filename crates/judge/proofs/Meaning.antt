@@ -3,7 +3,7 @@
 use Prim.Native.Nat.{ℕ, _≤_, _<_}
 use native.Mathlib.Omega.{arith}
 use mathlib.Core.Path.{_≡_, refl, sym, ap, _∙_}
-use mathlib.Core.Bool.{Bool, true, false, not, _||_}
+use mathlib.Core.Bool.{Bool, true, false, cond, not, _||_}
 use mathlib.Core.List.{List}
 use lib.Dec.{eqb, leb}
 use lib.ListN.{take}
@@ -12,7 +12,7 @@ use Rattle.base.specs.Lists.{member}
 use Rattle.base.specs.Parts.{part}
 use Rattle.base.specs.Below.{passes}
 use Rattle.base.proofs.Below.{passes-at}
-use Rattle.sheet.specs.Sheet.{Parameter}
+use Rattle.sheet.specs.Sheet.{Parameter, bundleKind}
 use Rattle.sheet.specs.Find.{find}
 use Rattle.sheet.specs.declared.Found.{Found}
 use Rattle.card.specs.Card.{Entry}
@@ -100,8 +100,14 @@ module _ (k kind : ℕ) (v : List ℕ) (u : Bool) (e : u ≡ unsupported k) wher
       unfolding kindFault
       fault-unreadable j = rw (sym e ∙ h, sym f ∙ i, sym g ∙ j)
 
+pub fault-bundle : (k kind : ℕ) (v : List ℕ) → kind ≡ 7 → Fault.UnknownName ≡ cond (eqb kind bundleKind) Fault.UnknownName (kindFault k kind v)
+fault-bundle k kind v e = rw e
+
+pub fault-kind : (k kind : ℕ) (v : List ℕ) (r : Fault) → (kind ≡ 7 → ⊥) → r ≡ kindFault k kind v → r ≡ cond (eqb kind bundleKind) Fault.UnknownName (kindFault k kind v)
+fault-kind k kind v r n e = rw (ne-eqb kind 7 n) e
+
 module _ (f found : Found) (k : ℕ) (v : List ℕ) (e : f ≡ found) where
-  pub fault-found : (i kind : ℕ) (r : Fault) → f ≡ Found.At i kind → r ≡ kindFault k kind v → r ≡ faultAt found k v
+  pub fault-found : (i kind : ℕ) (r : Fault) → f ≡ Found.At i kind → r ≡ cond (eqb kind bundleKind) Fault.UnknownName (kindFault k kind v) → r ≡ faultAt found k v
   fault-found i kind r h g = rw (sym e ∙ h) g
 
   pub fault-missing : f ≡ Found.Missing → Fault.UnknownName ≡ faultAt found k v
@@ -151,7 +157,7 @@ module _ (raw out : List ℕ) (n : ℕ) (d : Decoded raw out n) where
 
 module _ (ps : List Parameter) (xs : List ℕ) (t : RawTest) where
   abbrev found-at : Found
-  found-at = find (part xs (t .at) (t .until)) ps
+  found-at = find 0 (part xs (t .at) (t .until)) ps
 
   abbrev raw-value : List ℕ
   raw-value = part xs (t .value .start) (t .value .end)

@@ -3,9 +3,10 @@
 use Prim.Native.Nat.{ℕ}
 use mathlib.Core.Bool.{Bool, cond}
 use mathlib.Core.List.{List, [], _∷_}
+use lib.Dec.{eqb}
 use Rattle.base.specs.Lists.{member}
 use Rattle.base.specs.Operators.{ap, ss, sb, «in», ni}
-use Rattle.sheet.specs.Sheet.{Parameter}
+use Rattle.sheet.specs.Sheet.{Parameter, bundleKind}
 use Rattle.sheet.specs.declared.Found.{Found}
 use Rattle.syntax.specs.Tree.{Test}
 use Rattle.kind.specs.Table.{hasMeaning}
@@ -26,10 +27,10 @@ kindFault k kind v =
     (cond (valueReadable k kind v) Fault.Nothing Fault.Unreadable)
     Fault.NoMeaning)
 
--- the same at what the path names
+-- the same at what the path names; 02: a bare name that is a bundle's "counts as not on the sheet"
 abbrev pub faultAt : Found → ℕ → List ℕ → Fault
 faultAt Found.Missing k v = Fault.UnknownName
-faultAt (Found.At i kind) k v = kindFault k kind v
+faultAt (Found.At i kind) k v = cond (eqb kind bundleKind) Fault.UnknownName (kindFault k kind v)
 
 unfoldable pub testFault : List Parameter → Test → Fault
 testFault ps t = faultAt (lookup ps (t .path)) (t .operator) (t .value)

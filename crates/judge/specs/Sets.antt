@@ -5,17 +5,16 @@ use mathlib.Core.Bool.{Bool, true, false, cond, _&&_}
 use mathlib.Core.List.{List, [], _∷_}
 use lib.Dec.{eqb}
 use lib.ListN.{getD}
-use Rattle.sheet.specs.Sheet.{Parameter}
-use Rattle.sheet.specs.Find.{find, kindOf}
+use Rattle.sheet.specs.Sheet.{Parameter, kindAt}
+use Rattle.sheet.specs.Find.{find}
 use Rattle.sheet.specs.declared.Found.{Found}
-use Rattle.sheet.specs.declared.Kind.{Kind}
 use Rattle.card.specs.Card.{Entry}
 use Rattle.syntax.specs.Tree.{Path, name}
 use Rattle.kind.specs.Readable.{cardReadable}
 
 -- index and kind of the parameter that a path names
 unfoldable pub lookup : List Parameter → Path → Found
-lookup ps (name n) = find n ps
+lookup ps (name n) = find 0 n ps
 
 -- the entry's text belongs to the parameter with the index
 abbrev pub isUnder : ℕ → Entry → Bool
@@ -26,13 +25,9 @@ unfoldable pub valuesAt : ℕ → List Entry → List (List ℕ)
 valuesAt i [] = []
 valuesAt i (e ∷ es) = cond (isUnder i e) (e .text ∷ valuesAt i es) (valuesAt i es)
 
-abbrev pub readableAs : Kind → List ℕ → Bool
-readableAs (Kind.Known k) t = cardReadable k t
-readableAs Kind.Unknown t = false
-
--- "each place is on the sheet and each text is readable as its kind"
+-- "each place is on the sheet and each text is readable as its kind": past the last parameter stands 0, as which no text is readable
 unfoldable pub entryConforms : List Parameter → Entry → Bool
-entryConforms ps e = readableAs (kindOf (e .index) ps) (e .text)
+entryConforms ps e = cardReadable (kindAt (e .index) ps) (e .text)
 
 -- 01: a card fits a sheet, where it is well formed
 unfoldable pub conforms : List Parameter → List Entry → Bool

@@ -4,7 +4,9 @@ use block::Reading;
 use kind::Meaning;
 use sheet::Found;
 ghost use mathlib.Core.Path.{_≡_};
-ghost use Rattle.sheet.specs.Sheet.{parametersOf, readSheet};
+ghost use mathlib.Core.Bool.{cond};
+ghost use lib.Dec.{eqb};
+ghost use Rattle.sheet.specs.Sheet.{bundleKind, parametersOf, readSheet};
 ghost use Rattle.sheet.specs.Find.{find};
 ghost use Rattle.kind.specs.Table.{hasMeaning};
 ghost use Rattle.judge.specs.Faults.{unsupported, kindFault, faultAt};
@@ -47,13 +49,23 @@ fn kind_fault(operator: u8, kind: u8, value: &[u8]) -> Fault
     Fault::NoMeaning
 }
 
+// The fault of an operator and a value at a parameter of a kind: a bundle's name is none that a test can ask.
+fn parameter_fault(operator: u8, kind: u8, value: &[u8]) -> Fault
+    ensures { λ r. ⌜ r ≡ cond (eqb kind bundleKind) Fault.UnknownName (kindFault operator kind (now (value .entry))) ⌝ }
+{
+    if kind == 7 {
+        return Fault::UnknownName;
+    }
+    kind_fault(operator, kind, value)
+}
+
 // The fault of a test with this name, operator and value on a well-formed sheet.
 pub fn fault_at(sheet: &[u8], name: &[u8], operator: u8, value: &[u8]) -> Fault
     requires { ⌜ readSheet (now sheet) ≡ Reading.WellFormed ⌝ }
-    ensures { λ r. ⌜ r ≡ faultAt (find (now (name .entry)) (parametersOf (now (sheet .entry)))) operator (now (value .entry)) ⌝ }
+    ensures { λ r. ⌜ r ≡ faultAt (find 0 (now (name .entry)) (parametersOf (now (sheet .entry)))) operator (now (value .entry)) ⌝ }
 {
-    match sheet::find(sheet, name) {
-        Found::At { index: _, kind } => kind_fault(operator, kind, value),
+    match sheet::find(sheet, 0, name) {
+        Found::At { index: _, kind } => parameter_fault(operator, kind, value),
         Found::Missing => Fault::UnknownName,
     }
 }

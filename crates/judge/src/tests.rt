@@ -21,7 +21,7 @@ ghost use Rattle.syntax.specs.Placed.{Placed};
 fn escaped_fault(sheet: &[u8], name: &[u8], operator: u8, raw: &[u8]) -> Fault
     requires { ⌜ readSheet (now sheet) ≡ Reading.WellFormed ⌝ }
     requires { ⌜ length (now raw) ≤ 1024 ⌝ }
-    ensures { λ r. ⌜ r ≡ faultAt (find (now (name .entry)) (parametersOf (now (sheet .entry)))) operator (decoded false (now (raw .entry))) ⌝ }
+    ensures { λ r. ⌜ r ≡ faultAt (find 0 (now (name .entry)) (parametersOf (now (sheet .entry)))) operator (decoded false (now (raw .entry))) ⌝ }
 {
     let mut value = [0u8; 1024];
     let n = decode(raw, &mut value);
@@ -52,7 +52,7 @@ fn escaped_says(sheet: &[u8], card: &[u8], name: &[u8], operator: u8, raw: &[u8]
     requires { ⌜ readSheet (now sheet) ≡ Reading.WellFormed ⌝ }
     requires { ⌜ readCard (now card) ≡ Reading.WellFormed ⌝ }
     requires { ⌜ length (now raw) ≤ 1024 ⌝ }
-    ensures { λ r. ⌜ r ≡ saysAt (find (now (name .entry)) (parametersOf (now (sheet .entry)))) operator (decoded false (now (raw .entry))) (entriesOf (now (card .entry))) ⌝ }
+    ensures { λ r. ⌜ r ≡ saysAt (find 0 (now (name .entry)) (parametersOf (now (sheet .entry)))) operator (decoded false (now (raw .entry))) (entriesOf (now (card .entry))) ⌝ }
 {
     let mut value = [0u8; 1024];
     let n = decode(raw, &mut value);

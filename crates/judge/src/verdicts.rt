@@ -33,9 +33,9 @@ fn says_of(card: &[u8], index: u8, meaning: Meaning, value: &[u8]) -> bool
 pub fn says_at(sheet: &[u8], card: &[u8], name: &[u8], operator: u8, value: &[u8]) -> bool
     requires { ⌜ readSheet (now sheet) ≡ Reading.WellFormed ⌝ }
     requires { ⌜ readCard (now card) ≡ Reading.WellFormed ⌝ }
-    ensures { λ r. ⌜ r ≡ saysAt (find (now (name .entry)) (parametersOf (now (sheet .entry)))) operator (now (value .entry)) (entriesOf (now (card .entry))) ⌝ }
+    ensures { λ r. ⌜ r ≡ saysAt (find 0 (now (name .entry)) (parametersOf (now (sheet .entry)))) operator (now (value .entry)) (entriesOf (now (card .entry))) ⌝ }
 {
-    match sheet::find(sheet, name) {
+    match sheet::find(sheet, 0, name) {
         Found::At { index, kind } => says_of(card, index, kind::meaning_of(operator, kind), value),
         Found::Missing => false,
     }

@@ -12,7 +12,7 @@ use Rattle.base.proofs.Tests.{both-ways, cond-elim}
 use Rattle.block.specs.Words.{word}
 use Rattle.block.specs.Sum.{checkSum}
 use Rattle.block.specs.Seal.{check, IsSealed}
-use Rattle.block.specs.Items.{hasLayout}
+use Rattle.block.specs.Items.{hasEither}
 use Rattle.block.specs.Readings.{reading}
 use Rattle.block.specs.declared.Checked.{Checked}
 use Rattle.block.specs.declared.Reading.{Reading}
@@ -46,4 +46,4 @@ module _ (b : List ℕ) (bytes : Bytes b) where
 
   pub card-reads-to : ReadsTo b (CardBlock b) (readCard b)
   unfolding readCard
-  card-reads-to = reads-to b (CardBlock b) (hasLayout 0x43 5 64 b) (λ r. cards.card-iff b .0 (bytes, r)) (λ c. cards.card-iff b .1 c .1)
+  card-reads-to = reads-to b (CardBlock b) (hasEither 0x43 0x44 5 64 b) (λ r. cards.card-iff b .0 (bytes, r)) (λ c. cards.card-iff b .1 c .1)

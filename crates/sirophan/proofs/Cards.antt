@@ -3,7 +3,8 @@
 use Prim.Native.Nat.{ℕ, _+_, _-_, _≤_, _<_}
 use native.Mathlib.Omega.{arith}
 use mathlib.Core.Path.{_≡_, refl, ap, sym, _∙_, subst}
-use mathlib.Core.Bool.{true}
+use mathlib.Core.Bool.{true, false}
+use mathlib.Core.Logic.{⊎-elim}
 use mathlib.Core.List.{List, [], _∷_, cons≢nil}
 use lib.Dec.{eqb}
 use lib.ListN.{length, length-append}
@@ -24,13 +25,13 @@ use Rattle.date.specs.Texts as dates
 use Rattle.token.specs.Split.{split}
 use Rattle.token.specs.Card as tokens
 use Rattle.block.specs.declared.Reading.the-variants.{WellFormed}
-use Rattle.sheet.specs.Sheet.{Parameter}
-use Rattle.sheet.specs.Encode.{WellFormedParameter, WellFormedSheet}
+use Rattle.sheet.specs.Sheet.{Parameter, bundleKind}
+use Rattle.sheet.specs.Encode.{ValueKind, WellFormedParameter, WellFormedSheet}
 use Rattle.sheet.specs.Find.{Listed}
-use Rattle.card.specs.Card.{Entry, entry, recordNumber, entriesOf, readCard}
+use Rattle.card.specs.Card.{Entry, entry, entriesOf, readCard}
 use Rattle.card.specs.Encode.{encodeCard, ReadsAsCard}
 use Rattle.card.proofs.Read.{card-length}
-use Rattle.card.proofs.Cards.{card-reads-iff, empty-card, one-entry-card}
+use Rattle.card.proofs.Cards.{card-reads-iff, card-of, empty-card, one-entry-card}
 use Rattle.kind.specs.Kinds.{date}
 use Rattle.kind.specs.Readable.{cardReadable}
 use Rattle.judge.specs.Sets.{valuesAt, conforms}
@@ -44,8 +45,8 @@ use Rattle.sirophan.proofs.Meaning.{entries-iff}
 -- ---- reading
 
 module _ {ps : List Parameter} {b : List ℕ} {es : List Entry} (c : Conforms ps b es) where
-  pub conforms-reads : ReadsAsCard b (c .number) es
-  conforms-reads = card-reads-iff b (c .number) es .1 (c .well-formed, c .encoded)
+  pub conforms-reads : ReadsAsCard b (c .marked) (c .number) es
+  conforms-reads = card-reads-iff b (c .marked) (c .number) es .1 (c .well-formed, c .encoded)
 
   pub conforms-size : length b ≡ 512
   conforms-size = card-length b (conforms-reads .reading)
@@ -64,8 +65,9 @@ module _ {ps : List Parameter} {b : List ℕ} {es : List Entry} (c : Conforms ps
 -- a card that reads as well formed, and whose entries conform, conforms
 pub reads-conforms : (ps : List Parameter) (b : List ℕ) → Bytes b → readCard b ≡ WellFormed → conforms ps (entriesOf b) ≡ true → Conforms ps b (entriesOf b)
 reads-conforms ps b bytes r h =
-    let w = card-reads-iff b (recordNumber b) (entriesOf b) .0 (record { bytes = bytes; reading = r; number = refl; entries = refl }) in
-    record { number = recordNumber b; well-formed = w .0; encoded = w .1; entries = entries-iff ps (entriesOf b) .0 h }
+    let w = card-of b bytes r in
+    let e = card-reads-iff b (w .marked) (w .number) (w .entries) .1 (w .well-formed, w .encoded) .entries in
+    rw e (record { marked = w .marked; number = w .number; well-formed = w .well-formed; encoded = w .encoded; entries = entries-iff ps (w .entries) .0 (rw e at h) })
 
 -- ---- a text for each kind
 
@@ -93,22 +95,23 @@ witness-bytes kind =
 -- ---- two cards
 
 module _ (ps : List Parameter) where
-  pub empty-conforms : Conforms ps (encodeCard 0 []) []
-  empty-conforms = record { number = 0; well-formed = empty-card 0 (omega arith); encoded = refl; entries = all-empty }
+  pub empty-conforms : Conforms ps (encodeCard false 0 []) []
+  empty-conforms = record { marked = false; number = 0; well-formed = empty-card 0 (omega arith); encoded = refl; entries = all-empty }
 
   module _ (w : WellFormedSheet ps) (i : ℕ) (p : Parameter) (l : Listed ps i p) where
     abbrev pub one-entry : List Entry
-    one-entry = entry i (witnessText (p .kind)) ∷ []
+    one-entry = entry i 0 (witnessText (p .kind)) ∷ []
 
     listed-well-formed : WellFormedParameter p
     listed-well-formed =
         all-head WellFormedParameter (all-right WellFormedParameter (l .before) (subst (All WellFormedParameter) (l .split) (w .parameters)))
 
-    pub one-entry-conforms : Conforms ps (encodeCard 0 one-entry) one-entry
-    one-entry-conforms =
+    pub one-entry-conforms : (p .kind ≡ bundleKind → ⊥) → Conforms ps (encodeCard false 0 one-entry) one-entry
+    one-entry-conforms n =
         let index : i < 32 = omega (arith, w .count, ap length (l .split), length-append (l .before) (p ∷ l .after), l .index) in
-        let readable = witness-readable (p .kind) (listed-well-formed .lowest) (listed-well-formed .highest) in
+        let readable = ⊎-elim (λ (v : ValueKind (p .kind)). witness-readable (p .kind) (v .lowest) (v .highest)) (λ (e : p .kind ≡ bundleKind). absurd (n e)) (listed-well-formed .kind) in
         record {
+          marked = false;
           number = 0;
           well-formed = one-entry-card 0 (omega arith) i (witnessText (p .kind)) index (witness-short (p .kind)) (witness-bytes (p .kind));
           encoded = refl;

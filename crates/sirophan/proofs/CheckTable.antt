@@ -26,7 +26,7 @@ use Rattle.syntax.proofs.Spelling.{read-spells, spells-unique, tests-rise, risi
 use Rattle.judge.specs.Faults.{firstFault}
 use Rattle.sirophan.specs.Answers.{count, refused}
 use Rattle.sirophan.specs.Operations.{Step, found, _>>=_, sheetStep, takeSheet, treeStep, takeFilter, testsStep, Prepared, prepare, checkAnswer}
-use Rattle.sirophan.specs.Numbers.{rank, TestLine, line-14, line-15, line-16, line-17}
+use Rattle.sirophan.specs.Numbers.{rank, TestLine, line-14, line-14-bundle, line-15, line-16, line-17}
 use Rattle.sirophan.specs.Refusals.{group, Before, lower-group, earlier-place, lower-rank, Decides, SheetLine, line-1, line-2, line-3, TextLine, line-10, line-11, TestsLine, line-of-test, CheckLine}
 use Rattle.sirophan.proofs.Answers.{count-not-refused}
 use Rattle.sirophan.proofs.Outcomes.{ReadsTo, size-wrong, sum-wrong, layout-wrong, all-right, TestOutcome, test-means, test-refused, Decided, none-holds, one-decides}
@@ -51,7 +51,7 @@ OfSheet sheet ps = (s : SheetBlock sheet) × (s .parameters ≡ ps)
 module _ (sheet : List ℕ) where
   -- one sheet has the bytes
   pub sheet-parameters : (s : SheetBlock sheet) → parametersOf sheet ≡ s .parameters
-  sheet-parameters s = sheet-reads-iff sheet (s .parameters) .1 (s .well-formed, s .encoded) .parameters
+  sheet-parameters s = sheet-reads-iff sheet (s .marked) (s .parameters) .1 (s .well-formed, s .form, s .encoded) .parameters
 
   -- none comes before n, where the lines of lower numbers do not hold
   sheet-first : (n : ℕ) → group n ≡ n → n ≤ 3 → (1 < n → length sheet ≡ 512) → (2 < n → checkSum sheet ≡ word sheet 508)
@@ -127,6 +127,7 @@ module _ (text : List ℕ) where
 test-group : {ps : List Parameter} {t : Test} {n : ℕ} → TestLine ps t n → group n ≡ 14
 unfolding group
 test-group (line-14 u) = refl
+test-group (line-14-bundle j) = refl
 test-group (line-15 u) = refl
 test-group (line-16 j u o) = refl
 test-group (line-17 j r) = refl

@@ -5,9 +5,11 @@ use native.Mathlib.Omega.{arith}
 use mathlib.Core.Path.{_≡_, refl, subst}
 use mathlib.Core.Bool.{false}
 use mathlib.Core.List.{List, []}
+use lib.Dec.{eqb}
+use borrow.Author.Tests.{eqb-true, eqb-false}
 use Rattle.base.specs.Operators.{pr}
 use Rattle.base.proofs.Tests.{both-ways, cond-elim}
-use Rattle.sheet.specs.Sheet.{Parameter, parameter}
+use Rattle.sheet.specs.Sheet.{Parameter, parameter, bundleKind}
 use Rattle.sheet.specs.Encode.{WellFormedSheet}
 use Rattle.sheet.specs.Find.{Listed}
 use Rattle.sheet.specs.declared.Found.{Found}
@@ -21,14 +23,14 @@ use Rattle.judge.specs.Faults.{unsupported, kindFault, faultAt, testFault}
 use Rattle.judge.specs.declared.Fault.{Fault}
 use Rattle.sirophan.specs.Operations.{faultStep}
 use Rattle.sirophan.specs.Readable.{TrueOrFalse, ReadableValue, value-of-pr, value-of-kind}
-use Rattle.sirophan.specs.Meaning.{Names, names, NotOnSheet, HasOperator, LacksMeaning, not-on-sheet, neither, lacks-operator, unreadable}
-use Rattle.sirophan.specs.Numbers.{rank, TestLine, line-14, line-15, line-16, line-17, Numbered}
+use Rattle.sirophan.specs.Meaning.{Names, names, NotOnSheet, HasOperator, LacksMeaning, not-on-sheet, bare-bundle, neither, lacks-operator, unreadable}
+use Rattle.sirophan.specs.Numbers.{rank, TestLine, line-14, line-14-bundle, line-15, line-16, line-17, Numbered}
 use Rattle.sirophan.proofs.Readable.{value-iff}
 use Rattle.sirophan.proofs.Meaning.{operator-iff, unsupported-lacks, names-iff, missing-iff}
 use Rattle.sirophan.proofs.Cards.{empty-conforms, one-entry, one-entry-conforms, one-entry-value}
-use Rattle.sirophan.proofs.Outcomes.{Judged, judged-unknown, judged-unsupported, judged-meaningless, judged-unreadable, judged-right, Refused, TestOutcome, test-means, test-refused}
+use Rattle.sirophan.proofs.Outcomes.{Judged, judged-unknown, judged-bundle, judged-unsupported, judged-meaningless, judged-unreadable, judged-right, Refused, TestOutcome, test-means, test-refused}
 
-names-listed : {ps : List Parameter} {path : Path} {i k : ℕ} → Names ps path i k → (n : List ℕ) × Listed ps i (parameter k n)
+names-listed : {ps : List Parameter} {path : Path} {i k : ℕ} → Names ps path i k → (n : List ℕ) × Listed ps i (parameter k 0 n)
 names-listed (names {n = n} l) = (n, l)
 
 -- a readable value of pr is true or false
@@ -44,12 +46,14 @@ module _ (ps : List Parameter) (w : WellFormedSheet ps) (t : Test) where
   judged-at Found.Missing e = judged-unknown (missing-iff ps (w .names) (t .path) .0 e)
   judged-at (Found.At i k) e =
       let there = names-iff ps (w .names) (t .path) i k .0 e in
-      cond-elim (Judged ps t) (unsupported (t .operator)) (judged-unsupported there)
+      cond-elim (Judged ps t) (eqb k bundleKind) (λ b. judged-bundle (subst (λ (m : ℕ). Names ps (t .path) i m) (eqb-true k bundleKind b) there))
+      (λ b. let z : k ≡ bundleKind → ⊥ = eqb-false k bundleKind b in
+      cond-elim (Judged ps t) (unsupported (t .operator)) (judged-unsupported z there)
       (λ u. cond-elim (Judged ps t) (hasMeaning (t .operator) k)
       (λ m. cond-elim (Judged ps t) (valueReadable (t .operator) k (t .value))
-      (λ r. judged-right there (operator-iff k (t .operator) .0 m) (value-iff k (t .value) (t .operator) .0 r))
-      (λ n. judged-unreadable there u (operator-iff k (t .operator) .0 m) (λ r. both-ways (value-iff k (t .value) (t .operator) .1 r) n)))
-      (λ n. judged-meaningless there u (λ h. both-ways (operator-iff k (t .operator) .1 h) n)))
+      (λ r. judged-right z there (operator-iff k (t .operator) .0 m) (value-iff k (t .value) (t .operator) .0 r))
+      (λ n. judged-unreadable z there u (operator-iff k (t .operator) .0 m) (λ r. both-ways (value-iff k (t .value) (t .operator) .1 r) n)))
+      (λ n. judged-meaningless z there u (λ h. both-ways (operator-iff k (t .operator) .1 h) n))))
 
   judged : Judged ps t (testFault ps t)
   unfolding testFault
@@ -65,58 +69,63 @@ module _ (ps : List Parameter) (w : WellFormedSheet ps) (t : Test) where
   -- ---- the table's number
 
   -- a line ranks at n or after, where the lines before n do not hold
-  lowest-from : (n : ℕ) → n ≤ 17 → (14 < n → NotOnSheet ps (t .path) → ⊥) → (15 < n → unsupported (t .operator) ≡ false)
+  lowest-from : (n : ℕ) → n ≤ 17 → (14 < n → NotOnSheet ps (t .path) → ⊥) → (14 < n → (i : ℕ) → Names ps (t .path) i bundleKind → ⊥) → (15 < n → unsupported (t .operator) ≡ false)
       → (16 < n → (i k : ℕ) → Names ps (t .path) i k → HasOperator k (t .operator)) → (m : ℕ) → TestLine ps t m → rank n ≤ rank m
   unfolding rank
-  lowest-from n h a b c m (line-14 u) = let z : 14 < n → ⊥ = λ l. a l u in omega arith
-  lowest-from n h a b c m (line-15 u) = let z : 15 < n → ⊥ = λ l. both-ways u (b l) in omega arith
-  lowest-from n h a b c m (line-16 {i = i} {k = k} j u o) = let z : 16 < n → ⊥ = λ l. o (c l i k j) in omega arith
-  lowest-from n h a b c m (line-17 j r) = h
+  lowest-from n h a d b c m (line-14 u) = let z : 14 < n → ⊥ = λ l. a l u in omega arith
+  lowest-from n h a d b c m (line-14-bundle {i = i} j) = let z : 14 < n → ⊥ = λ l. d l i j in omega arith
+  lowest-from n h a d b c m (line-15 u) = let z : 15 < n → ⊥ = λ l. both-ways u (b l) in omega arith
+  lowest-from n h a d b c m (line-16 {i = i} {k = k} j u o) = let z : 16 < n → ⊥ = λ l. o (c l i k j) in omega arith
+  lowest-from n h a d b c m (line-17 j r) = h
 
   -- ---- what a test comes to: a meaning on every conforming card, or a refusal
 
   -- a test whose path names a parameter lacks a meaning on the card with one entry under it
-  refused-at : (i k : ℕ) → Names ps (t .path) i k → (n : ℕ) → Numbered ps t n
+  refused-at : (i k : ℕ) → (k ≡ bundleKind → ⊥) → Names ps (t .path) i k → (n : ℕ) → Numbered ps t n
       → ((es : List Entry) → (valuesAt i es ≡ [] → ⊥) → LacksMeaning ps es t) → Refused ps t n
-  refused-at i k j n table lacks =
-      let p = parameter k (names-listed j .0) in
+  refused-at i k z j n table lacks =
+      let p = parameter k 0 (names-listed j .0) in
       let l = names-listed j .1 in
       let es = one-entry ps w i p l in
       record {
         table = table;
-        card = encodeCard 0 es;
+        card = encodeCard false 0 es;
         entries = es;
-        conforms = one-entry-conforms ps w i p l;
+        conforms = one-entry-conforms ps w i p l z;
         lacks = lacks es (one-entry-value ps w i p l);
       }
 
-  outcome-by : {fault : Fault} → Judged ps t fault → TestOutcome ps t (faultStep fault (t .at))
-  outcome-by (judged-unknown u) =
-      test-refused
-      (record {
-        table = record { line = line-14 u; lowest = lowest-from 14 (omega arith) (λ l. absurd (omega arith)) (λ l. absurd (omega arith)) (λ l. absurd (omega arith)) };
-        card = encodeCard 0 [];
+  -- a test of line 14 lacks a meaning on the card with no entries
+  refused-on-all : TestLine ps t 14 → LacksMeaning ps [] t → Refused ps t 14
+  refused-on-all line lacks =
+      record {
+        table = record { line = line; lowest = lowest-from 14 (omega arith) (λ l. absurd (omega arith)) (λ l. absurd (omega arith)) (λ l. absurd (omega arith)) (λ l. absurd (omega arith)) };
+        card = encodeCard false 0 [];
         entries = [];
         conforms = empty-conforms ps;
-        lacks = not-on-sheet u;
-      })
-  outcome-by (judged-unsupported {i = i} {k = k} j u) =
+        lacks = lacks;
+      }
+
+  outcome-by : {fault : Fault} → Judged ps t fault → TestOutcome ps t (faultStep fault (t .at))
+  outcome-by (judged-unknown u) = test-refused (refused-on-all (line-14 u) (not-on-sheet u))
+  outcome-by (judged-bundle j) = test-refused (refused-on-all (line-14-bundle j) (bare-bundle j))
+  outcome-by (judged-unsupported {i = i} {k = k} z j u) =
       let lacking : HasOperator k (t .operator) → ⊥ = λ h. both-ways (operator-iff k (t .operator) .1 h) (unsupported-lacks k (t .operator) u) in
       test-refused
-      (refused-at i k j 15
-      (record { line = line-15 u; lowest = lowest-from 15 (omega arith) (λ l n. n i k j) (λ l. absurd (omega arith)) (λ l. absurd (omega arith)) })
+      (refused-at i k z j 15
+      (record { line = line-15 u; lowest = lowest-from 15 (omega arith) (λ l n. n i k j) (λ l i′ j′. z (same-kind j j′)) (λ l. absurd (omega arith)) (λ l. absurd (omega arith)) })
       (λ es v. lacks-operator j v lacking))
-  outcome-by (judged-meaningless {i = i} {k = k} j u o) =
+  outcome-by (judged-meaningless {i = i} {k = k} z j u o) =
       test-refused
-      (refused-at i k j 16
-      (record { line = line-16 j u o; lowest = lowest-from 16 (omega arith) (λ l n. n i k j) (λ l. u) (λ l. absurd (omega arith)) })
+      (refused-at i k z j 16
+      (record { line = line-16 j u o; lowest = lowest-from 16 (omega arith) (λ l n. n i k j) (λ l i′ j′. z (same-kind j j′)) (λ l. u) (λ l. absurd (omega arith)) })
       (λ es v. lacks-operator j v o))
-  outcome-by (judged-unreadable {i = i} {k = k} j u o r) =
+  outcome-by (judged-unreadable {i = i} {k = k} z j u o r) =
       test-refused
-      (refused-at i k j 17
-      (record { line = line-17 j r; lowest = lowest-from 17 (omega arith) (λ l n. n i k j) (λ l. u) (λ l i′ k′ j′. subst (λ (m : ℕ). HasOperator m (t .operator)) (same-kind j j′) o) })
+      (refused-at i k z j 17
+      (record { line = line-17 j r; lowest = lowest-from 17 (omega arith) (λ l n. n i k j) (λ l i′ j′. z (same-kind j j′)) (λ l. u) (λ l i′ k′ j′. subst (λ (m : ℕ). HasOperator m (t .operator)) (same-kind j j′) o) })
       (λ es v. unreadable j v r))
-  outcome-by (judged-right {i = i} {k = k} j o r) = test-means (λ card es c. never es) no-line
+  outcome-by (judged-right {i = i} {k = k} z j o r) = test-means (λ card es c. never es) no-line
     where
       has : {i′ k′ : ℕ} → Names ps (t .path) i′ k′ → HasOperator k′ (t .operator)
       has j′ = subst (λ (m : ℕ). HasOperator m (t .operator)) (same-kind j j′) o
@@ -126,12 +135,14 @@ module _ (ps : List Parameter) (w : WellFormedSheet ps) (t : Test) where
 
       never : (es : List Entry) → LacksMeaning ps es t → ⊥
       never es (not-on-sheet n) = n i k j
+      never es (bare-bundle j′) = z (same-kind j j′)
       never es (neither e n) = pr-readable r e n
       never es (lacks-operator j′ v n) = n (has j′)
       never es (unreadable j′ v n) = n (reads j′)
 
       no-line : (n : ℕ) → TestLine ps t n → ⊥
       no-line n (line-14 m) = m i k j
+      no-line n (line-14-bundle j′) = z (same-kind j j′)
       no-line n (line-15 u) = both-ways (operator-iff k (t .operator) .1 o) (unsupported-lacks k (t .operator) u)
       no-line n (line-16 j′ u m) = m (has j′)
       no-line n (line-17 j′ m) = m (reads j′)

@@ -2,6 +2,7 @@
 -- Assumes nothing.
 use Prim.Native.Nat.{ℕ}
 use native.Mathlib.Omega.{arith}
+use mathlib.Core.Bool.{false}
 use mathlib.Core.Path.{_≡_, refl, subst}
 use mathlib.Core.List.{List, []}
 use mathlib.Core.Option.{some}
@@ -57,7 +58,7 @@ unfolding titleTest codeTest trialParameters testFault kindFault lookup find fin
 faults-found = (refl, refl)
 
 trial-well-formed : WellFormedSheet trialParameters
-trial-well-formed = sheet-reads-iff trialSheet trialParameters .0 trial-sheet-reads .0
+trial-well-formed = sheet-reads-iff trialSheet false trialParameters .0 trial-sheet-reads .0
 
 outcome-as : (t : Test) (fault : Fault) → testFault trialParameters t ≡ fault → TestOutcome trialParameters t (faultStep fault (t .at))
 outcome-as t fault e = subst (λ (k : Fault). TestOutcome trialParameters t (faultStep k (t .at))) e (outcome trialParameters trial-well-formed t)
@@ -83,9 +84,9 @@ module _ (check : Answer) (match : List ℕ → Answer) where
     unfolding testsOf
     passed = d .passes .1 (all-cons title-means all-empty)
 
-    judged : match (encodeCard 0 []) ≡ no
+    judged : match (encodeCard false 0 []) ≡ no
     unfolding testsOf filterSays evaluate testSays saysOf someValue valuesAt lookup find findFrom equal trialParameters titleTest meaningOf rowMeaning relationIn row stringRow
-    judged = d .verdict passed (encodeCard 0 []) [] (empty-conforms trialParameters)
+    judged = d .verdict passed (encodeCard false 0 []) [] (empty-conforms trialParameters)
 
   -- a filter without is refused, and match refuses alike
   module _ (d : Demand trialParameters (test codeTest) check match) where

@@ -1,6 +1,6 @@
 -- What is found on a sheet, which operators have a meaning and which cards conform: the computed tests are the rules.
 -- Assumes nothing.
-use Prim.Native.Nat.{ℕ}
+use Prim.Native.Nat.{ℕ, zero, suc}
 use native.Mathlib.Omega.{arith}
 use mathlib.Core.Path.{_≡_, refl, ap, sym, _∙_, subst}
 use mathlib.Core.Bool.{true, false, cond, not, false≢true}
@@ -14,20 +14,20 @@ use Rattle.base.specs.Operators.{eq, ne, ap as approximately, pr, ss, sb, «in�
 use Rattle.base.specs.Options.{isSome}
 use Rattle.base.proofs.Lists.{every-member}
 use Rattle.base.proofs.Tests.{and-left, and-right, and-both, both-ways, cond-elim}
-use Rattle.sheet.specs.Sheet.{Parameter, parameter}
+use Rattle.sheet.specs.Sheet.{Parameter, parameter, kindAt}
 use Rattle.sheet.specs.Encode.{Distinct}
-use Rattle.sheet.specs.Find.{kindOf}
 use Rattle.sheet.specs.declared.Found.{Found}
-use Rattle.sheet.specs.declared.Kind.{Kind}
-use Rattle.sheet.proofs.Listed.{find-iff, kind-iff}
+use Rattle.sheet.proofs.Listed.{find-iff, at-listed, listed-kind}
 use Rattle.card.specs.Card.{Entry}
 use Rattle.syntax.specs.Tree.{Path, name}
 use Rattle.kind.specs.Table.{Use, means, stringRow, numberRow, dateRow, tokenRow, referenceRow, row, relationIn, asked, rowMeaning, meaningOf, isMeaning, hasMeaning}
 use Rattle.kind.specs.Kinds.{string, number, date, token, reference}
 use Rattle.kind.specs.declared.Meaning.{Meaning}
 use Rattle.kind.specs.declared.Relation.{Relation}
-use Rattle.judge.specs.Sets.{lookup, readableAs, entryConforms, conforms}
+use Rattle.kind.specs.Readable.{cardReadable}
+use Rattle.judge.specs.Sets.{lookup, entryConforms, conforms}
 use Rattle.judge.specs.Faults.{unsupported}
+use Rattle.sirophan.specs.Readable.{ReadableOnCard}
 use Rattle.sirophan.specs.Meaning.{EntryConforms, Names, names, NotOnSheet, InRow, HasOperator, operator-of-row, operator-pr, operator-ne}
 use Rattle.sirophan.proofs.Readable.{card-iff}
 
@@ -114,11 +114,11 @@ unsupported-lacks kind k h = not-true (hasMeaning k kind) (every-member (λ o. n
 module _ (ps : List Parameter) (d : Distinct ps) where
   names-there : (path : Path) (i k : ℕ) → lookup ps path ≡ Found.At i k → Names ps path i k
   unfolding lookup
-  names-there (name n) i k h = names (find-iff n ps d i k .0 h)
+  names-there (name n) i k h = names (find-iff 0 n ps d i k .0 h)
 
   names-back : {path : Path} {i k : ℕ} → Names ps path i k → lookup ps path ≡ Found.At i k
   unfolding lookup
-  names-back (names {n = n} {i = i} {k = k} l) = find-iff n ps d i k .1 l
+  names-back (names {n = n} {i = i} {k = k} l) = find-iff 0 n ps d i k .1 l
 
   -- a path is found exactly where it names a parameter
   pub names-iff : (path : Path) (i k : ℕ) → (lookup ps path ≡ Found.At i k) ↔ Names ps path i k
@@ -138,23 +138,24 @@ module _ (ps : List Parameter) (d : Distinct ps) where
 -- ---- cards
 
 module _ (ps : List Parameter) where
-  entry-there : (e : Entry) (o : Kind) → kindOf (e .index) ps ≡ o → readableAs o (e .text) ≡ true → EntryConforms ps e
-  entry-there e (Kind.Known k) g h =
-      let l = kind-iff (e .index) ps k .0 g in
-      record { parameter = parameter k (l .0); listed = l .1; readable = card-iff k (e .text) .0 h }
-  entry-there e Kind.Unknown g h = absurd (false≢true h)
+  entry-there : (e : Entry) (k : ℕ) → kindAt (e .index) ps ≡ k → cardReadable k (e .text) ≡ true → EntryConforms ps e
+  unfolding cardReadable
+  entry-there e zero g h = absurd (false≢true h)
+  entry-there e (suc k) g h =
+      let l = at-listed (e .index) ps k g in
+      record { parameter = l .0; listed = l .1; readable = subst (λ (m : ℕ). ReadableOnCard m (e .text)) (sym (l .2)) (card-iff (suc k) (e .text) .0 h) }
 
   entry-back : (e : Entry) → EntryConforms ps e → entryConforms ps e ≡ true
   unfolding entryConforms
   entry-back e c =
       let k = c .parameter .kind in
-      ap (λ (o : Kind). readableAs o (e .text)) (kind-iff (e .index) ps k .1 (c .parameter .name, c .listed)) ∙ card-iff k (e .text) .1 (c .readable)
+      ap (λ (m : ℕ). cardReadable m (e .text)) (listed-kind ps (e .index) (c .parameter) (c .listed)) ∙ card-iff k (e .text) .1 (c .readable)
 
   entries-there : (es : List Entry) → conforms ps es ≡ true → All (EntryConforms ps) es
   unfolding conforms entryConforms
   entries-there [] h = all-empty
   entries-there (e ∷ es) h =
-      all-cons (entry-there e (kindOf (e .index) ps) refl (and-left (entryConforms ps e) (conforms ps es) h)) (entries-there es (and-right (entryConforms ps e) (conforms ps es) h))
+      all-cons (entry-there e (kindAt (e .index) ps) refl (and-left (entryConforms ps e) (conforms ps es) h)) (entries-there es (and-right (entryConforms ps e) (conforms ps es) h))
 
   entries-back : (es : List Entry) → All (EntryConforms ps) es → conforms ps es ≡ true
   unfolding conforms

@@ -11,7 +11,7 @@ use Rattle.base.specs.Operators.{eq, ne, pr}
 use Rattle.block.specs.Words.{word}
 use Rattle.block.specs.Sum.{checkSum}
 use Rattle.block.specs.declared.Reading.{Reading}
-use Rattle.sheet.specs.Sheet.{Parameter}
+use Rattle.sheet.specs.Sheet.{Parameter, bundleKind}
 use Rattle.card.specs.Card.{Entry, recordNumber, entriesOf}
 use Rattle.syntax.specs.Tree.{Test}
 use Rattle.kind.specs.Table.{row, relationIn}
@@ -48,11 +48,12 @@ pub data MeansFor (operator kind : ℕ) : Meaning → Type 0 where
 -- the fault of a test
 pub data Judged (ps : List Parameter) (t : Test) : Fault → Type 0 where
   judged-unknown : NotOnSheet ps (t .path) → Judged ps t Fault.UnknownName
-  judged-unsupported : {i k : ℕ} → Names ps (t .path) i k → unsupported (t .operator) ≡ true → Judged ps t Fault.Unsupported
-  judged-meaningless : {i k : ℕ} → Names ps (t .path) i k → unsupported (t .operator) ≡ false → (HasOperator k (t .operator) → ⊥) → Judged ps t Fault.NoMeaning
-  judged-unreadable : {i k : ℕ} → Names ps (t .path) i k → unsupported (t .operator) ≡ false → HasOperator k (t .operator)
+  judged-bundle : {i : ℕ} → Names ps (t .path) i bundleKind → Judged ps t Fault.UnknownName
+  judged-unsupported : {i k : ℕ} → (k ≡ bundleKind → ⊥) → Names ps (t .path) i k → unsupported (t .operator) ≡ true → Judged ps t Fault.Unsupported
+  judged-meaningless : {i k : ℕ} → (k ≡ bundleKind → ⊥) → Names ps (t .path) i k → unsupported (t .operator) ≡ false → (HasOperator k (t .operator) → ⊥) → Judged ps t Fault.NoMeaning
+  judged-unreadable : {i k : ℕ} → (k ≡ bundleKind → ⊥) → Names ps (t .path) i k → unsupported (t .operator) ≡ false → HasOperator k (t .operator)
       → (ReadableValue k (t .value) (t .operator) → ⊥) → Judged ps t Fault.Unreadable
-  judged-right : {i k : ℕ} → Names ps (t .path) i k → HasOperator k (t .operator) → ReadableValue k (t .value) (t .operator) → Judged ps t Fault.Nothing
+  judged-right : {i k : ℕ} → (k ≡ bundleKind → ⊥) → Names ps (t .path) i k → HasOperator k (t .operator) → ReadableValue k (t .value) (t .operator) → Judged ps t Fault.Nothing
 
 -- the table gives the test the number n, and there is a conforming card on which it lacks a meaning
 pub record Refused (ps : List Parameter) (t : Test) (n : ℕ) : Type 0 where

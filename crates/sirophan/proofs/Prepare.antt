@@ -71,7 +71,7 @@ module _ (sheet text : List ℕ) (r : Step Prepared) (e : prepare sheet text ≡
 sheet-taken : (sheet : List ℕ) (s : SheetBlock sheet) → takeSheet sheet ≡ found (s .parameters)
 unfolding takeSheet
 sheet-taken sheet s =
-    let r = sheet-reads-iff sheet (s .parameters) .1 (s .well-formed, s .encoded) in
+    let r = sheet-reads-iff sheet (s .marked) (s .parameters) .1 (s .well-formed, s .form, s .encoded) in
     rw (r .reading, r .parameters)
 
 spells-length : (text : List ℕ) (f : Tree) → Spells text f → length text ≡ 0 → ⊥

@@ -27,10 +27,10 @@ use Rattle.token.specs.Namespace.{standsFor, namespaceOf}
 use Rattle.token.specs.Match as token
 use Rattle.block.specs.Sum.{sumFrom, checkSum}
 use Rattle.block.specs.Seal as block
-use Rattle.block.specs.Items.{zeros, next, textAt, laidOut, hasLayout, items}
+use Rattle.block.specs.Items.{zeros, hasMarks, lengthAt, next, markAt, textAt, laidOut, hasLayout, hasEither, items}
 use Rattle.block.specs.Readings.{reading}
-use Rattle.sheet.specs.Sheet.{parameterCount, parametersOf, isParameter, areParameters, absent, distinct, sheetLayout, readSheet}
-use Rattle.sheet.specs.Find.{findFrom, find, kindOf}
+use Rattle.sheet.specs.Sheet.{parameterCount, parametersOf, isKind, isParameter, areParameters, clashes, absent, distinct, kindAt, hasParent, haveParents, areRight, sheetLayout, readSheet}
+use Rattle.sheet.specs.Find.{findFrom, find}
 use Rattle.sheet.specs.Trial.{trialSheet}
 use Rattle.card.specs.Card.{entryCount, entriesOf, readCard}
 use Rattle.card.specs.Trial.{trialCard}
@@ -53,7 +53,7 @@ abbrev given : List Row → List Answer
 given = map (λ r. matchAnswer trialSheet (r .filter) trialCard)
 
 trial-computed : given trialRows ≡ map (λ r. r .gives) trialRows
-unfolding trialRows trialSheet trialCard matchAnswer takeCard prepare testsStep takeFilter takeSheet filterSays evaluate testSays saysOf isEmpty someValue firstFault testFault kindFault unsupported conforms entryConforms valuesAt lookup stands dateStands numberStands stringStands kind.valueReadable kind.isTrue kind.filterReadable kind.cardReadable table.hasMeaning table.meaningOf table.rowMeaning table.relationIn table.row table.tokenRow table.dateRow table.numberRow table.stringRow read filterAt itemAt filterOf chainOf closeAt connectiveAt headAt openAt testAt testOperator testValue operatorAt findOperator follows valueAt stringAt stringFrom stepOf isBare testsOf readCard entriesOf entryCount kindOf find findFrom readSheet sheetLayout distinct absent areParameters isParameter parametersOf parameterCount reading items hasLayout laidOut textAt next zeros block.check checkSum sumFrom token.matches token.meets token.asks namespaceOf standsFor forms.filterReadable forms.filterForm forms.splitForm tokens.cardReadable tokens.cardToken tokens.splitToken tokens.tokenOf split firstBar date.inside date.same date.earlierOrInside dates.readable dates.isDate dates.read dates.readYear dates.readMonth dates.fieldAt dates.fourAt dates.twoAt dates.pair dates.digitOf spans.monthDate spans.yearDate spans.daysFrom spans.dateOf spans.instant spans.epoch calendar.dayNumber calendar.daysOfYears calendar.daysBeforeMonth calendar.monthLength calendar.yearLength calendar.leapYear fields.validMonth fields.between number.same number.greater number.atLeast number.covers number.halfUnit number.exactValue number.plus number.isEqual number.isAtMost number.isLess numbers.readable numbers.read numbers.readFraction numbers.valueFrom texts.same texts.contains foldText foldByte runEnd run operatorWords isName isReserved isNamePart isNameStart isLetter names.between isDigit hasInfix hasPrefix member equal every
+unfolding trialRows trialSheet trialCard matchAnswer takeCard prepare testsStep takeFilter takeSheet filterSays evaluate testSays saysOf isEmpty someValue firstFault testFault kindFault unsupported conforms entryConforms valuesAt lookup stands dateStands numberStands stringStands kind.valueReadable kind.isTrue kind.filterReadable kind.cardReadable table.hasMeaning table.meaningOf table.rowMeaning table.relationIn table.row table.tokenRow table.dateRow table.numberRow table.stringRow read filterAt itemAt filterOf chainOf closeAt connectiveAt headAt openAt testAt testOperator testValue operatorAt findOperator follows valueAt stringAt stringFrom stepOf isBare testsOf readCard entriesOf entryCount kindAt find findFrom readSheet sheetLayout areRight haveParents hasParent distinct absent clashes areParameters isParameter isKind parametersOf parameterCount reading items hasEither hasLayout laidOut textAt markAt next lengthAt hasMarks zeros block.check checkSum sumFrom token.matches token.meets token.asks namespaceOf standsFor forms.filterReadable forms.filterForm forms.splitForm tokens.cardReadable tokens.cardToken tokens.splitToken tokens.tokenOf split firstBar date.inside date.same date.earlierOrInside dates.readable dates.isDate dates.read dates.readYear dates.readMonth dates.fieldAt dates.fourAt dates.twoAt dates.pair dates.digitOf spans.monthDate spans.yearDate spans.daysFrom spans.dateOf spans.instant spans.epoch calendar.dayNumber calendar.daysOfYears calendar.daysBeforeMonth calendar.monthLength calendar.yearLength calendar.leapYear fields.validMonth fields.between number.same number.greater number.atLeast number.covers number.halfUnit number.exactValue number.plus number.isEqual number.isAtMost number.isLess numbers.readable numbers.read numbers.readFraction numbers.valueFrom texts.same texts.contains foldText foldByte runEnd run operatorWords isName isReserved isNamePart isNameStart isLetter names.between isDigit hasInfix hasPrefix member equal every
 trial-computed = refl
 
 pub trial-rows : All (λ (r : Row). matchAnswer trialSheet (r .filter) trialCard ≡ r .gives) trialRows

@@ -1,11 +1,12 @@
 -- Which cards conform to a sheet, and when a test lacks a meaning on a card: document 01's "Meaning", in its words.
 -- Assumes nothing.
 use Prim.Native.Nat.{ℕ}
+use mathlib.Core.Bool.{Bool}
 use mathlib.Core.Path.{_≡_}
 use mathlib.Core.List.{List, [], List·Memᴰ}
 use Rattle.base.specs.Lists.{All}
 use Rattle.base.specs.Operators.{eq, ne, pr}
-use Rattle.sheet.specs.Sheet.{Parameter, parameter}
+use Rattle.sheet.specs.Sheet.{Parameter, parameter, bundleKind}
 use Rattle.sheet.specs.Find.{Listed}
 use Rattle.card.specs.Card.{Entry}
 use Rattle.card.specs.Encode.{encodeCard, WellFormedCard}
@@ -25,16 +26,17 @@ pub record EntryConforms (ps : List Parameter) (e : Entry) : Type 0 where
 
 -- 01: a card fits a sheet: the bytes are those of a well-formed card with the entries es, and each of them conforms
 pub record Conforms (ps : List Parameter) (b : List ℕ) (es : List Entry) : Type 0 where
+  pub marked : Bool
   pub number : ℕ
-  pub well-formed : WellFormedCard number es
-  pub encoded : b ≡ encodeCard number es
+  pub well-formed : WellFormedCard marked number es
+  pub encoded : b ≡ encodeCard marked number es
   pub entries : All (EntryConforms ps) es
 
 -- ---- names and operators
 
--- the path names the parameter with the index i and the kind k
+-- the path names the parameter with the index i and the kind k, which stands at the top
 pub data Names (ps : List Parameter) : Path → ℕ → ℕ → Type 0 where
-  names : {n : List ℕ} {i k : ℕ} → Listed ps i (parameter k n) → Names ps (name n) i k
+  names : {n : List ℕ} {i k : ℕ} → Listed ps i (parameter k 0 n) → Names ps (name n) i k
 
 -- "its name is not on the sheet"
 abbrev pub NotOnSheet : List Parameter → Path → Type 0
@@ -52,10 +54,12 @@ pub data HasOperator (kind : ℕ) : ℕ → Type 0 where
 
 -- ---- meaning
 
--- "a test has no meaning on a card exactly when": the four ways of it, on a card with the entries es
+-- "a test has no meaning on a card exactly when": the ways of it, on a card with the entries es
 pub data LacksMeaning (ps : List Parameter) (es : List Entry) (t : Test) : Type 0 where
   -- "its name is not on the sheet"
   not-on-sheet : NotOnSheet ps (t .path) → LacksMeaning ps es t
+  -- 02: "a bare name that is a bundle's or a member's counts as not on the sheet"
+  bare-bundle : {i : ℕ} → Names ps (t .path) i bundleKind → LacksMeaning ps es t
   -- "pr's value is neither true nor false"
   neither : t .operator ≡ pr → (TrueOrFalse (t .value) → ⊥) → LacksMeaning ps es t
   -- "the set is not empty and its kind lacks the operation"

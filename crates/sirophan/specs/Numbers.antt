@@ -4,7 +4,7 @@ use Prim.Native.Nat.{ℕ, _≤_}
 use mathlib.Core.Path.{_≡_}
 use mathlib.Core.Bool.{true, false}
 use mathlib.Core.List.{List}
-use Rattle.sheet.specs.Sheet.{Parameter}
+use Rattle.sheet.specs.Sheet.{Parameter, bundleKind}
 use Rattle.syntax.specs.Tree.{Test}
 use Rattle.judge.specs.Faults.{unsupported}
 use Rattle.sirophan.specs.Readable.{ReadableValue}
@@ -18,6 +18,8 @@ rank n = n
 pub data TestLine (ps : List Parameter) (t : Test) : ℕ → Type 0 where
   -- "name not on the sheet"
   line-14 : NotOnSheet ps (t .path) → TestLine ps t 14
+  -- 02: a bundle's name "counts as not on the sheet"
+  line-14-bundle : {i : ℕ} → Names ps (t .path) i bundleKind → TestLine ps t 14
   -- "word is ap, ss, sb, in or ni"
   line-15 : unsupported (t .operator) ≡ true → TestLine ps t 15
   -- "another word without a meaning for the kind"

@@ -10,8 +10,8 @@ find-requires c κs = search needs
 enum-known-kind : tie.Need-enum-known-kind
 enum-known-kind c = search needs
 
-kind-fault-requires : tie.Need-kind-fault-requires
-kind-fault-requires c κs = search needs
+parameter-fault-requires : tie.Need-parameter-fault-requires
+parameter-fault-requires c κs = search needs
 
 enum-told : tie.Need-enum-told
 enum-told c = search needs
@@ -25,4 +25,4 @@ returns-2 c = search (fault-missing, needs)
 pub fault-at-spec : {M : Type 1} → statement M
 fault-at-spec =
     tie.close
-    (tie.spec find-requires enum-known-kind kind-fault-requires enum-told returns returns-2)
+    (tie.spec find-requires enum-known-kind parameter-fault-requires enum-told returns returns-2)
