@@ -1,4 +1,7 @@
 //! The two blocks of 512 bytes, sheet and card: their check sum, how they are read and how they are written.
+//!
+//! Each has two forms, told apart by its first byte. In the marked form the head of an entry has one byte more, its mark:
+//! on a sheet the parameter's bundle, on a card the occurrence.
 
 /// The size of a block.
 pub const SIZE: usize = 512;
@@ -6,8 +9,14 @@ pub const SIZE: usize = 512;
 pub const SUMMED: usize = 508;
 /// The first byte of a sheet.
 pub const SHEET: u8 = 0x50;
+/// The first byte of a sheet whose parameters may have bundles.
+pub const MARKED_SHEET: u8 = 0x51;
 /// The first byte of a card.
 pub const CARD: u8 = 0x43;
+/// The first byte of a card whose entries have occurrences.
+pub const MARKED_CARD: u8 = 0x44;
+/// What stands on a marked sheet in the place of a kind's number where the parameter is a bundle.
+pub const BUNDLE: u8 = 7;
 /// The most parameters that a sheet may have.
 pub const MOST_PARAMETERS: usize = 32;
 /// The longest name that a sheet may give a parameter.
@@ -44,7 +53,10 @@ impl Kind {
 /// One parameter of a sheet.
 #[derive(Clone, Debug, PartialEq, Eq)]
 pub struct Parameter {
-    pub kind: Kind,
+    /// The kind of its texts; none for a bundle, which has no texts.
+    pub kind: Option<Kind>,
+    /// The place of the bundle that it is a member of; none at the top.
+    pub bundle: Option<usize>,
     pub name: Vec<u8>,
 }
 
@@ -54,11 +66,20 @@ pub struct Sheet {
     pub parameters: Vec<Parameter>,
 }
 
-/// A card as it was read: its record number, and for each entry the parameter's place and the text.
+/// A card as it was read.
 #[derive(Clone, Debug, PartialEq, Eq)]
 pub struct Card<'a> {
     pub record: u32,
-    pub entries: Vec<(u8, &'a [u8])>,
+    pub entries: Vec<Entry<'a>>,
+}
+
+/// One entry of a block: on a sheet a kind's number, a bundle's place plus 1 and a name; on a card a parameter's place,
+/// an occurrence and a text. Where the block is not marked the mark is 0.
+#[derive(Clone, Copy, Debug, PartialEq, Eq)]
+pub struct Entry<'a> {
+    pub head: u8,
+    pub mark: u8,
+    pub text: &'a [u8],
 }
 
 /// What is wrong with a block. The first that holds, in this order, is the one that is told.
@@ -82,18 +103,14 @@ pub fn check_sum(bytes: &[u8]) -> u32 {
 pub fn read_sheet(bytes: &[u8]) -> Result<Sheet, Flaw> {
     let summed = summed_part(bytes)?;
     let (first, count, rest) = (summed[0], summed[1], &summed[2..]);
-    if first != SHEET || usize::from(count) > MOST_PARAMETERS {
+    if ![SHEET, MARKED_SHEET].contains(&first) || usize::from(count) > MOST_PARAMETERS {
         return Err(Flaw::Layout);
     }
-    let mut parameters: Vec<Parameter> = Vec::with_capacity(count.into());
-    for (number, name) in read_entries(rest, count).ok_or(Flaw::Layout)? {
-        let kind = Kind::from_number(number).ok_or(Flaw::Layout)?;
-        let is_new = parameters.iter().all(|other| other.name != name);
-        if name.len() > LONGEST_NAME || !is_name(name) || !is_new {
-            return Err(Flaw::Layout);
-        }
-        let name = name.to_vec();
-        parameters.push(Parameter { kind, name });
+    let entries = read_entries(rest, count, is_marked(first)).ok_or(Flaw::Layout)?;
+    let parameters = entries.into_iter().map(|entry| read_parameter(entry, is_marked(first)));
+    let parameters: Vec<Parameter> = parameters.collect::<Option<_>>().ok_or(Flaw::Layout)?;
+    if !have_bundles(&parameters) || !are_told_apart(&parameters) {
+        return Err(Flaw::Layout);
     }
     Ok(Sheet { parameters })
 }
@@ -102,12 +119,48 @@ pub fn read_sheet(bytes: &[u8]) -> Result<Sheet, Flaw> {
 pub fn read_card(bytes: &[u8]) -> Result<Card<'_>, Flaw> {
     let summed = summed_part(bytes)?;
     let (first, count, rest) = (summed[0], summed[5], &summed[6..]);
-    if first != CARD || usize::from(count) > MOST_ENTRIES {
+    if ![CARD, MARKED_CARD].contains(&first) || usize::from(count) > MOST_ENTRIES {
         return Err(Flaw::Layout);
     }
     let record = u32::from_le_bytes([summed[1], summed[2], summed[3], summed[4]]);
-    let entries = read_entries(rest, count).ok_or(Flaw::Layout)?;
+    let entries = read_entries(rest, count, is_marked(first)).ok_or(Flaw::Layout)?;
     Ok(Card { record, entries })
+}
+
+/// Whether the entries of a block with this first byte have marks.
+pub fn is_marked(first: u8) -> bool {
+    [MARKED_SHEET, MARKED_CARD].contains(&first)
+}
+
+/// Reads one parameter by itself: its kind, which is a bundle only on a marked sheet, and its name.
+fn read_parameter(entry: Entry, marked: bool) -> Option<Parameter> {
+    let kind = match entry.head {
+        BUNDLE if marked => None,
+        number => Some(Kind::from_number(number)?),
+    };
+    let bundle = usize::from(entry.mark).checked_sub(1);
+    let name = entry.text.to_vec();
+    (name.len() <= LONGEST_NAME && is_name(&name)).then_some(Parameter { kind, bundle, name })
+}
+
+/// Whether each parameter stands at the top or in a bundle; a bundle stands at the top.
+fn have_bundles(parameters: &[Parameter]) -> bool {
+    let is_bundle = |place: usize| parameters.get(place).is_some_and(|parameter| parameter.kind.is_none());
+    let mut members = parameters.iter().filter_map(|parameter| Some((parameter.kind, parameter.bundle?)));
+    members.all(|(kind, bundle)| kind.is_some() && is_bundle(bundle))
+}
+
+/// Whether no two parameters share a name, save members of different bundles.
+fn are_told_apart(parameters: &[Parameter]) -> bool {
+    let may_share = |one: &Parameter, other: &Parameter| {
+        let bundles = one.bundle.zip(other.bundle);
+        bundles.is_some_and(|(one, other)| one != other)
+    };
+    let is_new = |(place, parameter): (usize, &Parameter)| {
+        let mut before = parameters[..place].iter();
+        before.all(|other| other.name != parameter.name || may_share(other, parameter))
+    };
+    parameters.iter().enumerate().all(is_new)
 }
 
 /// Whether the text is a name: "_" or a letter, then those, "-" or digits, and none of the words and, or, not.
@@ -130,43 +183,86 @@ fn summed_part(bytes: &[u8]) -> Result<&[u8], Flaw> {
     Ok(summed)
 }
 
-/// Reads this many entries, each a head byte, a length and a text; what follows the last one must be zeros.
-fn read_entries(mut rest: &[u8], count: u8) -> Option<Vec<(u8, &[u8])>> {
+/// Reads this many entries, each a head byte, perhaps a mark, a length and a text; what follows the last one must be
+/// zeros.
+fn read_entries(mut rest: &[u8], count: u8, marked: bool) -> Option<Vec<Entry<'_>>> {
+    let mut next = |length: usize| {
+        let (taken, behind) = rest.split_at_checked(length)?;
+        rest = behind;
+        Some(taken)
+    };
     let mut entries = Vec::with_capacity(count.into());
     for _ in 0..count {
-        let (&[head, length], behind) = rest.split_first_chunk()?;
-        let (text, behind) = behind.split_at_checked(length.into())?;
-        entries.push((head, text));
-        rest = behind;
+        let head = next(1)?[0];
+        let mark = if marked { next(1)?[0] } else { 0 };
+        let length = next(1)?[0];
+        let text = next(length.into())?;
+        entries.push(Entry { head, mark, text });
     }
     rest.iter().all(|&byte| byte == 0).then_some(entries)
 }
 
 /// Writes a sheet of these kind numbers and names, whether they are right or not, if there is room.
 pub fn write_sheet(parameters: &[(u8, &[u8])]) -> Option<Vec<u8>> {
-    let count = u8::try_from(parameters.len()).ok()?;
-    write_block(&[SHEET, count], parameters)
+    write_sheet_as(SHEET, &unmarked(parameters))
+}
+
+/// Writes a sheet of the form that its first byte tells.
+pub fn write_sheet_as(first: u8, parameters: &[Entry]) -> Option<Vec<u8>> {
+    write_block(&sheet_head(first, parameters.len())?, parameters)
 }
 
 /// Writes a card of this record number, places and texts, whether they are right or not, if there is room.
 pub fn write_card(record: u32, entries: &[(u8, &[u8])]) -> Option<Vec<u8>> {
-    let count = u8::try_from(entries.len()).ok()?;
-    let [a, b, c, d] = record.to_le_bytes();
-    write_block(&[CARD, a, b, c, d, count], entries)
+    write_card_as(CARD, record, &unmarked(entries))
 }
 
-fn write_block(head: &[u8], entries: &[(u8, &[u8])]) -> Option<Vec<u8>> {
-    let mut block = head.to_vec();
-    for (head, text) in entries {
-        block.extend([*head, u8::try_from(text.len()).ok()?]);
-        block.extend_from_slice(text);
+/// Writes a card of the form that its first byte tells.
+pub fn write_card_as(first: u8, record: u32, entries: &[Entry]) -> Option<Vec<u8>> {
+    write_block(&card_head(first, record, entries.len())?, entries)
+}
+
+/// What stands on a sheet before its parameters.
+pub fn sheet_head(first: u8, parameters: usize) -> Option<[u8; 2]> {
+    Some([first, u8::try_from(parameters).ok()?])
+}
+
+/// What stands on a card before its entries.
+pub fn card_head(first: u8, record: u32, entries: usize) -> Option<[u8; 6]> {
+    let [a, b, c, d] = record.to_le_bytes();
+    Some([first, a, b, c, d, u8::try_from(entries).ok()?])
+}
+
+fn unmarked<'a>(entries: &[(u8, &'a [u8])]) -> Vec<Entry<'a>> {
+    let entries = entries.iter();
+    entries.map(|&(head, text)| Entry { head, mark: 0, text }).collect()
+}
+
+/// A block of this head and these entries, if there is room.
+fn write_block(head: &[u8], entries: &[Entry]) -> Option<Vec<u8>> {
+    let written = spell_entries(head, entries)?;
+    (written.len() <= SUMMED).then(|| sealed(written))
+}
+
+/// The head and the entries of a block, which may be longer than a block; none where a text is too long for its length.
+pub fn spell_entries(head: &[u8], entries: &[Entry]) -> Option<Vec<u8>> {
+    let marked = is_marked(head[0]);
+    let mut written = head.to_vec();
+    for entry in entries {
+        written.push(entry.head);
+        written.extend(marked.then_some(entry.mark));
+        written.push(u8::try_from(entry.text.len()).ok()?);
+        written.extend_from_slice(entry.text);
     }
-    if block.len() > SUMMED {
-        return None;
-    }
-    block.resize(SIZE, 0);
-    store_sum(&mut block);
-    Some(block)
+    Some(written)
+}
+
+/// A block of what was written of it, as far as it has room for that, with zeros and the check sum behind it.
+pub fn sealed(mut written: Vec<u8>) -> Vec<u8> {
+    written.truncate(SUMMED);
+    written.resize(SIZE, 0);
+    store_sum(&mut written);
+    written
 }
 
 /// Stores the check sum that a block of 512 bytes ought to have.
@@ -190,7 +286,7 @@ mod tests {
     fn sheets() {
         let good = write_sheet(&[(1, b"title"), (5, b"_id-2")]).unwrap();
         let sheet = read_sheet(&good).unwrap();
-        assert_eq!(sheet.parameters[1].kind, Kind::Reference);
+        assert_eq!(sheet.parameters[1].kind, Some(Kind::Reference));
         assert_eq!(sheet.parameters[1].name, b"_id-2");
         assert_eq!(read_sheet(&good[..511]), Err(Flaw::Size));
 
@@ -201,6 +297,7 @@ mod tests {
         for parameters in [
             &[(0, &b"a"[..])][..],
             &[(6, b"a")],
+            &[(7, b"a")],
             &[(1, b"")],
             &[(1, b"0")],
             &[(1, b"-a")],
@@ -232,7 +329,7 @@ mod tests {
         assert_eq!(read_card(&card), Err(Flaw::Layout));
 
         let mut card = write_card(1, &[(9, b"")]).unwrap();
-        assert_eq!(read_card(&card).unwrap().entries, [(9, &b""[..])]);
+        assert_eq!(read_card(&card).unwrap().entries, [Entry { head: 9, mark: 0, text: b"" }]);
         card[507] = 1;
         store_sum(&mut card);
         assert_eq!(read_card(&card), Err(Flaw::Layout));
@@ -240,5 +337,69 @@ mod tests {
         let empty: (u8, &[u8]) = (0, b"");
         assert!(read_card(&write_card(1, &[empty; 64]).unwrap()).is_ok());
         assert!(read_card(&write_card(1, &[empty; 65]).unwrap()).is_err());
+    }
+
+    /// A marked sheet of kind numbers, marks and names.
+    fn marked_sheet(parameters: &[(u8, u8, &str)]) -> Result<Sheet, Flaw> {
+        let entries = parameters.iter();
+        let entries: Vec<_> = entries.map(|&(head, mark, name)| Entry { head, mark, text: name.as_bytes() }).collect();
+        read_sheet(&write_sheet_as(MARKED_SHEET, &entries).unwrap())
+    }
+
+    #[test]
+    fn bundles() {
+        let sheet = marked_sheet(&[(4, 2, "type"), (7, 0, "related"), (5, 2, "target"), (1, 0, "title")]).unwrap();
+        let read = sheet.parameters.iter().map(|parameter| (parameter.kind, parameter.bundle));
+        let token = (Some(Kind::Token), Some(1));
+        let reference = (Some(Kind::Reference), Some(1));
+        assert_eq!(read.collect::<Vec<_>>(), [token, (None, None), reference, (Some(Kind::String), None)]);
+
+        for parameters in [
+            &[(7, 0, "a"), (1, 0, "b"), (1, 2, "c")][..],
+            &[(7, 0, "a"), (1, 2, "b")],
+            &[(7, 0, "a"), (1, 3, "b")],
+            &[(7, 0, "a"), (1, 255, "b")],
+            &[(7, 0, "a"), (7, 1, "b")],
+            &[(7, 1, "a")],
+            &[(7, 0, "a"), (6, 1, "b")],
+            &[(7, 0, "a"), (1, 1, "a")],
+            &[(7, 0, "a"), (1, 1, "b"), (2, 1, "b")],
+            &[(7, 0, "a"), (1, 1, "b"), (2, 0, "b")],
+            &[(2, 0, "b"), (7, 0, "a"), (1, 2, "b")],
+            &[(7, 0, "a"), (7, 0, "a")],
+            &[(7, 0, "not")],
+        ] {
+            assert_eq!(marked_sheet(parameters), Err(Flaw::Layout), "{parameters:?}");
+        }
+        for parameters in [
+            &[][..],
+            &[(1, 0, "a")],
+            &[(7, 0, "a"), (7, 0, "b")],
+            &[(7, 0, "a"), (7, 0, "b"), (1, 1, "c"), (2, 2, "c")],
+        ] {
+            assert!(marked_sheet(parameters).is_ok(), "{parameters:?}");
+        }
+    }
+
+    #[test]
+    fn occurrences() {
+        let entries = [Entry { head: 3, mark: 255, text: b"a" }, Entry { head: 0, mark: 0, text: b"" }];
+        let mut card = write_card_as(MARKED_CARD, 1, &entries).unwrap();
+        assert_eq!(card[..13], [0x44, 1, 0, 0, 0, 2, 3, 255, 1, b'a', 0, 0, 0]);
+        assert_eq!(read_card(&card).unwrap().entries, entries);
+
+        // In the other form the occurrence is read as the length.
+        card[0] = CARD;
+        store_sum(&mut card);
+        assert_eq!(read_card(&card).unwrap().entries[0].text.len(), 255);
+
+        // The last text would go on one byte past the place 507.
+        let long = [b'x'; 255];
+        let full = [Entry { head: 0, mark: 0, text: &long }, Entry { head: 0, mark: 0, text: &long[..508 - 267] }];
+        let mut card = write_card_as(MARKED_CARD, 1, &full).unwrap();
+        assert!(read_card(&card).is_ok());
+        card[6 + 3 + 255 + 2] += 1;
+        store_sum(&mut card);
+        assert_eq!(read_card(&card), Err(Flaw::Layout));
     }
 }

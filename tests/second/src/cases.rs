@@ -2,7 +2,7 @@
 //!
 //! The head of that file says how it is written.
 
-use crate::block::{self, Kind};
+use crate::block::{self, CARD, Entry, Kind, MARKED_CARD, MARKED_SHEET, SHEET};
 use crate::operations::{self, Refusal};
 use std::fmt::Write;
 use std::iter::Peekable;
@@ -11,7 +11,7 @@ use std::slice;
 /// What the cells of a list hold before a selection.
 pub const UNTOUCHED: u32 = 999;
 
-/// The words for the kinds, in the order of their numbers.
+/// The words for the kinds of texts, in the order of their numbers.
 const KINDS: [&str; 5] = ["string", "number", "date", "token", "reference"];
 
 /// A block by name: a sheet or a card, sound or damaged.
@@ -116,9 +116,13 @@ impl Cases {
         };
         let words: Vec<&str> = head.split_whitespace().collect();
         let operation = match (words.as_slice(), filter) {
-            (["sheet", name], None) => return self.sheet(name, parts),
+            (["sheet", name], None) => return self.sheet(SHEET, name, parts),
+            (["marked", "sheet", name], None) => return self.sheet(MARKED_SHEET, name, parts),
             (["card", name, "on", sheet, "record", record], None) => {
-                return self.card(name, sheet, record.parse().ok()?, parts);
+                return self.card(CARD, name, sheet, record.parse().ok()?, parts);
+            }
+            (["marked", "card", name, "on", sheet, "record", record], None) => {
+                return self.card(MARKED_CARD, name, sheet, record.parse().ok()?, parts);
             }
             (["damaged", name, "from", other], None) => return self.damaged(name, other, parts),
             (["check", _], Some(_)) => Operation::Check,
@@ -141,35 +145,36 @@ impl Cases {
     }
 
     /// A sheet; each part is a kind, by word or number, and a name.
-    fn sheet(&mut self, name: &str, parts: &[&str]) -> Option<()> {
+    fn sheet(&mut self, first: u8, name: &str, parts: &[&str]) -> Option<()> {
         let mut parameters = Vec::new();
         for part in parts {
-            let (kind, name) = part.split_once(' ')?;
+            let (kind, mark, name) = cut(part, first)?;
             let kind = match KINDS.iter().position(|known| *known == kind) {
                 Some(index) => Kind::ALL[index].number(),
+                None if kind == "bundle" => block::BUNDLE,
                 None => kind.parse().ok()?,
             };
-            parameters.push((kind, bytes_of(name.trim())?));
+            parameters.push((kind, mark, bytes_of(name.trim())?));
         }
-        let bytes = block::write_sheet(&borrowed(&parameters))?;
+        let bytes = block::write_sheet_as(first, &borrowed(&parameters))?;
         self.block(name, bytes)
     }
 
     /// A card; each part is a parameter, by name or by place, and a text in backquotes.
-    fn card(&mut self, name: &str, sheet: &str, record: u32, parts: &[&str]) -> Option<()> {
+    fn card(&mut self, first: u8, name: &str, sheet: &str, record: u32, parts: &[&str]) -> Option<()> {
         let sheet = block::read_sheet(&self.blocks[self.index(sheet)?].bytes).ok()?;
         let mut entries = Vec::new();
         for part in parts {
-            let (name, text) = part.split_once(' ')?;
+            let (name, mark, text) = cut(part, first)?;
             let mut names = sheet.parameters.iter().map(|parameter| &parameter.name);
             let place = match names.position(|known| known == name.as_bytes()) {
                 Some(place) => u8::try_from(place).ok()?,
                 None => name.parse().ok()?,
             };
             let text = text.trim().strip_prefix('`')?.strip_suffix('`')?;
-            entries.push((place, bytes_of(text)?));
+            entries.push((place, mark, bytes_of(text)?));
         }
-        let bytes = block::write_card(record, &borrowed(&entries))?;
+        let bytes = block::write_card_as(first, record, &borrowed(&entries))?;
         self.block(name, bytes)
     }
 
@@ -224,9 +229,19 @@ fn indented<'a>(lines: &mut Peekable<impl Iterator<Item = (&'a str, u32)>>) -> V
     parts
 }
 
-fn borrowed(entries: &[(u8, Vec<u8>)]) -> Vec<(u8, &[u8])> {
+/// A part of a sheet or a card: its first word; the mark, a number, where the block has marks; and the rest.
+fn cut(part: &str, first: u8) -> Option<(&str, u8, &str)> {
+    let (word, rest) = part.split_once(' ')?;
+    if !block::is_marked(first) {
+        return Some((word, 0, rest));
+    }
+    let (mark, rest) = rest.split_once(' ')?;
+    Some((word, mark.parse().ok()?, rest))
+}
+
+fn borrowed(entries: &[(u8, u8, Vec<u8>)]) -> Vec<Entry<'_>> {
     let entries = entries.iter();
-    entries.map(|(head, text)| (*head, &text[..])).collect()
+    entries.map(|(head, mark, text)| Entry { head: *head, mark: *mark, text }).collect()
 }
 
 /// The bytes that a text of the file stands for: `{0A}` is the byte with that number, `{12*ab}` is ab twelve times.

@@ -1,6 +1,6 @@
 //! What a test asks of a card: which operations a kind has, which values are readable, and the yes or no.
 
-use crate::block::{Card, Kind, Sheet};
+use crate::block::{Card, Entry, Kind, Sheet};
 use crate::date::Date;
 use crate::filter::{Operation, Test};
 use crate::number::Decimal;
@@ -62,9 +62,10 @@ pub fn has_meaning(kind: Kind, operation: Operation) -> bool {
 /// What the test asks, or why it has no meaning.
 pub fn question(test: &Test, sheet: &Sheet) -> Result<Question, Fault> {
     let mut parameters = sheet.parameters.iter();
-    let place = parameters.position(|parameter| parameter.name == test.name);
+    let place = parameters.position(|parameter| parameter.bundle.is_none() && parameter.name == test.name);
     let place = place.ok_or(Fault::UnknownName)?;
-    let kind = sheet.parameters[place].kind;
+    // A bundle has no texts, so its name counts as not on the sheet.
+    let kind = sheet.parameters[place].kind.ok_or(Fault::UnknownName)?;
     let operation = test.operation;
     if matches!(operation, Operation::Ap | Operation::Ss | Operation::Sb | Operation::In | Operation::Ni) {
         return Err(Fault::UnservedOperation);
@@ -112,10 +113,10 @@ pub fn read_value(kind: Kind, text: &[u8]) -> Option<Value<'_>> {
 
 /// The card's values with their places, if the card fits the sheet.
 pub fn values<'a>(card: &Card<'a>, sheet: &Sheet) -> Option<Vec<(usize, Value<'a>)>> {
-    let value = |&(place, text)| {
-        let place = usize::from(place);
+    let value = |entry: &Entry<'a>| {
+        let place = usize::from(entry.head);
         let parameter = sheet.parameters.get(place)?;
-        Some((place, read_value(parameter.kind, text)?))
+        Some((place, read_value(parameter.kind?, entry.text)?))
     };
     card.entries.iter().map(value).collect()
 }
