@@ -32,6 +32,8 @@ pub struct Outcome {
     pub failed: u64,
     /// How often each operation gave each answer, by the second implementation.
     pub answers: BTreeMap<(&'static str, String), u64>,
+    /// How many cases have a sheet or a card of the marked form.
+    pub marked: u64,
     /// How many cases each mode made.
     pub modes: BTreeMap<&'static str, u64>,
 }
@@ -54,8 +56,12 @@ impl Outcome {
             println!("{operation}: {}", listed(answers.collect()));
         }
         let cases = self.passed + self.failed;
-        let verdicts = self.verdicts();
-        println!("seed {seed}, {cases} cases in {:.1} s, {verdicts} of them end in yes or no", time.as_secs_f64());
+        println!(
+            "seed {seed}, {cases} cases in {:.1} s, {} of them end in yes or no",
+            time.as_secs_f64(),
+            self.verdicts()
+        );
+        println!("{} of them have bundles or occurrences in a block", self.marked);
         println!("{} passed, {} failed", self.passed, self.failed);
     }
 }
@@ -66,6 +72,7 @@ pub fn run(library: &impl Library, seed: u64, cases: u64) -> Outcome {
     for number in 0..cases {
         let (case, mode) = generate::case(seed, number);
         *outcome.modes.entry(mode).or_default() += 1;
+        outcome.marked += u64::from(case.is_marked());
         let differences = compare(library, &case, &mut outcome.answers);
         if differences.is_empty() {
             outcome.passed += 1;

@@ -27,6 +27,7 @@ fn every_answer_and_mostly_verdicts() {
     let outcome = run(&Second, 1, cases);
     assert_eq!((outcome.passed, outcome.failed), (cases, 0));
     assert!(3 * outcome.verdicts() >= cases, "{} of {cases} end in yes or no", outcome.verdicts());
+    assert!(5 * outcome.marked >= cases, "{} of {cases} have a block of the marked form", outcome.marked);
     for number in [1, 2, 3, 10, 11, 14, 15, 16, 17, 20, 21, 22, 23, 30] {
         let answer = ("select", format!("refused-{number:02}"));
         assert!(outcome.answers.contains_key(&answer), "no selection is refused by {number}");

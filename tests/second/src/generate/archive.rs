@@ -2,65 +2,111 @@
 
 use super::random::Random;
 use super::texts;
-use crate::block::{self, Kind};
+use crate::block::{self, BUNDLE, CARD, Kind, MARKED_CARD, MARKED_SHEET, Parameter, SHEET};
 
 /// A sheet's parameters and some cards that fit it.
+#[derive(Clone)]
 pub struct Archive {
-    pub parameters: Vec<(Kind, Vec<u8>)>,
+    /// The sheet's first byte, which tells its form.
+    pub first: u8,
+    pub parameters: Vec<Parameter>,
     pub cards: Vec<Card>,
 }
 
-/// A card: its record number, and for each entry the place and the text.
+/// A card; its first byte tells its form.
 #[derive(Clone)]
 pub struct Card {
+    pub first: u8,
     pub record: u32,
-    pub entries: Vec<(u8, Vec<u8>)>,
+    pub entries: Vec<Entry>,
+}
+
+/// One entry of a card. The occurrence is lost on a card whose form has none.
+#[derive(Clone)]
+pub struct Entry {
+    pub place: usize,
+    pub occurrence: u8,
+    pub text: Vec<u8>,
 }
 
 impl Archive {
-    /// A sheet with some parameters, and cards with some entries each. Texts under one place are near each other.
+    /// A sheet with some parameters, perhaps of the marked form and with bundles, and cards with some entries each.
     pub fn new(random: &mut Random, most_parameters: usize, cards: usize, most_entries: usize) -> Archive {
-        let parameters = parameters(random, most_parameters);
-        let kinds = parameters.iter().map(|(kind, _)| *kind);
-        let anchors: Vec<Vec<u8>> = kinds.map(|kind| texts::readable(random, kind)).collect();
-        let mut archive = Archive { parameters, cards: Vec::new() };
-        for _ in 0..cards {
-            let mut card = Card { record: record(random), entries: Vec::new() };
-            for _ in 0..random.below(most_entries + 1) {
-                let (place, kind) = archive.parameter(random);
-                let text = texts::near_on_card(random, kind, &anchors[place]);
-                card.entries.push((place as u8, text));
+        let first = random.one(&[SHEET, SHEET, MARKED_SHEET]);
+        let mut parameters = parameters(random, most_parameters);
+        if block::is_marked(first) {
+            for _ in 0..random.below(3) {
+                add_bundle(random, &mut parameters);
             }
-            archive.cards.push(card);
         }
+        let mut archive = Archive { first, parameters, cards: Vec::new() };
+        archive.add_cards(random, cards, most_entries);
         archive
     }
 
-    /// One place of the sheet and its kind.
+    /// A marked sheet with one or two bundles, and cards as above.
+    pub fn with_bundles(random: &mut Random, most_parameters: usize, cards: usize, most_entries: usize) -> Archive {
+        let mut parameters = parameters(random, most_parameters);
+        for _ in 0..1 + random.below(2) {
+            add_bundle(random, &mut parameters);
+        }
+        let mut archive = Archive { first: MARKED_SHEET, parameters, cards: Vec::new() };
+        archive.add_cards(random, cards, most_entries);
+        archive
+    }
+
+    /// Adds cards. Texts under one place are near each other, and a card has few occurrences, so that entries share them.
+    fn add_cards(&mut self, random: &mut Random, cards: usize, most_entries: usize) {
+        let kinds = self.parameters.iter().map(|parameter| parameter.kind);
+        let mut anchor = |kind: Option<Kind>| Some((kind?, texts::readable(random, kind?)));
+        let anchors: Vec<Option<(Kind, Vec<u8>)>> = kinds.map(&mut anchor).collect();
+        let with_texts: Vec<usize> = (0..anchors.len()).filter(|&place| anchors[place].is_some()).collect();
+        for _ in 0..cards {
+            let occurrences = [random.one(&[0, 1, 2, 255]), random.one(&[0, 1, 2, 255])];
+            let mut card = Card { first: card_form(random, self.first), record: record(random), entries: Vec::new() };
+            for _ in 0..random.below(most_entries + 1) {
+                let place = random.one(&with_texts);
+                let Some((kind, anchor)) = &anchors[place] else { continue };
+                let text = texts::near_on_card(random, *kind, anchor);
+                card.entries.push(Entry { place, occurrence: random.one(&occurrences), text });
+            }
+            self.cards.push(card);
+        }
+    }
+
+    /// One place at the top that has texts, and its kind.
     pub fn parameter(&self, random: &mut Random) -> (usize, Kind) {
-        let place = random.below(self.parameters.len());
-        (place, self.parameters[place].0)
+        let at_top = |(place, parameter): (usize, &Parameter)| match parameter.bundle {
+            None => parameter.kind.map(|kind| (place, kind)),
+            Some(_) => None,
+        };
+        let parameters: Vec<(usize, Kind)> = self.parameters.iter().enumerate().filter_map(at_top).collect();
+        random.one(&parameters)
+    }
+
+    /// The places of the bundles.
+    pub fn bundles(&self) -> Vec<usize> {
+        let places = 0..self.parameters.len();
+        places.filter(|&place| self.parameters[place].kind.is_none()).collect()
     }
 
     pub fn name(&self, place: usize) -> &[u8] {
-        &self.parameters[place].1
+        &self.parameters[place].name
     }
 
-    /// A text that a card holds under the place, or another of its kind if no card holds any.
-    pub fn text_under(&self, random: &mut Random, place: usize) -> Vec<u8> {
+    /// A text that a card holds under the place, or another of the kind if no card holds any.
+    pub fn text_under(&self, random: &mut Random, place: usize, kind: Kind) -> Vec<u8> {
         let entries = self.cards.iter().flat_map(|card| &card.entries);
-        let under: Vec<_> = entries.filter(|(at, _)| usize::from(*at) == place).collect();
+        let under: Vec<_> = entries.filter(|entry| entry.place == place).collect();
         if under.is_empty() {
-            return texts::readable(random, self.parameters[place].0);
+            return texts::readable(random, kind);
         }
-        under[random.below(under.len())].1.clone()
+        under[random.below(under.len())].text.clone()
     }
 
     /// The sheet's block.
     pub fn sheet(&self) -> Vec<u8> {
-        let parameters = self.parameters.iter();
-        let parameters: Vec<_> = parameters.map(|(kind, name)| (kind.number(), &name[..])).collect();
-        block::write_sheet(&parameters).expect("the parameters have room")
+        sheet_block(self.first, &self.parameters)
     }
 
     /// The cards' blocks, one behind the other.
@@ -72,10 +118,10 @@ impl Archive {
 impl Card {
     /// The card's block. Entries that find no room are left out.
     pub fn block(&self) -> Vec<u8> {
-        let entries: Vec<_> = self.entries.iter().map(|(place, text)| (*place, &text[..])).collect();
+        let entries: Vec<_> = self.entries.iter().map(Entry::written).collect();
         let mut kept = entries.len().min(block::MOST_ENTRIES);
         loop {
-            if let Some(block) = block::write_card(self.record, &entries[..kept]) {
+            if let Some(block) = block::write_card_as(self.first, self.record, &entries[..kept]) {
                 return block;
             }
             kept -= 1;
@@ -83,22 +129,74 @@ impl Card {
     }
 }
 
-/// Some parameters of any kind, at least one, with different names that have room on a sheet.
-fn parameters(random: &mut Random, most: usize) -> Vec<(Kind, Vec<u8>)> {
+impl Entry {
+    pub fn written(&self) -> block::Entry<'_> {
+        block::Entry { head: self.place as u8, mark: self.occurrence, text: &self.text }
+    }
+}
+
+/// The block of a sheet, whether its parameters are right or not. What finds no room is cut off.
+pub fn sheet_block(first: u8, parameters: &[Parameter]) -> Vec<u8> {
+    let entry = |parameter| {
+        let Parameter { kind, bundle, name }: &Parameter = parameter;
+        let mark = bundle.map_or(0, |place| place as u8 + 1);
+        block::Entry { head: kind.map_or(BUNDLE, Kind::number), mark, text: name }
+    };
+    let entries: Vec<_> = parameters.iter().map(entry).collect();
+    let head = block::sheet_head(first, entries.len()).expect("few parameters");
+    block::sealed(block::spell_entries(&head, &entries).expect("short names"))
+}
+
+/// The first byte of a card. Cards of either form stand beside sheets of either form.
+fn card_form(random: &mut Random, sheet: u8) -> u8 {
+    let marked_in_six = if block::is_marked(sheet) { 4 } else { 1 };
+    if random.below(6) < marked_in_six { MARKED_CARD } else { CARD }
+}
+
+/// Some parameters of any kind, at least one, with different names that have room on a sheet of either form.
+fn parameters(random: &mut Random, most: usize) -> Vec<Parameter> {
     let wanted = 1 + random.below(most);
-    let mut parameters: Vec<(Kind, Vec<u8>)> = Vec::new();
-    let mut room = block::SUMMED - 2;
+    let mut parameters: Vec<Parameter> = Vec::new();
     while parameters.len() < wanted {
-        let name = name(random);
-        if room < 2 + name.len() {
+        let parameter = Parameter { kind: Some(random.one(&Kind::ALL)), bundle: None, name: name(random) };
+        let at = parameters.len();
+        if !insert(&mut parameters, at, parameter) && random.once_in(4) {
             break;
-        }
-        if parameters.iter().all(|(_, other)| *other != name) {
-            room -= 2 + name.len();
-            parameters.push((random.one(&Kind::ALL), name));
         }
     }
     parameters
+}
+
+/// Adds a bundle with some members, each at any place. Now and then a member has the name of another bundle's.
+fn add_bundle(random: &mut Random, parameters: &mut Vec<Parameter>) {
+    let others: Vec<Vec<u8>> = parameters.iter().filter(|it| it.bundle.is_some()).map(|it| it.name.clone()).collect();
+    let bundle_name = name(random);
+    let at = random.below(parameters.len() + 1);
+    if !insert(parameters, at, Parameter { kind: None, bundle: None, name: bundle_name.clone() }) {
+        return;
+    }
+    for _ in 0..1 + random.below(3) {
+        let name = match others.is_empty() || random.once_in(2) {
+            true => name(random),
+            false => others[random.below(others.len())].clone(),
+        };
+        let bundle = parameters.iter().position(|it| it.bundle.is_none() && it.name == bundle_name);
+        let at = random.below(parameters.len() + 1);
+        insert(parameters, at, Parameter { kind: Some(random.one(&Kind::ALL)), bundle, name });
+    }
+}
+
+/// Puts a parameter in at this place, if the sheet is sound with it, and tells whether it did.
+fn insert(parameters: &mut Vec<Parameter>, at: usize, parameter: Parameter) -> bool {
+    let mut more = parameters.clone();
+    more.insert(at, parameter);
+    let bundles = more.iter_mut().filter_map(|parameter| parameter.bundle.as_mut());
+    bundles.filter(|place| **place >= at).for_each(|place| *place += 1);
+    let is_sound = block::read_sheet(&sheet_block(MARKED_SHEET, &more)).is_ok();
+    if is_sound {
+        *parameters = more;
+    }
+    is_sound
 }
 
 /// A name, often one that is easily mistaken for another or for a word of the grammar.

@@ -14,7 +14,7 @@ pub fn test(random: &mut Random, archive: &Archive) -> Vec<u8> {
     let value = match word {
         b"pr" => truth(random),
         _ => {
-            let text = archive.text_under(random, place);
+            let text = archive.text_under(random, place, kind);
             texts::near_in_filter(random, kind, &text)
         }
     };
@@ -26,9 +26,10 @@ pub fn doubtful_test(random: &mut Random, archive: &Archive) -> Vec<u8> {
     let (place, kind) = archive.parameter(random);
     let mut name = archive.name(place).to_vec();
     if random.once_in(4) {
-        name = match random.below(3) {
+        name = match random.below(4) {
             0 => texts::one_byte_changed(random, &name),
             1 => [&name[..], &name[..]].concat(),
+            2 => archive.name(random.below(archive.parameters.len())).to_vec(),
             _ => random.one(&["ward", "And", "NOT", "not-x", "android", "_", "Title", "or"]).into(),
         };
     }
@@ -39,7 +40,7 @@ pub fn doubtful_test(random: &mut Random, archive: &Archive) -> Vec<u8> {
     let value = match random.below(4) {
         0 => truth(random),
         1 => {
-            let text = archive.text_under(random, place);
+            let text = archive.text_under(random, place, kind);
             texts::near(random, kind, &text)
         }
         2 if word == b"pr" => random.one(&["", "tru", "truee", "yes", "1", "falsee", "fals"]).into(),

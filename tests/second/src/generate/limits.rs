@@ -1,19 +1,19 @@
 //! Inputs that go to a limit of the definition, or one past it.
 
 use super::Case;
-use super::archive::{Archive, Card, record};
-use super::damage;
+use super::archive::{Archive, Card, Entry, record, sheet_block};
+use super::damage::{self, head_size};
 use super::filters;
 use super::modes::{case_of, cells};
 use super::random::Random;
 use super::texts;
-use crate::block::{self, Kind, SUMMED};
+use crate::block::{self, CARD, Kind, MARKED_CARD, MARKED_SHEET, Parameter, SHEET, SUMMED};
 use crate::filter::{DEEPEST, LONGEST, MOST_TESTS};
 use crate::operations::{self, MOST_CARDS};
 
 /// One of the inputs of this file.
 pub fn make(random: &mut Random) -> Case {
-    match random.below(9) {
+    match random.below(10) {
         0 => full_sheet(random),
         1 => full_card(random),
         2 => full_run(random),
@@ -22,6 +22,7 @@ pub fn make(random: &mut Random) -> Case {
         5 => deep_filter(random),
         6 => many_tests(random),
         7 => long_text(random),
+        8 => one_entry_more(random),
         _ => empty_sheet(random),
     }
 }
@@ -31,34 +32,43 @@ fn end(random: &mut Random) -> usize {
     random.one(&[SUMMED - 1, SUMMED, SUMMED, SUMMED + 1])
 }
 
-/// A sheet whose names fill it, with up to 33 parameters.
+/// A sheet whose names fill it, with up to 33 parameters. On a marked one the first or the last is a bundle, and some of
+/// the others are its members.
 fn full_sheet(random: &mut Random) -> Case {
     let mut archive = Archive::new(random, 1, 3, 2);
     archive.cards[0].entries.clear();
+    let first = random.one(&[SHEET, SHEET, MARKED_SHEET]);
     let count = random.one(&[16, 17, 31, 32, 33]);
-    let bytes = shares(end(random) - 2 - 2 * count, count);
+    let bytes = shares(end(random) - 2 - head_size(first) * count, count);
     let letter = b"abcdefghijklmnopqrstuvwxyzABCDEFGHI";
-    let mut parameters: Vec<(u8, Vec<u8>)> = Vec::new();
+    let mut parameters: Vec<Parameter> = Vec::new();
     for (index, length) in bytes.into_iter().enumerate() {
         let mut name = vec![b'-'; length];
         name[0] = letter[index];
-        parameters.push((1 + random.below(5) as u8, name));
+        parameters.push(Parameter { kind: Some(random.one(&Kind::ALL)), bundle: None, name });
+    }
+    if first == MARKED_SHEET {
+        let bundle = random.one(&[0, count - 1]);
+        let named = random.one(&[bundle, bundle, bundle, bundle, count]);
+        parameters[bundle].kind = None;
+        let members = parameters.iter_mut().filter(|parameter| parameter.kind.is_some());
+        members.filter(|_| random.once_in(3)).for_each(|parameter| parameter.bundle = Some(named));
     }
     // The names have room to change places in length, so that one can be at the limit or past it.
     if random.once_in(2) {
         let longest = block::LONGEST_NAME + random.below(2);
-        let spare = longest - parameters[0].1.len();
+        let spare = longest - parameters[0].name.len();
         let (first, rest) = parameters.split_at_mut(1);
-        if rest[0].1.len() > spare {
-            rest[0].1.truncate(rest[0].1.len() - spare);
-            first[0].1.resize(longest, b'-');
+        if rest[0].name.len() > spare {
+            rest[0].name.truncate(rest[0].name.len() - spare);
+            first[0].name.resize(longest, b'-');
         }
     }
-    let asked = parameters[random.one(&[0, count - 1])].1.clone();
+    let asked = parameters[random.one(&[0, count - 1])].name.clone();
     let value = filters::truth(random);
     let filter = filters::spell_test(random, &asked, b"pr", &value);
     let mut case = case_of(random, &archive, filter);
-    case.sheet = overlong(&[block::SHEET, count as u8], &parameters);
+    case.sheet = sheet_block(first, &parameters);
     case
 }
 
@@ -68,39 +78,59 @@ fn empty_sheet(random: &mut Random) -> Case {
     let test = filters::test(random, &archive);
     let filter = filters::join(random, &[test], 1);
     let mut case = case_of(random, &archive, filter);
-    case.sheet = overlong(&[block::SHEET, 0], &[]);
+    case.sheet = sheet_block(random.one(&[SHEET, MARKED_SHEET]), &[]);
     case
 }
 
 /// A card with up to 65 entries, whose texts fill it, some with large check sums, and differ from each other.
 fn full_card(random: &mut Random) -> Case {
     let mut archive = Archive::new(random, 3, 3, 3);
-    archive.parameters[0].0 = Kind::String;
+    let (place, _) = archive.parameter(random);
+    archive.parameters[place].kind = Some(Kind::String);
     archive.cards.retain(|card| card.entries.is_empty());
+    let form = random.one(&[CARD, MARKED_CARD]);
     let count = random.one(&[2, 3, 8, 63, 64, 65]);
-    let lengths = shares(end(random) - 6 - 2 * count, count);
+    let lengths = shares(end(random) - 6 - head_size(form) * count, count);
     let mut entries = Vec::new();
     let first = random.one(b"a\xE8");
     for (index, length) in lengths.into_iter().enumerate() {
         let mut text = vec![first + index as u8 / 8; length];
         text[length - 1] = first + index as u8 % 8;
-        entries.push((0, text));
+        entries.push(Entry { place, occurrence: random.byte(), text });
     }
-    let mut head = vec![block::CARD];
-    head.extend(record(random).to_le_bytes());
-    head.push(count as u8);
-    let block = overlong(&head, &entries);
+    let head = block::card_head(form, record(random), count).expect("few entries");
+    let written: Vec<_> = entries.iter().map(Entry::written).collect();
+    let block = block::sealed(block::spell_entries(&head, &written).expect("no share is over 255"));
 
-    archive.cards.push(Card { record: 0, entries });
+    archive.cards.push(Card { first: form, record: 0, entries });
     let last = archive.cards.len() - 1;
-    let text = archive.cards[last].entries[random.one(&[0, count - 1])].1.clone();
+    let text = archive.cards[last].entries[random.one(&[0, count - 1])].text.clone();
     let value = texts::near_in_filter(random, Kind::String, &text);
     let word = random.one(&[b"eq", b"ne", b"co", b"sw", b"ew"]);
-    let filter = filters::spell_test(random, archive.name(0), word, &value);
+    let filter = filters::spell_test(random, archive.name(place), word, &value);
     let mut case = case_of(random, &archive, filter);
     case.cards.truncate(last * block::SIZE);
     case.cards.extend_from_slice(&block);
     case.card = block;
+    case
+}
+
+/// A full card whose count is one too large. Where zeros have room for the head of that entry, its text is empty.
+fn one_entry_more(random: &mut Random) -> Case {
+    let mut archive = Archive::new(random, 1, 2, 0);
+    let (place, _) = archive.parameter(random);
+    archive.parameters[place].kind = Some(Kind::String);
+    let first = random.one(&[CARD, MARKED_CARD]);
+    let lengths = shares(SUMMED - random.below(5) - 6 - 2 * head_size(first), 2);
+    let entry = |length| Entry { place, occurrence: random.byte(), text: vec![b'a'; length] };
+    let entries = lengths.into_iter().map(entry).collect();
+    archive.cards.push(Card { first, record: record(random), entries });
+    let filter = filters::spell_test(random, archive.name(place), b"eq", b"");
+    let mut case = case_of(random, &archive, filter);
+    let last = case.cards.len() - block::SIZE;
+    case.cards[last + 5] += 1;
+    block::store_sum(&mut case.cards[last..]);
+    case.card = case.cards[last..].to_vec();
     case
 }
 
@@ -110,13 +140,16 @@ fn full_run(random: &mut Random) -> Case {
     let most_entries = random.one(&[0, 2]);
     let archive = Archive::new(random, 3, cards, most_entries);
     let test = match most_entries {
-        0 => filters::spell_test(random, archive.name(0), b"pr", b"false"),
+        0 => {
+            let (place, _) = archive.parameter(random);
+            filters::spell_test(random, archive.name(place), b"pr", b"false")
+        }
         _ => filters::test(random, &archive),
     };
     let mut case = case_of(random, &archive, test);
     if cards > 0 && random.once_in(3) {
         let at = block::SIZE * random.below(cards);
-        damage::card(random, &mut case.cards[at..at + block::SIZE], archive.parameters.len());
+        damage::card(random, &mut case.cards[at..at + block::SIZE], &archive);
     }
     let more = random.one(&[0, 0, 0, 1, block::SIZE - 1]);
     case.cards.resize(case.cards.len() + more, 0);
@@ -142,12 +175,13 @@ fn fitting_list(random: &mut Random) -> Case {
 /// A filter of about 1,024 bytes, or of none or one.
 fn long_filter(random: &mut Random) -> Case {
     let archive = Archive::new(random, 3, 2, 3);
+    let (place, _) = archive.parameter(random);
     let length = random.one(&[0, 1, LONGEST - 1, LONGEST, LONGEST, LONGEST + 1]);
     let test = filters::test(random, &archive);
     let mut filter = match random.below(4) {
         0 => [test, vec![b' '; LONGEST]].concat(),
         1 => [b"a".repeat(LONGEST - 20), b" eq ".to_vec(), b"b".repeat(30)].concat(),
-        2 => [test, b" and ".to_vec(), archive.name(0).to_vec(), b" eq ".to_vec(), vec![b'x'; LONGEST]].concat(),
+        2 => [test, b" and ".to_vec(), archive.name(place).to_vec(), b" eq ".to_vec(), vec![b'x'; LONGEST]].concat(),
         _ => [vec![b' '; LONGEST - test.len() % LONGEST], test].concat(),
     };
     if filter.len() > length && random.once_in(2) {
@@ -178,10 +212,11 @@ fn deep_filter(random: &mut Random) -> Case {
 /// About 32 tests.
 fn many_tests(random: &mut Random) -> Case {
     let archive = Archive::new(random, 2, 3, 3);
+    let (place, _) = archive.parameter(random);
     let count = random.one(&[MOST_TESTS - 1, MOST_TESTS, MOST_TESTS, MOST_TESTS + 1]);
     let test = |_| {
         let value = filters::truth(random);
-        [archive.name(0), b" pr ", &value].concat()
+        [archive.name(place), b" pr ", &value].concat()
     };
     let mut tests: Vec<Vec<u8>> = (0..count).map(test).collect();
     if random.once_in(4) {
@@ -196,15 +231,17 @@ fn many_tests(random: &mut Random) -> Case {
 /// A text of about 255 bytes, and a value that may be longer.
 fn long_text(random: &mut Random) -> Case {
     let mut archive = Archive::new(random, 1, 2, 1);
+    let (place, _) = archive.parameter(random);
     let kind = random.one(&[Kind::String, Kind::Token, Kind::Reference]);
-    archive.parameters[0].0 = kind;
+    archive.parameters[place].kind = Some(kind);
     let length = texts::LONGEST - random.below(3);
     let mut text: Vec<u8> = (0..length).map(|_| random.one(b"abAB")).collect();
     if kind == Kind::Token && random.once_in(2) {
         text[random.below(length - 1)] = b'|';
     }
     text[length - 1] = random.one(b"az");
-    let card = Card { record: record(random), entries: vec![(0, text.clone())] };
+    let entry = Entry { place, occurrence: random.byte(), text: text.clone() };
+    let card = Card { first: random.one(&[CARD, MARKED_CARD]), record: record(random), entries: vec![entry] };
     archive.cards = vec![card.clone(), card];
     let mut value = texts::near_in_filter(random, kind, &text);
     match random.below(6) {
@@ -218,7 +255,7 @@ fn long_text(random: &mut Random) -> Case {
         Kind::Token => random.one(&[b"eq", b"ne"]),
         _ => b"re",
     };
-    let filter = filters::spell_test(random, archive.name(0), word, &value);
+    let filter = filters::spell_test(random, archive.name(place), word, &value);
     case_of(random, &archive, filter)
 }
 
@@ -226,17 +263,4 @@ fn long_text(random: &mut Random) -> Case {
 fn shares(bytes: usize, count: usize) -> Vec<usize> {
     let share = |index| bytes / count + usize::from(index < bytes % count);
     (0..count).map(|index| share(index).min(texts::LONGEST)).collect()
-}
-
-/// A block of these entries, even if they go on past their last place; what does is lost to the check sum.
-fn overlong(head: &[u8], entries: &[(u8, Vec<u8>)]) -> Vec<u8> {
-    let mut block = head.to_vec();
-    for (head, text) in entries {
-        block.extend([*head, text.len() as u8]);
-        block.extend_from_slice(text);
-    }
-    block.truncate(SUMMED);
-    block.resize(block::SIZE, 0);
-    block::store_sum(&mut block);
-    block
 }

@@ -10,7 +10,7 @@ mod texts;
 
 pub use random::Random;
 
-use crate::block::SIZE;
+use crate::block::{MARKED_CARD, MARKED_SHEET, SIZE};
 use archive::Archive;
 use modes::MODES;
 
@@ -25,6 +25,14 @@ pub struct Case {
     pub cards: Vec<u8>,
     /// The list before the selection.
     pub list: Vec<u32>,
+}
+
+impl Case {
+    /// Whether the sheet or some card is of the marked form.
+    pub fn is_marked(&self) -> bool {
+        let mut cards = [&self.card, &self.cards].into_iter().flat_map(|cards| cards.chunks(SIZE));
+        self.sheet.first() == Some(&MARKED_SHEET) || cards.any(|card| card[0] == MARKED_CARD)
+    }
 }
 
 /// The input with this number, and the name of the mode that made it.
@@ -72,7 +80,7 @@ pub fn files(seed: u64, number: u64) -> Files {
     let mut cards: Vec<u8> = archive.run().into_iter().cycle().take(count * SIZE).collect();
     if count > 0 && random.once_in(3) {
         let at = SIZE * random.below(count);
-        damage::card(random, &mut cards[at..at + SIZE], archive.parameters.len());
+        damage::card(random, &mut cards[at..at + SIZE], &archive);
     }
     if random.once_in(6) {
         cards.resize(cards.len() + random.one(&[1, 100, SIZE - 1]), 0);

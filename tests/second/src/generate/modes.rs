@@ -1,13 +1,13 @@
 //! The modes: each makes inputs of one sort, so that every rule is met often enough.
 
 use super::Case;
-use super::archive::{Archive, Card, record};
+use super::archive::{Archive, Card, Entry, record};
 use super::damage;
 use super::filters;
 use super::limits;
 use super::random::Random;
 use super::texts;
-use crate::block::{self, Kind};
+use crate::block::{self, CARD, Kind, MARKED_CARD};
 use crate::filter::{DEEPEST, MOST_TESTS, OPERATIONS};
 
 /// A mode: how often it is drawn, and what makes its inputs.
@@ -17,7 +17,7 @@ pub struct Mode {
     pub make: fn(&mut Random) -> Case,
 }
 
-pub const MODES: [Mode; 14] = [
+pub const MODES: [Mode; 15] = [
     Mode { name: "tests over cards", weight: 18, make: tests_over_cards },
     Mode { name: "one test over many cards", weight: 25, make: one_test },
     Mode { name: "long chains", weight: 7, make: long_chain },
@@ -27,6 +27,7 @@ pub const MODES: [Mode; 14] = [
     Mode { name: "every operation", weight: 3, make: every_operation },
     Mode { name: "values on the edge", weight: 5, make: edge_values },
     Mode { name: "damaged sheets", weight: 5, make: damaged_sheet },
+    Mode { name: "bundles made wrongly", weight: 5, make: bad_bundles },
     Mode { name: "damaged cards", weight: 6, make: damaged_cards },
     Mode { name: "texts on the edge", weight: 5, make: edge_texts },
     Mode { name: "limits", weight: 5, make: limits::make },
@@ -39,7 +40,7 @@ pub fn case_of(random: &mut Random, archive: &Archive, filter: Vec<u8>) -> Case 
     let cards = archive.run();
     let count = archive.cards.len();
     let card = match count {
-        0 => Card { record: record(random), entries: Vec::new() }.block(),
+        0 => Card { first: random.one(&[CARD, MARKED_CARD]), record: record(random), entries: Vec::new() }.block(),
         _ => archive.cards[random.below(count)].block(),
     };
     let list_length = random.below(count + 3);
@@ -71,11 +72,13 @@ pub fn good_filter(random: &mut Random, archive: &Archive, most_tests: usize) ->
 /// One test over many cards that hold one text each, all of them near one another.
 fn one_test(random: &mut Random) -> Case {
     let mut archive = Archive::new(random, 1, 0, 0);
-    let kind = archive.parameters[0].0;
+    let (place, kind) = archive.parameter(random);
     let anchor = texts::readable(random, kind);
-    for index in 0..4 + random.below(20) as u32 {
+    let first = random.one(&[CARD, CARD, MARKED_CARD]);
+    for record in 0..4 + random.below(20) as u32 {
         let text = texts::near_on_card(random, kind, &anchor);
-        archive.cards.push(Card { record: index, entries: vec![(0, text)] });
+        let entry = Entry { place, occurrence: random.byte(), text };
+        archive.cards.push(Card { first, record, entries: vec![entry] });
     }
     let test = filters::test(random, &archive);
     let mut case = case_of(random, &archive, test);
@@ -136,7 +139,7 @@ fn every_operation(random: &mut Random) -> Case {
     let archive = Archive::new(random, 3, 2, 3);
     let (place, kind) = archive.parameter(random);
     let (word, _) = random.one(&OPERATIONS);
-    let text = archive.text_under(random, place);
+    let text = archive.text_under(random, place, kind);
     let value = texts::near_in_filter(random, kind, &text);
     let filter = filters::spell_test(random, archive.name(place), word, &value);
     case_of(random, &archive, filter)
@@ -171,11 +174,10 @@ fn damaged_cards(random: &mut Random) -> Case {
     let archive = Archive::new(random, 5, count, 4);
     let filter = good_filter(random, &archive, 2);
     let mut case = case_of(random, &archive, filter);
-    let parameters = archive.parameters.len();
     for _ in 0..1 + random.below(2) {
         let at = block::SIZE * random.below(count);
         let card = &mut case.cards[at..at + block::SIZE];
-        damage::card(random, card, parameters);
+        damage::card(random, card, &archive);
         case.card = card.to_vec();
     }
     if random.once_in(6) {
@@ -189,15 +191,25 @@ fn damaged_cards(random: &mut Random) -> Case {
     case
 }
 
-/// Cards with texts on the edge of what can be read.
+/// Cards with texts on the edge of what can be read, which none under a bundle can.
 fn edge_texts(random: &mut Random) -> Case {
     let mut archive = Archive::new(random, 2, 2, 1);
     let filter = good_filter(random, &archive, 2);
-    let kinds: Vec<Kind> = archive.parameters.iter().map(|(kind, _)| *kind).collect();
+    let kinds: Vec<Option<Kind>> = archive.parameters.iter().map(|parameter| parameter.kind).collect();
     for card in &mut archive.cards {
         let place = random.below(kinds.len());
-        card.entries.push((place as u8, texts::on_the_edge(random, kinds[place])));
+        let kind = kinds[place].unwrap_or(random.one(&Kind::ALL));
+        let text = texts::on_the_edge(random, kind);
+        card.entries.push(Entry { place, occurrence: random.byte(), text });
     }
+    case_of(random, &archive, filter)
+}
+
+/// A sheet with bundles on which one thing about them was changed, mostly to what is not allowed.
+fn bad_bundles(random: &mut Random) -> Case {
+    let mut archive = Archive::with_bundles(random, 3, 3, 4);
+    let filter = good_filter(random, &archive, 2);
+    damage::bad_bundles(random, &mut archive);
     case_of(random, &archive, filter)
 }
 
