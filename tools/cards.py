@@ -9,6 +9,22 @@
 A description has one entry on a line, a head and a text. A text that begins or ends with a space, or holds a byte that
 does not print, stands in double quotes, with \\" \\\\ and \\xHH inside. A line that begins with # is left out.
 
+In sheet.txt the head is a kind and the text a name. A bundle has the kind `bundle`, and its members are named after it:
+
+  bundle     related
+  token      related.type
+  reference  related.target
+
+In cards.txt the head is `record:` before a record number, or else a name. Members that belong together have the same
+number, from 0 to 255, behind the bundle's name; without one it is 0. Here are two relations:
+
+  related#1.type    has-component
+  related#1.target  Observation/4
+  related#2.type    sequel-to
+  related#2.target  Observation/5
+
+A sheet without bundles and a card whose numbers are all 0 are written in the older, shorter form.
+
 What cannot be written as a block is refused. Whether a sheet, a filter and cards go together is not asked here.
 """
 
@@ -18,7 +34,9 @@ import sys
 
 SIZE, SUMMED = 512, 508
 SHEET, CARD = 0x50, 0x43
-KINDS = ["string", "number", "date", "token", "reference"]
+# The forms whose entries have a mark: on a sheet the place plus 1 of the bundle, on a card the occurrence.
+MARKED_SHEET, MARKED_CARD = 0x51, 0x44
+KINDS = {"string": 1, "number": 2, "date": 3, "token": 4, "reference": 5, "bundle": 7}
 NAME = re.compile(rb"(?!(?:and|or|not)\Z)[_A-Za-z][-_A-Za-z0-9]{0,29}")
 
 
@@ -34,13 +52,17 @@ def check_sum(summed):
     return sum(byte * place for place, byte in enumerate(summed, 1))
 
 
+def is_marked(block):
+    return block[0] in (MARKED_SHEET, MARKED_CARD)
+
+
 def write_block(head, entries):
-    """A block of a head and of entries, each a byte and a text."""
+    """A block of a head and of entries, each a byte, a mark and a text."""
     block = bytearray(head)
-    for byte, text in entries:
+    for byte, mark, text in entries:
         if len(text) > 255:
             raise Refused(f"a text of {len(text)} bytes is too long: {spell(text)}")
-        block += bytes([byte, len(text)]) + text
+        block += bytes([byte, mark, len(text)] if is_marked(head) else [byte, len(text)]) + text
     if len(block) > SUMMED:
         raise Refused(f"the entries take {len(block)} bytes, and a block has room for {SUMMED}")
     block += bytes(SUMMED - len(block))
@@ -48,26 +70,32 @@ def write_block(head, entries):
 
 
 def write_sheet(parameters):
-    """A sheet of kinds and names."""
+    """A sheet of kinds and names; a member has its bundle's name and a dot before its own."""
     if len(parameters) > 32:
         raise Refused(f"{len(parameters)} parameters are more than a sheet has room for")
     names = [name for _, name in parameters]
+    entries = []
     for kind, name in parameters:
         if kind not in KINDS:
             raise Refused(f"{kind} is none of the kinds {', '.join(KINDS)}")
-        if not NAME.fullmatch(name) or names.count(name) > 1:
+        bundle, dot, own = name.rpartition(b".")
+        if not NAME.fullmatch(own) or names.count(name) > 1 or (dot and own in names):
             raise Refused(f"the name {spell(name)} is not allowed, or stands there twice")
-    entries = [(KINDS.index(kind) + 1, name) for kind, name in parameters]
-    return write_block([SHEET, len(entries)], entries)
+        if dot and (kind == "bundle" or ("bundle", bundle) not in parameters):
+            raise Refused(f"{spell(name)} is a bundle in a bundle, or {spell(bundle)} is no bundle")
+        entries.append((KINDS[kind], names.index(bundle) + 1 if dot else 0, own))
+    first = MARKED_SHEET if any(kind == "bundle" for kind, _ in parameters) else SHEET
+    return write_block([first, len(entries)], entries)
 
 
 def write_card(record, entries):
-    """A card of a record number, and of places on the sheet with their texts."""
+    """A card of a record number, and of places on the sheet with their occurrences and texts."""
     if not 0 <= record < 2**32:
         raise Refused(f"the record number {record} does not fit into 32 bits")
     if len(entries) > 64:
         raise Refused(f"{len(entries)} entries are more than card {record} has room for")
-    return write_block(bytes([CARD]) + record.to_bytes(4, "little") + bytes([len(entries)]), entries)
+    first = MARKED_CARD if any(occurrence for _, occurrence, _ in entries) else CARD
+    return write_block(bytes([first]) + record.to_bytes(4, "little") + bytes([len(entries)]), entries)
 
 
 def read_block(block, count_at):
@@ -76,15 +104,29 @@ def read_block(block, count_at):
     if check_sum(block[:SUMMED]) != int.from_bytes(block[SUMMED:], "little"):
         wrong.append("check sum wrong")
     entries, at = [], count_at + 1
+    size = 3 if is_marked(block) else 2
     for _ in range(block[count_at]):
-        end = at + 2 + block[at + 1] if at + 1 < SUMMED else SIZE
+        text_at = at + size
+        end = text_at + block[text_at - 1] if text_at <= SUMMED else SIZE
         if end > SUMMED:
             return entries, wrong + ["entries go past the end"]
-        entries.append((block[at], block[at + 2 : end]))
+        entries.append((block[at], block[at + 1] if is_marked(block) else 0, block[text_at:end]))
         at = end
     if any(block[at:SUMMED]):
         wrong.append("bytes behind the entries")
     return entries, wrong
+
+
+def read_sheet(block):
+    """For each parameter of a sheet its kind, in a word, its bundle's name, or an empty one at the top, and its own."""
+    entries, _ = read_block(block, 1)
+    words = {number: word for word, number in KINDS.items()}
+    bundles = [""] + [spell(name) for _, _, name in entries]
+    parameters = []
+    for kind, mark, name in entries:
+        bundle = bundles[mark] if mark < len(bundles) else f"place {mark - 1}?"
+        parameters.append((words.get(kind, f"kind {kind}?"), bundle, spell(name)))
+    return parameters
 
 
 # ----------------------------------------------------------------------------------------------------------------------
@@ -130,20 +172,33 @@ def pack_sheet(description):
 
 def pack_cards(description, sheet):
     """The cards of a description, one behind the other."""
-    names = [name for _, name in read_block(sheet, 1)[0]]
+    names = [path(bundle, name) for _, bundle, name in read_sheet(sheet)]
     cards = []
     for head, text in read_lines(description):
         if head == "record:":
             if not re.fullmatch(rb"[0-9]+", text):
                 raise Refused(f"{spell(text)} is no record number")
             cards.append((int(text), []))
-        elif not cards:
+            continue
+        if not cards:
             raise Refused(f"{head} stands before the first record number")
-        elif head.encode() not in names:
-            raise Refused(f"{head} is not on the sheet")
-        else:
-            cards[-1][1].append((names.index(head.encode()), text))
+        name, occurrence = read_head(head)
+        if name not in names or occurrence > 255:
+            raise Refused(f"{head} is not on the sheet, or its number is over 255")
+        cards[-1][1].append((names.index(name), occurrence, text))
     return b"".join(write_card(*card) for card in cards)
+
+
+def read_head(head):
+    """The name in a head of cards.txt, with its bundle's before it, and the occurrence."""
+    parts = re.fullmatch(r"([^#.]+)#([0-9]+)(\..+)", head)
+    return (parts[1] + parts[3], int(parts[2])) if parts else (head, 0)
+
+
+def path(bundle, name, occurrence=0):
+    """A name as cards.txt has it, with its bundle's before it."""
+    number = f"#{occurrence}" if occurrence else ""
+    return f"{bundle}{number}.{name}" if bundle else f"{name}{number}"
 
 
 # ----------------------------------------------------------------------------------------------------------------------
@@ -156,13 +211,9 @@ def table(rows):
     return ["  " + "  ".join([cell.ljust(w) for cell, w in zip(row, widths)] + [row[-1]]) for row in rows]
 
 
-def kind_word(number):
-    return KINDS[number - 1] if 1 <= number <= len(KINDS) else f"kind {number}?"
-
-
 def show_sheet(block):
-    entries, wrong = read_block(block, 1)
-    rows = [(str(place), kind_word(kind), spell(name)) for place, (kind, name) in enumerate(entries)]
+    wrong = read_block(block, 1)[1]
+    rows = [(str(place), kind, path(bundle, name)) for place, (kind, bundle, name) in enumerate(read_sheet(block))]
     title = ", ".join([f"sheet with {block[1]} parameters"] + wrong)
     return [title] + table([("place", "kind", "name")] + rows)
 
@@ -171,25 +222,24 @@ def show_card(index, block, parameters):
     entries, wrong = read_block(block, 5)
     record = int.from_bytes(block[1:5], "little")
     rows = []
-    for place, text in entries:
-        kind, name = parameters[place] if place < len(parameters) else ("?", str(place).encode())
-        rows.append((spell(name), kind, spell(text)))
+    for place, occurrence, text in entries:
+        kind, bundle, name = parameters[place] if place < len(parameters) else ("?", "", str(place))
+        rows.append((path(bundle, name, occurrence), kind, spell(text)))
     title = ", ".join([f"card {index}, record {record}, {block[5]} entries"] + wrong)
     return [title] + table([("name", "kind", "text")] + rows)
 
 
 def show(data, sheet):
     """The blocks of a file as lines."""
-    entries = read_block(sheet, 1)[0] if len(sheet) == SIZE else []
-    parameters = [(kind_word(kind), name) for kind, name in entries]
+    parameters = read_sheet(sheet) if len(sheet) == SIZE else []
     lines = []
     for index, at in enumerate(range(0, len(data), SIZE)):
         block = data[at : at + SIZE]
         if len(block) < SIZE:
             lines.append(f"block {index} has only {len(block)} bytes")
-        elif block[0] == SHEET:
+        elif block[0] in (SHEET, MARKED_SHEET):
             lines += show_sheet(block)
-        elif block[0] == CARD:
+        elif block[0] in (CARD, MARKED_CARD):
             lines += show_card(index, block, parameters)
         else:
             lines.append(f"block {index} is neither a sheet nor a card")
