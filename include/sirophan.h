@@ -2,8 +2,13 @@
  * Sirophan: which catalogue cards of an archive match a FHIR R4 _filter.
  *
  * A sheet says which parameters the cards have and of which kind each is; a card holds a record number and search
- * values. Both are blocks of 512 bytes. A filter is a text of at most 1,024 bytes. None of them is trusted: each
- * function checks all that it is given, and for every input it ends with an answer or with a numbered refusal.
+ * values. Both are blocks of 512 bytes, in two forms that the first byte tells apart: a sheet begins with 0x50, or with
+ * 0x51 where its parameters may be bundles and their members; a card begins with 0x43, or with 0x44 where its entries
+ * have occurrences. Every sheet may be used with every card. A filter is a text of 1 to 1,024 bytes. docs/RULES.md
+ * has the blocks byte by byte and says what filters mean.
+ *
+ * None of them is trusted: each function checks all that it is given, and for every input it ends with an answer or
+ * with a numbered refusal.
  *
  * A pointer comes with the number of elements that it points to. It may be anything, but not NULL, where that number
  * is 0. The list must not overlap the other arguments. The functions keep nothing and may be called from any thread.
@@ -20,21 +25,26 @@
 extern "C" {
 #endif
 
-/* The numbers of refusal. The first that holds, in this order, is the one that is given. */
+/*
+ * The numbers of refusal, in the order in which they are tried: the first that holds is given. Save that of tests the
+ * first at fault in the filter decides, and of cards the first at fault in the run; for that test, or that card, it is
+ * again the first that holds.
+ */
 enum {
     SIROPHAN_SHEET_SIZE = 1,    /* the sheet is not 512 bytes */
     SIROPHAN_SHEET_SUM = 2,     /* the sheet's check sum is wrong */
-    SIROPHAN_SHEET_LAYOUT = 3,  /* the sheet breaks its layout, or a name on it is not allowed */
+    SIROPHAN_SHEET_LAYOUT = 3,  /* the sheet breaks its layout, or the rules for its names or its bundles */
     SIROPHAN_FILTER_SIZE = 10,  /* the filter is empty or over 1,024 bytes */
     SIROPHAN_NO_FILTER = 11,    /* the text is no filter by the grammar */
-    SIROPHAN_UNKNOWN_NAME = 14, /* a name is not on the sheet; place: the test's first byte, as for 15 to 17 */
+    SIROPHAN_UNKNOWN_NAME = 14, /* a name is not on the sheet, or a bundle's or a member's; place: the test's
+                                   first byte, as for 15 to 17 */
     SIROPHAN_UNSUPPORTED = 15,  /* the operator is ap, ss, sb, in or ni */
     SIROPHAN_NO_MEANING = 16,   /* another operator without a meaning for the parameter's kind */
     SIROPHAN_UNREADABLE = 17,   /* the value cannot be read */
     SIROPHAN_CARD_SIZE = 20,    /* the card is not 512 bytes; the run is no whole number of cards, or over 128 */
     SIROPHAN_CARD_SUM = 21,     /* a card's check sum is wrong; place: the card's index, as for 22 and 23 */
     SIROPHAN_CARD_LAYOUT = 22,  /* a card breaks its layout */
-    SIROPHAN_CARD_MISFIT = 23,  /* a card does not fit the sheet */
+    SIROPHAN_CARD_MISFIT = 23,  /* a card does not fit the sheet; a text under a bundle is among the reasons */
     SIROPHAN_SHORT_LIST = 30    /* the list is shorter than the matches; place: their number */
 };
 
