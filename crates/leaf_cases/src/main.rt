@@ -57,7 +57,7 @@ fn main() {
         b'f',
         b"title co \"BOOK\"\n  a eq b\nnot(a eq b)\nnot  ( a eq b)\n( a eq b)\nnot eq 5\nandroid eq 5\n\n\
           a  eq   b  \na eq and\na eq (\na eq x)\na eq x]\na eq\na EQ b\n9 eq b\na eq \"\"\na eq \"x)y\"\n\
-          a eq \"x\\n\\\"\"\na eq \"\\u0041\"\na eq \"a\"b\na eq \"x\\\"\na eq \"x\na eq x\"y\n",
+          a eq \"x\\n\\\"\"\na eq \"\\u0041\"\na eq \"a\"b\na eq \"x\\\"\na eq \"x\na eq x\"y\nb[m eq 1].m eq 1\nb [m eq 1].m eq 1\nnot[m eq 1].m eq 1\n",
     );
     parts::bytes();
     parts::connectives();

@@ -37,6 +37,7 @@ fn labelled_head(label: &[u8], t: &[u8]) {
     match syntax::read_head(t, b')', syntax::scan::skip(t, 0)) {
         Head::Test(found) => test(found),
         Head::Open(next, not) => open(next, not),
+        Head::Choice(until) => labelled(b" name and square bracket, name to ", until as u64),
         Head::Nothing => write(b" nothing"),
     }
     write(b"\n");

@@ -3,19 +3,20 @@
 use Prim.Native.Nat.{ℕ, _+_, _≤_, _<_}
 use native.Mathlib.Omega.{arith}
 use mathlib.Core.Path.{_≡_, refl, sym, _∙_}
-use mathlib.Core.Bool.{Bool, false, cond}
-use mathlib.Core.List.{List}
+use mathlib.Core.Bool.{Bool, true, false, cond}
+use mathlib.Core.List.{List, []}
 use lib.Dec.{eqb, ltb}
 use lib.ListN.{length, getD, drop, length-drop}
 use borrow.Author.Tests.{ltb-true}
 use Rattle.base.specs.Names.{isNamePart, isName}
 use Rattle.base.specs.Parts.{part}
 use Rattle.base.specs.Runs.{runEnd}
-use Rattle.base.proofs.Tests.{cond-elim}
+use Rattle.base.proofs.Tests.{cond-elim, both-ways}
+use Rattle.base.proofs.Names.{name-empty}
 use Rattle.base.proofs.Runs.{run-within}
 use Rattle.syntax.specs.Strings.{quote, isBare}
 use Rattle.syntax.specs.Placed.{PlacedValue, Placed}
-use Rattle.syntax.specs.Scan.{skipAt, stringAt, stringValue, valueAt, follows, operatorAt, withOperator, withValue, testValue, testOperator, nameEnd, testAt, openAt, testOr, headAt, connectiveAt, closeAt}
+use Rattle.syntax.specs.Scan.{skipAt, has, memberAt, afterClose, memberAfter, choiceAt, choiceOr, stringAt, stringValue, valueAt, follows, operatorAt, withOperator, withValue, testValue, testOperator, nameEnd, testAt, openAt, testOr, headAt, connectiveAt, closeAt}
 use Rattle.syntax.specs.declared.FoundString.{FoundString}
 use Rattle.syntax.specs.declared.FoundValue.{FoundValue}
 use Rattle.syntax.specs.declared.FoundOperator.{FoundOperator}
@@ -25,8 +26,13 @@ use Rattle.syntax.specs.declared.Head.{Head}
 use Rattle.syntax.specs.declared.FoundConnective.{FoundConnective}
 use Rattle.syntax.specs.declared.FoundClose.{FoundClose}
 use Rattle.syntax.proofs.Values.{string-within, string-ahead}
-use Rattle.syntax.proofs.Tests.{TestDerived, test-derived, test-rise}
-use Rattle.syntax.proofs.Structure.{OpenDerived, open-derived, opens-rise, connective-derived, connects-rise, close-derived, closes-rise}
+use Rattle.syntax.proofs.Tests.{TestDerived, test-derived, test-rise, name-end-part}
+use Prim.Native.Char.{code}
+use Rattle.base.specs.Ascii.{ascii}
+use Rattle.syntax.specs.declared.FoundChoice.{FoundChoice}
+use Rattle.syntax.proofs.Words.{has-stands, stands-within}
+use Rattle.syntax.proofs.Structure.{OpenDerived, open-derived, opens-rise, connective-derived, connects-rise, CloseDerived, close-derived, closes-rise}
+use Rattle.syntax.specs.Grammar.{square}
 
 -- ---- values
 
@@ -93,21 +99,46 @@ test-placed xs close p h =
 abbrev HeadPlaced : List ℕ → ℕ → Head → Type 0
 HeadPlaced xs p (Head.Test r) = Placed xs r × (p + 1 ≤ r .value .next) × (r .value .next ≤ length xs)
 HeadPlaced xs p (Head.Open q b) = (p + 1 ≤ q) × (q ≤ length xs)
+HeadPlaced xs p (Head.Choice e) = (p + 1 ≤ e) × (e + 1 ≤ length xs)
 HeadPlaced xs p Head.Nothing = Unit {0}
 
 open-placed : (xs : List ℕ) (p : ℕ) (h : Head) → OpenDerived xs p h → HeadPlaced xs p h
 open-placed xs p (Head.Test r) o = absurd o
 open-placed xs p (Head.Open q b) o = opens-rise o
+open-placed xs p (Head.Choice e) o = absurd o
 open-placed xs p Head.Nothing o = tt
 
 head-or : (xs : List ℕ) (close p : ℕ) (t : FoundTest) (h : Head) → TestPlaced xs t → TestDerived xs close p t → HeadPlaced xs p h → HeadPlaced xs p (testOr t h)
 head-or xs close p (FoundTest.Test r) h a b c = let u = test-rise b in (a, u .0, u .1)
 head-or xs close p FoundTest.Nothing h a b c = c
 
+name-not-empty : (n : List ℕ) → isName n ≡ true → length n ≡ 0 → ⊥
+name-not-empty n h z = both-ways h (sym (name-empty n z))
+
+abbrev ChoicePlaced : List ℕ → ℕ → FoundChoice → Type 0
+ChoicePlaced xs p (FoundChoice.At e) = (p + 1 ≤ e) × (e + 1 ≤ length xs)
+ChoicePlaced xs p FoundChoice.Nothing = Unit {0}
+
+choice-placed : (xs : List ℕ) (p : ℕ) → p ≤ length xs → ChoicePlaced xs p (choiceAt xs p)
+unfolding choiceAt
+choice-placed xs p i =
+    let e : ℕ = nameEnd xs p in
+    let r = run-end-within isNamePart xs p i in
+    let l : e ≡ p + length (part xs p e) = name-end-part xs p in
+    cond-elim (ChoicePlaced xs p) (isName (part xs p e))
+    (λ n. let full = name-not-empty (part xs p e) n in
+    cond-elim (ChoicePlaced xs p) (has xs e (ascii "["))
+    (λ h. (omega arith, stands-within xs e (code "[") [] (has-stands xs e (ascii "[") h))) (λ h. tt)) (λ n. tt)
+
+choice-or : (xs : List ℕ) (p : ℕ) (c : FoundChoice) (h : Head) → ChoicePlaced xs p c → HeadPlaced xs p h → HeadPlaced xs p (choiceOr c h)
+choice-or xs p (FoundChoice.At e) h a b = a
+choice-or xs p FoundChoice.Nothing h a b = b
+
 head-placed : (xs : List ℕ) (close p : ℕ) → p ≤ length xs → HeadPlaced xs p (headAt xs close p)
 unfolding headAt
 head-placed xs close p i =
-    head-or xs close p (testAt xs close p) (openAt xs p) (test-placed xs close p i) (test-derived xs close p) (open-placed xs p (openAt xs p) (open-derived xs p))
+    head-or xs close p (testAt xs close p) (choiceOr (choiceAt xs p) (openAt xs p)) (test-placed xs close p i) (test-derived xs close p)
+    (choice-or xs p (choiceAt xs p) (openAt xs p) (choice-placed xs p i) (open-placed xs p (openAt xs p) (open-derived xs p)))
 
 module _ (xs : List ℕ) (close p : ℕ) (h : Head) (e : h ≡ headAt xs close p) (i : p ≤ length xs) where
   pub head-test-placed : (r : RawTest) → h ≡ Head.Test r → Placed xs r × (p + 1 ≤ r .value .next) × (r .value .next ≤ length xs)
@@ -116,8 +147,55 @@ module _ (xs : List ℕ) (close p : ℕ) (h : Head) (e : h ≡ headAt xs close p
   pub head-open-ahead : (q : ℕ) (b : Bool) → h ≡ Head.Open q b → (p + 1 ≤ q) × (q ≤ length xs)
   head-open-ahead q b f = rw (sym e ∙ f) at (head-placed xs close p i)
 
+module _ (xs : List ℕ) (close p : ℕ) (h : Head) (e : h ≡ headAt xs close p) (i : p ≤ length xs) where
+  pub head-choice-ahead : (q : ℕ) → h ≡ Head.Choice q → (p + 1 ≤ q) × (q + 1 ≤ length xs)
+  head-choice-ahead q f = rw (sym e ∙ f) at (head-placed xs close p i)
+
+-- the member's test after a bracket
+abbrev MemberPlaced : List ℕ → ℕ → FoundTest → Type 0
+MemberPlaced xs p (FoundTest.Test r) = Placed xs r × (p + 1 ≤ r .value .next) × (r .value .next ≤ length xs)
+MemberPlaced xs p FoundTest.Nothing = Unit {0}
+
+member-or : (xs : List ℕ) (close p : ℕ) (t : FoundTest) → TestPlaced xs t → TestDerived xs close (p + 1) t → MemberPlaced xs p t
+member-or xs close p (FoundTest.Test r) a b = let u = test-rise b in (a, omega arith, u .1)
+member-or xs close p FoundTest.Nothing a b = tt
+
+member-placed : (xs : List ℕ) (close p : ℕ) → MemberPlaced xs p (memberAt xs close p)
+unfolding memberAt
+member-placed xs close p =
+    cond-elim (MemberPlaced xs p) (has xs p (ascii "."))
+    (λ h. member-or xs close p (testAt xs close (p + 1)) (test-placed xs close (p + 1) (stands-within xs p (code ".") [] (has-stands xs p (ascii ".") h))) (test-derived xs close (p + 1))) (λ h. tt)
+
+after-by : (xs : List ℕ) (close p : ℕ) (c : FoundClose) → CloseDerived xs square p c → MemberPlaced xs p (afterClose xs close c)
+after-by xs close p (FoundClose.At m) d = further (memberAt xs close m) (member-placed xs close m)
+  where
+    further : (t : FoundTest) → MemberPlaced xs m t → MemberPlaced xs p t
+    further (FoundTest.Test r) h = (h .0, omega (arith, h .1, closes-rise d), h .2)
+    further FoundTest.Nothing h = tt
+after-by xs close p FoundClose.Nothing d = tt
+
+after-placed : (xs : List ℕ) (close p : ℕ) → MemberPlaced xs p (memberAfter xs close p)
+unfolding memberAfter
+after-placed xs close p = after-by xs close p (closeAt xs square p) (close-derived xs square p)
+
+pub member-ahead : (xs : List ℕ) (close p : ℕ) (f : FoundTest) → f ≡ memberAfter xs close p → (r : RawTest) → f ≡ FoundTest.Test r → Placed xs r × (p + 1 ≤ r .value .next) × (r .value .next ≤ length xs)
+member-ahead xs close p f e r h = rw (sym e ∙ h) at (after-placed xs close p)
+
 pub connective-ahead : (xs : List ℕ) (p q : ℕ) (a : Bool) (f : FoundConnective) → f ≡ connectiveAt xs p → f ≡ FoundConnective.Next q a → (p + 1 ≤ q) × (q ≤ length xs)
 connective-ahead xs p q a f e h = connects-rise (rw (sym e ∙ h) at (connective-derived xs p))
 
 pub close-ahead : (xs : List ℕ) (close p q : ℕ) (f : FoundClose) → f ≡ closeAt xs close p → f ≡ FoundClose.At q → (p + 1 ≤ q) × (q ≤ length xs)
 close-ahead xs close p q f e h = closes-rise (rw (sym e ∙ h) at (close-derived xs close p))
+
+pub close-within : (xs : List ℕ) (close p q : ℕ) (f : FoundClose) → f ≡ closeAt xs close p → f ≡ FoundClose.At q → q ≤ length xs
+close-within xs close p q f e h = close-ahead xs close p q f e h .1
+
+module _ (xs : List ℕ) (close p : ℕ) (h : Head) (e : h ≡ headAt xs close p) (i : p ≤ length xs) (q : ℕ) (f : h ≡ Head.Choice q) where
+  pub head-choice-order : p ≤ q
+  head-choice-order = omega (arith, head-choice-ahead xs close p h e i q f)
+
+  pub head-choice-within : q ≤ length xs
+  head-choice-within = omega (arith, head-choice-ahead xs close p h e i q f)
+
+  pub head-choice-next : q + 1 ≤ length xs
+  head-choice-next = head-choice-ahead xs close p h e i q f .1

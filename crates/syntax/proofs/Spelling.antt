@@ -6,13 +6,13 @@ use native.Mathlib.Omega.{arith}
 use mathlib.Core.Path.{_≡_, ap}
 use mathlib.Core.Logic.{_↔_, ⊎-elim}
 use mathlib.Core.Option.{some}
-use mathlib.Core.List.{List, [], _∷_, _++_, List·Memᴰ, List·Memᴰ·cases-cons, List·Memᴰ·not-nil}
+use mathlib.Core.List.{List, [], _∷_, _++_, map, List·Memᴰ, List·Memᴰ·cases-cons, List·Memᴰ·not-nil}
 use lib.ListN.{length}
-use Rattle.syntax.specs.Tree.{name, Test, Tree, testsOf, Rising, rising-end, rising-next}
-use Rattle.syntax.specs.Grammar.{TestAt, a-test, Item, item-test, item-bracket, item-not, Filter, one-item, one-more, Spells}
+use Rattle.syntax.specs.Tree.{name, Test, moved, under, Tree, testsOf, Rising, rising-end, rising-next}
+use Rattle.syntax.specs.Grammar.{TestAt, a-test, Item, item-test, item-bracket, item-not, item-bracketed, Filter, one-item, one-more, Spells}
 use Rattle.syntax.specs.Reader.{read}
 use Rattle.syntax.proofs.Tests.{test-rise}
-use Rattle.syntax.proofs.Structure.{connects-rise, opens-rise, closes-rise}
+use Rattle.syntax.proofs.Structure.{connects-rise, opens-rise, chooses-rise, closes-rise}
 use Rattle.syntax.proofs.Sound.{read-sound}
 use Rattle.syntax.proofs.Complete.{read-complete, filter-rise}
 
@@ -51,15 +51,27 @@ test-rising : {xs : List ℕ} {close p q : ℕ} {t : Test} → TestAt xs close p
 test-rising (a-test {p = p} {q = q} {k = k} {n = n} {v = v} s h g o i w f) e =
     rising-next {p = p} {t = record { at = p; path = name n; operator = k; value = v }} (le-refl p) (rising-end e)
 
+-- a bundle's name before their paths leaves the tests where they are
+rising-under : {p q : ℕ} {ts : List Test} (b : List ℕ) → Rising p q ts → Rising p q (map (under b) ts)
+rising-under b (rising-end e) = rising-end e
+rising-under b (rising-next {t = t} e r) = rising-next {t = under b t} e (rising-under b r)
+
 mutual
   unfolding testsOf
 
-  item-rising : {xs : List ℕ} {d p q : ℕ} {f : Tree} → Item xs d p q f → Rising p q (testsOf f)
+  item-rising : {xs : List ℕ} {close d p q : ℕ} {f : Tree} → Item xs close d p q f → Rising p q (testsOf f)
   item-rising (item-test h) = test-rising h (test-rise h .0)
   item-rising (item-bracket o i c) = rising-inside (opens-rise o .0) (closes-rise c .0) (filter-rising i)
   item-rising (item-not o i c) = rising-inside (opens-rise o .0) (closes-rise c .0) (filter-rising i)
+  item-rising (item-bracketed {p = p} {a = a} {b = b} {q = q} {n = n} {t = t} o i c s h) =
+      let u = chooses-rise o in
+      let v = closes-rise c in
+      let w = test-rise h in
+      let low : p + 1 ≤ a = u .0 in
+      let high : b ≤ q = omega arith in
+      rising-next {p = p} {t = under n (moved p t)} (le-refl p) (rising-under n (rising-lower low (rising-longer high (filter-rising i))))
 
-  filter-rising : {xs : List ℕ} {d p q : ℕ} {f : Tree} → Filter xs d p q f → Rising p q (testsOf f)
+  filter-rising : {xs : List ℕ} {close d p q : ℕ} {f : Tree} → Filter xs close d p q f → Rising p q (testsOf f)
   filter-rising (one-item i) = item-rising i
   filter-rising (one-more {m = m} {a = a} l j i) =
       let v : m ≤ a = omega (arith, connects-rise j) in
@@ -81,8 +93,8 @@ rising-count : {p q : ℕ} {ts : List Test} → Rising p q ts → p + length ts 
 rising-count (rising-end e) = omega arith
 rising-count (rising-next e r) = let h = rising-count r in omega arith
 
-pub item-count : {xs : List ℕ} {d p q : ℕ} {f : Tree} → Item xs d p q f → p + length (testsOf f) ≤ q
+pub item-count : {xs : List ℕ} {close d p q : ℕ} {f : Tree} → Item xs close d p q f → p + length (testsOf f) ≤ q
 item-count i = rising-count (item-rising i)
 
-pub filter-count : {xs : List ℕ} {d p q : ℕ} {f : Tree} → Filter xs d p q f → p + length (testsOf f) ≤ q
+pub filter-count : {xs : List ℕ} {close d p q : ℕ} {f : Tree} → Filter xs close d p q f → p + length (testsOf f) ≤ q
 filter-count i = rising-count (filter-rising i)

@@ -3,7 +3,7 @@
 use Prim.Native.Nat.{ℕ, _+_, _-_, _≤_}
 use Prim.Native.Char.{code}
 use native.Mathlib.Omega.{arith}
-use mathlib.Core.Path.{_≡_, refl, ap, sym, _∙_}
+use mathlib.Core.Path.{_≡_, refl, ap, sym, _∙_, subst}
 use mathlib.Core.Bool.{Bool, true, false, cond}
 use mathlib.Core.List.{List, [], _∷_}
 use lib.Dec.{eqb}
@@ -17,23 +17,28 @@ use Rattle.base.specs.Names.{between, isLetter, isNameStart, isNamePart, isRese
 use Rattle.base.specs.Affixes.{hasPrefix}
 use Rattle.base.specs.Runs.{run, runEnd, RunEnd}
 use Rattle.syntax.specs.Tree.{Connective, and, or}
-use Rattle.syntax.specs.Grammar.{Stands, Spaces, no-space, space, connectiveWord, Connects, connects, Opens, opens, opens-not, Closes, closes}
-use Rattle.syntax.specs.Scan.{isSpace, skipAt, has, testAt, openAt, headAt, connectiveAt, closeAt}
+use Rattle.syntax.specs.Grammar.{Stands, Spaces, no-space, space, connectiveWord, Connects, connects, Opens, opens, opens-not, Closes, closes, Chooses, chooses, square}
+use Rattle.syntax.specs.Scan.{isSpace, skipAt, has, nameEnd, testOperator, testAt, openAt, testOr, choiceAt, choiceOr, headAt, testIn, memberAt, memberAfter, connectiveAt, closeAt}
 use Rattle.syntax.specs.Reader.{connective}
 use Rattle.syntax.specs.declared.RawTest.{RawTest}
 use Rattle.syntax.specs.declared.Head.{Head}
 use Rattle.syntax.specs.declared.FoundTest.{FoundTest}
+use Rattle.syntax.specs.declared.FoundChoice.{FoundChoice}
 use Rattle.syntax.specs.declared.FoundConnective.{FoundConnective}
 use Rattle.syntax.specs.declared.FoundClose.{FoundClose}
-use Rattle.syntax.proofs.Words.{has-stands, stands-has, stands-within, stands-after, NoSpaceAt, stands-no-space, end-no-space, skip-spaces, skip-gap, spaces-skip, gap-skip, spaces-rise, gap-rise}
+use Rattle.syntax.proofs.Words.{taken-stands, has-stands, stands-has, stands-within, stands-after, NoSpaceAt, stands-no-space, end-no-space, skip-spaces, skip-gap, spaces-skip, gap-skip, spaces-rise, gap-rise}
 use Rattle.base.proofs.Tests.{cond-elim}
-use Rattle.syntax.proofs.Tests.{gap-moves}
+use Rattle.base.specs.Parts.{part}
+use Rattle.base.proofs.Names.{name-iff}
+use Rattle.syntax.proofs.Values.{part-at}
+use Rattle.syntax.proofs.Tests.{gap-moves, name-end, name-end-part}
 
 -- ---- what is found is there
 
 abbrev pub OpenDerived : List ℕ → ℕ → Head → Type 0
 OpenDerived xs p (Head.Test r) = ⊥
 OpenDerived xs p (Head.Open q b) = Opens xs p q b
+OpenDerived xs p (Head.Choice e) = ⊥
 OpenDerived xs p Head.Nothing = Unit {0}
 
 pub open-derived : (xs : List ℕ) (p : ℕ) → OpenDerived xs p (openAt xs p)
@@ -45,6 +50,22 @@ open-derived xs p =
     (λ f. opens-not (has-stands xs p (ascii "not") e) (skip-spaces xs (p + 3)) (has-stands xs (skipAt xs (p + 3)) (ascii "(") f) (skip-spaces xs (skipAt xs (p + 3) + 1)))
     (λ f. tt))
     (λ e. tt))
+
+abbrev pub ChoiceDerived : List ℕ → ℕ → FoundChoice → Type 0
+ChoiceDerived xs p (FoundChoice.At e) = Chooses xs p (skipAt xs (e + 1)) (part xs p e)
+ChoiceDerived xs p FoundChoice.Nothing = Unit {0}
+
+pub choice-derived : (xs : List ℕ) (p : ℕ) → ChoiceDerived xs p (choiceAt xs p)
+unfolding choiceAt
+choice-derived xs p =
+    let e : ℕ = nameEnd xs p in
+    let l : e ≡ p + length (part xs p e) = name-end-part xs p in
+    cond-elim (ChoiceDerived xs p) (isName (part xs p e))
+    (λ n. cond-elim (ChoiceDerived xs p) (has xs e (ascii "["))
+    (λ h. chooses (taken-stands xs p (e - p)) (name-iff (part xs p e) .0 n) (subst (λ (m : ℕ). Stands xs m (ascii "[")) l (has-stands xs e (ascii "[") h))
+    (subst (λ (m : ℕ). Spaces xs (m + 1) (skipAt xs (e + 1))) l (skip-spaces xs (e + 1))))
+    (λ _. tt))
+    (λ _. tt)
 
 abbrev pub ConnectiveDerived : List ℕ → ℕ → FoundConnective → Type 0
 ConnectiveDerived xs p (FoundConnective.Next q a) = Connects xs p q (connective a)
@@ -98,6 +119,43 @@ open-no-test {xs} (opens {p = p} s r) close = no-name xs close p 0 (rw (s .1)) r
 open-no-test {xs} (opens-not {p = p} s r m n) close =
     let z : run isNamePart (s .0) ≡ 0 = ap (run isNamePart) (sym (stands-after xs p (ascii "not") s)) ∙ not-ends r m in
     no-name xs close p 3 (rw (s .1, z)) (rw (s .1))
+
+-- a name ends where "[" stands, and no test begins with it
+pub record ChoiceFound (xs : List ℕ) (close p q : ℕ) (n : List ℕ) : Type 0 where
+  pub no-test : testAt xs close p ≡ FoundTest.Nothing
+  pub found : choiceAt xs p ≡ FoundChoice.At (p + length n)
+  pub name : part xs p (p + length n) ≡ n
+  pub from : skipAt xs (p + length n + 1) ≡ q
+
+bracket-name-end : (xs : List ℕ) (p : ℕ) → Stands xs p (ascii "[") → run isNamePart (drop p xs) ≡ 0
+unfolding run isNamePart isNameStart isLetter between isDigit
+bracket-name-end xs p s = rw (s .1)
+
+pub choice-found : {xs : List ℕ} {p q : ℕ} {n : List ℕ} → Chooses xs p q n → NoSpaceAt xs q → (close : ℕ) → ChoiceFound xs close p q n
+unfolding testAt testOperator choiceAt
+choice-found {xs} (chooses {p = p} {q = q} {n = n} s h b r) free close =
+    let e : nameEnd xs p ≡ p + length n = name-end xs p n s h (bracket-name-end xs (p + length n) b) in
+    let m : part xs p (p + length n) ≡ n = part-at xs p (p + length n) n (s .0) (s .1) refl in
+    let k : skipAt xs (p + length n) ≡ p + length n = spaces-skip no-space (stands-no-space xs (p + length n) _ [] b refl) in
+    record {
+      no-test = rw (e, m, name-iff n .1 h, k, eq-eqb (p + length n) (p + length n) refl);
+      found = rw (e, m, name-iff n .1 h, stands-has xs (p + length n) (ascii "[") b);
+      name = m;
+      from = spaces-skip r free;
+    }
+
+no-choice : (xs : List ℕ) (p n : ℕ) → run isNamePart (drop p xs) ≡ n → isName (take n (drop p xs)) ≡ false → choiceAt xs p ≡ FoundChoice.Nothing
+unfolding choiceAt runEnd
+no-choice xs p n e f =
+    let k : p + n - p ≡ n = omega arith in
+    rw (e, k, f)
+
+pub open-no-choice : {xs : List ℕ} {p q : ℕ} {b : Bool} → Opens xs p q b → choiceAt xs p ≡ FoundChoice.Nothing
+unfolding run isNamePart isNameStart isLetter between isDigit isName isReserved equal every
+open-no-choice {xs} (opens {p = p} s r) = no-choice xs p 0 (rw (s .1)) refl
+open-no-choice {xs} (opens-not {p = p} s r m n) =
+    let z : run isNamePart (s .0) ≡ 0 = ap (run isNamePart) (sym (stands-after xs p (ascii "not") s)) ∙ not-ends r m in
+    no-choice xs p 3 (rw (s .1, z)) (rw (s .1))
 
 pub close-found : {xs : List ℕ} {close p q : ℕ} → Closes xs close p q → eqb close 0x20 ≡ false → closeAt xs close p ≡ FoundClose.At q
 unfolding closeAt
@@ -153,6 +211,9 @@ opens-rise {xs} (opens {p = p} s r) = let u = spaces-rise r in (u .0, u .1 (stan
 opens-rise {xs} (opens-not {p = p} {a = a} s r m n) =
     let u = spaces-rise r in let v = spaces-rise n in (omega arith, v .1 (stands-within xs a _ [] m))
 
+pub chooses-rise : {xs : List ℕ} {p q : ℕ} {n : List ℕ} → Chooses xs p q n → (p + 1 ≤ q) × (q ≤ length xs)
+chooses-rise {xs} (chooses {p = p} {n = n} s h b r) = let u = spaces-rise r in (omega arith, u .1 (stands-within xs (p + length n) _ [] b))
+
 pub closes-rise : {xs : List ℕ} {close p q : ℕ} → Closes xs close p q → (p + 1 ≤ q) × (q ≤ length xs)
 closes-rise {xs} {close} (closes {a = a} r s) = let u = spaces-rise r in (omega arith, stands-within xs a close [] s)
 
@@ -188,9 +249,72 @@ module _ (xs : List ℕ) (close p : ℕ) (f : FoundTest) (e : f ≡ testAt xs cl
   unfolding headAt
   head-test r h = rw (sym e ∙ h)
 
-  pub head-open : (o : Head) → f ≡ FoundTest.Nothing → o ≡ openAt xs p → o ≡ headAt xs close p
+  pub head-bracket : (o : Head) → f ≡ FoundTest.Nothing → o ≡ choiceOr (choiceAt xs p) (openAt xs p) → o ≡ headAt xs close p
   unfolding headAt
-  head-open o h i = rw (sym e ∙ h) i
+  head-bracket o h i = rw (sym e ∙ h) i
+
+module _ (xs : List ℕ) (p : ℕ) (f : FoundChoice) (e : f ≡ choiceAt xs p) where
+  pub bracket-choice : (until : ℕ) → f ≡ FoundChoice.At until → Head.Choice until ≡ choiceOr (choiceAt xs p) (openAt xs p)
+  bracket-choice until h = rw (sym e ∙ h)
+
+  pub bracket-open : (o : Head) → f ≡ FoundChoice.Nothing → o ≡ openAt xs p → o ≡ choiceOr (choiceAt xs p) (openAt xs p)
+  bracket-open o h i = rw (sym e ∙ h) i
+
+-- a name and "[", as the code finds them
+module _ (xs : List ℕ) (p e : ℕ) (s : RunEnd isNamePart xs p e) (r : Bool) (i : r ≡ isName (part xs p e)) where
+  pub choice-no-name : r ≡ false → FoundChoice.Nothing ≡ choiceAt xs p
+  unfolding choiceAt
+  choice-no-name h = rw (← s .is, sym i ∙ h)
+
+  module _ (h : r ≡ true) (t : Bool) (j : t ≡ has xs e (ascii "[")) where
+    pub choice-here : t ≡ true → FoundChoice.At e ≡ choiceAt xs p
+    unfolding choiceAt
+    choice-here k = rw (← s .is, sym i ∙ h, sym j ∙ k)
+
+    pub choice-nothing : t ≡ false → FoundChoice.Nothing ≡ choiceAt xs p
+    unfolding choiceAt
+    choice-nothing k = rw (← s .is, sym i ∙ h, sym j ∙ k)
+
+-- after the bracket, as the code finds it
+module _ (xs : List ℕ) (close p : ℕ) (f : FoundClose) (e : f ≡ closeAt xs square p) where
+  pub after-close : (m : ℕ) (t : FoundTest) → f ≡ FoundClose.At m → t ≡ memberAt xs close m → t ≡ memberAfter xs close p
+  unfolding memberAfter
+  after-close m t h i = rw (sym e ∙ h) i
+
+  pub after-nothing : f ≡ FoundClose.Nothing → FoundTest.Nothing ≡ memberAfter xs close p
+  unfolding memberAfter
+  after-nothing h = rw (sym e ∙ h)
+
+-- a test is found exactly where an item begins with it
+pub in-test : (h : Head) (r : RawTest) → h ≡ Head.Test r → FoundTest.Test r ≡ testIn h
+in-test h r e = rw e
+
+opening-no-test : (xs : List ℕ) (p : ℕ) → testIn (openAt xs p) ≡ FoundTest.Nothing
+opening-no-test xs p = by (openAt xs p) (open-derived xs p)
+  where
+    by : (h : Head) → OpenDerived xs p h → testIn h ≡ FoundTest.Nothing
+    by (Head.Test r) d = absurd d
+    by (Head.Open q b) d = refl
+    by (Head.Choice e) d = refl
+    by Head.Nothing d = refl
+
+test-in : (xs : List ℕ) (close p : ℕ) → testIn (headAt xs close p) ≡ testAt xs close p
+unfolding headAt
+test-in xs close p = by (testAt xs close p) (choiceAt xs p)
+  where
+    by : (t : FoundTest) (c : FoundChoice) → testIn (testOr t (choiceOr c (openAt xs p))) ≡ t
+    by (FoundTest.Test r) c = refl
+    by FoundTest.Nothing (FoundChoice.At e) = refl
+    by FoundTest.Nothing FoundChoice.Nothing = opening-no-test xs p
+
+module _ (xs : List ℕ) (close p : ℕ) (r : Bool) (e : r ≡ has xs p (ascii ".")) where
+  pub member-test : (h : Head) (t : FoundTest) → r ≡ true → h ≡ headAt xs close (p + 1) → t ≡ testIn h → t ≡ memberAt xs close p
+  unfolding memberAt
+  member-test h t y i k = rw (sym e ∙ y) (k ∙ ap testIn i ∙ test-in xs close (p + 1))
+
+  pub member-nothing : r ≡ false → FoundTest.Nothing ≡ memberAt xs close p
+  unfolding memberAt
+  member-nothing h = rw (sym e ∙ h)
 
 module _ (xs : List ℕ) (p a : ℕ) (s : RunEnd isSpace xs p a) where
   pub connective-no-gap : a ≡ p → FoundConnective.Nothing ≡ connectiveAt xs p

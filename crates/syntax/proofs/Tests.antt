@@ -76,7 +76,7 @@ module _ (xs : List ℕ) (close p e : ℕ) (l : e ≡ p + length (part xs p e)) 
       cond-elim (TestDerived xs close p) (eqb (skipAt xs e) e) (λ f. tt)
       (λ f. operator-follows (skipAt xs e) (skip-gap xs e f) (operatorAt xs (skipAt xs e)) refl)
 
-name-end-part : (xs : List ℕ) (p : ℕ) → nameEnd xs p ≡ p + length (part xs p (nameEnd xs p))
+pub name-end-part : (xs : List ℕ) (p : ℕ) → nameEnd xs p ≡ p + length (part xs p (nameEnd xs p))
 unfolding runEnd
 name-end-part xs p =
     let k : p + run isNamePart (drop p xs) - p ≡ run isNamePart (drop p xs) = omega arith in
@@ -107,11 +107,11 @@ gap-name-end : {xs : List ℕ} {p a : ℕ} → Gap xs p a → run isNamePart (dr
 unfolding run isNamePart isNameStart isLetter between isDigit
 gap-name-end (gap s r) = rw (s .1)
 
-name-end : (xs : List ℕ) (p : ℕ) (n : List ℕ) (s : Stands xs p n) → Name n → {a : ℕ} → Gap xs (p + length n) a → nameEnd xs p ≡ p + length n
+pub name-end : (xs : List ℕ) (p : ℕ) (n : List ℕ) (s : Stands xs p n) → Name n → run isNamePart (drop (p + length n) xs) ≡ 0 → nameEnd xs p ≡ p + length n
 unfolding runEnd
 name-end xs p n s h g =
     ap (λ (m : ℕ). p + m) (ap (run isNamePart) (s .1)
-    ∙ run-then isNamePart n (s .0) (name-parts n h) (ap (run isNamePart) (sym (stands-after xs p n s)) ∙ gap-name-end g))
+    ∙ run-then isNamePart n (s .0) (name-parts n h) (ap (run isNamePart) (sym (stands-after xs p n s)) ∙ g))
 
 pub gap-moves : {xs : List ℕ} {p q : ℕ} → Gap xs p q → eqb q p ≡ false
 gap-moves {xs} {p} {q} g = ne-eqb q p (λ e. omega (arith, gap-rise g))
@@ -119,7 +119,7 @@ gap-moves {xs} {p} {q} g = ne-eqb q p (λ e. omega (arith, gap-rise g))
 pub test-found : {xs : List ℕ} {close p q : ℕ} {t : Test} → TestAt xs close p q t → isBare close ≡ false → TestFound xs close p q t
 unfolding testAt testOperator testValue
 test-found {xs} {close} (a-test {p = p} {a = a} {b = b} {q = q} {k = k} {n = n} {v = v} s h g o i w f) c =
-    let e : nameEnd xs p ≡ p + length n = name-end xs p n s h g in
+    let e : nameEnd xs p ≡ p + length n = name-end xs p n s h (gap-name-end g) in
     let m : part xs p (p + length n) ≡ n = part-at xs p (p + length n) n (s .0) (s .1) refl in
     let r = value-found w c f in
     record {
@@ -132,10 +132,12 @@ test-found {xs} {close} (a-test {p = p} {a = a} {b = b} {q = q} {k = k} {n = n} 
 
 -- ---- where a test begins and ends
 
-pub test-no-space : {xs : List ℕ} {close p q : ℕ} {t : Test} → TestAt xs close p q t → NoSpaceAt xs p
+pub name-no-space : (xs : List ℕ) (p : ℕ) (n : List ℕ) → Stands xs p n → Name n → NoSpaceAt xs p
 unfolding isNameStart isLetter between
-test-no-space {xs} (a-test {p = p} {n = n} s h g o i w f) =
-    stands-no-space xs p (h .first) (h .rest) (rw (h .spelt) at s) (apart isNameStart (h .first) 0x20 (h .starts) refl)
+name-no-space xs p n s h = stands-no-space xs p (h .first) (h .rest) (rw (h .spelt) at s) (apart isNameStart (h .first) 0x20 (h .starts) refl)
+
+pub test-no-space : {xs : List ℕ} {close p q : ℕ} {t : Test} → TestAt xs close p q t → NoSpaceAt xs p
+test-no-space {xs} (a-test {p = p} {n = n} s h g o i w f) = name-no-space xs p n s h
 
 pub test-rise : {xs : List ℕ} {close p q : ℕ} {t : Test} → TestAt xs close p q t → (p + 1 ≤ q) × (q ≤ length xs)
 test-rise (a-test s h g o i w f) = let u = gap-rise g in let v = gap-rise i in let z = value-rise w in (omega arith, z .1)

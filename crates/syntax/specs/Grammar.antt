@@ -10,7 +10,7 @@ use Rattle.base.specs.Ascii.{ascii}
 use Rattle.base.specs.Lists.{All}
 use Rattle.base.specs.Names.{Name}
 use Rattle.base.specs.Operators.{operatorWords}
-use Rattle.syntax.specs.Tree.{name, Test, Tree, test, join, negation, Connective, and, or, testsOf}
+use Rattle.syntax.specs.Tree.{name, Test, Tree, test, bracketed, join, negation, Connective, and, or, testsOf}
 use Rattle.syntax.specs.Strings.{quote, isBare, Quoted}
 
 -- ---- words and spaces
@@ -73,23 +73,33 @@ pub data Opens (xs : List ℕ) : ℕ → ℕ → Bool → Type 0 where
 pub data Closes (xs : List ℕ) (close : ℕ) : ℕ → ℕ → Type 0 where
   closes : {p a : ℕ} → Spaces xs p a → Stands xs a (close ∷ []) → Closes xs close p (a + 1)
 
--- the byte that closes a round bracket
+-- the byte that closes a round bracket, and the one that closes a square bracket
 abbrev pub round : ℕ
 round = code ")"
 
--- ---- items and filters, with brackets nested at most d deep
+abbrev pub square : ℕ
+square = code "]"
+
+-- a name and "[", with the spaces that may stand inside the bracket
+pub data Chooses (xs : List ℕ) : ℕ → ℕ → List ℕ → Type 0 where
+  chooses : {p q : ℕ} {n : List ℕ} → Stands xs p n → Name n → Stands xs (p + length n) (ascii "[") → Spaces xs (p + length n + 1) q → Chooses xs p q n
+
+-- ---- items and filters, with brackets nested at most d deep, where close closes the bracket around them
 
 mutual
   -- "an item is a test, a filter in round brackets, or not followed by a filter in round brackets"
-  pub data Item (xs : List ℕ) : ℕ → ℕ → ℕ → Tree → Type 0 where
-    item-test : {d p q : ℕ} {t : Test} → TestAt xs round p q t → Item xs d p q (test t)
-    item-bracket : {d p a b q : ℕ} {f : Tree} → Opens xs p a false → Filter xs d a b f → Closes xs round b q → Item xs (suc d) p q f
-    item-not : {d p a b q : ℕ} {f : Tree} → Opens xs p a true → Filter xs d a b f → Closes xs round b q → Item xs (suc d) p q (negation f)
+  pub data Item (xs : List ℕ) : (close d p q : ℕ) → Tree → Type 0 where
+    item-test : {close d p q : ℕ} {t : Test} → TestAt xs close p q t → Item xs close d p q (test t)
+    item-bracket : {close d p a b q : ℕ} {f : Tree} → Opens xs p a false → Filter xs round d a b f → Closes xs round b q → Item xs close (suc d) p q f
+    item-not : {close d p a b q : ℕ} {f : Tree} → Opens xs p a true → Filter xs round d a b f → Closes xs round b q → Item xs close (suc d) p q (negation f)
+    -- 02: a test of a member of a bundle, `name[filter].name`: "spaces may stand just inside them but not just outside"
+    item-bracketed : {close d p a b m q : ℕ} {n : List ℕ} {f : Tree} {t : Test} → Chooses xs p a n → Filter xs square d a b f → Closes xs square b m
+        → Stands xs m (ascii ".") → TestAt xs close (m + 1) q t → Item xs close (suc d) p q (bracketed p n f t)
 
   -- "one or more items joined by and or or", from left to right
-  pub data Filter (xs : List ℕ) : ℕ → ℕ → ℕ → Tree → Type 0 where
-    one-item : {d p q : ℕ} {f : Tree} → Item xs d p q f → Filter xs d p q f
-    one-more : {d p m a q : ℕ} {c : Connective} {f g : Tree} → Filter xs d p m f → Connects xs m a c → Item xs d a q g → Filter xs d p q (join c f g)
+  pub data Filter (xs : List ℕ) : (close d p q : ℕ) → Tree → Type 0 where
+    one-item : {close d p q : ℕ} {f : Tree} → Item xs close d p q f → Filter xs close d p q f
+    one-more : {close d p m a q : ℕ} {c : Connective} {f g : Tree} → Filter xs close d p m f → Connects xs m a c → Item xs close d a q g → Filter xs close d p q (join c f g)
 
 -- "brackets nest at most 8 deep; a filter has at most 32 tests"
 abbrev pub deepest : ℕ
@@ -103,6 +113,6 @@ pub record Spells (xs : List ℕ) (f : Tree) : Type 0 where
   pub from : ℕ
   pub to : ℕ
   pub before : Spaces xs 0 from
-  pub filter : Filter xs deepest from to f
+  pub filter : Filter xs round deepest from to f
   pub after : Spaces xs to (length xs)
   pub few : length (testsOf f) ≤ mostTests

@@ -15,6 +15,7 @@ use Rattle.base.specs.Runs.{runEnd}
 use Rattle.base.specs.Operators.{operatorWords}
 use Rattle.syntax.specs.Strings.{quote, backslash, isBare, isEscape, unescaped}
 use Rattle.syntax.specs.Tree.{Test, name}
+use Rattle.syntax.specs.Grammar.{square}
 use Rattle.syntax.specs.declared.StringStep.{StringStep}
 use Rattle.syntax.specs.declared.FoundString.{FoundString}
 use Rattle.syntax.specs.declared.Piece.{Piece}
@@ -24,6 +25,7 @@ use Rattle.syntax.specs.declared.FoundOperator.{FoundOperator}
 use Rattle.syntax.specs.declared.RawTest.{RawTest}
 use Rattle.syntax.specs.declared.FoundTest.{FoundTest}
 use Rattle.syntax.specs.declared.Head.{Head}
+use Rattle.syntax.specs.declared.FoundChoice.{FoundChoice}
 use Rattle.syntax.specs.declared.FoundConnective.{FoundConnective}
 use Rattle.syntax.specs.declared.FoundClose.{FoundClose}
 
@@ -165,9 +167,31 @@ abbrev pub testOr : FoundTest → Head → Head
 testOr (FoundTest.Test r) other = Head.Test r
 testOr FoundTest.Nothing other = other
 
+-- a name and "[" at p
+unfoldable pub choiceAt : List ℕ → ℕ → FoundChoice
+choiceAt xs p =
+    cond (isName (part xs p (nameEnd xs p)))
+    (cond (has xs (nameEnd xs p) (ascii "[")) (FoundChoice.At (nameEnd xs p)) FoundChoice.Nothing)
+    FoundChoice.Nothing
+
+abbrev pub choiceOr : FoundChoice → Head → Head
+choiceOr (FoundChoice.At e) other = Head.Choice e
+choiceOr FoundChoice.Nothing other = other
+
 -- what an item begins with
 unfoldable pub headAt : List ℕ → ℕ → ℕ → Head
-headAt xs close p = testOr (testAt xs close p) (openAt xs p)
+headAt xs close p = testOr (testAt xs close p) (choiceOr (choiceAt xs p) (openAt xs p))
+
+-- the test among what an item may begin with
+abbrev pub testIn : Head → FoundTest
+testIn (Head.Test r) = FoundTest.Test r
+testIn (Head.Open q negated) = FoundTest.Nothing
+testIn (Head.Choice e) = FoundTest.Nothing
+testIn Head.Nothing = FoundTest.Nothing
+
+-- "." and a member's test at p, after the bracket
+unfoldable pub memberAt : List ℕ → ℕ → ℕ → FoundTest
+memberAt xs close p = cond (has xs p (ascii ".")) (testAt xs close (p + 1)) FoundTest.Nothing
 
 unfoldable pub connectiveAt : List ℕ → ℕ → FoundConnective
 connectiveAt xs p =
@@ -178,3 +202,11 @@ connectiveAt xs p =
 
 unfoldable pub closeAt : List ℕ → ℕ → ℕ → FoundClose
 closeAt xs close p = cond (has xs (skipAt xs p) (close ∷ [])) (FoundClose.At (skipAt xs p + 1)) FoundClose.Nothing
+
+-- the member's test after a filter in square brackets that ends at p
+abbrev pub afterClose : List ℕ → ℕ → FoundClose → FoundTest
+afterClose xs close (FoundClose.At m) = memberAt xs close m
+afterClose xs close FoundClose.Nothing = FoundTest.Nothing
+
+unfoldable pub memberAfter : List ℕ → (close p : ℕ) → FoundTest
+memberAfter xs close p = afterClose xs close (closeAt xs square p)

@@ -1,11 +1,12 @@
 -- The tree of a filter. A chain of items is the left-nested tree, and round brackets leave no other mark.
 -- Assumes nothing.
 use Prim.Native.Nat.{ℕ, _+_, _≤_}
-use mathlib.Core.List.{List, [], _∷_, _++_}
+use mathlib.Core.List.{List, [], _∷_, _++_, map}
 
--- what a test is asked of
+-- what a test is asked of: a name, or a path among the members of the bundle with a name
 pub data Path : Type 0 where
   name : List ℕ → Path
+  member : List ℕ → Path → Path
 
 -- the position of its first byte, its path, its operator's number, its decoded value
 pub record Test : Type 0 where
@@ -14,18 +15,29 @@ pub record Test : Type 0 where
   pub operator : ℕ
   pub value : List ℕ
 
+-- the test with its first byte at p
+abbrev pub moved : ℕ → Test → Test
+moved p t = record { at = p; path = t .path; operator = t .operator; value = t .value }
+
+-- the test asked among the members of the bundle with the name b
+abbrev pub under : List ℕ → Test → Test
+under b t = record { at = t .at; path = member b (t .path); operator = t .operator; value = t .value }
+
 -- 01: joining word
 pub data Connective : Type 0 where
   and or : Connective
 
 pub data Tree : Type 0 where
   test : Test → Tree
+  -- where it begins, the bundle's name, the filter in its brackets, and the member's test as it stands after them
+  bracketed : ℕ → List ℕ → Tree → Test → Tree
   join : Connective → Tree → Tree → Tree
   negation : Tree → Tree
 
--- the tests, in the order of the text
+-- the tests, in the order of their first bytes, each with its path from the top
 unfoldable pub testsOf : Tree → List Test
 testsOf (test t) = t ∷ []
+testsOf (bracketed p b f t) = map (under b) (moved p t ∷ testsOf f)
 testsOf (join c f g) = testsOf f ++ testsOf g
 testsOf (negation f) = testsOf f
 

@@ -5,12 +5,14 @@ pub mod test;
 pub mod value;
 
 use scan::has;
+use scan::name_end;
 use scan::skip;
+use test::is_name_run;
 use test::read_test;
 ghost use mathlib.Core.Path.{_≡_};
 ghost use Prim.Native.Nat.{_≤_};
 ghost use lib.ListN.{length};
-ghost use Rattle.syntax.specs.Scan.{openAt, headAt, connectiveAt, closeAt};
+ghost use Rattle.syntax.specs.Scan.{openAt, choiceAt, choiceOr, headAt, testIn, memberAt, memberAfter, connectiveAt, closeAt};
 
 // A value as it stands in the text: its bytes from start up to end, whether an escape is among them, and where the
 // text goes on.
@@ -65,10 +67,18 @@ pub enum FoundTest {
     Nothing,
 }
 
-// What an item begins with: a whole test, or a bracket, whose filter begins at the position, with not or without.
+// What an item begins with: a whole test; a bracket, whose filter begins at the position, with not or without; or a name, which
+// ends at the position, and a square bracket.
 pub enum Head {
     Test(RawTest),
     Open(usize, bool),
+    Choice(usize),
+    Nothing,
+}
+
+// Where the name before a square bracket ends.
+pub enum FoundChoice {
+    At(usize),
     Nothing,
 }
 
@@ -102,6 +112,32 @@ fn read_open(s: &[u8], at: usize) -> Head
     Head::Nothing
 }
 
+// A name and "[" at a position.
+fn read_choice(s: &[u8], at: usize) -> FoundChoice
+    requires { ⌜ at ≤ length (now s) ⌝ }
+    ensures { λ r. ⌜ r ≡ choiceAt (now (s .entry)) at ⌝ }
+{
+    let until = name_end(s, at);
+    if is_name_run(s, at, until) {
+        if has(s, until, b"[") {
+            return FoundChoice::At(until);
+        }
+        return FoundChoice::Nothing;
+    }
+    FoundChoice::Nothing
+}
+
+// A bracket that opens at a position, round or, after a name, square.
+fn read_bracket(s: &[u8], at: usize) -> Head
+    requires { ⌜ at ≤ length (now s) ⌝ }
+    ensures { λ r. ⌜ r ≡ choiceOr (choiceAt (now (s .entry)) at) (openAt (now (s .entry)) at) ⌝ }
+{
+    match read_choice(s, at) {
+        FoundChoice::At(until) => Head::Choice(until),
+        FoundChoice::Nothing => read_open(s, at),
+    }
+}
+
 // What an item begins with at a position, where `close` closes the bracket around the item.
 pub fn read_head(s: &[u8], close: u8, at: usize) -> Head
     requires { ⌜ at ≤ length (now s) ⌝ }
@@ -109,7 +145,42 @@ pub fn read_head(s: &[u8], close: u8, at: usize) -> Head
 {
     match read_test(s, close, at) {
         FoundTest::Test(test) => Head::Test(test),
-        FoundTest::Nothing => read_open(s, at),
+        FoundTest::Nothing => read_bracket(s, at),
+    }
+}
+
+// The test that an item begins with, if it does.
+fn test_in(head: Head) -> FoundTest
+    ensures { λ r. ⌜ r ≡ testIn head ⌝ }
+{
+    match head {
+        Head::Test(test) => FoundTest::Test(test),
+        Head::Open(_, _) => FoundTest::Nothing,
+        Head::Choice(_) => FoundTest::Nothing,
+        Head::Nothing => FoundTest::Nothing,
+    }
+}
+
+// "." and the test of a member at a position, where `close` closes the bracket around it. It is read by way of `read_head`, so that
+// `read_test` has one caller and is compiled into it.
+fn read_dotted(s: &[u8], close: u8, at: usize) -> FoundTest
+    requires { ⌜ at ≤ length (now s) ⌝ }
+    ensures { λ r. ⌜ r ≡ memberAt (now (s .entry)) close at ⌝ }
+{
+    if has(s, at, b".") {
+        return test_in(read_head(s, close, at + 1));
+    }
+    FoundTest::Nothing
+}
+
+// The test of a member after a filter in square brackets that ends at a position, where `close` closes the bracket around it.
+pub fn read_member(s: &[u8], close: u8, at: usize) -> FoundTest
+    requires { ⌜ at ≤ length (now s) ⌝ }
+    ensures { λ r. ⌜ r ≡ memberAfter (now (s .entry)) close at ⌝ }
+{
+    match read_close(s, b']', at) {
+        FoundClose::At(after) => read_dotted(s, close, after),
+        FoundClose::Nothing => FoundTest::Nothing,
     }
 }
 

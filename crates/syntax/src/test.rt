@@ -121,7 +121,7 @@ fn read_test_operator(s: &[u8], close: u8, at: usize, until: usize) -> FoundTest
 }
 
 // Whether the bytes from `at` up to `until`, with each of which a name may go on, are a name.
-fn is_name_run(s: &[u8], at: usize, until: usize) -> bool
+pub fn is_name_run(s: &[u8], at: usize, until: usize) -> bool
     requires { ⌜ RunEnd isNamePart (now s) at until ⌝ }
     ensures { λ r. ⌜ r ≡ isName (part (now (s .entry)) at until) ⌝ }
 {
