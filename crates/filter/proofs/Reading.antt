@@ -1,39 +1,42 @@
 -- Reading: what is gathered is the number of tests and the first fault, and it fits.
 -- Assumes nothing.
-use Prim.Native.Nat.{ℕ, _+_, _≤_}
+use Prim.Native.Nat.{ℕ, suc, _+_, _≤_}
 use native.Mathlib.Omega.{arith}
-use mathlib.Core.Path.{_≡_, refl, sym, ap, _∙_}
+use mathlib.Core.Path.{_≡_, refl, sym, ap, ap₂, _∙_}
 use mathlib.Core.Bool.{Bool, true, false, cond}
-use mathlib.Core.List.{List, [], _∷_, _++_}
+use mathlib.Core.List.{List, [], _∷_, _++_, map}
 use lib.ListN.{length, length-append}
 use Rattle.sheet.specs.Sheet.{Parameter}
-use Rattle.syntax.specs.Tree.{Test, Tree, test, join, negation, testsOf}
+use Rattle.syntax.specs.Tree.{Test, moved, under, Tree, test, bracketed, join, negation, testsOf}
+use Rattle.syntax.specs.Grammar.{square}
+use Rattle.sheet.specs.Find.{enter}
+use Rattle.judge.specs.Sets.{lookup}
 use Rattle.syntax.specs.Scan.{testOf, connectiveAt}
-use Rattle.syntax.specs.Reader.{itemAt}
+use Rattle.syntax.specs.Reader.{itemAt, filterAt}
 use Rattle.syntax.specs.declared.RawTest.{RawTest}
 use Rattle.syntax.specs.declared.FoundConnective.{FoundConnective}
-use Rattle.syntax.proofs.Complete.{item-rise}
+use Rattle.syntax.proofs.Complete.{item-rise, filter-rise}
 use Rattle.syntax.proofs.Places.{connective-ahead}
 use Rattle.syntax.proofs.Spelling.{item-count, filter-count}
 use Rattle.judge.specs.Faults.{testFault, orElse, firstFault}
 use Rattle.judge.specs.declared.Fault.{Fault}
 use Rattle.judge.specs.declared.FirstFault.{FirstFault}
-use Rattle.filter.specs.Folds.{foldTree, joinSummaries, reading}
+use Rattle.filter.specs.Folds.{foldTree, joinSummaries, summaryOf, reading}
 use Rattle.filter.specs.Walks.{answerOf}
 use Rattle.filter.specs.declared.Summary.{Summary}
 use Rattle.filter.specs.declared.Walked.{Walked}
-use Rattle.filter.proofs.Walk.{Cases, was-item, Chain}
+use Rattle.filter.proofs.Walk.{Cases, was-item, was-filter, Chain}
 
 -- ---- as the code gathers
 
 pub summary-joined : (a b : Summary) (f : FirstFault) → f ≡ orElse (a .first) (b .first) → record { tests = a .tests + b .tests; first = f } ≡ joinSummaries a b
 summary-joined a b f e = ap (λ (x : FirstFault). record { tests = a .tests + b .tests; first = x }) e
 
-pub summary-test : (ps : List Parameter) (xs : List ℕ) (t : RawTest) (f : Fault) (r : FirstFault) → f ≡ testFault ps (testOf xs t)
-    → r ≡ orElse (record { fault = f; position = t .at }) (record { fault = Fault.Nothing; position = 0 }) → record { tests = 1; first = r } ≡ reading ps .one (testOf xs t)
-unfolding firstFault
-summary-test ps xs t f r e h =
-    ap (λ (x : FirstFault). record { tests = 1; first = x }) (h ∙ ap (λ (x : Fault). orElse (record { fault = x; position = t .at }) (record { fault = Fault.Nothing; position = 0 })) e)
+pub summary-test : (ps : List Parameter) (c : ℕ) (xs : List ℕ) (p : ℕ) (t : RawTest) (f : Fault) (r : FirstFault) → f ≡ testFault ps c (testOf xs t)
+    → r ≡ orElse (record { fault = f; position = p }) (record { fault = Fault.Nothing; position = 0 }) → record { tests = 1; first = r } ≡ reading ps c .one (moved p (testOf xs t))
+unfolding firstFault testFault
+summary-test ps c xs p t f r e h =
+    ap (λ (x : FirstFault). record { tests = 1; first = x }) (h ∙ ap (λ (x : Fault). orElse (record { fault = x; position = p }) (record { fault = Fault.Nothing; position = 0 })) e)
 
 -- the two cases of an answer
 pub walked-cases : Cases Walked.Done Walked.Nothing
@@ -46,36 +49,67 @@ walked-cases =
 
 -- ---- the number of tests and the first fault
 
+length-map : {A B : Type 0} (f : A → B) (xs : List A) → length (map f xs) ≡ length xs
+length-map f [] = refl
+length-map f (x ∷ xs) = ap suc (length-map f xs)
+
 else-assoc : (f : Fault) (p : ℕ) (b c : FirstFault)
     → orElse (orElse (record { fault = f; position = p }) b) c ≡ orElse (record { fault = f; position = p }) (orElse b c)
 else-assoc Fault.Nothing p b c = refl
 else-assoc Fault.UnknownName p b c = refl
+else-assoc Fault.BareBundle p b c = refl
 else-assoc Fault.Unsupported p b c = refl
 else-assoc Fault.NoMeaning p b c = refl
 else-assoc Fault.Unreadable p b c = refl
 
-pub fault-append : (ps : List Parameter) (ts us : List Test) → firstFault ps (ts ++ us) ≡ orElse (firstFault ps ts) (firstFault ps us)
+pub fault-append : (ps : List Parameter) (c : ℕ) (ts us : List Test) → firstFault ps c (ts ++ us) ≡ orElse (firstFault ps c ts) (firstFault ps c us)
 unfolding firstFault
-fault-append ps [] us = refl
-fault-append ps (t ∷ ts) us = rw (fault-append ps ts us) (sym (else-assoc (testFault ps t) (t .at) (firstFault ps ts) (firstFault ps us)))
+fault-append ps c [] us = refl
+fault-append ps c (t ∷ ts) us = rw (fault-append ps c ts us) (sym (else-assoc (testFault ps c t) (t .at) (firstFault ps c ts) (firstFault ps c us)))
 
-pub reading-is : (ps : List Parameter) (f : Tree) → foldTree (reading ps) f ≡ record { tests = length (testsOf f); first = firstFault ps (testsOf f) }
+-- a path among a bundle's members is looked up inside the bundle
+pub fault-under : (ps : List Parameter) (c : ℕ) (b : List ℕ) (ts : List Test) → firstFault ps c (map (under b) ts) ≡ firstFault ps (enter ps c b) ts
+unfolding firstFault testFault lookup
+fault-under ps c b [] = refl
+fault-under ps c b (t ∷ ts) = rw (fault-under ps c b ts)
+
+pub reading-is : (ps : List Parameter) (c : ℕ) (f : Tree) → foldTree (reading ps c) f ≡ summaryOf ps c (testsOf f)
 unfolding foldTree testsOf
-reading-is ps (test t) = refl
-reading-is ps (join c f g) = rw (reading-is ps f, reading-is ps g, length-append (testsOf f) (testsOf g), fault-append ps (testsOf f) (testsOf g))
-reading-is ps (negation f) = reading-is ps f
+reading-is ps c (test t) = refl
+reading-is ps c (bracketed p b f t) = refl
+reading-is ps c (join k f g) = rw (reading-is ps c f, reading-is ps c g, length-append (testsOf f) (testsOf g), fault-append ps c (testsOf f) (testsOf g))
+reading-is ps c (negation f) = reading-is ps c f
+
+-- the member's test, and then those in the brackets
+pub summary-inside : (ps : List Parameter) (c : ℕ) (b : List ℕ) (i p : ℕ) (t : Test) (o a s : Summary) → i ≡ enter ps c b → o ≡ reading ps i .one (moved p t) → s ≡ joinSummaries o a
+    → (f : Tree) → a ≡ foldTree (reading ps i) f → s ≡ reading ps c .inside p b f t
+unfolding testsOf
+summary-inside ps c b i p t o a s e h k f g =
+    let ts = testsOf f in
+    let inner : a ≡ summaryOf ps i ts = g ∙ reading-is ps i f in
+    let count : length (map (under b) (moved p t ∷ ts)) ≡ suc (length ts) = ap suc (length-map (under b) ts) in
+    let faults : firstFault ps c (map (under b) (moved p t ∷ ts)) ≡ orElse (firstFault ps i (moved p t ∷ [])) (firstFault ps i ts) = fault-under ps c b (moved p t ∷ ts) ∙ ap (λ (x : ℕ). firstFault ps x (moved p t ∷ ts)) (sym e) ∙ fault-append ps i (moved p t ∷ []) ts in
+    k ∙ rw (h, inner) (sym (ap₂ (λ (n : ℕ) (x : FirstFault). record { tests = n; first = x }) (count ∙ omega arith) faults))
 
 -- ---- there are no more tests than bytes, so that their sum fits
 
-pub tests-fit : (ps : List Parameter) (xs : List ℕ) (d p m q n : ℕ) (a b : Summary) (c : FoundConnective) (o : Bool) (r : Walked)
-    → Chain Walked.Done Walked.Nothing walked-cases (reading ps) xs d p m a → c ≡ connectiveAt xs m → c ≡ FoundConnective.Next q o
-    → r ≡ answerOf Walked.Done Walked.Nothing (reading ps) (itemAt d xs q) → r ≡ Walked.Done n b → length xs ≤ 1024 → a .tests + b .tests ≤ 1024
-tests-fit ps xs d p m q n a b c o r k e h f i short =
-    let w = was-item Walked.Done Walked.Nothing walked-cases (reading ps) xs d q r n b f i in
+pub tests-fit : (ps : List Parameter) (s : ℕ) (xs : List ℕ) (close d p m q n : ℕ) (a b : Summary) (c : FoundConnective) (o : Bool) (r : Walked)
+    → Chain Walked.Done Walked.Nothing walked-cases (reading ps s) xs close d p m a → c ≡ connectiveAt xs m → c ≡ FoundConnective.Next q o
+    → r ≡ answerOf Walked.Done Walked.Nothing (reading ps s) (itemAt d xs close q) → r ≡ Walked.Done n b → length xs ≤ 1024 → a .tests + b .tests ≤ 1024
+tests-fit ps s xs close d p m q n a b c o r k e h f i short =
+    let w = was-item Walked.Done Walked.Nothing walked-cases (reading ps s) xs close d q r n b f i in
     let u = connective-ahead xs m q o c e h in
-    let before : a .tests ≡ length (testsOf (k .tree)) = ap (λ (s : Summary). s .tests) (k .value ∙ reading-is ps (k .tree)) in
-    let after : b .tests ≡ length (testsOf (w .tree)) = ap (λ (s : Summary). s .tests) (w .value ∙ reading-is ps (w .tree)) in
+    let before : a .tests ≡ length (testsOf (k .tree)) = ap (λ (s : Summary). s .tests) (k .value ∙ reading-is ps s (k .tree)) in
+    let after : b .tests ≡ length (testsOf (w .tree)) = ap (λ (s : Summary). s .tests) (w .value ∙ reading-is ps s (w .tree)) in
     omega (arith, filter-count (k .derives), item-count (w .derives), item-rise (w .derives))
+
+pub member-fits : (ps : List Parameter) (i : ℕ) (xs : List ℕ) (d q n : ℕ) (a o : Summary) (u : Test) (r : Walked) → o ≡ reading ps i .one u → r ≡ answerOf Walked.Done Walked.Nothing (reading ps i) (filterAt d xs square q) → r ≡ Walked.Done n a
+    → 1 ≤ q → length xs ≤ 1024 → o .tests + a .tests ≤ 1024
+member-fits ps i xs d q n a o u r k f e low short =
+    let one : o .tests ≡ 1 = ap (λ (s : Summary). s .tests) k in
+    let w = was-filter Walked.Done Walked.Nothing walked-cases (reading ps i) xs square d q r n a f e in
+    let inner : a .tests ≡ length (testsOf (w .tree)) = ap (λ (s : Summary). s .tests) (w .value ∙ reading-is ps i (w .tree)) in
+    omega (arith, filter-count (w .derives), filter-rise (w .derives))
 
 -- a negation changes nothing that reading gathers
 pub summary-negated : (b : Bool) (a : Summary) → a ≡ cond b a a

@@ -8,17 +8,21 @@ use judge::FirstFault;
 use judge::test_fault;
 use syntax::FoundClose;
 use syntax::FoundConnective;
+use syntax::FoundTest;
 use syntax::Head;
 use syntax::RawTest;
 use syntax::read_close;
 use syntax::read_connective;
 use syntax::read_head;
+use syntax::read_member;
+use syntax::scan::skip;
 ghost use mathlib.Core.Path.{_≡_};
 ghost use Prim.Native.Nat.{_+_, _≤_};
 ghost use lib.ListN.{length};
 ghost use Rattle.sheet.specs.Sheet.{parametersOf, readSheet};
 ghost use Rattle.syntax.specs.Placed.{Placed};
 ghost use Rattle.syntax.specs.Scan.{testOf};
+ghost use Rattle.syntax.specs.Tree.{moved};
 ghost use Rattle.syntax.specs.Reader.{itemAt, filterAt};
 ghost use Rattle.judge.specs.Faults.{orElse};
 ghost use Rattle.filter.specs.Folds.{joinSummaries, reading};
@@ -32,22 +36,23 @@ fn first_of(a: FirstFault, b: FirstFault) -> FirstFault
     match fault {
         Fault::Nothing => b,
         Fault::UnknownName => a,
+        Fault::BareBundle => a,
         Fault::Unsupported => a,
         Fault::NoMeaning => a,
         Fault::Unreadable => a,
     }
 }
 
-// One test: its fault, if it has one, at its first byte.
-fn test_summary(sheet: &[u8], filter: &[u8], test: RawTest) -> Summary
+// One test, with its first byte at a position: its fault, if it has one, there.
+fn test_summary(sheet: &[u8], bundle: u8, filter: &[u8], position: usize, test: RawTest) -> Summary
     requires { ⌜ readSheet (now sheet) ≡ Reading.WellFormed ⌝ }
     requires { ⌜ length (now filter) ≤ 1024 ⌝ }
     requires { ⌜ Placed (now filter) test ⌝ }
-    ensures { λ r. ⌜ r ≡ reading (parametersOf (now (sheet .entry))) .one (testOf (now (filter .entry)) test) ⌝ }
+    ensures { λ r. ⌜ r ≡ reading (parametersOf (now (sheet .entry))) bundle .one (moved position (testOf (now (filter .entry)) test)) ⌝ }
 {
     let here = FirstFault {
-        fault: test_fault(sheet, filter, test),
-        position: test.at,
+        fault: test_fault(sheet, bundle, filter, test),
+        position,
     };
     let none = FirstFault {
         fault: Fault::Nothing,
@@ -72,19 +77,22 @@ fn join_summaries(a: Summary, b: Summary) -> Summary
     }
 }
 
-// The item at a spot: "a test, a filter in round brackets, or not followed by a filter in round brackets".
+// The item at a spot: "a test, a filter in round brackets, or not followed by a filter in round brackets", or the test of a member
+// after its bundle's brackets.
 fn check_item(sheet: &[u8], filter: &[u8], spot: Spot) -> Walked
     requires { ⌜ readSheet (now sheet) ≡ Reading.WellFormed ⌝ }
     requires { ⌜ length (now filter) ≤ 1024 ⌝ }
     requires { ⌜ spot .at ≤ length (now filter) ⌝ }
-    ensures { λ r. ⌜ r ≡ answerOf Walked.Done Walked.Nothing (reading (parametersOf (now (sheet .entry)))) (itemAt (spot .deep) (now (filter .entry)) (spot .at)) ⌝ }
+    ensures { λ r. ⌜ r ≡ answerOf Walked.Done Walked.Nothing (reading (parametersOf (now (sheet .entry))) (spot .bundle)) (itemAt (spot .deep) (now (filter .entry)) (spot .close) (spot .at)) ⌝ }
 {
     let at = spot.at;
     let deep = spot.deep;
-    let head = read_head(filter, b')', at);
+    let close = spot.close;
+    let bundle = spot.bundle;
+    let head = read_head(filter, close, at);
     match head {
         Head::Test(test) => {
-            let summary = test_summary(sheet, filter, test);
+            let summary = test_summary(sheet, bundle, filter, test.at, test);
             let value = test.value;
             Walked::Done(value.next, summary)
         }
@@ -98,14 +106,47 @@ fn check_item(sheet: &[u8], filter: &[u8], spot: Spot) -> Walked
                 Spot {
                     at: next,
                     deep: deep - 1,
+                    close: b')',
+                    bundle,
                 },
             );
             match inner {
                 Walked::Done(end, summary) => {
-                    let close = read_close(filter, b')', end);
-                    match close {
+                    let closed = read_close(filter, b')', end);
+                    match closed {
                         FoundClose::At(after) => Walked::Done(after, summary),
                         FoundClose::Nothing => Walked::Nothing,
+                    }
+                }
+                Walked::Nothing => Walked::Nothing,
+            }
+        }
+        Head::Choice(until) => {
+            if deep == 0 {
+                return Walked::Nothing;
+            }
+            let inside = sheet::enter(sheet, bundle, &filter[at..until]);
+            let next = skip(filter, until + 1);
+            let inner = check_filter(
+                sheet,
+                filter,
+                Spot {
+                    at: next,
+                    deep: deep - 1,
+                    close: b']',
+                    bundle: inside,
+                },
+            );
+            match inner {
+                Walked::Done(end, summary) => {
+                    let member = read_member(filter, close, end);
+                    match member {
+                        FoundTest::Test(test) => {
+                            let outer = test_summary(sheet, inside, filter, at, test);
+                            let value = test.value;
+                            Walked::Done(value.next, join_summaries(outer, summary))
+                        }
+                        FoundTest::Nothing => Walked::Nothing,
                     }
                 }
                 Walked::Nothing => Walked::Nothing,
@@ -120,11 +161,22 @@ pub fn check_filter(sheet: &[u8], filter: &[u8], spot: Spot) -> Walked
     requires { ⌜ readSheet (now sheet) ≡ Reading.WellFormed ⌝ }
     requires { ⌜ length (now filter) ≤ 1024 ⌝ }
     requires { ⌜ spot .at ≤ length (now filter) ⌝ }
-    ensures { λ r. ⌜ r ≡ answerOf Walked.Done Walked.Nothing (reading (parametersOf (now (sheet .entry)))) (filterAt (spot .deep) (now (filter .entry)) (spot .at)) ⌝ }
+    ensures { λ r. ⌜ r ≡ answerOf Walked.Done Walked.Nothing (reading (parametersOf (now (sheet .entry))) (spot .bundle)) (filterAt (spot .deep) (now (filter .entry)) (spot .close) (spot .at)) ⌝ }
 {
     let at = spot.at;
     let deep = spot.deep;
-    let first = check_item(sheet, filter, Spot { at, deep });
+    let close = spot.close;
+    let bundle = spot.bundle;
+    let first = check_item(
+        sheet,
+        filter,
+        Spot {
+            at,
+            deep,
+            close,
+            bundle,
+        },
+    );
     let Walked::Done(first_end, first_summary) = first else {
         return Walked::Nothing;
     };
@@ -134,7 +186,16 @@ pub fn check_filter(sheet: &[u8], filter: &[u8], spot: Spot) -> Walked
         let connective = read_connective(filter, end);
         match connective {
             FoundConnective::Next(next, _) => {
-                let item = check_item(sheet, filter, Spot { at: next, deep });
+                let item = check_item(
+                    sheet,
+                    filter,
+                    Spot {
+                        at: next,
+                        deep,
+                        close,
+                        bundle,
+                    },
+                );
                 match item {
                     Walked::Done(item_end, item_summary) => {
                         end = item_end;

@@ -6,10 +6,13 @@ pub use check::check_filter;
 use judge::FirstFault;
 pub use verdict::judge_filter;
 
-// A position in the filter's text, and how many brackets may still open around it.
+// A position in the filter's text, how many brackets may still open around it, the byte that closes the one around it, and where
+// names are looked up: 0 at the top of the sheet, or a bundle's index plus 1.
 pub struct Spot {
     pub at: usize,
     pub deep: usize,
+    pub close: u8,
+    pub bundle: u8,
 }
 
 // What reading gathers: the number of tests, and the first fault among them.

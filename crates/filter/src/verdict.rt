@@ -3,14 +3,25 @@
 use crate::Judged;
 use crate::Spot;
 use block::Reading;
+use judge::Chosen;
+use judge::is_under;
+use judge::member_counts;
+use judge::member_truth;
+use judge::some_says;
+use judge::test_found;
 use judge::test_says;
+use kind::Meaning;
+use sheet::Found;
 use syntax::FoundClose;
 use syntax::FoundConnective;
+use syntax::FoundTest;
 use syntax::Head;
 use syntax::RawTest;
 use syntax::read_close;
 use syntax::read_connective;
 use syntax::read_head;
+use syntax::read_member;
+use syntax::scan::skip;
 ghost use mathlib.Core.Path.{_≡_};
 ghost use mathlib.Core.Bool.{cond, not, _&&_};
 ghost use Prim.Native.Nat.{_≤_};
@@ -21,6 +32,9 @@ ghost use Rattle.syntax.specs.Placed.{Placed};
 ghost use Rattle.syntax.specs.Scan.{testOf};
 ghost use Rattle.syntax.specs.Reader.{itemAt, filterAt};
 ghost use Rattle.filter.specs.Folds.{undecided, judging};
+ghost use Rattle.judge.specs.Sets.{ofOccurrence, chosenOf};
+ghost use Rattle.judge.specs.Verdicts.{textCounts};
+ghost use Rattle.filter.specs.Members.{parsedSays, judgedSays, someChosen, memberSays};
 ghost use Rattle.filter.specs.Walks.{answerOf};
 
 // The verdict, or after not the opposite.
@@ -51,33 +65,165 @@ fn after_item(needed: bool, says: bool, item: bool) -> bool
 }
 
 // What a test says, where that is needed.
-fn test_verdict(needed: bool, sheet: &[u8], card: &[u8], filter: &[u8], test: RawTest) -> bool
+fn test_verdict(
+    needed: bool,
+    sheet: &[u8],
+    bundle: u8,
+    card: &[u8],
+    chosen: Chosen,
+    filter: &[u8],
+    test: RawTest,
+) -> bool
     requires { ⌜ readSheet (now sheet) ≡ Reading.WellFormed ⌝ }
     requires { ⌜ readCard (now card) ≡ Reading.WellFormed ⌝ }
     requires { ⌜ length (now filter) ≤ 1024 ⌝ }
     requires { ⌜ Placed (now filter) test ⌝ }
-    ensures { λ r. ⌜ r ≡ judging needed (parametersOf (now (sheet .entry))) (entriesOf (now (card .entry))) .one (testOf (now (filter .entry)) test) ⌝ }
+    ensures { λ r. ⌜ r ≡ judging needed (parametersOf (now (sheet .entry))) bundle (chosenOf chosen (entriesOf (now (card .entry)))) .one (testOf (now (filter .entry)) test) ⌝ }
 {
     if needed {
-        return test_says(sheet, card, filter, test);
+        return test_says(sheet, bundle, card, chosen, filter, test);
+    }
+    false
+}
+
+// What was judged says, and no where it is no filter.
+fn judged_says(judged: Judged) -> bool
+    ensures { λ r. ⌜ r ≡ judgedSays judged ⌝ }
+{
+    match judged {
+        Judged::Done(_, says) => says,
+        Judged::Nothing => false,
+    }
+}
+
+// Whether an entry's text counts for the test of a member: it is among those that count, stands under the parameter, and so on.
+fn entry_counts(under: bool, filter: &[u8], test: RawTest, meaning: Meaning, text: &[u8]) -> bool
+    requires { ⌜ length (now filter) ≤ 1024 ⌝ }
+    requires { ⌜ Placed (now filter) test ⌝ }
+    ensures { λ r. ⌜ r ≡ (under && textCounts meaning (testOf (now (filter .entry)) test .value) (now (text .entry))) ⌝ }
+{
+    if under {
+        return member_counts(filter, test, meaning, text);
+    }
+    false
+}
+
+// Whether an entry counts and the filter in the brackets says yes of its occurrence.
+fn entry_chosen(
+    counts: bool,
+    sheet: &[u8],
+    card: &[u8],
+    filter: &[u8],
+    occurrence: u8,
+    spot: Spot,
+) -> bool
+    requires { ⌜ readSheet (now sheet) ≡ Reading.WellFormed ⌝ }
+    requires { ⌜ readCard (now card) ≡ Reading.WellFormed ⌝ }
+    requires { ⌜ length (now filter) ≤ 1024 ⌝ }
+    requires { ⌜ spot .at ≤ length (now filter) ⌝ }
+    ensures { λ r. ⌜ r ≡ (counts && parsedSays (parametersOf (now (sheet .entry))) (spot .bundle) (ofOccurrence occurrence (entriesOf (now (card .entry)))) (filterAt (spot .deep) (now (filter .entry)) (spot .close) (spot .at))) ⌝ }
+{
+    if counts {
+        let chosen = Chosen {
+            all: false,
+            occurrence,
+        };
+        return judged_says(judge_filter(true, sheet, card, chosen, filter, spot));
+    }
+    false
+}
+
+// Whether some entry under a parameter counts for the test of a member, and the filter in the brackets at a spot says yes of its
+// occurrence.
+fn some_chosen(
+    sheet: &[u8],
+    card: &[u8],
+    chosen: Chosen,
+    filter: &[u8],
+    spot: Spot,
+    index: u8,
+    meaning: Meaning,
+    test: RawTest,
+) -> bool
+    requires { ⌜ readSheet (now sheet) ≡ Reading.WellFormed ⌝ }
+    requires { ⌜ readCard (now card) ≡ Reading.WellFormed ⌝ }
+    requires { ⌜ length (now filter) ≤ 1024 ⌝ }
+    requires { ⌜ spot .at ≤ length (now filter) ⌝ }
+    requires { ⌜ Placed (now filter) test ⌝ }
+    ensures { λ r. ⌜ r ≡ someChosen (parametersOf (now (sheet .entry))) (spot .bundle) (entriesOf (now (card .entry))) chosen (filterAt (spot .deep) (now (filter .entry)) (spot .close) (spot .at)) index meaning (testOf (now (filter .entry)) test .value) (entriesOf (now (card .entry))) ⌝ }
+{
+    let mut at = card::FIRST_ENTRY;
+    let mut left = card::entry_count(card);
+    while left > 0 {
+        let e = card::entry_at(card, at, left);
+        let start = e.start;
+        let end = e.end;
+        let under = is_under(chosen, e.occurrence, e.index == index);
+        let counts = entry_counts(under, filter, test, meaning, &card[start..end]);
+        if entry_chosen(counts, sheet, card, filter, e.occurrence, spot) {
+            return true;
+        }
+        at = end;
+        left -= 1;
+    }
+    false
+}
+
+// What the test of a member after the brackets at a spot says.
+fn member_verdict(
+    needed: bool,
+    sheet: &[u8],
+    card: &[u8],
+    chosen: Chosen,
+    filter: &[u8],
+    spot: Spot,
+    test: RawTest,
+) -> bool
+    requires { ⌜ readSheet (now sheet) ≡ Reading.WellFormed ⌝ }
+    requires { ⌜ readCard (now card) ≡ Reading.WellFormed ⌝ }
+    requires { ⌜ length (now filter) ≤ 1024 ⌝ }
+    requires { ⌜ spot .at ≤ length (now filter) ⌝ }
+    requires { ⌜ Placed (now filter) test ⌝ }
+    ensures { λ r. ⌜ r ≡ (needed && memberSays (parametersOf (now (sheet .entry))) (spot .bundle) (entriesOf (now (card .entry))) chosen (filterAt (spot .deep) (now (filter .entry)) (spot .close) (spot .at)) (testOf (now (filter .entry)) test)) ⌝ }
+{
+    if needed {
+        match test_found(sheet, spot.bundle, filter, test) {
+            Found::At { index, kind } => {
+                let meaning = kind::meaning_of(test.operator, kind);
+                let some = some_chosen(sheet, card, chosen, filter, spot, index, meaning, test);
+                return some_says(meaning, member_truth(filter, test), some);
+            }
+            Found::Missing => {
+                return false;
+            }
+        }
     }
     false
 }
 
 // The item at a spot.
-fn judge_item(needed: bool, sheet: &[u8], card: &[u8], filter: &[u8], spot: Spot) -> Judged
+fn judge_item(
+    needed: bool,
+    sheet: &[u8],
+    card: &[u8],
+    chosen: Chosen,
+    filter: &[u8],
+    spot: Spot,
+) -> Judged
     requires { ⌜ readSheet (now sheet) ≡ Reading.WellFormed ⌝ }
     requires { ⌜ readCard (now card) ≡ Reading.WellFormed ⌝ }
     requires { ⌜ length (now filter) ≤ 1024 ⌝ }
     requires { ⌜ spot .at ≤ length (now filter) ⌝ }
-    ensures { λ r. ⌜ r ≡ answerOf Judged.Done Judged.Nothing (judging needed (parametersOf (now (sheet .entry))) (entriesOf (now (card .entry)))) (itemAt (spot .deep) (now (filter .entry)) (spot .at)) ⌝ }
+    ensures { λ r. ⌜ r ≡ answerOf Judged.Done Judged.Nothing (judging needed (parametersOf (now (sheet .entry))) (spot .bundle) (chosenOf chosen (entriesOf (now (card .entry))))) (itemAt (spot .deep) (now (filter .entry)) (spot .close) (spot .at)) ⌝ }
 {
     let at = spot.at;
     let deep = spot.deep;
-    let head = read_head(filter, b')', at);
+    let close = spot.close;
+    let bundle = spot.bundle;
+    let head = read_head(filter, close, at);
     match head {
         Head::Test(test) => {
-            let says = test_verdict(needed, sheet, card, filter, test);
+            let says = test_verdict(needed, sheet, bundle, card, chosen, filter, test);
             let value = test.value;
             Judged::Done(value.next, says)
         }
@@ -89,18 +235,58 @@ fn judge_item(needed: bool, sheet: &[u8], card: &[u8], filter: &[u8], spot: Spot
                 needed,
                 sheet,
                 card,
+                chosen,
                 filter,
                 Spot {
                     at: next,
                     deep: deep - 1,
+                    close: b')',
+                    bundle,
                 },
             );
             match inner {
                 Judged::Done(end, says) => {
-                    let close = read_close(filter, b')', end);
-                    match close {
+                    let closed = read_close(filter, b')', end);
+                    match closed {
                         FoundClose::At(after) => Judged::Done(after, negated_if(negate, says)),
                         FoundClose::Nothing => Judged::Nothing,
+                    }
+                }
+                Judged::Nothing => Judged::Nothing,
+            }
+        }
+        Head::Choice(until) => {
+            if deep == 0 {
+                return Judged::Nothing;
+            }
+            let inside = sheet::enter(sheet, bundle, &filter[at..until]);
+            let next = skip(filter, until + 1);
+            let inner_spot = Spot {
+                at: next,
+                deep: deep - 1,
+                close: b']',
+                bundle: inside,
+            };
+            // only where the brackets end is asked: their filter is judged for each entry
+            let inner = judge_filter(false, sheet, card, chosen, filter, inner_spot);
+            match inner {
+                Judged::Done(end, _) => {
+                    let member = read_member(filter, close, end);
+                    match member {
+                        FoundTest::Test(test) => {
+                            let says = member_verdict(
+                                needed,
+                                sheet,
+                                card,
+                                chosen,
+                                filter,
+                                inner_spot,
+                                test,
+                            );
+                            let value = test.value;
+                            Judged::Done(value.next, says)
+                        }
+                        FoundTest::Nothing => Judged::Nothing,
                     }
                 }
                 Judged::Nothing => Judged::Nothing,
@@ -112,16 +298,37 @@ fn judge_item(needed: bool, sheet: &[u8], card: &[u8], filter: &[u8], spot: Spot
 
 // The filter at a spot, its items joined from left to right, and and or equal in rank. Where what it says is not needed, no test is
 // judged, and only where the filter ends is told.
-pub fn judge_filter(needed: bool, sheet: &[u8], card: &[u8], filter: &[u8], spot: Spot) -> Judged
+pub fn judge_filter(
+    needed: bool,
+    sheet: &[u8],
+    card: &[u8],
+    chosen: Chosen,
+    filter: &[u8],
+    spot: Spot,
+) -> Judged
     requires { ⌜ readSheet (now sheet) ≡ Reading.WellFormed ⌝ }
     requires { ⌜ readCard (now card) ≡ Reading.WellFormed ⌝ }
     requires { ⌜ length (now filter) ≤ 1024 ⌝ }
     requires { ⌜ spot .at ≤ length (now filter) ⌝ }
-    ensures { λ r. ⌜ r ≡ answerOf Judged.Done Judged.Nothing (judging needed (parametersOf (now (sheet .entry))) (entriesOf (now (card .entry)))) (filterAt (spot .deep) (now (filter .entry)) (spot .at)) ⌝ }
+    ensures { λ r. ⌜ r ≡ answerOf Judged.Done Judged.Nothing (judging needed (parametersOf (now (sheet .entry))) (spot .bundle) (chosenOf chosen (entriesOf (now (card .entry))))) (filterAt (spot .deep) (now (filter .entry)) (spot .close) (spot .at)) ⌝ }
 {
     let at = spot.at;
     let deep = spot.deep;
-    let first = judge_item(needed, sheet, card, filter, Spot { at, deep });
+    let close = spot.close;
+    let bundle = spot.bundle;
+    let first = judge_item(
+        needed,
+        sheet,
+        card,
+        chosen,
+        filter,
+        Spot {
+            at,
+            deep,
+            close,
+            bundle,
+        },
+    );
     let Judged::Done(first_end, first_says) = first else {
         return Judged::Nothing;
     };
@@ -132,7 +339,19 @@ pub fn judge_filter(needed: bool, sheet: &[u8], card: &[u8], filter: &[u8], spot
         match connective {
             FoundConnective::Next(next, and) => {
                 let asked = item_needed(needed, and, says);
-                let item = judge_item(asked, sheet, card, filter, Spot { at: next, deep });
+                let item = judge_item(
+                    asked,
+                    sheet,
+                    card,
+                    chosen,
+                    filter,
+                    Spot {
+                        at: next,
+                        deep,
+                        close,
+                        bundle,
+                    },
+                );
                 match item {
                     Judged::Done(item_end, item_says) => {
                         end = item_end;

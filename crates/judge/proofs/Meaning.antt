@@ -4,7 +4,7 @@ use Prim.Native.Nat.{ℕ, _≤_, _<_}
 use native.Mathlib.Omega.{arith}
 use mathlib.Core.Path.{_≡_, refl, sym, ap, _∙_}
 use mathlib.Core.Bool.{Bool, true, false, cond, not, _||_}
-use mathlib.Core.List.{List}
+use mathlib.Core.List.{List, [], _∷_}
 use lib.Dec.{eqb, leb}
 use lib.ListN.{take}
 use borrow.Author.Tests.{ne-eqb, le-leb, not-true}
@@ -23,8 +23,9 @@ use Rattle.kind.specs.Readable.{isTrue, valueReadable}
 use Rattle.kind.specs.declared.Relation.{Relation}
 use Rattle.kind.specs.declared.Meaning.{Meaning}
 use Rattle.judge.specs.Faults.{unsupported, kindFault, faultAt, testFault}
-use Rattle.judge.specs.Sets.{lookup, valuesAt}
-use Rattle.judge.specs.Verdicts.{isEmpty, someValue, related, saysOf, saysAt, testSays}
+use Rattle.judge.specs.Sets.{lookup, valuesAt, chosenOf}
+use Rattle.judge.specs.declared.Chosen.{Chosen}
+use Rattle.judge.specs.Verdicts.{isEmpty, someValue, related, textCounts, someSays, saysOf, saysAt, testSays}
 use Rattle.judge.specs.declared.Fault.{Fault}
 use Rattle.judge.proofs.Entries.{hasValue}
 
@@ -100,14 +101,14 @@ module _ (k kind : ℕ) (v : List ℕ) (u : Bool) (e : u ≡ unsupported k) wher
       unfolding kindFault
       fault-unreadable j = rw (sym e ∙ h, sym f ∙ i, sym g ∙ j)
 
-pub fault-bundle : (k kind : ℕ) (v : List ℕ) → kind ≡ 7 → Fault.UnknownName ≡ cond (eqb kind bundleKind) Fault.UnknownName (kindFault k kind v)
+pub fault-bundle : (k kind : ℕ) (v : List ℕ) → kind ≡ 7 → Fault.BareBundle ≡ cond (eqb kind bundleKind) Fault.BareBundle (kindFault k kind v)
 fault-bundle k kind v e = rw e
 
-pub fault-kind : (k kind : ℕ) (v : List ℕ) (r : Fault) → (kind ≡ 7 → ⊥) → r ≡ kindFault k kind v → r ≡ cond (eqb kind bundleKind) Fault.UnknownName (kindFault k kind v)
+pub fault-kind : (k kind : ℕ) (v : List ℕ) (r : Fault) → (kind ≡ 7 → ⊥) → r ≡ kindFault k kind v → r ≡ cond (eqb kind bundleKind) Fault.BareBundle (kindFault k kind v)
 fault-kind k kind v r n e = rw (ne-eqb kind 7 n) e
 
 module _ (f found : Found) (k : ℕ) (v : List ℕ) (e : f ≡ found) where
-  pub fault-found : (i kind : ℕ) (r : Fault) → f ≡ Found.At i kind → r ≡ cond (eqb kind bundleKind) Fault.UnknownName (kindFault k kind v) → r ≡ faultAt found k v
+  pub fault-found : (i kind : ℕ) (r : Fault) → f ≡ Found.At i kind → r ≡ cond (eqb kind bundleKind) Fault.BareBundle (kindFault k kind v) → r ≡ faultAt found k v
   fault-found i kind r h g = rw (sym e ∙ h) g
 
   pub fault-missing : f ≡ Found.Missing → Fault.UnknownName ≡ faultAt found k v
@@ -125,20 +126,20 @@ not-not : (b : Bool) → not (not b) ≡ b
 not-not true = refl
 not-not false = refl
 
-module _ (m : Meaning) (v : List ℕ) (i : ℕ) (es : List Entry) (r : Bool) where
-  pub says-present : (t : Bool) → m ≡ Meaning.Present → t ≡ isTrue v → t ≡ true → r ≡ hasValue i es → r ≡ saysOf m v (valuesAt i es)
+module _ (m : Meaning) (v : List ℕ) (c : Chosen) (i : ℕ) (es : List Entry) (r : Bool) where
+  pub says-present : (t : Bool) → m ≡ Meaning.Present → t ≡ isTrue v → t ≡ true → r ≡ hasValue c i es → r ≡ saysOf m v (valuesAt i (chosenOf c es))
   unfolding saysOf
   says-present t e f h g = rw (e, sym f ∙ h) g
 
-  pub says-absent : (t : Bool) → m ≡ Meaning.Present → t ≡ isTrue v → t ≡ false → r ≡ hasValue i es → not r ≡ saysOf m v (valuesAt i es)
+  pub says-absent : (t : Bool) → m ≡ Meaning.Present → t ≡ isTrue v → t ≡ false → r ≡ hasValue c i es → not r ≡ saysOf m v (valuesAt i (chosenOf c es))
   unfolding saysOf
-  says-absent t e f h g = rw (e, sym f ∙ h, g) (not-not (isEmpty (valuesAt i es)))
+  says-absent t e f h g = rw (e, sym f ∙ h, g) (not-not (isEmpty (valuesAt i (chosenOf c es))))
 
-  pub says-relates : (s : Relation) → m ≡ Meaning.Relates s → r ≡ someValue (related false s v) (valuesAt i es) → r ≡ saysOf m v (valuesAt i es)
+  pub says-relates : (s : Relation) → m ≡ Meaning.Relates s → r ≡ someValue (related false s v) (valuesAt i (chosenOf c es)) → r ≡ saysOf m v (valuesAt i (chosenOf c es))
   unfolding saysOf
   says-relates s e g = rw e g
 
-  pub says-differs : (s : Relation) → m ≡ Meaning.Differs s → r ≡ someValue (related true s v) (valuesAt i es) → r ≡ saysOf m v (valuesAt i es)
+  pub says-differs : (s : Relation) → m ≡ Meaning.Differs s → r ≡ someValue (related true s v) (valuesAt i (chosenOf c es)) → r ≡ saysOf m v (valuesAt i (chosenOf c es))
   unfolding saysOf
   says-differs s e g = rw e g
 
@@ -155,26 +156,109 @@ module _ (raw out : List ℕ) (n : ℕ) (d : Decoded raw out n) where
   pub decoded-says : (f : Found) (k : ℕ) (es : List Entry) (r : Bool) → r ≡ saysAt f k (take n out) es → r ≡ saysAt f k (decode false raw) es
   decoded-says f k es r e = rw (← d .is) e
 
-module _ (ps : List Parameter) (xs : List ℕ) (t : RawTest) where
+module _ (ps : List Parameter) (c : ℕ) (xs : List ℕ) (t : RawTest) where
   abbrev found-at : Found
-  found-at = find 0 (part xs (t .at) (t .until)) ps
+  found-at = find c (part xs (t .at) (t .until)) ps
 
   abbrev raw-value : List ℕ
   raw-value = part xs (t .value .start) (t .value .end)
 
-  pub fault-escaped : (r : Fault) → t .value .escaped ≡ true → r ≡ faultAt found-at (t .operator) (decode false raw-value) → r ≡ testFault ps (testOf xs t)
+  pub fault-escaped : (r : Fault) → t .value .escaped ≡ true → r ≡ faultAt found-at (t .operator) (decode false raw-value) → r ≡ testFault ps c (testOf xs t)
   unfolding testFault lookup
   fault-escaped r e h = rw e h
 
-  pub fault-plain : (r : Fault) → t .value .escaped ≡ false → r ≡ faultAt found-at (t .operator) raw-value → r ≡ testFault ps (testOf xs t)
+  pub fault-plain : (r : Fault) → t .value .escaped ≡ false → r ≡ faultAt found-at (t .operator) raw-value → r ≡ testFault ps c (testOf xs t)
   unfolding testFault lookup
   fault-plain r e h = rw e h
 
   module _ (es : List Entry) (r : Bool) where
-    pub says-escaped : t .value .escaped ≡ true → r ≡ saysAt found-at (t .operator) (decode false raw-value) es → r ≡ testSays ps es (testOf xs t)
+    pub says-escaped : t .value .escaped ≡ true → r ≡ saysAt found-at (t .operator) (decode false raw-value) es → r ≡ testSays ps c es (testOf xs t)
     unfolding testSays lookup
     says-escaped e h = rw e h
 
-    pub says-plain : t .value .escaped ≡ false → r ≡ saysAt found-at (t .operator) raw-value es → r ≡ testSays ps es (testOf xs t)
+    pub says-plain : t .value .escaped ≡ false → r ≡ saysAt found-at (t .operator) raw-value es → r ≡ testSays ps c es (testOf xs t)
     unfolding testSays lookup
     says-plain e h = rw e h
+
+-- ---- the test of a member
+
+pub found-name : (ps : List Parameter) (c : ℕ) (xs : List ℕ) (t : RawTest) (r : Found) → r ≡ find c (part xs (t .at) (t .until)) ps → r ≡ lookup ps c (testOf xs t .path)
+unfolding lookup
+found-name ps c xs t r e = e
+
+pub counts-present : (m : Meaning) (v x : List ℕ) → m ≡ Meaning.Present → true ≡ textCounts m v x
+unfolding textCounts
+counts-present m v x e = rw e
+
+pub counts-nothing : (m : Meaning) (v x : List ℕ) → m ≡ Meaning.Nothing → false ≡ textCounts m v x
+unfolding textCounts
+counts-nothing m v x e = rw e
+
+module _ (m : Meaning) (v x : List ℕ) (r : Bool) where
+  pub counts-relates : (s : Relation) → m ≡ Meaning.Relates s → r ≡ related false s v x → r ≡ textCounts m v x
+  unfolding textCounts
+  counts-relates s e g = rw e g
+
+  pub counts-differs : (s : Relation) → m ≡ Meaning.Differs s → r ≡ related true s v x → r ≡ textCounts m v x
+  unfolding textCounts
+  counts-differs s e g = rw e g
+
+module _ (m : Meaning) (truth some : Bool) where
+  pub some-true : m ≡ Meaning.Present → truth ≡ true → some ≡ someSays m truth some
+  unfolding someSays
+  some-true e h = rw (e, h)
+
+  pub some-false : m ≡ Meaning.Present → truth ≡ false → not some ≡ someSays m truth some
+  unfolding someSays
+  some-false e h = rw (e, h)
+
+  pub some-relates : (s : Relation) → m ≡ Meaning.Relates s → some ≡ someSays m truth some
+  unfolding someSays
+  some-relates s e = rw e
+
+  pub some-differs : (s : Relation) → m ≡ Meaning.Differs s → some ≡ someSays m truth some
+  unfolding someSays
+  some-differs s e = rw e
+
+  pub some-nothing : m ≡ Meaning.Nothing → some ≡ someSays m truth some
+  unfolding someSays
+  some-nothing e = rw e
+
+pub decoded-counts : (raw out : List ℕ) (n : ℕ) → Decoded raw out n → (m : Meaning) (x : List ℕ) (r : Bool) → r ≡ textCounts m (take n out) x → r ≡ textCounts m (decode false raw) x
+decoded-counts raw out n d m x r e = rw (← d .is) e
+
+module _ (xs : List ℕ) (t : RawTest) (m : Meaning) (x : List ℕ) (r : Bool) where
+  pub counts-escaped : t .value .escaped ≡ true → r ≡ textCounts m (decode false (part xs (t .value .start) (t .value .end))) x → r ≡ textCounts m (testOf xs t .value) x
+  counts-escaped e h = rw e h
+
+  pub counts-plain : t .value .escaped ≡ false → r ≡ textCounts m (part xs (t .value .start) (t .value .end)) x → r ≡ textCounts m (testOf xs t .value) x
+  counts-plain e h = rw e h
+
+-- what a test says is told by whether some text counts
+pub says-some : (m : Meaning) (v : List ℕ) (set : List (List ℕ)) → saysOf m v set ≡ someSays m (isTrue v) (someValue (textCounts m v) set)
+unfolding saysOf someSays textCounts someValue isEmpty
+says-some Meaning.Present v set = go set
+  where
+    any-text : (xs : List (List ℕ)) → someValue (textCounts Meaning.Present v) xs ≡ not (isEmpty xs)
+    any-text [] = refl
+    any-text (x ∷ xs) = refl
+
+    go : (set : List (List ℕ)) → cond (isTrue v) (not (isEmpty set)) (isEmpty set) ≡ cond (isTrue v) (someValue (textCounts Meaning.Present v) set) (not (someValue (textCounts Meaning.Present v) set))
+    go set = rw (any-text set, not-not (isEmpty set))
+says-some (Meaning.Relates r) v set = refl
+says-some (Meaning.Differs r) v set = refl
+says-some Meaning.Nothing v set = sym (never set)
+  where
+    never : (xs : List (List ℕ)) → someValue (textCounts Meaning.Nothing v) xs ≡ false
+    never [] = refl
+    never (x ∷ xs) = never xs
+
+pub decoded-truth : (raw out : List ℕ) (n : ℕ) → Decoded raw out n → (r : Bool) → r ≡ isTrue (take n out) → r ≡ isTrue (decode false raw)
+decoded-truth raw out n d r e = rw (← d .is) e
+
+module _ (xs : List ℕ) (t : RawTest) (r : Bool) where
+  pub truth-escaped : t .value .escaped ≡ true → r ≡ isTrue (decode false (part xs (t .value .start) (t .value .end))) → r ≡ isTrue (testOf xs t .value)
+  truth-escaped e h = rw e h
+
+  pub truth-plain : t .value .escaped ≡ false → r ≡ isTrue (part xs (t .value .start) (t .value .end)) → r ≡ isTrue (testOf xs t .value)
+  truth-plain e h = rw e h

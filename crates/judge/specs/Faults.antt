@@ -3,10 +3,10 @@
 use Prim.Native.Nat.{ℕ}
 use mathlib.Core.Bool.{Bool, cond}
 use mathlib.Core.List.{List, [], _∷_}
-use lib.Dec.{eqb}
 use Rattle.base.specs.Lists.{member}
 use Rattle.base.specs.Operators.{ap, ss, sb, «in», ni}
 use Rattle.sheet.specs.Sheet.{Parameter, bundleKind}
+use lib.Dec.{eqb}
 use Rattle.sheet.specs.declared.Found.{Found}
 use Rattle.syntax.specs.Tree.{Test}
 use Rattle.kind.specs.Table.{hasMeaning}
@@ -27,13 +27,15 @@ kindFault k kind v =
     (cond (valueReadable k kind v) Fault.Nothing Fault.Unreadable)
     Fault.NoMeaning)
 
--- the same at what the path names; 02: a bare name that is a bundle's "counts as not on the sheet"
+-- the same at what the path names
+-- 02: 18 "for a bundle's name with no bracket"
 abbrev pub faultAt : Found → ℕ → List ℕ → Fault
 faultAt Found.Missing k v = Fault.UnknownName
-faultAt (Found.At i kind) k v = cond (eqb kind bundleKind) Fault.UnknownName (kindFault k kind v)
+faultAt (Found.At i kind) k v = cond (eqb kind bundleKind) Fault.BareBundle (kindFault k kind v)
 
-unfoldable pub testFault : List Parameter → Test → Fault
-testFault ps t = faultAt (lookup ps (t .path)) (t .operator) (t .value)
+-- of a test whose path is looked up in c
+unfoldable pub testFault : List Parameter → ℕ → Test → Fault
+testFault ps c t = faultAt (lookup ps c (t .path)) (t .operator) (t .value)
 
 -- the first of two, where it is a fault, and else the second
 abbrev pub orElse : FirstFault → FirstFault → FirstFault
@@ -42,11 +44,12 @@ orElse a b = byFault (a .fault)
     byFault : Fault → FirstFault
     byFault Fault.Nothing = b
     byFault Fault.UnknownName = a
+    byFault Fault.BareBundle = a
     byFault Fault.Unsupported = a
     byFault Fault.NoMeaning = a
     byFault Fault.Unreadable = a
 
 -- "the first test in the text decides": its fault, and the position of its first byte
-unfoldable pub firstFault : List Parameter → List Test → FirstFault
-firstFault ps [] = record { fault = Fault.Nothing; position = 0 }
-firstFault ps (t ∷ ts) = orElse (record { fault = testFault ps t; position = t .at }) (firstFault ps ts)
+unfoldable pub firstFault : List Parameter → ℕ → List Test → FirstFault
+firstFault ps c [] = record { fault = Fault.Nothing; position = 0 }
+firstFault ps c (t ∷ ts) = orElse (record { fault = testFault ps c t; position = t .at }) (firstFault ps c ts)

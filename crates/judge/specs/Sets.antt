@@ -1,20 +1,22 @@
 -- Paths on a sheet, the texts of a card under them, and which cards conform to a sheet.
 -- Assumes nothing.
 use Prim.Native.Nat.{ℕ}
-use mathlib.Core.Bool.{Bool, true, false, cond, _&&_}
+use mathlib.Core.Bool.{Bool, true, false, cond, _&&_, _||_}
 use mathlib.Core.List.{List, [], _∷_}
 use lib.Dec.{eqb}
 use lib.ListN.{getD}
 use Rattle.sheet.specs.Sheet.{Parameter, kindAt}
-use Rattle.sheet.specs.Find.{find}
+use Rattle.sheet.specs.Find.{find, enter}
 use Rattle.sheet.specs.declared.Found.{Found}
 use Rattle.card.specs.Card.{Entry}
-use Rattle.syntax.specs.Tree.{Path, name}
+use Rattle.syntax.specs.Tree.{Path, name, member}
 use Rattle.kind.specs.Readable.{cardReadable}
+use Rattle.judge.specs.declared.Chosen.{Chosen}
 
--- index and kind of the parameter that a path names
-unfoldable pub lookup : List Parameter → Path → Found
-lookup ps (name n) = find 0 n ps
+-- index and kind of the parameter that a path names, looked up in c
+unfoldable pub lookup : List Parameter → ℕ → Path → Found
+lookup ps c (name n) = find c n ps
+lookup ps c (member b path) = lookup ps (enter ps c b) path
 
 -- the entry's text belongs to the parameter with the index
 abbrev pub isUnder : ℕ → Entry → Bool
@@ -24,6 +26,22 @@ isUnder i e = eqb (e .index) i
 unfoldable pub valuesAt : ℕ → List Entry → List (List ℕ)
 valuesAt i [] = []
 valuesAt i (e ∷ es) = cond (isUnder i e) (e .text ∷ valuesAt i es) (valuesAt i es)
+
+-- the entries that pass a test, in their order
+unfoldable pub keep : (Entry → Bool) → List Entry → List Entry
+keep p [] = []
+keep p (e ∷ es) = cond (p e) (e ∷ keep p es) (keep p es)
+
+-- 02: the entries of one occurrence
+unfoldable pub ofOccurrence : ℕ → List Entry → List Entry
+ofOccurrence o = keep (λ (e : Entry). eqb (e .occurrence) o)
+
+-- whether entries of an occurrence count, and those that do
+abbrev pub counts : Chosen → ℕ → Bool
+counts c o = c .all || eqb o (c .occurrence)
+
+unfoldable pub chosenOf : Chosen → List Entry → List Entry
+chosenOf c = keep (λ (e : Entry). counts c (e .occurrence))
 
 -- "each place is on the sheet and each text is readable as its kind": past the last parameter stands 0, as which no text is readable
 unfoldable pub entryConforms : List Parameter → Entry → Bool

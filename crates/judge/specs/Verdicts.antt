@@ -6,13 +6,14 @@ use mathlib.Core.List.{List, [], _∷_}
 use Rattle.sheet.specs.Sheet.{Parameter}
 use Rattle.sheet.specs.declared.Found.{Found}
 use Rattle.card.specs.Card.{Entry}
-use Rattle.syntax.specs.Tree.{Test, Connective, and, or, Tree, test, join, negation}
+use Rattle.syntax.specs.Tree.{Test, Connective, and, or, Tree, test, bracketed, join, negation}
 use Rattle.kind.specs.Table.{meaningOf}
 use Rattle.kind.specs.Readable.{isTrue}
 use Rattle.kind.specs.Stands.{stands}
 use Rattle.kind.specs.declared.Relation.{Relation}
 use Rattle.kind.specs.declared.Meaning.{Meaning}
-use Rattle.judge.specs.Sets.{lookup, valuesAt}
+use Rattle.judge.specs.Sets.{lookup, valuesAt, ofOccurrence, keep}
+use Rattle.sheet.specs.Find.{enter}
 
 -- ---- a test
 
@@ -42,13 +43,27 @@ saysOf (Meaning.Relates r) v set = someValue (related false r v) set
 saysOf (Meaning.Differs r) v set = someValue (related true r v) set
 saysOf Meaning.Nothing v set = false
 
+-- the same from whether some text counts: for pr each does
+unfoldable pub textCounts : Meaning → List ℕ → List ℕ → Bool
+textCounts Meaning.Present v x = true
+textCounts (Meaning.Relates r) v x = related false r v x
+textCounts (Meaning.Differs r) v x = related true r v x
+textCounts Meaning.Nothing v x = false
+
+unfoldable pub someSays : Meaning → Bool → Bool → Bool
+someSays Meaning.Present truth some = cond truth some (not some)
+someSays (Meaning.Relates r) truth some = some
+someSays (Meaning.Differs r) truth some = some
+someSays Meaning.Nothing truth some = some
+
 -- an operator and a value at what the path names
 abbrev pub saysAt : Found → ℕ → List ℕ → List Entry → Bool
 saysAt Found.Missing k v es = false
 saysAt (Found.At i kind) k v es = saysOf (meaningOf k kind) v (valuesAt i es)
 
-unfoldable pub testSays : List Parameter → List Entry → Test → Bool
-testSays ps es t = saysAt (lookup ps (t .path)) (t .operator) (t .value) es
+-- of a test whose path is looked up in c
+unfoldable pub testSays : List Parameter → ℕ → List Entry → Test → Bool
+testSays ps c es t = saysAt (lookup ps c (t .path)) (t .operator) (t .value) es
 
 -- ---- a filter
 
@@ -56,13 +71,11 @@ abbrev pub joined : Connective → Bool → Bool → Bool
 joined and a b = a && b
 joined or a b = a || b
 
--- a filter's yes or no from those of its tests; "joins those of its items from left to right, and and or equal in rank";
--- "after not the opposite"
-unfoldable pub evaluate : (Test → Bool) → Tree → Bool
-evaluate says (test t) = says t
-evaluate says (join c f g) = joined c (evaluate says f) (evaluate says g)
-evaluate says (negation f) = not (evaluate says f)
-
--- what a filter says of a card
-unfoldable pub filterSays : List Parameter → List Entry → Tree → Bool
-filterSays ps es f = evaluate (testSays ps es) f
+-- what a filter, looked up in c, says of entries: it "joins those of its items from left to right, and and or equal in rank"; "after
+-- not the opposite"; 02: square brackets hold a filter "judged for each occurrence by itself; the set is the named member's texts from
+-- the occurrences that say yes"
+unfoldable pub filterSays : List Parameter → ℕ → List Entry → Tree → Bool
+filterSays ps c es (test t) = testSays ps c es t
+filterSays ps c es (bracketed p b f t) = testSays ps (enter ps c b) (keep (λ e. filterSays ps (enter ps c b) (ofOccurrence (e .occurrence) es) f) es) t
+filterSays ps c es (join k f g) = joined k (filterSays ps c es f) (filterSays ps c es g)
+filterSays ps c es (negation f) = not (filterSays ps c es f)

@@ -49,22 +49,22 @@ fn kind_fault(operator: u8, kind: u8, value: &[u8]) -> Fault
     Fault::NoMeaning
 }
 
-// The fault of an operator and a value at a parameter of a kind: a bundle's name is none that a test can ask.
+// The fault of an operator and a value at a parameter of a kind: at a bundle's, that it is one.
 fn parameter_fault(operator: u8, kind: u8, value: &[u8]) -> Fault
-    ensures { λ r. ⌜ r ≡ cond (eqb kind bundleKind) Fault.UnknownName (kindFault operator kind (now (value .entry))) ⌝ }
+    ensures { λ r. ⌜ r ≡ cond (eqb kind bundleKind) Fault.BareBundle (kindFault operator kind (now (value .entry))) ⌝ }
 {
     if kind == 7 {
-        return Fault::UnknownName;
+        return Fault::BareBundle;
     }
     kind_fault(operator, kind, value)
 }
 
-// The fault of a test with this name, operator and value on a well-formed sheet.
-pub fn fault_at(sheet: &[u8], name: &[u8], operator: u8, value: &[u8]) -> Fault
+// The fault of a test with this name, operator and value on a well-formed sheet, the name looked up in a bundle.
+pub fn fault_at(sheet: &[u8], bundle: u8, name: &[u8], operator: u8, value: &[u8]) -> Fault
     requires { ⌜ readSheet (now sheet) ≡ Reading.WellFormed ⌝ }
-    ensures { λ r. ⌜ r ≡ faultAt (find 0 (now (name .entry)) (parametersOf (now (sheet .entry)))) operator (now (value .entry)) ⌝ }
+    ensures { λ r. ⌜ r ≡ faultAt (find bundle (now (name .entry)) (parametersOf (now (sheet .entry)))) operator (now (value .entry)) ⌝ }
 {
-    match sheet::find(sheet, 0, name) {
+    match sheet::find(sheet, bundle, name) {
         Found::At { index: _, kind } => parameter_fault(operator, kind, value),
         Found::Missing => Fault::UnknownName,
     }

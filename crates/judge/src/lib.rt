@@ -5,20 +5,33 @@ mod tests;
 mod verdicts;
 
 pub use sets::conforms;
+pub use sets::is_under;
+pub use tests::member_counts;
+pub use tests::member_truth;
 pub use tests::test_fault;
+pub use tests::test_found;
 pub use tests::test_says;
+pub use verdicts::some_says;
 
 // What is wrong with a test on a sheet, whatever the card.
 pub enum Fault {
     Nothing,
     // 14: the name is not on the sheet.
     UnknownName,
+    // 18: a bundle's name with no bracket.
+    BareBundle,
     // 15: the operator is ap, ss, sb, in or ni.
     Unsupported,
     // 16: another operator without a meaning for the kind.
     NoMeaning,
     // 17: the value is unreadable.
     Unreadable,
+}
+
+// Which entries of a card count: all, or those of one occurrence.
+pub struct Chosen {
+    pub all: bool,
+    pub occurrence: u8,
 }
 
 // The first fault in a filter, and the position of its test's first byte.

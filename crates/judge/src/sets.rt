@@ -1,12 +1,13 @@
 // The texts of a card: whether they conform to a sheet, and those under one parameter.
+use crate::Chosen;
 use block::Reading;
 use kind::Relation;
 ghost use mathlib.Core.Path.{_≡_};
-ghost use mathlib.Core.Bool.{not};
+ghost use mathlib.Core.Bool.{not, _&&_};
 ghost use lib.ListN.{getD};
 ghost use Rattle.card.specs.Card.{entriesOf, readCard};
 ghost use Rattle.kind.specs.Readable.{cardReadable};
-ghost use Rattle.judge.specs.Sets.{valuesAt, conformsTo};
+ghost use Rattle.judge.specs.Sets.{valuesAt, counts, chosenOf, conformsTo};
 ghost use Rattle.judge.specs.Verdicts.{someValue, isEmpty, related, entryRelated};
 
 // Whether the text of an entry is readable as the kind of its parameter.
@@ -40,16 +41,29 @@ pub fn conforms(kinds: &[u8], card: &[u8]) -> bool
     true
 }
 
-// Whether a well-formed card has a text under a parameter.
-pub fn has_value(card: &[u8], index: u8) -> bool
+// Whether an entry of an occurrence counts, and stands under the parameter, where `same` says that it has its index.
+pub fn is_under(chosen: Chosen, occurrence: u8, same: bool) -> bool
+    ensures { λ r. ⌜ r ≡ (counts chosen occurrence && same) ⌝ }
+{
+    if chosen.all {
+        return same;
+    }
+    if occurrence == chosen.occurrence {
+        return same;
+    }
+    false
+}
+
+// Whether a well-formed card has a text under a parameter, among the entries that count.
+pub fn has_value(card: &[u8], chosen: Chosen, index: u8) -> bool
     requires { ⌜ readCard (now card) ≡ Reading.WellFormed ⌝ }
-    ensures { λ r. ⌜ r ≡ not (isEmpty (valuesAt index (entriesOf (now (card .entry))))) ⌝ }
+    ensures { λ r. ⌜ r ≡ not (isEmpty (valuesAt index (chosenOf chosen (entriesOf (now (card .entry)))))) ⌝ }
 {
     let mut at = card::FIRST_ENTRY;
     let mut left = card::entry_count(card);
     while left > 0 {
         let e = card::entry_at(card, at, left);
-        if e.index == index {
+        if is_under(chosen, e.occurrence, e.index == index) {
             return true;
         }
         at = e.end;
@@ -59,7 +73,7 @@ pub fn has_value(card: &[u8], index: u8) -> bool
 }
 
 // Whether a text stands in a relation to a value, or, where `differs`, does not.
-fn text_related(differs: bool, relation: Relation, value: &[u8], text: &[u8]) -> bool
+pub fn text_related(differs: bool, relation: Relation, value: &[u8], text: &[u8]) -> bool
     ensures { λ r. ⌜ r ≡ related differs relation (now (value .entry)) (now (text .entry)) ⌝ }
 {
     if differs {
@@ -79,9 +93,16 @@ fn entry_related(under: bool, differs: bool, relation: Relation, value: &[u8], t
 }
 
 // Whether some text under a parameter stands in a relation to a value, or, where `differs`, some text does not.
-pub fn some_value(card: &[u8], index: u8, differs: bool, relation: Relation, value: &[u8]) -> bool
+pub fn some_value(
+    card: &[u8],
+    chosen: Chosen,
+    index: u8,
+    differs: bool,
+    relation: Relation,
+    value: &[u8],
+) -> bool
     requires { ⌜ readCard (now card) ≡ Reading.WellFormed ⌝ }
-    ensures { λ r. ⌜ r ≡ someValue (related differs relation (now (value .entry))) (valuesAt index (entriesOf (now (card .entry)))) ⌝ }
+    ensures { λ r. ⌜ r ≡ someValue (related differs relation (now (value .entry))) (valuesAt index (chosenOf chosen (entriesOf (now (card .entry))))) ⌝ }
 {
     let mut at = card::FIRST_ENTRY;
     let mut left = card::entry_count(card);
@@ -90,7 +111,7 @@ pub fn some_value(card: &[u8], index: u8, differs: bool, relation: Relation, val
         let start = e.start;
         let end = e.end;
         if entry_related(
-            e.index == index,
+            is_under(chosen, e.occurrence, e.index == index),
             differs,
             relation,
             value,

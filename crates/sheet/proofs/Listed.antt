@@ -1,23 +1,26 @@
 -- Where a parameter that is found stands: by its name, and by its index.
 -- Assumes nothing.
-use Prim.Native.Nat.{ℕ, zero, suc, _+_}
+use Prim.Native.Nat.{ℕ, zero, suc, _+_, _<_}
 use native.Mathlib.Nat.{add-zero}
 use native.Mathlib.Omega.{arith}
 use mathlib.Core.Path.{_≡_, refl, ap, ap₂, sym, _∙_, subst}
 use mathlib.Core.Bool.{Bool, true, false, cond, _&&_}
 use lib.Dec.{eqb}
-use borrow.Author.Tests.{eqb-true, eq-eqb}
+use borrow.Author.Tests.{eqb-true, eq-eqb, ne-eqb}
 use mathlib.Core.Logic.{_↔_}
 use mathlib.Core.List.{List, [], _∷_, _++_}
-use lib.ListN.{length}
+use lib.ListN.{length, length-append}
 use Rattle.base.specs.Lists.{All, all-empty, all-cons, equal}
 use Rattle.base.proofs.Tests.{and-left, and-right}
 use Rattle.base.proofs.All.{all-head, all-right}
 use Rattle.base.proofs.Lists.{equal-same, equal-refl}
-use Rattle.sheet.specs.Sheet.{Parameter, parameter, kindAt}
+use Rattle.block.specs.declared.Reading.the-variants.{WellFormed}
+use Rattle.sheet.specs.Sheet.{Parameter, parameter, kindAt, parametersOf, readSheet}
 use Rattle.sheet.specs.Encode.{MayShare, Distinct, distinct-cons}
-use Rattle.sheet.specs.Find.{findFrom, find, Listed}
-use Rattle.sheet.specs.declared.Found.the-variants.{At}
+use Rattle.sheet.specs.Find.{findFrom, find, enter, Listed}
+use Rattle.sheet.specs.declared.Found.{Found}
+use Rattle.sheet.specs.declared.Found.the-variants.{At, Missing}
+use Rattle.sheet.proofs.Read.{sheet-count}
 
 -- ---- a parameter and its index
 
@@ -113,3 +116,26 @@ kind-back (p ∷ before) q after = kind-back before q after
 
 pub listed-kind : (ps : List Parameter) (i : ℕ) (q : Parameter) → Listed ps i q → kindAt i ps ≡ q .kind
 listed-kind ps i q l = ap₂ kindAt (sym (l .index)) (l .split) ∙ kind-back (l .before) q (l .after)
+
+-- an index that is found is below 32, so that it can be raised
+pub find-below : (b : List ℕ) → readSheet b ≡ WellFormed → (c : ℕ) (n : List ℕ) (f : Found) → f ≡ find c n (parametersOf b) → (i k : ℕ) → f ≡ At i k → i + 1 < 256
+unfolding find
+find-below b h c n f e i k g =
+    let r = found-listed 0 c n (parametersOf b) i k (sym e ∙ g) in
+    let l = r .2 in
+    omega (arith, sheet-count b h, ap length (l .split), length-append (l .before) (parameter k c n ∷ l .after), l .index, r .1)
+
+-- ---- inside what a name names
+
+module _ (ps : List Parameter) (c : ℕ) (n : List ℕ) (f : Found) (e : f ≡ find c n ps) where
+  pub enter-bundle : (i k : ℕ) → f ≡ At i k → k ≡ 7 → i + 1 ≡ enter ps c n
+  unfolding enter
+  enter-bundle i k h z = rw (sym e ∙ h, z)
+
+  pub enter-other : (i k : ℕ) → f ≡ At i k → (k ≡ 7 → ⊥) → 255 ≡ enter ps c n
+  unfolding enter
+  enter-other i k h z = rw (sym e ∙ h, ne-eqb k 7 z)
+
+  pub enter-missing : f ≡ Missing → 255 ≡ enter ps c n
+  unfolding enter
+  enter-missing h = rw (sym e ∙ h)

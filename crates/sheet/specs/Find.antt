@@ -1,13 +1,13 @@
 -- How a parameter is found by its name, and the kinds by index.
 -- Assumes nothing.
-use Prim.Native.Nat.{ℕ, suc, _-_}
+use Prim.Native.Nat.{ℕ, suc, _+_, _-_}
 use mathlib.Core.Path.{_≡_}
 use mathlib.Core.Bool.{cond, _&&_}
 use lib.Dec.{eqb}
 use mathlib.Core.List.{List, [], _∷_, _++_, map}
 use lib.ListN.{length, replicate}
 use Rattle.base.specs.Lists.{equal}
-use Rattle.sheet.specs.Sheet.{Parameter}
+use Rattle.sheet.specs.Sheet.{Parameter, bundleKind}
 use Rattle.sheet.specs.declared.Found.{Found}
 use Rattle.sheet.specs.declared.Found.the-variants.{At, Missing}
 
@@ -19,6 +19,18 @@ findFrom i c n (p ∷ ps) = cond (eqb (p .bundle) c && equal (p .name) n) (At i 
 -- the same in a whole sheet; c is 0 at the top, and the place plus 1 of a bundle among its members
 unfoldable pub find : ℕ → List ℕ → List Parameter → Found
 find c n ps = findFrom 0 c n ps
+
+-- 02: where names are looked up inside what a name names: among a bundle's members, by its index plus 1, and else nowhere, where no
+-- parameter stands
+abbrev pub nowhere : ℕ
+nowhere = 255
+
+abbrev pub inside : Found → ℕ
+inside (At i k) = cond (eqb k bundleKind) (i + 1) nowhere
+inside Missing = nowhere
+
+unfoldable pub enter : List Parameter → ℕ → List ℕ → ℕ
+enter ps c n = inside (find c n ps)
 
 -- the parameter p stands in the list at the index i
 pub record Listed (ps : List Parameter) (i : ℕ) (p : Parameter) : Type 0 where

@@ -12,7 +12,7 @@ ghost use lib.Dec.{eqb};
 ghost use Rattle.block.specs.Seal.{HasSize};
 ghost use Rattle.block.specs.Items.{items, Walk};
 ghost use Rattle.sheet.specs.Sheet.{parameter, parameterCount, parametersOf, isKind, isParameter, areParameters, clashes, absent, distinct, kindAt, hasParent, haveParents, areRight, sheetLayout, readSheet, ParameterAt};
-ghost use Rattle.sheet.specs.Find.{find, kindsOf};
+ghost use Rattle.sheet.specs.Find.{find, enter, kindsOf};
 
 // A parameter: its kind (1 string, 2 number, 3 date, 4 token, 5 reference, 7 bundle), its bundle (0, or a bundle's index plus 1),
 // and where its name starts and ends in the sheet. The next parameter starts where the name ends.
@@ -290,6 +290,22 @@ pub fn find(sheet: &[u8], bundle: u8, name: &[u8]) -> Found
         index += 1;
     }
     Found::Missing
+}
+
+// Where names are looked up inside what a name names: a bundle's index plus 1, or 255 where it names none.
+pub fn enter(sheet: &[u8], bundle: u8, name: &[u8]) -> u8
+    requires { ⌜ readSheet (now sheet) ≡ Reading.WellFormed ⌝ }
+    ensures { λ r. ⌜ r ≡ enter (parametersOf (now (sheet .entry))) bundle (now (name .entry)) ⌝ }
+{
+    match find(sheet, bundle, name) {
+        Found::At { index, kind } => {
+            if kind == 7 {
+                return index + 1;
+            }
+            255
+        }
+        Found::Missing => 255,
+    }
 }
 
 // The kinds of a well-formed sheet's parameters by their index, and 0 past the last.

@@ -1,4 +1,4 @@
--- `judge::faults::parameter_fault` meets its contract: the kind decides whether it is a bundle. Assumes nothing.
+-- `judge::faults::parameter_fault` meets its contract. Assumes nothing.
 use borrow.Author.Needs.{needs}
 use Rattle.judge.proofs.Meaning.{fault-bundle, fault-kind}
 use Rattle.judge.proofs.faults.parameter_fault.Statement.{statement}

@@ -9,10 +9,10 @@ use Rattle.judge.proofs.sets.has_value.Statement.{statement}
 use Rattle.judge.proofs.sets.has_value.Tie as tie
 
 abbrev Inv-loop : tie.InvT-loop
-Inv-loop card index at₀ left₀ at left = Visited entry (hasValue index) (hasValue index (entriesOf card)) card at left
+Inv-loop card chosen index at₀ left₀ at left = Visited entry (hasValue chosen index) (hasValue chosen index (entriesOf card)) card at left
 
 abbrev μ-loop : tie.MeasureT-loop
-μ-loop card index at₀ left₀ at left = left
+μ-loop card chosen index at₀ left₀ at left = left
 
 entry-count-requires : tie.Need-entry-count-requires Inv-loop μ-loop
 entry-count-requires c κs = search needs
@@ -22,6 +22,9 @@ loop-holds c = search (entries-start, needs)
 
 entry-at-requires : tie.Need-entry-at-requires Inv-loop μ-loop
 entry-at-requires c κs = search needs
+
+is-under-requires : tie.Need-is-under-requires Inv-loop μ-loop
+is-under-requires c κs = search needs
 
 returns : tie.Need-returns Inv-loop μ-loop
 returns c = search (visited-decides, value-here, needs)
@@ -47,6 +50,7 @@ has-value-spec =
     entry-count-requires
     loop-holds
     entry-at-requires
+    is-under-requires
     returns
     sub-left
     loop-less

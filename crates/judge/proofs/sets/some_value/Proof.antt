@@ -9,10 +9,10 @@ use Rattle.judge.proofs.sets.some_value.Statement.{statement}
 use Rattle.judge.proofs.sets.some_value.Tie as tie
 
 abbrev Inv-loop : tie.InvT-loop
-Inv-loop card index differs relation value at₀ left₀ at left = Visited entry (someRelated differs relation value index) (someRelated differs relation value index (entriesOf card)) card at left
+Inv-loop card chosen index differs relation value at₀ left₀ at left = Visited entry (someRelated chosen differs relation value index) (someRelated chosen differs relation value index (entriesOf card)) card at left
 
 abbrev μ-loop : tie.MeasureT-loop
-μ-loop card index differs relation value at₀ left₀ at left = left
+μ-loop card chosen index differs relation value at₀ left₀ at left = left
 
 entry-count-requires : tie.Need-entry-count-requires Inv-loop μ-loop
 entry-count-requires c κs = search needs
@@ -34,6 +34,9 @@ part-entry-related-end c = search needs
 
 entry-related-requires : tie.Need-entry-related-requires Inv-loop μ-loop
 entry-related-requires c κs = search needs
+
+is-under-requires : tie.Need-is-under-requires Inv-loop μ-loop
+is-under-requires c κs = search needs
 
 returns : tie.Need-returns Inv-loop μ-loop
 returns c = search (visited-decides, some-here, needs)
@@ -59,6 +62,7 @@ some-value-spec =
     entry-count-requires
     loop-holds
     entry-at-requires
+    is-under-requires
     sub-entry-related
     part-entry-related-start
     part-entry-related-end
