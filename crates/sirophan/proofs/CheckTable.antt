@@ -26,23 +26,22 @@ use Rattle.syntax.proofs.Spelling.{read-spells, spells-unique, tests-rise, risi
 use Rattle.judge.specs.Faults.{firstFault}
 use Rattle.sirophan.specs.Answers.{count, refused}
 use Rattle.sirophan.specs.Operations.{Step, found, _>>=_, sheetStep, takeSheet, treeStep, takeFilter, testsStep, Prepared, prepare, checkAnswer}
-use Rattle.sirophan.specs.Numbers.{rank, TestLine, line-14, line-14-bundle, line-15, line-16, line-17}
+use Rattle.sirophan.specs.Numbers.{TestLine, line-14, line-18, line-15, line-16, line-17}
 use Rattle.sirophan.specs.Refusals.{group, Before, lower-group, earlier-place, lower-rank, Decides, SheetLine, line-1, line-2, line-3, TextLine, line-10, line-11, TestsLine, line-of-test, CheckLine}
 use Rattle.sirophan.proofs.Answers.{count-not-refused}
 use Rattle.sirophan.proofs.Outcomes.{ReadsTo, size-wrong, sum-wrong, layout-wrong, all-right, TestOutcome, test-means, test-refused, Decided, none-holds, one-decides}
 use Rattle.sirophan.proofs.Faults.{outcome}
 use Rattle.sirophan.proofs.Prepare.{tests-next}
 use Rattle.sirophan.proofs.Blocks.{sheet-reads-to}
-use Rattle.sirophan.proofs.Deciding.{apart-at, later-place, no-lower-rank, decided-as, decided-then, decided-found, decided-answer}
+use Rattle.sirophan.proofs.Deciding.{rank-twice, apart-at, later-place, no-lower-rank, decided-as, decided-then, decided-found, decided-answer}
 
 -- ---- the sheet
 
 -- of two lines at one place, the one that comes before has the lower number, if groups go by numbers
-lower-number : {m n p : ℕ} → (group m < group n → m < n) → Before m p n p → m < n
-unfolding rank
-lower-number f (lower-group h) = f h
-lower-number f (earlier-place g h) = absurd (omega arith)
-lower-number f (lower-rank g e h) = h
+lower-number : {m n p : ℕ} → m ≤ 17 → n ≤ 17 → (group m < group n → m < n) → Before m p n p → m < n
+lower-number a b f (lower-group h) = f h
+lower-number a b f (earlier-place g h) = absurd (omega arith)
+lower-number {m = m} {n = n} a b f (lower-rank g e h) = omega (arith, rank-twice m (λ z. omega arith), rank-twice n (λ z. omega arith))
 
 -- the parameters found are those of the sheet
 abbrev OfSheet : List ℕ → List Parameter → Type 0
@@ -57,9 +56,9 @@ module _ (sheet : List ℕ) where
   sheet-first : (n : ℕ) → group n ≡ n → n ≤ 3 → (1 < n → length sheet ≡ 512) → (2 < n → checkSum sheet ≡ word sheet 508)
       → (m q : ℕ) → SheetLine sheet m q → Before m q n 0 → ⊥
   unfolding group
-  sheet-first n g h a b m q (line-1 u) k = u (a (lower-number (λ l. omega arith) k))
-  sheet-first n g h a b m q (line-2 u) k = u (b (lower-number (λ l. omega arith) k))
-  sheet-first n g h a b m q (line-3 u) k = let l : 3 < n = lower-number (λ l. omega arith) k in omega arith
+  sheet-first n g h a b m q (line-1 u) k = u (a (lower-number (omega arith) (omega arith) (λ l. omega arith) k))
+  sheet-first n g h a b m q (line-2 u) k = u (b (lower-number (omega arith) (omega arith) (λ l. omega arith) k))
+  sheet-first n g h a b m q (line-3 u) k = let l : 3 < n = lower-number (omega arith) (omega arith) (λ l. omega arith) k in omega arith
 
   sheet-none : length sheet ≡ 512 → checkSum sheet ≡ word sheet 508 → SheetBlock sheet → (m q : ℕ) → SheetLine sheet m q → ⊥
   sheet-none a b s m q (line-1 u) = u a
@@ -89,8 +88,8 @@ module _ (text : List ℕ) where
   -- none comes before n, where 10 does not hold if it is lower
   text-first : (n : ℕ) → group n ≡ n → n ≤ 11 → (10 < n → SizeWrong → ⊥) → (m q : ℕ) → TextLine text m q → Before m q n 0 → ⊥
   unfolding group
-  text-first n g h a m q (line-10 u) k = a (lower-number (λ l. omega arith) k) u
-  text-first n g h a m q (line-11 u) k = let l : 11 < n = lower-number (λ l. omega arith) k in omega arith
+  text-first n g h a m q (line-10 u) k = a (lower-number (omega arith) (omega arith) (λ l. omega arith) k) u
+  text-first n g h a m q (line-11 u) k = let l : 11 < n = lower-number (omega arith) (omega arith) (λ l. omega arith) k in omega arith
 
   text-none : (SizeWrong → ⊥) → (f : Tree) → Spells text f → (m q : ℕ) → TextLine text m q → ⊥
   text-none a f s m q (line-10 u) = a u
@@ -127,7 +126,7 @@ module _ (text : List ℕ) where
 test-group : {ps : List Parameter} {t : Test} {n : ℕ} → TestLine ps t n → group n ≡ 14
 unfolding group
 test-group (line-14 u) = refl
-test-group (line-14-bundle j) = refl
+test-group (line-18 j) = refl
 test-group (line-15 u) = refl
 test-group (line-16 j u o) = refl
 test-group (line-17 j r) = refl

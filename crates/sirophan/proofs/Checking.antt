@@ -12,6 +12,7 @@ use Rattle.block.specs.declared.Reading.{Reading}
 use Rattle.sheet.specs.Sheet.{Parameter, parametersOf, readSheet}
 use Rattle.syntax.specs.Tree.{Tree, testsOf}
 use Rattle.syntax.specs.Scan.{isSpace}
+use Rattle.syntax.specs.Grammar.{round}
 use Rattle.syntax.specs.Reader.{parsed, filterAt, whole, read}
 use Rattle.judge.specs.Faults.{firstFault}
 use Rattle.judge.specs.declared.Fault.{Fault}
@@ -59,17 +60,17 @@ module _ (ps : List Parameter) (xs : List ℕ) (n : length xs ≡ 0 → ⊥) (l 
   unfolding filterAnswer
   text-none c e h = h ∙ rw (text-read none e)
 
-  module _ (start : ℕ) (s : RunEnd isSpace xs 0 start) (w : Walked) (e : w ≡ answerOf Walked.Done Walked.Nothing (reading ps) (filterAt 8 xs start)) where
+  module _ (start : ℕ) (s : RunEnd isSpace xs 0 start) (w : Walked) (e : w ≡ answerOf Walked.Done Walked.Nothing (reading ps 0) (filterAt 8 xs round start)) where
     pub text-nothing : (c : Checked) → w ≡ Walked.Nothing → checkedAnswer c ≡ refused (numberOf Reason.NoFilter) 0 → checkedAnswer c ≡ filterAnswer ps xs
     unfolding read
-    text-nothing c h = text-none c (rw (← s .is, was-none Walked.Done Walked.Nothing walked-cases (reading ps) xs 8 start w e h))
+    text-nothing c h = text-none c (rw (← s .is, was-none Walked.Done Walked.Nothing walked-cases (reading ps 0) xs round 8 start w e h))
 
     module _ (end : ℕ) (a : Summary) (h : w ≡ Walked.Done end a) (after : ℕ) (t : RunEnd isSpace xs end after) where
-      was : WasFilter Walked.Done Walked.Nothing walked-cases (reading ps) xs 8 start end a
-      was = was-filter Walked.Done Walked.Nothing walked-cases (reading ps) xs 8 start w end a e h
+      was : WasFilter Walked.Done Walked.Nothing walked-cases (reading ps 0) xs round 8 start end a
+      was = was-filter Walked.Done Walked.Nothing walked-cases (reading ps 0) xs round 8 start w end a e h
 
-      gathered : a ≡ record { tests = length (testsOf (was .tree)); first = firstFault ps (testsOf (was .tree)) }
-      gathered = was .value ∙ reading-is ps (was .tree)
+      gathered : a ≡ record { tests = length (testsOf (was .tree)); first = firstFault ps 0 (testsOf (was .tree)) }
+      gathered = was .value ∙ reading-is ps 0 (was .tree)
 
       tests-are : a .tests ≡ length (testsOf (was .tree))
       tests-are = ap (λ (x : Summary). x .tests) gathered
@@ -95,8 +96,8 @@ module _ (ps : List Parameter) (xs : List ℕ) (n : length xs ≡ 0 → ⊥) (l 
             g ∙ rw (text-read (some (was .tree)) r) (ap (λ (x : Summary). answer (faultStep (x .first .fault) (x .first .position) >>= λ u. found (count (x .tests)))) gathered)
 
 -- a walk that has come to its end stands inside the text
-pub walk-within : (ps : List Parameter) (xs : List ℕ) (start : ℕ) (w : Walked) (end : ℕ) (a : Summary) → w ≡ answerOf Walked.Done Walked.Nothing (reading ps) (filterAt 8 xs start) → w ≡ Walked.Done end a → end ≤ length xs
-walk-within ps xs start w end a e h = filter-ahead Walked.Done Walked.Nothing walked-cases (reading ps) xs 8 start w end a e h .1
+pub walk-within : (ps : List Parameter) (xs : List ℕ) (start : ℕ) (w : Walked) (end : ℕ) (a : Summary) → w ≡ answerOf Walked.Done Walked.Nothing (reading ps 0) (filterAt 8 xs round start) → w ≡ Walked.Done end a → end ≤ length xs
+walk-within ps xs start w end a e h = filter-ahead Walked.Done Walked.Nothing walked-cases (reading ps 0) xs round 8 start w end a e h .1
 
 -- ---- the sheet
 

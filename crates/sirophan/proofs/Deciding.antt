@@ -1,8 +1,12 @@
 -- Laws of the order among lines: one line decides at most, and steps that follow each other are decided one after the other.
 -- Assumes nothing.
-use Prim.Native.Nat.{ℕ, _<_, _≤_}
+use Prim.Native.Nat.{ℕ, _*_, _<_, _≤_}
 use native.Mathlib.Omega.{arith}
-use mathlib.Core.Path.{_≡_, refl, ap₂, sym}
+use mathlib.Core.Path.{_≡_, refl, ap, ap₂, sym, _∙_}
+use mathlib.Core.Bool.{true, false}
+use lib.Dec.{eqb}
+use borrow.Author.Tests.{ne-eqb, eqb-true, eqb-false}
+use Rattle.base.proofs.Tests.{decided}
 use mathlib.Core.Logic.{_↔_, _⊎_, inl, inr, ⊎-elim}
 use Rattle.sirophan.specs.Answers.{Answer, refused}
 use Rattle.sirophan.specs.Operations.{Step, found, _>>=_, answer}
@@ -13,8 +17,27 @@ use Rattle.sirophan.proofs.Outcomes.{Decided, none-holds, one-decides, 
 -- ---- the order
 
 -- of two lines one comes first, unless they are the same
-before-total : (m q n p : ℕ) → (Before m q n p → ⊥) → (Before n p m q → ⊥) → (m ≡ n) × (q ≡ p)
+-- a rank is that of one number
+pub rank-twice : (n : ℕ) → (n ≡ 18 → ⊥) → rank n ≡ 2 * n
 unfolding rank
+rank-twice n h = rw (ne-eqb n 18 h)
+
+at-18 : rank 18 ≡ 29
+unfolding rank
+at-18 = refl
+
+pub rank-unique : (m n : ℕ) → rank m ≡ rank n → m ≡ n
+rank-unique m n e = ⊎-elim (λ a. ⊎-elim (λ b. eqb-true m 18 a ∙ sym (eqb-true n 18 b)) (λ b. absurd (odd m n a b e)) (decided (eqb n 18)))
+    (λ a. ⊎-elim (λ b. absurd (odd n m b a (sym e))) (λ b. let x = rank-twice m (eqb-false m 18 a) in let y = rank-twice n (eqb-false n 18 b) in omega arith) (decided (eqb n 18)))
+    (decided (eqb m 18))
+  where
+    odd : (m n : ℕ) → eqb m 18 ≡ true → eqb n 18 ≡ false → rank m ≡ rank n → ⊥
+    odd m n a b e =
+        let x : rank m ≡ 29 = ap rank (eqb-true m 18 a) ∙ at-18 in
+        let y = rank-twice n (eqb-false n 18 b) in
+        omega arith
+
+before-total : (m q n p : ℕ) → (Before m q n p → ⊥) → (Before n p m q → ⊥) → (m ≡ n) × (q ≡ p)
 before-total m q n p a b =
     let gl : group m < group n → ⊥ = λ h. a (lower-group h) in
     let gr : group n < group m → ⊥ = λ h. b (lower-group h) in
@@ -22,9 +45,9 @@ before-total m q n p a b =
     let pl : q < p → ⊥ = λ h. a (earlier-place g h) in
     let pr : p < q → ⊥ = λ h. b (earlier-place (sym g) h) in
     let e : q ≡ p = omega arith in
-    let nl : m < n → ⊥ = λ h. a (lower-rank g e h) in
-    let nr : n < m → ⊥ = λ h. b (lower-rank (sym g) (sym e) h) in
-    (omega arith, e)
+    let nl : rank m < rank n → ⊥ = λ h. a (lower-rank g e h) in
+    let nr : rank n < rank m → ⊥ = λ h. b (lower-rank (sym g) (sym e) h) in
+    (rank-unique m n (omega arith), e)
 
 decides-unique : (Line : ℕ → ℕ → Type 0) (m q n p : ℕ) → Decides Line m q → Decides Line n p → (m ≡ n) × (q ≡ p)
 decides-unique Line m q n p d e = before-total m q n p (e .first m q (d .holds)) (d .first n p (e .holds))

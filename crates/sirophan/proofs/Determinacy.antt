@@ -10,14 +10,14 @@ use Rattle.sheet.specs.Sheet.{Parameter}
 use Rattle.syntax.specs.Tree.{Test, Tree, testsOf}
 use Rattle.sirophan.specs.Answers.{Answer, count, refused}
 use Rattle.sirophan.specs.Meaning.{Meaningful}
-use Rattle.sirophan.specs.Numbers.{rank, Numbered}
+use Rattle.sirophan.specs.Numbers.{Numbered}
+use Rattle.sirophan.proofs.Deciding.{rank-unique}
 use Rattle.sirophan.specs.Demand.{RefusesAlike, Demand, Agree}
 use Rattle.sirophan.proofs.Answers.{is-count}
 
 -- the table gives a test one number
 numbered-unique : {ps : List Parameter} {t : Test} {n m : ℕ} → Numbered ps t n → Numbered ps t m → n ≡ m
-unfolding rank
-numbered-unique {n = n} {m = m} a b = omega (arith, a .lowest m (b .line), b .lowest n (a .line))
+numbered-unique {n = n} {m = m} a b = rank-unique n m (omega (arith, a .lowest m (b .line), b .lowest n (a .line)))
 
 module _ (ps : List Parameter) (f : Tree) (check check′ : Answer) (match match′ : List ℕ → Answer) where
   refusals-agree : RefusesAlike ps f check match → RefusesAlike ps f check′ match′ → Agree ps f check check′ match match′

@@ -5,11 +5,11 @@ use native.Mathlib.Omega.{arith}
 use mathlib.Core.Path.{_≡_, refl, subst}
 use mathlib.Core.Bool.{false}
 use mathlib.Core.List.{List, []}
-use lib.Dec.{eqb}
-use borrow.Author.Tests.{eqb-true, eqb-false}
 use Rattle.base.specs.Operators.{pr}
 use Rattle.base.proofs.Tests.{both-ways, cond-elim}
 use Rattle.sheet.specs.Sheet.{Parameter, parameter, bundleKind}
+use lib.Dec.{eqb}
+use borrow.Author.Tests.{eqb-true, eqb-false}
 use Rattle.sheet.specs.Encode.{WellFormedSheet}
 use Rattle.sheet.specs.Find.{Listed}
 use Rattle.sheet.specs.declared.Found.{Found}
@@ -23,15 +23,16 @@ use Rattle.judge.specs.Faults.{unsupported, kindFault, faultAt, testFault}
 use Rattle.judge.specs.declared.Fault.{Fault}
 use Rattle.sirophan.specs.Operations.{faultStep}
 use Rattle.sirophan.specs.Readable.{TrueOrFalse, ReadableValue, value-of-pr, value-of-kind}
-use Rattle.sirophan.specs.Meaning.{Names, names, NotOnSheet, HasOperator, LacksMeaning, not-on-sheet, bare-bundle, neither, lacks-operator, unreadable}
-use Rattle.sirophan.specs.Numbers.{rank, TestLine, line-14, line-14-bundle, line-15, line-16, line-17, Numbered}
+use Rattle.sirophan.specs.Meaning.{NamesIn, Names, names, names-member, NotOnSheet, HasOperator, LacksMeaning, not-on-sheet, bare-bundle, neither, lacks-operator, unreadable}
+use Rattle.sirophan.specs.Numbers.{rank, TestLine, line-14, line-18, line-15, line-16, line-17, Numbered}
 use Rattle.sirophan.proofs.Readable.{value-iff}
 use Rattle.sirophan.proofs.Meaning.{operator-iff, unsupported-lacks, names-iff, missing-iff}
 use Rattle.sirophan.proofs.Cards.{empty-conforms, one-entry, one-entry-conforms, one-entry-value}
 use Rattle.sirophan.proofs.Outcomes.{Judged, judged-unknown, judged-bundle, judged-unsupported, judged-meaningless, judged-unreadable, judged-right, Refused, TestOutcome, test-means, test-refused}
 
-names-listed : {ps : List Parameter} {path : Path} {i k : ℕ} → Names ps path i k → (n : List ℕ) × Listed ps i (parameter k 0 n)
-names-listed (names {n = n} l) = (n, l)
+names-listed : {ps : List Parameter} {path : Path} {c i k : ℕ} → NamesIn ps c path i k → (b : ℕ) × (n : List ℕ) × Listed ps i (parameter k b n)
+names-listed (names {c = c} {n = n} l) = (c, n, l)
+names-listed (names-member l m) = names-listed m
 
 -- a readable value of pr is true or false
 pr-readable : {kind k : ℕ} {v : List ℕ} → ReadableValue kind v k → k ≡ pr → (TrueOrFalse v → ⊥) → ⊥
@@ -41,42 +42,42 @@ pr-readable (value-of-kind m h) e n = m e
 module _ (ps : List Parameter) (w : WellFormedSheet ps) (t : Test) where
   -- ---- the fault
 
-  judged-at : (o : Found) → lookup ps (t .path) ≡ o → Judged ps t (faultAt o (t .operator) (t .value))
+  judged-at : (o : Found) → lookup ps 0 (t .path) ≡ o → Judged ps t (faultAt o (t .operator) (t .value))
   unfolding kindFault
-  judged-at Found.Missing e = judged-unknown (missing-iff ps (w .names) (t .path) .0 e)
+  judged-at Found.Missing e = judged-unknown (missing-iff ps w (t .path) .0 e)
   judged-at (Found.At i k) e =
-      let there = names-iff ps (w .names) (t .path) i k .0 e in
+      let there = names-iff ps w (t .path) i k .0 e in
       cond-elim (Judged ps t) (eqb k bundleKind) (λ b. judged-bundle (subst (λ (m : ℕ). Names ps (t .path) i m) (eqb-true k bundleKind b) there))
-      (λ b. let z : k ≡ bundleKind → ⊥ = eqb-false k bundleKind b in
-      cond-elim (Judged ps t) (unsupported (t .operator)) (judged-unsupported z there)
+      (λ b. let v = eqb-false k bundleKind b in
+      cond-elim (Judged ps t) (unsupported (t .operator)) (judged-unsupported v there)
       (λ u. cond-elim (Judged ps t) (hasMeaning (t .operator) k)
       (λ m. cond-elim (Judged ps t) (valueReadable (t .operator) k (t .value))
-      (λ r. judged-right z there (operator-iff k (t .operator) .0 m) (value-iff k (t .value) (t .operator) .0 r))
-      (λ n. judged-unreadable z there u (operator-iff k (t .operator) .0 m) (λ r. both-ways (value-iff k (t .value) (t .operator) .1 r) n)))
-      (λ n. judged-meaningless z there u (λ h. both-ways (operator-iff k (t .operator) .1 h) n))))
+      (λ r. judged-right v there (operator-iff k (t .operator) .0 m) (value-iff k (t .value) (t .operator) .0 r))
+      (λ n. judged-unreadable v there u (operator-iff k (t .operator) .0 m) (λ r. both-ways (value-iff k (t .value) (t .operator) .1 r) n)))
+      (λ n. judged-meaningless v there u (λ h. both-ways (operator-iff k (t .operator) .1 h) n))))
 
-  judged : Judged ps t (testFault ps t)
+  judged : Judged ps t (testFault ps 0 t)
   unfolding testFault
-  judged = judged-at (lookup ps (t .path)) refl
+  judged = judged-at (lookup ps 0 (t .path)) refl
 
   -- one parameter is named
   same-kind : {i k i′ k′ : ℕ} → Names ps (t .path) i k → Names ps (t .path) i′ k′ → k ≡ k′
   same-kind {i = i} {k = k} {i′ = i′} {k′ = k′} j j′ =
-      let e = names-iff ps (w .names) (t .path) i k .1 j in
-      let e′ = names-iff ps (w .names) (t .path) i′ k′ .1 j′ in
+      let e = names-iff ps w (t .path) i k .1 j in
+      let e′ = names-iff ps w (t .path) i′ k′ .1 j′ in
       cc
 
   -- ---- the table's number
 
-  -- a line ranks at n or after, where the lines before n do not hold
-  lowest-from : (n : ℕ) → n ≤ 17 → (14 < n → NotOnSheet ps (t .path) → ⊥) → (14 < n → (i : ℕ) → Names ps (t .path) i bundleKind → ⊥) → (15 < n → unsupported (t .operator) ≡ false)
-      → (16 < n → (i k : ℕ) → Names ps (t .path) i k → HasOperator k (t .operator)) → (m : ℕ) → TestLine ps t m → rank n ≤ rank m
+  -- a line ranks at r or after, where the lines before r do not hold
+  lowest-from : (r : ℕ) → r ≤ 34 → (28 < r → NotOnSheet ps (t .path) → ⊥) → (29 < r → (i : ℕ) → Names ps (t .path) i bundleKind → ⊥) → (30 < r → unsupported (t .operator) ≡ false)
+      → (32 < r → (i k : ℕ) → Names ps (t .path) i k → HasOperator k (t .operator)) → (m : ℕ) → TestLine ps t m → r ≤ rank m
   unfolding rank
-  lowest-from n h a d b c m (line-14 u) = let z : 14 < n → ⊥ = λ l. a l u in omega arith
-  lowest-from n h a d b c m (line-14-bundle {i = i} j) = let z : 14 < n → ⊥ = λ l. d l i j in omega arith
-  lowest-from n h a d b c m (line-15 u) = let z : 15 < n → ⊥ = λ l. both-ways u (b l) in omega arith
-  lowest-from n h a d b c m (line-16 {i = i} {k = k} j u o) = let z : 16 < n → ⊥ = λ l. o (c l i k j) in omega arith
-  lowest-from n h a d b c m (line-17 j r) = h
+  lowest-from r h a d b c m (line-14 u) = let z : 28 < r → ⊥ = λ l. a l u in omega arith
+  lowest-from r h a d b c m (line-18 {i = i} j) = let z : 29 < r → ⊥ = λ l. d l i j in omega arith
+  lowest-from r h a d b c m (line-15 u) = let z : 30 < r → ⊥ = λ l. both-ways u (b l) in omega arith
+  lowest-from r h a d b c m (line-16 {i = i} {k = k} j u o) = let z : 32 < r → ⊥ = λ l. o (c l i k j) in omega arith
+  lowest-from r h a d b c m (line-17 j v) = h
 
   -- ---- what a test comes to: a meaning on every conforming card, or a refusal
 
@@ -84,8 +85,8 @@ module _ (ps : List Parameter) (w : WellFormedSheet ps) (t : Test) where
   refused-at : (i k : ℕ) → (k ≡ bundleKind → ⊥) → Names ps (t .path) i k → (n : ℕ) → Numbered ps t n
       → ((es : List Entry) → (valuesAt i es ≡ [] → ⊥) → LacksMeaning ps es t) → Refused ps t n
   refused-at i k z j n table lacks =
-      let p = parameter k 0 (names-listed j .0) in
-      let l = names-listed j .1 in
+      let p = parameter k (names-listed j .0) (names-listed j .1) in
+      let l = names-listed j .2 in
       let es = one-entry ps w i p l in
       record {
         table = table;
@@ -95,35 +96,41 @@ module _ (ps : List Parameter) (w : WellFormedSheet ps) (t : Test) where
         lacks = lacks es (one-entry-value ps w i p l);
       }
 
-  -- a test of line 14 lacks a meaning on the card with no entries
-  refused-on-all : TestLine ps t 14 → LacksMeaning ps [] t → Refused ps t 14
-  refused-on-all line lacks =
-      record {
-        table = record { line = line; lowest = lowest-from 14 (omega arith) (λ l. absurd (omega arith)) (λ l. absurd (omega arith)) (λ l. absurd (omega arith)) (λ l. absurd (omega arith)) };
+  outcome-by : {fault : Fault} → Judged ps t fault → TestOutcome ps t (faultStep fault (t .at))
+  unfolding rank
+  outcome-by (judged-unknown u) =
+      test-refused
+      (record {
+        table = record { line = line-14 u; lowest = lowest-from 28 (omega arith) (λ l. absurd (omega arith)) (λ l. absurd (omega arith)) (λ l. absurd (omega arith)) (λ l. absurd (omega arith)) };
         card = encodeCard false 0 [];
         entries = [];
         conforms = empty-conforms ps;
-        lacks = lacks;
-      }
-
-  outcome-by : {fault : Fault} → Judged ps t fault → TestOutcome ps t (faultStep fault (t .at))
-  outcome-by (judged-unknown u) = test-refused (refused-on-all (line-14 u) (not-on-sheet u))
-  outcome-by (judged-bundle j) = test-refused (refused-on-all (line-14-bundle j) (bare-bundle j))
+        lacks = not-on-sheet u;
+      })
+  outcome-by (judged-bundle {i = i} j) =
+      test-refused
+      (record {
+        table = record { line = line-18 j; lowest = lowest-from 29 (omega arith) (λ l n. n i bundleKind j) (λ l. absurd (omega arith)) (λ l. absurd (omega arith)) (λ l. absurd (omega arith)) };
+        card = encodeCard false 0 [];
+        entries = [];
+        conforms = empty-conforms ps;
+        lacks = bare-bundle j;
+      })
   outcome-by (judged-unsupported {i = i} {k = k} z j u) =
       let lacking : HasOperator k (t .operator) → ⊥ = λ h. both-ways (operator-iff k (t .operator) .1 h) (unsupported-lacks k (t .operator) u) in
       test-refused
       (refused-at i k z j 15
-      (record { line = line-15 u; lowest = lowest-from 15 (omega arith) (λ l n. n i k j) (λ l i′ j′. z (same-kind j j′)) (λ l. absurd (omega arith)) (λ l. absurd (omega arith)) })
+      (record { line = line-15 u; lowest = lowest-from 30 (omega arith) (λ l n. n i k j) (λ l i′ j′. z (same-kind j j′)) (λ l. absurd (omega arith)) (λ l. absurd (omega arith)) })
       (λ es v. lacks-operator j v lacking))
   outcome-by (judged-meaningless {i = i} {k = k} z j u o) =
       test-refused
       (refused-at i k z j 16
-      (record { line = line-16 j u o; lowest = lowest-from 16 (omega arith) (λ l n. n i k j) (λ l i′ j′. z (same-kind j j′)) (λ l. u) (λ l. absurd (omega arith)) })
+      (record { line = line-16 j u o; lowest = lowest-from 32 (omega arith) (λ l n. n i k j) (λ l i′ j′. z (same-kind j j′)) (λ l. u) (λ l. absurd (omega arith)) })
       (λ es v. lacks-operator j v o))
   outcome-by (judged-unreadable {i = i} {k = k} z j u o r) =
       test-refused
       (refused-at i k z j 17
-      (record { line = line-17 j r; lowest = lowest-from 17 (omega arith) (λ l n. n i k j) (λ l i′ j′. z (same-kind j j′)) (λ l. u) (λ l i′ k′ j′. subst (λ (m : ℕ). HasOperator m (t .operator)) (same-kind j j′) o) })
+      (record { line = line-17 j r; lowest = lowest-from 34 (omega arith) (λ l n. n i k j) (λ l i′ j′. z (same-kind j j′)) (λ l. u) (λ l i′ k′ j′. subst (λ (m : ℕ). HasOperator m (t .operator)) (same-kind j j′) o) })
       (λ es v. unreadable j v r))
   outcome-by (judged-right {i = i} {k = k} z j o r) = test-means (λ card es c. never es) no-line
     where
@@ -142,10 +149,10 @@ module _ (ps : List Parameter) (w : WellFormedSheet ps) (t : Test) where
 
       no-line : (n : ℕ) → TestLine ps t n → ⊥
       no-line n (line-14 m) = m i k j
-      no-line n (line-14-bundle j′) = z (same-kind j j′)
+      no-line n (line-18 j′) = z (same-kind j j′)
       no-line n (line-15 u) = both-ways (operator-iff k (t .operator) .1 o) (unsupported-lacks k (t .operator) u)
       no-line n (line-16 j′ u m) = m (has j′)
       no-line n (line-17 j′ m) = m (reads j′)
 
-  pub outcome : TestOutcome ps t (faultStep (testFault ps t) (t .at))
+  pub outcome : TestOutcome ps t (faultStep (testFault ps 0 t) (t .at))
   outcome = outcome-by judged

@@ -2,9 +2,9 @@
 -- Assumes nothing.
 use Prim.Native.Nat.{ℕ}
 use native.Mathlib.Omega.{arith}
-use mathlib.Core.Bool.{false}
 use mathlib.Core.Path.{_≡_, refl, subst}
 use mathlib.Core.List.{List, []}
+use mathlib.Core.Bool.{false}
 use mathlib.Core.Option.{some}
 use Rattle.base.specs.Ascii.{ascii}
 use Rattle.base.specs.Lists.{all-empty, all-cons, every, equal, member}
@@ -30,7 +30,7 @@ use Rattle.kind.specs.Table.{stringRow, tokenRow, row, relationIn, rowMeaning, 
 use Rattle.kind.specs.Readable.{cardReadable, filterReadable, valueReadable}
 use Rattle.judge.specs.Sets.{lookup, valuesAt}
 use Rattle.judge.specs.Faults.{unsupported, kindFault, testFault}
-use Rattle.judge.specs.Verdicts.{someValue, saysOf, testSays, evaluate, filterSays}
+use Rattle.judge.specs.Verdicts.{someValue, saysOf, testSays, filterSays}
 use Rattle.judge.specs.declared.Fault.{Fault}
 use Rattle.sirophan.specs.Answers.{Answer, yes, no, count, refused}
 use Rattle.sirophan.specs.Operations.{found, stop, faultStep}
@@ -53,14 +53,14 @@ title-spelled = read-spells (ascii "title co \"BOOK\"") (test titleTest) .0 (tre
 pub code-spelled : Spells (ascii "code gt 5") (test codeTest)
 code-spelled = read-spells (ascii "code gt 5") (test codeTest) .0 (trees-read .1)
 
-faults-found : (testFault trialParameters titleTest ≡ Fault.Nothing) × (testFault trialParameters codeTest ≡ Fault.NoMeaning)
+faults-found : (testFault trialParameters 0 titleTest ≡ Fault.Nothing) × (testFault trialParameters 0 codeTest ≡ Fault.NoMeaning)
 unfolding titleTest codeTest trialParameters testFault kindFault lookup find findFrom equal unsupported member hasMeaning meaningOf rowMeaning relationIn row stringRow tokenRow valueReadable filterReadable cardReadable
 faults-found = (refl, refl)
 
 trial-well-formed : WellFormedSheet trialParameters
 trial-well-formed = sheet-reads-iff trialSheet false trialParameters .0 trial-sheet-reads .0
 
-outcome-as : (t : Test) (fault : Fault) → testFault trialParameters t ≡ fault → TestOutcome trialParameters t (faultStep fault (t .at))
+outcome-as : (t : Test) (fault : Fault) → testFault trialParameters 0 t ≡ fault → TestOutcome trialParameters t (faultStep fault (t .at))
 outcome-as t fault e = subst (λ (k : Fault). TestOutcome trialParameters t (faultStep k (t .at))) e (outcome trialParameters trial-well-formed t)
 
 title-means : Meaningful trialParameters titleTest
@@ -85,7 +85,7 @@ module _ (check : Answer) (match : List ℕ → Answer) where
     passed = d .passes .1 (all-cons title-means all-empty)
 
     judged : match (encodeCard false 0 []) ≡ no
-    unfolding testsOf filterSays evaluate testSays saysOf someValue valuesAt lookup find findFrom equal trialParameters titleTest meaningOf rowMeaning relationIn row stringRow
+    unfolding testsOf filterSays testSays saysOf someValue valuesAt lookup find findFrom equal trialParameters titleTest meaningOf rowMeaning relationIn row stringRow
     judged = d .verdict passed (encodeCard false 0 []) [] (empty-conforms trialParameters)
 
   -- a filter without is refused, and match refuses alike

@@ -30,7 +30,7 @@ use Rattle.sirophan.proofs.Meaning.{entries-iff}
 use Rattle.sirophan.proofs.Cards.{conforms-reads, reads-conforms}
 use Rattle.sirophan.proofs.Outcomes.{ReadsTo, size-wrong, sum-wrong, layout-wrong, all-right, cardOf, Taken, Decided, none-holds, one-decides, NotRefused}
 use Rattle.sirophan.proofs.Blocks.{card-reads-to}
-use Rattle.sirophan.proofs.Deciding.{apart-at, later-group, no-lower-rank, decided-as, decided-then, decided-found, decided-answer}
+use Rattle.sirophan.proofs.Deciding.{rank-twice, apart-at, later-group, no-lower-rank, decided-as, decided-then, decided-found, decided-answer}
 use Rattle.sirophan.proofs.CheckTable.{sheet-parameters, check-group, Ready, prepare-decided}
 
 -- ---- one card
@@ -47,11 +47,11 @@ module _ (sheet : List ℕ) where
     ps = s .parameters
 
     -- a line ranks at n or after, where the lines before n do not hold
-    card-lowest : (n : ℕ) → n ≤ 23 → (21 < n → checkSum b ≡ word b 508) → (22 < n → CardBlock b) → (m : ℕ) → CardLine sheet b m → rank n ≤ rank m
+    card-lowest : (n : ℕ) → 21 ≤ n → n ≤ 23 → (21 < n → checkSum b ≡ word b 508) → (22 < n → CardBlock b) → (m : ℕ) → CardLine sheet b m → rank n ≤ rank m
     unfolding rank
-    card-lowest n h a c m (line-21 u) = let z : 21 < n → ⊥ = λ l. u (a l) in omega arith
-    card-lowest n h a c m (line-22 u) = let z : 22 < n → ⊥ = λ l. u (c l) in omega arith
-    card-lowest n h a c m (line-23 s′ k v) = h
+    card-lowest n low h a c m (line-21 u) = let z : 21 < n → ⊥ = λ l. u (a l) in omega (arith, rank-twice n (λ e. omega arith))
+    card-lowest n low h a c m (line-22 u) = let z : 22 < n → ⊥ = λ l. u (c l) in omega (arith, rank-twice n (λ e. omega arith))
+    card-lowest n low h a c m (line-23 s′ k v) = omega (arith, rank-twice n (λ e. omega arith))
 
     -- where the card conforms, none holds
     card-none : checkSum b ≡ word b 508 → CardBlock b → (es : List Entry) → Conforms ps b es → (m : ℕ) → CardLine sheet b m → ⊥
@@ -79,9 +79,9 @@ module _ (sheet : List ℕ) where
           → Decided TakenAs (LineAt i) (cardStep r fits (cardOf b) i)
       card-step r e (size-wrong u) fits h = absurd (u size)
       card-step r e (sum-wrong a u) fits h =
-          card-decides i 21 (line-21 u) (card-lowest 21 (omega arith) (λ l. absurd (omega arith)) (λ l. absurd (omega arith)))
+          card-decides i 21 (line-21 u) (card-lowest 21 (omega arith) (omega arith) (λ l. absurd (omega arith)) (λ l. absurd (omega arith)))
       card-step r e (layout-wrong a c u) fits h =
-          card-decides i 22 (line-22 u) (card-lowest 22 (omega arith) (λ l. c) (λ l. absurd (omega arith)))
+          card-decides i 22 (line-22 u) (card-lowest 22 (omega arith) (omega arith) (λ l. c) (λ l. absurd (omega arith)))
       card-step r e (all-right a c k) true h =
           let taken : Taken ps b = λ j. unfold takeCard in rw (e, h) in
           none-holds (taken, refl) (λ m p l. card-none c k (entriesOf b) (reads-conforms ps b bytes e h) m (l .0))
@@ -89,7 +89,7 @@ module _ (sheet : List ℕ) where
           let not-conforming : (es : List Entry) → Conforms ps b es → ⊥ =
           λ es g. both-ways (ap (conforms ps) (conforms-reads g .entries) ∙ entries-iff ps es .1 (g .entries)) h
           in
-          card-decides i 23 (line-23 s k not-conforming) (card-lowest 23 (omega arith) (λ l. c) (λ l. k))
+          card-decides i 23 (line-23 s k not-conforming) (card-lowest 23 (omega arith) (omega arith) (λ l. c) (λ l. k))
 
       pub card-decided : Decided TakenAs (LineAt i) (takeCard ps i b)
       unfolding takeCard
@@ -131,11 +131,11 @@ module _ (sheet text card : List ℕ) where
   one-group n p (line-of-card l) = let g = card-group sheet l in omega arith
 
   verdict-decided : Bytes card → (r : Prepared) → Ready sheet text r
-      → Decided NotRefused (OneCardLine sheet card) (takeCard (r .parameters) 0 card >>= λ c. found (yesOrNo (filterSays (r .parameters) (c .entries) (r .filter))))
+      → Decided NotRefused (OneCardLine sheet card) (takeCard (r .parameters) 0 card >>= λ c. found (yesOrNo (filterSays (r .parameters) 0 (c .entries) (r .filter))))
   verdict-decided bytes r ready =
       rw (← ready .1)
-      (decided-found (λ (c : Card). yesOrNo (filterSays (ready .0 .parameters) (c .entries) (r .filter)))
-      (λ c _. verdict-not-refused (filterSays (ready .0 .parameters) (c .entries) (r .filter))) (one-decided (ready .0) bytes))
+      (decided-found (λ (c : Card). yesOrNo (filterSays (ready .0 .parameters) 0 (c .entries) (r .filter)))
+      (λ c _. verdict-not-refused (filterSays (ready .0 .parameters) 0 (c .entries) (r .filter))) (one-decided (ready .0) bytes))
 
   -- match is refused with a number and a place exactly where that line of the table decides
   pub match-table : Bytes sheet → Bytes card → (n p : ℕ) → (matchAnswer sheet text card ≡ refused n p) ↔ Decides (MatchLine sheet text card) n p

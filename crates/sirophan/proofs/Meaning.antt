@@ -1,9 +1,10 @@
 -- What is found on a sheet, which operators have a meaning and which cards conform: the computed tests are the rules.
 -- Assumes nothing.
-use Prim.Native.Nat.{ℕ, zero, suc}
+use Prim.Native.Nat.{ℕ, zero, suc, _+_, _≤_}
+use lib.ListN.{length, length-append}
 use native.Mathlib.Omega.{arith}
 use mathlib.Core.Path.{_≡_, refl, ap, sym, _∙_, subst}
-use mathlib.Core.Bool.{true, false, cond, not, false≢true}
+use mathlib.Core.Bool.{Bool, true, false, cond, not, false≢true}
 use mathlib.Core.Logic.{_↔_}
 use mathlib.Core.Option.{Option, none, some}
 use mathlib.Core.List.{List, [], _∷_, List·Memᴰ, List·Memᴰ·head, List·Memᴰ·tail}
@@ -14,12 +15,14 @@ use Rattle.base.specs.Operators.{eq, ne, ap as approximately, pr, ss, sb, «in�
 use Rattle.base.specs.Options.{isSome}
 use Rattle.base.proofs.Lists.{every-member}
 use Rattle.base.proofs.Tests.{and-left, and-right, and-both, both-ways, cond-elim}
-use Rattle.sheet.specs.Sheet.{Parameter, parameter, kindAt}
-use Rattle.sheet.specs.Encode.{Distinct}
+use Rattle.base.proofs.All.{all-head, all-right}
+use Rattle.sheet.specs.Sheet.{Parameter, parameter, bundleKind, kindAt}
+use Rattle.sheet.specs.Encode.{HasParent, at-top, in-bundle, WellFormedSheet}
+use Rattle.sheet.specs.Find.{find, nowhere, inside, enter, Listed}
 use Rattle.sheet.specs.declared.Found.{Found}
 use Rattle.sheet.proofs.Listed.{find-iff, at-listed, listed-kind}
 use Rattle.card.specs.Card.{Entry}
-use Rattle.syntax.specs.Tree.{Path, name}
+use Rattle.syntax.specs.Tree.{Path, name, member}
 use Rattle.kind.specs.Table.{Use, means, stringRow, numberRow, dateRow, tokenRow, referenceRow, row, relationIn, asked, rowMeaning, meaningOf, isMeaning, hasMeaning}
 use Rattle.kind.specs.Kinds.{string, number, date, token, reference}
 use Rattle.kind.specs.declared.Meaning.{Meaning}
@@ -28,7 +31,7 @@ use Rattle.kind.specs.Readable.{cardReadable}
 use Rattle.judge.specs.Sets.{lookup, entryConforms, conforms}
 use Rattle.judge.specs.Faults.{unsupported}
 use Rattle.sirophan.specs.Readable.{ReadableOnCard}
-use Rattle.sirophan.specs.Meaning.{EntryConforms, Names, names, NotOnSheet, InRow, HasOperator, operator-of-row, operator-pr, operator-ne}
+use Rattle.sirophan.specs.Meaning.{EntryConforms, NamesIn, Names, names, names-member, NotOnSheet, InRow, HasOperator, operator-of-row, operator-pr, operator-ne}
 use Rattle.sirophan.proofs.Readable.{card-iff}
 
 -- ---- the rows of the table
@@ -111,29 +114,73 @@ unsupported-lacks kind k h = not-true (hasMeaning k kind) (every-member (λ o. n
 
 -- ---- names
 
-module _ (ps : List Parameter) (d : Distinct ps) where
-  names-there : (path : Path) (i k : ℕ) → lookup ps path ≡ Found.At i k → Names ps path i k
-  unfolding lookup
-  names-there (name n) i k h = names (find-iff 0 n ps d i k .0 h)
+at-bundle : (ps : List Parameter) (c : ℕ) (n : List ℕ) (j : ℕ) → find c n ps ≡ Found.At j bundleKind → enter ps c n ≡ suc j
+unfolding enter
+at-bundle ps c n j e = rw e (omega arith)
 
-  names-back : {path : Path} {i k : ℕ} → Names ps path i k → lookup ps path ≡ Found.At i k
+module _ (ps : List Parameter) (w : WellFormedSheet ps) where
+  -- no parameter has nowhere as its bundle
+  listed-within : (i k c : ℕ) (n : List ℕ) → Listed ps i (parameter k c n) → c ≤ 32
+  listed-within i k c n l = by (all-head (HasParent ps) (all-right (HasParent ps) (l .before) (subst (All (HasParent ps)) (l .split) (w .parents))))
+    where
+      by : HasParent ps (parameter k c n) → c ≤ 32
+      by (at-top e) = omega arith
+      by (in-bundle {i = j} {q = q} m b e o) = omega (arith, w .count, ap length (m .split), length-append (m .before) (q ∷ m .after), m .index)
+
+  never-nowhere : {path : Path} {i k : ℕ} → NamesIn ps nowhere path i k → ⊥
+  never-nowhere (names {n = n} {i = i} {k = k} l) = let z = listed-within i k nowhere n l in omega arith
+  never-nowhere (names-member {j = j} {b = b} l m) = let z = listed-within j bundleKind nowhere b l in omega arith
+
+  names-there : (path : Path) (c i k : ℕ) → lookup ps c path ≡ Found.At i k → NamesIn ps c path i k
+  unfolding lookup enter
+  names-there (name n) c i k h = names (find-iff c n ps (w .names) i k .0 h)
+  names-there (member b path) c i k h = by (find c b ps) refl h (λ x g. names-there path x i k g)
+    where
+      kinds : (j m : ℕ) → find c b ps ≡ Found.At j m → (t : Bool) → eqb m bundleKind ≡ t → lookup ps (cond t (j + 1) nowhere) path ≡ Found.At i k
+          → ((x : ℕ) → lookup ps x path ≡ Found.At i k → NamesIn ps x path i k) → NamesIn ps c (member b path) i k
+      kinds j m e true f g again =
+          let one : j + 1 ≡ suc j = omega arith in
+          names-member (find-iff c b ps (w .names) j bundleKind .0 (e ∙ ap (Found.At j) (eqb-true m bundleKind f))) (again (suc j) (ap (λ (x : ℕ). lookup ps x path) (sym one) ∙ g))
+      kinds j m e false f g again = absurd (never-nowhere (again nowhere g))
+
+      by : (o : Found) → find c b ps ≡ o → lookup ps (inside o) path ≡ Found.At i k → ((x : ℕ) → lookup ps x path ≡ Found.At i k → NamesIn ps x path i k) → NamesIn ps c (member b path) i k
+      by Found.Missing e g again = absurd (never-nowhere (again nowhere g))
+      by (Found.At j m) e g again = kinds j m e (eqb m bundleKind) refl g again
+
+  names-back : {path : Path} {c i k : ℕ} → NamesIn ps c path i k → lookup ps c path ≡ Found.At i k
   unfolding lookup
-  names-back (names {n = n} {i = i} {k = k} l) = find-iff 0 n ps d i k .1 l
+  names-back (names {c = c} {n = n} {i = i} {k = k} l) = find-iff c n ps (w .names) i k .1 l
+  names-back (names-member {c = c} {j = j} {b = b} {path = path} l m) =
+      ap (λ (x : ℕ). lookup ps x path) (at-bundle ps c b j (find-iff c b ps (w .names) j bundleKind .1 l)) ∙ names-back m
 
   -- a path is found exactly where it names a parameter
-  pub names-iff : (path : Path) (i k : ℕ) → (lookup ps path ≡ Found.At i k) ↔ Names ps path i k
-  names-iff path i k = (names-there path i k, names-back)
+  pub names-in-iff : (c : ℕ) (path : Path) (i k : ℕ) → (lookup ps c path ≡ Found.At i k) ↔ NamesIn ps c path i k
+  names-in-iff c path i k = (names-there path c i k, names-back)
 
-  missing-there : (path : Path) → lookup ps path ≡ Found.Missing → NotOnSheet ps path
+  pub names-iff : (path : Path) (i k : ℕ) → (lookup ps 0 path ≡ Found.At i k) ↔ Names ps path i k
+  names-iff path i k = (names-there path 0 i k, names-back)
+
+  -- a name that paths go into is that of a bundle
+  pub entered : (c : ℕ) (b : List ℕ) (path : Path) (i k : ℕ) → lookup ps (enter ps c b) path ≡ Found.At i k → (j : ℕ) × Listed ps j (parameter bundleKind c b)
+  unfolding lookup
+  entered c b path i k e = by (names-there (member b path) c i k e)
+    where
+      by : NamesIn ps c (member b path) i k → (j : ℕ) × Listed ps j (parameter bundleKind c b)
+      by (names-member {j = j} l m) = (j, l)
+
+  pub enters : (c : ℕ) (b : List ℕ) (j : ℕ) → Listed ps j (parameter bundleKind c b) → enter ps c b ≡ suc j
+  enters c b j l = at-bundle ps c b j (find-iff c b ps (w .names) j bundleKind .1 l)
+
+  missing-there : (path : Path) → lookup ps 0 path ≡ Found.Missing → NotOnSheet ps path
   missing-there path h i k m = let e = names-back m in let z : _≡_ {A = ℕ} 0 1 = cc in omega arith
 
-  missing-back : (path : Path) (o : Found) → lookup ps path ≡ o → NotOnSheet ps path → o ≡ Found.Missing
-  missing-back path (Found.At i k) e n = absurd (n i k (names-there path i k e))
+  missing-back : (path : Path) (o : Found) → lookup ps 0 path ≡ o → NotOnSheet ps path → o ≡ Found.Missing
+  missing-back path (Found.At i k) e n = absurd (n i k (names-there path 0 i k e))
   missing-back path Found.Missing e n = refl
 
   -- and missing exactly where it names none
-  pub missing-iff : (path : Path) → (lookup ps path ≡ Found.Missing) ↔ NotOnSheet ps path
-  missing-iff path = (missing-there path, (λ n. missing-back path (lookup ps path) refl n))
+  pub missing-iff : (path : Path) → (lookup ps 0 path ≡ Found.Missing) ↔ NotOnSheet ps path
+  missing-iff path = (missing-there path, (λ n. missing-back path (lookup ps 0 path) refl n))
 
 -- ---- cards
 

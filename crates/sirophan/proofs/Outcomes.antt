@@ -48,7 +48,7 @@ pub data MeansFor (operator kind : ℕ) : Meaning → Type 0 where
 -- the fault of a test
 pub data Judged (ps : List Parameter) (t : Test) : Fault → Type 0 where
   judged-unknown : NotOnSheet ps (t .path) → Judged ps t Fault.UnknownName
-  judged-bundle : {i : ℕ} → Names ps (t .path) i bundleKind → Judged ps t Fault.UnknownName
+  judged-bundle : {i : ℕ} → Names ps (t .path) i bundleKind → Judged ps t Fault.BareBundle
   judged-unsupported : {i k : ℕ} → (k ≡ bundleKind → ⊥) → Names ps (t .path) i k → unsupported (t .operator) ≡ true → Judged ps t Fault.Unsupported
   judged-meaningless : {i k : ℕ} → (k ≡ bundleKind → ⊥) → Names ps (t .path) i k → unsupported (t .operator) ≡ false → (HasOperator k (t .operator) → ⊥) → Judged ps t Fault.NoMeaning
   judged-unreadable : {i k : ℕ} → (k ≡ bundleKind → ⊥) → Names ps (t .path) i k → unsupported (t .operator) ≡ false → HasOperator k (t .operator)
@@ -95,7 +95,7 @@ pub data CardsOutcome (ps : List Parameter) (i : ℕ) (bs : List (List ℕ)) : S
 
 -- a selection from a run, for a list of `room` cells
 pub data SelectionOutcome (sheet text : List ℕ) (bs : List (List ℕ)) (room : ℕ) : Step (List ℕ) → Type 0 where
-  not-prepared : (n i : ℕ) → n ≤ 17 → SelectionOutcome sheet text bs room (stop n i)
+  not-prepared : (n i : ℕ) → n ≤ 18 → SelectionOutcome sheet text bs room (stop n i)
   card-refused : (n i : ℕ) → n ≤ 23 → RefusesCard sheet text bs n i → SelectionOutcome sheet text bs room (stop n i)
   no-room : (i : ℕ) → i ≡ length (matchingCards sheet text bs) → room < i → SelectionOutcome sheet text bs room (stop 30 i)
   numbers-found : SelectionOutcome sheet text bs room (found (matchingNumbers sheet text bs))

@@ -107,7 +107,7 @@ module _ (b xs card : List ℕ) (p : Passing b xs) (v : CardVerdict) (e : (i : �
   match-is : matchAnswer b xs card ≡ answer (verdictStep v 0 >>= λ y. found (yesOrNo y))
   unfolding matchAnswer cardVerdict
   match-is =
-      rw (p .prepared, e 0, p .reads) (ap answer (yes-or-no-after (takeCard (parametersOf b) 0 card) (λ c. filterSays (parametersOf b) (c .entries) (p .tree))))
+      rw (p .prepared, e 0, p .reads) (ap answer (yes-or-no-after (takeCard (parametersOf b) 0 card) (λ c. filterSays (parametersOf b) 0 (c .entries) (p .tree))))
 
   pub match-yes : (y : Bool) → v ≡ CardVerdict.Says y → y ≡ true → matchedAnswer Matched.Yes ≡ matchAnswer b xs card
   unfolding matchedAnswer

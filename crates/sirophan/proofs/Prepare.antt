@@ -36,14 +36,15 @@ step-or-else : (fault : Fault) (p : ℕ) (rest : FirstFault)
     ≡ (faultStep fault p >>= λ u. faultStep (rest .fault) (rest .position))
 step-or-else Fault.Nothing p rest = refl
 step-or-else Fault.UnknownName p rest = refl
+step-or-else Fault.BareBundle p rest = refl
 step-or-else Fault.Unsupported p rest = refl
 step-or-else Fault.NoMeaning p rest = refl
 step-or-else Fault.Unreadable p rest = refl
 
 module _ (ps : List Parameter) where
-  pub tests-next : (t : Test) (ts : List Test) → testsStep ps (t ∷ ts) ≡ (faultStep (testFault ps t) (t .at) >>= λ u. testsStep ps ts)
+  pub tests-next : (t : Test) (ts : List Test) → testsStep ps (t ∷ ts) ≡ (faultStep (testFault ps 0 t) (t .at) >>= λ u. testsStep ps ts)
   unfolding testsStep firstFault
-  tests-next t ts = step-or-else (testFault ps t) (t .at) (firstFault ps ts)
+  tests-next t ts = step-or-else (testFault ps 0 t) (t .at) (firstFault ps 0 ts)
 
   outcome-next : {t : Test} {ts : List Test} {first rest : Step (Unit {0})} → TestOutcome ps t first → TestsOutcome ps ts rest → TestsOutcome ps (t ∷ ts) (first >>= λ u. rest)
   outcome-next {t = t} {ts = ts} (test-refused {n = n} r) s = one-refused [] t ts n refl all-empty r
@@ -62,7 +63,7 @@ module _ (sheet text : List ℕ) (r : Step Prepared) (e : prepare sheet text ≡
   check-by = rw e
 
   pub match-by : (card : List ℕ)
-      → matchAnswer sheet text card ≡ answer (r >>= λ p. takeCard (p .parameters) 0 card >>= λ c. found (yesOrNo (filterSays (p .parameters) (c .entries) (p .filter))))
+      → matchAnswer sheet text card ≡ answer (r >>= λ p. takeCard (p .parameters) 0 card >>= λ c. found (yesOrNo (filterSays (p .parameters) 0 (c .entries) (p .filter))))
   unfolding matchAnswer
   match-by card = rw e
 
@@ -98,28 +99,29 @@ at-most-number : {A : Type 0} {most : ℕ} {s : Step A} → AtMost most s → (n
 at-most-number found-at-most n p e = absurd (let z : _≡_ {A = ℕ} 0 1 = cc in omega arith)
 at-most-number (stop-at-most m q l) n p e = let z : m ≡ n = cc in omega arith
 
-sheet-at-most : (r : Reading) (ps : List Parameter) → AtMost 17 (sheetStep r ps)
+sheet-at-most : (r : Reading) (ps : List Parameter) → AtMost 18 (sheetStep r ps)
 sheet-at-most Reading.WellFormed ps = found-at-most
 sheet-at-most Reading.WrongSize ps = stop-at-most 1 0 (omega arith)
 sheet-at-most Reading.WrongSum ps = stop-at-most 2 0 (omega arith)
 sheet-at-most Reading.WrongLayout ps = stop-at-most 3 0 (omega arith)
 
-tree-at-most : (o : Option Tree) → AtMost 17 (treeStep o)
+tree-at-most : (o : Option Tree) → AtMost 18 (treeStep o)
 tree-at-most (some f) = found-at-most
 tree-at-most none = stop-at-most 11 0 (omega arith)
 
-fault-at-most : (fault : Fault) (p : ℕ) → AtMost 17 (faultStep fault p)
+fault-at-most : (fault : Fault) (p : ℕ) → AtMost 18 (faultStep fault p)
 fault-at-most Fault.Nothing p = found-at-most
 fault-at-most Fault.UnknownName p = stop-at-most 14 p (omega arith)
+fault-at-most Fault.BareBundle p = stop-at-most 18 p (omega arith)
 fault-at-most Fault.Unsupported p = stop-at-most 15 p (omega arith)
 fault-at-most Fault.NoMeaning p = stop-at-most 16 p (omega arith)
 fault-at-most Fault.Unreadable p = stop-at-most 17 p (omega arith)
 
-pub prepare-number : (sheet text : List ℕ) (n p : ℕ) → prepare sheet text ≡ stop n p → n ≤ 17
+pub prepare-number : (sheet text : List ℕ) (n p : ℕ) → prepare sheet text ≡ stop n p → n ≤ 18
 unfolding prepare takeSheet takeFilter testsStep
 prepare-number sheet text =
     at-most-number
     (at-most-then (sheet-at-most (readSheet sheet) (parametersOf sheet))
     (λ ps. at-most-then
-    (cond-elim (AtMost 17) (eqb (length text) 0 || ltb 1024 (length text)) (λ _. stop-at-most 10 0 (omega arith)) (λ _. tree-at-most (read text)))
-    (λ f. at-most-then (fault-at-most (firstFault ps (testsOf f) .fault) (firstFault ps (testsOf f) .position)) (λ u. found-at-most))))
+    (cond-elim (AtMost 18) (eqb (length text) 0 || ltb 1024 (length text)) (λ _. stop-at-most 10 0 (omega arith)) (λ _. tree-at-most (read text)))
+    (λ f. at-most-then (fault-at-most (firstFault ps 0 (testsOf f) .fault) (firstFault ps 0 (testsOf f) .position)) (λ u. found-at-most))))

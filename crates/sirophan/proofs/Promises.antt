@@ -13,11 +13,11 @@ use Rattle.base.specs.Lists.{All}
 use Rattle.block.specs.declared.Reading.the-variants.{WellFormed}
 use Rattle.sheet.specs.Sheet.{Parameter, readSheet}
 use Rattle.sheet.specs.Encode.{SheetBlock}
-use Rattle.sheet.specs.Trial.{trialParameters, trialSheet}
+use Rattle.sheet.specs.Trial.{trialParameters, trialSheet, bundleSheet}
 use Rattle.sheet.proofs.Sheets as sheets
 use Rattle.card.specs.Card.{Entry, readCard}
 use Rattle.card.specs.Encode.{CardBlock}
-use Rattle.card.specs.Trial.{trialCard}
+use Rattle.card.specs.Trial.{trialCard, bundleCard}
 use Rattle.card.proofs.Cards as cards
 use Rattle.syntax.specs.Tree.{Tree, test, testsOf, Rising}
 use Rattle.syntax.specs.Grammar.{Spells}
@@ -35,7 +35,7 @@ use Rattle.sirophan.specs.Verdicts.{StandsIn, Verdict}
 use Rattle.sirophan.specs.Demand.{Demand, MeetsDemand, Agree}
 use Rattle.sirophan.specs.Selection.{Run, matchingCards, matchingNumbers, occurrences, bearing, SelectsByMatch}
 use Rattle.sirophan.specs.Refusals.{Decides, CheckLine, MatchLine, SelectLine}
-use Rattle.sirophan.specs.Trial.{Row, trialRows, titleTest, codeTest}
+use Rattle.sirophan.specs.Trial.{Row, trialRows, bundleRows, titleTest, codeTest}
 use Rattle.sirophan.proofs.Readable as readable
 use Rattle.sirophan.proofs.Meaning as meaning
 use Rattle.sirophan.proofs.Verdicts as verdicts
@@ -159,3 +159,7 @@ match-never-says-no-without-meaning = impossible.match-says-no
 
 pub trial-table : All (λ (r : Row). matchAnswer trialSheet (r .filter) trialCard ≡ r .gives) trialRows
 trial-table = trial.trial-rows
+
+-- 02's filters over bundles, on a sheet with bundles and a card with occurrences
+pub bundle-table : All (λ (r : Row). matchAnswer bundleSheet (r .filter) bundleCard ≡ r .gives) bundleRows
+bundle-table = trial.bundle-rows

@@ -28,7 +28,7 @@ use Rattle.sirophan.proofs.Passing.{card-taken, prepare-stopped}
 -- ---- the numbers of a run are those of its matching cards
 
 numbers-next : (ps : List Parameter) (f : Tree) (c : Step Card) (b : List ℕ) (cs : Step (List Card)) → ((d : Card) → c ≡ found d → d .number ≡ recordNumber b)
-    → (c >>= λ d. found (filterSays ps (d .entries) f)) >>= (λ y. (cs >>= λ ds. found (matching ps f ds)) >>= λ ns. found (cond y (recordNumber b ∷ ns) ns))
+    → (c >>= λ d. found (filterSays ps 0 (d .entries) f)) >>= (λ y. (cs >>= λ ds. found (matching ps f ds)) >>= λ ns. found (cond y (recordNumber b ∷ ns) ns))
     ≡ (c >>= λ d. cs >>= λ ds. found (d ∷ ds)) >>= λ ds. found (matching ps f ds)
 unfolding matching
 numbers-next ps f (found d) b (found ds) e = rw (e d refl)

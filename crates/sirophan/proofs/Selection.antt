@@ -70,14 +70,14 @@ module _ (sheet text : List ℕ) (p : Prepared) (e : prepare sheet text ≡ foun
   abbrev f : Tree
   f = p .filter
 
-  match-taken : (b : List ℕ) → Taken ps b → matchAnswer sheet text b ≡ yesOrNo (filterSays ps (entriesOf b) f)
+  match-taken : (b : List ℕ) → Taken ps b → matchAnswer sheet text b ≡ yesOrNo (filterSays ps 0 (entriesOf b) f)
   match-taken b t = match-by sheet text (found p) e b ∙ rw (t 0)
 
   match-stopped : (n : ℕ) (b : List ℕ) → Stopped ps n b → matchAnswer sheet text b ≡ refused n 0
   match-stopped n b s = match-by sheet text (found p) e b ∙ rw (s 0)
 
   taken-not-refused : (b : List ℕ) → Taken ps b → (n i : ℕ) → matchAnswer sheet text b ≡ refused n i → ⊥
-  taken-not-refused b t n i h = verdict-not-refused (filterSays ps (entriesOf b) f) n i (sym (match-taken b t) ∙ h)
+  taken-not-refused b t n i h = verdict-not-refused (filterSays ps 0 (entriesOf b) f) n i (sym (match-taken b t) ∙ h)
 
   -- the numbers of the cards on which the filter says yes are those on which match answers yes
   numbers-next : (b : List ℕ) (bs : List (List ℕ)) (v : Bool) → matchAnswer sheet text b ≡ yesOrNo v
@@ -90,7 +90,7 @@ module _ (sheet text : List ℕ) (p : Prepared) (e : prepare sheet text ≡ foun
   unfolding matching
   matching-numbers all-empty = refl
   matching-numbers (all-cons {x = b} {xs = bs} t ts) =
-      rw (matching-numbers ts) (numbers-next b bs (filterSays ps (entriesOf b) f) (match-taken b t))
+      rw (matching-numbers ts) (numbers-next b bs (filterSays ps 0 (entriesOf b) f) (match-taken b t))
 
 -- ---- a selection from a run
 

@@ -1,5 +1,6 @@
--- Document 01's trial card: match gives what the table says, over the bytes of the trial sheet and of card 7.
+-- Document 01's trial card, and a card with occurrences: match gives what the tables say, over the bytes of sheets and cards.
 -- Assumes nothing.
+use Prim.Native.Nat.{ℕ}
 use mathlib.Core.Path.{_≡_, refl}
 use mathlib.Core.List.{List, map}
 use Rattle.base.specs.Lists.{All, every, equal, member}
@@ -30,31 +31,42 @@ use Rattle.block.specs.Seal as block
 use Rattle.block.specs.Items.{zeros, hasMarks, lengthAt, next, markAt, textAt, laidOut, hasLayout, hasEither, items}
 use Rattle.block.specs.Readings.{reading}
 use Rattle.sheet.specs.Sheet.{parameterCount, parametersOf, isKind, isParameter, areParameters, clashes, absent, distinct, kindAt, hasParent, haveParents, areRight, sheetLayout, readSheet}
-use Rattle.sheet.specs.Find.{findFrom, find}
-use Rattle.sheet.specs.Trial.{trialSheet}
+use Rattle.sheet.specs.Find.{findFrom, find, enter}
+use Rattle.sheet.specs.Trial.{trialSheet, bundleSheet}
 use Rattle.card.specs.Card.{entryCount, entriesOf, readCard}
-use Rattle.card.specs.Trial.{trialCard}
+use Rattle.card.specs.Trial.{trialCard, bundleCard}
 use Rattle.syntax.specs.Tree.{testsOf}
 use Rattle.syntax.specs.Strings.{isBare}
-use Rattle.syntax.specs.Scan.{stepOf, stringFrom, stringAt, valueAt, follows, findOperator, operatorAt, testValue, testOperator, testAt, openAt, headAt, connectiveAt, closeAt}
+use Rattle.syntax.specs.Scan.{stepOf, stringFrom, stringAt, valueAt, follows, findOperator, operatorAt, testValue, testOperator, testAt, openAt, choiceAt, headAt, memberAt, connectiveAt, closeAt, memberAfter}
 use Rattle.syntax.specs.Reader.{chainOf, filterOf, itemAt, filterAt, read}
 use Rattle.kind.specs.Table as table
 use Rattle.kind.specs.Readable as kind
 use Rattle.kind.specs.Stands.{stringStands, numberStands, dateStands, stands}
-use Rattle.judge.specs.Sets.{lookup, valuesAt, entryConforms, conforms}
+use Rattle.judge.specs.Sets.{lookup, valuesAt, ofOccurrence, keep, entryConforms, conforms}
 use Rattle.judge.specs.Faults.{unsupported, kindFault, testFault, firstFault}
-use Rattle.judge.specs.Verdicts.{someValue, isEmpty, saysOf, testSays, evaluate, filterSays}
+use Rattle.judge.specs.Verdicts.{someValue, isEmpty, saysOf, testSays, filterSays}
 use Rattle.sirophan.specs.Answers.{Answer}
 use Rattle.sirophan.specs.Operations.{takeSheet, takeFilter, testsStep, prepare, takeCard, matchAnswer}
-use Rattle.sirophan.specs.Trial.{Row, trialRows}
+use Rattle.sirophan.specs.Trial.{Row, trialRows, bundleRows}
 
--- what match gives for each row of a table, on the trial sheet and card 7
-abbrev given : List Row → List Answer
-given = map (λ r. matchAnswer trialSheet (r .filter) trialCard)
+-- what match gives for each row of a table, on a sheet and a card
+abbrev given : List ℕ → List ℕ → List Row → List Answer
+given sheet card = map (λ (r : Row). matchAnswer sheet (r .filter) card)
 
-trial-computed : given trialRows ≡ map (λ r. r .gives) trialRows
-unfolding trialRows trialSheet trialCard matchAnswer takeCard prepare testsStep takeFilter takeSheet filterSays evaluate testSays saysOf isEmpty someValue firstFault testFault kindFault unsupported conforms entryConforms valuesAt lookup stands dateStands numberStands stringStands kind.valueReadable kind.isTrue kind.filterReadable kind.cardReadable table.hasMeaning table.meaningOf table.rowMeaning table.relationIn table.row table.tokenRow table.dateRow table.numberRow table.stringRow read filterAt itemAt filterOf chainOf closeAt connectiveAt headAt openAt testAt testOperator testValue operatorAt findOperator follows valueAt stringAt stringFrom stepOf isBare testsOf readCard entriesOf entryCount kindAt find findFrom readSheet sheetLayout areRight haveParents hasParent distinct absent clashes areParameters isParameter isKind parametersOf parameterCount reading items hasEither hasLayout laidOut textAt markAt next lengthAt hasMarks zeros block.check checkSum sumFrom token.matches token.meets token.asks namespaceOf standsFor forms.filterReadable forms.filterForm forms.splitForm tokens.cardReadable tokens.cardToken tokens.splitToken tokens.tokenOf split firstBar date.inside date.same date.earlierOrInside dates.readable dates.isDate dates.read dates.readYear dates.readMonth dates.fieldAt dates.fourAt dates.twoAt dates.pair dates.digitOf spans.monthDate spans.yearDate spans.daysFrom spans.dateOf spans.instant spans.epoch calendar.dayNumber calendar.daysOfYears calendar.daysBeforeMonth calendar.monthLength calendar.yearLength calendar.leapYear fields.validMonth fields.between number.same number.greater number.atLeast number.covers number.halfUnit number.exactValue number.plus number.isEqual number.isAtMost number.isLess numbers.readable numbers.read numbers.readFraction numbers.valueFrom texts.same texts.contains foldText foldByte runEnd run operatorWords isName isReserved isNamePart isNameStart isLetter names.between isDigit hasInfix hasPrefix member equal every
-trial-computed = refl
+abbrev stated : List Row → List Answer
+stated = map (λ (r : Row). r .gives)
+
+computed : (given trialSheet trialCard trialRows ≡ stated trialRows) × (given bundleSheet bundleCard bundleRows ≡ stated bundleRows)
+unfolding trialRows trialSheet trialCard matchAnswer takeCard prepare testsStep takeFilter takeSheet filterSays testSays saysOf isEmpty someValue firstFault testFault kindFault unsupported conforms entryConforms valuesAt lookup stands dateStands numberStands stringStands kind.valueReadable kind.isTrue kind.filterReadable kind.cardReadable table.hasMeaning table.meaningOf table.rowMeaning table.relationIn table.row table.tokenRow table.dateRow table.numberRow table.stringRow read filterAt itemAt filterOf chainOf closeAt connectiveAt headAt choiceAt memberAfter memberAt openAt testAt testOperator testValue operatorAt findOperator follows valueAt stringAt stringFrom stepOf isBare testsOf readCard entriesOf entryCount find findFrom readSheet sheetLayout areRight haveParents hasParent kindAt distinct absent clashes areParameters isParameter isKind parametersOf parameterCount reading items hasEither hasLayout laidOut textAt markAt next lengthAt hasMarks zeros block.check checkSum sumFrom token.matches token.meets token.asks namespaceOf standsFor forms.filterReadable forms.filterForm forms.splitForm tokens.cardReadable tokens.cardToken tokens.splitToken tokens.tokenOf split firstBar date.inside date.same date.earlierOrInside dates.readable dates.isDate dates.read dates.readYear dates.readMonth dates.fieldAt dates.fourAt dates.twoAt dates.pair dates.digitOf spans.monthDate spans.yearDate spans.daysFrom spans.dateOf spans.instant spans.epoch calendar.dayNumber calendar.daysOfYears calendar.daysBeforeMonth calendar.monthLength calendar.yearLength calendar.leapYear fields.validMonth fields.between number.same number.greater number.atLeast number.covers number.halfUnit number.exactValue number.plus number.isEqual number.isAtMost number.isLess numbers.readable numbers.read numbers.readFraction numbers.valueFrom texts.same texts.contains foldText foldByte runEnd run operatorWords isName isReserved isNamePart isNameStart isLetter names.between isDigit hasInfix hasPrefix member equal every bundleRows bundleSheet bundleCard ofOccurrence keep enter kind.isFalse table.referenceRow date.laterOrInside
+computed = (refl, refl)
+
+-- each row of a table that is computed so gives what it says
+rows-give : (sheet card : List ℕ) (rows : List Row) → given sheet card rows ≡ stated rows → All (λ (r : Row). matchAnswer sheet (r .filter) card ≡ r .gives) rows
+rows-give sheet card rows = all-same (λ (r : Row). matchAnswer sheet (r .filter) card) (λ (r : Row). r .gives) rows
 
 pub trial-rows : All (λ (r : Row). matchAnswer trialSheet (r .filter) trialCard ≡ r .gives) trialRows
-trial-rows = all-same (λ r. matchAnswer trialSheet (r .filter) trialCard) (λ r. r .gives) trialRows trial-computed
+trial-rows = rows-give trialSheet trialCard trialRows (computed .0)
+
+-- the sheet with bundles and the card with occurrences
+pub bundle-rows : All (λ (r : Row). matchAnswer bundleSheet (r .filter) bundleCard ≡ r .gives) bundleRows
+bundle-rows = rows-give bundleSheet bundleCard bundleRows (computed .1)

@@ -1,16 +1,16 @@
 -- What the computed verdict says is what the filter says in the rules' words.
 -- Assumes nothing.
-use Prim.Native.Nat.{ℕ, _≤_}
+use Prim.Native.Nat.{ℕ, suc, _≤_}
 use native.Mathlib.Omega.{arith}
 use mathlib.Core.Path.{_≡_, refl, ap, sym, _∙_}
 use mathlib.Core.Bool.{Bool, true, false, cond, not, false≢true}
 use mathlib.Core.Logic.{_↔_, inl, inr, ⊎-elim}
 use mathlib.Core.Option.{Option, none, some}
-use mathlib.Core.List.{List, [], _∷_, List·Memᴰ, List·Memᴰ·head, List·Memᴰ·tail, cons≢nil}
+use mathlib.Core.List.{List, [], _∷_, map, List·Memᴰ, List·Memᴰ·head, List·Memᴰ·tail, cons≢nil}
 use lib.Dec.{eqb}
 use lib.ListN.{length}
 use Rattle.base.specs.Ascii.{ascii}
-use Rattle.base.specs.Lists.{All}
+use Rattle.base.specs.Lists.{All, all-empty, all-cons}
 use borrow.Author.Tests.{not-true, ne-eqb, eqb-true}
 use Rattle.base.specs.Operators.{eq, ne, pr}
 use Rattle.base.proofs.All.{all-head, all-left, all-right, all-map}
@@ -24,11 +24,12 @@ use Rattle.date.specs.Texts as dates
 use Rattle.date.specs.declared.Reading as date-readings
 use Rattle.date.proofs.Spelling as date-spelling
 use Rattle.token.proofs.Readings.{matches-reads}
-use Rattle.sheet.specs.Sheet.{Parameter}
+use Rattle.sheet.specs.Sheet.{Parameter, parameter, bundleKind}
+use Rattle.sheet.specs.Find.{enter, Listed}
 use Rattle.sheet.specs.Encode.{WellFormedSheet, SheetBlock}
 use Rattle.sheet.specs.declared.Found.{Found}
 use Rattle.card.specs.Card.{Entry}
-use Rattle.syntax.specs.Tree.{Test, Tree, test, join, negation, and, or, testsOf}
+use Rattle.syntax.specs.Tree.{Test, under, Tree, test, bracketed, join, negation, and, or, testsOf}
 use Rattle.syntax.specs.Grammar.{Spells}
 use Rattle.kind.specs.Table.{row, relationIn, asked, rowMeaning, meaningOf}
 use Rattle.kind.specs.Readable.{isTrue, isFalse}
@@ -38,16 +39,16 @@ use Rattle.kind.specs.declared.NumberRelation.{NumberRelation}
 use Rattle.kind.specs.declared.DateRelation.{DateRelation}
 use Rattle.kind.specs.declared.Relation.{Relation}
 use Rattle.kind.specs.declared.Meaning.{Meaning}
-use Rattle.judge.specs.Sets.{lookup, valuesAt}
-use Rattle.judge.specs.Verdicts.{someValue, isEmpty, saysOf, saysAt, testSays, evaluate, filterSays}
+use Rattle.judge.specs.Sets.{lookup, valuesAt, ofOccurrence, keep}
+use Rattle.judge.specs.Verdicts.{someValue, isEmpty, saysOf, saysAt, testSays, filterSays}
 use Rattle.sirophan.specs.Answers.{yes, no, yesOrNo, count}
 use Rattle.sirophan.specs.Operations.{checkAnswer, matchAnswer}
 use Rattle.sirophan.specs.Readable.{TrueOrFalse, spells-true, spells-false}
-use Rattle.sirophan.specs.Meaning.{Conforms, Names, LacksMeaning, neither}
-use Rattle.sirophan.specs.Verdicts.{StandsIn, string-same, string-contains, string-starts, string-ends, numbers-stand, dates-stand, tokens-stand, references-same, Says, says-present, says-absent, says-relates, says-differs, FilterSays, Verdict}
+use Rattle.sirophan.specs.Meaning.{Conforms, NamesIn, LacksMeaning, neither}
+use Rattle.sirophan.specs.Verdicts.{StandsIn, string-same, string-contains, string-starts, string-ends, numbers-stand, dates-stand, tokens-stand, references-same, Says, says-present, says-absent, says-relates, says-differs, Keeps, keeps-none, keeps, leaves, FilterSays, Verdict}
 use Rattle.sirophan.proofs.Outcomes.{MeansFor, means-present, means-relation, means-other, means-nothing}
 use Rattle.sirophan.proofs.Readable.{true-iff, false-iff}
-use Rattle.sirophan.proofs.Meaning.{ne-not-in-row, pr-not-in-row, names-iff}
+use Rattle.sirophan.proofs.Meaning.{ne-not-in-row, pr-not-in-row, names-in-iff, entered, enters}
 use Rattle.sirophan.proofs.Demand.{demand-met}
 
 -- ---- a relation of two texts
@@ -156,21 +157,25 @@ false-not-true v e = ⊎-elim (λ h. absurd (not-both (sym (true-iff v .0 h) ∙
     not-both : ascii "true" ≡ ascii "false" → ⊥
     not-both h = let z : _≡_ {A = ℕ} 116 102 = cc in omega arith
 
-module _ (ps : List Parameter) (w : WellFormedSheet ps) (es : List Entry) (t : Test) where
-  says-present-or-absent : {i k : ℕ} → Names ps (t .path) i k → t .operator ≡ pr → (LacksMeaning ps es t → ⊥)
-      → cond (isTrue (t .value)) (not (isEmpty (valuesAt i es))) (isEmpty (valuesAt i es)) ≡ true → Says ps es t
+-- a test whose operator is pr spells true or false
+abbrev PrSpelled : Test → Type 0
+PrSpelled t = t .operator ≡ pr → TrueOrFalse (t .value)
+
+module _ (ps : List Parameter) (w : WellFormedSheet ps) (c : ℕ) (es : List Entry) (t : Test) where
+  says-present-or-absent : {i k : ℕ} → NamesIn ps c (t .path) i k → t .operator ≡ pr → PrSpelled t
+      → cond (isTrue (t .value)) (not (isEmpty (valuesAt i es))) (isEmpty (valuesAt i es)) ≡ true → Says ps c es t
   says-present-or-absent {i = i} j e meaning h =
       let set = valuesAt i es in
       ⊎-elim
-      (λ c. says-present j e (true-iff (t .value) .0 (c .0)) (λ z. both-ways (empty-iff set .1 z) (not-true (isEmpty set) (c .1))))
-      (λ c. ⊎-elim
-      (λ f. says-absent j e (false-iff (t .value) .0 f) (empty-iff set .0 (c .1)))
-      (λ n. absurd (meaning (neither e (neither-spelled (t .value) (c .0) n))))
+      (λ d. says-present j e (true-iff (t .value) .0 (d .0)) (λ z. both-ways (empty-iff set .1 z) (not-true (isEmpty set) (d .1))))
+      (λ d. ⊎-elim
+      (λ f. says-absent j e (false-iff (t .value) .0 f) (empty-iff set .0 (d .1)))
+      (λ n. absurd (neither-spelled (t .value) (d .0) n (meaning e)))
       (decided (isFalse (t .value))))
       (cond-either (isTrue (t .value)) (not (isEmpty set)) (isEmpty set) h)
 
-  says-by : {m : Meaning} {i k : ℕ} → Names ps (t .path) i k → MeansFor (t .operator) k m → (LacksMeaning ps es t → ⊥) → saysOf m (t .value) (valuesAt i es) ≡ true
-      → Says ps es t
+  says-by : {m : Meaning} {i k : ℕ} → NamesIn ps c (t .path) i k → MeansFor (t .operator) k m → PrSpelled t → saysOf m (t .value) (valuesAt i es) ≡ true
+      → Says ps c es t
   unfolding saysOf
   says-by j (means-present e) meaning h = says-present-or-absent j e meaning h
   says-by {i = i} j (means-relation {r = r} e) meaning h =
@@ -181,16 +186,16 @@ module _ (ps : List Parameter) (w : WellFormedSheet ps) (es : List Entry) (t : T
       says-differs j n e (x .1) (λ s. both-ways (stands-iff r (x .0) (t .value) .1 s) (not-true (stands r (x .0) (t .value)) (x .2)))
   says-by j means-nothing meaning h = absurd (false≢true h)
 
-  says-there : (LacksMeaning ps es t → ⊥) → (o : Found) → lookup ps (t .path) ≡ o → saysAt o (t .operator) (t .value) es ≡ true → Says ps es t
+  says-there : PrSpelled t → (o : Found) → lookup ps c (t .path) ≡ o → saysAt o (t .operator) (t .value) es ≡ true → Says ps c es t
   says-there meaning Found.Missing e h = absurd (false≢true h)
-  says-there meaning (Found.At i k) e h = says-by (names-iff ps (w .names) (t .path) i k .0 e) (means-for (t .operator) k) meaning h
+  says-there meaning (Found.At i k) e h = says-by (names-in-iff ps w c (t .path) i k .0 e) (means-for (t .operator) k) meaning h
 
   -- what a test says at the parameter that its path names
-  at-parameter : {i k : ℕ} (m : Meaning) → Names ps (t .path) i k → meaningOf (t .operator) k ≡ m → saysOf m (t .value) (valuesAt i es) ≡ true → testSays ps es t ≡ true
+  at-parameter : {i k : ℕ} (m : Meaning) → NamesIn ps c (t .path) i k → meaningOf (t .operator) k ≡ m → saysOf m (t .value) (valuesAt i es) ≡ true → testSays ps c es t ≡ true
   unfolding testSays
-  at-parameter {i = i} {k = k} m j e h = rw (names-iff ps (w .names) (t .path) i k .1 j, e) h
+  at-parameter {i = i} {k = k} m j e h = rw (names-in-iff ps w c (t .path) i k .1 j, e) h
 
-  says-back : Says ps es t → testSays ps es t ≡ true
+  says-back : Says ps c es t → testSays ps c es t ≡ true
   unfolding saysOf
   says-back (says-present {i = i} {k = k} j e v n) =
       let set = valuesAt i es in
@@ -205,43 +210,94 @@ module _ (ps : List Parameter) (w : WellFormedSheet ps) (es : List Entry) (t : T
       at-parameter (Meaning.Differs r) j (rw n (other-means k r e)) (some-back (λ x. not (stands r x (t .value))) m differs)
 
   -- a test with a meaning says yes exactly where the rules do
-  says-iff : (LacksMeaning ps es t → ⊥) → (testSays ps es t ≡ true) ↔ Says ps es t
+  says-iff : PrSpelled t → (testSays ps c es t ≡ true) ↔ Says ps c es t
   unfolding testSays
-  says-iff meaning = (says-there meaning (lookup ps (t .path)) refl, says-back)
+  says-iff meaning = (says-there meaning (lookup ps c (t .path)) refl, says-back)
 
 -- ---- a filter
 
-module _ (ps : List Parameter) (w : WellFormedSheet ps) (es : List Entry) where
-  abbrev HasMeaning : Test → Type 0
-  HasMeaning t = LacksMeaning ps es t → ⊥
+-- the entries kept by a test are those of which it says what it stands for
+keeps-there : (P : Entry → Type 0) (p : Entry → Bool) → ((e : Entry) → (p e ≡ true) ↔ P e) → (es : List Entry) → Keeps P es (keep p es)
+unfolding keep
+keeps-there P p h [] = keeps-none
+keeps-there P p h (e ∷ es) =
+    cond-elim (Keeps P (e ∷ es)) (p e) (λ y. keeps (h e .0 y) (keeps-there P p h es)) (λ n. leaves (λ x. both-ways (h e .1 x) n) (keeps-there P p h es))
 
-  -- where each test has a meaning on the card, the filter says yes exactly where the rules do
-  filter-says-iff : (f : Tree) → All HasMeaning (testsOf f) → (filterSays ps es f ≡ true) ↔ FilterSays ps es f
-  unfolding filterSays evaluate testsOf
-  filter-says-iff (test t) h = says-iff ps w es t (all-head HasMeaning h)
-  filter-says-iff (join and f g) h =
-      let a = filterSays ps es f in
-      let b = filterSays ps es g in
-      let i = filter-says-iff f (all-left HasMeaning (testsOf f) (testsOf g) h) in
-      let j = filter-says-iff g (all-right HasMeaning (testsOf f) h) in
-      ((λ e. (i .0 (and-left a b e), j .0 (and-right a b e))), (λ s. and-both a b (i .1 (s .0)) (j .1 (s .1))))
-  filter-says-iff (join or f g) h =
-      let a = filterSays ps es f in
-      let b = filterSays ps es g in
-      let i = filter-says-iff f (all-left HasMeaning (testsOf f) (testsOf g) h) in
-      let j = filter-says-iff g (all-right HasMeaning (testsOf f) h) in
-      ((λ e. ⊎-elim (λ x. inl (i .0 x)) (λ y. inr (j .0 y)) (or-either a b e)), ⊎-elim (λ x. or-left a b (i .1 x)) (λ y. or-right a b (j .1 y)))
-  filter-says-iff (negation f) h =
-      let a = filterSays ps es f in
-      let i = filter-says-iff f h in
-      ((λ e s. both-ways (i .1 s) (not-true a e)), (λ n. ⊎-elim (λ e. absurd (n (i .0 e))) (λ e. ap not e) (decided a)))
+keeps-back : (P : Entry → Type 0) (p : Entry → Bool) → ((e : Entry) → (p e ≡ true) ↔ P e) → {es kept : List Entry} → Keeps P es kept → kept ≡ keep p es
+unfolding keep
+keeps-back P p h keeps-none = refl
+keeps-back P p h (keeps {e = e} x k) = rw (h e .1 x) (ap (λ (l : List Entry). e ∷ l) (keeps-back P p h k))
+keeps-back P p h (leaves {e = e} n k) = rw (⊎-elim (λ y. absurd (n (h e .0 y))) (λ y. y) (decided (p e))) (keeps-back P p h k)
 
-  verdict-by : (f : Tree) → All HasMeaning (testsOf f) → Verdict ps es f (yesOrNo (filterSays ps es f))
-  verdict-by f h =
-      let i = filter-says-iff f h in
+all-tail : (P : Test → Type 0) {t : Test} {ts : List Test} → All P (t ∷ ts) → All P ts
+all-tail P (all-cons p h) = h
+
+-- members spell as their tests do
+spelled-under : (b : List ℕ) (ts : List Test) → All PrSpelled (map (under b) ts) → All PrSpelled ts
+spelled-under b [] h = all-empty
+spelled-under b (t ∷ ts) h = all-cons (all-head PrSpelled h) (spelled-under b ts (all-tail PrSpelled h))
+
+module _ (ps : List Parameter) (w : WellFormedSheet ps) where
+  module _ (c : ℕ) (es : List Entry) (p : ℕ) (b : List ℕ) (f : Tree) (t : Test) where
+    abbrev chosen-in : ℕ → List Entry
+    chosen-in x = keep (λ e. filterSays ps x (ofOccurrence (e .occurrence) es) f) es
+
+    -- the bundle that the name names
+    bundle-there : (o : Found) → lookup ps (enter ps c b) (t .path) ≡ o → saysAt o (t .operator) (t .value) (chosen-in (enter ps c b)) ≡ true → (j : ℕ) × Listed ps j (parameter bundleKind c b)
+    bundle-there Found.Missing e h = absurd (false≢true h)
+    bundle-there (Found.At i k) e h = entered ps w c b (t .path) i k e
+
+    bundle-of : filterSays ps c es (bracketed p b f t) ≡ true → (j : ℕ) × Listed ps j (parameter bundleKind c b)
+    unfolding filterSays testSays
+    bundle-of h = bundle-there (lookup ps (enter ps c b) (t .path)) refl h
+
+    -- what is said in it
+    bundle-says : (j : ℕ) → Listed ps j (parameter bundleKind c b) → filterSays ps c es (bracketed p b f t) ≡ testSays ps (suc j) (chosen-in (suc j)) t
+    unfolding filterSays
+    bundle-says j l = ap (λ (x : ℕ). testSays ps x (chosen-in x) t) (enters ps w c b j l)
+
+    module _ (spelled : PrSpelled t) (again : (j : ℕ) (l : List Entry) → (filterSays ps (suc j) l f ≡ true) ↔ FilterSays ps (suc j) l f) where
+      bracket-there : filterSays ps c es (bracketed p b f t) ≡ true → FilterSays ps c es (bracketed p b f t)
+      bracket-there h =
+          let (j, l) = bundle-of h in
+          let kept = keeps-there (λ e. FilterSays ps (suc j) (ofOccurrence (e .occurrence) es) f) (λ e. filterSays ps (suc j) (ofOccurrence (e .occurrence) es) f) (λ e. again j (ofOccurrence (e .occurrence) es)) es in
+          (j, l, chosen-in (suc j), kept, says-iff ps w (suc j) (chosen-in (suc j)) t spelled .0 (sym (bundle-says j l) ∙ h))
+
+      bracket-back : FilterSays ps c es (bracketed p b f t) → filterSays ps c es (bracketed p b f t) ≡ true
+      bracket-back (j, l, kept, k, s) =
+          let same : kept ≡ chosen-in (suc j) = keeps-back (λ e. FilterSays ps (suc j) (ofOccurrence (e .occurrence) es) f) (λ e. filterSays ps (suc j) (ofOccurrence (e .occurrence) es) f) (λ e. again j (ofOccurrence (e .occurrence) es)) k in
+          bundle-says j l ∙ ap (λ (x : List Entry). testSays ps (suc j) x t) (sym same) ∙ says-iff ps w (suc j) kept t spelled .1 s
+
+  -- where each pr spells true or false, the filter says yes exactly where the rules do
+  filter-says-iff : (c : ℕ) (es : List Entry) (f : Tree) → All PrSpelled (testsOf f) → (filterSays ps c es f ≡ true) ↔ FilterSays ps c es f
+  unfolding filterSays testsOf
+  filter-says-iff c es (test t) h = says-iff ps w c es t (all-head PrSpelled h)
+  filter-says-iff c es (bracketed p b f t) h =
+      let again : (j : ℕ) (l : List Entry) → (filterSays ps (suc j) l f ≡ true) ↔ FilterSays ps (suc j) l f = λ j l. filter-says-iff (suc j) l f (spelled-under b (testsOf f) (all-tail PrSpelled h)) in
+      (bracket-there c es p b f t (all-head PrSpelled h) again, bracket-back c es p b f t (all-head PrSpelled h) again)
+  filter-says-iff c es (join and f g) h =
+      let x = filterSays ps c es f in
+      let y = filterSays ps c es g in
+      let i = filter-says-iff c es f (all-left PrSpelled (testsOf f) (testsOf g) h) in
+      let j = filter-says-iff c es g (all-right PrSpelled (testsOf f) h) in
+      ((λ e. (i .0 (and-left x y e), j .0 (and-right x y e))), (λ s. and-both x y (i .1 (s .0)) (j .1 (s .1))))
+  filter-says-iff c es (join or f g) h =
+      let x = filterSays ps c es f in
+      let y = filterSays ps c es g in
+      let i = filter-says-iff c es f (all-left PrSpelled (testsOf f) (testsOf g) h) in
+      let j = filter-says-iff c es g (all-right PrSpelled (testsOf f) h) in
+      ((λ e. ⊎-elim (λ u. inl (i .0 u)) (λ v. inr (j .0 v)) (or-either x y e)), ⊎-elim (λ u. or-left x y (i .1 u)) (λ v. or-right x y (j .1 v)))
+  filter-says-iff c es (negation f) h =
+      let x = filterSays ps c es f in
+      let i = filter-says-iff c es f h in
+      ((λ e s. both-ways (i .1 s) (not-true x e)), (λ n. ⊎-elim (λ e. absurd (n (i .0 e))) (λ e. ap not e) (decided x)))
+
+  verdict-by : (es : List Entry) (f : Tree) → All PrSpelled (testsOf f) → Verdict ps es f (yesOrNo (filterSays ps 0 es f))
+  verdict-by es f h =
+      let i = filter-says-iff 0 es f h in
       record {
-        is-yes = ((λ e. i .0 (yes-true (filterSays ps es f) e)), (λ s. ap yesOrNo (i .1 s)));
-        is-no = ((λ e s. both-ways (i .1 s) (no-false (filterSays ps es f) e)), (λ n. ⊎-elim (λ e. absurd (n (i .0 e))) (λ e. ap yesOrNo e) (decided (filterSays ps es f))));
+        is-yes = ((λ e. i .0 (yes-true (filterSays ps 0 es f) e)), (λ s. ap yesOrNo (i .1 s)));
+        is-no = ((λ e s. both-ways (i .1 s) (no-false (filterSays ps 0 es f) e)), (λ n. ⊎-elim (λ e. absurd (n (i .0 e))) (λ e. ap yesOrNo e) (decided (filterSays ps 0 es f))));
       }
     where
       yes-true : (b : Bool) → yesOrNo b ≡ yes → b ≡ true
@@ -252,6 +308,14 @@ module _ (ps : List Parameter) (w : WellFormedSheet ps) (es : List Entry) where
       no-false true e = absurd (let z : _≡_ {A = ℕ} 0 1 = cc in omega arith)
       no-false false e = refl
 
+-- a test that does not lack a meaning spells true or false after pr
+pr-spelled : (ps : List Parameter) (es : List Entry) (t : Test) → (LacksMeaning ps es t → ⊥) → PrSpelled t
+pr-spelled ps es t meaning e =
+    let v = t .value in
+    ⊎-elim (λ y. spells-true (true-iff v .0 y))
+    (λ n. ⊎-elim (λ y. spells-false (false-iff v .0 y)) (λ m. absurd (meaning (neither e (neither-spelled v n m)))) (decided (isFalse v)))
+    (decided (isTrue v))
+
 -- ---- match
 
 -- where check passes, match answers on each conforming card with the filter's yes or no
@@ -259,5 +323,5 @@ pub match-verdict : (sheet text : List ℕ) (s : SheetBlock sheet) (f : Tree) �
     → (card : List ℕ) (es : List Entry) → Conforms (s .parameters) card es → Verdict (s .parameters) es f (matchAnswer sheet text card)
 match-verdict sheet text s f short spells passed card es c =
     let d = demand-met sheet text s f short spells in
-    let meaning : All (HasMeaning (s .parameters) (s .well-formed) es) (testsOf f) = all-map (λ t m. m card es c) (d .passes .0 passed) in
-    rw (d .verdict passed card es c) (verdict-by (s .parameters) (s .well-formed) es f meaning)
+    let spelled : All PrSpelled (testsOf f) = all-map (λ t m. pr-spelled (s .parameters) es t (m card es c)) (d .passes .0 passed) in
+    rw (d .verdict passed card es c) (verdict-by (s .parameters) (s .well-formed) es f spelled)

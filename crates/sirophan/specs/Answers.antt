@@ -29,6 +29,7 @@ numberOf Reason.UnknownName = 14
 numberOf Reason.Unsupported = 15
 numberOf Reason.NoMeaning = 16
 numberOf Reason.Unreadable = 17
+numberOf Reason.BareBundle = 18
 numberOf Reason.CardSize = 20
 numberOf Reason.CardSum = 21
 numberOf Reason.CardLayout = 22

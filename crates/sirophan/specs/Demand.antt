@@ -45,7 +45,7 @@ pub record Demand (ps : List Parameter) (f : Tree) (check : Answer) (match : Lis
   -- "The check passes, and answers the number of tests, exactly when every test has a meaning on every card that fits the sheet."
   pub passes : (check ≡ count (length (testsOf f))) ↔ All (Meaningful ps) (testsOf f)
   -- "If it passes, match answers with the filter's yes or no, whichever fitting card it is given."
-  pub verdict : check ≡ count (length (testsOf f)) → (card : List ℕ) (es : List Entry) → Conforms ps card es → match card ≡ yesOrNo (filterSays ps es f)
+  pub verdict : check ≡ count (length (testsOf f)) → (card : List ℕ) (es : List Entry) → Conforms ps card es → match card ≡ yesOrNo (filterSays ps 0 es f)
   -- "If it does not, the check refuses, and match refuses alike, .."
   pub refuses : (check ≡ count (length (testsOf f)) → ⊥) → RefusesAlike ps f check match
 

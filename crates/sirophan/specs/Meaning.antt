@@ -1,6 +1,6 @@
 -- Which cards conform to a sheet, and when a test lacks a meaning on a card: document 01's "Meaning", in its words.
 -- Assumes nothing.
-use Prim.Native.Nat.{ℕ}
+use Prim.Native.Nat.{ℕ, suc}
 use mathlib.Core.Bool.{Bool}
 use mathlib.Core.Path.{_≡_}
 use mathlib.Core.List.{List, [], List·Memᴰ}
@@ -10,7 +10,7 @@ use Rattle.sheet.specs.Sheet.{Parameter, parameter, bundleKind}
 use Rattle.sheet.specs.Find.{Listed}
 use Rattle.card.specs.Card.{Entry}
 use Rattle.card.specs.Encode.{encodeCard, WellFormedCard}
-use Rattle.syntax.specs.Tree.{Path, name, Test}
+use Rattle.syntax.specs.Tree.{Path, name, member, Test}
 use Rattle.kind.specs.Table.{Use, means, row}
 use Rattle.kind.specs.declared.Relation.{Relation}
 use Rattle.judge.specs.Sets.{valuesAt}
@@ -34,9 +34,13 @@ pub record Conforms (ps : List Parameter) (b : List ℕ) (es : List Entry) : Typ
 
 -- ---- names and operators
 
--- the path names the parameter with the index i and the kind k, which stands at the top
-pub data Names (ps : List Parameter) : Path → ℕ → ℕ → Type 0 where
-  names : {n : List ℕ} {i k : ℕ} → Listed ps i (parameter k 0 n) → Names ps (name n) i k
+-- in c, 0 at the top and a bundle's index plus 1 among its members, the path names the parameter with the index i and the kind k
+pub data NamesIn (ps : List Parameter) : ℕ → Path → ℕ → ℕ → Type 0 where
+  names : {c : ℕ} {n : List ℕ} {i k : ℕ} → Listed ps i (parameter k c n) → NamesIn ps c (name n) i k
+  names-member : {c j : ℕ} {b : List ℕ} {path : Path} {i k : ℕ} → Listed ps j (parameter bundleKind c b) → NamesIn ps (suc j) path i k → NamesIn ps c (member b path) i k
+
+abbrev pub Names : List Parameter → Path → ℕ → ℕ → Type 0
+Names ps = NamesIn ps 0
 
 -- "its name is not on the sheet"
 abbrev pub NotOnSheet : List Parameter → Path → Type 0
@@ -54,11 +58,11 @@ pub data HasOperator (kind : ℕ) : ℕ → Type 0 where
 
 -- ---- meaning
 
--- "a test has no meaning on a card exactly when": the ways of it, on a card with the entries es
+-- "a test has no meaning on a card exactly when": the four ways of it, on a card with the entries es
 pub data LacksMeaning (ps : List Parameter) (es : List Entry) (t : Test) : Type 0 where
   -- "its name is not on the sheet"
   not-on-sheet : NotOnSheet ps (t .path) → LacksMeaning ps es t
-  -- 02: "a bare name that is a bundle's or a member's counts as not on the sheet"
+  -- 02: "a test that 14 or 18 is given for lacks it on every card"
   bare-bundle : {i : ℕ} → Names ps (t .path) i bundleKind → LacksMeaning ps es t
   -- "pr's value is neither true nor false"
   neither : t .operator ≡ pr → (TrueOrFalse (t .value) → ⊥) → LacksMeaning ps es t

@@ -42,7 +42,7 @@ sheetStep Reading.WrongLayout ps = stop 3 0
 unfoldable pub takeSheet : List ℕ → Step (List Parameter)
 takeSheet sheet = sheetStep (readSheet sheet) (parametersOf sheet)
 
--- ---- the filter: 10, 11, and 14 to 17 for the first test at fault
+-- ---- the filter: 10, 11, and 14 to 18 for the first test at fault; names are looked up at the top
 
 abbrev pub treeStep : Option Tree → Step Tree
 treeStep (some f) = found f
@@ -54,12 +54,13 @@ takeFilter text = cond (eqb (length text) 0 || ltb 1024 (length text)) (stop 10 
 abbrev pub faultStep : Fault → ℕ → Step (Unit {0})
 faultStep Fault.Nothing p = found tt
 faultStep Fault.UnknownName p = stop 14 p
+faultStep Fault.BareBundle p = stop 18 p
 faultStep Fault.Unsupported p = stop 15 p
 faultStep Fault.NoMeaning p = stop 16 p
 faultStep Fault.Unreadable p = stop 17 p
 
 unfoldable pub testsStep : List Parameter → List Test → Step (Unit {0})
-testsStep ps ts = faultStep (firstFault ps ts .fault) (firstFault ps ts .position)
+testsStep ps ts = faultStep (firstFault ps 0 ts .fault) (firstFault ps 0 ts .position)
 
 -- the parameters of the sheet and the tree of the filter
 pub record Prepared : Type 0 where
@@ -109,7 +110,7 @@ unfoldable pub matchAnswer : List ℕ → List ℕ → List ℕ → Answer
 matchAnswer sheet text card = answer (do
   p ← prepare sheet text
   c ← takeCard (p .parameters) 0 card
-  found (yesOrNo (filterSays (p .parameters) (c .entries) (p .filter))))
+  found (yesOrNo (filterSays (p .parameters) 0 (c .entries) (p .filter))))
 
 -- ---- select
 
@@ -134,7 +135,7 @@ takeCards ps i (b ∷ bs) = do
 -- the record numbers of the cards on which the filter says yes, in card order and repeats kept
 unfoldable pub matching : List Parameter → Tree → List Card → List ℕ
 matching ps f [] = []
-matching ps f (c ∷ cs) = cond (filterSays ps (c .entries) f) (c .number ∷ matching ps f cs) (matching ps f cs)
+matching ps f (c ∷ cs) = cond (filterSays ps 0 (c .entries) f) (c .number ∷ matching ps f cs) (matching ps f cs)
 
 -- 30: "list shorter than the matches", place the number of matches
 unfoldable pub takeRoom : ℕ → List ℕ → Step (List ℕ)

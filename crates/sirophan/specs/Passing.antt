@@ -31,7 +31,7 @@ pub record Passing (sheet text : List ℕ) : Type 0 where
 
 -- what the text's filter says of entries
 abbrev pub textSays : List Parameter → List Entry → Option Tree → Bool
-textSays ps es (some f) = filterSays ps es f
+textSays ps es (some f) = filterSays ps 0 es f
 textSays ps es none = false
 
 -- the verdict of the card with the index i, or its refusal

@@ -20,12 +20,13 @@ use Rattle.sirophan.specs.Selection.{Run, CardAt, matchingCards}
 
 -- ---- which line decides
 
--- lines 14 to 17 go together, and so do 21 to 23
+-- lines 14 to 18 go together, and so do 21 to 23
 unfoldable pub group : ℕ → ℕ
-group n = cond (leb 14 n && leb n 17) 14 (cond (leb 21 n && leb n 23) 21 n)
+group n = cond (leb 14 n && leb n 18) 14 (cond (leb 21 n && leb n 23) 21 n)
 
 -- line m at the place q comes before line n at the place p: "lowest line first"; "for 14 to 17 the first test in the text
--- decides, and within it the lower number"; "for 21 to 23 the first faulty card decides, and on it the lower number"
+-- decides, and within it the lower number", with 18 among them (02); "for 21 to 23 the first faulty card decides, and on it the
+-- lower number"
 pub data Before (m q n p : ℕ) : Type 0 where
   lower-group : group m < group n → Before m q n p
   earlier-place : group m ≡ group n → q < p → Before m q n p
@@ -56,7 +57,7 @@ pub data TextLine (text : List ℕ) : ℕ → ℕ → Type 0 where
 
 -- about its tests
 pub data TestsLine (sheet text : List ℕ) : ℕ → ℕ → Type 0 where
-  -- 14 to 17, at the "first byte of the test"
+  -- 14 to 18, at the "first byte of the test"
   line-of-test : (s : SheetBlock sheet) {f : Tree} {t : Test} {n : ℕ} → Spells text f → List·Memᴰ t (testsOf f) → TestLine (s .parameters) t n
       → TestsLine sheet text n (t .at)
 

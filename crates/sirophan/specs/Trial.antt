@@ -1,4 +1,4 @@
--- Document 01's trial card: the rows of its table that are marked to be proved.
+-- Document 01's trial card: the rows of its table that are marked to be proved; and a table for a card with occurrences.
 -- Assumes nothing.
 use Prim.Native.Nat.{ℕ}
 use mathlib.Core.List.{List, [], _∷_}
@@ -7,7 +7,7 @@ use Rattle.base.specs.Operators.{co, gt}
 use Rattle.syntax.specs.Tree.{Test, name}
 use Rattle.sirophan.specs.Answers.{Answer, yes, no, refused}
 
--- a filter, and what match gives on card 7
+-- a filter, and what match gives on the table's card
 pub record Row : Type 0 where
   pub filter : List ℕ
   pub gives : Answer
@@ -31,6 +31,29 @@ trialRows =
     ∷ row (ascii "code eq LOINC|1234-5") yes
     ∷ row (ascii "title pr true or pages gt 20 and pages gt 30") no
     ∷ row (ascii "code gt 5") (refused 16 0)
+    ∷ []
+
+-- 02's brackets, on the sheet with bundles and card 8; the first two filters are the R4 page's
+
+unfoldable pub bundleRows : List Row
+bundleRows =
+    row (ascii "related[type eq \"has-component\"].target re Observation/4") yes
+    ∷ row (ascii "related[type eq \"has-component\"].target pr false") no
+    ∷ row (ascii "related[type eq \"derived-from\"].target re Observation/3") no
+    ∷ row (ascii "related[type eq \"replaced-by\"].target pr false") yes
+    ∷ row (ascii "related[ not (type eq has-component) or target re Observation/3 ].type eq derived-from") yes
+    ∷ row (ascii "marriage[date lt 1975].name eq Berg") yes
+    ∷ row (ascii "marriage[date lt 1975].name eq Lund") no
+    ∷ row (ascii "marriage[date ge 1970].name eq Lund and title co book") yes
+    ∷ row (ascii "related eq has-component") (refused 18 0)
+    ∷ row (ascii "title co x or related ap 1") (refused 18 14)
+    ∷ row (ascii "target re Observation/4") (refused 14 0)
+    ∷ row (ascii "title[type eq x].target re Observation/4") (refused 14 0)
+    ∷ row (ascii "related[date eq 1974].target re Observation/4") (refused 14 8)
+    ∷ row (ascii "related[type gt 5].target ap Observation/4") (refused 15 0)
+    ∷ row (ascii "related[type gt 5].target re Observation/4") (refused 16 8)
+    ∷ row (ascii "marriage[date lt never].name eq Berg") (refused 17 9)
+    ∷ row (ascii "related[type eq x] .target re Observation/4") (refused 11 0)
     ∷ []
 
 -- ---- two filters that show which programs the demand on check and match shuts out

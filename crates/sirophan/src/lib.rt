@@ -30,6 +30,8 @@ pub enum Reason {
     NoMeaning,
     // 17: a test's value is unreadable.
     Unreadable,
+    // 18: a bundle's name with no bracket; ranks between 14 and 15.
+    BareBundle,
     // 20: match: the card is not 512 bytes; select: no whole number of blocks, or over 128.
     CardSize,
     // 21: a card's check sum is wrong.

@@ -17,6 +17,7 @@ pub fn number(reason: Reason) -> u32
         Reason::Unsupported => 15,
         Reason::NoMeaning => 16,
         Reason::Unreadable => 17,
+        Reason::BareBundle => 18,
         Reason::CardSize => 20,
         Reason::CardSum => 21,
         Reason::CardLayout => 22,

@@ -31,6 +31,7 @@ fn outcome(summary: Summary) -> Checked
     match fault {
         Fault::Nothing => Checked::Tests(summary.tests),
         Fault::UnknownName => refuse(Reason::UnknownName, first.position),
+        Fault::BareBundle => refuse(Reason::BareBundle, first.position),
         Fault::Unsupported => refuse(Reason::Unsupported, first.position),
         Fault::NoMeaning => refuse(Reason::NoMeaning, first.position),
         Fault::Unreadable => refuse(Reason::Unreadable, first.position),
@@ -49,7 +50,16 @@ fn check_text(sheet: &[u8], filter: &[u8]) -> Checked
         return refuse(Reason::FilterSize, 0);
     }
     let start = skip(filter, 0);
-    let walked = check_filter(sheet, filter, Spot { at: start, deep: 8 });
+    let walked = check_filter(
+        sheet,
+        filter,
+        Spot {
+            at: start,
+            deep: 8,
+            close: b')',
+            bundle: 0,
+        },
+    );
     match walked {
         Walked::Done(end, summary) => {
             let after = skip(filter, end);

@@ -8,6 +8,7 @@ use block::Reading;
 use filter::Judged;
 use filter::Spot;
 use filter::judge_filter;
+use judge::Chosen;
 use judge::conforms;
 use syntax::scan::skip;
 ghost use mathlib.Core.Path.{_≡_};
@@ -33,7 +34,17 @@ fn says(sheet: &[u8], filter: &[u8], card: &[u8]) -> bool
     ensures { λ r. ⌜ r ≡ textSays (parametersOf (now (sheet .entry))) (entriesOf (now (card .entry))) (read (now (filter .entry))) ⌝ }
 {
     let start = skip(filter, 0);
-    let judged = judge_filter(true, sheet, card, filter, Spot { at: start, deep: 8 });
+    let every = Chosen {
+        all: true,
+        occurrence: 0,
+    };
+    let spot = Spot {
+        at: start,
+        deep: 8,
+        close: b')',
+        bundle: 0,
+    };
+    let judged = judge_filter(true, sheet, card, every, filter, spot);
     match judged {
         Judged::Done(_, says) => says,
         Judged::Nothing => false,

@@ -33,6 +33,12 @@ enum-told-5 c = search needs
 refuse-requires-4 : tie.Need-refuse-requires-4
 refuse-requires-4 c κs = search needs
 
+enum-told-6 : tie.Need-enum-told-6
+enum-told-6 c = search needs
+
+refuse-requires-5 : tie.Need-refuse-requires-5
+refuse-requires-5 c κs = search needs
+
 returns : tie.Need-returns
 returns c = search (outcome-tests, needs)
 
@@ -40,13 +46,16 @@ returns-2 : tie.Need-returns-2
 returns-2 c = outcome-fault _ _ Fault.UnknownName 14 (λ p. refl) (c .before .enum-told2 .given .1) (c .refuse .ensures)
 
 returns-3 : tie.Need-returns-3
-returns-3 c = outcome-fault _ _ Fault.Unsupported 15 (λ p. refl) (c .before .enum-told3 .given .1) (c .refuse2 .ensures)
+returns-3 c = outcome-fault _ _ Fault.BareBundle 18 (λ p. refl) (c .before .enum-told3 .given .1) (c .refuse2 .ensures)
 
 returns-4 : tie.Need-returns-4
-returns-4 c = outcome-fault _ _ Fault.NoMeaning 16 (λ p. refl) (c .before .enum-told4 .given .1) (c .refuse3 .ensures)
+returns-4 c = outcome-fault _ _ Fault.Unsupported 15 (λ p. refl) (c .before .enum-told4 .given .1) (c .refuse3 .ensures)
 
 returns-5 : tie.Need-returns-5
-returns-5 c = outcome-fault _ _ Fault.Unreadable 17 (λ p. refl) (c .before .enum-told5 .given .1) (c .refuse4 .ensures)
+returns-5 c = outcome-fault _ _ Fault.NoMeaning 16 (λ p. refl) (c .before .enum-told5 .given .1) (c .refuse4 .ensures)
+
+returns-6 : tie.Need-returns-6
+returns-6 c = outcome-fault _ _ Fault.Unreadable 17 (λ p. refl) (c .before .enum-told6 .given .1) (c .refuse5 .ensures)
 
 pub outcome-spec : {M : Type 1} → statement M
 outcome-spec =
@@ -61,8 +70,11 @@ outcome-spec =
     refuse-requires-3
     enum-told-5
     refuse-requires-4
+    enum-told-6
+    refuse-requires-5
     returns
     returns-2
     returns-3
     returns-4
-    returns-5)
+    returns-5
+    returns-6)
