@@ -4,7 +4,7 @@ use crate::block::is_name;
 
 /// The longest text that is read as a filter.
 pub const LONGEST: usize = 1024;
-/// How deep round brackets may nest.
+/// How deep brackets may nest, round and square ones together.
 pub const DEEPEST: usize = 8;
 /// The most tests of a filter.
 pub const MOST_TESTS: usize = 32;
@@ -66,7 +66,8 @@ pub struct Filter<T> {
 /// What a filter joins.
 #[derive(Clone, Debug, PartialEq, Eq)]
 pub enum Item<T> {
-    Test(T),
+    /// A test, with the condition inside its path if it has one.
+    Test(T, Option<Box<Filter<T>>>),
     Bracket(Box<Filter<T>>),
     Not(Box<Filter<T>>),
 }
@@ -82,19 +83,21 @@ pub enum Join {
 #[derive(Clone, Debug, PartialEq, Eq)]
 pub struct Test {
     pub place: usize,
-    pub name: Vec<u8>,
+    /// Its name behind those of the bundles that it stands in, the outermost first.
+    pub path: Vec<Vec<u8>>,
     pub operation: Operation,
     pub value: Vec<u8>,
 }
 
 impl<T> Filter<T> {
-    /// How many tests the filter has.
+    /// How many tests the filter has, those of conditions among them.
     pub fn count(&self) -> usize {
         let items = self.rest.iter().map(|(_, item)| item);
         self.first.count() + items.map(Item::count).sum::<usize>()
     }
 
-    /// The filter with each test turned into something else, or what the first one that cannot be turned gives.
+    /// The filter with each test turned into something else, or what the first one that cannot be turned gives. A test
+    /// stands before those of its condition.
     pub fn try_map<U, E>(self, turn: &mut impl FnMut(T) -> Result<U, E>) -> Result<Filter<U>, E> {
         let first = self.first.try_map(turn)?;
         let mut rest = Vec::with_capacity(self.rest.len());
@@ -104,8 +107,9 @@ impl<T> Filter<T> {
         Ok(Filter { first, rest })
     }
 
-    /// The filter's yes or no: those of its items joined from left to right, and and or equal in rank.
-    pub fn verdict(&self, of_test: &impl Fn(&T) -> bool) -> bool {
+    /// The filter's yes or no: those of its items joined from left to right, and and or equal in rank. A test's own is
+    /// asked for with its condition.
+    pub fn verdict(&self, of_test: &impl Fn(&T, Option<&Filter<T>>) -> bool) -> bool {
         let mut verdict = self.first.verdict(of_test);
         for (join, item) in &self.rest {
             let next = item.verdict(of_test);
@@ -121,22 +125,26 @@ impl<T> Filter<T> {
 impl<T> Item<T> {
     fn count(&self) -> usize {
         match self {
-            Item::Test(_) => 1,
+            Item::Test(_, condition) => 1 + condition.as_ref().map_or(0, |filter| filter.count()),
             Item::Bracket(filter) | Item::Not(filter) => filter.count(),
         }
     }
 
     fn try_map<U, E>(self, turn: &mut impl FnMut(T) -> Result<U, E>) -> Result<Item<U>, E> {
         Ok(match self {
-            Item::Test(test) => Item::Test(turn(test)?),
+            Item::Test(test, condition) => {
+                let test = turn(test)?;
+                let condition = condition.map(|filter| filter.try_map(turn)).transpose()?;
+                Item::Test(test, condition.map(Box::new))
+            }
             Item::Bracket(filter) => Item::Bracket(Box::new(filter.try_map(turn)?)),
             Item::Not(filter) => Item::Not(Box::new(filter.try_map(turn)?)),
         })
     }
 
-    fn verdict(&self, of_test: &impl Fn(&T) -> bool) -> bool {
+    fn verdict(&self, of_test: &impl Fn(&T, Option<&Filter<T>>) -> bool) -> bool {
         match self {
-            Item::Test(test) => of_test(test),
+            Item::Test(test, condition) => of_test(test, condition.as_deref()),
             Item::Bracket(filter) => filter.verdict(of_test),
             Item::Not(filter) => !filter.verdict(of_test),
         }
@@ -145,27 +153,28 @@ impl<T> Item<T> {
 
 /// Reads a text as a filter; none if it is no filter by the grammar.
 pub fn read(text: &[u8]) -> Option<Filter<Test>> {
-    let mut reader = Reader { text, at: 0 };
-    let filter = reader.filter(DEEPEST)?;
-    (reader.at == text.len() && filter.count() <= MOST_TESTS).then_some(filter)
+    let mut reader = Reader { text, at: 0, bundles: Vec::new() };
+    let filter = reader.filter(DEEPEST, None)?;
+    (filter.count() <= MOST_TESTS).then_some(filter)
 }
 
-/// A text and how far it has been read.
+/// A text, how far it has been read, and the names before the square brackets that are open there.
 struct Reader<'a> {
     text: &'a [u8],
     at: usize,
+    bundles: Vec<Vec<u8>>,
 }
 
 impl<'a> Reader<'a> {
-    /// Items joined by and or or, up to the end or to a closing bracket; spaces may stand at either end. So what
-    /// follows an item is a space, a closing bracket or the end.
-    fn filter(&mut self, depth_left: usize) -> Option<Filter<Test>> {
+    /// Items joined by and or or, up to the end or to this closing bracket; spaces may stand at either end. So what
+    /// follows an item is a space, that bracket or the end.
+    fn filter(&mut self, depth_left: usize, close: Option<u8>) -> Option<Filter<Test>> {
         self.spaces();
         let first = self.item(depth_left)?;
         let mut rest = Vec::new();
         loop {
             let before = self.spaces();
-            if matches!(self.peek(), None | Some(b')')) {
+            if self.peek() == close {
                 return Some(Filter { first, rest });
             }
             let join = match self.run(|byte| byte.is_ascii_lowercase()) {
@@ -184,24 +193,37 @@ impl<'a> Reader<'a> {
     /// A test, a filter in round brackets, or not followed by a filter in round brackets.
     fn item(&mut self, depth_left: usize) -> Option<Item<Test>> {
         if self.peek() == Some(b'(') {
-            return Some(Item::Bracket(Box::new(self.bracket(depth_left)?)));
+            return Some(Item::Bracket(self.bracket(depth_left, b'(', b')')?));
         }
         let place = self.at;
-        let name = self.run(|byte| byte == b'_' || byte == b'-' || byte.is_ascii_alphanumeric());
+        let name = self.name();
         if name == b"not" {
             self.spaces();
-            return Some(Item::Not(Box::new(self.bracket(depth_left)?)));
+            return Some(Item::Not(self.bracket(depth_left, b'(', b')')?));
         }
-        Some(Item::Test(self.test(place, name)?))
+        if self.peek() != Some(b'[') {
+            return Some(Item::Test(self.test(place, name)?, None));
+        }
+        if !is_name(name) {
+            return None;
+        }
+        // The condition and the member's name are both of the bundle.
+        self.bundles.push(name.to_vec());
+        let condition = self.bracket(depth_left, b'[', b']')?;
+        self.byte(b'.')?;
+        let member = self.name();
+        let test = self.test(place, member)?;
+        self.bundles.pop();
+        Some(Item::Test(test, Some(condition)))
     }
 
-    /// A filter in round brackets.
-    fn bracket(&mut self, depth_left: usize) -> Option<Filter<Test>> {
+    /// A filter in brackets.
+    fn bracket(&mut self, depth_left: usize, open: u8, close: u8) -> Option<Box<Filter<Test>>> {
         let depth_left = depth_left.checked_sub(1)?;
-        self.byte(b'(')?;
-        let filter = self.filter(depth_left)?;
-        self.byte(b')')?;
-        Some(filter)
+        self.byte(open)?;
+        let filter = self.filter(depth_left, Some(close))?;
+        self.byte(close)?;
+        Some(Box::new(filter))
     }
 
     /// What follows the name of a test: an operation word and a value, each behind at least one space.
@@ -218,8 +240,14 @@ impl<'a> Reader<'a> {
             Some(b'"') => self.string()?,
             _ => self.bare_word()?,
         };
-        let name = name.to_vec();
-        Some(Test { place, name, operation, value })
+        let mut path = self.bundles.clone();
+        path.push(name.to_vec());
+        Some(Test { place, path, operation, value })
+    }
+
+    /// The bytes that a name may have, as far as they go.
+    fn name(&mut self) -> &'a [u8] {
+        self.run(|byte| byte == b'_' || byte == b'-' || byte.is_ascii_alphanumeric())
     }
 
     /// One or more bytes 0x21 to 0x7E without ")" and "]".
@@ -285,8 +313,8 @@ mod tests {
 
     fn value(text: &str) -> Vec<u8> {
         match read(text.as_bytes()).unwrap().first {
-            Item::Test(test) => test.value,
-            _ => panic!("{text} is not a test"),
+            Item::Test(test, None) => test.value,
+            _ => panic!("{text} is not a test without a condition"),
         }
     }
 
@@ -315,6 +343,16 @@ mod tests {
             "a eq \"\"",
             "(a eq \"b\")",
             "in in in",
+            "a[b eq c].d eq e",
+            "a[ b eq c ].d eq e",
+            "a[b eq \"]\"].d eq e",
+            "a[b eq \"c\"].d eq \"]\"",
+            "a[(b eq c)].d eq e",
+            "a[not (b eq c) and d eq e].f eq g",
+            "(a[b eq c].d eq e)",
+            "not (a[b eq c].d eq e) or f eq g",
+            "a[b[c eq d].e eq f].g eq h",
+            "not-x[b eq c].and- eq d",
         ] {
             assert!(read(text.as_bytes()).is_some(), "{text}");
         }
@@ -361,9 +399,36 @@ mod tests {
             "a eq \u{7F}",
             "a eq \u{E4}",
             "a.b eq c",
-            "a[b eq c].d eq e",
             "1a eq b",
             "-a eq b",
+            "a [b eq c].d eq e",
+            "a[b eq c] .d eq e",
+            "a[b eq c]. d eq e",
+            "a[b eq c]d eq e",
+            "a[b eq c] eq e",
+            "a[b eq c]",
+            "a[b eq c].",
+            "a[b eq c].d",
+            "a[b eq c.d eq e",
+            "a[b eq c).d eq e",
+            "a[(b eq c]).d eq e",
+            "a[(b eq c].d eq e)",
+            "(a[b eq c).d eq e]",
+            "a[].d eq e",
+            "a[b].d eq e",
+            "a[b eq c]].d eq e",
+            "a[[b eq c]].d eq e",
+            "[b eq c].d eq e",
+            "a[b eq c].d.e eq f",
+            "a[b eq c].d[e eq f].g eq h",
+            "not[b eq c].d eq e",
+            "and[b eq c].d eq e",
+            "a[b eq c].not eq e",
+            "1a[b eq c].d eq e",
+            "a[b eq c].1d eq e",
+            "a[b eq c].d eq e]",
+            "a[(b eq c] or d eq e)].f eq g",
+            "a[b eq c].d eq eand f eq g",
         ] {
             assert!(read(text.as_bytes()).is_none(), "{text}");
         }
@@ -377,16 +442,24 @@ mod tests {
         assert_eq!(value("a eq \"\u{7F}\u{E4}]\""), "\u{7F}\u{E4}]".as_bytes());
     }
 
-    #[test]
-    fn places() {
-        let filter = read(b" (aa eq b or c eq d)").unwrap();
-        let mut places = Vec::new();
-        let noted: Result<_, ()> = filter.try_map(&mut |test| {
-            places.push(test.place);
+    /// The places and paths of the tests, in the order in which they are asked about.
+    fn asked(text: &str) -> Vec<(usize, String)> {
+        let mut asked = Vec::new();
+        let noted: Result<_, ()> = read(text.as_bytes()).unwrap().try_map(&mut |test| {
+            let path: Vec<_> = test.path.iter().map(|name| String::from_utf8_lossy(name)).collect();
+            asked.push((test.place, path.join("/")));
             Ok(())
         });
         assert!(noted.is_ok());
-        assert_eq!(places, [2, 13]);
+        asked
+    }
+
+    #[test]
+    fn places_and_paths() {
+        assert_eq!(asked(" (aa eq b or c eq d)"), [(2, "aa".into()), (13, "c".into())]);
+        let chosen = [(1, "b/m"), (4, "b/n"), (14, "b/c/k"), (16, "b/c/o"), (43, "d")];
+        let chosen = chosen.map(|(place, path)| (place, path.to_string()));
+        assert_eq!(asked("(b[ n eq 1 or c[o eq 1].k eq 2].m eq 3 and d eq 4)"), chosen);
     }
 
     #[test]
@@ -400,13 +473,28 @@ mod tests {
         let tests = |count| vec!["a eq b"; count].join(" or ");
         assert_eq!(read(tests(32).as_bytes()).unwrap().count(), 32);
         assert!(read(tests(33).as_bytes()).is_none());
+
+        let mixed = |before, inside| {
+            let filter = format!("a[{}b eq c{}].d eq e", "(".repeat(inside), ")".repeat(inside));
+            format!("{}{filter}{}", "(".repeat(before), ")".repeat(before))
+        };
+        for (before, inside) in [(0, 7), (3, 4), (7, 0)] {
+            assert!(read(mixed(before, inside).as_bytes()).is_some());
+            assert!(read(mixed(before, inside + 1).as_bytes()).is_none());
+        }
+        let square = |depth| format!("{}a eq b{}", "a[".repeat(depth), "].a eq b".repeat(depth));
+        assert!(read(square(8).as_bytes()).is_some());
+        assert!(read(square(9).as_bytes()).is_none());
+        let inner = |count| format!("a[{}].b eq c or a eq b", tests(count));
+        assert_eq!(read(inner(30).as_bytes()).unwrap().count(), 32);
+        assert!(read(inner(31).as_bytes()).is_none());
     }
 
     #[test]
     fn from_left_to_right() {
         let says = |text: &str| {
             let filter = read(text.as_bytes()).unwrap();
-            filter.verdict(&|test| test.value == b"yes")
+            filter.verdict(&|test, _| test.value == b"yes")
         };
         assert!(!says("a eq yes or a eq no and a eq no"));
         assert!(says("a eq no and a eq no or a eq yes"));

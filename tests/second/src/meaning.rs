@@ -2,7 +2,7 @@
 
 use crate::block::{Card, Entry, Kind, Sheet};
 use crate::date::Date;
-use crate::filter::{Operation, Test};
+use crate::filter::{Filter, Operation, Test};
 use crate::number::Decimal;
 use crate::text;
 use crate::token::{Pattern, Token};
@@ -11,6 +11,7 @@ use crate::token::{Pattern, Token};
 #[derive(Clone, Copy, Debug, PartialEq, Eq)]
 pub enum Fault {
     UnknownName,
+    BareBundle,
     UnservedOperation,
     NoMeaningForKind,
     UnreadableValue,
@@ -61,11 +62,8 @@ pub fn has_meaning(kind: Kind, operation: Operation) -> bool {
 
 /// What the test asks, or why it has no meaning.
 pub fn question(test: &Test, sheet: &Sheet) -> Result<Question, Fault> {
-    let mut parameters = sheet.parameters.iter();
-    let place = parameters.position(|parameter| parameter.bundle.is_none() && parameter.name == test.name);
-    let place = place.ok_or(Fault::UnknownName)?;
-    // A bundle has no texts, so its name counts as not on the sheet.
-    let kind = sheet.parameters[place].kind.ok_or(Fault::UnknownName)?;
+    let place = find(&test.path, sheet).ok_or(Fault::UnknownName)?;
+    let kind = sheet.parameters[place].kind.ok_or(Fault::BareBundle)?;
     let operation = test.operation;
     if matches!(operation, Operation::Ap | Operation::Ss | Operation::Sb | Operation::In | Operation::Ni) {
         return Err(Fault::UnservedOperation);
@@ -75,6 +73,18 @@ pub fn question(test: &Test, sheet: &Sheet) -> Result<Question, Fault> {
     }
     let asks = asks(kind, operation, &test.value).ok_or(Fault::UnreadableValue)?;
     Ok(Question { place, asks })
+}
+
+/// The place of the parameter that the path leads to: each name stands in the bundle that the one before it names, the
+/// first at the top.
+fn find(path: &[Vec<u8>], sheet: &Sheet) -> Option<usize> {
+    let (name, before) = path.split_last()?;
+    let bundle = match before {
+        [] => None,
+        _ => Some(find(before, sheet).filter(|&place| sheet.parameters[place].kind.is_none())?),
+    };
+    let mut parameters = sheet.parameters.iter();
+    parameters.position(|parameter| parameter.bundle == bundle && parameter.name == *name)
 }
 
 /// Reads the filter's value for an operation that the kind has.
@@ -111,25 +121,45 @@ pub fn read_value(kind: Kind, text: &[u8]) -> Option<Value<'_>> {
     }
 }
 
-/// The card's values with their places, if the card fits the sheet.
-pub fn values<'a>(card: &Card<'a>, sheet: &Sheet) -> Option<Vec<(usize, Value<'a>)>> {
-    let value = |entry: &Entry<'a>| {
+/// A card's value with the place of its parameter and its occurrence.
+#[derive(Clone, Copy, Debug, PartialEq, Eq)]
+pub struct Held<'a> {
+    place: usize,
+    occurrence: u8,
+    value: Value<'a>,
+}
+
+/// What the card holds, if it fits the sheet.
+pub fn held<'a>(card: &Card<'a>, sheet: &Sheet) -> Option<Vec<Held<'a>>> {
+    let held = |entry: &Entry<'a>| {
         let place = usize::from(entry.head);
         let parameter = sheet.parameters.get(place)?;
-        Some((place, read_value(parameter.kind?, entry.text)?))
+        let value = read_value(parameter.kind?, entry.text)?;
+        Some(Held { place, occurrence: entry.mark, value })
     };
-    card.entries.iter().map(value).collect()
+    card.entries.iter().map(held).collect()
+}
+
+/// The filter's yes or no on a card that holds this.
+pub fn verdict(filter: &Filter<Question>, held: &[Held]) -> bool {
+    filter.verdict(&|question, condition| question.verdict(condition, held))
 }
 
 impl Question {
-    /// The test's yes or no on a card with these values.
-    pub fn verdict(&self, values: &[(usize, Value)]) -> bool {
-        let mut set = values.iter().filter(|(place, _)| *place == self.place);
+    /// The test's yes or no. A condition is judged for each occurrence by itself, and chooses those that say yes.
+    fn verdict(&self, condition: Option<&Filter<Question>>, held: &[Held]) -> bool {
+        let is_chosen = |occurrence| condition.is_none_or(|condition| verdict(condition, &at(occurrence, held)));
+        let mut set = held.iter().filter(|one| one.place == self.place && is_chosen(one.occurrence));
         match &self.asks {
             Asks::Present(wanted) => set.next().is_some() == *wanted,
-            asks => set.any(|(_, value)| asks.holds(value)),
+            asks => set.any(|one| asks.holds(&one.value)),
         }
     }
+}
+
+/// What the card holds at one occurrence.
+fn at<'a>(occurrence: u8, held: &[Held<'a>]) -> Vec<Held<'a>> {
+    held.iter().filter(|one| one.occurrence == occurrence).copied().collect()
 }
 
 impl Asks {

@@ -65,6 +65,7 @@ impl Asked {
         let filter = filter.try_map(&mut |test| {
             meaning::question(&test, &sheet).map_err(|fault| match fault {
                 Fault::UnknownName => refused(14, test.place),
+                Fault::BareBundle => refused(18, test.place),
                 Fault::UnservedOperation => refused(15, test.place),
                 Fault::NoMeaningForKind => refused(16, test.place),
                 Fault::UnreadableValue => refused(17, test.place),
@@ -80,9 +81,8 @@ impl Asked {
             Flaw::Sum => refused(21, index),
             Flaw::Layout => refused(22, index),
         })?;
-        let values = meaning::values(&card, &self.sheet).ok_or(refused(23, index))?;
-        let verdict = self.filter.verdict(&|question| question.verdict(&values));
-        Ok((card.record, verdict))
+        let held = meaning::held(&card, &self.sheet).ok_or(refused(23, index))?;
+        Ok((card.record, meaning::verdict(&self.filter, &held)))
     }
 }
 
