@@ -13,6 +13,9 @@ pub const CASES: u64 = 200_000;
 /// Cells behind the list that is lent, which must stay as they are.
 const GUARD: usize = 4;
 
+/// The row of answers of match where the filter has a condition inside a path.
+pub const CONDITIONS: &str = "match with a condition";
+
 /// How many differences are printed in full.
 const PRINTED: u64 = 3;
 
@@ -39,10 +42,16 @@ pub struct Outcome {
 }
 
 impl Outcome {
-    /// How many cases end in yes or no.
-    pub fn verdicts(&self) -> u64 {
-        let count = |answer: &str| self.answers.get(&("match", answer.to_string()));
+    /// How many cases end in yes or no, of those in this row.
+    pub fn verdicts(&self, row: &'static str) -> u64 {
+        let count = |answer: &str| self.answers.get(&(row, answer.to_string()));
         ["yes", "no"].into_iter().filter_map(count).sum()
+    }
+
+    /// How many cases have a condition inside a path of their filter.
+    pub fn conditions(&self) -> u64 {
+        let answers = self.answers.iter().filter(|((row, _), _)| *row == CONDITIONS);
+        answers.map(|(_, count)| count).sum()
     }
 
     /// Prints the counts; the last line is for the gate.
@@ -50,18 +59,17 @@ impl Outcome {
         let listed = |counts: Vec<String>| counts.join(", ");
         let modes = self.modes.iter().map(|(mode, count)| format!("{mode} {count}"));
         println!("cases: {}", listed(modes.collect()));
-        for operation in ["check", "match", "select"] {
-            let answers = self.answers.iter().filter(|((of, _), _)| *of == operation);
+        for row in ["check", "match", CONDITIONS, "select"] {
+            let answers = self.answers.iter().filter(|((of, _), _)| *of == row);
             let answers = answers.map(|((_, answer), count)| format!("{answer} {count}"));
-            println!("{operation}: {}", listed(answers.collect()));
+            println!("{row}: {}", listed(answers.collect()));
         }
         let cases = self.passed + self.failed;
-        println!(
-            "seed {seed}, {cases} cases in {:.1} s, {} of them end in yes or no",
-            time.as_secs_f64(),
-            self.verdicts()
-        );
+        println!("seed {seed}, {cases} cases in {:.1} s", time.as_secs_f64());
+        println!("{} of them end in yes or no", self.verdicts("match"));
         println!("{} of them have bundles or occurrences in a block", self.marked);
+        let (conditions, verdicts) = (self.conditions(), self.verdicts(CONDITIONS));
+        println!("{conditions} of them have a condition inside a path, and {verdicts} of these end in yes or no");
         println!("{} passed, {} failed", self.passed, self.failed);
     }
 }
@@ -101,7 +109,11 @@ fn compare(library: &impl Library, case: &Case, answers: &mut BTreeMap<(&'static
     differences.extend(difference("check", ours, theirs));
 
     let (ours, theirs) = (operations::matches(sheet, filter, card), library.matches(sheet, filter, card));
-    note("match", told(ours, |yes| if yes { "yes" } else { "no" }));
+    let answer = told(ours, |yes| if yes { "yes" } else { "no" });
+    if case.has_condition() {
+        note(CONDITIONS, answer.clone());
+    }
+    note("match", answer);
     differences.extend(difference("match", ours, theirs));
 
     let lent = list.len();

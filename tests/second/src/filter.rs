@@ -96,6 +96,12 @@ impl<T> Filter<T> {
         self.first.count() + items.map(Item::count).sum::<usize>()
     }
 
+    /// Whether some test has a condition inside its path.
+    pub fn has_condition(&self) -> bool {
+        let mut items = self.rest.iter().map(|(_, item)| item);
+        self.first.has_condition() || items.any(Item::has_condition)
+    }
+
     /// The filter with each test turned into something else, or what the first one that cannot be turned gives. A test
     /// stands before those of its condition.
     pub fn try_map<U, E>(self, turn: &mut impl FnMut(T) -> Result<U, E>) -> Result<Filter<U>, E> {
@@ -127,6 +133,13 @@ impl<T> Item<T> {
         match self {
             Item::Test(_, condition) => 1 + condition.as_ref().map_or(0, |filter| filter.count()),
             Item::Bracket(filter) | Item::Not(filter) => filter.count(),
+        }
+    }
+
+    fn has_condition(&self) -> bool {
+        match self {
+            Item::Test(_, condition) => condition.is_some(),
+            Item::Bracket(filter) | Item::Not(filter) => filter.has_condition(),
         }
     }
 
@@ -201,14 +214,18 @@ impl<'a> Reader<'a> {
             self.spaces();
             return Some(Item::Not(self.bracket(depth_left, b'(', b')')?));
         }
-        if self.peek() != Some(b'[') {
-            return Some(Item::Test(self.test(place, name)?, None));
+        match self.peek() {
+            Some(b'[') => self.member_test(place, name, depth_left),
+            _ => Some(Item::Test(self.test(place, name)?, None)),
         }
-        if !is_name(name) {
+    }
+
+    /// What follows a bundle's name: a condition in square brackets, a dot and a test. Both are of the bundle's members.
+    fn member_test(&mut self, place: usize, bundle: &[u8], depth_left: usize) -> Option<Item<Test>> {
+        if !is_name(bundle) {
             return None;
         }
-        // The condition and the member's name are both of the bundle.
-        self.bundles.push(name.to_vec());
+        self.bundles.push(bundle.to_vec());
         let condition = self.bracket(depth_left, b'[', b']')?;
         self.byte(b'.')?;
         let member = self.name();

@@ -1,6 +1,6 @@
 //! The generated inputs reach what they are meant to reach, and come out the same every time.
 
-use second::differential::{Library, run};
+use second::differential::{CONDITIONS, Library, run};
 use second::generate;
 use second::operations::{self, Refusal};
 
@@ -26,9 +26,13 @@ fn every_answer_and_mostly_verdicts() {
     let cases = 4000;
     let outcome = run(&Second, 1, cases);
     assert_eq!((outcome.passed, outcome.failed), (cases, 0));
-    assert!(3 * outcome.verdicts() >= cases, "{} of {cases} end in yes or no", outcome.verdicts());
+    let verdicts = outcome.verdicts("match");
+    assert!(3 * verdicts >= cases, "{verdicts} of {cases} end in yes or no");
     assert!(5 * outcome.marked >= cases, "{} of {cases} have a block of the marked form", outcome.marked);
-    for number in [1, 2, 3, 10, 11, 14, 15, 16, 17, 20, 21, 22, 23, 30] {
+    let (conditions, verdicts) = (outcome.conditions(), outcome.verdicts(CONDITIONS));
+    assert!(5 * conditions >= cases, "{conditions} of {cases} have a condition inside a path");
+    assert!(3 * verdicts >= conditions, "{verdicts} of {conditions} with a condition end in yes or no");
+    for number in [1, 2, 3, 10, 11, 14, 15, 16, 17, 18, 20, 21, 22, 23, 30] {
         let answer = ("select", format!("refused-{number:02}"));
         assert!(outcome.answers.contains_key(&answer), "no selection is refused by {number}");
     }

@@ -29,6 +29,14 @@ pub struct Entry {
     pub text: Vec<u8>,
 }
 
+/// A member of a bundle.
+#[derive(Clone, Copy)]
+pub struct Member {
+    pub place: usize,
+    pub kind: Kind,
+    pub bundle: usize,
+}
+
 impl Archive {
     /// A sheet with some parameters, perhaps of the marked form and with bundles, and cards with some entries each.
     pub fn new(random: &mut Random, most_parameters: usize, cards: usize, most_entries: usize) -> Archive {
@@ -44,26 +52,54 @@ impl Archive {
         archive
     }
 
-    /// A marked sheet with one or two bundles, and cards as above.
+    /// A marked sheet with a bundle and a member at least, and cards as above.
     pub fn with_bundles(random: &mut Random, most_parameters: usize, cards: usize, most_entries: usize) -> Archive {
-        let mut parameters = parameters(random, most_parameters);
-        for _ in 0..1 + random.below(2) {
-            add_bundle(random, &mut parameters);
-        }
+        let parameters = parameters(random, most_parameters);
         let mut archive = Archive { first: MARKED_SHEET, parameters, cards: Vec::new() };
+        while archive.members().is_empty() || random.once_in(2) {
+            add_bundle(random, &mut archive.parameters);
+        }
         archive.add_cards(random, cards, most_entries);
         archive
     }
 
-    /// Adds cards. Texts under one place are near each other, and a card has few occurrences, so that entries share them.
+    /// A sheet with bundles, and cards whose parameters hold one of two texts at each of a few occurrences, so that
+    /// conditions hold at some of them and not at others.
+    pub fn over_occurrences(random: &mut Random) -> Archive {
+        let mut archive = Archive::with_bundles(random, 2, 0, 0);
+        let kinds = archive.parameters.iter().map(|parameter| parameter.kind);
+        let mut pair = |kind: Option<Kind>| Some([texts::readable(random, kind?), texts::readable(random, kind?)]);
+        let pairs: Vec<Option<[Vec<u8>; 2]>> = kinds.map(&mut pair).collect();
+        for _ in 0..1 + random.below(4) {
+            let first = random.one(&[CARD, MARKED_CARD, MARKED_CARD, MARKED_CARD]);
+            let mut card = Card { first, record: record(random), entries: Vec::new() };
+            for _ in 0..1 + random.below(3) {
+                let occurrence = random.one(&[0, 1, 2, 255]);
+                for (place, pair) in pairs.iter().enumerate() {
+                    let Some(pair) = pair else { continue };
+                    if !random.once_in(4) {
+                        let entry = Entry { place, occurrence, text: pair[random.below(2)].clone() };
+                        card.entries.insert(random.below(card.entries.len() + 1), entry);
+                    }
+                }
+            }
+            archive.cards.push(card);
+        }
+        archive
+    }
+
+    /// Adds cards, some of the form that the sheet has not. Texts under one place are near each other, and a card has few
+    /// occurrences, so that entries share them.
     fn add_cards(&mut self, random: &mut Random, cards: usize, most_entries: usize) {
         let kinds = self.parameters.iter().map(|parameter| parameter.kind);
         let mut anchor = |kind: Option<Kind>| Some((kind?, texts::readable(random, kind?)));
         let anchors: Vec<Option<(Kind, Vec<u8>)>> = kinds.map(&mut anchor).collect();
         let with_texts: Vec<usize> = (0..anchors.len()).filter(|&place| anchors[place].is_some()).collect();
+        let mixed = block::is_marked(self.first) || random.once_in(6);
+        let forms: &[u8] = if mixed { &[CARD, MARKED_CARD, MARKED_CARD] } else { &[CARD] };
         for _ in 0..cards {
             let occurrences = [random.one(&[0, 1, 2, 255]), random.one(&[0, 1, 2, 255])];
-            let mut card = Card { first: card_form(random, self.first), record: record(random), entries: Vec::new() };
+            let mut card = Card { first: random.one(forms), record: record(random), entries: Vec::new() };
             for _ in 0..random.below(most_entries + 1) {
                 let place = random.one(&with_texts);
                 let Some((kind, anchor)) = &anchors[place] else { continue };
@@ -84,6 +120,19 @@ impl Archive {
         random.one(&parameters)
     }
 
+    /// The members of bundles.
+    pub fn members(&self) -> Vec<Member> {
+        let member = |(place, parameter): (usize, &Parameter)| {
+            Some(Member { place, kind: parameter.kind?, bundle: parameter.bundle? })
+        };
+        self.parameters.iter().enumerate().filter_map(member).collect()
+    }
+
+    /// The members of this bundle.
+    pub fn members_of(&self, bundle: usize) -> Vec<Member> {
+        self.members().into_iter().filter(|member| member.bundle == bundle).collect()
+    }
+
     /// The places of the bundles.
     pub fn bundles(&self) -> Vec<usize> {
         let places = 0..self.parameters.len();
@@ -102,6 +151,18 @@ impl Archive {
             return texts::readable(random, kind);
         }
         under[random.below(under.len())].text.clone()
+    }
+
+    /// The entries of one card at an occurrence that some member of the bundle has there; none if no card holds any.
+    pub fn at_one_occurrence(&self, random: &mut Random, bundle: usize) -> Vec<&Entry> {
+        let is_member = |entry: &Entry| self.parameters[entry.place].bundle == Some(bundle);
+        let entries = self.cards.iter().flat_map(|card| card.entries.iter().map(move |entry| (card, entry)));
+        let members: Vec<(&Card, &Entry)> = entries.filter(|(_, entry)| is_member(entry)).collect();
+        if members.is_empty() {
+            return Vec::new();
+        }
+        let (card, chosen) = random.one(&members);
+        card.entries.iter().filter(|entry| entry.occurrence == chosen.occurrence).collect()
     }
 
     /// The sheet's block.
@@ -145,12 +206,6 @@ pub fn sheet_block(first: u8, parameters: &[Parameter]) -> Vec<u8> {
     let entries: Vec<_> = parameters.iter().map(entry).collect();
     let head = block::sheet_head(first, entries.len()).expect("few parameters");
     block::sealed(block::spell_entries(&head, &entries).expect("short names"))
-}
-
-/// The first byte of a card. Cards of either form stand beside sheets of either form.
-fn card_form(random: &mut Random, sheet: u8) -> u8 {
-    let marked_in_six = if block::is_marked(sheet) { 4 } else { 1 };
-    if random.below(6) < marked_in_six { MARKED_CARD } else { CARD }
 }
 
 /// Some parameters of any kind, at least one, with different names that have room on a sheet of either form.

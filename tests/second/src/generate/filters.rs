@@ -1,14 +1,22 @@
 //! Texts of filters: tests over what cards hold, joined and put in brackets, with spaces wherever they may stand.
 
-use super::archive::Archive;
+use super::archive::{Archive, Entry, Member};
 use super::random::Random;
 use super::texts;
 use crate::block::Kind;
 use crate::filter::OPERATIONS;
 use crate::meaning::has_meaning;
 
-/// A test that has a meaning; its value is near a text that some card holds under its name.
+/// A test that has a meaning, with a condition inside its path if it asks for a member of a bundle.
 pub fn test(random: &mut Random, archive: &Archive) -> Vec<u8> {
+    if archive.members().is_empty() || random.once_in(2) {
+        return plain_test(random, archive);
+    }
+    chosen_test(random, archive)
+}
+
+/// A test at the top that has a meaning; its value is near a text that some card holds under its name.
+pub fn plain_test(random: &mut Random, archive: &Archive) -> Vec<u8> {
     let (place, kind) = archive.parameter(random);
     let word = served_word(random, kind);
     let value = match word {
@@ -21,9 +29,104 @@ pub fn test(random: &mut Random, archive: &Archive) -> Vec<u8> {
     spell_test(random, archive.name(place), word, &value)
 }
 
+/// A test of a member, of which there must be some, with a condition inside its path.
+pub fn chosen_test(random: &mut Random, archive: &Archive) -> Vec<u8> {
+    let member = random.one(&archive.members());
+    path(random, archive, member).concat()
+}
+
+/// The parts of such a test: the bundle's name, a bracket, the condition, a bracket, a dot, and the test of the member.
+/// Both ask for what stands at one occurrence.
+fn path(random: &mut Random, archive: &Archive, member: Member) -> [Vec<u8>; 6] {
+    let entries = archive.at_one_occurrence(random, member.bundle);
+    let members = archive.members_of(member.bundle);
+    let count = random.one(&[1, 1, 2, 2, 3]);
+    let inner = |_| {
+        let asked = random.one(&members);
+        member_test(random, archive, asked, &entries)
+    };
+    let tests: Vec<_> = (0..count).map(inner).collect();
+    let depth = random.below(2);
+    let condition = join(random, &tests, depth);
+    let test = member_test(random, archive, member, &entries);
+    [archive.name(member.bundle).to_vec(), b"[".into(), condition, b"]".into(), b".".into(), test]
+}
+
+/// A test of a member without its path. Mostly it asks for what one of the entries holds, or for something near that.
+fn member_test(random: &mut Random, archive: &Archive, member: Member, entries: &[&Entry]) -> Vec<u8> {
+    let Member { place, kind, .. } = member;
+    let same = if kind == Kind::Reference { b"re" } else { b"eq" };
+    let word = if random.once_in(2) { same } else { served_word(random, kind) };
+    let here = entries.iter().find(|entry| entry.place == place);
+    let text = match here {
+        Some(entry) if !random.once_in(4) => entry.text.clone(),
+        _ => archive.text_under(random, place, kind),
+    };
+    let value = match word {
+        b"pr" => truth(random),
+        _ if random.once_in(2) => text,
+        _ => texts::near_in_filter(random, kind, &text),
+    };
+    spell_test(random, archive.name(place), word, &value)
+}
+
+/// A test of a member with a condition, of which any name may stand where it must not and any test may lack its meaning.
+pub fn doubtful_path(random: &mut Random, archive: &Archive) -> Vec<u8> {
+    let member = random.one(&archive.members());
+    let mut parts = path(random, archive, member);
+    let any_name = archive.name(random.below(archive.parameters.len())).to_vec();
+    match random.below(8) {
+        0 => parts[0] = any_name,
+        1 => parts[0] = texts::one_byte_changed(random, &parts[0]),
+        2 | 3 => parts[5] = doubtful(random, archive, member.place, member.kind),
+        4 => parts[2] = doubtful_path(random, archive),
+        _ => {
+            let inner = random.one(&archive.members_of(member.bundle));
+            let tests = [parts[2].clone(), doubtful(random, archive, inner.place, inner.kind)];
+            parts[2] = join(random, &tests, 1);
+        }
+    }
+    if random.once_in(3) {
+        parts[5] = doubtful(random, archive, member.place, member.kind);
+    }
+    parts.concat()
+}
+
+/// A test of a bundle or of a member without a path, and with any word and value.
+pub fn bare_test(random: &mut Random, archive: &Archive) -> Vec<u8> {
+    let member = random.one(&archive.members());
+    let name = archive.name(random.one(&[member.place, member.bundle]));
+    let (word, _) = random.one(&OPERATIONS);
+    let value = texts::on_the_edge(random, member.kind);
+    spell_test(random, name, word, &value)
+}
+
+/// A path with one of its parts missing, twice, changed for another or with a space before it; some are allowed.
+pub fn misspelled_path(random: &mut Random, archive: &Archive) -> Vec<u8> {
+    let member = random.one(&archive.members());
+    let mut parts = path(random, archive, member);
+    let at = random.below(parts.len());
+    let part = parts[at].clone();
+    match random.below(7) {
+        0 => parts[at] = Vec::new(),
+        1 => parts[at] = [&part[..], &part].concat(),
+        2 | 3 => parts[at] = [b" ", &part[..]].concat(),
+        4 => parts[at] = random.one(&["(", ")", "[", "]", ".", " ", "not", "and"]).into(),
+        5 => parts[5].extend_from_slice(random.one(&["]", ")", " ]", "].a eq 1", "[a eq 1].a eq 1"]).as_bytes()),
+        // A path that goes on with another bracket, which no filter has.
+        _ => parts[5] = path(random, archive, member).concat(),
+    }
+    parts.concat()
+}
+
 /// A test that may lack its meaning for any reason: its name, its operation or its value.
 pub fn doubtful_test(random: &mut Random, archive: &Archive) -> Vec<u8> {
     let (place, kind) = archive.parameter(random);
+    doubtful(random, archive, place, kind)
+}
+
+/// Such a test of the parameter at this place, without a path before its name.
+fn doubtful(random: &mut Random, archive: &Archive, place: usize, kind: Kind) -> Vec<u8> {
     let mut name = archive.name(place).to_vec();
     if random.once_in(4) {
         name = match random.below(4) {
@@ -180,7 +283,7 @@ pub fn bracket(random: &mut Random, filter: &[u8]) -> Vec<u8> {
 
 /// The filter with one byte changed; in half of the cases that is a byte of the grammar, or the one behind it.
 pub fn one_byte_changed(random: &mut Random, filter: &[u8]) -> Vec<u8> {
-    let byte_of_grammar = random.one(b" ()\"\\");
+    let byte_of_grammar = random.one(b" ()\"\\[].");
     let places: Vec<usize> = (0..filter.len()).filter(|&at| filter[at] == byte_of_grammar).collect();
     if places.is_empty() || random.once_in(2) {
         return texts::one_byte_changed(random, filter);

@@ -13,7 +13,7 @@ use crate::operations::{self, MOST_CARDS};
 
 /// One of the inputs of this file.
 pub fn make(random: &mut Random) -> Case {
-    match random.below(10) {
+    match random.below(12) {
         0 => full_sheet(random),
         1 => full_card(random),
         2 => full_run(random),
@@ -23,6 +23,8 @@ pub fn make(random: &mut Random) -> Case {
         6 => many_tests(random),
         7 => long_text(random),
         8 => one_entry_more(random),
+        9 => deep_path(random),
+        10 => many_inner_tests(random),
         _ => empty_sheet(random),
     }
 }
@@ -195,17 +197,54 @@ fn long_filter(random: &mut Random) -> Case {
 fn deep_filter(random: &mut Random) -> Case {
     let archive = Archive::new(random, 2, 3, 3);
     let depth = random.one(&[DEEPEST - 1, DEEPEST, DEEPEST, DEEPEST + 1]);
-    let mut filter = filters::test(random, &archive);
+    let mut filter = filters::plain_test(random, &archive);
     for level in 0..depth {
         filter = filters::bracket(random, &filter);
         if level + 1 < depth && random.once_in(4) {
-            let test = filters::test(random, &archive);
+            let test = filters::plain_test(random, &archive);
             filter = match random.below(2) {
                 0 => [filter, b" or ".to_vec(), test].concat(),
                 _ => [test, b" and ".to_vec(), filter].concat(),
             };
         }
     }
+    case_of(random, &archive, filter)
+}
+
+/// Brackets of both sorts, about 8 deep: round ones around a condition and in it, or square ones in square ones.
+fn deep_path(random: &mut Random) -> Case {
+    let archive = Archive::with_bundles(random, 1, 3, 6);
+    let depth = random.one(&[DEEPEST - 1, DEEPEST, DEEPEST, DEEPEST + 1]);
+    let outside = random.below(depth);
+    let member = archive.members()[0];
+    let name = archive.name(member.place);
+    let mut filter = [name, b" pr true"].concat();
+    let square = |filter: Vec<u8>| [archive.name(member.bundle), b"[", &filter, b"].", name, b" pr true"].concat();
+    if random.once_in(4) {
+        filter = (0..depth).fold(filter, |filter, _| square(filter));
+    } else {
+        for level in 0..depth {
+            filter = if level + 1 + outside == depth { square(filter) } else { filters::bracket(random, &filter) };
+        }
+    }
+    case_of(random, &archive, filter)
+}
+
+/// About 32 tests, most of them in conditions.
+fn many_inner_tests(random: &mut Random) -> Case {
+    let archive = Archive::with_bundles(random, 1, 3, 6);
+    let member = archive.members()[0];
+    let name = archive.name(member.place);
+    let mut left = random.one(&[MOST_TESTS - 1, MOST_TESTS, MOST_TESTS, MOST_TESTS + 1]);
+    let mut tests = Vec::new();
+    while left > 1 {
+        let inner = 1 + random.below(left - 1);
+        left -= 1 + inner;
+        let condition = vec![[name, b" pr true"].concat(); inner].join(&b" or "[..]);
+        tests.push([archive.name(member.bundle), b"[", &condition, b"].", name, b" pr true"].concat());
+    }
+    tests.extend((0..left).map(|_| filters::plain_test(random, &archive)));
+    let filter = filters::join(random, &tests, 1);
     case_of(random, &archive, filter)
 }
 

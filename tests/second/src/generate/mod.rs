@@ -11,6 +11,7 @@ mod texts;
 pub use random::Random;
 
 use crate::block::{MARKED_CARD, MARKED_SHEET, SIZE};
+use crate::filter;
 use archive::Archive;
 use modes::MODES;
 
@@ -32,6 +33,11 @@ impl Case {
     pub fn is_marked(&self) -> bool {
         let mut cards = [&self.card, &self.cards].into_iter().flat_map(|cards| cards.chunks(SIZE));
         self.sheet.first() == Some(&MARKED_SHEET) || cards.any(|card| card[0] == MARKED_CARD)
+    }
+
+    /// Whether the text is a filter with a condition inside a path.
+    pub fn has_condition(&self) -> bool {
+        filter::read(&self.filter).is_some_and(|filter| filter.has_condition())
     }
 }
 

@@ -17,13 +17,17 @@ pub struct Mode {
     pub make: fn(&mut Random) -> Case,
 }
 
-pub const MODES: [Mode; 15] = [
+pub const MODES: [Mode; 19] = [
     Mode { name: "tests over cards", weight: 18, make: tests_over_cards },
     Mode { name: "one test over many cards", weight: 25, make: one_test },
     Mode { name: "long chains", weight: 7, make: long_chain },
+    Mode { name: "conditions over occurrences", weight: 18, make: conditions_over_occurrences },
+    Mode { name: "conditions near what cards hold", weight: 8, make: conditions_over_cards },
     Mode { name: "one byte of a filter changed", weight: 12, make: one_byte },
     Mode { name: "tests joined wrongly", weight: 2, make: misjoined },
+    Mode { name: "paths spelled wrongly", weight: 4, make: misspelled_paths },
     Mode { name: "doubtful tests", weight: 6, make: doubtful_tests },
+    Mode { name: "doubtful paths", weight: 5, make: doubtful_paths },
     Mode { name: "every operation", weight: 3, make: every_operation },
     Mode { name: "values on the edge", weight: 5, make: edge_values },
     Mode { name: "damaged sheets", weight: 5, make: damaged_sheet },
@@ -74,13 +78,13 @@ fn one_test(random: &mut Random) -> Case {
     let mut archive = Archive::new(random, 1, 0, 0);
     let (place, kind) = archive.parameter(random);
     let anchor = texts::readable(random, kind);
-    let first = random.one(&[CARD, CARD, MARKED_CARD]);
+    let first = random.one(&[CARD, CARD, CARD, MARKED_CARD]);
     for record in 0..4 + random.below(20) as u32 {
         let text = texts::near_on_card(random, kind, &anchor);
         let entry = Entry { place, occurrence: random.byte(), text };
         archive.cards.push(Card { first, record, entries: vec![entry] });
     }
-    let test = filters::test(random, &archive);
+    let test = filters::plain_test(random, &archive);
     let mut case = case_of(random, &archive, test);
     if !random.once_in(8) {
         case.list = cells(random, archive.cards.len());
@@ -93,7 +97,7 @@ fn long_chain(random: &mut Random) -> Case {
     let archive = Archive::new(random, 4, 6, 3);
     let count = 2 + random.below(MOST_TESTS - 1);
     let test = |_| match random.once_in(4) {
-        true => filters::test(random, &archive),
+        true => filters::plain_test(random, &archive),
         false => {
             let (place, _) = archive.parameter(random);
             let value = filters::truth(random);
@@ -103,6 +107,33 @@ fn long_chain(random: &mut Random) -> Case {
     let tests: Vec<_> = (0..count).map(test).collect();
     let filter = filters::join(random, &tests, DEEPEST);
     case_of(random, &archive, filter)
+}
+
+/// Conditions that hold at some occurrences of a card and not at others.
+fn conditions_over_occurrences(random: &mut Random) -> Case {
+    let archive = Archive::over_occurrences(random);
+    let filter = conditions(random, &archive);
+    case_of(random, &archive, filter)
+}
+
+/// Conditions near what some cards hold under the members of a bundle.
+fn conditions_over_cards(random: &mut Random) -> Case {
+    let cards = 1 + random.below(5);
+    let archive = Archive::with_bundles(random, 2, cards, 8);
+    let filter = conditions(random, &archive);
+    case_of(random, &archive, filter)
+}
+
+/// One or two tests with a condition, and perhaps one at the top.
+fn conditions(random: &mut Random, archive: &Archive) -> Vec<u8> {
+    let count = random.one(&[1, 1, 2]);
+    let test = |_| match random.once_in(8) {
+        true => filters::plain_test(random, archive),
+        false => filters::chosen_test(random, archive),
+    };
+    let tests: Vec<_> = (0..count).map(test).collect();
+    let depth = random.below(2);
+    filters::join(random, &tests, depth)
 }
 
 /// A good filter with exactly one byte exchanged, put in or taken out.
@@ -118,6 +149,35 @@ fn misjoined(random: &mut Random) -> Case {
     let archive = Archive::new(random, 3, 3, 4);
     let tests = [filters::test(random, &archive), filters::test(random, &archive)];
     let filter = filters::misjoin(random, &tests);
+    case_of(random, &archive, filter)
+}
+
+/// A path with brackets, dots and spaces as no path has them, alone or beside a good test.
+fn misspelled_paths(random: &mut Random) -> Case {
+    let archive = Archive::with_bundles(random, 2, 3, 6);
+    let path = filters::misspelled_path(random, &archive);
+    let filter = match random.below(3) {
+        0 => {
+            let tests = [path, filters::plain_test(random, &archive)];
+            filters::join(random, &tests, 1)
+        }
+        1 => filters::bracket(random, &path),
+        _ => path,
+    };
+    case_of(random, &archive, filter)
+}
+
+/// Paths of which some names stand outside their scope, and some tests have no meaning.
+fn doubtful_paths(random: &mut Random) -> Case {
+    let archive = Archive::with_bundles(random, 3, 2, 6);
+    let count = 1 + random.below(2);
+    let test = |_| match random.below(6) {
+        0 => filters::test(random, &archive),
+        1 => filters::bare_test(random, &archive),
+        _ => filters::doubtful_path(random, &archive),
+    };
+    let tests: Vec<_> = (0..count).map(test).collect();
+    let filter = filters::join(random, &tests, 2);
     case_of(random, &archive, filter)
 }
 
