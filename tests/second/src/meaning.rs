@@ -75,16 +75,15 @@ pub fn question(test: &Test, sheet: &Sheet) -> Result<Question, Fault> {
     Ok(Question { place, asks })
 }
 
-/// The place of the parameter that the path leads to: each name stands in the bundle that the one before it names, the
-/// first at the top.
+/// The place of the parameter that the path leads to: the first name stands at the top, and each other one in the bundle
+/// that the name before it leads to. No parameter stands in one that is not a bundle.
 fn find(path: &[Vec<u8>], sheet: &Sheet) -> Option<usize> {
-    let (name, before) = path.split_last()?;
-    let bundle = match before {
-        [] => None,
-        _ => Some(find(before, sheet).filter(|&place| sheet.parameters[place].kind.is_none())?),
-    };
-    let mut parameters = sheet.parameters.iter();
-    parameters.position(|parameter| parameter.bundle == bundle && parameter.name == *name)
+    let mut found = None;
+    for name in path {
+        let mut parameters = sheet.parameters.iter();
+        found = Some(parameters.position(|parameter| parameter.bundle == found && parameter.name == *name)?);
+    }
+    found
 }
 
 /// Reads the filter's value for an operation that the kind has.

@@ -5,7 +5,6 @@ use super::texts;
 use crate::block::{self, BUNDLE, CARD, Kind, MARKED_CARD, MARKED_SHEET, Parameter, SHEET};
 
 /// A sheet's parameters and some cards that fit it.
-#[derive(Clone)]
 pub struct Archive {
     /// The sheet's first byte, which tells its form.
     pub first: u8,
@@ -67,18 +66,16 @@ impl Archive {
     /// conditions hold at some of them and not at others.
     pub fn over_occurrences(random: &mut Random) -> Archive {
         let mut archive = Archive::with_bundles(random, 2, 0, 0);
-        let kinds = archive.parameters.iter().map(|parameter| parameter.kind);
-        let mut pair = |kind: Option<Kind>| Some([texts::readable(random, kind?), texts::readable(random, kind?)]);
-        let pairs: Vec<Option<[Vec<u8>; 2]>> = kinds.map(&mut pair).collect();
+        let pair = |(place, kind)| (place, [texts::readable(random, kind), texts::readable(random, kind)]);
+        let pairs: Vec<_> = archive.with_texts().into_iter().map(pair).collect();
         for _ in 0..1 + random.below(4) {
             let first = random.one(&[CARD, MARKED_CARD, MARKED_CARD, MARKED_CARD]);
             let mut card = Card { first, record: record(random), entries: Vec::new() };
             for _ in 0..1 + random.below(3) {
                 let occurrence = random.one(&[0, 1, 2, 255]);
-                for (place, pair) in pairs.iter().enumerate() {
-                    let Some(pair) = pair else { continue };
+                for (place, pair) in &pairs {
                     if !random.once_in(4) {
-                        let entry = Entry { place, occurrence, text: pair[random.below(2)].clone() };
+                        let entry = Entry { place: *place, occurrence, text: pair[random.below(2)].clone() };
                         card.entries.insert(random.below(card.entries.len() + 1), entry);
                     }
                 }
@@ -91,41 +88,39 @@ impl Archive {
     /// Adds cards, some of the form that the sheet has not. Texts under one place are near each other, and a card has few
     /// occurrences, so that entries share them.
     fn add_cards(&mut self, random: &mut Random, cards: usize, most_entries: usize) {
-        let kinds = self.parameters.iter().map(|parameter| parameter.kind);
-        let mut anchor = |kind: Option<Kind>| Some((kind?, texts::readable(random, kind?)));
-        let anchors: Vec<Option<(Kind, Vec<u8>)>> = kinds.map(&mut anchor).collect();
-        let with_texts: Vec<usize> = (0..anchors.len()).filter(|&place| anchors[place].is_some()).collect();
+        let anchor = |(place, kind)| (place, kind, texts::readable(random, kind));
+        let anchors: Vec<_> = self.with_texts().into_iter().map(anchor).collect();
         let mixed = block::is_marked(self.first) || random.once_in(6);
         let forms: &[u8] = if mixed { &[CARD, MARKED_CARD, MARKED_CARD] } else { &[CARD] };
         for _ in 0..cards {
             let occurrences = [random.one(&[0, 1, 2, 255]), random.one(&[0, 1, 2, 255])];
             let mut card = Card { first: random.one(forms), record: record(random), entries: Vec::new() };
             for _ in 0..random.below(most_entries + 1) {
-                let place = random.one(&with_texts);
-                let Some((kind, anchor)) = &anchors[place] else { continue };
+                let (place, kind, anchor) = &anchors[random.below(anchors.len())];
                 let text = texts::near_on_card(random, *kind, anchor);
-                card.entries.push(Entry { place, occurrence: random.one(&occurrences), text });
+                card.entries.push(Entry { place: *place, occurrence: random.one(&occurrences), text });
             }
             self.cards.push(card);
         }
     }
 
+    /// The places that have texts, with their kinds: all but the bundles.
+    fn with_texts(&self) -> Vec<(usize, Kind)> {
+        let parameters = self.parameters.iter().enumerate();
+        parameters.filter_map(|(place, parameter)| Some((place, parameter.kind?))).collect()
+    }
+
     /// One place at the top that has texts, and its kind.
     pub fn parameter(&self, random: &mut Random) -> (usize, Kind) {
-        let at_top = |(place, parameter): (usize, &Parameter)| match parameter.bundle {
-            None => parameter.kind.map(|kind| (place, kind)),
-            Some(_) => None,
-        };
-        let parameters: Vec<(usize, Kind)> = self.parameters.iter().enumerate().filter_map(at_top).collect();
+        let mut parameters = self.with_texts();
+        parameters.retain(|&(place, _)| self.parameters[place].bundle.is_none());
         random.one(&parameters)
     }
 
     /// The members of bundles.
     pub fn members(&self) -> Vec<Member> {
-        let member = |(place, parameter): (usize, &Parameter)| {
-            Some(Member { place, kind: parameter.kind?, bundle: parameter.bundle? })
-        };
-        self.parameters.iter().enumerate().filter_map(member).collect()
+        let member = |(place, kind)| Some(Member { place, kind, bundle: self.parameters[place].bundle? });
+        self.with_texts().into_iter().filter_map(member).collect()
     }
 
     /// The members of this bundle.

@@ -101,19 +101,22 @@ pub fn bare_test(random: &mut Random, archive: &Archive) -> Vec<u8> {
     spell_test(random, name, word, &value)
 }
 
-/// A path with one of its parts missing, twice, changed for another or with a space before it; some are allowed.
+/// A path with one of its parts missing, twice, changed for another or with a space before it, or with more than its
+/// parts. Some are allowed.
 pub fn misspelled_path(random: &mut Random, archive: &Archive) -> Vec<u8> {
     let member = random.one(&archive.members());
     let mut parts = path(random, archive, member);
     let at = random.below(parts.len());
     let part = parts[at].clone();
-    match random.below(7) {
+    let [name, _, condition, ..] = parts.clone();
+    match random.below(9) {
         0 => parts[at] = Vec::new(),
         1 => parts[at] = [&part[..], &part].concat(),
         2 | 3 => parts[at] = [b" ", &part[..]].concat(),
         4 => parts[at] = random.one(&["(", ")", "[", "]", ".", " ", "not", "and"]).into(),
         5 => parts[5].extend_from_slice(random.one(&["]", ")", " ]", "].a eq 1", "[a eq 1].a eq 1"]).as_bytes()),
-        // A path that goes on with another bracket, which no filter has.
+        6 => parts[3] = [b"][", &condition[..], b"]"].concat(),
+        7 => parts[4] = [b".", &name[..], b"."].concat(),
         _ => parts[5] = path(random, archive, member).concat(),
     }
     parts.concat()
