@@ -109,14 +109,16 @@ pub fn misspelled_path(random: &mut Random, archive: &Archive) -> Vec<u8> {
     let at = random.below(parts.len());
     let part = parts[at].clone();
     let [name, _, condition, ..] = parts.clone();
-    match random.below(9) {
+    match random.below(11) {
         0 => parts[at] = Vec::new(),
         1 => parts[at] = [&part[..], &part].concat(),
         2 | 3 => parts[at] = [b" ", &part[..]].concat(),
-        4 => parts[at] = random.one(&["(", ")", "[", "]", ".", " ", "not", "and"]).into(),
+        4 => parts[at] = random.one(&["(", ")", "[", "]", ".", " "]).into(),
         5 => parts[5].extend_from_slice(random.one(&["]", ")", " ]", "].a eq 1", "[a eq 1].a eq 1"]).as_bytes()),
         6 => parts[3] = [b"][", &condition[..], b"]"].concat(),
         7 => parts[4] = [b".", &name[..], b"."].concat(),
+        8 => parts[2].extend_from_slice(random.one(&["(", ")", "[", "]"]).as_bytes()),
+        9 => parts[0] = random.one(&["not", "not ", "and", "or"]).into(),
         _ => parts[5] = path(random, archive, member).concat(),
     }
     parts.concat()
