@@ -36,8 +36,9 @@ enum {
     SIROPHAN_SHEET_LAYOUT = 3,  /* the sheet breaks its layout, or the rules for its names or its bundles */
     SIROPHAN_FILTER_SIZE = 10,  /* the filter is empty or over 1,024 bytes */
     SIROPHAN_NO_FILTER = 11,    /* the text is no filter by the grammar */
-    SIROPHAN_UNKNOWN_NAME = 14, /* a name is not on the sheet, or a bundle's or a member's; place: the test's
-                                   first byte, as for 15 to 17 */
+    SIROPHAN_UNKNOWN_NAME = 14, /* a name is not on the sheet, or stands where it cannot, such as a member's without its
+                                   bundle; place: the test's first byte, as for 15 to 18 */
+    SIROPHAN_BARE_BUNDLE = 18,  /* a bundle's name without a condition in square brackets */
     SIROPHAN_UNSUPPORTED = 15,  /* the operator is ap, ss, sb, in or ni */
     SIROPHAN_NO_MEANING = 16,   /* another operator without a meaning for the parameter's kind */
     SIROPHAN_UNREADABLE = 17,   /* the value cannot be read */

@@ -8,7 +8,7 @@ use std::fmt;
 pub struct Refusal {
     /// The number, which says why there is no answer.
     pub number: u32,
-    /// For 14 to 17 the first byte of the test in the filter, for 21 to 23 the card's index in the run, for 30 the
+    /// For 14 to 18 the first byte of the test in the filter, for 21 to 23 the card's index in the run, for 30 the
     /// number of matching cards, and 0 for all others.
     pub place: usize,
 }
@@ -26,10 +26,11 @@ impl Refusal {
             3 => "The sheet breaks its layout, or the rules for its names or its bundles.",
             10 => "The filter is empty or longer than 1,024 bytes.",
             11 => "The text is no filter by the grammar.",
-            14 => "The name is not on the sheet, or is that of a bundle or of a bundle's member.",
+            14 => "The name is not on the sheet, or cannot stand here: members are named with their bundle's brackets.",
             15 => "The operators ap, ss, sb, in and ni have no meaning for any kind.",
             16 => "The operator has no meaning for a parameter of this kind.",
             17 => "The value cannot be read as the parameter's kind, or for pr as true or false.",
+            18 => "A bundle's name needs a condition in square brackets, and a member behind it.",
             20 => "The card is not 512 bytes long, or the run is no whole number of cards or over 128.",
             21 => "The card's check sum is wrong.",
             22 => "The card breaks its layout.",
@@ -43,7 +44,7 @@ impl Refusal {
     /// a caret under the test's first byte.
     pub fn render(&self, filter: &[u8]) -> String {
         match self.number {
-            14..=17 => format!("{}\n{self}", caret(filter, self.place)),
+            14..=18 => format!("{}\n{self}", caret(filter, self.place)),
             _ => self.to_string(),
         }
     }
