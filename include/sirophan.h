@@ -26,7 +26,7 @@ extern "C" {
 #endif
 
 /*
- * The numbers of refusal, in the order in which they are tried: the first that holds is given. Save that of tests the
+ * The numbers of refusal, in the order in which they are tried: the first that holds is given. But of tests the
  * first at fault in the filter decides, and of cards the first at fault in the run; for that test, or that card, it is
  * again the first that holds.
  */
