@@ -16,13 +16,13 @@ pub enum Reason {
     SheetSize,
     // 2: the sheet's check sum is wrong.
     SheetSum,
-    // 3: the sheet breaks its layout or names.
+    // 3: the sheet breaks its layout, or the rules for its names or bundles.
     SheetLayout,
     // 10: the filter is empty or over 1,024 bytes.
     FilterSize,
     // 11: the text is no filter by the grammar.
     NoFilter,
-    // 14: a test's name is not on the sheet.
+    // 14: a test's name is not on the sheet, or is none where it stands, as a member's without its bundle.
     UnknownName,
     // 15: a test's operator is ap, ss, sb, in or ni.
     Unsupported,

@@ -80,8 +80,8 @@ fn no_caret_where_the_place_is_not_in_the_filter() {
 #[test]
 fn a_sentence_for_each_number() {
     let sentence = |number| Refusal { number, place: 0 }.sentence();
-    let mut sentences: Vec<&str> = [1, 2, 3, 10, 11, 14, 15, 16, 17, 20, 21, 22, 23, 30, 99].map(sentence).into();
+    let mut sentences: Vec<&str> = [1, 2, 3, 10, 11, 14, 15, 16, 17, 18, 20, 21, 22, 23, 30, 99].map(sentence).into();
     sentences.sort();
     sentences.dedup();
-    assert_eq!(sentences.len(), 15);
+    assert_eq!(sentences.len(), 16);
 }

@@ -5,7 +5,7 @@
 //! `full | 32`. The archives are made of a fixed seed. They are measured slice by slice, the three taking turns on each,
 //! and for each slice the least time of the rounds counts, so that what else the machine does disturbs little.
 
-use second::block::{self, SIZE, SUMMED};
+use second::block::{self, Entry, BUNDLE, MARKED_CARD, MARKED_SHEET, SIZE, SUMMED};
 use second::generate::Random;
 use second::operations;
 use std::hint::black_box;
@@ -91,6 +91,37 @@ fn archive(cards: usize, most_entries: usize) -> Vec<u8> {
     archive
 }
 
+/// The filters over bundles.
+fn bundled_filters() -> Vec<(&'static str, String)> {
+    vec![("1, condition", "related[type eq has-component].target re Observation/4".into())]
+}
+
+/// A sheet with a bundle of two members, and a title.
+fn bundled_sheet() -> Vec<u8> {
+    let parameters: [(u8, u8, &[u8]); 4] =
+        [(BUNDLE, 0, b"related"), (4, 1, b"type"), (5, 1, b"target"), (1, 0, b"title")];
+    let entries = parameters.map(|(head, mark, text)| Entry { head, mark, text });
+    block::write_sheet_as(MARKED_SHEET, &entries).expect("four names have room")
+}
+
+/// Cards with a title and up to four relations, each an occurrence of its own.
+fn bundled_archive(cards: usize) -> Vec<u8> {
+    let mut random = Random::new(1974, 0);
+    let mut archive = Vec::with_capacity(cards * SIZE);
+    for record in 0..cards as u32 {
+        let mut texts = vec![(3, 0, format!("Ward book {}", random.below(500)))];
+        for occurrence in 0..random.between(1, 4) as u8 {
+            let types = ["has-component", "derived-from", "sequel-to", "replaces"];
+            texts.push((1, occurrence, random.one(&types).to_string()));
+            texts.push((2, occurrence, format!("Observation/{}", random.below(9))));
+        }
+        let entries: Vec<_> =
+            texts.iter().map(|(head, mark, text)| Entry { head: *head, mark: *mark, text: text.as_bytes() }).collect();
+        archive.extend(block::write_card_as(MARKED_CARD, record, &entries).expect("the entries have room"));
+    }
+    archive
+}
+
 /// How many cards match; the operation is asked run by run.
 fn matching(cards: &[u8], select: impl Fn(&[u8], &mut [u32]) -> usize) -> usize {
     let mut list = [0; RUN];
@@ -140,10 +171,17 @@ impl<'a> Measured<'a> {
     }
 }
 
+/// Cards of one kind with their sheet, and the filters that are asked of them.
+struct Asked {
+    kind: &'static str,
+    sheet: Vec<u8>,
+    archive: Vec<u8>,
+    filters: Vec<(&'static str, String)>,
+}
+
 /// Prints the rows of one archive that begin with the text.
-fn measure(kind: &str, archive: &[u8], rounds: usize, rows: &str) {
-    let sheet = &sheet();
-    for (name, filter) in filters() {
+fn measure(Asked { kind, sheet, archive, filters }: &Asked, rounds: usize, rows: &str) {
+    for (name, filter) in filters {
         let row = format!("{kind} | {name}");
         if !row.starts_with(rows) {
             continue;
@@ -196,7 +234,11 @@ fn main() -> ExitCode {
     println!("| cards | tests | match | Sirophan | plain Rust | sum only | to plain Rust | to sum only |");
     println!("|---|---|---:|---:|---:|---:|---:|---:|");
     for (kind, most_entries) in [("sparse", 1), ("usual", 6), ("full", 64)] {
-        measure(kind, &archive(cards, most_entries), rounds, rows);
+        let asked = Asked { kind, sheet: sheet(), archive: archive(cards, most_entries), filters: filters() };
+        measure(&asked, rounds, rows);
     }
+    let archive = bundled_archive(cards);
+    let asked = Asked { kind: "bundled", sheet: bundled_sheet(), archive, filters: bundled_filters() };
+    measure(&asked, rounds, rows);
     ExitCode::SUCCESS
 }
