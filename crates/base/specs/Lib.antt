@@ -11,3 +11,4 @@ pub mod Ascii
 pub mod Digits
 pub mod Names
 pub mod Operators
+pub mod Kinds

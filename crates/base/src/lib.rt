@@ -1,5 +1,7 @@
 // What every layer uses: a byte as a number, whether it is a digit, whether two texts are the same, where a byte stands, and names.
+pub mod kind;
 pub mod name;
+pub mod operator;
 
 ghost use mathlib.Core.Path.{_≡_};
 ghost use Prim.Native.Nat.{_≤_, _<_};

@@ -2,3 +2,4 @@
 pub mod Entries
 pub mod Meaning
 pub mod Table
+pub mod Rules

@@ -12,7 +12,8 @@ use Rattle.base.specs.Lists.{member}
 use Rattle.base.specs.Parts.{part}
 use Rattle.base.specs.Below.{passes}
 use Rattle.base.proofs.Below.{passes-at}
-use Rattle.sheet.specs.Sheet.{Parameter, bundleKind}
+use Rattle.base.specs.Kinds.{bundleKind}
+use Rattle.sheet.specs.Sheet.{Parameter}
 use Rattle.sheet.specs.Find.{find}
 use Rattle.sheet.specs.declared.Found.{Found}
 use Rattle.card.specs.Card.{Entry}

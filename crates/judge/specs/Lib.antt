@@ -2,3 +2,4 @@
 pub mod Sets
 pub mod Faults
 pub mod Verdicts
+pub mod Rules

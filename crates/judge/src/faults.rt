@@ -1,12 +1,19 @@
 // The fault of a test on a sheet, whatever the card.
 use crate::Fault;
+use base::kind::BUNDLE;
+use base::operator::AP;
+use base::operator::IN;
+use base::operator::NI;
+use base::operator::SB;
+use base::operator::SS;
 use block::Reading;
 use kind::Meaning;
 use sheet::Found;
 ghost use mathlib.Core.Path.{_≡_};
 ghost use mathlib.Core.Bool.{cond};
 ghost use lib.Dec.{eqb};
-ghost use Rattle.sheet.specs.Sheet.{bundleKind, parametersOf, readSheet};
+ghost use Rattle.base.specs.Kinds.{bundleKind};
+ghost use Rattle.sheet.specs.Sheet.{parametersOf, readSheet};
 ghost use Rattle.sheet.specs.Find.{find};
 ghost use Rattle.kind.specs.Table.{hasMeaning};
 ghost use Rattle.judge.specs.Faults.{unsupported, kindFault, faultAt};
@@ -16,7 +23,7 @@ fn unsupported(operator: u8) -> bool
     ensures { λ r. ⌜ r ≡ unsupported operator ⌝ }
 {
     match operator {
-        9 | 14 | 15 | 16 | 17 => true,
+        AP | SS | SB | IN | NI => true,
         _ => false,
     }
 }
@@ -53,7 +60,7 @@ fn kind_fault(operator: u8, kind: u8, value: &[u8]) -> Fault
 fn parameter_fault(operator: u8, kind: u8, value: &[u8]) -> Fault
     ensures { λ r. ⌜ r ≡ cond (eqb kind bundleKind) Fault.BareBundle (kindFault operator kind (now (value .entry))) ⌝ }
 {
-    if kind == 7 {
+    if kind == BUNDLE {
         return Fault::BareBundle;
     }
     kind_fault(operator, kind, value)

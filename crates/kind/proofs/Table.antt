@@ -6,7 +6,7 @@ use mathlib.Core.Bool.{Bool, true, false, cond}
 use borrow.Author.Tests.{eq-eqb, ne-eqb}
 use lib.Dec.{eqb}
 use Rattle.base.specs.Operators.{eq, ne, co, sw, ew, gt, lt, ge, le, sa, eb, pr, po, re}
-use Rattle.kind.specs.Kinds.{string, number, date, token, reference}
+use Rattle.base.specs.Kinds.{string, number, date, token, reference}
 use Rattle.kind.specs.Table.{stringRow, numberRow, dateRow, tokenRow, referenceRow, row, relationIn, rowMeaning, meaningOf}
 use Rattle.kind.specs.declared.Meaning.{Meaning}
 use Rattle.kind.specs.declared.Meaning.the-variants.{Present, Nothing}

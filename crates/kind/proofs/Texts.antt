@@ -12,7 +12,7 @@ use Rattle.number.specs.Reading as numbers
 use Rattle.date.specs.Texts as dates
 use Rattle.token.specs.Card as tokens
 use Rattle.token.specs.Filter as forms
-use Rattle.kind.specs.Kinds.{string, number, date, token, reference}
+use Rattle.base.specs.Kinds.{string, number, date, token, reference}
 use Rattle.kind.specs.Readable.{cardReadable, filterReadable, isTrue, isFalse, valueReadable}
 
 -- ---- on a card

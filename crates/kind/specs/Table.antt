@@ -6,7 +6,7 @@ use mathlib.Core.List.{List, [], _∷_}
 use mathlib.Core.Option.{Option, none, some}
 use lib.Dec.{eqb}
 use Rattle.base.specs.Operators.{eq, ne, co, sw, ew, gt, lt, ge, le, sa, eb, pr, po, re}
-use Rattle.kind.specs.Kinds.{string, number, date, token, reference}
+use Rattle.base.specs.Kinds.{string, number, date, token, reference}
 use Rattle.kind.specs.declared.StringRelation.the-variants as strings
 use Rattle.kind.specs.declared.NumberRelation.the-variants as numbers
 use Rattle.kind.specs.declared.DateRelation.the-variants as dates

@@ -4,37 +4,23 @@ use crate::Meaning;
 use crate::NumberRelation;
 use crate::Relation;
 use crate::StringRelation;
+use base::kind;
+use base::operator::CO;
+use base::operator::EB;
+use base::operator::EQ;
+use base::operator::EW;
+use base::operator::GE;
+use base::operator::GT;
+use base::operator::LE;
+use base::operator::LT;
+use base::operator::NE;
+use base::operator::PO;
+use base::operator::PR;
+use base::operator::RE;
+use base::operator::SA;
+use base::operator::SW;
 ghost use mathlib.Core.Path.{_≡_};
 ghost use Rattle.kind.specs.Table.{stringRow, numberRow, dateRow, tokenRow, referenceRow, rowMeaning, meaningOf};
-
-// The numbers of the operators.
-const EQ: u8 = 0;
-
-const NE: u8 = 1;
-
-const CO: u8 = 2;
-
-const SW: u8 = 3;
-
-const EW: u8 = 4;
-
-const GT: u8 = 5;
-
-const LT: u8 = 6;
-
-const GE: u8 = 7;
-
-const LE: u8 = 8;
-
-const SA: u8 = 10;
-
-const EB: u8 = 11;
-
-const PR: u8 = 12;
-
-const PO: u8 = 13;
-
-const RE: u8 = 18;
 
 fn string_meaning(operator: u8) -> Meaning
     ensures { λ r. ⌜ r ≡ rowMeaning stringRow operator ⌝ }
@@ -109,11 +95,11 @@ pub fn meaning_of(operator: u8, kind: u8) -> Meaning
         return Meaning::Present;
     }
     match kind {
-        1 => string_meaning(operator),
-        2 => number_meaning(operator),
-        3 => date_meaning(operator),
-        4 => token_meaning(operator),
-        5 => reference_meaning(operator),
+        kind::STRING => string_meaning(operator),
+        kind::NUMBER => number_meaning(operator),
+        kind::DATE => date_meaning(operator),
+        kind::TOKEN => token_meaning(operator),
+        kind::REFERENCE => reference_meaning(operator),
         _ => Meaning::Nothing,
     }
 }

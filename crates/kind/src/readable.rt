@@ -1,4 +1,10 @@
 // Readable texts by kind, on a card and in a filter.
+use base::kind::DATE;
+use base::kind::NUMBER;
+use base::kind::REFERENCE;
+use base::kind::STRING;
+use base::kind::TOKEN;
+use base::operator::PR;
 ghost use mathlib.Core.Path.{_≡_};
 ghost use Rattle.kind.specs.Readable.{cardReadable, filterReadable, isTrue, isFalse, valueReadable};
 
@@ -7,11 +13,11 @@ pub fn card_readable(kind: u8, text: &[u8]) -> bool
     ensures { λ r. ⌜ r ≡ cardReadable kind (now (text .entry)) ⌝ }
 {
     match kind {
-        1 => true,
-        2 => number::readable(text),
-        3 => date::readable(text),
-        4 => token::card_readable(text),
-        5 => text.len() != 0,
+        STRING => true,
+        NUMBER => number::readable(text),
+        DATE => date::readable(text),
+        TOKEN => token::card_readable(text),
+        REFERENCE => text.len() != 0,
         _ => false,
     }
 }
@@ -20,7 +26,7 @@ pub fn card_readable(kind: u8, text: &[u8]) -> bool
 fn filter_readable(kind: u8, value: &[u8]) -> bool
     ensures { λ r. ⌜ r ≡ filterReadable kind (now (value .entry)) ⌝ }
 {
-    if kind == 4 {
+    if kind == TOKEN {
         return token::filter_readable(value);
     }
     card_readable(kind, value)
@@ -43,7 +49,7 @@ fn is_false(value: &[u8]) -> bool
 pub fn value_readable(operator: u8, kind: u8, value: &[u8]) -> bool
     ensures { λ r. ⌜ r ≡ valueReadable operator kind (now (value .entry)) ⌝ }
 {
-    if operator == 12 {
+    if operator == PR {
         return is_true(value) || is_false(value);
     }
     filter_readable(kind, value)

@@ -14,7 +14,8 @@ use Rattle.base.specs.Names.{between, isName}
 use Rattle.base.proofs.Tests.{and-left, and-right, and-both, both-ways, or-either}
 use Rattle.base.proofs.Lists.{equal-same, equal-refl}
 use Rattle.base.proofs.Names.{name-iff, name-length}
-use Rattle.sheet.specs.Sheet.{Parameter, parameter, bundleKind, isKind, isParameter, areParameters, clashes, absent, distinct, kindAt, hasParent, haveParents, areRight}
+use Rattle.base.specs.Kinds.{bundleKind}
+use Rattle.sheet.specs.Sheet.{Parameter, parameter, isKind, isParameter, areParameters, clashes, absent, distinct, kindAt, hasParent, haveParents, areRight}
 use Rattle.sheet.specs.Encode.{ValueKind, WellFormedParameter, MayShare, Absent, HasParent, at-top, in-bundle, Distinct, distinct-empty, distinct-cons}
 use Rattle.sheet.proofs.Listed.{at-listed, listed-kind}
 

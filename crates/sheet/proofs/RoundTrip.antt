@@ -18,7 +18,8 @@ use Rattle.block.proofs.RoundTrip.{held, unmarked, written}
 use Rattle.block.proofs.Items.{own-either}
 use Rattle.block.specs.Items.{hasMarks, marks}
 use Rattle.block.proofs.Seal.{seal-body}
-use Rattle.sheet.specs.Sheet.{Parameter, parameter, bundleKind, parameterCount, parametersOf, areRight, sheetLayout, readSheet}
+use Rattle.base.specs.Kinds.{bundleKind}
+use Rattle.sheet.specs.Sheet.{Parameter, parameter, parameterCount, parametersOf, areRight, sheetLayout, readSheet}
 use Rattle.sheet.specs.Encode.{sheetFirst, parameterBytes, sheetBody, encodeSheet, ValueKind, WellFormedParameter, HasParent, at-top, in-bundle, WellFormedSheet, PlainParameter, SheetForm, ReadsAsSheet}
 use Rattle.sheet.proofs.Parameters.{FormOf, parameters-iff, distinct-iff, parents-iff}
 use Rattle.sheet.proofs.Read.{sheet-parameters, sheet-names, sheet-parents, sheet-count, sheet-held}

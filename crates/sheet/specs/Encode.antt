@@ -12,7 +12,8 @@ use Rattle.base.specs.Names.{Name}
 use Rattle.block.specs.Seal.{seal}
 use Rattle.block.specs.Items.{marks, join}
 use Rattle.block.specs.declared.Reading.the-variants.{WellFormed}
-use Rattle.sheet.specs.Sheet.{Parameter, bundleKind, parametersOf, readSheet}
+use Rattle.base.specs.Kinds.{bundleKind}
+use Rattle.sheet.specs.Sheet.{Parameter, parametersOf, readSheet}
 use Rattle.sheet.specs.Find.{Listed}
 
 -- the first byte of a sheet without bundles, and of one with them (02)

@@ -7,7 +7,8 @@ use lib.Dec.{eqb}
 use mathlib.Core.List.{List, [], _∷_, _++_, map}
 use lib.ListN.{length, replicate}
 use Rattle.base.specs.Lists.{equal}
-use Rattle.sheet.specs.Sheet.{Parameter, bundleKind}
+use Rattle.base.specs.Kinds.{bundleKind}
+use Rattle.sheet.specs.Sheet.{Parameter}
 use Rattle.sheet.specs.declared.Found.{Found}
 use Rattle.sheet.specs.declared.Found.the-variants.{At, Missing}
 

@@ -6,6 +6,7 @@ use mathlib.Core.List.{List, [], _∷_}
 use lib.Dec.{leb, eqb}
 use lib.ListN.{length, getD}
 use Rattle.base.specs.Lists.{equal}
+use Rattle.base.specs.Kinds.{bundleKind}
 use Rattle.base.specs.Names.{between, isName}
 use Rattle.block.specs.Seal.{check}
 use Rattle.block.specs.Items.{hasMarks, hasEither, items, Step}
@@ -22,10 +23,6 @@ pub record Parameter : Type 0 where
 
 abbrev pub parameter : ℕ → ℕ → List ℕ → Parameter
 parameter k b n = record { kind = k; bundle = b; name = n }
-
--- 02: "kind 7 is a bundle"
-abbrev pub bundleKind : ℕ
-bundleKind = 7
 
 -- "byte 1 the number of parameters"
 unfoldable pub parameterCount : List ℕ → ℕ

@@ -2,6 +2,9 @@
 // reader asks `read_sheet` first; the parameters of a well-formed sheet are then found by name with `find`, and `kinds` gives their
 // kinds by index.
 use base::equal;
+use base::kind::BUNDLE;
+use base::kind::REFERENCE;
+use base::kind::STRING;
 use base::name::is_name;
 use block::Checked;
 use block::Reading;
@@ -48,13 +51,13 @@ fn parameter_at(sheet: &[u8], at: usize, left: u8) -> Parameter
 fn is_kind(marked: bool, kind: u8) -> bool
     ensures { λ r. ⌜ r ≡ isKind marked kind ⌝ }
 {
-    if kind < 1 {
+    if kind < STRING {
         return false;
     }
-    if kind <= 5 {
+    if kind <= REFERENCE {
         return true;
     }
-    if kind == 7 {
+    if kind == BUNDLE {
         return marked;
     }
     false
@@ -180,10 +183,10 @@ fn has_parent(sheet: &[u8], count: u8, kind: u8, bundle: u8) -> bool
     if bundle == 0 {
         return true;
     }
-    if kind == 7 {
+    if kind == BUNDLE {
         return false;
     }
-    kind_at(sheet, count, bundle - 1) == 7
+    kind_at(sheet, count, bundle - 1) == BUNDLE
 }
 
 // Whether it is so with each of the `count` parameters.
@@ -299,7 +302,7 @@ pub fn enter(sheet: &[u8], bundle: u8, name: &[u8]) -> u8
 {
     match find(sheet, bundle, name) {
         Found::At { index, kind } => {
-            if kind == 7 {
+            if kind == BUNDLE {
                 return index + 1;
             }
             255

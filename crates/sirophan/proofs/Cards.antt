@@ -25,22 +25,23 @@ use Rattle.date.specs.Texts as dates
 use Rattle.token.specs.Split.{split}
 use Rattle.token.specs.Card as tokens
 use Rattle.block.specs.declared.Reading.the-variants.{WellFormed}
-use Rattle.sheet.specs.Sheet.{Parameter, bundleKind}
+use Rattle.base.specs.Kinds.{bundleKind}
+use Rattle.sheet.specs.Sheet.{Parameter}
 use Rattle.sheet.specs.Encode.{ValueKind, WellFormedParameter, WellFormedSheet}
 use Rattle.sheet.specs.Find.{Listed}
 use Rattle.card.specs.Card.{Entry, entry, entriesOf, readCard}
 use Rattle.card.specs.Encode.{encodeCard, ReadsAsCard}
 use Rattle.card.proofs.Read.{card-length}
 use Rattle.card.proofs.Cards.{card-reads-iff, card-of, empty-card, one-entry-card}
-use Rattle.kind.specs.Kinds.{date}
+use Rattle.base.specs.Kinds.{date}
 use Rattle.kind.specs.Readable.{cardReadable}
 use Rattle.judge.specs.Sets.{valuesAt, conforms}
 use Rattle.sirophan.specs.Operations.{Card, found, takeCard}
-use Rattle.sirophan.specs.Readable.{ReadableOnCard}
-use Rattle.sirophan.specs.Meaning.{Conforms}
+use Rattle.kind.specs.Rules.{ReadableOnCard}
+use Rattle.judge.specs.Rules.{Conforms}
 use Rattle.sirophan.specs.Witness.{witnessText}
-use Rattle.sirophan.proofs.Readable.{card-iff}
-use Rattle.sirophan.proofs.Meaning.{entries-iff}
+use Rattle.kind.proofs.Rules.{card-iff}
+use Rattle.judge.proofs.Rules.{entries-iff}
 
 -- ---- reading
 

@@ -5,15 +5,19 @@ use mathlib.Core.Path.{_≡_, refl, sym, _∙_, subst}
 use mathlib.Core.List.{List}
 use lib.ListN.{length}
 use Rattle.base.specs.Lists.{All}
-use Rattle.base.proofs.All.{all-head, all-right}
+use Rattle.base.proofs.All.{all-head, all-right, all-map}
 use Rattle.sheet.specs.Sheet.{Parameter}
 use Rattle.sheet.specs.Encode.{SheetBlock}
+use Rattle.card.specs.Card.{Entry}
 use Rattle.syntax.specs.Tree.{Tree, testsOf}
 use Rattle.syntax.specs.Grammar.{Spells}
-use Rattle.sirophan.specs.Answers.{count, refused}
+use Rattle.judge.specs.Verdicts.{filterSays}
+use Rattle.sirophan.specs.Answers.{Answer, yesOrNo, count, refused}
 use Rattle.sirophan.specs.Operations.{Step, found, stop, testsStep, Prepared, prepare, checkAnswer, matchAnswer}
-use Rattle.sirophan.specs.Meaning.{Meaningful}
+use Rattle.judge.specs.Rules.{Conforms, Meaningful}
+use Rattle.sirophan.specs.Verdicts.{Verdict}
 use Rattle.sirophan.specs.Demand.{Demand, MeetsDemand}
+use Rattle.sirophan.proofs.Verdicts.{verdict-by}
 use Rattle.sirophan.proofs.Answers.{count-not-refused}
 use Rattle.sirophan.proofs.Cards.{conforms-size, conforms-bytes, conforms-taken}
 use Rattle.sirophan.proofs.Outcomes.{TestsOutcome, all-mean, one-refused}
@@ -32,7 +36,9 @@ module _ (sheet text : List ℕ) (s : SheetBlock sheet) (f : Tree) (short : leng
       let passed : checkAnswer sheet text ≡ count (length (testsOf f)) = check-by sheet text (found ready) done in
       record {
         passes = ((λ _. m), (λ _. passed));
-        verdict = λ _ card es c. match-by sheet text (found ready) done card ∙ rw (conforms-taken c 0);
+        verdict = λ _ card es c.
+            let e : matchAnswer sheet text card ≡ yesOrNo (filterSays ps 0 es f) = match-by sheet text (found ready) done card ∙ rw (conforms-taken c 0) in
+            subst (λ (a : Answer). Verdict ps es f a) (sym e) (verdict-by ps (s .well-formed) es f (all-map (λ t k. k card es c) m));
         refuses = λ n. absurd (n passed);
       }
   meets e (one-refused before t after n split m r) =
@@ -65,3 +71,8 @@ module _ (sheet text : List ℕ) (s : SheetBlock sheet) (f : Tree) (short : leng
 
 pub demand-met : MeetsDemand checkAnswer matchAnswer
 demand-met sheet text s f short spells = meets sheet text s f short spells refl (tests-outcome (s .parameters) (s .well-formed) (testsOf f))
+
+-- where check passes, match answers the filter's yes or no on each conforming card
+pub match-verdict : (sheet text : List ℕ) (s : SheetBlock sheet) (f : Tree) → length text ≤ 1024 → Spells text f → checkAnswer sheet text ≡ count (length (testsOf f))
+    → (card : List ℕ) (es : List Entry) → Conforms (s .parameters) card es → Verdict (s .parameters) es f (matchAnswer sheet text card)
+match-verdict sheet text s f short spells = demand-met sheet text s f short spells .verdict

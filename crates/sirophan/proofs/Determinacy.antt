@@ -7,17 +7,26 @@ use mathlib.Core.List.{List}
 use lib.ListN.{length}
 use Rattle.base.proofs.All.{first-unique}
 use Rattle.sheet.specs.Sheet.{Parameter}
+use Rattle.card.specs.Card.{Entry}
 use Rattle.syntax.specs.Tree.{Test, Tree, testsOf}
 use Rattle.sirophan.specs.Answers.{Answer, count, refused}
-use Rattle.sirophan.specs.Meaning.{Meaningful}
+use Rattle.judge.specs.Rules.{Meaningful}
 use Rattle.sirophan.specs.Numbers.{Numbered}
 use Rattle.sirophan.proofs.Deciding.{rank-unique}
+use Rattle.sirophan.specs.Verdicts.{Verdict, answers-yes, answers-no}
 use Rattle.sirophan.specs.Demand.{RefusesAlike, Demand, Agree}
 use Rattle.sirophan.proofs.Answers.{is-count}
 
 -- the table gives a test one number
 numbered-unique : {ps : List Parameter} {t : Test} {n m : ℕ} → Numbered ps t n → Numbered ps t m → n ≡ m
 numbered-unique {n = n} {m = m} a b = rank-unique n m (omega (arith, a .lowest m (b .line), b .lowest n (a .line)))
+
+-- a filter has one verdict on a card
+verdicts-agree : {ps : List Parameter} {es : List Entry} {f : Tree} {a b : Answer} → Verdict ps es f a → Verdict ps es f b → a ≡ b
+verdicts-agree (answers-yes s p) (answers-yes t q) = p ∙ sym q
+verdicts-agree (answers-yes s p) (answers-no n q) = absurd (n s)
+verdicts-agree (answers-no n p) (answers-yes s q) = absurd (n s)
+verdicts-agree (answers-no n p) (answers-no m q) = p ∙ sym q
 
 module _ (ps : List Parameter) (f : Tree) (check check′ : Answer) (match match′ : List ℕ → Answer) where
   refusals-agree : RefusesAlike ps f check match → RefusesAlike ps f check′ match′ → Agree ps f check check′ match match′
@@ -36,7 +45,7 @@ module _ (ps : List Parameter) (f : Tree) (check check′ : Answer) (match match
     where
       by-check : Dec (check ≡ count (length (testsOf f))) → Dec (check′ ≡ count (length (testsOf f))) → Agree ps f check check′ match match′
       by-check (yes e) (yes e′) =
-          record { checks = e ∙ sym e′; conforming = λ card es c. d .verdict e card es c ∙ sym (d′ .verdict e′ card es c); refusals = λ n. absurd (n e) }
+          record { checks = e ∙ sym e′; conforming = λ card es c. verdicts-agree (d .verdict e card es c) (d′ .verdict e′ card es c); refusals = λ n. absurd (n e) }
       by-check (yes e) (no n) = absurd (n (d′ .passes .1 (d .passes .0 e)))
       by-check (no n) (yes e) = absurd (n (d .passes .1 (d′ .passes .0 e)))
       by-check (no n) (no n′) = refusals-agree (d .refuses n) (d′ .refuses n′)

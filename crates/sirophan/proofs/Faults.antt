@@ -7,7 +7,8 @@ use mathlib.Core.Bool.{false}
 use mathlib.Core.List.{List, []}
 use Rattle.base.specs.Operators.{pr}
 use Rattle.base.proofs.Tests.{both-ways, cond-elim}
-use Rattle.sheet.specs.Sheet.{Parameter, parameter, bundleKind}
+use Rattle.base.specs.Kinds.{bundleKind}
+use Rattle.sheet.specs.Sheet.{Parameter, parameter}
 use lib.Dec.{eqb}
 use borrow.Author.Tests.{eqb-true, eqb-false}
 use Rattle.sheet.specs.Encode.{WellFormedSheet}
@@ -22,11 +23,13 @@ use Rattle.judge.specs.Sets.{lookup, valuesAt}
 use Rattle.judge.specs.Faults.{unsupported, kindFault, faultAt, testFault}
 use Rattle.judge.specs.declared.Fault.{Fault}
 use Rattle.sirophan.specs.Operations.{faultStep}
-use Rattle.sirophan.specs.Readable.{TrueOrFalse, ReadableValue, value-of-pr, value-of-kind}
-use Rattle.sirophan.specs.Meaning.{NamesIn, Names, names, names-member, NotOnSheet, HasOperator, LacksMeaning, not-on-sheet, bare-bundle, neither, lacks-operator, unreadable}
+use Rattle.kind.specs.Rules.{TrueOrFalse, ReadableValue, value-of-pr, value-of-kind}
+use Rattle.judge.specs.Rules.{NamesIn, Names, names, names-member, NotOnSheet, LacksMeaning, not-on-sheet, bare-bundle, neither, lacks-operator, unreadable}
+use Rattle.kind.specs.Rules.{HasOperator}
 use Rattle.sirophan.specs.Numbers.{rank, TestLine, line-14, line-18, line-15, line-16, line-17, Numbered}
-use Rattle.sirophan.proofs.Readable.{value-iff}
-use Rattle.sirophan.proofs.Meaning.{operator-iff, unsupported-lacks, names-iff, missing-iff}
+use Rattle.kind.proofs.Rules.{value-iff}
+use Rattle.kind.proofs.Rules.{operator-iff}
+use Rattle.judge.proofs.Rules.{unsupported-lacks, names-iff, missing-iff}
 use Rattle.sirophan.proofs.Cards.{empty-conforms, one-entry, one-entry-conforms, one-entry-value}
 use Rattle.sirophan.proofs.Outcomes.{Judged, judged-unknown, judged-bundle, judged-unsupported, judged-meaningless, judged-unreadable, judged-right, Refused, TestOutcome, test-means, test-refused}
 

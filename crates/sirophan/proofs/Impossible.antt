@@ -3,7 +3,7 @@
 use Prim.Native.Nat.{ℕ}
 use native.Mathlib.Omega.{arith}
 use mathlib.Core.Path.{_≡_, refl, subst}
-use mathlib.Core.List.{List, []}
+use mathlib.Core.List.{List, [], List·Memᴰ·not-nil}
 use mathlib.Core.Bool.{false}
 use mathlib.Core.Option.{some}
 use Rattle.base.specs.Ascii.{ascii}
@@ -30,11 +30,11 @@ use Rattle.kind.specs.Table.{stringRow, tokenRow, row, relationIn, rowMeaning, 
 use Rattle.kind.specs.Readable.{cardReadable, filterReadable, valueReadable}
 use Rattle.judge.specs.Sets.{lookup, valuesAt}
 use Rattle.judge.specs.Faults.{unsupported, kindFault, testFault}
-use Rattle.judge.specs.Verdicts.{someValue, saysOf, testSays, filterSays}
 use Rattle.judge.specs.declared.Fault.{Fault}
 use Rattle.sirophan.specs.Answers.{Answer, yes, no, count, refused}
 use Rattle.sirophan.specs.Operations.{found, stop, faultStep}
-use Rattle.sirophan.specs.Meaning.{Meaningful}
+use Rattle.judge.specs.Rules.{Meaningful, Says, says-present, says-absent, says-relates, says-differs}
+use Rattle.sirophan.specs.Verdicts.{Verdict, answers-yes, answers-no}
 use Rattle.sirophan.specs.Demand.{RefusesAlike, Demand}
 use Rattle.sirophan.specs.Trial.{titleTest, codeTest}
 use Rattle.sirophan.proofs.Cards.{empty-conforms}
@@ -75,6 +75,18 @@ code-lacks m = shown (outcome-as codeTest Fault.NoMeaning (faults-found .1))
     shown : TestOutcome trialParameters codeTest (stop 16 (codeTest .at)) → ⊥
     shown (test-refused r) = m (r .card) (r .entries) (r .conforms) (r .lacks)
 
+-- of the card with no entries the first filter says no
+says-none : Says trialParameters 0 [] titleTest → ⊥
+unfolding valuesAt titleTest
+says-none (says-present j e v n) = omega (arith, e)
+says-none (says-absent j e v z) = omega (arith, e)
+says-none (says-relates j e m s) = List·Memᴰ·not-nil m
+says-none (says-differs j n e m s) = List·Memᴰ·not-nil m
+
+says-no : {a : Answer} → Verdict trialParameters [] (test titleTest) a → a ≡ no
+says-no (answers-yes s e) = absurd (says-none s)
+says-no (answers-no n e) = e
+
 -- ---- what no check does, and no match
 
 module _ (check : Answer) (match : List ℕ → Answer) where
@@ -85,8 +97,8 @@ module _ (check : Answer) (match : List ℕ → Answer) where
     passed = d .passes .1 (all-cons title-means all-empty)
 
     judged : match (encodeCard false 0 []) ≡ no
-    unfolding testsOf filterSays testSays saysOf someValue valuesAt lookup find findFrom equal trialParameters titleTest meaningOf rowMeaning relationIn row stringRow
-    judged = d .verdict passed (encodeCard false 0 []) [] (empty-conforms trialParameters)
+    unfolding testsOf
+    judged = says-no (d .verdict passed (encodeCard false 0 []) [] (empty-conforms trialParameters))
 
   -- a filter without is refused, and match refuses alike
   module _ (d : Demand trialParameters (test codeTest) check match) where

@@ -7,8 +7,6 @@ pub mod Gathering
 pub mod Selecting
 pub mod Outcomes
 pub mod Answers
-pub mod Readable
-pub mod Meaning
 pub mod Cards
 pub mod Faults
 pub mod Prepare

@@ -22,11 +22,11 @@ use Rattle.judge.specs.Sets.{conforms}
 use Rattle.judge.specs.Verdicts.{filterSays}
 use Rattle.sirophan.specs.Answers.{yesOrNo, refused}
 use Rattle.sirophan.specs.Operations.{found, stop, _>>=_, Prepared, Card, cardStep, takeCard, matchAnswer}
-use Rattle.sirophan.specs.Meaning.{Conforms}
+use Rattle.judge.specs.Rules.{Conforms}
 use Rattle.sirophan.specs.Numbers.{rank}
 use Rattle.sirophan.specs.Refusals.{group, Before, Decides, CheckLine, CardLine, line-21, line-22, line-23, OneCardLine, line-20-match, line-of-card, MatchLine}
 use Rattle.sirophan.proofs.Answers.{verdict-not-refused}
-use Rattle.sirophan.proofs.Meaning.{entries-iff}
+use Rattle.judge.proofs.Rules.{entries-iff}
 use Rattle.sirophan.proofs.Cards.{conforms-reads, reads-conforms}
 use Rattle.sirophan.proofs.Outcomes.{ReadsTo, size-wrong, sum-wrong, layout-wrong, all-right, cardOf, Taken, Decided, none-holds, one-decides, NotRefused}
 use Rattle.sirophan.proofs.Blocks.{card-reads-to}

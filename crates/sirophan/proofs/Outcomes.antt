@@ -3,26 +3,23 @@
 use Prim.Native.Nat.{ℕ, _+_, _≤_, _<_}
 use mathlib.Core.Path.{_≡_}
 use mathlib.Core.Bool.{true, false}
-use mathlib.Core.Option.{some}
 use mathlib.Core.List.{List, _∷_, _++_, map}
 use lib.ListN.{length}
 use Rattle.base.specs.Lists.{All}
-use Rattle.base.specs.Operators.{eq, ne, pr}
 use Rattle.block.specs.Words.{word}
 use Rattle.block.specs.Sum.{checkSum}
 use Rattle.block.specs.declared.Reading.{Reading}
-use Rattle.sheet.specs.Sheet.{Parameter, bundleKind}
+use Rattle.base.specs.Kinds.{bundleKind}
+use Rattle.sheet.specs.Sheet.{Parameter}
 use Rattle.card.specs.Card.{Entry, recordNumber, entriesOf}
 use Rattle.syntax.specs.Tree.{Test}
-use Rattle.kind.specs.Table.{row, relationIn}
-use Rattle.kind.specs.declared.Meaning.{Meaning}
-use Rattle.kind.specs.declared.Relation.{Relation}
 use Rattle.judge.specs.Faults.{unsupported}
 use Rattle.judge.specs.declared.Fault.{Fault}
 use Rattle.sirophan.specs.Answers.{Answer, refused}
 use Rattle.sirophan.specs.Operations.{Step, found, stop, Card, takeCard}
-use Rattle.sirophan.specs.Readable.{ReadableValue}
-use Rattle.sirophan.specs.Meaning.{Conforms, Names, NotOnSheet, HasOperator, LacksMeaning, Meaningful}
+use Rattle.kind.specs.Rules.{ReadableValue}
+use Rattle.judge.specs.Rules.{Conforms, Names, NotOnSheet, LacksMeaning, Meaningful}
+use Rattle.kind.specs.Rules.{HasOperator}
 use Rattle.sirophan.specs.Numbers.{TestLine, Numbered}
 use Rattle.sirophan.specs.Selection.{matchingCards, matchingNumbers, RefusesCard}
 use Rattle.sirophan.specs.Refusals.{Decides}
@@ -37,13 +34,6 @@ pub data ReadsTo (b : List ℕ) (IsBlock : Type 0) : Reading → Type 0 where
   all-right : length b ≡ 512 → checkSum b ≡ word b 508 → IsBlock → ReadsTo b IsBlock Reading.WellFormed
 
 -- ---- tests
-
--- what an operator means for a kind, by the kind's row
-pub data MeansFor (operator kind : ℕ) : Meaning → Type 0 where
-  means-present : operator ≡ pr → MeansFor operator kind Meaning.Present
-  means-relation : {r : Relation} → relationIn (row kind) operator ≡ some r → MeansFor operator kind (Meaning.Relates r)
-  means-other : {r : Relation} → operator ≡ ne → relationIn (row kind) eq ≡ some r → MeansFor operator kind (Meaning.Differs r)
-  means-nothing : MeansFor operator kind Meaning.Nothing
 
 -- the fault of a test
 pub data Judged (ps : List Parameter) (t : Test) : Fault → Type 0 where

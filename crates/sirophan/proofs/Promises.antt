@@ -29,16 +29,16 @@ use Rattle.kind.specs.Table.{hasMeaning}
 use Rattle.kind.specs.declared.Relation.{Relation}
 use Rattle.sirophan.specs.Answers.{Answer, yes, no, count, refused}
 use Rattle.sirophan.specs.Operations.{checkAnswer, matchAnswer, selectAnswer, selectCells}
-use Rattle.sirophan.specs.Readable.{ReadableOnCard, ReadableValue}
-use Rattle.sirophan.specs.Meaning.{HasOperator, Conforms}
-use Rattle.sirophan.specs.Verdicts.{StandsIn, Verdict}
+use Rattle.kind.specs.Rules.{ReadableOnCard, ReadableValue}
+use Rattle.kind.specs.Rules.{HasOperator}
+use Rattle.judge.specs.Rules.{Conforms}
+use Rattle.kind.specs.Rules.{StandsIn}
+use Rattle.sirophan.specs.Verdicts.{Verdict}
 use Rattle.sirophan.specs.Demand.{Demand, MeetsDemand, Agree}
 use Rattle.sirophan.specs.Selection.{Run, matchingCards, matchingNumbers, occurrences, bearing, SelectsByMatch}
 use Rattle.sirophan.specs.Refusals.{Decides, CheckLine, MatchLine, SelectLine}
 use Rattle.sirophan.specs.Trial.{Row, trialRows, bundleRows, titleTest, codeTest}
-use Rattle.sirophan.proofs.Readable as readable
-use Rattle.sirophan.proofs.Meaning as meaning
-use Rattle.sirophan.proofs.Verdicts as verdicts
+use Rattle.kind.proofs.Rules as rules
 use Rattle.sirophan.proofs.Demand as demand
 use Rattle.sirophan.proofs.Determinacy as determinacy
 use Rattle.sirophan.proofs.Impossible as impossible
@@ -87,21 +87,21 @@ tests-in-order = spelling.tests-rise
 
 -- readable texts, operators with a meaning and relations are those of the rules
 pub card-text-readable : (kind : ℕ) (t : List ℕ) → (cardReadable kind t ≡ true) ↔ ReadableOnCard kind t
-card-text-readable = readable.card-iff
+card-text-readable = rules.card-iff
 
 pub value-readable : (kind : ℕ) (v : List ℕ) (operator : ℕ) → (valueReadable operator kind v ≡ true) ↔ ReadableValue kind v operator
-value-readable = readable.value-iff
+value-readable = rules.value-iff
 
 pub operator-has-meaning : (kind operator : ℕ) → (hasMeaning operator kind ≡ true) ↔ HasOperator kind operator
-operator-has-meaning = meaning.operator-iff
+operator-has-meaning = rules.operator-iff
 
 pub text-stands : (r : Relation) (x v : List ℕ) → (stands r x v ≡ true) ↔ StandsIn r x v
-text-stands = verdicts.stands-iff
+text-stands = rules.stands-iff
 
 -- where check passes, match answers yes exactly where the filter says yes of the card, and no where it does not
 pub match-verdict : (sheet text : List ℕ) (s : SheetBlock sheet) (f : Tree) → length text ≤ 1024 → Spells text f → checkAnswer sheet text ≡ count (length (testsOf f))
     → (card : List ℕ) (es : List Entry) → Conforms (s .parameters) card es → Verdict (s .parameters) es f (matchAnswer sheet text card)
-match-verdict = verdicts.match-verdict
+match-verdict = demand.match-verdict
 
 -- a selection lists the record numbers of the cards on which match answers yes, in card order
 pub select-by-match : (sheet text cards list : List ℕ) (bs : List (List ℕ)) → Run cards bs → SelectsByMatch sheet text cards list bs

@@ -12,9 +12,9 @@ use Rattle.sheet.specs.Encode.{SheetBlock}
 use Rattle.card.specs.Card.{Entry}
 use Rattle.syntax.specs.Tree.{Test, Tree, testsOf}
 use Rattle.syntax.specs.Grammar.{Spells}
-use Rattle.judge.specs.Verdicts.{filterSays}
-use Rattle.sirophan.specs.Answers.{Answer, yesOrNo, count, refused}
-use Rattle.sirophan.specs.Meaning.{Conforms, LacksMeaning, Meaningful}
+use Rattle.sirophan.specs.Answers.{Answer, count, refused}
+use Rattle.sirophan.specs.Verdicts.{Verdict}
+use Rattle.judge.specs.Rules.{Conforms, LacksMeaning, Meaningful}
 use Rattle.sirophan.specs.Numbers.{Numbered}
 
 -- how check and match refuse a filter f on a sheet with the parameters ps
@@ -45,7 +45,7 @@ pub record Demand (ps : List Parameter) (f : Tree) (check : Answer) (match : Lis
   -- "The check passes, and answers the number of tests, exactly when every test has a meaning on every card that fits the sheet."
   pub passes : (check ≡ count (length (testsOf f))) ↔ All (Meaningful ps) (testsOf f)
   -- "If it passes, match answers with the filter's yes or no, whichever fitting card it is given."
-  pub verdict : check ≡ count (length (testsOf f)) → (card : List ℕ) (es : List Entry) → Conforms ps card es → match card ≡ yesOrNo (filterSays ps 0 es f)
+  pub verdict : check ≡ count (length (testsOf f)) → (card : List ℕ) (es : List Entry) → Conforms ps card es → Verdict ps es f (match card)
   -- "If it does not, the check refuses, and match refuses alike, .."
   pub refuses : (check ≡ count (length (testsOf f)) → ⊥) → RefusesAlike ps f check match
 

@@ -3,8 +3,6 @@ pub mod Answers
 pub mod Operations
 pub mod Passing
 pub mod Selecting
-pub mod Readable
-pub mod Meaning
 pub mod Verdicts
 pub mod Numbers
 pub mod Demand

@@ -5,11 +5,13 @@ use mathlib.Core.Path.{_≡_}
 use mathlib.Core.Bool.{true, false, cond}
 use mathlib.Core.List.{List}
 use lib.Dec.{eqb}
-use Rattle.sheet.specs.Sheet.{Parameter, bundleKind}
+use Rattle.base.specs.Kinds.{bundleKind}
+use Rattle.sheet.specs.Sheet.{Parameter}
 use Rattle.syntax.specs.Tree.{Test}
 use Rattle.judge.specs.Faults.{unsupported}
-use Rattle.sirophan.specs.Readable.{ReadableValue}
-use Rattle.sirophan.specs.Meaning.{Names, NotOnSheet, HasOperator}
+use Rattle.kind.specs.Rules.{ReadableValue}
+use Rattle.judge.specs.Rules.{Names, NotOnSheet}
+use Rattle.kind.specs.Rules.{HasOperator}
 
 -- "lowest line first": where a line stands among the others; 02: 18 is "ranking between 14 and 15"
 unfoldable pub rank : ℕ → ℕ

@@ -14,7 +14,7 @@ use Rattle.card.specs.Card.{Entry}
 use Rattle.card.specs.Encode.{CardBlock}
 use Rattle.syntax.specs.Tree.{Test, Tree, testsOf}
 use Rattle.syntax.specs.Grammar.{Spells}
-use Rattle.sirophan.specs.Meaning.{Conforms}
+use Rattle.judge.specs.Rules.{Conforms}
 use Rattle.sirophan.specs.Numbers.{rank, TestLine}
 use Rattle.sirophan.specs.Selection.{Run, CardAt, matchingCards}
 

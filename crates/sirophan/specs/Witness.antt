@@ -5,7 +5,7 @@ use mathlib.Core.Bool.{cond}
 use mathlib.Core.List.{List}
 use lib.Dec.{eqb}
 use Rattle.base.specs.Ascii.{ascii}
-use Rattle.kind.specs.Kinds.{date}
+use Rattle.base.specs.Kinds.{date}
 
 -- a date has four digits at least; one digit is a string, a number, a token and a reference
 unfoldable pub witnessText : ℕ → List ℕ

@@ -46,7 +46,7 @@ fn read_operator(s: &[u8], at: usize) -> FoundOperator
     let second = s[at + 1];
     let words = b"eqnecoswewgtltgeleapsaebprposssbinnire";
     let mut k: u8 = 0;
-    while k < 19 {
+    while k < base::operator::COUNT {
         let i = 2 * k as usize;
         if same_letters(first, second, words[i], words[i + 1]) {
             return FoundOperator::Is(k);

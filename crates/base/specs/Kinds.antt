@@ -16,3 +16,7 @@ token = 4
 
 abbrev pub reference : ℕ
 reference = 5
+
+-- 02: "kind 7 is a bundle"
+abbrev pub bundleKind : ℕ
+bundleKind = 7
