@@ -101,6 +101,16 @@ mutual
     one-item : {close d p q : ℕ} {f : Tree} → Item xs close d p q f → Filter xs close d p q f
     one-more : {close d p m a q : ℕ} {c : Connective} {f g : Tree} → Filter xs close d p m f → Connects xs m a c → Item xs close d a q g → Filter xs close d p q (join c f g)
 
+-- the whole text is a filter with this tree, with brackets nested at most d deep and at most m tests; "spaces may stand at either
+-- end of the text"
+pub record Within (d m : ℕ) (xs : List ℕ) (f : Tree) : Type 0 where
+  pub from : ℕ
+  pub to : ℕ
+  pub before : Spaces xs 0 from
+  pub filter : Filter xs round d from to f
+  pub after : Spaces xs to (length xs)
+  pub few : length (testsOf f) ≤ m
+
 -- "brackets nest at most 8 deep; a filter has at most 32 tests"
 abbrev pub deepest : ℕ
 deepest = 8
@@ -108,11 +118,5 @@ deepest = 8
 abbrev pub mostTests : ℕ
 mostTests = 32
 
--- the whole text is a filter with this tree; "spaces may stand at either end of the text"
-pub record Spells (xs : List ℕ) (f : Tree) : Type 0 where
-  pub from : ℕ
-  pub to : ℕ
-  pub before : Spaces xs 0 from
-  pub filter : Filter xs round deepest from to f
-  pub after : Spaces xs to (length xs)
-  pub few : length (testsOf f) ≤ mostTests
+abbrev pub Spells : List ℕ → Tree → Type 0
+Spells = Within deepest mostTests

@@ -7,7 +7,7 @@ ghost use Rattle.base.specs.Runs.{RunEnd};
 ghost use Rattle.syntax.specs.Scan.{isSpace, has};
 
 // "Only the byte 0x20 is a space."
-fn is_space(b: u8) -> bool
+pub fn is_space(b: u8) -> bool
     ensures { λ r. ⌜ r ≡ isSpace b ⌝ }
 {
     b == b' '

@@ -35,7 +35,7 @@ fn same_letters(first: u8, second: u8, one: u8, two: u8) -> bool
 
 // The operator at a position. The words stand in one text outside the loop, since a text in the code is copied each time it is
 // come to.
-fn read_operator(s: &[u8], at: usize) -> FoundOperator
+pub fn read_operator(s: &[u8], at: usize) -> FoundOperator
     requires { ⌜ at ≤ length (now s) ⌝ }
     ensures { λ r. ⌜ r ≡ operatorAt (now (s .entry)) at ⌝ }
 {

@@ -13,7 +13,7 @@ ghost use Rattle.syntax.specs.Strings.{isBare, isEscape, unescaped};
 ghost use Rattle.syntax.specs.Scan.{stepOf, stringAt, valueAt, pieceOf, Decoded};
 
 // Whether a byte may stand in a bare word: "bytes 0x21 to 0x7E, without ")" and "]"".
-fn is_bare(b: u8) -> bool
+pub fn is_bare(b: u8) -> bool
     ensures { λ r. ⌜ r ≡ isBare b ⌝ }
 {
     if b < 0x21 {
@@ -66,7 +66,7 @@ fn unescaped(b: u8) -> u8
 }
 
 // What a byte does in a string, where `pending` says that a backslash stands before it.
-fn string_step(pending: bool, b: u8) -> StringStep
+pub fn string_step(pending: bool, b: u8) -> StringStep
     ensures { λ r. ⌜ r ≡ stepOf pending b ⌝ }
 {
     if pending {
