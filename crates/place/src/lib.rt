@@ -1,0 +1,113 @@
+// Where a text stops being the beginning of a filter, and why. The text is gone over byte by byte, for as long as some filter
+// within both limits begins with the bytes so far.
+mod step;
+
+use step::advance;
+ghost use mathlib.Core.Path.{_≡_};
+ghost use Rattle.syntax.specs.Grammar.{deepest, mostTests};
+ghost use Rattle.place.specs.Machine.{failure};
+
+// What the bytes so far end in.
+pub enum Mode {
+    // An item may begin, after spaces.
+    Item,
+    // In a name, or in not, that begins at the position.
+    Name(usize),
+    // After not and a space: only a bracket may come.
+    AfterNot,
+    // After a name and a space.
+    AfterName,
+    // After an operator's first letter.
+    Letter(u8),
+    AfterOperator,
+    // After an operator and a space.
+    Value,
+    Bare,
+    // In a string; true behind a backslash.
+    Quoted(bool),
+    // A string or a round bracket has closed.
+    AfterItem,
+    // After an item and a space.
+    AfterSpace,
+    // In a connective, after a, an, o; before the space that it wants.
+    AfterA,
+    AfterAn,
+    AfterO,
+    WantsSpace,
+    // A square bracket has closed.
+    AfterSquare,
+    // After its dot, and in the member's name, which begins at the position.
+    Member,
+    MemberName(usize),
+}
+
+// A mode; the open brackets, as the binary digits behind a leading 1, the outermost first, 0 for a round one and 1 for a square
+// one; and the tests begun or due.
+pub struct Reached {
+    pub mode: Mode,
+    pub brackets: usize,
+    pub tests: usize,
+}
+
+// A filter may go on with the byte; or only beyond the limit on nesting, or beyond that on tests; or not at all.
+pub enum Outcome {
+    Live(Reached),
+    Deep,
+    Many,
+    Wrong,
+}
+
+// Why a text is no filter: 11, 12 and 13.
+pub enum Why {
+    NoFilter,
+    TooDeep,
+    TooMany,
+}
+
+// Why, and the length of the longest beginning that begins some filter within both limits.
+pub struct Failure {
+    pub why: Why,
+    pub place: usize,
+}
+
+// Where a text that is no filter stops being the beginning of one.
+pub fn find_failure(s: &[u8]) -> Failure
+    ensures { λ r. ⌜ r ≡ failure deepest mostTests (now (s .entry)) ⌝ }
+{
+    let mut reached = Reached {
+        mode: Mode::Item,
+        brackets: 1,
+        tests: 1,
+    };
+    let mut at = 0;
+    while at < s.len() {
+        match advance(s, at, reached) {
+            Outcome::Live(next) => {
+                reached = next;
+                at += 1;
+            }
+            Outcome::Deep => {
+                return Failure {
+                    why: Why::TooDeep,
+                    place: at,
+                };
+            }
+            Outcome::Many => {
+                return Failure {
+                    why: Why::TooMany,
+                    place: at,
+                };
+            }
+            Outcome::Wrong => {
+                return Failure {
+                    why: Why::NoFilter,
+                    place: at,
+                };
+            }
+        }
+    }
+    Failure {
+        why: Why::NoFilter,
+        place: at,
+    }
+}
