@@ -1,11 +1,12 @@
--- Laws of answers: a count and a verdict are no refusals, and whether an answer is a given count is decided.
+-- Laws of answers: a count and a verdict are no refusals, whether an answer is a given count is decided, and reasons have their numbers.
 -- Assumes nothing.
 use Prim.Native.Nat.{ℕ}
 use native.Mathlib.Decide.{ℕ-discrete}
 use native.Mathlib.Omega.{arith}
-use mathlib.Core.Path.{_≡_, ap}
+use mathlib.Core.Path.{_≡_, ap, sym}
 use mathlib.Core.Bool.{Bool, true, false}
-use Rattle.sirophan.specs.Answers.{Answer, yesOrNo, count, refused}
+use Rattle.sirophan.specs.declared.Reason.{Reason}
+use Rattle.sirophan.specs.Answers.{Answer, yesOrNo, count, refused, numberOf}
 use Rattle.sirophan.proofs.Outcomes.{NotRefused}
 
 pub count-not-refused : (m : ℕ) → NotRefused (count m)
@@ -24,3 +25,7 @@ is-count (count m) n = same (ℕ-discrete m n)
     same : Dec (m ≡ n) → Dec (count m ≡ count n)
     same (yes e) = yes (ap count e)
     same (no e) = no (λ h. let z : m ≡ n = cc in e z)
+
+-- the number of a reason that is known
+pub number-known : {r k : Reason} → r ≡ k → numberOf k ≡ numberOf r
+number-known e = ap numberOf (sym e)

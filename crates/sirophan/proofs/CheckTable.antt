@@ -3,7 +3,7 @@
 use Prim.Native.Nat.{ℕ, _≤_, _<_}
 use native.Mathlib.Nat.{le-of-eq}
 use native.Mathlib.Omega.{arith}
-use mathlib.Core.Path.{_≡_, refl, sym, _∙_, subst}
+use mathlib.Core.Path.{_≡_, refl, sym, _∙_, subst, subst₂}
 use mathlib.Core.Bool.{true, _||_}
 use mathlib.Core.Logic.{_↔_, _⊎_, inl, inr, ⊎-elim}
 use mathlib.Core.Option.{Option, none, some}
@@ -20,9 +20,11 @@ use Rattle.sheet.specs.Sheet.{Parameter, parametersOf}
 use Rattle.sheet.specs.Encode.{WellFormedSheet, SheetBlock}
 use Rattle.sheet.proofs.Sheets.{sheet-reads-iff}
 use Rattle.syntax.specs.Tree.{Test, Tree, testsOf, Rising, rising-end, rising-next}
-use Rattle.syntax.specs.Grammar.{Spells}
+use Rattle.syntax.specs.Grammar.{deepest, mostTests, Spells}
 use Rattle.syntax.specs.Reader.{read}
 use Rattle.syntax.proofs.Spelling.{read-spells, spells-unique, tests-rise, rising-member}
+use Rattle.place.specs.Begins.{Begins, Longest, Number, number-11, number-12, number-13}
+use Rattle.place.proofs.Place.{text-place, text-number, longest-unique, number-unique}
 use Rattle.judge.specs.Faults.{firstFault}
 use Rattle.sirophan.specs.Answers.{count, refused}
 use Rattle.sirophan.specs.Operations.{Step, found, _>>=_, sheetStep, takeSheet, treeStep, takeFilter, testsStep, Prepared, prepare, checkAnswer}
@@ -33,7 +35,7 @@ use Rattle.sirophan.proofs.Outcomes.{ReadsTo, size-wrong, sum-wrong, la
 use Rattle.sirophan.proofs.Faults.{outcome}
 use Rattle.sirophan.proofs.Prepare.{tests-next}
 use Rattle.sirophan.proofs.Blocks.{sheet-reads-to}
-use Rattle.sirophan.proofs.Deciding.{rank-twice, apart-at, later-place, no-lower-rank, decided-as, decided-then, decided-found, decided-answer}
+use Rattle.sirophan.proofs.Deciding.{rank-twice, apart-at, before-itself, later-group, later-place, no-lower-rank, decided-as, decided-then, decided-found, decided-answer}
 
 -- ---- the sheet
 
@@ -81,28 +83,42 @@ module _ (sheet : List ℕ) where
 
 -- ---- the text
 
+-- 11 to 13 share a line
+number-group : {d m : ℕ} {xs : List ℕ} {p n : ℕ} → Number d m xs p n → group n ≡ 11
+unfolding group
+number-group (number-12 x) = refl
+number-group (number-13 x y) = refl
+number-group (number-11 x y) = refl
+
 module _ (text : List ℕ) where
   abbrev SizeWrong : Type 0
   SizeWrong = (length text ≡ 0) ⊎ (1024 < length text)
 
-  -- none comes before n, where 10 does not hold if it is lower
-  text-first : (n : ℕ) → group n ≡ n → n ≤ 11 → (10 < n → SizeWrong → ⊥) → (m q : ℕ) → TextLine text m q → Before m q n 0 → ⊥
+  -- none comes before 10
+  size-first : (m q : ℕ) → TextLine text m q → Before m q 10 0 → ⊥
   unfolding group
-  text-first n g h a m q (line-10 u) k = a (lower-number (omega arith) (omega arith) (λ l. omega arith) k) u
-  text-first n g h a m q (line-11 u) k = let l : 11 < n = lower-number (omega arith) (omega arith) (λ l. omega arith) k in omega arith
+  size-first m q (line-10 u) k = before-itself k
+  size-first m q (line-11 u l w) k = later-group (let g = number-group w in omega arith) k
+
+  -- nor before the text's number at its place, where 10 does not hold
+  text-first : (SizeWrong → ⊥) → {n p : ℕ} → Longest (Begins deepest mostTests) text p → Number deepest mostTests text p n → (m q : ℕ) → TextLine text m q → Before m q n p → ⊥
+  text-first a l w m q (line-10 u) k = a u
+  text-first a {n} {p} l w m q (line-11 u l′ w′) k =
+      let e : q ≡ p = longest-unique l′ l in
+      let f : m ≡ n = number-unique (subst (λ (x : ℕ). Number deepest mostTests text x m) e w′) w in
+      before-itself (subst₂ (λ (x y : ℕ). Before x y n p) f e k)
 
   text-none : (SizeWrong → ⊥) → (f : Tree) → Spells text f → (m q : ℕ) → TextLine text m q → ⊥
   text-none a f s m q (line-10 u) = a u
-  text-none a f s m q (line-11 u) = u f s
+  text-none a f s m q (line-11 u l w) = u f s
 
-  tree-step : (SizeWrong → ⊥) → (o : Option Tree) → read text ≡ o → Decided (Spells text) (TextLine text) (treeStep o)
-  unfolding group
+  tree-step : (SizeWrong → ⊥) → (o : Option Tree) → read text ≡ o → Decided (Spells text) (TextLine text) (treeStep text o)
   tree-step a (some f) e = let s = read-spells text f .0 e in none-holds s (text-none a f s)
   tree-step a none e =
       one-decides
       (record {
-        holds = line-11 (λ f s. let r = read-spells text f .1 s in let z : _≡_ {A = ℕ} 0 1 = cc in omega arith);
-        first = text-first 11 refl (omega arith) (λ l. a);
+        holds = line-11 (λ f s. let r = read-spells text f .1 s in let z : _≡_ {A = ℕ} 0 1 = cc in omega arith) (text-place text) (text-number text);
+        first = text-first a (text-place text) (text-number text);
       })
 
   size-there : (eqb (length text) 0 || ltb 1024 (length text)) ≡ true → SizeWrong
@@ -115,10 +131,10 @@ module _ (text : List ℕ) where
       (λ e. or-right (eqb (length text) 0) (ltb 1024 (length text)) (lt-ltb 1024 (length text) e))
 
   text-decided : Decided (Spells text) (TextLine text) (takeFilter text)
-  unfolding takeFilter group
+  unfolding takeFilter
   text-decided =
       cond-elim (Decided (Spells text) (TextLine text)) (eqb (length text) 0 || ltb 1024 (length text))
-      (λ h. one-decides (record { holds = line-10 (size-there h); first = text-first 10 refl (omega arith) (λ l. absurd (omega arith)) }))
+      (λ h. one-decides (record { holds = line-10 (size-there h); first = size-first }))
       (λ h. tree-step (λ w. both-ways (size-back w) h) (read text) refl)
 
 -- ---- the tests
@@ -194,7 +210,7 @@ module _ (sheet text : List ℕ) where
   text-group : (n p : ℕ) → TextLine text n p → (3 < group n) × (group n ≤ 11)
   unfolding group
   text-group n p (line-10 u) = (omega arith, omega arith)
-  text-group n p (line-11 u) = (omega arith, omega arith)
+  text-group n p (line-11 u l w) = let g = number-group w in (omega arith, omega arith)
 
   tests-group : (n p : ℕ) → TestsLine sheet text n p → group n ≡ 14
   tests-group n p (line-of-test s spells m l) = test-group l

@@ -12,8 +12,12 @@ use Rattle.block.specs.declared.Reading.{Reading}
 use Rattle.sheet.specs.Sheet.{Parameter, parametersOf, readSheet}
 use Rattle.syntax.specs.Tree.{Tree, testsOf}
 use Rattle.syntax.specs.Scan.{isSpace}
-use Rattle.syntax.specs.Grammar.{round}
+use Rattle.syntax.specs.Grammar.{round, deepest, mostTests}
 use Rattle.syntax.specs.Reader.{parsed, filterAt, whole, read}
+use Rattle.place.specs.Machine.{failure}
+use Rattle.place.specs.Machine as place
+use Rattle.place.specs.declared.Failure.{Failure}
+use Rattle.place.specs.declared.Why.{Why}
 use Rattle.judge.specs.Faults.{firstFault}
 use Rattle.judge.specs.declared.Fault.{Fault}
 use Rattle.filter.specs.Folds.{reading}
@@ -26,7 +30,7 @@ use Rattle.sirophan.specs.declared.Reason.{Reason}
 use Rattle.sirophan.specs.declared.Checked.{Checked}
 use Rattle.sirophan.specs.Answers.{Answer, count, refused, numberOf, checkedAnswer}
 use Rattle.sirophan.specs.Operations.{Step, found, stop, _>>=_, answer, treeStep, takeFilter, faultStep, testsStep, sheetStep, takeSheet, filterAnswer, Prepared, prepare, checkAnswer}
-use Rattle.sirophan.specs.Passing.{summaryAnswer}
+use Rattle.sirophan.specs.Passing.{summaryAnswer, failureAnswer}
 
 -- ---- the answer for a text that is a filter
 
@@ -37,6 +41,12 @@ outcome-fault s c f n t e h = rw (e, t (s .first .position)) h
 pub outcome-tests : (s : Summary) → s .first .fault ≡ Fault.Nothing → checkedAnswer (Checked.Tests (s .tests)) ≡ summaryAnswer s
 unfolding summaryAnswer checkedAnswer
 outcome-tests s e = rw e
+
+-- ---- the answer for a text that is none
+
+pub failure-answered : (r f : Failure) (c : Checked) (w : Why) → f ≡ r → f .why ≡ w → checkedAnswer c ≡ refused (place.numberOf w) (f .place) → checkedAnswer c ≡ failureAnswer r
+unfolding failureAnswer
+failure-answered r f c w i e h = rw (← i, e) h
 
 -- ---- the filter's text
 
@@ -52,16 +62,16 @@ module _ (ps : List Parameter) (xs : List ℕ) (c : Checked) where
       e ∙ rw (ne-eqb (length xs) 0 n, lt-ltb 1024 (length xs) h)
 
 module _ (ps : List Parameter) (xs : List ℕ) (n : length xs ≡ 0 → ⊥) (l : length xs ≤ 1024) where
-  text-read : (o : Option Tree) → read xs ≡ o → takeFilter xs ≡ treeStep o
+  text-read : (o : Option Tree) → read xs ≡ o → takeFilter xs ≡ treeStep xs o
   unfolding takeFilter
   text-read o e = rw (ne-eqb (length xs) 0 n, le-ltb 1024 (length xs) l, e)
 
-  text-none : (c : Checked) → read xs ≡ none → checkedAnswer c ≡ refused (numberOf Reason.NoFilter) 0 → checkedAnswer c ≡ filterAnswer ps xs
-  unfolding filterAnswer
+  text-none : (c : Checked) → read xs ≡ none → checkedAnswer c ≡ failureAnswer (failure deepest mostTests xs) → checkedAnswer c ≡ filterAnswer ps xs
+  unfolding filterAnswer failureAnswer
   text-none c e h = h ∙ rw (text-read none e)
 
   module _ (start : ℕ) (s : RunEnd isSpace xs 0 start) (w : Walked) (e : w ≡ answerOf Walked.Done Walked.Nothing (reading ps 0) (filterAt 8 xs round start)) where
-    pub text-nothing : (c : Checked) → w ≡ Walked.Nothing → checkedAnswer c ≡ refused (numberOf Reason.NoFilter) 0 → checkedAnswer c ≡ filterAnswer ps xs
+    pub text-nothing : (c : Checked) → w ≡ Walked.Nothing → checkedAnswer c ≡ failureAnswer (failure deepest mostTests xs) → checkedAnswer c ≡ filterAnswer ps xs
     unfolding read
     text-nothing c h = text-none c (rw (← s .is, was-none Walked.Done Walked.Nothing walked-cases (reading ps 0) xs round 8 start w e h))
 
@@ -79,11 +89,11 @@ module _ (ps : List Parameter) (xs : List ℕ) (n : length xs ≡ 0 → ⊥) (l 
       unfolding read
       read-whole = rw (← s .is, was .read)
 
-      pub text-trails : (c : Checked) → (after ≡ length xs → ⊥) → checkedAnswer c ≡ refused (numberOf Reason.NoFilter) 0 → checkedAnswer c ≡ filterAnswer ps xs
+      pub text-trails : (c : Checked) → (after ≡ length xs → ⊥) → checkedAnswer c ≡ failureAnswer (failure deepest mostTests xs) → checkedAnswer c ≡ filterAnswer ps xs
       text-trails c k = text-none c (read-whole ∙ rw (← t .is, ne-eqb after (length xs) k))
 
       module _ (k : after ≡ length xs) where
-        pub text-many : (c : Checked) → 32 < a .tests → checkedAnswer c ≡ refused (numberOf Reason.NoFilter) 0 → checkedAnswer c ≡ filterAnswer ps xs
+        pub text-many : (c : Checked) → 32 < a .tests → checkedAnswer c ≡ failureAnswer (failure deepest mostTests xs) → checkedAnswer c ≡ filterAnswer ps xs
         text-many c m =
             let j : 32 < length (testsOf (was .tree)) = rw tests-are at m in
             text-none c (read-whole ∙ rw (← t .is, eq-eqb after (length xs) k, lt-leb (length (testsOf (was .tree))) 32 j))

@@ -52,6 +52,12 @@ before-total m q n p a b =
 decides-unique : (Line : ℕ → ℕ → Type 0) (m q n p : ℕ) → Decides Line m q → Decides Line n p → (m ≡ n) × (q ≡ p)
 decides-unique Line m q n p d e = before-total m q n p (e .first m q (d .holds)) (d .first n p (e .holds))
 
+-- no line comes before itself
+pub before-itself : {n p : ℕ} → Before n p n p → ⊥
+before-itself (lower-group h) = omega arith
+before-itself (earlier-place g h) = omega arith
+before-itself (lower-rank g e h) = omega arith
+
 -- a line of a higher group does not come before
 pub later-group : {m q n p : ℕ} → group n < group m → Before m q n p → ⊥
 later-group h (lower-group k) = omega arith

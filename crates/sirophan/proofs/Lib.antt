@@ -10,6 +10,7 @@ pub mod Answers
 pub mod Cards
 pub mod Faults
 pub mod Prepare
+pub mod Failing
 pub mod Demand
 pub mod Determinacy
 pub mod Impossible

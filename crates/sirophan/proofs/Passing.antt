@@ -41,14 +41,14 @@ sheet-found Reading.WrongSize ps qs h = (cc, cc)
 sheet-found Reading.WrongSum ps qs h = (cc, cc)
 sheet-found Reading.WrongLayout ps qs h = (cc, cc)
 
-tree-found : (o : Option Tree) (f : Tree) → treeStep o ≡ found f → o ≡ some f
-tree-found (some g) f h = cc
-tree-found none f h = cc
+tree-found : (text : List ℕ) (o : Option Tree) (f : Tree) → treeStep text o ≡ found f → o ≡ some f
+tree-found text (some g) f h = cc
+tree-found text none f h = cc
 
-text-found : (a b : Bool) (o : Option Tree) (f : Tree) → cond (a || b) (stop 10 0) (treeStep o) ≡ found f → (b ≡ false) × (o ≡ some f)
-text-found true b o f h = (cc, cc)
-text-found false true o f h = (cc, cc)
-text-found false false o f h = (refl, tree-found o f h)
+text-found : (text : List ℕ) (a b : Bool) (o : Option Tree) (f : Tree) → cond (a || b) (stop 10 0) (treeStep text o) ≡ found f → (b ≡ false) × (o ≡ some f)
+text-found text true b o f h = (cc, cc)
+text-found text false true o f h = (cc, cc)
+text-found text false false o f h = (refl, tree-found text o f h)
 
 pub passing : (b xs : List ℕ) (c : Checked) (n : ℕ) → checkedAnswer c ≡ checkAnswer b xs → c ≡ Checked.Tests n → Passing b xs
 unfolding checkedAnswer checkAnswer prepare takeSheet takeFilter
@@ -58,7 +58,7 @@ passing b xs c n e h =
     let (f, t, last) = taken (takeFilter xs) (λ f. testsStep ps (testsOf f) >>= λ u. found (record { parameters = ps; filter = f })) p rest in
     let (u, v, made) = taken (testsStep ps (testsOf f)) (λ u. found (record { parameters = ps; filter = f })) p last in
     let (well, same) = sheet-found (readSheet b) (parametersOf b) ps s in
-    let (short, reads) = text-found (eqb (length xs) 0) (ltb 1024 (length xs)) (read xs) f t in
+    let (short, reads) = text-found xs (eqb (length xs) 0) (ltb 1024 (length xs)) (read xs) f t in
     record {
       tree = f;
       sheet-well-formed = well;

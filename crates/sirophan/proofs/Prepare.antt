@@ -16,15 +16,17 @@ use Rattle.sheet.specs.Sheet.{Parameter, parametersOf, readSheet}
 use Rattle.sheet.specs.Encode.{WellFormedSheet, SheetBlock}
 use Rattle.sheet.proofs.Sheets.{sheet-reads-iff}
 use Rattle.syntax.specs.Tree.{Test, Tree, testsOf}
-use Rattle.syntax.specs.Grammar.{Spells}
+use Rattle.syntax.specs.Grammar.{deepest, mostTests, Spells}
 use Rattle.syntax.specs.Reader.{read}
 use Rattle.syntax.proofs.Spelling.{read-spells, spells-not-empty}
+use Rattle.place.specs.Machine.{failure}
+use Rattle.place.specs.declared.Why.{Why}
 use Rattle.judge.specs.Faults.{testFault, orElse, firstFault}
 use Rattle.judge.specs.declared.Fault.{Fault}
 use Rattle.judge.specs.declared.FirstFault.{FirstFault}
 use Rattle.judge.specs.Verdicts.{filterSays}
 use Rattle.sirophan.specs.Answers.{yesOrNo, count}
-use Rattle.sirophan.specs.Operations.{Step, found, stop, _>>=_, sheetStep, takeSheet, treeStep, takeFilter, faultStep, testsStep, Prepared, prepare, answer, takeCard, checkAnswer, matchAnswer}
+use Rattle.sirophan.specs.Operations.{Step, found, stop, _>>=_, sheetStep, takeSheet, failureStep, treeStep, takeFilter, faultStep, testsStep, Prepared, prepare, answer, takeCard, checkAnswer, matchAnswer}
 use Rattle.sirophan.proofs.Outcomes.{TestOutcome, test-means, test-refused, TestsOutcome, all-mean, one-refused, AtMost, found-at-most, stop-at-most}
 use Rattle.sirophan.proofs.Faults.{outcome}
 
@@ -69,7 +71,7 @@ module _ (sheet text : List ℕ) (r : Step Prepared) (e : prepare sheet text ≡
 
 -- ---- sheet and text
 
-sheet-taken : (sheet : List ℕ) (s : SheetBlock sheet) → takeSheet sheet ≡ found (s .parameters)
+pub sheet-taken : (sheet : List ℕ) (s : SheetBlock sheet) → takeSheet sheet ≡ found (s .parameters)
 unfolding takeSheet
 sheet-taken sheet s =
     let r = sheet-reads-iff sheet (s .marked) (s .parameters) .1 (s .well-formed, s .form, s .encoded) in
@@ -105,9 +107,14 @@ sheet-at-most Reading.WrongSize ps = stop-at-most 1 0 (omega arith)
 sheet-at-most Reading.WrongSum ps = stop-at-most 2 0 (omega arith)
 sheet-at-most Reading.WrongLayout ps = stop-at-most 3 0 (omega arith)
 
-tree-at-most : (o : Option Tree) → AtMost 18 (treeStep o)
-tree-at-most (some f) = found-at-most
-tree-at-most none = stop-at-most 11 0 (omega arith)
+failure-at-most : (w : Why) (p : ℕ) → AtMost 18 (failureStep (record { why = w; place = p }))
+failure-at-most Why.NoFilter p = stop-at-most 11 p (omega arith)
+failure-at-most Why.TooDeep p = stop-at-most 12 p (omega arith)
+failure-at-most Why.TooMany p = stop-at-most 13 p (omega arith)
+
+tree-at-most : (text : List ℕ) (o : Option Tree) → AtMost 18 (treeStep text o)
+tree-at-most text (some f) = found-at-most
+tree-at-most text none = failure-at-most (failure deepest mostTests text .why) (failure deepest mostTests text .place)
 
 fault-at-most : (fault : Fault) (p : ℕ) → AtMost 18 (faultStep fault p)
 fault-at-most Fault.Nothing p = found-at-most
@@ -123,5 +130,5 @@ prepare-number sheet text =
     at-most-number
     (at-most-then (sheet-at-most (readSheet sheet) (parametersOf sheet))
     (λ ps. at-most-then
-    (cond-elim (AtMost 18) (eqb (length text) 0 || ltb 1024 (length text)) (λ _. stop-at-most 10 0 (omega arith)) (λ _. tree-at-most (read text)))
+    (cond-elim (AtMost 18) (eqb (length text) 0 || ltb 1024 (length text)) (λ _. stop-at-most 10 0 (omega arith)) (λ _. tree-at-most text (read text)))
     (λ f. at-most-then (fault-at-most (firstFault ps 0 (testsOf f) .fault) (firstFault ps 0 (testsOf f) .position)) (λ u. found-at-most))))

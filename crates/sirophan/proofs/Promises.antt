@@ -20,9 +20,11 @@ use Rattle.card.specs.Encode.{CardBlock}
 use Rattle.card.specs.Trial.{trialCard, bundleCard}
 use Rattle.card.proofs.Cards as cards
 use Rattle.syntax.specs.Tree.{Tree, test, testsOf, Rising}
-use Rattle.syntax.specs.Grammar.{Spells}
+use Rattle.syntax.specs.Grammar.{deepest, mostTests, Spells}
 use Rattle.syntax.specs.Reader.{read}
 use Rattle.syntax.proofs.Spelling as spelling
+use Rattle.place.specs.Begins.{Begins, Longest, Number}
+use Rattle.place.proofs.Place as place
 use Rattle.kind.specs.Readable.{cardReadable, valueReadable}
 use Rattle.kind.specs.Stands.{stands}
 use Rattle.kind.specs.Table.{hasMeaning}
@@ -39,6 +41,7 @@ use Rattle.sirophan.specs.Selection.{Run, matchingCards, matchingNumbers
 use Rattle.sirophan.specs.Refusals.{Decides, CheckLine, MatchLine, SelectLine}
 use Rattle.sirophan.specs.Trial.{Row, trialRows, bundleRows, titleTest, codeTest}
 use Rattle.kind.proofs.Rules as rules
+use Rattle.sirophan.proofs.Failing as failing
 use Rattle.sirophan.proofs.Demand as demand
 use Rattle.sirophan.proofs.Determinacy as determinacy
 use Rattle.sirophan.proofs.Impossible as impossible
@@ -62,6 +65,18 @@ match-refused = match-table.match-table
 pub select-refused : (sheet text cards : List ℕ) (room : ℕ) → Bytes sheet → Bytes cards → (n p : ℕ)
     → (selectAnswer sheet text cards room ≡ refused n p) ↔ Decides (SelectLine sheet text cards room) n p
 select-refused = select-table.select-table
+
+-- a text that is no filter is refused at the length of its longest beginning that also begins some filter within both limits, with the
+-- number that the limits make it; there is one such length and one such number
+pub no-filter-refused : (sheet text : List ℕ) → SheetBlock sheet → 1 ≤ length text → length text ≤ 1024 → ((f : Tree) → Spells text f → ⊥)
+    → (n p : ℕ) → (checkAnswer sheet text ≡ refused n p) ↔ (Longest (Begins deepest mostTests) text p × Number deepest mostTests text p n)
+no-filter-refused = failing.no-filter-refused
+
+pub longest-unique : {P : List ℕ → Type 0} {text : List ℕ} {p q : ℕ} → Longest P text p → Longest P text q → p ≡ q
+longest-unique = place.longest-unique
+
+pub number-unique : {d m : ℕ} {text : List ℕ} {p n k : ℕ} → Number d m text p n → Number d m text p k → n ≡ k
+number-unique = place.number-unique
 
 pub refusal-keeps-list : (sheet text cards list : List ℕ) (n i : ℕ) → selectAnswer sheet text cards (length list) ≡ refused n i → selectCells sheet text cards list ≡ list
 refusal-keeps-list = selection.refusal-keeps

@@ -10,7 +10,11 @@ use Rattle.block.specs.declared.Reading.{Reading}
 use Rattle.sheet.specs.Sheet.{Parameter, parametersOf, readSheet}
 use Rattle.card.specs.Card.{Entry, recordNumber, entriesOf, readCard}
 use Rattle.syntax.specs.Tree.{Test, Tree, testsOf}
+use Rattle.syntax.specs.Grammar.{deepest, mostTests}
 use Rattle.syntax.specs.Reader.{read}
+use Rattle.place.specs.Machine.{failure}
+use Rattle.place.specs.Machine as place
+use Rattle.place.specs.declared.Failure.{Failure}
 use Rattle.judge.specs.Sets.{conforms}
 use Rattle.judge.specs.Faults.{firstFault}
 use Rattle.judge.specs.Verdicts.{filterSays}
@@ -42,14 +46,17 @@ sheetStep Reading.WrongLayout ps = stop 3 0
 unfoldable pub takeSheet : List ℕ → Step (List Parameter)
 takeSheet sheet = sheetStep (readSheet sheet) (parametersOf sheet)
 
--- ---- the filter: 10, 11, and 14 to 18 for the first test at fault; names are looked up at the top
+-- ---- the filter: 10, 11 to 13, and 14 to 18 for the first test at fault; names are looked up at the top
 
-abbrev pub treeStep : Option Tree → Step Tree
-treeStep (some f) = found f
-treeStep none = stop 11 0
+abbrev pub failureStep : Failure → Step Tree
+failureStep r = stop (place.numberOf (r .why)) (r .place)
+
+abbrev pub treeStep : List ℕ → Option Tree → Step Tree
+treeStep text (some f) = found f
+treeStep text none = failureStep (failure deepest mostTests text)
 
 unfoldable pub takeFilter : List ℕ → Step Tree
-takeFilter text = cond (eqb (length text) 0 || ltb 1024 (length text)) (stop 10 0) (treeStep (read text))
+takeFilter text = cond (eqb (length text) 0 || ltb 1024 (length text)) (stop 10 0) (treeStep text (read text))
 
 abbrev pub faultStep : Fault → ℕ → Step (Unit {0})
 faultStep Fault.Nothing p = found tt

@@ -12,14 +12,20 @@ use Rattle.card.specs.Card.{Entry}
 use Rattle.syntax.specs.Tree.{Tree}
 use Rattle.syntax.specs.Reader.{read}
 use Rattle.judge.specs.Verdicts.{filterSays}
+use Rattle.place.specs.Machine as place
+use Rattle.place.specs.declared.Failure.{Failure}
 use Rattle.filter.specs.declared.Summary.{Summary}
-use Rattle.sirophan.specs.Answers.{Answer, count, numberOf}
+use Rattle.sirophan.specs.Answers.{Answer, count, refused, numberOf}
 use Rattle.sirophan.specs.Operations.{Step, found, stop, _>>=_, answer, faultStep, prepare, takeCard}
 use Rattle.sirophan.specs.declared.verdict.CardVerdict.{CardVerdict}
 
 -- the answer of check for a text that is a filter, from what was gathered reading it
 unfoldable pub summaryAnswer : Summary → Answer
 summaryAnswer s = answer (faultStep (s .first .fault) (s .first .position) >>= λ u. found (count (s .tests)))
+
+-- and for one that is none, from where it fails
+unfoldable pub failureAnswer : Failure → Answer
+failureAnswer r = refused (place.numberOf (r .why)) (r .place)
 
 -- check has passed the sheet and the text, which spells the tree
 pub record Passing (sheet text : List ℕ) : Type 0 where

@@ -13,16 +13,17 @@ use Rattle.sheet.specs.Encode.{SheetBlock}
 use Rattle.card.specs.Card.{Entry}
 use Rattle.card.specs.Encode.{CardBlock}
 use Rattle.syntax.specs.Tree.{Test, Tree, testsOf}
-use Rattle.syntax.specs.Grammar.{Spells}
+use Rattle.syntax.specs.Grammar.{deepest, mostTests, Spells}
+use Rattle.place.specs.Begins.{Begins, Longest, Number}
 use Rattle.judge.specs.Rules.{Conforms}
 use Rattle.sirophan.specs.Numbers.{rank, TestLine}
 use Rattle.sirophan.specs.Selection.{Run, CardAt, matchingCards}
 
 -- ---- which line decides
 
--- lines 14 to 18 go together, and so do 21 to 23
+-- lines 14 to 18 go together, and so do 21 to 23; 02: "12 and 13 share 11's line"
 unfoldable pub group : ℕ → ℕ
-group n = cond (leb 14 n && leb n 18) 14 (cond (leb 21 n && leb n 23) 21 n)
+group n = cond (leb 11 n && leb n 13) 11 (cond (leb 14 n && leb n 18) 14 (cond (leb 21 n && leb n 23) 21 n))
 
 -- line m at the place q comes before line n at the place p: "lowest line first"; "for 14 to 17 the first test in the text
 -- decides, and within it the lower number", with 18 among them (02); "for 21 to 23 the first faulty card decides, and on it the
@@ -52,8 +53,9 @@ pub data SheetLine (sheet : List ℕ) : ℕ → ℕ → Type 0 where
 pub data TextLine (text : List ℕ) : ℕ → ℕ → Type 0 where
   -- "filter is empty or over 1,024 bytes"
   line-10 : (length text ≡ 0) ⊎ (1024 < length text) → TextLine text 10 0
-  -- "text is no filter by the grammar": it spells no tree
-  line-11 : ((f : Tree) → Spells text f → ⊥) → TextLine text 11 0
+  -- "text is no filter by the grammar": it spells no tree; 02: 11, 12 or 13, at "the length of the longest beginning of the text
+  -- that also begins some filter within both limits"
+  line-11 : {n p : ℕ} → ((f : Tree) → Spells text f → ⊥) → Longest (Begins deepest mostTests) text p → Number deepest mostTests text p n → TextLine text n p
 
 -- about its tests
 pub data TestsLine (sheet text : List ℕ) : ℕ → ℕ → Type 0 where

@@ -53,7 +53,7 @@ bundleRows =
     ∷ row (ascii "related[type gt 5].target ap Observation/4") (refused 15 0)
     ∷ row (ascii "related[type gt 5].target re Observation/4") (refused 16 8)
     ∷ row (ascii "marriage[date lt never].name eq Berg") (refused 17 9)
-    ∷ row (ascii "related[type eq x] .target re Observation/4") (refused 11 0)
+    ∷ row (ascii "related[type eq x] .target re Observation/4") (refused 11 18)
     ∷ []
 
 -- ---- two filters that show which programs the demand on check and match shuts out

@@ -22,6 +22,9 @@ pub enum Reason {
     FilterSize,
     // 11: the text is no filter by the grammar.
     NoFilter,
+    // 12: no filter, and only the limit on nesting ends its longest beginning; 13: only the limit on tests does.
+    TooDeep,
+    TooMany,
     // 14: a test's name is not on the sheet, or is none where it stands, as a member's without its bundle.
     UnknownName,
     // 15: a test's operator is ap, ss, sb, in or ni.
@@ -44,7 +47,8 @@ pub enum Reason {
     ShortList,
 }
 
-// A refusal: why, and where. The place is a test's first byte, a card's index, the number of matches, or 0.
+// A refusal: why, and where. The place is the length of the longest beginning that also begins some filter, a test's first byte, a
+// card's index, the number of matches, or 0.
 pub struct Refusal {
     pub reason: Reason,
     pub place: usize,

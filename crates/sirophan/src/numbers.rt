@@ -13,6 +13,8 @@ pub fn number(reason: Reason) -> u32
         Reason::SheetLayout => 3,
         Reason::FilterSize => 10,
         Reason::NoFilter => 11,
+        Reason::TooDeep => 12,
+        Reason::TooMany => 13,
         Reason::UnknownName => 14,
         Reason::Unsupported => 15,
         Reason::NoMeaning => 16,

@@ -8,11 +8,15 @@ use filter::Summary;
 use filter::Walked;
 use filter::check_filter;
 use judge::Fault;
+use place::Why;
+use place::find_failure;
 use syntax::scan::skip;
 ghost use mathlib.Core.Path.{_≡_};
 ghost use Rattle.sheet.specs.Sheet.{parametersOf, readSheet};
+ghost use Rattle.syntax.specs.Grammar.{deepest, mostTests};
+ghost use Rattle.place.specs.Machine.{failure};
 ghost use Rattle.sirophan.specs.Answers.{refused, checkedAnswer, numberOf};
-ghost use Rattle.sirophan.specs.Passing.{summaryAnswer};
+ghost use Rattle.sirophan.specs.Passing.{summaryAnswer, failureAnswer};
 ghost use Rattle.sirophan.specs.Operations.{filterAnswer, checkAnswer};
 
 // A refusal as check's answer.
@@ -35,6 +39,19 @@ fn outcome(summary: Summary) -> Checked
         Fault::Unsupported => refuse(Reason::Unsupported, first.position),
         Fault::NoMeaning => refuse(Reason::NoMeaning, first.position),
         Fault::Unreadable => refuse(Reason::Unreadable, first.position),
+    }
+}
+
+// The answer for a text that is no filter.
+fn no_filter(filter: &[u8]) -> Checked
+    ensures { λ r. ⌜ checkedAnswer r ≡ failureAnswer (failure deepest mostTests (now (filter .entry))) ⌝ }
+{
+    let failure = find_failure(filter);
+    let why = failure.why;
+    match why {
+        Why::NoFilter => refuse(Reason::NoFilter, failure.place),
+        Why::TooDeep => refuse(Reason::TooDeep, failure.place),
+        Why::TooMany => refuse(Reason::TooMany, failure.place),
     }
 }
 
@@ -64,14 +81,14 @@ fn check_text(sheet: &[u8], filter: &[u8]) -> Checked
         Walked::Done(end, summary) => {
             let after = skip(filter, end);
             if after != filter.len() {
-                return refuse(Reason::NoFilter, 0);
+                return no_filter(filter);
             }
             if summary.tests > 32 {
-                return refuse(Reason::NoFilter, 0);
+                return no_filter(filter);
             }
             outcome(summary)
         }
-        Walked::Nothing => refuse(Reason::NoFilter, 0),
+        Walked::Nothing => no_filter(filter),
     }
 }
 

@@ -28,14 +28,14 @@ enum-known-walked c = search needs
 skip-requires-2 : tie.Need-skip-requires-2
 skip-requires-2 c κs = search (walk-within, needs)
 
-refuse-requires-3 : tie.Need-refuse-requires-3
-refuse-requires-3 c κs = search needs
+no-filter-requires : tie.Need-no-filter-requires
+no-filter-requires c κs = search needs
 
 returns-3 : tie.Need-returns-3
 returns-3 c = search (text-trails, needs)
 
-refuse-requires-4 : tie.Need-refuse-requires-4
-refuse-requires-4 c κs = search needs
+no-filter-requires-2 : tie.Need-no-filter-requires-2
+no-filter-requires-2 c κs = search needs
 
 returns-4 : tie.Need-returns-4
 returns-4 c = search (text-many, needs)
@@ -46,8 +46,8 @@ outcome-requires c κs = search needs
 enum-told : tie.Need-enum-told
 enum-told c = search needs
 
-refuse-requires-5 : tie.Need-refuse-requires-5
-refuse-requires-5 c κs = search needs
+no-filter-requires-3 : tie.Need-no-filter-requires-3
+no-filter-requires-3 c κs = search needs
 
 returns-5 : tie.Need-returns-5
 returns-5 c = search (text-answered, needs)
@@ -67,12 +67,12 @@ check-text-spec =
     check-filter-requires
     enum-known-walked
     skip-requires-2
-    refuse-requires-3
+    no-filter-requires
     returns-3
-    refuse-requires-4
+    no-filter-requires-2
     returns-4
     outcome-requires
     enum-told
-    refuse-requires-5
+    no-filter-requires-3
     returns-5
     returns-6)
