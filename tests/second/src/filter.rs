@@ -166,9 +166,17 @@ impl<T> Item<T> {
 
 /// Reads a text as a filter; none if it is no filter by the grammar.
 pub fn read(text: &[u8]) -> Option<Filter<Test>> {
-    let mut reader = Reader { text, at: 0, bundles: Vec::new() };
+    let mut reader = Reader { text, at: 0, bundles: Vec::new(), ends_close: false };
     let filter = reader.filter(DEEPEST, None)?;
     (filter.count() <= MOST_TESTS).then_some(filter)
+}
+
+/// Whether some filter, with brackets at most so deep and at most so many tests, is this text with nothing behind it but
+/// what closes the brackets that are open at its end: round ones by ")", square ones by "]", a dot and a test.
+pub fn closes(text: &[u8], depth: usize, tests: usize) -> bool {
+    let mut reader = Reader { text, at: 0, bundles: Vec::new(), ends_close: true };
+    let filter = reader.filter(depth, None);
+    filter.is_some_and(|filter| filter.count() <= tests)
 }
 
 /// A text, how far it has been read, and the names before the square brackets that are open there.
@@ -176,6 +184,8 @@ struct Reader<'a> {
     text: &'a [u8],
     at: usize,
     bundles: Vec<Vec<u8>>,
+    /// Whether the end of the text stands for all that closes the open brackets.
+    ends_close: bool,
 }
 
 impl<'a> Reader<'a> {
@@ -187,7 +197,7 @@ impl<'a> Reader<'a> {
         let mut rest = Vec::new();
         loop {
             let before = self.spaces();
-            if self.peek() == close {
+            if self.peek() == close || self.is_closed_by_end() {
                 return Some(Filter { first, rest });
             }
             let join = match self.run(|byte| byte.is_ascii_lowercase()) {
@@ -227,9 +237,13 @@ impl<'a> Reader<'a> {
         }
         self.bundles.push(bundle.to_vec());
         let condition = self.bracket(depth_left, b'[', b']')?;
-        self.byte(b'.')?;
-        let member = self.name();
-        let test = self.test(place, member)?;
+        let test = if self.is_closed_by_end() {
+            Test { place, path: Vec::new(), operation: Operation::Eq, value: Vec::new() }
+        } else {
+            self.byte(b'.')?;
+            let member = self.name();
+            self.test(place, member)?
+        };
         self.bundles.pop();
         Some(Item::Test(test, Some(condition)))
     }
@@ -239,8 +253,14 @@ impl<'a> Reader<'a> {
         let depth_left = depth_left.checked_sub(1)?;
         self.byte(open)?;
         let filter = self.filter(depth_left, Some(close))?;
-        self.byte(close)?;
+        if !self.is_closed_by_end() {
+            self.byte(close)?;
+        }
         Some(Box::new(filter))
+    }
+
+    fn is_closed_by_end(&self) -> bool {
+        self.ends_close && self.at == self.text.len()
     }
 
     /// What follows the name of a test: an operation word and a value, each behind at least one space.

@@ -4,6 +4,7 @@
 //! It answers what `check`, `match`, `select` and the program `pick` must answer, and it generates the inputs on which
 //! the differential test compares the two.
 
+pub mod beginning;
 pub mod block;
 pub mod cases;
 pub mod date;

@@ -1,5 +1,6 @@
 //! The three operations on bytes, with their refusals in the order of the table.
 
+use crate::beginning;
 use crate::block::{self, Flaw, Sheet};
 use crate::filter::{self, Filter};
 use crate::meaning::{self, Fault, Question};
@@ -61,7 +62,10 @@ impl Asked {
         if filter.is_empty() || filter.len() > filter::LONGEST {
             return Err(refused(10, 0));
         }
-        let filter = filter::read(filter).ok_or(refused(11, 0))?;
+        let filter = filter::read(filter).ok_or_else(|| {
+            let (number, place) = beginning::failure(filter);
+            refused(number, place)
+        })?;
         let filter = filter.try_map(&mut |test| {
             meaning::question(&test, &sheet).map_err(|fault| match fault {
                 Fault::UnknownName => refused(14, test.place),

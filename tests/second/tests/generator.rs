@@ -32,7 +32,7 @@ fn every_answer_and_mostly_verdicts() {
     let (conditions, verdicts) = (outcome.conditions(), outcome.verdicts(CONDITIONS));
     assert!(5 * conditions >= cases, "{conditions} of {cases} have a condition inside a path");
     assert!(3 * verdicts >= conditions, "{verdicts} of {conditions} with a condition end in yes or no");
-    for number in [1, 2, 3, 10, 11, 14, 15, 16, 17, 18, 20, 21, 22, 23, 30] {
+    for number in [1, 2, 3, 10, 11, 12, 13, 14, 15, 16, 17, 18, 20, 21, 22, 23, 30] {
         let answer = ("select", format!("refused-{number:02}"));
         assert!(outcome.answers.contains_key(&answer), "no selection is refused by {number}");
     }

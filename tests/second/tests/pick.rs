@@ -29,8 +29,8 @@ fn one_line_feed_is_dropped() {
     let says = |filter: &[u8]| output(&sheet, filter, &[]);
     assert_eq!(says(b"title pr true"), "0 of 0\n");
     assert_eq!(says(b"title pr true\n"), "0 of 0\n");
-    assert_eq!(says(b"title pr true\n\n"), "refused 11 at 0\n");
-    assert_eq!(says(b"title pr true\r\n"), "refused 11 at 0\n");
+    assert_eq!(says(b"title pr true\n\n"), "refused 11 at 13\n");
+    assert_eq!(says(b"title pr true\r\n"), "refused 11 at 13\n");
     assert_eq!(says(b"\n"), "refused 10 at 0\n");
     let longest = [b"title pr true".to_vec(), vec![b' '; 1011]].concat();
     assert_eq!(says(&[&longest[..], b"\n"].concat()), "0 of 0\n");

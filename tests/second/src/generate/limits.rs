@@ -248,6 +248,28 @@ fn many_inner_tests(random: &mut Random) -> Case {
     case_of(random, &archive, filter)
 }
 
+/// Open brackets of both sorts and tests up to a limit or just before it, and something that may want one more.
+pub fn no_room(random: &mut Random) -> Case {
+    let archive = Archive::new(random, 2, 2, 2);
+    let depth = random.one(&[0, DEEPEST - 1, DEEPEST, DEEPEST]);
+    let mut text = Vec::new();
+    let mut tests = 1;
+    for _ in 0..depth {
+        let (open, more) = random.one(&[("(", 0), ("( ", 0), ("not (", 0), ("a[", 1)]);
+        text.extend_from_slice(open.as_bytes());
+        tests += more;
+    }
+    let most = random.one(&[tests, MOST_TESTS - 1, MOST_TESTS, MOST_TESTS]);
+    for _ in tests..most {
+        text.extend_from_slice(random.one(&["a eq 1 and ", "a eq 1 or "]).as_bytes());
+    }
+    let behind =
+        "(|not|not |not(|nota eq 1|a[|a[ |a|a eq 1|a eq 1)|a eq 1]|a eq 1 |a eq 1 a|a eq 1 or|a eq 1 x|a eq \"1\"";
+    let behind: Vec<&str> = behind.split('|').collect();
+    text.extend_from_slice(random.one(&behind).as_bytes());
+    case_of(random, &archive, text)
+}
+
 /// About 32 tests.
 fn many_tests(random: &mut Random) -> Case {
     let archive = Archive::new(random, 2, 3, 3);

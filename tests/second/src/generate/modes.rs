@@ -17,13 +17,15 @@ pub struct Mode {
     pub make: fn(&mut Random) -> Case,
 }
 
-pub const MODES: [Mode; 19] = [
+pub const MODES: [Mode; 21] = [
     Mode { name: "tests over cards", weight: 18, make: tests_over_cards },
     Mode { name: "one test over many cards", weight: 25, make: one_test },
     Mode { name: "long chains", weight: 7, make: long_chain },
     Mode { name: "conditions over occurrences", weight: 18, make: conditions_over_occurrences },
     Mode { name: "conditions near what cards hold", weight: 8, make: conditions_over_cards },
     Mode { name: "one byte of a filter changed", weight: 12, make: one_byte },
+    Mode { name: "filters cut short", weight: 6, make: cut_short },
+    Mode { name: "at a limit of the grammar", weight: 3, make: limits::no_room },
     Mode { name: "tests joined wrongly", weight: 2, make: misjoined },
     Mode { name: "paths spelled wrongly", weight: 4, make: misspelled_paths },
     Mode { name: "doubtful tests", weight: 6, make: doubtful_tests },
@@ -141,6 +143,23 @@ fn one_byte(random: &mut Random) -> Case {
     let archive = Archive::new(random, 3, 3, 4);
     let filter = good_filter(random, &archive, 3);
     let filter = filters::one_byte_changed(random, &filter);
+    case_of(random, &archive, filter)
+}
+
+/// A good filter cut off anywhere, with something behind it that may go on there or may not.
+fn cut_short(random: &mut Random) -> Case {
+    let archive = Archive::with_bundles(random, 2, 2, 4);
+    let mut filter = match random.once_in(2) {
+        true => good_filter(random, &archive, 3),
+        false => conditions(random, &archive),
+    };
+    filter.truncate(random.below(filter.len() + 1));
+    let behind = "||| |(|)|[|]|].|.|\"|\\|\\u|a|e|q| and| or |or| not|not |not(|x eq 1|1|\x1F|\x7F";
+    let behind: Vec<&str> = behind.split('|').collect();
+    filter.extend_from_slice(random.one(&behind).as_bytes());
+    if filter.is_empty() {
+        filter.push(b' ');
+    }
     case_of(random, &archive, filter)
 }
 
