@@ -35,7 +35,10 @@ enum {
     SIROPHAN_SHEET_SUM = 2,     /* the sheet's check sum is wrong */
     SIROPHAN_SHEET_LAYOUT = 3,  /* the sheet breaks its layout, or the rules for its names or its bundles */
     SIROPHAN_FILTER_SIZE = 10,  /* the filter is empty or over 1,024 bytes */
-    SIROPHAN_NO_FILTER = 11,    /* the text is no filter by the grammar */
+    SIROPHAN_NO_FILTER = 11,    /* the text is no filter by the grammar; place: the length of the longest beginning of the
+                                   text that also begins some filter within both limits, as for 12 and 13 */
+    SIROPHAN_TOO_DEEP = 12,     /* it is none, and brackets more than 8 deep would let that beginning be longer */
+    SIROPHAN_TOO_MANY = 13,     /* it is none, and more than 32 tests would */
     SIROPHAN_UNKNOWN_NAME = 14, /* a name is not on the sheet, or stands where it cannot, such as a member's without its
                                    bundle; place: the test's first byte, as for 15 to 18 */
     SIROPHAN_BARE_BUNDLE = 18,  /* a bundle's name without a condition in square brackets */

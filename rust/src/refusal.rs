@@ -8,8 +8,9 @@ use std::fmt;
 pub struct Refusal {
     /// The number, which says why there is no answer.
     pub number: u32,
-    /// For 14 to 18 the first byte of the test in the filter, for 21 to 23 the card's index in the run, for 30 the
-    /// number of matching cards, and 0 for all others.
+    /// For 11 to 13 the length of the longest beginning of the text that also begins some filter, for 14 to 18 the first
+    /// byte of the test in the filter, for 21 to 23 the card's index in the run, for 30 the number of matching cards, and
+    /// 0 for all others.
     pub place: usize,
 }
 
@@ -25,7 +26,9 @@ impl Refusal {
             2 => "The sheet's check sum is wrong.",
             3 => "The sheet breaks its layout, or the rules for its names or its bundles.",
             10 => "The filter is empty or longer than 1,024 bytes.",
-            11 => "The text is no filter by the grammar.",
+            11 => "The text is no filter by the grammar: no filter goes on like this.",
+            12 => "The text is no filter: here it would need brackets more than 8 deep.",
+            13 => "The text is no filter: here it would need more than 32 tests.",
             14 => "The name is not on the sheet, or cannot stand here: members are named with their bundle's brackets.",
             15 => "The operators ap, ss, sb, in and ni have no meaning for any kind.",
             16 => "The operator has no meaning for a parameter of this kind.",
@@ -40,11 +43,11 @@ impl Refusal {
         }
     }
 
-    /// The refusal as a person would want to see it. Where a test of the filter is at fault, the filter is shown with
-    /// a caret under the test's first byte.
+    /// The refusal as a person would want to see it. Where the text is no filter, it is shown with a caret under the
+    /// byte up to which it could be one; where a test of the filter is at fault, with a caret under the test's first.
     pub fn render(&self, filter: &[u8]) -> String {
         match self.number {
-            14..=18 => format!("{}\n{self}", caret(filter, self.place)),
+            11..=18 => format!("{}\n{self}", caret(filter, self.place)),
             _ => self.to_string(),
         }
     }

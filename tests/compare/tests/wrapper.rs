@@ -49,6 +49,15 @@ fn a_caret_under_the_test() {
 }
 
 #[test]
+fn a_caret_where_the_text_stops_being_a_filter() {
+    let rendered = |filter: &[u8]| check(&sheet(), filter).unwrap_err().render(filter);
+    let wrong = "title eq \"a\"b\n            ^\nrefused 11 at 12: ";
+    assert!(rendered(b"title eq \"a\"b").starts_with(wrong));
+    assert!(rendered(b"title eq").starts_with("title eq\n        ^\nrefused 11 at 8: "));
+    assert!(rendered(&[b'('; 9]).starts_with("(((((((((\n        ^\nrefused 12 at 8: "));
+}
+
+#[test]
 fn a_caret_in_a_long_filter() {
     let filter = [&b"title eq aaaaaaaaaaaaaaaaaaaaaaa or "[..], b"ward eq ", &[b'b'; 60]].concat();
     let refusal = check(&sheet(), &filter).unwrap_err();
@@ -80,8 +89,9 @@ fn no_caret_where_the_place_is_not_in_the_filter() {
 #[test]
 fn a_sentence_for_each_number() {
     let sentence = |number| Refusal { number, place: 0 }.sentence();
-    let mut sentences: Vec<&str> = [1, 2, 3, 10, 11, 14, 15, 16, 17, 18, 20, 21, 22, 23, 30, 99].map(sentence).into();
+    let numbers = [1, 2, 3, 10, 11, 12, 13, 14, 15, 16, 17, 18, 20, 21, 22, 23, 30, 99];
+    let mut sentences: Vec<&str> = numbers.map(sentence).into();
     sentences.sort();
     sentences.dedup();
-    assert_eq!(sentences.len(), 16);
+    assert_eq!(sentences.len(), numbers.len());
 }
