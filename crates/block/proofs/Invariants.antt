@@ -1,18 +1,31 @@
 -- What the loops over a block keep.
 -- Assumes nothing.
-use Prim.Native.Nat.{ℕ, _+_, _*_, _≤_}
+use Prim.Native.Nat.{ℕ, zero, suc, _+_, _*_, _-_, _≤_}
 use mathlib.Core.Path.{_≡_}
 use mathlib.Core.List.{List}
 use Rattle.base.specs.Parts.{part}
-use Rattle.block.specs.Sum.{sumFrom, checkSum}
+use Rattle.block.specs.Sum.{sumFrom}
+use Rattle.block.specs.Columns.{columnSum, columnRows}
 use Rattle.block.specs.Items.{laidOut, items, Walk}
 
--- the sums over both halves before i, with the place of the byte at i: `sum` by the place in the half, `second` of the second half's bytes
-pub record Summed (b : List ℕ) (sum second place i : ℕ) : Type 0 where
-  pub within : i ≤ 254
-  pub next : place ≡ i + 1
-  pub whole : sum + 254 * second + sumFrom place (part b i 254) + sumFrom (place + 254) (part b (254 + i) 508) ≡ checkSum b
-  pub most : checkSum b ≤ 32967930
+-- the rows of the column j from `row` on are summed: `sum` has their bytes, `rows` their bytes each times its row, counted from `row`
+pub record RowsSummed (b : List ℕ) (j sum rows row : ℕ) : Type 0 where
+  pub within : row ≤ 16
+  pub plain : sum ≡ columnSum b (32 * row + j) (16 - row)
+  pub weighted : rows ≡ columnRows b (32 * row + j) (16 - row)
+  pub plain-most : sum + 255 * row ≤ 4080
+  pub weighted-most : rows + 4080 * row ≤ 65280
+
+-- the sum over the columns from j on, in the n rows from p on
+unfoldable pub columnsFrom : List ℕ → (p j n : ℕ) → ℕ
+columnsFrom b p j zero = 0
+columnsFrom b p j (suc n) = sumFrom (p + j + 1) (part b (p + j) (p + 32)) + columnsFrom b (p + 32) j n
+
+-- the columns before j are summed
+pub record Summed (b : List ℕ) (total j : ℕ) : Type 0 where
+  pub within : j ≤ 32
+  pub whole : total + columnsFrom b 0 j 16 ≡ sumFrom 1 (part b 0 512)
+  pub most : total ≤ 4194304 * j
 
 -- the items before p are laid out up to p, and those that are left decide
 pub record LaidTo (b : List ℕ) (from count p left : ℕ) : Type 0 where

@@ -1,21 +1,23 @@
--- Laws of the check sum: the largest, and what the loop that sums keeps.
+-- Laws of the check sum: the largest, and what the loops that sum a column, all columns, and the block keep.
 -- Assumes nothing.
-use Prim.Native.Nat.{ℕ, suc, _+_, _*_, _≤_, _<_}
-use native.Mathlib.Nat.{zero-add, add-zero, mul-add, mul-comm, mul-le-mul, mul-le-mul-right}
+use Prim.Native.Nat.{ℕ, zero, suc, _+_, _*_, _-_, _≤_, _<_}
+use native.Mathlib.Nat.{zero-add, add-zero, add-mul, mul-add, mul-comm, mul-le-mul, mul-le-mul-right, eq-or-lt-of-le}
 use native.Mathlib.Numerals.{add-one}
 use native.Mathlib.Omega.{arith}
 use mathlib.Core.Path.{_≡_, refl, ap, sym, _∙_}
+use mathlib.Core.Logic.{⊎-elim}
 use mathlib.Core.List.{List, [], _∷_, _++_}
-use lib.ListN.{length, getD, replicate}
-use lib.Seq.{length-take-le}
+use lib.ListN.{length, getD, set, replicate, length-set}
+use lib.Seq.{getD-set-same, getD-set-other}
 use Rattle.base.specs.Bytes.{Bytes}
 use Rattle.base.specs.Lists.{all-empty, all-cons}
 use Rattle.base.specs.Parts.{part}
-use Rattle.base.proofs.All.{all-take, bytes-of}
 use Rattle.base.proofs.Parts.{part-length, part-cons, part-append}
 use Rattle.block.specs.Sum.{sumFrom, checkSum}
+use Rattle.block.specs.Columns.{columnSum, columnRows, ColumnAt, Cells, ColumnsTo, lastFour}
 use Rattle.block.specs.Seal.{HasSize}
-use Rattle.block.proofs.Invariants.{Summed}
+use Rattle.block.specs.declared.columns.Column.{Column}
+use Rattle.block.proofs.Invariants.{RowsSummed, columnsFrom, Summed}
 
 -- no bytes sum to more than as many bytes 255
 sum-most : (i : ℕ) {s : List ℕ} → Bytes s → sumFrom i s ≤ sumFrom i (replicate (length s) 255)
@@ -30,67 +32,153 @@ pub sum-largest : {s : List ℕ} → Bytes s → length s ≡ 508 → sumFrom 1 
 unfolding sumFrom
 sum-largest {s} h e = rw e at (sum-most 1 h)
 
--- ---- the loop that sums
+-- ---- the rows of a column
 
-pub product-fits : {x place : ℕ} → x < 256 → place < 256 → x * place < 65536
-product-fits {x} {place} h k =
-    let a : x ≤ 255 = omega arith in
-    let b : place ≤ 255 = omega arith in
-    omega (arith, mul-le-mul a b)
+module _ (b : List ℕ) (j : ℕ) where
+  pub rows-start : RowsSummed b j 0 0 16
+  unfolding columnSum columnRows
+  rows-start = record { within = omega arith; plain = refl; weighted = refl; plain-most = omega arith; weighted-most = omega arith }
+
+  module _ (sum rows row : ℕ) (inv : RowsSummed b j sum rows row) where
+    -- x is the byte of the row above
+    pub rows-next : (x : ℕ) → 0 < row → x ≡ getD b (32 * (row - 1) + j) 0 → x < 256 → RowsSummed b j (sum + x) (rows + sum) (row - 1)
+    unfolding columnSum columnRows
+    rows-next x l e small =
+        let n : 16 - (row - 1) ≡ suc (16 - row) = omega (arith, inv .within) in
+        let p : 32 * (row - 1) + j + 32 ≡ 32 * row + j = omega arith in
+        record {
+          within = omega (arith, inv .within);
+          plain = rw (n, p) (omega (arith, inv .plain));
+          weighted = rw (n, p) (omega (arith, inv .plain, inv .weighted));
+          plain-most = omega (arith, inv .plain-most);
+          weighted-most = omega (arith, inv .plain-most, inv .weighted-most);
+        }
+
+    pub rows-end : row ≤ 0 → ColumnAt b j (record { sum = sum; rows = rows })
+    rows-end l =
+        let z : row ≡ 0 = omega arith in
+        record { plain = rw (z, zero-add j) at (inv .plain); weighted = rw (z, zero-add j) at (inv .weighted) }
+
+-- ---- the cells that hold the sums of the columns
+
+cells-next : (f : ℕ → ℕ) (l : List ℕ) (n x : ℕ) → Cells f l n → n < 32 → x ≡ f n → Cells f (set l n x) (n + 1)
+cells-next f l n x inv h e =
+    let last : getD (set l n x) n 0 ≡ f n = getD-set-same l n x 0 (omega (arith, inv .size)) ∙ e in
+    record {
+      size = length-set l n x ∙ inv .size;
+      each =
+          λ k z.
+          ⊎-elim
+          (λ (same : k ≡ n). rw same last)
+          (λ (less : k < n). getD-set-other l n k x 0 (λ (same : k ≡ n). omega arith) ∙ inv .each k less)
+          (eq-or-lt-of-le {n = k} {m = n} (omega arith));
+    }
+
+module _ (b : List ℕ) where
+  pub columns-start : ColumnsTo b (replicate 32 0) (replicate 32 0) 0
+  columns-start =
+      record {
+        within = omega arith;
+        plain = record { size = refl; each = λ k z. absurd (omega arith) };
+        weighted = record { size = refl; each = λ k z. absurd (omega arith) };
+      }
+
+  module _ (sums rows : List ℕ) (j : ℕ) (inv : ColumnsTo b sums rows j) where
+    pub columns-next : (c : Column) → j < 32 → ColumnAt b j c → ColumnsTo b (set sums j (c .sum)) (set rows j (c .rows)) (j + 1)
+    columns-next c l at =
+        record {
+          within = omega arith;
+          plain = cells-next _ sums j (c .sum) (inv .plain) l (at .plain);
+          weighted = cells-next _ rows j (c .rows) (inv .weighted) l (at .weighted);
+        }
+
+    pub columns-end : 32 ≤ j → ColumnsTo b sums rows 32
+    columns-end l = let z : j ≡ 32 = omega (arith, inv .within) in rw z at inv
+
+-- ---- the sum of a part
 
 sum-append : (i : ℕ) (xs ys : List ℕ) → sumFrom i (xs ++ ys) ≡ sumFrom i xs + sumFrom (i + length xs) ys
 unfolding sumFrom
 sum-append i [] ys = rw (add-zero i) (sym (zero-add (sumFrom i ys)))
 sum-append i (x ∷ xs) ys = let n : suc i + length xs ≡ i + suc (length xs) = omega arith in omega (arith, sum-append (suc i) xs ys, ap (λ (k : ℕ). sumFrom k ys) n)
 
-module _ (b : List ℕ) (h : HasSize b) where
-  -- the sum over both halves
-  halves : checkSum b ≡ sumFrom 1 (part b 0 254) + sumFrom 255 (part b 254 508)
-  unfolding checkSum
-  halves =
-      ap (sumFrom 1) (sym (part-append b 0 254 508 (omega arith) (omega arith)))
-      ∙ sum-append 1 (part b 0 254) (part b 254 508)
-      ∙ ap (λ (n : ℕ). sumFrom 1 (part b 0 254) + sumFrom (1 + n) (part b 254 508)) (part-length b 0 254 (omega (arith, h)))
-
-  pub summed-start : ((i : ℕ) → getD b i 0 < 256) → Summed b 0 0 1 0
-  unfolding checkSum
-  summed-start k =
-      record {
-        within = omega arith;
-        next = refl;
-        whole = omega (arith, halves);
-        most = sum-largest (all-take _ 508 (bytes-of b k)) (length-take-le 508 b (omega (arith, h)));
-      }
-
-  module _ (sum second place i : ℕ) (inv : Summed b sum second place i) (l : i < 254) where
-    -- the bytes at i of the two halves are the first of those that are left
-    first-split : sumFrom place (part b i 254) ≡ getD b i 0 * place + sumFrom (place + 1) (part b (i + 1) 254)
-    unfolding sumFrom
-    first-split = rw (part-cons b i 254 l (omega (arith, h)), add-one place)
-
-    second-split : sumFrom (place + 254) (part b (254 + i) 508) ≡ getD b (254 + i) 0 * place + 254 * getD b (254 + i) 0 + sumFrom (place + 1 + 254) (part b (254 + (i + 1)) 508)
-    unfolding sumFrom
-    second-split =
-        let p : suc (place + 254) ≡ place + 1 + 254 = omega arith in
-        let q : 254 + i + 1 ≡ 254 + (i + 1) = omega arith in
-        rw (part-cons b (254 + i) 508 (omega arith) (omega (arith, h)), mul-add (getD b (254 + i) 0) place 254, mul-comm (getD b (254 + i) 0) 254, p, q)
-
-    -- u and v are the products of the two bytes, w is the second half's
-    module _ (u v : ℕ) (g : u ≡ getD b i 0 * place) (k : v ≡ getD b (254 + i) 0 * place) where
-      pub summed-most : sum + (u + v) ≤ 32967930
-      summed-most = omega (arith, first-split, second-split, inv .whole, inv .most)
-
-      pub summed-next : (w : ℕ) → w ≡ getD b (254 + i) 0 → Summed b (sum + (u + v)) (second + w) (place + 1) (i + 1)
-      summed-next w n =
-          record {
-            within = omega arith;
-            next = omega (arith, inv .next);
-            whole = omega (arith, first-split, second-split, inv .whole);
-            most = inv .most;
-          }
-
-  pub summed-end : (sum second place i : ℕ) → Summed b sum second place i → 254 ≤ i → sum + 254 * second ≡ checkSum b
+module _ (b : List ℕ) where
+  part-sum-cons : (i a e : ℕ) → a < e → e ≤ length b → sumFrom i (part b a e) ≡ getD b a 0 * i + sumFrom (i + 1) (part b (a + 1) e)
   unfolding sumFrom
-  summed-end sum second place i inv l =
-      let z : i ≡ 254 = omega (arith, inv .within) in
-      omega (arith, rw z at (inv .whole))
+  part-sum-cons i a e h k = rw (part-cons b a e h k, add-one i)
+
+  part-sum-append : (i a m e : ℕ) → a ≤ m → m ≤ e → m ≤ length b → sumFrom i (part b a e) ≡ sumFrom i (part b a m) + sumFrom (i + (m - a)) (part b m e)
+  part-sum-append i a m e h k l =
+      ap (sumFrom i) (sym (part-append b a m e h k))
+      ∙ sum-append i (part b a m) (part b m e)
+      ∙ ap (λ (n : ℕ). sumFrom i (part b a m) + sumFrom (i + n) (part b m e)) (part-length b a m l)
+
+  -- the bytes after the first 508
+  last-four : HasSize b → lastFour b ≡ sumFrom 509 (part b 508 512)
+  unfolding sumFrom
+  last-four h =
+      let split : (i a : ℕ) → a < 512 → sumFrom i (part b a 512) ≡ getD b a 0 * i + sumFrom (i + 1) (part b (a + 1) 512) = λ i a l. part-sum-cons i a 512 l (omega (arith, h)) in
+      omega (arith, split 509 508 (omega arith), split 510 509 (omega arith), split 511 510 (omega arith), split 512 511 (omega arith))
+
+-- ---- the sum over all columns
+
+pub product-most : {x place : ℕ} → x < 65536 → place ≤ 32 → place * x ≤ 2097120
+product-most {x} {place} h k = let a : x ≤ 65535 = omega arith in omega (arith, mul-le-mul k a)
+
+-- a byte x above the rows of a column
+byte-above : (place x sum rows : ℕ) → 32 * (sum + rows) + place * (x + sum) ≡ x * place + (32 * rows + (place + 32) * sum)
+byte-above place x sum rows = omega (arith, mul-add place x sum, mul-comm place x, add-mul place 32 sum)
+
+module _ (b : List ℕ) where
+  -- the column j and those after it
+  column-split : (j : ℕ) → j < 32 → (p n : ℕ) → p + 32 * n ≤ length b
+      → columnsFrom b p j n ≡ 32 * columnRows b (p + j) n + (p + j + 1) * columnSum b (p + j) n + columnsFrom b p (j + 1) n
+  unfolding columnsFrom columnRows columnSum
+  column-split j l p zero h = omega arith
+  column-split j l p (suc n) h =
+      let q : p + 32 + j ≡ p + j + 32 = omega arith in
+      let r : p + 32 + j + 1 ≡ p + j + 1 + 32 = omega arith in
+      let s : p + j + 1 ≡ p + (j + 1) = omega arith in
+      let first : sumFrom (p + j + 1) (part b (p + j) (p + 32)) ≡ getD b (p + j) 0 * (p + j + 1) + sumFrom (p + (j + 1) + 1) (part b (p + (j + 1)) (p + 32)) = part-sum-cons b (p + j + 1) (p + j) (p + 32) (omega arith) (omega arith) ∙ rw s in
+      let below = rw (r, q) at (column-split j l (p + 32) n (omega arith)) in
+      omega (arith, below, byte-above (p + j + 1) (getD b (p + j) 0) (columnSum b (p + j + 32) n) (columnRows b (p + j + 32) n))
+
+  columns-none : (p n : ℕ) → columnsFrom b p 32 n ≡ 0
+  unfolding columnsFrom sumFrom
+  columns-none p zero = refl
+  columns-none p (suc n) = let k : p + 32 - (p + 32) ≡ 0 = omega arith in rw k (omega (arith, columns-none (p + 32) n))
+
+module _ (b : List ℕ) (h : HasSize b) where
+  columns-all : (p n : ℕ) → p + 32 * n ≡ 512 → columnsFrom b p 0 n ≡ sumFrom (p + 1) (part b p 512)
+  unfolding columnsFrom sumFrom
+  columns-all p zero e = let k : p ≡ 512 = omega arith in rw k
+  columns-all p (suc n) e =
+      let k : p + 1 + (p + 32 - p) ≡ p + 32 + 1 = omega arith in
+      let rows = rw k at (part-sum-append b (p + 1) p (p + 32) 512 (omega arith) (omega arith) (omega (arith, h))) in
+      rw (add-zero p) (omega (arith, rows, columns-all (p + 32) n (omega arith)))
+
+  pub summed-start : Summed b 0 0
+  summed-start = record { within = omega arith; whole = omega (arith, columns-all 0 16 (omega arith)); most = omega arith }
+
+  module _ (total j : ℕ) (inv : Summed b total j) where
+    pub summed-next : (x : ℕ) (sums rows : List ℕ) → ColumnsTo b sums rows 32 → j < 32 → x ≡ 32 * getD rows j 0 + (j + 1) * getD sums j 0 → x ≤ 4194304 → Summed b (total + x) (j + 1)
+    summed-next x sums rows of l e small =
+        let split = rw (zero-add j) at (column-split b j l 0 16 (omega (arith, h))) in
+        record {
+          within = omega arith;
+          whole = omega (arith, inv .whole, split, rw (of .plain .each j l, of .weighted .each j l) at e);
+          most = omega (arith, inv .most);
+        }
+
+    module _ (rest : ℕ) (l : 32 ≤ j) (e : rest ≡ lastFour b) where
+      summed-all : total ≡ checkSum b + rest
+      unfolding checkSum
+      summed-all =
+          let z : j ≡ 32 = omega (arith, inv .within) in
+          omega (arith, rw z at (inv .whole), columns-none b 0 16, last-four b h, part-sum-append b 1 0 508 512 (omega arith) (omega arith) (omega (arith, h)))
+
+      pub summed-rest : rest ≤ total
+      summed-rest = omega (arith, summed-all)
+
+      pub summed-end : total - rest ≡ checkSum b
+      summed-end = omega (arith, summed-all)

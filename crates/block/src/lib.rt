@@ -1,11 +1,13 @@
 // Blocks of 512 bytes, which sheets and cards are: the size, the check sum, numbers of four bytes, and the items that a block lists.
+mod columns;
+
+pub use columns::check_sum;
 ghost use mathlib.Core.Path.{_≡_};
 ghost use mathlib.Core.Bool.{_&&_};
-ghost use Prim.Native.Nat.{_+_, _*_, _≤_, _<_};
+ghost use Prim.Native.Nat.{_+_, _≤_, _<_};
 ghost use lib.Dec.{eqb};
 ghost use lib.ListN.{length};
 ghost use Rattle.block.specs.Words.{word};
-ghost use Rattle.block.specs.Sum.{checkSum};
 ghost use Rattle.block.specs.Seal.{HasSize, check};
 ghost use Rattle.block.specs.Items.{zeros, hasMarks, laidOut, hasLayout, hasEither, ItemAt};
 
@@ -54,35 +56,6 @@ pub fn word(block: &[u8], at: usize) -> u32
     let c = wide(block[at + 2]);
     let d = wide(block[at + 3]);
     a + 256 * (b + 256 * (c + 256 * d))
-}
-
-// A byte times a place. The product has 16 bits, so that a loop over it is compiled to vector instructions of that width.
-fn times(b: u8, place: u16) -> u32
-    requires { ⌜ place < 256 ⌝ }
-    ensures { λ r. ⌜ r ≡ b * place ⌝ }
-{
-    (b as u16 * place) as u32
-}
-
-// The sum of the first 508 bytes, each times its place counted from 1. The two halves are walked together, each by the place
-// in its half; a byte of the second half then lacks 254 times itself.
-pub fn check_sum(block: &[u8]) -> u32
-    requires { ⌜ HasSize (now block) ⌝ }
-    ensures { λ r. ⌜ r ≡ checkSum (now (block .entry)) ⌝ }
-{
-    let mut sum: u32 = 0;
-    let mut second: u32 = 0;
-    let mut place: u16 = 1;
-    let mut i: usize = 0;
-    while i < 254 {
-        let a = block[i];
-        let b = block[254 + i];
-        sum += times(a, place) + times(b, place);
-        second += wide(b);
-        place += 1;
-        i += 1;
-    }
-    sum + 254 * second
 }
 
 // Whether a block has its size, and its bytes 508 to 511 its check sum.
