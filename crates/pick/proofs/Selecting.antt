@@ -7,11 +7,11 @@ use lib.ListN.{length}
 use Rattle.sirophan.specs.declared.Refusal.{Refusal}
 use Rattle.sirophan.specs.declared.Selected.{Selected}
 use Rattle.sirophan.specs.Answers.{numberOf, refusalAnswer, selectedAnswer}
-use Rattle.sirophan.specs.Selecting.{Selects}
+use Rattle.sirophan.specs.Contracts.{SelectsInto}
 use Rattle.sirophan.proofs.Promises.{select-count-within, select-place-within}
 use Rattle.pick.specs.Bounds.{PlaceBound}
 
-module _ (sheet text cards list : List ℕ) {r : Selected} {exit : List ℕ} (s : Selects sheet text cards list r exit) where
+module _ (sheet text cards list : List ℕ) {r : Selected} {exit : List ℕ} (s : SelectsInto sheet text cards list r exit) where
   pub selected-count : (n : ℕ) → r ≡ Selected.Count n → n ≤ length list
   unfolding selectedAnswer
   selected-count n e = select-count-within sheet text cards list n (sym (s .answers) ∙ rw e)

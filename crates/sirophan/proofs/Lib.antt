@@ -23,5 +23,8 @@ pub mod Deciding
 pub mod CheckTable
 pub mod MatchTable
 pub mod SelectTable
+pub mod Contracts
+pub mod Answered
+pub mod Operators
 pub mod Trial
 pub mod Promises

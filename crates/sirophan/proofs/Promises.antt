@@ -2,21 +2,22 @@
 -- that the code answers as checkAnswer, matchAnswer and selectAnswer do, and leaves the list as selectCells says. Assumes nothing.
 use Prim.Native.Nat.{ℕ, _≤_, _<_}
 use mathlib.Core.Path.{_≡_}
-use mathlib.Core.Bool.{true}
+use mathlib.Core.Bool.{Bool, true}
 use mathlib.Core.Logic.{_↔_}
 use mathlib.Core.Option.{some}
-use mathlib.Core.List.{List}
-use lib.ListN.{length}
+use mathlib.Core.List.{List, [], _∷_, map}
+use lib.ListN.{length, getD}
 use Rattle.base.specs.Ascii.{ascii}
 use Rattle.base.specs.Bytes.{Bytes}
 use Rattle.base.specs.Lists.{All}
+use Rattle.base.specs.Operators.{operatorWords, eq, ne, co, sw, ew, gt, lt, ge, le, ap, sa, eb, pr, po, ss, sb, «in», ni, re}
 use Rattle.block.specs.declared.Reading.the-variants.{WellFormed}
 use Rattle.sheet.specs.Sheet.{Parameter, readSheet}
-use Rattle.sheet.specs.Encode.{SheetBlock}
+use Rattle.sheet.specs.Encode.{encodeSheet, WellFormedSheet, SheetForm, SheetBlock, ReadsAsSheet}
 use Rattle.sheet.specs.Trial.{trialParameters, trialSheet, bundleSheet}
 use Rattle.sheet.proofs.Sheets as sheets
 use Rattle.card.specs.Card.{Entry, readCard}
-use Rattle.card.specs.Encode.{CardBlock}
+use Rattle.card.specs.Encode.{encodeCard, WellFormedCard, CardBlock, ReadsAsCard}
 use Rattle.card.specs.Trial.{trialCard, bundleCard}
 use Rattle.card.proofs.Cards as cards
 use Rattle.syntax.specs.Tree.{Tree, test, testsOf, Rising}
@@ -37,7 +38,7 @@ use Rattle.judge.specs.Rules.{Conforms}
 use Rattle.kind.specs.Rules.{StandsIn}
 use Rattle.sirophan.specs.Verdicts.{Verdict}
 use Rattle.sirophan.specs.Demand.{Demand, MeetsDemand, Agree}
-use Rattle.sirophan.specs.Selection.{Run, matchingCards, matchingNumbers, occurrences, bearing, SelectsByMatch}
+use Rattle.sirophan.specs.Selection.{Run, matchingCards, matchingNumbers, occurrences, bearing, SelectsByMatch, SelectAnswers}
 use Rattle.sirophan.specs.Refusals.{Decides, CheckLine, MatchLine, SelectLine}
 use Rattle.sirophan.specs.Trial.{Row, trialRows, bundleRows, titleTest, codeTest}
 use Rattle.kind.proofs.Rules as rules
@@ -50,6 +51,8 @@ use Rattle.sirophan.proofs.Bounds as bounds
 use Rattle.sirophan.proofs.CheckTable as check-table
 use Rattle.sirophan.proofs.MatchTable as match-table
 use Rattle.sirophan.proofs.SelectTable as select-table
+use Rattle.sirophan.proofs.Answered as answered
+use Rattle.sirophan.proofs.Operators as words
 use Rattle.sirophan.proofs.Trial as trial
 
 -- ---- demand 1: an answer or a refusal, and a refusal writes nothing
@@ -90,6 +93,18 @@ sheet-read = sheets.sheet-iff
 pub card-read : (b : List ℕ) → (Bytes b × (readCard b ≡ WellFormed)) ↔ CardBlock b
 card-read = cards.card-iff
 
+-- and what is read of them is what was written
+pub sheet-contents : (b : List ℕ) (marked : Bool) (ps : List Parameter) → ReadsAsSheet b marked ps ↔ (WellFormedSheet ps × SheetForm marked ps × (b ≡ encodeSheet marked ps))
+sheet-contents = sheets.sheet-reads-iff
+
+pub card-contents : (b : List ℕ) (marked : Bool) (n : ℕ) (es : List Entry) → ReadsAsCard b marked n es ↔ (WellFormedCard marked n es × (b ≡ encodeCard marked n es))
+card-contents = cards.card-reads-iff
+
+-- the word of each operator stands at its number
+pub operator-words : map (λ (k : ℕ). getD operatorWords k []) (eq ∷ ne ∷ co ∷ sw ∷ ew ∷ gt ∷ lt ∷ ge ∷ le ∷ ap ∷ sa ∷ eb ∷ pr ∷ po ∷ ss ∷ sb ∷ «in» ∷ ni ∷ re ∷ [])
+    ≡ map ascii ("eq" ∷ "ne" ∷ "co" ∷ "sw" ∷ "ew" ∷ "gt" ∷ "lt" ∷ "ge" ∷ "le" ∷ "ap" ∷ "sa" ∷ "eb" ∷ "pr" ∷ "po" ∷ "ss" ∷ "sb" ∷ "in" ∷ "ni" ∷ "re" ∷ [])
+operator-words = words.operator-words
+
 pub filter-read : (text : List ℕ) (f : Tree) → (read text ≡ some f) ↔ Spells text f
 filter-read = spelling.read-spells
 
@@ -121,6 +136,11 @@ match-verdict = demand.match-verdict
 -- a selection lists the record numbers of the cards on which match answers yes, in card order
 pub select-by-match : (sheet text cards list : List ℕ) (bs : List (List ℕ)) → Run cards bs → SelectsByMatch sheet text cards list bs
 select-by-match = selection.selects-by-match
+
+-- where no line of the table holds, it answers, and with these
+pub select-answered : (sheet text cards list : List ℕ) → Bytes sheet → Bytes cards → (bs : List (List ℕ)) → Run cards bs
+    → ((n p : ℕ) → SelectLine sheet text cards (length list) n p → ⊥) → SelectAnswers sheet text cards list bs
+select-answered = answered.select-answered
 
 -- each as often as matching cards bear it
 pub select-occurrences : (sheet text : List ℕ) (bs : List (List ℕ)) (x : ℕ) → occurrences x (matchingNumbers sheet text bs) ≡ length (bearing x (matchingCards sheet text bs))

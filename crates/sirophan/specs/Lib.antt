@@ -8,5 +8,6 @@ pub mod Numbers
 pub mod Demand
 pub mod Selection
 pub mod Refusals
+pub mod Contracts
 pub mod Witness
 pub mod Trial

@@ -54,6 +54,12 @@ pub record RefusesCard (sheet text : List ℕ) (bs : List (List ℕ)) (n i : ℕ
   pub refuses : matchAnswer sheet text card ≡ refused n 0
   pub earlier : All (λ (b : List ℕ). (m p : ℕ) → matchAnswer sheet text b ≡ refused m p → ⊥) (at .before)
 
+-- where no line of the table holds, select answers the number of the matching cards, and writes their record numbers before what the
+-- list held
+pub record SelectAnswers (sheet text cards list : List ℕ) (bs : List (List ℕ)) : Type 0 where
+  pub counts : selectAnswer sheet text cards (length list) ≡ count (length (matchingCards sheet text bs))
+  pub writes : selectCells sheet text cards list ≡ matchingNumbers sheet text bs ++ drop (length (matchingCards sheet text bs)) list
+
 -- what select answers, and writes into the list, by what match answers on each card of the run
 pub record SelectsByMatch (sheet text cards list : List ℕ) (bs : List (List ℕ)) : Type 0 where
   -- the count is that of the cards on which match answers yes

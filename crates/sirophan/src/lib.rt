@@ -1,14 +1,15 @@
 // Sirophan: which cards of an archive match a filter. A filter either has a meaning on every card that fits the sheet, and
 // is answered exactly, or is refused with a number and a place.
 mod numbers;
+mod operations;
 mod reading;
 mod run;
 mod verdict;
 
 pub use numbers::number;
-pub use reading::check;
-pub use run::select;
-pub use verdict::match_card;
+pub use operations::check;
+pub use operations::match_card;
+pub use operations::select;
 
 // Why an operation refuses, in the order of the numbers of refusal.
 pub enum Reason {

@@ -93,7 +93,7 @@ fn check_text(sheet: &[u8], filter: &[u8]) -> Checked
 }
 
 // How many tests a filter has, where every test has a meaning on every card that fits the sheet; or why not, and where.
-pub fn check(sheet: &[u8], filter: &[u8]) -> Checked
+pub fn check_bytes(sheet: &[u8], filter: &[u8]) -> Checked
     ensures { λ r. ⌜ checkedAnswer r ≡ checkAnswer (now (sheet .entry)) (now (filter .entry)) ⌝ }
 {
     let reading = sheet::read_sheet(sheet);

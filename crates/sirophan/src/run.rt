@@ -3,7 +3,7 @@ use crate::Checked;
 use crate::Reason;
 use crate::Refusal;
 use crate::Selected;
-use crate::reading::check;
+use crate::reading::check_bytes;
 use crate::verdict::CardVerdict;
 use crate::verdict::judge_card;
 ghost use mathlib.Core.Path.{_≡_};
@@ -98,10 +98,10 @@ fn select_cards(sheet: &[u8], filter: &[u8], cards: &[u8], list: &mut [u32]) -> 
 
 // Writes the record numbers of the cards that match into the list, from its first cell, in card order and with repeats, and
 // answers how many; or why there is no answer, and where. Later cells stay, and on a refusal all of them.
-pub fn select(sheet: &[u8], filter: &[u8], cards: &[u8], list: &mut [u32]) -> Selected
+pub fn select_bytes(sheet: &[u8], filter: &[u8], cards: &[u8], list: &mut [u32]) -> Selected
     ensures { λ r. ⌜ Selects (now (sheet .entry)) (now (filter .entry)) (now (cards .entry)) (now (list .entry)) r (now (list .exit)) ⌝ }
 {
-    let checked = check(sheet, filter);
+    let checked = check_bytes(sheet, filter);
     match checked {
         Checked::Tests(_) => select_cards(sheet, filter, cards, list),
         Checked::Refused(refusal) => Selected::Refused(refusal),

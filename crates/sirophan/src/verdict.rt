@@ -3,7 +3,7 @@ use crate::Checked;
 use crate::Matched;
 use crate::Reason;
 use crate::Refusal;
-use crate::reading::check;
+use crate::reading::check_bytes;
 use block::Reading;
 use filter::Judged;
 use filter::Spot;
@@ -72,10 +72,10 @@ pub fn judge_card(sheet: &[u8], kinds: &[u8], filter: &[u8], card: &[u8]) -> Car
 }
 
 // Whether a card matches a filter on a sheet, or why there is no answer, and where.
-pub fn match_card(sheet: &[u8], filter: &[u8], card: &[u8]) -> Matched
+pub fn match_bytes(sheet: &[u8], filter: &[u8], card: &[u8]) -> Matched
     ensures { λ r. ⌜ matchedAnswer r ≡ matchAnswer (now (sheet .entry)) (now (filter .entry)) (now (card .entry)) ⌝ }
 {
-    let checked = check(sheet, filter);
+    let checked = check_bytes(sheet, filter);
     match checked {
         Checked::Refused(refusal) => Matched::Refused(refusal),
         Checked::Tests(_) => {

@@ -1,11 +1,11 @@
--- `sirophan::verdict::match_card` meets its contract: check first, then the card. Assumes nothing.
+-- `sirophan::verdict::match_bytes` meets its contract: check first, then the card. Assumes nothing.
 use borrow.Author.Needs.{needs}
 use Rattle.sirophan.proofs.Passing.{passing, match-refused, match-yes, match-no, match-card-refused}
-use Rattle.sirophan.proofs.verdict.match_card.Statement.{statement}
-use Rattle.sirophan.proofs.verdict.match_card.Tie as tie
+use Rattle.sirophan.proofs.verdict.match_bytes.Statement.{statement}
+use Rattle.sirophan.proofs.verdict.match_bytes.Tie as tie
 
-check-requires : tie.Need-check-requires
-check-requires c κs = search needs
+check-bytes-requires : tie.Need-check-bytes-requires
+check-bytes-requires c κs = search needs
 
 enum-known-checked : tie.Need-enum-known-checked
 enum-known-checked c = search needs
@@ -14,7 +14,7 @@ enum-told : tie.Need-enum-told
 enum-told c = search needs
 
 kinds-requires : tie.Need-kinds-requires
-kinds-requires c κs = passing _ _ _ _ (c .before .before .check .ensures) (c .enum-told .given .1) .sheet-well-formed
+kinds-requires c κs = passing _ _ _ _ (c .before .before .check-bytes .ensures) (c .enum-told .given .1) .sheet-well-formed
 
 slice-aggregate-judge-card : tie.Need-slice-aggregate-judge-card
 slice-aggregate-judge-card c = search needs
@@ -40,11 +40,11 @@ returns-3 c = search (match-no, passing, needs)
 returns-4 : tie.Need-returns-4
 returns-4 c = search (match-card-refused, passing, needs)
 
-pub match-card-spec : {M : Type 1} → statement M
-match-card-spec =
+pub match-bytes-spec : {M : Type 1} → statement M
+match-bytes-spec =
     tie.close
     (tie.spec
-    check-requires
+    check-bytes-requires
     enum-known-checked
     enum-told
     kinds-requires

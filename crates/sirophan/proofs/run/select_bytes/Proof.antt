@@ -1,12 +1,12 @@
--- `sirophan::run::select` meets its contract: check first, then the cards. Assumes nothing.
+-- `sirophan::run::select_bytes` meets its contract: check first, then the cards. Assumes nothing.
 use borrow.Author.Needs.{needs}
 use Rattle.sirophan.proofs.Passing.{passing}
 use Rattle.sirophan.proofs.Selecting.{select-refused}
-use Rattle.sirophan.proofs.run.select.Statement.{statement}
-use Rattle.sirophan.proofs.run.select.Tie as tie
+use Rattle.sirophan.proofs.run.select_bytes.Statement.{statement}
+use Rattle.sirophan.proofs.run.select_bytes.Tie as tie
 
-check-requires : tie.Need-check-requires
-check-requires c κs = search needs
+check-bytes-requires : tie.Need-check-bytes-requires
+check-bytes-requires c κs = search needs
 
 enum-told : tie.Need-enum-told
 enum-told c = search needs
@@ -26,11 +26,11 @@ returns c = search needs
 returns-2 : tie.Need-returns-2
 returns-2 c = search (select-refused, needs)
 
-pub select-spec : {M : Type 1} → statement M
-select-spec =
+pub select-bytes-spec : {M : Type 1} → statement M
+select-bytes-spec =
     tie.close
     (tie.spec
-    check-requires
+    check-bytes-requires
     enum-told
     select-cards-requires
     enum-known-checked

@@ -1,10 +1,10 @@
--- `sirophan::reading::check` meets its contract: the sheet first, then the filter. Assumes nothing.
+-- `sirophan::reading::check_bytes` meets its contract: the sheet first, then the filter. Assumes nothing.
 use borrow.Author.Needs.{needs}
 use mathlib.Core.Path.{refl, sym, _∙_}
 use Rattle.block.specs.declared.Reading.{Reading}
 use Rattle.sirophan.proofs.Checking.{check-sheet, check-filter}
-use Rattle.sirophan.proofs.reading.check.Statement.{statement}
-use Rattle.sirophan.proofs.reading.check.Tie as tie
+use Rattle.sirophan.proofs.reading.check_bytes.Statement.{statement}
+use Rattle.sirophan.proofs.reading.check_bytes.Tie as tie
 
 read-sheet-requires : tie.Need-read-sheet-requires
 read-sheet-requires c κs = search needs
@@ -45,8 +45,8 @@ returns-3 c = check-sheet _ _ _ (c .before .before .before .read-sheet .ensures)
 returns-4 : tie.Need-returns-4
 returns-4 c = check-sheet _ _ _ (c .before .before .before .read-sheet .ensures) _ Reading.WrongLayout 3 (λ ps. refl) (c .before .enum-told4 .given .1) (c .refuse3 .ensures)
 
-pub check-spec : {M : Type 1} → statement M
-check-spec =
+pub check-bytes-spec : {M : Type 1} → statement M
+check-bytes-spec =
     tie.close
     (tie.spec
     read-sheet-requires

@@ -1,0 +1,50 @@
+-- The code's answers are refused by the tables: a slice holds bytes, which is all that the tables ask.
+-- Assumes nothing.
+use Prim.Native.Nat.{ℕ, _<_}
+use mathlib.Core.Path.{_≡_, sym, _∙_}
+use mathlib.Core.Logic.{_↔_}
+use mathlib.Core.List.{List}
+use lib.ListN.{length, getD}
+use Rattle.base.specs.Bytes.{Bytes}
+use Rattle.base.proofs.All.{bytes-of}
+use Rattle.sirophan.specs.Answers.{Answer, refused, checkedAnswer, matchedAnswer, selectedAnswer}
+use Rattle.sirophan.specs.Operations.{checkAnswer, matchAnswer, selectAnswer, selectCells}
+use Rattle.sirophan.specs.Refusals.{Decides, CheckLine, MatchLine, SelectLine}
+use Rattle.sirophan.specs.Selecting.{Selects}
+use Rattle.sirophan.specs.Contracts.{RefusedBy, Checks, Matches, SelectsInto}
+use Rattle.sirophan.specs.declared.Checked.{Checked}
+use Rattle.sirophan.specs.declared.Matched.{Matched}
+use Rattle.sirophan.specs.declared.Selected.{Selected}
+use Rattle.sirophan.proofs.CheckTable.{check-table}
+use Rattle.sirophan.proofs.MatchTable.{match-table}
+use Rattle.sirophan.proofs.SelectTable.{select-table}
+
+-- what a slice's type says of its elements
+abbrev pub Sliced : List ℕ → Type 0
+Sliced s = (i : ℕ) → getD s i 0 < 256
+
+-- the table of a definition is that of an equal answer
+refused-by : (Line : ℕ → ℕ → Type 0) (a b : Answer) → a ≡ b → RefusedBy Line b → RefusedBy Line a
+refused-by Line a b e t n p = ((λ f. t n p .0 (sym e ∙ f)), (λ d. e ∙ t n p .1 d))
+
+pub checks : (sheet text : List ℕ) (r : Checked) → checkedAnswer r ≡ checkAnswer sheet text → Sliced sheet → Checks sheet text r
+checks sheet text r e s =
+    record { answers = e; refuses = refused-by (CheckLine sheet text) (checkedAnswer r) (checkAnswer sheet text) e (check-table sheet text (bytes-of sheet s)) }
+
+pub matches : (sheet text card : List ℕ) (r : Matched) → matchedAnswer r ≡ matchAnswer sheet text card → Sliced sheet → Sliced card → Matches sheet text card r
+matches sheet text card r e s c =
+    record {
+      answers = e;
+      refuses = refused-by (MatchLine sheet text card) (matchedAnswer r) (matchAnswer sheet text card) e (match-table sheet text card (bytes-of sheet s) (bytes-of card c));
+    }
+
+pub selects-into : (sheet text cards list : List ℕ) (r : Selected) (exit : List ℕ) → Selects sheet text cards list r exit → Sliced sheet → Sliced cards
+    → SelectsInto sheet text cards list r exit
+selects-into sheet text cards list r exit h s c =
+    record {
+      answers = h .answers;
+      cells = h .cells;
+      refuses =
+          refused-by (SelectLine sheet text cards (length list)) (selectedAnswer r) (selectAnswer sheet text cards (length list)) (h .answers)
+          (select-table sheet text cards (length list) (bytes-of sheet s) (bytes-of cards c));
+    }

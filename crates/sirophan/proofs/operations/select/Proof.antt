@@ -1,0 +1,18 @@
+-- `sirophan::operations::select` meets its contract: the table is that of the definition, and slices hold bytes. Assumes nothing.
+use native.Mathlib.Omega.{arith}
+use borrow.Author.Needs.{needs}
+use Rattle.sirophan.proofs.Contracts.{selects-into}
+use Rattle.sirophan.proofs.operations.select.Statement.{statement}
+use Rattle.sirophan.proofs.operations.select.Tie as tie
+
+select-bytes-requires : tie.Need-select-bytes-requires
+select-bytes-requires c κs = search needs
+
+same-length : tie.Need-same-length
+same-length c = search needs
+
+returns : tie.Need-returns
+returns c = selects-into _ _ _ _ _ _ (c .before .before .select-bytes .ensures) (λ i. omega (arith, c .before .before .before .before .before .before .before .shared-slice-known .given i)) (λ i. omega (arith, c .before .before .before .before .before .shared-slice-known3 .given i))
+
+pub select-spec : {M : Type 1} → statement M
+select-spec = tie.close (tie.spec select-bytes-requires same-length returns)

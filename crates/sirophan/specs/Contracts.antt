@@ -1,0 +1,31 @@
+-- What the code of the operations owes on every input: the answer of its definition, and of a refusal that a line of the table decides.
+-- Assumes nothing.
+use Prim.Native.Nat.{ℕ}
+use mathlib.Core.Path.{_≡_}
+use mathlib.Core.Logic.{_↔_}
+use mathlib.Core.List.{List}
+use lib.ListN.{length}
+use Rattle.sirophan.specs.Answers.{Answer, refused, checkedAnswer, matchedAnswer, selectedAnswer}
+use Rattle.sirophan.specs.Operations.{checkAnswer, matchAnswer, selectAnswer, selectCells}
+use Rattle.sirophan.specs.Refusals.{Decides, CheckLine, MatchLine, SelectLine}
+use Rattle.sirophan.specs.declared.Checked.{Checked}
+use Rattle.sirophan.specs.declared.Matched.{Matched}
+use Rattle.sirophan.specs.declared.Selected.{Selected}
+
+-- the answer is refused with a number and a place exactly where that line of the table holds and none before it does
+abbrev pub RefusedBy : (ℕ → ℕ → Type 0) → Answer → Type 0
+RefusedBy Line a = (n p : ℕ) → (a ≡ refused n p) ↔ Decides Line n p
+
+pub record Checks (sheet text : List ℕ) (r : Checked) : Type 0 where
+  pub answers : checkedAnswer r ≡ checkAnswer sheet text
+  pub refuses : RefusedBy (CheckLine sheet text) (checkedAnswer r)
+
+pub record Matches (sheet text card : List ℕ) (r : Matched) : Type 0 where
+  pub answers : matchedAnswer r ≡ matchAnswer sheet text card
+  pub refuses : RefusedBy (MatchLine sheet text card) (matchedAnswer r)
+
+-- every cell of the list at exit, too
+pub record SelectsInto (sheet text cards list : List ℕ) (r : Selected) (exit : List ℕ) : Type 0 where
+  pub answers : selectedAnswer r ≡ selectAnswer sheet text cards (length list)
+  pub cells : exit ≡ selectCells sheet text cards list
+  pub refuses : RefusedBy (SelectLine sheet text cards (length list)) (selectedAnswer r)

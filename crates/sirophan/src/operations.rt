@@ -1,0 +1,30 @@
+// The operations, with all that is promised of each: the answer of its definition, refused exactly where a line of the table of
+// refusals decides. A slice holds bytes, so that nothing is asked of the caller.
+use crate::Checked;
+use crate::Matched;
+use crate::Selected;
+use crate::reading::check_bytes;
+use crate::run::select_bytes;
+use crate::verdict::match_bytes;
+ghost use Rattle.sirophan.specs.Contracts.{Checks, Matches, SelectsInto};
+
+// How many tests a filter has, where each has a meaning on every card that fits the sheet.
+pub fn check(sheet: &[u8], filter: &[u8]) -> Checked
+    ensures { λ r. ⌜ Checks (now (sheet .entry)) (now (filter .entry)) r ⌝ }
+{
+    check_bytes(sheet, filter)
+}
+
+// Whether a card matches a filter. (`match` is a word of the language.)
+pub fn match_card(sheet: &[u8], filter: &[u8], card: &[u8]) -> Matched
+    ensures { λ r. ⌜ Matches (now (sheet .entry)) (now (filter .entry)) (now (card .entry)) r ⌝ }
+{
+    match_bytes(sheet, filter, card)
+}
+
+// Writes the record numbers of the matching cards of a run into the list, in card order, and answers how many they are.
+pub fn select(sheet: &[u8], filter: &[u8], cards: &[u8], list: &mut [u32]) -> Selected
+    ensures { λ r. ⌜ SelectsInto (now (sheet .entry)) (now (filter .entry)) (now (cards .entry)) (now (list .entry)) r (now (list .exit)) ⌝ }
+{
+    select_bytes(sheet, filter, cards, list)
+}
