@@ -26,6 +26,9 @@ use Rattle.syntax.specs.Reader.{read}
 use Rattle.syntax.proofs.Spelling as spelling
 use Rattle.place.specs.Begins.{Begins, Longest, Number}
 use Rattle.place.proofs.Place as place
+use Rattle.date.specs.Calendar.{daysBeforeMonth}
+use Rattle.date.specs.Arithmetic.{beforeByNumber}
+use Rattle.date.proofs.Calendar as calendar
 use Rattle.kind.specs.Readable.{cardReadable, valueReadable}
 use Rattle.kind.specs.Stands.{stands}
 use Rattle.kind.specs.Table.{hasMeaning}
@@ -127,6 +130,10 @@ operator-has-meaning = rules.operator-iff
 
 pub text-stands : (r : Relation) (x v : List ℕ) → (stands r x v ≡ true) ↔ StandsIn r x v
 text-stands = rules.stands-iff
+
+-- the calendar: for each month of either kind of year, the arithmetic on its number gives the sum of the lengths before it
+pub days-before-month : (leap : Bool) (m : ℕ) → m ≤ 12 → beforeByNumber leap m ≡ daysBeforeMonth leap m
+days-before-month = calendar.days-before-month
 
 -- where check passes, match answers yes exactly where the filter says yes of the card, and no where it does not
 pub match-verdict : (sheet text : List ℕ) (s : SheetBlock sheet) (f : Tree) → length text ≤ 1024 → Spells text f → checkAnswer sheet text ≡ count (length (testsOf f))
