@@ -13,7 +13,7 @@ use Rattle.base.specs.Ascii.{ascii}
 use Rattle.base.specs.Operators.{pr, eq, ne}
 use Rattle.base.proofs.Lists.{length-zero}
 use Rattle.base.proofs.Tests.{or-either, or-left, or-right, decided, both-ways, cond-either, cond-elim}
-use Rattle.text.specs.Fold.{foldByte, foldText}
+use Rattle.text.specs.Fold.{isCapital, isAccented, foldByte, foldFrom, foldText}
 use Rattle.text.specs.Compare.{same}
 use Rattle.text.proofs.Readings.{same-reads, starts-reads, ends-reads, contains-reads}
 use Rattle.base.specs.Kinds.{string, number, date, token, reference}
@@ -108,11 +108,11 @@ word-iff w v e = ((λ h. same-reads v w .0 h ∙ e), (λ h. same-reads v w .1 (h
 
 module _ (v : List ℕ) where
   pub true-iff : (isTrue v ≡ true) ↔ (foldText v ≡ ascii "true")
-  unfolding isTrue foldText foldByte
+  unfolding isTrue foldText foldFrom foldByte isCapital isAccented
   true-iff = word-iff (ascii "true") v refl
 
   pub false-iff : (isFalse v ≡ true) ↔ (foldText v ≡ ascii "false")
-  unfolding isFalse foldText foldByte
+  unfolding isFalse foldText foldFrom foldByte isCapital isAccented
   false-iff = word-iff (ascii "false") v refl
 
   either-there : (isTrue v || isFalse v) ≡ true → TrueOrFalse v

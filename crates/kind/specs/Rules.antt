@@ -71,7 +71,8 @@ pub data HasOperator (kind : ℕ) : ℕ → Type 0 where
 
 -- ---- relations
 
--- the card's text x stands in the relation to the filter's value v; "text comparisons ignore the case of A to Z"
+-- the card's text x stands in the relation to the filter's value v; "text comparisons ignore the case of A to Z", and that of the letters
+-- U+00C0 to U+00DE without U+00D7: "each text is folded whole before it is compared"
 pub data StandsIn : Relation → List ℕ → List ℕ → Type 0 where
   -- "eq same; co holds it somewhere; sw, ew at the start, at the end"
   string-same : {x v : List ℕ} → foldText x ≡ foldText v → StandsIn (Relation.Strings StringRelation.Same) x v

@@ -14,7 +14,7 @@ use lines::readings;
 fn main() {
     comparisons(
         b's',
-        b"Ward~wARD\naz~AZ\n@~`\n[~{\n\xc3\x84~\xc3\xa4\n~\nWard~\n~w\nWard~Wards\nWard book 4~WARD\n\
+        b"Ward~wARD\naz~AZ\n@~`\n[~{\n\xc3\x84~\xc3\xa4\n\xc3\x97~\xc3\xb7\n~\nWard~\n~w\nWard~Wards\nWard book 4~WARD\n\
           Ward book 4~BOOK\nWard book 4~K 4\naab~ab\n",
     );
     readings(

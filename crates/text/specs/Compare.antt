@@ -1,4 +1,4 @@
--- The comparisons of a card's text a with a filter's text b, ignoring the case of A to Z.
+-- The comparisons of a card's text a with a filter's text b, ignoring case.
 -- Each folds both texts whole and compares the results. Assumes nothing.
 use Prim.Native.Nat.{ℕ}
 use mathlib.Core.Bool.{Bool}

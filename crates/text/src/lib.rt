@@ -1,21 +1,51 @@
-// Comparisons of texts that ignore the case of A to Z, and the first bar of a text.
+// Comparisons of texts that ignore the case of A to Z and of the letters U+00C0 to U+00DE, and the first bar of a text.
 // All comparisons read a text folded, through `folded_at` alone.
 ghost use mathlib.Core.Path.{_≡_};
 ghost use Prim.Native.Nat.{_+_, _≤_, _<_};
+ghost use mathlib.Core.List.{_∷_};
+ghost use lib.Dec.{eqb};
 ghost use lib.ListN.{length, getD, drop};
-ghost use Rattle.text.specs.Fold.{foldText};
+ghost use Rattle.text.specs.Fold.{isCapital, lead, isAccented, foldText};
 ghost use Rattle.base.specs.Affixes.{hasPrefix};
 ghost use Rattle.text.specs.Compare.{same, starts, ends, contains};
 ghost use Rattle.text.specs.Bar.{firstBar};
 
-// The byte at an index of the folded text: a capital's small letter, and any other byte as it is.
+// Whether a byte is a capital of A to Z.
+fn is_capital(b: u8) -> bool
+    ensures { λ r. ⌜ r ≡ isCapital b ⌝ }
+{
+    b'A' <= b && b <= b'Z'
+}
+
+// Whether a byte is the second of a capital from U+00C0 to U+00DE, if 0xC3 stands before it.
+fn is_accented(b: u8) -> bool
+    ensures { λ r. ⌜ r ≡ isAccented b ⌝ }
+{
+    0x80 <= b && (b <= 0x9E && b != 0x97)
+}
+
+// Whether the byte straight before an index is 0xC3; no byte stands before the first.
+fn follows_lead(s: &[u8], i: usize) -> bool
+    requires { ⌜ i < length (now s) ⌝ }
+    ensures { λ r. ⌜ r ≡ eqb (getD (0 ∷ now (s .entry)) i 0) lead ⌝ }
+{
+    if i == 0 {
+        return false;
+    }
+    s[i - 1] == 0xC3
+}
+
+// The byte at an index of the folded text. The byte before is looked at only where the byte can fold by it, which is seldom.
 fn folded_at(s: &[u8], i: usize) -> u8
     requires { ⌜ i < length (now s) ⌝ }
     ensures { λ r. ⌜ r ≡ getD (foldText (now (s .entry))) i 0 ⌝ }
 {
     let b = s[i];
-    if b'A' <= b {
-        if b <= b'Z' {
+    if is_capital(b) {
+        return b + 32;
+    }
+    if is_accented(b) {
+        if follows_lead(s, i) {
             return b + 32;
         }
         return b;

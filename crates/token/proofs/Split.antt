@@ -9,8 +9,10 @@ use lib.Seq.{take-append-seam, drop-append-add}
 use borrow.Author.Tests.{lt-ltb, le-ltb}
 use Rattle.base.proofs.Lists.{rest}
 use Rattle.text.specs.Bar.{bar, firstBar, NoBar, FirstBarAt, at-end, behind}
+use Rattle.text.specs.Fold.{foldText}
 use Rattle.text.proofs.Bar.{firstBar-reads}
-use Rattle.token.specs.Split.{no-bar, at-bar, split}
+use Rattle.text.proofs.Folded.{foldText-bar, foldText-noBar}
+use Rattle.token.specs.Split.{no-bar, at-bar, split, foldParts}
 
 -- ---- by the index of the first bar, with the parts as slices have them
 
@@ -44,3 +46,12 @@ split-cases P without with-bar t = go (firstBar-reads t (firstBar t) .0 refl)
     go : FirstBarAt t (firstBar t) → P t
     go (at-end h e) = without t h
     go (behind s c e h l) = subst P (sym e) (with-bar s c h)
+
+-- ---- folding: a token may be folded whole and then split, or split and then folded
+
+pub split-folded : (t : List ℕ) → split (foldText t) ≡ foldParts (split t)
+unfolding foldParts
+split-folded =
+    split-cases (λ (t : List ℕ). split (foldText t) ≡ foldParts (split t))
+    (λ c h. rw (split-no-bar c h, split-no-bar (foldText c) (foldText-noBar h)))
+    (λ s c h. rw (split-at-bar s c h, foldText-bar s c, split-at-bar (foldText s) (foldText c) (foldText-noBar h)))
