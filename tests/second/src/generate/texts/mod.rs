@@ -109,7 +109,7 @@ pub fn changed_at(random: &mut Random, text: &[u8], at: usize) -> Vec<u8> {
 
 /// A byte that some rule speaks of, or its neighbour.
 fn telling_byte(random: &mut Random) -> u8 {
-    let telling = b" ()[]\"\\/|_-+.:,ZTzt0123459@AZ[`az{abfnrtuEe\n\r\t\x00\x1F\x7E\x7F\x80\xFF";
+    let telling = b" ()[]\"\\/|_-+.:,ZTzt0123459@AZ[`az{abfnrtuEe\n\r\t\x00\x1F\x7E\x7F\x80\xFF\xC3\x96\xB6";
     match random.below(8) {
         0 => random.byte(),
         _ => random.one(telling),

@@ -4,9 +4,22 @@ use super::words;
 use crate::generate::random::Random;
 use crate::token::NAMESPACES;
 
-const CODES: [&str; 8] = ["1234-5", "1234-6", "a", "A", "a|b", "|", "loinc", "mg"];
-const SYSTEMS: [&str; 9] =
-    ["", "urn:x", "http://loinc.org/", "http://loinc.or", "Loinc", "loinc2", "loin", "snomedct", "ucu"];
+/// The last three, behind a bar, begin or end in the middle of a letter.
+const CODES: [&[u8]; 12] =
+    [b"1234-5", b"1234-6", b"a", b"A", b"a|b", b"|", b"loinc", b"mg", b"\xC3\x96l", b"\x96l", b"\xB6l", b"a\xC3|\x96"];
+const SYSTEMS: [&[u8]; 11] = [
+    b"",
+    b"urn:x",
+    b"http://loinc.org/",
+    b"http://loinc.or",
+    b"Loinc",
+    b"loinc2",
+    b"loin",
+    b"snomedct",
+    b"ucu",
+    b"urn:\xC3\x89",
+    b"urn:\xC3",
+];
 
 /// A token on a card, most often with one of the known systems.
 pub fn readable(random: &mut Random) -> Vec<u8> {

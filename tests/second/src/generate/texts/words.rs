@@ -3,7 +3,11 @@
 use super::{LONGEST, one_byte_changed, telling_byte};
 use crate::generate::random::Random;
 
-/// A text of any bytes. Half of them have few letters, so that parts repeat inside them.
+/// Letters with accents by their bytes: 0xC3, bytes at the ends of those that fold behind it, beside them and beside the one
+/// between that does not, and what they fold to. Texts of them have letters cut in two and bytes that stand alone.
+const ACCENTS: &[u8] = b"\xC3\xC3\xC3\xC3\xC3\x80\xA0\x96\xB6\x97\xB7\x98\xB8\x9E\xBE\x9F\xBF\x7F\xC2\xC4\xE3aA|";
+
+/// A text of any bytes. Many have few letters, so that parts repeat inside them, and some have accents.
 pub fn readable(random: &mut Random) -> Vec<u8> {
     let length = match random.below(20) {
         0 => 0,
@@ -11,18 +15,19 @@ pub fn readable(random: &mut Random) -> Vec<u8> {
         2 => random.below(LONGEST),
         _ => 1 + random.below(12),
     };
-    let few = random.once_in(2);
-    let letter = |_| match few {
-        true => random.one(b"aAb"),
-        false if random.once_in(8) => random.byte(),
-        false => random.one(b"Ward bok4zZ@[`{\"\\/\x08\x0C\n\r\t\xC0\xE0\xC4\xE4"),
+    let style = random.below(6);
+    let letter = |_| match style {
+        0 | 1 => random.one(b"aAb"),
+        2 | 3 => random.one(ACCENTS),
+        _ if random.once_in(8) => random.byte(),
+        _ => random.one(b"Ward bok4zZ@[`{\"\\/\x08\x0C\n\r\t\xC0\xE0\xC4\xE4"),
     };
     (0..length).map(letter).collect()
 }
 
 /// A text of the sort that references are, or of any bytes; never an empty one.
 pub fn reference(random: &mut Random) -> Vec<u8> {
-    let known = ["Patient/17", "Patient/1", "http://h.org/Patient/17", "#p"];
+    let known = ["Patient/17", "Patient/1", "http://h.org/Patient/17", "#p", "Patient/Str\u{D6}m"];
     let text = match random.below(3) {
         0 => readable(random),
         _ => random.one(&known).into(),
@@ -49,14 +54,15 @@ pub fn near(random: &mut Random, text: &[u8]) -> Vec<u8> {
     near
 }
 
-/// Turns the case of some letters, or the same bit of one other byte, which must tell the texts apart.
+/// Turns the case of some letters and of some bytes that may be the second of a letter, or the same bit of one other byte,
+/// which must tell the texts apart.
 pub fn other_case(random: &mut Random, text: &mut [u8]) {
     if random.once_in(3) && !text.is_empty() {
         text[random.below(text.len())] ^= 0x20;
         return;
     }
     for byte in text {
-        if byte.is_ascii_alphabetic() && random.once_in(2) {
+        if matches!(byte, b'A'..=b'Z' | b'a'..=b'z' | 0x80..=0xBF) && random.once_in(2) {
             *byte ^= 0x20;
         }
     }
