@@ -1,41 +1,16 @@
--- Laws of integers, and of the bits that an i64 holds.
+-- Laws of integers: their size, and their order.
 -- Assumes nothing.
-use Prim.Native.Nat.{ℕ, zero, suc, _+_, _-_, _^_, _≤_, _<_}
-use mathlib.Core.Bool.{true, false, false≢true}
-use mathlib.Core.Path.{_≡_, refl, ap}
+use Prim.Native.Nat.{ℕ, zero, suc, _+_, _-_, _≤_, _<_}
+use mathlib.Core.Bool.{Bool, true, false, not}
+use mathlib.Core.Path.{_≡_, refl, sym, subst}
+use mathlib.Core.Logic.{_↔_, ⊎-elim}
+use native.Mathlib.Nat.{le-of-lt}
 use native.Mathlib.Omega.{arith}
-use lib.Dec.{eqb, ltb}
+use lib.Dec.{T, ltb, le→leb, ltb→lt}
 use lib.IntN.{ℤ, pos, negsuc, negℤ, natAbs, subℕ, _+ℤ_, _-ℤ_}
-use lib.Signed.{ltZ, mag}
-use mir.Syntax.{w64}
-use mir.Val.{SFits, ofZ}
-use borrow.Author.Tests.{ltb-true, ltb-false, lt-ltb, eqb-true, eq-eqb, ne-eqb}
-use Rattle.base.specs.Integers.{eqZ}
-use Rattle.base.proofs.Tests.{cond-elim, same-test}
-
--- ---- equality
-
-pub eqZ-same : (a b : ℤ) → eqZ a b ≡ true → a ≡ b
-eqZ-same (pos a) (pos b) h = ap pos (eqb-true a b h)
-eqZ-same (pos a) (negsuc b) h = absurd (false≢true h)
-eqZ-same (negsuc a) (pos b) h = absurd (false≢true h)
-eqZ-same (negsuc a) (negsuc b) h = ap negsuc (eqb-true a b h)
-
-pub eqZ-refl : (a : ℤ) → eqZ a a ≡ true
-eqZ-refl (pos a) = eq-eqb a a refl
-eqZ-refl (negsuc a) = eq-eqb a a refl
-
-eqb-same : (a b c d : ℕ) → (a ≡ b → c ≡ d) → (c ≡ d → a ≡ b) → eqb a b ≡ eqb c d
-eqb-same a b c d f g =
-    same-test (eqb a b) (eqb c d) (λ e. eq-eqb c d (f (eqb-true a b e))) (λ e. eq-eqb a b (g (eqb-true c d e)))
-
--- two integers that an i64 holds are the same where their bits are
-pub eqZ-bits : (a b : ℤ) → SFits w64 a → SFits w64 b → eqb (ofZ w64 a) (ofZ w64 b) ≡ eqZ a b
-eqZ-bits (pos a) (pos b) p q = refl
-eqZ-bits (pos a) (negsuc b) p q = ne-eqb _ _ (λ (h : a ≡ 2 ^ 64 - suc b). omega arith)
-eqZ-bits (negsuc a) (pos b) p q = ne-eqb _ _ (λ (h : 2 ^ 64 - suc a ≡ b). omega arith)
-eqZ-bits (negsuc a) (negsuc b) p q =
-    eqb-same (2 ^ 64 - suc a) (2 ^ 64 - suc b) a b (λ h. omega arith) (λ h. omega arith)
+use lib.Signed.{ltZ, leZ, mag, _≤ℤ_, _<ℤ_, ltZ-no, <ℤ-≤ℤ-trans, clashℤ}
+use borrow.Author.Tests.{ltb-true, ltb-false, lt-ltb}
+use Rattle.base.proofs.Tests.{cond-elim, decided}
 
 -- ---- size: an i64 holds z where `mag z`, which is n for n and for -(n + 1), is below 2^63
 
@@ -63,6 +38,34 @@ pub mag-less : (x y : ℤ) {h k : ℕ} → mag x < h → natAbs y < k → mag (x
 mag-less x y p q = mag-add x (negℤ y) p (mag-natAbs (negℤ y) (rw (natAbs-neg y) q))
 
 -- ---- order
+
+passed : (t : Bool) → T t → t ≡ true
+passed true h = refl
+passed false h = absurd h
+
+-- the tests of order are the order
+module _ (a b : ℤ) where
+  pub leZ-iff : (leZ a b ≡ true) ↔ (a ≤ℤ b)
+  leZ-iff = ((λ h. record { le = subst T (sym h) tt }), (λ h. passed (leZ a b) (h .le)))
+
+  pub ltZ-iff : (ltZ a b ≡ true) ↔ (a <ℤ b)
+  ltZ-iff = ((λ h. record { lt = subst T (sym h) tt }), (λ h. passed (ltZ a b) (h .lt)))
+
+  pub ltZ-false : ltZ a b ≡ false → b ≤ℤ a
+  ltZ-false h = ltZ-no (subst (λ (t : Bool). T (not t)) (sym h) tt)
+
+lt-le : (a b : ℤ) → T (ltZ a b) → T (leZ a b)
+lt-le (pos a) (pos b) h = le→leb a b (le-of-lt (ltb→lt a b h))
+lt-le (pos a) (negsuc b) h = h
+lt-le (negsuc a) (pos b) h = tt
+lt-le (negsuc a) (negsuc b) h = le→leb b a (le-of-lt (ltb→lt b a h))
+
+pub <ℤ-≤ℤ : {a b : ℤ} → a <ℤ b → a ≤ℤ b
+<ℤ-≤ℤ {a} {b} h = record { le = lt-le a b (h .lt) }
+
+pub ≤ℤ-trans : {a b c : ℤ} → a ≤ℤ b → b ≤ℤ c → a ≤ℤ c
+≤ℤ-trans {a} {b} {c} h k =
+    ⊎-elim (λ e. clashℤ (<ℤ-≤ℤ-trans (ltZ-iff c a .0 e) h) k) (λ e. ltZ-false c a e) (decided (ltZ c a))
 
 -- two numbers keep their order when the same integer is added to both
 module _ (a b c : ℕ) (h : a < b) where

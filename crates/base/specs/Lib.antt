@@ -1,7 +1,6 @@
 -- The definitions that every layer shares.
 pub mod Options
 pub mod Below
-pub mod Integers
 pub mod Lists
 pub mod Parts
 pub mod Affixes

@@ -13,26 +13,24 @@ use Rattle.date.specs.Spans.{dateOf, daysFrom, secondFrom, yearDate, mon
 use Rattle.date.specs.Texts.{read}
 use Rattle.date.specs.Spelling.{SpellsZone, spells-utc, spells-east, spells-west, Spells, spells-year, spells-month, spells-day, spells-second}
 use Rattle.date.specs.declared.Date.{Date}
-use Rattle.date.specs.declared.Precision.{Precision}
-use Rattle.date.specs.declared.Precision.the-variants.{Year, Month, Day, Second}
 use Rattle.date.specs.declared.Reading.the-variants.{Readable}
 use Rattle.date.proofs.Calendar.{day-bound, day-small, month-first, month-small, year-small}
 use Rattle.date.proofs.Fields.{time-bound}
 use Rattle.date.proofs.Spans.{instant-mag, instant-order}
 use Rattle.date.proofs.Sound.{reads-spells}
 
-date-proper : (p : Precision) (from to : ℕ) (z : ℤ) → from < to → to < 2 ^ 40 → ValidOffset z → Proper (dateOf p from to z)
+date-proper : (from to : ℕ) (z : ℤ) → from < to → to < 2 ^ 40 → ValidOffset z → Proper (dateOf from to z)
 unfolding dateOf
-date-proper p from to z h k q =
+date-proper from to z h k q =
     record {
       order = instant-order from to z h;
       start-small = instant-mag from z (omega arith) q;
       end-small = instant-mag to z k q;
     }
 
-days-proper : (p : Precision) (first count : ℕ) → 1 ≤ count → first + count < 4000000 → Proper (daysFrom p first count)
+days-proper : (first count : ℕ) → 1 ≤ count → first + count < 4000000 → Proper (daysFrom first count)
 unfolding daysFrom
-days-proper p first count h k = date-proper p _ _ (pos 0) (omega arith) (omega arith) (lit≤ tt)
+days-proper first count h k = date-proper _ _ (pos 0) (omega arith) (omega arith) (lit≤ tt)
 
 spells-offset : {zone : List ℕ} {offset : ℤ} → SpellsZone zone offset → ValidOffset offset
 spells-offset spells-utc = lit≤ tt
@@ -42,13 +40,13 @@ spells-offset (spells-west {h} {m} v) = rw (natAbs-neg (pos (h * 60 + m))) (v .m
 second-proper : {y m d hour minute second : ℕ} (offset : ℤ) → ValidDay y m d → ValidTime hour minute second → ValidOffset offset → Proper (secondDate y m d hour minute second offset)
 unfolding secondDate secondFrom
 second-proper offset v t q =
-    date-proper Second _ _ offset (omega arith) (omega (arith, day-bound v refl, time-bound t refl)) q
+    date-proper _ _ offset (omega arith) (omega (arith, day-bound v refl, time-bound t refl)) q
 
 spells-proper : {s : List ℕ} {d : Date} → Spells s d → Proper d
 unfolding yearDate monthDate dayDate yearLength
-spells-proper (spells-year v) = days-proper Year _ _ (omega arith) (year-small v refl refl)
-spells-proper (spells-month v) = days-proper Month _ _ (month-first v) (month-small v refl refl)
-spells-proper (spells-day v) = days-proper Day _ _ (lit≤ tt) (day-small v refl)
+spells-proper (spells-year v) = days-proper _ _ (omega arith) (year-small v refl refl)
+spells-proper (spells-month v) = days-proper _ _ (month-first v) (month-small v refl refl)
+spells-proper (spells-day v) = days-proper _ _ (lit≤ tt) (day-small v refl)
 spells-proper (spells-second v t z) = second-proper _ v t (spells-offset z)
 
 pub read-proper : (s : List ℕ) {d : Date} → read s ≡ Readable d → Proper d

@@ -15,8 +15,6 @@ use Rattle.date.specs.Calendar.{leapYear, yearLength, monthLength, daysB
 use Rattle.date.specs.Fields.{ValidOffset}
 use Rattle.date.specs.Spans.{epoch, instant, dateOf, secondFrom}
 use Rattle.date.specs.declared.Date.{Date}
-use Rattle.date.specs.declared.Precision.{Precision}
-use Rattle.date.specs.declared.Precision.the-variants.{Second}
 
 -- ---- zone offsets
 
@@ -83,15 +81,14 @@ instant-order a b z h =
 -- ---- dates, as the code stores them
 
 -- a date whose signed numbers are read back from their bits
-abbrev stored : Precision → ℤ → ℤ → ℤ → Date
-stored p from to offset =
-    record { start = toZ w64 (ofZ w64 from); end = toZ w64 (ofZ w64 to); precision = p; offset = toZ w64 (ofZ w64 offset) }
+abbrev stored : ℤ → ℤ → Date
+stored from to = record { start = toZ w64 (ofZ w64 from); end = toZ w64 (ofZ w64 to) }
 
-pub date-of-is : {p : Precision} (from to : ℕ) {x y z : ℤ} → x ≡ instant from (toZ w64 (ofZ w64 z)) → y ≡ instant to (toZ w64 (ofZ w64 z)) → SFits w64 x → SFits w64 y → SFits w64 z → stored p x y z ≡ dateOf p from to z
+pub date-of-is : (from to : ℕ) {x y z : ℤ} → x ≡ instant from (toZ w64 (ofZ w64 z)) → y ≡ instant to (toZ w64 (ofZ w64 z)) → SFits w64 x → SFits w64 y → SFits w64 z → stored x y ≡ dateOf from to z
 unfolding dateOf
 date-of-is from to {x} {y} {z} e f a b c =
     rw (toZ-ofZ w64 x a, toZ-ofZ w64 y b, e, f, toZ-ofZ w64 z c)
 
-pub second-from-is : (day second : ℕ) {x : Date} {z : ℤ} → x ≡ dateOf Second (day * 86400 + second) (day * 86400 + second + 1) (toZ w64 (ofZ w64 z)) → SFits w64 z → x ≡ secondFrom day second z
+pub second-from-is : (day second : ℕ) {x : Date} {z : ℤ} → x ≡ dateOf (day * 86400 + second) (day * 86400 + second + 1) (toZ w64 (ofZ w64 z)) → SFits w64 z → x ≡ secondFrom day second z
 unfolding secondFrom
 second-from-is day second {z = z} e a = rw (← toZ-ofZ w64 z a) e

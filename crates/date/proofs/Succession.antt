@@ -11,8 +11,6 @@ use Rattle.base.proofs.Tests.{cond-elim}
 use Rattle.date.specs.Calendar.{leapYear, yearLength, monthLength, daysBeforeMonth, daysOfYears, dayNumber}
 use Rattle.date.specs.Spans.{epoch, instant, dateOf, daysFrom, yearDate, monthDate, dayDate}
 use Rattle.date.specs.Succession.{CalendarMonth, CalendarDay, nextMonth, firstDay, nextDay}
-use Rattle.date.specs.declared.Precision.{Precision}
-use Rattle.date.specs.declared.Precision.the-variants.{Year, Month, Day}
 use Rattle.date.proofs.Calendar.{months-year}
 
 -- ---- numbers of days
@@ -54,24 +52,24 @@ next-day-number y m d h k l last =
 
 -- ---- spans
 
-days-meet : (p : Precision) (n k n′ k′ : ℕ) → n′ ≡ n + k → daysFrom p n′ k′ .start ≡ daysFrom p n k .end
+days-meet : (n k n′ k′ : ℕ) → n′ ≡ n + k → daysFrom n′ k′ .start ≡ daysFrom n k .end
 unfolding daysFrom dateOf
-days-meet p n k n′ k′ e = ap (λ (j : ℕ). instant (j * 86400) (pos 0)) e
+days-meet n k n′ k′ e = ap (λ (j : ℕ). instant (j * 86400) (pos 0)) e
 
 -- the next year starts where the year ends
 pub next-year : (y : ℕ) → 1 ≤ y → yearDate (y + 1) .start ≡ yearDate y .end
 unfolding yearDate
-next-year y h = days-meet Year _ _ _ _ (year-number y h)
+next-year y h = days-meet _ _ _ _ (year-number y h)
 
 -- the next month starts where the month ends
 pub next-month : (y m : ℕ) → 1 ≤ y → m ≤ 12 → monthDate (nextMonth y m .year) (nextMonth y m .month) .start ≡ monthDate y m .end
 unfolding monthDate
-next-month y m h k = days-meet Month _ _ _ _ (next-month-number y m h k)
+next-month y m h k = days-meet _ _ _ _ (next-month-number y m h k)
 
 -- the next day starts where the day ends
 pub next-day : (y m d : ℕ) → 1 ≤ y → m ≤ 12 → 1 ≤ d → d ≤ monthLength (leapYear y) m → dayDate (nextDay y m d .year) (nextDay y m d .month) (nextDay y m d .day) .start ≡ dayDate y m d .end
 unfolding dayDate
-next-day y m d h k l last = days-meet Day _ _ _ _ (next-day-number y m d h k l last)
+next-day y m d h k l last = days-meet _ _ _ _ (next-day-number y m d h k l last)
 
 -- a year starts with its first month
 pub year-opens : (y : ℕ) → yearDate y .start ≡ monthDate y 1 .start

@@ -23,7 +23,6 @@ use Rattle.date.specs.Spans.{daysFrom, secondOfDay, secondFrom, yearDate
 use Rattle.date.specs.Marks.{hyphen, colon, plus, letterT, letterZ}
 use Rattle.date.specs.Texts.{digitOf, pair, twoAt, fourAt, fieldAt, signed, zoneAt, readYear, readMonth, readDay, readLocal, zoned, read, isDate, readable}
 use Rattle.date.specs.declared.Date.{Date}
-use Rattle.date.specs.declared.Precision.the-variants.{Year, Month, Day}
 use Rattle.date.specs.declared.Reading.{Reading}
 use Rattle.date.specs.declared.Reading.the-variants.{Readable}
 use Rattle.date.specs.declared.reader.Zone.{Zone}
@@ -204,7 +203,7 @@ module _ (s : List ℕ) (at : ℕ) {r : Zone} {z : ℤ} (e : r ≡ zoneAt s at) 
 -- ---- the spellings
 
 module _ (s : List ℕ) {y : ℕ} {p : Bool} (e : y ≡ fourAt s 0) (f : p ≡ validYear y) where
-  pub year-on : {first count : ℕ} {d : Date} → p ≡ true → first ≡ dayNumber y 1 1 → count ≡ yearLength y → d ≡ daysFrom Year first count → Readable d ≡ readYear s
+  pub year-on : {first count : ℕ} {d : Date} → p ≡ true → first ≡ dayNumber y 1 1 → count ≡ yearLength y → d ≡ daysFrom first count → Readable d ≡ readYear s
   unfolding readYear yearDate
   year-on t a b g = rw (← e, ← f, t, ← a, ← b) (ap Readable g)
 
@@ -213,7 +212,7 @@ module _ (s : List ℕ) {y : ℕ} {p : Bool} (e : y ≡ fourAt s 0) (f : p ≡ v
   year-off t = rw (← e, ← f, t)
 
 module _ (s : List ℕ) {y m : ℕ} {p : Bool} (e : y ≡ fourAt s 0) (i : m ≡ fieldAt s 4 hyphen) (f : p ≡ validMonth y m) where
-  pub month-on : {first count : ℕ} {d : Date} → p ≡ true → first ≡ dayNumber y m 1 → count ≡ monthLength (leapYear y) m → d ≡ daysFrom Month first count → Readable d ≡ readMonth s
+  pub month-on : {first count : ℕ} {d : Date} → p ≡ true → first ≡ dayNumber y m 1 → count ≡ monthLength (leapYear y) m → d ≡ daysFrom first count → Readable d ≡ readMonth s
   unfolding readMonth monthDate
   month-on t a b g = rw (← e, ← i, ← f, t, ← a, ← b) (ap Readable g)
 
@@ -222,7 +221,7 @@ module _ (s : List ℕ) {y m : ℕ} {p : Bool} (e : y ≡ fourAt s 0) (i : m ≡
   month-off t = rw (← e, ← i, ← f, t)
 
 module _ (s : List ℕ) {y m d : ℕ} {p : Bool} (e : y ≡ fourAt s 0) (i : m ≡ fieldAt s 4 hyphen) (j : d ≡ fieldAt s 7 hyphen) (f : p ≡ validDay y m d) where
-  pub day-on : {first : ℕ} {x : Date} → p ≡ true → first ≡ dayNumber y m d → x ≡ daysFrom Day first 1 → Readable x ≡ readDay s
+  pub day-on : {first : ℕ} {x : Date} → p ≡ true → first ≡ dayNumber y m d → x ≡ daysFrom first 1 → Readable x ≡ readDay s
   unfolding readDay dayDate
   day-on t a g = rw (← e, ← i, ← j, ← f, t, ← a) (ap Readable g)
 

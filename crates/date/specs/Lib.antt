@@ -8,3 +8,4 @@ pub mod Texts
 pub mod Spelling
 pub mod Succession
 pub mod Relations
+pub mod Instants

@@ -1,29 +1,12 @@
--- The relations of two dates, the card's I and the filter's F, as spans from start to end (01: i0 to i1, f0 to f1).
+-- The relations of two dates, the card's I and the filter's F, as spans from start to end (01: i0 to i1, f0 to f1), computed.
 -- Assumes nothing.
-use Prim.Native.Nat.{ℕ}
 use mathlib.Core.Bool.{Bool, _&&_, _||_}
-use mathlib.Core.Path.{_≡_}
-use lib.Dec.{eqb}
 use lib.Signed.{ltZ, leZ}
-use Rattle.base.specs.Integers.{eqZ}
 use Rattle.date.specs.declared.Date.{Date}
-use Rattle.date.specs.declared.Precision.{Precision}
-use Rattle.date.specs.declared.Precision.the-variants.{Year, Month, Day, Second}
 
--- a number for each precision, to compare them by
-abbrev pub rank : Precision → ℕ
-rank Year = 0
-rank Month = 1
-rank Day = 2
-rank Second = 3
-
--- A inside B: b0 <= a0 and a1 <= b1
+-- eq: I inside F; A inside B: b0 <= a0 and a1 <= b1
 unfoldable pub inside : Date → Date → Bool
 inside a b = leZ (b .start) (a .start) && leZ (a .end) (b .end)
-
--- eq: same precision, start and zone offset
-unfoldable pub same : Date → Date → Bool
-same i f = eqb (rank (i .precision)) (rank (f .precision)) && (eqZ (i .start) (f .start) && eqZ (i .offset) (f .offset))
 
 -- gt: i1 > f1
 abbrev pub later : Date → Date → Bool
@@ -56,9 +39,3 @@ overlaps i f = ltZ (i .start) (f .end) && ltZ (f .start) (i .end)
 -- co: F inside I
 abbrev pub covers : Date → Date → Bool
 covers i f = inside f i
-
--- what eq says
-pub record Same (i f : Date) : Type 0 where
-  pub precision : i .precision ≡ f .precision
-  pub start : i .start ≡ f .start
-  pub offset : i .offset ≡ f .offset

@@ -7,8 +7,6 @@ use lib.IntN.{ℤ, pos, _-ℤ_, _*ℤ_}
 use lib.Signed.{ltZ, mag}
 use Rattle.date.specs.Calendar.{leapYear, yearLength, monthLength, dayNumber}
 use Rattle.date.specs.declared.Date.{Date}
-use Rattle.date.specs.declared.Precision.{Precision}
-use Rattle.date.specs.declared.Precision.the-variants.{Year, Month, Day, Second}
 
 -- the seconds from 0001-01-01T00:00:00 to 1970-01-01T00:00:00
 unfoldable pub epoch : ℕ
@@ -20,13 +18,12 @@ unfoldable pub instant : ℕ → ℤ → ℤ
 instant n offset = pos n -ℤ pos epoch -ℤ offset *ℤ pos 60
 
 -- the local seconds from one up to another, at a zone offset
-unfoldable pub dateOf : Precision → ℕ → ℕ → ℤ → Date
-dateOf p from to offset =
-    record { start = instant from offset; end = instant to offset; precision = p; offset = offset }
+unfoldable pub dateOf : ℕ → ℕ → ℤ → Date
+dateOf from to offset = record { start = instant from offset; end = instant to offset }
 
 -- some days from a day on, in UTC
-unfoldable pub daysFrom : Precision → ℕ → ℕ → Date
-daysFrom p first count = dateOf p (first * 86400) ((first + count) * 86400) (pos 0)
+unfoldable pub daysFrom : ℕ → ℕ → Date
+daysFrom first count = dateOf (first * 86400) ((first + count) * 86400) (pos 0)
 
 -- the second of the day at which a time of the day starts
 abbrev pub secondOfDay : ℕ → ℕ → ℕ → ℕ
@@ -34,18 +31,18 @@ secondOfDay hour minute second = hour * 3600 + minute * 60 + second
 
 -- one second of a day, at a zone offset
 unfoldable pub secondFrom : ℕ → ℕ → ℤ → Date
-secondFrom day second offset = dateOf Second (day * 86400 + second) (day * 86400 + second + 1) offset
+secondFrom day second offset = dateOf (day * 86400 + second) (day * 86400 + second + 1) offset
 
--- ---- the four precisions
+-- ---- a year, a month, a day, a second
 
 unfoldable pub yearDate : ℕ → Date
-yearDate y = daysFrom Year (dayNumber y 1 1) (yearLength y)
+yearDate y = daysFrom (dayNumber y 1 1) (yearLength y)
 
 unfoldable pub monthDate : ℕ → ℕ → Date
-monthDate y m = daysFrom Month (dayNumber y m 1) (monthLength (leapYear y) m)
+monthDate y m = daysFrom (dayNumber y m 1) (monthLength (leapYear y) m)
 
 unfoldable pub dayDate : ℕ → ℕ → ℕ → Date
-dayDate y m d = daysFrom Day (dayNumber y m d) 1
+dayDate y m d = daysFrom (dayNumber y m d) 1
 
 unfoldable pub secondDate : ℕ → ℕ → ℕ → ℕ → ℕ → ℕ → ℤ → Date
 secondDate y m d hour minute second offset = secondFrom (dayNumber y m d) (secondOfDay hour minute second) offset

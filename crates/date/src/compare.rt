@@ -2,21 +2,8 @@
 // a span runs from i0 to i1, or f0 to f1.
 ghost use mathlib.Core.Path.{_≡_};
 ghost use lib.Signed.{ltZ, leZ};
-ghost use Rattle.date.specs.Relations.{rank, inside, same, later, earlier, laterOrInside, earlierOrInside, startsAfter, endsBefore, overlaps, covers};
+ghost use Rattle.date.specs.Relations.{inside, later, earlier, laterOrInside, earlierOrInside, startsAfter, endsBefore, overlaps, covers};
 use crate::Date;
-use crate::Precision;
-
-// A number for each precision, to compare two by.
-fn rank(p: Precision) -> u8
-    ensures { λ r. ⌜ r ≡ rank p ⌝ }
-{
-    match p {
-        Precision::Year => 0,
-        Precision::Month => 1,
-        Precision::Day => 2,
-        Precision::Second => 3,
-    }
-}
 
 // Whether a starts no earlier than b.
 fn starts_within(a: Date, b: Date) -> bool
@@ -32,20 +19,11 @@ fn ends_within(a: Date, b: Date) -> bool
     a.end <= b.end
 }
 
-// "inside": whether a lies whole in b.
+// eq: "the filter's range holds the card's range whole"; "inside": whether a lies whole in b.
 pub fn inside(a: Date, b: Date) -> bool
     ensures { λ r. ⌜ r ≡ inside a b ⌝ }
 {
     starts_within(a, b) && ends_within(a, b)
-}
-
-// eq: "same precision, start and zone offset".
-pub fn same(i: Date, f: Date) -> bool
-    ensures { λ r. ⌜ r ≡ same i f ⌝ }
-{
-    let p = i.precision;
-    let q = f.precision;
-    rank(p) == rank(q) && (i.start == f.start && i.offset == f.offset)
 }
 
 // gt: "i1>f1".

@@ -1,6 +1,6 @@
-// Dates. A text reads to a span of whole seconds, with its precision and its zone offset, or is unreadable; two dates
-// stand in the relations that the filter's operations ask for. `days` has the calendar, `seconds` makes dates of numbers
-// of days and seconds, `reader` reads the texts and `compare` has the relations.
+// Dates. A text reads to a span of whole seconds, or is unreadable; two dates stand in the relations that the filter's
+// operations ask for. `days` has the calendar, `seconds` makes dates of numbers of days and seconds, `reader` reads the
+// texts and `compare` has the relations.
 mod compare;
 mod days;
 mod reader;
@@ -14,26 +14,14 @@ pub use compare::inside;
 pub use compare::later;
 pub use compare::later_or_inside;
 pub use compare::overlaps;
-pub use compare::same;
 pub use compare::starts_after;
 pub use reader::read;
 pub use reader::readable;
 
-// The smallest unit that a date's text gives.
-pub enum Precision {
-    Year,
-    Month,
-    Day,
-    Second,
-}
-
 // A date: the seconds from `start` up to but without `end`, counted from 1970-01-01T00:00:00Z and negative before it.
-// `offset` is the zone's, in minutes, negative west of UTC; 0 where the text has no zone.
 pub struct Date {
     pub start: i64,
     pub end: i64,
-    pub precision: Precision,
-    pub offset: i64,
 }
 
 // What a text reads to: a date, where it is readable as one.

@@ -5,7 +5,6 @@ ghost use Prim.Native.Nat.{_+_, _≤_};
 ghost use lib.ListN.{length};
 ghost use Rattle.date.specs.Fields.{ValidOffset};
 ghost use Rattle.date.specs.Texts.{digitOf, pair, twoAt, fourAt, fieldAt, signed, zoneAt, readYear, readMonth, readDay, readLocal, read, readable};
-use crate::Precision;
 use crate::Reading;
 use crate::days;
 use crate::seconds;
@@ -112,7 +111,6 @@ fn read_year(s: &[u8]) -> Reading
     let y = four_at(s, 0);
     if days::valid_year(y) {
         return Reading::Readable(seconds::days_from(
-            Precision::Year,
             days::day_number(y, 1, 1),
             days::year_length(y),
         ));
@@ -129,7 +127,6 @@ fn read_month(s: &[u8]) -> Reading
     let m = field_at(s, 4, b'-');
     if days::valid_month(y, m) {
         return Reading::Readable(seconds::days_from(
-            Precision::Month,
             days::day_number(y, m, 1),
             days::month_length(y, m),
         ));
@@ -146,7 +143,7 @@ fn read_day(s: &[u8]) -> Reading
     let m = field_at(s, 4, b'-');
     let d = field_at(s, 7, b'-');
     if days::valid_day(y, m, d) {
-        return Reading::Readable(seconds::days_from(Precision::Day, days::day_number(y, m, d), 1));
+        return Reading::Readable(seconds::days_from(days::day_number(y, m, d), 1));
     }
     Reading::Unreadable
 }

@@ -5,7 +5,6 @@ ghost use Prim.Native.Nat.{_+_, _^_, _<_};
 ghost use Rattle.date.specs.Spans.{instant, dateOf, daysFrom, secondOfDay, secondFrom};
 ghost use Rattle.date.specs.Fields.{ValidTime, ValidOffset};
 use crate::Date;
-use crate::Precision;
 
 // The seconds from 0001-01-01T00:00:00 to 1970-01-01T00:00:00.
 const EPOCH: i64 = 62135596800;
@@ -21,25 +20,23 @@ fn instant(local: u64, offset: i64) -> i64
 }
 
 // The date from one local second up to another.
-pub fn date_of(precision: Precision, from: u64, to: u64, offset: i64) -> Date
+pub fn date_of(from: u64, to: u64, offset: i64) -> Date
     requires { ⌜ (from < 2 ^ 40) × (to < 2 ^ 40) ⌝ }
     requires { ⌜ ValidOffset offset ⌝ }
-    ensures { λ r. ⌜ r ≡ dateOf precision from to offset ⌝ }
+    ensures { λ r. ⌜ r ≡ dateOf from to offset ⌝ }
 {
     Date {
         start: instant(from, offset),
         end: instant(to, offset),
-        precision,
-        offset,
     }
 }
 
 // The date of some days from a day on, in UTC.
-pub fn days_from(precision: Precision, first: u64, count: u64) -> Date
+pub fn days_from(first: u64, count: u64) -> Date
     requires { ⌜ first + count < 4000000 ⌝ }
-    ensures { λ r. ⌜ r ≡ daysFrom precision first count ⌝ }
+    ensures { λ r. ⌜ r ≡ daysFrom first count ⌝ }
 {
-    date_of(precision, first * 86400, (first + count) * 86400, 0)
+    date_of(first * 86400, (first + count) * 86400, 0)
 }
 
 // The second of the day at which a time of the day starts.
@@ -57,5 +54,5 @@ pub fn second_from(day: u64, second: u64, offset: i64) -> Date
     ensures { λ r. ⌜ r ≡ secondFrom day second offset ⌝ }
 {
     let from = day * 86400 + second;
-    date_of(Precision::Second, from, from + 1, offset)
+    date_of(from, from + 1, offset)
 }

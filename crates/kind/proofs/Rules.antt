@@ -4,35 +4,45 @@ use Prim.Native.Nat.{ℕ, zero, suc, _<_}
 use native.Mathlib.Omega.{arith}
 use mathlib.Core.Path.{_≡_, refl, ap, sym, _∙_, subst}
 use mathlib.Core.Bool.{Bool, true, false, cond, not, _||_, false≢true}
-use mathlib.Core.Logic.{_↔_, ⊎-elim}
+use mathlib.Core.Logic.{_↔_, _⊎_, inl, inr, ⊎-elim}
 use mathlib.Core.List.{List, [], _∷_, List·Memᴰ, List·Memᴰ·head, List·Memᴰ·tail}
 use lib.Dec.{eqb}
 use lib.ListN.{length}
-use borrow.Author.Tests.{not-true, ne-eqb, eqb-true, eqb-false, eq-eqb}
+use borrow.Author.Tests.{not-true, ne-eqb, eqb-true, eqb-false, eq-eqb, ltb-true, lt-ltb, leb-true, le-leb}
 use Rattle.base.specs.Ascii.{ascii}
 use Rattle.base.specs.Operators.{pr, eq, ne}
 use Rattle.base.proofs.Lists.{length-zero}
-use Rattle.base.proofs.Tests.{or-either, or-left, or-right, decided, both-ways, cond-either, cond-elim}
+use Rattle.base.proofs.Integers.{leZ-iff, ltZ-iff}
+use Rattle.base.proofs.Tests.{and-left, and-right, and-both, or-either, or-left, or-right, decided, both-ways, cond-either, cond-elim}
 use Rattle.text.specs.Fold.{isCapital, isAccented, foldByte, foldFrom, foldText}
 use Rattle.text.specs.Compare.{same}
 use Rattle.text.proofs.Readings.{same-reads, starts-reads, ends-reads, contains-reads}
 use Rattle.base.specs.Kinds.{string, number, date, token, reference}
 use Rattle.kind.specs.Readable.{cardReadable, filterReadable, isTrue, isFalse, valueReadable}
-use Rattle.kind.specs.Rules.{Readable, readable-string, readable-number, readable-date, readable-token, readable-reference, CardToken, FilterToken, ReadableOnCard, ReadableInFilter, TrueOrFalse, spells-true, spells-false, ReadableValue, value-of-pr, value-of-kind, InRow, HasOperator, operator-of-row, operator-pr, operator-ne, StandsIn, string-same, string-contains, string-starts, string-ends, numbers-stand, dates-stand, tokens-stand, references-same}
+use Rattle.kind.specs.Rules.{Readable, readable-string, readable-number, readable-date, readable-token, readable-reference, CardToken, FilterToken, ReadableOnCard, ReadableInFilter, TrueOrFalse, spells-true, spells-false, ReadableValue, value-of-pr, value-of-kind, InRow, HasOperator, operator-of-row, operator-pr, operator-ne, StandsIn, string-same, string-contains, string-starts, string-ends, NumbersStand, number-inside, number-greater, number-less, number-at-least, number-at-most, number-covers, DatesStand, date-inside, date-later, date-earlier, date-later-or-inside, date-earlier-or-inside, date-starts-after, date-ends-before, date-overlaps, date-covers, numbers-stand, dates-stand, tokens-stand, references-same}
 use mathlib.Core.Option.{Option, none, some}
 use Rattle.base.specs.Options.{isSome}
 use Rattle.kind.specs.Table.{Use, means, stringRow, numberRow, dateRow, tokenRow, referenceRow, row, relationIn, asked, rowMeaning, meaningOf, isMeaning, hasMeaning}
 use Rattle.kind.specs.declared.Meaning.{Meaning}
 use Rattle.kind.specs.declared.Relation.{Relation}
 use Rattle.token.proofs.Readings.{matches-reads}
-use Rattle.kind.specs.Stands.{stringStands, numbersStand, datesStand, stands}
+use Rattle.kind.specs.Stands.{stringStands, numberStands, numbersStand, dateStands, datesStand, stands}
 use Rattle.kind.specs.declared.StringRelation.{StringRelation}
 use Rattle.kind.specs.declared.NumberRelation.{NumberRelation}
 use Rattle.kind.specs.declared.DateRelation.{DateRelation}
 use Rattle.number.specs.Reading as numbers
+use Rattle.number.specs.Value.{Bounded, isLess, isAtMost, plus, exactValue, halfUnit, greater, less, atLeast, atMost, covers}
+use Rattle.number.specs.declared.Decimal.{Decimal}
 use Rattle.number.proofs.Spelling as number-spelling
+use Rattle.number.proofs.Range as ranges
 use Rattle.date.specs.Texts as dates
+use Rattle.date.specs.Spans.{Proper}
+use Rattle.date.specs.Relations.{inside, laterOrInside, earlierOrInside, overlaps}
+use Rattle.date.specs.declared.Date.{Date}
 use Rattle.date.proofs.Spelling as date-spelling
+use Rattle.date.proofs.Relations as relations
+use Rattle.date.proofs.Readings.{read-proper}
+use lib.Signed.{ltZ}
 use Rattle.token.specs.Card as tokens
 use Rattle.token.specs.Filter as forms
 use Rattle.token.proofs.Readings as token-spelling
@@ -206,15 +216,82 @@ module _ (kind : ℕ) where
   pub operator-iff : (k : ℕ) → (hasMeaning k kind ≡ true) ↔ HasOperator kind k
   operator-iff k = (operator-there k, operator-back)
 
+-- ---- a relation of two numbers
+
+module _ (i f : Decimal) (bi : Bounded i) (bf : Bounded f) where
+  number-there : (r : NumberRelation) → numberStands r i f ≡ true → NumbersStand i f r
+  unfolding numberStands greater less atLeast atMost covers isLess isAtMost
+  number-there NumberRelation.Inside h = number-inside (ranges.inside-iff i f bi bf .0 h)
+  number-there NumberRelation.Greater h = number-greater (ltb-true _ _ h)
+  number-there NumberRelation.Less h = number-less (ltb-true _ _ h)
+  number-there NumberRelation.AtLeast h = number-at-least (leb-true _ _ h)
+  number-there NumberRelation.AtMost h = number-at-most (leb-true _ _ h)
+  number-there NumberRelation.Covers h =
+      let low : Bool = isAtMost (exactValue i) (plus (exactValue f) (halfUnit i)) in
+      let high : Bool = isLess (exactValue f) (plus (exactValue i) (halfUnit i)) in
+      number-covers (leb-true _ _ (and-left low high h), ltb-true _ _ (and-right low high h))
+
+  number-back : {r : NumberRelation} → NumbersStand i f r → numberStands r i f ≡ true
+  unfolding numberStands greater less atLeast atMost covers isLess isAtMost
+  number-back (number-inside h) = ranges.inside-iff i f bi bf .1 h
+  number-back (number-greater h) = lt-ltb _ _ h
+  number-back (number-less h) = lt-ltb _ _ h
+  number-back (number-at-least h) = le-leb _ _ h
+  number-back (number-at-most h) = le-leb _ _ h
+  number-back (number-covers h) = and-both _ _ (le-leb _ _ (h .0)) (lt-ltb _ _ (h .1))
+
+-- ---- a relation of two dates
+
+-- either of two tests is either of what they say
+either-iff : (a b : Bool) {A B : Type 0} → (a ≡ true) ↔ A → (b ≡ true) ↔ B → ((a || b) ≡ true) ↔ (A ⊎ B)
+either-iff a b p q = (
+  (λ h. ⊎-elim (λ e. inl (p .0 e)) (λ e. inr (q .0 e)) (or-either a b h)),
+  (λ s. ⊎-elim (λ e. or-left a b (p .1 e)) (λ e. or-right a b (q .1 e)) s),
+)
+
+module _ (i f : Date) (pi : Proper i) (pf : Proper f) where
+  date-there : (r : DateRelation) → dateStands r i f ≡ true → DatesStand i f r
+  unfolding dateStands laterOrInside earlierOrInside overlaps
+  date-there DateRelation.Inside h = date-inside (relations.inside-iff i f pi .0 h)
+  date-there DateRelation.Later h = date-later (ltZ-iff (f .end) (i .end) .0 h)
+  date-there DateRelation.Earlier h = date-earlier (ltZ-iff (i .start) (f .start) .0 h)
+  date-there DateRelation.LaterOrInside h =
+      date-later-or-inside (either-iff (ltZ (f .end) (i .end)) (inside i f) (ltZ-iff (f .end) (i .end)) (relations.inside-iff i f pi) .0 h)
+  date-there DateRelation.EarlierOrInside h =
+      date-earlier-or-inside (either-iff (ltZ (i .start) (f .start)) (inside i f) (ltZ-iff (i .start) (f .start)) (relations.inside-iff i f pi) .0 h)
+  date-there DateRelation.StartsAfter h = date-starts-after (leZ-iff (f .end) (i .start) .0 h)
+  date-there DateRelation.EndsBefore h = date-ends-before (leZ-iff (i .end) (f .start) .0 h)
+  date-there DateRelation.Overlaps h =
+      let left : Bool = ltZ (i .start) (f .end) in
+      let right : Bool = ltZ (f .start) (i .end) in
+      date-overlaps (ltZ-iff (i .start) (f .end) .0 (and-left left right h)) (ltZ-iff (f .start) (i .end) .0 (and-right left right h))
+  date-there DateRelation.Covers h = date-covers (relations.inside-iff f i pf .0 h)
+
+  date-back : {r : DateRelation} → DatesStand i f r → dateStands r i f ≡ true
+  unfolding dateStands laterOrInside earlierOrInside overlaps
+  date-back (date-inside h) = relations.inside-iff i f pi .1 h
+  date-back (date-later h) = ltZ-iff (f .end) (i .end) .1 h
+  date-back (date-earlier h) = ltZ-iff (i .start) (f .start) .1 h
+  date-back (date-later-or-inside h) = either-iff (ltZ (f .end) (i .end)) (inside i f) (ltZ-iff (f .end) (i .end)) (relations.inside-iff i f pi) .1 h
+  date-back (date-earlier-or-inside h) = either-iff (ltZ (i .start) (f .start)) (inside i f) (ltZ-iff (i .start) (f .start)) (relations.inside-iff i f pi) .1 h
+  date-back (date-starts-after h) = leZ-iff (f .end) (i .start) .1 h
+  date-back (date-ends-before h) = leZ-iff (i .end) (f .start) .1 h
+  date-back (date-overlaps h k) = and-both (ltZ (i .start) (f .end)) (ltZ (f .start) (i .end)) (ltZ-iff (i .start) (f .end) .1 h) (ltZ-iff (f .start) (i .end) .1 k)
+  date-back (date-covers h) = relations.inside-iff f i pf .1 h
+
 -- ---- a relation of two texts
 
 numbers-there : (r : NumberRelation) (x v : List ℕ) (a b : number-readings.Reading) → numbers.read x ≡ a → numbers.read v ≡ b → numbersStand r a b ≡ true → StandsIn (Relation.Numbers r) x v
-numbers-there r x v (number-readings.Reading.Number i) (number-readings.Reading.Number f) d e h = numbers-stand (number-spelling.read-spells x i .0 d) (number-spelling.read-spells v f .0 e) h
+numbers-there r x v (number-readings.Reading.Number i) (number-readings.Reading.Number f) d e h =
+    numbers-stand (number-spelling.read-spells x i .0 d) (number-spelling.read-spells v f .0 e)
+    (number-there i f (number-spelling.read-bounded x i d) (number-spelling.read-bounded v f e) r h)
 numbers-there r x v (number-readings.Reading.Number i) number-readings.Reading.Unreadable d e h = absurd (false≢true h)
 numbers-there r x v number-readings.Reading.Unreadable b d e h = absurd (false≢true h)
 
 dates-there : (r : DateRelation) (x v : List ℕ) (a b : date-readings.Reading) → dates.read x ≡ a → dates.read v ≡ b → datesStand r a b ≡ true → StandsIn (Relation.Dates r) x v
-dates-there r x v (date-readings.Reading.Readable i) (date-readings.Reading.Readable f) d e h = dates-stand (date-spelling.read-spells x i .0 d) (date-spelling.read-spells v f .0 e) h
+dates-there r x v (date-readings.Reading.Readable i) (date-readings.Reading.Readable f) d e h =
+    dates-stand (date-spelling.read-spells x i .0 d) (date-spelling.read-spells v f .0 e)
+    (date-there i f (read-proper x d) (read-proper v e) r h)
 dates-there r x v (date-readings.Reading.Readable i) date-readings.Reading.Unreadable d e h = absurd (false≢true h)
 dates-there r x v date-readings.Reading.Unreadable b d e h = absurd (false≢true h)
 
@@ -236,8 +313,14 @@ stands-back (string-same {x = x} {v = v} e) = same-reads x v .1 e
 stands-back (string-contains {x = x} {v = v} p q e) = contains-reads x v .1 (p, q, e)
 stands-back (string-starts {x = x} {v = v} q e) = starts-reads x v .1 (q, e)
 stands-back (string-ends {x = x} {v = v} p e) = ends-reads x v .1 (p, e)
-stands-back (numbers-stand {x = x} {v = v} {i = i} {f = f} a b h) = rw (number-spelling.read-spells x i .1 a, number-spelling.read-spells v f .1 b) h
-stands-back (dates-stand {x = x} {v = v} {i = i} {f = f} a b h) = rw (date-spelling.read-spells x i .1 a, date-spelling.read-spells v f .1 b) h
+stands-back (numbers-stand {x = x} {v = v} {i = i} {f = f} a b h) =
+    let d : numbers.read x ≡ number-readings.Reading.Number i = number-spelling.read-spells x i .1 a in
+    let e : numbers.read v ≡ number-readings.Reading.Number f = number-spelling.read-spells v f .1 b in
+    rw (d, e) (number-back i f (number-spelling.read-bounded x i d) (number-spelling.read-bounded v f e) h)
+stands-back (dates-stand {x = x} {v = v} {i = i} {f = f} a b h) =
+    let d : dates.read x ≡ date-readings.Reading.Readable i = date-spelling.read-spells x i .1 a in
+    let e : dates.read v ≡ date-readings.Reading.Readable f = date-spelling.read-spells v f .1 b in
+    rw (d, e) (date-back i f (read-proper x d) (read-proper v e) h)
 stands-back (tokens-stand {x = x} {v = v} {i = i} {f = f} a b h) = matches-reads x v .1 (i, f, a, b, h)
 stands-back (references-same {x = x} {v = v} e) = same-reads x v .1 e
 

@@ -16,12 +16,16 @@ use Rattle.kind.specs.Table.{Use, means, row}
 use Rattle.kind.specs.declared.Relation.{Relation}
 use mathlib.Core.Bool.{true}
 use Rattle.token.specs.Match.{asks}
-use Rattle.kind.specs.Stands.{numberStands, dateStands}
 use Rattle.kind.specs.declared.StringRelation.{StringRelation}
 use Rattle.kind.specs.declared.NumberRelation.{NumberRelation}
 use Rattle.kind.specs.declared.DateRelation.{DateRelation}
 use Rattle.number.specs.Spelling as numbers
+use Rattle.number.specs.Value.{exactValue}
+use Rattle.number.specs.Range as ranges
 use Rattle.date.specs.Spelling as dates
+use Rattle.date.specs.Instants as instants
+use mathlib.Core.Logic.{_⊎_}
+use lib.Signed.{_≤ℤ_, _<ℤ_}
 
 -- ---- readable texts
 
@@ -71,6 +75,36 @@ pub data HasOperator (kind : ℕ) : ℕ → Type 0 where
 
 -- ---- relations
 
+-- the card's number i stands in the relation to the filter's f
+pub data NumbersStand (i f : Decimal) : NumberRelation → Type 0 where
+  -- 02: eq "means that the filter's range holds the card's range whole": every point of it
+  number-inside : ranges.Held i f → NumbersStand i f NumberRelation.Inside
+  -- "gt lt ge le by exact value, card against filter"
+  number-greater : ranges.Less (exactValue f) (exactValue i) → NumbersStand i f NumberRelation.Greater
+  number-less : ranges.Less (exactValue i) (exactValue f) → NumbersStand i f NumberRelation.Less
+  number-at-least : ranges.AtMost (exactValue f) (exactValue i) → NumbersStand i f NumberRelation.AtLeast
+  number-at-most : ranges.AtMost (exactValue i) (exactValue f) → NumbersStand i f NumberRelation.AtMost
+  -- "co: F lies in I's range"
+  number-covers : ranges.InRange i (ranges.above (exactValue f)) → NumbersStand i f NumberRelation.Covers
+
+-- the card's date i, from i0 to i1, stands in the relation to the filter's f, from f0 to f1
+pub data DatesStand (i f : Date) : DateRelation → Type 0 where
+  -- 02: eq "means that the filter's range holds the card's range whole": every instant of it
+  date-inside : instants.Held i f → DatesStand i f DateRelation.Inside
+  -- "gt i1>f1; lt i0<f0"
+  date-later : f .end <ℤ i .end → DatesStand i f DateRelation.Later
+  date-earlier : i .start <ℤ f .start → DatesStand i f DateRelation.Earlier
+  -- "ge gt or I inside F; le lt or I inside F"
+  date-later-or-inside : (f .end <ℤ i .end) ⊎ instants.Held i f → DatesStand i f DateRelation.LaterOrInside
+  date-earlier-or-inside : (i .start <ℤ f .start) ⊎ instants.Held i f → DatesStand i f DateRelation.EarlierOrInside
+  -- "sa i0>=f1; eb i1<=f0"
+  date-starts-after : f .end ≤ℤ i .start → DatesStand i f DateRelation.StartsAfter
+  date-ends-before : i .end ≤ℤ f .start → DatesStand i f DateRelation.EndsBefore
+  -- "po i0<f1 and f0<i1"
+  date-overlaps : i .start <ℤ f .end → f .start <ℤ i .end → DatesStand i f DateRelation.Overlaps
+  -- "co F inside I"
+  date-covers : instants.Held f i → DatesStand i f DateRelation.Covers
+
 -- the card's text x stands in the relation to the filter's value v; "text comparisons ignore the case of A to Z", and that of the letters
 -- U+00C0 to U+00DE without U+00D7: "each text is folded whole before it is compared"
 pub data StandsIn : Relation → List ℕ → List ℕ → Type 0 where
@@ -79,9 +113,9 @@ pub data StandsIn : Relation → List ℕ → List ℕ → Type 0 where
   string-contains : {x v : List ℕ} (p q : List ℕ) → foldText x ≡ p ++ (foldText v ++ q) → StandsIn (Relation.Strings StringRelation.Contains) x v
   string-starts : {x v : List ℕ} (q : List ℕ) → foldText x ≡ foldText v ++ q → StandsIn (Relation.Strings StringRelation.Starts) x v
   string-ends : {x v : List ℕ} (p : List ℕ) → foldText x ≡ p ++ foldText v → StandsIn (Relation.Strings StringRelation.Ends) x v
-  -- two numbers by exact value, two dates by their spans
-  numbers-stand : {r : NumberRelation} {x v : List ℕ} {i f : Decimal} → numbers.Spells x i → numbers.Spells v f → numberStands r i f ≡ true → StandsIn (Relation.Numbers r) x v
-  dates-stand : {r : DateRelation} {x v : List ℕ} {i f : Date} → dates.Spells x i → dates.Spells v f → dateStands r i f ≡ true → StandsIn (Relation.Dates r) x v
+  -- two numbers, two dates
+  numbers-stand : {r : NumberRelation} {x v : List ℕ} {i f : Decimal} → numbers.Spells x i → numbers.Spells v f → NumbersStand i f r → StandsIn (Relation.Numbers r) x v
+  dates-stand : {r : DateRelation} {x v : List ℕ} {i f : Date} → dates.Spells x i → dates.Spells v f → DatesStand i f r → StandsIn (Relation.Dates r) x v
   -- "eq by the four forms"
   tokens-stand : {x v : List ℕ} {i : Token} {f : Form} → CardSpells x i → FilterSpells v f → asks f i ≡ true → StandsIn Relation.Tokens x v
   -- "re same"

@@ -5,6 +5,7 @@ use mathlib.Core.Bool.{Bool, false}
 use mathlib.Core.List.{List}
 use Rattle.text.specs.Compare as texts
 use Rattle.number.specs.Value as number
+use Rattle.number.specs.Billionths as billionths
 use Rattle.number.specs.Reading as numbers
 use Rattle.number.specs.declared.Decimal.{Decimal}
 use Rattle.number.specs.declared.Reading as number-readings
@@ -27,7 +28,7 @@ stringStands StringRelation.Ends i f = texts.ends i f
 
 -- i is the card's number, f the filter's
 unfoldable pub numberStands : NumberRelation → Decimal → Decimal → Bool
-numberStands NumberRelation.Same i f = number.same i f
+numberStands NumberRelation.Inside i f = billionths.inside i f
 numberStands NumberRelation.Greater i f = number.greater i f
 numberStands NumberRelation.Less i f = number.less i f
 numberStands NumberRelation.AtLeast i f = number.atLeast i f
@@ -41,7 +42,7 @@ numbersStand r number-readings.Reading.Unreadable f = false
 
 -- i is the card's date, f the filter's
 unfoldable pub dateStands : DateRelation → Date → Date → Bool
-dateStands DateRelation.Same i f = date.same i f
+dateStands DateRelation.Inside i f = date.inside i f
 dateStands DateRelation.Later i f = date.later i f
 dateStands DateRelation.Earlier i f = date.earlier i f
 dateStands DateRelation.LaterOrInside i f = date.laterOrInside i f

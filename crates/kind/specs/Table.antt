@@ -28,16 +28,16 @@ unfoldable pub stringRow : List Use
 stringRow =
     means eq (Strings strings.Same) ∷ means co (Strings strings.Contains) ∷ means sw (Strings strings.Starts) ∷ means ew (Strings strings.Ends) ∷ []
 
--- "number: eq same value and same count of decimals; gt lt ge le by exact value; co: F lies in I's range"
+-- 02: "eq on dates and numbers means that the filter's range holds the card's range whole"; "number: gt lt ge le by exact value; co: F lies in I's range"
 unfoldable pub numberRow : List Use
 numberRow =
-    means eq (Numbers numbers.Same) ∷ means gt (Numbers numbers.Greater) ∷ means lt (Numbers numbers.Less)
+    means eq (Numbers numbers.Inside) ∷ means gt (Numbers numbers.Greater) ∷ means lt (Numbers numbers.Less)
     ∷ means ge (Numbers numbers.AtLeast) ∷ means le (Numbers numbers.AtMost) ∷ means co (Numbers numbers.Covers) ∷ []
 
--- "date: eq same precision, start and zone offset; gt; lt; ge; le; sa; eb; po; co F inside I"
+-- the same eq; "date: gt; lt; ge; le; sa; eb; po; co F inside I"
 unfoldable pub dateRow : List Use
 dateRow =
-    means eq (Dates dates.Same) ∷ means gt (Dates dates.Later) ∷ means lt (Dates dates.Earlier)
+    means eq (Dates dates.Inside) ∷ means gt (Dates dates.Later) ∷ means lt (Dates dates.Earlier)
     ∷ means ge (Dates dates.LaterOrInside) ∷ means le (Dates dates.EarlierOrInside) ∷ means sa (Dates dates.StartsAfter)
     ∷ means eb (Dates dates.EndsBefore) ∷ means po (Dates dates.Overlaps) ∷ means co (Dates dates.Covers) ∷ []
 

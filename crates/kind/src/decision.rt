@@ -39,8 +39,8 @@ fn number_meaning(operator: u8) -> Meaning
     ensures { λ r. ⌜ r ≡ rowMeaning numberRow operator ⌝ }
 {
     match operator {
-        EQ => Meaning::Relates(Relation::Numbers(NumberRelation::Same)),
-        NE => Meaning::Differs(Relation::Numbers(NumberRelation::Same)),
+        EQ => Meaning::Relates(Relation::Numbers(NumberRelation::Inside)),
+        NE => Meaning::Differs(Relation::Numbers(NumberRelation::Inside)),
         CO => Meaning::Relates(Relation::Numbers(NumberRelation::Covers)),
         GT => Meaning::Relates(Relation::Numbers(NumberRelation::Greater)),
         LT => Meaning::Relates(Relation::Numbers(NumberRelation::Less)),
@@ -54,8 +54,8 @@ fn date_meaning(operator: u8) -> Meaning
     ensures { λ r. ⌜ r ≡ rowMeaning dateRow operator ⌝ }
 {
     match operator {
-        EQ => Meaning::Relates(Relation::Dates(DateRelation::Same)),
-        NE => Meaning::Differs(Relation::Dates(DateRelation::Same)),
+        EQ => Meaning::Relates(Relation::Dates(DateRelation::Inside)),
+        NE => Meaning::Differs(Relation::Dates(DateRelation::Inside)),
         CO => Meaning::Relates(Relation::Dates(DateRelation::Covers)),
         GT => Meaning::Relates(Relation::Dates(DateRelation::Later)),
         LT => Meaning::Relates(Relation::Dates(DateRelation::Earlier)),

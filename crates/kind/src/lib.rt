@@ -20,7 +20,7 @@ pub enum StringRelation {
 
 // The relations of numbers, the card's against the filter's.
 pub enum NumberRelation {
-    Same,
+    Inside,
     Greater,
     Less,
     AtLeast,
@@ -30,7 +30,7 @@ pub enum NumberRelation {
 
 // The relations of dates, the card's against the filter's.
 pub enum DateRelation {
-    Same,
+    Inside,
     Later,
     Earlier,
     LaterOrInside,

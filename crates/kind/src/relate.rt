@@ -28,7 +28,7 @@ fn number_stands(relation: NumberRelation, i: Decimal, f: Decimal) -> bool
     ensures { λ r. ⌜ r ≡ numberStands relation i f ⌝ }
 {
     match relation {
-        NumberRelation::Same => number::same(i, f),
+        NumberRelation::Inside => number::inside(i, f),
         NumberRelation::Greater => number::greater(i, f),
         NumberRelation::Less => number::less(i, f),
         NumberRelation::AtLeast => number::at_least(i, f),
@@ -53,7 +53,7 @@ fn date_stands(relation: DateRelation, i: Date, f: Date) -> bool
     ensures { λ r. ⌜ r ≡ dateStands relation i f ⌝ }
 {
     match relation {
-        DateRelation::Same => date::same(i, f),
+        DateRelation::Inside => date::inside(i, f),
         DateRelation::Later => date::later(i, f),
         DateRelation::Earlier => date::earlier(i, f),
         DateRelation::LaterOrInside => date::later_or_inside(i, f),

@@ -5,26 +5,12 @@ use crate::show::answer;
 use crate::show::signed;
 use crate::show::write;
 use date::Date;
-use date::Precision;
 use date::Reading;
-
-// The name of a precision.
-fn precision(p: Precision) {
-    match p {
-        Precision::Year => write(b", year"),
-        Precision::Month => write(b", month"),
-        Precision::Day => write(b", day"),
-        Precision::Second => write(b", second"),
-    }
-}
 
 // The rest of a line about a date.
 fn span(d: Date) {
     signed(b" start ", d.start);
     signed(b", end ", d.end);
-    let p = d.precision;
-    precision(p);
-    signed(b", offset ", d.offset);
     write(b"\n");
 }
 
@@ -39,7 +25,7 @@ pub fn read(t: &[u8]) {
 
 // The first of the relations of a card's date and a filter's.
 fn orders(i: Date, f: Date) {
-    answer(b" eq", date::same(i, f));
+    answer(b" eq", date::inside(i, f));
     answer(b", gt", date::later(i, f));
     answer(b", lt", date::earlier(i, f));
     answer(b", ge", date::later_or_inside(i, f));

@@ -31,7 +31,7 @@ fn relations(i: Decimal, f: Decimal)
     requires { ⌜ Bounded i ⌝ }
     requires { ⌜ Bounded f ⌝ }
 {
-    answer(b" eq", number::same(i, f));
+    answer(b" eq", number::inside(i, f));
     answer(b", gt", number::greater(i, f));
     answer(b", lt", number::less(i, f));
     answer(b", ge", number::at_least(i, f));

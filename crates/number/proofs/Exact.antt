@@ -2,16 +2,16 @@
 -- Assumes nothing.
 use mathlib.Core.Path.{_≡_, sym, ap, _∙_}
 use Prim.Native.Nat.{ℕ, _+_, _*_, _-_, _^_, _≤_, _<_}
-use native.Mathlib.Nat.{mul-assoc, one-le-pow, pow-le-pow-right, mul-pos, mul-lt-mul-of-pos-right, lt-of-mul-lt-mul-right, eq-of-mul-eq-mul-right}
+use native.Mathlib.Nat.{mul-assoc, one-le-pow, pow-le-pow-right, mul-pos, mul-lt-mul-of-pos-right, lt-of-mul-lt-mul-right}
 use native.Mathlib.Omega.{arith}
-use mathlib.Core.Bool.{Bool, true, false, not, _&&_, and-false}
+use mathlib.Core.Bool.{true, false, not, _&&_}
 use mathlib.Core.Logic.{⊎-elim}
-use lib.Dec.{eqb, leb, ltb, lit<}
+use lib.Dec.{leb, ltb, lit<}
 use lib.Pow.{pow-add}
-use borrow.Author.Tests.{ltb-true, lt-ltb, le-leb, lt-leb, leb-true, leb-false, le-ltb, eqb-true, eq-eqb, ne-eqb}
+use borrow.Author.Tests.{ltb-true, lt-ltb, le-leb, lt-leb, leb-true, leb-false, le-ltb}
 use Rattle.base.proofs.Tests.{same-test, decided}
 use Rattle.number.specs.declared.Decimal.{Decimal}
-use Rattle.number.specs.Value.{Bounded, isLess, isAtMost, isEqual, plus, exactValue, halfUnit, same, less, atMost, covers}
+use Rattle.number.specs.Value.{Bounded, isLess, isAtMost, plus, exactValue, halfUnit, less, atMost, covers}
 use Rattle.number.specs.Billionths.{unit, billionths}
 
 -- ---- two numbers are in the order of their multiples
@@ -21,7 +21,7 @@ scale-lt x y u v c n pos p q h =
     let xy : x * c < y * c = mul-lt-mul-of-pos-right (ltb-true x y h) pos in
     lt-ltb u v (lt-of-mul-lt-mul-right n (rw (p, q) at xy))
 
-same-lt : (x y u v c n : ℕ) → 0 < c → 0 < n → x * c ≡ u * n → y * c ≡ v * n → ltb x y ≡ ltb u v
+pub same-lt : (x y u v c n : ℕ) → 0 < c → 0 < n → x * c ≡ u * n → y * c ≡ v * n → ltb x y ≡ ltb u v
 same-lt x y u v c n hc hn p q =
     same-test (ltb x y) (ltb u v) (scale-lt x y u v c n hc p q) (scale-lt u v x y n c hn (sym p) (sym q))
 
@@ -30,7 +30,7 @@ not-lt a b =
     ⊎-elim (λ (h : leb a b ≡ true). h ∙ sym (ap not (le-ltb b a (leb-true a b h))))
     (λ (h : leb a b ≡ false). h ∙ sym (ap not (lt-ltb b a (leb-false a b h)))) (decided (leb a b))
 
-same-le : (x y u v c n : ℕ) → 0 < c → 0 < n → x * c ≡ u * n → y * c ≡ v * n → leb x y ≡ leb u v
+pub same-le : (x y u v c n : ℕ) → 0 < c → 0 < n → x * c ≡ u * n → y * c ≡ v * n → leb x y ≡ leb u v
 same-le x y u v c n hc hn p q = not-lt x y ∙ ap not (same-lt y x v u c n hc hn q p) ∙ sym (not-lt u v)
 
 -- ---- a number's power of ten and its unit make a billion
@@ -38,11 +38,11 @@ same-le x y u v c n hc hn p q = not-lt x y ∙ ap not (same-lt y x v u c n hc hn
 ten-pos : (k : ℕ) → 0 < 10 ^ k
 ten-pos k = one-le-pow k 10 (lit< tt)
 
-unit-pos : (d : Decimal) → 0 < unit d
+pub unit-pos : (d : Decimal) → 0 < unit d
 unfolding unit
 unit-pos d = ten-pos (9 - d .decimals)
 
-unit-whole : (d : Decimal) → Bounded d → 10 ^ d .decimals * unit d ≡ 10 ^ 9
+pub unit-whole : (d : Decimal) → Bounded d → 10 ^ d .decimals * unit d ≡ 10 ^ 9
 unfolding unit
 unit-whole d b =
     let e : d .decimals + (9 - d .decimals) ≡ 9 = omega (arith, b .few-decimals) in
@@ -155,24 +155,3 @@ module _ (i f : Decimal) (bi : Bounded i) (bf : Bounded f) (m n : ℕ) (em : m �
 
   pub covers-below : (u : ℕ) → u ≡ unit i → 2 * n + u < 2 * m → leb (2 * m) (2 * n + u) ≡ covers i f
   covers-below u eu h = lt-leb (2 * m) (2 * n + u) h ∙ (rw (lt-leb (2 * m) (2 * n + u) h) at (covers-written u eu))
-
--- with as many decimals, the values are equal where the digits are
-same-scaled : (a b k : ℕ) → eqb (a * 10 ^ k) (b * 10 ^ k) ≡ eqb a b
-same-scaled a b k =
-    same-test _ _ (λ h. eq-eqb a b (eq-of-mul-eq-mul-right (10 ^ k) (ten-pos k) a b (eqb-true (a * 10 ^ k) (b * 10 ^ k) h)))
-    (λ h. eq-eqb _ _ (ap (λ (x : ℕ). x * 10 ^ k) (eqb-true a b h)))
-
-same-plain : (a b k l : ℕ) → (eqb (a * 10 ^ l) (b * 10 ^ k) && eqb k l) ≡ (eqb a b && eqb k l)
-same-plain a b k l =
-    ⊎-elim (λ (h : eqb k l ≡ true). rw (eqb-true k l h) (ap (λ (t : Bool). t && eqb l l) (same-scaled a b l)))
-    (λ (h : eqb k l ≡ false). rw h (and-false (eqb (a * 10 ^ l) (b * 10 ^ k)) ∙ sym (and-false (eqb a b)))) (decided (eqb k l))
-
-same-written : (i f : Decimal) → same i f ≡ (eqb (i .digits) (f .digits) && eqb (i .decimals) (f .decimals))
-unfolding same isEqual exactValue
-same-written i f = same-plain (i .digits) (f .digits) (i .decimals) (f .decimals)
-
-pub same-digits : (i f : Decimal) → i .digits ≡ f .digits → eqb (i .decimals) (f .decimals) ≡ same i f
-same-digits i f e = sym (same-written i f ∙ rw (eq-eqb (i .digits) (f .digits) e))
-
-pub same-differs : (i f : Decimal) → (i .digits ≡ f .digits → ⊥) → eqb (i .digits) (f .digits) ≡ same i f
-same-differs i f e = rw (same-written i f, ne-eqb (i .digits) (f .digits) e)

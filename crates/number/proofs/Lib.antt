@@ -2,4 +2,5 @@
 pub mod Digits
 pub mod Texts
 pub mod Exact
+pub mod Range
 pub mod Spelling

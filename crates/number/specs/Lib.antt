@@ -3,3 +3,4 @@ pub mod Value
 pub mod Reading
 pub mod Spelling
 pub mod Billionths
+pub mod Range

@@ -2,7 +2,7 @@
 -- Assumes nothing.
 use Prim.Native.Nat.{ℕ, _+_, _*_, _^_, _≤_, _<_}
 use mathlib.Core.Bool.{Bool, _&&_}
-use lib.Dec.{eqb, leb, ltb}
+use lib.Dec.{leb, ltb}
 use Rattle.number.specs.declared.Decimal.{Decimal}
 
 -- what every number that can be read keeps to: at most nine decimals, and at most eight digits before them
@@ -23,9 +23,6 @@ isLess a b = ltb (a .numerator * b .denominator) (b .numerator * a .denominator)
 unfoldable pub isAtMost : Fraction → Fraction → Bool
 isAtMost a b = leb (a .numerator * b .denominator) (b .numerator * a .denominator)
 
-unfoldable pub isEqual : Fraction → Fraction → Bool
-isEqual a b = eqb (a .numerator * b .denominator) (b .numerator * a .denominator)
-
 unfoldable pub plus : Fraction → Fraction → Fraction
 plus a b =
     record {
@@ -42,10 +39,6 @@ unfoldable pub halfUnit : Decimal → Fraction
 halfUnit d = record { numerator = 1; denominator = 2 * 10 ^ d .decimals }
 
 -- ---- the operations: i is the card's number, f the filter's
-
--- eq: same value and same count of decimals
-unfoldable pub same : Decimal → Decimal → Bool
-same i f = isEqual (exactValue i) (exactValue f) && eqb (i .decimals) (f .decimals)
 
 -- gt
 unfoldable pub greater : Decimal → Decimal → Bool

@@ -5,9 +5,9 @@ ghost use Prim.Native.Nat.{_^_, _≤_, _<_};
 ghost use lib.ListN.{length};
 ghost use Rattle.base.specs.Digits.{isDigit};
 ghost use Rattle.base.specs.Runs.{run};
-ghost use Rattle.number.specs.Value.{Bounded, same, greater, less, atLeast, atMost, covers};
+ghost use Rattle.number.specs.Value.{Bounded, greater, less, atLeast, atMost, covers};
 ghost use Rattle.number.specs.Reading.{DigitText, valueFrom, readFraction, read, readable};
-ghost use Rattle.number.specs.Billionths.{unit, billionths};
+ghost use Rattle.number.specs.Billionths.{unit, billionths, inside};
 
 // A number as it is written: its digits as one integer, and how many of them are decimals.
 pub struct Decimal {
@@ -137,11 +137,18 @@ fn billionths(d: Decimal) -> u64
     d.digits * unit(d)
 }
 
-// eq: same value and same count of decimals.
-pub fn same(i: Decimal, f: Decimal) -> bool
-    ensures { λ r. ⌜ r ≡ same i f ⌝ }
+// eq: "the filter's range holds the card's range whole, a number's range being half a unit of its last digit to either
+// side". Twice the billionths keep half a unit whole; a lower end may lie below zero, so both sides have a unit added.
+pub fn inside(i: Decimal, f: Decimal) -> bool
+    requires { ⌜ Bounded i ⌝ }
+    requires { ⌜ Bounded f ⌝ }
+    ensures { λ r. ⌜ r ≡ inside i f ⌝ }
 {
-    i.digits == f.digits && i.decimals == f.decimals
+    let card = 2 * billionths(i);
+    let filter = 2 * billionths(f);
+    let narrow = unit(i);
+    let wide = unit(f);
+    filter + narrow <= card + wide && card + narrow <= filter + wide
 }
 
 // gt, by exact value.

@@ -29,6 +29,16 @@ use Rattle.place.proofs.Place as place
 use Rattle.date.specs.Calendar.{daysBeforeMonth}
 use Rattle.date.specs.Arithmetic.{beforeByNumber}
 use Rattle.date.proofs.Calendar as calendar
+use Rattle.date.specs.Spans.{Proper}
+use Rattle.date.specs.Relations as date-tests
+use Rattle.date.specs.Instants as instants
+use Rattle.date.specs.declared.Date.{Date}
+use Rattle.date.proofs.Relations as date-relations
+use Rattle.number.specs.Value.{Bounded}
+use Rattle.number.specs.Billionths as number-tests
+use Rattle.number.specs.Range as ranges
+use Rattle.number.specs.declared.Decimal.{Decimal}
+use Rattle.number.proofs.Range as number-ranges
 use Rattle.kind.specs.Readable.{cardReadable, valueReadable}
 use Rattle.kind.specs.Stands.{stands}
 use Rattle.kind.specs.Table.{hasMeaning}
@@ -130,6 +140,14 @@ operator-has-meaning = rules.operator-iff
 
 pub text-stands : (r : Relation) (x v : List ℕ) → (stands r x v ≡ true) ↔ StandsIn r x v
 text-stands = rules.stands-iff
+
+-- eq: the test of a card's date or number against a filter's passes exactly where every instant, every point, of the card's range lies
+-- in the filter's; what is read is Proper, or Bounded
+pub date-held : (i f : Date) → Proper i → (date-tests.inside i f ≡ true) ↔ instants.Held i f
+date-held = date-relations.inside-iff
+
+pub number-held : (i f : Decimal) → Bounded i → Bounded f → (number-tests.inside i f ≡ true) ↔ ranges.Held i f
+number-held = number-ranges.inside-iff
 
 -- the calendar: for each month of either kind of year, the arithmetic on its number gives the sum of the lengths before it
 pub days-before-month : (leap : Bool) (m : ℕ) → m ≤ 12 → beforeByNumber leap m ≡ daysBeforeMonth leap m

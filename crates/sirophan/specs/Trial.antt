@@ -21,10 +21,10 @@ trialRows =
     ∷ row (ascii "birthdate le 1974-06") yes
     ∷ row (ascii "birthdate lt 1974-06") no
     ∷ row (ascii "birthdate eb 1974-07") yes
-    ∷ row (ascii "birthdate eq 1974") no
+    ∷ row (ascii "birthdate eq 1974") yes
     ∷ row (ascii "birthdate ne 1980") yes
     ∷ row (ascii "not (birthdate eq 1980)") no
-    ∷ row (ascii "pages eq 12") no
+    ∷ row (ascii "pages eq 12") yes
     ∷ row (ascii "pages ge 12") yes
     ∷ row (ascii "pages co 12.04") yes
     ∷ row (ascii "pages co 12.05") no

@@ -1,19 +1,8 @@
 //! Dates: spans of whole seconds, counted from 1970-01-01T00:00:00Z and negative before it.
 
-/// How far a date is written out.
-#[derive(Clone, Copy, Debug, PartialEq, Eq)]
-pub enum Precision {
-    Year,
-    Month,
-    Day,
-    Second,
-}
-
-/// A date: its span from `start` up to but without `end`, and its zone in minutes east of UTC (0 where none is written).
+/// A date: its span from `start` up to but without `end`.
 #[derive(Clone, Copy, Debug, PartialEq, Eq)]
 pub struct Date {
-    pub precision: Precision,
-    pub zone: i64,
     pub start: i64,
     pub end: i64,
 }
@@ -24,7 +13,7 @@ pub const DAY: i64 = 86_400;
 pub const WIDEST_ZONE: i64 = 14 * 60;
 
 impl Date {
-    /// Reads YYYY, YYYY-MM, YYYY-MM-DD, or YYYY-MM-DDThh:mm:ss with Z, +hh:mm or -hh:mm.
+    /// Reads YYYY, YYYY-MM, YYYY-MM-DD, or YYYY-MM-DDThh:mm:ss with Z, +hh:mm or -hh:mm. A date with no zone is read as UTC.
     pub fn read(text: &[u8]) -> Option<Date> {
         let (date, time) = match text.iter().position(|&byte| byte == b'T') {
             Some(at) => (&text[..at], Some(&text[at + 1..])),
@@ -46,37 +35,24 @@ impl Date {
         match (month, day, time) {
             (None, None, None) => {
                 let (start, end) = (midnight(year, 1, 1), midnight(year + 1, 1, 1));
-                Some(Date::without_zone(Precision::Year, start, end))
+                Some(Date { start, end })
             }
             (Some(month), None, None) => {
                 let start = midnight(year, month, 1);
                 let end = start + DAY * days_of_month(year, month);
-                Some(Date::without_zone(Precision::Month, start, end))
+                Some(Date { start, end })
             }
             (Some(month), Some(day), None) => {
                 let start = midnight(year, month, day);
-                Some(Date::without_zone(Precision::Day, start, start + DAY))
+                Some(Date { start, end: start + DAY })
             }
             (Some(month), Some(day), Some(time)) => {
                 let (clock, zone) = time.split_at_checked("hh:mm:ss".len())?;
-                let zone = read_zone(zone)?;
-                let start = midnight(year, month, day) + read_clock(clock)? - 60 * zone;
-                let (precision, end) = (Precision::Second, start + 1);
-                Some(Date { precision, zone, start, end })
+                let start = midnight(year, month, day) + read_clock(clock)? - 60 * read_zone(zone)?;
+                Some(Date { start, end: start + 1 })
             }
             _ => None,
         }
-    }
-
-    /// A date with no zone is read as UTC.
-    fn without_zone(precision: Precision, start: i64, end: i64) -> Date {
-        let zone = 0;
-        Date { precision, zone, start, end }
-    }
-
-    /// Same precision, start and zone.
-    pub fn same(self, other: Date) -> bool {
-        (self.precision, self.start, self.zone) == (other.precision, other.start, other.zone)
     }
 
     /// This span lies inside the other one.
@@ -229,9 +205,25 @@ mod tests {
         let utc = date("1974-06-30T23:00:00Z");
         let east = date("1974-07-01T01:00:00+02:00");
         let west = date("1974-06-30T20:30:00-02:30");
-        assert!(utc.start == east.start && utc.start == west.start);
-        assert!(!utc.same(east) && !east.same(west));
-        assert!(utc.same(date("1974-06-30T23:00:00+00:00")) && utc.same(date("1974-06-30T23:00:00-00:00")));
-        assert!(!date("1974-01").same(date("1974-01-01")));
+        assert!(utc == east && utc == west);
+        assert!(utc == date("1974-06-30T23:00:00+00:00") && utc == date("1974-06-30T23:00:00-00:00"));
+    }
+
+    #[test]
+    fn ranges() {
+        for (card, filter, holds) in [
+            ("1974", "1974", true),
+            ("1974-06", "1974", true),
+            ("1974", "1974-06", false),
+            ("1974-12-31T23:59:59Z", "1974", true),
+            ("1974-12-31T23:59:59-01:00", "1974", false),
+            ("1975-01-01T00:59:59+01:00", "1974", true),
+            ("1975-01-01T01:00:00+01:00", "1974", false),
+            ("1974-01-01T00:00:00Z", "1974-01", true),
+            ("1974-01-01T00:00:00+00:01", "1974-01", false),
+            ("1974-06-30T23:00:00Z", "1974-07-01T01:00:00+02:00", true),
+        ] {
+            assert_eq!(date(card).inside(date(filter)), holds, "{card} eq {filter}");
+        }
     }
 }

@@ -191,8 +191,8 @@ fn string(operation: Operation, text: &[u8], part: &[u8]) -> bool {
 fn number(operation: Operation, card: Decimal, filter: Decimal) -> bool {
     let order = card.order(filter);
     match operation {
-        Operation::Eq => card.same(filter),
-        Operation::Ne => !card.same(filter),
+        Operation::Eq => card.inside(filter),
+        Operation::Ne => !card.inside(filter),
         Operation::Gt => order.is_gt(),
         Operation::Lt => order.is_lt(),
         Operation::Ge => order.is_ge(),
@@ -206,8 +206,8 @@ fn date(operation: Operation, card: Date, filter: Date) -> bool {
     let ends_later = card.end > filter.end;
     let starts_earlier = card.start < filter.start;
     match operation {
-        Operation::Eq => card.same(filter),
-        Operation::Ne => !card.same(filter),
+        Operation::Eq => card.inside(filter),
+        Operation::Ne => !card.inside(filter),
         Operation::Gt => ends_later,
         Operation::Lt => starts_earlier,
         Operation::Ge => ends_later || card.inside(filter),

@@ -43,9 +43,18 @@ impl Decimal {
         left.cmp(&right)
     }
 
-    /// Same value and same count of decimals.
-    pub fn same(self, other: Decimal) -> bool {
-        self.decimals == other.decimals && self.order(other).is_eq()
+    /// The ends of the range, half a unit of the last digit to either side, as numerators over twice the denominator.
+    fn ends(self) -> (i128, i128) {
+        let middle = 2 * i128::from(self.digits);
+        (middle - 1, middle + 1)
+    }
+
+    /// This number's range lies whole in the other's.
+    pub fn inside(self, other: Decimal) -> bool {
+        let (low, high) = self.ends();
+        let (other_low, other_high) = other.ends();
+        let (here, there) = (self.denominator() as i128, other.denominator() as i128);
+        other_low * here <= low * there && high * there <= other_high * here
     }
 
     /// The other lies from half a unit of this number's last digit below it to the same above, the upper end left out.
@@ -84,11 +93,38 @@ mod tests {
 
     #[test]
     fn exact() {
-        assert!(decimal("012").same(decimal("12")));
-        assert!(!decimal("12").same(decimal("12.0")));
+        assert!(decimal("012").order(decimal("12")).is_eq());
         assert!(decimal("12").order(decimal("12.0")).is_eq());
         assert!(decimal("99999999.999999999").order(decimal("99999999")).is_gt());
         assert!(decimal("0.000000001").order(decimal("0")).is_gt());
+    }
+
+    #[test]
+    fn ranges_inside() {
+        for (card, filter, inside) in [
+            ("12", "12", true),
+            ("012", "12", true),
+            ("12.0", "12", true),
+            ("12.4", "12", true),
+            ("12.49", "12", true),
+            ("11.6", "12", true),
+            ("11.505", "12", true),
+            ("11.5", "12", false),
+            ("11.50", "12", false),
+            ("11.51", "12", true),
+            ("12.5", "12", false),
+            ("12", "12.0", false),
+            ("0.0", "0", true),
+            ("0", "0.0", false),
+            ("0", "0", true),
+            ("0.4", "0", true),
+            ("0.5", "0", false),
+            ("0.000000001", "0", true),
+            ("99999999.499999999", "99999999", true),
+            ("99999999.5", "99999999", false),
+        ] {
+            assert_eq!(decimal(card).inside(decimal(filter)), inside, "{card} eq {filter}");
+        }
     }
 
     #[test]

@@ -7,8 +7,8 @@ use Rattle.kind.proofs.relate.date_stands.Tie as tie
 enum-told : tie.Need-enum-told
 enum-told c = search needs
 
-same-requires : tie.Need-same-requires
-same-requires c κs = search needs
+inside-requires : tie.Need-inside-requires
+inside-requires c κs = search needs
 
 enum-told-2 : tie.Need-enum-told-2
 enum-told-2 c = search needs
@@ -99,7 +99,7 @@ date-stands-spec =
     tie.close
     (tie.spec
     enum-told
-    same-requires
+    inside-requires
     enum-told-2
     later-requires
     enum-told-3

@@ -1,7 +1,7 @@
 //! Dates.
 
 use super::one_byte_changed;
-use crate::date::{self, Date, Precision};
+use crate::date::{self, Date};
 use crate::generate::random::Random;
 
 /// Dates at the ends of the calendar. By their zone the last two lie outside every year that can be written.
@@ -13,6 +13,15 @@ const CALENDAR_ENDS: [&str; 6] = [
     "0001-01-01T00:00:00+00:01",
     "9999-12-31T23:59:59-00:01",
 ];
+
+/// How far a date is written out.
+#[derive(Clone, Copy, PartialEq, Eq)]
+enum Precision {
+    Year,
+    Month,
+    Day,
+    Second,
+}
 
 const PRECISIONS: [Precision; 4] = [Precision::Year, Precision::Month, Precision::Day, Precision::Second];
 
@@ -141,21 +150,26 @@ pub fn near(random: &mut Random, text: &[u8]) -> Vec<u8> {
         1 => given.end + random.one(&[-1, 0, 0, 1]),
         _ => given.start + random.one(&[-date::DAY, -1, 0, 0, 0, 1, date::DAY]),
     };
-    let zone = match random.below(6) {
-        0 | 1 => given.zone,
-        2 => -given.zone,
-        _ => zone(random),
-    };
     let precision = match random.below(3) {
-        0 => given.precision,
+        0 => precision_of(text),
         _ => random.one(&PRECISIONS),
     };
     // Without a written zone the date is the one in UTC.
-    let zone = if precision == Precision::Second { zone } else { 0 };
+    let zone = if precision == Precision::Second { zone(random) } else { 0 };
     match Written::of(second, zone, random) {
         Some(written) if random.once_in(12) => one_byte_changed(random, &written.spell(precision)),
         Some(written) => written.spell(precision),
         None => text.to_vec(),
+    }
+}
+
+/// How far a readable text is written out.
+fn precision_of(text: &[u8]) -> Precision {
+    match text.len() {
+        4 => Precision::Year,
+        7 => Precision::Month,
+        10 => Precision::Day,
+        _ => Precision::Second,
     }
 }
 
