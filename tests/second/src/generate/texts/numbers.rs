@@ -31,12 +31,23 @@ pub fn readable(random: &mut Random) -> Vec<u8> {
     text.into_bytes()
 }
 
+/// The number with fewer decimals, rounded to either side.
+fn coarser(random: &mut Random, digits: u64, decimals: usize) -> Vec<u8> {
+    let dropped = random.below(decimals + 1);
+    let unit = 10u128.pow(dropped as u32);
+    let rounded = u128::from(digits) / unit + random.one(&[0, 0, 1]);
+    spell_number(rounded, decimals - dropped).into_bytes()
+}
+
 /// The same value with other decimals or zeros, half a unit or a unit either way, or a little beside that.
 pub fn near(random: &mut Random, text: &[u8]) -> Vec<u8> {
     let Some(Decimal { digits, decimals }) = Decimal::read(text) else {
         return one_byte_changed(random, text);
     };
     let mut decimals = decimals as usize;
+    if random.once_in(4) {
+        return coarser(random, digits, decimals);
+    }
     let mut digits = i128::from(digits);
     // As many more decimals as there is room for make the unit smaller, so that the steps can be told apart.
     let more = random.below(MOST_DECIMALS - decimals + 1);
