@@ -17,7 +17,7 @@
 mod ffi;
 mod refusal;
 
-pub use refusal::Refusal;
+pub use refusal::{Refusal, underline};
 
 /// Checks a filter against a sheet and answers how many tests the filter has.
 ///

@@ -2,6 +2,7 @@
 
 use std::error::Error;
 use std::fmt;
+use std::ops::Range;
 
 /// A numbered refusal with its place.
 #[derive(Clone, Copy, Debug, PartialEq, Eq, Hash)]
@@ -14,7 +15,7 @@ pub struct Refusal {
     pub place: usize,
 }
 
-/// How many characters of the filter [`Refusal::render`] shows before and behind the place.
+/// How many characters of the filter [`Refusal::render`] and [`underline`] show before and behind the place.
 const SHOWN_BEFORE: usize = 30;
 const SHOWN_BEHIND: usize = 46;
 
@@ -47,7 +48,7 @@ impl Refusal {
     /// byte up to which it could be one; where a test of the filter is at fault, with a caret under the test's first.
     pub fn render(&self, filter: &[u8]) -> String {
         match self.number {
-            11..=18 => format!("{}\n{self}", caret(filter, self.place)),
+            11..=18 => format!("{}\n{self}", underline(filter, self.place..self.place + 1)),
             _ => self.to_string(),
         }
     }
@@ -63,11 +64,12 @@ impl fmt::Display for Refusal {
 
 impl Error for Refusal {}
 
-/// Two lines: the filter around the place, and a caret under it. Dots stand for what is left out.
-fn caret(filter: &[u8], place: usize) -> String {
-    let (before, behind) = filter.split_at(place.min(filter.len()));
-    let before = printable(before);
-    let behind = printable(behind);
+/// Two lines: the filter around the start of a part of it, and carets under the part. Dots stand for what is left out.
+pub fn underline(filter: &[u8], part: Range<usize>) -> String {
+    let place = part.start.min(filter.len());
+    let end = part.end.clamp(place, filter.len());
+    let before = printable(&filter[..place]);
+    let behind = printable(&filter[place..]);
     let skipped = before.len().saturating_sub(SHOWN_BEFORE);
     let kept = behind.len().min(SHOWN_BEHIND);
     let dots = |left_out: bool| if left_out { "..." } else { "" };
@@ -75,8 +77,9 @@ fn caret(filter: &[u8], place: usize) -> String {
     let start = dots(skipped > 0);
     let line: String = before[skipped..].iter().chain(&behind[..kept]).collect();
     let indent = start.len() + before.len() - skipped;
-    let end = dots(kept < behind.len());
-    format!("{start}{line}{end}\n{:indent$}^", "")
+    let carets = printable(&filter[place..end]).len().clamp(1, kept.max(1));
+    let rest = dots(kept < behind.len());
+    format!("{start}{line}{rest}\n{:indent$}{:^<carets$}", "", "")
 }
 
 /// The characters of a text, with a mark for each that is not UTF-8 or would not print.
