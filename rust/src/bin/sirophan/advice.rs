@@ -1,0 +1,259 @@
+//! What to do about a refusal: sentences that go below the library's own.
+
+use crate::block::{self, Sort};
+use crate::filter::{Filter, Test};
+use crate::input::{self, shown};
+use crate::kind::{self, BUNDLE, Reader};
+use crate::report::{Failure, Message};
+use crate::sheet::Sheet;
+use crate::text::{self, row, spell};
+use sirophan::Refusal;
+
+/// What to do about a wrong check sum.
+const DAMAGED: &str = "It was changed or damaged since it was written: pack it again from its description.";
+
+/// A sheet and a filter, with what messages call them.
+pub struct Question {
+    pub sheet_name: String,
+    pub filter_name: String,
+    pub sheet: Sheet,
+    pub filter: Vec<u8>,
+}
+
+impl Question {
+    /// Reads both files.
+    pub fn read(sheet_name: &str, filter_name: &str) -> Result<Question, Failure> {
+        let sheet = Sheet::read(input::read(sheet_name)?);
+        let filter = input::read_filter(filter_name)?;
+        Ok(Question { sheet_name: shown(sheet_name), filter_name: shown(filter_name), sheet, filter })
+    }
+
+    /// The number of the filter's tests, or the refusal with its help.
+    pub fn check(&self) -> Result<usize, Failure> {
+        sirophan::check(&self.sheet.block, &self.filter).map_err(|refusal| Failure::refused(self.tell(refusal)))
+    }
+
+    /// A refusal of the sheet or the filter as it is told: the test underlined, the library's sentence, and help.
+    fn tell(&self, refusal: Refusal) -> Message {
+        let filter = Filter::read(&self.filter);
+        let test = filter.as_ref().and_then(|filter| filter.test_at(refusal.place));
+        let (shown, help) = match (refusal.number, test) {
+            (1..=3, _) => return sheet_refused(&self.sheet_name, &self.sheet, refusal),
+            (14..=18, Some(test)) => {
+                let shown = sirophan::underline(&self.filter, test.whole.clone());
+                (Some(shown), test_help(refusal.number, &self.sheet, &self.filter, test))
+            }
+            _ => (None, text_help(refusal.number, &self.filter)),
+        };
+        Message { shown, ..told(refusal, &self.filter_name, help) }
+    }
+}
+
+/// A refusal of a file, with sentences of help.
+pub fn told(refusal: Refusal, name: &str, help: Vec<String>) -> Message {
+    Message { refusal: Some(refusal), help, ..Message::error(format!("{name}: {refusal}")) }
+}
+
+/// A refusal of a sheet as it is told.
+pub fn sheet_refused(name: &str, sheet: &Sheet, refusal: Refusal) -> Message {
+    told(refusal, name, sheet_help(refusal.number, sheet))
+}
+
+/// Help with a sheet that is refused.
+fn sheet_help(number: u32, sheet: &Sheet) -> Vec<String> {
+    let is_text = !sheet.block.is_empty() && str::from_utf8(&sheet.block).is_ok();
+    match (number, Sort::of(&sheet.block)) {
+        (1, Sort::Card) => vec!["It begins as a card does. The sheet is another file, such as sheet.bin.".into()],
+        (1, Sort::Neither) if is_text => {
+            vec!["It is a text. A description becomes a sheet by `sirophan pack DIR OUT`.".into()]
+        }
+        (1, _) => vec![size_help(&sheet.block)],
+        (2, _) => vec![DAMAGED.into()],
+        _ => sheet.faults(),
+    }
+}
+
+/// How many bytes a file has that is too short or too long.
+fn size_help(file: &[u8]) -> String {
+    let more = if file.len() == input::MOST_BYTES { " or more" } else { "" };
+    format!("It has {}{more}.", text::counted(file.len() as u64, "byte"))
+}
+
+/// Signs that make a text no filter and are easily overlooked: what the text holds, and what to do.
+const NO_FILTER: [(&[u8], &str); 8] = [
+    (b"\xEF\xBB\xBF", "It has a byte order mark (EF BB BF). Save it as UTF-8 without one."),
+    (b"\xFF\xFE", "It is UTF-16. Save it as UTF-8 without a byte order mark."),
+    (b"\r", "It has a Windows line end (0x0D). Save it with a line feed alone, or without a line end."),
+    (b"\n", "It has more than one line. A filter is one line."),
+    (b"\t", "It has a tab. Only spaces may stand between the words."),
+    ("\u{201C}".as_bytes(), "It has a curly quote. Texts are quoted with the straight sign \"."),
+    ("\u{201E}".as_bytes(), "It has a curly quote. Texts are quoted with the straight sign \"."),
+    ("\u{A0}".as_bytes(), "It has a no-break space. Only plain spaces may stand between the words."),
+];
+
+/// Help with a text that is no filter.
+fn text_help(number: u32, filter: &[u8]) -> Vec<String> {
+    if number == 10 {
+        return vec![size_help(filter)];
+    }
+    let holds = |sign: &[u8]| filter.windows(sign.len()).any(|window| window == sign);
+    let sign = NO_FILTER.iter().find(|(sign, _)| holds(sign)).map(|(_, help)| help.to_string());
+    let letters = (!filter.is_ascii()).then(|| "Letters beyond ASCII stand between double quotes only.".to_string());
+    let example =
+        "A filter is made of tests such as `title co \"book\"`, joined by `and` or `or`; `not` needs brackets.";
+    let limits = "It has at most 32 tests, and brackets at most 8 deep.";
+    let found = sign.or(letters).into_iter().chain(capitals(filter));
+    found.chain([example.into(), limits.into()]).collect()
+}
+
+/// Help with a word of the grammar that is written in capitals.
+fn capitals(filter: &[u8]) -> Option<String> {
+    let words = filter.split(|byte| b" ()[]".contains(byte)).map(String::from_utf8_lossy);
+    let small = |word: &str| word.to_lowercase();
+    let mut capitals = words.filter(|word| *word != small(word) && kind::is_word_of_grammar(&small(word)));
+    capitals
+        .next()
+        .map(|word| format!("{word} is written {}: operators, and, or and not are in small letters.", small(&word)))
+}
+
+/// Help with a test that has no meaning.
+fn test_help(number: u32, sheet: &Sheet, filter: &[u8], test: &Test) -> Vec<String> {
+    let operator = String::from_utf8_lossy(&filter[test.operator.clone()]).into_owned();
+    let parameter = test.place(sheet, filter).map(|place| (sheet.path(place, 0), sheet.parameters[place].kind));
+    match (number, parameter) {
+        (15, Some((path, kind))) => vec![operators_of(&path, kind)],
+        (16, Some((path, kind))) => operator_help(&path, kind, &operator),
+        (17, Some(_)) if operator == "pr" => {
+            vec!["Behind pr stands true (there is a text) or false (there is none).".into()]
+        }
+        (17, Some((path, kind))) => value_help(&path, kind, &spell(&test.decoded(filter))),
+        (18, Some(_)) => vec![bundle_help(sheet, &filter[test.name.clone()])],
+        _ => vec![name_help(sheet, filter, test)],
+    }
+}
+
+/// Which operators a parameter has.
+fn operators_of(path: &str, kind: u8) -> String {
+    let Some(known) = kind::by_number(kind) else { return String::new() };
+    format!("{path} is {}, which has the operators {}.", known.one, row(&Reader::new(kind).operators(), "and"))
+}
+
+/// Help with an operator that the kind does not have.
+fn operator_help(path: &str, kind: u8, operator: &str) -> Vec<String> {
+    let for_others = format!(
+        "{operator} is for {}. If that is what {path} holds, the sheet gives it the wrong kind.",
+        row(&kind::kinds_with(operator), "and")
+    );
+    vec![operators_of(path, kind), for_others]
+}
+
+/// Help with a value that cannot be read.
+fn value_help(path: &str, kind: u8, value: &str) -> Vec<String> {
+    kind::by_number(kind).map_or_else(Vec::new, |kind| {
+        vec![format!("{path} is {}, and {value} cannot be read as one: {}.", kind.one, kind.written)]
+    })
+}
+
+/// How a bundle is asked.
+fn bundle_help(sheet: &Sheet, name: &[u8]) -> String {
+    let bundle = String::from_utf8_lossy(name);
+    let members: Vec<String> = sheet
+        .find_bundle(name)
+        .map_or_else(Vec::new, |place| sheet.members(place).map(|place| sheet.name(place)).collect());
+    match &members[..] {
+        [] => format!("{bundle} is a bundle without members, and cannot be asked."),
+        [first, rest @ ..] => {
+            let last = rest.last().unwrap_or(first);
+            format!(
+                "{bundle} is a bundle of {}. Write `{bundle}[{first} pr true].{last} pr true`.",
+                row(&members, "and")
+            )
+        }
+    }
+}
+
+/// Help with a name that is not on the sheet, or stands where it cannot.
+fn name_help(sheet: &Sheet, filter: &[u8], test: &Test) -> String {
+    if test.inside.is_some() && test.bundle.is_some() {
+        return "Inside square brackets no name has square brackets: no bundle is in a bundle.".into();
+    }
+    let bundle = test.bundle.as_ref().or(test.inside.as_ref()).map(|bundle| &filter[bundle.clone()]);
+    let name = &filter[test.name.clone()];
+    match bundle {
+        None => top_name_help(sheet, name),
+        Some(bundle) => member_help(sheet, bundle, name),
+    }
+}
+
+/// Help with a name that stands by itself.
+fn top_name_help(sheet: &Sheet, name: &[u8]) -> String {
+    let member = sheet.parameters.iter().find(|parameter| parameter.bundle > 0 && parameter.name == name);
+    let shown = String::from_utf8_lossy(name);
+    match member {
+        Some(parameter) => {
+            let bundle = sheet.name(usize::from(parameter.bundle) - 1);
+            format!("{shown} is a member of {bundle}. Write `{bundle}[{shown} pr true].{shown}` in place of {shown}.")
+        }
+        None => format!("{shown} is not on the sheet. {}", choices(&shown, sheet, 0)),
+    }
+}
+
+/// Help with a name inside square brackets, or behind them.
+fn member_help(sheet: &Sheet, bundle: &[u8], name: &[u8]) -> String {
+    let (shown, of) = (String::from_utf8_lossy(name), String::from_utf8_lossy(bundle));
+    match sheet.find_bundle(bundle) {
+        None if sheet.find(0, bundle).is_some() => format!("{of} is no bundle, and has no square brackets behind it."),
+        None => format!("{of} is not on the sheet. {}", choices(&of, sheet, 0)),
+        Some(place) => format!("{shown} is no member of {of}. {}", choices(&shown, sheet, place)),
+    }
+}
+
+/// Which names could stand in the place of one: the nearest, or all where none is near.
+fn choices(name: &str, sheet: &Sheet, bundle: u8) -> String {
+    let names: Vec<String> = sheet.members(bundle).map(|place| sheet.name(place)).collect();
+    let near = text::nearest(name, &names);
+    match (&names[..], &near[..]) {
+        ([], _) => "There are no names to choose from.".into(),
+        (_, []) => format!("There are {}.", row(&names, "and")),
+        _ => format!("Is it {}?", row(&near, "or")),
+    }
+}
+
+/// What is wrong with a card by itself, if it is not sound.
+pub fn unsound(card: &[u8]) -> Option<String> {
+    let refusal = kind::sound_card(card).err()?;
+    let seen = match (refusal.number, Sort::of(card)) {
+        (21, _) => return Some(format!("{} {DAMAGED}", refusal.sentence())),
+        (_, Sort::Card) => row(&block::faults(card), "and"),
+        _ => "the first byte of no card".into(),
+    };
+    Some(format!("{} It has {seen}.", refusal.sentence()))
+}
+
+/// What is wrong with a card that a sheet does not take, each sentence with the field.
+pub fn card_faults(sheet: &Sheet, card: &[u8]) -> Vec<String> {
+    if let Some(fault) = unsound(card) {
+        return vec![fault];
+    }
+    let faults = block::items(card).filter_map(|item| {
+        let place = usize::from(item.byte);
+        let fault = entry_fault(sheet, place, item.text)?;
+        Some(format!("{}: {fault}", sheet.path(place, item.mark)))
+    });
+    faults.collect()
+}
+
+/// What is wrong with a text under a parameter, if the sheet does not take it.
+pub fn entry_fault(sheet: &Sheet, place: usize, text: &[u8]) -> Option<String> {
+    let Some(parameter) = sheet.parameters.get(place) else {
+        return Some(format!("the sheet has no parameter at this place, but {}.", sheet.parameters.len()));
+    };
+    if Reader::new(parameter.kind).reads(text) {
+        return None;
+    }
+    let kind = kind::by_number(parameter.kind)?;
+    Some(match parameter.kind {
+        BUNDLE => "a bundle has no texts of its own. Put the text under one of its members.".into(),
+        _ => format!("{} cannot be read as {}: {}.", spell(text), kind.one, kind.written),
+    })
+}

@@ -1,0 +1,230 @@
+//! Goes through a file of cards with all processors, in pieces, and takes what each piece gives in the file's order.
+
+use crate::advice;
+use crate::block::{self, SIZE};
+use crate::input::Input;
+use crate::kind;
+use crate::report::{Failure, Message};
+use crate::sheet::Sheet;
+use crate::text::{counted, grouped};
+use sirophan::Refusal;
+use std::collections::BTreeMap;
+use std::io::{self, IsTerminal, Write};
+use std::num::NonZero;
+use std::sync::{Mutex, MutexGuard, PoisonError};
+use std::thread;
+use std::time::{Duration, Instant};
+
+/// How many cards the library selects from at a time.
+pub const RUN: usize = 128;
+/// How many bytes a piece has, a whole number of runs.
+const PIECE: usize = 8 * RUN * SIZE;
+/// When the progress of a long pass is first shown, and how often then.
+const SHOWN_AFTER: Duration = Duration::from_secs(1);
+const SHOWN_EVERY: Duration = Duration::from_millis(200);
+
+/// Goes through a file. `work` makes something of each piece, given the index of its first card; what it adds up is kept
+/// by each processor for itself. `take` gets what was made, in the order of the file, and says whether to go on. An empty
+/// file is one piece. The answer is what was added up.
+pub fn pass<T, R>(
+    input: Input,
+    work: impl Fn(&mut T, u64, &[u8]) -> R + Sync,
+    take: impl FnMut(R) -> Result<bool, Failure> + Send,
+) -> Result<Vec<T>, Failure>
+where
+    T: Default + Send,
+    R: Send,
+{
+    let processors = thread::available_parallelism().map_or(1, NonZero::get);
+    let pieces = input.size.map_or(usize::MAX, |size| size as usize / PIECE + 1);
+    let source = Mutex::new(Source::new(input));
+    let sink = Mutex::new(Sink { next: 0, waiting: BTreeMap::new(), take, outcome: Ok(()) });
+    let worker = || {
+        let mut sum = T::default();
+        let mut piece = vec![0; PIECE];
+        // The lock is taken in a closure, so that it is not held while the piece is worked on.
+        let next = |piece: &mut [u8]| lock(&source).next(piece);
+        while let Some((number, filled)) = next(&mut piece) {
+            let made = filled.map(|filled| work(&mut sum, number * (PIECE / SIZE) as u64, &piece[..filled]));
+            if !lock(&sink).put(number, made) {
+                lock(&source).ended = true;
+            }
+        }
+        sum
+    };
+    let sums = thread::scope(|scope| {
+        let workers: Vec<_> = (0..processors.min(pieces)).map(|_| scope.spawn(worker)).collect();
+        workers.into_iter().map(|worker| worker.join().expect("no work panics")).collect()
+    });
+    lock(&source).progress.clear();
+    sink.into_inner().unwrap_or_else(PoisonError::into_inner).outcome.map(|()| sums)
+}
+
+/// What a lock guards; a panic elsewhere ends the program anyway.
+fn lock<T>(mutex: &Mutex<T>) -> MutexGuard<'_, T> {
+    mutex.lock().unwrap_or_else(PoisonError::into_inner)
+}
+
+/// The file, as it is read piece by piece.
+struct Source {
+    input: Input,
+    next: u64,
+    ended: bool,
+    progress: Progress,
+}
+
+impl Source {
+    fn new(input: Input) -> Source {
+        let progress = Progress { size: input.size, began: Instant::now(), shown: None };
+        Source { input, next: 0, ended: false, progress }
+    }
+
+    /// Reads the next piece, and answers its number and how far it goes; the last one is not full.
+    fn next(&mut self, piece: &mut [u8]) -> Option<(u64, Result<usize, Failure>)> {
+        if self.ended {
+            return None;
+        }
+        let filled = self.input.fill(piece);
+        let number = self.next;
+        self.next += 1;
+        self.ended = !matches!(filled, Ok(PIECE));
+        self.progress.show(self.next * PIECE as u64);
+        // Behind whole pieces there may be nothing; an empty file is still a piece.
+        (number == 0 || !matches!(filled, Ok(0))).then_some((number, filled))
+    }
+}
+
+/// What was made of the pieces, as it comes in.
+struct Sink<R, F> {
+    next: u64,
+    waiting: BTreeMap<u64, Result<R, Failure>>,
+    take: F,
+    outcome: Result<(), Failure>,
+}
+
+impl<R, F: FnMut(R) -> Result<bool, Failure>> Sink<R, F> {
+    /// Keeps what was made of a piece, takes all whose turn has come, and answers whether to go on.
+    fn put(&mut self, number: u64, made: Result<R, Failure>) -> bool {
+        self.waiting.insert(number, made);
+        while let Some(made) = self.waiting.remove(&self.next) {
+            match made.and_then(&mut self.take) {
+                Ok(true) => self.next += 1,
+                end => {
+                    // No further piece has the number that is waited for.
+                    self.next = u64::MAX;
+                    self.outcome = end.map(|_| ());
+                }
+            }
+        }
+        self.next != u64::MAX
+    }
+}
+
+/// The line that shows on a terminal how far a long pass is.
+struct Progress {
+    size: Option<u64>,
+    began: Instant,
+    shown: Option<Instant>,
+}
+
+impl Progress {
+    /// Shows how far the file is read, if it is time to.
+    fn show(&mut self, bytes: u64) {
+        let due = self.shown.map_or(self.began + SHOWN_AFTER, |shown| shown + SHOWN_EVERY);
+        if Instant::now() < due || !io::stderr().is_terminal() {
+            return;
+        }
+        let share = self.size.map(|size| format!(" of {}", grouped(size / SIZE as u64))).unwrap_or_default();
+        let _ = write!(io::stderr(), "\r{}{share} cards", grouped(bytes / SIZE as u64));
+        self.shown = Some(Instant::now());
+    }
+
+    /// Takes the line away.
+    fn clear(&self) {
+        if self.shown.is_some() {
+            let _ = write!(io::stderr(), "\r\x1B[K");
+        }
+    }
+}
+
+/// A card that is refused, or the bytes that are no whole card.
+pub struct AtFault {
+    pub refusal: Refusal,
+    pub block: Vec<u8>,
+}
+
+impl AtFault {
+    /// What the library refused in a run that begins with this card; the place of 21 to 23 counts over the file.
+    pub fn new(refusal: Refusal, first: u64, run: &[u8]) -> AtFault {
+        let (place, block) = match refusal.number {
+            21..=23 => (refusal.place + first as usize, &run[refusal.place * SIZE..][..SIZE]),
+            _ => (refusal.place, &run[run.len() - run.len() % SIZE..]),
+        };
+        AtFault { refusal: Refusal { place, ..refusal }, block: block.to_vec() }
+    }
+
+    /// The refusal as it is told, with the record and the field.
+    pub fn tell(&self, name: &str, sheet: &Sheet) -> Message {
+        let mut help: Vec<String> = match self.refusal.number {
+            20 => vec![format!("Behind its last whole card it has {}.", counted(self.block.len() as u64, "byte"))],
+            _ => located(self.refusal.place as u64, &self.block, sheet),
+        };
+        if self.refusal.number > 20 {
+            help.push(format!(
+                "No list is given. `sirophan show --record {} {name}` shows the card.",
+                block::record(&self.block)
+            ));
+        }
+        advice::told(self.refusal, name, help)
+    }
+}
+
+/// What is wrong with a card, each sentence with the card's index and its record number.
+pub fn located(index: u64, card: &[u8], sheet: &Sheet) -> Vec<String> {
+    let record = block::record(card);
+    let faults = advice::card_faults(sheet, card);
+    faults.into_iter().map(|fault| format!("card {index}, record {record}: {fault}")).collect()
+}
+
+/// How the library is asked whether cards fit a sheet: by a filter that has a meaning there, if any has.
+pub struct Fit<'a> {
+    pub sheet: &'a Sheet,
+    pub filter: Option<Vec<u8>>,
+}
+
+impl<'a> Fit<'a> {
+    /// Of a sheet alone: by a filter of its own.
+    pub fn new(sheet: &'a Sheet) -> Fit<'a> {
+        Fit { sheet, filter: sheet.some_filter().map(String::into_bytes) }
+    }
+
+    /// Selects from a run. A sheet without parameters that have texts takes the cards that are sound and have no entries.
+    pub fn select(&self, run: &[u8], list: &mut [u32; RUN]) -> Result<usize, Refusal> {
+        match &self.filter {
+            Some(filter) => sirophan::select(&self.sheet.block, filter, run, list),
+            None if !run.len().is_multiple_of(SIZE) => Err(Refusal { number: 20, place: 0 }),
+            None => {
+                for (place, card) in run.chunks(SIZE).enumerate() {
+                    kind::sound_card(card).map_err(|refusal| Refusal { place, ..refusal })?;
+                    if block::count(card) > 0 {
+                        return Err(Refusal { number: 23, place });
+                    }
+                }
+                Ok(0)
+            }
+        }
+    }
+
+    /// Selects from a piece: the record numbers found in the runs before the first that is refused, and what is refused.
+    pub fn select_piece(&self, first: u64, piece: &[u8]) -> (Vec<u32>, Option<AtFault>) {
+        let mut found = Vec::new();
+        let mut list = [0; RUN];
+        for (index, run) in piece.chunks(RUN * SIZE).enumerate() {
+            match self.select(run, &mut list) {
+                Ok(count) => found.extend(&list[..count]),
+                Err(refusal) => return (found, Some(AtFault::new(refusal, first + (index * RUN) as u64, run))),
+            }
+        }
+        (found, None)
+    }
+}

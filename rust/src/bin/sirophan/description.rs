@@ -1,0 +1,374 @@
+//! Descriptions: sheet.txt and cards.txt, read line by line. Only a line feed ends a line, and only spaces and tabs
+//! separate its head from its text.
+
+use crate::advice;
+use crate::block::{self, CARD_HEAD, Item, LONGEST_TEXT, MOST_ENTRIES, MOST_PARAMETERS, SHEET_HEAD, SUMMED};
+use crate::input::Input;
+use crate::kind;
+use crate::report::{Failure, Level, Message};
+use crate::sheet::{self, Parameter, Sheet};
+use crate::text::{self, row, spell};
+use std::io::{BufRead, BufReader};
+
+/// The most faults that are told one by one.
+const MOST_TOLD: usize = 20;
+
+/// Faults that were found, each with its file and line.
+#[derive(Default)]
+pub struct Faults {
+    told: Vec<Message>,
+    more: usize,
+}
+
+impl Faults {
+    /// Adds a fault.
+    pub fn add(&mut self, fault: String) {
+        if self.told.len() < MOST_TOLD {
+            self.told.push(Message::error(fault));
+        } else {
+            self.more += 1;
+        }
+    }
+
+    /// Nothing, where there are no faults.
+    pub fn none(mut self) -> Result<(), Failure> {
+        if self.told.is_empty() {
+            return Ok(());
+        }
+        if self.more > 0 {
+            self.told.push(Message::error(format!("and {} more.", text::counted(self.more as u64, "fault"))));
+        }
+        Err(Failure::Refused(self.told))
+    }
+}
+
+/// A line: its number from 1, its head, and its text.
+struct Line {
+    number: usize,
+    head: String,
+    text: Vec<u8>,
+}
+
+/// A description as it is read.
+pub struct Description {
+    name: String,
+    from: Box<dyn BufRead>,
+    number: usize,
+    /// What was dropped while reading.
+    byte_order_mark: bool,
+    carriage_returns: bool,
+    pub faults: Faults,
+}
+
+impl Description {
+    /// Opens a description.
+    pub fn open(path: &str) -> Result<Description, Failure> {
+        let from = Box::new(BufReader::with_capacity(1 << 16, Input::open(path)?.into_reader()));
+        let (byte_order_mark, carriage_returns) = (false, false);
+        Ok(Description {
+            name: path.into(),
+            from,
+            number: 0,
+            byte_order_mark,
+            carriage_returns,
+            faults: Faults::default(),
+        })
+    }
+
+    /// A fault at a line.
+    fn fault(&mut self, line: usize, fault: &str) {
+        self.faults.add(format!("{}:{line}: {fault}", self.name));
+    }
+
+    /// The next line that has a head and a text. Lines that have not are faults, and are passed over.
+    fn next(&mut self) -> Result<Option<Line>, Failure> {
+        loop {
+            let mut bytes = Vec::new();
+            let read = self.from.read_until(b'\n', &mut bytes);
+            if read.map_err(|reason| Failure::file(&self.name, "read", reason))? == 0 {
+                return Ok(None);
+            }
+            self.number += 1;
+            self.drop_signs(&mut bytes)?;
+            match split(&bytes) {
+                Ok(None) => {}
+                Ok(Some((head, text))) => return Ok(Some(Line { number: self.number, head, text })),
+                Err(fault) => self.fault(self.number, &fault),
+            }
+        }
+    }
+
+    /// Takes off the line's end, and signs of other systems: a byte order mark, a carriage return. UTF-16 ends all.
+    fn drop_signs(&mut self, bytes: &mut Vec<u8>) -> Result<(), Failure> {
+        if self.number == 1 && (bytes.starts_with(b"\xFF\xFE") || bytes.starts_with(b"\xFE\xFF")) {
+            let fault = format!("{}:1: this file is UTF-16. Save it as UTF-8.", self.name);
+            return Err(Failure::refused(Message::error(fault)));
+        }
+        if self.number == 1 && bytes.starts_with(b"\xEF\xBB\xBF") {
+            bytes.drain(..3);
+            self.byte_order_mark = true;
+        }
+        if bytes.last() == Some(&b'\n') {
+            bytes.pop();
+        }
+        if bytes.last() == Some(&b'\r') {
+            bytes.pop();
+            self.carriage_returns = true;
+        }
+        Ok(())
+    }
+
+    /// What was dropped, as notes.
+    pub fn notes(&self) -> Vec<Message> {
+        let dropped = [
+            (self.byte_order_mark, "its byte order mark is left out."),
+            (self.carriage_returns, "its lines end with CR LF; the CR is left out."),
+        ];
+        let notes = dropped.into_iter().filter(|(holds, _)| *holds);
+        notes.map(|(_, note)| Message::new(Level::Note, format!("{}: {note}", self.name))).collect()
+    }
+}
+
+/// The head and the text of a line; none of a line that is empty or begins with #.
+fn split(line: &[u8]) -> Result<Option<(String, Vec<u8>)>, String> {
+    let is_blank = |byte: &u8| matches!(byte, b' ' | b'\t');
+    let start = line.iter().position(|byte| !is_blank(byte)).unwrap_or(line.len());
+    let end = line.iter().rposition(|byte| !is_blank(byte)).map_or(start, |last| last + 1);
+    let line = &line[start..end];
+    if line.is_empty() || line[0] == b'#' {
+        return Ok(None);
+    }
+    if let Err(at) = str::from_utf8(line) {
+        let byte = line[at.valid_up_to()];
+        return Err(format!(
+            "this line is not UTF-8: it has the byte 0x{byte:02X}, perhaps of Latin-1. Save the file as UTF-8, or write the \
+             text in double quotes with \\x{byte:02X}."
+        ));
+    }
+    let head_end = line.iter().position(is_blank).unwrap_or(line.len());
+    let head = String::from_utf8_lossy(&line[..head_end]).into_owned();
+    let Some(text_at) = line[head_end..].iter().position(|byte| !is_blank(byte)) else {
+        return Err(format!("there is no text behind {head}. An empty text is written \"\"."));
+    };
+    let written = &line[head_end + text_at..];
+    match text::read(written) {
+        Some(text) => Ok(Some((head, text))),
+        None => Err(format!(
+            "the text {} cannot be read. A text that begins with a double quote ends with one; inside stand \\\" \\\\ and \
+             \\xHH for these signs.",
+            String::from_utf8_lossy(written)
+        )),
+    }
+}
+
+/// Reads sheet.txt. A sheet with faults is none.
+pub fn read_sheet(description: &mut Description) -> Result<Option<Sheet>, Failure> {
+    let mut lines = Vec::new();
+    while let Some(line) = description.next()? {
+        match kind::by_word(&line.head) {
+            Some(kind) => lines.push((line.number, kind.number, line.text)),
+            None => {
+                let words = row(&kind::words(), "and");
+                description.fault(line.number, &format!("{} is no kind. The kinds are {words}.", line.head));
+            }
+        }
+    }
+    if let Some((number, ..)) = lines.get(MOST_PARAMETERS) {
+        description
+            .fault(*number, &format!("a sheet has room for {MOST_PARAMETERS} parameters, and this is one more."));
+        return Ok(None);
+    }
+    let paths: Vec<&[u8]> = lines.iter().map(|(_, _, path)| &path[..]).collect();
+    let parameters = lines.iter().filter_map(|(number, kind, path)| match parameter(*kind, path, &paths) {
+        Ok(parameter) => Some((*number, parameter)),
+        Err(fault) => {
+            description.fault(*number, &fault);
+            None
+        }
+    });
+    let (numbers, parameters): (Vec<usize>, Vec<Parameter>) = parameters.unzip();
+    if parameters.len() < lines.len() {
+        return Ok(None);
+    }
+    Ok(sound_sheet(description, &numbers, parameters))
+}
+
+/// A parameter by its path: a member has its bundle's name and a dot before its own.
+fn parameter(kind: u8, path: &[u8], paths: &[&[u8]]) -> Result<Parameter, String> {
+    let Some(dot) = path.iter().rposition(|&byte| byte == b'.') else {
+        return Ok(Parameter { kind, bundle: 0, name: path.to_vec() });
+    };
+    let bundle = &path[..dot];
+    let Some(place) = paths.iter().position(|path| *path == bundle) else {
+        return Err(format!("{} is a member of {}, which is not on the sheet.", spell(path), spell(bundle)));
+    };
+    Ok(Parameter { kind, bundle: place as u8 + 1, name: path[dot + 1..].to_vec() })
+}
+
+/// The sheet of these parameters, if the library finds it sound; else what is wrong is said at the parameter's line.
+fn sound_sheet(description: &mut Description, numbers: &[usize], parameters: Vec<Parameter>) -> Option<Sheet> {
+    let size = sheet::size(&parameters);
+    let Some(sheet) = Sheet::write(parameters) else {
+        let last = numbers.last().copied().unwrap_or(1);
+        let fault =
+            format!("the names take {size} bytes with their heads, and a sheet has room for {}.", SUMMED - SHEET_HEAD);
+        description.fault(last, &fault);
+        return None;
+    };
+    if sheet.refusal().is_none() {
+        return Some(sheet);
+    }
+    for (place, number) in numbers.iter().enumerate() {
+        if let Some(fault) = sheet.fault(place) {
+            description.fault(*number, &fault);
+        }
+    }
+    None
+}
+
+/// An entry of a card, with its line.
+struct Entry {
+    line: usize,
+    place: u8,
+    occurrence: u8,
+    text: Vec<u8>,
+}
+
+/// The cards of cards.txt, as they are read.
+pub struct Cards<'a> {
+    pub description: Description,
+    sheet: &'a Sheet,
+    paths: Vec<String>,
+    /// The line of the next card's record number, and the number.
+    next: Option<(usize, u32)>,
+    pub count: u64,
+}
+
+impl<'a> Cards<'a> {
+    /// The cards of a description, by a sheet's names.
+    pub fn new(description: Description, sheet: &'a Sheet) -> Cards<'a> {
+        let paths = (0..sheet.parameters.len()).map(|place| sheet.path(place, 0)).collect();
+        Cards { description, sheet, paths, next: None, count: 0 }
+    }
+
+    /// The next card. Where it has faults, they are kept, and the card is empty.
+    pub fn next(&mut self) -> Result<Option<Vec<u8>>, Failure> {
+        let mut entries = Vec::new();
+        let mut current = self.next.take();
+        while let Some(line) = self.description.next()? {
+            if line.head == "record:" {
+                let record = (line.number, self.record(&line));
+                if let Some(current) = current.replace(record) {
+                    self.next = Some(record);
+                    return Ok(Some(self.card(current, &entries)));
+                }
+                continue;
+            }
+            match current {
+                Some((_, record)) => entries.extend(self.entry(record, line)),
+                None => self.description.fault(
+                    line.number,
+                    &format!(
+                        "{} stands before the first record number. A card begins with `record:` and a number.",
+                        line.head
+                    ),
+                ),
+            }
+        }
+        Ok(current.map(|current| self.card(current, &entries)))
+    }
+
+    /// The number behind `record:`; 0 where it is a fault.
+    fn record(&mut self, line: &Line) -> u32 {
+        let digits = str::from_utf8(&line.text).ok().filter(|text| text.bytes().all(|byte| byte.is_ascii_digit()));
+        digits.and_then(|digits| digits.parse().ok()).unwrap_or_else(|| {
+            let fault = format!("{} is no record number: it is a number up to {}.", spell(&line.text), u32::MAX);
+            self.description.fault(line.number, &fault);
+            0
+        })
+    }
+
+    /// An entry, if its head is on the sheet and its text can be read.
+    fn entry(&mut self, record: u32, line: Line) -> Option<Entry> {
+        let found = self.place(&line.head).and_then(|(place, occurrence)| {
+            let too_long = (line.text.len() > LONGEST_TEXT).then(|| {
+                format!("the text has {} bytes, and an entry has room for {LONGEST_TEXT}. Shorten it.", line.text.len())
+            });
+            match too_long.or_else(|| advice::entry_fault(self.sheet, place, &line.text)) {
+                None => Ok(Entry { line: line.number, place: place as u8, occurrence, text: line.text }),
+                Some(fault) => Err(fault),
+            }
+        });
+        found
+            .map_err(|fault| self.description.fault(line.number, &format!("record {record}, {}: {fault}", line.head)))
+            .ok()
+    }
+
+    /// The place and the occurrence that a head names: `title`, `related.type` or `related#1.type`.
+    fn place(&self, head: &str) -> Result<(usize, u8), String> {
+        let (path, number) = match head.split_once('#') {
+            None => (head.to_string(), "0"),
+            Some((bundle, rest)) => {
+                let (number, name) = rest.split_once('.').unwrap_or((rest, ""));
+                (if name.is_empty() { bundle.into() } else { format!("{bundle}.{name}") }, number)
+            }
+        };
+        let place = self.paths.iter().position(|other| *other == path).ok_or_else(|| self.unknown(&path))?;
+        if head.contains('#') && self.sheet.parameters[place].bundle == 0 {
+            return Err(format!("{path} is no member of a bundle, and takes no number. Leave out #{number}."));
+        }
+        let is_number = !number.is_empty() && number.bytes().all(|byte| byte.is_ascii_digit());
+        let occurrence = number.parse().ok().filter(|_| is_number);
+        Ok((
+            place,
+            occurrence
+                .ok_or(format!("behind # stands a number from 0 to 255, and not {}.", spell(number.as_bytes())))?,
+        ))
+    }
+
+    /// What to say of a name that is not on the sheet.
+    fn unknown(&self, path: &str) -> String {
+        let fields = self.sheet.paths();
+        let near = text::nearest(path, &fields);
+        match (&near[..], &fields[..]) {
+            ([], []) => "it is not on the sheet, which has no fields.".into(),
+            ([], fields) => format!("it is not on the sheet. There are {}.", row(fields, "and")),
+            (near, _) => format!("it is not on the sheet. Is it {}?", row(near, "or")),
+        }
+    }
+
+    /// The card of these entries, or its faults.
+    fn card(&mut self, (line, record): (usize, u32), entries: &[Entry]) -> Vec<u8> {
+        self.count += 1;
+        let items = entries.iter().map(|entry| Item { byte: entry.place, mark: entry.occurrence, text: &entry.text });
+        let items: Vec<Item> = items.collect();
+        block::write_card(record, &items).unwrap_or_else(|| {
+            let (line, fault) = overfull(line, entries, &items);
+            self.description.fault(line, &format!("record {record}: {fault}"));
+            Vec::new()
+        })
+    }
+}
+
+/// Which line of a card has no room any more, and why.
+fn overfull(line: usize, entries: &[Entry], items: &[Item]) -> (usize, String) {
+    if let Some(entry) = entries.get(MOST_ENTRIES) {
+        return (entry.line, format!("a card has room for {MOST_ENTRIES} entries, and this is one more."));
+    }
+    let marked = block::has_marks(items);
+    let mut taken = CARD_HEAD;
+    for (entry, item) in entries.iter().zip(items) {
+        taken += item.size(marked);
+        if taken > SUMMED {
+            let head = item.size(marked) - item.text.len();
+            let fault = format!(
+                "the card is full: this entry takes {} bytes with its head of {head}, {} more than are left. Shorten a text, \
+                 or make a second card with the same number.",
+                item.size(marked),
+                taken - SUMMED
+            );
+            return (entry.line, fault);
+        }
+    }
+    (line, "the card cannot be written.".into())
+}

@@ -1,0 +1,107 @@
+//! Doubts about a filter that the library answers: what it asks may not be what was meant.
+
+use crate::filter::{Filter, Test};
+use crate::kind;
+use crate::report::{Level, Message};
+use crate::sheet::Sheet;
+use crate::text::{self, spell};
+
+/// Quotes that a value may carry at both ends by mistake.
+const QUOTES: [(&str, &str); 5] =
+    [("'", "'"), ("`", "'"), ("\u{2018}", "\u{2019}"), ("\u{201C}", "\u{201D}"), ("\u{201E}", "\u{201C}")];
+
+/// The doubts that the filter alone gives, each as a warning.
+pub fn of_filter(text: &[u8], filter: &Filter) -> Vec<Message> {
+    let joins = filter.bracketed.as_deref().map(|read| {
+        let read = String::from_utf8_lossy(read).into_owned();
+        let text = "`and` and `or` are read from left to right, with equal rank. The filter asks:";
+        Message { help: vec![read], ..Message::new(Level::Warning, text) }
+    });
+    let quotes = filter.tests.iter().filter_map(|test| quoted_twice(text, test));
+    let encoding = text::other_encoding(text).map(|why| {
+        format!(
+            "the filter seems to be in another encoding: {why}. It finds nothing with such letters on cards in UTF-8."
+        )
+    });
+    let others = quotes.chain(encoding).map(|doubt| Message::new(Level::Warning, doubt));
+    joins.into_iter().chain(others).collect()
+}
+
+/// A value that asks for quotes.
+fn quoted_twice(text: &[u8], test: &Test) -> Option<String> {
+    let value = test.decoded(text);
+    let shown = String::from_utf8_lossy(&value);
+    let inside = QUOTES.iter().find_map(|(open, close)| shown.strip_prefix(open)?.strip_suffix(close));
+    let bare_word = !text[test.value.clone()].starts_with(b"\"");
+    let advice = match inside {
+        Some(inside) => format!("Write \"{inside}\" to ask without them"),
+        None if bare_word && value.contains(&b'"') => "A text in double quotes begins and ends with one".into(),
+        None => return None,
+    };
+    let name = String::from_utf8_lossy(&text[test.name.clone()]);
+    Some(format!("the value {} of {name} asks for its quotes too. {advice}.", spell(&value)))
+}
+
+/// Ends of names that speak of a date, and names that only end like it.
+const DATE_ENDS: [&str; 5] = ["date", "birth", "death", "lastupdated", "authoredon"];
+const NO_DATES: [&str; 3] = ["candidate", "mandate", "update"];
+
+/// The doubts that the names of the asked fields give: a name that speaks of a date, on a field of another kind.
+pub fn of_names(text: &[u8], filter: &Filter, sheet: &Sheet) -> Vec<Message> {
+    let places = asked(text, filter, sheet);
+    let doubts = places.into_iter().filter_map(|place| {
+        let kind = kind::by_number(sheet.parameters[place].kind).filter(|kind| kind.word != "date")?;
+        speaks_of_date(&sheet.name(place)).then(|| {
+            let path = sheet.path(place, 0);
+            format!("{path} is {}, and its name speaks of a date. `sirophan fields` shows what it holds.", kind.one)
+        })
+    });
+    doubts.map(|doubt| Message::new(Level::Warning, doubt)).collect()
+}
+
+/// Whether a name ends with a word for a date.
+fn speaks_of_date(name: &str) -> bool {
+    let name = name.to_lowercase();
+    let ends_with = |ends: &[&str]| ends.iter().any(|end| name.ends_with(end));
+    ends_with(&DATE_ENDS) && !ends_with(&NO_DATES)
+}
+
+/// The places of the parameters that a filter asks, each once.
+pub fn asked(text: &[u8], filter: &Filter, sheet: &Sheet) -> Vec<usize> {
+    let mut places: Vec<usize> = filter.tests.iter().filter_map(|test| test.place(sheet, text)).collect();
+    places.sort();
+    places.dedup();
+    places
+}
+
+#[cfg(test)]
+mod tests {
+    use super::*;
+
+    fn doubts(text: &str) -> Vec<String> {
+        let filter = Filter::read(text.as_bytes()).unwrap();
+        of_filter(text.as_bytes(), &filter).into_iter().map(|message| message.text).collect()
+    }
+
+    /// Values that carry quotes, and values that do not.
+    #[test]
+    fn quotes() {
+        for text in ["a co 'Ward'", "a co \"\u{201C}Ward\u{201D}\"", "a co x\"", "a co \"'Ward book'\""] {
+            assert_eq!(doubts(text).len(), 1, "{text}");
+        }
+        for text in ["a co Ward", "a co \"Ward\"", "a co O'Neill", "a co \"6\\\" gun\"", "a co '"] {
+            assert!(doubts(text).is_empty(), "{text}");
+        }
+    }
+
+    /// Names that speak of a date.
+    #[test]
+    fn names() {
+        for name in ["birthdate", "date", "discharge-date", "DeathDate", "_lastUpdated", "date-of-birth"] {
+            assert!(speaks_of_date(name), "{name}");
+        }
+        for name in ["title", "candidate", "update", "code"] {
+            assert!(!speaks_of_date(name), "{name}");
+        }
+    }
+}

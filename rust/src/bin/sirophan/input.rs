@@ -1,0 +1,88 @@
+//! Files that commands read; `-` is standard input.
+
+use crate::report::Failure;
+use std::fs::File;
+use std::io::{self, Read};
+
+/// No sheet and no filter is near this size: what is longer need not be read to its end.
+pub const MOST_BYTES: usize = 1 << 20;
+
+/// An open file.
+pub struct Input {
+    /// What messages call it.
+    pub name: String,
+    /// Its size, where it has one.
+    pub size: Option<u64>,
+    from: Box<dyn Read + Send>,
+}
+
+impl Input {
+    /// Opens a file.
+    pub fn open(path: &str) -> Result<Input, Failure> {
+        if path == "-" {
+            return Ok(Input { name: shown(path), size: None, from: Box::new(io::stdin()) });
+        }
+        let file = File::open(path).map_err(|reason| Failure::file(path, "opened", reason))?;
+        let size = file.metadata().ok().filter(|data| data.is_file()).map(|data| data.len());
+        Ok(Input { name: path.into(), size, from: Box::new(file) })
+    }
+
+    /// Fills a buffer as far as the file goes, and answers how far.
+    pub fn fill(&mut self, buffer: &mut [u8]) -> Result<usize, Failure> {
+        let mut filled = 0;
+        while filled < buffer.len() {
+            match self.from.read(&mut buffer[filled..]) {
+                Ok(0) => break,
+                Ok(count) => filled += count,
+                Err(reason) if reason.kind() == io::ErrorKind::Interrupted => {}
+                Err(reason) => return Err(self.unread(reason)),
+            }
+        }
+        Ok(filled)
+    }
+
+    /// A small file as a whole.
+    pub fn whole(mut self) -> Result<Vec<u8>, Failure> {
+        let mut bytes = Vec::new();
+        match (&mut self.from).take(MOST_BYTES as u64).read_to_end(&mut bytes) {
+            Ok(_) => Ok(bytes),
+            Err(reason) => Err(self.unread(reason)),
+        }
+    }
+
+    /// The file as a reader of bytes.
+    pub fn into_reader(self) -> Box<dyn Read + Send> {
+        self.from
+    }
+
+    fn unread(&self, reason: io::Error) -> Failure {
+        Failure::file(&self.name, "read", reason)
+    }
+}
+
+/// What messages call a path.
+pub fn shown(path: &str) -> String {
+    if path == "-" { "standard input".into() } else { path.into() }
+}
+
+/// A small file as a whole, by its path.
+pub fn read(path: &str) -> Result<Vec<u8>, Failure> {
+    Input::open(path)?.whole()
+}
+
+/// A filter as its file has it, without one last line feed.
+pub fn read_filter(path: &str) -> Result<Vec<u8>, Failure> {
+    let mut filter = match Input::open(path) {
+        Err(Failure::Unusable(mut message)) if path.contains(' ') => {
+            message
+                .help
+                .push("FILTER is a file. A filter itself can be given on standard input, with - as FILTER.".into());
+            return Err(Failure::Unusable(message));
+        }
+        opened => opened?.whole()?,
+    };
+    if filter.last() == Some(&b'\n') {
+        filter.pop();
+    }
+    Ok(filter)
+}

@@ -1,0 +1,179 @@
+//! The kinds of parameters. Which texts can be read as a kind, and which operators a kind has, is asked of the proved
+//! library, with a sheet that has one parameter: so there are no rules here beside its own.
+
+use crate::block::{self, Item};
+
+/// The number of the kind whose parameters are bundles.
+pub const BUNDLE: u8 = 7;
+
+/// A kind as people speak of it.
+pub struct Kind {
+    /// Its number on a sheet.
+    pub number: u8,
+    /// Its word in descriptions.
+    pub word: &'static str,
+    /// The word with its article.
+    pub one: &'static str,
+    /// Several values of it.
+    pub many: &'static str,
+    /// How a text of it is written.
+    pub written: &'static str,
+}
+
+/// The kinds, by their numbers. Kind 6 would be another row.
+pub const KINDS: [Kind; 6] = [
+    Kind { number: 1, word: "string", one: "a string", many: "strings", written: "any text" },
+    Kind {
+        number: 2,
+        word: "number",
+        one: "a number",
+        many: "numbers",
+        written: "1 to 8 digits, then perhaps a point and 1 to 9 digits",
+    },
+    Kind {
+        number: 3,
+        word: "date",
+        one: "a date",
+        many: "dates",
+        written: "YYYY, YYYY-MM, YYYY-MM-DD, or YYYY-MM-DDThh:mm:ss with Z or a zone such as +02:00",
+    },
+    Kind { number: 4, word: "token", one: "a token", many: "tokens", written: "a code, or system|code" },
+    Kind { number: 5, word: "reference", one: "a reference", many: "references", written: "any text but an empty one" },
+    Kind {
+        number: BUNDLE,
+        word: "bundle",
+        one: "a bundle",
+        many: "bundles",
+        written: "no text: its members have them",
+    },
+];
+
+/// The operators of the R4 page.
+const OPERATORS: [&str; 19] =
+    ["eq", "ne", "co", "sw", "ew", "gt", "lt", "ge", "le", "ap", "sa", "eb", "pr", "po", "ss", "sb", "in", "ni", "re"];
+
+/// The words that join and turn tests.
+const JOINS: [&str; 3] = ["and", "or", "not"];
+
+/// Whether a word has a meaning of its own in filters.
+pub fn is_word_of_grammar(word: &str) -> bool {
+    OPERATORS.contains(&word) || JOINS.contains(&word)
+}
+
+/// The kind with this number.
+pub fn by_number(number: u8) -> Option<&'static Kind> {
+    KINDS.iter().find(|kind| kind.number == number)
+}
+
+/// The kind with this word.
+pub fn by_word(word: &str) -> Option<&'static Kind> {
+    KINDS.iter().find(|kind| kind.word == word)
+}
+
+/// The words of all kinds.
+pub fn words() -> Vec<&'static str> {
+    KINDS.iter().map(|kind| kind.word).collect()
+}
+
+/// The word of a kind's number, or the number where no kind has it.
+pub fn word_of(number: u8) -> String {
+    by_number(number).map_or_else(|| format!("kind {number}?"), |kind| kind.word.into())
+}
+
+/// A filter for the one-parameter sheets below.
+const ASKED: &[u8] = b"x pr true";
+
+/// Asks the library whether texts can be read as a kind.
+pub struct Reader {
+    sheet: Vec<u8>,
+}
+
+impl Reader {
+    /// A reader of texts of the kind with this number.
+    pub fn new(kind: u8) -> Reader {
+        let parameter = Item { byte: kind, mark: 0, text: b"x" };
+        let sheet = block::write_sheet(&[parameter], kind == BUNDLE).expect("one short name has room");
+        Reader { sheet }
+    }
+
+    /// Whether a text can be read as the kind: whether a card fits that has this text alone.
+    pub fn reads(&self, text: &[u8]) -> bool {
+        let card = block::write_card(0, &[Item { byte: 0, mark: 0, text }]);
+        card.is_some_and(|card| sirophan::matches(&self.sheet, ASKED, &card).is_ok())
+    }
+
+    /// Whether the kind has an operator: whether it is not for the operator that the library refuses a test with it.
+    fn has(&self, operator: &str) -> bool {
+        let refusal = sirophan::check(&self.sheet, format!("x {operator} 1").as_bytes()).err();
+        !matches!(refusal.map(|refusal| refusal.number), Some(14..=16 | 18))
+    }
+
+    /// The operators that the kind has.
+    pub fn operators(&self) -> Vec<&'static str> {
+        OPERATORS.into_iter().filter(|operator| self.has(operator)).collect()
+    }
+}
+
+/// The plural words of the kinds that have an operator.
+pub fn kinds_with(operator: &str) -> Vec<&'static str> {
+    KINDS.iter().filter(|kind| Reader::new(kind.number).has(operator)).map(|kind| kind.many).collect()
+}
+
+/// Whether a card by itself is sound, or the library's refusal. A card that is sound may not fit its sheet.
+pub fn sound_card(card: &[u8]) -> Result<(), sirophan::Refusal> {
+    match sirophan::matches(&Reader::new(1).sheet, ASKED, card) {
+        Err(refusal) if refusal.number != 23 => Err(refusal),
+        _ => Ok(()),
+    }
+}
+
+/// Whether the library takes a name for one that a sheet may have.
+pub fn is_name(name: &[u8]) -> bool {
+    let sheet = block::write_sheet(&[Item { byte: 1, mark: 0, text: name }], false);
+    sheet.is_some_and(|sheet| !matches!(sirophan::check(&sheet, ASKED), Err(refusal) if refusal.number == 3))
+}
+
+#[cfg(test)]
+mod tests {
+    use super::*;
+
+    /// The library is asked rightly: some texts of each kind, readable and not.
+    #[test]
+    fn texts_by_kind() {
+        let reads = |word, text: &str| Reader::new(by_word(word).unwrap().number).reads(text.as_bytes());
+        for (word, text) in
+            [("string", ""), ("number", "12.0"), ("date", "1974-06"), ("token", "|x"), ("reference", "x")]
+        {
+            assert!(reads(word, text), "{word} {text}");
+        }
+        for (word, text) in [("number", "-1"), ("date", "1974-13"), ("token", "|"), ("reference", ""), ("bundle", "x")]
+        {
+            assert!(!reads(word, text), "{word} {text}");
+        }
+    }
+
+    /// The operators of each kind are those of the table in docs/RULES.md.
+    #[test]
+    fn operators_by_kind() {
+        let operators = |word| Reader::new(by_word(word).unwrap().number).operators().join(" ");
+        assert_eq!(operators("string"), "eq ne co sw ew pr");
+        assert_eq!(operators("number"), "eq ne co gt lt ge le pr");
+        assert_eq!(operators("date"), "eq ne co gt lt ge le sa eb pr po");
+        assert_eq!(operators("token"), "eq ne pr");
+        assert_eq!(operators("reference"), "pr re");
+        assert_eq!(operators("bundle"), "");
+        assert_eq!(kinds_with("gt"), ["numbers", "dates"]);
+        assert!(kinds_with("ap").is_empty());
+    }
+
+    /// Names by the library's rule.
+    #[test]
+    fn names() {
+        for name in ["_", "And", "nota", "a-1", &"a".repeat(30)] {
+            assert!(is_name(name.as_bytes()), "{name}");
+        }
+        for name in ["and", "or", "not", "4", "-a", "a.b", &"a".repeat(31), "", "a\n", "ä"] {
+            assert!(!is_name(name.as_bytes()), "{name}");
+        }
+    }
+}

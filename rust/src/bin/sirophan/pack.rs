@@ -1,0 +1,155 @@
+//! `sirophan pack`: makes blocks of the description of an archive.
+
+use crate::arguments::Arguments;
+use crate::description::{self, Cards, Description};
+use crate::input;
+use crate::json;
+use crate::report::{Failure, Level, Message, Output};
+use crate::sheet::Sheet;
+use crate::text::counted;
+use std::fs::{self, File};
+use std::io::{self, BufWriter, Write};
+use std::path::{Path, PathBuf};
+
+/// Packs a folder. The archive that was there before stays as it was until all of the new one is written.
+pub fn run(arguments: &Arguments) -> Result<(), Failure> {
+    let (from, to) = (&arguments.paths[0], &arguments.paths[1]);
+    let filter = read_filter(&path_in(from, "filter.txt"))?;
+    let made_here = !Path::new(to).exists();
+    let packed = into_folder(arguments, from, to, &filter);
+    if packed.is_err() && made_here {
+        // A folder that stays behind does no harm.
+        let _ = fs::remove_dir(to);
+    }
+    let (sheet, count) = packed?;
+    arguments.say(filter_doubt(&path_in(from, "filter.txt"), &sheet, &filter));
+    let mut output = Output::new();
+    let fields = sheet.parameters.len() as u64;
+    if arguments.json {
+        output.line(json::object(&[("cards", count.to_string()), ("parameters", fields.to_string())]))?;
+    } else {
+        output.line(format_args!(
+            "{} and a sheet with {}, in {to}",
+            counted(count, "card"),
+            counted(fields, "parameter")
+        ))?;
+    }
+    output.flush()
+}
+
+/// Reads the description and writes the three files; answers the sheet and the number of cards.
+fn into_folder(arguments: &Arguments, from: &str, to: &str, filter: &Filter) -> Result<(Sheet, u64), Failure> {
+    arguments.say(filter.notes.clone());
+    let sheet = read_sheet(arguments, from)?;
+    let mut cards = Cards::new(Description::open(&path_in(from, "cards.txt"))?, &sheet);
+    fs::create_dir_all(to).map_err(|reason| Failure::file(to, "made", reason))?;
+    let mut files = NewFiles { folder: to, names: Vec::new() };
+    files.write("sheet.bin", |file| Ok(file.write_all(&sheet.block)))?;
+    files.write("filter.txt", |file| Ok(file.write_all(&filter.bytes)))?;
+    files.write("cards.bin", |file| {
+        while let Some(card) = cards.next()? {
+            if let Err(reason) = file.write_all(&card) {
+                return Ok(Err(reason));
+            }
+        }
+        Ok(Ok(()))
+    })?;
+    arguments.say(cards.description.notes());
+    let count = cards.count;
+    cards.description.faults.none()?;
+    files.take_their_places()?;
+    Ok((sheet, count))
+}
+
+/// The sheet of a folder's description.
+pub fn read_sheet(arguments: &Arguments, from: &str) -> Result<Sheet, Failure> {
+    let mut description = Description::open(&path_in(from, "sheet.txt"))?;
+    let sheet = description::read_sheet(&mut description)?;
+    arguments.say(description.notes());
+    description.faults.none()?;
+    sheet.ok_or_else(|| Failure::refused(Message::error(format!("{} is no sheet.", path_in(from, "sheet.txt")))))
+}
+
+/// A filter's file as it is packed, and what was dropped from it.
+pub struct Filter {
+    pub bytes: Vec<u8>,
+    pub notes: Vec<Message>,
+}
+
+/// Reads filter.txt, without a byte order mark and without the carriage return of a Windows line end.
+pub fn read_filter(path: &str) -> Result<Filter, Failure> {
+    let mut filter = Filter { bytes: input::read(path)?, notes: Vec::new() };
+    let mut note = |text: &str| filter.notes.push(Message::new(Level::Note, format!("{path}: {text}")));
+    if filter.bytes.starts_with(b"\xEF\xBB\xBF") {
+        filter.bytes.drain(..3);
+        note("its byte order mark is left out.");
+    }
+    if filter.bytes.ends_with(b"\r\n") {
+        filter.bytes.truncate(filter.bytes.len() - 2);
+        filter.bytes.push(b'\n');
+        note("its line ends with CR LF; the CR is left out.");
+    }
+    Ok(filter)
+}
+
+/// A warning where the filter is refused: the blocks are good without it.
+pub fn filter_doubt(path: &str, sheet: &Sheet, filter: &Filter) -> Option<Message> {
+    let text = filter.bytes.strip_suffix(b"\n").unwrap_or(&filter.bytes);
+    let refusal = sirophan::check(&sheet.block, text).err()?;
+    let warning = Message::new(Level::Warning, format!("{path}: {refusal} `sirophan check` says more."));
+    Some(Message { refusal: Some(refusal), ..warning })
+}
+
+/// A file of a folder.
+pub fn path_in(folder: &str, name: &str) -> String {
+    Path::new(folder).join(name).to_string_lossy().into_owned()
+}
+
+/// Files that are written beside the old ones, under names of their own, until they take their places.
+struct NewFiles<'a> {
+    folder: &'a str,
+    names: Vec<&'static str>,
+}
+
+impl NewFiles<'_> {
+    /// The name of a file until it takes its place.
+    fn new_path(&self, name: &str) -> PathBuf {
+        Path::new(self.folder).join(format!("{name}.new"))
+    }
+
+    /// Writes a file.
+    fn write(
+        &mut self,
+        name: &'static str,
+        write: impl FnOnce(&mut BufWriter<File>) -> Result<io::Result<()>, Failure>,
+    ) -> Result<(), Failure> {
+        let unwritten = |reason| Failure::file(&path_in(self.folder, name), "written", reason);
+        let file = File::create(self.new_path(name)).map_err(unwritten)?;
+        self.names.push(name);
+        let mut file = BufWriter::with_capacity(1 << 16, file);
+        let written = write(&mut file)?;
+        let finished = written.and_then(|()| file.into_inner().map_err(io::IntoInnerError::into_error));
+        finished
+            .and_then(|file| file.sync_all())
+            .map_err(|reason| Failure::file(&path_in(self.folder, name), "written", reason))
+    }
+
+    /// Puts the files in the places of the old ones.
+    fn take_their_places(mut self) -> Result<(), Failure> {
+        for name in self.names.clone() {
+            let path = path_in(self.folder, name);
+            fs::rename(self.new_path(name), &path).map_err(|reason| Failure::file(&path, "replaced", reason))?;
+            self.names.retain(|other| *other != name);
+        }
+        Ok(())
+    }
+}
+
+impl Drop for NewFiles<'_> {
+    /// What has not taken its place goes.
+    fn drop(&mut self) {
+        for name in &self.names {
+            let _ = fs::remove_file(self.new_path(name));
+        }
+    }
+}

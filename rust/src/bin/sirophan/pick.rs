@@ -1,0 +1,102 @@
+//! `sirophan pick`: the record numbers of the cards that match a filter.
+
+use crate::advice::Question;
+use crate::arguments::Arguments;
+use crate::block::SIZE;
+use crate::cards::{self, Fit};
+use crate::doubt;
+use crate::filter::Filter;
+use crate::input::Input;
+use crate::json;
+use crate::report::{Failure, Message, Output};
+use crate::tally::{Counter, Field};
+
+/// Selects from all cards. The list is held back until the last card has passed, unless it is to be streamed.
+pub fn run(arguments: &Arguments) -> Result<(), Failure> {
+    let question = Question::read(&arguments.paths[0], &arguments.paths[1])?;
+    let cards = Input::open(&arguments.paths[2])?;
+    question.check()?;
+    let filter = Filter::read(&question.filter);
+    if let Some(filter) = &filter {
+        arguments.say(doubt::of_filter(&question.filter, filter));
+    }
+    let asked = filter.map_or_else(Vec::new, |filter| doubt::asked(&question.filter, &filter, &question.sheet));
+    let counter = Counter::new(&question.sheet, asked.iter().copied());
+    let fit = Fit { sheet: &question.sheet, filter: Some(question.filter.clone()) };
+
+    let name = cards.name.clone();
+    let mut list = List { output: Output::new(), held: Vec::new(), matching: 0, cards: 0, arguments };
+    let tallies = cards::pass(
+        cards,
+        |tally, first, piece| {
+            let (found, fault) = fit.select_piece(first, piece);
+            if fault.is_none() {
+                counter.count(tally, first, piece);
+            }
+            (found, fault, piece.len() / SIZE)
+        },
+        |(found, fault, count)| {
+            list.add(found, count)?;
+            fault.map_or(Ok(true), |fault| Err(Failure::refused(fault.tell(&name, &question.sheet))))
+        },
+    );
+    // What was streamed before a refusal comes out, without the count that would make it a list.
+    let fields = match tallies {
+        Ok(tallies) => counter.sum(tallies),
+        Err(failure) => return Err(list.output.flush().err().unwrap_or(failure)),
+    };
+    arguments.say(asked.iter().flat_map(|&place| doubts(&fields, &question, place)));
+    list.end()
+}
+
+/// The doubts about a field that the filter asks.
+fn doubts(fields: &[Field], question: &Question, place: usize) -> Vec<Message> {
+    fields[place].doubts(&question.sheet, place)
+}
+
+/// The list of record numbers as it grows.
+struct List<'a> {
+    output: Output,
+    held: Vec<u32>,
+    matching: u64,
+    cards: u64,
+    arguments: &'a Arguments,
+}
+
+impl List<'_> {
+    /// Adds what was found on so many cards.
+    fn add(&mut self, found: Vec<u32>, cards: usize) -> Result<(), Failure> {
+        self.matching += found.len() as u64;
+        self.cards += cards as u64;
+        if !self.arguments.stream {
+            self.held.extend(found);
+            return Ok(());
+        }
+        found.iter().try_for_each(|record| self.record(*record))
+    }
+
+    /// Writes a record number by itself.
+    fn record(&mut self, record: u32) -> Result<(), Failure> {
+        match self.arguments.json {
+            true => self.output.line(json::object(&[("record", record.to_string())])),
+            false => self.output.line(record),
+        }
+    }
+
+    /// Writes what was held back, and the count.
+    fn end(mut self) -> Result<(), Failure> {
+        let counts = [("matching", self.matching.to_string()), ("cards", self.cards.to_string())];
+        if self.arguments.json {
+            let records: Vec<String> = self.held.iter().map(u32::to_string).collect();
+            let list = (!self.arguments.stream).then(|| ("records", json::array(&records)));
+            let pairs: Vec<(&str, String)> = list.into_iter().chain(counts).collect();
+            self.output.line(json::object(&pairs))?;
+        } else {
+            for record in std::mem::take(&mut self.held) {
+                self.record(record)?;
+            }
+            self.output.line(format_args!("{} of {}", self.matching, self.cards))?;
+        }
+        self.output.flush()
+    }
+}

@@ -1,0 +1,153 @@
+//! What a command says beside its answer, and how it ends.
+
+use crate::json;
+use sirophan::Refusal;
+use std::fmt::Display;
+use std::io::{self, ErrorKind, Write};
+
+/// How a message is meant.
+#[derive(Clone, Copy, Debug, PartialEq, Eq)]
+pub enum Level {
+    Error,
+    Warning,
+    Note,
+}
+
+impl Level {
+    fn word(self) -> &'static str {
+        match self {
+            Level::Error => "error",
+            Level::Warning => "warning",
+            Level::Note => "note",
+        }
+    }
+}
+
+/// A message for standard error.
+#[derive(Clone, Debug)]
+pub struct Message {
+    pub level: Level,
+    pub text: String,
+    /// What it is about, as lines that go before the text.
+    pub shown: Option<String>,
+    /// What more there is to say, and what to do; each sentence goes on a line below the text.
+    pub help: Vec<String>,
+    /// The refusal that it tells of, if it does.
+    pub refusal: Option<Refusal>,
+}
+
+impl Message {
+    pub fn new(level: Level, text: impl Into<String>) -> Message {
+        Message { level, text: text.into(), shown: None, help: Vec::new(), refusal: None }
+    }
+
+    /// An error.
+    pub fn error(text: impl Into<String>) -> Message {
+        Message::new(Level::Error, text)
+    }
+
+    /// The message as lines for people. An error needs no word before it.
+    fn lines(&self) -> String {
+        let text = match self.level {
+            Level::Error => self.text.clone(),
+            level => format!("{}: {}", level.word(), self.text),
+        };
+        let help = self.help.iter().map(|line| format!("  {line}"));
+        let lines: Vec<String> = self.shown.iter().cloned().chain([text]).chain(help).collect();
+        lines.join("\n")
+    }
+
+    /// The message as one line of JSON.
+    fn json(&self) -> String {
+        let mut pairs = vec![("level", json::string(self.level.word())), ("message", json::string(&self.text))];
+        if !self.help.is_empty() {
+            let help: Vec<String> = self.help.iter().map(|line| json::string(line)).collect();
+            pairs.push(("help", json::array(&help)));
+        }
+        if let Some(Refusal { number, place }) = self.refusal {
+            pairs.extend([("refused", number.to_string()), ("place", place.to_string())]);
+        }
+        json::object(&pairs)
+    }
+
+    /// Says the message on standard error. What cannot be said there cannot be said anywhere.
+    pub fn say(&self, as_json: bool) {
+        let line = if as_json { self.json() } else { self.lines() };
+        let _ = writeln!(io::stderr(), "{line}");
+    }
+}
+
+/// Why a command gives no answer.
+#[derive(Debug)]
+pub enum Failure {
+    /// The command line is not understood.
+    Usage(String),
+    /// What was given is refused, or has faults.
+    Refused(Vec<Message>),
+    /// A file cannot be read, or an output not be written.
+    Unusable(Message),
+    /// Whoever reads standard output has gone, and needs no message.
+    Closed,
+}
+
+impl Failure {
+    /// One reason for a refusal.
+    pub fn refused(message: Message) -> Failure {
+        Failure::Refused(vec![message])
+    }
+
+    /// A file that something cannot be done with.
+    pub fn file(name: &str, what: &str, reason: io::Error) -> Failure {
+        let reason = reason.to_string();
+        let words = reason.split(" (os error").next().unwrap_or_default();
+        Failure::Unusable(Message::error(format!("sirophan: {name} cannot be {what}: {words}")))
+    }
+
+    /// The status with which the program ends.
+    pub fn status(&self) -> u8 {
+        match self {
+            Failure::Usage(_) => 1,
+            Failure::Refused(_) => 2,
+            Failure::Unusable(_) | Failure::Closed => 3,
+        }
+    }
+
+    /// Says why on standard error.
+    pub fn say(&self, as_json: bool) {
+        match self {
+            Failure::Usage(text) => Message::error(format!("sirophan: {text}")).say(as_json),
+            Failure::Refused(messages) => messages.iter().for_each(|message| message.say(as_json)),
+            Failure::Unusable(message) => message.say(as_json),
+            Failure::Closed => {}
+        }
+    }
+}
+
+/// Standard output. What is written to it comes with the last flush at the latest.
+pub struct Output {
+    to: io::BufWriter<io::Stdout>,
+}
+
+impl Output {
+    pub fn new() -> Output {
+        Output { to: io::BufWriter::with_capacity(1 << 16, io::stdout()) }
+    }
+
+    /// Writes a line.
+    pub fn line(&mut self, line: impl Display) -> Result<(), Failure> {
+        writeln!(self.to, "{line}").map_err(unwritten)
+    }
+
+    /// Writes out what is held back so far.
+    pub fn flush(&mut self) -> Result<(), Failure> {
+        self.to.flush().map_err(unwritten)
+    }
+}
+
+/// A write to standard output that failed.
+fn unwritten(reason: io::Error) -> Failure {
+    match reason.kind() {
+        ErrorKind::BrokenPipe => Failure::Closed,
+        _ => Failure::file("standard output", "written", reason),
+    }
+}

@@ -1,0 +1,200 @@
+//! Texts as people see them: the spelling of descriptions, doubtful encodings, numbers, words in a row, near names.
+
+use std::ops::RangeInclusive;
+
+/// Characters that print nothing, so that a reader would not see them.
+const INVISIBLE: [RangeInclusive<char>; 6] = [
+    '\u{AD}'..='\u{AD}',
+    '\u{200B}'..='\u{200F}',
+    '\u{202A}'..='\u{202E}',
+    '\u{2060}'..='\u{2069}',
+    '\u{FEFF}'..='\u{FEFF}',
+    '\u{FFF9}'..='\u{FFFB}',
+];
+
+/// Whether a character is seen as what it is: no control character, no blank but the space, none that is invisible.
+fn prints(c: char) -> bool {
+    c == ' ' || !(c.is_control() || c.is_whitespace() || INVISIBLE.iter().any(|range| range.contains(&c)))
+}
+
+/// A text as a description writes it: as it is, or in double quotes where it is empty, begins or ends with a space,
+/// begins with a double quote, or has a byte that does not print.
+pub fn spell(text: &[u8]) -> String {
+    match str::from_utf8(text) {
+        Ok(plain)
+            if !plain.is_empty() && plain.trim() == plain && !plain.starts_with('"') && plain.chars().all(prints) =>
+        {
+            plain.into()
+        }
+        _ => format!("\"{}\"", text.iter().map(|&byte| spell_byte(byte)).collect::<String>()),
+    }
+}
+
+/// A byte between the double quotes of a description.
+fn spell_byte(byte: u8) -> String {
+    match byte {
+        b'"' | b'\\' => format!("\\{}", char::from(byte)),
+        b' '..=b'~' => char::from(byte).into(),
+        _ => format!("\\x{byte:02X}"),
+    }
+}
+
+/// The bytes of a text that a description has, or none where a text in double quotes is not well written.
+pub fn read(written: &[u8]) -> Option<Vec<u8>> {
+    let Some(rest) = written.strip_prefix(b"\"") else { return Some(written.to_vec()) };
+    let mut inside = rest.strip_suffix(b"\"")?;
+    let mut text = Vec::new();
+    while let Some((&byte, rest)) = inside.split_first() {
+        inside = rest;
+        match byte {
+            b'"' => return None,
+            b'\\' => text.push(read_escape(&mut inside)?),
+            _ => text.push(byte),
+        }
+    }
+    Some(text)
+}
+
+/// The byte that stands behind a backslash, which is taken off the text: `\"`, `\\` or `\xHH`.
+fn read_escape(inside: &mut &[u8]) -> Option<u8> {
+    let (&sign, rest) = inside.split_first()?;
+    if sign != b'x' {
+        *inside = rest;
+        return matches!(sign, b'"' | b'\\').then_some(sign);
+    }
+    let (digits, rest) = rest.split_at_checked(2)?;
+    *inside = rest;
+    let digits = str::from_utf8(digits).ok().filter(|digits| digits.bytes().all(|digit| digit.is_ascii_hexdigit()))?;
+    u8::from_str_radix(digits, 16).ok()
+}
+
+/// Why a text seems to be in an encoding other than UTF-8, if it does.
+pub fn other_encoding(text: &[u8]) -> Option<&'static str> {
+    let Ok(plain) = str::from_utf8(text) else {
+        return Some(if text.contains(&0) { "not UTF-8, perhaps UTF-16" } else { "not UTF-8, perhaps Latin-1" });
+    };
+    let seconds = plain.chars().skip(1);
+    let twice = plain.chars().zip(seconds).any(|pair| matches!(pair, ('\u{C2}' | '\u{C3}', '\u{80}'..='\u{BF}')));
+    match (twice, plain.contains('\0'), plain.contains(char::REPLACEMENT_CHARACTER)) {
+        (true, ..) => Some("UTF-8 that was encoded twice"),
+        (_, true, _) => Some("UTF-16, for it has zero bytes"),
+        (.., true) => Some("damaged by a change of encoding, for it has the mark of a lost letter (U+FFFD)"),
+        _ => None,
+    }
+}
+
+/// Words in a row, with another word before the last one: `eq, ne and pr`.
+pub fn row<T: AsRef<str>>(words: &[T], last: &str) -> String {
+    match words {
+        [] => String::new(),
+        [word] => word.as_ref().into(),
+        [first @ .., end] => {
+            let first: Vec<&str> = first.iter().map(AsRef::as_ref).collect();
+            format!("{} {last} {}", first.join(", "), end.as_ref())
+        }
+    }
+}
+
+/// A number and its noun: `1 card`, `3 cards`.
+pub fn counted(number: u64, noun: &str) -> String {
+    let plural = match noun.strip_suffix('y') {
+        Some(stem) => format!("{stem}ies"),
+        None => format!("{noun}s"),
+    };
+    if number == 1 { format!("1 {noun}") } else { format!("{} {plural}", grouped(number)) }
+}
+
+/// A number with a comma before every three digits.
+pub fn grouped(number: u64) -> String {
+    let digits = number.to_string();
+    let mut written = String::new();
+    for (index, digit) in digits.chars().enumerate() {
+        if index > 0 && (digits.len() - index).is_multiple_of(3) {
+            written.push(',');
+        }
+        written.push(digit);
+    }
+    written
+}
+
+/// The names that are nearest to one, the nearest first, or none where no name is near.
+pub fn nearest(name: &str, names: &[String]) -> Vec<String> {
+    let mut near: Vec<(usize, &String)> = names.iter().map(|other| (distance(name, other), other)).collect();
+    near.retain(|(distance, other)| *distance <= 1 + name.len().max(other.len()) / 4);
+    near.sort_by_key(|(distance, _)| *distance);
+    near.into_iter().take(3).map(|(_, other)| other.clone()).collect()
+}
+
+/// How many letters have to be put in, left out or changed to make one name of another. Capitals do not matter.
+fn distance(one: &str, other: &str) -> usize {
+    let other: Vec<char> = other.to_lowercase().chars().collect();
+    let mut row: Vec<usize> = (0..=other.len()).collect();
+    for (index, letter) in one.to_lowercase().chars().enumerate() {
+        let mut diagonal = row[0];
+        row[0] = index + 1;
+        for (column, theirs) in other.iter().enumerate() {
+            let changed = diagonal + usize::from(letter != *theirs);
+            diagonal = row[column + 1];
+            row[column + 1] = changed.min(diagonal + 1).min(row[column] + 1);
+        }
+    }
+    row[other.len()]
+}
+
+#[cfg(test)]
+mod tests {
+    use super::*;
+
+    /// Every text of two bytes, and texts with letters that do not print, come back from their spelling.
+    #[test]
+    fn spellings_are_read_back() {
+        for first in 0..=255 {
+            for second in 0..=255 {
+                let text = [first, second];
+                assert_eq!(read(spell(&text).as_bytes()), Some(text.to_vec()));
+            }
+        }
+        for text in ["", " a", "a ", "\"", "a\"b", "aä", "\u{2028}", "a\u{200B}", "#", "\\x41"] {
+            let spelled = spell(text.as_bytes());
+            assert_eq!(read(spelled.as_bytes()), Some(text.as_bytes().to_vec()), "{spelled}");
+            assert!(spelled.chars().all(prints), "{spelled}");
+        }
+        assert_eq!(spell("Ström, \\ \"x\"".as_bytes()), "Ström, \\ \"x\"");
+    }
+
+    /// Texts in double quotes that are not well written.
+    #[test]
+    fn spellings_that_are_none() {
+        for written in ["\"", "\"x", "\"\\n\"", "\"a\"b\"", "\"\\x4\"", "\"\\x+1\"", "\"\\\"", "\"a\" "] {
+            assert_eq!(read(written.as_bytes()), None, "{written}");
+        }
+    }
+
+    /// Encodings that give themselves away.
+    #[test]
+    fn encodings() {
+        assert_eq!(other_encoding("Ström".as_bytes()), None);
+        assert_eq!(other_encoding(b"Str\xF6m"), Some("not UTF-8, perhaps Latin-1"));
+        assert_eq!(other_encoding("StrÃ¶m".as_bytes()), Some("UTF-8 that was encoded twice"));
+        assert_eq!(other_encoding(b"S\0t\0"), Some("UTF-16, for it has zero bytes"));
+    }
+
+    /// Near names, and none where there is none.
+    #[test]
+    fn near_names() {
+        let names = ["title", "birthdate", "code", "pages"].map(String::from);
+        assert_eq!(nearest("Title", &names), ["title"]);
+        assert_eq!(nearest("birthdat", &names), ["birthdate"]);
+        assert_eq!(nearest("page", &names), ["pages"]);
+        assert!(nearest("ward", &names).is_empty());
+    }
+
+    /// Rows of words and numbers.
+    #[test]
+    fn rows_and_numbers() {
+        assert_eq!(row(&["eq", "ne", "pr"], "and"), "eq, ne and pr");
+        assert_eq!(row(&["eq"], "or"), "eq");
+        assert_eq!(counted(1, "card"), "1 card");
+        assert_eq!(counted(1_234_567, "entry"), "1,234,567 entries");
+    }
+}

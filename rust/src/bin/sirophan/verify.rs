@@ -1,0 +1,123 @@
+//! `sirophan verify`: whether all that is in a folder goes together, its blocks and its description.
+
+use crate::advice::{self, Question};
+use crate::arguments::Arguments;
+use crate::block::SIZE;
+use crate::cards::{self, AtFault, Fit, RUN};
+use crate::description::{Cards, Description, Faults};
+use crate::input::Input;
+use crate::pack::{self, path_in};
+use crate::report::{Failure, Output};
+use crate::sheet::Sheet;
+use crate::text::counted;
+use crate::{input, json};
+use std::path::Path;
+
+/// What a folder was found to hold.
+struct Found {
+    what: &'static str,
+    cards: u64,
+    parameters: u64,
+    tests: u64,
+}
+
+/// Verifies the blocks, the description, or both, whichever are there.
+pub fn run(arguments: &Arguments) -> Result<(), Failure> {
+    let folder = &arguments.paths[0];
+    let there = |name: &str| Path::new(&path_in(folder, name)).exists();
+    let mut found = Vec::new();
+    if there("sheet.txt") && there("cards.txt") {
+        found.push(description(arguments, folder)?);
+    }
+    if found.is_empty() || there("sheet.bin") || there("cards.bin") {
+        found.push(blocks(folder)?);
+    }
+    let mut output = Output::new();
+    for Found { what, cards, parameters, tests } in found {
+        if arguments.json {
+            let pairs = [("cards", cards), ("parameters", parameters), ("tests", tests)];
+            let pairs: Vec<(&str, String)> = pairs.into_iter().map(|(name, count)| (name, count.to_string())).collect();
+            output.line(json::object(&[&[("verified", json::string(what))], &pairs[..]].concat()))?;
+        } else {
+            let [cards, tests] = [counted(cards, "card"), counted(tests, "test")];
+            let parameters = counted(parameters, "parameter");
+            output.line(format_args!(
+                "the {what}: {cards}, a sheet with {parameters}, a filter with {tests}: all go together"
+            ))?;
+        }
+    }
+    output.flush()
+}
+
+/// Reads a description as for packing, and writes nothing.
+fn description(arguments: &Arguments, folder: &str) -> Result<Found, Failure> {
+    let name = path_in(folder, "filter.txt");
+    let filter = pack::read_filter(&name)?;
+    let sheet = pack::read_sheet(arguments, folder)?;
+    let mut cards = Cards::new(Description::open(&path_in(folder, "cards.txt"))?, &sheet);
+    while cards.next()?.is_some() {}
+    arguments.say(cards.description.notes());
+    let (count, parameters) = (cards.count, sheet.parameters.len() as u64);
+    cards.description.faults.none()?;
+    let text = filter.bytes.strip_suffix(b"\n").unwrap_or(&filter.bytes).to_vec();
+    let question = Question { sheet_name: path_in(folder, "sheet.txt"), filter_name: name, sheet, filter: text };
+    let tests = question.check()? as u64;
+    Ok(Found { what: "description", cards: count, parameters, tests })
+}
+
+/// Asks the library of each block.
+fn blocks(folder: &str) -> Result<Found, Failure> {
+    let [sheet_name, filter_name, cards_name] =
+        ["sheet.bin", "filter.txt", "cards.bin"].map(|name| path_in(folder, name));
+    let sheet = Sheet::read(input::read(&sheet_name)?);
+    let filter = input::read_filter(&filter_name)?;
+    let cards = Input::open(&cards_name)?;
+    if let Some(refusal) = sheet.refusal() {
+        return Err(Failure::refused(advice::sheet_refused(&sheet_name, &sheet, refusal)));
+    }
+    let question = Question { sheet_name, filter_name, sheet, filter };
+    let count = verify_cards(&question.sheet, &cards_name, cards)?;
+    let tests = question.check()? as u64;
+    Ok(Found { what: "blocks", cards: count, parameters: question.sheet.parameters.len() as u64, tests })
+}
+
+/// How many cards there are, where all of them fit; else what is wrong with those that do not.
+fn verify_cards(sheet: &Sheet, name: &str, cards: Input) -> Result<u64, Failure> {
+    let fit = Fit::new(sheet);
+    let mut faults = Faults::default();
+    let mut count = 0;
+    cards::pass(
+        cards,
+        |_: &mut (), first, piece| (faults_of_piece(&fit, first, piece), piece.len() / SIZE),
+        |(found, cards)| {
+            count += cards as u64;
+            found.into_iter().for_each(|fault| faults.add(format!("{name}: {fault}")));
+            Ok(true)
+        },
+    )?;
+    faults.none()?;
+    Ok(count)
+}
+
+/// What is wrong with the cards of a piece. Behind a card that does not fit the others are tried again.
+fn faults_of_piece(fit: &Fit, first: u64, piece: &[u8]) -> Vec<String> {
+    let mut faults = Vec::new();
+    let (whole, rest) = piece.split_at(piece.len() - piece.len() % SIZE);
+    let mut at = 0;
+    while at < whole.len() {
+        let run = &whole[at..whole.len().min(at + RUN * SIZE)];
+        match fit.select(run, &mut [0; RUN]) {
+            Ok(_) => at += run.len(),
+            Err(refusal) => {
+                let fault = AtFault::new(refusal, first + (at / SIZE) as u64, run);
+                faults.extend(cards::located(fault.refusal.place as u64, &fault.block, fit.sheet));
+                at += (refusal.place + 1) * SIZE;
+            }
+        }
+    }
+    if !rest.is_empty() {
+        let bytes = counted(rest.len() as u64, "byte");
+        faults.push(format!("behind its last whole card it has {bytes}. A card has {SIZE}."));
+    }
+    faults
+}

@@ -1,0 +1,879 @@
+//! The command `sirophan` as it is run: what it says on both streams, and its status. Messages are compared whole.
+
+use std::fs;
+use std::io::Write;
+use std::path::{Path, PathBuf};
+use std::process::{Command, Stdio};
+
+const PROGRAM: &str = env!("CARGO_BIN_EXE_sirophan");
+const REPOSITORY: &str = concat!(env!("CARGO_MANIFEST_DIR"), "/..");
+
+/// A folder of a test's own, which goes when the test ends.
+struct Folder {
+    path: PathBuf,
+}
+
+impl Folder {
+    fn new(test: &str) -> Folder {
+        let path = std::env::temp_dir().join(format!("sirophan-command-{}-{test}", std::process::id()));
+        fs::create_dir(&path).unwrap();
+        Folder { path }
+    }
+
+    /// A folder with the packed example archive: sheet.bin, filter.txt and cards.bin.
+    fn ward(test: &str) -> Folder {
+        let folder = Folder::new(test);
+        folder.run(&["pack", &format!("{REPOSITORY}/examples/ward"), "."]).says(
+            0,
+            "3 cards and a sheet with 5 parameters, in .\n",
+            "",
+        );
+        folder
+    }
+
+    /// A folder with a description, packed.
+    fn packed(test: &str, sheet: &str, cards: &str, filter: &str) -> Folder {
+        let folder = Folder::described(test, sheet, cards, filter);
+        assert_eq!(folder.run(&["pack", ".", "."]).status, 0);
+        folder
+    }
+
+    /// A folder with a description.
+    fn described(test: &str, sheet: &str, cards: &str, filter: &str) -> Folder {
+        let folder = Folder::new(test);
+        folder.write("sheet.txt", sheet).write("cards.txt", cards).write("filter.txt", filter);
+        folder
+    }
+
+    fn write(&self, name: &str, bytes: impl AsRef<[u8]>) -> &Folder {
+        fs::write(self.path.join(name), bytes).unwrap();
+        self
+    }
+
+    fn read(&self, name: &str) -> Vec<u8> {
+        fs::read(self.path.join(name)).unwrap()
+    }
+
+    /// The names of the files, in order.
+    fn files(&self) -> Vec<String> {
+        let entries = fs::read_dir(&self.path).unwrap();
+        let mut names: Vec<String> = entries.map(|entry| entry.unwrap().file_name().into_string().unwrap()).collect();
+        names.sort();
+        names
+    }
+
+    /// Changes the bytes of a file.
+    fn change(&self, name: &str, change: impl FnOnce(&mut Vec<u8>)) -> &Folder {
+        let mut bytes = self.read(name);
+        change(&mut bytes);
+        self.write(name, bytes)
+    }
+
+    /// Runs the command in the folder, without standard input.
+    fn run(&self, arguments: &[&str]) -> Said {
+        self.run_with(arguments, b"")
+    }
+
+    /// Runs the command in the folder, with this standard input.
+    fn run_with(&self, arguments: &[&str], input: &[u8]) -> Said {
+        let mut command = Command::new(PROGRAM);
+        command.args(arguments).current_dir(&self.path);
+        let mut child = command.stdin(Stdio::piped()).stdout(Stdio::piped()).stderr(Stdio::piped()).spawn().unwrap();
+        let mut stdin = child.stdin.take().unwrap();
+        // The command may end before it has read its input.
+        let _ = stdin.write_all(input);
+        drop(stdin);
+        let output = child.wait_with_output().unwrap();
+        Said {
+            status: output.status.code().unwrap(),
+            output: String::from_utf8(output.stdout).unwrap(),
+            errors: String::from_utf8(output.stderr).unwrap(),
+        }
+    }
+
+    /// Checks a filter against sheet.bin.
+    fn check(&self, filter: &str) -> Said {
+        self.run_with(&["check", "sheet.bin", "-"], filter.as_bytes())
+    }
+
+    /// Picks by a filter.
+    fn pick(&self, filter: &str) -> Said {
+        self.run_with(&["pick", "sheet.bin", "-", "cards.bin"], filter.as_bytes())
+    }
+}
+
+impl Drop for Folder {
+    fn drop(&mut self) {
+        let _ = fs::remove_dir_all(&self.path);
+    }
+}
+
+/// What a run said.
+#[derive(Debug)]
+struct Said {
+    status: i32,
+    output: String,
+    errors: String,
+}
+
+impl Said {
+    #[track_caller]
+    fn says(&self, status: i32, output: &str, errors: &str) {
+        assert_eq!((self.output.as_str(), self.errors.as_str(), self.status), (output, errors, status));
+    }
+
+    /// Nothing on standard output, and this on standard error.
+    #[track_caller]
+    fn fails(&self, status: i32, errors: &str) {
+        self.says(status, "", errors);
+    }
+}
+
+/// Sets the check sum of the block that begins at a place.
+fn sum(bytes: &mut [u8], block: usize) {
+    let block = &mut bytes[block..block + 512];
+    let sum: u32 = block[..508].iter().zip(1..).map(|(&byte, place)| u32::from(byte) * place).sum();
+    block[508..].copy_from_slice(&sum.to_le_bytes());
+}
+
+// ---- help
+
+/// The examples that the help gives are true. A line of three dots stands for the rest of an output.
+#[test]
+fn examples_of_the_help() {
+    let folder = Folder::new("examples");
+    folder.run(&["pack", &format!("{REPOSITORY}/examples/ward"), "target/ward"]);
+    std::os::unix::fs::symlink(Path::new(REPOSITORY).join("examples"), folder.path.join("examples")).unwrap();
+    let programs = Path::new(PROGRAM).parent().unwrap().to_str().unwrap();
+    for name in ["pick", "check", "fields", "pack", "show", "verify"] {
+        let help = folder.run(&[name, "--help"]);
+        assert_eq!((help.status, help.errors.as_str()), (0, ""), "{name}");
+        let example = help.output.split("Example:\n\n    $ ").nth(1).expect(name);
+        let (line, shown) = example.split_once('\n').unwrap();
+        let shown: String =
+            shown.split("\n\n").next().unwrap().lines().map(|line| format!("{}\n", &line[4..])).collect();
+        let path = format!("{programs}:{}", std::env::var("PATH").unwrap());
+        let mut shell = Command::new("sh");
+        shell.args(["-c", &format!("({line}) 2>&1")]).current_dir(&folder.path).env("PATH", path);
+        let output = shell.output().unwrap();
+        let printed = String::from_utf8(output.stdout).unwrap();
+        match shown.strip_suffix("  ...\n") {
+            Some(start) => assert!(printed.starts_with(start), "{name}: {printed}"),
+            None => assert_eq!(printed, shown, "{name}"),
+        }
+    }
+}
+
+#[test]
+fn help_and_version() {
+    let folder = Folder::new("help");
+    let help = folder.run(&["--help"]);
+    assert_eq!((help.status, help.errors.as_str()), (0, ""));
+    for part in ["sirophan pick [--stream] SHEET FILTER CARDS", "sirophan verify DIR", "Status: 0 answered"] {
+        assert!(help.output.contains(part), "{part}");
+    }
+    folder.run(&["--version"]).says(0, concat!("sirophan ", env!("CARGO_PKG_VERSION"), "\n"), "");
+}
+
+#[test]
+fn command_lines_that_are_not_understood() {
+    let folder = Folder::new("usage");
+    folder.run(&[]).fails(1, "sirophan: No command was given. `sirophan --help` lists the commands.\n");
+    folder.run(&["pik"]).fails(1, "sirophan: pik is no command. `sirophan --help` lists the commands.\n");
+    folder.run(&["pick", "a"]).fails(1, "sirophan: 1 path given. Usage: sirophan pick [--stream] SHEET FILTER CARDS\n");
+    folder
+        .run(&["check", "--stream", "a", "b"])
+        .fails(1, "sirophan: --stream is no option here. Usage: sirophan check SHEET FILTER\n");
+    folder
+        .run(&["check", "-", "-"])
+        .fails(1, "sirophan: Standard input (-) can be read only once. Usage: sirophan check SHEET FILTER\n");
+    folder.run(&["show", "--record", "x", "a"]).fails(
+        1,
+        "sirophan: x is no record number: it is a number up to 4294967295. Usage: sirophan show [--record N] FILE..\n",
+    );
+    folder
+        .run(&["verify", "--json"])
+        .fails(1, "{\"level\":\"error\",\"message\":\"sirophan: 0 paths given. Usage: sirophan verify DIR\"}\n");
+}
+
+// ---- pick
+
+#[test]
+fn pick_lists_and_counts() {
+    let folder = Folder::ward("pick");
+    let files = ["sheet.bin", "filter.txt", "cards.bin"];
+    folder.run(&["pick", files[0], files[1], files[2]]).says(0, "7\n300\n2 of 3\n", "");
+    folder.run(&["pick", "--stream", files[0], files[1], files[2]]).says(0, "7\n300\n2 of 3\n", "");
+    let json = "{\"records\":[7,300],\"matching\":2,\"cards\":3}\n";
+    folder.run(&["pick", "--json", files[0], files[1], files[2]]).says(0, json, "");
+    let lines = "{\"record\":7}\n{\"record\":300}\n{\"matching\":2,\"cards\":3}\n";
+    folder.run(&["pick", files[0], files[1], files[2], "--json", "--stream"]).says(0, lines, "");
+    for place in 0..3 {
+        let mut paths = files;
+        paths[place] = "-";
+        let said = folder.run_with(&["pick", paths[0], paths[1], paths[2]], &folder.read(files[place]));
+        said.says(0, "7\n300\n2 of 3\n", "");
+    }
+    folder.write("cards.bin", "");
+    folder.pick("title pr true\n").says(0, "0 of 0\n", "");
+}
+
+#[test]
+fn pick_refuses_a_filter_before_the_cards() {
+    let folder = Folder::ward("pick-filter");
+    folder.pick("title pr true or code gt 5\n").fails(
+        2,
+        "title pr true or code gt 5\n\
+         \x20                ^^^^^^^^^\n\
+         standard input: refused 16 at 17: The operator has no meaning for a parameter of this kind.\n\
+         \x20 code is a token, which has the operators eq, ne and pr.\n\
+         \x20 gt is for numbers and dates. If that is what code holds, the sheet gives it the wrong kind.\n",
+    );
+    let json = folder.run_with(&["pick", "--json", "sheet.bin", "-", "cards.bin"], b"title eq");
+    json.fails(
+        2,
+        "{\"level\":\"error\",\"message\":\"standard input: refused 11 at 0: The text is no filter by the grammar.\",\
+         \"help\":[\"A filter is made of tests such as `title co \\\"book\\\"`, joined by `and` or `or`; `not` needs brackets.\",\
+         \"It has at most 32 tests, and brackets at most 8 deep.\"],\"refused\":11,\"place\":0}\n",
+    );
+}
+
+#[test]
+fn pick_names_the_card_at_fault() {
+    let folder = Folder::ward("pick-cards");
+    folder.change("cards.bin", |cards| cards[512 + 100] ^= 1);
+    folder.pick("title pr true").fails(
+        2,
+        "cards.bin: refused 21 at 1: The card's check sum is wrong.\n\
+         \x20 card 1, record 19: The card's check sum is wrong. It was changed or damaged since it was written: pack it again \
+         from its description.\n\
+         \x20 No list is given. `sirophan show --record 19 cards.bin` shows the card.\n",
+    );
+    folder.change("cards.bin", |cards| {
+        cards[512 + 5] = 65;
+        sum(cards, 512);
+    });
+    folder.pick("title pr true").fails(
+        2,
+        "cards.bin: refused 22 at 1: The card breaks its layout.\n\
+         \x20 card 1, record 19: The card breaks its layout. It has more entries than are allowed.\n\
+         \x20 No list is given. `sirophan show --record 19 cards.bin` shows the card.\n",
+    );
+    let folder = Folder::ward("pick-misfit");
+    folder.change("cards.bin", |cards| {
+        let pages = cards.windows(4).position(|bytes| bytes == b"12.0").unwrap();
+        cards[pages + 1] = b'x';
+        sum(cards, 0);
+    });
+    folder.pick("title pr true").fails(
+        2,
+        "cards.bin: refused 23 at 0: The card does not fit the sheet: a text is under a bundle or no parameter, or cannot be read.\n\
+         \x20 card 0, record 7: pages: 1x.0 cannot be read as a number: 1 to 8 digits, then perhaps a point and 1 to 9 digits.\n\
+         \x20 No list is given. `sirophan show --record 7 cards.bin` shows the card.\n",
+    );
+    let folder = Folder::ward("pick-rest");
+    folder.change("cards.bin", |cards| cards.push(b'C'));
+    folder.pick("title pr true").fails(
+        2,
+        "cards.bin: refused 20 at 0: The card is not 512 bytes long, or the run is no whole number of cards or over 128.\n\
+         \x20 Behind its last whole card it has 1 byte.\n",
+    );
+}
+
+/// Five thousand cards: the order is kept, however many processors there are; a late fault takes the list back.
+#[test]
+fn pick_goes_through_many_cards_in_order() {
+    let cards: String = (0..5000).map(|record| format!("record: {}\n", 9000 - record)).collect();
+    let folder = Folder::packed("many", "string title\n", &cards, "title pr false\n");
+    let numbers = |count: u32| (0..count).map(|record| format!("{}\n", 9000 - record)).collect::<String>();
+    let files = ["sheet.bin", "filter.txt", "cards.bin"];
+    folder.run(&["pick", files[0], files[1], files[2]]).says(0, &format!("{}5000 of 5000\n", numbers(5000)), "");
+    folder.change("cards.bin", |cards| cards[4500 * 512 + 9] = 1);
+    let message = "cards.bin: refused 21 at 4500: The card's check sum is wrong.\n\
+                   \x20 card 4500, record 4500: The card's check sum is wrong. It was changed or damaged since it was written: \
+                   pack it again from its description.\n\
+                   \x20 No list is given. `sirophan show --record 4500 cards.bin` shows the card.\n";
+    folder.run(&["pick", files[0], files[1], files[2]]).fails(2, message);
+    let streamed = folder.run(&["pick", "--stream", files[0], files[1], files[2]]);
+    streamed.says(2, &numbers(4500 / 128 * 128), message);
+}
+
+#[test]
+fn pick_says_what_may_be_meant_otherwise() {
+    let cards = "record: 1\nbirthdate 1974-06\ntitle Ward\nrecord: 2\nbirthdate 1980\nbirthdate 1981\n\
+                 title \"Str\\xF6m\"\nsubject http://loinc.org|1\n";
+    let sheet = "string title\ntoken birthdate\nstring subject\n";
+    let folder = Folder::packed("doubts", sheet, cards, "birthdate eq 1974\n");
+    folder.run(&["pick", "sheet.bin", "filter.txt", "cards.bin"]).says(
+        0,
+        "0 of 2\n",
+        "warning: birthdate is a token, and 3 of 3 values look like dates. If it holds dates, the sheet gives it the wrong kind, \
+         and a filter asks something else than it seems to.\n",
+    );
+    folder.pick("title co 'Ward'").says(
+        0,
+        "0 of 2\n",
+        "warning: the value 'Ward' of title asks for its quotes too. Write \"Ward\" to ask without them.\n\
+         warning: title: 1 of 2 values seem to be in another encoding, first on record 2: not UTF-8, perhaps Latin-1. Letters \
+         beyond ASCII are compared byte by byte, and a filter in UTF-8 does not find them.\n",
+    );
+    folder.pick("subject eq loinc|1 or title pr false and title pr true").says(
+        0,
+        "0 of 2\n",
+        "warning: `and` and `or` are read from left to right, with equal rank. The filter asks:\n\
+         \x20 (subject eq loinc|1 or title pr false) and title pr true\n\
+         warning: title: 1 of 2 values seem to be in another encoding, first on record 2: not UTF-8, perhaps Latin-1. Letters \
+         beyond ASCII are compared byte by byte, and a filter in UTF-8 does not find them.\n\
+         warning: subject is a string, and 1 of 1 value looks like a token. If it holds tokens, the sheet gives it the wrong \
+         kind, and a filter asks something else than it seems to.\n",
+    );
+    let said = folder.run_with(&["pick", "sheet.bin", "-", "cards.bin"], b"title eq \"WARD\" or title eq \"\xD6\"");
+    assert!(said.errors.starts_with(
+        "warning: the filter seems to be in another encoding: not UTF-8, perhaps Latin-1. It finds nothing with such letters \
+         on cards in UTF-8.\n"
+    ));
+}
+
+// ---- check
+
+#[test]
+fn check_answers_with_the_tests() {
+    let folder = Folder::ward("check");
+    folder.run(&["check", "sheet.bin", "filter.txt"]).says(
+        0,
+        "3 tests\n\
+         \x20 birthdate  date    le  1974-06\n\
+         \x20 code       token   eq  loinc|1234-5\n\
+         \x20 title      string  co  \"admissions\"\n",
+        "",
+    );
+    folder.run_with(&["check", "--json", "sheet.bin", "-"], b"pages gt 5").says(
+        0,
+        "{\"count\":1,\"tests\":[{\"field\":\"pages\",\"kind\":\"number\",\"operator\":\"gt\",\"value\":\"5\"}]}\n",
+        "",
+    );
+    let folder = Folder::packed("check-name", "token discharge-date\n", "record: 1\n", "discharge-date eq 1974");
+    folder.run(&["check", "sheet.bin", "filter.txt"]).says(
+        0,
+        "1 test\n  discharge-date  token  eq  1974\n",
+        "warning: discharge-date is a token, and its name speaks of a date. `sirophan fields` shows what it holds.\n",
+    );
+}
+
+#[test]
+fn check_helps_with_tests() {
+    let sheet = "string title\nnumber pages\nbundle related\ntoken related.type\nreference related.target\n";
+    let folder = Folder::packed("check-tests", sheet, "record: 1\n", "title pr true");
+    let unknown = "The name is not on the sheet, or cannot stand here: members are named with their bundle's brackets.";
+    let unreadable = "The value cannot be read as the parameter's kind, or for pr as true or false.";
+    let cases = [
+        ("tilte co x", 14, 0, unknown, "tilte is not on the sheet. Is it title?"),
+        ("ward eq 4", 14, 0, unknown, "ward is not on the sheet. There are title, pages and related."),
+        (
+            "type eq x",
+            14,
+            0,
+            unknown,
+            "type is a member of related. Write `related[type pr true].type` in place of type.",
+        ),
+        ("related[tpye eq x].target pr true", 14, 8, unknown, "tpye is no member of related. Is it type?"),
+        ("title[x eq x].target pr true", 14, 0, unknown, "title is no bundle, and has no square brackets behind it."),
+        (
+            "title ap x",
+            15,
+            0,
+            "The operators ap, ss, sb, in and ni have no meaning for any kind.",
+            "title is a string, which has the operators eq, ne, co, sw, ew and pr.",
+        ),
+        (
+            "pages eq twelve",
+            17,
+            0,
+            unreadable,
+            "pages is a number, and twelve cannot be read as one: 1 to 8 digits, then perhaps a point and 1 to 9 digits.",
+        ),
+        ("pages pr maybe", 17, 0, unreadable, "Behind pr stands true (there is a text) or false (there is none)."),
+        (
+            "related pr true",
+            18,
+            0,
+            "A bundle's name needs a condition in square brackets, and a member behind it.",
+            "related is a bundle of type and target. Write `related[type pr true].target pr true`.",
+        ),
+    ];
+    for (filter, number, place, sentence, help) in cases {
+        let test = filter[place..].split(']').next().unwrap();
+        let length = if place == 0 { filter.len() } else { test.len() };
+        let carets = format!("{}{}", " ".repeat(place), "^".repeat(length));
+        let message =
+            format!("{filter}\n{carets}\nstandard input: refused {number} at {place}: {sentence}\n  {help}\n");
+        folder.check(filter).fails(2, &message);
+    }
+}
+
+#[test]
+fn check_helps_with_texts_that_are_no_filters() {
+    let folder = Folder::ward("check-texts");
+    let grammar = "  A filter is made of tests such as `title co \"book\"`, joined by `and` or `or`; `not` needs brackets.\n  \
+                   It has at most 32 tests, and brackets at most 8 deep.\n";
+    let cases = [
+        ("title eq x\r\n", "It has a Windows line end (0x0D). Save it with a line feed alone, or without a line end."),
+        ("\u{FEFF}title eq x", "It has a byte order mark (EF BB BF). Save it as UTF-8 without one."),
+        ("title eq x\n\n", "It has more than one line. A filter is one line."),
+        ("title\teq x", "It has a tab. Only spaces may stand between the words."),
+        ("title eq \u{201C}x\u{201D}", "It has a curly quote. Texts are quoted with the straight sign \"."),
+        ("title eq \u{F6}", "Letters beyond ASCII stand between double quotes only."),
+        ("title EQ x", "EQ is written eq: operators, and, or and not are in small letters."),
+    ];
+    for (filter, help) in cases {
+        let message =
+            format!("standard input: refused 11 at 0: The text is no filter by the grammar.\n  {help}\n{grammar}");
+        folder.check(filter).fails(2, &message);
+    }
+    let empty = "standard input: refused 10 at 0: The filter is empty or longer than 1,024 bytes.\n  It has 0 bytes.\n";
+    folder.check("\n").fails(2, empty);
+    let long =
+        "standard input: refused 10 at 0: The filter is empty or longer than 1,024 bytes.\n  It has 2,000 bytes.\n";
+    folder.check(&"x".repeat(2000)).fails(2, long);
+}
+
+#[test]
+fn check_helps_with_sheets() {
+    let folder = Folder::ward("check-sheets");
+    let check = |sheet: &str| folder.run(&["check", sheet, "filter.txt"]);
+    folder.write("sheet.txt", "string title\n");
+    check("sheet.txt").fails(
+        2,
+        "sheet.txt: refused 1 at 0: The sheet is not 512 bytes long.\n\
+         \x20 It is a text. A description becomes a sheet by `sirophan pack DIR OUT`.\n",
+    );
+    check("cards.bin").fails(
+        2,
+        "cards.bin: refused 1 at 0: The sheet is not 512 bytes long.\n\
+         \x20 It begins as a card does. The sheet is another file, such as sheet.bin.\n",
+    );
+    folder.write("empty.bin", "");
+    check("empty.bin").fails(2, "empty.bin: refused 1 at 0: The sheet is not 512 bytes long.\n  It has 0 bytes.\n");
+    folder.change("sheet.bin", |sheet| sheet[2] = 9);
+    check("sheet.bin").fails(
+        2,
+        "sheet.bin: refused 2 at 0: The sheet's check sum is wrong.\n\
+         \x20 It was changed or damaged since it was written: pack it again from its description.\n",
+    );
+    folder.change("sheet.bin", |sheet| sum(sheet, 0));
+    check("sheet.bin").fails(
+        2,
+        "sheet.bin: refused 3 at 0: The sheet breaks its layout, or the rules for its names or its bundles.\n\
+         \x20 title has kind 9, which no kind has.\n",
+    );
+}
+
+// ---- fields
+
+#[test]
+fn fields_show_what_the_cards_hold() {
+    let sheet = "string title\ntoken birthdate\nbundle related\ntoken related.type\n";
+    let cards = "record: 1\nbirthdate 1974-06\nbirthdate 1975\nrelated#1.type x\nrecord: 2\nbirthdate 1980\n\
+                 title Ward book of the admissions from 1890 on, men\n";
+    let folder = Folder::packed("fields", sheet, cards, "title pr true");
+    folder.run(&["fields", "sheet.bin", "cards.bin"]).says(
+        0,
+        "2 cards\n\
+         \x20 field         kind    cards  values  example\n\
+         \x20 title         string  1      1       Ward book of the admissions from 1890 on...\n\
+         \x20 birthdate     token   2      3       1974-06\n\
+         \x20 related       bundle  0      0\n\
+         \x20 related.type  token   1      1       x\n\
+         warning: birthdate is a token, and 3 of 3 values look like dates. If it holds dates, the sheet gives it the wrong kind, \
+         and a filter asks something else than it seems to.\n",
+        "",
+    );
+    folder.change("cards.bin", |cards| cards.truncate(600));
+    folder.run(&["fields", "sheet.bin", "cards.bin"]).fails(
+        2,
+        "cards.bin: refused 20 at 0: The card is not 512 bytes long, or the run is no whole number of cards or over 128.\n\
+         \x20 Behind its last whole card it has 88 bytes.\n",
+    );
+    let folder = Folder::packed("fields-json", "date d\n", "record: 1\nd 1974\n", "d pr true");
+    folder.run(&["fields", "--json", "sheet.bin", "cards.bin"]).says(
+        0,
+        "{\"cards\":1,\"fields\":[{\"field\":\"d\",\"kind\":\"date\",\"cards\":1,\"values\":1,\"example\":\"1974\",\
+         \"looks_like\":null,\"warnings\":[]}]}\n",
+        "",
+    );
+}
+
+/// A sheet without fields takes cards without entries.
+#[test]
+fn fields_of_a_sheet_without_fields() {
+    let folder = Folder::described("no-fields", "bundle b\n", "record: 1\nrecord: 2\n", "b pr true\n");
+    folder.run(&["pack", ".", "."]).says(
+        0,
+        "2 cards and a sheet with 1 parameter, in .\n",
+        "warning: ./filter.txt: refused 18 at 0: A bundle's name needs a condition in square brackets, and a member behind it. \
+         `sirophan check` says more.\n",
+    );
+    let table = "2 cards\n  field  kind    cards  values  example\n  b      bundle  0      0\n";
+    folder.run(&["fields", "sheet.bin", "cards.bin"]).says(0, table, "");
+    folder.change("cards.bin", |cards| {
+        cards[512 + 5] = 1;
+        sum(cards, 512);
+    });
+    folder.run(&["fields", "sheet.bin", "cards.bin"]).fails(
+        2,
+        "cards.bin: refused 23 at 1: The card does not fit the sheet: a text is under a bundle or no parameter, or cannot be read.\n\
+         \x20 card 1, record 2: b: a bundle has no texts of its own. Put the text under one of its members.\n\
+         \x20 No list is given. `sirophan show --record 2 cards.bin` shows the card.\n",
+    );
+}
+
+// ---- pack
+
+/// What is packed has the bytes of the archive that `pick` is tried on.
+#[test]
+fn pack_writes_blocks() {
+    let folder = Folder::ward("pack");
+    for name in ["sheet.bin", "cards.bin"] {
+        assert!(folder.read(name) == fs::read(format!("{REPOSITORY}/crates/pick/data/{name}")).unwrap(), "{name}");
+    }
+    assert_eq!(folder.files(), ["cards.bin", "filter.txt", "sheet.bin"]);
+    let sheet = "token related.type\nbundle related\nstring title\nbundle b\ndate b.type\n";
+    let cards = "record: 7\ntitle x\nrelated#1.type a\nb#255.type 1974\nrecord: 8\nrelated.type a\nb#0.type 1974\n";
+    let folder = Folder::packed("pack-bundles", sheet, cards, "title pr true");
+    let sheet = folder.read("sheet.bin");
+    let expected = b"\x51\x05\x04\x02\x04type\x07\0\x07related\x01\0\x05title\x07\0\x01b\x03\x04\x04type\0";
+    assert!(sheet.starts_with(expected));
+    let cards = folder.read("cards.bin");
+    assert!(cards.starts_with(b"\x44\x07\0\0\0\x03\x02\0\x01x\0\x01\x01a\x04\xFF\x041974\0"));
+    assert!(cards[512..].starts_with(b"\x43\x08\0\0\0\x02\0\x01a\x04\x041974\0"));
+    let json = "{\"cards\":2,\"parameters\":5}\n";
+    folder.run(&["pack", "--json", ".", "new"]).says(0, json, "");
+}
+
+/// Every fault of cards.txt is told with its line, and the archive that was there stays.
+#[test]
+fn pack_tells_the_faults_of_cards() {
+    let sheet = "string title\ndate birthdate\nbundle related\ntoken related.type\n";
+    let folder = Folder::packed("pack-cards", sheet, "record: 1\n", "title pr true");
+    let before = folder.read("cards.bin");
+    let lines = [
+        ("title x", "title stands before the first record number. A card begins with `record:` and a number."),
+        ("record: x", "x is no record number: it is a number up to 4294967295."),
+        ("record: 4294967296", "4294967296 is no record number: it is a number up to 4294967295."),
+        ("record: 1", ""),
+        ("", ""),
+        ("# title", ""),
+        ("titel x", "record 1, titel: it is not on the sheet. Is it title?"),
+        ("ward x", "record 1, ward: it is not on the sheet. There are title, birthdate and related.type."),
+        (
+            "birthdate 1974-13",
+            "record 1, birthdate: 1974-13 cannot be read as a date: YYYY, YYYY-MM, YYYY-MM-DD, or YYYY-MM-DDThh:mm:ss with Z or a \
+             zone such as +02:00.",
+        ),
+        ("related x", "record 1, related: a bundle has no texts of its own. Put the text under one of its members."),
+        ("related#256.type x", "record 1, related#256.type: behind # stands a number from 0 to 255, and not 256."),
+        ("related#+1.type x", "record 1, related#+1.type: behind # stands a number from 0 to 255, and not +1."),
+        ("title#1 x", "record 1, title#1: title is no member of a bundle, and takes no number. Leave out #1."),
+        ("related#2.type |", "record 1, related#2.type: | cannot be read as a token: a code, or system|code."),
+        ("title", "there is no text behind title. An empty text is written \"\"."),
+        (
+            "title \"x",
+            "the text \"x cannot be read. A text that begins with a double quote ends with one; inside stand \\\" \\\\ and \\xHH \
+             for these signs.",
+        ),
+        ("title \u{2028}", ""),
+    ];
+    let cards: String = lines.iter().map(|(line, _)| format!("{line}\n")).collect();
+    let faults = lines.iter().zip(1..).filter(|((_, fault), _)| !fault.is_empty());
+    let message: String = faults.map(|((_, fault), number)| format!("./cards.txt:{number}: {fault}\n")).collect();
+    folder.write("cards.txt", cards);
+    folder.run(&["pack", ".", "."]).fails(2, &message);
+    folder.run(&["pack", ".", "new"]).fails(2, &message);
+    assert_eq!(folder.read("cards.bin"), before);
+    assert_eq!(folder.files(), ["cards.bin", "cards.txt", "filter.txt", "sheet.bin", "sheet.txt"]);
+}
+
+/// A card and a text take what they have room for, and no more.
+#[test]
+fn pack_tells_what_has_no_room() {
+    let entry = |length: usize| format!("title {}\n", "x".repeat(length));
+    let card = |entries: &str| format!("record: 1\n{entries}");
+    let folder = Folder::packed("pack-room", "string title\n", &card(&(entry(255) + &entry(243))), "title pr true");
+    let cases = [
+        (
+            entry(255) + &entry(244),
+            "./cards.txt:3: record 1: the card is full: this entry takes 246 bytes with its head of 2, 1 more than are left. \
+             Shorten a text, or make a second card with the same number.\n",
+        ),
+        (
+            entry(256),
+            "./cards.txt:2: record 1, title: the text has 256 bytes, and an entry has room for 255. Shorten it.\n",
+        ),
+        (entry(1).repeat(65), "./cards.txt:66: record 1: a card has room for 64 entries, and this is one more.\n"),
+    ];
+    for (entries, message) in cases {
+        folder.write("cards.txt", card(&entries));
+        folder.run(&["pack", ".", "."]).fails(2, message);
+    }
+    folder.write("cards.txt", "title x\n".repeat(25));
+    let said = folder.run(&["pack", ".", "."]);
+    assert_eq!((said.status, said.errors.lines().count()), (2, 21));
+    assert_eq!(said.errors.lines().last(), Some("and 5 faults more."));
+}
+
+#[test]
+fn pack_tells_the_faults_of_a_sheet() {
+    let folder = Folder::described("pack-sheet", "", "", "title pr true");
+    let pack = |sheet: &str| {
+        folder.write("sheet.txt", sheet);
+        folder.run(&["pack", ".", "new"])
+    };
+    let names = "A name begins with a letter or _, goes on with letters, digits, _ and -, has at most 30 bytes, and is not and, \
+                 or or not.";
+    let cases = [
+        ("word a\n", 1, "word is no kind. The kinds are string, number, date, token, reference and bundle."),
+        ("string a\n\ndate a\n", 3, "a has the same name as a at place 0. Rename one of them."),
+        ("string a\nbundle b\ntoken b.a\n", 3, "b.a has the same name as a at place 0. Rename one of them."),
+        ("bundle a\nbundle a.b\n", 2, "a.b is a bundle in a bundle. Put it at the top, under a name without a dot."),
+        ("string a\nstring a.b\n", 2, "a.b is a member of a, which is no bundle."),
+        ("string a.b\n", 1, "a.b is a member of a, which is not on the sheet."),
+        ("string\n", 1, "there is no text behind string. An empty text is written \"\"."),
+    ];
+    for (sheet, line, fault) in cases {
+        pack(sheet).fails(2, &format!("./sheet.txt:{line}: {fault}\n"));
+    }
+    for name in ["and", "4", "-a", "\u{E4}"] {
+        let message = format!("./sheet.txt:1: {name} is not allowed as a name. {names}\n");
+        pack(&format!("string {name}\n")).fails(2, &message);
+    }
+    let many = |count: usize| (0..count).map(|number| format!("date p{number}\n")).collect::<String>();
+    assert_eq!(pack(&many(32)).status, 0);
+    pack(&many(33)).fails(2, "./sheet.txt:33: a sheet has room for 32 parameters, and this is one more.\n");
+    let long: String = (0..20).map(|number| format!("date {}{number:02}\n", "p".repeat(28))).collect();
+    pack(&long).fails(2, "./sheet.txt:20: the names take 640 bytes with their heads, and a sheet has room for 506.\n");
+}
+
+/// Signs of other systems are dropped and told; other encodings are named.
+#[test]
+fn pack_reads_what_other_systems_write() {
+    let mark = "\u{FEFF}";
+    let sheet = format!("{mark}string title\r\n");
+    let folder = Folder::described("pack-signs", &sheet, "record:\t1\r\ntitle\t x y \t\r\n", "title pr true\r\n");
+    folder.run(&["pack", ".", "new"]).says(
+        0,
+        "1 card and a sheet with 1 parameter, in new\n",
+        "note: ./filter.txt: its line ends with CR LF; the CR is left out.\n\
+         note: ./sheet.txt: its byte order mark is left out.\n\
+         note: ./sheet.txt: its lines end with CR LF; the CR is left out.\n\
+         note: ./cards.txt: its lines end with CR LF; the CR is left out.\n",
+    );
+    assert_eq!(folder.read("new/filter.txt"), b"title pr true\n");
+    assert!(folder.read("new/cards.bin").starts_with(b"\x43\x01\0\0\0\x01\0\x03x y\0"));
+    folder.write("sheet.txt", "string title\n").write("filter.txt", "title pr true\n");
+    folder.write("cards.txt", b"record: 1\ntitle Str\xF6m\n");
+    folder.run(&["pack", ".", "new"]).fails(
+        2,
+        "./cards.txt:2: this line is not UTF-8: it has the byte 0xF6, perhaps of Latin-1. Save the file as UTF-8, or write the \
+         text in double quotes with \\xF6.\n",
+    );
+    folder.write("cards.txt", b"\xFF\xFEr\0e\0");
+    folder.run(&["pack", ".", "new"]).fails(2, "./cards.txt:1: this file is UTF-16. Save it as UTF-8.\n");
+    // Only a line feed ends a line, and only spaces and tabs separate.
+    folder.write("cards.txt", "record: 1\ntitle a\u{2028}b\u{A0}c\u{B}d\n");
+    assert_eq!(folder.run(&["pack", ".", "new"]).status, 0);
+    let shown = folder.run(&["show", "new/cards.bin"]);
+    assert!(shown.output.ends_with("  title  string  \"a\\xE2\\x80\\xA8b\\xC2\\xA0c\\x0Bd\"\n"), "{}", shown.output);
+}
+
+// ---- show
+
+#[test]
+fn show_marks_what_is_wrong() {
+    let sheet = "number pages\nbundle related\ntoken related.type\n";
+    let folder = Folder::packed("show", sheet, "record: 5\npages 12\nrelated#3.type x\nrecord: 6\n", "pages pr true");
+    folder.change("cards.bin", |cards| {
+        let pages = cards.windows(2).position(|bytes| bytes == b"12").unwrap();
+        cards[pages] = b'x';
+        sum(cards, 0);
+        cards[600] = 1;
+        cards.extend([0; 600]);
+    });
+    let first = "card 0, record 5, 2 entries\n\
+                 \x20 name            kind    text\n\
+                 \x20 pages           number  x2\n\
+                 \x20 related#3.type  token   x\n\
+                 \x20 ! pages: x2 cannot be read as a number: 1 to 8 digits, then perhaps a point and 1 to 9 digits.\n";
+    let second = "card 1, record 6, 0 entries\n\
+                  \x20 name  kind  text\n\
+                  \x20 ! The card's check sum is wrong. It was changed or damaged since it was written: pack it again from its \
+                  description.\n";
+    let rest = "block 2 is neither a sheet nor a card\nblock 3 has only 88 bytes\n";
+    folder.run(&["show", "cards.bin"]).says(0, &format!("{first}{second}{rest}"), "");
+    folder.run(&["show", "--record", "6", "cards.bin"]).says(0, second, "");
+    folder.run(&["show", "--record", "7", "cards.bin"]).fails(2, "no card has the record number 7.\n");
+    folder.run(&["show", "--json", "--record", "5", "cards.bin"]).says(
+        0,
+        "{\"card\":0,\"record\":5,\"entries\":[{\"name\":\"pages\",\"kind\":\"number\",\"text\":\"x2\"},\
+         {\"name\":\"related#3.type\",\"kind\":\"token\",\"text\":\"x\"}],\"faults\":[\"pages: x2 cannot be read as a number: \
+         1 to 8 digits, then perhaps a point and 1 to 9 digits.\"]}\n",
+        "",
+    );
+    folder.change("sheet.bin", |sheet| {
+        sheet[2] = 9;
+        sum(sheet, 0);
+    });
+    folder.run(&["show", "sheet.bin"]).says(
+        0,
+        "sheet with 3 parameters\n\
+         \x20 place  kind     name\n\
+         \x20 0      kind 9?  pages\n\
+         \x20 1      bundle   related\n\
+         \x20 2      token    related.type\n\
+         \x20 ! refused 3 at 0: The sheet breaks its layout, or the rules for its names or its bundles.\n\
+         \x20 ! pages has kind 9, which no kind has.\n",
+        "",
+    );
+}
+
+/// Without a sheet, and of any bytes, something is shown.
+#[test]
+fn show_takes_any_bytes() {
+    let folder = Folder::new("show-bytes");
+    for first in [0x50, 0x51, 0x43, 0x44, 0] {
+        for seed in 0..40_u32 {
+            let byte = |at: u32| (at.wrapping_mul(2_654_435_761).wrapping_add(seed * 40_503) >> 13) as u8;
+            let noise: Vec<u8> = [first].into_iter().chain((1..512 + seed).map(byte)).collect();
+            folder.write("noise.bin", noise);
+            let said = folder.run(&["show", "noise.bin"]);
+            assert_eq!((said.status, said.errors.as_str()), (0, ""));
+            assert!(!said.output.is_empty());
+        }
+    }
+}
+
+// ---- verify
+
+#[test]
+fn verify_goes_through_all_cards() {
+    let sheet = "number pages\nstring title\n";
+    let cards: String = (0..3000).map(|record| format!("record: {record}\npages 12\n")).collect();
+    let folder = Folder::described("verify", sheet, &cards, "pages eq 12\n");
+    let found =
+        |what| format!("the {what}: 3,000 cards, a sheet with 2 parameters, a filter with 1 test: all go together\n");
+    folder.run(&["verify", "."]).says(0, &found("description"), "");
+    folder.run(&["pack", ".", "packed"]);
+    folder.run(&["verify", "packed"]).says(0, &found("blocks"), "");
+    folder.run(&["pack", ".", "."]);
+    folder.run(&["verify", "."]).says(0, &(found("description") + &found("blocks")), "");
+    folder.change("packed/cards.bin", |cards| {
+        for card in [2, 3, 2500] {
+            cards[card * 512 + 8] = b'x';
+            sum(cards, card * 512);
+        }
+        cards[200 * 512 + 6] = 1;
+        cards[300 * 512 + 6] = 2;
+        sum(cards, 300 * 512);
+        cards.push(0);
+    });
+    let number = "x2 cannot be read as a number: 1 to 8 digits, then perhaps a point and 1 to 9 digits.";
+    folder.run(&["verify", "packed"]).fails(
+        2,
+        &format!(
+            "packed/cards.bin: card 2, record 2: pages: {number}\n\
+             packed/cards.bin: card 3, record 3: pages: {number}\n\
+             packed/cards.bin: card 200, record 200: The card's check sum is wrong. It was changed or damaged since it was \
+             written: pack it again from its description.\n\
+             packed/cards.bin: card 300, record 300: place 2?: the sheet has no parameter at this place, but 2.\n\
+             packed/cards.bin: card 2500, record 2500: pages: {number}\n\
+             packed/cards.bin: behind its last whole card it has 1 byte. A card has 512.\n"
+        ),
+    );
+    folder.write("filter.txt", "pages gt x\n");
+    folder.run(&["verify", "."]).fails(
+        2,
+        "pages gt x\n\
+         ^^^^^^^^^^\n\
+         ./filter.txt: refused 17 at 0: The value cannot be read as the parameter's kind, or for pr as true or false.\n\
+         \x20 pages is a number, and x cannot be read as one: 1 to 8 digits, then perhaps a point and 1 to 9 digits.\n",
+    );
+}
+
+// ---- files that cannot be read, outputs that cannot be written
+
+#[test]
+fn files_that_are_missing() {
+    let folder = Folder::ward("missing");
+    let commands: [&[&str]; 6] = [
+        &["pick", "none", "filter.txt", "cards.bin"],
+        &["pick", "sheet.bin", "filter.txt", "none"],
+        &["check", "sheet.bin", "none"],
+        &["fields", "sheet.bin", "none"],
+        &["show", "none"],
+        &["fields", "none", "cards.bin"],
+    ];
+    for command in commands {
+        folder.run(command).fails(3, "sirophan: none cannot be opened: No such file or directory\n");
+    }
+    folder
+        .run(&["pack", "none", "new"])
+        .fails(3, "sirophan: none/filter.txt cannot be opened: No such file or directory\n");
+    folder.run(&["verify", "none"]).fails(3, "sirophan: none/sheet.bin cannot be opened: No such file or directory\n");
+    folder.run(&["check", "sheet.bin", "title eq x"]).fails(
+        3,
+        "sirophan: title eq x cannot be opened: No such file or directory\n\
+         \x20 FILTER is a file. A filter itself can be given on standard input, with - as FILTER.\n",
+    );
+    folder.run(&["pick", "sheet.bin", "filter.txt", "."]).fails(3, "sirophan: . cannot be read: Is a directory\n");
+    assert_eq!(folder.files(), ["cards.bin", "filter.txt", "sheet.bin"]);
+}
+
+#[test]
+fn folders_that_cannot_be_written() {
+    let folder = Folder::ward("unwritable");
+    let ward = format!("{REPOSITORY}/examples/ward");
+    folder.run(&["pack", &ward, "sheet.bin"]).fails(3, "sirophan: sheet.bin cannot be made: File exists\n");
+    fs::create_dir_all(folder.path.join("out/cards.bin")).unwrap();
+    folder.run(&["pack", &ward, "out"]).fails(3, "sirophan: out/cards.bin cannot be replaced: Is a directory\n");
+    assert!(!folder.path.join("out/cards.bin.new").exists());
+}
+
+#[test]
+fn outputs_that_are_full() {
+    let folder = Folder::ward("full");
+    let commands: [&[&str]; 8] = [
+        &["pick", "sheet.bin", "filter.txt", "cards.bin"],
+        &["pick", "--stream", "sheet.bin", "filter.txt", "cards.bin"],
+        &["check", "sheet.bin", "filter.txt"],
+        &["fields", "sheet.bin", "cards.bin"],
+        &["show", "cards.bin"],
+        &["verify", "."],
+        &["pack", "--help"],
+        &["--version"],
+    ];
+    for command in commands {
+        let full = fs::OpenOptions::new().write(true).open("/dev/full").unwrap();
+        let output = Command::new(PROGRAM).args(command).current_dir(&folder.path).stdout(full).output().unwrap();
+        let errors = String::from_utf8(output.stderr).unwrap();
+        assert_eq!(errors, "sirophan: standard output cannot be written: No space left on device\n", "{command:?}");
+        assert_eq!(output.status.code(), Some(3), "{command:?}");
+    }
+}
+
+/// Where the reader of standard output has gone the command ends, and says nothing.
+#[test]
+fn pipes_that_are_closed() {
+    let cards: String = (0..3000).map(|record| format!("record: {record}\n")).collect();
+    let folder = Folder::packed("closed", "string title\n", &cards, "title pr false\n");
+    let commands: [&[&str]; 3] = [
+        &["pick", "sheet.bin", "filter.txt", "cards.bin"],
+        &["pick", "--stream", "sheet.bin", "filter.txt", "cards.bin"],
+        &["show", "cards.bin"],
+    ];
+    for command in commands {
+        let (reader, writer) = std::io::pipe().unwrap();
+        drop(reader);
+        let output = Command::new(PROGRAM).args(command).current_dir(&folder.path).stdout(writer).output().unwrap();
+        assert_eq!(String::from_utf8(output.stderr).unwrap(), "", "{command:?}");
+        assert_eq!(output.status.code(), Some(3), "{command:?}");
+    }
+}
