@@ -3,6 +3,7 @@
 
 use crate::advice;
 use crate::block::{self, CARD_HEAD, Item, LONGEST_TEXT, MOST_ENTRIES, MOST_PARAMETERS, SHEET_HEAD, SUMMED};
+use crate::cards::{Fit, RUN};
 use crate::input::Input;
 use crate::kind;
 use crate::report::{Failure, Level, Message};
@@ -13,18 +14,18 @@ use std::io::{BufRead, BufReader};
 /// The most faults that are told one by one.
 const MOST_TOLD: usize = 20;
 
-/// Faults that were found, each with its file and line.
+/// Faults that were found, each with the line or the card by which they are put in order.
 #[derive(Default)]
 pub struct Faults {
-    told: Vec<Message>,
-    more: usize,
+    told: Vec<(u64, Message)>,
+    more: u64,
 }
 
 impl Faults {
     /// Adds a fault.
-    pub fn add(&mut self, fault: String) {
+    pub fn add(&mut self, place: u64, fault: String) {
         if self.told.len() < MOST_TOLD {
-            self.told.push(Message::error(fault));
+            self.told.push((place, Message::error(fault)));
         } else {
             self.more += 1;
         }
@@ -35,10 +36,9 @@ impl Faults {
         if self.told.is_empty() {
             return Ok(());
         }
-        if self.more > 0 {
-            self.told.push(Message::error(format!("and {} more.", text::counted(self.more as u64, "fault"))));
-        }
-        Err(Failure::Refused(self.told))
+        self.told.sort_by_key(|(place, _)| *place);
+        let more = (self.more > 0).then(|| Message::error(format!("and {} more.", text::counted(self.more, "fault"))));
+        Err(Failure::Refused(self.told.into_iter().map(|(_, message)| message).chain(more).collect()))
     }
 }
 
@@ -77,7 +77,7 @@ impl Description {
 
     /// A fault at a line.
     fn fault(&mut self, line: usize, fault: &str) {
-        self.faults.add(format!("{}:{line}: {fault}", self.name));
+        self.faults.add(line as u64, format!("{}:{line}: {fault}", self.name));
     }
 
     /// The next line that has a head and a text. Lines that have not are faults, and are passed over.
@@ -229,6 +229,7 @@ fn sound_sheet(description: &mut Description, numbers: &[usize], parameters: Vec
 /// An entry of a card, with its line.
 struct Entry {
     line: usize,
+    head: String,
     place: u8,
     occurrence: u8,
     text: Vec<u8>,
@@ -237,7 +238,7 @@ struct Entry {
 /// The cards of cards.txt, as they are read.
 pub struct Cards<'a> {
     pub description: Description,
-    sheet: &'a Sheet,
+    fit: Fit<'a>,
     paths: Vec<String>,
     /// The line of the next card's record number, and the number.
     next: Option<(usize, u32)>,
@@ -248,7 +249,7 @@ impl<'a> Cards<'a> {
     /// The cards of a description, by a sheet's names.
     pub fn new(description: Description, sheet: &'a Sheet) -> Cards<'a> {
         let paths = (0..sheet.parameters.len()).map(|place| sheet.path(place, 0)).collect();
-        Cards { description, sheet, paths, next: None, count: 0 }
+        Cards { description, fit: Fit::new(sheet), paths, next: None, count: 0 }
     }
 
     /// The next card. Where it has faults, they are kept, and the card is empty.
@@ -288,20 +289,20 @@ impl<'a> Cards<'a> {
         })
     }
 
-    /// An entry, if its head is on the sheet and its text can be read.
+    /// An entry, if its head is on the sheet and its text has room.
     fn entry(&mut self, record: u32, line: Line) -> Option<Entry> {
-        let found = self.place(&line.head).and_then(|(place, occurrence)| {
-            let too_long = (line.text.len() > LONGEST_TEXT).then(|| {
-                format!("the text has {} bytes, and an entry has room for {LONGEST_TEXT}. Shorten it.", line.text.len())
-            });
-            match too_long.or_else(|| advice::entry_fault(self.sheet, place, &line.text)) {
-                None => Ok(Entry { line: line.number, place: place as u8, occurrence, text: line.text }),
-                Some(fault) => Err(fault),
-            }
+        let Line { number, head, text } = line;
+        let found = self.place(&head).and_then(|found| match text.len() {
+            0..=LONGEST_TEXT => Ok(found),
+            size => Err(format!("the text has {size} bytes, and an entry has room for {LONGEST_TEXT}. Shorten it.")),
         });
-        found
-            .map_err(|fault| self.description.fault(line.number, &format!("record {record}, {}: {fault}", line.head)))
-            .ok()
+        match found {
+            Ok((place, occurrence)) => Some(Entry { line: number, head, place: place as u8, occurrence, text }),
+            Err(fault) => {
+                self.description.fault(number, &format!("record {record}, {head}: {fault}"));
+                None
+            }
+        }
     }
 
     /// The place and the occurrence that a head names: `title`, `related.type` or `related#1.type`.
@@ -314,7 +315,7 @@ impl<'a> Cards<'a> {
             }
         };
         let place = self.paths.iter().position(|other| *other == path).ok_or_else(|| self.unknown(&path))?;
-        if head.contains('#') && self.sheet.parameters[place].bundle == 0 {
+        if head.contains('#') && self.fit.sheet.parameters[place].bundle == 0 {
             return Err(format!("{path} is no member of a bundle, and takes no number. Leave out #{number}."));
         }
         let is_number = !number.is_empty() && number.bytes().all(|byte| byte.is_ascii_digit());
@@ -328,7 +329,7 @@ impl<'a> Cards<'a> {
 
     /// What to say of a name that is not on the sheet.
     fn unknown(&self, path: &str) -> String {
-        let fields = self.sheet.paths();
+        let fields = self.fit.sheet.paths();
         let near = text::nearest(path, &fields);
         match (&near[..], &fields[..]) {
             ([], []) => "it is not on the sheet, which has no fields.".into(),
@@ -337,16 +338,24 @@ impl<'a> Cards<'a> {
         }
     }
 
-    /// The card of these entries, or its faults.
+    /// The card of these entries; its faults are kept. The library is asked of each text only where the card does not fit.
     fn card(&mut self, (line, record): (usize, u32), entries: &[Entry]) -> Vec<u8> {
         self.count += 1;
         let items = entries.iter().map(|entry| Item { byte: entry.place, mark: entry.occurrence, text: &entry.text });
         let items: Vec<Item> = items.collect();
-        block::write_card(record, &items).unwrap_or_else(|| {
+        let card = block::write_card(record, &items).unwrap_or_else(|| {
             let (line, fault) = overfull(line, entries, &items);
             self.description.fault(line, &format!("record {record}: {fault}"));
             Vec::new()
-        })
+        });
+        if card.is_empty() || self.fit.select(&card, &mut [0; RUN]).is_err() {
+            for Entry { line, head, place, text, .. } in entries {
+                if let Some(fault) = advice::entry_fault(self.fit.sheet, usize::from(*place), text) {
+                    self.description.fault(*line, &format!("record {record}, {head}: {fault}"));
+                }
+            }
+        }
+        card
     }
 }
 

@@ -90,8 +90,8 @@ fn verify_cards(sheet: &Sheet, name: &str, cards: Input) -> Result<u64, Failure>
         cards,
         |_: &mut (), first, piece| (faults_of_piece(&fit, first, piece), piece.len() / SIZE),
         |(found, cards)| {
+            found.into_iter().for_each(|fault| faults.add(count, format!("{name}: {fault}")));
             count += cards as u64;
-            found.into_iter().for_each(|fault| faults.add(format!("{name}: {fault}")));
             Ok(true)
         },
     )?;
