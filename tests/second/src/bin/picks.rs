@@ -2,6 +2,8 @@
 //!
 //! `picks PROGRAM [SEED [ARCHIVES]]` writes the three files into a directory of its own, runs the program there and
 //! compares what it prints, byte by byte. The last line counts the archives that agree, and those that do not.
+//! `picks --command PROGRAM ..` runs `PROGRAM pick --stream` on the three files instead, which tells a refusal on standard
+//! error and by its status.
 
 use second::generate::{self, Files};
 use second::pick;
@@ -14,14 +16,19 @@ const SEED: u64 = 1974;
 const ARCHIVES: u64 = 300;
 
 fn main() -> ExitCode {
-    let arguments: Vec<String> = env::args().skip(1).collect();
+    let mut arguments: Vec<String> = env::args().skip(1).collect();
+    let is_command = arguments.first().is_some_and(|first| first == "--command");
+    if is_command {
+        arguments.remove(0);
+    }
     let number = |index: usize, otherwise| arguments.get(index).map_or(Ok(otherwise), |text| text.parse());
     let (Some(program), Ok(seed), Ok(archives)) = (arguments.first(), number(1, SEED), number(2, ARCHIVES)) else {
-        eprintln!("usage: picks PROGRAM [SEED [ARCHIVES]]");
+        eprintln!("usage: picks [--command] PROGRAM [SEED [ARCHIVES]]");
         return ExitCode::FAILURE;
     };
     let directory = env::temp_dir().join(format!("sirophan-picks-{}", process::id()));
-    let outcome = compare(program, &directory, seed, archives);
+    let run = if is_command { run_command } else { run_pick };
+    let outcome = compare(program, run, &directory, seed, archives);
     // A directory that stays behind does no harm to the outcome.
     let _ = fs::remove_dir_all(&directory);
     match outcome {
@@ -34,8 +41,33 @@ fn main() -> ExitCode {
     }
 }
 
+/// How a program is run in a directory; the answer is what `pick` would print.
+type Run = fn(&Path, &Path) -> io::Result<Vec<u8>>;
+
+/// What `pick` prints.
+fn run_pick(program: &Path, directory: &Path) -> io::Result<Vec<u8>> {
+    Ok(Command::new(program).current_dir(directory).output()?.stdout)
+}
+
+/// What the command `sirophan pick` says, a refusal as `pick` prints it; or its status, where that does not go with it.
+fn run_command(program: &Path, directory: &Path) -> io::Result<Vec<u8>> {
+    let files = ["sheet.bin", "filter.txt", "cards.bin"];
+    let output = Command::new(program).args(["pick", "--stream"]).args(files).current_dir(directory).output()?;
+    let errors = String::from_utf8_lossy(&output.stderr);
+    let refusals = errors.lines().filter_map(|line| {
+        let (file, told) = line.split_once(": refused ")?;
+        files.contains(&file).then(|| format!("refused {}\n", told.split(':').next().unwrap_or_default()))
+    });
+    let refusals: Vec<String> = refusals.collect();
+    match (output.status.code(), &refusals[..]) {
+        (Some(0), []) => Ok(output.stdout),
+        (Some(2), [refusal]) => Ok([&output.stdout, refusal.as_bytes()].concat()),
+        (status, refusals) => Ok(format!("status {status:?}, {} refusals\n", refusals.len()).into_bytes()),
+    }
+}
+
 /// Prints the counts and answers how many archives do not agree.
-fn compare(program: &str, directory: &Path, seed: u64, archives: u64) -> io::Result<u64> {
+fn compare(program: &str, run: Run, directory: &Path, seed: u64, archives: u64) -> io::Result<u64> {
     let program = fs::canonicalize(program)?;
     fs::create_dir(directory)?;
     let mut endings: BTreeMap<String, u64> = BTreeMap::new();
@@ -45,7 +77,7 @@ fn compare(program: &str, directory: &Path, seed: u64, archives: u64) -> io::Res
         fs::write(directory.join("sheet.bin"), &sheet)?;
         fs::write(directory.join("filter.txt"), &filter)?;
         fs::write(directory.join("cards.bin"), &cards)?;
-        let printed = Command::new(&program).current_dir(directory).output()?.stdout;
+        let printed = run(&program, directory)?;
         let expected = pick::output(&sheet, &filter, &cards);
         *endings.entry(ending(&expected)).or_default() += 1;
         if printed != expected.as_bytes() {
