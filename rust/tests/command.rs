@@ -307,31 +307,29 @@ fn pick_says_what_may_be_meant_otherwise() {
     folder.run(&["pick", "sheet.bin", "filter.txt", "cards.bin"]).says(
         0,
         "0 of 2\n",
-        "warning: birthdate is a token, and 3 of 3 values look like dates. If it holds dates, the sheet gives it the wrong kind, \
-         and a filter asks something else than it seems to.\n",
+        "warning: birthdate is a token, and 3 of 3 values look like dates.\n\
+         \x20 If it holds dates, the sheet gives it the wrong kind, and a filter asks something else than it seems to.\n",
     );
-    folder.pick("title co 'Ward'").says(
-        0,
-        "0 of 2\n",
-        "warning: the value 'Ward' of title asks for its quotes too. Write \"Ward\" to ask without them.\n\
-         warning: title: 1 of 2 values seem to be in another encoding, first on record 2: not UTF-8, perhaps Latin-1. Letters \
-         beyond ASCII are compared byte by byte, and a filter in UTF-8 does not find them.\n",
-    );
-    folder.pick("subject eq loinc|1 or title pr false and title pr true").says(
-        0,
-        "0 of 2\n",
-        "warning: `and` and `or` are read from left to right, with equal rank. The filter asks:\n\
-         \x20 (subject eq loinc|1 or title pr false) and title pr true\n\
-         warning: title: 1 of 2 values seem to be in another encoding, first on record 2: not UTF-8, perhaps Latin-1. Letters \
-         beyond ASCII are compared byte by byte, and a filter in UTF-8 does not find them.\n\
-         warning: subject is a string, and 1 of 1 value looks like a token. If it holds tokens, the sheet gives it the wrong \
-         kind, and a filter asks something else than it seems to.\n",
-    );
-    let said = folder.run_with(&["pick", "sheet.bin", "-", "cards.bin"], b"title eq \"WARD\" or title eq \"\xD6\"");
-    assert!(said.errors.starts_with(
-        "warning: the filter seems to be in another encoding: not UTF-8, perhaps Latin-1. It finds nothing with such letters \
-         on cards in UTF-8.\n"
-    ));
+    let encoding = "warning: title: 1 of 2 values seems to be in another encoding, first on record 2: not UTF-8, perhaps Latin-1.\n\
+                    \x20 Letters beyond ASCII are compared byte by byte, and a filter in UTF-8 does not find them.\n";
+    let quotes = "warning: the value 'Ward' of title asks for its quotes too.\n  Write \"Ward\" to ask without them.\n";
+    folder.pick("title co 'Ward'").says(0, "0 of 2\n", &format!("{quotes}{encoding}"));
+    let joins = "warning: `and` and `or` are read from left to right, with equal rank. The filter asks:\n\
+                 \x20 (subject eq loinc|1 or title pr false) and title pr true\n";
+    let kind = "warning: subject is a string, and 1 of 1 value looks like a token.\n\
+                \x20 If it holds tokens, the sheet gives it the wrong kind, and a filter asks something else than it seems to.\n";
+    let filter = "subject eq loinc|1 or title pr false and title pr true";
+    folder.pick(filter).says(0, "0 of 2\n", &format!("{joins}{encoding}{kind}"));
+    let latin = "warning: the filter seems to be in another encoding: not UTF-8, perhaps Latin-1.\n\
+                 \x20 Letters beyond ASCII are compared byte by byte: on cards in UTF-8 it does not find them.\n";
+    let said = folder.run_with(&["pick", "sheet.bin", "-", "cards.bin"], b"title eq \"\xD6\"");
+    said.says(0, "0 of 2\n", &format!("{latin}{encoding}"));
+    let json =
+        folder.run_with(&["pick", "--json", "sheet.bin", "-", "cards.bin"], b"title co 'Ward' and subject pr true");
+    let warning = "{\"level\":\"warning\",\"message\":\"the value 'Ward' of title asks for its quotes too.\",\
+                   \"help\":[\"Write \\\"Ward\\\" to ask without them.\"]}";
+    assert_eq!(json.output, "{\"records\":[],\"matching\":0,\"cards\":2}\n");
+    assert_eq!(json.errors.lines().next(), Some(warning));
 }
 
 // ---- check
@@ -356,7 +354,7 @@ fn check_answers_with_the_tests() {
     folder.run(&["check", "sheet.bin", "filter.txt"]).says(
         0,
         "1 test\n  discharge-date  token  eq  1974\n",
-        "warning: discharge-date is a token, and its name speaks of a date. `sirophan fields` shows what it holds.\n",
+        "warning: discharge-date is a token, and its name speaks of a date.\n  `sirophan fields` shows what it holds.\n",
     );
 }
 
@@ -484,8 +482,8 @@ fn fields_show_what_the_cards_hold() {
          \x20 birthdate     token   2      3       1974-06\n\
          \x20 related       bundle  0      0\n\
          \x20 related.type  token   1      1       x\n\
-         warning: birthdate is a token, and 3 of 3 values look like dates. If it holds dates, the sheet gives it the wrong kind, \
-         and a filter asks something else than it seems to.\n",
+         warning: birthdate is a token, and 3 of 3 values look like dates.\n\
+         \x20 If it holds dates, the sheet gives it the wrong kind, and a filter asks something else than it seems to.\n",
         "",
     );
     folder.change("cards.bin", |cards| cards.truncate(600));
@@ -675,6 +673,12 @@ fn pack_reads_what_other_systems_write() {
         2,
         "./cards.txt:2: this line is not UTF-8: it has the byte 0xF6, perhaps of Latin-1. Save the file as UTF-8, or write the \
          text in double quotes with \\xF6.\n",
+    );
+    folder.write("cards.txt", b"r\0e\0c\0o\0r\0d\0\n\0");
+    folder.run(&["pack", ".", "new"]).fails(
+        2,
+        "./cards.txt:1: this line has zero bytes, as UTF-16 has. Save the file as UTF-8.\n\
+         ./cards.txt:2: this line has zero bytes, as UTF-16 has. Save the file as UTF-8.\n",
     );
     folder.write("cards.txt", b"\xFF\xFEr\0e\0");
     folder.run(&["pack", ".", "new"]).fails(2, "./cards.txt:1: this file is UTF-16. Save it as UTF-8.\n");

@@ -3,12 +3,13 @@
 use crate::advice::Question;
 use crate::arguments::Arguments;
 use crate::doubt;
-use crate::filter::Filter;
+use crate::filter::{Filter, Test};
 use crate::json;
 use crate::kind;
 use crate::report::{Failure, Output};
 use crate::table;
-use crate::text;
+use crate::text::{counted, printable};
+use std::ops::Range;
 
 /// Checks, and answers with the number of tests and a row for each.
 pub fn run(arguments: &Arguments) -> Result<(), Failure> {
@@ -25,7 +26,7 @@ pub fn run(arguments: &Arguments) -> Result<(), Failure> {
         let tests: Vec<String> = rows.iter().map(test_json).collect();
         output.line(json::object(&[("count", count.to_string()), ("tests", json::array(&tests))]))?;
     } else {
-        output.line(text::counted(count as u64, "test"))?;
+        output.line(counted(count as u64, "test"))?;
         table::lines(&rows).iter().try_for_each(|line| output.line(line))?;
     }
     output.flush()
@@ -33,10 +34,9 @@ pub fn run(arguments: &Arguments) -> Result<(), Failure> {
 
 /// For each test the parameter's path and kind, the operator and the value.
 fn rows(question: &Question, filter: &Filter) -> Vec<[String; 4]> {
-    let row = |test: &crate::filter::Test| {
+    let row = |test: &Test| {
         let place = test.place(&question.sheet, &question.filter)?;
-        let part =
-            |range: &std::ops::Range<usize>| String::from_utf8_lossy(&question.filter[range.clone()]).into_owned();
+        let part = |range: &Range<usize>| printable(&question.filter[range.clone()]);
         let word = kind::word_of(question.sheet.parameters[place].kind);
         Some([question.sheet.path(place, 0), word, part(&test.operator), part(&test.value)])
     };

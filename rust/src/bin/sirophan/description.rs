@@ -8,7 +8,7 @@ use crate::input::Input;
 use crate::kind;
 use crate::report::{Failure, Level, Message};
 use crate::sheet::{self, Parameter, Sheet};
-use crate::text::{self, row, spell};
+use crate::text::{self, printable, row, spell};
 use std::io::{BufRead, BufReader};
 
 /// The most faults that are told one by one.
@@ -138,6 +138,9 @@ fn split(line: &[u8]) -> Result<Option<(String, Vec<u8>)>, String> {
     if line.is_empty() || line[0] == b'#' {
         return Ok(None);
     }
+    if line.contains(&0) {
+        return Err("this line has zero bytes, as UTF-16 has. Save the file as UTF-8.".into());
+    }
     if let Err(at) = str::from_utf8(line) {
         let byte = line[at.valid_up_to()];
         return Err(format!(
@@ -146,7 +149,7 @@ fn split(line: &[u8]) -> Result<Option<(String, Vec<u8>)>, String> {
         ));
     }
     let head_end = line.iter().position(is_blank).unwrap_or(line.len());
-    let head = String::from_utf8_lossy(&line[..head_end]).into_owned();
+    let head = printable(&line[..head_end]);
     let Some(text_at) = line[head_end..].iter().position(|byte| !is_blank(byte)) else {
         return Err(format!("there is no text behind {head}. An empty text is written \"\"."));
     };
@@ -156,7 +159,7 @@ fn split(line: &[u8]) -> Result<Option<(String, Vec<u8>)>, String> {
         None => Err(format!(
             "the text {} cannot be read. A text that begins with a double quote ends with one; inside stand \\\" \\\\ and \
              \\xHH for these signs.",
-            String::from_utf8_lossy(written)
+            printable(written)
         )),
     }
 }

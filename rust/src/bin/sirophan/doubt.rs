@@ -2,9 +2,9 @@
 
 use crate::filter::{Filter, Test};
 use crate::kind;
-use crate::report::{Level, Message};
+use crate::report::Message;
 use crate::sheet::Sheet;
-use crate::text::{self, spell};
+use crate::text::{self, printable, spell};
 
 /// Quotes that a value may carry at both ends by mistake.
 const QUOTES: [(&str, &str); 5] =
@@ -13,33 +13,34 @@ const QUOTES: [(&str, &str); 5] =
 /// The doubts that the filter alone gives, each as a warning.
 pub fn of_filter(text: &[u8], filter: &Filter) -> Vec<Message> {
     let joins = filter.bracketed.as_deref().map(|read| {
-        let read = String::from_utf8_lossy(read).into_owned();
-        let text = "`and` and `or` are read from left to right, with equal rank. The filter asks:";
-        Message { help: vec![read], ..Message::new(Level::Warning, text) }
+        Message::warning(
+            "`and` and `or` are read from left to right, with equal rank. The filter asks:",
+            printable(read),
+        )
     });
     let quotes = filter.tests.iter().filter_map(|test| quoted_twice(text, test));
     let encoding = text::other_encoding(text).map(|why| {
-        format!(
-            "the filter seems to be in another encoding: {why}. It finds nothing with such letters on cards in UTF-8."
+        Message::warning(
+            format!("the filter seems to be in another encoding: {why}."),
+            "Letters beyond ASCII are compared byte by byte: on cards in UTF-8 it does not find them.",
         )
     });
-    let others = quotes.chain(encoding).map(|doubt| Message::new(Level::Warning, doubt));
-    joins.into_iter().chain(others).collect()
+    joins.into_iter().chain(quotes).chain(encoding).collect()
 }
 
 /// A value that asks for quotes.
-fn quoted_twice(text: &[u8], test: &Test) -> Option<String> {
+fn quoted_twice(text: &[u8], test: &Test) -> Option<Message> {
     let value = test.decoded(text);
     let shown = String::from_utf8_lossy(&value);
     let inside = QUOTES.iter().find_map(|(open, close)| shown.strip_prefix(open)?.strip_suffix(close));
     let bare_word = !text[test.value.clone()].starts_with(b"\"");
-    let advice = match inside {
-        Some(inside) => format!("Write \"{inside}\" to ask without them"),
-        None if bare_word && value.contains(&b'"') => "A text in double quotes begins and ends with one".into(),
+    let help = match inside {
+        Some(inside) => format!("Write \"{}\" to ask without them.", printable(inside.as_bytes())),
+        None if bare_word && value.contains(&b'"') => "A text in double quotes begins and ends with one.".into(),
         None => return None,
     };
-    let name = String::from_utf8_lossy(&text[test.name.clone()]);
-    Some(format!("the value {} of {name} asks for its quotes too. {advice}.", spell(&value)))
+    let name = printable(&text[test.name.clone()]);
+    Some(Message::warning(format!("the value {} of {name} asks for its quotes too.", spell(&value)), help))
 }
 
 /// Ends of names that speak of a date, and names that only end like it.
@@ -53,10 +54,11 @@ pub fn of_names(text: &[u8], filter: &Filter, sheet: &Sheet) -> Vec<Message> {
         let kind = kind::by_number(sheet.parameters[place].kind).filter(|kind| kind.word != "date")?;
         speaks_of_date(&sheet.name(place)).then(|| {
             let path = sheet.path(place, 0);
-            format!("{path} is {}, and its name speaks of a date. `sirophan fields` shows what it holds.", kind.one)
+            let text = format!("{path} is {}, and its name speaks of a date.", kind.one);
+            Message::warning(text, "`sirophan fields` shows what it holds.")
         })
     });
-    doubts.map(|doubt| Message::new(Level::Warning, doubt)).collect()
+    doubts.collect()
 }
 
 /// Whether a name ends with a word for a date.

@@ -58,7 +58,7 @@ fn show(sheet: &Sheet, fields: &[Field], total: u64) -> Result<(), Failure> {
     let rows: Vec<[String; 5]> = [head].into_iter().chain(rows).collect();
     table::lines(&rows).iter().try_for_each(|line| output.line(line))?;
     let doubts = fields.iter().enumerate().flat_map(|(place, field)| field.doubts(sheet, place));
-    doubts.into_iter().try_for_each(|doubt| output.line(format_args!("warning: {}", doubt.text)))?;
+    doubts.into_iter().try_for_each(|doubt| output.line(doubt.lines()))?;
     output.flush()
 }
 

@@ -46,8 +46,13 @@ impl Message {
         Message::new(Level::Error, text)
     }
 
+    /// A warning, with a sentence of help.
+    pub fn warning(text: impl Into<String>, help: impl Into<String>) -> Message {
+        Message { help: vec![help.into()], ..Message::new(Level::Warning, text) }
+    }
+
     /// The message as lines for people. An error needs no word before it.
-    fn lines(&self) -> String {
+    pub fn lines(&self) -> String {
         let text = match self.level {
             Level::Error => self.text.clone(),
             level => format!("{}: {}", level.word(), self.text),

@@ -3,7 +3,7 @@
 
 use crate::block::{self, SIZE};
 use crate::kind::{self, Reader};
-use crate::report::{Level, Message};
+use crate::report::Message;
 use crate::sheet::Sheet;
 use crate::text;
 
@@ -156,29 +156,32 @@ impl Field {
     /// The doubts about a field of a sheet, each as a warning.
     pub fn doubts(&self, sheet: &Sheet, place: usize) -> Vec<Message> {
         let path = sheet.path(place, 0);
-        let mut doubts = Vec::new();
-        if let (Some(like), Some(own)) = (self.looks_like(), kind::by_number(sheet.parameters[place].kind)) {
-            let values = self.values;
-            let look =
-                if values == 1 { format!("looks like {}", like.one) } else { format!("look like {}", like.many) };
-            doubts.push(format!(
-                "{path} is {}, and {} of {} {look}. If it holds {}, the sheet gives it the wrong kind, and a filter asks \
-                 something else than it seems to.",
-                own.one,
-                text::grouped(values),
-                text::counted(values, "value"),
-                like.many,
-            ));
-        }
-        if let Some((_, record, why)) = self.first_strange {
-            doubts.push(format!(
-                "{path}: {} of {} in another encoding, first on record {record}: {why}. Letters beyond ASCII are compared \
-                 byte by byte, and a filter in UTF-8 does not find them.",
-                text::grouped(self.strange),
-                if self.values == 1 { "1 value is".into() } else { text::counted(self.values, "value") + " seem to be" },
-            ));
-        }
-        doubts.into_iter().map(|doubt| Message::new(Level::Warning, doubt)).collect()
+        let kind = self.looks_like().zip(kind::by_number(sheet.parameters[place].kind));
+        let kind = kind.map(|(like, own)| self.kind_doubt(&path, like, own));
+        let encoding = self.first_strange.map(|(_, record, why)| self.encoding_doubt(&path, record, why));
+        kind.into_iter().chain(encoding).collect()
+    }
+
+    /// All values look like those of another kind.
+    fn kind_doubt(&self, path: &str, like: &kind::Kind, own: &kind::Kind) -> Message {
+        let (all, values) = (text::grouped(self.values), text::counted(self.values, "value"));
+        let look =
+            if self.values == 1 { format!("looks like {}", like.one) } else { format!("look like {}", like.many) };
+        let help = format!(
+            "If it holds {}, the sheet gives it the wrong kind, and a filter asks something else than it seems to.",
+            like.many
+        );
+        Message::warning(format!("{path} is {}, and {all} of {values} {look}.", own.one), help)
+    }
+
+    /// Some values seem to be in another encoding.
+    fn encoding_doubt(&self, path: &str, record: u32, why: &str) -> Message {
+        let (some, values) = (text::grouped(self.strange), text::counted(self.values, "value"));
+        let seem = if self.strange == 1 { "seems" } else { "seem" };
+        Message::warning(
+            format!("{path}: {some} of {values} {seem} to be in another encoding, first on record {record}: {why}."),
+            "Letters beyond ASCII are compared byte by byte, and a filter in UTF-8 does not find them.",
+        )
     }
 }
 

@@ -17,6 +17,12 @@ fn prints(c: char) -> bool {
     c == ' ' || !(c.is_control() || c.is_whitespace() || INVISIBLE.iter().any(|range| range.contains(&c)))
 }
 
+/// A text with a mark for each byte that is not UTF-8, and for each control character.
+pub fn printable(text: &[u8]) -> String {
+    let mark = |c: char| if c.is_control() { char::REPLACEMENT_CHARACTER } else { c };
+    String::from_utf8_lossy(text).chars().map(mark).collect()
+}
+
 /// A text as a description writes it: as it is, or in double quotes where it is empty, begins or ends with a space,
 /// begins with a double quote, or has a byte that does not print.
 pub fn spell(text: &[u8]) -> String {
