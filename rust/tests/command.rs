@@ -247,7 +247,7 @@ fn pick_names_the_card_at_fault() {
         "cards.bin: refused 21 at 1: The card's check sum is wrong.\n\
          \x20 card 1, record 19: The card's check sum is wrong. It was changed or damaged since it was written: pack it again \
          from its description.\n\
-         \x20 No list is given. `sirophan show --record 19 cards.bin` shows the card.\n",
+         \x20 There is no answer until it is put right. `sirophan show --record 19 cards.bin` shows it.\n",
     );
     folder.change("cards.bin", |cards| {
         cards[512 + 5] = 65;
@@ -257,7 +257,7 @@ fn pick_names_the_card_at_fault() {
         2,
         "cards.bin: refused 22 at 1: The card breaks its layout.\n\
          \x20 card 1, record 19: The card breaks its layout. It has more entries than are allowed.\n\
-         \x20 No list is given. `sirophan show --record 19 cards.bin` shows the card.\n",
+         \x20 There is no answer until it is put right. `sirophan show --record 19 cards.bin` shows it.\n",
     );
     let folder = Folder::ward("pick-misfit");
     folder.change("cards.bin", |cards| {
@@ -269,7 +269,7 @@ fn pick_names_the_card_at_fault() {
         2,
         "cards.bin: refused 23 at 0: The card does not fit the sheet: a text is under a bundle or no parameter, or cannot be read.\n\
          \x20 card 0, record 7: pages: 1x.0 cannot be read as a number: 1 to 8 digits, then perhaps a point and 1 to 9 digits.\n\
-         \x20 No list is given. `sirophan show --record 7 cards.bin` shows the card.\n",
+         \x20 There is no answer until it is put right. `sirophan show --record 7 cards.bin` shows it.\n",
     );
     let folder = Folder::ward("pick-rest");
     folder.change("cards.bin", |cards| cards.push(b'C'));
@@ -292,7 +292,7 @@ fn pick_goes_through_many_cards_in_order() {
     let message = "cards.bin: refused 21 at 4500: The card's check sum is wrong.\n\
                    \x20 card 4500, record 4500: The card's check sum is wrong. It was changed or damaged since it was written: \
                    pack it again from its description.\n\
-                   \x20 No list is given. `sirophan show --record 4500 cards.bin` shows the card.\n";
+                   \x20 There is no answer until it is put right. `sirophan show --record 4500 cards.bin` shows it.\n";
     folder.run(&["pick", files[0], files[1], files[2]]).fails(2, message);
     let streamed = folder.run(&["pick", "--stream", files[0], files[1], files[2]]);
     streamed.says(2, &numbers(4500 / 128 * 128), message);
@@ -508,8 +508,8 @@ fn fields_of_a_sheet_without_fields() {
     folder.run(&["pack", ".", "."]).says(
         0,
         "2 cards and a sheet with 1 parameter, in .\n",
-        "warning: ./filter.txt: refused 18 at 0: A bundle's name needs a condition in square brackets, and a member behind it. \
-         `sirophan check` says more.\n",
+        "warning: ./filter.txt: refused 18 at 0: A bundle's name needs a condition in square brackets, and a member behind it.\n\
+         \x20 `sirophan check` says what to do.\n",
     );
     let table = "2 cards\n  field  kind    cards  values  example\n  b      bundle  0      0\n";
     folder.run(&["fields", "sheet.bin", "cards.bin"]).says(0, table, "");
@@ -521,7 +521,7 @@ fn fields_of_a_sheet_without_fields() {
         2,
         "cards.bin: refused 23 at 1: The card does not fit the sheet: a text is under a bundle or no parameter, or cannot be read.\n\
          \x20 card 1, record 2: b: a bundle has no texts of its own. Put the text under one of its members.\n\
-         \x20 No list is given. `sirophan show --record 2 cards.bin` shows the card.\n",
+         \x20 There is no answer until it is put right. `sirophan show --record 2 cards.bin` shows it.\n",
     );
 }
 
@@ -601,7 +601,7 @@ fn pack_tells_what_has_no_room() {
         (
             entry(255) + &entry(244),
             "./cards.txt:3: record 1: the card is full: this entry takes 246 bytes with its head of 2, 1 more than are left. \
-             Shorten a text, or make a second card with the same number.\n",
+             Shorten a text.\n",
         ),
         (
             entry(256),
@@ -687,6 +687,52 @@ fn pack_reads_what_other_systems_write() {
     assert_eq!(folder.run(&["pack", ".", "new"]).status, 0);
     let shown = folder.run(&["show", "new/cards.bin"]);
     assert!(shown.output.ends_with("  title  string  \"a\\xE2\\x80\\xA8b\\xC2\\xA0c\\x0Bd\"\n"), "{}", shown.output);
+}
+
+/// Any texts go through a description and a block, and are shown as they were.
+#[test]
+fn packed_texts_are_shown_again() {
+    let folder = Folder::described("round", "string a\nbundle b\nstring b.c\nbundle d\nstring d.c\n", "", "a pr true");
+    let mut state = 1974_u32;
+    let mut below = |limit: usize| {
+        state = state.wrapping_mul(1_664_525).wrapping_add(1_013_904_223);
+        (state >> 8) as usize % limit
+    };
+    let letters = ["a", " ", "\"", "\\", "x41", "#", "\t", "\u{E4}", "\u{2028}", "\u{200B}", "\u{7F}"];
+    let (mut cards, mut expected) = (String::new(), String::new());
+    for index in 0..60 {
+        let record = [0, 7, u32::MAX][below(3)];
+        cards += &format!("record:  {record}\n");
+        let mut entries = Vec::new();
+        for _ in 0..below(12) {
+            let head = ["a", "b.c", "b#1.c", "d#255.c"][below(4)];
+            let text: String = (0..below(12)).map(|_| letters[below(letters.len())]).collect();
+            let written: String = text.bytes().map(|byte| format!("\\x{byte:02X}")).collect();
+            cards += &format!("{head} \t \"{written}\" \n");
+            let escaped = text.replace('\\', "\\\\").replace('"', "\\\"").replace('\t', "\\u0009");
+            let escaped = escaped.replace('\u{7F}', "\\u007f");
+            entries.push(format!("{{\"name\":\"{head}\",\"kind\":\"string\",\"text\":\"{escaped}\"}}"));
+        }
+        let entries = entries.join(",");
+        expected += &format!("{{\"card\":{index},\"record\":{record},\"entries\":[{entries}],\"faults\":[]}}\n");
+    }
+    folder.write("cards.txt", cards);
+    folder.run(&["pack", ".", "."]).says(0, "60 cards and a sheet with 5 parameters, in .\n", "");
+    folder.run(&["show", "--json", "cards.bin"]).says(0, &expected, "");
+    // What is shown to people is the text's spelling in a description: packed again, it gives the same blocks.
+    let before = folder.read("cards.bin");
+    let shown = folder.run(&["show", "cards.bin"]).output;
+    let lines = shown.lines().filter(|line| !line.starts_with("  name "));
+    let described = lines.map(|line| match line.strip_prefix("card ") {
+        Some(title) => format!("record: {}\n", title.split(' ').nth(2).unwrap().trim_end_matches(',')),
+        None => {
+            let (head, rest) = line.trim_start().split_once(' ').unwrap();
+            format!("{head} {}\n", rest.trim_start().strip_prefix("string").unwrap())
+        }
+    });
+    folder.write("cards.txt", described.collect::<String>());
+    assert_eq!(folder.run(&["pack", ".", "."]).status, 0);
+    assert!(folder.read("cards.bin") == before);
 }
 
 // ---- show

@@ -1,7 +1,7 @@
 //! The Rust interface: its answers on the trial archive, and how it tells a refusal to a person.
 
 use second::block::{write_card, write_sheet};
-use sirophan::{Refusal, check, matches, select};
+use sirophan::{Refusal, check, matches, select, underline};
 
 fn sheet() -> Vec<u8> {
     write_sheet(&[(1, b"title"), (2, b"pages")]).unwrap()
@@ -77,6 +77,14 @@ fn a_caret_behind_bytes_that_do_not_print() {
     assert_eq!(lines[0], "title eq \"\u{FFFD}\u{FFFD}\u{E4}\" or ward eq 4");
     let before = lines[0].split("ward").next().unwrap().chars().count();
     assert_eq!(lines[1], format!("{}^", " ".repeat(before)));
+}
+
+#[test]
+fn carets_under_a_part() {
+    assert_eq!(underline(b"a eq 1 or b eq \xC3\xA4x", 10..18), "a eq 1 or b eq \u{E4}x\n          ^^^^^^^");
+    assert_eq!(underline(b"a eq", 4..9), "a eq\n    ^");
+    let long = [&b"a eq "[..], &[b'b'; 60]].concat();
+    assert_eq!(underline(&long, 0..65), format!("a eq {}...\n{}", "b".repeat(41), "^".repeat(46)));
 }
 
 #[test]

@@ -55,8 +55,13 @@ pub fn told(refusal: Refusal, name: &str, help: Vec<String>) -> Message {
 }
 
 /// A refusal of a sheet as it is told.
-pub fn sheet_refused(name: &str, sheet: &Sheet, refusal: Refusal) -> Message {
+fn sheet_refused(name: &str, sheet: &Sheet, refusal: Refusal) -> Message {
     told(refusal, name, sheet_help(refusal.number, sheet))
+}
+
+/// Nothing, where a sheet is sound.
+pub fn require_sound(name: &str, sheet: &Sheet) -> Result<(), Failure> {
+    sheet.refusal().map_or(Ok(()), |refusal| Err(Failure::refused(sheet_refused(name, sheet, refusal))))
 }
 
 /// Help with a sheet that is refused.

@@ -2,7 +2,7 @@
 
 use crate::advice;
 use crate::block::{self, SIZE};
-use crate::input::Input;
+use crate::input::{self, Input};
 use crate::kind;
 use crate::report::{Failure, Message};
 use crate::sheet::Sheet;
@@ -24,12 +24,12 @@ const SHOWN_AFTER: Duration = Duration::from_secs(1);
 const SHOWN_EVERY: Duration = Duration::from_millis(200);
 
 /// Goes through a file. `work` makes something of each piece, given the index of its first card; what it adds up is kept
-/// by each processor for itself. `take` gets what was made, in the order of the file, and says whether to go on. An empty
-/// file is one piece. The answer is what was added up.
+/// by each processor for itself. `take` gets what was made, in the order of the file; where it fails, the pass ends. An
+/// empty file is one piece. The answer is what was added up.
 pub fn pass<T, R>(
     input: Input,
     work: impl Fn(&mut T, u64, &[u8]) -> R + Sync,
-    take: impl FnMut(R) -> Result<bool, Failure> + Send,
+    take: impl FnMut(R) -> Result<(), Failure> + Send,
 ) -> Result<Vec<T>, Failure>
 where
     T: Default + Send,
@@ -102,21 +102,21 @@ struct Sink<R, F> {
     outcome: Result<(), Failure>,
 }
 
-impl<R, F: FnMut(R) -> Result<bool, Failure>> Sink<R, F> {
+impl<R, F: FnMut(R) -> Result<(), Failure>> Sink<R, F> {
     /// Keeps what was made of a piece, takes all whose turn has come, and answers whether to go on.
     fn put(&mut self, number: u64, made: Result<R, Failure>) -> bool {
         self.waiting.insert(number, made);
         while let Some(made) = self.waiting.remove(&self.next) {
             match made.and_then(&mut self.take) {
-                Ok(true) => self.next += 1,
-                end => {
+                Ok(()) => self.next += 1,
+                failed => {
                     // No further piece has the number that is waited for.
                     self.next = u64::MAX;
-                    self.outcome = end.map(|_| ());
+                    self.outcome = failed;
                 }
             }
         }
-        self.next != u64::MAX
+        self.outcome.is_ok()
     }
 }
 
@@ -134,8 +134,11 @@ impl Progress {
         if Instant::now() < due || !io::stderr().is_terminal() {
             return;
         }
-        let share = self.size.map(|size| format!(" of {}", grouped(size / SIZE as u64))).unwrap_or_default();
-        let _ = write!(io::stderr(), "\r{}{share} cards", grouped(bytes / SIZE as u64));
+        let cards = |bytes: u64| grouped(bytes / SIZE as u64);
+        let _ = match self.size {
+            Some(size) => write!(io::stderr(), "\r{} of {} cards", cards(bytes.min(size)), cards(size)),
+            None => write!(io::stderr(), "\r{} cards", cards(bytes)),
+        };
         self.shown = Some(Instant::now());
     }
 
@@ -169,10 +172,10 @@ impl AtFault {
             20 => vec![format!("Behind its last whole card it has {}.", counted(self.block.len() as u64, "byte"))],
             _ => located(self.refusal.place as u64, &self.block, sheet),
         };
-        if self.refusal.number > 20 {
+        if self.refusal.number > 20 && name != input::shown("-") {
+            let record = block::record(&self.block);
             help.push(format!(
-                "No list is given. `sirophan show --record {} {name}` shows the card.",
-                block::record(&self.block)
+                "There is no answer until it is put right. `sirophan show --record {record} {name}` shows it."
             ));
         }
         advice::told(self.refusal, name, help)

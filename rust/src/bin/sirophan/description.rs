@@ -374,8 +374,7 @@ fn overfull(line: usize, entries: &[Entry], items: &[Item]) -> (usize, String) {
         if taken > SUMMED {
             let head = item.size(marked) - item.text.len();
             let fault = format!(
-                "the card is full: this entry takes {} bytes with its head of {head}, {} more than are left. Shorten a text, \
-                 or make a second card with the same number.",
+                "the card is full: this entry takes {} bytes with its head of {head}, {} more than are left. Shorten a text.",
                 item.size(marked),
                 taken - SUMMED
             );

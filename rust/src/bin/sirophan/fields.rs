@@ -21,9 +21,7 @@ pub fn run(arguments: &Arguments) -> Result<(), Failure> {
     let [sheet_name, cards_name] = [&arguments.paths[0], &arguments.paths[1]];
     let sheet = Sheet::read(input::read(sheet_name)?);
     let cards = Input::open(cards_name)?;
-    if let Some(refusal) = sheet.refusal() {
-        return Err(Failure::refused(advice::sheet_refused(&shown(sheet_name), &sheet, refusal)));
-    }
+    advice::require_sound(&shown(sheet_name), &sheet)?;
     let counter = Counter::new(&sheet, 0..sheet.parameters.len());
     let fit = Fit::new(&sheet);
     let name = cards.name.clone();
@@ -39,7 +37,7 @@ pub fn run(arguments: &Arguments) -> Result<(), Failure> {
         },
         |(fault, count)| {
             total += count as u64;
-            fault.map_or(Ok(true), |fault| Err(Failure::refused(fault.tell(&name, &sheet))))
+            fault.map_or(Ok(()), |fault| Err(Failure::refused(fault.tell(&name, &sheet))))
         },
     )?;
     let fields = counter.sum(tallies);

@@ -20,7 +20,7 @@ pub struct Kind {
     pub written: &'static str,
 }
 
-/// The kinds, by their numbers. Kind 6 would be another row.
+/// The kinds, by their numbers. A further kind is another row.
 pub const KINDS: [Kind; 6] = [
     Kind { number: 1, word: "string", one: "a string", many: "strings", written: "any text" },
     Kind {

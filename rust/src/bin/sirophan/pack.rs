@@ -8,7 +8,7 @@ use crate::report::{Failure, Level, Message, Output};
 use crate::sheet::Sheet;
 use crate::text::counted;
 use std::fs::{self, File};
-use std::io::{self, BufWriter, Write};
+use std::io::{BufWriter, Write};
 use std::path::{Path, PathBuf};
 
 /// Packs a folder. The archive that was there before stays as it was until all of the new one is written.
@@ -44,15 +44,13 @@ fn into_folder(arguments: &Arguments, from: &str, to: &str, filter: &Filter) -> 
     let mut cards = Cards::new(Description::open(&path_in(from, "cards.txt"))?, &sheet);
     fs::create_dir_all(to).map_err(|reason| Failure::file(to, "made", reason))?;
     let mut files = NewFiles { folder: to, names: Vec::new() };
-    files.write("sheet.bin", |file| Ok(file.write_all(&sheet.block)))?;
-    files.write("filter.txt", |file| Ok(file.write_all(&filter.bytes)))?;
-    files.write("cards.bin", |file| {
+    files.write("sheet.bin", |put| put(&sheet.block))?;
+    files.write("filter.txt", |put| put(&filter.bytes))?;
+    files.write("cards.bin", |put| {
         while let Some(card) = cards.next()? {
-            if let Err(reason) = file.write_all(&card) {
-                return Ok(Err(reason));
-            }
+            put(&card)?;
         }
-        Ok(Ok(()))
+        Ok(())
     })?;
     arguments.say(cards.description.notes());
     let count = cards.count;
@@ -76,6 +74,13 @@ pub struct Filter {
     pub notes: Vec<Message>,
 }
 
+impl Filter {
+    /// The filter itself, without one last line feed.
+    pub fn text(&self) -> &[u8] {
+        self.bytes.strip_suffix(b"\n").unwrap_or(&self.bytes)
+    }
+}
+
 /// Reads filter.txt, without a byte order mark and without the carriage return of a Windows line end.
 pub fn read_filter(path: &str) -> Result<Filter, Failure> {
     let mut filter = Filter { bytes: input::read(path)?, notes: Vec::new() };
@@ -93,10 +98,9 @@ pub fn read_filter(path: &str) -> Result<Filter, Failure> {
 }
 
 /// A warning where the filter is refused: the blocks are good without it.
-pub fn filter_doubt(path: &str, sheet: &Sheet, filter: &Filter) -> Option<Message> {
-    let text = filter.bytes.strip_suffix(b"\n").unwrap_or(&filter.bytes);
-    let refusal = sirophan::check(&sheet.block, text).err()?;
-    let warning = Message::new(Level::Warning, format!("{path}: {refusal} `sirophan check` says more."));
+fn filter_doubt(path: &str, sheet: &Sheet, filter: &Filter) -> Option<Message> {
+    let refusal = sirophan::check(&sheet.block, filter.text()).err()?;
+    let warning = Message::warning(format!("{path}: {refusal}"), "`sirophan check` says what to do.");
     Some(Message { refusal: Some(refusal), ..warning })
 }
 
@@ -104,6 +108,9 @@ pub fn filter_doubt(path: &str, sheet: &Sheet, filter: &Filter) -> Option<Messag
 pub fn path_in(folder: &str, name: &str) -> String {
     Path::new(folder).join(name).to_string_lossy().into_owned()
 }
+
+/// What puts bytes into a file.
+type Put<'a> = &'a mut dyn FnMut(&[u8]) -> Result<(), Failure>;
 
 /// Files that are written beside the old ones, under names of their own, until they take their places.
 struct NewFiles<'a> {
@@ -117,21 +124,16 @@ impl NewFiles<'_> {
         Path::new(self.folder).join(format!("{name}.new"))
     }
 
-    /// Writes a file.
-    fn write(
-        &mut self,
-        name: &'static str,
-        write: impl FnOnce(&mut BufWriter<File>) -> Result<io::Result<()>, Failure>,
-    ) -> Result<(), Failure> {
-        let unwritten = |reason| Failure::file(&path_in(self.folder, name), "written", reason);
+    /// Writes a file; `fill` is given what puts bytes into it.
+    fn write(&mut self, name: &'static str, fill: impl FnOnce(Put) -> Result<(), Failure>) -> Result<(), Failure> {
+        let path = path_in(self.folder, name);
+        let unwritten = |reason| Failure::file(&path, "written", reason);
         let file = File::create(self.new_path(name)).map_err(unwritten)?;
         self.names.push(name);
         let mut file = BufWriter::with_capacity(1 << 16, file);
-        let written = write(&mut file)?;
-        let finished = written.and_then(|()| file.into_inner().map_err(io::IntoInnerError::into_error));
-        finished
-            .and_then(|file| file.sync_all())
-            .map_err(|reason| Failure::file(&path_in(self.folder, name), "written", reason))
+        fill(&mut |bytes| file.write_all(bytes).map_err(unwritten))?;
+        let file = file.into_inner().map_err(|error| unwritten(error.into_error()))?;
+        file.sync_all().map_err(unwritten)
     }
 
     /// Puts the files in the places of the old ones.

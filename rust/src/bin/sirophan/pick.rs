@@ -37,7 +37,7 @@ pub fn run(arguments: &Arguments) -> Result<(), Failure> {
         },
         |(found, fault, count)| {
             list.add(found, count)?;
-            fault.map_or(Ok(true), |fault| Err(Failure::refused(fault.tell(&name, &question.sheet))))
+            fault.map_or(Ok(()), |fault| Err(Failure::refused(fault.tell(&name, &question.sheet))))
         },
     );
     // What was streamed before a refusal comes out, without the count that would make it a list.

@@ -18,7 +18,7 @@ struct Likeness {
     looks: fn(&[u8]) -> bool,
 }
 
-/// Likenesses, the more telling first. Kind 6 would be another row.
+/// Likenesses, the more telling first. A further one is another row.
 const LIKENESSES: [Likeness; 3] = [
     Likeness { kind: "date", doubtful: &["string", "number", "token", "reference"], looks: is_likely_date },
     Likeness { kind: "number", doubtful: &["string", "reference"], looks: |_| true },
@@ -64,88 +64,7 @@ impl Field {
             *count += more;
         }
     }
-}
 
-/// Of two that may be there, the one with the lower index.
-fn first<T>(one: Option<T>, other: Option<T>, index: impl Fn(&T) -> u64) -> Option<T> {
-    one.into_iter().chain(other).min_by_key(index)
-}
-
-/// The fields of a sheet, by their places.
-#[derive(Default)]
-pub struct Tally {
-    fields: Vec<Field>,
-}
-
-/// Counts what cards have under some parameters.
-pub struct Counter<'a> {
-    sheet: &'a Sheet,
-    asked: Vec<bool>,
-    readers: Vec<(Reader, [bool; 256])>,
-}
-
-impl<'a> Counter<'a> {
-    /// A counter for the parameters at these places.
-    pub fn new(sheet: &'a Sheet, places: impl IntoIterator<Item = usize>) -> Counter<'a> {
-        let mut asked = vec![false; sheet.parameters.len()];
-        for place in places {
-            asked[place] = true;
-        }
-        let readers = LIKENESSES.iter().map(|likeness| {
-            let mut doubtful = [false; 256];
-            for word in likeness.doubtful {
-                doubtful[usize::from(kind::by_word(word).expect("a kind's word").number)] = true;
-            }
-            (Reader::new(kind::by_word(likeness.kind).expect("a kind's word").number), doubtful)
-        });
-        Counter { sheet, asked, readers: readers.collect() }
-    }
-
-    /// Counts the cards of a piece, which fit the sheet.
-    pub fn count(&self, tally: &mut Tally, first: u64, piece: &[u8]) {
-        tally.fields.resize_with(self.asked.len(), Field::default);
-        for (card, index) in piece.chunks_exact(SIZE).zip(first..) {
-            let mut seen = 0_u32;
-            for item in block::items(card) {
-                let place = usize::from(item.byte);
-                if !self.asked[place] {
-                    continue;
-                }
-                let field = &mut tally.fields[place];
-                field.cards += u64::from(seen & 1 << place == 0);
-                seen |= 1 << place;
-                self.count_value(field, self.sheet.parameters[place].kind, item.text);
-                field.values += 1;
-                field.example.get_or_insert_with(|| (index, item.text.to_vec()));
-                if let Some(why) = Some(item.text).filter(|text| !text.is_ascii()).and_then(text::other_encoding) {
-                    field.strange += 1;
-                    field.first_strange.get_or_insert((index, block::record(card), why));
-                }
-            }
-        }
-    }
-
-    /// Counts what a value looks like. Once a value does not look like a kind, no further one is tried.
-    fn count_value(&self, field: &mut Field, kind: u8, value: &[u8]) {
-        for ((count, likeness), (reader, doubtful)) in field.alike.iter_mut().zip(&LIKENESSES).zip(&self.readers) {
-            let so_far = doubtful[usize::from(kind)] && *count == field.values;
-            if so_far && (likeness.looks)(value) && reader.reads(value) {
-                *count += 1;
-            }
-        }
-    }
-
-    /// What all processors have counted, and the parameter of each field.
-    pub fn sum(&self, tallies: Vec<Tally>) -> Vec<Field> {
-        let mut fields = vec![Field::default(); self.asked.len()];
-        for tally in tallies {
-            fields.iter_mut().zip(tally.fields).for_each(|(field, more)| field.add(more));
-        }
-        fields
-    }
-}
-
-impl Field {
     /// The kind that all values look like, if it is another one's.
     pub fn looks_like(&self) -> Option<&'static kind::Kind> {
         let all = |count: u64| count > 0 && count == self.values;
@@ -182,6 +101,83 @@ impl Field {
             format!("{path}: {some} of {values} {seem} to be in another encoding, first on record {record}: {why}."),
             "Letters beyond ASCII are compared byte by byte, and a filter in UTF-8 does not find them.",
         )
+    }
+}
+
+/// Of two that may be there, the one with the lower index.
+fn first<T>(one: Option<T>, other: Option<T>, index: impl Fn(&T) -> u64) -> Option<T> {
+    one.into_iter().chain(other).min_by_key(index)
+}
+
+/// The fields of a sheet, by their places.
+#[derive(Default)]
+pub struct Tally {
+    fields: Vec<Field>,
+}
+
+/// Counts what cards have under some parameters.
+pub struct Counter<'a> {
+    sheet: &'a Sheet,
+    asked: Vec<bool>,
+    /// For each likeness a reader of its kind, and the numbers of the kinds that it is doubtful for.
+    readers: Vec<(Reader, Vec<u8>)>,
+}
+
+impl<'a> Counter<'a> {
+    /// A counter for the parameters at these places.
+    pub fn new(sheet: &'a Sheet, places: impl IntoIterator<Item = usize>) -> Counter<'a> {
+        let mut asked = vec![false; sheet.parameters.len()];
+        for place in places {
+            asked[place] = true;
+        }
+        let number = |word: &&str| kind::by_word(word).expect("a kind's word").number;
+        let readers = LIKENESSES
+            .iter()
+            .map(|likeness| (Reader::new(number(&likeness.kind)), likeness.doubtful.iter().map(number).collect()));
+        Counter { sheet, asked, readers: readers.collect() }
+    }
+
+    /// Counts the cards of a piece, which fit the sheet.
+    pub fn count(&self, tally: &mut Tally, first: u64, piece: &[u8]) {
+        tally.fields.resize_with(self.asked.len(), Field::default);
+        for (card, index) in piece.chunks_exact(SIZE).zip(first..) {
+            let mut seen = 0_u32;
+            for item in block::items(card) {
+                let place = usize::from(item.byte);
+                if !self.asked[place] {
+                    continue;
+                }
+                let field = &mut tally.fields[place];
+                field.cards += u64::from(seen & 1 << place == 0);
+                seen |= 1 << place;
+                self.count_value(field, self.sheet.parameters[place].kind, item.text);
+                field.values += 1;
+                field.example.get_or_insert_with(|| (index, item.text.to_vec()));
+                if let Some(why) = Some(item.text).filter(|text| !text.is_ascii()).and_then(text::other_encoding) {
+                    field.strange += 1;
+                    field.first_strange.get_or_insert((index, block::record(card), why));
+                }
+            }
+        }
+    }
+
+    /// Counts what a value looks like. Once a value does not look like a kind, no further one is tried.
+    fn count_value(&self, field: &mut Field, kind: u8, value: &[u8]) {
+        for ((count, likeness), (reader, doubtful)) in field.alike.iter_mut().zip(&LIKENESSES).zip(&self.readers) {
+            let so_far = doubtful.contains(&kind) && *count == field.values;
+            if so_far && (likeness.looks)(value) && reader.reads(value) {
+                *count += 1;
+            }
+        }
+    }
+
+    /// What all processors have counted, and the parameter of each field.
+    pub fn sum(&self, tallies: Vec<Tally>) -> Vec<Field> {
+        let mut fields = vec![Field::default(); self.asked.len()];
+        for tally in tallies {
+            fields.iter_mut().zip(tally.fields).for_each(|(field, more)| field.add(more));
+        }
+        fields
     }
 }
 

@@ -53,14 +53,15 @@ pub fn run(arguments: &Arguments) -> Result<(), Failure> {
 fn description(arguments: &Arguments, folder: &str) -> Result<Found, Failure> {
     let name = path_in(folder, "filter.txt");
     let filter = pack::read_filter(&name)?;
+    arguments.say(filter.notes.clone());
     let sheet = pack::read_sheet(arguments, folder)?;
     let mut cards = Cards::new(Description::open(&path_in(folder, "cards.txt"))?, &sheet);
     while cards.next()?.is_some() {}
     arguments.say(cards.description.notes());
     let (count, parameters) = (cards.count, sheet.parameters.len() as u64);
     cards.description.faults.none()?;
-    let text = filter.bytes.strip_suffix(b"\n").unwrap_or(&filter.bytes).to_vec();
-    let question = Question { sheet_name: path_in(folder, "sheet.txt"), filter_name: name, sheet, filter: text };
+    let sheet_name = path_in(folder, "sheet.txt");
+    let question = Question { sheet_name, filter_name: name, sheet, filter: filter.text().to_vec() };
     let tests = question.check()? as u64;
     Ok(Found { what: "description", cards: count, parameters, tests })
 }
@@ -72,9 +73,7 @@ fn blocks(folder: &str) -> Result<Found, Failure> {
     let sheet = Sheet::read(input::read(&sheet_name)?);
     let filter = input::read_filter(&filter_name)?;
     let cards = Input::open(&cards_name)?;
-    if let Some(refusal) = sheet.refusal() {
-        return Err(Failure::refused(advice::sheet_refused(&sheet_name, &sheet, refusal)));
-    }
+    advice::require_sound(&sheet_name, &sheet)?;
     let question = Question { sheet_name, filter_name, sheet, filter };
     let count = verify_cards(&question.sheet, &cards_name, cards)?;
     let tests = question.check()? as u64;
@@ -92,7 +91,7 @@ fn verify_cards(sheet: &Sheet, name: &str, cards: Input) -> Result<u64, Failure>
         |(found, cards)| {
             found.into_iter().for_each(|fault| faults.add(count, format!("{name}: {fault}")));
             count += cards as u64;
-            Ok(true)
+            Ok(())
         },
     )?;
     faults.none()?;
