@@ -232,9 +232,10 @@ fn pick_refuses_a_filter_before_the_cards() {
     let json = folder.run_with(&["pick", "--json", "sheet.bin", "-", "cards.bin"], b"title eq");
     json.fails(
         2,
-        "{\"level\":\"error\",\"message\":\"standard input: refused 11 at 0: The text is no filter by the grammar.\",\
-         \"help\":[\"A filter is made of tests such as `title co \\\"book\\\"`, joined by `and` or `or`; `not` needs brackets.\",\
-         \"It has at most 32 tests, and brackets at most 8 deep.\"],\"refused\":11,\"place\":0}\n",
+        "{\"level\":\"error\",\
+         \"message\":\"standard input: refused 11 at 8: The text is no filter by the grammar: no filter goes on like this.\",\
+         \"help\":[\"A filter is made of tests such as `title co \\\"book\\\"`, joined by `and` or `or`; `not` needs brackets.\"],\
+         \"refused\":11,\"place\":8}\n",
     );
 }
 
@@ -412,22 +413,38 @@ fn check_helps_with_tests() {
 #[test]
 fn check_helps_with_texts_that_are_no_filters() {
     let folder = Folder::ward("check-texts");
-    let grammar = "  A filter is made of tests such as `title co \"book\"`, joined by `and` or `or`; `not` needs brackets.\n  \
-                   It has at most 32 tests, and brackets at most 8 deep.\n";
+    let grammar =
+        "  A filter is made of tests such as `title co \"book\"`, joined by `and` or `or`; `not` needs brackets.\n";
     let cases = [
-        ("title eq x\r\n", "It has a Windows line end (0x0D). Save it with a line feed alone, or without a line end."),
-        ("\u{FEFF}title eq x", "It has a byte order mark (EF BB BF). Save it as UTF-8 without one."),
-        ("title eq x\n\n", "It has more than one line. A filter is one line."),
-        ("title\teq x", "It has a tab. Only spaces may stand between the words."),
-        ("title eq \u{201C}x\u{201D}", "It has a curly quote. Texts are quoted with the straight sign \"."),
-        ("title eq \u{F6}", "Letters beyond ASCII stand between double quotes only."),
-        ("title EQ x", "EQ is written eq: operators, and, or and not are in small letters."),
+        (
+            "title eq x\r\n",
+            10,
+            "It has a Windows line end (0x0D). Save it with a line feed alone, or without a line end.",
+        ),
+        ("\u{FEFF}title eq x", 0, "It has a byte order mark (EF BB BF). Save it as UTF-8 without one."),
+        ("title eq x\n\n", 10, "It has more than one line. A filter is one line."),
+        ("title\teq x", 5, "It has a tab. Only spaces may stand between the words."),
+        ("title eq \u{201C}x\u{201D}", 9, "It has a curly quote. Texts are quoted with the straight sign \"."),
+        ("title eq \u{F6}", 9, "Letters beyond ASCII stand between double quotes only."),
+        ("title EQ x", 6, "EQ is written eq: operators, and, or and not are in small letters."),
     ];
-    for (filter, help) in cases {
-        let message =
-            format!("standard input: refused 11 at 0: The text is no filter by the grammar.\n  {help}\n{grammar}");
+    for (filter, place, help) in cases {
+        let line = filter.strip_suffix('\n').unwrap_or(filter).replace(['\r', '\n', '\t'], "\u{FFFD}");
+        let message = format!(
+            "{line}\n{:place$}^\nstandard input: refused 11 at {place}: \
+             The text is no filter by the grammar: no filter goes on like this.\n  {help}\n{grammar}",
+            ""
+        );
         folder.check(filter).fails(2, &message);
     }
+    let deep = format!("{}title eq x{}", "(".repeat(9), ")".repeat(9));
+    folder.check(&deep).fails(
+        2,
+        &format!(
+            "{deep}\n        ^\nstandard input: refused 12 at 8: The text is no filter: here it would need brackets more \
+             than 8 deep.\n  Brackets nest at most 8 deep, round and square ones together.\n"
+        ),
+    );
     let empty = "standard input: refused 10 at 0: The filter is empty or longer than 1,024 bytes.\n  It has 0 bytes.\n";
     folder.check("\n").fails(2, empty);
     let long =

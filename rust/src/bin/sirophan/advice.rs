@@ -39,6 +39,10 @@ impl Question {
         let test = filter.as_ref().and_then(|filter| filter.test_at(refusal.place));
         let (shown, help) = match (refusal.number, test) {
             (1..=3, _) => return sheet_refused(&self.sheet_name, &self.sheet, refusal),
+            (11..=13, _) => {
+                let shown = sirophan::underline(&self.filter, refusal.place..refusal.place + 1);
+                (Some(shown), text_help(refusal.number, &self.filter))
+            }
             (14..=18, Some(test)) => {
                 let shown = sirophan::underline(&self.filter, test.whole.clone());
                 (Some(shown), test_help(refusal.number, &self.sheet, &self.filter, test))
@@ -98,17 +102,19 @@ const NO_FILTER: [(&[u8], &str); 8] = [
 
 /// Help with a text that is no filter.
 fn text_help(number: u32, filter: &[u8]) -> Vec<String> {
-    if number == 10 {
-        return vec![size_help(filter)];
+    match number {
+        10 => return vec![size_help(filter)],
+        12 => return vec!["Brackets nest at most 8 deep, round and square ones together.".into()],
+        13 => return vec!["A filter has at most 32 tests; those in square brackets count.".into()],
+        _ => {}
     }
     let holds = |sign: &[u8]| filter.windows(sign.len()).any(|window| window == sign);
     let sign = NO_FILTER.iter().find(|(sign, _)| holds(sign)).map(|(_, help)| help.to_string());
     let letters = (!filter.is_ascii()).then(|| "Letters beyond ASCII stand between double quotes only.".to_string());
     let example =
         "A filter is made of tests such as `title co \"book\"`, joined by `and` or `or`; `not` needs brackets.";
-    let limits = "It has at most 32 tests, and brackets at most 8 deep.";
     let found = sign.or(letters).into_iter().chain(capitals(filter));
-    found.chain([example.into(), limits.into()]).collect()
+    found.chain([example.into()]).collect()
 }
 
 /// Help with a word of the grammar that is written in capitals.
