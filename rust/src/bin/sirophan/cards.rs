@@ -18,7 +18,7 @@ use std::time::{Duration, Instant};
 /// How many cards the library selects from at a time.
 pub const RUN: usize = 128;
 /// How many bytes a piece has, a whole number of runs.
-const PIECE: usize = 8 * RUN * SIZE;
+const PIECE: usize = 2 * RUN * SIZE;
 /// When the progress of a long pass is first shown, and how often then.
 const SHOWN_AFTER: Duration = Duration::from_secs(1);
 const SHOWN_EVERY: Duration = Duration::from_millis(200);

@@ -164,7 +164,7 @@ impl<'a> Counter<'a> {
     /// Counts what a value looks like. Once a value does not look like a kind, no further one is tried.
     fn count_value(&self, field: &mut Field, kind: u8, value: &[u8]) {
         for ((count, likeness), (reader, doubtful)) in field.alike.iter_mut().zip(&LIKENESSES).zip(&self.readers) {
-            let so_far = doubtful.contains(&kind) && *count == field.values;
+            let so_far = *count == field.values && doubtful.contains(&kind);
             if so_far && (likeness.looks)(value) && reader.reads(value) {
                 *count += 1;
             }
