@@ -481,6 +481,15 @@ fn check_helps_with_sheets() {
         "sheet.bin: refused 3 at 0: The sheet breaks its layout, or the rules for its names or its bundles.\n\
          \x20 title has kind 9, which no kind has.\n",
     );
+    folder.change("sheet.bin", |sheet| {
+        sheet[2] = 7;
+        sum(sheet, 0);
+    });
+    check("sheet.bin").fails(
+        2,
+        "sheet.bin: refused 3 at 0: The sheet breaks its layout, or the rules for its names or its bundles.\n\
+         \x20 title is a bundle, and a sheet that begins with 0x50 has none: it begins with 0x51.\n",
+    );
 }
 
 // ---- fields

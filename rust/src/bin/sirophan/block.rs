@@ -61,6 +61,11 @@ impl Item<'_> {
     }
 }
 
+/// Whether a block is of the form whose items have a mark.
+pub fn is_marked(block: &[u8]) -> bool {
+    matches!(block[0], MARKED_SHEET | MARKED_CARD)
+}
+
 /// The sum of the bytes, each times its place counted from 1.
 fn check_sum(bytes: &[u8]) -> u32 {
     bytes.iter().zip(1..).map(|(&byte, place)| u32::from(byte) * place).sum()
@@ -122,7 +127,7 @@ pub fn items(block: &[u8]) -> impl Iterator<Item = Item<'_>> {
 
 /// The items of a block, each with the place behind it.
 fn placed_items(block: &[u8]) -> impl Iterator<Item = (Item<'_>, usize)> {
-    let marked = matches!(block[0], MARKED_SHEET | MARKED_CARD);
+    let marked = is_marked(block);
     let count_at = Sort::of(block).count_at();
     let mut left = block[count_at];
     let mut at = count_at + 1;

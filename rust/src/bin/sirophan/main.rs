@@ -52,8 +52,8 @@ const COMMANDS: [Command; 6] = [
         summary: "lists the record numbers of the cards that match a filter",
         help: "The last line is the count, as in `2 of 3`. The list is held back until the last card has passed: a card that\n\
                does not fit the sheet refuses it all. With --stream the numbers come as they are found, and only an output\n\
-               that ends with the count is a list. On standard error: whatever may make the question another than was\n\
-               meant, such as a field whose values all look like another kind's.\n\n\
+               that ends with the count is a list. On standard error it warns where the filter may not ask what was meant,\n\
+               such as where all values of a field look like another kind's.\n\n\
                Example:\n\n\
                \x20   $ sirophan pick target/ward/sheet.bin target/ward/filter.txt target/ward/cards.bin\n\
                \x20   7\n\

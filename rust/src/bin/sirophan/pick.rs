@@ -8,8 +8,8 @@ use crate::doubt;
 use crate::filter::Filter;
 use crate::input::Input;
 use crate::json;
-use crate::report::{Failure, Message, Output};
-use crate::tally::{Counter, Field};
+use crate::report::{Failure, Output};
+use crate::tally::Counter;
 
 /// Selects from all cards. The list is held back until the last card has passed, unless it is to be streamed.
 pub fn run(arguments: &Arguments) -> Result<(), Failure> {
@@ -45,13 +45,8 @@ pub fn run(arguments: &Arguments) -> Result<(), Failure> {
         Ok(tallies) => counter.sum(tallies),
         Err(failure) => return Err(list.output.flush().err().unwrap_or(failure)),
     };
-    arguments.say(asked.iter().flat_map(|&place| doubts(&fields, &question, place)));
+    arguments.say(asked.iter().flat_map(|&place| fields[place].doubts(&question.sheet, place)));
     list.end()
-}
-
-/// The doubts about a field that the filter asks.
-fn doubts(fields: &[Field], question: &Question, place: usize) -> Vec<Message> {
-    fields[place].doubts(&question.sheet, place)
 }
 
 /// The list of record numbers as it grows.

@@ -127,6 +127,11 @@ impl Sheet {
                  has at most 30 bytes, and is not and, or or not."
             ));
         }
+        if *kind == BUNDLE && !block::is_marked(&self.block) {
+            return Some(format!(
+                "{path} is a bundle, and a sheet that begins with 0x50 has none: it begins with 0x51."
+            ));
+        }
         if *bundle > 0 {
             let own = usize::from(*bundle) - 1;
             if *kind == BUNDLE {

@@ -171,7 +171,7 @@ impl<'a> Counter<'a> {
         }
     }
 
-    /// What all processors have counted, and the parameter of each field.
+    /// What all processors have counted, by the places of the fields.
     pub fn sum(&self, tallies: Vec<Tally>) -> Vec<Field> {
         let mut fields = vec![Field::default(); self.asked.len()];
         for tally in tallies {
