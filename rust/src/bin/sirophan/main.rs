@@ -1,4 +1,12 @@
 //! The command `sirophan`: what the proved library answers, for people. `sirophan --help` says how it is used.
+//!
+//! Its parts, from the top down:
+//!
+//! - the commands: `pick`, `check`, `fields`, `pack`, `show`, `verify`;
+//! - what they say beside their answers: `advice` on refusals, `doubt` about filters, `tally` of what cards hold;
+//! - what they go through: `cards` in blocks, `description` in words;
+//! - what these are made of: `sheet`, `filter`, `kind`, which asks the library, and `block`;
+//! - in and out: `arguments`, `input`, `report`, `table`, `json`, `text`.
 
 mod advice;
 mod arguments;

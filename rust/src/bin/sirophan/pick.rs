@@ -72,10 +72,10 @@ impl List<'_> {
 
     /// Writes a record number by itself.
     fn record(&mut self, record: u32) -> Result<(), Failure> {
-        match self.arguments.json {
-            true => self.output.line(json::object(&[("record", record.to_string())])),
-            false => self.output.line(record),
+        if self.arguments.json {
+            return self.output.line(json::object(&[("record", record.to_string())]));
         }
+        self.output.line(record)
     }
 
     /// Writes what was held back, and the count.

@@ -175,9 +175,10 @@ fn card(index: u64, card: &[u8], sheet: &Sheet) -> Shown {
         rows_name: "entries",
         head: ["name", "kind", "text"],
         rows: block::items(card).map(row).collect(),
-        faults: match sheet.block.is_empty() {
-            true => advice::unsound(card).into_iter().collect(),
-            false => advice::card_faults(sheet, card),
+        faults: if sheet.block.is_empty() {
+            advice::unsound(card).into_iter().collect()
+        } else {
+            advice::card_faults(sheet, card)
         },
     }
 }
