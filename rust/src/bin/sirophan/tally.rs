@@ -12,7 +12,7 @@ use crate::text;
 struct Likeness {
     /// The kind that the values look like.
     kind: &'static str,
-    /// The kinds that this is doubtful for. Codes of digits alone are common, and no doubt about a token.
+    /// The kinds that this is doubtful for. Codes and references of digits alone are common, and no doubt.
     doubtful: &'static [&'static str],
     /// Whether a text that can be read as the kind also looks like it.
     looks: fn(&[u8]) -> bool,
@@ -21,7 +21,7 @@ struct Likeness {
 /// Likenesses, the more telling first. A further one is another row.
 const LIKENESSES: [Likeness; 3] = [
     Likeness { kind: "date", doubtful: &["string", "number", "token", "reference"], looks: is_likely_date },
-    Likeness { kind: "number", doubtful: &["string", "reference"], looks: |_| true },
+    Likeness { kind: "number", doubtful: &["string"], looks: |_| true },
     Likeness { kind: "token", doubtful: &["string", "reference"], looks: has_system },
 ];
 
@@ -209,6 +209,7 @@ mod tests {
         assert_eq!(look("string", &["http://loinc.org|1234-5"]), Some("token"));
         assert_eq!(look("token", &["1974", "unknown"]), None);
         assert_eq!(look("token", &["32485007"]), None);
+        assert_eq!(look("reference", &["17"]), None);
         assert_eq!(look("token", &["1200", "1201"]), None);
         assert_eq!(look("date", &["1974"]), None);
         assert_eq!(look("number", &["250", "1974"]), None);
