@@ -4,10 +4,10 @@ use Prim.Native.Nat.{ℕ, _≤_}
 use native.Mathlib.Omega.{arith}
 use mathlib.Core.Path.{_≡_, refl, ap, sym, _∙_, subst}
 use mathlib.Core.Bool.{Bool, true, false, false≢true}
-use mathlib.Core.List.{List, [], _∷_, _++_, append-assoc}
+use mathlib.Core.List.{List, _∷_, _++_, append-assoc}
 use lib.ListN.{length, getD, drop}
 use Rattle.base.specs.Bytes.{Byte, Bytes}
-use Rattle.base.specs.Lists.{All, all-cons, all-empty}
+use Rattle.base.specs.Lists.{All, all-cons}
 use Rattle.base.specs.Parts.{part}
 use Rattle.base.proofs.All.{all-map, all-every, all-both}
 use Rattle.block.specs.Words.{wordBytes}

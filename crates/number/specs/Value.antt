@@ -1,4 +1,4 @@
--- The exact value of a number, and the number row of document 01's table of operations.
+-- The exact value of a number, and document 01's relations by it; eq, by ranges, is in Billionths.
 -- Assumes nothing.
 use Prim.Native.Nat.{ℕ, _+_, _*_, _^_, _≤_, _<_}
 use mathlib.Core.Bool.{Bool, _&&_}

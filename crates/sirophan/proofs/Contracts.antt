@@ -2,14 +2,12 @@
 -- Assumes nothing.
 use Prim.Native.Nat.{ℕ, _<_}
 use mathlib.Core.Path.{_≡_, sym, _∙_}
-use mathlib.Core.Logic.{_↔_}
 use mathlib.Core.List.{List}
 use lib.ListN.{length, getD}
-use Rattle.base.specs.Bytes.{Bytes}
 use Rattle.base.proofs.All.{bytes-of}
-use Rattle.sirophan.specs.Answers.{Answer, refused, checkedAnswer, matchedAnswer, selectedAnswer}
-use Rattle.sirophan.specs.Operations.{checkAnswer, matchAnswer, selectAnswer, selectCells}
-use Rattle.sirophan.specs.Refusals.{Decides, CheckLine, MatchLine, SelectLine}
+use Rattle.sirophan.specs.Answers.{Answer, checkedAnswer, matchedAnswer, selectedAnswer}
+use Rattle.sirophan.specs.Operations.{checkAnswer, matchAnswer, selectAnswer}
+use Rattle.sirophan.specs.Refusals.{CheckLine, MatchLine, SelectLine}
 use Rattle.sirophan.specs.Selecting.{Selects}
 use Rattle.sirophan.specs.Contracts.{RefusedBy, Checks, Matches, SelectsInto}
 use Rattle.sirophan.specs.declared.Checked.{Checked}

@@ -1,12 +1,10 @@
+-- `place::find_failure` meets its contract: each answer is a case of the definition. Assumes nothing.
 use Prim.Native.Nat.{_-_}
 use lib.ListN.{length}
 use Rattle.place.proofs.Stepping.{Reaching, reaching-starts, reaching-ends, reaching-on, reaching-deep, reaching-many, reaching-wrong}
 use borrow.Author.Needs.{needs}
 use Rattle.place.proofs.find_failure.Statement.{statement}
 use Rattle.place.proofs.find_failure.Tie as tie
-use Rattle.place.proofs.find_failure.Reads as reads
-use Rattle.place.proofs.find_failure.Lts as lts
-use Rattle.place.proofs.step.advance.Reads as advance-reads
 
 abbrev Inv-loop : tie.InvT-loop
 Inv-loop s reached₀ at₀ reached at = Reaching s at reached
@@ -14,55 +12,42 @@ Inv-loop s reached₀ at₀ reached at = Reaching s at reached
 abbrev μ-loop : tie.MeasureT-loop
 μ-loop s reached₀ at₀ reached at = length s - at
 
--- src/lib.rt:83:5
 loop-holds : tie.Need-loop-holds Inv-loop μ-loop
 loop-holds c = search (reaching-starts, needs)
 
--- src/lib.rt:84:15
 advance-requires : tie.Need-advance-requires Inv-loop μ-loop
 advance-requires c κs = search needs
 
--- src/lib.rt:85:27
 enum-known-next : tie.Need-enum-known-next Inv-loop μ-loop
 enum-known-next c = search needs
 
--- src/lib.rt:87:17
 add-at : tie.Need-add-at Inv-loop μ-loop
 add-at c = search needs
 
--- src/lib.rt:83:5
 loop-less : tie.Need-loop-less Inv-loop μ-loop
 loop-less c = search needs
 
--- src/lib.rt:83:5
 loop-again : tie.Need-loop-again Inv-loop μ-loop
 loop-again c = search (reaching-on, needs)
 
--- src/lib.rt:91:26
 enum-told : tie.Need-enum-told Inv-loop μ-loop
 enum-told c = search needs
 
--- src/lib.rt:90:17
 returns : tie.Need-returns Inv-loop μ-loop
 returns c = search (reaching-deep, needs)
 
--- src/lib.rt:97:26
 enum-told-2 : tie.Need-enum-told-2 Inv-loop μ-loop
 enum-told-2 c = search needs
 
--- src/lib.rt:96:17
 returns-2 : tie.Need-returns-2 Inv-loop μ-loop
 returns-2 c = search (reaching-many, needs)
 
--- src/lib.rt:103:26
 enum-told-3 : tie.Need-enum-told-3 Inv-loop μ-loop
 enum-told-3 c = search needs
 
--- src/lib.rt:102:17
 returns-3 : tie.Need-returns-3 Inv-loop μ-loop
 returns-3 c = search (reaching-wrong, needs)
 
--- src/lib.rt:74:1
 returns-4 : tie.Need-returns-4 Inv-loop μ-loop
 returns-4 c = search (reaching-ends, needs)
 

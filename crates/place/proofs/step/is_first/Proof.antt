@@ -1,3 +1,4 @@
+-- `place::step::is_first` meets its contract: each answer is a case of the definition. Assumes nothing.
 use Rattle.base.proofs.Lists.{member-arm, member-rest}
 use Rattle.place.proofs.step.is_first.Statement.{statement}
 use Rattle.place.proofs.step.is_first.Tie as tie

@@ -1,3 +1,4 @@
+-- `place::step::is_other` meets its contract: each answer is a case of the definition. Assumes nothing.
 use Rattle.base.proofs.Lists.{member-arm, member-rest}
 use Rattle.place.proofs.step.is_other.Statement.{statement}
 use Rattle.place.proofs.step.is_other.Tie as tie

@@ -1,45 +1,33 @@
+-- `place::step::quoted_byte` meets its contract: each answer is a case of the definition. Assumes nothing.
 use Rattle.place.proofs.Stepping.{quoted-more, quoted-close, quoted-wrong}
 use borrow.Author.Needs.{needs}
 use Rattle.place.proofs.step.quoted_byte.Statement.{statement}
 use Rattle.place.proofs.step.quoted_byte.Tie as tie
-use Rattle.place.proofs.step.quoted_byte.Reads as reads
-use Rattle.place.proofs.step.quoted_byte.Lts as lts
-use Rattle.place.proofs.step.live.Reads as live-reads
-use Rattle.syntax.proofs.value.string_step.Reads as string-step-reads
 
--- src/step.rt:292:11
 string-step-requires : tie.Need-string-step-requires
 string-step-requires c κs = search needs
 
--- src/step.rt:293:26
 enum-known-next : tie.Need-enum-known-next
 enum-known-next c = search needs
 
--- src/step.rt:293:35
 live-requires : tie.Need-live-requires
 live-requires c κs = search needs
 
--- src/step.rt:294:35
 enum-told : tie.Need-enum-told
 enum-told c = search needs
 
--- src/step.rt:294:30
 live-requires-2 : tie.Need-live-requires-2
 live-requires-2 c κs = search needs
 
--- src/step.rt:295:30
 enum-told-2 : tie.Need-enum-told-2
 enum-told-2 c = search needs
 
--- src/step.rt:289:1
 returns : tie.Need-returns
 returns c = search (quoted-more, quoted-close, quoted-wrong, needs)
 
--- src/step.rt:289:1
 returns-2 : tie.Need-returns-2
 returns-2 c = search (quoted-more, quoted-close, quoted-wrong, needs)
 
--- src/step.rt:289:1
 returns-3 : tie.Need-returns-3
 returns-3 c = search (quoted-more, quoted-close, quoted-wrong, needs)
 
