@@ -232,10 +232,8 @@ fn pick_refuses_a_filter_before_the_cards() {
     let json = folder.run_with(&["pick", "--json", "sheet.bin", "-", "cards.bin"], b"title eq");
     json.fails(
         2,
-        "{\"level\":\"error\",\
-         \"message\":\"standard input: refused 11 at 8: The text is no filter by the grammar: no filter goes on like this.\",\
-         \"help\":[\"A filter is made of tests such as `title co \\\"book\\\"`, joined by `and` or `or`; `not` needs brackets.\"],\
-         \"refused\":11,\"place\":8}\n",
+        "{\"level\":\"error\",\"message\":\"standard input: refused 11 at 8: The text is no filter by the grammar: no filter goes on \
+         like this.\",\"help\":[\"Here could stand a value. Words have a space before them.\"],\"refused\":11,\"place\":8}\n",
     );
 }
 
@@ -312,7 +310,7 @@ fn pick_says_what_may_be_meant_otherwise() {
          \x20 If it holds dates, the sheet gives it the wrong kind, and a filter asks something else than it seems to.\n",
     );
     let encoding = "warning: title: 1 of 2 values seems to be in another encoding, first on record 2: not UTF-8, perhaps Latin-1.\n\
-                    \x20 Letters beyond ASCII are compared byte by byte, and a filter in UTF-8 does not find them.\n";
+                    \x20 Letters beyond ASCII have other bytes there, and a filter in UTF-8 does not find them.\n";
     let quotes = "warning: the value 'Ward' of title asks for its quotes too.\n  Write \"Ward\" to ask without them.\n";
     folder.pick("title co 'Ward'").says(0, "0 of 2\n", &format!("{quotes}{encoding}"));
     let joins = "warning: `and` and `or` are read from left to right, with equal rank. The filter asks:\n\
@@ -322,7 +320,7 @@ fn pick_says_what_may_be_meant_otherwise() {
     let filter = "subject eq loinc|1 or title pr false and title pr true";
     folder.pick(filter).says(0, "0 of 2\n", &format!("{joins}{encoding}{kind}"));
     let latin = "warning: the filter seems to be in another encoding: not UTF-8, perhaps Latin-1.\n\
-                 \x20 Letters beyond ASCII are compared byte by byte: on cards in UTF-8 it does not find them.\n";
+                 \x20 Letters beyond ASCII have other bytes there: on cards in UTF-8 it does not find them.\n";
     let said = folder.run_with(&["pick", "sheet.bin", "-", "cards.bin"], b"title eq \"\xD6\"");
     said.says(0, "0 of 2\n", &format!("{latin}{encoding}"));
     let json =
@@ -412,38 +410,90 @@ fn check_helps_with_tests() {
 
 #[test]
 fn check_helps_with_texts_that_are_no_filters() {
-    let folder = Folder::ward("check-texts");
-    let grammar =
-        "  A filter is made of tests such as `title co \"book\"`, joined by `and` or `or`; `not` needs brackets.\n";
-    let cases = [
+    let sheet = "string title\nbundle related\ntoken related.type\nreference related.target\n";
+    let folder = Folder::packed("check-texts", sheet, "record: 1\n", "title pr true");
+    let told = |filter: &str, place: usize, help: &str| {
+        let sentence = "The text is no filter by the grammar: no filter goes on like this.";
+        let carets = format!("{}^", " ".repeat(place));
+        let message = format!("{filter}\n{carets}\nstandard input: refused 11 at {place}: {sentence}\n  {help}\n");
+        folder.check(filter).fails(2, &message);
+    };
+    let words = "Words have a space before them.";
+    for (filter, place, help) in [
+        (" ", 1, "Here could stand a name or `(`."),
+        ("title", 5, "Here could stand an operator or `[`. Words have a space before them."),
+        ("title eq", 8, "Here could stand a value. Words have a space before them."),
+        ("title eq ", 9, "Here could stand a value."),
+        ("title e", 7, "The last word cannot end here: it is no name and no operator."),
+        ("title eq \"a\"b", 12, "Here could stand `and`, `or` or the end. Words have a space before them."),
+        ("title eq x)", 10, "Here could stand `and`, `or` or the end. Words have a space before them."),
+        ("(title eq x", 11, "Here could stand `)`, `and` or `or`. Words have a space before them."),
+        ("not title eq x", 4, "Here could stand `(`."),
+        ("title eq x and", 14, "Here could stand a name or `(`. Words have a space before them."),
+        ("related[].target pr true", 8, "Here could stand a name or `(`."),
+        ("related[type eq x", 17, "Here could stand `]`, `and` or `or`. Words have a space before them."),
+        ("related[type eq x] .target pr true", 18, "Here could stand `.`. Words have a space before them."),
+        (
+            "title eq \"abc",
+            13,
+            "It goes on between double quotes. Close them with \", and write \\t and the like for control signs.",
+        ),
+    ] {
+        told(filter, place, help);
+    }
+    let value = "Here could stand a value.";
+    told("title eq \u{F6}", 9, &format!("Letters beyond ASCII stand between double quotes only.\n  {value}"));
+    let curly = "It has a curly quote. Texts are quoted with the straight sign \".";
+    told("title eq \u{201C}x\u{201D}", 9, &format!("{curly}\n  {value}"));
+    let capitals = "EQ is written eq: operators, and, or and not are in small letters.";
+    told("title EQ x", 6, &format!("{capitals}\n  Here could stand an operator."));
+    for (filter, shown, place, help, stands) in [
         (
             "title eq x\r\n",
+            "title eq x\u{FFFD}\n          ^",
             10,
             "It has a Windows line end (0x0D). Save it with a line feed alone, or without a line end.",
+            format!("Here could stand `and`, `or` or the end. {words}"),
         ),
-        ("\u{FEFF}title eq x", 0, "It has a byte order mark (EF BB BF). Save it as UTF-8 without one."),
-        ("title eq x\n\n", 10, "It has more than one line. A filter is one line."),
-        ("title\teq x", 5, "It has a tab. Only spaces may stand between the words."),
-        ("title eq \u{201C}x\u{201D}", 9, "It has a curly quote. Texts are quoted with the straight sign \"."),
-        ("title eq \u{F6}", 9, "Letters beyond ASCII stand between double quotes only."),
-        ("title EQ x", 6, "EQ is written eq: operators, and, or and not are in small letters."),
-    ];
-    for (filter, place, help) in cases {
-        let line = filter.strip_suffix('\n').unwrap_or(filter).replace(['\r', '\n', '\t'], "\u{FFFD}");
-        let message = format!(
-            "{line}\n{:place$}^\nstandard input: refused 11 at {place}: \
-             The text is no filter by the grammar: no filter goes on like this.\n  {help}\n{grammar}",
-            ""
-        );
+        (
+            "\u{FEFF}title eq x",
+            "\u{FEFF}title eq x\n^",
+            0,
+            "It has a byte order mark (EF BB BF). Save it as UTF-8 without one.",
+            "Here could stand a name or `(`.".into(),
+        ),
+        (
+            "title eq x\n\n",
+            "title eq x\u{FFFD}\n          ^",
+            10,
+            "It has more than one line. A filter is one line.",
+            format!("Here could stand `and`, `or` or the end. {words}"),
+        ),
+        (
+            "title\teq x",
+            "title\u{FFFD}eq x\n     ^",
+            5,
+            "It has a tab. Only spaces may stand between the words.",
+            format!("Here could stand an operator or `[`. {words}"),
+        ),
+    ] {
+        let sentence = "The text is no filter by the grammar: no filter goes on like this.";
+        let message = format!("{shown}\nstandard input: refused 11 at {place}: {sentence}\n  {help}\n  {stands}\n");
         folder.check(filter).fails(2, &message);
     }
-    let deep = format!("{}title eq x{}", "(".repeat(9), ")".repeat(9));
+    let deep = "(".repeat(9);
     folder.check(&deep).fails(
         2,
         &format!(
-            "{deep}\n        ^\nstandard input: refused 12 at 8: The text is no filter: here it would need brackets more \
-             than 8 deep.\n  Brackets nest at most 8 deep, round and square ones together.\n"
+            "{deep}\n        ^\nstandard input: refused 12 at 8: The text is no filter: here it would need brackets more than 8 \
+             deep.\n  Round and square brackets together nest at most 8 deep.\n"
         ),
+    );
+    let many = ["a eq x"; 33].join(" or ");
+    let said = folder.check(&many);
+    assert!(
+        said.errors.ends_with("  A filter has at most 32 tests, those inside square brackets counted too.\n"),
+        "{said:?}"
     );
     let empty = "standard input: refused 10 at 0: The filter is empty or longer than 1,024 bytes.\n  It has 0 bytes.\n";
     folder.check("\n").fails(2, empty);

@@ -39,15 +39,15 @@ impl Question {
         let test = filter.as_ref().and_then(|filter| filter.test_at(refusal.place));
         let (shown, help) = match (refusal.number, test) {
             (1..=3, _) => return sheet_refused(&self.sheet_name, &self.sheet, refusal),
-            (11..=13, _) => {
-                let shown = sirophan::underline(&self.filter, refusal.place..refusal.place + 1);
-                (Some(shown), text_help(refusal.number, &self.filter))
-            }
             (14..=18, Some(test)) => {
                 let shown = sirophan::underline(&self.filter, test.whole.clone());
                 (Some(shown), test_help(refusal.number, &self.sheet, &self.filter, test))
             }
-            _ => (None, text_help(refusal.number, &self.filter)),
+            (11..=13, _) => {
+                let shown = sirophan::underline(&self.filter, refusal.place..refusal.place + 1);
+                (Some(shown), text_help(refusal, &self.sheet, &self.filter))
+            }
+            _ => (None, vec![size_help(&self.filter)]),
         };
         Message { shown, ..told(refusal, &self.filter_name, help) }
     }
@@ -101,20 +101,70 @@ const NO_FILTER: [(&[u8], &str); 8] = [
 ];
 
 /// Help with a text that is no filter.
-fn text_help(number: u32, filter: &[u8]) -> Vec<String> {
-    match number {
-        10 => return vec![size_help(filter)],
-        12 => return vec!["Brackets nest at most 8 deep, round and square ones together.".into()],
-        13 => return vec!["A filter has at most 32 tests; those in square brackets count.".into()],
-        _ => {}
-    }
+fn text_help(refusal: Refusal, sheet: &Sheet, filter: &[u8]) -> Vec<String> {
     let holds = |sign: &[u8]| filter.windows(sign.len()).any(|window| window == sign);
     let sign = NO_FILTER.iter().find(|(sign, _)| holds(sign)).map(|(_, help)| help.to_string());
     let letters = (!filter.is_ascii()).then(|| "Letters beyond ASCII stand between double quotes only.".to_string());
-    let example =
-        "A filter is made of tests such as `title co \"book\"`, joined by `and` or `or`; `not` needs brackets.";
-    let found = sign.or(letters).into_iter().chain(capitals(filter));
-    found.chain([example.into()]).collect()
+    let place = match refusal.number {
+        12 => "Round and square brackets together nest at most 8 deep.".into(),
+        13 => "A filter has at most 32 tests, those inside square brackets counted too.".into(),
+        _ => Beginning { sheet, begun: &filter[..refusal.place.min(filter.len())] }.help(),
+    };
+    sign.or(letters).into_iter().chain(capitals(filter)).chain([place]).collect()
+}
+
+/// The beginning of a text up to where it can no longer become a filter. What could stand behind it, the library is asked.
+struct Beginning<'a> {
+    sheet: &'a Sheet,
+    begun: &'a [u8],
+}
+
+impl Beginning<'_> {
+    /// Whether some filter begins with the beginning and these bytes.
+    fn goes_on(&self, with: &str) -> bool {
+        let text = [self.begun, with.as_bytes()].concat();
+        match sirophan::check(&self.sheet.block, &text) {
+            Err(refusal) if matches!(refusal.number, 11..=13) => refusal.place == text.len(),
+            Err(refusal) => refusal.number >= 14,
+            Ok(_) => true,
+        }
+    }
+
+    /// Whether the beginning is a filter itself.
+    fn is_filter(&self) -> bool {
+        let refusal = sirophan::check(&self.sheet.block, self.begun).err();
+        refusal.is_none_or(|refusal| refusal.number >= 14)
+    }
+
+    /// What could stand behind the beginning. Words are tried behind a space where they would else go on with the last one.
+    fn help(&self) -> String {
+        let new_word = self.begun.last().is_none_or(|last| b" ([.".contains(last));
+        let word = |word: &str| self.goes_on(&format!("{}{word}", if new_word { "" } else { " " }));
+        if self.goes_on(" zz( zz(") {
+            return "It goes on between double quotes. Close them with \", and write \\t and the like for control signs.".into();
+        }
+        // A value may begin with a digit and a name may not; no operator begins with zz.
+        let (value, name) = (word("1") && word("\""), word("zz") && !word("1"));
+        let choices = [
+            (name, "a name"),
+            (word("(") && !value, "`(`"),
+            (word("eq ") && !value && !name, "an operator"),
+            (value, "a value"),
+            (self.goes_on("[zz") && !self.goes_on("[1"), "`[`"),
+            (self.goes_on(")"), "`)`"),
+            (self.goes_on("]"), "`]`"),
+            (self.goes_on(".zz") && !self.goes_on("1"), "`.`"),
+            (word("and ") && !value && !name, "`and`"),
+            (word("or ") && !value && !name, "`or`"),
+            (self.is_filter(), "the end"),
+        ];
+        let choices: Vec<&str> = choices.into_iter().filter_map(|(stands, what)| stands.then_some(what)).collect();
+        if choices.is_empty() {
+            return "The last word cannot end here: it is no name and no operator.".into();
+        }
+        let space = if new_word { "" } else { " Words have a space before them." };
+        format!("Here could stand {}.{space}", row(&choices, "or"))
+    }
 }
 
 /// Help with a word of the grammar that is written in capitals.

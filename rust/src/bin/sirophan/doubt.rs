@@ -22,7 +22,7 @@ pub fn of_filter(text: &[u8], filter: &Filter) -> Vec<Message> {
     let encoding = text::other_encoding(text).map(|why| {
         Message::warning(
             format!("the filter seems to be in another encoding: {why}."),
-            "Letters beyond ASCII are compared byte by byte: on cards in UTF-8 it does not find them.",
+            "Letters beyond ASCII have other bytes there: on cards in UTF-8 it does not find them.",
         )
     });
     joins.into_iter().chain(quotes).chain(encoding).collect()

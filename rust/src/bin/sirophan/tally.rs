@@ -99,7 +99,7 @@ impl Field {
         let seem = if self.strange == 1 { "seems" } else { "seem" };
         Message::warning(
             format!("{path}: {some} of {values} {seem} to be in another encoding, first on record {record}: {why}."),
-            "Letters beyond ASCII are compared byte by byte, and a filter in UTF-8 does not find them.",
+            "Letters beyond ASCII have other bytes there, and a filter in UTF-8 does not find them.",
         )
     }
 }
