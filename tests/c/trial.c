@@ -104,8 +104,8 @@ static const row trial_table[] = {
     {"pages gt twelve", SIROPHAN_UNREADABLE, 0},
     {"ward eq 4", SIROPHAN_UNKNOWN_NAME, 0},
     {"title ap x", SIROPHAN_UNSUPPORTED, 0},
-    {"title eq", SIROPHAN_NO_FILTER, 0},
-    {"title eq \"a\"b", SIROPHAN_NO_FILTER, 0},
+    {"title eq", SIROPHAN_NO_FILTER, 8},
+    {"title eq \"a\"b", SIROPHAN_NO_FILTER, 12},
     {"title pr true or code gt 5", SIROPHAN_NO_MEANING, 17},
 };
 
