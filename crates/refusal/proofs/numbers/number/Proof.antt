@@ -1,8 +1,8 @@
--- `sirophan::numbers::number` meets its contract: each reason has its number. Assumes nothing.
+-- `refusal::numbers::number` meets its contract: each reason has its number. Assumes nothing.
 use borrow.Author.Needs.{needs}
-use Rattle.sirophan.proofs.Answers.{number-known}
-use Rattle.sirophan.proofs.numbers.number.Statement.{statement}
-use Rattle.sirophan.proofs.numbers.number.Tie as tie
+use Rattle.refusal.proofs.Answers.{number-known}
+use Rattle.refusal.proofs.numbers.number.Statement.{statement}
+use Rattle.refusal.proofs.numbers.number.Tie as tie
 
 enum-told : tie.Need-enum-told
 enum-told c = search needs

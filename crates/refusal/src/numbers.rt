@@ -1,7 +1,7 @@
 // The numbers of refusal.
 use crate::Reason;
 ghost use mathlib.Core.Path.{_≡_};
-ghost use Rattle.sirophan.specs.Answers.{numberOf};
+ghost use Rattle.refusal.specs.Answers.{numberOf};
 
 // The number that stands for a reason.
 pub fn number(reason: Reason) -> u32

@@ -5,9 +5,9 @@ use native.Mathlib.Decide.{ℕ-discrete}
 use native.Mathlib.Omega.{arith}
 use mathlib.Core.Path.{_≡_, ap, sym}
 use mathlib.Core.Bool.{Bool, true, false}
-use Rattle.sirophan.specs.declared.Reason.{Reason}
-use Rattle.sirophan.specs.Answers.{Answer, yesOrNo, count, refused, numberOf}
-use Rattle.sirophan.proofs.Outcomes.{NotRefused}
+use Rattle.refusal.specs.declared.Reason.{Reason}
+use Rattle.refusal.specs.Answers.{Answer, yesOrNo, count, refused, numberOf}
+use Rattle.refusal.proofs.Deciding.{NotRefused}
 
 pub count-not-refused : (m : ℕ) → NotRefused (count m)
 count-not-refused m n p e = let z : _≡_ {A = ℕ} 0 1 = cc in omega arith
