@@ -19,7 +19,8 @@ fn print(piece: &[u8]) -> bool {
 
 // Says on standard error how the program is used.
 pub fn print_usage() {
-    let usage = b"pick takes no arguments: it reads sheet.bin, filter.txt and cards.bin in the current folder\n";
+    let usage =
+        b"pick takes no arguments: it reads sheet.bin, filter.txt and cards.bin in the current folder\n";
     io::write_all(STDERR_FILENO, usage);
 }
 
