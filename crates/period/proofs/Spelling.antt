@@ -21,7 +21,7 @@ use Rattle.date.specs.Marks.{hyphen, colon, plus, letterT, letterZ}
 use Rattle.date.specs.Spelling as date-spelling
 use Rattle.date.specs.Texts as texts
 use Rattle.date.proofs.Spelling as date-reading
-use Rattle.date.proofs.Readings.{read-proper}
+use Rattle.date.proofs.Readings.{read-first}
 use Rattle.period.specs.Instants.{InPeriod, Inhabited, from-open, from-known, until-open, until-known}
 use Rattle.period.specs.Texts.{slash, period, known, fromTo, bothEnds, openEnd, openStart, readParts, readSplit, read, isPeriod, readable, spanOr, readSpan}
 use Rattle.period.specs.Spelling.{Spells, spells-both, spells-first, spells-second, SpellsSpan, span-of-date, span-of-period}
@@ -206,6 +206,6 @@ spells-inhabited (spells-second {e = e} s) = let y = less (e .end) in (y .0, rec
 pub span-inhabited : {t : List ℕ} {p : Period} → SpellsSpan t p → Inhabited p
 unfolding known
 span-inhabited (span-of-date {t = t} {d = d} s) =
-    let order = read-proper t (date-reading.read-spells t d .1 s) .order in
-    (d .start, record { from = from-known (≤ℤ-refl (d .start)); before = until-known (ltZ-iff (d .start) (d .end) .0 order) })
+    let first = read-first t (date-reading.read-spells t d .1 s) in
+    (d .start, record { from = from-known (first .from); before = until-known (first .before) })
 span-inhabited (span-of-period s) = spells-inhabited s
