@@ -292,6 +292,9 @@ module _ (i : Period) (has : Inhabited i) (f : Date) (first : InRange f (f .star
   date-back (date-overlaps h) = relations.overlaps-iff i has f first .1 h
   date-back (date-covers h) = relations.covers-iff i has f first .1 h
 
+  pub date-iff : (r : DateRelation) → (dateStands r i f ≡ true) ↔ DatesStand i f r
+  date-iff r = (date-there r, date-back)
+
 -- ---- a relation of two texts
 
 numbers-there : (r : NumberRelation) (x v : List ℕ) (a b : number-readings.Reading) → numbers.read x ≡ a → numbers.read v ≡ b → numbersStand r a b ≡ true → StandsIn (Relation.Numbers r) x v

@@ -5,7 +5,7 @@ use Prim.Native.Nat.{zero, suc}
 use native.Mathlib.Omega.{arith}
 use mathlib.Core.Path.{_≡_, refl}
 use mathlib.Core.Bool.{Bool, true, false, not}
-use mathlib.Core.Logic.{_↔_, ⊎-elim}
+use mathlib.Core.Logic.{_↔_, _⊎_, ⊎-elim}
 use lib.IntN.{ℤ, pos, negsuc}
 use lib.Signed.{ltZ, leZ, _≤ℤ_, _<ℤ_, ≤ℤ-refl, <ℤ-≤ℤ-trans, <ℤ-irrefl, clashℤ}
 use borrow.Author.Tests.{lt-ltb, not-true}
@@ -147,6 +147,15 @@ module _ (i : Period) (some : Inhabited i) (f : Date) (first : InRange f (f .sta
       (refuted (startsBefore (i .start) (f .start)) (λ e. let w = starts-there (f .start) e in clashℤ (w .2) (h (w .0) (w .1) .from)))
       (refuted (endsAfter (i .end) (f .end)) (λ e. let w = ends-there (f .end) e in clashℤ (h (w .0) (w .1) .before) (w .2)))),
   )
+
+  -- a period open at an end has instants beyond every date
+  pub open-never-held : (i .start ≡ End.Open) ⊎ (i .end ≡ End.Open) → Held i f → ⊥
+  unfolding startsBefore endsAfter
+  open-never-held o h =
+      ⊎-elim
+      (λ (e : i .start ≡ End.Open). let w = starts-there (f .start) (rw e) in clashℤ (w .2) (h (w .0) (w .1) .from))
+      (λ (e : i .end ≡ End.Open). let w = ends-there (f .end) (rw e) in clashℤ (h (w .0) (w .1) .before) (w .2))
+      o
 
   pub later-iff : (later i f ≡ true) ↔ SomeAfter i f
   later-iff = (
