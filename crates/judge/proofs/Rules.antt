@@ -27,22 +27,22 @@ use Rattle.sheet.specs.declared.Found.{Found}
 use Rattle.sheet.proofs.Listed.{find-iff, at-listed, listed-kind}
 use Rattle.card.specs.Card.{Entry}
 use Rattle.syntax.specs.Tree.{Path, name, member, Test, under, Tree, test, bracketed, join, negation, and, or, testsOf}
-use Rattle.kind.specs.Table.{stringRow, numberRow, dateRow, tokenRow, referenceRow, row, relationIn, asked, rowMeaning, meaningOf, isMeaning, hasMeaning}
+use Rattle.kind.specs.Table.{stringRow, numberRow, dateRow, tokenRow, referenceRow, kinds, ofKind, row, relationIn, asked, rowMeaning, meaningOf, isMeaning, hasMeaning}
 use Rattle.kind.specs.declared.Meaning.{Meaning}
 use Rattle.kind.specs.declared.Relation.{Relation}
 use Rattle.judge.specs.Sets.{lookup, entryConforms, conforms, valuesAt, ofOccurrence, keep}
 use Rattle.judge.specs.Faults.{unsupported}
 use Rattle.judge.specs.Rules.{EntryConforms, NamesIn, Names, names, names-member, NotOnSheet, LacksMeaning, neither, Says, says-present, says-absent, says-relates, says-differs, Keeps, keeps-none, keeps, leaves, FilterSays}
-use Rattle.kind.proofs.Rules.{card-iff, true-iff, false-iff, ne-not-in-row, pr-not-in-row, by-row, stands-iff}
+use Rattle.kind.proofs.Rules.{card-iff, true-iff, false-iff, ne-not-in-row, pr-not-in-row, eachRow, by-row, stands-iff}
 use Rattle.kind.specs.Stands.{stands}
 use Rattle.judge.specs.Verdicts.{someValue, isEmpty, saysOf, saysAt, testSays, filterSays}
 
 -- no kind has ap, ss, sb, in or ni
 five-lack : (kind : ℕ) → every (λ k. not (hasMeaning k kind)) (approximately ∷ ss ∷ sb ∷ «in» ∷ ni ∷ []) ≡ true
-unfolding every hasMeaning meaningOf rowMeaning relationIn stringRow numberRow dateRow tokenRow referenceRow
+unfolding every hasMeaning meaningOf rowMeaning relationIn eachRow kinds stringRow numberRow dateRow tokenRow referenceRow
 five-lack =
-    by-row (λ us. every (λ k. not (isMeaning (cond (eqb k pr) Meaning.Present (rowMeaning us k)))) (approximately ∷ ss ∷ sb ∷ «in» ∷ ni ∷ []) ≡ true)
-    refl refl refl refl refl refl
+    by-row (λ us. every (λ k. not (isMeaning (cond (eqb k pr) Meaning.Present (rowMeaning us k)))) (approximately ∷ ss ∷ sb ∷ «in» ∷ ni ∷ []))
+    refl refl
 
 pub unsupported-lacks : (kind k : ℕ) → unsupported k ≡ true → hasMeaning k kind ≡ false
 unfolding unsupported
@@ -122,7 +122,7 @@ module _ (ps : List Parameter) (w : WellFormedSheet ps) where
 
 module _ (ps : List Parameter) where
   entry-there : (e : Entry) (k : ℕ) → kindAt (e .index) ps ≡ k → cardReadable k (e .text) ≡ true → EntryConforms ps e
-  unfolding cardReadable
+  unfolding cardReadable ofKind kinds
   entry-there e zero g h = absurd (false≢true h)
   entry-there e (suc k) g h =
       let l = at-listed (e .index) ps k g in
