@@ -63,6 +63,6 @@ module _ (x : ℕ) where
       ⊎-elim
       (λ e. subst (λ (z : ℕ). P (z ∷ t)) (sym (eqb-true y x e)) (found [] t all-empty))
       (λ e.
-        let n : y ≡ x → ⊥ = eqb-false y x e in
-        split-cases (λ (u : List ℕ). P (y ∷ u)) (λ c h. none (y ∷ c) (all-cons n h)) (λ s c h. found (y ∷ s) c (all-cons n h)) t)
+      let n : y ≡ x → ⊥ = eqb-false y x e in
+      split-cases (λ (u : List ℕ). P (y ∷ u)) (λ c h. none (y ∷ c) (all-cons n h)) (λ s c h. found (y ∷ s) c (all-cons n h)) t)
       (decided (eqb y x))

@@ -4,23 +4,24 @@ use Prim.Native.Nat.{ℕ}
 use mathlib.Core.Path.{_≡_, refl, ap, sym, _∙_, subst}
 use mathlib.Core.Bool.{Bool, true, false, not, _&&_, _||_, false≢true}
 use mathlib.Core.Logic.{_↔_, _⊎_, inl, inr, ⊎-elim}
-use mathlib.Core.List.{List, [], _∷_, List·Memᴰ, List·Memᴰ·head, List·Memᴰ·tail}
+use mathlib.Core.List.{List, [], _∷_}
 use lib.Dec.{eqb}
 use lib.ListN.{length}
-use borrow.Author.Tests.{not-true, ne-eqb, eqb-true, eqb-false, eq-eqb, ltb-true, lt-ltb, leb-true, le-leb}
+use borrow.Author.Tests.{not-true, ne-eqb, eqb-true, eqb-false, ltb-true, lt-ltb, leb-true, le-leb}
 use Rattle.base.specs.Ascii.{ascii}
 use Rattle.base.specs.Operators.{pr, eq, ne}
+use Rattle.base.specs.Kinds.{string, number, date, token, reference, period}
 use Rattle.base.proofs.Lists.{length-zero}
 use Rattle.base.specs.Lists.{All, all-empty, all-cons}
-use Rattle.base.proofs.Tests.{and-left, and-right, and-both, or-either, or-left, or-right, decided, both-ways, cond-either, cond-elim}
+use Rattle.base.proofs.Tests.{and-left, and-right, and-both, or-either, or-left, or-right, cond-either, cond-elim}
 use Rattle.text.specs.Fold.{isCapital, isAccented, foldByte, foldFrom, foldText}
 use Rattle.text.specs.Compare.{same}
 use Rattle.text.proofs.Readings.{same-reads, starts-reads, ends-reads, contains-reads}
 use Rattle.kind.specs.Readable.{cardReadable, filterReadable, isTrue, isFalse, valueReadable}
-use Rattle.kind.specs.Rules.{readable-string, readable-number, readable-date, readable-token, readable-reference, readable-period, ReadableOnCard, ReadableInFilter, TrueOrFalse, spells-true, spells-false, ReadableValue, value-of-pr, value-of-kind, InRow, HasOperator, operator-of-row, operator-pr, operator-ne, StandsIn, string-same, string-contains, string-starts, string-ends, NumbersStand, number-inside, number-greater, number-less, number-at-least, number-at-most, number-covers, DatesStand, date-inside, date-later, date-earlier, date-later-or-inside, date-earlier-or-inside, date-starts-after, date-ends-before, date-overlaps, date-covers, numbers-stand, dates-stand, tokens-stand, references-same}
-use mathlib.Core.Option.{Option, none, some}
+use Rattle.kind.specs.Rules.{readable-string, readable-number, readable-date, readable-token, readable-reference, readable-period, ReadableOnCard, ReadableInFilter, TrueOrFalse, spells-true, spells-false, ReadableValue, value-of-pr, value-of-kind, HasDates, dates-of-date, dates-of-period, Row, string-eq, string-co, string-sw, string-ew, number-eq, number-gt, number-lt, number-ge, number-le, number-co, date-eq, date-gt, date-lt, date-ge, date-le, date-sa, date-eb, date-po, date-co, token-eq, reference-re, HasOperator, operator-of-row, operator-pr, operator-ne, StandsIn, string-same, string-contains, string-starts, string-ends, NumbersStand, number-inside, number-greater, number-less, number-at-least, number-at-most, number-covers, DatesStand, date-inside, date-later, date-earlier, date-later-or-inside, date-earlier-or-inside, date-starts-after, date-ends-before, date-overlaps, date-covers, numbers-stand, dates-stand, tokens-stand, references-same}
+use mathlib.Core.Option.{Option, none, some, Option·some-injective, Option·none-ne-some}
 use Rattle.base.specs.Options.{isSome}
-use Rattle.kind.specs.Table.{Use, means, stringRow, numberRow, dateRow, tokenRow, referenceRow, Kind, kinds, ofKind, row, relationIn, asked, rowMeaning, meaningOf, isMeaning, hasMeaning}
+use Rattle.kind.specs.Table.{Use, stringRow, numberRow, dateRow, tokenRow, referenceRow, Kind, kinds, ofKind, row, relationIn, asked, rowMeaning, meaningOf, isMeaning, hasMeaning}
 use Rattle.kind.specs.declared.Meaning.{Meaning}
 use Rattle.kind.specs.declared.Relation.{Relation}
 use Rattle.token.proofs.Readings.{matches-reads}
@@ -167,21 +168,67 @@ pub by-row : (p : List Use → Bool) → p [] ≡ true → eachRow p kinds ≡ t
 unfolding row
 by-row p empty h = by-kind (λ k us. p us ≡ true) [] (λ x. x .operators) (λ k. empty) kinds (each-all p kinds h)
 
-row-there : (us : List Use) (k : ℕ) → isSome (relationIn us k) ≡ true → InRow k us
+-- an operator that a row has stands in the table, where each of the row does
+in-row : (n : ℕ) (us : List Use) → All (λ (u : Use). Row n (u .operator) (u .relation)) us → (k : ℕ) (r : Relation) → relationIn us k ≡ some r → Row n k r
 unfolding relationIn
-row-there [] k h = absurd (false≢true h)
-row-there (u ∷ us) k h =
-    cond-elim (λ (o : Option Relation). isSome o ≡ true → InRow k (u ∷ us)) (eqb k (u .operator))
-    (λ e g. (u .relation, List·Memᴰ·head (ap (λ (o : ℕ). means o (u .relation)) (eqb-true k (u .operator) e))))
-    (λ e g. let w = row-there us k g in (w .0, List·Memᴰ·tail (w .1)))
-    h
+in-row n [] all-empty k r e = absurd (Option·none-ne-some r e)
+in-row n (u ∷ us) (all-cons h all) k r e =
+    ⊎-elim
+    (λ c. let same : u .relation ≡ r = Option·some-injective (u .relation) r (c .1) in subst (Row n k) same (subst (λ (o : ℕ). Row n o (u .relation)) (sym (eqb-true k (u .operator) (c .0))) h))
+    (λ c. in-row n us all k r (c .1))
+    (cond-either (eqb k (u .operator)) (some (u .relation)) (relationIn us k) e)
 
-row-back : {us : List Use} {k : ℕ} {r : Relation} → List·Memᴰ (means k r) us → isSome (relationIn us k) ≡ true
-unfolding relationIn
-row-back {k = k} (List·Memᴰ·head {x = u} e) = rw (eq-eqb k (u .operator) (ap (λ (v : Use). v .operator) e))
-row-back {k = k} (List·Memᴰ·tail {x = u} {xs = us} m) =
-    let r = row-back m in
-    cond-elim (λ (o : Option Relation). isSome o ≡ true) (eqb k (u .operator)) (λ e. refl) (λ e. r)
+-- the row of dates, for either kind that has it
+dates-in-row : {n : ℕ} → HasDates n → All (λ (u : Use). Row n (u .operator) (u .relation)) dateRow
+unfolding dateRow
+dates-in-row d =
+    all-cons (date-eq d) (all-cons (date-gt d) (all-cons (date-lt d) (all-cons (date-ge d) (all-cons (date-le d) (all-cons (date-sa d)
+    (all-cons (date-eb d) (all-cons (date-po d) (all-cons (date-co d) all-empty))))))))
+
+dates-row : {n : ℕ} → HasDates n → row n ≡ dateRow
+unfolding row ofKind kinds
+dates-row dates-of-date = refl
+dates-row dates-of-period = refl
+
+row-there : (kind k : ℕ) (r : Relation) → relationIn (row kind) k ≡ some r → Row kind k r
+unfolding row kinds stringRow numberRow tokenRow referenceRow
+row-there kind k r =
+    by-kind (λ n us. relationIn us k ≡ some r → Row n k r) [] (λ x. x .operators) (λ n. in-row n [] all-empty k r) kinds
+    (all-cons (in-row string stringRow (all-cons string-eq (all-cons string-co (all-cons string-sw (all-cons string-ew all-empty)))) k r)
+    (all-cons (in-row number numberRow (all-cons number-eq (all-cons number-gt (all-cons number-lt (all-cons number-ge (all-cons number-le (all-cons number-co all-empty)))))) k r)
+    (all-cons (in-row date dateRow (dates-in-row dates-of-date) k r)
+    (all-cons (in-row token tokenRow (all-cons token-eq all-empty) k r)
+    (all-cons (in-row reference referenceRow (all-cons reference-re all-empty) k r)
+    (all-cons (in-row period dateRow (dates-in-row dates-of-period) k r) all-empty))))))
+    kind
+
+row-back : {kind k : ℕ} {r : Relation} → Row kind k r → relationIn (row kind) k ≡ some r
+unfolding relationIn row ofKind kinds stringRow numberRow dateRow tokenRow referenceRow
+row-back string-eq = refl
+row-back string-co = refl
+row-back string-sw = refl
+row-back string-ew = refl
+row-back number-eq = refl
+row-back number-gt = refl
+row-back number-lt = refl
+row-back number-ge = refl
+row-back number-le = refl
+row-back number-co = refl
+row-back (date-eq d) = rw (dates-row d)
+row-back (date-gt d) = rw (dates-row d)
+row-back (date-lt d) = rw (dates-row d)
+row-back (date-ge d) = rw (dates-row d)
+row-back (date-le d) = rw (dates-row d)
+row-back (date-sa d) = rw (dates-row d)
+row-back (date-eb d) = rw (dates-row d)
+row-back (date-po d) = rw (dates-row d)
+row-back (date-co d) = rw (dates-row d)
+row-back token-eq = refl
+row-back reference-re = refl
+
+-- the relation that a row gives an operator is that of the table
+pub row-reads : (kind k : ℕ) (r : Relation) → (relationIn (row kind) k ≡ some r) ↔ Row kind k r
+row-reads kind k r = (row-there kind k r, row-back)
 
 -- ---- operators
 
@@ -202,26 +249,36 @@ pub pr-not-in-row : (kind : ℕ) → relationIn (row kind) pr ≡ none
 unfolding eachRow kinds relationIn stringRow numberRow dateRow tokenRow referenceRow
 pr-not-in-row kind = absent (relationIn (row kind) pr) (by-row (λ us. not (isSome (relationIn us pr))) refl refl kind)
 
+-- what is some relation is one
+some-is : (o : Option Relation) → isSome o ≡ true → (r : Relation) × (o ≡ some r)
+some-is (some r) h = (r, refl)
+some-is none h = absurd (false≢true h)
+
 module _ (kind : ℕ) where
+  -- a relation that a row gives an operator
+  given : (how : Relation → Meaning) → ((r : Relation) → isMeaning (how r) ≡ true) → (k : ℕ) → isMeaning (asked how (relationIn (row kind) k)) ≡ true → (r : Relation) × Row kind k r
+  given how h k e =
+      let w = some-is (relationIn (row kind) k) (sym (asked-some how h (relationIn (row kind) k)) ∙ e) in
+      (w .0, row-there kind k (w .0) (w .1))
+
   operator-there : (k : ℕ) → hasMeaning k kind ≡ true → HasOperator kind k
   unfolding hasMeaning meaningOf rowMeaning
   operator-there k =
       cond-elim (λ (m : Meaning). isMeaning m ≡ true → HasOperator kind k) (eqb k pr)
       (λ e h. subst (HasOperator kind) (sym (eqb-true k pr e)) operator-pr)
       (λ _. cond-elim (λ (m : Meaning). isMeaning m ≡ true → HasOperator kind k) (eqb k ne)
-      (λ e h. subst (HasOperator kind) (sym (eqb-true k ne e)) (operator-ne (row-there (row kind) eq (sym (asked-some Meaning.Differs (λ r. refl) (relationIn (row kind) eq)) ∙ h))))
-      (λ e h. operator-of-row (row-there (row kind) k (sym (asked-some Meaning.Relates (λ r. refl) (relationIn (row kind) k)) ∙ h))))
+      (λ e h. subst (HasOperator kind) (sym (eqb-true k ne e)) (operator-ne (given Meaning.Differs (λ r. refl) eq h .1)))
+      (λ e h. operator-of-row (given Meaning.Relates (λ r. refl) k h .1)))
 
   operator-back : {k : ℕ} → HasOperator kind k → hasMeaning k kind ≡ true
   unfolding hasMeaning meaningOf rowMeaning
   operator-back operator-pr = refl
-  operator-back (operator-ne w) = asked-some Meaning.Differs (λ r. refl) (relationIn (row kind) eq) ∙ row-back (w .1)
-  operator-back (operator-of-row {k = k} w) =
-      let some-relation : isSome (relationIn (row kind) k) ≡ true = row-back (w .1) in
+  operator-back (operator-ne w) = rw (row-back w)
+  operator-back (operator-of-row {k = k} {r = r} w) =
       cond-elim (λ (m : Meaning). isMeaning m ≡ true) (eqb k pr) (λ _. refl)
       (λ _. cond-elim (λ (m : Meaning). isMeaning m ≡ true) (eqb k ne)
-      (λ e. both-ways some-relation (ap (λ (o : ℕ). isSome (relationIn (row kind) o)) (eqb-true k ne e) ∙ ap isSome (ne-not-in-row kind)))
-      (λ _. asked-some Meaning.Relates (λ r. refl) (relationIn (row kind) k) ∙ some-relation))
+      (λ e. absurd (Option·none-ne-some r (sym (ne-not-in-row kind) ∙ ap (relationIn (row kind)) (sym (eqb-true k ne e)) ∙ row-back w)))
+      (λ _. rw (row-back w)))
 
   pub operator-iff : (k : ℕ) → (hasMeaning k kind ≡ true) ↔ HasOperator kind k
   operator-iff k = (operator-there k, operator-back)

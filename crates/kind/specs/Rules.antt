@@ -2,9 +2,9 @@
 -- Assumes nothing.
 use Prim.Native.Nat.{ℕ}
 use mathlib.Core.Path.{_≡_}
-use mathlib.Core.List.{List, [], List·Memᴰ, _++_}
+use mathlib.Core.List.{List, [], _++_}
 use Rattle.base.specs.Ascii.{ascii}
-use Rattle.base.specs.Operators.{pr, eq, ne}
+use Rattle.base.specs.Operators.{eq, ne, co, sw, ew, gt, lt, ge, le, sa, eb, pr, po, re}
 use Rattle.text.specs.Fold.{foldText}
 use Rattle.number.specs.declared.Decimal.{Decimal}
 use Rattle.date.specs.declared.Date.{Date}
@@ -12,7 +12,6 @@ use Rattle.token.specs.Card.{Token}
 use Rattle.token.specs.Filter.{Form}
 use Rattle.token.specs.Spelling.{CardSpells, FilterSpells}
 use Rattle.base.specs.Kinds.{string, number, date, token, reference, period}
-use Rattle.kind.specs.Table.{Use, means, row}
 use Rattle.kind.specs.declared.Relation.{Relation}
 use Rattle.token.specs.Rules.{Asks}
 use Rattle.kind.specs.declared.StringRelation.{StringRelation}
@@ -72,15 +71,45 @@ pub data ReadableValue (kind : ℕ) (v : List ℕ) : ℕ → Type 0 where
 
 -- ---- operators
 
--- the operator stands in the row
-abbrev pub InRow : ℕ → List Use → Type 0
-InRow k us = (r : Relation) × List·Memᴰ (means k r) us
+-- the kinds with the row of dates; 02: of a period "the operations are those of dates"
+pub data HasDates : ℕ → Type 0 where
+  dates-of-date : HasDates date
+  dates-of-period : HasDates period
+
+-- document 01's table: an operator that the kind's row has, and the relation that it asks for
+pub data Row : ℕ → ℕ → Relation → Type 0 where
+  -- "eq same; co holds it somewhere; sw, ew at the start, at the end"
+  string-eq : Row string eq (Relation.Strings StringRelation.Same)
+  string-co : Row string co (Relation.Strings StringRelation.Contains)
+  string-sw : Row string sw (Relation.Strings StringRelation.Starts)
+  string-ew : Row string ew (Relation.Strings StringRelation.Ends)
+  -- "eq; gt lt ge le by exact value; co: F lies in I's range"
+  number-eq : Row number eq (Relation.Numbers NumberRelation.Inside)
+  number-gt : Row number gt (Relation.Numbers NumberRelation.Greater)
+  number-lt : Row number lt (Relation.Numbers NumberRelation.Less)
+  number-ge : Row number ge (Relation.Numbers NumberRelation.AtLeast)
+  number-le : Row number le (Relation.Numbers NumberRelation.AtMost)
+  number-co : Row number co (Relation.Numbers NumberRelation.Covers)
+  -- "eq; gt; lt; ge; le; sa; eb; po; co"
+  date-eq : {kind : ℕ} → HasDates kind → Row kind eq (Relation.Dates DateRelation.Inside)
+  date-gt : {kind : ℕ} → HasDates kind → Row kind gt (Relation.Dates DateRelation.Later)
+  date-lt : {kind : ℕ} → HasDates kind → Row kind lt (Relation.Dates DateRelation.Earlier)
+  date-ge : {kind : ℕ} → HasDates kind → Row kind ge (Relation.Dates DateRelation.LaterOrInside)
+  date-le : {kind : ℕ} → HasDates kind → Row kind le (Relation.Dates DateRelation.EarlierOrInside)
+  date-sa : {kind : ℕ} → HasDates kind → Row kind sa (Relation.Dates DateRelation.StartsAfter)
+  date-eb : {kind : ℕ} → HasDates kind → Row kind eb (Relation.Dates DateRelation.EndsBefore)
+  date-po : {kind : ℕ} → HasDates kind → Row kind po (Relation.Dates DateRelation.Overlaps)
+  date-co : {kind : ℕ} → HasDates kind → Row kind co (Relation.Dates DateRelation.Covers)
+  -- "eq by the four forms"
+  token-eq : Row token eq Relation.Tokens
+  -- "re same"
+  reference-re : Row reference re Relation.References
 
 -- a kind has an operator: "it has its row's, pr, and ne if the row has eq"
 pub data HasOperator (kind : ℕ) : ℕ → Type 0 where
-  operator-of-row : {k : ℕ} → InRow k (row kind) → HasOperator kind k
+  operator-of-row : {k : ℕ} {r : Relation} → Row kind k r → HasOperator kind k
   operator-pr : HasOperator kind pr
-  operator-ne : InRow eq (row kind) → HasOperator kind ne
+  operator-ne : {r : Relation} → Row kind eq r → HasOperator kind ne
 
 -- ---- relations
 

@@ -58,6 +58,7 @@ use Rattle.sirophan.specs.Selection.{Run, matchingCards, matchingNumbers
 use Rattle.refusal.specs.Order.{rank, Decides}
 use Rattle.sirophan.specs.Refusals.{CheckLine, MatchLine, SelectLine}
 use Rattle.sirophan.specs.Trial.{Row, trialRows, bundleRows, stayRows, titleTest, codeTest}
+use Rattle.sirophan.specs.Edges.{edgeCard, edgeRows}
 use Rattle.kind.proofs.Rules as rules
 use Rattle.sirophan.proofs.Failing as failing
 use Rattle.sirophan.proofs.Demand as demand
@@ -241,3 +242,7 @@ bundle-table = trial.bundle-rows
 -- 02's periods, on a sheet with periods and a card with open ends
 pub period-table : All (λ (r : Row). matchAnswer staySheet (r .filter) stayCard ≡ r .gives) stayRows
 period-table = trial.stay-rows
+
+-- a card at the edges of the rules: escapes, short names, touching spans, half units, each operator by its word
+pub edge-table : All (λ (r : Row). matchAnswer trialSheet (r .filter) edgeCard ≡ r .gives) edgeRows
+edge-table = trial.edge-rows

@@ -4,7 +4,7 @@ use Prim.Native.Nat.{ℕ}
 use mathlib.Core.Path.{_≡_, refl}
 use mathlib.Core.List.{List, map}
 use Rattle.base.specs.Lists.{All, every, equal, member}
-use Rattle.base.specs.Affixes.{hasPrefix, hasInfix}
+use Rattle.base.specs.Affixes.{hasPrefix, hasSuffix, hasInfix}
 use Rattle.base.specs.Digits.{isDigit}
 use Rattle.base.specs.Names as names
 use Rattle.base.specs.Names.{isLetter, isNameStart, isNamePart, isReserved, isName}
@@ -37,8 +37,8 @@ use Rattle.sheet.specs.Trial.{trialSheet, bundleSheet, staySheet}
 use Rattle.card.specs.Card.{entryCount, entriesOf, readCard}
 use Rattle.card.specs.Trial.{trialCard, bundleCard, stayCard}
 use Rattle.syntax.specs.Tree.{testsOf}
-use Rattle.syntax.specs.Strings.{isBare}
-use Rattle.syntax.specs.Scan.{stepOf, stringFrom, stringAt, valueAt, follows, findOperator, operatorAt, testValue, testOperator, testAt, openAt, choiceAt, headAt, memberAt, connectiveAt, closeAt, memberAfter}
+use Rattle.syntax.specs.Strings.{isBare, isEscape, unescaped}
+use Rattle.syntax.specs.Scan.{decode, stepOf, stringFrom, stringAt, valueAt, follows, findOperator, operatorAt, testValue, testOperator, testAt, openAt, choiceAt, headAt, memberAt, connectiveAt, closeAt, memberAfter}
 use Rattle.syntax.specs.Reader.{chainOf, filterOf, itemAt, filterAt, read}
 use Rattle.place.specs.Machine as machine
 use Rattle.kind.specs.Table as table
@@ -49,6 +49,7 @@ use Rattle.judge.specs.Faults.{unsupported, kindFault, testFault, firstFault}
 use Rattle.judge.specs.Verdicts.{someValue, isEmpty, saysOf, testSays, filterSays}
 use Rattle.refusal.specs.Answers.{Answer}
 use Rattle.sirophan.specs.Operations.{takeSheet, takeFilter, testsStep, prepare, takeCard, matchAnswer}
+use Rattle.sirophan.specs.Edges.{edgeCard, edgeRows}
 use Rattle.sirophan.specs.Trial.{Row, trialRows, bundleRows, stayRows}
 
 -- what match gives for each row of a table, on a sheet and a card
@@ -58,9 +59,9 @@ given sheet card = map (λ (r : Row). matchAnswer sheet (r .filter) card)
 abbrev stated : List Row → List Answer
 stated = map (λ (r : Row). r .gives)
 
-computed : (given trialSheet trialCard trialRows ≡ stated trialRows) × (given bundleSheet bundleCard bundleRows ≡ stated bundleRows) × (given staySheet stayCard stayRows ≡ stated stayRows)
-unfolding trialRows trialSheet trialCard matchAnswer takeCard prepare machine.failure machine.failureFrom machine.step machine.beginsOperator machine.isOperator machine.someWord testsStep takeFilter takeSheet filterSays testSays saysOf isEmpty someValue firstFault testFault kindFault unsupported conforms entryConforms valuesAt lookup stands dateStands numberStands stringStands kind.valueReadable kind.isTrue kind.filterReadable kind.cardReadable table.hasMeaning table.meaningOf table.rowMeaning table.relationIn table.row table.tokenRow table.dateRow table.numberRow table.stringRow read filterAt itemAt filterOf chainOf closeAt connectiveAt headAt choiceAt memberAfter memberAt openAt testAt testOperator testValue operatorAt findOperator follows valueAt stringAt stringFrom stepOf isBare testsOf readCard entriesOf entryCount find findFrom readSheet sheetLayout areRight haveParents hasParent kindAt distinct absent clashes areParameters isParameter isKind parametersOf parameterCount reading items hasEither hasLayout laidOut textAt markAt next lengthAt hasMarks zeros block.check checkSum sumFrom token.matches token.meets token.asks namespaceOf standsFor forms.filterReadable forms.filterForm forms.splitForm tokens.cardReadable tokens.cardToken tokens.splitToken tokens.tokenOf split dates.readable dates.isDate dates.read dates.readYear dates.readMonth dates.fieldAt dates.fourAt dates.twoAt dates.pair dates.digitOf spans.monthDate spans.yearDate spans.daysFrom spans.dateOf spans.instant spans.epoch calendar.dayNumber calendar.daysOfYears calendar.daysBeforeMonth calendar.monthLength calendar.yearLength calendar.leapYear fields.validMonth fields.between billionths.inside billionths.billionths billionths.unit number.greater number.atLeast number.covers number.halfUnit number.exactValue number.plus number.isAtMost number.isLess numbers.readable numbers.read numbers.readFraction numbers.valueFrom texts.same texts.contains foldText foldByte runEnd run operatorWords isName isReserved isNamePart isNameStart isLetter names.between isDigit hasInfix hasPrefix member equal every bundleRows bundleSheet bundleCard ofOccurrence keep enter kind.isFalse table.referenceRow table.kinds table.ofKind period.startsBefore period.startsNoLater period.endsAfter period.endsNoEarlier period.inside period.laterOrInside period.earlierOrInside period.overlaps period.covers periods.readable periods.isPeriod periods.readSpan periods.spanOr periods.read periods.readParts periods.openStart periods.openEnd periods.bothEnds periods.fromTo periods.known stayRows staySheet stayCard foldFrom isCapital isAccented
-computed = (refl, refl, refl)
+computed : (given trialSheet trialCard trialRows ≡ stated trialRows) × (given bundleSheet bundleCard bundleRows ≡ stated bundleRows) × (given staySheet stayCard stayRows ≡ stated stayRows) × (given trialSheet edgeCard edgeRows ≡ stated edgeRows)
+unfolding trialRows trialSheet trialCard matchAnswer takeCard prepare machine.failure machine.failureFrom machine.step machine.beginsOperator machine.isOperator machine.someWord testsStep takeFilter takeSheet filterSays testSays saysOf isEmpty someValue firstFault testFault kindFault unsupported conforms entryConforms valuesAt lookup stands dateStands numberStands stringStands kind.valueReadable kind.isTrue kind.filterReadable kind.cardReadable table.hasMeaning table.meaningOf table.rowMeaning table.relationIn table.row table.tokenRow table.dateRow table.numberRow table.stringRow read filterAt itemAt filterOf chainOf closeAt connectiveAt headAt choiceAt memberAfter memberAt openAt testAt testOperator testValue operatorAt findOperator follows valueAt stringAt stringFrom stepOf isBare testsOf readCard entriesOf entryCount find findFrom readSheet sheetLayout areRight haveParents hasParent kindAt distinct absent clashes areParameters isParameter isKind parametersOf parameterCount reading items hasEither hasLayout laidOut textAt markAt next lengthAt hasMarks zeros block.check checkSum sumFrom token.matches token.meets token.asks namespaceOf standsFor forms.filterReadable forms.filterForm forms.splitForm tokens.cardReadable tokens.cardToken tokens.splitToken tokens.tokenOf split dates.readable dates.isDate dates.read dates.readYear dates.readMonth dates.fieldAt dates.fourAt dates.twoAt dates.pair dates.digitOf spans.monthDate spans.yearDate spans.daysFrom spans.dateOf spans.instant spans.epoch calendar.dayNumber calendar.daysOfYears calendar.daysBeforeMonth calendar.monthLength calendar.yearLength calendar.leapYear fields.validMonth fields.between billionths.inside billionths.billionths billionths.unit number.greater number.atLeast number.covers number.halfUnit number.exactValue number.plus number.isAtMost number.isLess numbers.readable numbers.read numbers.readFraction numbers.valueFrom texts.same texts.contains foldText foldByte runEnd run operatorWords isName isReserved isNamePart isNameStart isLetter names.between isDigit hasInfix hasPrefix member equal every bundleRows bundleSheet bundleCard ofOccurrence keep enter kind.isFalse table.referenceRow table.kinds table.ofKind period.startsBefore period.startsNoLater period.endsAfter period.endsNoEarlier period.inside period.laterOrInside period.earlierOrInside period.overlaps period.covers periods.readable periods.isPeriod periods.readSpan periods.spanOr periods.read periods.readParts periods.openStart periods.openEnd periods.bothEnds periods.fromTo periods.known stayRows staySheet stayCard foldFrom isCapital isAccented edgeRows edgeCard decode unescaped isEscape texts.starts texts.ends hasSuffix number.less number.atMost
+computed = (refl, refl, refl, refl)
 
 -- each row of a table that is computed so gives what it says
 rows-give : (sheet card : List ℕ) (rows : List Row) → given sheet card rows ≡ stated rows → All (λ (r : Row). matchAnswer sheet (r .filter) card ≡ r .gives) rows
@@ -76,3 +77,7 @@ bundle-rows = rows-give bundleSheet bundleCard bundleRows (computed .1)
 -- the sheet and the card with periods
 pub stay-rows : All (λ (r : Row). matchAnswer staySheet (r .filter) stayCard ≡ r .gives) stayRows
 stay-rows = rows-give staySheet stayCard stayRows (computed .2)
+
+-- the card at the edges of the rules
+pub edge-rows : All (λ (r : Row). matchAnswer trialSheet (r .filter) edgeCard ≡ r .gives) edgeRows
+edge-rows = rows-give trialSheet edgeCard edgeRows (computed .3)
