@@ -6,7 +6,7 @@ use crate::source::{Definition, Source, is_called};
 use crate::words;
 use std::collections::{BTreeMap, BTreeSet};
 
-/// Words of the language, and names that every file has without an import.
+/// Words of the language, and names that every file has without an import. Others that a statement comes to use go here.
 const WORDS: [&str; 20] = [
     "abbrev",
     "data",
@@ -185,8 +185,8 @@ impl Repository {
     /// The lines of a type of the code, comments left out.
     fn type_of(&self, file: &str, name: &str) -> Option<Vec<(usize, String)>> {
         let begins = |line: &str| {
-            let words: Vec<&str> = line.split_whitespace().collect();
-            matches!(words.as_slice(), ["pub", "struct" | "enum", called, ..] if *called == name)
+            let mut words = line.split_whitespace().skip_while(|word| *word == "pub");
+            matches!(words.next(), Some("struct" | "enum")) && words.next() == Some(name)
         };
         let lines = self.files.get(file)?.lines().zip(1..).skip_while(|(line, _)| !begins(line));
         let mut found = Vec::new();

@@ -89,7 +89,7 @@ helper = two
         ("crates/low/specs/Lib.antt", "pub mod Rules\npub mod Marks\n"),
         (
             "crates/low/src/lib.rt",
-            "// Shapes.\npub enum Shape {\n    Round, // a disk\n    Other(Corner),\n}\n\npub struct Corner {\n    pub x: i64,\n}\n",
+            "// Shapes.\npub enum Shape {\n    Round, // a disk\n    Other(Corner),\n}\n\nstruct Corner {\n    pub x: i64,\n}\n",
         ),
     ];
     files.map(|(file, text)| (file.into(), text.into())).into()
