@@ -4,24 +4,20 @@ use crate::advice;
 use crate::block::{self, SIZE};
 use crate::input::{self, Input};
 use crate::kind;
+use crate::progress::Progress;
 use crate::report::{Failure, Message};
 use crate::sheet::Sheet;
 use crate::text::{counted, grouped};
 use sirophan::Refusal;
 use std::collections::BTreeMap;
-use std::io::{self, IsTerminal, Write};
 use std::num::NonZero;
 use std::sync::{Mutex, MutexGuard, PoisonError};
 use std::thread;
-use std::time::{Duration, Instant};
 
 /// How many cards the library selects from at a time.
 pub const RUN: usize = 128;
 /// How many bytes a piece has, a whole number of runs.
 const PIECE: usize = 2 * RUN * SIZE;
-/// When the progress of a long pass is first shown, and how often then.
-const SHOWN_AFTER: Duration = Duration::from_secs(1);
-const SHOWN_EVERY: Duration = Duration::from_millis(200);
 
 /// Goes through a file. `work` makes something of each piece, given the index of its first card; what it adds up is kept
 /// by each processor for itself. `take` gets what was made, in the order of the file; where it fails, the pass ends. An
@@ -56,7 +52,6 @@ where
         let workers: Vec<_> = (0..processors.min(pieces)).map(|_| scope.spawn(worker)).collect();
         workers.into_iter().map(|worker| worker.join().expect("no work panics")).collect()
     });
-    lock(&source).progress.clear();
     sink.into_inner().unwrap_or_else(PoisonError::into_inner).outcome.map(|()| sums)
 }
 
@@ -70,12 +65,12 @@ struct Source {
     input: Input,
     next: u64,
     ended: bool,
-    progress: Progress,
+    progress: Option<Progress>,
 }
 
 impl Source {
     fn new(input: Input) -> Source {
-        let progress = Progress { size: input.size, began: Instant::now(), shown: None };
+        let progress = input.shows_progress.then(Progress::new);
         Source { input, next: 0, ended: false, progress }
     }
 
@@ -88,9 +83,25 @@ impl Source {
         let number = self.next;
         self.next += 1;
         self.ended = !matches!(filled, Ok(PIECE));
-        self.progress.show(self.next * PIECE as u64);
+        self.show_progress();
         // Behind whole pieces there may be nothing; an empty file is still a piece.
         (number == 0 || !matches!(filled, Ok(0))).then_some((number, filled))
+    }
+
+    /// Shows how many cards are read.
+    fn show_progress(&mut self) {
+        if let Some(progress) = &mut self.progress {
+            progress.show(|| part_read(self.next * PIECE as u64, self.input.size));
+        }
+    }
+}
+
+/// How many cards are read of how many, by the bytes that are.
+pub fn part_read(read: u64, size: Option<u64>) -> String {
+    let cards = |bytes: u64| grouped(bytes / SIZE as u64);
+    match size {
+        Some(size) => format!("{} of {} cards", cards(read.min(size)), cards(size)),
+        None => format!("{} cards", cards(read)),
     }
 }
 
@@ -117,36 +128,6 @@ impl<R, F: FnMut(R) -> Result<(), Failure>> Sink<R, F> {
             }
         }
         self.outcome.is_ok()
-    }
-}
-
-/// The line that shows on a terminal how far a long pass is.
-struct Progress {
-    size: Option<u64>,
-    began: Instant,
-    shown: Option<Instant>,
-}
-
-impl Progress {
-    /// Shows how far the file is read, if it is time to.
-    fn show(&mut self, bytes: u64) {
-        let due = self.shown.map_or(self.began + SHOWN_AFTER, |shown| shown + SHOWN_EVERY);
-        if Instant::now() < due || !io::stderr().is_terminal() {
-            return;
-        }
-        let cards = |bytes: u64| grouped(bytes / SIZE as u64);
-        let _ = match self.size {
-            Some(size) => write!(io::stderr(), "\r{} of {} cards", cards(bytes.min(size)), cards(size)),
-            None => write!(io::stderr(), "\r{} cards", cards(bytes)),
-        };
-        self.shown = Some(Instant::now());
-    }
-
-    /// Takes the line away.
-    fn clear(&self) {
-        if self.shown.is_some() {
-            let _ = write!(io::stderr(), "\r\x1B[K");
-        }
     }
 }
 

@@ -6,7 +6,7 @@
 //! - what they say beside their answers: `advice` on refusals, `doubt` about filters, `tally` of what cards hold;
 //! - what they go through: `cards` in blocks, `description` in words;
 //! - what these are made of: `sheet`, `filter`, `kind`, which asks the library, and `block`;
-//! - in and out: `arguments`, `input`, `report`, `table`, `json`, `text`.
+//! - in and out: `arguments`, `input`, `report`, `progress`, `table`, `json`, `text`.
 
 mod advice;
 mod arguments;
@@ -22,6 +22,7 @@ mod json;
 mod kind;
 mod pack;
 mod pick;
+mod progress;
 mod report;
 mod sheet;
 mod show;
