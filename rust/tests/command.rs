@@ -176,14 +176,28 @@ fn help_and_version() {
     for part in ["sirophan pick [--stream] SHEET FILTER CARDS", "sirophan verify DIR", "Status: 0 answered"] {
         assert!(help.output.contains(part), "{part}");
     }
-    folder.run(&["--version"]).says(0, concat!("sirophan ", env!("CARGO_PKG_VERSION"), "\n"), "");
+    for option in ["--version", "-V", "version"] {
+        folder.run(&[option]).says(0, concat!("sirophan ", env!("CARGO_PKG_VERSION"), "\n"), "");
+    }
+    let pick = folder.run(&["pick", "--help"]).output;
+    for line in [["help", "pick"], ["--help", "pick"], ["pick", "-h"]] {
+        folder.run(&line).says(0, &pick, "");
+    }
 }
 
 #[test]
 fn command_lines_that_are_not_understood() {
     let folder = Folder::new("usage");
     folder.run(&[]).fails(1, "sirophan: No command was given. `sirophan --help` lists the commands.\n");
-    folder.run(&["pik"]).fails(1, "sirophan: pik is no command. `sirophan --help` lists the commands.\n");
+    folder
+        .run(&["pik"])
+        .fails(1, "sirophan: pik is no command. Is it pick or pack? `sirophan --help` lists the commands.\n");
+    folder.run(&["search"]).fails(1, "sirophan: search is no command. `sirophan --help` lists the commands.\n");
+    folder.run(&["help", "search"]).fails(1, "sirophan: search is no command. `sirophan --help` lists the commands.\n");
+    folder.run(&["--json", "pick"]).fails(
+        1,
+        "sirophan: --json stands before the command. Options stand behind it. `sirophan --help` lists the commands.\n",
+    );
     folder.run(&["pick", "a"]).fails(1, "sirophan: 1 path given. Usage: sirophan pick [--stream] SHEET FILTER CARDS\n");
     folder
         .run(&["check", "--stream", "a", "b"])
@@ -280,6 +294,25 @@ fn pick_names_the_card_at_fault() {
         2,
         "cards.bin: refused 20 at 0: The card is not 512 bytes long, or the run is no whole number of cards or over 128.\n\
          \x20 Behind its last whole card it has 1 byte.\n",
+    );
+    let text = "It is a text. A description becomes cards by `sirophan pack DIR OUT`.";
+    folder.write("cards.bin", "record: 1\n");
+    folder.pick("title pr true").fails(
+        2,
+        &format!(
+            "cards.bin: refused 20 at 0: The card is not 512 bytes long, or the run is no whole number of cards or over 128.\n\
+             \x20 {text}\n"
+        ),
+    );
+    folder.write("cards.bin", "record: 1\ntitle Ward 41\n".repeat(64).split_at(1024).0);
+    folder
+        .pick("title pr true")
+        .fails(2, &format!("cards.bin: refused 21 at 0: The card's check sum is wrong.\n  card 0: {text}\n"));
+    folder.write("cards.bin", folder.read("sheet.bin"));
+    folder.pick("title pr true").fails(
+        2,
+        "cards.bin: refused 22 at 0: The card breaks its layout.\n\
+         \x20 card 0: The card breaks its layout. It has the first byte of a sheet.\n",
     );
 }
 
@@ -393,6 +426,15 @@ fn check_helps_with_tests() {
             unreadable,
             "pages is a number, and twelve cannot be read as one: 1 to 8 digits, then perhaps a point and 1 to 9 digits.",
         ),
+        (
+            "related[target eq x].type pr true",
+            16,
+            8,
+            "The operator has no meaning for a parameter of this kind.",
+            "related.target is a reference, which has the operators pr and re.\n  A reference is asked by re, as in \
+             `re Patient/17`.\n  eq is for strings, numbers, dates and tokens. If that is what \
+             related.target holds, the sheet gives it the wrong kind.",
+        ),
         ("pages pr maybe", 17, 0, unreadable, "Behind pr stands true (there is a text) or false (there is none)."),
         (
             "related pr true",
@@ -423,12 +465,13 @@ fn check_helps_with_texts_that_are_no_filters() {
         folder.check(filter).fails(2, &message);
     };
     let words = "Words have a space before them.";
+    let title = "title is a string, which has the operators eq, ne, co, sw, ew and pr.";
     for (filter, place, help) in [
         (" ", 1, "Here could stand a name or `(`."),
-        ("title", 5, "Here could stand an operator or `[`. Words have a space before them."),
+        ("related", 7, "Here could stand an operator or `[`. Words have a space before them."),
+        ("wrad", 4, "Here could stand an operator or `[`. Words have a space before them."),
         ("title eq", 8, "Here could stand a value. Words have a space before them."),
         ("title eq ", 9, "Here could stand a value."),
-        ("title e", 7, "The last word cannot end here: it is no name and no operator."),
         ("title eq \"a\"b", 12, "Here could stand `and`, `or` or the end. Words have a space before them."),
         ("title eq x)", 10, "Here could stand `and`, `or` or the end. Words have a space before them."),
         ("(title eq x", 11, "Here could stand `)`, `and` or `or`. Words have a space before them."),
@@ -445,12 +488,30 @@ fn check_helps_with_texts_that_are_no_filters() {
     ] {
         told(filter, place, help);
     }
+    let no_word = "The last word cannot end here: it is no name and no operator.";
+    told("title e", 7, &format!("{no_word}\n  {title}"));
+    told("title", 5, &format!("Here could stand an operator. {words}\n  {title}"));
+    let token = "type is a token, which has the operators eq, ne and pr.";
+    told(
+        "related[type = x].target pr true",
+        13,
+        &format!("= is written eq.\n  Here could stand an operator.\n  {token}"),
+    );
+    told("related[type is x].target pr true", 14, &format!("{no_word}\n  {token}"));
+    // What other languages have.
+    told("title = x", 6, &format!("= is written eq.\n  Here could stand an operator.\n  {title}"));
+    let joins = "Here could stand `and`, `or` or the end.";
+    told("title eq x && title pr true", 11, &format!("&& is written and.\n  {joins}"));
+    told("title equals x", 8, &format!("equals is written eq.\n  Here could stand a value. {words}"));
+    let several = "A value of several words stands between double quotes.";
+    told("title eq Ward book 4", 14, &format!("{several}\n  {joins}"));
+    told("(title eq x) title pr true", 13, joins);
     let value = "Here could stand a value.";
     told("title eq \u{F6}", 9, &format!("Letters beyond ASCII stand between double quotes only.\n  {value}"));
     let curly = "It has a curly quote. Texts are quoted with the straight sign \".";
     told("title eq \u{201C}x\u{201D}", 9, &format!("{curly}\n  {value}"));
     let capitals = "EQ is written eq: operators, and, or and not are in small letters.";
-    told("title EQ x", 6, &format!("{capitals}\n  Here could stand an operator."));
+    told("title EQ x", 6, &format!("{capitals}\n  Here could stand an operator.\n  {title}"));
     for (filter, shown, place, help, stands) in [
         (
             "title eq x\r\n",
@@ -478,7 +539,7 @@ fn check_helps_with_texts_that_are_no_filters() {
             "title\u{FFFD}eq x\n     ^",
             5,
             "It has a tab. Only spaces may stand between the words.",
-            format!("Here could stand an operator or `[`. {words}"),
+            format!("Here could stand an operator. {words}\n  {title}"),
         ),
     ] {
         let sentence = "The text is no filter by the grammar: no filter goes on like this.";
@@ -504,6 +565,12 @@ fn check_helps_with_texts_that_are_no_filters() {
     let long =
         "standard input: refused 10 at 0: The filter is empty or longer than 1,024 bytes.\n  It has 2,000 bytes.\n";
     folder.check(&"x".repeat(2000)).fails(2, long);
+    folder.write("many.bin", folder.read("cards.bin").repeat(3));
+    folder.run(&["check", "sheet.bin", "many.bin"]).fails(
+        2,
+        "many.bin: refused 10 at 0: The filter is empty or longer than 1,024 bytes.\n\
+         \x20 It is a file of blocks. The filter is another file, such as filter.txt, and comes before the cards.\n",
+    );
 }
 
 #[test]
@@ -847,6 +914,7 @@ fn show_marks_what_is_wrong() {
     let rest = "block 2 is neither a sheet nor a card\nblock 3 has only 88 bytes\n";
     folder.run(&["show", "cards.bin"]).says(0, &format!("{first}{second}{rest}"), "");
     folder.run(&["show", "--record", "6", "cards.bin"]).says(0, second, "");
+    folder.run(&["show", "--record=6", "cards.bin"]).says(0, second, "");
     folder.run(&["show", "--record", "7", "cards.bin"]).fails(2, "no card has the record number 7.\n");
     folder.run(&["show", "--json", "--record", "5", "cards.bin"]).says(
         0,

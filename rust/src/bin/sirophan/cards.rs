@@ -1,13 +1,13 @@
 //! Goes through a file of cards with all processors, in pieces, and takes what each piece gives in the file's order.
 
 use crate::advice;
-use crate::block::{self, SIZE};
+use crate::block::{self, SIZE, Sort};
 use crate::input::{self, Input};
 use crate::kind;
 use crate::progress::Progress;
 use crate::report::{Failure, Message};
 use crate::sheet::Sheet;
-use crate::text::{counted, grouped};
+use crate::text::{self, counted, grouped};
 use sirophan::Refusal;
 use std::collections::BTreeMap;
 use std::num::NonZero;
@@ -135,6 +135,8 @@ impl<R, F: FnMut(R) -> Result<(), Failure>> Sink<R, F> {
 pub struct AtFault {
     pub refusal: Refusal,
     pub block: Vec<u8>,
+    /// Whether the run that it was found in is a text, and has no cards.
+    in_text: bool,
 }
 
 impl AtFault {
@@ -144,16 +146,17 @@ impl AtFault {
             21..=23 => (refusal.place + first as usize, &run[refusal.place * SIZE..][..SIZE]),
             _ => (refusal.place, &run[run.len() - run.len() % SIZE..]),
         };
-        AtFault { refusal: Refusal { place, ..refusal }, block: block.to_vec() }
+        AtFault { refusal: Refusal { place, ..refusal }, block: block.to_vec(), in_text: text::is_text(run) }
     }
 
     /// The refusal as it is told, with the record and the field.
     pub fn tell(&self, name: &str, sheet: &Sheet) -> Message {
         let mut help: Vec<String> = match self.refusal.number {
+            20 if self.in_text => vec![advice::TEXT_FOR_CARDS.into()],
             20 => vec![format!("Behind its last whole card it has {}.", counted(self.block.len() as u64, "byte"))],
             _ => located(self.refusal.place as u64, &self.block, sheet),
         };
-        if self.refusal.number > 20 && name != input::shown("-") {
+        if self.refusal.number > 20 && Sort::of(&self.block) == Sort::Card && name != input::shown("-") {
             let record = block::record(&self.block);
             help.push(format!(
                 "There is no answer until it is put right. `sirophan show --record {record} {name}` shows it."
@@ -163,11 +166,14 @@ impl AtFault {
     }
 }
 
-/// What is wrong with a card, each sentence with the card's index and its record number.
+/// What is wrong with a card, each sentence with the card's index and, if the block is a card, its record number.
 pub fn located(index: u64, card: &[u8], sheet: &Sheet) -> Vec<String> {
-    let record = block::record(card);
+    let record = match Sort::of(card) {
+        Sort::Card => format!(", record {}", block::record(card)),
+        _ => String::new(),
+    };
     let faults = advice::card_faults(sheet, card);
-    faults.into_iter().map(|fault| format!("card {index}, record {record}: {fault}")).collect()
+    faults.into_iter().map(|fault| format!("card {index}{record}: {fault}")).collect()
 }
 
 /// How the library is asked whether cards fit a sheet: by a filter that has a meaning there, if any has.

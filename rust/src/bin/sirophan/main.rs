@@ -184,19 +184,29 @@ fn run() -> Result<(), (Failure, bool)> {
     let Some((name, given)) = given.split_first() else {
         return Err(usage_failure("No command was given."));
     };
-    match name.as_str() {
-        "--help" | "-h" | "help" => return print(&overview()).map_err(|failure| (failure, false)),
-        "--version" => {
-            let version = format!("sirophan {}\n", env!("CARGO_PKG_VERSION"));
-            return print(&version).map_err(|failure| (failure, false));
-        }
+    let answered = |text: String| print(&text).map_err(|failure| (failure, false));
+    match (name.as_str(), given) {
+        ("--help" | "-h" | "help", []) => return answered(overview()),
+        ("--help" | "-h" | "help", [name, ..]) => return answered(command_help(command_by(name)?)),
+        ("--version" | "-V" | "version", _) => return answered(format!("sirophan {}", env!("CARGO_PKG_VERSION"))),
         _ => {}
     }
-    let Some(command) = COMMANDS.iter().find(|command| command.name == name) else {
-        return Err(usage_failure(&format!("{name} is no command.")));
-    };
+    let command = command_by(name)?;
     let json = given.iter().any(|argument| argument == "--json");
     run_command(command, given).map_err(|failure| (failure, json))
+}
+
+/// The command with a name.
+fn command_by(name: &str) -> Result<&'static Command, (Failure, bool)> {
+    if let Some(command) = COMMANDS.iter().find(|command| command.name == name) {
+        return Ok(command);
+    }
+    if name.starts_with('-') {
+        return Err(usage_failure(&format!("{name} stands before the command. Options stand behind it.")));
+    }
+    let near = text::nearest(name, &COMMANDS.map(|command| command.name.to_string()));
+    let near = if near.is_empty() { String::new() } else { format!(" Is it {}?", text::row(&near, "or")) };
+    Err(usage_failure(&format!("{name} is no command.{near}")))
 }
 
 /// Runs a command on its arguments.
