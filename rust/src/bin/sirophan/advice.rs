@@ -176,26 +176,48 @@ impl Beginning<'_> {
         refusal.is_none_or(|refusal| refusal.number >= 14)
     }
 
-    /// What could stand behind the beginning, in place of the rest. Words are tried behind a space where they would else
-    /// go on with the last one.
+    /// Whether a word may begin behind it without a space.
+    fn takes_word(&self) -> bool {
+        self.begun.last().is_none_or(|last| b" ([.".contains(last))
+    }
+
+    /// What could stand behind the beginning, in place of the rest.
     fn help(&self, rest: &[u8]) -> Vec<String> {
-        let new_word = self.begun.last().is_none_or(|last| b" ([.".contains(last));
-        let word = |word: &str| self.goes_on(&format!("{}{word}", if new_word { "" } else { " " }));
         if self.goes_on(" zz( zz(") {
-            return vec![
-                "It goes on between double quotes. Close them with \", and write \\t and the like for control signs."
-                    .into(),
-            ];
+            let help =
+                "It goes on between double quotes. Close them with \", and write \\t and the like for control signs.";
+            return vec![help.into()];
         }
-        let operators = self.operators();
+        let choices = self.choices();
+        if choices.is_empty() {
+            let last_word = self.begun.iter().rposition(|&byte| byte == b' ').unwrap_or(0);
+            let operators = Beginning { begun: &self.begun[..last_word], ..*self }.operators();
+            let no_word = "The last word cannot end here: it is no name and no operator.".to_string();
+            return [no_word].into_iter().chain(operators).collect();
+        }
+        let joins = choices.contains(&"`and`") && self.ends_with_bare_word();
+        let several = (joins && rest.first().is_some_and(u8::is_ascii_alphanumeric))
+            .then(|| "A value of several words stands between double quotes.".into());
+        let space = if self.takes_word() { "" } else { " Words have a space before them." };
+        let place = format!("Here could stand {}.{space}", row(&choices, "or"));
+        let operators = self.operators().filter(|_| choices.contains(&"an operator"));
+        several.into_iter().chain([place]).chain(operators).collect()
+    }
+
+    /// The kinds of signs and words that could stand behind it. Words are tried behind a space where they would else go on
+    /// with the last one.
+    fn choices(&self) -> Vec<&'static str> {
+        let word = |word: &str| self.goes_on(&format!("{}{word}", if self.takes_word() { "" } else { " " }));
         // A value may begin with a digit and a name may not; no operator begins with zz.
         let (value, name) = (word("1") && word("\""), word("zz") && !word("1"));
+        // Only a bundle has square brackets.
+        let bracket = self.goes_on("[zz") && !self.goes_on("[1") && self.operators().is_none();
         let choices = [
             (name, "a name"),
             (word("(") && !value, "`(`"),
             (word("eq ") && !value && !name, "an operator"),
             (value, "a value"),
-            (self.goes_on("[zz") && !self.goes_on("[1") && operators.is_none(), "`[`"),
+            (bracket, "`[`"),
             (self.goes_on(")"), "`)`"),
             (self.goes_on("]"), "`]`"),
             (self.goes_on(".zz") && !self.goes_on("1"), "`.`"),
@@ -203,21 +225,7 @@ impl Beginning<'_> {
             (word("or ") && !value && !name, "`or`"),
             (self.is_filter(), "the end"),
         ];
-        let choices: Vec<&str> = choices.into_iter().filter_map(|(stands, what)| stands.then_some(what)).collect();
-        if choices.is_empty() {
-            let last_word = self.begun.iter().rposition(|&byte| byte == b' ').unwrap_or(0);
-            let operators = Beginning { begun: &self.begun[..last_word], ..*self }.operators();
-            let no_word = "The last word cannot end here: it is no name and no operator.".to_string();
-            return [no_word].into_iter().chain(operators).collect();
-        }
-        let several = choices.contains(&"`and`")
-            && self.ends_with_bare_word()
-            && rest.first().is_some_and(u8::is_ascii_alphanumeric);
-        let several = several.then(|| "A value of several words stands between double quotes.".into());
-        let operators = operators.filter(|_| choices.contains(&"an operator"));
-        let space = if new_word { "" } else { " Words have a space before them." };
-        let place = format!("Here could stand {}.{space}", row(&choices, "or"));
-        several.into_iter().chain([place]).chain(operators).collect()
+        choices.into_iter().filter_map(|(stands, what)| stands.then_some(what)).collect()
     }
 
     /// Whether a value without quotes, and a space behind it, stand at its end.
