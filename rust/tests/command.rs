@@ -970,6 +970,27 @@ fn verify_goes_through_all_cards() {
     folder.run(&["verify", "packed"]).says(0, &found("blocks"), "");
     folder.run(&["pack", ".", "."]);
     folder.run(&["verify", "."]).says(0, &(found("description") + &found("blocks")), "");
+    let help = "  One of them has changed since it was packed. `sirophan pack` makes the blocks anew.\n";
+    for (changed, message) in [
+        (
+            cards.replace("record: 2000\n", "record: 2000\ntitle x\n"),
+            "card 2000 is not record 2000 as ./cards.txt describes it.",
+        ),
+        (cards.replace("record: 2000\n", "record: 7\n"), "card 2000 is not record 7 as ./cards.txt describes it."),
+    ] {
+        folder.write("cards.txt", changed);
+        folder.run(&["verify", "."]).fails(2, &format!("./cards.bin: {message}\n{help}"));
+    }
+    folder.write("cards.txt", format!("{cards}record: 1\n"));
+    let message = "./cards.bin has 3,000 cards only, and ./cards.txt describes more.";
+    folder.run(&["verify", "."]).fails(2, &format!("{message}\n{help}"));
+    folder.write("cards.txt", "record: 0\npages 12\n");
+    let message = "./cards.bin has more cards than the 1 that ./cards.txt describes.";
+    folder.run(&["verify", "."]).fails(2, &format!("{message}\n{help}"));
+    folder.write("cards.txt", &cards).write("sheet.txt", "string pages\nstring title\n");
+    let message = "./sheet.bin is not the sheet that ./sheet.txt describes.";
+    folder.run(&["verify", "."]).fails(2, &format!("{message}\n{help}"));
+    folder.write("sheet.txt", sheet);
     folder.change("packed/cards.bin", |cards| {
         for card in [2, 3, 2500] {
             cards[card * 512 + 8] = b'x';

@@ -151,7 +151,8 @@ const COMMANDS: [Command; 6] = [
         options: &[],
         summary: "says whether all that is in a folder goes together",
         help: "It takes the blocks (sheet.bin, cards.bin), the description (sheet.txt, cards.txt), or both, whichever are in DIR,\n\
-               with filter.txt. It goes through all cards and names each that does not fit, with the field and the reason.\n\n\
+               with filter.txt. It goes through all cards and names each that does not fit, with the field and the reason.\n\
+               Where both are there, it says whether the blocks hold what the description says.\n\n\
                Example:\n\n\
                \x20   $ sirophan verify target/ward\n\
                \x20   the blocks: 3 cards, a sheet with 5 parameters, a filter with 3 tests: all go together\n",
