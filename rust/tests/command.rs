@@ -386,6 +386,11 @@ fn check_answers_with_the_tests() {
         "{\"count\":1,\"tests\":[{\"field\":\"pages\",\"kind\":\"number\",\"operator\":\"gt\",\"value\":\"5\"}]}\n",
         "",
     );
+    folder.run_with(&["check", "--json", "sheet.bin", "-"], b"title co \"a\\tb \\\\ c\"").says(
+        0,
+        "{\"count\":1,\"tests\":[{\"field\":\"title\",\"kind\":\"string\",\"operator\":\"co\",\"value\":\"a\\u0009b \\\\ c\"}]}\n",
+        "",
+    );
     let folder = Folder::packed("check-name", "token discharge-date\n", "record: 1\n", "discharge-date eq 1974");
     folder.run(&["check", "sheet.bin", "filter.txt"]).says(
         0,
