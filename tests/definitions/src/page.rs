@@ -12,7 +12,7 @@ pub const COMMAND: &str = "cargo run --offline --manifest-path tests/Cargo.toml 
 /// The page.
 pub fn page(repository: &Repository, promises: &[Promise], twins: &[Twin]) -> String {
     let all: BTreeSet<&Id> = promises.iter().flat_map(|promise| &promise.behind).collect();
-    let files = by_file(all.iter().copied());
+    let files = by_file(all.iter().copied()).len();
     let lines = |ids: &BTreeSet<&Id>| ids.iter().map(|id| repository.lines(id)).sum::<usize>();
     let mut page = format!(
         "# Definitions to believe\n\n\
@@ -25,13 +25,14 @@ pub fn page(repository: &Repository, promises: &[Promise], twins: &[Twin]) -> St
         promises.len(),
         all.len(),
         lines(&all),
-        files.len()
+        files
     );
     write_twins(&mut page, twins);
     page.push_str(
         "\n## The statements\n\n\
          Under each demand, in the order of the file: what a statement's own text names, by crate and file, and how many definitions and\n\
-         lines there are behind it. A computing twin is in italics, and does not count.\n",
+         lines there are behind it. A computing twin is in italics, and does not count. With a statement's name behind it, as in\n\
+         `-p definitions -- check-refused`, the program prints all that is behind that one, by file.\n",
     );
     let mut heading = None;
     for promise in promises {
@@ -44,12 +45,21 @@ pub fn page(repository: &Repository, promises: &[Promise], twins: &[Twin]) -> St
         let names = named(promise);
         let _ = writeln!(page, "| `{}` | {names} | {} | {} |", promise.name, behind.len(), lines(&behind));
     }
-    page.push_str("\n## All definitions, by file\n\n| file | lines | definitions |\n|---|---|---|\n");
-    for (file, ids) in &files {
-        let _ = writeln!(page, "| `{file}` | {} | {} |", lines(ids), names_of(ids));
-    }
+    page.push_str("\n## All definitions, by file\n\n");
+    page.push_str(&files_behind(repository, all));
     write_kit(&mut page, promises);
     page
+}
+
+/// Definitions as a table of their files.
+pub fn files_behind<'a>(repository: &Repository, ids: impl IntoIterator<Item = &'a Id>) -> String {
+    let mut table = String::from("| file | lines | definitions |\n|---|---|---|\n");
+    for (file, ids) in by_file(ids.into_iter()) {
+        let lines: usize = ids.iter().map(|id| repository.lines(id)).sum();
+        let names = listed(ids.iter().map(|id| quoted(&id.name)), ", ");
+        let _ = writeln!(table, "| `{file}` | {lines} | {names} |");
+    }
+    table
 }
 
 fn write_twins(page: &mut String, twins: &[Twin]) {
@@ -105,10 +115,6 @@ fn by_file<'a>(ids: impl Iterator<Item = &'a Id>) -> BTreeMap<&'a str, BTreeSet<
         files.entry(&id.file).or_default().insert(id);
     });
     files
-}
-
-fn names_of(ids: &BTreeSet<&Id>) -> String {
-    listed(ids.iter().map(|id| quoted(&id.name)), ", ")
 }
 
 fn listed(words: impl Iterator<Item = String>, between: &str) -> String {
