@@ -11,17 +11,16 @@ pub struct Word {
     first: bool,
 }
 
-/// The line without its comment.
+/// The line without its comment, which begins with two dashes behind a blank.
 pub fn without_comment(line: &str) -> &str {
-    let mut quoted = false;
-    let mut before = ' ';
-    for (place, c) in line.char_indices() {
-        match c {
-            '"' if before != '\\' => quoted = !quoted,
-            '-' if !quoted && before.is_whitespace() && line[place..].starts_with("--") => return &line[..place],
-            _ => {}
+    let mut place = 0;
+    let mut blank = true;
+    while let Some(c) = line[place..].chars().next() {
+        if blank && line[place..].starts_with("--") {
+            return &line[..place];
         }
-        before = c;
+        blank = c.is_whitespace();
+        place = if c == '"' { line.len() - behind_string(&line[place + 1..]).len() } else { place + c.len_utf8() };
     }
     line
 }

@@ -10,7 +10,8 @@ const PROMISES: &str = "crates/top/proofs/Promises.antt";
 const RULES: &str = "crates/low/specs/Rules.antt";
 const TWINS: [Twin; 1] = [Twin { file: RULES, name: "isEven", promises: &["even-told"], line: 7 }];
 
-/// A tree of two crates. `--` in a text and a quote in it are no comment and no end; `unused` is behind nothing.
+/// A tree of two crates. Dashes in a text are no comment, a quote behind a backslash is no end of it, and a quote behind two is;
+/// `unused` is behind nothing.
 fn tree() -> Files {
     let files = [
         (
@@ -32,7 +33,8 @@ even-told = laws.even
 -- ---- demand 2: sizes
 
 pub shape-small : (s : Shape) (odd : ℕ)
-    → rules.sizeOf s ≡ one "a -- \" Odd" → odd ≤ 3
+    → rules.sizeOf s ≡ one "a -- \" Odd" "\\" -- " Odd
+    → odd ≤ 3
 shape-small = laws.small
 
 pub measured : Measure ≡ Measure
