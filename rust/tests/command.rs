@@ -1066,6 +1066,12 @@ fn folders_that_cannot_be_written() {
     fs::create_dir_all(folder.path.join("out/cards.bin")).unwrap();
     folder.run(&["pack", &ward, "out"]).fails(3, "sirophan: out/cards.bin cannot be replaced: Is a directory\n");
     assert!(!folder.path.join("out/cards.bin.new").exists());
+    // On a full disk the archive that was there stays, and nothing else.
+    folder.change("cards.bin", |cards| cards.truncate(512));
+    std::os::unix::fs::symlink("/dev/full", folder.path.join("cards.bin.new")).unwrap();
+    folder.run(&["pack", &ward, "."]).fails(3, "sirophan: ./cards.bin cannot be written: No space left on device\n");
+    assert_eq!(folder.files(), ["cards.bin", "filter.txt", "out", "sheet.bin"]);
+    assert_eq!(folder.read("cards.bin").len(), 512);
 }
 
 #[test]
