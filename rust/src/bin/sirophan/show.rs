@@ -3,9 +3,11 @@
 use crate::advice;
 use crate::arguments::Arguments;
 use crate::block::{self, Item, SIZE, Sort};
+use crate::cards;
 use crate::input::{self, Input};
 use crate::json;
 use crate::kind;
+use crate::progress::Progress;
 use crate::report::{Failure, Message, Output};
 use crate::sheet::Sheet;
 use crate::table;
@@ -93,7 +95,12 @@ impl View {
         let mut file = Input::open(path)?;
         let beside = sheet_beside(path);
         let mut block = [0; SIZE];
+        // Where all is shown, one sees how far it is.
+        let mut progress = self.record.map(|_| Progress::new());
         for index in 0.. {
+            if let Some(progress) = &mut progress {
+                progress.show(|| cards::part_read(index * SIZE as u64, file.size));
+            }
             match file.fill(&mut block)? {
                 0 => break,
                 SIZE => self.block(index, &block, &beside)?,
