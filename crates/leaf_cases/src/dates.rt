@@ -1,4 +1,4 @@
-// Dates: which texts are readable, their spans, and how two compare.
+// Dates: which texts are readable, their spans, and how a card's date or period and a filter's date compare.
 use crate::show::about;
 use crate::show::against;
 use crate::show::answer;
@@ -6,6 +6,7 @@ use crate::show::signed;
 use crate::show::write;
 use date::Date;
 use date::Reading;
+use period::Period;
 
 // The rest of a line about a date.
 fn span(d: Date) {
@@ -23,26 +24,26 @@ pub fn read(t: &[u8]) {
     }
 }
 
-// The first of the relations of a card's date and a filter's.
-fn orders(i: Date, f: Date) {
-    answer(b" eq", date::inside(i, f));
-    answer(b", gt", date::later(i, f));
-    answer(b", lt", date::earlier(i, f));
-    answer(b", ge", date::later_or_inside(i, f));
-    answer(b", le", date::earlier_or_inside(i, f));
+// The first of the relations of a card's span and a filter's date.
+fn orders(i: Period, f: Date) {
+    answer(b" eq", period::inside(i, f));
+    answer(b", gt", period::later(i, f));
+    answer(b", lt", period::earlier(i, f));
+    answer(b", ge", period::later_or_inside(i, f));
+    answer(b", le", period::earlier_or_inside(i, f));
 }
 
 // The rest of them.
-fn spans(i: Date, f: Date) {
-    answer(b", sa", date::starts_after(i, f));
-    answer(b", eb", date::ends_before(i, f));
-    answer(b", po", date::overlaps(i, f));
-    answer(b", co", date::covers(i, f));
+fn spans(i: Period, f: Date) {
+    answer(b", sa", period::starts_after(i, f));
+    answer(b", eb", period::ends_before(i, f));
+    answer(b", po", period::overlaps(i, f));
+    answer(b", co", period::covers(i, f));
 }
 
-// The rest of a line about a card's date and a filter's, where both texts are readable.
+// The rest of a line about a card's date or period and a filter's date, where both texts are readable.
 fn pair(card: &[u8], filter: &[u8]) {
-    let Reading::Readable(i) = date::read(card) else {
+    let period::Reading::Readable(i) = period::read_span(card) else {
         return;
     };
     let Reading::Readable(f) = date::read(filter) else {
@@ -52,7 +53,7 @@ fn pair(card: &[u8], filter: &[u8]) {
     spans(i, f);
 }
 
-// How a card's date and a filter's compare.
+// How a card's date or period and a filter's date compare.
 pub fn compare(card: &[u8], filter: &[u8]) {
     against(b"date", card, filter);
     pair(card, filter);
