@@ -3,7 +3,6 @@
 use mathlib.Core.Path.{_≡_, refl, sym, ap, subst}
 use Prim.Native.Nat.{ℕ, suc, _+_, _-_, _≤_, _<_}
 use native.Mathlib.Omega.{arith}
-use mathlib.Core.Bool.{true, false}
 use mathlib.Core.Logic.{⊎-elim}
 use mathlib.Core.List.{List, [], _∷_, _++_}
 use lib.Dec.{eqb}
@@ -14,7 +13,6 @@ use Rattle.base.specs.Lists.{all-empty, all-cons}
 use Rattle.base.specs.Runs.{run, runEnd, differs, RunEnd}
 use Rattle.base.specs.Split.{firstOf, Without, whole, parts, split}
 use Rattle.base.proofs.Lists.{rest}
-use Rattle.base.proofs.Runs.{run-within}
 use Rattle.base.proofs.Tests.{decided}
 
 module _ (x : ℕ) where
@@ -63,6 +61,6 @@ module _ (x : ℕ) where
       ⊎-elim
       (λ e. subst (λ (z : ℕ). P (z ∷ t)) (sym (eqb-true y x e)) (found [] t all-empty))
       (λ e.
-        let n : y ≡ x → ⊥ = eqb-false y x e in
-        split-cases (λ (u : List ℕ). P (y ∷ u)) (λ c h. none (y ∷ c) (all-cons n h)) (λ s c h. found (y ∷ s) c (all-cons n h)) t)
+      let n : y ≡ x → ⊥ = eqb-false y x e in
+      split-cases (λ (u : List ℕ). P (y ∷ u)) (λ c h. none (y ∷ c) (all-cons n h)) (λ s c h. found (y ∷ s) c (all-cons n h)) t)
       (decided (eqb y x))

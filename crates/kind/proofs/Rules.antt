@@ -12,7 +12,7 @@ use Rattle.base.specs.Ascii.{ascii}
 use Rattle.base.specs.Operators.{pr, eq, ne}
 use Rattle.base.proofs.Lists.{length-zero}
 use Rattle.base.specs.Lists.{All, all-empty, all-cons}
-use Rattle.base.proofs.Tests.{and-left, and-right, and-both, or-either, or-left, or-right, decided, both-ways, cond-either, cond-elim}
+use Rattle.base.proofs.Tests.{and-left, and-right, and-both, or-either, or-left, or-right, both-ways, cond-either, cond-elim}
 use Rattle.text.specs.Fold.{isCapital, isAccented, foldByte, foldFrom, foldText}
 use Rattle.text.specs.Compare.{same}
 use Rattle.text.proofs.Readings.{same-reads, starts-reads, ends-reads, contains-reads}

@@ -4,10 +4,10 @@
 use Prim.Native.Nat.{zero, suc}
 use native.Mathlib.Omega.{arith}
 use mathlib.Core.Path.{_≡_, refl}
-use mathlib.Core.Bool.{Bool, true, false, not}
+use mathlib.Core.Bool.{Bool, true, not}
 use mathlib.Core.Logic.{_↔_, _⊎_, ⊎-elim}
 use lib.IntN.{ℤ, pos, negsuc}
-use lib.Signed.{ltZ, leZ, _≤ℤ_, _<ℤ_, ≤ℤ-refl, <ℤ-≤ℤ-trans, <ℤ-irrefl, clashℤ}
+use lib.Signed.{ltZ, _≤ℤ_, _<ℤ_, ≤ℤ-refl, <ℤ-≤ℤ-trans, <ℤ-irrefl, clashℤ}
 use borrow.Author.Tests.{lt-ltb, not-true}
 use Rattle.base.proofs.Integers.{leZ-iff, ltZ-iff, ltZ-false, <ℤ-≤ℤ, ≤ℤ-trans}
 use Rattle.base.proofs.Tests.{and-left, and-right, and-both, decided, both-ways}
@@ -144,8 +144,8 @@ module _ (i : Period) (some : Inhabited i) (f : Date) (first : InRange f (f .sta
       before = ends-not (f .end) (and-right (not (startsBefore (i .start) (f .start))) (not (endsAfter (i .end) (f .end))) h) t p;
     }),
     (λ h. and-both (not (startsBefore (i .start) (f .start))) (not (endsAfter (i .end) (f .end)))
-      (refuted (startsBefore (i .start) (f .start)) (λ e. let w = starts-there (f .start) e in clashℤ (w .2) (h (w .0) (w .1) .from)))
-      (refuted (endsAfter (i .end) (f .end)) (λ e. let w = ends-there (f .end) e in clashℤ (h (w .0) (w .1) .before) (w .2)))),
+        (refuted (startsBefore (i .start) (f .start)) (λ e. let w = starts-there (f .start) e in clashℤ (w .2) (h (w .0) (w .1) .from)))
+        (refuted (endsAfter (i .end) (f .end)) (λ e. let w = ends-there (f .end) e in clashℤ (h (w .0) (w .1) .before) (w .2)))),
   )
 
   -- a period open at an end has instants beyond every date
@@ -195,10 +195,10 @@ module _ (i : Period) (some : Inhabited i) (f : Date) (first : InRange f (f .sta
   unfolding overlaps
   overlaps-iff = (
     (λ h.
-      let low = startsBefore (i .start) (f .end) in
-      let high = endsAfter (i .end) (f .start) in
-      let w = common (i .start) (i .end) (some .0) (some .1 .from) (some .1 .before) (and-left low high h) (and-right low high h) in
-      (w .0, record { from = w .1; before = w .2 }, w .3)),
+        let low = startsBefore (i .start) (f .end) in
+        let high = endsAfter (i .end) (f .start) in
+        let w = common (i .start) (i .end) (some .0) (some .1 .from) (some .1 .before) (and-left low high h) (and-right low high h) in
+        (w .0, record { from = w .1; before = w .2 }, w .3)),
     (λ w. and-both (startsBefore (i .start) (f .end)) (endsAfter (i .end) (f .start)) (starts-back (f .end) (w .0) (w .1) (w .2 .before)) (ends-back (f .start) (w .0) (w .1) (w .2 .from))),
   )
 
@@ -221,13 +221,13 @@ module _ (i : Period) (some : Inhabited i) (f : Date) (first : InRange f (f .sta
   unfolding covers
   covers-iff = (
     (λ h t r.
-      let low = startsNoLater (i .start) (f .start) in
-      let high = endsNoEarlier (i .end) (f .end) in
-      record {
-        from = from-up (i .start) (f .start) t (from-there (i .start) (f .start) (and-left low high h)) (r .from);
-        before = ends-within-back (i .end) t (and-right low high h) (r .before);
-      }),
+        let low = startsNoLater (i .start) (f .start) in
+        let high = endsNoEarlier (i .end) (f .end) in
+        record {
+          from = from-up (i .start) (f .start) t (from-there (i .start) (f .start) (and-left low high h)) (r .from);
+          before = ends-within-back (i .end) t (and-right low high h) (r .before);
+        }),
     (λ h. and-both (startsNoLater (i .start) (f .start)) (endsNoEarlier (i .end) (f .end))
-      (from-test (i .start) (f .start) (h (f .start) first .from))
-      (ends-within (i .end) (h (f .start) first .before) (λ t r. h t r .before))),
+        (from-test (i .start) (f .start) (h (f .start) first .from))
+        (ends-within (i .end) (h (f .start) first .before) (λ t r. h t r .before))),
   )
