@@ -37,8 +37,7 @@ pub enum Kind {
 
 impl Kind {
     /// The kinds in the order of their numbers, from 1.
-    pub const ALL: [Kind; 6] =
-        [Kind::String, Kind::Number, Kind::Date, Kind::Token, Kind::Reference, Kind::Period];
+    pub const ALL: [Kind; 6] = [Kind::String, Kind::Number, Kind::Date, Kind::Token, Kind::Reference, Kind::Period];
 
     /// The kind with this number on a sheet.
     pub fn from_number(number: u8) -> Option<Kind> {

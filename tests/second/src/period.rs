@@ -6,8 +6,8 @@ use crate::date::Date;
 const BEFORE_ALL: i64 = i64::MIN;
 const BEHIND_ALL: i64 = i64::MAX;
 
-/// Reads a period as the span from the start of the first date to the end of the second. A span that would not end after
-/// it starts is unreadable.
+/// Reads a period as the span from the start of the first date to the end of the second. A span that would not end
+/// after it starts is unreadable.
 pub fn read(text: &[u8]) -> Option<Date> {
     let mut dates = text.split(|&byte| byte == b'/');
     let (first, second) = (dates.next()?, dates.next()?);
@@ -44,7 +44,9 @@ mod tests {
 
     #[test]
     fn unreadable() {
-        for text in " / // 1974 1980/1974 1975/1974 1974/1975/1976 1974// //1974 /1974/ 1974/x x/1974 1974-/ /19745".split(' ') {
+        for text in
+            " / // 1974 1980/1974 1975/1974 1974/1975/1976 1974// //1974 /1974/ 1974/x x/1974 1974-/ /19745".split(' ')
+        {
             assert_eq!(read(text.as_bytes()), None, "{text}");
         }
         assert_eq!(read(b"1974/ "), None);
