@@ -245,7 +245,7 @@ fn pick_refuses_a_filter_before_the_cards() {
          \x20                ^^^^^^^^^\n\
          standard input: refused 16 at 17: The operator has no meaning for a parameter of this kind.\n\
          \x20 code is a token, which has the operators eq, ne and pr.\n\
-         \x20 gt is for numbers and dates. If that is what code holds, the sheet gives it the wrong kind.\n",
+         \x20 gt is for numbers, dates and periods. If that is what code holds, the sheet gives it the wrong kind.\n",
     );
     let json = folder.run_with(&["pick", "--json", "sheet.bin", "-", "cards.bin"], b"title eq");
     json.fails(
@@ -653,6 +653,55 @@ fn fields_show_what_the_cards_hold() {
     );
 }
 
+/// Periods: packed, shown in words, asked by dates, and told where they cannot be read.
+#[test]
+fn periods_in_words() {
+    let sheet = "period stay\nstring ward\nperiod discharge-date\n";
+    let cards = "record: 1\nstay 1974-06/1974\nrecord: 2\nstay 1974/\nward 1960/\nrecord: 3\nstay /1974-06\n";
+    let folder = Folder::packed("periods", sheet, cards, "stay lt 1974-06");
+    folder.run(&["show", "cards.bin"]).says(
+        0,
+        "card 0, record 1, 1 entry\n\
+         \x20 name  kind    text\n\
+         \x20 stay  period  1974-06/1974 (from 1974-06 to the end of 1974)\n\
+         card 1, record 2, 2 entries\n\
+         \x20 name  kind    text\n\
+         \x20 stay  period  1974/ (from 1974 on, end open)\n\
+         \x20 ward  string  1960/\n\
+         card 2, record 3, 1 entry\n\
+         \x20 name  kind    text\n\
+         \x20 stay  period  /1974-06 (to the end of 1974-06, start open)\n",
+        "",
+    );
+    folder.run(&["fields", "sheet.bin", "cards.bin"]).says(
+        0,
+        "3 cards\n\
+         \x20 field           kind    cards  values  example\n\
+         \x20 stay            period  3      3       1974-06/1974\n\
+         \x20 ward            string  1      1       1960/\n\
+         \x20 discharge-date  period  0      0\n\
+         warning: ward is a string, and 1 of 1 value looks like a period.\n\
+         \x20 If it holds periods, the sheet gives it the wrong kind, and a filter asks something else than it seems to.\n",
+        "",
+    );
+    folder.pick("stay gt 1974-06").says(0, "1\n2\n2 of 3\n", "");
+    folder.pick("stay eq 1974").says(0, "1\n1 of 3\n", "");
+    folder.check("discharge-date eq 1974").says(0, "1 test\n  discharge-date  period  eq  1974\n", "");
+    folder.check("stay eq 1974/").fails(
+        2,
+        "stay eq 1974/\n^^^^^^^^^^^^^\nstandard input: refused 17 at 0: The value cannot be read as the parameter's kind, or for pr \
+         as true or false.\n\
+         \x20 stay is a period, which a filter asks by a date, and 1974/ cannot be read as one: YYYY, YYYY-MM, YYYY-MM-DD, or \
+         YYYY-MM-DDThh:mm:ss with Z or a zone such as +02:00.\n",
+    );
+    folder.write("cards.txt", "record: 1\nstay 1974\n");
+    folder.run(&["pack", ".", "."]).fails(
+        2,
+        "./cards.txt:2: record 1, stay: 1974 cannot be read as a period: two dates with a slash between, of which one may be \
+         missing, such as 1974-06/1975, 1974/ or /1975; it ends after it starts.\n",
+    );
+}
+
 /// A sheet without fields takes cards without entries.
 #[test]
 fn fields_of_a_sheet_without_fields() {
@@ -786,7 +835,7 @@ fn pack_tells_the_faults_of_a_sheet() {
     let names = "A name begins with a letter or _, goes on with letters, digits, _ and -, has at most 30 bytes, and is not and, \
                  or or not.";
     let cases = [
-        ("word a\n", 1, "word is no kind. The kinds are string, number, date, token, reference and bundle."),
+        ("word a\n", 1, "word is no kind. The kinds are string, number, date, token, reference, period and bundle."),
         ("string a\n\ndate a\n", 3, "a has the same name as a at place 0. Rename one of them."),
         ("string a\nbundle b\ntoken b.a\n", 3, "b.a has the same name as a at place 0. Rename one of them."),
         ("bundle a\nbundle a.b\n", 2, "a.b is a bundle in a bundle. Put it at the top, under a name without a dot."),

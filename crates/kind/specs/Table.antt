@@ -8,9 +8,9 @@ use lib.Dec.{eqb}
 use lib.ListN.{length}
 use Rattle.base.specs.Operators.{eq, ne, co, sw, ew, gt, lt, ge, le, sa, eb, pr, po, re}
 use Rattle.base.specs.Kinds.{string, number, date, token, reference, period}
-use Rattle.number.specs.Reading as decimals
-use Rattle.date.specs.Texts as spans
-use Rattle.period.specs.Texts as periods
+use Rattle.number.specs.Reading as number-texts
+use Rattle.date.specs.Texts as date-texts
+use Rattle.period.specs.Texts as period-texts
 use Rattle.token.specs.Card as tokens
 use Rattle.token.specs.Filter as forms
 use Rattle.kind.specs.declared.StringRelation.the-variants as strings
@@ -76,11 +76,11 @@ notEmpty t = not (eqb (length t) 0)
 unfoldable pub kinds : List Kind
 kinds =
     kindOf string anyText anyText stringRow
-    ∷ kindOf number decimals.readable decimals.readable numberRow
-    ∷ kindOf date spans.readable spans.readable dateRow
+    ∷ kindOf number number-texts.readable number-texts.readable numberRow
+    ∷ kindOf date date-texts.readable date-texts.readable dateRow
     ∷ kindOf token tokens.cardReadable forms.filterReadable tokenRow
     ∷ kindOf reference notEmpty notEmpty referenceRow
-    ∷ kindOf period periods.readable spans.readable dateRow
+    ∷ kindOf period period-texts.readable date-texts.readable dateRow
     ∷ []
 
 -- what the table has for a number, and what there is for a number that is not in it

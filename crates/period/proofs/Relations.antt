@@ -4,10 +4,10 @@
 use Prim.Native.Nat.{zero, suc}
 use native.Mathlib.Omega.{arith}
 use mathlib.Core.Path.{_≡_, refl}
-use mathlib.Core.Bool.{Bool, true, false, not}
+use mathlib.Core.Bool.{Bool, true, not}
 use mathlib.Core.Logic.{_↔_, _⊎_, ⊎-elim}
 use lib.IntN.{ℤ, pos, negsuc}
-use lib.Signed.{ltZ, leZ, _≤ℤ_, _<ℤ_, ≤ℤ-refl, <ℤ-≤ℤ-trans, <ℤ-irrefl, clashℤ}
+use lib.Signed.{ltZ, _≤ℤ_, _<ℤ_, ≤ℤ-refl, <ℤ-≤ℤ-trans, <ℤ-irrefl, clashℤ}
 use borrow.Author.Tests.{lt-ltb, not-true}
 use Rattle.base.proofs.Integers.{leZ-iff, ltZ-iff, ltZ-false, <ℤ-≤ℤ, ≤ℤ-trans}
 use Rattle.base.proofs.Tests.{and-left, and-right, and-both, decided, both-ways}

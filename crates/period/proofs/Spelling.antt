@@ -3,14 +3,14 @@
 -- Assumes nothing.
 use Prim.Native.Nat.{ℕ, _+_, _/_, _%_}
 use native.Mathlib.Omega.{arith}
-use mathlib.Core.Bool.{Bool, true, false, cond, false≢true}
-use mathlib.Core.Path.{_≡_, refl, sym, ap, subst, _∙_}
+use mathlib.Core.Bool.{true, false, false≢true}
+use mathlib.Core.Path.{_≡_, refl, sym, subst, _∙_}
 use mathlib.Core.List.{List, [], _∷_, _++_}
-use mathlib.Core.Logic.{_↔_, _⊎_, inl, inr, ⊎-elim}
+use mathlib.Core.Logic.{_↔_}
 use lib.IntN.{ℤ}
-use lib.Signed.{ltZ, _<ℤ_, ≤ℤ-refl}
+use lib.Signed.{ltZ, ≤ℤ-refl}
 use Rattle.base.specs.Lists.{all-empty, all-cons}
-use Rattle.base.specs.Split.{Without, split}
+use Rattle.base.specs.Split.{Without}
 use Rattle.base.proofs.All.{all-head, all-append, all-right}
 use Rattle.base.proofs.Integers.{ltZ-iff}
 use Rattle.base.proofs.Split.{split-whole, split-at, split-cases}
@@ -22,8 +22,8 @@ use Rattle.date.specs.Spelling as date-spelling
 use Rattle.date.specs.Texts as texts
 use Rattle.date.proofs.Spelling as date-reading
 use Rattle.date.proofs.Readings.{read-first}
-use Rattle.period.specs.Instants.{InPeriod, Inhabited, from-open, from-known, until-open, until-known}
-use Rattle.period.specs.Texts.{slash, period, known, fromTo, bothEnds, openEnd, openStart, readParts, readSplit, read, isPeriod, readable, spanOr, readSpan}
+use Rattle.period.specs.Instants.{Inhabited, from-open, from-known, until-open, until-known}
+use Rattle.period.specs.Texts.{slash, period, known, fromTo, bothEnds, openEnd, openStart, readParts, read, isPeriod, readable, spanOr, readSpan}
 use Rattle.period.specs.Spelling.{Spells, spells-both, spells-first, spells-second, SpellsSpan, span-of-date, span-of-period}
 use Rattle.period.specs.declared.End.{End}
 use Rattle.period.specs.declared.Period.{Period}

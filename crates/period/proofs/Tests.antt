@@ -1,7 +1,7 @@
 -- Laws of the tests on ends and relations, as the code has them.
 -- Assumes nothing.
-use mathlib.Core.Path.{_≡_, refl, sym, ap, _∙_}
-use mathlib.Core.Bool.{Bool, true, false, not, _&&_, _||_}
+use mathlib.Core.Path.{_≡_, ap}
+use mathlib.Core.Bool.{Bool, true, false, not, _&&_}
 use lib.IntN.{ℤ}
 use lib.Signed.{ltZ, leZ}
 use mir.Syntax.{w64}

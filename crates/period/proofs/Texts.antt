@@ -10,8 +10,8 @@ use lib.Signed.{ltZ}
 use mir.Syntax.{w64}
 use mir.Val.{SFits, toZ, ofZ}
 use mir.ValLaws.{toZ-ofZ}
-use borrow.Author.Tests.{eq-eqb, ne-eqb}
-use Rattle.base.specs.Split.{firstOf, split}
+use borrow.Author.Tests.{ne-eqb}
+use Rattle.base.specs.Split.{firstOf}
 use Rattle.base.proofs.Split.{split-none, split-parts}
 use Rattle.date.specs.declared.Date.{Date}
 use Rattle.date.specs.declared.Reading as dates

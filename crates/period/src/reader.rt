@@ -18,18 +18,18 @@ fn known(d: Date) -> Period
     }
 }
 
-// Whether a starts before b ends.
-fn starts_before_end(a: Date, b: Date) -> bool
+// Whether the span from the start of `a` to the end of `b` ends after it starts.
+fn in_order(a: Date, b: Date) -> bool
     ensures { λ r. ⌜ r ≡ ltZ (a .start) (b .end) ⌝ }
 {
     a.start < b.end
 }
 
-// "From the start of the first to the end of the second; a span that would not end after it starts is unreadable."
+// "From the start of the first to the end of the second"; "a span that would not end after it starts is unreadable".
 fn from_to(a: Date, b: Date) -> Reading
     ensures { λ r. ⌜ r ≡ fromTo a b ⌝ }
 {
-    if starts_before_end(a, b) {
+    if in_order(a, b) {
         return Reading::Readable(Period {
             start: End::At(a.start),
             end: End::At(b.end),

@@ -27,7 +27,7 @@ use Rattle.syntax.specs.Scan.{stepOf, stringFrom, stringAt, valueAt, follows, f
 use Rattle.syntax.specs.Reader.{chainOf, filterOf, itemAt, filterAt, read}
 use Rattle.syntax.proofs.Spelling.{read-spells}
 use Rattle.kind.specs.Table.{stringRow, tokenRow, row, relationIn, rowMeaning, meaningOf, hasMeaning, kinds, ofKind}
-use Rattle.kind.specs.Readable.{cardReadable, filterReadable, valueReadable}
+use Rattle.kind.specs.Readable.{filterReadable, valueReadable}
 use Rattle.judge.specs.Sets.{lookup, valuesAt}
 use Rattle.judge.specs.Faults.{unsupported, kindFault, testFault}
 use Rattle.judge.specs.declared.Fault.{Fault}

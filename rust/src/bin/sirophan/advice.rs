@@ -291,7 +291,10 @@ fn operator_help(path: &str, kind: u8, operator: &str) -> Vec<String> {
 /// Help with a value that cannot be read.
 fn value_help(path: &str, kind: u8, value: &str) -> Vec<String> {
     kind::by_number(kind).map_or_else(Vec::new, |kind| {
-        vec![format!("{path} is {}, and {value} cannot be read as one: {}.", kind.one, kind.written)]
+        let by = kind::asked_by(kind);
+        let asked =
+            if by.number == kind.number { String::new() } else { format!(", which a filter asks by {}", by.one) };
+        vec![format!("{path} is {}{asked}, and {value} cannot be read as one: {}.", kind.one, by.written)]
     })
 }
 

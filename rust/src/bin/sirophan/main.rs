@@ -84,7 +84,7 @@ const COMMANDS: [Command; 6] = [
                \x20   ^^^^^^^^^^^^\n\
                \x20   standard input: refused 16 at 0: The operator has no meaning for a parameter of this kind.\n\
                \x20     code is a token, which has the operators eq, ne and pr.\n\
-               \x20     lt is for numbers and dates. If that is what code holds, the sheet gives it the wrong kind.\n",
+               \x20     lt is for numbers, dates and periods. If that is what code holds, the sheet gives it the wrong kind.\n",
         run: check::run,
     },
     Command {
@@ -114,8 +114,8 @@ const COMMANDS: [Command; 6] = [
                anything is wrong it says where, and OUT stays as it was.\n\n\
                A line has a head and a text; a line that begins with # is left out. A text that begins or ends with a space, is\n\
                empty, or holds bytes that do not print stands in double quotes, with \\\" \\\\ and \\xHH inside. In sheet.txt the\n\
-               head is a kind (string, number, date, token, reference, bundle) and the text a name. In cards.txt the head is\n\
-               `record:` before a record number, or else a name. A bundle's members are named behind it, and on a card those\n\
+               head is a kind (string, number, date, token, reference, period, bundle) and the text a name. In cards.txt the head\n\
+               is `record:` before a record number, or else a name. A bundle's members are named behind it, and on a card those\n\
                with the same number, 0 to 255, belong together; without a number it is 0:\n\n\
                \x20   sheet.txt                    cards.txt\n\
                \x20   bundle     related           record:           7\n\

@@ -171,8 +171,10 @@ fn sheet(sheet: &Sheet) -> Shown {
 fn card(index: u64, card: &[u8], sheet: &Sheet) -> Shown {
     let row = |item: Item| {
         let place = usize::from(item.byte);
-        let word = sheet.parameters.get(place).map_or("?".into(), |parameter| kind::word_of(parameter.kind));
-        let text = Cell { shown: spell(item.text), json: json::bytes(item.text) };
+        let kind = sheet.parameters.get(place).map(|parameter| parameter.kind);
+        let word = kind.map_or("?".into(), kind::word_of);
+        let words = kind.and_then(|kind| kind::in_words(kind, item.text));
+        let text = Cell { shown: explained(item.text, words), json: json::bytes(item.text) };
         [Cell::word(sheet.path(place, item.mark)), Cell::word(word), text]
     };
     let (record, count) = (block::record(card), block::count(card));
@@ -188,6 +190,11 @@ fn card(index: u64, card: &[u8], sheet: &Sheet) -> Shown {
             advice::card_faults(sheet, card)
         },
     }
+}
+
+/// A text, and behind it what it says in words.
+fn explained(text: &[u8], words: Option<String>) -> String {
+    words.map_or(spell(text), |words| format!("{} ({words})", spell(text)))
 }
 
 /// The sheet.bin beside a file, or an empty sheet where there is none.

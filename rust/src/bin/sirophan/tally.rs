@@ -21,8 +21,9 @@ struct Likeness {
 }
 
 /// Likenesses, the more telling first. A further one is another row.
-const LIKENESSES: [Likeness; 3] = [
+const LIKENESSES: [Likeness; 4] = [
     Likeness { kind: "date", doubtful: &["string", "number", "token", "reference"], looks: is_likely_date },
+    Likeness { kind: "period", doubtful: &["string", "token", "reference"], looks: |_| true },
     Likeness { kind: "number", doubtful: &["string"], looks: |_| true },
     Likeness { kind: "token", doubtful: &["string", "reference"], looks: has_system },
 ];
@@ -233,6 +234,10 @@ mod tests {
         assert_eq!(look("token", &["1974-06", "1980"]), Some("date"));
         assert_eq!(look("string", &["1974"]), Some("date"));
         assert_eq!(look("number", &["1974", "1980"]), Some("date"));
+        assert_eq!(look("string", &["1974-06/1975", "1974/", "/1980"]), Some("period"));
+        assert_eq!(look("token", &["1974/"]), Some("period"));
+        assert_eq!(look("reference", &["1974/", "Patient/17"]), None);
+        assert_eq!(look("period", &["1974/"]), None);
         assert_eq!(look("string", &["12.0", "250"]), Some("number"));
         assert_eq!(look("string", &["http://loinc.org|1234-5"]), Some("token"));
         assert_eq!(look("token", &["1974", "unknown"]), None);
