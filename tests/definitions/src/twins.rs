@@ -35,7 +35,7 @@ pub const TWINS: &[Twin] = &[
     twin("crates/kind/specs/Readable.antt", "valueReadable", &["value-readable"]),
     twin("crates/kind/specs/Table.antt", "hasMeaning", &["operator-has-meaning"]),
     twin("crates/kind/specs/Stands.antt", "stands", &["text-stands"]),
-    twin("crates/date/specs/Relations.antt", "inside", &["date-held"]),
+    twin("crates/kind/specs/Stands.antt", "dateStands", &["dates-stand"]),
     twin("crates/date/specs/Arithmetic.antt", "beforeByNumber", &["days-before-month"]),
     twin("crates/number/specs/Billionths.antt", "inside", &["number-held"]),
 ];
