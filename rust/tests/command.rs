@@ -437,7 +437,7 @@ fn check_helps_with_tests() {
             8,
             "The operator has no meaning for a parameter of this kind.",
             "related.target is a reference, which has the operators pr and re.\n  A reference is asked by re, as in \
-             `re Patient/17`.\n  eq is for strings, numbers, dates and tokens. If that is what \
+             `re Patient/17`.\n  eq is for strings, numbers, dates, tokens and periods. If that is what \
              related.target holds, the sheet gives it the wrong kind.",
         ),
         ("pages pr maybe", 17, 0, unreadable, "Behind pr stands true (there is a text) or false (there is none)."),
