@@ -38,7 +38,8 @@ use Rattle.base.specs.Kinds.{date, period}
 use Rattle.kind.specs.Table.{kinds, ofKind}
 use Rattle.kind.specs.Readable.{cardReadable}
 use Rattle.judge.specs.Sets.{valuesAt, conforms}
-use Rattle.sirophan.specs.Operations.{Card, found, takeCard}
+use Rattle.refusal.specs.Steps.{found}
+use Rattle.sirophan.specs.Operations.{Card, takeCard}
 use Rattle.kind.specs.Rules.{ReadableOnCard}
 use Rattle.judge.specs.Rules.{Conforms}
 use Rattle.sirophan.specs.Witness.{witnessText}
