@@ -1,0 +1,5 @@
+-- The plain spelling is read back, decides, and is shortest; and the laws of its writers.
+pub mod Values
+pub mod Length
+pub mod Reading
+pub mod Shortest

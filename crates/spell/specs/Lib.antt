@@ -1,0 +1,3 @@
+-- The plain spelling of a filter, what is promised of it, and what its writers owe.
+pub mod Plain
+pub mod Laws

@@ -1,0 +1,1 @@
+// The plain spelling of a filter, written into a buffer that the caller lends.
