@@ -3,3 +3,5 @@ pub mod Values
 pub mod Length
 pub mod Reading
 pub mod Shortest
+pub mod Writing
+pub mod Bytes

@@ -1,3 +1,4 @@
 -- The plain spelling of a filter, what is promised of it, and what its writers owe.
 pub mod Plain
 pub mod Laws
+pub mod Writing

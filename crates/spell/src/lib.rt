@@ -1,1 +1,2 @@
 // The plain spelling of a filter, written into a buffer that the caller lends.
+mod value;
