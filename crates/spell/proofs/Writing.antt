@@ -7,7 +7,7 @@ use mathlib.Core.Path.{_≡_, refl, sym, ap, _∙_}
 use mathlib.Core.List.{List, [], _∷_, _++_, append-assoc, append-nil}
 use lib.ListN.{length, getD, take, drop, set, length-set, length-append, length-drop, take-append-drop, drop-of-length-le}
 use lib.Seq.{take-all, take-suc, take-suc-set, drop-set-lt, drop-drop, drop-at, take-at, length-take-le}
-use Rattle.spell.specs.Writing.{Puts}
+use Rattle.spell.specs.Writing.{Room, Puts}
 
 -- ---- a word, of which i bytes stand
 
@@ -18,8 +18,8 @@ pub record Writing (word entry out : List ℕ) (i : ℕ) : Type 0 where
   pub front : take i out ≡ take i word
   pub rest : drop i out ≡ drop i entry
 
-pub writing-start : (word out : List ℕ) → length word ≤ length out → Writing word out out 0
-writing-start word out h = record { few = zero-le; room = h; long = refl; front = refl; rest = refl }
+pub writing-start : (word out : List ℕ) → Room word out → Writing word out out 0
+writing-start word out h = record { few = zero-le; room = h .fits; long = refl; front = refl; rest = refl }
 
 module _ {word entry out : List ℕ} {i : ℕ} (w : Writing word entry out i) where
   pub writing-room : i < length word → i < length out
@@ -42,6 +42,9 @@ module _ {word entry out : List ℕ} {i : ℕ} (w : Writing word entry out i) wh
       record { long = n; bytes = sym (take-append-drop i out) ∙ rw (w .front, w .rest, take-all i word h) }
 
 -- ---- a text that is another's
+
+pub room-same : {w v part : List ℕ} → w ≡ v → Room w part → Room v part
+room-same e h = record { fits = omega (arith, h .fits, ap length e) }
 
 pub puts-same : {w v part exit : List ℕ} {n : ℕ} → w ≡ v → Puts w part exit n → Puts v part exit n
 puts-same {part = part} {n = n} e p = record { long = p .long ∙ ap length e; bytes = p .bytes ∙ ap (λ (x : List ℕ). x ++ drop n part) e }
@@ -82,17 +85,17 @@ puts-append {w} {v} {part} {out} {exit} {n} {k} p q =
       bytes = rw (nothing-after out n, front, q .bytes, given, append-nil) (sym (append-assoc w v (drop (n + k) part)));
     }
 
-pub wrote-start : (all out : List ℕ) → length all ≤ length out → Wrote all all out out 0
-wrote-start all out h = record { done = []; whole = refl; puts = record { long = refl; bytes = refl }; long = refl; within = omega arith }
+pub wrote-start : (all out : List ℕ) → Room all out → Wrote all all out out 0
+wrote-start all out h = record { done = []; whole = refl; puts = record { long = refl; bytes = refl }; long = refl; within = omega (arith, h .fits) }
 
 module _ {all left entry out : List ℕ} {n : ℕ} (w : Wrote all left entry out n) where
   -- there is room for the next text
-  pub wrote-room : (v left′ : List ℕ) → left ≡ v ++ left′ → length v ≤ length (lent out n)
-  wrote-room v left′ e = rw (lent-is out n, length-drop) (omega (arith, w .within, ap length e, length-append v left′))
+  pub wrote-room : (v left′ : List ℕ) → left ≡ v ++ left′ → Room v (lent out n)
+  wrote-room v left′ e = record { fits = rw (lent-is out n, length-drop) (omega (arith, w .within, ap length e, length-append v left′)) }
 
   pub wrote-next : (v left′ : List ℕ) → left ≡ v ++ left′ → {exit : List ℕ} {k : ℕ} → Puts v (lent out n) exit k → Wrote all left′ entry (back out n exit) (n + k)
   wrote-next v left′ e {exit} {k} q =
-      let room : length v ≤ length (lent out n) = wrote-room v left′ e in
+      let room : length v ≤ length (lent out n) = wrote-room v left′ e .fits in
       let same : length exit ≡ length (lent out n) = puts-length q (omega (arith, q .long)) in
       let size : length (lent out n) ≡ length out - n = ap length (lent-is out n) ∙ length-drop n out in
       let total : length (back out n exit) ≡ length out = omega (arith, length-append (take n out) (exit ++ drop (length out - n) (drop n out)), length-append exit (drop (length out - n) (drop n out)), ap length (nothing-after out n), length-take-le n out (omega (arith, w .within)), w .within) in
@@ -109,3 +112,37 @@ module _ {all left entry out : List ℕ} {n : ℕ} (w : Wrote all left entry out
 
   pub wrote-end : left ≡ [] → Puts all entry out n
   wrote-end e = puts-same (sym (w .whole ∙ ap (λ (x : List ℕ). w .done ++ x) e ∙ append-nil (w .done))) (w .puts)
+
+-- ---- three texts, as a writer puts them: room for each, the sums, and the whole
+
+module _ (a b c out : List ℕ) (h : Room (a ++ (b ++ c)) out) where
+  pub first-room : Room a out
+  first-room = record { fits = omega (arith, h .fits, length-append a (b ++ c)) }
+
+  module _ {out₁ : List ℕ} {n : ℕ} (p : Puts a out out₁ n) where
+    first-wrote : Wrote (a ++ (b ++ c)) (b ++ c) out out₁ n
+    first-wrote =
+        record {
+          done = a;
+          whole = refl;
+          puts = p;
+          long = puts-length p (omega (arith, h .fits, p .long, length-append a (b ++ c)));
+          within = omega (arith, h .fits, p .long, length-append a (b ++ c), puts-length p (omega (arith, h .fits, p .long, length-append a (b ++ c))));
+        }
+
+    pub first-within : n ≤ length out₁
+    first-within = omega (arith, first-wrote .within)
+
+    pub second-room : Room b (lent out₁ n)
+    second-room = wrote-room first-wrote b c refl
+
+    module _ {exit : List ℕ} {k : ℕ} (q : Puts b (lent out₁ n) exit k) where
+      pub second-wrote : Wrote (a ++ (b ++ c)) c out (back out₁ n exit) (n + k)
+      second-wrote = wrote-next first-wrote b c refl q
+
+      pub third-room : Room c (lent (back out₁ n exit) (n + k))
+      third-room = wrote-room second-wrote c [] (sym (append-nil c))
+
+      module _ {exit₂ : List ℕ} {m : ℕ} (r : Puts c (lent (back out₁ n exit) (n + k)) exit₂ m) where
+        pub third-wrote : Wrote (a ++ (b ++ c)) [] out (back (back out₁ n exit) (n + k) exit₂) (n + k + m)
+        third-wrote = wrote-next second-wrote c [] (sym (append-nil c)) r

@@ -8,16 +8,15 @@ ghost use mathlib.Core.Bool.{false};
 ghost use Prim.Native.Nat.{_≤_};
 ghost use lib.ListN.{length};
 ghost use Rattle.base.specs.Lists.{every};
-ghost use Rattle.base.specs.Parts.{part};
 ghost use Rattle.syntax.specs.Strings.{isBare, isPlain};
-ghost use Rattle.syntax.specs.Scan.{decode as decoded, contents};
+ghost use Rattle.syntax.specs.Scan.{decode as decoded};
 ghost use Rattle.syntax.specs.Placed.{PlacedValue};
 ghost use Rattle.spell.specs.Plain.{isWord, escapeOf, escaped, plainValue};
-ghost use Rattle.spell.specs.Writing.{Puts, escapedByte};
+ghost use Rattle.spell.specs.Writing.{Room, Puts, escapedByte, quoted, valueOf};
 
 // Writes the word, and answers its length.
 pub fn write_word(word: &[u8], out: &mut [u8]) -> usize
-    requires { ⌜ length (now word) ≤ length (now out) ⌝ }
+    requires { ⌜ Room (now word) (now out) ⌝ }
     ensures { λ r. ⌜ Puts (now (word .entry)) (now (out .entry)) (now (out .exit)) r ⌝ }
 {
     let mut i = 0;
@@ -82,7 +81,7 @@ fn escape_of(b: u8) -> u8
 
 // Writes a byte of a value as it stands in a string, and answers how many bytes that takes.
 fn write_escaped_byte(b: u8, out: &mut [u8]) -> usize
-    requires { ⌜ length (escapedByte b) ≤ length (now out) ⌝ }
+    requires { ⌜ Room (escapedByte b) (now out) ⌝ }
     ensures { λ r. ⌜ Puts (escapedByte b) (now (out .entry)) (now (out .exit)) r ⌝ }
 {
     if is_plain(b) {
@@ -93,7 +92,7 @@ fn write_escaped_byte(b: u8, out: &mut [u8]) -> usize
 
 // Writes what stands between a string's quotes, and answers its length.
 fn write_escaped(value: &[u8], out: &mut [u8]) -> usize
-    requires { ⌜ length (escaped (now value)) ≤ length (now out) ⌝ }
+    requires { ⌜ Room (escaped (now value)) (now out) ⌝ }
     ensures { λ r. ⌜ Puts (escaped (now (value .entry))) (now (out .entry)) (now (out .exit)) r ⌝ }
 {
     let mut i = 0;
@@ -103,4 +102,52 @@ fn write_escaped(value: &[u8], out: &mut [u8]) -> usize
         i += 1;
     }
     n
+}
+
+// Writes a value as a string, and answers its length.
+fn write_string(value: &[u8], out: &mut [u8]) -> usize
+    requires { ⌜ Room (quoted (now value)) (now out) ⌝ }
+    ensures { λ r. ⌜ Puts (quoted (now (value .entry))) (now (out .entry)) (now (out .exit)) r ⌝ }
+{
+    let start = write_word(b"\"", out);
+    let inner = write_escaped(value, &mut out[start..]);
+    let end = start + inner;
+    end + write_word(b"\"", &mut out[end..])
+}
+
+// Writes a value in its plain spelling, and answers its length.
+fn write_plain(value: &[u8], out: &mut [u8]) -> usize
+    requires { ⌜ Room (plainValue (now value)) (now out) ⌝ }
+    ensures { λ r. ⌜ Puts (plainValue (now (value .entry))) (now (out .entry)) (now (out .exit)) r ⌝ }
+{
+    if is_word(value) {
+        return write_word(value, out);
+    }
+    write_string(value, out)
+}
+
+// Writes the value of a string's bytes that have escapes.
+fn write_decoded(raw: &[u8], out: &mut [u8]) -> usize
+    requires { ⌜ length (now raw) ≤ 1024 ⌝ }
+    requires { ⌜ Room (plainValue (decoded false (now raw))) (now out) ⌝ }
+    ensures { λ r. ⌜ Puts (plainValue (decoded false (now (raw .entry)))) (now (out .entry)) (now (out .exit)) r ⌝ }
+{
+    let mut value = [0u8; 1024];
+    let n = decode(raw, &mut value);
+    write_plain(&value[..n], out)
+}
+
+// Writes a value of the filter in its plain spelling, and answers its length.
+pub fn write_value(filter: &[u8], value: RawValue, out: &mut [u8]) -> usize
+    requires { ⌜ length (now filter) ≤ 1024 ⌝ }
+    requires { ⌜ PlacedValue (now filter) value ⌝ }
+    requires { ⌜ Room (plainValue (valueOf (now filter) value)) (now out) ⌝ }
+    ensures { λ r. ⌜ Puts (plainValue (valueOf (now (filter .entry)) value)) (now (out .entry)) (now (out .exit)) r ⌝ }
+{
+    let start = value.start;
+    let end = value.end;
+    if value.escaped {
+        return write_decoded(&filter[start..end], out);
+    }
+    write_plain(&filter[start..end], out)
 }
