@@ -5,3 +5,4 @@ pub mod Reading
 pub mod Shortest
 pub mod Writing
 pub mod Bytes
+pub mod Tests

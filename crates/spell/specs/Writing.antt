@@ -8,9 +8,10 @@ use lib.ListN.{length, drop}
 use Rattle.base.specs.Ascii.{ascii}
 use Rattle.base.specs.Parts.{part}
 use Rattle.syntax.specs.Strings.{quote, backslash, isPlain}
-use Rattle.syntax.specs.Scan.{contents}
+use Rattle.syntax.specs.Scan.{contents, testOf}
 use Rattle.syntax.specs.declared.RawValue.{RawValue}
-use Rattle.spell.specs.Plain.{escapeOf, escaped, operatorWord}
+use Rattle.syntax.specs.declared.RawTest.{RawTest}
+use Rattle.spell.specs.Plain.{escapeOf, escaped, operatorWord, plainTest}
 
 -- the part has room for the text
 pub record Room (text part : List ℕ) : Type 0 where
@@ -36,3 +37,7 @@ valueOf xs v = contents (v .escaped) (part xs (v .start) (v .end))
 -- an operator with the spaces around it
 unfoldable pub operatorText : ℕ → List ℕ
 operatorText k = ascii " " ++ (operatorWord k ++ ascii " ")
+
+-- the test that stands in the text, in its plain spelling
+unfoldable pub testText : List ℕ → RawTest → List ℕ
+testText xs t = plainTest (testOf xs t)
