@@ -6,3 +6,4 @@ pub mod Shortest
 pub mod Writing
 pub mod Bytes
 pub mod Tests
+pub mod Moving
