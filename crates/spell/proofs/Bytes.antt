@@ -145,11 +145,11 @@ module _ (v out : List ℕ) (h : Room (quoted v) out) where
   parts = h
 
   pub quote-room : Room (quote ∷ []) out
-  quote-room = first-room (quote ∷ []) (escaped v) (quote ∷ []) out parts
+  quote-room = first-room (quote ∷ []) (escaped v ++ (quote ∷ [])) out parts
 
   module _ {out₁ : List ℕ} {n : ℕ} (p : Puts (quote ∷ []) out out₁ n) where
     pub quote-within : n ≤ length out₁
-    quote-within = first-within (quote ∷ []) (escaped v) (quote ∷ []) out parts p
+    quote-within = first-within (quote ∷ []) (escaped v ++ (quote ∷ [])) out parts p
 
     pub between-room : Room (escaped v) (lent out₁ n)
     between-room = second-room (quote ∷ []) (escaped v) (quote ∷ []) out parts p

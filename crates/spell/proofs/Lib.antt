@@ -7,3 +7,6 @@ pub mod Writing
 pub mod Bytes
 pub mod Tests
 pub mod Moving
+pub mod Parts
+pub mod Walking
+pub mod Chaining

@@ -50,11 +50,11 @@ module _ (xs : List ℕ) (t : RawTest) (out : List ℕ) (h : Room (testText xs t
   parts = room-same test-parts h
 
   pub name-room : Room name out
-  name-room = first-room name (operatorText (t .operator)) (plainValue (valueOf xs (t .value))) out parts
+  name-room = first-room name (operatorText (t .operator) ++ plainValue (valueOf xs (t .value))) out parts
 
   module _ {out₁ : List ℕ} {n : ℕ} (p : Puts name out out₁ n) where
     pub name-within : n ≤ length out₁
-    name-within = first-within name (operatorText (t .operator)) (plainValue (valueOf xs (t .value))) out parts p
+    name-within = first-within name (operatorText (t .operator) ++ plainValue (valueOf xs (t .value))) out parts p
 
     pub middle-room : Room (operatorText (t .operator)) (lent out₁ n)
     middle-room = second-room name (operatorText (t .operator)) (plainValue (valueOf xs (t .value))) out parts p

@@ -71,8 +71,22 @@ lent-is out n = take-all (length out - n) (drop n out) (omega (arith, length-dro
 nothing-after : (out : List ℕ) (n : ℕ) → drop (length out - n) (drop n out) ≡ []
 nothing-after out n = drop-of-length-le (drop n out) {i = length out - n} (omega (arith, length-drop n out))
 
-puts-length : {w part exit : List ℕ} {n : ℕ} → Puts w part exit n → n ≤ length part → length exit ≡ length part
+pub puts-length : {w part exit : List ℕ} {n : ℕ} → Puts w part exit n → n ≤ length part → length exit ≡ length part
 puts-length {w} {part} {exit} {n} p h = omega (arith, ap length (p .bytes), length-append w (drop n part), length-drop n part, p .long)
+
+-- a text that stands may be put once more
+pub puts-stay : {w part out : List ℕ} {n : ℕ} → Puts w part out n → Puts w out out n
+puts-stay {w} {part} {out} {n} p =
+    record { long = p .long; bytes = p .bytes ∙ ap (λ (x : List ℕ). w ++ x) (sym (ap (drop n) (p .bytes) ∙ drop-at w (drop n part) n (sym (p .long)))) }
+
+-- a text over another that is no longer
+pub puts-over : {w v part out exit : List ℕ} {n k : ℕ} → Puts w part out n → length w ≤ length v → Puts v out exit k → Puts v part exit k
+puts-over {w} {v} {part} {out} {exit} {n} {k} p h q =
+    let m : ℕ = k - n in
+    let sum : k ≡ n + m = omega (arith, p .long, q .long) in
+    let rest : drop k out ≡ drop k part =
+        ap (λ (x : ℕ). drop x out) sum ∙ sym (drop-drop m n out) ∙ ap (drop m) (ap (drop n) (p .bytes) ∙ drop-at w (drop n part) n (sym (p .long))) ∙ drop-drop m n part ∙ ap (λ (x : ℕ). drop x part) (sym sum) in
+    record { long = q .long; bytes = q .bytes ∙ ap (λ (x : List ℕ). v ++ x) rest }
 
 -- two texts, one after the other
 pub puts-append : {w v part out exit : List ℕ} {n k : ℕ} → Puts w part out n → Puts v (lent out n) exit k → Puts (w ++ v) part (back out n exit) (n + k)
@@ -113,36 +127,39 @@ module _ {all left entry out : List ℕ} {n : ℕ} (w : Wrote all left entry out
   pub wrote-end : left ≡ [] → Puts all entry out n
   wrote-end e = puts-same (sym (w .whole ∙ ap (λ (x : List ℕ). w .done ++ x) e ∙ append-nil (w .done))) (w .puts)
 
--- ---- three texts, as a writer puts them: room for each, the sums, and the whole
+-- ---- two texts, as a writer puts them: room for each, the sum, and the whole
 
-module _ (a b c out : List ℕ) (h : Room (a ++ (b ++ c)) out) where
+module _ (a b out : List ℕ) (h : Room (a ++ b) out) where
   pub first-room : Room a out
-  first-room = record { fits = omega (arith, h .fits, length-append a (b ++ c)) }
+  first-room = record { fits = omega (arith, h .fits, length-append a b) }
 
   module _ {out₁ : List ℕ} {n : ℕ} (p : Puts a out out₁ n) where
-    first-wrote : Wrote (a ++ (b ++ c)) (b ++ c) out out₁ n
+    pub first-wrote : Wrote (a ++ b) b out out₁ n
     first-wrote =
-        record {
-          done = a;
-          whole = refl;
-          puts = p;
-          long = puts-length p (omega (arith, h .fits, p .long, length-append a (b ++ c)));
-          within = omega (arith, h .fits, p .long, length-append a (b ++ c), puts-length p (omega (arith, h .fits, p .long, length-append a (b ++ c))));
-        }
+        let long : length out₁ ≡ length out = puts-length p (omega (arith, h .fits, p .long, length-append a b)) in
+        record { done = a; whole = refl; puts = p; long = long; within = omega (arith, h .fits, p .long, length-append a b) }
 
     pub first-within : n ≤ length out₁
     first-within = omega (arith, first-wrote .within)
 
-    pub second-room : Room b (lent out₁ n)
-    second-room = wrote-room first-wrote b c refl
+    pub last-room : Room b (lent out₁ n)
+    last-room = wrote-room first-wrote b [] (sym (append-nil b))
 
-    module _ {exit : List ℕ} {k : ℕ} (q : Puts b (lent out₁ n) exit k) where
-      pub second-wrote : Wrote (a ++ (b ++ c)) c out (back out₁ n exit) (n + k)
-      second-wrote = wrote-next first-wrote b c refl q
+    pub last-wrote : {exit : List ℕ} {k : ℕ} → Puts b (lent out₁ n) exit k → Wrote (a ++ b) [] out (back out₁ n exit) (n + k)
+    last-wrote q = wrote-next first-wrote b [] (sym (append-nil b)) q
 
-      pub third-room : Room c (lent (back out₁ n exit) (n + k))
-      third-room = wrote-room second-wrote c [] (sym (append-nil c))
+-- ---- and three
 
-      module _ {exit₂ : List ℕ} {m : ℕ} (r : Puts c (lent (back out₁ n exit) (n + k)) exit₂ m) where
-        pub third-wrote : Wrote (a ++ (b ++ c)) [] out (back (back out₁ n exit) (n + k) exit₂) (n + k + m)
-        third-wrote = wrote-next second-wrote c [] (sym (append-nil c)) r
+module _ (a b c out : List ℕ) (h : Room (a ++ (b ++ c)) out) {out₁ : List ℕ} {n : ℕ} (p : Puts a out out₁ n) where
+  pub second-room : Room b (lent out₁ n)
+  second-room = wrote-room (first-wrote a (b ++ c) out h p) b c refl
+
+  module _ {exit : List ℕ} {k : ℕ} (q : Puts b (lent out₁ n) exit k) where
+    pub second-wrote : Wrote (a ++ (b ++ c)) c out (back out₁ n exit) (n + k)
+    second-wrote = wrote-next (first-wrote a (b ++ c) out h p) b c refl q
+
+    pub third-room : Room c (lent (back out₁ n exit) (n + k))
+    third-room = wrote-room second-wrote c [] (sym (append-nil c))
+
+    pub third-wrote : {exit₂ : List ℕ} {m : ℕ} → Puts c (lent (back out₁ n exit) (n + k)) exit₂ m → Wrote (a ++ (b ++ c)) [] out (back (back out₁ n exit) (n + k) exit₂) (n + k + m)
+    third-wrote r = wrote-next second-wrote c [] (sym (append-nil c)) r

@@ -2,3 +2,4 @@
 pub mod Plain
 pub mod Laws
 pub mod Writing
+pub mod Walks
