@@ -156,8 +156,12 @@ module _ (d : ℕ) (xs : List ℕ) (close p : ℕ) where
 
         fits : length (plain (h .tree)) + length (joined a (next .tree)) ≤ length entry
         fits =
-            omega (arith, join-longer a (h .tree) (next .tree), h .room .room .fits,
-            chain-longer (h .left - 1) xs item (next .end) (h .room .end) (join (connective a) (h .tree) (next .tree)) (h .room .tree) (next .rest))
+            omega (
+              arith,
+              join-longer a (h .tree) (next .tree),
+              h .room .room .fits,
+              chain-longer (h .left - 1) xs item (next .end) (h .room .end) (join (connective a) (h .tree) (next .tree)) (h .room .tree) (next .rest),
+            )
 
         wrote : Wrote (plain (h .tree) ++ joined a (next .tree)) (joined a (next .tree)) entry out (w .length)
         wrote = record { done = plain (h .tree); whole = refl; puts = h .puts; long = h .long; within = omega (arith, fits, h .puts .long, h .long) }

@@ -57,8 +57,8 @@ module _ {entry out : List ℕ} {count i kept : ℕ} (m : Moving entry out count
       let exit : List ℕ = set (set out i kept) (i + 1) (code ")") in
       let front : take (i + 2) exit ≡ inRound (take count entry) = rw (two, add-one (i + 1), take-suc-set (set out i kept) (i + 1) (code ")") last, add-one i, take-suc-set out i kept (omega arith), m .front, e) in
       let rest : drop (i + 2) exit ≡ drop (i + 2) entry =
-          drop-set-lt (i + 2) (set out i kept) (i + 1) (code ")") (omega arith) ∙ drop-set-lt (i + 2) out i kept (omega arith)
-          ∙ sym (drop-drop 2 i out) ∙ ap (drop 2) (m .rest) ∙ drop-drop 2 i entry in
+      drop-set-lt (i + 2) (set out i kept) (i + 1) (code ")") (omega arith) ∙ drop-set-lt (i + 2) out i kept (omega arith)
+      ∙ sym (drop-drop 2 i out) ∙ ap (drop 2) (m .rest) ∙ drop-drop 2 i entry in
       record {
         long = omega (arith, length-append (take count entry) (ascii ")"), length-take-le count entry (omega (arith, m .room)));
         bytes = sym (take-append-drop (i + 2) exit) ∙ rw (front, rest);

@@ -124,8 +124,8 @@ module _ (xs : List ℕ) where
       let h8 : drop (e + 1 + 2 + 1 + length (plainValue v)) xs ≡ rest = after (e + 1 + 2 + 1) (plainValue v) rest h7 in
       let u : Test = record { at = p; path = name n; operator = k; value = v } in
       let i : TestAt xs close p (e + 1 + 2 + 1 + length (plainValue v)) u =
-          a-test (0x20 ∷ ((operatorWord k ++ (ascii " " ++ plainValue v)) ++ rest), h1) m (gap (((operatorWord k ++ (ascii " " ++ plainValue v)) ++ rest), h2) no-space) (record { one-of = l; stands = (0x20 ∷ (plainValue v ++ rest), h4) })
-          (gap (plainValue v ++ rest, h6) no-space) (value-written xs (e + 1 + 2 + 1) rest v s h7) (subst (Follows close) (sym h8) f) in
+      a-test (0x20 ∷ ((operatorWord k ++ (ascii " " ++ plainValue v)) ++ rest), h1) m (gap (((operatorWord k ++ (ascii " " ++ plainValue v)) ++ rest), h2) no-space) (record { one-of = l; stands = (0x20 ∷ (plainValue v ++ rest), h4) })
+      (gap (plainValue v ++ rest, h6) no-space) (value-written xs (e + 1 + 2 + 1) rest v s h7) (subst (Follows close) (sym h8) f) in
       let z : e + 1 + 2 + 1 + length (plainValue v) ≡ p + length (n ++ (ascii " " ++ (operatorWord k ++ (ascii " " ++ plainValue v)))) = omega (arith, test-length n (operatorWord k) (plainValue v), t) in
       record { test = u; here = subst (λ (x : ℕ). TestAt xs close p x u) z i; same = refl }
 
@@ -241,9 +241,10 @@ reads-back text f s =
 pub same-bytes : (text other : List ℕ) (f g : Tree) → Spells text f → Spells other g → (plain f ≡ plain g) ↔ (erase f ≡ erase g)
 same-bytes text other f g s t =
     let a = reads-back text f s in
-    let b = reads-back other g t in
-    (λ e. sym (a .1 .1) ∙ ap erase (spells-unique (plain g) (a .0) (b .0) (subst (λ (x : List ℕ). Spells x (a .0)) e (a .1 .0)) (b .1 .0)) ∙ b .1 .1,
-    λ e. sym (plain-erase f) ∙ ap plain e ∙ plain-erase g)
+    let b = reads-back other g t in (
+      λ e. sym (a .1 .1) ∙ ap erase (spells-unique (plain g) (a .0) (b .0) (subst (λ (x : List ℕ). Spells x (a .0)) e (a .1 .0)) (b .1 .0)) ∙ b .1 .1,
+      λ e. sym (plain-erase f) ∙ ap plain e ∙ plain-erase g,
+    )
 
 pub again : (text : List ℕ) (f g : Tree) → Spells text f → Spells (plain f) g → plain g ≡ plain f
 again text f g s t =

@@ -130,10 +130,10 @@ quoted-tight (plainly {b = b} {s = s} {v = v} h q) g =
 quoted-tight (escapes {b = b} {s = s} {v = v} h q) g =
     cond-elim (λ (w : List ℕ). length (backslash ∷ b ∷ s) ≡ length w → backslash ∷ b ∷ s ≡ w) (isPlain (unescaped b)) (λ t e. absurd (omega (arith, escaped-short q)))
     (λ t e.
-      let i : length s ≡ length (escaped v) = omega arith in
-      let w : b ≡ escapeOf (unescaped b) = escape-same b h t in
-      let r = quoted-tight q i in
-      cc) g
+    let i : length s ≡ length (escaped v) = omega arith in
+    let w : b ≡ escapeOf (unescaped b) = escape-same b h t in
+    let r = quoted-tight q i in
+    cc) g
 
 -- the word stands at p, and what comes at q after it
 pub stands-tight : (xs : List ℕ) (p q : ℕ) (w : List ℕ) → Stands xs p w → q ≡ p + length w → drop p xs ≡ w ++ drop q xs
@@ -148,7 +148,7 @@ value-tight {xs} (bare {p = p} {b = b} {w = w} h a n) e =
 value-tight {xs} (string {p = p} {s = s} {v = v} h q) g =
     cond-elim (λ (w : List ℕ). p + (length s + 2) ≡ p + length w → drop p xs ≡ w ++ drop (p + (length s + 2)) xs) (isWord v) (λ t e. absurd (omega (arith, escaped-short q, escaped-long v)))
     (λ t e.
-      let l = length-append (escaped v) (quote ∷ []) in
-      let k : s ≡ escaped v = quoted-tight q (omega (arith, l)) in
-      let m : p + (length s + 2) ≡ p + length (quote ∷ (s ++ (quote ∷ []))) = omega (arith, length-append s (quote ∷ [])) in
-      stands-tight xs p (p + (length s + 2)) (quote ∷ (s ++ (quote ∷ []))) h m ∙ ap (λ (x : List ℕ). (quote ∷ (x ++ (quote ∷ []))) ++ drop (p + (length s + 2)) xs) k) g
+    let l = length-append (escaped v) (quote ∷ []) in
+    let k : s ≡ escaped v = quoted-tight q (omega (arith, l)) in
+    let m : p + (length s + 2) ≡ p + length (quote ∷ (s ++ (quote ∷ []))) = omega (arith, length-append s (quote ∷ [])) in
+    stands-tight xs p (p + (length s + 2)) (quote ∷ (s ++ (quote ∷ []))) h m ∙ ap (λ (x : List ℕ). (quote ∷ (x ++ (quote ∷ []))) ++ drop (p + (length s + 2)) xs) k) g

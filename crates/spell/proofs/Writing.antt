@@ -85,7 +85,7 @@ puts-over {w} {v} {part} {out} {exit} {n} {k} p h q =
     let m : ℕ = k - n in
     let sum : k ≡ n + m = omega (arith, p .long, q .long) in
     let rest : drop k out ≡ drop k part =
-        ap (λ (x : ℕ). drop x out) sum ∙ sym (drop-drop m n out) ∙ ap (drop m) (ap (drop n) (p .bytes) ∙ drop-at w (drop n part) n (sym (p .long))) ∙ drop-drop m n part ∙ ap (λ (x : ℕ). drop x part) (sym sum) in
+    ap (λ (x : ℕ). drop x out) sum ∙ sym (drop-drop m n out) ∙ ap (drop m) (ap (drop n) (p .bytes) ∙ drop-at w (drop n part) n (sym (p .long))) ∙ drop-drop m n part ∙ ap (λ (x : ℕ). drop x part) (sym sum) in
     record { long = q .long; bytes = q .bytes ∙ ap (λ (x : List ℕ). v ++ x) rest }
 
 -- two texts, one after the other
