@@ -14,8 +14,7 @@ use Rattle.token.specs.Spelling.{CardSpells, FilterSpells}
 use Rattle.base.specs.Kinds.{string, number, date, token, reference}
 use Rattle.kind.specs.Table.{Use, means, row}
 use Rattle.kind.specs.declared.Relation.{Relation}
-use mathlib.Core.Bool.{true}
-use Rattle.token.specs.Match.{asks}
+use Rattle.token.specs.Rules.{Asks}
 use Rattle.kind.specs.declared.StringRelation.{StringRelation}
 use Rattle.kind.specs.declared.NumberRelation.{NumberRelation}
 use Rattle.kind.specs.declared.DateRelation.{DateRelation}
@@ -117,6 +116,6 @@ pub data StandsIn : Relation → List ℕ → List ℕ → Type 0 where
   numbers-stand : {r : NumberRelation} {x v : List ℕ} {i f : Decimal} → numbers.Spells x i → numbers.Spells v f → NumbersStand i f r → StandsIn (Relation.Numbers r) x v
   dates-stand : {r : DateRelation} {x v : List ℕ} {i f : Date} → dates.Spells x i → dates.Spells v f → DatesStand i f r → StandsIn (Relation.Dates r) x v
   -- "eq by the four forms"
-  tokens-stand : {x v : List ℕ} {i : Token} {f : Form} → CardSpells x i → FilterSpells v f → asks f i ≡ true → StandsIn Relation.Tokens x v
+  tokens-stand : {x v : List ℕ} {i : Token} {f : Form} → CardSpells x i → FilterSpells v f → Asks f i → StandsIn Relation.Tokens x v
   -- "re same"
   references-same : {x v : List ℕ} → foldText x ≡ foldText v → StandsIn Relation.References x v

@@ -4,9 +4,10 @@ use Prim.Native.Nat.{ℕ, _≤_}
 use mathlib.Core.Path.{_≡_, sym, _∙_}
 use mathlib.Core.List.{List}
 use lib.ListN.{length}
-use Rattle.sirophan.specs.declared.Refusal.{Refusal}
+use Rattle.refusal.specs.declared.Refusal.{Refusal}
 use Rattle.sirophan.specs.declared.Selected.{Selected}
-use Rattle.sirophan.specs.Answers.{numberOf, refusalAnswer, selectedAnswer}
+use Rattle.refusal.specs.Answers.{numberOf, refusalAnswer}
+use Rattle.sirophan.specs.Answers.{selectedAnswer}
 use Rattle.sirophan.specs.Contracts.{SelectsInto}
 use Rattle.sirophan.proofs.Promises.{select-count-within, select-place-within}
 use Rattle.pick.specs.Bounds.{PlaceBound}

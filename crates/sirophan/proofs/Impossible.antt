@@ -31,8 +31,9 @@ use Rattle.kind.specs.Readable.{cardReadable, filterReadable, valueReadable}
 use Rattle.judge.specs.Sets.{lookup, valuesAt}
 use Rattle.judge.specs.Faults.{unsupported, kindFault, testFault}
 use Rattle.judge.specs.declared.Fault.{Fault}
-use Rattle.sirophan.specs.Answers.{Answer, yes, no, count, refused}
-use Rattle.sirophan.specs.Operations.{found, stop, faultStep}
+use Rattle.refusal.specs.Answers.{Answer, yes, no, count, refused}
+use Rattle.refusal.specs.Steps.{found, stop}
+use Rattle.sirophan.specs.Operations.{faultStep}
 use Rattle.judge.specs.Rules.{Meaningful, Says, says-present, says-absent, says-relates, says-differs}
 use Rattle.sirophan.specs.Verdicts.{Verdict, answers-yes, answers-no}
 use Rattle.sirophan.specs.Demand.{RefusesAlike, Demand}

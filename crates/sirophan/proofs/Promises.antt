@@ -43,7 +43,8 @@ use Rattle.kind.specs.Readable.{cardReadable, valueReadable}
 use Rattle.kind.specs.Stands.{stands}
 use Rattle.kind.specs.Table.{hasMeaning}
 use Rattle.kind.specs.declared.Relation.{Relation}
-use Rattle.sirophan.specs.Answers.{Answer, yes, no, count, refused}
+use Rattle.refusal.proofs.Order as order
+use Rattle.refusal.specs.Answers.{Answer, yes, no, count, refused}
 use Rattle.sirophan.specs.Operations.{checkAnswer, matchAnswer, selectAnswer, selectCells}
 use Rattle.kind.specs.Rules.{ReadableOnCard, ReadableValue}
 use Rattle.kind.specs.Rules.{HasOperator}
@@ -52,7 +53,8 @@ use Rattle.kind.specs.Rules.{StandsIn}
 use Rattle.sirophan.specs.Verdicts.{Verdict}
 use Rattle.sirophan.specs.Demand.{Demand, MeetsDemand, Agree}
 use Rattle.sirophan.specs.Selection.{Run, matchingCards, matchingNumbers, occurrences, bearing, SelectsByMatch, SelectAnswers}
-use Rattle.sirophan.specs.Refusals.{Decides, CheckLine, MatchLine, SelectLine}
+use Rattle.refusal.specs.Order.{rank, Decides}
+use Rattle.sirophan.specs.Refusals.{CheckLine, MatchLine, SelectLine}
 use Rattle.sirophan.specs.Trial.{Row, trialRows, bundleRows, titleTest, codeTest}
 use Rattle.kind.proofs.Rules as rules
 use Rattle.sirophan.proofs.Failing as failing
@@ -81,6 +83,10 @@ match-refused = match-table.match-table
 pub select-refused : (sheet text cards : List ℕ) (room : ℕ) → Bytes sheet → Bytes cards → (n p : ℕ)
     → (selectAnswer sheet text cards room ≡ refused n p) ↔ Decides (SelectLine sheet text cards room) n p
 select-refused = select-table.select-table
+
+-- the lines decide in the order of the table; 02 gives 18 its rank in words
+pub bundle-ranks-between : (rank 14 < rank 18) × (rank 18 < rank 15)
+bundle-ranks-between = order.ranks-between
 
 -- a text that is no filter is refused at the length of its longest beginning that also begins some filter within both limits, with the
 -- number that the limits make it; there is one such length and one such number

@@ -47,7 +47,7 @@ use Rattle.kind.specs.Stands.{stringStands, numberStands, dateStands, stands}
 use Rattle.judge.specs.Sets.{lookup, valuesAt, ofOccurrence, keep, entryConforms, conforms}
 use Rattle.judge.specs.Faults.{unsupported, kindFault, testFault, firstFault}
 use Rattle.judge.specs.Verdicts.{someValue, isEmpty, saysOf, testSays, filterSays}
-use Rattle.sirophan.specs.Answers.{Answer}
+use Rattle.refusal.specs.Answers.{Answer}
 use Rattle.sirophan.specs.Operations.{takeSheet, takeFilter, testsStep, prepare, takeCard, matchAnswer}
 use Rattle.sirophan.specs.Trial.{Row, trialRows, bundleRows}
 

@@ -5,7 +5,7 @@ use mathlib.Core.List.{List, [], _∷_}
 use Rattle.base.specs.Ascii.{ascii}
 use Rattle.base.specs.Operators.{co, gt}
 use Rattle.syntax.specs.Tree.{Test, name}
-use Rattle.sirophan.specs.Answers.{Answer, yes, no, refused}
+use Rattle.refusal.specs.Answers.{Answer, yes, no, refused}
 
 -- a filter, and what match gives on the table's card
 pub record Row : Type 0 where

@@ -14,9 +14,11 @@ use Rattle.text.specs.Bar.{bar, NoBar}
 use Rattle.token.specs.Split.{no-bar, at-bar}
 use Rattle.token.specs.Card.{Token, tokenOf, splitToken, cardToken, cardReadable}
 use Rattle.token.specs.Filter.{Form, splitForm, filterForm, filterReadable}
-use Rattle.token.specs.Match.{asks, meets, matches}
+use Rattle.token.specs.Match.{meets, matches}
+use Rattle.token.specs.Rules.{Asks}
 use Rattle.token.specs.Spelling.{NotEmpty, CardSpells, spells-code, spells-token, FilterSpells, spells-any-system, spells-system-code, spells-no-system, spells-any-code}
 use Rattle.token.proofs.Split.{split-no-bar, split-at-bar, split-cases}
+use Rattle.token.proofs.Rules.{asks-reads}
 use Rattle.token.proofs.Forms.{tokenOf-some, splitForm-any-system, splitForm-system-code, splitForm-no-system, splitForm-any-code}
 
 -- ---- cards
@@ -114,12 +116,12 @@ filterUnreadable-reads t = (
 
 -- ---- matching: the card spells a token, the filter a form, and the form asks for the token
 
-pub matches-reads : (card filter : List ℕ) → (matches card filter ≡ true) ↔ ((k : Token) × (f : Form) × CardSpells card k × FilterSpells filter f × (asks f k ≡ true))
+pub matches-reads : (card filter : List ℕ) → (matches card filter ≡ true) ↔ ((k : Token) × (f : Form) × CardSpells card k × FilterSpells filter f × Asks f k)
 unfolding matches meets
 matches-reads card filter =
-    (read (cardToken card) (filterForm filter) refl refl, λ w. rw (spells-cardToken (w .2), spells-filterForm (w .3)) (w .4))
+    (read (cardToken card) (filterForm filter) refl refl, λ w. rw (spells-cardToken (w .2), spells-filterForm (w .3)) (asks-reads (w .1) (w .0) .1 (w .4)))
   where
-    read : (o : Option Token) (p : Option Form) → cardToken card ≡ o → filterForm filter ≡ p → meets o p ≡ true → (k : Token) × (f : Form) × CardSpells card k × FilterSpells filter f × (asks f k ≡ true)
+    read : (o : Option Token) (p : Option Form) → cardToken card ≡ o → filterForm filter ≡ p → meets o p ≡ true → (k : Token) × (f : Form) × CardSpells card k × FilterSpells filter f × Asks f k
     read none p e d h = absurd (false≢true h)
     read (some k) none e d h = absurd (false≢true h)
-    read (some k) (some f) e d h = (k, f, cardToken-spells k card e, filterForm-spells f filter d, h)
+    read (some k) (some f) e d h = (k, f, cardToken-spells k card e, filterForm-spells f filter d, asks-reads f k .0 h)
