@@ -1,21 +1,18 @@
 -- Plain values: each spells its value, is never longer than another spelling of it, and is the only one as short.
 -- Assumes nothing.
 use Prim.Native.Nat.{ℕ, _+_, _≤_}
-use Prim.Native.Char.{code}
 use native.Mathlib.Omega.{arith}
 use native.Mathlib.Nat.{le-refl}
 use mathlib.Core.Path.{_≡_, refl, ap, sym, _∙_, subst}
-use mathlib.Core.Bool.{Bool, true, false, cond, not, _&&_, _||_}
-use mathlib.Core.Logic.{_⊎_, inl, inr, ⊎-elim}
+use mathlib.Core.Bool.{Bool, true, false, cond, not, _&&_}
 use mathlib.Core.List.{List, [], _∷_, _++_}
 use lib.Dec.{eqb}
 use lib.ListN.{length, drop, length-append}
-use borrow.Author.Tests.{ne-eqb, eqb-true, eqb-false, not-true}
-use Rattle.base.specs.Ascii.{ascii}
-use Rattle.base.specs.Lists.{All, every, member}
-use Rattle.base.proofs.Tests.{and-left, and-right, and-both, or-either, cond-elim, both-ways}
-use Rattle.base.proofs.Lists.{every-all, all-every, every-member}
-use Rattle.syntax.specs.Strings.{quote, backslash, isBare, isPlain, isEscape, unescaped, Quoted, nothing-more, plain as plainly, escaped as escapes}
+use borrow.Author.Tests.{ne-eqb, eqb-false, not-true}
+use Rattle.base.specs.Lists.{All, every}
+use Rattle.base.proofs.Tests.{and-left, and-right, cond-elim, both-ways}
+use Rattle.base.proofs.Lists.{every-all, all-every}
+use Rattle.syntax.specs.Strings.{quote, backslash, isBare, isPlain, Escape, quotation-mark, reverse-solidus, solidus, backspace, form-feed, line-feed, carriage-return, tabulation, Quoted, nothing-more, plain as plainly, escaped as escapes}
 use Rattle.syntax.specs.Grammar.{Stands, Value, bare, string}
 use Rattle.syntax.proofs.Words.{stands-after}
 use Rattle.spell.specs.Plain.{isWord, escapeOf, escaped, plainValue}
@@ -51,21 +48,20 @@ unfolding escaped
 escaped-short nothing-more = le-refl 0
 escaped-short (plainly {b = b} {s = s} {v = v} h q) =
     cond-elim (λ (w : List ℕ). length w ≤ length (b ∷ s)) (isPlain b) (λ e. omega (arith, escaped-short q)) (λ e. both-ways h e)
-escaped-short (escapes {b = b} {s = s} {v = v} h q) =
-    cond-elim (λ (w : List ℕ). length w ≤ length (backslash ∷ b ∷ s)) (isPlain (unescaped b)) (λ e. omega (arith, escaped-short q)) (λ e. omega (arith, escaped-short q))
+escaped-short (escapes {b = b} {u = u} {s = s} {v = v} h q) =
+    cond-elim (λ (w : List ℕ). length w ≤ length (backslash ∷ b ∷ s)) (isPlain u) (λ e. omega (arith, escaped-short q)) (λ e. omega (arith, escaped-short q))
 
--- what an escape stands for is plain, or is escaped by the same byte
-again : ℕ → Bool
-again b = isPlain (unescaped b) || eqb b (escapeOf (unescaped b))
-
-escape-again : (b : ℕ) → isEscape b ≡ true → (isPlain (unescaped b) ≡ true) ⊎ (b ≡ escapeOf (unescaped b))
-unfolding again isEscape escapeOf unescaped every member isPlain
-escape-again b h =
-    ⊎-elim (λ k. inl k) (λ k. inr (eqb-true b (escapeOf (unescaped b)) k))
-    (or-either (isPlain (unescaped b)) (eqb b (escapeOf (unescaped b))) (every-member again (quote ∷ code "/" ∷ backslash ∷ ascii "bfnrt") b refl h))
-
-escape-same : (b : ℕ) → isEscape b ≡ true → isPlain (unescaped b) ≡ false → b ≡ escapeOf (unescaped b)
-escape-same b h e = ⊎-elim (λ k. both-ways k e) (λ k. k) (escape-again b h)
+-- what an escape stands for is plain, or has no other
+escape-same : {b u : ℕ} → Escape b u → isPlain u ≡ false → b ≡ escapeOf u
+unfolding isPlain escapeOf
+escape-same quotation-mark e = refl
+escape-same reverse-solidus e = refl
+escape-same solidus e = both-ways refl e
+escape-same backspace e = refl
+escape-same form-feed e = refl
+escape-same line-feed e = refl
+escape-same carriage-return e = refl
+escape-same tabulation e = refl
 
 -- ---- a value that some text spells
 
@@ -78,9 +74,9 @@ unfolding escaped
 quoted-again nothing-more = nothing-more
 quoted-again (plainly {b = b} {v = v} h q) =
     cond-elim (λ (w : List ℕ). Quoted w (b ∷ v)) (isPlain b) (λ e. plainly e (quoted-again q)) (λ e. both-ways h e)
-quoted-again (escapes {b = b} {v = v} h q) =
-    cond-elim (λ (w : List ℕ). Quoted w (unescaped b ∷ v)) (isPlain (unescaped b)) (λ e. plainly e (quoted-again q))
-    (λ e. subst (λ (x : ℕ). Quoted (backslash ∷ x ∷ escaped v) (unescaped b ∷ v)) (escape-same b h e) (escapes h (quoted-again q)))
+quoted-again (escapes {b = b} {u = u} {v = v} h q) =
+    cond-elim (λ (w : List ℕ). Quoted w (u ∷ v)) (isPlain u) (λ e. plainly e (quoted-again q))
+    (λ e. subst (λ (x : ℕ). Quoted (backslash ∷ x ∷ escaped v) (u ∷ v)) (escape-same h e) (escapes h (quoted-again q)))
 
 pub value-spellable : {xs : List ℕ} {p q : ℕ} {v : List ℕ} → Value xs p q v → SpellableValue v
 value-spellable (bare {b = b} {w = w} h a n) = as-word (word-of b w a n)
@@ -127,13 +123,13 @@ quoted-tight nothing-more e = refl
 quoted-tight (plainly {b = b} {s = s} {v = v} h q) g =
     cond-elim (λ (w : List ℕ). length (b ∷ s) ≡ length w → b ∷ s ≡ w) (isPlain b)
     (λ t e. let i : length s ≡ length (escaped v) = omega arith in ap (λ (w : List ℕ). b ∷ w) (quoted-tight q i)) (λ t e. both-ways h t) g
-quoted-tight (escapes {b = b} {s = s} {v = v} h q) g =
-    cond-elim (λ (w : List ℕ). length (backslash ∷ b ∷ s) ≡ length w → backslash ∷ b ∷ s ≡ w) (isPlain (unescaped b)) (λ t e. absurd (omega (arith, escaped-short q)))
+quoted-tight (escapes {b = b} {u = u} {s = s} {v = v} h q) g =
+    cond-elim (λ (w : List ℕ). length (backslash ∷ b ∷ s) ≡ length w → backslash ∷ b ∷ s ≡ w) (isPlain u) (λ t e. absurd (omega (arith, escaped-short q)))
     (λ t e.
-    let i : length s ≡ length (escaped v) = omega arith in
-    let w : b ≡ escapeOf (unescaped b) = escape-same b h t in
-    let r = quoted-tight q i in
-    cc) g
+      let i : length s ≡ length (escaped v) = omega arith in
+      let w : b ≡ escapeOf u = escape-same h t in
+      let r = quoted-tight q i in
+      cc) g
 
 -- the word stands at p, and what comes at q after it
 pub stands-tight : (xs : List ℕ) (p q : ℕ) (w : List ℕ) → Stands xs p w → q ≡ p + length w → drop p xs ≡ w ++ drop q xs
