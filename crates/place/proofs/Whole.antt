@@ -75,9 +75,10 @@ comes-filter {d} {m} {xs} h c = go (c .to) (c .runs) (c .is-over) (runs-good (c 
 
 pub filter-iff : (xs : List ℕ) → (isFilter deepest mostTests xs ≡ true) ↔ ((f : Tree) × Spells xs f)
 unfolding isFilter
-filter-iff xs =
-    (λ e. comes-filter (omega arith) (ends-comes deepest mostTests start xs e),
-    λ s. let w = within-walks (s .1) in runs-ends (walk-runs (w .2) refl) ∙ w .1)
+filter-iff xs = (
+  λ e. comes-filter (omega arith) (ends-comes deepest mostTests start xs e),
+  λ s. let w = within-walks (s .1) in runs-ends (walk-runs (w .2) refl) ∙ w .1,
+)
 
 module _ (xs : List ℕ) (r : Found) (e : r ≡ found deepest mostTests xs) where
   found-by : (t : Bool) → isFilter deepest mostTests xs ≡ t → r ≡ cond t Found.Filter (Found.Failed (failure deepest mostTests xs))

@@ -10,3 +10,4 @@ pub mod Moving
 pub mod Parts
 pub mod Walking
 pub mod Chaining
+pub mod Spelling

@@ -126,10 +126,10 @@ quoted-tight (plainly {b = b} {s = s} {v = v} h q) g =
 quoted-tight (escapes {b = b} {u = u} {s = s} {v = v} h q) g =
     cond-elim (λ (w : List ℕ). length (backslash ∷ b ∷ s) ≡ length w → backslash ∷ b ∷ s ≡ w) (isPlain u) (λ t e. absurd (omega (arith, escaped-short q)))
     (λ t e.
-      let i : length s ≡ length (escaped v) = omega arith in
-      let w : b ≡ escapeOf u = escape-same h t in
-      let r = quoted-tight q i in
-      cc) g
+    let i : length s ≡ length (escaped v) = omega arith in
+    let w : b ≡ escapeOf u = escape-same h t in
+    let r = quoted-tight q i in
+    cc) g
 
 -- the word stands at p, and what comes at q after it
 pub stands-tight : (xs : List ℕ) (p q : ℕ) (w : List ℕ) → Stands xs p w → q ≡ p + length w → drop p xs ≡ w ++ drop q xs

@@ -3,3 +3,4 @@ pub mod Plain
 pub mod Laws
 pub mod Writing
 pub mod Walks
+pub mod Spelling
