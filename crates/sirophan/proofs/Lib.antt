@@ -23,6 +23,8 @@ pub mod MatchTable
 pub mod SelectTable
 pub mod Contracts
 pub mod Answered
+pub mod SpellTable
+pub mod Spells
 pub mod Operators
 pub mod Trial
 pub mod Promises
