@@ -9,9 +9,9 @@ use mathlib.Core.List.{List, [], _++_, append-nil}
 use lib.Dec.{eqb, leb, ltb}
 use lib.ListN.{length, take, drop, length-drop, drop-of-length-le}
 use lib.Seq.{take-all, drop-drop}
-use borrow.Author.Tests.{eq-eqb, ne-eqb, lt-ltb, le-ltb, le-leb, lt-leb}
+use borrow.Author.Tests.{eq-eqb, ne-eqb, lt-ltb, le-ltb, le-leb, lt-leb, leb-true, leb-false}
 use Rattle.base.specs.Runs.{RunEnd}
-use Rattle.base.proofs.Tests.{cond-first}
+use Rattle.base.proofs.Tests.{same-test}
 use Rattle.syntax.specs.Tree.{Tree, testsOf}
 use Rattle.syntax.specs.Grammar.{Spells, round, deepest, mostTests}
 use Rattle.syntax.specs.Scan.{isSpace, skipAt}
@@ -80,6 +80,12 @@ measure-long xs out exit n s = record { tree = s .tree; reads = s .reads; long =
 
 -- ---- placing
 
+pub room-past : (size from n : ℕ) → size < from → false ≡ leb (from + n) size
+room-past size from n h = sym (lt-leb (from + n) size (omega arith))
+
+pub room-left : (size from n : ℕ) → from ≤ size → leb n (size - from) ≡ leb (from + n) size
+room-left size from n h = same-test (leb n (size - from)) (leb (from + n) size) (λ k. le-leb (from + n) size (omega (arith, leb-true n (size - from) k))) (λ k. le-leb n (size - from) (omega (arith, leb-true (from + n) size k)))
+
 module _ (xs buffer : List ℕ) (from n : ℕ) (t : TextLength xs n) where
   too-long : length buffer < from + n → PlacedInto xs buffer from (Outcome.TooLong n) buffer
   unfolding placed put
@@ -87,25 +93,28 @@ module _ (xs buffer : List ℕ) (from n : ℕ) (t : TextLength xs n) where
       let z : leb (from + length (plain (t .tree))) (length buffer) ≡ false = lt-leb (from + length (plain (t .tree))) (length buffer) (omega (arith, t .long)) in
       record { tree = t .tree; reads = t .reads; answers = rw (z, t .long); bytes-are = rw z }
 
-  pub place-past : length buffer < from → PlacedInto xs buffer from (Outcome.TooLong n) buffer
-  place-past h = too-long (omega arith)
+  pub place-past : (r : Bool) → r ≡ leb (from + n) (length buffer) → r ≡ false → PlacedInto xs buffer from (Outcome.TooLong n) buffer
+  place-past r e h = too-long (leb-false (from + n) (length buffer) (sym e ∙ h))
 
-  pub place-short : from ≤ length buffer → length buffer - from < n → PlacedInto xs buffer from (Outcome.TooLong n) buffer
-  place-short h k = too-long (omega arith)
+  module _ (r : Bool) (e : r ≡ leb (from + n) (length buffer)) (g : r ≡ true) where
+    room : from + n ≤ length buffer
+    room = leb-true (from + n) (length buffer) (sym e ∙ g)
 
-  module _ (h : from ≤ length buffer) (k : n ≤ length buffer - from) where
+    pub place-within : from ≤ length buffer
+    place-within = omega (arith, room)
+
     lent-long : length (lent buffer from) ≡ length buffer - from
     lent-long = ap length (take-all (length buffer - from) (drop from buffer) (omega (arith, length-drop from buffer))) ∙ length-drop from buffer
 
     pub place-room : TextRoom xs (lent buffer from)
-    place-room = record { tree = t .tree; reads = t .reads; room = record { fits = omega (arith, lent-long, t .long) } }
+    place-room = record { tree = t .tree; reads = t .reads; room = record { fits = omega (arith, lent-long, room, t .long) } }
 
     pub place-text : {exit : List ℕ} {m : ℕ} → TextSpelt xs (lent buffer from) exit m → PlacedInto xs buffer from (Outcome.Length m) (back buffer from exit)
     unfolding placed put
     place-text {exit} {m} s =
         let same : t .tree ≡ s .tree = same-some (sym (t .reads) ∙ s .reads) in
         let long : m ≡ length (plain (s .tree)) = s .puts .long in
-        let fits : from + length (plain (s .tree)) ≤ length buffer = omega (arith, t .long, ap (λ (x : Tree). length (plain x)) same) in
+        let fits : from + length (plain (s .tree)) ≤ length buffer = omega (arith, room, t .long, ap (λ (x : Tree). length (plain x)) same) in
         let z : leb (from + length (plain (s .tree))) (length buffer) ≡ true = le-leb (from + length (plain (s .tree))) (length buffer) fits in
         let rest : drop m (lent buffer from) ≡ drop (from + length (plain (s .tree))) buffer =
         ap (drop m) (take-all (length buffer - from) (drop from buffer) (omega (arith, length-drop from buffer))) ∙ drop-drop m from buffer ∙ ap (λ (x : ℕ). drop (from + x) buffer) long in

@@ -9,7 +9,9 @@ use place::Found;
 use place::find;
 use syntax::scan::skip;
 use walk::write_filter;
-ghost use Prim.Native.Nat.{_≤_};
+ghost use mathlib.Core.Path.{_≡_};
+ghost use Prim.Native.Nat.{_+_, _≤_};
+ghost use lib.Dec.{leb};
 ghost use lib.ListN.{length};
 ghost use Rattle.spell.specs.Spelling.{SpellsInto, IsFilter, TextRoom, TextSpelt, TextLength, PlacedInto};
 
@@ -68,6 +70,16 @@ fn measure(filter: &[u8]) -> usize
     write_text(filter, &mut out)
 }
 
+// Whether so many bytes have room in a buffer of a size from a place on. Their sum might not fit, so it is not made.
+fn has_room(size: usize, from: usize, length: usize) -> bool
+    ensures { λ r. ⌜ r ≡ leb (from + length) size ⌝ }
+{
+    if size < from {
+        return false;
+    }
+    length <= size - from
+}
+
 // Writes the plain spelling of a filter into the buffer from a place on, if there is room.
 fn place_text(filter: &[u8], buffer: &mut [u8], from: usize) -> Outcome
     requires { ⌜ length (now filter) ≤ 1024 ⌝ }
@@ -75,14 +87,11 @@ fn place_text(filter: &[u8], buffer: &mut [u8], from: usize) -> Outcome
     ensures { λ r. ⌜ PlacedInto (now (filter .entry)) (now (buffer .entry)) from r (now (buffer .exit)) ⌝ }
 {
     let length = measure(filter);
-    if buffer.len() < from {
-        return Outcome::TooLong(length);
+    if has_room(buffer.len(), from, length) {
+        let written = write_text(filter, &mut buffer[from..]);
+        return Outcome::Length(written);
     }
-    if buffer.len() - from < length {
-        return Outcome::TooLong(length);
-    }
-    let written = write_text(filter, &mut buffer[from..]);
-    Outcome::Length(written)
+    Outcome::TooLong(length)
 }
 
 // Writes the plain spelling of a filter into the buffer from a place on, and answers its length; or why not, and then the buffer is as
