@@ -2,7 +2,6 @@
 pub mod Checking
 pub mod Judging
 pub mod Passing
-pub mod Writing
 pub mod Gathering
 pub mod Selecting
 pub mod Outcomes

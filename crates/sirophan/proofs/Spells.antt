@@ -17,7 +17,6 @@ use Rattle.syntax.proofs.Spelling.{read-spells, spells-not-empty}
 use Rattle.place.specs.Machine.{failure}
 use Rattle.place.specs.Machine as place
 use Rattle.place.specs.declared.Failure.{Failure}
-use Rattle.place.specs.declared.Why.{Why}
 use Rattle.spell.specs.Plain.{plain}
 use Rattle.spell.specs.Spelling as spell
 use Rattle.spell.specs.declared.Outcome.{Outcome}
@@ -108,11 +107,6 @@ module _ (text : List ℕ) (from : ℕ) (buffer : List ℕ) where
       go : (s : Step (List ℕ)) → answer (s >>= λ w. found (count (length w))) ≡ refused n p → putInto from buffer s ≡ buffer
       go (found w) e = absurd (let z : _≡_ {A = ℕ} 0 1 = cc in omega arith)
       go (stop k q) e = refl
-
--- ---- the reasons of a text that is no filter
-
-pub reason-known : (w k : Why) (r : Reason) → w ≡ k → numberOf r ≡ place.numberOf k → numberOf r ≡ place.numberOf w
-reason-known w k r e h = h ∙ ap place.numberOf (sym e)
 
 -- ---- each case of what spelling came to
 

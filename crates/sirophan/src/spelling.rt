@@ -1,25 +1,13 @@
 // Spell: what spelling a filter comes to, with the numbers of refusal.
 use crate::Spelled;
-use place::Why;
+use crate::reading::failure_reason;
 use refusal::Reason;
 use refusal::Refusal;
 use spell::Outcome;
 ghost use mathlib.Core.Path.{_≡_};
-ghost use Rattle.place.specs.Machine as place;
 ghost use Rattle.refusal.specs.Answers.{refused, numberOf};
 ghost use Rattle.sirophan.specs.Answers.{spelledAnswer};
 ghost use Rattle.sirophan.specs.Spelling.{outcomeAnswer, SpellsAs};
-
-// Why a text that is no filter is refused.
-fn failure_reason(why: Why) -> Reason
-    ensures { λ r. ⌜ numberOf r ≡ place.numberOf why ⌝ }
-{
-    match why {
-        Why::NoFilter => Reason::NoFilter,
-        Why::TooDeep => Reason::TooDeep,
-        Why::TooMany => Reason::TooMany,
-    }
-}
 
 // A refusal as spell's answer.
 fn refuse(reason: Reason, place: usize) -> Spelled

@@ -18,8 +18,11 @@ pub record Writing (word entry out : List ℕ) (i : ℕ) : Type 0 where
   pub front : take i out ≡ take i word
   pub rest : drop i out ≡ drop i entry
 
+pub writing-fits : (word out : List ℕ) → length word ≤ length out → Writing word out out 0
+writing-fits word out h = record { few = zero-le; room = h; long = refl; front = refl; rest = refl }
+
 pub writing-start : (word out : List ℕ) → Room word out → Writing word out out 0
-writing-start word out h = record { few = zero-le; room = h .fits; long = refl; front = refl; rest = refl }
+writing-start word out h = writing-fits word out (h .fits)
 
 module _ {word entry out : List ℕ} {i : ℕ} (w : Writing word entry out i) where
   pub writing-room : i < length word → i < length out
@@ -36,10 +39,15 @@ module _ {word entry out : List ℕ} {i : ℕ} (w : Writing word entry out i) wh
         rest = drop-set-lt (i + 1) out i (getD word i 0) (omega arith) ∙ sym (drop-drop 1 i out) ∙ ap (drop 1) (w .rest) ∙ drop-drop 1 i entry;
       }
 
+  pub writing-whole : length word ≤ i → out ≡ word ++ drop (length word) entry
+  writing-whole h =
+      let n : i ≡ length word = omega (arith, w .few) in
+      sym (take-append-drop i out) ∙ rw (w .front, w .rest, take-all i word h, n)
+
   pub writing-end : length word ≤ i → Puts word entry out i
   writing-end h =
       let n : i ≡ length word = omega (arith, w .few) in
-      record { long = n; bytes = sym (take-append-drop i out) ∙ rw (w .front, w .rest, take-all i word h) }
+      record { long = n; bytes = writing-whole h ∙ ap (λ (k : ℕ). word ++ drop k entry) (sym n) }
 
 -- ---- a text that is another's
 
