@@ -11,7 +11,7 @@ use lib.ListN.{length}
 use Rattle.base.proofs.Tests.{both-ways}
 use Rattle.syntax.specs.Tree.{Tree}
 use Rattle.syntax.specs.Grammar.{Within, Spells, deepest, mostTests}
-use Rattle.place.specs.Machine.{Phase, at-item, in-name, after-not, after-name, in-operator, after-operator, at-value, in-bare, in-string, after-item, after-space, in-connective, after-square, at-member, in-member, Bracket, State, state, Step, live, deep, many, wrong, step, start, itemOver, over, onLive, endsFrom, isFilter, failure, found}
+use Rattle.place.specs.Machine.{Phase, at-item, in-name, after-not, after-name, in-operator, after-operator, at-value, in-bare, in-string, after-item, after-space, in-connective, after-square, at-member, in-member, State, state, Step, live, deep, many, wrong, step, start, itemOver, over, onLive, endsFrom, isFilter, failure, found}
 use Rattle.place.specs.declared.Failure.{Failure}
 use Rattle.place.specs.declared.Found.{Found}
 use Rattle.place.proofs.Steps.{ended-bare, ended-item}

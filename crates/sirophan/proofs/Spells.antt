@@ -2,7 +2,7 @@
 -- Assumes nothing.
 use Prim.Native.Nat.{ℕ, _+_, _≤_}
 use native.Mathlib.Omega.{arith}
-use mathlib.Core.Path.{_≡_, refl, sym, ap, _∙_}
+use mathlib.Core.Path.{_≡_, refl, ap, _∙_}
 use mathlib.Core.Bool.{Bool, true, false, cond, _||_}
 use mathlib.Core.Option.{Option, none, some}
 use mathlib.Core.List.{List, _++_}
@@ -11,16 +11,15 @@ use lib.ListN.{length, take, drop}
 use borrow.Author.Tests.{ne-eqb, le-ltb, le-leb}
 use Rattle.base.proofs.Lists.{length-zero}
 use Rattle.syntax.specs.Tree.{Tree}
-use Rattle.syntax.specs.Grammar.{Spells, deepest, mostTests}
+use Rattle.syntax.specs.Grammar.{Spells}
 use Rattle.syntax.specs.Reader.{read}
 use Rattle.syntax.proofs.Spelling.{read-spells, spells-not-empty}
-use Rattle.place.specs.Machine.{failure}
 use Rattle.place.specs.Machine as place
 use Rattle.place.specs.declared.Failure.{Failure}
 use Rattle.spell.specs.Plain.{plain}
 use Rattle.spell.specs.Spelling as spell
 use Rattle.spell.specs.declared.Outcome.{Outcome}
-use Rattle.refusal.specs.Answers.{Answer, count, refused, numberOf, refusalAnswer}
+use Rattle.refusal.specs.Answers.{count, refused, numberOf}
 use Rattle.refusal.specs.Steps.{Step, found, stop, _>>=_, answer}
 use Rattle.refusal.specs.declared.Reason.{Reason}
 use Rattle.sirophan.specs.Answers.{spelledAnswer}

@@ -2,7 +2,7 @@
 -- Assumes nothing.
 use Prim.Native.Nat.{ℕ, zero, suc, _+_, _-_, _≤_}
 use native.Mathlib.Omega.{arith}
-use mathlib.Core.Path.{_≡_, refl, sym, ap, subst, _∙_}
+use mathlib.Core.Path.{_≡_, refl, sym, ap, _∙_}
 use mathlib.Core.Bool.{Bool, true}
 use mathlib.Core.List.{List, [], _++_, append-nil}
 use lib.ListN.{length, length-append}
@@ -13,7 +13,7 @@ use Rattle.syntax.specs.Reader.{Parsed, parsed, unparsed, connective, andThen, 
 use Rattle.syntax.proofs.Complete.{filter-step, chain-step}
 use Rattle.syntax.proofs.Places.{connective-ahead}
 use Rattle.spell.specs.Plain.{connectiveText, isJoin, plain, operand}
-use Rattle.spell.specs.Writing.{Room, Puts}
+use Rattle.spell.specs.Writing.{Puts}
 use Rattle.spell.specs.Walks.{RoomFor, Spelt, joined}
 use Rattle.spell.specs.declared.Written.{Written}
 use Rattle.spell.proofs.Length.{join-length}

@@ -5,15 +5,15 @@ use native.Mathlib.Omega.{arith}
 use mathlib.Core.Path.{_≡_, refl, ap, _∙_}
 use mathlib.Core.Bool.{Bool}
 use mathlib.Core.List.{List, _++_}
-use lib.ListN.{length, getD, length-append}
+use lib.ListN.{length, length-append}
 use Rattle.base.specs.Ascii.{ascii}
 use Rattle.base.specs.Operators.{operatorWords}
 use Rattle.base.proofs.Below.{passes-same}
 use Rattle.syntax.specs.Tree.{Test, Connective, and, or, Tree, test, bracketed, join, negation}
-use Rattle.syntax.specs.Grammar.{TestAt, a-test, Connects, connects, Opens, opens, opens-not, Closes, closes, Chooses, chooses, Item, item-test, item-bracket, item-not, item-bracketed, Filter, one-item, one-more, Spells}
+use Rattle.syntax.specs.Grammar.{TestAt, a-test, Connects, connects, opens, opens-not, closes, chooses, Item, item-test, item-bracket, item-not, item-bracketed, Filter, one-item, one-more, Spells}
 use Rattle.syntax.proofs.Words.{spaces-rise, gap-rise}
 use Rattle.spell.specs.Plain.{operatorWord, plainValue, plainTest, connectiveText, isJoin, inRoundIf, inRound, plain, operand, erase}
-use Rattle.spell.specs.Laws.{PlainSpelling, Determined}
+use Rattle.spell.specs.Laws.{Determined}
 use Rattle.spell.proofs.Values.{value-short}
 
 -- ---- positions do not matter

@@ -6,9 +6,9 @@ use native.Mathlib.Numerals.{add-one}
 use native.Mathlib.Omega.{arith}
 use mathlib.Core.Path.{_≡_, refl, sym, ap, _∙_}
 use mathlib.Core.Bool.{Bool, true, false}
-use mathlib.Core.List.{List, [], _∷_, _++_, append-assoc}
-use lib.ListN.{length, getD, take, drop, set, length-set, length-take, length-append, take-append-drop}
-use lib.Seq.{take-suc, take-suc-set, drop-set-lt, drop-drop, drop-cons, length-take-le}
+use mathlib.Core.List.{List, [], _∷_, _++_}
+use lib.ListN.{length, getD, take, drop, set, length-set, length-append, take-append-drop}
+use lib.Seq.{take-suc, take-suc-set, drop-set-lt, drop-drop, length-take-le}
 use Rattle.base.specs.Ascii.{ascii}
 use Rattle.base.proofs.Parts.{drop-first}
 use Rattle.spell.specs.Plain.{inRound, inRoundIf}

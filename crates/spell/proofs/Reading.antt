@@ -7,8 +7,8 @@ use native.Mathlib.Omega.{arith}
 use mathlib.Core.Path.{_≡_, refl, ap, sym, _∙_, subst}
 use mathlib.Core.Bool.{Bool, false}
 use mathlib.Core.Logic.{_↔_}
-use mathlib.Core.List.{List, [], _∷_, _++_, map, append-assoc, append-nil}
-use lib.ListN.{length, drop, length-append}
+use mathlib.Core.List.{List, [], _∷_, _++_, append-assoc, append-nil}
+use lib.ListN.{length, drop, length-append, length-map}
 use Rattle.base.specs.Ascii.{ascii}
 use Rattle.base.specs.Names.{Name}
 use Rattle.base.specs.Operators.{operatorWords}
@@ -213,14 +213,10 @@ module _ (xs : List ℕ) where
 
 -- ---- the whole text
 
-length-map : (g : Test → Test) (ts : List Test) → length (map g ts) ≡ length ts
-length-map g [] = refl
-length-map g (t ∷ ts) = ap suc (length-map g ts)
-
 tests-erase : (f : Tree) → length (testsOf (erase f)) ≡ length (testsOf f)
 unfolding testsOf erase
 tests-erase (test t) = refl
-tests-erase (bracketed p b f t) = ap suc (length-map (under b) (testsOf (erase f)) ∙ tests-erase f ∙ sym (length-map (under b) (testsOf f)))
+tests-erase (bracketed p b f t) = ap suc (length-map (testsOf (erase f)) (under b) ∙ tests-erase f ∙ sym (length-map (testsOf f) (under b)))
 tests-erase (join c f g) =
     length-append (testsOf (erase f)) (testsOf (erase g)) ∙ ap (λ (x : ℕ). x + length (testsOf (erase g))) (tests-erase f)
     ∙ ap (λ (x : ℕ). length (testsOf f) + x) (tests-erase g) ∙ sym (length-append (testsOf f) (testsOf g))

@@ -5,9 +5,9 @@ use native.Mathlib.Omega.{arith}
 use mathlib.Core.Path.{_≡_, refl, sym, ap, _∙_}
 use mathlib.Core.Bool.{Bool, true, false, cond, _||_}
 use mathlib.Core.Option.{Option, none, some}
-use mathlib.Core.List.{List, [], _++_, append-nil}
+use mathlib.Core.List.{List, [], append-nil}
 use lib.Dec.{eqb, leb, ltb}
-use lib.ListN.{length, take, drop, length-drop, drop-of-length-le}
+use lib.ListN.{length, drop, length-drop, drop-of-length-le}
 use lib.Seq.{take-all, drop-drop}
 use borrow.Author.Tests.{eq-eqb, ne-eqb, lt-ltb, le-ltb, le-leb, lt-leb, leb-true, leb-false}
 use Rattle.base.specs.Runs.{RunEnd}
@@ -17,14 +17,13 @@ use Rattle.syntax.specs.Grammar.{Spells, round, deepest, mostTests}
 use Rattle.syntax.specs.Scan.{isSpace, skipAt}
 use Rattle.syntax.specs.Reader.{Parsed, parsed, unparsed, filterAt, whole, read}
 use Rattle.syntax.proofs.Spelling.{read-spells}
-use Rattle.place.specs.Machine.{failure, found}
+use Rattle.place.specs.Machine.{found}
 use Rattle.place.specs.declared.Failure.{Failure}
 use Rattle.place.specs.declared.Found.{Found}
 use Rattle.place.proofs.Whole.{found-filter, found-failed}
 use Rattle.spell.specs.Plain.{plain}
-use Rattle.spell.specs.Writing.{Room, Puts}
 use Rattle.spell.specs.Walks.{RoomFor, Spelt}
-use Rattle.spell.specs.Spelling.{placed, treeOutcome, outcome, put, treeBytes, bytes, SpellsInto, IsFilter, TextRoom, TextSpelt, TextLength, PlacedInto}
+use Rattle.spell.specs.Spelling.{placed, outcome, put, bytes, SpellsInto, IsFilter, TextRoom, TextSpelt, TextLength, PlacedInto}
 use Rattle.spell.specs.declared.Written.{Written}
 use Rattle.spell.specs.declared.Outcome.{Outcome}
 use Rattle.spell.proofs.Length.{never-longer}

@@ -4,9 +4,9 @@
 use Prim.Native.Nat.{ℕ, _+_, _-_, _≤_, _<_}
 use native.Mathlib.Omega.{arith}
 use mathlib.Core.Path.{_≡_, refl, sym, ap, subst, _∙_}
-use mathlib.Core.Bool.{Bool, true, false, cond}
+use mathlib.Core.Bool.{Bool, true, false}
 use mathlib.Core.List.{List, [], _∷_, _++_, append-assoc}
-use lib.ListN.{length, take, drop, length-append}
+use lib.ListN.{length, take, drop}
 use lib.Seq.{take-at}
 use Rattle.base.specs.Ascii.{ascii}
 use Rattle.base.specs.Operators.{operatorWords}
@@ -26,12 +26,12 @@ use Rattle.syntax.proofs.Structure.{OpenDerived, open-derived}
 use Rattle.syntax.proofs.Sound.{ItemDerived, FilterDerived, item-derived, filter-derived}
 use Rattle.syntax.proofs.Complete.{item-rise, filter-rise, test-step, opened-step, deep-step, chosen-step, deep-choice-step, nothing-step}
 use Rattle.syntax.proofs.Tests.{TestDerived, test-derived}
-use Rattle.spell.specs.Plain.{connectiveText, isJoin, inRound, inRoundIf, plainTest, plain, operand}
+use Rattle.spell.specs.Plain.{connectiveText, inRoundIf, plainTest, plain, operand}
 use Rattle.spell.specs.Writing.{Room, Puts, testText}
 use Rattle.spell.specs.Walks.{RoomFor, Spelt, joined, choiceText, memberText, bracketAt, chosenAt}
 use Rattle.spell.specs.declared.Written.{Written}
 use Rattle.spell.proofs.Length.{operand-short}
-use Rattle.spell.proofs.Writing.{room-same, puts-same, lent, back, Wrote, wrote-end, first-room, first-within, first-wrote, last-room, last-wrote, second-room, second-wrote, third-room, third-wrote, puts-length, puts-over}
+use Rattle.spell.proofs.Writing.{room-same, puts-same, lent, back, Wrote, wrote-end, first-room, first-within, last-room, last-wrote, second-room, second-wrote, third-room, third-wrote, puts-length, puts-over}
 
 pub never : {X : Type 0} {q : ℕ} {f : Tree} → unparsed ≡ parsed q f → X
 never e = let z : _≡_ {A = ℕ} 0 1 = cc in absurd (omega arith)

@@ -3,7 +3,7 @@
 use Prim.Native.Nat.{_+_, _*_, _-_}
 use native.Mathlib.Omega.{arith}
 use lib.ListN.{length}
-use Rattle.spell.proofs.Walking.{filter-within, item-within, round-room, round-spelt, not-room, not-within, not-inner, not-inner-within, not-close-room, not-long, not-fits, not-spelt, operand-item, bracket-within, bracket-room, operand-spelt, connective-room, connective-within, operand-room, joined-fits, joined-long, joined-spelt, member-operator, item-nothing, item-operator, item-test-room, item-test-spelt, item-open-deep, item-open-room, item-open-spelt, item-choice-deep, item-choice-room, item-choice-spelt, chosen-room, chosen-within, chosen-inner, chosen-inner-within, chosen-nothing, chosen-member-room, chosen-long, chosen-fits, chosen-spelt}
+use Rattle.spell.proofs.Walking.{filter-within, round-room, round-spelt, not-room, not-within, not-inner, not-inner-within, not-close-room, not-long, not-fits, not-spelt, operand-item, bracket-within, bracket-room, operand-spelt, connective-room, connective-within, operand-room, joined-fits, joined-long, joined-spelt, member-operator, item-nothing, item-operator, item-test-room, item-test-spelt, item-open-deep, item-open-room, item-open-spelt, item-choice-deep, item-choice-room, item-choice-spelt, chosen-room, chosen-within, chosen-inner, chosen-inner-within, chosen-nothing, chosen-member-room, chosen-long, chosen-fits, chosen-spelt}
 use Rattle.spell.proofs.Chaining.{Chained, chained-item, chained-starts, chained-over, chained-within, chained-ends, chained-room, chained-fits, chained-ahead, chained-next}
 use Rattle.syntax.proofs.Places.{head-test-placed, head-open-ahead, head-choice-ahead, member-ahead, connective-ahead}
 use borrow.Author.Needs.{needs}
