@@ -12,7 +12,8 @@
  * with a numbered refusal.
  *
  * A pointer comes with the number of elements that it points to. It may be anything, but not NULL, where that number
- * is 0. The list must not overlap the other arguments. The functions keep nothing and may be called from any thread.
+ * is 0. The list, or the buffer, must not overlap the other arguments. The functions keep nothing and may be called
+ * from any thread.
  *
  * Link with libsirophan_c.a, which `rt staticlib sirophan_c` writes into target/staticlib (x86-64).
  */
@@ -50,7 +51,8 @@ enum {
     SIROPHAN_CARD_SUM = 21,     /* a card's check sum is wrong; place: the card's index, as for 22 and 23 */
     SIROPHAN_CARD_LAYOUT = 22,  /* a card breaks its layout */
     SIROPHAN_CARD_MISFIT = 23,  /* a card does not fit the sheet; a text under a bundle is among the reasons */
-    SIROPHAN_SHORT_LIST = 30    /* the list is shorter than the matches; place: their number */
+    SIROPHAN_SHORT_LIST = 30,   /* the list is shorter than the matches; place: their number */
+    SIROPHAN_SHORT_BUFFER = 32  /* the plain spelling would run past the buffer's end; place: its length */
 };
 
 /* An answer. */
@@ -76,6 +78,16 @@ sirophan_answer sirophan_select(const uint8_t *sheet, size_t sheet_len,
                                 const uint8_t *filter, size_t filter_len,
                                 const uint8_t *cards, size_t cards_len,
                                 uint32_t *list, size_t list_len);
+
+/*
+ * Writes the filter's plain spelling into the buffer, from the byte at the index from on, and answers its length. All
+ * other bytes stay, and a refusal writes nothing. The plain spelling has one space where one is needed and none
+ * elsewhere, no bracket that can be spared, and each value as a bare word where it can be one; two filters get the same
+ * bytes exactly when they ask the same tests, joined, negated and grouped the same. It is never longer than the filter,
+ * so a buffer with filter_len bytes from that index on has room. No sheet is needed: a name may be on none.
+ */
+sirophan_answer sirophan_spell(const uint8_t *filter, size_t filter_len,
+                               uint8_t *buffer, size_t buffer_len, size_t from);
 
 #ifdef __cplusplus
 }

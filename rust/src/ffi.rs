@@ -40,4 +40,12 @@ unsafe extern "C" {
         list: *mut u32,
         list_len: usize,
     ) -> Answer;
+
+    pub fn sirophan_spell(
+        filter: *const u8,
+        filter_len: usize,
+        buffer: *mut u8,
+        buffer_len: usize,
+        from: usize,
+    ) -> Answer;
 }

@@ -79,6 +79,15 @@ static void expect_cells(const char *what, const uint32_t *list, const uint32_t 
     printf("\n");
 }
 
+static void expect_bytes(const char *what, const uint8_t *buffer, const char *wanted, size_t length) {
+    if (memcmp(buffer, wanted, length) == 0) {
+        passed++;
+        return;
+    }
+    failed++;
+    printf("%s: %.*s\n", what, (int)length, (const char *)buffer);
+}
+
 /* A filter, and what match answers to it for card 7. */
 typedef struct row {
     const char *filter;
@@ -141,6 +150,15 @@ int main(void) {
     expect("two of three", sirophan_select(SHEET, FILTER(filter), cards, sizeof cards, list, 3), 0, 2);
     expect_cells("two of three", list, (const uint32_t[4]){7, 300, UNTOUCHED, UNTOUCHED}, 4);
     expect("no cards", sirophan_select(SHEET, FILTER(filter), cards, 0, list, 0), 0, 0);
+
+    uint8_t buffer[12];
+    memset(buffer, '.', sizeof buffer);
+    expect("spelled", sirophan_spell(FILTER("( title  eq \"a\" )"), buffer, sizeof buffer, 1), 0, 10);
+    expect_bytes("spelled", buffer, ".title eq a.", sizeof buffer);
+    expect("buffer too short", sirophan_spell(FILTER("pages eq 1"), buffer, sizeof buffer, 3), SIROPHAN_SHORT_BUFFER, 10);
+    expect("past the buffer", sirophan_spell(FILTER("pages eq 1"), buffer, sizeof buffer, 13), SIROPHAN_SHORT_BUFFER, 10);
+    expect("no filter to spell", sirophan_spell(FILTER("pages eq"), buffer, sizeof buffer, 0), SIROPHAN_NO_FILTER, 8);
+    expect_bytes("not spelled", buffer, ".title eq a.", sizeof buffer);
 
     cards[2 * BLOCK] ^= 1;
     expect("third card damaged", sirophan_select(SHEET, FILTER(filter), cards, sizeof cards, list, 4),

@@ -34,6 +34,7 @@ numberOf Reason.CardSum = 21
 numberOf Reason.CardLayout = 22
 numberOf Reason.CardMisfit = 23
 numberOf Reason.ShortList = 30
+numberOf Reason.ShortBuffer = 32
 
 unfoldable pub refusalAnswer : Refusal → Answer
 refusalAnswer r = refused (numberOf (r .reason)) (r .place)

@@ -1,6 +1,7 @@
 -- The promises, grouped by the letter's demands; each is proved where its one line says. The contracts of check, match_card and select say
--- that the code answers as checkAnswer, matchAnswer and selectAnswer do, and leaves the list as selectCells says. Assumes nothing.
-use Prim.Native.Nat.{ℕ, _≤_, _<_}
+-- that the code answers as checkAnswer, matchAnswer and selectAnswer do, and leaves the list as selectCells says; that of spell, that it
+-- answers as spellAnswer does, and leaves the buffer as spellBytes says. Assumes nothing.
+use Prim.Native.Nat.{ℕ, _+_, _≤_, _<_}
 use mathlib.Core.Path.{_≡_}
 use mathlib.Core.Bool.{Bool, true}
 use mathlib.Core.Logic.{_↔_, _⊎_}
@@ -24,6 +25,10 @@ use Rattle.syntax.specs.Tree.{Tree, test, testsOf, Rising}
 use Rattle.syntax.specs.Grammar.{deepest, mostTests, Spells}
 use Rattle.syntax.specs.Reader.{read}
 use Rattle.syntax.proofs.Spelling as spelling
+use Rattle.spell.specs.Plain.{plain}
+use Rattle.spell.specs.Laws.{PlainSpelling, Determined}
+use Rattle.spell.proofs.Length as lengths
+use Rattle.spell.proofs.Shortest as shortest
 use Rattle.place.specs.Begins.{Begins, Longest, Number}
 use Rattle.place.proofs.Place as place
 use Rattle.date.specs.Calendar.{daysBeforeMonth}
@@ -56,7 +61,8 @@ use Rattle.sirophan.specs.Verdicts.{Verdict}
 use Rattle.sirophan.specs.Demand.{Demand, MeetsDemand, Agree}
 use Rattle.sirophan.specs.Selection.{Run, matchingCards, matchingNumbers, occurrences, bearing, SelectsByMatch, SelectAnswers}
 use Rattle.refusal.specs.Order.{rank, Decides}
-use Rattle.sirophan.specs.Refusals.{CheckLine, MatchLine, SelectLine}
+use Rattle.sirophan.specs.Refusals.{CheckLine, MatchLine, SelectLine, SpellLine}
+use Rattle.sirophan.specs.Spelling.{spellAnswer, spellBytes, SpellAnswers}
 use Rattle.sirophan.specs.Trial.{Row, trialRows, bundleRows, stayRows, titleTest, codeTest}
 use Rattle.sirophan.specs.Edges.{edgeCard, edgeRows}
 use Rattle.kind.proofs.Rules as rules
@@ -70,6 +76,8 @@ use Rattle.sirophan.proofs.CheckTable as check-table
 use Rattle.sirophan.proofs.MatchTable as match-table
 use Rattle.sirophan.proofs.SelectTable as select-table
 use Rattle.sirophan.proofs.Answered as answered
+use Rattle.sirophan.proofs.SpellTable as spell-table
+use Rattle.sirophan.proofs.Spells as spell
 use Rattle.sirophan.proofs.Operators as words
 use Rattle.sirophan.proofs.Trial as trial
 
@@ -86,6 +94,9 @@ match-refused = match-table.match-table
 pub select-refused : (sheet text cards : List ℕ) (room : ℕ) → Bytes sheet → Bytes cards → (n p : ℕ)
     → (selectAnswer sheet text cards room ≡ refused n p) ↔ Decides (SelectLine sheet text cards room) n p
 select-refused = select-table.select-table
+
+pub spell-refused : (text : List ℕ) (from room n p : ℕ) → (spellAnswer text from room ≡ refused n p) ↔ Decides (SpellLine text from room) n p
+spell-refused = spell-table.spell-table
 
 -- the lines decide in the order of the table; 02 gives 18 its rank in words
 pub bundle-ranks-between : (rank 14 < rank 18) × (rank 18 < rank 15)
@@ -105,6 +116,9 @@ number-unique = place.number-unique
 
 pub refusal-keeps-list : (sheet text cards list : List ℕ) (n i : ℕ) → selectAnswer sheet text cards (length list) ≡ refused n i → selectCells sheet text cards list ≡ list
 refusal-keeps-list = selection.refusal-keeps
+
+pub refusal-keeps-buffer : (text : List ℕ) (from : ℕ) (buffer : List ℕ) (n p : ℕ) → spellAnswer text from (length buffer) ≡ refused n p → spellBytes text from buffer ≡ buffer
+refusal-keeps-buffer = spell.refusal-keeps-buffer
 
 -- ---- demand 2: the answer is the meaning
 
@@ -229,6 +243,21 @@ match-never-says-yes-to-all = impossible.match-says-yes
 
 pub match-never-says-no-without-meaning : (check : Answer) → Demand trialParameters (test codeTest) check (λ card. no) → ⊥
 match-never-says-no-without-meaning = impossible.match-says-no
+
+-- ---- the plain spelling (02 [5])
+
+-- it is read back as the same filter, spelled again it stays, two filters get the same bytes exactly when they are the same, it is never
+-- longer than its source, and a source as short is the plain spelling itself
+pub plain-spelling : PlainSpelling plain
+plain-spelling = shortest.plain-spelling
+
+-- nothing is left free
+pub plain-determined : Determined
+plain-determined = lengths.determined
+
+-- spell puts it into the buffer wherever there is room
+pub spell-answered : (text : List ℕ) (from : ℕ) (buffer : List ℕ) (f : Tree) → length text ≤ 1024 → Spells text f → from + length (plain f) ≤ length buffer → SpellAnswers (plain f) text from buffer
+spell-answered = spell.spell-answered
 
 -- ---- the trial card
 

@@ -3,6 +3,7 @@ pub mod Answers
 pub mod Operations
 pub mod Passing
 pub mod Selecting
+pub mod Spelling
 pub mod Verdicts
 pub mod Numbers
 pub mod Demand

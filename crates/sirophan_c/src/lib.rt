@@ -4,10 +4,12 @@ use refusal::number;
 use sirophan::Checked;
 use sirophan::Matched;
 use sirophan::Selected;
+use sirophan::Spelled;
 ghost use mathlib.Core.Path.{_≡_};
 ghost use lib.ListN.{length};
 ghost use Rattle.refusal.specs.Answers.{refusalAnswer};
 ghost use Rattle.sirophan.specs.Operations.{checkAnswer, matchAnswer, selectAnswer, selectCells};
+ghost use Rattle.sirophan.specs.Spelling.{spellAnswer, spellBytes};
 ghost use Rattle.sirophan_c.specs.Answers.{told};
 
 // The number of the refusal, 0 where there is none; and the count, 1 for yes and 0 for no, or the refusal's place.
@@ -80,5 +82,21 @@ pub extern "C" fn sirophan_select(
             value: count,
         },
         Selected::Refused(refusal) => refused(refusal),
+    }
+}
+
+// The length of the filter's plain spelling, which stands in the buffer from the place on, or a refusal.
+#[no_mangle]
+pub extern "C" fn sirophan_spell(filter: &[u8], buffer: &mut [u8], from: usize) -> Answer
+    ensures { λ r. ⌜ r ≡ told (spellAnswer (now (filter .entry)) from (length (now (buffer .entry)))) ⌝ }
+    ensures { λ _. ⌜ now (buffer .exit) ≡ spellBytes (now (filter .entry)) from (now (buffer .entry)) ⌝ }
+{
+    let spelled = sirophan::spell(filter, buffer, from);
+    match spelled {
+        Spelled::Length(length) => Answer {
+            refusal: 0,
+            value: length,
+        },
+        Spelled::Refused(refusal) => refused(refusal),
     }
 }

@@ -19,6 +19,10 @@ impl Library for Second {
     fn select(&self, sheet: &[u8], filter: &[u8], cards: &[u8], list: &mut [u32]) -> Result<usize, Refusal> {
         operations::select(sheet, filter, cards, list)
     }
+
+    fn spell(&self, filter: &[u8], buffer: &mut [u8], from: usize) -> Result<usize, Refusal> {
+        operations::spell(filter, buffer, from)
+    }
 }
 
 #[test]
@@ -35,6 +39,9 @@ fn every_answer_and_mostly_verdicts() {
     for number in [1, 2, 3, 10, 11, 12, 13, 14, 15, 16, 17, 18, 20, 21, 22, 23, 30] {
         let answer = ("select", format!("refused-{number:02}"));
         assert!(outcome.answers.contains_key(&answer), "no selection is refused by {number}");
+    }
+    for answer in ["shorter", "plain already", "refused-10", "refused-11", "refused-12", "refused-13", "refused-32"] {
+        assert!(outcome.answers.contains_key(&("spell", answer.to_string())), "nothing spelled is {answer}");
     }
 }
 

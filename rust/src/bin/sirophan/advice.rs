@@ -5,7 +5,7 @@ use crate::filter::{Filter, Test};
 use crate::input::{self, shown};
 use crate::kind::{self, BUNDLE, Reader};
 use crate::report::{Failure, Message};
-use crate::sheet::Sheet;
+use crate::sheet::{Parameter, Sheet};
 use crate::text::{self, row, spell};
 use sirophan::Refusal;
 
@@ -40,20 +40,29 @@ impl Question {
     fn tell(&self, refusal: Refusal) -> Message {
         let filter = Filter::read(&self.filter);
         let test = filter.as_ref().and_then(|filter| filter.test_at(refusal.place));
-        let (shown, help) = match (refusal.number, test) {
-            (1..=3, _) => return sheet_refused(&self.sheet_name, &self.sheet, refusal),
+        match (refusal.number, test) {
+            (1..=3, _) => sheet_refused(&self.sheet_name, &self.sheet, refusal),
             (14..=18, Some(test)) => {
-                let shown = sirophan::underline(&self.filter, test.whole.clone());
-                (Some(shown), test_help(refusal.number, &self.sheet, &self.filter, test))
+                let shown = Some(sirophan::underline(&self.filter, test.whole.clone()));
+                let help = test_help(refusal.number, &self.sheet, &self.filter, test);
+                Message { shown, ..told(refusal, &self.filter_name, help) }
             }
-            (11..=13, _) => {
-                let shown = sirophan::underline(&self.filter, refusal.place..refusal.place + 1);
-                (Some(shown), text_help(refusal, &self.sheet, &self.filter))
-            }
-            _ => (None, vec![filter_size_help(&self.filter)]),
-        };
-        Message { shown, ..told(refusal, &self.filter_name, help) }
+            _ => text_refused(&self.filter_name, &self.filter, &self.sheet.parameters, refusal),
+        }
     }
+}
+
+/// A refusal of a text that is no filter as it is told: where it stops being one, the library's sentence, and help, which
+/// knows the fields of a sheet where there is one.
+pub fn text_refused(name: &str, filter: &[u8], parameters: &[Parameter], refusal: Refusal) -> Message {
+    let (shown, help) = match refusal.number {
+        11..=13 => {
+            let shown = sirophan::underline(filter, refusal.place..refusal.place + 1);
+            (Some(shown), text_help(refusal, parameters, filter))
+        }
+        _ => (None, vec![filter_size_help(filter)]),
+    };
+    Message { shown, ..told(refusal, name, help) }
 }
 
 /// A refusal of a file, with sentences of help.
@@ -112,7 +121,7 @@ const NO_FILTER: [(&[u8], &str); 8] = [
 ];
 
 /// Help with a text that is no filter.
-fn text_help(refusal: Refusal, sheet: &Sheet, filter: &[u8]) -> Vec<String> {
+fn text_help(refusal: Refusal, parameters: &[Parameter], filter: &[u8]) -> Vec<String> {
     let holds = |sign: &[u8]| filter.windows(sign.len()).any(|window| window == sign);
     let sign = NO_FILTER.iter().find(|(sign, _)| holds(sign)).map(|(_, help)| help.to_string());
     let letters = (!filter.is_ascii()).then(|| "Letters beyond ASCII stand between double quotes only.".to_string());
@@ -120,7 +129,7 @@ fn text_help(refusal: Refusal, sheet: &Sheet, filter: &[u8]) -> Vec<String> {
     let place = match refusal.number {
         12 => vec!["Round and square brackets together nest at most 8 deep.".into()],
         13 => vec!["A filter has at most 32 tests, those inside square brackets counted too.".into()],
-        _ => Beginning { sheet, begun }.help(rest),
+        _ => Beginning { parameters, begun }.help(rest),
     };
     let word = capitals(filter).or_else(|| foreign(begun, rest));
     sign.or(letters).into_iter().chain(word).chain(place).collect()
@@ -155,7 +164,7 @@ fn foreign(begun: &[u8], rest: &[u8]) -> Option<String> {
 
 /// The beginning of a text up to where it can no longer become a filter. What could stand behind it, the library is asked.
 struct Beginning<'a> {
-    sheet: &'a Sheet,
+    parameters: &'a [Parameter],
     begun: &'a [u8],
 }
 
@@ -163,17 +172,15 @@ impl Beginning<'_> {
     /// Whether some filter begins with the beginning and these bytes.
     fn goes_on(&self, with: &str) -> bool {
         let text = [self.begun, with.as_bytes()].concat();
-        match sirophan::check(&self.sheet.block, &text) {
-            Err(refusal) if matches!(refusal.number, 11..=13) => refusal.place == text.len(),
-            Err(refusal) => refusal.number >= 14,
+        match sirophan::plain(&text) {
+            Err(refusal) => refusal.number != 10 && refusal.place == text.len(),
             Ok(_) => true,
         }
     }
 
     /// Whether the beginning is a filter itself.
     fn is_filter(&self) -> bool {
-        let refusal = sirophan::check(&self.sheet.block, self.begun).err();
-        refusal.is_none_or(|refusal| refusal.number >= 14)
+        sirophan::plain(self.begun).is_ok()
     }
 
     /// Whether a word may begin behind it without a space.
@@ -237,7 +244,7 @@ impl Beginning<'_> {
     /// The operators of the field that it ends with, if it ends with one that has texts.
     fn operators(&self) -> Option<String> {
         let name = self.begun.trim_ascii_end().rsplit(|byte| b" ([.".contains(byte)).next()?;
-        let mut found = self.sheet.parameters.iter().filter(|parameter| parameter.name == name);
+        let mut found = self.parameters.iter().filter(|parameter| parameter.name == name);
         let kind = found.next().map(|parameter| parameter.kind).filter(|kind| *kind != BUNDLE)?;
         let alone = found.all(|parameter| parameter.kind == kind);
         alone.then(|| operators_of(&String::from_utf8_lossy(name), kind))

@@ -2,7 +2,7 @@
 //!
 //! Its parts, from the top down:
 //!
-//! - the commands: `pick`, `check`, `fields`, `pack`, `show`, `verify`;
+//! - the commands: `pick`, `check`, `plain`, `fields`, `pack`, `show`, `verify`;
 //! - what they say beside their answers: `advice` on refusals, `doubt` about filters, `tally` of what cards hold;
 //! - what they go through: `cards` in blocks, `description` in words;
 //! - what these are made of: `sheet`, `filter`, `kind`, which asks the library, and `block`;
@@ -22,6 +22,7 @@ mod json;
 mod kind;
 mod pack;
 mod pick;
+mod plain;
 mod progress;
 mod report;
 mod sheet;
@@ -52,7 +53,7 @@ struct Command {
 }
 
 /// The commands. A later one is another row.
-const COMMANDS: [Command; 6] = [
+const COMMANDS: [Command; 7] = [
     Command {
         name: "pick",
         usage: "[--stream] SHEET FILTER CARDS",
@@ -86,6 +87,20 @@ const COMMANDS: [Command; 6] = [
                \x20     code is a token, which has the operators eq, ne and pr.\n\
                \x20     lt is for numbers, dates and periods. If that is what code holds, the sheet gives it the wrong kind.\n",
         run: check::run,
+    },
+    Command {
+        name: "plain",
+        usage: "FILTER",
+        paths: 1..=1,
+        options: &[],
+        summary: "writes a filter in its plain spelling, by which it can be filed",
+        help: "It has one space where one is needed and none elsewhere, no bracket that the reading from left to right makes\n\
+               idle, and each value as a bare word where it can be one. Two filters have the same plain spelling exactly when\n\
+               they ask the same tests, joined, negated and grouped the same. No sheet is needed.\n\n\
+               Example:\n\n\
+               \x20   $ echo '((title co \"book\")  or pages gt 12)  and (code eq \"x y\")' | sirophan plain -\n\
+               \x20   title co book or pages gt 12 and code eq \"x y\"\n",
+        run: plain::run,
     },
     Command {
         name: "fields",

@@ -12,6 +12,7 @@ pub use random::Random;
 
 use crate::block::{MARKED_CARD, MARKED_SHEET, SIZE};
 use crate::filter;
+use crate::spelling;
 use archive::Archive;
 use modes::MODES;
 
@@ -26,6 +27,9 @@ pub struct Case {
     pub cards: Vec<u8>,
     /// The list before the selection.
     pub list: Vec<u32>,
+    /// The buffer that the filter is spelled into, and from which of its bytes on.
+    pub buffer: Vec<u8>,
+    pub from: usize,
 }
 
 impl Case {
@@ -48,11 +52,34 @@ pub fn case(seed: u64, number: u64) -> (Case, &'static str) {
     let mut left = random.below(total);
     for mode in &MODES {
         if left < mode.weight {
-            return ((mode.make)(&mut random), mode.name);
+            let mut case = (mode.make)(&mut random);
+            lend_buffer(&mut random, &mut case);
+            return (case, mode.name);
         }
         left -= mode.weight;
     }
     unreachable!("the weights sum to the total")
+}
+
+/// A buffer with something in every byte, in which the plain spelling mostly has room, often no more than that. Now and
+/// then it is one byte too short, or the place lies at its end or past it.
+fn lend_buffer(random: &mut Random, case: &mut Case) {
+    let plain = filter::read(&case.filter).map(|filter| spelling::plain(&filter));
+    let needed = plain.map_or(case.filter.len(), |plain| plain.len());
+    let from = random.below(6);
+    let size = match random.below(8) {
+        0 => (from + needed).saturating_sub(1),
+        1 => random.below(from + needed + 1),
+        2..=4 => from + needed,
+        _ => from + needed + random.below(20),
+    };
+    case.buffer = (0..size).map(|_| random.byte()).collect();
+    case.from = match random.below(16) {
+        0 => size,
+        1 => size + 1 + random.below(9),
+        2 => random.one(&[usize::MAX, usize::MAX - 1, usize::MAX - needed, usize::MAX / 2]),
+        _ => from,
+    };
 }
 
 /// The three files that the program `pick` reads.
