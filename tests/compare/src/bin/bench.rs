@@ -5,7 +5,7 @@
 //! `full | 32`. The archives are made of a fixed seed. They are measured slice by slice, the three taking turns on each,
 //! and for each slice the least time of the rounds counts, so that what else the machine does disturbs little.
 
-use second::block::{self, Entry, BUNDLE, MARKED_CARD, MARKED_SHEET, SIZE, SUMMED};
+use second::block::{self, BUNDLE, Entry, MARKED_CARD, MARKED_SHEET, SIZE, SUMMED};
 use second::generate::Random;
 use second::operations;
 use std::hint::black_box;
