@@ -62,15 +62,14 @@ pub fn select(sheet: &[u8], filter: &[u8], cards: &[u8], list: &mut [u32]) -> Re
 pub fn spell(filter: &[u8], buffer: &mut [u8], from: usize) -> Result<usize, Refusal> {
     // SAFETY: each pointer comes with the length of the slice that it is of. Only the buffer is written, and it cannot
     // overlap the filter, since it is borrowed for writing.
-    let answer =
-        unsafe { ffi::sirophan_spell(filter.as_ptr(), filter.len(), buffer.as_mut_ptr(), buffer.len(), from) };
+    let answer = unsafe { ffi::sirophan_spell(filter.as_ptr(), filter.len(), buffer.as_mut_ptr(), buffer.len(), from) };
     answer.into_result()
 }
 
 /// The plain spelling of a filter: one space where one is needed, no bracket that can be spared, a bare word wherever the
 /// value can be one. Two filters have the same exactly when they ask the same tests, joined, negated and grouped the same.
 ///
-/// ```no_run
+/// ```
 /// let filed = sirophan::plain(b"  (title co \"book\")  and pages gt 12");
 /// assert_eq!(filed.unwrap(), b"title co book and pages gt 12");
 /// ```

@@ -653,9 +653,7 @@ fn plain_refuses_what_is_no_filter() {
         "a eq\n    ^\nstandard input: refused 11 at 4: The text is no filter by the grammar: no filter goes on like this.\n\
          \x20 Here could stand a value. Words have a space before them.\n",
     );
-    folder
-        .run(&["plain", "a", "b"])
-        .fails(1, "sirophan: 2 paths given. Usage: sirophan plain FILTER\n");
+    folder.run(&["plain", "a", "b"]).fails(1, "sirophan: 2 paths given. Usage: sirophan plain FILTER\n");
 }
 
 // ---- fields
