@@ -20,6 +20,7 @@ lines =
     ∷ (20 ∷ [])
     ∷ (21 ∷ 22 ∷ 23 ∷ [])
     ∷ (30 ∷ [])
+    ∷ (31 ∷ [])
     ∷ []
 
 -- the numbers of the lines, one after the other

@@ -38,10 +38,12 @@ pub enum Reason {
     CardMisfit,
     // 30: the list is shorter than the matches.
     ShortList,
+    // 31: the rows are fewer than the parameters.
+    ShortRows,
 }
 
 // A refusal: why, and where. The place is the length of the longest beginning that also begins some filter, a test's first byte, a
-// card's index, the number of matches, or 0.
+// card's index, the number of matches or of rows needed, or 0.
 pub struct Refusal {
     pub reason: Reason,
     pub place: usize,

@@ -23,7 +23,7 @@ abbrev pub Sliced : List ℕ → Type 0
 Sliced s = (i : ℕ) → getD s i 0 < 256
 
 -- the table of a definition is that of an equal answer
-refused-by : (Line : ℕ → ℕ → Type 0) (a b : Answer) → a ≡ b → RefusedBy Line b → RefusedBy Line a
+pub refused-by : (Line : ℕ → ℕ → Type 0) (a b : Answer) → a ≡ b → RefusedBy Line b → RefusedBy Line a
 refused-by Line a b e t n p = ((λ f. t n p .0 (sym e ∙ f)), (λ d. e ∙ t n p .1 d))
 
 pub checks : (sheet text : List ℕ) (r : Checked) → checkedAnswer r ≡ checkAnswer sheet text → Sliced sheet → Checks sheet text r

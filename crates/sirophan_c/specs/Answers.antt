@@ -2,7 +2,7 @@
 -- Assumes nothing.
 use Prim.Native.Nat.{ℕ}
 use Rattle.refusal.specs.Answers as paper
-use Rattle.refusal.specs.Answers.{yes, no, count, refused}
+use Rattle.refusal.specs.Answers.{yes, no, count, counts, refused}
 use Rattle.sirophan_c.specs.declared.Answer.{Answer}
 
 abbrev pub answer : ℕ → ℕ → Answer
@@ -13,4 +13,6 @@ unfoldable pub told : paper.Answer → Answer
 told yes = answer 0 1
 told no = answer 0 0
 told (count n) = answer 0 n
+-- a report's answer, which has a struct of its own
+told (counts y n) = answer 0 y
 told (refused n p) = answer n p
