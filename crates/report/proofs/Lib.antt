@@ -5,4 +5,7 @@ pub mod Passes
 pub mod Surveys
 pub mod Table
 pub mod Planning
+pub mod Reporting
+pub mod Words
 pub mod Contracts
+pub mod Promises

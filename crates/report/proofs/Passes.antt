@@ -52,7 +52,7 @@ pass-next g j (suc i) (r ∷ rows) d h =
 
 -- ---- what a pass makes of the rows
 
-tallies-length : (cs : List (List Entry)) (i n : ℕ) → length (tallies cs i n) ≡ n
+pub tallies-length : (cs : List (List Entry)) (i n : ℕ) → length (tallies cs i n) ≡ n
 unfolding tallies
 tallies-length cs i zero = refl
 tallies-length cs i (suc n) = ap suc (tallies-length cs (suc i) n)

@@ -3,7 +3,7 @@
 -- Assumes nothing.
 use Prim.Native.Nat.{ℕ, suc, _+_, _-_, _≤_}
 use native.Mathlib.Omega.{arith}
-use mathlib.Core.Path.{_≡_, refl, ap, sym, _∙_}
+use mathlib.Core.Path.{_≡_, refl, ap, sym, _∙_, subst}
 use mathlib.Core.Bool.{Bool, true, false, cond, not}
 use mathlib.Core.List.{List, [], _∷_, map}
 use lib.ListN.{length, length-map}
@@ -96,7 +96,22 @@ module _ (sheet text cards : List ℕ) where
       by-prepare (stop n i) e = stopped n i
       by-prepare (found p) e = by-run p e (takeRun cards) refl
 
-  -- ---- by what select answers
+  -- ---- what it comes to, and by what select answers
+
+  pub survey-found : (s : Survey) → survey sheet text cards ≡ found s → Found s
+  survey-found s = go outcome
+    where
+      go : {r : Step Survey} {t : Step (List ℕ)} → Outcome r t → r ≡ found s → Found s
+      go (stopped m q) h = absurd (let z : _≡_ {A = ℕ} 0 1 = cc in omega arith)
+      go (surveyed t f) h = let same : t ≡ s = cc in subst Found same f
+
+  pub survey-stopped : (n p : ℕ) → survey sheet text cards ≡ stop n p → selectAnswer sheet text cards 128 ≡ refused n p
+  unfolding selectAnswer
+  survey-stopped n p = go outcome
+    where
+      go : {r : Step Survey} {t : Step (List ℕ)} → Outcome r t → r ≡ stop n p → answer (t >>= λ ns. found (count (length ns))) ≡ refused n p
+      go (stopped m q) h = cc
+      go (surveyed t f) h = absurd (let z : _≡_ {A = ℕ} 0 1 = cc in omega arith)
 
   -- where it refuses, the survey stops so
   pub survey-refused : (n p : ℕ) → selectAnswer sheet text cards 128 ≡ refused n p → survey sheet text cards ≡ stop n p

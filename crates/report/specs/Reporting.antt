@@ -1,6 +1,6 @@
 -- What a report has to do with match on each card of the run, and its rows in 02's words.
 -- Assumes nothing.
-use Prim.Native.Nat.{ℕ, _+_, _≤_}
+use Prim.Native.Nat.{ℕ, _+_, _≤_, _<_}
 use native.Mathlib.Omega.{arith}
 use mathlib.Core.Path.{_≡_, refl}
 use mathlib.Core.List.{List, [], _∷_, _++_, map, filter, flatten}
@@ -67,5 +67,6 @@ abbrev pub textsUnder : ℕ → List (List ℕ) → List (List ℕ)
 textsUnder i bs = flatten (map (textsAt i) bs)
 
 -- the row of the parameter with the index i says how many cards have it, and how many values stand under it
-abbrev pub RowSays : ℕ → List (List ℕ) → List Tally → Type 0
-RowSays i bs rows = getD rows i (tally 0 0) ≡ tally (length (having i bs)) (length (textsUnder i bs))
+pub record RowSays (i : ℕ) (bs : List (List ℕ)) (rows : List Tally) : Type 0 where
+  pub there : i < length rows
+  pub says : getD rows i (tally 0 0) ≡ tally (length (having i bs)) (length (textsUnder i bs))
