@@ -1,7 +1,7 @@
 //! The Rust interface: its answers on the trial archive, and how it tells a refusal to a person.
 
 use second::block::{write_card, write_sheet};
-use sirophan::{Refusal, check, matches, select, underline};
+use sirophan::{Counts, Refusal, Tally, check, matches, report, select, underline};
 
 fn sheet() -> Vec<u8> {
     write_sheet(&[(1, b"title"), (2, b"pages")]).unwrap()
@@ -22,6 +22,9 @@ fn answers() {
     assert_eq!(select(&sheet(), filter, &cards, &mut list), Ok(2));
     assert_eq!(list, [7, 300, 9, 9]);
     assert_eq!(select(&sheet(), filter, &[], &mut []), Ok(0));
+    let mut rows = [Tally { cards: 9, values: 9 }; 3];
+    assert_eq!(report(&sheet(), filter, &cards, &mut rows), Ok(Counts { yes: 2, no: 1 }));
+    assert_eq!(rows.map(|row| (row.cards, row.values)), [(3, 3), (3, 3), (9, 9)]);
 }
 
 #[test]
@@ -34,6 +37,9 @@ fn refusals() {
     let cards = [card(1, "x"), card(2, "x")].concat();
     assert_eq!(select(&sheet(), b"title eq x", &cards, &mut list), Err(refused(30, 2)));
     assert_eq!(list, [9]);
+    let mut rows = [Tally { cards: 9, values: 9 }];
+    assert_eq!(report(&sheet(), b"title eq x", &cards, &mut rows), Err(refused(31, 2)));
+    assert_eq!(rows, [Tally { cards: 9, values: 9 }]);
 }
 
 #[test]
@@ -97,7 +103,7 @@ fn no_caret_where_the_place_is_not_in_the_filter() {
 #[test]
 fn a_sentence_for_each_number() {
     let sentence = |number| Refusal { number, place: 0 }.sentence();
-    let numbers = [1, 2, 3, 10, 11, 12, 13, 14, 15, 16, 17, 18, 20, 21, 22, 23, 30, 99];
+    let numbers = [1, 2, 3, 10, 11, 12, 13, 14, 15, 16, 17, 18, 20, 21, 22, 23, 30, 31, 99];
     let mut sentences: Vec<&str> = numbers.map(sentence).into();
     sentences.sort();
     sentences.dedup();
