@@ -24,13 +24,7 @@ pub trait Library {
     fn check(&self, sheet: &[u8], filter: &[u8]) -> Result<usize, Refusal>;
     fn matches(&self, sheet: &[u8], filter: &[u8], card: &[u8]) -> Result<bool, Refusal>;
     fn select(&self, sheet: &[u8], filter: &[u8], cards: &[u8], list: &mut [u32]) -> Result<usize, Refusal>;
-    fn report(
-        &self,
-        sheet: &[u8],
-        filter: &[u8],
-        cards: &[u8],
-        rows: &mut [Tally],
-    ) -> Result<(usize, usize), Refusal>;
+    fn report(&self, sheet: &[u8], filter: &[u8], cards: &[u8], rows: &mut [Tally]) -> Result<(usize, usize), Refusal>;
 }
 
 /// What a run of the test found.

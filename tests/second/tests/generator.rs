@@ -20,13 +20,7 @@ impl Library for Second {
         operations::select(sheet, filter, cards, list)
     }
 
-    fn report(
-        &self,
-        sheet: &[u8],
-        filter: &[u8],
-        cards: &[u8],
-        rows: &mut [Tally],
-    ) -> Result<(usize, usize), Refusal> {
+    fn report(&self, sheet: &[u8], filter: &[u8], cards: &[u8], rows: &mut [Tally]) -> Result<(usize, usize), Refusal> {
         operations::report(sheet, filter, cards, rows)
     }
 }

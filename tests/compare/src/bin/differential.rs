@@ -25,13 +25,7 @@ impl Library for Proved {
         sirophan::select(sheet, filter, cards, list).map_err(refusal)
     }
 
-    fn report(
-        &self,
-        sheet: &[u8],
-        filter: &[u8],
-        cards: &[u8],
-        rows: &mut [Tally],
-    ) -> Result<(usize, usize), Refusal> {
+    fn report(&self, sheet: &[u8], filter: &[u8], cards: &[u8], rows: &mut [Tally]) -> Result<(usize, usize), Refusal> {
         compare::report(sheet, filter, cards, rows)
     }
 }
