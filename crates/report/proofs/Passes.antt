@@ -19,8 +19,8 @@ use Rattle.card.specs.Card.{Entry, entriesOf, readCard}
 use Rattle.judge.specs.Sets.{valuesAt}
 use Rattle.sirophan.specs.Operations.{blocks}
 use Rattle.sirophan.proofs.Runs.{blocks-length}
-use Rattle.report.specs.Tallies.{tally, raise, cardsWith, valuesUnder, tallies}
-use Rattle.report.specs.Steps.{stepIndex, stepTally, stepped, Raisable, Ready}
+use Rattle.report.specs.Tallies.{tally, cardsWith, valuesUnder, tallies}
+use Rattle.report.specs.Steps.{raise, stepIndex, stepTally, stepped, Raisable, Ready}
 use Rattle.report.specs.declared.Tally.{Tally}
 use Rattle.report.proofs.Values.{card-values-most}
 use Rattle.report.proofs.Steps.{length-stepped, stepped-none, stepped-more}

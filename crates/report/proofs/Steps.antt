@@ -9,8 +9,8 @@ use lib.ListN.{length, set, getD, length-set}
 use borrow.Author.Tests.{lt-ltb, le-ltb}
 use Rattle.block.specs.declared.Reading.the-variants.{WellFormed}
 use Rattle.card.specs.Card.{readCard}
-use Rattle.report.specs.Tallies.{tally, raise}
-use Rattle.report.specs.Steps.{stepIndex, stepCard, stepTally, stepped, ValuesOf, Small, Raisable}
+use Rattle.report.specs.Tallies.{tally}
+use Rattle.report.specs.Steps.{raise, stepIndex, stepCard, stepTally, stepped, ValuesOf, Small, Raisable}
 use Rattle.report.specs.declared.Tally.{Tally}
 
 -- ---- one step

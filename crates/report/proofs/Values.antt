@@ -17,8 +17,8 @@ use Rattle.card.specs.Card.{Entry, entry, entryCount, entriesOf, readCard}
 use Rattle.card.proofs.Entries.{entries-walk}
 use Rattle.card.proofs.Read.{card-layout}
 use Rattle.judge.specs.Sets.{valuesAt}
-use Rattle.report.specs.Steps.{countValue, ValuesOf}
-use Rattle.report.specs.Tallies.{tally, raise}
+use Rattle.report.specs.Steps.{raise, countValue, ValuesOf}
+use Rattle.report.specs.Tallies.{tally}
 use Rattle.report.specs.declared.Tally.{Tally}
 
 -- ---- how many

@@ -5,14 +5,18 @@ use Prim.Native.Nat.{ℕ, zero, suc, _+_, _*_, _-_, _/_, _%_, _≤_, _<_}
 use mathlib.Core.Path.{_≡_}
 use mathlib.Core.Bool.{Bool, cond}
 use mathlib.Core.List.{List}
-use lib.Dec.{ltb}
+use lib.Dec.{ltb, eqb}
 use lib.ListN.{length, set, getD}
 use Rattle.base.specs.Parts.{part}
 use Rattle.block.specs.declared.Reading.{Reading}
 use Rattle.card.specs.Card.{entriesOf, readCard}
 use Rattle.judge.specs.Sets.{valuesAt}
-use Rattle.report.specs.Tallies.{tally, raise}
+use Rattle.report.specs.Tallies.{tally}
 use Rattle.report.specs.declared.Tally.{Tally}
+
+-- the row after one card more, which has so many values under its parameter
+unfoldable pub raise : ℕ → Tally → Tally
+raise n r = cond (eqb n 0) r (tally (r .cards + 1) (r .values + n))
 
 unfoldable pub stepIndex : ℕ → ℕ → ℕ
 stepIndex n j = j % n

@@ -12,10 +12,6 @@ use Rattle.report.specs.declared.Tally.{Tally}
 abbrev pub tally : ℕ → ℕ → Tally
 tally c v = record { cards = c; values = v }
 
--- the row after one card more, which has so many values under its parameter
-unfoldable pub raise : ℕ → Tally → Tally
-raise n r = cond (eqb n 0) r (tally (r .cards + 1) (r .values + n))
-
 -- "the number of cards in the run that have it", the parameter with the index i: cards are given by their entries
 unfoldable pub cardsWith : ℕ → List (List Entry) → ℕ
 cardsWith i [] = 0

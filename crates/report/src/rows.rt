@@ -4,8 +4,7 @@ use block::Reading;
 ghost use mathlib.Core.Path.{_≡_};
 ghost use Prim.Native.Nat.{ℕ, _<_, _≤_, _%_};
 ghost use Rattle.card.specs.Card.{readCard};
-ghost use Rattle.report.specs.Tallies.{raise};
-ghost use Rattle.report.specs.Steps.{stepIndex, stepTally, stepped, countValue, ValuesOf, Small, Raisable, Ready};
+ghost use Rattle.report.specs.Steps.{raise, stepIndex, stepTally, stepped, countValue, ValuesOf, Small, Raisable, Ready};
 
 // One value more, where it is under the parameter.
 fn count_value(values: u32, same: bool) -> u32
