@@ -1,18 +1,19 @@
 /*
  * Sirophan: which catalogue cards of an archive match a FHIR R4 _filter.
  *
- * A sheet says which parameters the cards have and of which kind each is; a card holds a record number and search
- * values. Both are blocks of 512 bytes, in two forms that the first byte tells apart: a sheet begins with 0x50, or with
- * 0x51 where its parameters may be bundles and their members; a card begins with 0x43, or with 0x44 where its entries
- * have occurrences. Every sheet may be used with every card. A filter is a text of 1 to 1,024 bytes. docs/RULES.md
- * has the blocks byte by byte and says what filters mean.
+ * A sheet says which parameters the cards have and of which kind each is (1 string, 2 number, 3 date, 4 token,
+ * 5 reference, 6 period); a card holds a record number and search values. Both are blocks of 512 bytes, in two forms
+ * that the first byte tells apart: a sheet begins with 0x50, or with 0x51 where its parameters may be bundles (kind 7)
+ * and their members; a card begins with 0x43, or with 0x44 where its entries have occurrences. Every sheet may be used
+ * with every card. A filter is a text of 1 to 1,024 bytes. docs/RULES.md has the blocks byte by byte and says what
+ * filters mean.
  *
  * None of them is trusted: each function checks all that it is given, and for every input it ends with an answer or
  * with a numbered refusal.
  *
  * A pointer comes with the number of elements that it points to. It may be anything, but not NULL, where that number
- * is 0. The list, and the rows, must not overlap the other arguments. The functions keep nothing and may be called from
- * any thread.
+ * is 0. The list, the rows or the buffer must not overlap the other arguments. The functions keep nothing and may be
+ * called from any thread.
  *
  * Link with libsirophan_c.a, which `rt staticlib sirophan_c` writes into target/staticlib (x86-64).
  */
@@ -51,7 +52,8 @@ enum {
     SIROPHAN_CARD_LAYOUT = 22,  /* a card breaks its layout */
     SIROPHAN_CARD_MISFIT = 23,  /* a card does not fit the sheet; a text under a bundle is among the reasons */
     SIROPHAN_SHORT_LIST = 30,   /* the list is shorter than the matches; place: their number */
-    SIROPHAN_SHORT_ROWS = 31    /* the rows are fewer than the parameters; place: the number needed */
+    SIROPHAN_SHORT_ROWS = 31,   /* the rows are fewer than the parameters; place: the number needed */
+    SIROPHAN_SHORT_BUFFER = 32  /* the plain spelling would run past the buffer's end; place: its length */
 };
 
 /* An answer. */
@@ -77,6 +79,16 @@ sirophan_answer sirophan_select(const uint8_t *sheet, size_t sheet_len,
                                 const uint8_t *filter, size_t filter_len,
                                 const uint8_t *cards, size_t cards_len,
                                 uint32_t *list, size_t list_len);
+
+/*
+ * Writes the filter's plain spelling into the buffer, from the byte at the index from on, and answers its length. All
+ * other bytes stay, and a refusal writes nothing. The plain spelling has one space where one is needed and none
+ * elsewhere, no bracket that can be spared, and each value as a bare word where it can be one; two filters get the same
+ * bytes exactly when they ask the same tests, joined, negated and grouped the same. It is never longer than the filter,
+ * so a buffer with filter_len bytes from that index on has room. No sheet is needed: a name may be on none.
+ */
+sirophan_answer sirophan_spell(const uint8_t *filter, size_t filter_len,
+                               uint8_t *buffer, size_t buffer_len, size_t from);
 
 /* A row of a report, for one parameter. */
 typedef struct sirophan_tally {

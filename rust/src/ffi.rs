@@ -59,6 +59,14 @@ unsafe extern "C" {
         list_len: usize,
     ) -> Answer;
 
+    pub fn sirophan_spell(
+        filter: *const u8,
+        filter_len: usize,
+        buffer: *mut u8,
+        buffer_len: usize,
+        from: usize,
+    ) -> Answer;
+
     pub fn sirophan_report(
         sheet: *const u8,
         sheet_len: usize,

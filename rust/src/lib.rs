@@ -57,6 +57,30 @@ pub fn select(sheet: &[u8], filter: &[u8], cards: &[u8], list: &mut [u32]) -> Re
     answer.into_result()
 }
 
+/// Puts the plain spelling of a filter into the buffer, from the byte at the index `from` on, and answers its length. All
+/// other bytes stay, and a refusal leaves the whole buffer as it is.
+pub fn spell(filter: &[u8], buffer: &mut [u8], from: usize) -> Result<usize, Refusal> {
+    // SAFETY: each pointer comes with the length of the slice that it is of. Only the buffer is written, and it cannot
+    // overlap the filter, since it is borrowed for writing.
+    let answer = unsafe { ffi::sirophan_spell(filter.as_ptr(), filter.len(), buffer.as_mut_ptr(), buffer.len(), from) };
+    answer.into_result()
+}
+
+/// The plain spelling of a filter: one space where one is needed, no bracket that can be spared, a bare word wherever the
+/// value can be one. Two filters have the same exactly when they ask the same tests, joined, negated and grouped the same.
+///
+/// ```
+/// let filed = sirophan::plain(b"  (title co \"book\")  and pages gt 12");
+/// assert_eq!(filed.unwrap(), b"title co book and pages gt 12");
+/// ```
+pub fn plain(filter: &[u8]) -> Result<Vec<u8>, Refusal> {
+    // it is never longer than the filter
+    let mut buffer = vec![0; filter.len()];
+    let length = spell(filter, &mut buffer, 0)?;
+    buffer.truncate(length);
+    Ok(buffer)
+}
+
 /// A row of a report, for one parameter.
 #[repr(C)]
 #[derive(Clone, Copy, Debug, Default, PartialEq, Eq, Hash)]

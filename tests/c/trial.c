@@ -79,6 +79,15 @@ static void expect_cells(const char *what, const uint32_t *list, const uint32_t 
     printf("\n");
 }
 
+static void expect_bytes(const char *what, const uint8_t *buffer, const char *wanted, size_t length) {
+    if (memcmp(buffer, wanted, length) == 0) {
+        passed++;
+        return;
+    }
+    failed++;
+    printf("%s: %.*s\n", what, (int)length, (const char *)buffer);
+}
+
 static void expect_counts(const char *what, sirophan_counts counts, uint32_t refusal, size_t place, size_t yes, size_t no) {
     if (counts.refusal == refusal && counts.place == place && counts.yes == yes && counts.no == no) {
         passed++;
@@ -163,6 +172,15 @@ int main(void) {
     expect_cells("two of three", list, (const uint32_t[4]){7, 300, UNTOUCHED, UNTOUCHED}, 4);
     expect("no cards", sirophan_select(SHEET, FILTER(filter), cards, 0, list, 0), 0, 0);
 
+    uint8_t buffer[12];
+    memset(buffer, '.', sizeof buffer);
+    expect("spelled", sirophan_spell(FILTER("( title  eq \"a\" )"), buffer, sizeof buffer, 1), 0, 10);
+    expect_bytes("spelled", buffer, ".title eq a.", sizeof buffer);
+    expect("buffer too short", sirophan_spell(FILTER("pages eq 1"), buffer, sizeof buffer, 3), SIROPHAN_SHORT_BUFFER, 10);
+    expect("past the buffer", sirophan_spell(FILTER("pages eq 1"), buffer, sizeof buffer, 13), SIROPHAN_SHORT_BUFFER, 10);
+    expect("no filter to spell", sirophan_spell(FILTER("pages eq"), buffer, sizeof buffer, 0), SIROPHAN_NO_FILTER, 8);
+    expect_bytes("not spelled", buffer, ".title eq a.", sizeof buffer);
+
 #define OLD {UNTOUCHED, UNTOUCHED}
     sirophan_tally rows[7] = {OLD, OLD, OLD, OLD, OLD, OLD, OLD};
     expect_counts("rows too few", sirophan_report(SHEET, FILTER(filter), cards, sizeof cards, rows, 4),
@@ -186,6 +204,16 @@ int main(void) {
     /* The title is now a token, for which sw has no meaning: a refusal, not a quiet no. */
     store_sum(&sheet);
     expect("title as a token", sirophan_match(SHEET, FILTER(filter), cards, BLOCK), SIROPHAN_NO_MEANING, 0);
+
+    /* The date of birth is now a period, which no date by itself is on a card; in a filter it is asked by a date. */
+    sheet.bytes[9] = 6;
+    store_sum(&sheet);
+    expect("a date as a period", sirophan_match(SHEET, FILTER("birthdate eq 1974"), cards, BLOCK),
+           SIROPHAN_CARD_MISFIT, 0);
+    expect("a period asked", sirophan_check(SHEET, FILTER("birthdate eq 1974/")), SIROPHAN_UNREADABLE, 0);
+    block stay = card(9, (const char *const[5]){"1234-5", "1974/", NULL, NULL, NULL}, NULL);
+    expect("an open period", sirophan_match(SHEET, FILTER("birthdate gt 1999"), stay.bytes, BLOCK), 0, 1);
+    expect("never eq", sirophan_match(SHEET, FILTER("birthdate eq 1974"), stay.bytes, BLOCK), 0, 0);
 
     printf("%d passed, %d failed\n", passed, failed);
     return failed == 0 ? 0 : 1;

@@ -9,4 +9,5 @@ pub mod Backing
 pub mod Good
 pub mod Limits
 pub mod Longest
+pub mod Whole
 pub mod Place

@@ -32,7 +32,7 @@ over-left d xs (over-ended ended-item) = end-left no-space
 over-left d xs over-space =
     record { left = λ q e s. end-left (space s (subst (λ (r : ℕ). Spaces xs r (length xs)) (sym e) no-space)) }
 
-over-within : {d m : ℕ} {xs : List ℕ} {f : Phase} {n : ℕ} → Walk d m xs 0 start (length xs) (state f [] n) → Over f → n ≤ m → (g : Tree) × Within d m xs g
+pub over-within : {d m : ℕ} {xs : List ℕ} {f : Phase} {n : ℕ} → Walk d m xs 0 start (length xs) (state f [] n) → Over f → n ≤ m → (g : Tree) × Within d m xs g
 over-within {d} {m} {xs} {f} {n} w o h =
     let r = walk-back w (omega arith) 0 (over-left d xs o) in
     let z = left-within (r .1 .spaces) (r .1 .item) in

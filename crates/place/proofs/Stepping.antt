@@ -4,8 +4,9 @@ use Prim.Native.Nat.{ℕ, zero, suc, _+_, _-_, _*_, _/_, _%_, _≤_, _<_}
 use Prim.Native.Char.{code}
 use native.Mathlib.Omega.{arith}
 use native.Mathlib.Numerals.{add-one}
+use native.Mathlib.Nat.{add-zero, zero-add}
 use mathlib.Core.Path.{_≡_, refl, sym, ap, subst, _∙_}
-use mathlib.Core.Bool.{Bool, true, false, cond, _||_}
+use mathlib.Core.Bool.{Bool, true, false, cond, _&&_, _||_, and-true, and-false}
 use mathlib.Core.List.{List, [], _∷_, _++_}
 use lib.Dec.{eqb, ltb}
 use lib.ListN.{length, getD, take, drop, drop-of-length-le}
@@ -16,7 +17,7 @@ use Rattle.base.specs.Lists.{equal, member}
 use Rattle.base.specs.Names.{isNameStart, isNamePart, isName}
 use Rattle.base.specs.Parts.{part}
 use Rattle.base.specs.Operators.{operatorWords}
-use Rattle.base.proofs.Tests.{same-test, cond-elim}
+use Rattle.base.proofs.Tests.{same-test, cond-elim, cond-first, both-ways}
 use Rattle.syntax.specs.Strings.{quote, isBare}
 use Rattle.syntax.specs.Grammar.{round, square, deepest, mostTests}
 use Rattle.syntax.specs.Scan.{isSpace, stepOf, findOperator, operatorAt}
@@ -27,8 +28,10 @@ use Rattle.place.specs.declared.Reached.{Reached}
 use Rattle.place.specs.declared.Outcome.{Outcome}
 use Rattle.place.specs.declared.Why.{Why}
 use Rattle.place.specs.declared.Failure.{Failure}
-use Rattle.place.specs.Machine.{Phase, Bracket, round-open, square-open, State, state, Step, live, deep, many, wrong, someWord, beginsOperator, isOperator, step, onStep, failureFrom, failure}
+use Rattle.place.specs.declared.Found.{Found}
+use Rattle.place.specs.Machine.{Phase, Bracket, round-open, square-open, State, state, Step, live, deep, many, wrong, someWord, beginsOperator, isOperator, step, onStep, failureFrom, start, failure, itemOver, over, onLive, endsFrom, isFilter, found}
 use Rattle.place.specs.Machine as machine
+use Rattle.place.specs.Code as coded
 use Rattle.place.specs.Code.{digits, full, on, opened, chosen, closed, joined, ended, notStep, nameEnds, onQuoted, quoted, byMode, advance, nameFrom, phaseOf}
 
 -- ---- leaves
@@ -325,15 +328,67 @@ pub record Reaching (xs : List ℕ) (at : ℕ) (r : Reached) : Type 0 where
   pub open-brackets : List Bracket
   pub written : r .brackets ≡ digits open-brackets
   pub left : failure deepest mostTests xs ≡ failureFrom deepest mostTests (state (phaseOf xs at (r .mode)) open-brackets (r .tests)) (drop at xs) at
+  pub ends : isFilter deepest mostTests xs ≡ endsFrom deepest mostTests (state (phaseOf xs at (r .mode)) open-brackets (r .tests)) (drop at xs)
 
 pub reaching-starts : (xs : List ℕ) → Reaching xs 0 (record { mode = Mode.Item; brackets = 1; tests = 1 })
-unfolding failure digits
-reaching-starts xs = record { within = omega arith; begun = omega arith; open-brackets = []; written = refl; left = refl }
+unfolding failure isFilter digits
+reaching-starts xs = record { within = omega arith; begun = omega arith; open-brackets = []; written = refl; left = refl; ends = refl }
+
+-- where a filter may end, in the machine and in the code
+over-mode : (xs : List ℕ) (at : ℕ) (m : Mode) → itemOver (phaseOf xs at m) ≡ coded.itemOver m
+over-mode xs at Mode.Item = refl
+over-mode xs at (Mode.Name from) = refl
+over-mode xs at Mode.AfterNot = refl
+over-mode xs at Mode.AfterName = refl
+over-mode xs at (Mode.Letter x) = refl
+over-mode xs at Mode.AfterOperator = refl
+over-mode xs at Mode.Value = refl
+over-mode xs at Mode.Bare = refl
+over-mode xs at (Mode.Quoted pending) = refl
+over-mode xs at Mode.AfterItem = refl
+over-mode xs at Mode.AfterSpace = refl
+over-mode xs at Mode.AfterA = refl
+over-mode xs at Mode.AfterAn = refl
+over-mode xs at Mode.AfterO = refl
+over-mode xs at Mode.WantsSpace = refl
+over-mode xs at Mode.AfterSquare = refl
+over-mode xs at Mode.Member = refl
+over-mode xs at (Mode.MemberName from) = refl
+
+over-digits : (k : List Bracket) (n : ℕ) (f : Phase) → over (state f k n) ≡ (itemOver f && eqb (digits k) 1)
+unfolding digits
+over-digits [] n f = sym (and-true (itemOver f))
+over-digits (round-open ∷ k) n f = sym (ap (λ (b : Bool). itemOver f && b) (ne-eqb (2 * digits k) 1 (λ e. omega (arith, digits-some k))) ∙ and-false (itemOver f))
+over-digits (square-open ∷ k) n f = sym (ap (λ (b : Bool). itemOver f && b) (ne-eqb (2 * digits k + 1) 1 (λ e. omega (arith, digits-some k))) ∙ and-false (itemOver f))
+
+-- as the code tests it
+pub over-not : (r : Reached) (t : Bool) → t ≡ coded.itemOver (r .mode) → t ≡ false → false ≡ coded.over r
+unfolding coded.over
+over-not r t e h = rw (sym e ∙ h)
+
+pub over-brackets : (r : Reached) (t : Bool) → t ≡ coded.itemOver (r .mode) → t ≡ true → eqb (r .brackets) 1 ≡ coded.over r
+unfolding coded.over
+over-brackets r t e h = rw (sym e ∙ h)
+
+failed : (xs : List ℕ) (f : Failure) → isFilter deepest mostTests xs ≡ false → f ≡ failure deepest mostTests xs → Found.Failed f ≡ found deepest mostTests xs
+unfolding found
+failed xs f n e = rw n (ap (λ (x : Failure). Found.Failed x) e)
 
 module _ (xs : List ℕ) (at : ℕ) (r : Reached) (a : Reaching xs at r) where
-  pub reaching-ends : length xs ≤ at → record { why = Why.NoFilter; place = at } ≡ failure deepest mostTests xs
-  unfolding failureFrom
-  reaching-ends h = sym (a .left ∙ rw (drop-of-length-le xs h))
+  module _ (h : length xs ≤ at) (t : Bool) (e : t ≡ coded.over r) where
+    ends-here : isFilter deepest mostTests xs ≡ t
+    unfolding endsFrom coded.over
+    ends-here =
+        a .ends ∙ rw (drop-of-length-le xs h) (over-digits (a .open-brackets) (r .tests) (phaseOf xs at (r .mode)))
+        ∙ ap (λ (b : Bool). b && eqb (digits (a .open-brackets)) 1) (over-mode xs at (r .mode)) ∙ ap (λ (n : ℕ). coded.itemOver (r .mode) && eqb n 1) (sym (a .written)) ∙ sym e
+
+    pub reaching-filter : t ≡ true → Found.Filter ≡ found deepest mostTests xs
+    unfolding found
+    reaching-filter i = rw (ends-here ∙ i)
+
+    pub reaching-ends : t ≡ false → Found.Failed (record { why = Why.NoFilter; place = at }) ≡ found deepest mostTests xs
+    unfolding failureFrom
+    reaching-ends i = failed xs (record { why = Why.NoFilter; place = at }) (ends-here ∙ i) (sym (a .left ∙ rw (drop-of-length-le xs h)))
 
   module _ (o : Outcome) (e : o ≡ advance xs at r) (h : at < length xs) where
     abbrev stepped : Step
@@ -341,6 +396,9 @@ module _ (xs : List ℕ) (at : ℕ) (r : Reached) (a : Reaching xs at r) where
 
     abbrev next-from : State → Failure
     next-from t = failureFrom deepest mostTests t (drop (at + 1) xs) (at + 1)
+
+    abbrev next-ends : State → Bool
+    next-ends t = endsFrom deepest mostTests t (drop (at + 1) xs)
 
     to-step : To xs at o stepped
     unfolding advance
@@ -352,34 +410,70 @@ module _ (xs : List ℕ) (at : ℕ) (r : Reached) (a : Reaching xs at r) where
         ∙ ap (λ (l : List ℕ). failureFrom deepest mostTests (state (phaseOf xs at (r .mode)) (a .open-brackets) (r .tests)) l at)
         (drop-cons xs at 0 h ∙ ap (λ (q : ℕ). getD xs at 0 ∷ drop q xs) (sym (add-one at)))
 
+    one-on-ends : isFilter deepest mostTests xs ≡ onLive stepped next-ends
+    unfolding endsFrom
+    one-on-ends = a .ends
+        ∙ ap (λ (l : List ℕ). endsFrom deepest mostTests (state (phaseOf xs at (r .mode)) (a .open-brackets) (r .tests)) l)
+        (drop-cons xs at 0 h ∙ ap (λ (q : ℕ). getD xs at 0 ∷ drop q xs) (sym (add-one at)))
+
     pub reaching-on : (next : Reached) → o ≡ Outcome.Live next → Reaching xs (at + 1) next
     unfolding advance
-    reaching-on next f = go stepped (subst (λ (z : Outcome). To xs at z stepped) f to-step) one-on
+    reaching-on next f = go stepped (subst (λ (z : Outcome). To xs at z stepped) f to-step) one-on one-on-ends
       where
-        go : (s : Step) → To xs at (Outcome.Live next) s → failure deepest mostTests xs ≡ onStep s next-from at → Reaching xs (at + 1) next
-        go (live (state g k n)) (to-live u v w) z =
+        go : (s : Step) → To xs at (Outcome.Live next) s → failure deepest mostTests xs ≡ onStep s next-from at → isFilter deepest mostTests xs ≡ onLive s next-ends → Reaching xs (at + 1) next
+        go (live (state g k n)) (to-live u v w) z y =
             record {
               within = omega arith;
               begun = subst (Onward at) (sym e ∙ f) (onward at (r .brackets) (r .tests) xs (r .mode) (a .begun));
               open-brackets = k;
               written = v;
               left = z ∙ rw (u, w);
+              ends = y ∙ rw (u, w);
             }
 
-    pub reaching-deep : o ≡ Outcome.Deep → record { why = Why.TooDeep; place = at } ≡ failure deepest mostTests xs
-    reaching-deep f = go stepped (subst (λ (z : Outcome). To xs at z stepped) f to-step) one-on
+    pub reaching-deep : o ≡ Outcome.Deep → Found.Failed (record { why = Why.TooDeep; place = at }) ≡ found deepest mostTests xs
+    reaching-deep f = go stepped (subst (λ (z : Outcome). To xs at z stepped) f to-step) one-on one-on-ends
       where
-        go : (s : Step) → To xs at Outcome.Deep s → failure deepest mostTests xs ≡ onStep s next-from at → record { why = Why.TooDeep; place = at } ≡ failure deepest mostTests xs
-        go deep to-deep z = sym z
+        go : (s : Step) → To xs at Outcome.Deep s → failure deepest mostTests xs ≡ onStep s next-from at → isFilter deepest mostTests xs ≡ onLive s next-ends → Found.Failed (record { why = Why.TooDeep; place = at }) ≡ found deepest mostTests xs
+        go deep to-deep z y = failed xs (record { why = Why.TooDeep; place = at }) y (sym z)
 
-    pub reaching-many : o ≡ Outcome.Many → record { why = Why.TooMany; place = at } ≡ failure deepest mostTests xs
-    reaching-many f = go stepped (subst (λ (z : Outcome). To xs at z stepped) f to-step) one-on
+    pub reaching-many : o ≡ Outcome.Many → Found.Failed (record { why = Why.TooMany; place = at }) ≡ found deepest mostTests xs
+    reaching-many f = go stepped (subst (λ (z : Outcome). To xs at z stepped) f to-step) one-on one-on-ends
       where
-        go : (s : Step) → To xs at Outcome.Many s → failure deepest mostTests xs ≡ onStep s next-from at → record { why = Why.TooMany; place = at } ≡ failure deepest mostTests xs
-        go many to-many z = sym z
+        go : (s : Step) → To xs at Outcome.Many s → failure deepest mostTests xs ≡ onStep s next-from at → isFilter deepest mostTests xs ≡ onLive s next-ends → Found.Failed (record { why = Why.TooMany; place = at }) ≡ found deepest mostTests xs
+        go many to-many z y = failed xs (record { why = Why.TooMany; place = at }) y (sym z)
 
-    pub reaching-wrong : o ≡ Outcome.Wrong → record { why = Why.NoFilter; place = at } ≡ failure deepest mostTests xs
-    reaching-wrong f = go stepped (subst (λ (z : Outcome). To xs at z stepped) f to-step) one-on
+    pub reaching-wrong : o ≡ Outcome.Wrong → Found.Failed (record { why = Why.NoFilter; place = at }) ≡ found deepest mostTests xs
+    reaching-wrong f = go stepped (subst (λ (z : Outcome). To xs at z stepped) f to-step) one-on one-on-ends
       where
-        go : (s : Step) → To xs at Outcome.Wrong s → failure deepest mostTests xs ≡ onStep s next-from at → record { why = Why.NoFilter; place = at } ≡ failure deepest mostTests xs
-        go wrong to-wrong z = sym z
+        go : (s : Step) → To xs at Outcome.Wrong s → failure deepest mostTests xs ≡ onStep s next-from at → isFilter deepest mostTests xs ≡ onLive s next-ends → Found.Failed (record { why = Why.NoFilter; place = at }) ≡ found deepest mostTests xs
+        go wrong to-wrong z y = failed xs (record { why = Why.NoFilter; place = at }) y (sym z)
+
+-- ---- where a text that is a filter would fail: at its end
+
+ends-failure : (d m : ℕ) (s : State) (ys : List ℕ) (p : ℕ) → endsFrom d m s ys ≡ true → record { why = Why.NoFilter; place = p + length ys } ≡ failureFrom d m s ys p
+unfolding endsFrom failureFrom
+ends-failure d m s [] p e = ap (λ (n : ℕ). record { why = Why.NoFilter; place = n }) (add-zero p)
+ends-failure d m s (y ∷ ys) p e = go (step d m s y) e (λ t. ends-failure d m t ys (p + 1))
+  where
+    go : (x : Step) → onLive x (λ t. endsFrom d m t ys) ≡ true → ((t : State) → endsFrom d m t ys ≡ true → record { why = Why.NoFilter; place = p + 1 + length ys } ≡ failureFrom d m t ys (p + 1))
+        → record { why = Why.NoFilter; place = p + length (y ∷ ys) } ≡ onStep x (λ t. failureFrom d m t ys (p + 1)) p
+    go (live t) h on = let z : p + length (y ∷ ys) ≡ p + 1 + length ys = omega arith in ap (λ (n : ℕ). record { why = Why.NoFilter; place = n }) z ∙ on t h
+    go deep h on = both-ways h refl
+    go many h on = both-ways h refl
+    go wrong h on = both-ways h refl
+
+module _ (xs : List ℕ) (r : Found) (e : r ≡ found deepest mostTests xs) where
+  pub failure-filter : r ≡ Found.Filter → record { why = Why.NoFilter; place = length xs } ≡ failure deepest mostTests xs
+  unfolding found failure isFilter
+  failure-filter h =
+      let t : isFilter deepest mostTests xs ≡ true = cond-first (isFilter deepest mostTests xs) Found.Filter (Found.Failed (failure deepest mostTests xs)) (λ z. let y : _≡_ {A = ℕ} 0 1 = cc in omega arith) (sym e ∙ h) .0 in
+      ap (λ (n : ℕ). record { why = Why.NoFilter; place = n }) (sym (zero-add (length xs))) ∙ ends-failure deepest mostTests start xs 0 t
+
+  pub failure-failed : (f : Failure) → r ≡ Found.Failed f → f ≡ failure deepest mostTests xs
+  unfolding found
+  failure-failed f h = go (isFilter deepest mostTests xs) (sym e ∙ h)
+    where
+      go : (t : Bool) → cond t Found.Filter (Found.Failed (failure deepest mostTests xs)) ≡ Found.Failed f → f ≡ failure deepest mostTests xs
+      go true z = absurd (let y : _≡_ {A = ℕ} 0 1 = cc in omega arith)
+      go false z = cc

@@ -22,7 +22,7 @@ use Rattle.syntax.proofs.Bytes.{escape-stands}
 use Rattle.syntax.specs.Strings.{quote, isBare, Quoted, nothing-more, plain, escaped}
 use Rattle.syntax.specs.Grammar.{Spaces, no-space, space, Value, bare, string, TestAt, a-test, connectiveWord, Connects, connects, Opens, opens, opens-not, Closes, closes, Chooses, chooses, Item, item-test, item-bracket, item-not, item-bracketed, Filter, one-item, one-more, Within}
 use Rattle.place.specs.Begins.{Begins}
-use Rattle.place.specs.Machine.{Phase, at-item, in-name, after-name, after-operator, at-value, in-bare, in-string, after-item, after-space, at-member, in-member, Bracket, round-open, square-open, closeOf, closedPhase, State, state, someWord, live, beginsOperator, isOperator, step, start}
+use Rattle.place.specs.Machine.{Phase, at-item, in-name, after-name, after-operator, at-value, in-bare, in-string, after-item, after-space, at-member, in-member, Bracket, round-open, square-open, closeOf, closedPhase, State, state, someWord, live, beginsOperator, isOperator, step, start, itemOver, over}
 use Rattle.place.proofs.Steps.{Ended, ended-bare, ended-item, item-space, item-opens, name-starts, name-part, name-space, name-chooses, not-space, not-opens, after-not-space, after-not-opens, after-name-space, first-letter, second-letter, operator-space, value-space, bare-starts, bare-part, quote-opens, plain-part, backslash-part, escape-part, quote-closes, ended-space, ended-closes, spaced-space, spaced-closes, spaced-and, spaced-or, connective-part, square-dot, member-starts, member-part, member-space}
 use Rattle.place.proofs.Walks.{Walk, stay, go, Runs, rests, goes, stands-first, then-walk, one-step, over-spaces, over-gap, runs-walk, walk-runs, then-runs, runs-fewer}
 
@@ -192,6 +192,10 @@ tests-some (bracketed p n f t) = omega arith
 tests-some (join c f g) = omega (arith, tests-some f, length-append (testsOf f) (testsOf g))
 tests-some (negation f) = tests-some f
 
+ended-over : {e : Phase} → Ended e → itemOver e ≡ true
+ended-over ended-bare = refl
+ended-over ended-item = refl
+
 -- from where i tests are done, and one is due, to where f's are done too
 abbrev Passes : (d m : ℕ) → List ℕ → List Bracket → (i p q : ℕ) → Tree → Type 0
 Passes d m xs k i p q f = (e : Phase) × Ended e × Walk d m xs p (state at-item k (suc i)) q (state e k (i + length (testsOf f)))
@@ -247,20 +251,21 @@ module _ {d m : ℕ} {xs : List ℕ} where
         let t = item-walks h k (i + length (testsOf f)) e second in
         counted sum (t .0, t .1, then-walk (r .2) (then-walk (connects-walks k _ room (r .1) j) (t .2)))
 
-  over-end : (n : ℕ) {e : Phase} → Ended e → {p q : ℕ} → Spaces xs p q → (t : State) × Walk d m xs p (state e [] n) q t
-  over-end n {e} h no-space = (state e [] n, stay)
-  over-end n h (space s r) = (state after-space [] n, go (stands-first xs _ 0x20 [] s) (ended-space d m [] n h) (over-spaces (spaced-space d m [] n) r))
+  -- where a text that is a filter ends, an item has ended and no bracket is open
+  over-end : (n : ℕ) {e : Phase} → Ended e → {p q : ℕ} → Spaces xs p q → (f : Phase) × (itemOver f ≡ true) × Walk d m xs p (state e [] n) q (state f [] n)
+  over-end n {e} h no-space = (e, ended-over h, stay)
+  over-end n h (space s r) = (after-space, refl, go (stands-first xs _ 0x20 [] s) (ended-space d m [] n h) (over-spaces (spaced-space d m [] n) r))
 
-  within-walks : {f : Tree} → Within d m xs f → (t : State) × Walk d m xs 0 start (length xs) t
+  pub within-walks : {f : Tree} → Within d m xs f → (t : State) × (over t ≡ true) × Walk d m xs 0 start (length xs) t
   within-walks {f} w =
       let few : 0 + length (testsOf f) ≤ m = omega (arith, w .few) in
       let r = filter-walks (w .filter) [] 0 (add-zero d) few in
-      let z = over-end _ (r .1) (w .after) in
-      (z .0, then-walk (over-spaces (item-space d m [] 1) (w .before)) (then-walk (r .2) (z .1)))
+      let z = over-end (0 + length (testsOf f)) (r .1) (w .after) in
+      (state (z .0) [] (0 + length (testsOf f)), z .1, then-walk (over-spaces (item-space d m [] 1) (w .before)) (then-walk (r .2) (z .2)))
 
 -- the machine goes over every beginning of a filter
 pub begins-runs : {d m : ℕ} {xs : List ℕ} → Begins d m xs → (t : State) × Runs d m start xs t
 begins-runs {d} {m} {xs} b =
     let w = within-walks (b .is) in
-    let r = runs-fewer xs (b .rest) (walk-runs (w .1) refl) in
+    let r = runs-fewer xs (b .rest) (walk-runs (w .2) refl) in
     (r .0, r .1)

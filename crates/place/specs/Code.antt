@@ -2,7 +2,7 @@
 -- Assumes nothing.
 use Prim.Native.Nat.{ℕ, _+_, _*_, _/_, _%_}
 use Prim.Native.Char.{code}
-use mathlib.Core.Bool.{Bool, false, cond}
+use mathlib.Core.Bool.{Bool, true, false, cond, _&&_}
 use mathlib.Core.List.{List, [], _∷_}
 use lib.Dec.{eqb, ltb}
 use lib.ListN.{getD}
@@ -173,3 +173,29 @@ phaseOf xs p Mode.WantsSpace = in-connective (ascii " ")
 phaseOf xs p Mode.AfterSquare = after-square
 phaseOf xs p Mode.Member = at-member
 phaseOf xs p (Mode.MemberName from) = in-member (part xs from p)
+
+-- ---- the end of the text
+
+abbrev pub itemOver : Mode → Bool
+itemOver Mode.Item = false
+itemOver (Mode.Name from) = false
+itemOver Mode.AfterNot = false
+itemOver Mode.AfterName = false
+itemOver (Mode.Letter x) = false
+itemOver Mode.AfterOperator = false
+itemOver Mode.Value = false
+itemOver Mode.Bare = true
+itemOver (Mode.Quoted pending) = false
+itemOver Mode.AfterItem = true
+itemOver Mode.AfterSpace = true
+itemOver Mode.AfterA = false
+itemOver Mode.AfterAn = false
+itemOver Mode.AfterO = false
+itemOver Mode.WantsSpace = false
+itemOver Mode.AfterSquare = false
+itemOver Mode.Member = false
+itemOver (Mode.MemberName from) = false
+
+-- an item has ended, and no bracket is open
+unfoldable pub over : Reached → Bool
+over r = itemOver (r .mode) && eqb (r .brackets) 1

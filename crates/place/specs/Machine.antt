@@ -2,7 +2,7 @@
 -- Assumes nothing.
 use Prim.Native.Nat.{ℕ, suc, _+_}
 use Prim.Native.Char.{code}
-use mathlib.Core.Bool.{Bool, false, cond, _||_}
+use mathlib.Core.Bool.{Bool, true, false, cond, _||_}
 use mathlib.Core.List.{List, [], _∷_, _++_}
 use lib.Dec.{eqb, ltb}
 use lib.ListN.{length}
@@ -16,6 +16,7 @@ use Rattle.syntax.specs.Scan.{isSpace, stepOf}
 use Rattle.syntax.specs.declared.StringStep.{StringStep}
 use Rattle.place.specs.declared.Why.{Why}
 use Rattle.place.specs.declared.Failure.{Failure}
+use Rattle.place.specs.declared.Found.{Found}
 
 -- what the bytes so far end in
 pub data Phase : Type 0 where
@@ -168,3 +169,46 @@ abbrev pub numberOf : Why → ℕ
 numberOf Why.NoFilter = 11
 numberOf Why.TooDeep = 12
 numberOf Why.TooMany = 13
+
+-- ---- whether the text is a filter
+
+-- an item has ended, perhaps with a space
+abbrev pub itemOver : Phase → Bool
+itemOver at-item = false
+itemOver (in-name w) = false
+itemOver after-not = false
+itemOver after-name = false
+itemOver (in-operator x) = false
+itemOver after-operator = false
+itemOver at-value = false
+itemOver in-bare = true
+itemOver (in-string pending) = false
+itemOver after-item = true
+itemOver after-space = true
+itemOver (in-connective w) = false
+itemOver after-square = false
+itemOver at-member = false
+itemOver (in-member w) = false
+
+-- and no bracket is open
+abbrev pub over : State → Bool
+over (state f [] n) = itemOver f
+over (state f (s ∷ k) n) = false
+
+abbrev pub onLive : Step → (State → Bool) → Bool
+onLive (live s) next = next s
+onLive deep next = false
+onLive many next = false
+onLive wrong next = false
+
+-- the machine goes over all the bytes, and may end there
+unfoldable pub endsFrom : (d m : ℕ) → State → List ℕ → Bool
+endsFrom d m s [] = over s
+endsFrom d m s (y ∷ ys) = onLive (step d m s y) (λ t. endsFrom d m t ys)
+
+unfoldable pub isFilter : (d m : ℕ) → List ℕ → Bool
+isFilter d m xs = endsFrom d m start xs
+
+-- a filter, or where the text fails to be one
+unfoldable pub found : (d m : ℕ) → List ℕ → Found
+found d m xs = cond (isFilter d m xs) Found.Filter (Found.Failed (failure d m xs))

@@ -5,7 +5,8 @@ mod step;
 use step::advance;
 ghost use mathlib.Core.Path.{_≡_};
 ghost use Rattle.syntax.specs.Grammar.{deepest, mostTests};
-ghost use Rattle.place.specs.Machine.{failure};
+ghost use Rattle.place.specs.Machine.{failure, found};
+ghost use Rattle.place.specs.Code.{itemOver, over};
 
 // What the bytes so far end in.
 pub enum Mode {
@@ -70,9 +71,52 @@ pub struct Failure {
     pub place: usize,
 }
 
-// Where a text that is no filter stops being the beginning of one.
-pub fn find_failure(s: &[u8]) -> Failure
-    ensures { λ r. ⌜ r ≡ failure deepest mostTests (now (s .entry)) ⌝ }
+// What a text is: a filter, or none, and where it fails to be one.
+pub enum Found {
+    Filter,
+    Failed(Failure),
+}
+
+// Whether an item has ended, perhaps with a space.
+fn item_over(mode: Mode) -> bool
+    ensures { λ r. ⌜ r ≡ itemOver mode ⌝ }
+{
+    match mode {
+        Mode::Item => false,
+        Mode::Name(_) => false,
+        Mode::AfterNot => false,
+        Mode::AfterName => false,
+        Mode::Letter(_) => false,
+        Mode::AfterOperator => false,
+        Mode::Value => false,
+        Mode::Bare => true,
+        Mode::Quoted(_) => false,
+        Mode::AfterItem => true,
+        Mode::AfterSpace => true,
+        Mode::AfterA => false,
+        Mode::AfterAn => false,
+        Mode::AfterO => false,
+        Mode::WantsSpace => false,
+        Mode::AfterSquare => false,
+        Mode::Member => false,
+        Mode::MemberName(_) => false,
+    }
+}
+
+// Whether a filter may end there: an item has ended, and no bracket is open.
+fn is_over(reached: Reached) -> bool
+    ensures { λ r. ⌜ r ≡ over reached ⌝ }
+{
+    let mode = reached.mode;
+    if item_over(mode) {
+        return reached.brackets == 1;
+    }
+    false
+}
+
+// Whether a text is a filter, or where it stops being the beginning of one.
+pub fn find(s: &[u8]) -> Found
+    ensures { λ r. ⌜ r ≡ found deepest mostTests (now (s .entry)) ⌝ }
 {
     let mut reached = Reached {
         mode: Mode::Item,
@@ -87,27 +131,43 @@ pub fn find_failure(s: &[u8]) -> Failure
                 at += 1;
             }
             Outcome::Deep => {
-                return Failure {
+                return Found::Failed(Failure {
                     why: Why::TooDeep,
                     place: at,
-                };
+                });
             }
             Outcome::Many => {
-                return Failure {
+                return Found::Failed(Failure {
                     why: Why::TooMany,
                     place: at,
-                };
+                });
             }
             Outcome::Wrong => {
-                return Failure {
+                return Found::Failed(Failure {
                     why: Why::NoFilter,
                     place: at,
-                };
+                });
             }
         }
     }
-    Failure {
+    if is_over(reached) {
+        return Found::Filter;
+    }
+    Found::Failed(Failure {
         why: Why::NoFilter,
         place: at,
+    })
+}
+
+// Where a text that is no filter stops being the beginning of one.
+pub fn find_failure(s: &[u8]) -> Failure
+    ensures { λ r. ⌜ r ≡ failure deepest mostTests (now (s .entry)) ⌝ }
+{
+    match find(s) {
+        Found::Filter => Failure {
+            why: Why::NoFilter,
+            place: s.len(),
+        },
+        Found::Failed(failure) => failure,
     }
 }

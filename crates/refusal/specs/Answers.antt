@@ -36,6 +36,7 @@ numberOf Reason.CardLayout = 22
 numberOf Reason.CardMisfit = 23
 numberOf Reason.ShortList = 30
 numberOf Reason.ShortRows = 31
+numberOf Reason.ShortBuffer = 32
 
 unfoldable pub refusalAnswer : Refusal → Answer
 refusalAnswer r = refused (numberOf (r .reason)) (r .place)

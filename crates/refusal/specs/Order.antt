@@ -21,6 +21,7 @@ lines =
     ∷ (21 ∷ 22 ∷ 23 ∷ [])
     ∷ (30 ∷ [])
     ∷ (31 ∷ [])
+    ∷ (32 ∷ [])
     ∷ []
 
 -- the numbers of the lines, one after the other

@@ -26,5 +26,6 @@ pub fn number(reason: Reason) -> u32
         Reason::CardMisfit => 23,
         Reason::ShortList => 30,
         Reason::ShortRows => 31,
+        Reason::ShortBuffer => 32,
     }
 }

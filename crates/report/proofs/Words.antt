@@ -17,6 +17,7 @@ use Rattle.sheet.specs.Find.{Listed}
 use Rattle.sheet.proofs.Listed.{listed-kind}
 use Rattle.card.specs.Card.{Entry, entriesOf}
 use Rattle.kind.specs.Readable.{cardReadable}
+use Rattle.kind.specs.Table as table
 use Rattle.kind.specs.Rules.{ReadableOnCard}
 use Rattle.kind.proofs.Rules.{card-iff}
 use Rattle.judge.specs.Rules.{EntryConforms, Conforms}
@@ -61,7 +62,7 @@ row-says ps bs rows i h =
 
 -- "a text under a bundle is 23": it is readable as no kind
 bundle-unreadable : (t : List ℕ) → ReadableOnCard bundleKind t → ⊥
-unfolding cardReadable
+unfolding cardReadable table.ofKind table.kinds
 bundle-unreadable t r = both-ways (card-iff bundleKind t .1 r) refl
 
 module _ (ps : List Parameter) (i : ℕ) (p : Parameter) (l : Listed ps i p) (bundle : p .kind ≡ bundleKind) where

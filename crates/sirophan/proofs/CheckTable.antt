@@ -81,7 +81,7 @@ module _ (sheet : List ℕ) where
 -- ---- the text
 
 -- 11 to 13 share a line
-number-group : {d m : ℕ} {xs : List ℕ} {p n : ℕ} → Number d m xs p n → group n ≡ group 11
+pub number-group : {d m : ℕ} {xs : List ℕ} {p n : ℕ} → Number d m xs p n → group n ≡ group 11
 unfolding group member
 number-group (number-12 x) = refl
 number-group (number-13 x y) = refl
@@ -127,7 +127,7 @@ module _ (text : List ℕ) where
       (λ e. or-left (eqb (length text) 0) (ltb 1024 (length text)) (eq-eqb (length text) 0 e))
       (λ e. or-right (eqb (length text) 0) (ltb 1024 (length text)) (lt-ltb 1024 (length text) e))
 
-  text-decided : Decided (Spells text) (TextLine text) (takeFilter text)
+  pub text-decided : Decided (Spells text) (TextLine text) (takeFilter text)
   unfolding takeFilter
   text-decided =
       cond-elim (Decided (Spells text) (TextLine text)) (eqb (length text) 0 || ltb 1024 (length text))

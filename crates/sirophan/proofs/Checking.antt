@@ -17,7 +17,6 @@ use Rattle.syntax.specs.Reader.{parsed, filterAt, whole, read}
 use Rattle.place.specs.Machine.{failure}
 use Rattle.place.specs.Machine as place
 use Rattle.place.specs.declared.Failure.{Failure}
-use Rattle.place.specs.declared.Why.{Why}
 use Rattle.judge.specs.Faults.{firstFault}
 use Rattle.judge.specs.declared.Fault.{Fault}
 use Rattle.filter.specs.Folds.{reading}
@@ -46,9 +45,9 @@ outcome-tests s e = rw e
 
 -- ---- the answer for a text that is none
 
-pub failure-answered : (r f : Failure) (c : Checked) (w : Why) → f ≡ r → f .why ≡ w → checkedAnswer c ≡ refused (place.numberOf w) (f .place) → checkedAnswer c ≡ failureAnswer r
+pub failure-answered : (r f : Failure) (c : Checked) (k : Reason) → f ≡ r → numberOf k ≡ place.numberOf (f .why) → checkedAnswer c ≡ refused (numberOf k) (f .place) → checkedAnswer c ≡ failureAnswer r
 unfolding failureAnswer
-failure-answered r f c w i e h = rw (← i, e) h
+failure-answered r f c k i e h = rw (← i, ← e) h
 
 -- ---- the filter's text
 

@@ -2,7 +2,6 @@
 pub mod Checking
 pub mod Judging
 pub mod Passing
-pub mod Writing
 pub mod Gathering
 pub mod Selecting
 pub mod Outcomes
@@ -24,6 +23,8 @@ pub mod RunTable
 pub mod SelectTable
 pub mod Contracts
 pub mod Answered
+pub mod SpellTable
+pub mod Spells
 pub mod Operators
 pub mod Trial
 pub mod Promises

@@ -1,9 +1,10 @@
 -- The promises, grouped by the letter's demands; each is proved where its one line says. The contracts of check, match_card and select say
--- that the code answers as checkAnswer, matchAnswer and selectAnswer do, and leaves the list as selectCells says. Assumes nothing.
-use Prim.Native.Nat.{ℕ, _≤_, _<_}
+-- that the code answers as checkAnswer, matchAnswer and selectAnswer do, and leaves the list as selectCells says; that of spell, that it
+-- answers as spellAnswer does, and leaves the buffer as spellBytes says. Assumes nothing.
+use Prim.Native.Nat.{ℕ, _+_, _≤_, _<_}
 use mathlib.Core.Path.{_≡_}
 use mathlib.Core.Bool.{Bool, true}
-use mathlib.Core.Logic.{_↔_}
+use mathlib.Core.Logic.{_↔_, _⊎_}
 use mathlib.Core.Option.{some}
 use mathlib.Core.List.{List, [], _∷_, map}
 use lib.ListN.{length, getD}
@@ -14,48 +15,56 @@ use Rattle.base.specs.Operators.{operatorWords, eq, ne, co, sw, ew, gt, lt, ge,
 use Rattle.block.specs.declared.Reading.the-variants.{WellFormed}
 use Rattle.sheet.specs.Sheet.{Parameter, readSheet}
 use Rattle.sheet.specs.Encode.{encodeSheet, WellFormedSheet, SheetForm, SheetBlock, ReadsAsSheet}
-use Rattle.sheet.specs.Trial.{trialParameters, trialSheet, bundleSheet}
+use Rattle.sheet.specs.Trial.{trialParameters, trialSheet, bundleSheet, staySheet}
 use Rattle.sheet.proofs.Sheets as sheets
 use Rattle.card.specs.Card.{Entry, readCard}
 use Rattle.card.specs.Encode.{encodeCard, WellFormedCard, CardBlock, ReadsAsCard}
-use Rattle.card.specs.Trial.{trialCard, bundleCard}
+use Rattle.card.specs.Trial.{trialCard, bundleCard, stayCard}
 use Rattle.card.proofs.Cards as cards
 use Rattle.syntax.specs.Tree.{Tree, test, testsOf, Rising}
 use Rattle.syntax.specs.Grammar.{deepest, mostTests, Spells}
 use Rattle.syntax.specs.Reader.{read}
 use Rattle.syntax.proofs.Spelling as spelling
+use Rattle.spell.specs.Plain.{plain}
+use Rattle.spell.specs.Laws.{PlainSpelling, Determined}
+use Rattle.spell.proofs.Length as lengths
+use Rattle.spell.proofs.Shortest as shortest
 use Rattle.place.specs.Begins.{Begins, Longest, Number}
 use Rattle.place.proofs.Place as place
 use Rattle.date.specs.Calendar.{daysBeforeMonth}
 use Rattle.date.specs.Arithmetic.{beforeByNumber}
 use Rattle.date.proofs.Calendar as calendar
-use Rattle.date.specs.Spans.{Proper}
-use Rattle.date.specs.Relations as date-tests
-use Rattle.date.specs.Instants as instants
+use Rattle.date.specs.Instants.{InRange}
 use Rattle.date.specs.declared.Date.{Date}
-use Rattle.date.proofs.Relations as date-relations
+use Rattle.period.specs.Instants.{Inhabited}
+use Rattle.period.specs.declared.End.{End}
+use Rattle.period.specs.declared.Period.{Period}
+use Rattle.period.proofs.Relations as periods
 use Rattle.number.specs.Value.{Bounded}
 use Rattle.number.specs.Billionths as number-tests
 use Rattle.number.specs.Range as ranges
 use Rattle.number.specs.declared.Decimal.{Decimal}
 use Rattle.number.proofs.Range as number-ranges
 use Rattle.kind.specs.Readable.{cardReadable, valueReadable}
-use Rattle.kind.specs.Stands.{stands}
+use Rattle.kind.specs.Stands.{dateStands, stands}
 use Rattle.kind.specs.Table.{hasMeaning}
 use Rattle.kind.specs.declared.Relation.{Relation}
 use Rattle.refusal.proofs.Order as order
 use Rattle.refusal.specs.Answers.{Answer, yes, no, count, refused}
+use Rattle.kind.specs.declared.DateRelation.{DateRelation}
 use Rattle.sirophan.specs.Operations.{checkAnswer, matchAnswer, selectAnswer, selectCells}
 use Rattle.kind.specs.Rules.{ReadableOnCard, ReadableValue}
 use Rattle.kind.specs.Rules.{HasOperator}
 use Rattle.judge.specs.Rules.{Conforms}
-use Rattle.kind.specs.Rules.{StandsIn}
+use Rattle.kind.specs.Rules.{DatesStand, date-inside, StandsIn}
 use Rattle.sirophan.specs.Verdicts.{Verdict}
 use Rattle.sirophan.specs.Demand.{Demand, MeetsDemand, Agree}
 use Rattle.sirophan.specs.Selection.{Run, matchingCards, matchingNumbers, occurrences, bearing, SelectsByMatch, SelectAnswers}
 use Rattle.refusal.specs.Order.{rank, Decides}
-use Rattle.sirophan.specs.Refusals.{CheckLine, MatchLine, SelectLine}
-use Rattle.sirophan.specs.Trial.{Row, trialRows, bundleRows, titleTest, codeTest}
+use Rattle.sirophan.specs.Refusals.{CheckLine, MatchLine, SelectLine, SpellLine}
+use Rattle.sirophan.specs.Spelling.{spellAnswer, spellBytes, SpellAnswers}
+use Rattle.sirophan.specs.Trial.{Row, trialRows, bundleRows, stayRows, titleTest, codeTest}
+use Rattle.sirophan.specs.Edges.{edgeCard, edgeRows}
 use Rattle.kind.proofs.Rules as rules
 use Rattle.sirophan.proofs.Failing as failing
 use Rattle.sirophan.proofs.Demand as demand
@@ -67,6 +76,8 @@ use Rattle.sirophan.proofs.CheckTable as check-table
 use Rattle.sirophan.proofs.MatchTable as match-table
 use Rattle.sirophan.proofs.SelectTable as select-table
 use Rattle.sirophan.proofs.Answered as answered
+use Rattle.sirophan.proofs.SpellTable as spell-table
+use Rattle.sirophan.proofs.Spells as spell
 use Rattle.sirophan.proofs.Operators as words
 use Rattle.sirophan.proofs.Trial as trial
 
@@ -83,6 +94,9 @@ match-refused = match-table.match-table
 pub select-refused : (sheet text cards : List ℕ) (room : ℕ) → Bytes sheet → Bytes cards → (n p : ℕ)
     → (selectAnswer sheet text cards room ≡ refused n p) ↔ Decides (SelectLine sheet text cards room) n p
 select-refused = select-table.select-table
+
+pub spell-refused : (text : List ℕ) (from room n p : ℕ) → (spellAnswer text from room ≡ refused n p) ↔ Decides (SpellLine text from room) n p
+spell-refused = spell-table.spell-table
 
 -- the lines decide in the order of the table; 02 gives 18 its rank in words
 pub bundle-ranks-between : (rank 14 < rank 18) × (rank 18 < rank 15)
@@ -102,6 +116,9 @@ number-unique = place.number-unique
 
 pub refusal-keeps-list : (sheet text cards list : List ℕ) (n i : ℕ) → selectAnswer sheet text cards (length list) ≡ refused n i → selectCells sheet text cards list ≡ list
 refusal-keeps-list = selection.refusal-keeps
+
+pub refusal-keeps-buffer : (text : List ℕ) (from : ℕ) (buffer : List ℕ) (n p : ℕ) → spellAnswer text from (length buffer) ≡ refused n p → spellBytes text from buffer ≡ buffer
+refusal-keeps-buffer = spell.refusal-keeps-buffer
 
 -- ---- demand 2: the answer is the meaning
 
@@ -147,11 +164,17 @@ operator-has-meaning = rules.operator-iff
 pub text-stands : (r : Relation) (x v : List ℕ) → (stands r x v ≡ true) ↔ StandsIn r x v
 text-stands = rules.stands-iff
 
--- eq: the test of a card's date or number against a filter's passes exactly where every instant, every point, of the card's range lies
--- in the filter's; what is read is Proper, or Bounded
-pub date-held : (i f : Date) → Proper i → (date-tests.inside i f ≡ true) ↔ instants.Held i f
-date-held = date-relations.inside-iff
+-- a card's period, its date among them, and a filter's date: the test by their ends passes exactly where the relation holds by their
+-- instants; what is read has an instant, a date its start
+pub dates-stand : (i : Period) → Inhabited i → (f : Date) → InRange f (f .start) → (r : DateRelation) → (dateStands r i f ≡ true) ↔ DatesStand i f r
+dates-stand = rules.date-iff
 
+-- 02: "a stay open at an end is never eq"
+pub open-never-eq : (i : Period) → Inhabited i → (f : Date) → InRange f (f .start) → (i .start ≡ End.Open) ⊎ (i .end ≡ End.Open) → DatesStand i f DateRelation.Inside → ⊥
+open-never-eq i has f first h (date-inside held) = periods.open-never-held i has f first h held
+
+-- eq: the test of a card's number against a filter's passes exactly where every point of the card's range lies in the filter's; what is
+-- read is Bounded
 pub number-held : (i f : Decimal) → Bounded i → Bounded f → (number-tests.inside i f ≡ true) ↔ ranges.Held i f
 number-held = number-ranges.inside-iff
 
@@ -221,6 +244,21 @@ match-never-says-yes-to-all = impossible.match-says-yes
 pub match-never-says-no-without-meaning : (check : Answer) → Demand trialParameters (test codeTest) check (λ card. no) → ⊥
 match-never-says-no-without-meaning = impossible.match-says-no
 
+-- ---- the plain spelling (02 [5])
+
+-- it is read back as the same filter, spelled again it stays, two filters get the same bytes exactly when they are the same, it is never
+-- longer than its source, and a source as short is the plain spelling itself
+pub plain-spelling : PlainSpelling plain
+plain-spelling = shortest.plain-spelling
+
+-- nothing is left free
+pub plain-determined : Determined
+plain-determined = lengths.determined
+
+-- spell puts it into the buffer wherever there is room
+pub spell-answered : (text : List ℕ) (from : ℕ) (buffer : List ℕ) (f : Tree) → length text ≤ 1024 → Spells text f → from + length (plain f) ≤ length buffer → SpellAnswers (plain f) text from buffer
+spell-answered = spell.spell-answered
+
 -- ---- the trial card
 
 pub trial-table : All (λ (r : Row). matchAnswer trialSheet (r .filter) trialCard ≡ r .gives) trialRows
@@ -229,3 +267,11 @@ trial-table = trial.trial-rows
 -- 02's filters over bundles, on a sheet with bundles and a card with occurrences
 pub bundle-table : All (λ (r : Row). matchAnswer bundleSheet (r .filter) bundleCard ≡ r .gives) bundleRows
 bundle-table = trial.bundle-rows
+
+-- 02's periods, on a sheet with periods and a card with open ends
+pub period-table : All (λ (r : Row). matchAnswer staySheet (r .filter) stayCard ≡ r .gives) stayRows
+period-table = trial.stay-rows
+
+-- a card at the edges of the rules: escapes, short names, touching spans, half units, each operator by its word
+pub edge-table : All (λ (r : Row). matchAnswer trialSheet (r .filter) edgeCard ≡ r .gives) edgeRows
+edge-table = trial.edge-rows

@@ -4,6 +4,7 @@ use Rattle.refusal.specs.Answers.{Answer, yes, no, count, refusalAnswer}
 use Rattle.sirophan.specs.declared.Checked.{Checked}
 use Rattle.sirophan.specs.declared.Matched.{Matched}
 use Rattle.sirophan.specs.declared.Selected.{Selected}
+use Rattle.sirophan.specs.declared.Spelled.{Spelled}
 
 unfoldable pub checkedAnswer : Checked → Answer
 checkedAnswer (Checked.Tests n) = count n
@@ -17,3 +18,7 @@ matchedAnswer (Matched.Refused r) = refusalAnswer r
 unfoldable pub selectedAnswer : Selected → Answer
 selectedAnswer (Selected.Count n) = count n
 selectedAnswer (Selected.Refused r) = refusalAnswer r
+
+unfoldable pub spelledAnswer : Spelled → Answer
+spelledAnswer (Spelled.Length n) = count n
+spelledAnswer (Spelled.Refused r) = refusalAnswer r

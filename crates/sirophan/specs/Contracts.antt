@@ -6,13 +6,15 @@ use mathlib.Core.Logic.{_↔_}
 use mathlib.Core.List.{List}
 use lib.ListN.{length}
 use Rattle.refusal.specs.Answers.{Answer, refused}
-use Rattle.sirophan.specs.Answers.{checkedAnswer, matchedAnswer, selectedAnswer}
+use Rattle.sirophan.specs.Answers.{checkedAnswer, matchedAnswer, selectedAnswer, spelledAnswer}
 use Rattle.sirophan.specs.Operations.{checkAnswer, matchAnswer, selectAnswer, selectCells}
+use Rattle.sirophan.specs.Spelling.{spellAnswer, spellBytes}
 use Rattle.refusal.specs.Order.{Decides}
-use Rattle.sirophan.specs.Refusals.{CheckLine, MatchLine, SelectLine}
+use Rattle.sirophan.specs.Refusals.{CheckLine, MatchLine, SelectLine, SpellLine}
 use Rattle.sirophan.specs.declared.Checked.{Checked}
 use Rattle.sirophan.specs.declared.Matched.{Matched}
 use Rattle.sirophan.specs.declared.Selected.{Selected}
+use Rattle.sirophan.specs.declared.Spelled.{Spelled}
 
 -- the answer is refused with a number and a place exactly where that line of the table holds and none before it does
 abbrev pub RefusedBy : (ℕ → ℕ → Type 0) → Answer → Type 0
@@ -31,3 +33,9 @@ pub record SelectsInto (sheet text cards list : List ℕ) (r : Selected) (exit :
   pub answers : selectedAnswer r ≡ selectAnswer sheet text cards (length list)
   pub cells : exit ≡ selectCells sheet text cards list
   pub refuses : RefusedBy (SelectLine sheet text cards (length list)) (selectedAnswer r)
+
+-- every byte of the buffer at exit, too
+pub record SpellsInto (text : List ℕ) (from : ℕ) (buffer : List ℕ) (r : Spelled) (exit : List ℕ) : Type 0 where
+  pub answers : spelledAnswer r ≡ spellAnswer text from (length buffer)
+  pub bytes : exit ≡ spellBytes text from buffer
+  pub refuses : RefusedBy (SpellLine text from (length buffer)) (spelledAnswer r)

@@ -3,6 +3,7 @@ pub mod Answers
 pub mod Operations
 pub mod Passing
 pub mod Selecting
+pub mod Spelling
 pub mod Verdicts
 pub mod Numbers
 pub mod Demand
@@ -11,3 +12,4 @@ pub mod Refusals
 pub mod Contracts
 pub mod Witness
 pub mod Trial
+pub mod Edges

@@ -1,6 +1,6 @@
 -- Document 01's table of refusals: when each line holds, and at which place.
 -- Assumes nothing.
-use Prim.Native.Nat.{ℕ, _<_}
+use Prim.Native.Nat.{ℕ, _+_, _<_}
 use mathlib.Core.Path.{_≡_}
 use mathlib.Core.Logic.{_⊎_}
 use mathlib.Core.List.{List, List·Memᴰ}
@@ -12,6 +12,7 @@ use Rattle.card.specs.Card.{Entry}
 use Rattle.card.specs.Encode.{CardBlock}
 use Rattle.syntax.specs.Tree.{Test, Tree, testsOf}
 use Rattle.syntax.specs.Grammar.{deepest, mostTests, Spells}
+use Rattle.spell.specs.Plain.{plain}
 use Rattle.place.specs.Begins.{Begins, Longest, Number}
 use Rattle.judge.specs.Rules.{Conforms}
 use Rattle.sirophan.specs.Numbers.{TestLine}
@@ -85,3 +86,13 @@ pub data RoomLine (sheet text cards : List ℕ) (room : ℕ) : ℕ → ℕ → T
 
 abbrev pub SelectLine : (sheet text cards : List ℕ) → (room : ℕ) → ℕ → ℕ → Type 0
 SelectLine sheet text cards room n p = CheckLine sheet text n p ⊎ (RunLine cards n p ⊎ (CardsLine sheet cards n p ⊎ RoomLine sheet text cards room n p))
+
+-- ---- spell, into a buffer of `room` bytes from the place `from` on
+
+-- about the buffer
+pub data BufferLine (text : List ℕ) (from room : ℕ) : ℕ → ℕ → Type 0 where
+  -- 02: "when it would run past the buffer's end, place its length"
+  line-32 : {f : Tree} → Spells text f → room < from + length (plain f) → BufferLine text from room 32 (length (plain f))
+
+abbrev pub SpellLine : (text : List ℕ) → (from room : ℕ) → ℕ → ℕ → Type 0
+SpellLine text from room n p = TextLine text n p ⊎ BufferLine text from room n p

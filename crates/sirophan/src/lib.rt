@@ -3,11 +3,13 @@
 mod operations;
 mod reading;
 mod run;
+mod spelling;
 mod verdict;
 
 pub use operations::check;
 pub use operations::match_card;
 pub use operations::select;
+pub use operations::spell;
 use refusal::Refusal;
 
 // What check answers: the number of tests, or a refusal.
@@ -26,5 +28,11 @@ pub enum Matched {
 // What select answers: how many record numbers it has written into the list, or a refusal.
 pub enum Selected {
     Count(usize),
+    Refused(Refusal),
+}
+
+// What spell answers: the length of the plain spelling that it has written into the buffer, or a refusal.
+pub enum Spelled {
+    Length(usize),
     Refused(Refusal),
 }

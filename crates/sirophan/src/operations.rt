@@ -3,10 +3,12 @@
 use crate::Checked;
 use crate::Matched;
 use crate::Selected;
+use crate::Spelled;
 use crate::reading::check_bytes;
 use crate::run::select_bytes;
+use crate::spelling::spell_bytes;
 use crate::verdict::match_bytes;
-ghost use Rattle.sirophan.specs.Contracts.{Checks, Matches, SelectsInto};
+ghost use Rattle.sirophan.specs.Contracts.{Checks, Matches, SelectsInto, SpellsInto};
 
 // How many tests a filter has, where each has a meaning on every card that fits the sheet.
 pub fn check(sheet: &[u8], filter: &[u8]) -> Checked
@@ -27,4 +29,11 @@ pub fn select(sheet: &[u8], filter: &[u8], cards: &[u8], list: &mut [u32]) -> Se
     ensures { λ r. ⌜ SelectsInto (now (sheet .entry)) (now (filter .entry)) (now (cards .entry)) (now (list .entry)) r (now (list .exit)) ⌝ }
 {
     select_bytes(sheet, filter, cards, list)
+}
+
+// Puts the plain spelling of a filter into the buffer from a place on, and answers its length.
+pub fn spell(filter: &[u8], buffer: &mut [u8], from: usize) -> Spelled
+    ensures { λ r. ⌜ SpellsInto (now (filter .entry)) from (now (buffer .entry)) r (now (buffer .exit)) ⌝ }
+{
+    spell_bytes(filter, buffer, from)
 }

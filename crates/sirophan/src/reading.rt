@@ -14,6 +14,7 @@ use syntax::scan::skip;
 ghost use mathlib.Core.Path.{_≡_};
 ghost use Rattle.sheet.specs.Sheet.{parametersOf, readSheet};
 ghost use Rattle.syntax.specs.Grammar.{deepest, mostTests};
+ghost use Rattle.place.specs.Machine as place;
 ghost use Rattle.place.specs.Machine.{failure};
 ghost use Rattle.refusal.specs.Answers.{refused, numberOf};
 ghost use Rattle.sirophan.specs.Answers.{checkedAnswer};
@@ -43,17 +44,24 @@ fn outcome(summary: Summary) -> Checked
     }
 }
 
+// Why a text that is no filter is refused.
+pub fn failure_reason(why: Why) -> Reason
+    ensures { λ r. ⌜ numberOf r ≡ place.numberOf why ⌝ }
+{
+    match why {
+        Why::NoFilter => Reason::NoFilter,
+        Why::TooDeep => Reason::TooDeep,
+        Why::TooMany => Reason::TooMany,
+    }
+}
+
 // The answer for a text that is no filter.
 fn no_filter(filter: &[u8]) -> Checked
     ensures { λ r. ⌜ checkedAnswer r ≡ failureAnswer (failure deepest mostTests (now (filter .entry))) ⌝ }
 {
     let failure = find_failure(filter);
     let why = failure.why;
-    match why {
-        Why::NoFilter => refuse(Reason::NoFilter, failure.place),
-        Why::TooDeep => refuse(Reason::TooDeep, failure.place),
-        Why::TooMany => refuse(Reason::TooMany, failure.place),
-    }
+    refuse(failure_reason(why), failure.place)
 }
 
 // The filter on a well-formed sheet.

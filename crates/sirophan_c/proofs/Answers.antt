@@ -5,11 +5,12 @@ use mathlib.Core.Path.{_≡_, sym, ap, _∙_}
 use mathlib.Core.List.{List}
 use Rattle.refusal.specs.Answers as paper
 use Rattle.refusal.specs.Answers.{numberOf, refusalAnswer}
-use Rattle.sirophan.specs.Answers.{checkedAnswer, matchedAnswer, selectedAnswer}
+use Rattle.sirophan.specs.Answers.{checkedAnswer, matchedAnswer, selectedAnswer, spelledAnswer}
 use Rattle.refusal.specs.declared.Refusal.{Refusal}
 use Rattle.sirophan.specs.declared.Checked.{Checked}
 use Rattle.sirophan.specs.declared.Matched.{Matched}
 use Rattle.sirophan.specs.declared.Selected.{Selected}
+use Rattle.sirophan.specs.declared.Spelled.{Spelled}
 use Rattle.report.specs.Operation.{reportedAnswer}
 use Rattle.report.specs.Contracts.{Reports}
 use Rattle.report.specs.declared.Tally.{Tally}
@@ -58,6 +59,15 @@ module _ (a : paper.Answer) where
     pub select-refusal-told : (r : Refusal) (t : Answer) → s ≡ Selected.Refused r → t ≡ told (refusalAnswer r) → t ≡ told a
     unfolding selectedAnswer
     select-refusal-told r t h o = o ∙ case-told selectedAnswer e h
+
+  module _ (s : Spelled) (e : spelledAnswer s ≡ a) where
+    pub length-told : (n : ℕ) → s ≡ Spelled.Length n → answer 0 n ≡ told a
+    unfolding told spelledAnswer
+    length-told n = case-told spelledAnswer e
+
+    pub spell-refusal-told : (r : Refusal) (t : Answer) → s ≡ Spelled.Refused r → t ≡ told (refusalAnswer r) → t ≡ told a
+    unfolding spelledAnswer
+    spell-refusal-told r t h o = o ∙ case-told spelledAnswer e h
 
 module _ (r : Reported) where
   pub counts-told : (y n : ℕ) → r ≡ Reported.Counts y n → countsOf 0 0 y n ≡ toldCounts (reportedAnswer r)

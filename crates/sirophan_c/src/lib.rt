@@ -6,10 +6,12 @@ use report::Tally;
 use sirophan::Checked;
 use sirophan::Matched;
 use sirophan::Selected;
+use sirophan::Spelled;
 ghost use mathlib.Core.Path.{_≡_};
 ghost use lib.ListN.{length};
 ghost use Rattle.refusal.specs.Answers.{refusalAnswer};
 ghost use Rattle.sirophan.specs.Operations.{checkAnswer, matchAnswer, selectAnswer, selectCells};
+ghost use Rattle.sirophan.specs.Spelling.{spellAnswer, spellBytes};
 ghost use Rattle.report.specs.Operation.{reportedAnswer};
 ghost use Rattle.sirophan_c.specs.Answers.{told, toldCounts};
 ghost use Rattle.sirophan_c.specs.Contracts.{TellsReport};
@@ -93,6 +95,22 @@ pub extern "C" fn sirophan_select(
             value: count,
         },
         Selected::Refused(refusal) => refused(refusal),
+    }
+}
+
+// The length of the filter's plain spelling, which stands in the buffer from the place on, or a refusal.
+#[no_mangle]
+pub extern "C" fn sirophan_spell(filter: &[u8], buffer: &mut [u8], from: usize) -> Answer
+    ensures { λ r. ⌜ r ≡ told (spellAnswer (now (filter .entry)) from (length (now (buffer .entry)))) ⌝ }
+    ensures { λ _. ⌜ now (buffer .exit) ≡ spellBytes (now (filter .entry)) from (now (buffer .entry)) ⌝ }
+{
+    let spelled = sirophan::spell(filter, buffer, from);
+    match spelled {
+        Spelled::Length(length) => Answer {
+            refusal: 0,
+            value: length,
+        },
+        Spelled::Refused(refusal) => refused(refusal),
     }
 }
 

@@ -1,7 +1,8 @@
 //! The Rust interface: its answers on the trial archive, and how it tells a refusal to a person.
 
 use second::block::{write_card, write_sheet};
-use sirophan::{Counts, Refusal, Tally, check, matches, report, select, underline};
+use second::spellings;
+use sirophan::{Counts, Refusal, Tally, check, matches, plain, report, select, spell, underline};
 
 fn sheet() -> Vec<u8> {
     write_sheet(&[(1, b"title"), (2, b"pages")]).unwrap()
@@ -40,6 +41,27 @@ fn refusals() {
     let mut rows = [Tally { cards: 9, values: 9 }];
     assert_eq!(report(&sheet(), b"title eq x", &cards, &mut rows), Err(refused(31, 2)));
     assert_eq!(rows, [Tally { cards: 9, values: 9 }]);
+}
+
+#[test]
+fn plain_spellings_found_by_hand() {
+    for spelling in spellings::read().unwrap() {
+        let answer = spelling.answer.map_err(|refusal| Refusal { number: refusal.number, place: refusal.place });
+        assert_eq!(plain(&spelling.filter), answer, "`{}`", spelling.written);
+    }
+}
+
+#[test]
+fn only_the_part_is_written() {
+    let mut buffer = *b"........";
+    assert_eq!(spell(b" a  eq b", &mut buffer, 1), Ok(6));
+    assert_eq!(buffer, *b".a eq b.");
+    for from in [3, 8, 9, usize::MAX] {
+        assert_eq!(spell(b"c eq d", &mut buffer, from), Err(Refusal { number: 32, place: 6 }));
+        assert_eq!(buffer, *b".a eq b.");
+    }
+    assert_eq!(spell(b"c eq", &mut buffer, 0), Err(Refusal { number: 11, place: 4 }));
+    assert_eq!(buffer, *b".a eq b.");
 }
 
 #[test]
@@ -103,7 +125,7 @@ fn no_caret_where_the_place_is_not_in_the_filter() {
 #[test]
 fn a_sentence_for_each_number() {
     let sentence = |number| Refusal { number, place: 0 }.sentence();
-    let numbers = [1, 2, 3, 10, 11, 12, 13, 14, 15, 16, 17, 18, 20, 21, 22, 23, 30, 31, 99];
+    let numbers = [1, 2, 3, 10, 11, 12, 13, 14, 15, 16, 17, 18, 20, 21, 22, 23, 30, 31, 32, 99];
     let mut sentences: Vec<&str> = numbers.map(sentence).into();
     sentences.sort();
     sentences.dedup();

@@ -12,7 +12,7 @@ use std::slice;
 pub const UNTOUCHED: u32 = 999;
 
 /// The words for the kinds of texts, in the order of their numbers.
-const KINDS: [&str; 5] = ["string", "number", "date", "token", "reference"];
+const KINDS: [&str; 6] = ["string", "number", "date", "token", "reference", "period"];
 
 /// A block by name: a sheet or a card, sound or damaged.
 #[derive(Debug)]
@@ -267,7 +267,7 @@ fn borrowed(entries: &[(u8, u8, Vec<u8>)]) -> Vec<Entry<'_>> {
 }
 
 /// The bytes that a text of the file stands for: `{0A}` is the byte with that number, `{12*ab}` is ab twelve times.
-fn bytes_of(written: &str) -> Option<Vec<u8>> {
+pub(crate) fn bytes_of(written: &str) -> Option<Vec<u8>> {
     let mut bytes = Vec::new();
     let mut rest = written;
     while let Some((plain, from_brace)) = rest.split_once('{') {

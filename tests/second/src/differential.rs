@@ -25,12 +25,13 @@ pub trait Library {
     fn matches(&self, sheet: &[u8], filter: &[u8], card: &[u8]) -> Result<bool, Refusal>;
     fn select(&self, sheet: &[u8], filter: &[u8], cards: &[u8], list: &mut [u32]) -> Result<usize, Refusal>;
     fn report(&self, sheet: &[u8], filter: &[u8], cards: &[u8], rows: &mut [Tally]) -> Result<(usize, usize), Refusal>;
+    fn spell(&self, filter: &[u8], buffer: &mut [u8], from: usize) -> Result<usize, Refusal>;
 }
 
 /// What a run of the test found.
 #[derive(Debug, Default)]
 pub struct Outcome {
-    /// How many cases agree in every answer, every cell and every row.
+    /// How many cases agree in every answer, every cell, every row and every byte.
     pub passed: u64,
     /// How many do not.
     pub failed: u64,
@@ -60,7 +61,7 @@ impl Outcome {
         let listed = |counts: Vec<String>| counts.join(", ");
         let modes = self.modes.iter().map(|(mode, count)| format!("{mode} {count}"));
         println!("cases: {}", listed(modes.collect()));
-        for row in ["check", "match", CONDITIONS, "select", "report"] {
+        for row in ["check", "match", CONDITIONS, "select", "report", "spell"] {
             let answers = self.answers.iter().filter(|((of, _), _)| *of == row);
             let answers = answers.map(|((_, answer), count)| format!("{answer} {count}"));
             println!("{row}: {}", listed(answers.collect()));
@@ -99,7 +100,7 @@ pub fn run(library: &impl Library, seed: u64, cases: u64) -> Outcome {
 
 /// Runs each operation on both sides and tells where they differ.
 fn compare(library: &impl Library, case: &Case, answers: &mut BTreeMap<(&'static str, String), u64>) -> Vec<String> {
-    let Case { sheet, filter, card, cards, list, rows } = case;
+    let Case { sheet, filter, card, cards, list, rows, buffer, from } = case;
     let mut differences = Vec::new();
     let mut note = |operation: &'static str, answer: String| {
         *answers.entry((operation, answer)).or_default() += 1;
@@ -136,6 +137,16 @@ fn compare(library: &impl Library, case: &Case, answers: &mut BTreeMap<(&'static
     note("report", told(ours, |counts| if counts == (0, 0) { "no cards" } else { "counts" }));
     differences.extend(difference("report", ours, theirs));
     differences.extend(difference("rows", our_rows, their_rows));
+
+    let lent = buffer.len();
+    let mut our_buffer = buffer.clone();
+    our_buffer.resize(lent + GUARD, 0);
+    let mut their_buffer = our_buffer.clone();
+    let ours = operations::spell(filter, &mut our_buffer[..lent], *from);
+    let theirs = library.spell(filter, &mut their_buffer[..lent], *from);
+    note("spell", told(ours, |length| if length < filter.len() { "shorter" } else { "plain already" }));
+    differences.extend(difference("spell", ours, theirs));
+    differences.extend(difference("buffer", our_buffer, their_buffer));
     differences
 }
 
@@ -154,6 +165,7 @@ fn print_case(case: &Case) {
     println!("  filter as text: {:?}", String::from_utf8_lossy(&case.filter));
     println!("  list: {:?}", case.list);
     println!("  rows: {:?}", case.rows);
+    println!("  buffer: {} bytes, from {}", case.buffer.len(), case.from);
     for (name, bytes) in
         [("sheet", &case.sheet), ("filter", &case.filter), ("card", &case.card), ("cards", &case.cards)]
     {

@@ -2,8 +2,9 @@
 
 use crate::beginning;
 use crate::block::{self, Card, Flaw, Sheet};
-use crate::filter::{self, Filter};
+use crate::filter::{self, Filter, Test};
 use crate::meaning::{self, Fault, Question};
+use crate::spelling;
 
 /// The most cards of a run.
 pub const MOST_CARDS: usize = 128;
@@ -77,6 +78,26 @@ pub fn report(sheet: &[u8], filter: &[u8], cards: &[u8], rows: &mut [Tally]) -> 
     Ok((yes, no))
 }
 
+/// Puts the plain spelling of the filter into the buffer from this place on and answers its length.
+pub fn spell(filter: &[u8], buffer: &mut [u8], from: usize) -> Result<usize, Refusal> {
+    let text = spelling::plain(&read_filter(filter)?);
+    let part = buffer.get_mut(from..).and_then(|part| part.get_mut(..text.len()));
+    let part = part.ok_or(refused(32, text.len()))?;
+    part.copy_from_slice(&text);
+    Ok(text.len())
+}
+
+/// Reads a text as a filter.
+fn read_filter(text: &[u8]) -> Result<Filter<Test>, Refusal> {
+    if text.is_empty() || text.len() > filter::LONGEST {
+        return Err(refused(10, 0));
+    }
+    filter::read(text).ok_or_else(|| {
+        let (number, place) = beginning::failure(text);
+        refused(number, place)
+    })
+}
+
 /// A sheet and a filter of which every test has a meaning on every card that fits the sheet.
 struct Asked {
     sheet: Sheet,
@@ -90,14 +111,7 @@ impl Asked {
             Flaw::Sum => refused(2, 0),
             Flaw::Layout => refused(3, 0),
         })?;
-        if filter.is_empty() || filter.len() > filter::LONGEST {
-            return Err(refused(10, 0));
-        }
-        let filter = filter::read(filter).ok_or_else(|| {
-            let (number, place) = beginning::failure(filter);
-            refused(number, place)
-        })?;
-        let filter = filter.try_map(&mut |test| {
+        let filter = read_filter(filter)?.try_map(&mut |test| {
             meaning::question(&test, &sheet).map_err(|fault| match fault {
                 Fault::UnknownName => refused(14, test.place),
                 Fault::BareBundle => refused(18, test.place),

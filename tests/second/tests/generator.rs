@@ -23,6 +23,10 @@ impl Library for Second {
     fn report(&self, sheet: &[u8], filter: &[u8], cards: &[u8], rows: &mut [Tally]) -> Result<(usize, usize), Refusal> {
         operations::report(sheet, filter, cards, rows)
     }
+
+    fn spell(&self, filter: &[u8], buffer: &mut [u8], from: usize) -> Result<usize, Refusal> {
+        operations::spell(filter, buffer, from)
+    }
 }
 
 #[test]
@@ -41,6 +45,9 @@ fn every_answer_and_mostly_verdicts() {
         assert!(outcome.answers.contains_key(&answer), "no selection is refused by {number}");
         let answer = ("report", format!("refused-{:02}", if number == 30 { 31 } else { number }));
         assert!(outcome.answers.contains_key(&answer), "no report is {}", answer.1);
+    }
+    for answer in ["shorter", "plain already", "refused-10", "refused-11", "refused-12", "refused-13", "refused-32"] {
+        assert!(outcome.answers.contains_key(&("spell", answer.to_string())), "nothing spelled is {answer}");
     }
 }
 

@@ -3,7 +3,7 @@
 use crate::advice::Question;
 use crate::arguments::Arguments;
 use crate::block::SIZE;
-use crate::cards::{self, AtFault, RUN};
+use crate::cards::{AtFault, RUN};
 use crate::doubt;
 use crate::filter::Filter;
 use crate::input::Input;
@@ -50,41 +50,29 @@ pub fn run(arguments: &Arguments) -> Result<(), Failure> {
     let asked = filter.map_or_else(Vec::new, |filter| doubt::asked(&question.filter, &filter, &question.sheet));
     let counter = Counter::new(&question.sheet, asked.iter().copied());
 
-    let name = cards.name.clone();
     let mut sum = Sum::new(&question.sheet);
-    let tallies = cards::pass(
-        cards,
-        |tally, first, piece| {
-            let counts = count_piece(&question, first, piece);
-            if counts.is_ok() {
-                counter.count(tally, first, piece);
-            }
-            counts
-        },
-        |counts| match counts {
-            Ok(more) => {
-                sum.add(more);
-                Ok(())
-            }
-            Err(fault) => Err(Failure::refused(fault.tell(&name, &question.sheet))),
-        },
-    )?;
-    let fields = counter.sum(tallies);
+    let ask = |first, piece: &[u8]| count_piece(&question, first, piece);
+    let fields = counter.pass(cards, ask, |more, _| {
+        sum.add(more);
+        Ok(())
+    })?;
     arguments.say(asked.iter().flat_map(|&place| fields[place].doubts(&question.sheet, place)));
     if arguments.json { show_json(&question.sheet, &sum) } else { show(&question.sheet, &sum) }
 }
 
-/// What the library reports on the runs of a piece, or what it refuses first.
-fn count_piece(question: &Question, first: u64, piece: &[u8]) -> Result<Sum, AtFault> {
+/// What the library reports on the runs of a piece before the first that is refused, and what is refused.
+fn count_piece(question: &Question, first: u64, piece: &[u8]) -> (Sum, Option<AtFault>) {
     let mut sum = Sum::new(&question.sheet);
     let mut rows = vec![Tally::default(); sum.rows.len()];
     for (index, run) in piece.chunks(RUN * SIZE).enumerate() {
-        let counts = sirophan::report(&question.sheet.block, &question.filter, run, &mut rows)
-            .map_err(|refusal| AtFault::new(refusal, first + (index * RUN) as u64, run))?;
+        let counts = match sirophan::report(&question.sheet.block, &question.filter, run, &mut rows) {
+            Ok(counts) => counts,
+            Err(refusal) => return (sum, Some(AtFault::new(refusal, first + (index * RUN) as u64, run))),
+        };
         let rows = rows.iter().map(|row| (row.cards.into(), row.values.into())).collect();
         sum.add(Sum { yes: counts.yes as u64, no: counts.no as u64, rows });
     }
-    Ok(sum)
+    (sum, None)
 }
 
 /// The counts on a line, and a table of the fields below it.

@@ -143,6 +143,11 @@ impl Output {
         writeln!(self.to, "{line}").map_err(unwritten)
     }
 
+    /// Writes bytes as a line, whatever they are.
+    pub fn bytes(&mut self, line: &[u8]) -> Result<(), Failure> {
+        self.to.write_all(line).and_then(|()| self.to.write_all(b"\n")).map_err(unwritten)
+    }
+
     /// Writes out what is held back so far.
     pub fn flush(&mut self) -> Result<(), Failure> {
         self.to.flush().map_err(unwritten)

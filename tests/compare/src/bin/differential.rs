@@ -1,7 +1,7 @@
 //! Compares the proved library with the second implementation on generated inputs.
 //!
 //! `differential [SEED [CASES]]` prints how often each operation gave each answer; its last line counts the cases that
-//! agree in every answer, every cell of the list and every row, and those that do not.
+//! agree in every answer, every cell of the list, every row and every byte of the buffer, and those that do not.
 
 use compare::refusal;
 use second::differential::{self, CASES, Library, SEED};
@@ -23,6 +23,10 @@ impl Library for Proved {
 
     fn select(&self, sheet: &[u8], filter: &[u8], cards: &[u8], list: &mut [u32]) -> Result<usize, Refusal> {
         sirophan::select(sheet, filter, cards, list).map_err(refusal)
+    }
+
+    fn spell(&self, filter: &[u8], buffer: &mut [u8], from: usize) -> Result<usize, Refusal> {
+        sirophan::spell(filter, buffer, from).map_err(refusal)
     }
 
     fn report(&self, sheet: &[u8], filter: &[u8], cards: &[u8], rows: &mut [Tally]) -> Result<(usize, usize), Refusal> {

@@ -13,6 +13,7 @@ pub use random::Random;
 use crate::block::{MARKED_CARD, MARKED_SHEET, SIZE};
 use crate::filter;
 use crate::operations::Tally;
+use crate::spelling;
 use archive::Archive;
 use modes::MODES;
 
@@ -29,6 +30,9 @@ pub struct Case {
     pub list: Vec<u32>,
     /// The rows before the report.
     pub rows: Vec<Tally>,
+    /// The buffer that the filter is spelled into, and from which of its bytes on.
+    pub buffer: Vec<u8>,
+    pub from: usize,
 }
 
 impl Case {
@@ -53,6 +57,7 @@ pub fn case(seed: u64, number: u64) -> (Case, &'static str) {
         if left < mode.weight {
             let mut case = (mode.make)(&mut random);
             case.rows = rows(&mut random, &case.sheet);
+            lend_buffer(&mut random, &mut case);
             return (case, mode.name);
         }
         left -= mode.weight;
@@ -70,6 +75,27 @@ fn rows(random: &mut Random, sheet: &[u8]) -> Vec<Tally> {
         _ => needed,
     };
     (0..length).map(|_| Tally { cards: random.draw() as u32, values: random.draw() as u32 }).collect()
+}
+
+/// A buffer with something in every byte, in which the plain spelling mostly has room, often no more than that. Now and
+/// then it is one byte too short, or the place lies at its end or past it.
+fn lend_buffer(random: &mut Random, case: &mut Case) {
+    let plain = filter::read(&case.filter).map(|filter| spelling::plain(&filter));
+    let needed = plain.map_or(case.filter.len(), |plain| plain.len());
+    let from = random.below(6);
+    let size = match random.below(8) {
+        0 => (from + needed).saturating_sub(1),
+        1 => random.below(from + needed + 1),
+        2..=4 => from + needed,
+        _ => from + needed + random.below(20),
+    };
+    case.buffer = (0..size).map(|_| random.byte()).collect();
+    case.from = match random.below(16) {
+        0 => size,
+        1 => size + 1 + random.below(9),
+        2 => random.one(&[usize::MAX, usize::MAX - 1, usize::MAX - needed, usize::MAX / 2]),
+        _ => from,
+    };
 }
 
 /// The three files that the program `pick` reads.

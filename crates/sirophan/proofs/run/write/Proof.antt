@@ -2,7 +2,7 @@
 use borrow.Author.Needs.{needs}
 use Prim.Native.Nat.{_-_}
 use lib.ListN.{length}
-use Rattle.sirophan.proofs.Writing.{Writing, writing-start, writing-room, writing-next, writing-end}
+use Rattle.spell.proofs.Writing.{Writing, writing-fits, writing-room, writing-next, writing-whole}
 use Rattle.sirophan.proofs.run.write.Statement.{statement}
 use Rattle.sirophan.proofs.run.write.Tie as tie
 
@@ -13,7 +13,7 @@ abbrev μ-loop : tie.MeasureT-loop
 μ-loop numbers list₀ i₀ list i = length numbers - i
 
 loop-holds : tie.Need-loop-holds Inv-loop μ-loop
-loop-holds c = search (writing-start, needs)
+loop-holds c = search (writing-fits, needs)
 
 mul-list : tie.Need-mul-list Inv-loop μ-loop
 mul-list c = search needs
@@ -40,7 +40,7 @@ same-length : tie.Need-same-length Inv-loop μ-loop
 same-length c = search needs
 
 returns : tie.Need-returns Inv-loop μ-loop
-returns c = search (writing-end, needs)
+returns c = search (writing-whole, needs)
 
 pub write-spec : {M : Type 1} → statement M
 write-spec =

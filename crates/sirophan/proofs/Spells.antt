@@ -1,0 +1,127 @@
+-- Spell answers as its definition does: the numbers are those of the table, and the bytes are put where the definition puts them.
+-- Assumes nothing.
+use Prim.Native.Nat.{ℕ, _+_, _≤_}
+use native.Mathlib.Omega.{arith}
+use mathlib.Core.Path.{_≡_, refl, ap, _∙_}
+use mathlib.Core.Bool.{Bool, true, false, cond, _||_}
+use mathlib.Core.Option.{Option, none, some}
+use mathlib.Core.List.{List, _++_}
+use lib.Dec.{eqb, leb, ltb}
+use lib.ListN.{length, take, drop}
+use borrow.Author.Tests.{ne-eqb, le-ltb, le-leb}
+use Rattle.base.proofs.Lists.{length-zero}
+use Rattle.syntax.specs.Tree.{Tree}
+use Rattle.syntax.specs.Grammar.{Spells}
+use Rattle.syntax.specs.Reader.{read}
+use Rattle.syntax.proofs.Spelling.{read-spells, spells-not-empty}
+use Rattle.place.specs.Machine as place
+use Rattle.place.specs.declared.Failure.{Failure}
+use Rattle.spell.specs.Plain.{plain}
+use Rattle.spell.specs.Spelling as spell
+use Rattle.spell.specs.declared.Outcome.{Outcome}
+use Rattle.refusal.specs.Answers.{count, refused, numberOf}
+use Rattle.refusal.specs.Steps.{Step, found, stop, _>>=_, answer}
+use Rattle.refusal.specs.declared.Reason.{Reason}
+use Rattle.sirophan.specs.Answers.{spelledAnswer}
+use Rattle.sirophan.specs.Operations.{treeStep, takeFilter}
+use Rattle.sirophan.specs.Refusals.{SpellLine}
+use Rattle.sirophan.specs.Contracts.{SpellsInto}
+use Rattle.sirophan.specs.Spelling.{takeBuffer, spelling, spellAnswer, putInto, spellBytes, outcomeAnswer, SpellsAs, SpellAnswers}
+use Rattle.sirophan.specs.declared.Spelled.{Spelled}
+use Rattle.sirophan.proofs.Contracts.{refused-by}
+use Rattle.sirophan.proofs.SpellTable.{spell-table}
+
+-- ---- the definition by steps, and the one that the code meets
+
+module _ (text : List ℕ) (from : ℕ) (buffer : List ℕ) where
+  room-answer : (w : List ℕ) → outcomeAnswer (spell.placed w from (length buffer)) ≡ answer (takeBuffer from (length buffer) w >>= λ s. found (count (length s)))
+  unfolding spell.placed takeBuffer outcomeAnswer
+  room-answer w = go (leb (from + length w) (length buffer))
+    where
+      go : (t : Bool) → outcomeAnswer (cond t (Outcome.Length (length w)) (Outcome.TooLong (length w))) ≡ answer (cond t (found w) (stop 32 (length w)) >>= λ s. found (count (length s)))
+      go true = refl
+      go false = refl
+
+  room-bytes : (w : List ℕ) → spell.put w from buffer ≡ putInto from buffer (takeBuffer from (length buffer) w)
+  unfolding spell.put takeBuffer
+  room-bytes w = go (leb (from + length w) (length buffer))
+    where
+      go : (t : Bool) → cond t (take from buffer ++ (w ++ drop (from + length w) buffer)) buffer ≡ putInto from buffer (cond t (found w) (stop 32 (length w)))
+      go true = refl
+      go false = refl
+
+  tree-answer : (o : Option Tree) → outcomeAnswer (spell.treeOutcome text from (length buffer) o) ≡ answer (treeStep text o >>= λ f. takeBuffer from (length buffer) (plain f) >>= λ w. found (count (length w)))
+  tree-answer (some f) = room-answer (plain f)
+  tree-answer none = unfold outcomeAnswer in refl
+
+  tree-bytes : (o : Option Tree) → spell.treeBytes from buffer o ≡ putInto from buffer (treeStep text o >>= λ f. takeBuffer from (length buffer) (plain f))
+  tree-bytes (some f) = room-bytes (plain f)
+  tree-bytes none = refl
+
+  answer-is : outcomeAnswer (spell.outcome text from (length buffer)) ≡ spellAnswer text from (length buffer)
+  unfolding spell.outcome spellAnswer spelling takeFilter outcomeAnswer
+  answer-is = go (eqb (length text) 0 || ltb 1024 (length text)) (read text)
+    where
+      go : (t : Bool) (o : Option Tree) → outcomeAnswer (cond t Outcome.WrongSize (spell.treeOutcome text from (length buffer) o))
+          ≡ answer (cond t (stop 10 0) (treeStep text o) >>= (λ f. takeBuffer from (length buffer) (plain f)) >>= λ w. found (count (length w)))
+      go true o = refl
+      go false (some f) = room-answer (plain f)
+      go false none = refl
+
+  bytes-are : spell.bytes text from buffer ≡ spellBytes text from buffer
+  unfolding spell.bytes spellBytes spelling takeFilter
+  bytes-are = go (eqb (length text) 0 || ltb 1024 (length text)) (read text)
+    where
+      go : (t : Bool) (o : Option Tree) → cond t buffer (spell.treeBytes from buffer o) ≡ putInto from buffer (cond t (stop 10 0) (treeStep text o) >>= λ f. takeBuffer from (length buffer) (plain f))
+      go true o = refl
+      go false o = tree-bytes o
+
+  pub spells-as : (o : Outcome) (r : Spelled) (exit : List ℕ) → spell.SpellsInto text buffer from o exit → spelledAnswer r ≡ outcomeAnswer o → SpellsAs text from buffer r exit
+  spells-as o r exit s e = record { answers = e ∙ ap outcomeAnswer (s .answers) ∙ answer-is; bytes = s .bytes-are ∙ bytes-are }
+
+  pub spells-into : (r : Spelled) (exit : List ℕ) → SpellsAs text from buffer r exit → SpellsInto text from buffer r exit
+  spells-into r exit s =
+      record {
+        answers = s .answers;
+        bytes = s .bytes;
+        refuses = refused-by (SpellLine text from (length buffer)) (spelledAnswer r) (spellAnswer text from (length buffer)) (s .answers) (spell-table text from (length buffer));
+      }
+
+  -- ---- it answers, and a refusal keeps the buffer
+
+  pub spell-answered : (f : Tree) → length text ≤ 1024 → Spells text f → from + length (plain f) ≤ length buffer → SpellAnswers (plain f) text from buffer
+  unfolding spellAnswer spellBytes spelling takeFilter takeBuffer
+  spell-answered f short s h =
+      let some-bytes : length text ≡ 0 → ⊥ = (λ z. spells-not-empty f (rw (length-zero text z) at s)) in
+      let fits : leb (from + length (plain f)) (length buffer) ≡ true = le-leb (from + length (plain f)) (length buffer) h in
+      record {
+        counts = rw (ne-eqb (length text) 0 some-bytes, le-ltb 1024 (length text) short, read-spells text f .1 s, fits);
+        writes = rw (ne-eqb (length text) 0 some-bytes, le-ltb 1024 (length text) short, read-spells text f .1 s, fits);
+      }
+
+  pub refusal-keeps-buffer : (n p : ℕ) → spellAnswer text from (length buffer) ≡ refused n p → spellBytes text from buffer ≡ buffer
+  unfolding spellAnswer spellBytes
+  refusal-keeps-buffer n p = go (spelling text from (length buffer))
+    where
+      go : (s : Step (List ℕ)) → answer (s >>= λ w. found (count (length w))) ≡ refused n p → putInto from buffer s ≡ buffer
+      go (found w) e = absurd (let z : _≡_ {A = ℕ} 0 1 = cc in omega arith)
+      go (stop k q) e = refl
+
+-- ---- each case of what spelling came to
+
+module _ (o : Outcome) where
+  pub length-spelled : (n : ℕ) → o ≡ Outcome.Length n → spelledAnswer (Spelled.Length n) ≡ outcomeAnswer o
+  unfolding spelledAnswer outcomeAnswer
+  length-spelled n e = rw e
+
+  pub size-spelled : (r : Spelled) → o ≡ Outcome.WrongSize → spelledAnswer r ≡ refused 10 0 → spelledAnswer r ≡ outcomeAnswer o
+  unfolding outcomeAnswer
+  size-spelled r e h = rw e h
+
+  pub failure-spelled : (r : Spelled) (f : Failure) (k : Reason) → o ≡ Outcome.Failed f → numberOf k ≡ place.numberOf (f .why) → spelledAnswer r ≡ refused (numberOf k) (f .place) → spelledAnswer r ≡ outcomeAnswer o
+  unfolding outcomeAnswer
+  failure-spelled r f k e g h = rw e (h ∙ ap (λ (n : ℕ). refused n (f .place)) g)
+
+  pub long-spelled : (r : Spelled) (n : ℕ) → o ≡ Outcome.TooLong n → spelledAnswer r ≡ refused 32 n → spelledAnswer r ≡ outcomeAnswer o
+  unfolding outcomeAnswer
+  long-spelled r n e h = rw e h

@@ -1,0 +1,6 @@
+-- The plain spelling of a filter, what is promised of it, and what its writers owe.
+pub mod Plain
+pub mod Laws
+pub mod Writing
+pub mod Walks
+pub mod Spelling

@@ -1,0 +1,49 @@
+-- What the walk over a filter's text owes, which writes as it reads: of a part of the text that is known to be an item or a filter.
+-- Assumes nothing.
+use Prim.Native.Nat.{ℕ, _+_}
+use mathlib.Core.Path.{_≡_}
+use mathlib.Core.Bool.{Bool}
+use mathlib.Core.List.{List, _++_}
+use Rattle.base.specs.Ascii.{ascii}
+use Rattle.base.specs.Parts.{part}
+use Rattle.syntax.specs.Tree.{Tree}
+use Rattle.syntax.specs.Grammar.{round, square}
+use Rattle.syntax.specs.Scan.{skipAt}
+use Rattle.syntax.specs.Reader.{Parsed, parsed, connective, inBracket, inChoice, filterAt}
+use Rattle.syntax.specs.declared.RawTest.{RawTest}
+use Rattle.spell.specs.Plain.{connectiveText, isJoin, operand}
+use Rattle.spell.specs.Writing.{Room, Puts, testText}
+use Rattle.spell.specs.declared.Written.{Written}
+
+-- a tree was parsed, and the part has room for its text
+pub record RoomFor (text : Tree → List ℕ) (g : Parsed) (part : List ℕ) : Type 0 where
+  pub end : ℕ
+  pub tree : Tree
+  pub reads : g ≡ parsed end tree
+  pub room : Room (text tree) part
+
+-- the text of the tree that was parsed stands over the first bytes of the part
+pub record Spelt (text : Tree → List ℕ) (g : Parsed) (part exit : List ℕ) (w : Written) : Type 0 where
+  pub tree : Tree
+  pub reads : g ≡ parsed (w .end) tree
+  pub puts : Puts (text tree) part exit (w .length)
+  pub join : w .join ≡ isJoin tree
+
+-- a connective and what stands after it
+unfoldable pub joined : Bool → Tree → List ℕ
+joined a f = connectiveText (connective a) ++ operand f
+
+-- a name and the bracket after it; and what stands after a filter in square brackets
+unfoldable pub choiceText : List ℕ → List ℕ
+choiceText n = n ++ ascii "["
+
+unfoldable pub memberText : List ℕ → RawTest → List ℕ
+memberText xs t = ascii "]." ++ testText xs t
+
+-- a filter in round brackets that begins at p inside them, after not or without, with brackets nested at most d deep in them
+unfoldable pub bracketAt : (d : ℕ) → List ℕ → (negated : Bool) → (p : ℕ) → Parsed
+bracketAt d xs negated p = inBracket xs negated (filterAt d xs round p)
+
+-- the test of a member at p after the filter in square brackets of the bundle whose name ends at u
+unfoldable pub chosenAt : (d : ℕ) → List ℕ → (close p u : ℕ) → Parsed
+chosenAt d xs close p u = inChoice xs close p (part xs p u) (filterAt d xs square (skipAt xs (u + 1)))
