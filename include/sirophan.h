@@ -12,8 +12,8 @@
  * with a numbered refusal.
  *
  * A pointer comes with the number of elements that it points to. It may be anything, but not NULL, where that number
- * is 0. The list, or the buffer, must not overlap the other arguments. The functions keep nothing and may be called
- * from any thread.
+ * is 0. The list, the rows or the buffer must not overlap the other arguments. The functions keep nothing and may be
+ * called from any thread.
  *
  * Link with libsirophan_c.a, which `rt staticlib sirophan_c` writes into target/staticlib (x86-64).
  */
@@ -52,6 +52,7 @@ enum {
     SIROPHAN_CARD_LAYOUT = 22,  /* a card breaks its layout */
     SIROPHAN_CARD_MISFIT = 23,  /* a card does not fit the sheet; a text under a bundle is among the reasons */
     SIROPHAN_SHORT_LIST = 30,   /* the list is shorter than the matches; place: their number */
+    SIROPHAN_SHORT_ROWS = 31,   /* the rows are fewer than the parameters; place: the number needed */
     SIROPHAN_SHORT_BUFFER = 32  /* the plain spelling would run past the buffer's end; place: its length */
 };
 
@@ -88,6 +89,31 @@ sirophan_answer sirophan_select(const uint8_t *sheet, size_t sheet_len,
  */
 sirophan_answer sirophan_spell(const uint8_t *filter, size_t filter_len,
                                uint8_t *buffer, size_t buffer_len, size_t from);
+
+/* A row of a report, for one parameter. */
+typedef struct sirophan_tally {
+    uint32_t cards;  /* the cards of the run that have it */
+    uint32_t values; /* the values under it, repeats counted; a bundle has none */
+} sirophan_tally;
+
+/* What a report answers. */
+typedef struct sirophan_counts {
+    uint32_t refusal; /* the number of the refusal, or 0 if there is none */
+    size_t place;     /* its place */
+    size_t yes;       /* the cards of the run that match, */
+    size_t no;        /* and those that do not; both are 0 with a refusal */
+} sirophan_counts;
+
+/*
+ * Counts the cards of a run that match the filter and those that do not, and writes a row for each parameter of the
+ * sheet, in its order from the first row on: all cards of the run count there, matching or not. cards_len is in bytes,
+ * rows_len in rows, and byte 1 of the sheet says how many are needed. What stood in these rows is gone, later rows
+ * stay, and a refusal writes nothing.
+ */
+sirophan_counts sirophan_report(const uint8_t *sheet, size_t sheet_len,
+                                const uint8_t *filter, size_t filter_len,
+                                const uint8_t *cards, size_t cards_len,
+                                sirophan_tally *rows, size_t rows_len);
 
 #ifdef __cplusplus
 }

@@ -1,6 +1,6 @@
 //! The C interface of the proved library, as `include/sirophan.h` declares it.
 
-use crate::Refusal;
+use crate::{Counts, Refusal, Tally};
 
 /// `sirophan_answer`: the number of a refusal, or 0 for none, and the count, the yes or no, or the refusal's place.
 #[repr(C)]
@@ -14,6 +14,24 @@ impl Answer {
         match self.refusal {
             0 => Ok(self.value),
             number => Err(Refusal { number, place: self.value }),
+        }
+    }
+}
+
+/// `sirophan_counts`: the number of a refusal, or 0 for none, its place, and how many cards say yes and how many no.
+#[repr(C)]
+pub struct Reported {
+    refusal: u32,
+    place: usize,
+    yes: usize,
+    no: usize,
+}
+
+impl Reported {
+    pub fn into_result(self) -> Result<Counts, Refusal> {
+        match self.refusal {
+            0 => Ok(Counts { yes: self.yes, no: self.no }),
+            number => Err(Refusal { number, place: self.place }),
         }
     }
 }
@@ -48,4 +66,15 @@ unsafe extern "C" {
         buffer_len: usize,
         from: usize,
     ) -> Answer;
+
+    pub fn sirophan_report(
+        sheet: *const u8,
+        sheet_len: usize,
+        filter: *const u8,
+        filter_len: usize,
+        cards: *const u8,
+        cards_len: usize,
+        rows: *mut Tally,
+        rows_len: usize,
+    ) -> Reported;
 }

@@ -80,3 +80,41 @@ pub fn plain(filter: &[u8]) -> Result<Vec<u8>, Refusal> {
     buffer.truncate(length);
     Ok(buffer)
 }
+
+/// A row of a report, for one parameter.
+#[repr(C)]
+#[derive(Clone, Copy, Debug, Default, PartialEq, Eq, Hash)]
+pub struct Tally {
+    /// The cards of the run that have the parameter.
+    pub cards: u32,
+    /// The values under it, repeats counted. A bundle has none.
+    pub values: u32,
+}
+
+/// What a report counts: the cards of the run that match the filter, and those that do not.
+#[derive(Clone, Copy, Debug, Default, PartialEq, Eq, Hash)]
+pub struct Counts {
+    pub yes: usize,
+    pub no: usize,
+}
+
+/// Reports on a run of 0 to 128 cards: counts those that match and those that do not, and writes a row for each parameter
+/// of the sheet, in its order from the first row on. All cards of the run count in the rows, matching or not. Later rows
+/// stay, and a refusal leaves all rows as they are; 31 says how many rows are needed.
+pub fn report(sheet: &[u8], filter: &[u8], cards: &[u8], rows: &mut [Tally]) -> Result<Counts, Refusal> {
+    // SAFETY: each pointer comes with the length of the slice that it is of. Only the rows are written, which are two
+    // numbers each as in C, and they cannot overlap the others, since they are borrowed for writing.
+    let reported = unsafe {
+        ffi::sirophan_report(
+            sheet.as_ptr(),
+            sheet.len(),
+            filter.as_ptr(),
+            filter.len(),
+            cards.as_ptr(),
+            cards.len(),
+            rows.as_mut_ptr(),
+            rows.len(),
+        )
+    };
+    reported.into_result()
+}

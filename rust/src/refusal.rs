@@ -10,8 +10,8 @@ pub struct Refusal {
     /// The number, which says why there is no answer.
     pub number: u32,
     /// For 11 to 13 the length of the longest beginning of the text that also begins some filter, for 14 to 18 the first
-    /// byte of the test in the filter, for 21 to 23 the card's index in the run, for 30 the number of matching cards,
-    /// for 32 the length of the plain spelling, and 0 for all others.
+    /// byte of the test in the filter, for 21 to 23 the card's index in the run, for 30 the number of matching cards, for
+    /// 31 the number of rows needed, for 32 the length of the plain spelling, and 0 for all others.
     pub place: usize,
 }
 
@@ -40,6 +40,7 @@ impl Refusal {
             22 => "The card breaks its layout.",
             23 => "The card does not fit the sheet: a text is under a bundle or no parameter, or cannot be read.",
             30 => "The list is shorter than the number of matching cards.",
+            31 => "The rows are fewer than the sheet's parameters.",
             32 => "The plain spelling would run past the buffer's end.",
             _ => "This number is not known to this version.",
         }

@@ -88,6 +88,27 @@ static void expect_bytes(const char *what, const uint8_t *buffer, const char *wa
     printf("%s: %.*s\n", what, (int)length, (const char *)buffer);
 }
 
+static void expect_counts(const char *what, sirophan_counts counts, uint32_t refusal, size_t place, size_t yes, size_t no) {
+    if (counts.refusal == refusal && counts.place == place && counts.yes == yes && counts.no == no) {
+        passed++;
+        return;
+    }
+    failed++;
+    printf("%s: refusal %lu at %zu, yes %zu, no %zu\n", what, (unsigned long)counts.refusal, counts.place, counts.yes,
+           counts.no);
+}
+
+static void expect_rows(const char *what, const sirophan_tally *rows, const sirophan_tally *wanted, size_t count) {
+    if (memcmp(rows, wanted, count * sizeof *rows) == 0) {
+        passed++;
+        return;
+    }
+    failed++;
+    printf("%s: rows", what);
+    for (size_t i = 0; i < count; i++) printf(" %lu/%lu", (unsigned long)rows[i].cards, (unsigned long)rows[i].values);
+    printf("\n");
+}
+
 /* A filter, and what match answers to it for card 7. */
 typedef struct row {
     const char *filter;
@@ -160,7 +181,20 @@ int main(void) {
     expect("no filter to spell", sirophan_spell(FILTER("pages eq"), buffer, sizeof buffer, 0), SIROPHAN_NO_FILTER, 8);
     expect_bytes("not spelled", buffer, ".title eq a.", sizeof buffer);
 
+#define OLD {UNTOUCHED, UNTOUCHED}
+    sirophan_tally rows[7] = {OLD, OLD, OLD, OLD, OLD, OLD, OLD};
+    expect_counts("rows too few", sirophan_report(SHEET, FILTER(filter), cards, sizeof cards, rows, 4),
+                  SIROPHAN_SHORT_ROWS, 5, 0, 0);
+    expect_rows("rows too few", rows, (const sirophan_tally[7]){OLD, OLD, OLD, OLD, OLD, OLD, OLD}, 7);
+    expect_counts("a report", sirophan_report(SHEET, FILTER(filter), cards, sizeof cards, rows, 6), 0, 0, 2, 1);
+    expect_rows("a report", rows, (const sirophan_tally[7]){{3, 3}, {3, 4}, {2, 2}, {3, 3}, {2, 2}, OLD, OLD}, 7);
+    expect_counts("a report on no cards", sirophan_report(SHEET, FILTER(filter), cards, 0, rows, 5), 0, 0, 0, 0);
+    expect_rows("a report on no cards", rows, (const sirophan_tally[7]){{0, 0}, {0, 0}, {0, 0}, {0, 0}, {0, 0}, OLD, OLD},
+                7);
+
     cards[2 * BLOCK] ^= 1;
+    expect_counts("a report with the third card damaged",
+                  sirophan_report(SHEET, FILTER(filter), cards, sizeof cards, rows, 0), SIROPHAN_CARD_SUM, 2, 0, 0);
     expect("third card damaged", sirophan_select(SHEET, FILTER(filter), cards, sizeof cards, list, 4),
            SIROPHAN_CARD_SUM, 2);
     expect_cells("third card damaged", list, (const uint32_t[4]){7, 300, UNTOUCHED, UNTOUCHED}, 4);

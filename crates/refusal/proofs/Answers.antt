@@ -1,4 +1,4 @@
--- Laws of answers: a count and a verdict are no refusals, whether an answer is a given count is decided, and reasons have their numbers.
+-- Laws of answers: counts and verdicts are no refusals, whether an answer is a given count is decided, and reasons have their numbers.
 -- Assumes nothing.
 use Prim.Native.Nat.{ℕ}
 use native.Mathlib.Decide.{ℕ-discrete}
@@ -6,11 +6,14 @@ use native.Mathlib.Omega.{arith}
 use mathlib.Core.Path.{_≡_, ap, sym}
 use mathlib.Core.Bool.{Bool, true, false}
 use Rattle.refusal.specs.declared.Reason.{Reason}
-use Rattle.refusal.specs.Answers.{Answer, yesOrNo, count, refused, numberOf}
+use Rattle.refusal.specs.Answers.{Answer, yesOrNo, count, counts, refused, numberOf}
 use Rattle.refusal.proofs.Deciding.{NotRefused}
 
 pub count-not-refused : (m : ℕ) → NotRefused (count m)
 count-not-refused m n p e = let z : _≡_ {A = ℕ} 0 1 = cc in omega arith
+
+pub counts-not-refused : (y z : ℕ) → NotRefused (counts y z)
+counts-not-refused y z n p e = let z : _≡_ {A = ℕ} 0 1 = cc in omega arith
 
 pub verdict-not-refused : (v : Bool) → NotRefused (yesOrNo v)
 verdict-not-refused true n p e = let z : _≡_ {A = ℕ} 0 1 = cc in omega arith
@@ -19,6 +22,7 @@ verdict-not-refused false n p e = let z : _≡_ {A = ℕ} 0 1 = cc in omega arit
 pub is-count : (a : Answer) (n : ℕ) → Dec (a ≡ count n)
 is-count Answer.yes n = no (λ h. let z : _≡_ {A = ℕ} 0 1 = cc in omega arith)
 is-count Answer.no n = no (λ h. let z : _≡_ {A = ℕ} 0 1 = cc in omega arith)
+is-count (counts x y) n = no (λ h. let z : _≡_ {A = ℕ} 0 1 = cc in omega arith)
 is-count (refused m p) n = no (λ h. let z : _≡_ {A = ℕ} 0 1 = cc in omega arith)
 is-count (count m) n = same (ℕ-discrete m n)
   where

@@ -5,10 +5,11 @@ use mathlib.Core.Bool.{Bool, true, false}
 use Rattle.refusal.specs.declared.Reason.{Reason}
 use Rattle.refusal.specs.declared.Refusal.{Refusal}
 
--- "a yes, a no, a count, or a refusal holding a number and a place"
+-- "a yes, a no, a count, or a refusal holding a number and a place"; 02: a report answers two counts, of yes and of no
 pub data Answer : Type 0 where
   yes no : Answer
   count : ℕ → Answer
+  counts : (yes no : ℕ) → Answer
   refused : ℕ → ℕ → Answer
 
 abbrev pub yesOrNo : Bool → Answer
@@ -34,6 +35,7 @@ numberOf Reason.CardSum = 21
 numberOf Reason.CardLayout = 22
 numberOf Reason.CardMisfit = 23
 numberOf Reason.ShortList = 30
+numberOf Reason.ShortRows = 31
 numberOf Reason.ShortBuffer = 32
 
 unfoldable pub refusalAnswer : Refusal → Answer

@@ -38,12 +38,14 @@ pub enum Reason {
     CardMisfit,
     // 30: the list is shorter than the matches.
     ShortList,
+    // 31: the rows are fewer than the parameters.
+    ShortRows,
     // 32: the plain spelling would run past the buffer's end.
     ShortBuffer,
 }
 
 // A refusal: why, and where. The place is the length of the longest beginning that also begins some filter, a test's first byte, a
-// card's index, the number of matches, the length of the plain spelling, or 0.
+// card's index, the number of matches or of rows needed, the length of the plain spelling, or 0.
 pub struct Refusal {
     pub reason: Reason,
     pub place: usize,

@@ -25,6 +25,7 @@ pub fn number(reason: Reason) -> u32
         Reason::CardLayout => 22,
         Reason::CardMisfit => 23,
         Reason::ShortList => 30,
+        Reason::ShortRows => 31,
         Reason::ShortBuffer => 32,
     }
 }

@@ -19,6 +19,7 @@ pub mod Bounds
 pub mod Blocks
 pub mod CheckTable
 pub mod MatchTable
+pub mod RunTable
 pub mod SelectTable
 pub mod Contracts
 pub mod Answered

@@ -33,7 +33,7 @@ flatten-blocks (all-cons {x = b} {xs = bs} e h) =
 
 -- ---- read and written back
 
-blocks-length : (n : ℕ) (cards : List ℕ) → length (blocks n cards) ≡ n
+pub blocks-length : (n : ℕ) (cards : List ℕ) → length (blocks n cards) ≡ n
 unfolding blocks
 blocks-length zero cards = refl
 blocks-length (suc n) cards = ap suc (blocks-length n (drop 512 cards))
@@ -49,6 +49,13 @@ unfolding blocks flatten
 blocks-flatten zero cards e = length-zero cards (omega arith)
 blocks-flatten (suc n) cards e =
     sym (take-append-drop 512 cards) ∙ ap (λ (l : List ℕ). take 512 cards ++ l) (blocks-flatten n (drop 512 cards) (length-drop 512 cards ∙ omega arith))
+
+-- ---- the size of a run, and its blocks
+pub run-size : {cards : List ℕ} {bs : List (List ℕ)} → Run cards bs → length cards ≡ 512 * length bs
+run-size r = ap length (r .whole) ∙ flatten-length (r .sizes)
+
+pub run-blocks : {cards : List ℕ} {bs : List (List ℕ)} → Run cards bs → blocks (length bs) cards ≡ bs
+run-blocks {bs = bs} r = ap (blocks (length bs)) (r .whole) ∙ flatten-blocks (r .sizes)
 
 -- ---- the theorem
 
@@ -68,7 +75,7 @@ run-there cards bs h =
 run-back : (cards : List ℕ) (bs : List (List ℕ)) → Run cards bs → takeRun cards ≡ found bs
 unfolding takeRun
 run-back cards bs r =
-    let size : length cards ≡ 512 * length bs = ap length (r .whole) ∙ flatten-length (r .sizes) in
+    let size = run-size r in
     let few = r .few in
     let count : length cards / 512 ≡ length bs = omega arith in
     rw (eq-eqb (length cards % 512) 0 (omega arith), le-leb (length cards) 65536 (omega arith), count)

@@ -52,7 +52,7 @@ module _ (ps : List Parameter) where
   cards-next {i = i} {b = b} t (one-stopped before c after n j e k ts m s) =
       one-stopped (b ∷ before) c after n j (ap (λ (l : List (List ℕ)). b ∷ l) e) (omega arith) (all-cons t ts) m s
 
-  cards-outcome : (i : ℕ) (bs : List (List ℕ)) → CardsOutcome ps i bs (takeCards ps i bs)
+  pub cards-outcome : (i : ℕ) (bs : List (List ℕ)) → CardsOutcome ps i bs (takeCards ps i bs)
   unfolding takeCards
   cards-outcome i [] = all-taken all-empty
   cards-outcome i (b ∷ bs) =
@@ -71,7 +71,7 @@ module _ (sheet text : List ℕ) (p : Prepared) (e : prepare sheet text ≡ foun
   abbrev f : Tree
   f = p .filter
 
-  match-taken : (b : List ℕ) → Taken ps b → matchAnswer sheet text b ≡ yesOrNo (filterSays ps 0 (entriesOf b) f)
+  pub match-taken : (b : List ℕ) → Taken ps b → matchAnswer sheet text b ≡ yesOrNo (filterSays ps 0 (entriesOf b) f)
   match-taken b t = match-by sheet text (found p) e b ∙ rw (t 0)
 
   match-stopped : (n : ℕ) (b : List ℕ) → Stopped ps n b → matchAnswer sheet text b ≡ refused n 0

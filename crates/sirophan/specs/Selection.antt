@@ -8,7 +8,7 @@ use mathlib.Core.List.{List, _∷_, _++_, map, filter, flatten}
 use lib.ListN.{length, drop}
 use Rattle.base.specs.Lists.{All}
 use Rattle.card.specs.Card.{recordNumber}
-use Rattle.refusal.specs.Answers.{Answer, count, refused}
+use Rattle.refusal.specs.Answers.{Answer, count, counts, refused}
 use Rattle.sirophan.specs.Operations.{matchAnswer, selectAnswer, selectCells}
 
 -- a run of cards: at most 128 blocks of 512 bytes, one after the other
@@ -22,6 +22,7 @@ unfoldable pub isYes : (a : Answer) → Dec (a ≡ Answer.yes)
 isYes Answer.yes = yes refl
 isYes Answer.no = no (λ e. let z : _≡_ {A = ℕ} 0 1 = cc in omega arith)
 isYes (count n) = no (λ e. let z : _≡_ {A = ℕ} 0 1 = cc in omega arith)
+isYes (counts y n) = no (λ e. let z : _≡_ {A = ℕ} 0 1 = cc in omega arith)
 isYes (refused n p) = no (λ e. let z : _≡_ {A = ℕ} 0 1 = cc in omega arith)
 
 -- the cards on which match answers yes, in card order

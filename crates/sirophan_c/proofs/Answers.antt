@@ -1,7 +1,8 @@
--- Each case of an operation's answer, told by its two numbers.
+-- Each case of an operation's answer, told by its two numbers, and of a report's by its four.
 -- Assumes nothing.
 use Prim.Native.Nat.{ℕ}
 use mathlib.Core.Path.{_≡_, sym, ap, _∙_}
+use mathlib.Core.List.{List}
 use Rattle.refusal.specs.Answers as paper
 use Rattle.refusal.specs.Answers.{numberOf, refusalAnswer}
 use Rattle.sirophan.specs.Answers.{checkedAnswer, matchedAnswer, selectedAnswer, spelledAnswer}
@@ -10,8 +11,14 @@ use Rattle.sirophan.specs.declared.Checked.{Checked}
 use Rattle.sirophan.specs.declared.Matched.{Matched}
 use Rattle.sirophan.specs.declared.Selected.{Selected}
 use Rattle.sirophan.specs.declared.Spelled.{Spelled}
+use Rattle.report.specs.Operation.{reportedAnswer}
+use Rattle.report.specs.Contracts.{Reports}
+use Rattle.report.specs.declared.Tally.{Tally}
+use Rattle.report.specs.declared.Reported.{Reported}
 use Rattle.sirophan_c.specs.declared.Answer.{Answer}
-use Rattle.sirophan_c.specs.Answers.{answer, told}
+use Rattle.sirophan_c.specs.declared.Counts.{Counts}
+use Rattle.sirophan_c.specs.Answers.{answer, told, countsOf, toldCounts}
+use Rattle.sirophan_c.specs.Contracts.{TellsReport}
 
 pub refusal-told : (r : Refusal) (n : ℕ) → n ≡ numberOf (r .reason) → answer n (r .place) ≡ told (refusalAnswer r)
 unfolding told refusalAnswer
@@ -61,3 +68,17 @@ module _ (a : paper.Answer) where
     pub spell-refusal-told : (r : Refusal) (t : Answer) → s ≡ Spelled.Refused r → t ≡ told (refusalAnswer r) → t ≡ told a
     unfolding spelledAnswer
     spell-refusal-told r t h o = o ∙ case-told spelledAnswer e h
+
+module _ (r : Reported) where
+  pub counts-told : (y n : ℕ) → r ≡ Reported.Counts y n → countsOf 0 0 y n ≡ toldCounts (reportedAnswer r)
+  unfolding toldCounts reportedAnswer
+  counts-told y n h = rw h
+
+  pub report-refusal-told : (f : Refusal) (n : ℕ) → r ≡ Reported.Refused f → n ≡ numberOf (f .reason) → countsOf n (f .place) 0 0 ≡ toldCounts (reportedAnswer r)
+  unfolding toldCounts reportedAnswer refusalAnswer
+  report-refusal-told f n h e = rw (h, e)
+
+-- what the report for C owes, from what the report does
+pub tells-report : (sheet text cards : List ℕ) (rows : List Tally) (r : Reported) (exit : List Tally) (c : Counts) → Reports sheet text cards rows r exit → c ≡ toldCounts (reportedAnswer r)
+    → TellsReport sheet text cards rows c exit
+tells-report sheet text cards rows r exit c h e = record { tells = e ∙ ap toldCounts (h .answers); tallies = h .tallies }

@@ -1,9 +1,10 @@
--- An answer of document 01 as C gets it: two numbers.
+-- An answer of the papers as C gets it: two numbers, and for a report four.
 -- Assumes nothing.
 use Prim.Native.Nat.{ℕ}
 use Rattle.refusal.specs.Answers as paper
-use Rattle.refusal.specs.Answers.{yes, no, count, refused}
+use Rattle.refusal.specs.Answers.{yes, no, count, counts, refused}
 use Rattle.sirophan_c.specs.declared.Answer.{Answer}
+use Rattle.sirophan_c.specs.declared.Counts.{Counts}
 
 abbrev pub answer : ℕ → ℕ → Answer
 answer refusal value = record { refusal = refusal; value = value }
@@ -13,4 +14,18 @@ unfoldable pub told : paper.Answer → Answer
 told yes = answer 0 1
 told no = answer 0 0
 told (count n) = answer 0 n
+-- a report's answer, which has a struct of its own
+told (counts y n) = answer 0 y
 told (refused n p) = answer n p
+
+abbrev pub countsOf : (refusal place yes no : ℕ) → Counts
+countsOf refusal place y n = record { refusal = refusal; place = place; yes = y; no = n }
+
+-- the number of the refusal, 0 where there is none, and its place; and how many cards say yes, and how many no
+unfoldable pub toldCounts : paper.Answer → Counts
+toldCounts (counts y n) = countsOf 0 0 y n
+toldCounts (refused n p) = countsOf n p 0 0
+-- the answers of the other operations
+toldCounts yes = countsOf 0 0 1 0
+toldCounts no = countsOf 0 0 0 1
+toldCounts (count n) = countsOf 0 0 n 0

@@ -1,6 +1,8 @@
-// The operations for C: include/sirophan.h declares them. No enum crosses to C, so a struct of two numbers stands for an answer.
+// The operations for C: include/sirophan.h declares them. No enum crosses to C, so a struct of numbers stands for an answer.
 use refusal::Refusal;
 use refusal::number;
+use report::Reported;
+use report::Tally;
 use sirophan::Checked;
 use sirophan::Matched;
 use sirophan::Selected;
@@ -10,13 +12,24 @@ ghost use lib.ListN.{length};
 ghost use Rattle.refusal.specs.Answers.{refusalAnswer};
 ghost use Rattle.sirophan.specs.Operations.{checkAnswer, matchAnswer, selectAnswer, selectCells};
 ghost use Rattle.sirophan.specs.Spelling.{spellAnswer, spellBytes};
-ghost use Rattle.sirophan_c.specs.Answers.{told};
+ghost use Rattle.report.specs.Operation.{reportedAnswer};
+ghost use Rattle.sirophan_c.specs.Answers.{told, toldCounts};
+ghost use Rattle.sirophan_c.specs.Contracts.{TellsReport};
 
 // The number of the refusal, 0 where there is none; and the count, 1 for yes and 0 for no, or the refusal's place.
 #[repr(C)]
 pub struct Answer {
     pub refusal: u32,
     pub value: usize,
+}
+
+// What a report answers: the number of the refusal, 0 where there is none, and its place; and how many cards say yes, and how many no.
+#[repr(C)]
+pub struct Counts {
+    pub refusal: u32,
+    pub place: usize,
+    pub yes: usize,
+    pub no: usize,
 }
 
 // A refusal by its number and its place.
@@ -99,4 +112,41 @@ pub extern "C" fn sirophan_spell(filter: &[u8], buffer: &mut [u8], from: usize) 
         },
         Spelled::Refused(refusal) => refused(refusal),
     }
+}
+
+// A report's answer in numbers.
+fn told_report(reported: Reported) -> Counts
+    ensures { λ r. ⌜ r ≡ toldCounts (reportedAnswer reported) ⌝ }
+{
+    match reported {
+        Reported::Counts(yes, no) => Counts {
+            refusal: 0,
+            place: 0,
+            yes,
+            no,
+        },
+        Reported::Refused(refusal) => {
+            let reason = refusal.reason;
+            Counts {
+                refusal: number(reason),
+                place: refusal.place,
+                yes: 0,
+                no: 0,
+            }
+        }
+    }
+}
+
+// How many cards of the run say yes and how many no, with a row for each parameter in the rows from the first on, or a refusal.
+#[no_mangle]
+pub extern "C" fn sirophan_report(
+    sheet: &[u8],
+    filter: &[u8],
+    cards: &[u8],
+    rows: &mut [Tally],
+) -> Counts
+    ensures { λ r. ⌜ TellsReport (now (sheet .entry)) (now (filter .entry)) (now (cards .entry)) (now (rows .entry)) r (now (rows .exit)) ⌝ }
+{
+    let reported = report::report(sheet, filter, cards, rows);
+    told_report(reported)
 }

@@ -2,7 +2,7 @@
 
 use second::block::{write_card, write_sheet};
 use second::spellings;
-use sirophan::{Refusal, check, matches, plain, select, spell, underline};
+use sirophan::{Counts, Refusal, Tally, check, matches, plain, report, select, spell, underline};
 
 fn sheet() -> Vec<u8> {
     write_sheet(&[(1, b"title"), (2, b"pages")]).unwrap()
@@ -23,6 +23,9 @@ fn answers() {
     assert_eq!(select(&sheet(), filter, &cards, &mut list), Ok(2));
     assert_eq!(list, [7, 300, 9, 9]);
     assert_eq!(select(&sheet(), filter, &[], &mut []), Ok(0));
+    let mut rows = [Tally { cards: 9, values: 9 }; 3];
+    assert_eq!(report(&sheet(), filter, &cards, &mut rows), Ok(Counts { yes: 2, no: 1 }));
+    assert_eq!(rows.map(|row| (row.cards, row.values)), [(3, 3), (3, 3), (9, 9)]);
 }
 
 #[test]
@@ -35,6 +38,9 @@ fn refusals() {
     let cards = [card(1, "x"), card(2, "x")].concat();
     assert_eq!(select(&sheet(), b"title eq x", &cards, &mut list), Err(refused(30, 2)));
     assert_eq!(list, [9]);
+    let mut rows = [Tally { cards: 9, values: 9 }];
+    assert_eq!(report(&sheet(), b"title eq x", &cards, &mut rows), Err(refused(31, 2)));
+    assert_eq!(rows, [Tally { cards: 9, values: 9 }]);
 }
 
 #[test]
@@ -119,7 +125,7 @@ fn no_caret_where_the_place_is_not_in_the_filter() {
 #[test]
 fn a_sentence_for_each_number() {
     let sentence = |number| Refusal { number, place: 0 }.sentence();
-    let numbers = [1, 2, 3, 10, 11, 12, 13, 14, 15, 16, 17, 18, 20, 21, 22, 23, 30, 32, 99];
+    let numbers = [1, 2, 3, 10, 11, 12, 13, 14, 15, 16, 17, 18, 20, 21, 22, 23, 30, 31, 32, 99];
     let mut sentences: Vec<&str> = numbers.map(sentence).into();
     sentences.sort();
     sentences.dedup();

@@ -3,12 +3,12 @@
 //! The head of that file says how it is written.
 
 use crate::block::{self, CARD, Entry, Kind, MARKED_CARD, MARKED_SHEET, SHEET};
-use crate::operations::{self, Refusal};
+use crate::operations::{self, Refusal, Tally};
 use std::fmt::Write;
 use std::iter::Peekable;
 use std::slice;
 
-/// What the cells of a list hold before a selection.
+/// What the cells of a list hold before a selection, and the rows before a report, twice.
 pub const UNTOUCHED: u32 = 999;
 
 /// The words for the kinds of texts, in the order of their numbers.
@@ -47,6 +47,7 @@ pub enum Operation {
     Check,
     Match { card: usize },
     Select { cards: Vec<usize>, cells: usize },
+    Report { cards: Vec<usize>, rows: usize },
 }
 
 impl Cases {
@@ -73,7 +74,7 @@ impl Cases {
         let cards = match &case.operation {
             Operation::Check => &[],
             Operation::Match { card } => slice::from_ref(card),
-            Operation::Select { cards, .. } => cards.as_slice(),
+            Operation::Select { cards, .. } | Operation::Report { cards, .. } => cards.as_slice(),
         };
         cards.iter().flat_map(|&card| &self.blocks[card].bytes).copied().collect()
     }
@@ -104,6 +105,10 @@ impl Cases {
                 }
                 answer
             }
+            Operation::Report { rows, .. } => {
+                let mut rows = vec![Tally { cards: UNTOUCHED, values: UNTOUCHED }; *rows];
+                spell_report(operations::report(sheet, &case.filter, &cards, &mut rows), &rows)
+            }
         }
     }
 
@@ -130,6 +135,10 @@ impl Cases {
             (["select", _, cards @ .., "into", cells], Some(_)) => {
                 let cards = cards.iter().map(|card| self.repeated(card)).collect::<Option<Vec<_>>>()?;
                 Operation::Select { cards: cards.concat(), cells: cells.parse().ok()? }
+            }
+            (["report", _, cards @ .., "into", rows], Some(_)) => {
+                let cards = cards.iter().map(|card| self.repeated(card)).collect::<Option<Vec<_>>>()?;
+                Operation::Report { cards: cards.concat(), rows: rows.parse().ok()? }
             }
             _ => return None,
         };
@@ -218,6 +227,19 @@ impl Cases {
 
 fn spell_refusal(refusal: Refusal) -> String {
     format!("{} at {}", refusal.number, refusal.place)
+}
+
+/// The answer of a report, with the rows.
+pub fn spell_report(answer: Result<(usize, usize), Refusal>, rows: &[Tally]) -> String {
+    let mut spelled = match answer {
+        Ok((yes, no)) => format!("counts {yes} {no}"),
+        Err(refusal) => spell_refusal(refusal),
+    };
+    spelled.push_str(" rows");
+    for Tally { cards, values } in rows {
+        write!(spelled, " {cards}/{values}").unwrap();
+    }
+    spelled
 }
 
 /// The indented lines that come next.

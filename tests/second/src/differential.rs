@@ -1,7 +1,7 @@
 //! The differential test: a library under test beside the second implementation, on generated inputs.
 
 use crate::generate::{self, Case};
-use crate::operations::{self, Refusal};
+use crate::operations::{self, Refusal, Tally};
 use std::collections::BTreeMap;
 use std::fmt::Debug;
 use std::time::Duration;
@@ -10,7 +10,7 @@ use std::time::Duration;
 pub const SEED: u64 = 1974;
 pub const CASES: u64 = 200_000;
 
-/// Cells behind the list that is lent, which must stay as they are.
+/// Cells behind the list, and rows behind those that are lent, which must stay as they are.
 const GUARD: usize = 4;
 
 /// The row of answers of match where the filter has a condition inside a path.
@@ -24,13 +24,14 @@ pub trait Library {
     fn check(&self, sheet: &[u8], filter: &[u8]) -> Result<usize, Refusal>;
     fn matches(&self, sheet: &[u8], filter: &[u8], card: &[u8]) -> Result<bool, Refusal>;
     fn select(&self, sheet: &[u8], filter: &[u8], cards: &[u8], list: &mut [u32]) -> Result<usize, Refusal>;
+    fn report(&self, sheet: &[u8], filter: &[u8], cards: &[u8], rows: &mut [Tally]) -> Result<(usize, usize), Refusal>;
     fn spell(&self, filter: &[u8], buffer: &mut [u8], from: usize) -> Result<usize, Refusal>;
 }
 
 /// What a run of the test found.
 #[derive(Debug, Default)]
 pub struct Outcome {
-    /// How many cases agree in every answer, every cell and every byte.
+    /// How many cases agree in every answer, every cell, every row and every byte.
     pub passed: u64,
     /// How many do not.
     pub failed: u64,
@@ -60,7 +61,7 @@ impl Outcome {
         let listed = |counts: Vec<String>| counts.join(", ");
         let modes = self.modes.iter().map(|(mode, count)| format!("{mode} {count}"));
         println!("cases: {}", listed(modes.collect()));
-        for row in ["check", "match", CONDITIONS, "select", "spell"] {
+        for row in ["check", "match", CONDITIONS, "select", "report", "spell"] {
             let answers = self.answers.iter().filter(|((of, _), _)| *of == row);
             let answers = answers.map(|((_, answer), count)| format!("{answer} {count}"));
             println!("{row}: {}", listed(answers.collect()));
@@ -99,7 +100,7 @@ pub fn run(library: &impl Library, seed: u64, cases: u64) -> Outcome {
 
 /// Runs each operation on both sides and tells where they differ.
 fn compare(library: &impl Library, case: &Case, answers: &mut BTreeMap<(&'static str, String), u64>) -> Vec<String> {
-    let Case { sheet, filter, card, cards, list, buffer, from } = case;
+    let Case { sheet, filter, card, cards, list, rows, buffer, from } = case;
     let mut differences = Vec::new();
     let mut note = |operation: &'static str, answer: String| {
         *answers.entry((operation, answer)).or_default() += 1;
@@ -127,6 +128,16 @@ fn compare(library: &impl Library, case: &Case, answers: &mut BTreeMap<(&'static
     differences.extend(difference("select", ours, theirs));
     differences.extend(difference("list", our_list, their_list));
 
+    let lent = rows.len();
+    let mut our_rows = rows.clone();
+    our_rows.resize(lent + GUARD, Tally::default());
+    let mut their_rows = our_rows.clone();
+    let ours = operations::report(sheet, filter, cards, &mut our_rows[..lent]);
+    let theirs = library.report(sheet, filter, cards, &mut their_rows[..lent]);
+    note("report", told(ours, |counts| if counts == (0, 0) { "no cards" } else { "counts" }));
+    differences.extend(difference("report", ours, theirs));
+    differences.extend(difference("rows", our_rows, their_rows));
+
     let lent = buffer.len();
     let mut our_buffer = buffer.clone();
     our_buffer.resize(lent + GUARD, 0);
@@ -153,6 +164,7 @@ fn difference<T: PartialEq + Debug>(what: &str, ours: T, theirs: T) -> Option<St
 fn print_case(case: &Case) {
     println!("  filter as text: {:?}", String::from_utf8_lossy(&case.filter));
     println!("  list: {:?}", case.list);
+    println!("  rows: {:?}", case.rows);
     println!("  buffer: {} bytes, from {}", case.buffer.len(), case.from);
     for (name, bytes) in
         [("sheet", &case.sheet), ("filter", &case.filter), ("card", &case.card), ("cards", &case.cards)]

@@ -1,7 +1,7 @@
 //! The operations on bytes, with their refusals in the order of the table.
 
 use crate::beginning;
-use crate::block::{self, Flaw, Sheet};
+use crate::block::{self, Card, Flaw, Sheet};
 use crate::filter::{self, Filter, Test};
 use crate::meaning::{self, Fault, Question};
 use crate::spelling;
@@ -28,23 +28,54 @@ pub fn matches(sheet: &[u8], filter: &[u8], card: &[u8]) -> Result<bool, Refusal
     Ok(verdict)
 }
 
-/// Writes the record numbers of the matching cards into the list and answers how many they are.
-pub fn select(sheet: &[u8], filter: &[u8], cards: &[u8], list: &mut [u32]) -> Result<usize, Refusal> {
-    let asked = Asked::read(sheet, filter)?;
+/// The cards of a run.
+fn run(cards: &[u8]) -> Result<impl Iterator<Item = &[u8]>, Refusal> {
     if !cards.len().is_multiple_of(block::SIZE) || cards.len() / block::SIZE > MOST_CARDS {
         return Err(refused(20, 0));
     }
+    Ok(cards.chunks(block::SIZE))
+}
+
+/// Writes the record numbers of the matching cards into the list and answers how many they are.
+pub fn select(sheet: &[u8], filter: &[u8], cards: &[u8], list: &mut [u32]) -> Result<usize, Refusal> {
+    let asked = Asked::read(sheet, filter)?;
     let mut found = Vec::new();
-    for (index, card) in cards.chunks(block::SIZE).enumerate() {
-        let (record, verdict) = asked.judge(card, index)?;
+    for (index, card) in run(cards)?.enumerate() {
+        let (card, verdict) = asked.judge(card, index)?;
         if verdict {
-            found.push(record);
+            found.push(card.record);
         }
     }
     let cells = list.get_mut(..found.len());
     let cells = cells.ok_or(refused(30, found.len()))?;
     cells.copy_from_slice(&found);
     Ok(found.len())
+}
+
+/// A row of a report: how many cards have a parameter, and how many values stand under it.
+#[derive(Clone, Copy, Debug, Default, PartialEq, Eq)]
+pub struct Tally {
+    pub cards: u32,
+    pub values: u32,
+}
+
+/// Writes a row for each parameter and answers how many cards say yes and how many no.
+pub fn report(sheet: &[u8], filter: &[u8], cards: &[u8], rows: &mut [Tally]) -> Result<(usize, usize), Refusal> {
+    let asked = Asked::read(sheet, filter)?;
+    let mut tallies = vec![Tally::default(); asked.sheet.parameters.len()];
+    let (mut yes, mut no) = (0, 0);
+    for (index, card) in run(cards)?.enumerate() {
+        let (card, verdict) = asked.judge(card, index)?;
+        *if verdict { &mut yes } else { &mut no } += 1;
+        for (place, tally) in tallies.iter_mut().enumerate() {
+            let values = card.entries.iter().filter(|entry| usize::from(entry.head) == place).count();
+            tally.cards += u32::from(values > 0);
+            tally.values += values as u32;
+        }
+    }
+    let needed = rows.get_mut(..tallies.len());
+    needed.ok_or(refused(31, tallies.len()))?.copy_from_slice(&tallies);
+    Ok((yes, no))
 }
 
 /// Puts the plain spelling of the filter into the buffer from this place on and answers its length.
@@ -92,15 +123,16 @@ impl Asked {
         Ok(Asked { sheet, filter })
     }
 
-    /// The record number and the yes or no of one card, which stands at this index.
-    fn judge(&self, card: &[u8], index: usize) -> Result<(u32, bool), Refusal> {
+    /// A card, which stands at this index, and the yes or no of it.
+    fn judge<'a>(&self, card: &'a [u8], index: usize) -> Result<(Card<'a>, bool), Refusal> {
         let card = block::read_card(card).map_err(|flaw| match flaw {
             Flaw::Size => refused(20, 0),
             Flaw::Sum => refused(21, index),
             Flaw::Layout => refused(22, index),
         })?;
         let held = meaning::held(&card, &self.sheet).ok_or(refused(23, index))?;
-        Ok((card.record, meaning::verdict(&self.filter, &held)))
+        let verdict = meaning::verdict(&self.filter, &held);
+        Ok((card, verdict))
     }
 }
 

@@ -2,7 +2,7 @@
 
 use second::differential::{CONDITIONS, Library, run};
 use second::generate;
-use second::operations::{self, Refusal};
+use second::operations::{self, Refusal, Tally};
 
 /// The second implementation beside itself.
 struct Second;
@@ -18,6 +18,10 @@ impl Library for Second {
 
     fn select(&self, sheet: &[u8], filter: &[u8], cards: &[u8], list: &mut [u32]) -> Result<usize, Refusal> {
         operations::select(sheet, filter, cards, list)
+    }
+
+    fn report(&self, sheet: &[u8], filter: &[u8], cards: &[u8], rows: &mut [Tally]) -> Result<(usize, usize), Refusal> {
+        operations::report(sheet, filter, cards, rows)
     }
 
     fn spell(&self, filter: &[u8], buffer: &mut [u8], from: usize) -> Result<usize, Refusal> {
@@ -39,6 +43,8 @@ fn every_answer_and_mostly_verdicts() {
     for number in [1, 2, 3, 10, 11, 12, 13, 14, 15, 16, 17, 18, 20, 21, 22, 23, 30] {
         let answer = ("select", format!("refused-{number:02}"));
         assert!(outcome.answers.contains_key(&answer), "no selection is refused by {number}");
+        let answer = ("report", format!("refused-{:02}", if number == 30 { 31 } else { number }));
+        assert!(outcome.answers.contains_key(&answer), "no report is {}", answer.1);
     }
     for answer in ["shorter", "plain already", "refused-10", "refused-11", "refused-12", "refused-13", "refused-32"] {
         assert!(outcome.answers.contains_key(&("spell", answer.to_string())), "nothing spelled is {answer}");

@@ -22,8 +22,10 @@ pub fn run(arguments: &Arguments) -> Result<(), Failure> {
     let cards = Input::open(cards_name)?;
     advice::require_sound(&shown(sheet_name), &sheet)?;
     let counter = Counter::new(&sheet, 0..sheet.parameters.len());
+    let fit = Fit::new(&sheet);
+    let select = |first, piece: &[u8]| fit.select_piece(first, piece);
     let mut total = 0;
-    let fields = counter.pass(cards, &Fit::new(&sheet), |_, count| {
+    let fields = counter.pass(cards, select, |_, count| {
         total += count;
         Ok(())
     })?;

@@ -2,7 +2,7 @@
 //!
 //! Its parts, from the top down:
 //!
-//! - the commands: `pick`, `check`, `plain`, `fields`, `pack`, `show`, `verify`;
+//! - the commands: `pick`, `check`, `report` (in `counts`), `plain`, `fields`, `pack`, `show`, `verify`;
 //! - what they say beside their answers: `advice` on refusals, `doubt` about filters, `tally` of what cards hold;
 //! - what they go through: `cards` in blocks, `description` in words;
 //! - what these are made of: `sheet`, `filter`, `kind`, which asks the library, and `block`;
@@ -13,6 +13,7 @@ mod arguments;
 mod block;
 mod cards;
 mod check;
+mod counts;
 mod description;
 mod doubt;
 mod fields;
@@ -53,7 +54,7 @@ struct Command {
 }
 
 /// The commands. A later one is another row.
-const COMMANDS: [Command; 7] = [
+const COMMANDS: [Command; 8] = [
     Command {
         name: "pick",
         usage: "[--stream] SHEET FILTER CARDS",
@@ -87,6 +88,24 @@ const COMMANDS: [Command; 7] = [
                \x20     code is a token, which has the operators eq, ne and pr.\n\
                \x20     lt is for numbers, dates and periods. If that is what code holds, the sheet gives it the wrong kind.\n",
         run: check::run,
+    },
+    Command {
+        name: "report",
+        usage: "SHEET FILTER CARDS",
+        paths: 3..=3,
+        options: &[],
+        summary: "counts the cards that say yes to a filter and no, and what all of them have under each field",
+        help: "For each field of the sheet: how many of the cards have it, and how many values there are under it, whatever the\n\
+               filter says of the card. A bundle has no values; its members have. A card that does not fit the sheet refuses it\n\
+               all. On standard error it warns as `sirophan pick` does.\n\n\
+               Example:\n\n\
+               \x20   $ sirophan report target/ward/sheet.bin target/ward/filter.txt target/ward/cards.bin\n\
+               \x20   3 cards: yes 2, no 1\n\
+               \x20     field      kind       cards  values\n\
+               \x20     title      string     3      3\n\
+               \x20     birthdate  date       3      4\n\
+               \x20     ...\n",
+        run: counts::run,
     },
     Command {
         name: "plain",

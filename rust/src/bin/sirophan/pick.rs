@@ -26,7 +26,8 @@ pub fn run(arguments: &Arguments) -> Result<(), Failure> {
     let fit = Fit { sheet: &question.sheet, filter: Some(question.filter.clone()) };
 
     let mut list = List { output: Output::new(), held: Vec::new(), matching: 0, cards: 0, arguments };
-    let fields = match counter.pass(cards, &fit, |found, count| list.add(found, count)) {
+    let select = |first, piece: &[u8]| fit.select_piece(first, piece);
+    let fields = match counter.pass(cards, select, |found, count| list.add(found, count)) {
         Ok(fields) => fields,
         // What was streamed before a refusal comes out, without the count that would make it a list.
         Err(failure) => return Err(list.output.flush().err().unwrap_or(failure)),

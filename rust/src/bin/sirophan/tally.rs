@@ -2,7 +2,7 @@
 //! like those of another kind.
 
 use crate::block::{self, SIZE};
-use crate::cards::{self, Fit};
+use crate::cards::{self, AtFault};
 use crate::input::Input;
 use crate::kind::{self, Reader};
 use crate::report::{Failure, Message};
@@ -140,26 +140,26 @@ impl<'a> Counter<'a> {
         Counter { sheet, asked, readers: readers.collect() }
     }
 
-    /// Goes through cards that all have to fit, and counts them. `take` gets the record numbers that were found in each
-    /// piece, up to a card that does not fit, and how many cards the piece has.
-    pub fn pass(
+    /// Goes through cards that all have to fit, and counts them. `ask` asks the library of a piece, given the index of its
+    /// first card; `take` gets what it answered, up to a card that does not fit, and how many cards the piece has.
+    pub fn pass<R: Send>(
         &self,
         cards: Input,
-        fit: &Fit,
-        mut take: impl FnMut(Vec<u32>, u64) -> Result<(), Failure> + Send,
+        ask: impl Fn(u64, &[u8]) -> (R, Option<AtFault>) + Sync,
+        mut take: impl FnMut(R, u64) -> Result<(), Failure> + Send,
     ) -> Result<Vec<Field>, Failure> {
         let name = cards.name.clone();
         let tallies = cards::pass(
             cards,
             |tally, first, piece| {
-                let (found, fault) = fit.select_piece(first, piece);
+                let (answered, fault) = ask(first, piece);
                 if fault.is_none() {
                     self.count(tally, first, piece);
                 }
-                (found, fault, (piece.len() / SIZE) as u64)
+                (answered, fault, (piece.len() / SIZE) as u64)
             },
-            |(found, fault, count)| {
-                take(found, count)?;
+            |(answered, fault, count)| {
+                take(answered, count)?;
                 fault.map_or(Ok(()), |fault| Err(Failure::refused(fault.tell(&name, self.sheet))))
             },
         )?;

@@ -1,10 +1,11 @@
 //! Compares the proved library with the second implementation on generated inputs.
 //!
 //! `differential [SEED [CASES]]` prints how often each operation gave each answer; its last line counts the cases that
-//! agree in every answer, every cell of the list and every byte of the buffer, and those that do not.
+//! agree in every answer, every cell of the list, every row and every byte of the buffer, and those that do not.
 
+use compare::refusal;
 use second::differential::{self, CASES, Library, SEED};
-use second::operations::Refusal;
+use second::operations::{Refusal, Tally};
 use std::process::ExitCode;
 use std::time::Instant;
 
@@ -27,11 +28,10 @@ impl Library for Proved {
     fn spell(&self, filter: &[u8], buffer: &mut [u8], from: usize) -> Result<usize, Refusal> {
         sirophan::spell(filter, buffer, from).map_err(refusal)
     }
-}
 
-fn refusal(refusal: sirophan::Refusal) -> Refusal {
-    let sirophan::Refusal { number, place } = refusal;
-    Refusal { number, place }
+    fn report(&self, sheet: &[u8], filter: &[u8], cards: &[u8], rows: &mut [Tally]) -> Result<(usize, usize), Refusal> {
+        compare::report(sheet, filter, cards, rows)
+    }
 }
 
 fn main() -> ExitCode {

@@ -3,8 +3,9 @@
 //!
 //! `expected --against FILE` compares that with what the program printed; its last line counts the lines that agree.
 //! `expected --cases` writes the file of cases that the program reads, to standard output.
+//! Reports are no cases of that program: the tests of `compare` run them.
 
-use second::cases::{Cases, Operation};
+use second::cases::{Case, Cases, Operation};
 use std::io::Write;
 use std::process::ExitCode;
 
@@ -32,14 +33,13 @@ fn main() -> ExitCode {
 
 /// The line of each case.
 fn lines(cases: &Cases) -> Vec<String> {
-    let labelled = cases.cases.iter().zip(labels(cases));
-    labelled.map(|(case, label)| label + &cases.answer(case)).collect()
+    labelled(cases).map(|(case, label)| label + &cases.answer(case)).collect()
 }
 
-/// What each line has before the answer: the case's number and the filter as written.
-fn labels(cases: &Cases) -> Vec<String> {
-    let numbered = cases.cases.iter().zip(1..);
-    numbered.map(|(case, number)| format!("{number} `{}` ", case.written)).collect()
+/// The cases of the program, and what the line of each has before the answer: its number and the filter as written.
+fn labelled(cases: &Cases) -> impl Iterator<Item = (&Case, String)> {
+    let run = cases.cases.iter().filter(|case| !matches!(case.operation, Operation::Report { .. }));
+    run.zip(1..).map(|(case, number)| (case, format!("{number} `{}` ", case.written)))
 }
 
 /// Writes to standard output, or says why it cannot.
@@ -84,12 +84,13 @@ fn compare(expected: &[String], file: &str) -> ExitCode {
 /// of label, sheet, filter and cards. A number is four bytes, low byte first. A label is what the line has before the
 /// answer.
 fn packed(cases: &Cases) -> Vec<u8> {
-    let mut bytes = number(cases.cases.len()).to_vec();
-    for (case, label) in cases.cases.iter().zip(labels(cases)) {
+    let mut bytes = number(labelled(cases).count()).to_vec();
+    for (case, label) in labelled(cases) {
         let (operation, cells) = match case.operation {
             Operation::Check => (0, 0),
             Operation::Match { .. } => (1, 0),
             Operation::Select { cells, .. } => (2, cells),
+            Operation::Report { .. } => unreachable!("reports are no cases of the program"),
         };
         let parts = [label.as_bytes(), cases.sheet_of(case), &case.filter, &cases.cards_of(case)];
         bytes.extend(number(operation));

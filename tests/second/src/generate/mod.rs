@@ -12,6 +12,7 @@ pub use random::Random;
 
 use crate::block::{MARKED_CARD, MARKED_SHEET, SIZE};
 use crate::filter;
+use crate::operations::Tally;
 use crate::spelling;
 use archive::Archive;
 use modes::MODES;
@@ -27,6 +28,8 @@ pub struct Case {
     pub cards: Vec<u8>,
     /// The list before the selection.
     pub list: Vec<u32>,
+    /// The rows before the report.
+    pub rows: Vec<Tally>,
     /// The buffer that the filter is spelled into, and from which of its bytes on.
     pub buffer: Vec<u8>,
     pub from: usize,
@@ -53,12 +56,25 @@ pub fn case(seed: u64, number: u64) -> (Case, &'static str) {
     for mode in &MODES {
         if left < mode.weight {
             let mut case = (mode.make)(&mut random);
+            case.rows = rows(&mut random, &case.sheet);
             lend_buffer(&mut random, &mut case);
             return (case, mode.name);
         }
         left -= mode.weight;
     }
     unreachable!("the weights sum to the total")
+}
+
+/// Rows with something in each: mostly as many as the sheet needs, or some more, and now and then too few.
+fn rows(random: &mut Random, sheet: &[u8]) -> Vec<Tally> {
+    let needed = sheet.get(1).map_or(0, |&count| usize::from(count % 64));
+    let length = match random.below(8) {
+        0 => needed.saturating_sub(1),
+        1 => random.below(needed + 1),
+        2 => needed + random.below(4),
+        _ => needed,
+    };
+    (0..length).map(|_| Tally { cards: random.draw() as u32, values: random.draw() as u32 }).collect()
 }
 
 /// A buffer with something in every byte, in which the plain spelling mostly has room, often no more than that. Now and

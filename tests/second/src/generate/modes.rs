@@ -51,7 +51,7 @@ pub fn case_of(random: &mut Random, archive: &Archive, filter: Vec<u8>) -> Case 
     };
     let list_length = random.below(count + 3);
     let list = cells(random, list_length);
-    Case { sheet: archive.sheet(), filter, card, cards, list, buffer: Vec::new(), from: 0 }
+    Case { sheet: archive.sheet(), filter, card, cards, list, rows: Vec::new(), buffer: Vec::new(), from: 0 }
 }
 
 /// A list with something in every cell.
@@ -318,5 +318,5 @@ fn any_bytes(random: &mut Random) -> Case {
     };
     let (sheet, filter, card, cards) = (bytes(600), bytes(40), bytes(600), bytes(1100));
     let list = cells(random, 3);
-    Case { sheet, filter, card, cards, list, buffer: Vec::new(), from: 0 }
+    Case { sheet, filter, card, cards, list, rows: Vec::new(), buffer: Vec::new(), from: 0 }
 }

@@ -1,0 +1,159 @@
+-- A survey comes out as a selection does whose list has room for a whole run: it is refused alike, and what select counts are the cards
+-- that say yes.
+-- Assumes nothing.
+use Prim.Native.Nat.{ℕ, suc, _+_, _-_, _≤_}
+use native.Mathlib.Omega.{arith}
+use mathlib.Core.Path.{_≡_, refl, ap, sym, _∙_, subst}
+use mathlib.Core.Bool.{Bool, true, false, cond, not}
+use mathlib.Core.List.{List, [], _∷_, map}
+use lib.ListN.{length, length-map}
+use borrow.Author.Tests.{le-leb}
+use Rattle.base.specs.Lists.{All}
+use Rattle.base.proofs.All.{all-map}
+use Rattle.block.specs.declared.Reading.the-variants.{WellFormed}
+use Rattle.sheet.specs.Sheet.{parametersOf, readSheet}
+use Rattle.card.specs.Card.{readCard}
+use Rattle.syntax.specs.Tree.{testsOf}
+use Rattle.refusal.specs.Answers.{count, refused}
+use Rattle.refusal.specs.Steps.{Step, found, stop, _>>=_, answer}
+use Rattle.sirophan.specs.Answers.{checkedAnswer}
+use Rattle.sirophan.specs.Operations.{checkAnswer, Prepared, prepare, Card, takeRun, takeCards, matching, takeRoom, selection, selectAnswer}
+use Rattle.sirophan.specs.Passing.{Passing}
+use Rattle.sirophan.specs.Selection.{Run}
+use Rattle.sirophan.specs.declared.Checked.{Checked}
+use Rattle.sirophan.proofs.Outcomes.{cardOf, Taken, CardsOutcome, all-taken, one-stopped}
+use Rattle.sirophan.proofs.Passing.{passing, card-taken}
+use Rattle.sirophan.proofs.Runs.{run-iff}
+use Rattle.sirophan.proofs.Selection.{cards-outcome}
+use Rattle.report.specs.Operation.{Survey, survey, says, saying}
+
+-- ---- how many cards say yes, and how many no
+
+pub saying-matches : (p : Prepared) (cs : List Card) → length (matching (p .parameters) (p .filter) cs) ≡ saying (says p) cs
+unfolding matching saying
+saying-matches p [] = refl
+saying-matches p (c ∷ cs) = go (says p c) (matching (p .parameters) (p .filter) cs) (saying-matches p cs)
+  where
+    go : (b : Bool) (ns : List ℕ) {k : ℕ} → length ns ≡ k → length (cond b (c .number ∷ ns) ns) ≡ cond b (suc k) k
+    go true ns e = ap suc e
+    go false ns e = e
+
+pub saying-whole : (test : Card → Bool) (cs : List Card) → saying test cs + saying (λ c. not (test c)) cs ≡ length cs
+unfolding saying
+saying-whole test [] = refl
+saying-whole test (c ∷ cs) = go (test c) (saying test cs) (saying (λ c. not (test c)) cs) (saying-whole test cs)
+  where
+    go : (b : Bool) (x y : ℕ) {n : ℕ} → x + y ≡ n → cond b (suc x) x + cond (not b) (suc y) y ≡ suc n
+    go true x y e = omega arith
+    go false x y e = omega arith
+
+-- ---- what a survey finds
+
+module _ (sheet text cards : List ℕ) where
+  -- a run of conforming cards, under a sheet and a filter that check passes
+  pub record Found (s : Survey) : Type 0 where
+    pub blocks : List (List ℕ)
+    pub run : Run cards blocks
+    pub prepares : prepare sheet text ≡ found (s .prepared)
+    pub taken : All (Taken (s .prepared .parameters)) blocks
+    pub same : s .cards ≡ map cardOf blocks
+
+  -- the selection is that of the survey
+  abbrev matchesOf : Survey → List ℕ
+  matchesOf s = matching (s .prepared .parameters) (s .prepared .filter) (s .cards)
+
+  data Outcome : Step Survey → Step (List ℕ) → Type 0 where
+    stopped : (n p : ℕ) → Outcome (stop n p) (stop n p)
+    surveyed : (s : Survey) → Found s → Outcome (found s) (found (matchesOf s))
+
+  -- all matches of a run have room
+  room-enough : (p : Prepared) (bs : List (List ℕ)) → Run cards bs → takeRoom 128 (matching (p .parameters) (p .filter) (map cardOf bs)) ≡ found (matching (p .parameters) (p .filter) (map cardOf bs))
+  unfolding takeRoom
+  room-enough p bs run =
+      let few : length (matching (p .parameters) (p .filter) (map cardOf bs)) ≤ 128 =
+      omega (arith, saying-matches p (map cardOf bs), saying-whole (says p) (map cardOf bs), length-map bs cardOf, run .few)
+      in
+      rw (le-leb (length (matching (p .parameters) (p .filter) (map cardOf bs))) 128 few)
+
+  by-cards : (p : Prepared) (bs : List (List ℕ)) → prepare sheet text ≡ found p → Run cards bs → {cs : Step (List Card)} → CardsOutcome (p .parameters) 0 bs cs
+      → Outcome (cs >>= λ ds. found (record { prepared = p; cards = ds })) (cs >>= λ ds. takeRoom 128 (matching (p .parameters) (p .filter) ds))
+  by-cards p bs e run (all-taken ts) =
+      rw (room-enough p bs run) (surveyed (record { prepared = p; cards = map cardOf bs }) (record { blocks = bs; run = run; prepares = e; taken = ts; same = refl }))
+  by-cards p bs e run (one-stopped before b after n j split k ts m s) = stopped n j
+
+  by-run : (p : Prepared) → prepare sheet text ≡ found p → (r : Step (List (List ℕ))) → takeRun cards ≡ r
+      → Outcome (r >>= λ bs. takeCards (p .parameters) 0 bs >>= λ ds. found (record { prepared = p; cards = ds })) (r >>= λ bs. takeCards (p .parameters) 0 bs >>= λ ds. takeRoom 128 (matching (p .parameters) (p .filter) ds))
+  by-run p e (stop n i) h = stopped n i
+  by-run p e (found bs) h = by-cards p bs e (run-iff cards bs .0 h) (cards-outcome (p .parameters) 0 bs)
+
+  outcome : Outcome (survey sheet text cards) (selection sheet text cards 128)
+  unfolding survey selection
+  outcome = by-prepare (prepare sheet text) refl
+    where
+      by-prepare : (r : Step Prepared) → prepare sheet text ≡ r
+          → Outcome (r >>= λ p. takeRun cards >>= λ bs. takeCards (p .parameters) 0 bs >>= λ ds. found (record { prepared = p; cards = ds }))
+          (r >>= λ p. takeRun cards >>= λ bs. takeCards (p .parameters) 0 bs >>= λ ds. takeRoom 128 (matching (p .parameters) (p .filter) ds))
+      by-prepare (stop n i) e = stopped n i
+      by-prepare (found p) e = by-run p e (takeRun cards) refl
+
+  -- ---- what it comes to, and by what select answers
+
+  pub survey-found : (s : Survey) → survey sheet text cards ≡ found s → Found s
+  survey-found s = go outcome
+    where
+      go : {r : Step Survey} {t : Step (List ℕ)} → Outcome r t → r ≡ found s → Found s
+      go (stopped m q) h = absurd (let z : _≡_ {A = ℕ} 0 1 = cc in omega arith)
+      go (surveyed t f) h = let same : t ≡ s = cc in subst Found same f
+
+  pub survey-stopped : (n p : ℕ) → survey sheet text cards ≡ stop n p → selectAnswer sheet text cards 128 ≡ refused n p
+  unfolding selectAnswer
+  survey-stopped n p = go outcome
+    where
+      go : {r : Step Survey} {t : Step (List ℕ)} → Outcome r t → r ≡ stop n p → answer (t >>= λ ns. found (count (length ns))) ≡ refused n p
+      go (stopped m q) h = cc
+      go (surveyed t f) h = absurd (let z : _≡_ {A = ℕ} 0 1 = cc in omega arith)
+
+  -- where it refuses, the survey stops so
+  pub survey-refused : (n p : ℕ) → selectAnswer sheet text cards 128 ≡ refused n p → survey sheet text cards ≡ stop n p
+  unfolding selectAnswer
+  survey-refused n p = go outcome
+    where
+      go : {s : Step Survey} {t : Step (List ℕ)} → Outcome s t → answer (t >>= λ ns. found (count (length ns))) ≡ refused n p → s ≡ stop n p
+      go (stopped m q) h = cc
+      go (surveyed s f) h = absurd (let z : _≡_ {A = ℕ} 0 1 = cc in omega arith)
+
+  -- where it counts, the survey finds as many cards that say yes
+  pub record Counted (y : ℕ) : Type 0 where
+    pub survey-of : Survey
+    pub finds : survey sheet text cards ≡ found survey-of
+    pub found-as : Found survey-of
+    pub yes : saying (says (survey-of .prepared)) (survey-of .cards) ≡ y
+
+  pub survey-counted : (y : ℕ) → selectAnswer sheet text cards 128 ≡ count y → Counted y
+  unfolding selectAnswer
+  survey-counted y = go outcome refl
+    where
+      go : {s : Step Survey} {t : Step (List ℕ)} → Outcome s t → survey sheet text cards ≡ s → answer (t >>= λ ns. found (count (length ns))) ≡ count y → Counted y
+      go (stopped m q) e h = absurd (let z : _≡_ {A = ℕ} 0 1 = cc in omega arith)
+      go (surveyed s f) e h =
+          let same : length (matchesOf s) ≡ y = cc in
+          record { survey-of = s; finds = e; found-as = f; yes = sym (saying-matches (s .prepared) (s .cards)) ∙ same }
+
+  -- ---- the sheet and the cards of a survey
+
+  module _ (s : Survey) (f : Found s) where
+    checked : checkedAnswer (Checked.Tests (length (testsOf (s .prepared .filter)))) ≡ checkAnswer sheet text
+    unfolding checkedAnswer checkAnswer
+    checked = rw (f .prepares)
+
+    passes : Passing sheet text
+    passes = passing sheet text (Checked.Tests (length (testsOf (s .prepared .filter)))) (length (testsOf (s .prepared .filter))) checked refl
+
+    pub found-sheet : readSheet sheet ≡ WellFormed
+    found-sheet = passes .sheet-well-formed
+
+    pub found-parameters : s .prepared .parameters ≡ parametersOf sheet
+    found-parameters = let e = f .prepares in let g = passes .prepared in cc
+
+    pub found-cards : All (λ (b : List ℕ). readCard b ≡ WellFormed) (f .blocks)
+    found-cards = all-map (λ b t. card-taken (s .prepared .parameters) 0 b (cardOf b) (t 0) .0) (f .taken)
