@@ -5,7 +5,7 @@ use mathlib.Core.Path.{_≡_, refl}
 use mathlib.Core.List.{List, [], _∷_, _++_, map}
 use lib.ListN.{length, getD, replicate}
 use Rattle.sheet.specs.Sheet.{Parameter, kindAt}
-use Rattle.sheet.specs.Find.{padded, kindsOf}
+use Rattle.sheet.specs.Find.{padded, tableOf, kindsOf}
 use Rattle.card.specs.Card.{Entry}
 use Rattle.judge.specs.Sets.{entryConforms, conforms, conformsTo}
 
@@ -21,6 +21,6 @@ table-kind n (p ∷ ps) zero = refl
 table-kind n (p ∷ ps) (suc i) = table-kind n ps i
 
 pub table-conforms : (ps : List Parameter) (es : List Entry) → conformsTo (kindsOf ps) es ≡ conforms ps es
-unfolding conformsTo conforms entryConforms kindsOf padded
+unfolding conformsTo conforms entryConforms tableOf padded
 table-conforms ps [] = refl
 table-conforms ps (e ∷ es) = rw (table-kind (32 - length (map (λ (p : Parameter). p .kind) ps)) ps (e .index), table-conforms ps es)
