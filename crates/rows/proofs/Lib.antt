@@ -1,3 +1,7 @@
 -- The laws that the proofs cite.
 pub mod Cells
 pub mod Stating
+pub mod Nesting
+pub mod Shapes
+pub mod Values
+pub mod Good

@@ -17,3 +17,12 @@ pub enum Row {
     Connect(bool),
     Unknown,
 }
+
+// What is gathered of an expression to tell whether rows are good: how deep its brackets nest as a filter and as an item of one, up to
+// 9; where its tests stand, 0 at the top and a bundle's index plus 1 in its brackets; and whether each fits there.
+pub struct Shape {
+    pub chain: u32,
+    pub item: u32,
+    pub scope: u32,
+    pub fits: bool,
+}
