@@ -5,3 +5,6 @@ pub mod Nesting
 pub mod Shapes
 pub mod Values
 pub mod Good
+pub mod Fitting
+pub mod Machine
+pub mod Testing

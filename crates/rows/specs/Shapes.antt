@@ -1,7 +1,8 @@
 -- Whether rows are good, as a test that computes: the shape of an expression has its depths up to 9, where it stands, and whether its
 -- tests fit. Kinds and parents are tables by index.
 -- Assumes nothing.
-use Prim.Native.Nat.{ℕ, _+_, _*_, _/_, _%_}
+use Prim.Native.Nat.{ℕ, _+_, _*_, _/_, _%_, _≤_}
+use mathlib.Core.Path.{_≡_}
 use mathlib.Core.Bool.{Bool, true, false, cond, not, _&&_}
 use mathlib.Core.Option.{Option, none, some}
 use mathlib.Core.List.{List}
@@ -84,6 +85,13 @@ packed s = s .chain + 16 * (s .item + 16 * (bit (s .fits) + 2 * s .scope))
 
 unfoldable pub unpacked : ℕ → Shape
 unpacked n = record { chain = n % 16; item = n / 16 % 16; scope = n / 512; fits = eqb (n / 256 % 2) 1 }
+
+-- what unpacking gives, and how large its parts can be
+pub record Unpacked (n : ℕ) (s : Shape) : Type 0 where
+  pub is : s ≡ unpacked n
+  pub chain-most : s .chain ≤ 15
+  pub item-most : s .item ≤ 15
+  pub scope-most : s .scope ≤ 8388607
 
 -- ---- good rows
 

@@ -1,6 +1,11 @@
 // Rows: a filter that was read, as 32-bit cells in postfix order. They are written while a filter is read, tested before they are
 // trusted, and judged on cards without reading the filter again.
 mod cell;
+mod fit;
+mod stack;
+mod whole;
+
+pub use whole::are_good;
 
 // A test by the index of its parameter, its operator's number, and the position of its value's first byte in the text.
 pub struct Probe {

@@ -3,8 +3,6 @@ use borrow.Author.Needs.{needs}
 use Rattle.rows.specs.Cells.{probeOf}
 use Rattle.rows.proofs.cell.probe_of.Statement.{statement}
 use Rattle.rows.proofs.cell.probe_of.Tie as tie
-use Rattle.rows.proofs.cell.probe_of.Reads as reads
-use Rattle.rows.proofs.cell.probe_of.Lts as lts
 
 cast-t3 : tie.Need-cast-t3
 cast-t3 c = search needs

@@ -3,9 +3,6 @@ use borrow.Author.Needs.{needs}
 use Rattle.rows.proofs.Cells.{cell-test, cell-bracket, cell-not, cell-and, cell-or, cell-unknown}
 use Rattle.rows.proofs.cell.row_of.Statement.{statement}
 use Rattle.rows.proofs.cell.row_of.Tie as tie
-use Rattle.rows.proofs.cell.row_of.Reads as reads
-use Rattle.rows.proofs.cell.row_of.Lts as lts
-use Rattle.rows.proofs.cell.probe_of.Reads as probe-of-reads
 
 probe-of-requires : tie.Need-probe-of-requires
 probe-of-requires c κs = search needs
