@@ -8,3 +8,5 @@ pub mod Good
 pub mod Fitting
 pub mod Machine
 pub mod Testing
+pub mod Numbers
+pub mod Writing

@@ -21,7 +21,7 @@ connective-is : (c : Connective) → connective (isAnd c) ≡ c
 connective-is and = refl
 connective-is or = refl
 
-and-is : (a : Bool) → isAnd (connective a) ≡ a
+pub and-is : (a : Bool) → isAnd (connective a) ≡ a
 and-is true = refl
 and-is false = refl
 

@@ -4,3 +4,4 @@ pub mod Cells
 pub mod Nesting
 pub mod Good
 pub mod Shapes
+pub mod Writing

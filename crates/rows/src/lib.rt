@@ -4,7 +4,9 @@ mod cell;
 mod fit;
 mod stack;
 mod whole;
+mod write;
 
+use filter::Summary;
 pub use whole::are_good;
 
 // A test by the index of its parameter, its operator's number, and the position of its value's first byte in the text.
@@ -30,4 +32,16 @@ pub struct Shape {
     pub item: u32,
     pub scope: u32,
     pub fits: bool,
+}
+
+// What reading gathers: the tests and the first fault among them, and how many cells it has written.
+pub struct Outcome {
+    pub summary: Summary,
+    pub cells: usize,
+}
+
+// Where a filter or an item that was read ends, and what was gathered; or that there is none.
+pub enum Written {
+    Done(usize, Outcome),
+    Nothing,
 }
