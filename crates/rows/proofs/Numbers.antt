@@ -79,6 +79,7 @@ test-read xs close p =
         → ReadIn xs (withValue f λ v. cond (follows close (drop (v .next) xs)) (FoundTest.Test (record { at = p; until = nameEnd xs p; operator = k; value = v })) FoundTest.Nothing)
     by-value k (FoundValue.Value v) i = cond-elim (ReadIn xs) (follows close (drop (v .next) xs)) (λ f. record { found = i }) (λ f. tt)
     by-value k FoundValue.Nothing i = tt
+
     by-operator : (f : FoundOperator) → ReadIn xs (withOperator f λ k. testValue xs close p (nameEnd xs p) k (skipAt xs (nameEnd xs p) + 2))
     by-operator (FoundOperator.Is k) =
         cond-elim (ReadIn xs) (eqb (valuePlace xs p) (skipAt xs (nameEnd xs p) + 2)) (λ f. tt) (λ f. by-value k (valueAt xs (valuePlace xs p)) refl)
@@ -107,6 +108,7 @@ head-read xs close p h t e i = rw (sym e ∙ i) at (or-else (testAt xs close p) 
     choice : (c : FoundChoice) → ReadFirst xs (choiceOr c (openAt xs p))
     choice (FoundChoice.At e) = tt
     choice FoundChoice.Nothing = open-first xs p
+
     or-else : (f : FoundTest) → ReadIn xs f → ReadFirst xs (testOr f (choiceOr (choiceAt xs p) (openAt xs p)))
     or-else (FoundTest.Test r) s = s
     or-else FoundTest.Nothing s = choice (choiceAt xs p)

@@ -7,7 +7,7 @@ use mathlib.Core.Path.{_≡_, refl, sym, ap, ap₂, subst, _∙_}
 use mathlib.Core.Bool.{Bool, true, false}
 use mathlib.Core.List.{List, [], _∷_, _++_, append-assoc, append-nil}
 use lib.ListN.{length, take, set, length-append, length-set}
-use lib.Seq.{take-suc-set}
+use lib.Seq.{take-suc-set, take-take, take-at, length-take-le}
 use Rattle.base.specs.Parts.{part}
 use Rattle.base.specs.Runs.{RunEnd}
 use Rattle.sheet.specs.Sheet.{Parameter}
@@ -43,6 +43,7 @@ use Rattle.rows.proofs.Stating.{and-is}
 
 mutual
   unfolding cellCount
+
   pub item-cells : {xs : List ℕ} {close d p q : ℕ} {f : Tree} → Item xs close d p q f → p + cellCount f ≤ q
   item-cells (item-test t) = omega (arith, test-rise t)
   item-cells (item-bracket o f c) = omega (arith, opens-rise o, filter-cells f, closes-rise c)
@@ -259,7 +260,33 @@ module _ (ps : List Parameter) (c : ℕ) (xs : List ℕ) (row close d p : ℕ) (
             ∙ ap (λ (s : ℕ). take row l ++ (encode (prepared ps xs s (a .tree)) ++ ((8 * numberOf (probeFor ps xs s (testOf xs t)) + 1) ∷ []))) b)
             (length-set m (row + v .cells) (8 * y + 1) ∙ w .size)
 
+pub one-test : (ps : List Parameter) (c : ℕ) (t : Test) (o : Summary) → o ≡ reading ps c .one t → o .tests ≡ 1
+one-test ps c t o e = ap (λ (s : Summary). s .tests) e
+
 -- ---- a filter, of which the loop has read the part up to m
+
+-- the cells before the row are as they were
+pub record Kept (row : ℕ) (before after : List ℕ) : Type 0 where
+  pub same : take row after ≡ take row before
+  pub size : length after ≡ length before
+
+rebased : (ps : List Parameter) (c : ℕ) (xs : List ℕ) (row : ℕ) (o : Parsed) (r : Written) (first before after : List ℕ) → Kept row first before → Wrote ps c xs row o r before after → Wrote ps c xs row o r first after
+rebased ps c xs row o r first before after k w =
+    record {
+      answers = w .answers;
+      cells = λ q f h. w .cells q f h ∙ ap (λ (l : List ℕ). l ++ encode (prepared ps xs c f)) (k .same);
+      size = w .size ∙ k .size;
+    }
+
+pub wrote-keeps : (ps : List Parameter) (c : ℕ) (xs : List ℕ) (row : ℕ) (o : Parsed) (r : Written) (before after : List ℕ) (q : ℕ) (v : Outcome) → Wrote ps c xs row o r before after → r ≡ Written.Done q v → row ≤ length before → Kept row before after
+wrote-keeps ps c xs row o r before after q v w h low =
+    let a = was ps c xs row q v w h in
+    let n : ℕ = cellCount (a .tree) in
+    let short : length (take row before) ≡ row = length-take-le row before low in
+    record {
+      same = sym (take-take row (row + n) after (omega arith)) ∙ ap (take row) (a .cells) ∙ take-at (take row before) (encode (prepared ps xs c (a .tree))) row short;
+      size = w .size;
+    }
 
 pub record Chained (ps : List Parameter) (c : ℕ) (xs : List ℕ) (row close d p : ℕ) (before : List ℕ) (m : ℕ) (s : Summary) (k : ℕ) (list : List ℕ) : Type 0 where
   pub left : ℕ
@@ -267,6 +294,7 @@ pub record Chained (ps : List Parameter) (c : ℕ) (xs : List ℕ) (row close d 
   pub reads : filterAt d xs close p ≡ chainOf left xs (λ k. itemAt d xs close k) m tree
   pub enough : length xs - m + 1 ≤ left
   pub derives : Filter xs close d p m tree
+  pub from : p ≤ m
   pub within : m ≤ length xs
   pub summary-is : s ≡ summaryOf ps c (testsOf tree)
   pub cells-are : k ≡ cellCount tree
@@ -278,8 +306,8 @@ module _ (ps : List Parameter) (c : ℕ) (xs : List ℕ) (row close d p : ℕ) (
   pub wrote-no-item : r ≡ Written.Nothing → Wrote ps c xs row (filterAt d xs close p) Written.Nothing l m
   wrote-no-item h = give-none ps c xs row (filterAt d xs close p) l m (rw (filter-step d xs close p, was-none ps c xs row w h)) (w .size)
 
-  pub chain-starts : (q : ℕ) (v : Outcome) → r ≡ Written.Done q v → row ≤ p → Chained ps c xs row close d p l q (v .summary) (v .cells) m
-  chain-starts q v h low =
+  pub chain-starts : (q : ℕ) (v : Outcome) → r ≡ Written.Done q v → row ≤ p → row ≤ length l → Chained ps c xs row close d p m q (v .summary) (v .cells) m
+  chain-starts q v h low short =
       let a = was ps c xs row q v w h in
       let i = subst (ItemDerived xs close d p) (a .read) (item-derived d xs close p) in
       let same : v .cells ≡ cellCount (a .tree) = ap (λ (o : Outcome). o .cells) (a .value) in
@@ -289,27 +317,30 @@ module _ (ps : List Parameter) (c : ℕ) (xs : List ℕ) (row close d p : ℕ) (
         reads = first-read xs close d p q (a .tree) (a .read);
         enough = omega (arith, item-rise i);
         derives = one-item i;
+        from = omega (arith, item-rise i .0);
         within = item-rise i .1;
         summary-is = ap (λ (o : Outcome). o .summary) (a .value);
         cells-are = same;
-        cells = ap (λ (x : ℕ). take (row + x) m) same ∙ a .cells;
-        size = w .size;
+        cells = ap (λ (x : ℕ). take (row + x) m) same ∙ a .cells ∙ ap (λ (b : List ℕ). b ++ encode (prepared ps xs c (a .tree))) (sym (wrote-keeps ps c xs row (itemAt d xs close p) r l m q v w h short .same));
+        size = refl;
         room = omega (arith, item-cells i, same);
       }
 
 module _ (ps : List Parameter) (c : ℕ) (xs : List ℕ) (row close d p : ℕ) (l : List ℕ) (m : ℕ) (s : Summary) (k : ℕ) (list : List ℕ) (h : Chained ps c xs row close d p l m s k list) (f : FoundConnective) (e : f ≡ connectiveAt xs m) where
-  pub chain-ends : f ≡ FoundConnective.Nothing → Wrote ps c xs row (filterAt d xs close p) (Written.Done m (record { summary = s; cells = k })) l list
-  chain-ends i =
-      give ps c xs row (filterAt d xs close p) m (h .tree) (record { summary = s; cells = k }) l list
+  pub chain-ends : (first : List ℕ) → f ≡ FoundConnective.Nothing → Kept row first l → Wrote ps c xs row (filterAt d xs close p) (Written.Done m (record { summary = s; cells = k })) first list
+  chain-ends first i kept =
+      rebased ps c xs row (filterAt d xs close p) (Written.Done m (record { summary = s; cells = k })) first l list kept
+      (give ps c xs row (filterAt d xs close p) m (h .tree) (record { summary = s; cells = k }) l list
       (rw (h .reads, chain-step (h .left) xs (λ k. itemAt d xs close k) m (h .tree) (omega (arith, h .enough)), sym e ∙ i))
       (outcome-same ps c (h .tree) s k (h .summary-is) (h .cells-are))
-      (ap (λ (x : ℕ). take (row + x) list) (sym (h .cells-are)) ∙ h .cells) (h .size)
+      (ap (λ (x : ℕ). take (row + x) list) (sym (h .cells-are)) ∙ h .cells) (h .size))
 
   module _ (q : ℕ) (o : Bool) (i : f ≡ FoundConnective.Next q o) (r : Written) (list2 : List ℕ) (w : Wrote ps c xs (row + k) (itemAt d xs close q) r list list2) where
-    pub chain-no-item : r ≡ Written.Nothing → Wrote ps c xs row (filterAt d xs close p) Written.Nothing l list2
-    chain-no-item j =
-        give-none ps c xs row (filterAt d xs close p) l list2
-        (rw (h .reads, chain-step (h .left) xs (λ k. itemAt d xs close k) m (h .tree) (omega (arith, h .enough)), sym e ∙ i, was-none ps c xs (row + k) w j)) (w .size ∙ h .size)
+    pub chain-no-item : (first : List ℕ) → r ≡ Written.Nothing → Kept row first l → Wrote ps c xs row (filterAt d xs close p) Written.Nothing first list2
+    chain-no-item first j kept =
+        rebased ps c xs row (filterAt d xs close p) Written.Nothing first l list2 kept
+        (give-none ps c xs row (filterAt d xs close p) l list2
+        (rw (h .reads, chain-step (h .left) xs (λ k. itemAt d xs close k) m (h .tree) (omega (arith, h .enough)), sym e ∙ i, was-none ps c xs (row + k) w j)) (w .size ∙ h .size))
 
     module _ (n : ℕ) (v : Outcome) (j : r ≡ Written.Done n v) where
       pub chain-fits : length xs ≤ 1024 → s .tests + v .summary .tests ≤ 1024
@@ -344,6 +375,7 @@ module _ (ps : List Parameter) (c : ℕ) (xs : List ℕ) (row close d p : ℕ) (
             reads = next-read xs close d p (h .left) m q o n (h .tree) (a .tree) (h .reads) (omega (arith, h .enough)) (sym e ∙ i) (a .read);
             enough = omega (arith, h .enough, ahead .0, rise .0);
             derives = one-more (h .derives) conn item;
+            from = omega (arith, h .from, ahead .0, rise .0);
             within = rise .1;
             summary-is = z ∙ ap₂ joinSummaries (h .summary-is) (ap (λ (o : Outcome). o .summary) (a .value)) ∙ summary-joined ps c (testsOf (h .tree)) (testsOf (a .tree));
             cells-are = omega (arith, h .cells-are, same);

@@ -188,7 +188,13 @@ fn connect_cell(and: bool) -> u32
 }
 
 // The filter at a spot: "one or more items joined by and or or", from left to right. Its cells are written from a row on.
-pub fn write_filter(sheet: &[u8], filter: &[u8], spot: Spot, rows: &mut [u32], row: usize) -> Written
+pub fn write_filter(
+    sheet: &[u8],
+    filter: &[u8],
+    spot: Spot,
+    rows: &mut [u32],
+    row: usize,
+) -> Written
     requires { ⌜ readSheet (now sheet) ≡ Reading.WellFormed ⌝ }
     requires { ⌜ length (now filter) ≤ 1024 ⌝ }
     requires { ⌜ spot .at ≤ length (now filter) ⌝ }
