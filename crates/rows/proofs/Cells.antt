@@ -83,6 +83,10 @@ number-probe : (n : ℕ) → numberOf (probeOf n) ≡ n
 unfolding probeOf
 number-probe n = omega arith
 
+pub probe-sayable : (n : ℕ) → Sayable (probeOf n)
+unfolding probeOf
+probe-sayable n = record { index = omega arith; operator = omega arith }
+
 -- a cell that says something is the one that is written of it
 pub cell-row : (c : ℕ) → (rowOf c ≡ Row.Unknown → ⊥) → cellOf (rowOf c) ≡ c
 unfolding rowOf cellOf

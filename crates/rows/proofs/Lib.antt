@@ -10,3 +10,4 @@ pub mod Machine
 pub mod Testing
 pub mod Numbers
 pub mod Writing
+pub mod Saying

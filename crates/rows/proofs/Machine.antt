@@ -1,17 +1,22 @@
 -- The loops over rows: a stack of expressions, of which an array has what is gathered of each. What is left of the rows decides.
 -- Assumes nothing.
-use Prim.Native.Nat.{ℕ, suc, _+_, _≤_, _<_}
+use Prim.Native.Nat.{ℕ, suc, _+_, _/_, _%_, _≤_, _<_}
 use native.Mathlib.Omega.{arith}
 use native.Mathlib.Numerals.{add-one}
 use mathlib.Core.Path.{_≡_, refl, sym, ap, subst, _∙_}
 use mathlib.Core.Option.{Option, none, some}
 use mathlib.Core.List.{List, [], _∷_, _++_}
+use lib.Dec.{eqb}
 use lib.ListN.{length, getD, take, drop, set, drop-of-length-le}
 use lib.Seq.{drop-cons, take-suc, getD-set-same, getD-set-other}
 use Rattle.rows.specs.Expression.{Expression, testCount}
-use Rattle.rows.specs.Cells.{rowOf, push, andThen, run, only, stated}
+use Rattle.base.specs.Lists.{All, all-empty, all-cons}
+use Rattle.base.proofs.Tests.{cond-elim}
+use Rattle.rows.specs.Cells.{rowOf, Sayable, Writable, writable-test, writable-bracket, writable-join, writable-not, push, andThen, run, only, stated}
+use Rattle.rows.specs.declared.Probe.{Probe}
 use Rattle.rows.specs.declared.Row.{Row}
-use Rattle.rows.proofs.Stating.{flat, push-flat, some-same, total, run-total, stated-run}
+use Rattle.rows.proofs.Cells.{probe-sayable}
+use Rattle.rows.proofs.Stating.{flat, push-flat, some-same, none-some, total, run-total, stated-run}
 
 -- ---- the array: its first n cells have what g gathers of the expressions on the stack, the top last
 
@@ -49,15 +54,50 @@ pub none-on : {A : Type 0} {d : A} {g : Expression → A} {a : List A} {n : ℕ}
 none-on holds-none z = refl
 none-on (holds-more v h) z = absurd (omega (arith, z))
 
+-- ---- what a row states can be written
+
+abbrev RowSayable : Row → Type 0
+RowSayable (Row.Test p) = Sayable p
+RowSayable (Row.Bracket p) = Sayable p
+RowSayable Row.Not = Unit {0}
+RowSayable (Row.Connect a) = Unit {0}
+RowSayable Row.Unknown = Unit {0}
+
+row-sayable : (c : ℕ) → RowSayable (rowOf c)
+unfolding rowOf
+row-sayable c =
+    cond-elim RowSayable (eqb (c % 8) 0) (λ a. probe-sayable (c / 8))
+    (λ a. cond-elim RowSayable (eqb (c % 8) 1) (λ b. probe-sayable (c / 8))
+    (λ b. cond-elim RowSayable (eqb c 2) (λ d. tt) (λ d. cond-elim RowSayable (eqb c 3) (λ f. tt) (λ f. cond-elim RowSayable (eqb c 4) (λ g. tt) (λ g. tt)))))
+
+pub test-index : (c : ℕ) (r : Row) (p : Probe) → r ≡ rowOf c → r ≡ Row.Test p → p .index < 32
+test-index c r p e h = let s : Sayable p = rw (sym e ∙ h) at (row-sayable c) in s .index
+
+pub bracket-index : (c : ℕ) (r : Row) (p : Probe) → r ≡ rowOf c → r ≡ Row.Bracket p → p .index < 32
+bracket-index c r p e h = let s : Sayable p = rw (sym e ∙ h) at (row-sayable c) in s .index
+
+push-writable : (r : Row) → RowSayable r → (st m : List Expression) → push r st ≡ some m → All Writable st → All Writable m
+unfolding push
+push-writable (Row.Test p) s st m e w = subst (All Writable) (some-same e) (all-cons (writable-test s) w)
+push-writable (Row.Bracket p) s [] m e w = none-some e
+push-writable (Row.Bracket p) s (f ∷ st) m e (all-cons a w) = subst (All Writable) (some-same e) (all-cons (writable-bracket a s) w)
+push-writable Row.Not s [] m e w = none-some e
+push-writable Row.Not s (f ∷ st) m e (all-cons a w) = subst (All Writable) (some-same e) (all-cons (writable-not a) w)
+push-writable (Row.Connect b) s [] m e w = none-some e
+push-writable (Row.Connect b) s (g ∷ []) m e w = none-some e
+push-writable (Row.Connect b) s (g ∷ f ∷ st) m e (all-cons a (all-cons d w)) = subst (All Writable) (some-same e) (all-cons (writable-join d a) w)
+push-writable Row.Unknown s st m e w = none-some e
+
 -- ---- the rows: the stack at i decides with those that are left, and has those before
 
 pub record Stacked (rows : List ℕ) (i : ℕ) (st : List Expression) : Type 0 where
   pub decides : run rows [] ≡ run (drop i rows) st
   pub before : flat st ≡ take i rows
+  pub writable : All Writable st
 
 pub stacked-start : (rows : List ℕ) → Stacked rows 0 []
 unfolding flat
-stacked-start rows = record { decides = refl; before = refl }
+stacked-start rows = record { decides = refl; before = refl; writable = all-empty }
 
 module _ {rows : List ℕ} {i : ℕ} {st : List Expression} (s : Stacked rows i st) where
   module _ (l : i < length rows) (r : Row) (e : r ≡ rowOf (getD rows i 0)) where
@@ -70,6 +110,7 @@ module _ {rows : List ℕ} {i : ℕ} {st : List Expression} (s : Stacked rows i 
         record {
           decides = s .decides ∙ turn ∙ ap (andThen (λ q. run (drop (i + 1) rows) q)) h;
           before = push-flat (getD rows i 0) st m (ap (λ (q : Row). push q st) (sym e) ∙ h) ∙ ap (λ (q : List ℕ). q ++ (getD rows i 0 ∷ [])) (s .before) ∙ sym (ap (λ (n : ℕ). take n rows) (add-one i) ∙ take-suc rows i 0 l);
+          writable = push-writable r (subst RowSayable (sym e) (row-sayable (getD rows i 0))) st m h (s .writable);
         }
 
     pub stacked-fails : push r st ≡ none → stated rows ≡ none

@@ -1,18 +1,17 @@
 -- The loop of `are_good`: the stack has the shapes of the expressions so far.
 -- Assumes nothing.
-use Prim.Native.Nat.{ℕ, suc, _+_, _-_, _/_, _%_, _≤_, _<_}
+use Prim.Native.Nat.{ℕ, suc, _+_, _-_, _≤_, _<_}
 use native.Mathlib.Omega.{arith}
 use mathlib.Core.Path.{_≡_, refl, sym, ap, ap₂, subst, _∙_}
 use mathlib.Core.Bool.{Bool, true, false}
 use mathlib.Core.Option.{Option, none, some}
 use mathlib.Core.List.{List, [], _∷_}
-use lib.Dec.{eqb, leb}
+use lib.Dec.{leb}
 use lib.ListN.{length, getD, set, replicate, length-set}
 use borrow.Author.Tests.{le-leb, lt-leb}
-use Rattle.base.proofs.Tests.{cond-elim}
 use Rattle.syntax.specs.Reader.{connective}
 use Rattle.rows.specs.Expression.{Expression, probing, choosing, joining, negating, testCount}
-use Rattle.rows.specs.Cells.{probeOf, rowOf, push, only, stated}
+use Rattle.rows.specs.Cells.{rowOf, push, only, stated}
 use Rattle.rows.specs.Shapes.{testShape, notShape, bracketShape, joinShape, shapeOf, packed, unpacked, isWithin, goodBy, good}
 use Rattle.rows.specs.declared.Probe.{Probe}
 use Rattle.rows.specs.declared.Row.{Row}
@@ -20,14 +19,6 @@ use Rattle.rows.specs.declared.Shape.{Shape}
 use Rattle.rows.proofs.Stating.{total, height-total}
 use Rattle.rows.proofs.Shapes.{shape-small, unpacked-packed}
 use Rattle.rows.proofs.Machine.{Holds, holds-none, holds-more, holds-length, holds-push, Top, top-of, none-on, Stacked, stacked-start, stacked-next, stacked-fails, stacked-end, stacked-total}
-
--- the index of a test is below 32
-abbrev Indexed : Row → Type 0
-Indexed (Row.Test p) = p .index < 32
-Indexed (Row.Bracket p) = p .index < 32
-Indexed Row.Not = Unit {0}
-Indexed (Row.Connect a) = Unit {0}
-Indexed Row.Unknown = Unit {0}
 
 module _ (kinds parents xs : List ℕ) where
   abbrev gathered : Expression → ℕ
@@ -194,18 +185,3 @@ module _ (kinds parents xs : List ℕ) where
         not-one holds-none z = refl
         not-one (holds-more v holds-none) z = absurd (z refl)
         not-one (holds-more v (holds-more y h)) z = refl
-
--- ---- the index of a test
-
-row-indexed : (c : ℕ) → Indexed (rowOf c)
-unfolding rowOf probeOf
-row-indexed c =
-    cond-elim Indexed (eqb (c % 8) 0) (λ a. omega arith)
-    (λ a. cond-elim Indexed (eqb (c % 8) 1) (λ b. omega arith)
-    (λ b. cond-elim Indexed (eqb c 2) (λ d. tt) (λ d. cond-elim Indexed (eqb c 3) (λ f. tt) (λ f. cond-elim Indexed (eqb c 4) (λ g. tt) (λ g. tt)))))
-
-pub test-index : (c : ℕ) (r : Row) (p : Probe) → r ≡ rowOf c → r ≡ Row.Test p → p .index < 32
-test-index c r p e h = rw (sym e ∙ h) at (row-indexed c)
-
-pub bracket-index : (c : ℕ) (r : Row) (p : Probe) → r ≡ rowOf c → r ≡ Row.Bracket p → p .index < 32
-bracket-index c r p e h = rw (sym e ∙ h) at (row-indexed c)

@@ -5,3 +5,4 @@ pub mod Nesting
 pub mod Good
 pub mod Shapes
 pub mod Writing
+pub mod Saying

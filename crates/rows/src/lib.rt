@@ -2,12 +2,15 @@
 // trusted, and judged on cards without reading the filter again.
 mod cell;
 mod fit;
+mod says;
 mod stack;
 mod whole;
 mod write;
 
 use filter::Summary;
+pub use says::rows_say;
 pub use whole::are_good;
+pub use write::write_filter;
 
 // A test by the index of its parameter, its operator's number, and the position of its value's first byte in the text.
 pub struct Probe {

@@ -2,7 +2,8 @@
 use borrow.Author.Needs.{needs}
 use Prim.Native.Nat.{_-_}
 use lib.ListN.{length}
-use Rattle.rows.proofs.Testing.{Shaping, shaping-start, shaping-unknown, shaping-full, shaping-test, shaping-bare-bracket, shaping-full-bracket, shaping-bracket, shaping-bare-not, shaping-not, shaping-short, shaping-connect, shaping-whole, shaping-other, test-index, bracket-index}
+use Rattle.rows.proofs.Machine.{test-index, bracket-index}
+use Rattle.rows.proofs.Testing.{Shaping, shaping-start, shaping-unknown, shaping-full, shaping-test, shaping-bare-bracket, shaping-full-bracket, shaping-bracket, shaping-bare-not, shaping-not, shaping-short, shaping-connect, shaping-whole, shaping-other}
 use Rattle.rows.proofs.whole.are_good.Statement.{statement}
 use Rattle.rows.proofs.whole.are_good.Tie as tie
 
