@@ -388,3 +388,10 @@ module _ (kinds xs : List ℕ) (k : Chosen) (all : List Entry) where
         not-one holds-none z = refl
         not-one (holds-more v holds-none) z = absurd (z refl)
         not-one (holds-more v (holds-more y h)) z = refl
+
+-- a test without brackets has no rows in them
+pub empty-inner : (rows : List ℕ) (i : ℕ) → Inner (part rows i i)
+empty-inner rows i =
+    let zero-left : i - i ≡ 0 = omega arith in
+    let nothing : part rows i i ≡ [] = ap (λ (n : ℕ). take n (drop i rows)) zero-left in
+    record { whole = λ y. absurd (y (ap length nothing)) }

@@ -140,7 +140,16 @@ fn probe_says(
                 value,
             };
             let meaning = kind::meaning_of(probe.operator, kind);
-            let some = some_entry(kinds, filter, inner, card, chosen, probe.index, meaning, test);
+            let some = some_entry(
+                kinds,
+                filter,
+                inner,
+                card,
+                chosen,
+                probe.index,
+                meaning,
+                test,
+            );
             some_says(meaning, member_truth(filter, test), some)
         }
         FoundValue::Nothing => false,
