@@ -40,7 +40,7 @@ use Rattle.rows.proofs.Shapes.{shape-shallow, shallow-shape}
 use Rattle.rows.proofs.Values.{found-from, from-found}
 
 -- a property of every parameter holds of the one that is listed
-listed-all : (P : Parameter → Type 0) {ps : List Parameter} {i : ℕ} {q : Parameter} → All P ps → Listed ps i q → P q
+pub listed-all : (P : Parameter → Type 0) {ps : List Parameter} {i : ℕ} {q : Parameter} → All P ps → Listed ps i q → P q
 listed-all P all l = all-head P (all-right P (l .before) (subst (All P) (l .split) all))
 
 not-eqb : (a b : ℕ) → (a ≡ b → ⊥) → not (eqb a b) ≡ true

@@ -11,3 +11,4 @@ pub mod Testing
 pub mod Numbers
 pub mod Writing
 pub mod Saying
+pub mod Meaning

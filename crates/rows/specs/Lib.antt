@@ -6,3 +6,4 @@ pub mod Good
 pub mod Shapes
 pub mod Writing
 pub mod Saying
+pub mod Stated
