@@ -12,3 +12,4 @@ pub mod Numbers
 pub mod Writing
 pub mod Saying
 pub mod Meaning
+pub mod Preparing

@@ -85,6 +85,9 @@ test-read xs close p =
         cond-elim (ReadIn xs) (eqb (valuePlace xs p) (skipAt xs (nameEnd xs p) + 2)) (λ f. tt) (λ f. by-value k (valueAt xs (valuePlace xs p)) refl)
     by-operator FoundOperator.Nothing = tt
 
+pub found-read : (xs : List ℕ) (close p : ℕ) (t : RawTest) → testAt xs close p ≡ FoundTest.Test t → Read xs t
+found-read xs close p t e = rw e at (test-read xs close p)
+
 abbrev ReadFirst : List ℕ → Head → Type 0
 ReadFirst xs (Head.Test t) = Read xs t
 ReadFirst xs (Head.Open q b) = Unit {0}
