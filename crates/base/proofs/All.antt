@@ -2,11 +2,16 @@
 -- Assumes nothing.
 use Prim.Native.Nat.{ℕ, zero, suc, _<_}
 use native.Mathlib.Omega.{arith}
-use mathlib.Core.Path.{_≡_, subst}
+use mathlib.Core.Path.{_≡_, sym, subst}
+use mathlib.Core.Bool.{true, false≢true}
+use mathlib.Core.Logic.{⊎-elim}
 use mathlib.Core.List.{List, [], _∷_, _++_, map, head-eq-of-cons-eq, tail-eq-of-cons-eq}
+use lib.Dec.{eqb}
 use lib.ListN.{take, drop, getD, replicate}
-use Rattle.base.specs.Lists.{All, all-empty, all-cons}
+use borrow.Author.Tests.{eqb-true}
+use Rattle.base.specs.Lists.{All, all-empty, all-cons, member}
 use Rattle.base.specs.Bytes.{Bytes}
+use Rattle.base.proofs.Tests.{or-either}
 
 module _ {A : Type 0} (P : A → Type 0) where
   pub all-head : {x : A} {xs : List A} → All P (x ∷ xs) → P x
@@ -80,3 +85,10 @@ bytes-at (all-cons p h) (suc i) = bytes-at h i
 pub bytes-of : (s : List ℕ) → ((i : ℕ) → getD s i 0 < 256) → Bytes s
 bytes-of [] h = all-empty
 bytes-of (x ∷ xs) h = all-cons (h 0) (bytes-of xs (λ i. h (suc i)))
+
+-- what holds of all numbers of a list holds of each that the test finds there
+pub member-all : (P : ℕ → Type 0) {ks : List ℕ} → All P ks → (x : ℕ) → member x ks ≡ true → P x
+unfolding member
+member-all P all-empty x h = absurd (false≢true h)
+member-all P (all-cons {x = k} {xs = ks} p all) x h =
+    ⊎-elim (λ e. subst P (sym (eqb-true x k e)) p) (λ m. member-all P all x m) (or-either (eqb x k) (member x ks) h)

@@ -20,6 +20,7 @@ use Rattle.base.proofs.Tests.{or-either, cond-elim}
 use Rattle.base.proofs.Lists.{equal-same}
 use Rattle.base.proofs.Names.{name-iff}
 use Rattle.syntax.specs.Tree.{name, Test, test, testsOf, Connective, and, or}
+use Rattle.syntax.proofs.Bytes.{stands-escape}
 use Rattle.syntax.specs.Strings.{quote, backslash, isBare, isPlain, isEscape, nothing-more, plain, escaped}
 use Rattle.syntax.specs.Grammar.{Stands, Spaces, no-space, space, gap, bare, string, Follows, the-end, a-space, a-close, a-test, connectiveWord, connects, opens, opens-not, closes, round, square, chooses, item-test}
 use Rattle.syntax.specs.Scan.{isSpace, stepOf}
@@ -202,7 +203,7 @@ module _ (d m : ℕ) (xs : List ℕ) (p b : ℕ) (at : At xs p b) where
     where
       go : (t : Bool) → isEscape b ≡ t → Backs d xs p (state (in-string true) k n) (inString k n (cond t (StringStep.More false) StringStep.Wrong))
       go true h =
-          (l, λ i v. (i, record { body = b ∷ v .body; bytes = _; stands = at-stands at (v .body ++ (quote ∷ [])) (v .stands); quoted = escaped h (v .quoted); left = moved (omega arith) (v .left) }, refl))
+          (l, λ i v. (i, record { body = b ∷ v .body; bytes = _; stands = at-stands at (v .body ++ (quote ∷ [])) (v .stands); quoted = escaped (stands-escape b h) (v .quoted); left = moved (omega arith) (v .left) }, refl))
       go false h = tt
 
   back-plain : (k : List Bracket) (n : ℕ) → length k ≤ d → Backs d xs p (state (in-string false) k n) (inString k n (stepOf false b))

@@ -18,6 +18,7 @@ use Rattle.base.proofs.Tests.{and-left, and-right}
 use Rattle.base.proofs.Below.{passes-at}
 use Rattle.base.proofs.Names.{name-iff}
 use Rattle.syntax.specs.Tree.{Test, moved, under, Tree, test, bracketed, join, negation, testsOf, Connective, and, or}
+use Rattle.syntax.proofs.Bytes.{escape-stands}
 use Rattle.syntax.specs.Strings.{quote, isBare, Quoted, nothing-more, plain, escaped}
 use Rattle.syntax.specs.Grammar.{Spaces, no-space, space, Value, bare, string, TestAt, a-test, connectiveWord, Connects, connects, Opens, opens, opens-not, Closes, closes, Chooses, chooses, Item, item-test, item-bracket, item-not, item-bracketed, Filter, one-item, one-more, Within}
 use Rattle.place.specs.Begins.{Begins}
@@ -109,7 +110,7 @@ module _ (d m : ℕ) (k : List Bracket) (n : ℕ) where
   quoted-runs : {s v : List ℕ} → Quoted s v → Runs d m (state (in-string false) k n) s (state (in-string false) k n)
   quoted-runs nothing-more = rests
   quoted-runs (plain {b = b} h q) = goes (plain-part d m k n b h) (quoted-runs q)
-  quoted-runs (escaped {b = b} h q) = goes (backslash-part d m k n) (goes (escape-part d m k n b h) (quoted-runs q))
+  quoted-runs (escaped {b = b} h q) = goes (backslash-part d m k n) (goes (escape-part d m k n b (escape-stands h .0)) (quoted-runs q))
 
   string-runs : {s v : List ℕ} → Quoted s v → Runs d m (state at-value k n) (quote ∷ (s ++ (quote ∷ []))) (state after-item k n)
   string-runs q = goes (quote-opens d m k n) (then-runs (quoted-runs q) (goes (quote-closes d m k n) rests))

@@ -5,8 +5,9 @@ use mathlib.Core.Path.{_≡_, refl, ap, _∙_}
 use mathlib.Core.List.{List}
 use lib.ListN.{length}
 use Rattle.base.specs.Bytes.{Bytes}
-use Rattle.sirophan.specs.Answers.{count}
-use Rattle.sirophan.specs.Operations.{Step, found, stop, _>>=_, answer, selection, selectAnswer}
+use Rattle.refusal.specs.Answers.{count}
+use Rattle.refusal.specs.Steps.{Step, found, stop, _>>=_, answer}
+use Rattle.sirophan.specs.Operations.{selection, selectAnswer}
 use Rattle.sirophan.specs.Selection.{Run, matchingCards, SelectAnswers}
 use Rattle.sirophan.specs.Refusals.{SelectLine}
 use Rattle.sirophan.proofs.Selection.{selects-by-match}

@@ -9,8 +9,9 @@ use lib.Dec.{leb}
 use lib.ListN.{length, length-append}
 use borrow.Author.Tests.{leb-true}
 use Rattle.base.proofs.Tests.{cond-elim}
-use Rattle.sirophan.specs.Answers.{count, refused}
-use Rattle.sirophan.specs.Operations.{Step, found, stop, _>>=_, answer, Prepared, prepare, takeRun, takeCards, matching, takeRoom, selection, selectAnswer}
+use Rattle.refusal.specs.Answers.{count, refused}
+use Rattle.refusal.specs.Steps.{Step, found, stop, _>>=_, answer}
+use Rattle.sirophan.specs.Operations.{Prepared, prepare, takeRun, takeCards, matching, takeRoom, selection, selectAnswer}
 use Rattle.sirophan.proofs.Prepare.{prepare-number}
 use Rattle.sirophan.proofs.Runs.{run-iff, run-or-none}
 use Rattle.sirophan.proofs.Selection.{selects-by-match}

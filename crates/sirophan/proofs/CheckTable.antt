@@ -11,6 +11,7 @@ use mathlib.Core.List.{List, _∷_, List·Memᴰ, List·Memᴰ·head, List·Mem�
 use lib.Dec.{eqb, ltb}
 use lib.ListN.{length}
 use borrow.Author.Tests.{eq-eqb, eqb-true, lt-ltb, ltb-true}
+use Rattle.base.specs.Lists.{member}
 use Rattle.base.specs.Bytes.{Bytes}
 use Rattle.base.proofs.Tests.{or-either, or-left, or-right, both-ways, cond-elim}
 use Rattle.block.specs.Words.{word}
@@ -26,24 +27,21 @@ use Rattle.syntax.proofs.Spelling.{read-spells, spells-unique, tests-rise, risi
 use Rattle.place.specs.Begins.{Begins, Longest, Number, number-11, number-12, number-13}
 use Rattle.place.proofs.Place.{text-place, text-number, longest-unique, number-unique}
 use Rattle.judge.specs.Faults.{firstFault}
-use Rattle.sirophan.specs.Answers.{count, refused}
-use Rattle.sirophan.specs.Operations.{Step, found, _>>=_, sheetStep, takeSheet, treeStep, takeFilter, testsStep, Prepared, prepare, checkAnswer}
+use Rattle.refusal.specs.Answers.{count, refused}
+use Rattle.refusal.specs.Steps.{Step, found, _>>=_}
+use Rattle.sirophan.specs.Operations.{sheetStep, takeSheet, treeStep, takeFilter, testsStep, Prepared, prepare, checkAnswer}
 use Rattle.sirophan.specs.Numbers.{TestLine, line-14, line-18, line-15, line-16, line-17}
-use Rattle.sirophan.specs.Refusals.{group, Before, lower-group, earlier-place, lower-rank, Decides, SheetLine, line-1, line-2, line-3, TextLine, line-10, line-11, TestsLine, line-of-test, CheckLine}
-use Rattle.sirophan.proofs.Answers.{count-not-refused}
-use Rattle.sirophan.proofs.Outcomes.{ReadsTo, size-wrong, sum-wrong, layout-wrong, all-right, TestOutcome, test-means, test-refused, Decided, none-holds, one-decides}
+use Rattle.refusal.specs.Order.{group, rank, Before, Decides}
+use Rattle.sirophan.specs.Refusals.{SheetLine, line-1, line-2, line-3, TextLine, line-10, line-11, TestsLine, line-of-test, CheckLine}
+use Rattle.refusal.proofs.Answers.{count-not-refused}
+use Rattle.refusal.proofs.Deciding.{Decided, none-holds, one-decides, decided-as, decided-then, decided-found, decided-answer}
+use Rattle.sirophan.proofs.Outcomes.{ReadsTo, size-wrong, sum-wrong, layout-wrong, all-right, TestOutcome, test-means, test-refused}
 use Rattle.sirophan.proofs.Faults.{outcome}
 use Rattle.sirophan.proofs.Prepare.{tests-next}
 use Rattle.sirophan.proofs.Blocks.{sheet-reads-to}
-use Rattle.sirophan.proofs.Deciding.{rank-twice, apart-at, before-itself, later-group, later-place, no-lower-rank, decided-as, decided-then, decided-found, decided-answer}
+use Rattle.refusal.proofs.Order.{apart-at, before-itself, before-ranks, later-group, later-place, no-lower-rank}
 
 -- ---- the sheet
-
--- of two lines at one place, the one that comes before has the lower number, if groups go by numbers
-lower-number : {m n p : ℕ} → m ≤ 17 → n ≤ 17 → (group m < group n → m < n) → Before m p n p → m < n
-lower-number a b f (lower-group h) = f h
-lower-number a b f (earlier-place g h) = absurd (omega arith)
-lower-number {m = m} {n = n} a b f (lower-rank g e h) = omega (arith, rank-twice m (λ z. omega arith), rank-twice n (λ z. omega arith))
 
 -- the parameters found are those of the sheet
 abbrev OfSheet : List ℕ → List Parameter → Type 0
@@ -54,13 +52,12 @@ module _ (sheet : List ℕ) where
   pub sheet-parameters : (s : SheetBlock sheet) → parametersOf sheet ≡ s .parameters
   sheet-parameters s = sheet-reads-iff sheet (s .marked) (s .parameters) .1 (s .well-formed, s .form, s .encoded) .parameters
 
-  -- none comes before n, where the lines of lower numbers do not hold
-  sheet-first : (n : ℕ) → group n ≡ n → n ≤ 3 → (1 < n → length sheet ≡ 512) → (2 < n → checkSum sheet ≡ word sheet 508)
+  -- none comes before n, where the lines that rank lower do not hold
+  sheet-first : (n : ℕ) → rank n ≤ rank 3 → (rank 1 < rank n → length sheet ≡ 512) → (rank 2 < rank n → checkSum sheet ≡ word sheet 508)
       → (m q : ℕ) → SheetLine sheet m q → Before m q n 0 → ⊥
-  unfolding group
-  sheet-first n g h a b m q (line-1 u) k = u (a (lower-number (omega arith) (omega arith) (λ l. omega arith) k))
-  sheet-first n g h a b m q (line-2 u) k = u (b (lower-number (omega arith) (omega arith) (λ l. omega arith) k))
-  sheet-first n g h a b m q (line-3 u) k = let l : 3 < n = lower-number (omega arith) (omega arith) (λ l. omega arith) k in omega arith
+  sheet-first n h a b m q (line-1 u) k = u (a (before-ranks k))
+  sheet-first n h a b m q (line-2 u) k = u (b (before-ranks k))
+  sheet-first n h a b m q (line-3 u) k = let l = before-ranks k in omega arith
 
   sheet-none : length sheet ≡ 512 → checkSum sheet ≡ word sheet 508 → SheetBlock sheet → (m q : ℕ) → SheetLine sheet m q → ⊥
   sheet-none a b s m q (line-1 u) = u a
@@ -68,13 +65,13 @@ module _ (sheet : List ℕ) where
   sheet-none a b s m q (line-3 u) = u s
 
   sheet-step : {r : Reading} → ReadsTo sheet (SheetBlock sheet) r → Decided (OfSheet sheet) (SheetLine sheet) (sheetStep r (parametersOf sheet))
-  unfolding group
+  unfolding rank
   sheet-step (size-wrong u) =
-      one-decides (record { holds = line-1 u; first = sheet-first 1 refl (omega arith) (λ l. absurd (omega arith)) (λ l. absurd (omega arith)) })
+      one-decides (record { holds = line-1 u; first = sheet-first 1 (omega arith) (λ l. absurd (omega arith)) (λ l. absurd (omega arith)) })
   sheet-step (sum-wrong a u) =
-      one-decides (record { holds = line-2 u; first = sheet-first 2 refl (omega arith) (λ l. a) (λ l. absurd (omega arith)) })
+      one-decides (record { holds = line-2 u; first = sheet-first 2 (omega arith) (λ l. a) (λ l. absurd (omega arith)) })
   sheet-step (layout-wrong a b u) =
-      one-decides (record { holds = line-3 u; first = sheet-first 3 refl (omega arith) (λ l. a) (λ l. b) })
+      one-decides (record { holds = line-3 u; first = sheet-first 3 (omega arith) (λ l. a) (λ l. b) })
   sheet-step (all-right a b s) = none-holds (s, sym (sheet-parameters s)) (sheet-none a b s)
 
   sheet-decided : Bytes sheet → Decided (OfSheet sheet) (SheetLine sheet) (takeSheet sheet)
@@ -84,8 +81,8 @@ module _ (sheet : List ℕ) where
 -- ---- the text
 
 -- 11 to 13 share a line
-number-group : {d m : ℕ} {xs : List ℕ} {p n : ℕ} → Number d m xs p n → group n ≡ 11
-unfolding group
+number-group : {d m : ℕ} {xs : List ℕ} {p n : ℕ} → Number d m xs p n → group n ≡ group 11
+unfolding group member
 number-group (number-12 x) = refl
 number-group (number-13 x y) = refl
 number-group (number-11 x y) = refl
@@ -96,7 +93,7 @@ module _ (text : List ℕ) where
 
   -- none comes before 10
   size-first : (m q : ℕ) → TextLine text m q → Before m q 10 0 → ⊥
-  unfolding group
+  unfolding group member
   size-first m q (line-10 u) k = before-itself k
   size-first m q (line-11 u l w) k = later-group (let g = number-group w in omega arith) k
 
@@ -139,8 +136,8 @@ module _ (text : List ℕ) where
 
 -- ---- the tests
 
-test-group : {ps : List Parameter} {t : Test} {n : ℕ} → TestLine ps t n → group n ≡ 14
-unfolding group
+test-group : {ps : List Parameter} {t : Test} {n : ℕ} → TestLine ps t n → group n ≡ group 14
+unfolding group member
 test-group (line-14 u) = refl
 test-group (line-18 j) = refl
 test-group (line-15 u) = refl
@@ -201,26 +198,29 @@ module _ (sheet text : List ℕ) where
         decided-found (λ u. record { parameters = s .parameters; filter = f }) (λ u _. (s, refl, spells))
         (decided-as (λ n p. (among-there n p, among-back)) (tests-decided (s .parameters) (s .well-formed) (tests-rise text f spells)))
 
-  sheet-group : (n p : ℕ) → SheetLine sheet n p → group n ≤ 3
-  unfolding group
+  sheet-group : (n p : ℕ) → SheetLine sheet n p → group n ≤ group 3
+  unfolding group member
   sheet-group n p (line-1 u) = omega arith
   sheet-group n p (line-2 u) = omega arith
   sheet-group n p (line-3 u) = omega arith
 
-  text-group : (n p : ℕ) → TextLine text n p → (3 < group n) × (group n ≤ 11)
-  unfolding group
+  text-group : (n p : ℕ) → TextLine text n p → (group 3 < group n) × (group n ≤ group 11)
+  unfolding group member
   text-group n p (line-10 u) = (omega arith, omega arith)
   text-group n p (line-11 u l w) = let g = number-group w in (omega arith, omega arith)
 
-  tests-group : (n p : ℕ) → TestsLine sheet text n p → group n ≡ 14
-  tests-group n p (line-of-test s spells m l) = test-group l
+  tests-group : (n p : ℕ) → TestsLine sheet text n p → (group 11 < group n) × (group n ≡ group 14)
+  unfolding group member
+  tests-group n p (line-of-test s spells m l) = let g = test-group l in (omega arith, omega arith)
 
   -- those after the sheet's
-  later-groups : (n p : ℕ) → TextLine text n p ⊎ TestsLine sheet text n p → (3 < group n) × (group n ≤ 14)
+  later-groups : (n p : ℕ) → TextLine text n p ⊎ TestsLine sheet text n p → (group 3 < group n) × (group n ≤ group 14)
+  unfolding group member
   later-groups n p (inl l) = let g = text-group n p l in (omega arith, omega arith)
   later-groups n p (inr l) = let g = tests-group n p l in (omega arith, omega arith)
 
-  pub check-group : (n p : ℕ) → CheckLine sheet text n p → group n ≤ 14
+  pub check-group : (n p : ℕ) → CheckLine sheet text n p → group n ≤ group 14
+  unfolding group member
   check-group n p (inl l) = let g = sheet-group n p l in omega arith
   check-group n p (inr l) = later-groups n p l .1
 
@@ -230,14 +230,14 @@ module _ (sheet text : List ℕ) where
       (takeFilter text >>= λ f. testsStep (s .parameters) (testsOf f) >>= λ u. found (record { parameters = s .parameters; filter = f }))
   text-step s =
       decided-then (TextLine text) (TestsLine sheet text)
-      (apart-at (TextLine text) (TestsLine sheet text) 11 (λ n p l. text-group n p l .1) (λ n p l. let g = tests-group n p l in omega arith))
+      (apart-at (TextLine text) (TestsLine sheet text) (group 11) (λ n p l. text-group n p l .1) (λ n p l. tests-group n p l .0))
       (text-decided text) (λ f _ spells. filter-decided s f spells)
 
   pub prepare-decided : Bytes sheet → Decided Ready (CheckLine sheet text) (prepare sheet text)
   unfolding prepare
   prepare-decided bytes =
       decided-then (SheetLine sheet) (λ n p. TextLine text n p ⊎ TestsLine sheet text n p)
-      (apart-at (SheetLine sheet) (λ n p. TextLine text n p ⊎ TestsLine sheet text n p) 3 sheet-group (λ n p l. later-groups n p l .0))
+      (apart-at (SheetLine sheet) (λ n p. TextLine text n p ⊎ TestsLine sheet text n p) (group 3) sheet-group (λ n p l. later-groups n p l .0))
       (sheet-decided sheet bytes) (λ ps _ of-sheet. rw (← of-sheet .1) (text-step (of-sheet .0)))
 
   -- check is refused with a number and a place exactly where that line of the table decides

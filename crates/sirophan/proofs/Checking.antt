@@ -26,10 +26,12 @@ use Rattle.filter.specs.declared.Summary.{Summary}
 use Rattle.filter.specs.declared.Walked.{Walked}
 use Rattle.filter.proofs.Walk.{WasFilter, was-filter, was-none, filter-ahead}
 use Rattle.filter.proofs.Reading.{walked-cases, reading-is}
-use Rattle.sirophan.specs.declared.Reason.{Reason}
+use Rattle.refusal.specs.declared.Reason.{Reason}
 use Rattle.sirophan.specs.declared.Checked.{Checked}
-use Rattle.sirophan.specs.Answers.{Answer, count, refused, numberOf, checkedAnswer}
-use Rattle.sirophan.specs.Operations.{Step, found, stop, _>>=_, answer, treeStep, takeFilter, faultStep, testsStep, sheetStep, takeSheet, filterAnswer, Prepared, prepare, checkAnswer}
+use Rattle.refusal.specs.Answers.{Answer, count, refused, numberOf}
+use Rattle.sirophan.specs.Answers.{checkedAnswer}
+use Rattle.refusal.specs.Steps.{Step, found, stop, _>>=_, answer}
+use Rattle.sirophan.specs.Operations.{treeStep, takeFilter, faultStep, testsStep, sheetStep, takeSheet, filterAnswer, Prepared, prepare, checkAnswer}
 use Rattle.sirophan.specs.Passing.{summaryAnswer, failureAnswer}
 
 -- ---- the answer for a text that is a filter

@@ -5,7 +5,8 @@ use mathlib.Core.Path.{_≡_, sym, _∙_}
 use mathlib.Core.List.{List}
 use lib.ListN.{length, getD}
 use Rattle.base.proofs.All.{bytes-of}
-use Rattle.sirophan.specs.Answers.{Answer, checkedAnswer, matchedAnswer, selectedAnswer}
+use Rattle.refusal.specs.Answers.{Answer}
+use Rattle.sirophan.specs.Answers.{checkedAnswer, matchedAnswer, selectedAnswer}
 use Rattle.sirophan.specs.Operations.{checkAnswer, matchAnswer, selectAnswer}
 use Rattle.sirophan.specs.Refusals.{CheckLine, MatchLine, SelectLine}
 use Rattle.sirophan.specs.Selecting.{Selects}

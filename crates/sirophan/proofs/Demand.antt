@@ -12,13 +12,14 @@ use Rattle.card.specs.Card.{Entry}
 use Rattle.syntax.specs.Tree.{Tree, testsOf}
 use Rattle.syntax.specs.Grammar.{Spells}
 use Rattle.judge.specs.Verdicts.{filterSays}
-use Rattle.sirophan.specs.Answers.{Answer, yesOrNo, count, refused}
-use Rattle.sirophan.specs.Operations.{Step, found, stop, testsStep, Prepared, prepare, checkAnswer, matchAnswer}
+use Rattle.refusal.specs.Answers.{Answer, yesOrNo, count, refused}
+use Rattle.refusal.specs.Steps.{Step, found, stop}
+use Rattle.sirophan.specs.Operations.{testsStep, Prepared, prepare, checkAnswer, matchAnswer}
 use Rattle.judge.specs.Rules.{Conforms, Meaningful}
 use Rattle.sirophan.specs.Verdicts.{Verdict}
 use Rattle.sirophan.specs.Demand.{Demand, MeetsDemand}
 use Rattle.sirophan.proofs.Verdicts.{verdict-by}
-use Rattle.sirophan.proofs.Answers.{count-not-refused}
+use Rattle.refusal.proofs.Answers.{count-not-refused}
 use Rattle.sirophan.proofs.Cards.{conforms-size, conforms-bytes, conforms-taken}
 use Rattle.sirophan.proofs.Outcomes.{TestsOutcome, all-mean, one-refused}
 use Rattle.sirophan.proofs.Prepare.{check-by, match-by, tests-outcome, prepared}

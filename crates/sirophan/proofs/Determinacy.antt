@@ -9,13 +9,13 @@ use Rattle.base.proofs.All.{first-unique}
 use Rattle.sheet.specs.Sheet.{Parameter}
 use Rattle.card.specs.Card.{Entry}
 use Rattle.syntax.specs.Tree.{Test, Tree, testsOf}
-use Rattle.sirophan.specs.Answers.{Answer, count, refused}
+use Rattle.refusal.specs.Answers.{Answer, count, refused}
 use Rattle.judge.specs.Rules.{Meaningful}
 use Rattle.sirophan.specs.Numbers.{Numbered}
-use Rattle.sirophan.proofs.Deciding.{rank-unique}
+use Rattle.refusal.proofs.Order.{rank-unique}
 use Rattle.sirophan.specs.Verdicts.{Verdict, answers-yes, answers-no}
 use Rattle.sirophan.specs.Demand.{RefusesAlike, Demand, Agree}
-use Rattle.sirophan.proofs.Answers.{is-count}
+use Rattle.refusal.proofs.Answers.{is-count}
 
 -- the table gives a test one number
 numbered-unique : {ps : List Parameter} {t : Test} {n m : ℕ} → Numbered ps t n → Numbered ps t m → n ≡ m

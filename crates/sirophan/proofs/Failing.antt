@@ -17,7 +17,7 @@ use Rattle.place.specs.Begins.{Begins, Longest, Number}
 use Rattle.place.specs.Machine.{failure}
 use Rattle.place.specs.Machine as place
 use Rattle.place.proofs.Place.{text-place, text-number, longest-unique, number-unique}
-use Rattle.sirophan.specs.Answers.{refused}
+use Rattle.refusal.specs.Answers.{refused}
 use Rattle.sirophan.specs.Operations.{takeFilter, prepare, checkAnswer}
 use Rattle.sirophan.proofs.Prepare.{sheet-taken}
 

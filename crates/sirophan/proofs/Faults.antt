@@ -26,7 +26,8 @@ use Rattle.sirophan.specs.Operations.{faultStep}
 use Rattle.kind.specs.Rules.{TrueOrFalse, ReadableValue, value-of-pr, value-of-kind}
 use Rattle.judge.specs.Rules.{NamesIn, Names, names, names-member, NotOnSheet, LacksMeaning, not-on-sheet, bare-bundle, neither, lacks-operator, unreadable}
 use Rattle.kind.specs.Rules.{HasOperator}
-use Rattle.sirophan.specs.Numbers.{rank, TestLine, line-14, line-18, line-15, line-16, line-17, Numbered}
+use Rattle.refusal.specs.Order.{rank}
+use Rattle.sirophan.specs.Numbers.{TestLine, line-14, line-18, line-15, line-16, line-17, Numbered}
 use Rattle.kind.proofs.Rules.{value-iff}
 use Rattle.kind.proofs.Rules.{operator-iff}
 use Rattle.judge.proofs.Rules.{unsupported-lacks, names-iff, missing-iff}
@@ -73,13 +74,12 @@ module _ (ps : List Parameter) (w : WellFormedSheet ps) (t : Test) where
   -- ---- the table's number
 
   -- a line ranks at r or after, where the lines before r do not hold
-  lowest-from : (r : ℕ) → r ≤ 34 → (28 < r → NotOnSheet ps (t .path) → ⊥) → (29 < r → (i : ℕ) → Names ps (t .path) i bundleKind → ⊥) → (30 < r → unsupported (t .operator) ≡ false)
-      → (32 < r → (i k : ℕ) → Names ps (t .path) i k → HasOperator k (t .operator)) → (m : ℕ) → TestLine ps t m → r ≤ rank m
-  unfolding rank
-  lowest-from r h a d b c m (line-14 u) = let z : 28 < r → ⊥ = λ l. a l u in omega arith
-  lowest-from r h a d b c m (line-18 {i = i} j) = let z : 29 < r → ⊥ = λ l. d l i j in omega arith
-  lowest-from r h a d b c m (line-15 u) = let z : 30 < r → ⊥ = λ l. both-ways u (b l) in omega arith
-  lowest-from r h a d b c m (line-16 {i = i} {k = k} j u o) = let z : 32 < r → ⊥ = λ l. o (c l i k j) in omega arith
+  lowest-from : (r : ℕ) → r ≤ rank 17 → (rank 14 < r → NotOnSheet ps (t .path) → ⊥) → (rank 18 < r → (i : ℕ) → Names ps (t .path) i bundleKind → ⊥)
+      → (rank 15 < r → unsupported (t .operator) ≡ false) → (rank 16 < r → (i k : ℕ) → Names ps (t .path) i k → HasOperator k (t .operator)) → (m : ℕ) → TestLine ps t m → r ≤ rank m
+  lowest-from r h a d b c m (line-14 u) = let z : rank 14 < r → ⊥ = λ l. a l u in omega arith
+  lowest-from r h a d b c m (line-18 {i = i} j) = let z : rank 18 < r → ⊥ = λ l. d l i j in omega arith
+  lowest-from r h a d b c m (line-15 u) = let z : rank 15 < r → ⊥ = λ l. both-ways u (b l) in omega arith
+  lowest-from r h a d b c m (line-16 {i = i} {k = k} j u o) = let z : rank 16 < r → ⊥ = λ l. o (c l i k j) in omega arith
   lowest-from r h a d b c m (line-17 j v) = h
 
   -- ---- what a test comes to: a meaning on every conforming card, or a refusal
@@ -104,7 +104,7 @@ module _ (ps : List Parameter) (w : WellFormedSheet ps) (t : Test) where
   outcome-by (judged-unknown u) =
       test-refused
       (record {
-        table = record { line = line-14 u; lowest = lowest-from 28 (omega arith) (λ l. absurd (omega arith)) (λ l. absurd (omega arith)) (λ l. absurd (omega arith)) (λ l. absurd (omega arith)) };
+        table = record { line = line-14 u; lowest = lowest-from (rank 14) (omega arith) (λ l. absurd (omega arith)) (λ l. absurd (omega arith)) (λ l. absurd (omega arith)) (λ l. absurd (omega arith)) };
         card = encodeCard false 0 [];
         entries = [];
         conforms = empty-conforms ps;
@@ -113,7 +113,7 @@ module _ (ps : List Parameter) (w : WellFormedSheet ps) (t : Test) where
   outcome-by (judged-bundle {i = i} j) =
       test-refused
       (record {
-        table = record { line = line-18 j; lowest = lowest-from 29 (omega arith) (λ l n. n i bundleKind j) (λ l. absurd (omega arith)) (λ l. absurd (omega arith)) (λ l. absurd (omega arith)) };
+        table = record { line = line-18 j; lowest = lowest-from (rank 18) (omega arith) (λ l n. n i bundleKind j) (λ l. absurd (omega arith)) (λ l. absurd (omega arith)) (λ l. absurd (omega arith)) };
         card = encodeCard false 0 [];
         entries = [];
         conforms = empty-conforms ps;
@@ -123,17 +123,17 @@ module _ (ps : List Parameter) (w : WellFormedSheet ps) (t : Test) where
       let lacking : HasOperator k (t .operator) → ⊥ = λ h. both-ways (operator-iff k (t .operator) .1 h) (unsupported-lacks k (t .operator) u) in
       test-refused
       (refused-at i k z j 15
-      (record { line = line-15 u; lowest = lowest-from 30 (omega arith) (λ l n. n i k j) (λ l i′ j′. z (same-kind j j′)) (λ l. absurd (omega arith)) (λ l. absurd (omega arith)) })
+      (record { line = line-15 u; lowest = lowest-from (rank 15) (omega arith) (λ l n. n i k j) (λ l i′ j′. z (same-kind j j′)) (λ l. absurd (omega arith)) (λ l. absurd (omega arith)) })
       (λ es v. lacks-operator j v lacking))
   outcome-by (judged-meaningless {i = i} {k = k} z j u o) =
       test-refused
       (refused-at i k z j 16
-      (record { line = line-16 j u o; lowest = lowest-from 32 (omega arith) (λ l n. n i k j) (λ l i′ j′. z (same-kind j j′)) (λ l. u) (λ l. absurd (omega arith)) })
+      (record { line = line-16 j u o; lowest = lowest-from (rank 16) (omega arith) (λ l n. n i k j) (λ l i′ j′. z (same-kind j j′)) (λ l. u) (λ l. absurd (omega arith)) })
       (λ es v. lacks-operator j v o))
   outcome-by (judged-unreadable {i = i} {k = k} z j u o r) =
       test-refused
       (refused-at i k z j 17
-      (record { line = line-17 j r; lowest = lowest-from 34 (omega arith) (λ l n. n i k j) (λ l i′ j′. z (same-kind j j′)) (λ l. u) (λ l i′ k′ j′. subst (λ (m : ℕ). HasOperator m (t .operator)) (same-kind j j′) o) })
+      (record { line = line-17 j r; lowest = lowest-from (rank 17) (omega arith) (λ l n. n i k j) (λ l i′ j′. z (same-kind j j′)) (λ l. u) (λ l i′ k′ j′. subst (λ (m : ℕ). HasOperator m (t .operator)) (same-kind j j′) o) })
       (λ es v. unreadable j v r))
   outcome-by (judged-right {i = i} {k = k} z j o r) = test-means (λ card es c. never es) no-line
     where

@@ -16,9 +16,10 @@ use Rattle.sheet.specs.Sheet.{Parameter}
 use Rattle.card.specs.Card.{recordNumber, readCard}
 use Rattle.syntax.specs.Tree.{Tree}
 use Rattle.sirophan.specs.declared.verdict.CardVerdict.{CardVerdict}
-use Rattle.sirophan.specs.declared.Refusal.{Refusal}
+use Rattle.refusal.specs.declared.Refusal.{Refusal}
 use Rattle.sirophan.specs.declared.Selected.{Selected}
-use Rattle.sirophan.specs.Operations.{Step, found, stop, _>>=_, blocks, takeCard}
+use Rattle.refusal.specs.Steps.{Step, found, stop, _>>=_}
+use Rattle.sirophan.specs.Operations.{blocks, takeCard}
 use Rattle.sirophan.specs.Passing.{textSays, cardVerdict, verdictStep}
 use Rattle.sirophan.specs.Selecting.{runNumbers, Gathers}
 use Rattle.sirophan.proofs.Passing.{taken, card-taken}

@@ -25,7 +25,8 @@ use Rattle.filter.specs.Walks.{answerOf}
 use Rattle.filter.specs.declared.Judged.{Judged}
 use Rattle.filter.proofs.Walk.{was-filter, was-none}
 use Rattle.filter.proofs.Judging.{judged-cases, judging-is}
-use Rattle.sirophan.specs.Operations.{found, stop, Card, cardStep, takeCard}
+use Rattle.refusal.specs.Steps.{found, stop}
+use Rattle.sirophan.specs.Operations.{Card, cardStep, takeCard}
 use Rattle.sirophan.specs.Passing.{Passing, textSays, cardVerdict}
 
 -- ---- what the filter says

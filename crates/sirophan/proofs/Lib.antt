@@ -6,7 +6,6 @@ pub mod Writing
 pub mod Gathering
 pub mod Selecting
 pub mod Outcomes
-pub mod Answers
 pub mod Cards
 pub mod Faults
 pub mod Prepare
@@ -19,7 +18,6 @@ pub mod Runs
 pub mod Selection
 pub mod Bounds
 pub mod Blocks
-pub mod Deciding
 pub mod CheckTable
 pub mod MatchTable
 pub mod SelectTable

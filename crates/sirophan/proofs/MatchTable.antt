@@ -9,6 +9,7 @@ use mathlib.Core.Bool.{Bool, true, false}
 use mathlib.Core.Logic.{_↔_}
 use mathlib.Core.List.{List}
 use lib.ListN.{length}
+use Rattle.base.specs.Lists.{member}
 use Rattle.base.specs.Bytes.{Bytes}
 use Rattle.base.proofs.Tests.{both-ways}
 use Rattle.block.specs.Words.{word}
@@ -20,24 +21,26 @@ use Rattle.card.specs.Card.{Entry, entriesOf, readCard}
 use Rattle.card.specs.Encode.{CardBlock}
 use Rattle.judge.specs.Sets.{conforms}
 use Rattle.judge.specs.Verdicts.{filterSays}
-use Rattle.sirophan.specs.Answers.{yesOrNo, refused}
-use Rattle.sirophan.specs.Operations.{found, stop, _>>=_, Prepared, Card, cardStep, takeCard, matchAnswer}
+use Rattle.refusal.specs.Answers.{yesOrNo, refused}
+use Rattle.refusal.specs.Steps.{found, stop, _>>=_}
+use Rattle.sirophan.specs.Operations.{Prepared, Card, cardStep, takeCard, matchAnswer}
 use Rattle.judge.specs.Rules.{Conforms}
-use Rattle.sirophan.specs.Numbers.{rank}
-use Rattle.sirophan.specs.Refusals.{group, Before, Decides, CheckLine, CardLine, line-21, line-22, line-23, OneCardLine, line-20-match, line-of-card, MatchLine}
-use Rattle.sirophan.proofs.Answers.{verdict-not-refused}
+use Rattle.refusal.specs.Order.{rank, group, Before, Decides}
+use Rattle.sirophan.specs.Refusals.{CheckLine, CardLine, line-21, line-22, line-23, OneCardLine, line-20-match, line-of-card, MatchLine}
+use Rattle.refusal.proofs.Answers.{verdict-not-refused}
 use Rattle.judge.proofs.Rules.{entries-iff}
 use Rattle.sirophan.proofs.Cards.{conforms-reads, reads-conforms}
-use Rattle.sirophan.proofs.Outcomes.{ReadsTo, size-wrong, sum-wrong, layout-wrong, all-right, cardOf, Taken, Decided, none-holds, one-decides, NotRefused}
+use Rattle.refusal.proofs.Deciding.{Decided, none-holds, one-decides, NotRefused, decided-as, decided-then, decided-found, decided-answer}
+use Rattle.sirophan.proofs.Outcomes.{ReadsTo, size-wrong, sum-wrong, layout-wrong, all-right, cardOf, Taken}
 use Rattle.sirophan.proofs.Blocks.{card-reads-to}
-use Rattle.sirophan.proofs.Deciding.{rank-twice, apart-at, later-group, no-lower-rank, decided-as, decided-then, decided-found, decided-answer}
+use Rattle.refusal.proofs.Order.{apart-at, later-group, no-lower-rank}
 use Rattle.sirophan.proofs.CheckTable.{sheet-parameters, check-group, Ready, prepare-decided}
 
 -- ---- one card
 
 module _ (sheet : List ℕ) where
-  pub card-group : {b : List ℕ} {n : ℕ} → CardLine sheet b n → group n ≡ 21
-  unfolding group
+  pub card-group : {b : List ℕ} {n : ℕ} → CardLine sheet b n → group n ≡ group 21
+  unfolding group member
   card-group (line-21 u) = refl
   card-group (line-22 u) = refl
   card-group (line-23 s c n) = refl
@@ -47,11 +50,11 @@ module _ (sheet : List ℕ) where
     ps = s .parameters
 
     -- a line ranks at n or after, where the lines before n do not hold
-    card-lowest : (n : ℕ) → 21 ≤ n → n ≤ 23 → (21 < n → checkSum b ≡ word b 508) → (22 < n → CardBlock b) → (m : ℕ) → CardLine sheet b m → rank n ≤ rank m
-    unfolding rank
-    card-lowest n low h a c m (line-21 u) = let z : 21 < n → ⊥ = λ l. u (a l) in omega (arith, rank-twice n (λ e. omega arith))
-    card-lowest n low h a c m (line-22 u) = let z : 22 < n → ⊥ = λ l. u (c l) in omega (arith, rank-twice n (λ e. omega arith))
-    card-lowest n low h a c m (line-23 s′ k v) = omega (arith, rank-twice n (λ e. omega arith))
+    card-lowest : (n : ℕ) → rank n ≤ rank 23 → (rank 21 < rank n → checkSum b ≡ word b 508) → (rank 22 < rank n → CardBlock b) → (m : ℕ) → CardLine sheet b m
+        → rank n ≤ rank m
+    card-lowest n h a c m (line-21 u) = let z : rank 21 < rank n → ⊥ = λ l. u (a l) in omega arith
+    card-lowest n h a c m (line-22 u) = let z : rank 22 < rank n → ⊥ = λ l. u (c l) in omega arith
+    card-lowest n h a c m (line-23 s′ k v) = h
 
     -- where the card conforms, none holds
     card-none : checkSum b ≡ word b 508 → CardBlock b → (es : List Entry) → Conforms ps b es → (m : ℕ) → CardLine sheet b m → ⊥
@@ -77,11 +80,12 @@ module _ (sheet : List ℕ) where
     module _ (bytes : Bytes b) (size : length b ≡ 512) (i : ℕ) where
       card-step : (r : Reading) → readCard b ≡ r → ReadsTo b (CardBlock b) r → (fits : Bool) → conforms ps (entriesOf b) ≡ fits
           → Decided TakenAs (LineAt i) (cardStep r fits (cardOf b) i)
+      unfolding rank
       card-step r e (size-wrong u) fits h = absurd (u size)
       card-step r e (sum-wrong a u) fits h =
-          card-decides i 21 (line-21 u) (card-lowest 21 (omega arith) (omega arith) (λ l. absurd (omega arith)) (λ l. absurd (omega arith)))
+          card-decides i 21 (line-21 u) (card-lowest 21 (omega arith) (λ l. absurd (omega arith)) (λ l. absurd (omega arith)))
       card-step r e (layout-wrong a c u) fits h =
-          card-decides i 22 (line-22 u) (card-lowest 22 (omega arith) (omega arith) (λ l. c) (λ l. absurd (omega arith)))
+          card-decides i 22 (line-22 u) (card-lowest 22 (omega arith) (λ l. c) (λ l. absurd (omega arith)))
       card-step r e (all-right a c k) true h =
           let taken : Taken ps b = λ j. unfold takeCard in rw (e, h) in
           none-holds (taken, refl) (λ m p l. card-none c k (entriesOf b) (reads-conforms ps b bytes e h) m (l .0))
@@ -89,7 +93,7 @@ module _ (sheet : List ℕ) where
           let not-conforming : (es : List Entry) → Conforms ps b es → ⊥ =
           λ es g. both-ways (ap (conforms ps) (conforms-reads g .entries) ∙ entries-iff ps es .1 (g .entries)) h
           in
-          card-decides i 23 (line-23 s k not-conforming) (card-lowest 23 (omega arith) (omega arith) (λ l. c) (λ l. k))
+          card-decides i 23 (line-23 s k not-conforming) (card-lowest 23 (omega arith) (λ l. c) (λ l. k))
 
       pub card-decided : Decided TakenAs (LineAt i) (takeCard ps i b)
       unfolding takeCard
@@ -106,7 +110,7 @@ module _ (sheet text card : List ℕ) where
 
   -- none comes before 20
   size-first : (m q : ℕ) → OneCardLine sheet card m q → Before m q 20 0 → ⊥
-  unfolding group
+  unfolding group member
   size-first m q (line-20-match u) = no-lower-rank refl (le-refl 0) (le-refl (rank 20))
   size-first m q (line-of-card l) = later-group (omega (arith, card-group sheet l))
 
@@ -125,8 +129,8 @@ module _ (sheet text card : List ℕ) where
       by-size (yes e) = decided-as (λ n p. (one-there n p, one-back e)) (card-decided sheet s card bytes e 0)
       by-size (no n) = rw (wrong-size (card-reads-to card bytes) n) (one-decides (record { holds = line-20-match n; first = size-first }))
 
-  one-group : (n p : ℕ) → OneCardLine sheet card n p → 14 < group n
-  unfolding group
+  one-group : (n p : ℕ) → OneCardLine sheet card n p → group 14 < group n
+  unfolding group member
   one-group n p (line-20-match u) = omega arith
   one-group n p (line-of-card l) = let g = card-group sheet l in omega arith
 
@@ -143,5 +147,5 @@ module _ (sheet text card : List ℕ) where
   match-table sheet-bytes bytes =
       decided-answer (MatchLine sheet text card)
       (decided-then (CheckLine sheet text) (OneCardLine sheet card)
-      (apart-at (CheckLine sheet text) (OneCardLine sheet card) 14 (check-group sheet text) one-group)
+      (apart-at (CheckLine sheet text) (OneCardLine sheet card) (group 14) (check-group sheet text) one-group)
       (prepare-decided sheet text sheet-bytes) (λ r _ ready. verdict-decided bytes r ready))

@@ -15,14 +15,13 @@ use Rattle.card.specs.Card.{Entry, recordNumber, entriesOf}
 use Rattle.syntax.specs.Tree.{Test}
 use Rattle.judge.specs.Faults.{unsupported}
 use Rattle.judge.specs.declared.Fault.{Fault}
-use Rattle.sirophan.specs.Answers.{Answer, refused}
-use Rattle.sirophan.specs.Operations.{Step, found, stop, Card, takeCard}
+use Rattle.refusal.specs.Steps.{Step, found, stop}
+use Rattle.sirophan.specs.Operations.{Card, takeCard}
 use Rattle.kind.specs.Rules.{ReadableValue}
 use Rattle.judge.specs.Rules.{Conforms, Names, NotOnSheet, LacksMeaning, Meaningful}
 use Rattle.kind.specs.Rules.{HasOperator}
 use Rattle.sirophan.specs.Numbers.{TestLine, Numbered}
 use Rattle.sirophan.specs.Selection.{matchingCards, matchingNumbers, RefusesCard}
-use Rattle.sirophan.specs.Refusals.{Decides}
 
 -- ---- blocks
 
@@ -96,12 +95,3 @@ pub data SelectionOutcome (sheet text : List ℕ) (bs : List (List ℕ)) (room :
 pub data AtMost {A : Type 0} (most : ℕ) : Step A → Type 0 where
   found-at-most : {x : A} → AtMost most (found x)
   stop-at-most : (n p : ℕ) → n ≤ most → AtMost most (stop n p)
-
--- it found something of which Known holds, where no line of the table does; or it was refused by the line that decides
-pub data Decided {A : Type 0} (Known : A → Type 0) (Line : ℕ → ℕ → Type 0) : Step A → Type 0 where
-  none-holds : {x : A} → Known x → ((n p : ℕ) → Line n p → ⊥) → Decided Known Line (found x)
-  one-decides : {n p : ℕ} → Decides Line n p → Decided Known Line (stop n p)
-
--- the answer is no refusal
-abbrev pub NotRefused : Answer → Type 0
-NotRefused a = (n p : ℕ) → a ≡ refused n p → ⊥

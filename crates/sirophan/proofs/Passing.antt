@@ -18,10 +18,12 @@ use Rattle.judge.specs.Sets.{conforms}
 use Rattle.judge.specs.Verdicts.{filterSays}
 use Rattle.sirophan.specs.declared.Checked.{Checked}
 use Rattle.sirophan.specs.declared.Matched.{Matched}
-use Rattle.sirophan.specs.declared.Refusal.{Refusal}
+use Rattle.refusal.specs.declared.Refusal.{Refusal}
 use Rattle.sirophan.specs.declared.verdict.CardVerdict.{CardVerdict}
-use Rattle.sirophan.specs.Answers.{count, refused, yesOrNo, numberOf, refusalAnswer, checkedAnswer, matchedAnswer}
-use Rattle.sirophan.specs.Operations.{Step, found, stop, _>>=_, answer, treeStep, takeFilter, testsStep, takeSheet, sheetStep, Prepared, prepare, Card, cardStep, takeCard, checkAnswer, matchAnswer}
+use Rattle.refusal.specs.Answers.{count, refused, yesOrNo, numberOf, refusalAnswer}
+use Rattle.sirophan.specs.Answers.{checkedAnswer, matchedAnswer}
+use Rattle.refusal.specs.Steps.{Step, found, stop, _>>=_, answer}
+use Rattle.sirophan.specs.Operations.{treeStep, takeFilter, testsStep, takeSheet, sheetStep, Prepared, prepare, Card, cardStep, takeCard, checkAnswer, matchAnswer}
 use Rattle.sirophan.specs.Passing.{Passing, cardVerdict, verdictStep}
 
 -- ---- check has passed them

@@ -25,8 +25,9 @@ use Rattle.judge.specs.Faults.{testFault, orElse, firstFault}
 use Rattle.judge.specs.declared.Fault.{Fault}
 use Rattle.judge.specs.declared.FirstFault.{FirstFault}
 use Rattle.judge.specs.Verdicts.{filterSays}
-use Rattle.sirophan.specs.Answers.{yesOrNo, count}
-use Rattle.sirophan.specs.Operations.{Step, found, stop, _>>=_, sheetStep, takeSheet, failureStep, treeStep, takeFilter, faultStep, testsStep, Prepared, prepare, answer, takeCard, checkAnswer, matchAnswer}
+use Rattle.refusal.specs.Answers.{yesOrNo, count}
+use Rattle.refusal.specs.Steps.{Step, found, stop, _>>=_, answer}
+use Rattle.sirophan.specs.Operations.{sheetStep, takeSheet, failureStep, treeStep, takeFilter, faultStep, testsStep, Prepared, prepare, takeCard, checkAnswer, matchAnswer}
 use Rattle.sirophan.proofs.Outcomes.{TestOutcome, test-means, test-refused, TestsOutcome, all-mean, one-refused, AtMost, found-at-most, stop-at-most}
 use Rattle.sirophan.proofs.Faults.{outcome}
 

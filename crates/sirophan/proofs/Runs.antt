@@ -13,7 +13,8 @@ use borrow.Author.Tests.{eq-eqb, eqb-true, le-leb, leb-true}
 use Rattle.base.specs.Lists.{All, all-empty, all-cons}
 use Rattle.base.proofs.Lists.{length-zero}
 use Rattle.base.proofs.Tests.{and-left, and-right, cond-first, cond-elim}
-use Rattle.sirophan.specs.Operations.{Step, found, stop, blocks, takeRun}
+use Rattle.refusal.specs.Steps.{Step, found, stop}
+use Rattle.sirophan.specs.Operations.{blocks, takeRun}
 use Rattle.sirophan.specs.Selection.{Run}
 
 -- ---- written and read back

@@ -10,22 +10,24 @@ use lib.Dec.{leb}
 use lib.ListN.{length, length-append, length-map}
 use borrow.Author.Tests.{leb-true, leb-false}
 use Rattle.base.specs.Bytes.{Byte, Bytes}
-use Rattle.base.specs.Lists.{All, all-empty, all-cons}
+use Rattle.base.specs.Lists.{All, all-empty, all-cons, member}
 use Rattle.base.proofs.All.{all-left, all-right}
 use Rattle.base.proofs.Tests.{cond-elim}
 use Rattle.sheet.specs.Sheet.{Parameter}
 use Rattle.sheet.specs.Encode.{SheetBlock}
 use Rattle.card.specs.Card.{recordNumber}
-use Rattle.sirophan.specs.Answers.{count, refused}
-use Rattle.sirophan.specs.Operations.{found, stop, _>>=_, Prepared, prepare, Card, takeRun, takeCards, matching, takeRoom, selection, selectAnswer}
-use Rattle.sirophan.specs.Numbers.{rank}
+use Rattle.refusal.specs.Answers.{count, refused}
+use Rattle.refusal.specs.Steps.{found, stop, _>>=_}
+use Rattle.sirophan.specs.Operations.{Prepared, prepare, Card, takeRun, takeCards, matching, takeRoom, selection, selectAnswer}
+use Rattle.refusal.specs.Order.{rank, group, Before, Decides}
 use Rattle.sirophan.specs.Selection.{Run, CardAt, matchingCards}
-use Rattle.sirophan.specs.Refusals.{group, Before, Decides, CheckLine, CardLine, RunLine, line-20-select, CardsLine, line-of-card-at, RoomLine, line-30, SelectLine}
-use Rattle.sirophan.proofs.Answers.{count-not-refused}
-use Rattle.sirophan.proofs.Outcomes.{cardOf, Taken, Decided, none-holds, one-decides}
+use Rattle.sirophan.specs.Refusals.{CheckLine, CardLine, RunLine, line-20-select, CardsLine, line-of-card-at, RoomLine, line-30, SelectLine}
+use Rattle.refusal.proofs.Answers.{count-not-refused}
+use Rattle.refusal.proofs.Deciding.{Decided, none-holds, one-decides, decided-as, decided-then, decided-found, decided-answer}
+use Rattle.sirophan.proofs.Outcomes.{cardOf, Taken}
 use Rattle.sirophan.proofs.Runs.{run-iff, run-or-none}
 use Rattle.sirophan.proofs.Selection.{matching-numbers}
-use Rattle.sirophan.proofs.Deciding.{apart-at, later-place, no-lower-rank, decided-as, decided-then, decided-found, decided-answer}
+use Rattle.refusal.proofs.Order.{apart-at, later-place, no-lower-rank}
 use Rattle.sirophan.proofs.CheckTable.{check-group, prepare-decided}
 use Rattle.sirophan.proofs.MatchTable.{card-group, LineAt, card-decided}
 
@@ -158,22 +160,24 @@ module _ (sheet text cards : List ℕ) (room : ℕ) where
         ∙ ap length (matching-numbers sheet text r e all)
         ∙ length-map (matchingCards sheet text bs) recordNumber
 
-  run-group : (n p : ℕ) → RunLine cards n p → group n ≡ 20
-  unfolding group
+  run-group : (n p : ℕ) → RunLine cards n p → group n ≡ group 20
+  unfolding group member
   run-group n p (line-20-select u) = refl
 
-  cards-group : (n p : ℕ) → CardsLine sheet cards n p → group n ≡ 21
+  cards-group : (n p : ℕ) → CardsLine sheet cards n p → group n ≡ group 21
   cards-group n p (line-of-card-at run a l) = card-group sheet l
 
-  room-group : (n p : ℕ) → RoomLine sheet text cards room n p → group n ≡ 30
-  unfolding group
-  room-group n p (line-30 run h) = refl
+  room-group : (n p : ℕ) → RoomLine sheet text cards room n p → group 21 < group n
+  unfolding group member
+  room-group n p (line-30 run h) = omega arith
 
-  cards-or-room : (n p : ℕ) → CardsLine sheet cards n p ⊎ RoomLine sheet text cards room n p → 20 < group n
+  cards-or-room : (n p : ℕ) → CardsLine sheet cards n p ⊎ RoomLine sheet text cards room n p → group 20 < group n
+  unfolding group member
   cards-or-room n p (inl l) = omega (arith, cards-group n p l)
   cards-or-room n p (inr l) = omega (arith, room-group n p l)
 
-  rest-group : (n p : ℕ) → RestLine n p → 14 < group n
+  rest-group : (n p : ℕ) → RestLine n p → group 14 < group n
+  unfolding group member
   rest-group n p (inl l) = omega (arith, run-group n p l)
   rest-group n p (inr l) = omega (arith, cards-or-room n p l)
 
@@ -188,7 +192,7 @@ module _ (sheet text cards : List ℕ) (room : ℕ) where
         (cards-decided sheet s (run .sizes) (flatten-bytes bs (subst Bytes (run .whole) bytes)) 0))
         in
         decided-then (CardsLine sheet cards) (RoomLine sheet text cards room)
-        (apart-at (CardsLine sheet cards) (RoomLine sheet text cards room) 21 (λ n p l. le-of-eq (cards-group n p l)) (λ n p l. omega (arith, room-group n p l)))
+        (apart-at (CardsLine sheet cards) (RoomLine sheet text cards room) (group 21) (λ n p l. le-of-eq (cards-group n p l)) room-group)
         taken
         (λ cs _ k. room-decided r e bs run (matching (r .parameters) (r .filter) cs) (matched r e bs run s same cs k))
 
@@ -196,7 +200,7 @@ module _ (sheet text cards : List ℕ) (room : ℕ) where
         (takeRun cards >>= λ bs. takeCards (r .parameters) 0 bs >>= λ cs. takeRoom room (matching (r .parameters) (r .filter) cs))
     rest-decided =
         decided-then (RunLine cards) (λ n p. CardsLine sheet cards n p ⊎ RoomLine sheet text cards room n p)
-        (apart-at (RunLine cards) (λ n p. CardsLine sheet cards n p ⊎ RoomLine sheet text cards room n p) 20 (λ n p l. le-of-eq (run-group n p l)) cards-or-room)
+        (apart-at (RunLine cards) (λ n p. CardsLine sheet cards n p ⊎ RoomLine sheet text cards room n p) (group 20) (λ n p l. le-of-eq (run-group n p l)) cards-or-room)
         (run-decided cards) (λ bs _ run. run-step bs run)
 
   -- select is refused with a number and a place exactly where that line of the table decides
@@ -205,5 +209,5 @@ module _ (sheet text cards : List ℕ) (room : ℕ) where
   select-table sheet-bytes bytes =
       decided-answer (SelectLine sheet text cards room)
       (decided-found (λ (ns : List ℕ). count (length ns)) (λ ns _. count-not-refused (length ns))
-      (decided-then (CheckLine sheet text) RestLine (apart-at (CheckLine sheet text) RestLine 14 (check-group sheet text) rest-group)
+      (decided-then (CheckLine sheet text) RestLine (apart-at (CheckLine sheet text) RestLine (group 14) (check-group sheet text) rest-group)
       (prepare-decided sheet text sheet-bytes) (λ r e ready. rest-decided bytes r e (ready .0) (ready .1))))

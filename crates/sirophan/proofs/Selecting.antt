@@ -16,11 +16,13 @@ use Rattle.syntax.specs.Reader.{read}
 use Rattle.judge.specs.Verdicts.{filterSays}
 use Rattle.card.specs.Card.{recordNumber}
 use Rattle.sirophan.specs.declared.Checked.{Checked}
-use Rattle.sirophan.specs.declared.Reason.{Reason}
-use Rattle.sirophan.specs.declared.Refusal.{Refusal}
+use Rattle.refusal.specs.declared.Reason.{Reason}
+use Rattle.refusal.specs.declared.Refusal.{Refusal}
 use Rattle.sirophan.specs.declared.Selected.{Selected}
-use Rattle.sirophan.specs.Answers.{numberOf, refusalAnswer, checkedAnswer, selectedAnswer}
-use Rattle.sirophan.specs.Operations.{Step, found, stop, _>>=_, checkAnswer, Card, takeCard, takeRun, takeCards, matching, takeRoom, selection, selectAnswer, selectCells}
+use Rattle.refusal.specs.Answers.{numberOf, refusalAnswer}
+use Rattle.sirophan.specs.Answers.{checkedAnswer, selectedAnswer}
+use Rattle.refusal.specs.Steps.{Step, found, stop, _>>=_}
+use Rattle.sirophan.specs.Operations.{checkAnswer, Card, takeCard, takeRun, takeCards, matching, takeRoom, selection, selectAnswer, selectCells}
 use Rattle.sirophan.specs.Passing.{Passing, cardVerdict}
 use Rattle.sirophan.specs.Selecting.{runNumbers, gatheredStep, Gathers, Selects}
 use Rattle.sirophan.proofs.Passing.{card-taken, prepare-stopped}

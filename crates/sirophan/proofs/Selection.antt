@@ -20,10 +20,11 @@ use Rattle.card.specs.Card.{recordNumber, entriesOf, readCard}
 use Rattle.syntax.specs.Tree.{Tree}
 use Rattle.judge.specs.Sets.{conforms}
 use Rattle.judge.specs.Verdicts.{filterSays}
-use Rattle.sirophan.specs.Answers.{yesOrNo, count, refused}
-use Rattle.sirophan.specs.Operations.{Step, found, stop, _>>=_, answer, Prepared, prepare, Card, cardStep, takeCard, takeRun, takeCards, matching, takeRoom, selection, matchAnswer, selectAnswer, written, selectCells}
+use Rattle.refusal.specs.Answers.{yesOrNo, count, refused}
+use Rattle.refusal.specs.Steps.{Step, found, stop, _>>=_, answer}
+use Rattle.sirophan.specs.Operations.{Prepared, prepare, Card, cardStep, takeCard, takeRun, takeCards, matching, takeRoom, selection, matchAnswer, selectAnswer, written, selectCells}
 use Rattle.sirophan.specs.Selection.{Run, isYes, matchingCards, matchingNumbers, occurrences, bearing, RefusesCard, SelectsByMatch}
-use Rattle.sirophan.proofs.Answers.{verdict-not-refused}
+use Rattle.refusal.proofs.Answers.{verdict-not-refused}
 use Rattle.sirophan.proofs.Outcomes.{cardOf, Taken, Stopped, CardsOutcome, all-taken, one-stopped, SelectionOutcome, not-prepared, card-refused, no-room, numbers-found}
 use Rattle.sirophan.proofs.Prepare.{match-by, prepare-number}
 use Rattle.sirophan.proofs.Runs.{run-iff}

@@ -13,7 +13,7 @@ use Rattle.syntax.specs.Tree.{Test, Tree, testsOf}
 use Rattle.judge.specs.Rules.{LacksMeaning, FilterSays}
 use Rattle.judge.specs.Verdicts.{filterSays}
 use Rattle.judge.proofs.Rules.{pr-spelled, filter-says-iff}
-use Rattle.sirophan.specs.Answers.{yesOrNo}
+use Rattle.refusal.specs.Answers.{yesOrNo}
 use Rattle.sirophan.specs.Verdicts.{Verdict, answers-yes, answers-no}
 
 -- where no test lacks a meaning on the entries

@@ -12,7 +12,7 @@ use Rattle.sheet.specs.Encode.{SheetBlock}
 use Rattle.card.specs.Card.{Entry}
 use Rattle.syntax.specs.Tree.{Test, Tree, testsOf}
 use Rattle.syntax.specs.Grammar.{Spells}
-use Rattle.sirophan.specs.Answers.{Answer, count, refused}
+use Rattle.refusal.specs.Answers.{Answer, count, refused}
 use Rattle.sirophan.specs.Verdicts.{Verdict}
 use Rattle.judge.specs.Rules.{Conforms, LacksMeaning, Meaningful}
 use Rattle.sirophan.specs.Numbers.{Numbered}

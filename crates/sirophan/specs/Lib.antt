@@ -11,3 +11,4 @@ pub mod Refusals
 pub mod Contracts
 pub mod Witness
 pub mod Trial
+pub mod Edges

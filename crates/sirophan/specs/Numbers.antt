@@ -1,10 +1,10 @@
--- Numbers of refusal: their rank, and lines 14 to 18, which are about a test.
+-- Lines 14 to 18 of the table of refusals, which are about a test.
 -- Assumes nothing.
-use Prim.Native.Nat.{ℕ, _*_, _≤_}
+use Prim.Native.Nat.{ℕ, _≤_}
 use mathlib.Core.Path.{_≡_}
-use mathlib.Core.Bool.{true, false, cond}
+use mathlib.Core.Bool.{true, false}
 use mathlib.Core.List.{List}
-use lib.Dec.{eqb}
+use Rattle.refusal.specs.Order.{rank}
 use Rattle.base.specs.Kinds.{bundleKind}
 use Rattle.sheet.specs.Sheet.{Parameter}
 use Rattle.syntax.specs.Tree.{Test}
@@ -12,10 +12,6 @@ use Rattle.judge.specs.Faults.{unsupported}
 use Rattle.kind.specs.Rules.{ReadableValue}
 use Rattle.judge.specs.Rules.{Names, NotOnSheet}
 use Rattle.kind.specs.Rules.{HasOperator}
-
--- "lowest line first": where a line stands among the others; 02: 18 is "ranking between 14 and 15"
-unfoldable pub rank : ℕ → ℕ
-rank n = cond (eqb n 18) 29 (2 * n)
 
 -- the line with the number holds for the test
 pub data TestLine (ps : List Parameter) (t : Test) : ℕ → Type 0 where

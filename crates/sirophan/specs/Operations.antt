@@ -19,21 +19,8 @@ use Rattle.judge.specs.Sets.{conforms}
 use Rattle.judge.specs.Faults.{firstFault}
 use Rattle.judge.specs.Verdicts.{filterSays}
 use Rattle.judge.specs.declared.Fault.{Fault}
-use Rattle.sirophan.specs.Answers.{Answer, yesOrNo, count, refused}
-
--- what was found, or a refusal: its number and its place
-pub data Step (A : Type 0) : Type 0 where
-  found : A → Step A
-  stop : ℕ → ℕ → Step A
-
-infixl 20 _>>=_
-abbrev pub _>>=_ : {A B : Type 0} → Step A → (A → Step B) → Step B
-found a >>= next = next a
-stop n p >>= next = stop n p
-
-abbrev pub answer : Step Answer → Answer
-answer (found a) = a
-answer (stop n p) = refused n p
+use Rattle.refusal.specs.Answers.{Answer, yesOrNo, count}
+use Rattle.refusal.specs.Steps.{Step, found, stop, _>>=_, answer}
 
 -- ---- the sheet: 1, 2, 3
 

@@ -15,8 +15,9 @@ use Rattle.judge.specs.Verdicts.{filterSays}
 use Rattle.place.specs.Machine as place
 use Rattle.place.specs.declared.Failure.{Failure}
 use Rattle.filter.specs.declared.Summary.{Summary}
-use Rattle.sirophan.specs.Answers.{Answer, count, refused, numberOf}
-use Rattle.sirophan.specs.Operations.{Step, found, stop, _>>=_, answer, faultStep, prepare, takeCard}
+use Rattle.refusal.specs.Answers.{Answer, count, refused, numberOf}
+use Rattle.refusal.specs.Steps.{Step, found, stop, _>>=_, answer}
+use Rattle.sirophan.specs.Operations.{faultStep, prepare, takeCard}
 use Rattle.sirophan.specs.declared.verdict.CardVerdict.{CardVerdict}
 
 -- the answer of check for a text that is a filter, from what was gathered reading it

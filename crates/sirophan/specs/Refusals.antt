@@ -1,11 +1,9 @@
--- Document 01's table of refusals: when each line holds and at which place, and which of the lines that hold decides.
+-- Document 01's table of refusals: when each line holds, and at which place.
 -- Assumes nothing.
 use Prim.Native.Nat.{ℕ, _<_}
 use mathlib.Core.Path.{_≡_}
-use mathlib.Core.Bool.{_&&_, cond}
 use mathlib.Core.Logic.{_⊎_}
 use mathlib.Core.List.{List, List·Memᴰ}
-use lib.Dec.{leb}
 use lib.ListN.{length}
 use Rattle.block.specs.Words.{word}
 use Rattle.block.specs.Sum.{checkSum}
@@ -16,27 +14,8 @@ use Rattle.syntax.specs.Tree.{Test, Tree, testsOf}
 use Rattle.syntax.specs.Grammar.{deepest, mostTests, Spells}
 use Rattle.place.specs.Begins.{Begins, Longest, Number}
 use Rattle.judge.specs.Rules.{Conforms}
-use Rattle.sirophan.specs.Numbers.{rank, TestLine}
+use Rattle.sirophan.specs.Numbers.{TestLine}
 use Rattle.sirophan.specs.Selection.{Run, CardAt, matchingCards}
-
--- ---- which line decides
-
--- lines 14 to 18 go together, and so do 21 to 23; 02: "12 and 13 share 11's line"
-unfoldable pub group : ℕ → ℕ
-group n = cond (leb 11 n && leb n 13) 11 (cond (leb 14 n && leb n 18) 14 (cond (leb 21 n && leb n 23) 21 n))
-
--- line m at the place q comes before line n at the place p: "lowest line first"; "for 14 to 17 the first test in the text
--- decides, and within it the lower number", with 18 among them (02); "for 21 to 23 the first faulty card decides, and on it the
--- lower number"
-pub data Before (m q n p : ℕ) : Type 0 where
-  lower-group : group m < group n → Before m q n p
-  earlier-place : group m ≡ group n → q < p → Before m q n p
-  lower-rank : group m ≡ group n → q ≡ p → rank m < rank n → Before m q n p
-
--- of the lines that hold, line n at the place p comes first
-pub record Decides (Line : ℕ → ℕ → Type 0) (n p : ℕ) : Type 0 where
-  pub holds : Line n p
-  pub first : (m q : ℕ) → Line m q → Before m q n p → ⊥
 
 -- ---- check
 

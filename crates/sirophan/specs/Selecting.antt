@@ -9,8 +9,10 @@ use lib.ListN.{length, take}
 use Rattle.sheet.specs.Sheet.{Parameter}
 use Rattle.card.specs.Card.{recordNumber}
 use Rattle.syntax.specs.Tree.{Tree}
-use Rattle.sirophan.specs.Answers.{numberOf, selectedAnswer}
-use Rattle.sirophan.specs.Operations.{Step, found, stop, _>>=_, blocks, selectAnswer, selectCells}
+use Rattle.refusal.specs.Answers.{numberOf}
+use Rattle.sirophan.specs.Answers.{selectedAnswer}
+use Rattle.refusal.specs.Steps.{Step, found, stop, _>>=_}
+use Rattle.sirophan.specs.Operations.{blocks, selectAnswer, selectCells}
 use Rattle.sirophan.specs.Passing.{cardVerdict}
 use Rattle.sirophan.specs.declared.Selected.{Selected}
 

@@ -8,7 +8,7 @@ use mathlib.Core.List.{List, _∷_, _++_, map, filter, flatten}
 use lib.ListN.{length, drop}
 use Rattle.base.specs.Lists.{All}
 use Rattle.card.specs.Card.{recordNumber}
-use Rattle.sirophan.specs.Answers.{Answer, count, refused}
+use Rattle.refusal.specs.Answers.{Answer, count, refused}
 use Rattle.sirophan.specs.Operations.{matchAnswer, selectAnswer, selectCells}
 
 -- a run of cards: at most 128 blocks of 512 bytes, one after the other

@@ -6,7 +6,7 @@ use Rattle.sheet.specs.Sheet.{Parameter}
 use Rattle.card.specs.Card.{Entry}
 use Rattle.syntax.specs.Tree.{Tree}
 use Rattle.judge.specs.Rules.{FilterSays}
-use Rattle.sirophan.specs.Answers.{Answer, yes, no}
+use Rattle.refusal.specs.Answers.{Answer, yes, no}
 
 -- the answer is the filter's yes or no of the card; names are looked up at the top
 pub data Verdict (ps : List Parameter) (es : List Entry) (f : Tree) (answer : Answer) : Type 0 where

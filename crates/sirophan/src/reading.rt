@@ -1,7 +1,5 @@
 // Check: a sheet and a filter are read, and the first refusal in the order of the table decides.
 use crate::Checked;
-use crate::Reason;
-use crate::Refusal;
 use block::Reading;
 use filter::Spot;
 use filter::Summary;
@@ -10,12 +8,15 @@ use filter::check_filter;
 use judge::Fault;
 use place::Why;
 use place::find_failure;
+use refusal::Reason;
+use refusal::Refusal;
 use syntax::scan::skip;
 ghost use mathlib.Core.Path.{_≡_};
 ghost use Rattle.sheet.specs.Sheet.{parametersOf, readSheet};
 ghost use Rattle.syntax.specs.Grammar.{deepest, mostTests};
 ghost use Rattle.place.specs.Machine.{failure};
-ghost use Rattle.sirophan.specs.Answers.{refused, checkedAnswer, numberOf};
+ghost use Rattle.refusal.specs.Answers.{refused, numberOf};
+ghost use Rattle.sirophan.specs.Answers.{checkedAnswer};
 ghost use Rattle.sirophan.specs.Passing.{summaryAnswer, failureAnswer};
 ghost use Rattle.sirophan.specs.Operations.{filterAnswer, checkAnswer};
 

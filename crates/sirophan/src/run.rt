@@ -1,11 +1,11 @@
 // Select: the record numbers of the cards of a run that match.
 use crate::Checked;
-use crate::Reason;
-use crate::Refusal;
 use crate::Selected;
 use crate::reading::check_bytes;
 use crate::verdict::CardVerdict;
 use crate::verdict::judge_card;
+use refusal::Reason;
+use refusal::Refusal;
 ghost use mathlib.Core.Path.{_≡_};
 ghost use mathlib.Core.List.{_++_};
 ghost use Prim.Native.Nat.{_%_, _/_, _≤_};

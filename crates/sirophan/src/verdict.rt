@@ -1,8 +1,6 @@
 // Match: a card under a sheet and a filter that check has passed.
 use crate::Checked;
 use crate::Matched;
-use crate::Reason;
-use crate::Refusal;
 use crate::reading::check_bytes;
 use block::Reading;
 use filter::Judged;
@@ -10,6 +8,8 @@ use filter::Spot;
 use filter::judge_filter;
 use judge::Chosen;
 use judge::conforms;
+use refusal::Reason;
+use refusal::Refusal;
 use syntax::scan::skip;
 ghost use mathlib.Core.Path.{_≡_};
 ghost use Prim.Native.Nat.{ℕ};

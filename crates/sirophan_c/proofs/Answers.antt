@@ -2,9 +2,10 @@
 -- Assumes nothing.
 use Prim.Native.Nat.{ℕ}
 use mathlib.Core.Path.{_≡_, sym, ap, _∙_}
-use Rattle.sirophan.specs.Answers as paper
-use Rattle.sirophan.specs.Answers.{numberOf, refusalAnswer, checkedAnswer, matchedAnswer, selectedAnswer}
-use Rattle.sirophan.specs.declared.Refusal.{Refusal}
+use Rattle.refusal.specs.Answers as paper
+use Rattle.refusal.specs.Answers.{numberOf, refusalAnswer}
+use Rattle.sirophan.specs.Answers.{checkedAnswer, matchedAnswer, selectedAnswer}
+use Rattle.refusal.specs.declared.Refusal.{Refusal}
 use Rattle.sirophan.specs.declared.Checked.{Checked}
 use Rattle.sirophan.specs.declared.Matched.{Matched}
 use Rattle.sirophan.specs.declared.Selected.{Selected}

@@ -1,8 +1,8 @@
 -- An answer of document 01 as C gets it: two numbers.
 -- Assumes nothing.
 use Prim.Native.Nat.{ℕ}
-use Rattle.sirophan.specs.Answers as paper
-use Rattle.sirophan.specs.Answers.{yes, no, count, refused}
+use Rattle.refusal.specs.Answers as paper
+use Rattle.refusal.specs.Answers.{yes, no, count, refused}
 use Rattle.sirophan_c.specs.declared.Answer.{Answer}
 
 abbrev pub answer : ℕ → ℕ → Answer

@@ -1,12 +1,12 @@
 // The operations for C: include/sirophan.h declares them. No enum crosses to C, so a struct of two numbers stands for an answer.
+use refusal::Refusal;
+use refusal::number;
 use sirophan::Checked;
 use sirophan::Matched;
-use sirophan::Refusal;
 use sirophan::Selected;
-use sirophan::number;
 ghost use mathlib.Core.Path.{_≡_};
 ghost use lib.ListN.{length};
-ghost use Rattle.sirophan.specs.Answers.{refusalAnswer};
+ghost use Rattle.refusal.specs.Answers.{refusalAnswer};
 ghost use Rattle.sirophan.specs.Operations.{checkAnswer, matchAnswer, selectAnswer, selectCells};
 ghost use Rattle.sirophan_c.specs.Answers.{told};
 

@@ -2,11 +2,13 @@
 -- Assumes nothing.
 use Prim.Native.Nat.{ℕ, _≤_, _<_}
 use Prim.Native.Char.{code}
-use mathlib.Core.Path.{_≡_, sym, _∙_}
+use mathlib.Core.Path.{_≡_, refl, sym, _∙_}
 use mathlib.Core.Bool.{Bool, true, false, not}
 use lib.Dec.{eqb}
 use borrow.Author.Tests.{eq-eqb, ne-eqb, le-leb, lt-leb}
-use Rattle.syntax.specs.Strings.{quote, backslash, isBare, isEscape, unescaped}
+use Rattle.base.specs.Lists.{all-empty, all-cons, member}
+use Rattle.base.proofs.All.{member-all}
+use Rattle.syntax.specs.Strings.{quote, backslash, isBare, isEscape, unescaped, Escape, quotation-mark, reverse-solidus, solidus, backspace, form-feed, line-feed, carriage-return, tabulation}
 use Rattle.syntax.specs.Scan.{stepOf}
 use Rattle.syntax.specs.declared.StringStep.{StringStep}
 
@@ -35,6 +37,24 @@ pub unescaped-other : (b : ℕ) → (b ≡ code "b" → ⊥) → (b ≡ code "f"
 unfolding unescaped
 unescaped-other b h i j k l =
     rw (ne-eqb b (code "b") h, ne-eqb b (code "f") i, ne-eqb b (code "n") j, ne-eqb b (code "r") k, ne-eqb b (code "t") l)
+
+-- the bytes that may follow a backslash, and what they stand for, are those of the escapes
+pub escape-stands : {b u : ℕ} → Escape b u → (isEscape b ≡ true) × (unescaped b ≡ u)
+unfolding isEscape unescaped member
+escape-stands quotation-mark = (refl, refl)
+escape-stands reverse-solidus = (refl, refl)
+escape-stands solidus = (refl, refl)
+escape-stands backspace = (refl, refl)
+escape-stands form-feed = (refl, refl)
+escape-stands line-feed = (refl, refl)
+escape-stands carriage-return = (refl, refl)
+escape-stands tabulation = (refl, refl)
+
+pub stands-escape : (b : ℕ) → isEscape b ≡ true → Escape b (unescaped b)
+unfolding isEscape unescaped
+stands-escape b =
+    member-all (λ (x : ℕ). Escape x (unescaped x))
+    (all-cons quotation-mark (all-cons solidus (all-cons reverse-solidus (all-cons backspace (all-cons form-feed (all-cons line-feed (all-cons carriage-return (all-cons tabulation all-empty)))))))) b
 
 module _ (pending : Bool) (b : ℕ) where
   pub step-escape : pending ≡ true → (r : Bool) → r ≡ isEscape b → r ≡ true → StringStep.More false ≡ stepOf pending b

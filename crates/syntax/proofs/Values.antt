@@ -18,6 +18,7 @@ use Rattle.base.specs.Runs.{run, runEnd, RunEnd}
 use Rattle.base.proofs.Tests.{and-left, decided, apart, cond-elim}
 use Rattle.base.proofs.Lists.{every-all, cons-same}
 use Rattle.base.proofs.Runs.{run-within, run-take, run-then}
+use Rattle.syntax.proofs.Bytes.{escape-stands, stands-escape}
 use Rattle.syntax.specs.Strings.{quote, backslash, isBare, isPlain, isEscape, Quoted, nothing-more, plain, escaped}
 use Rattle.syntax.specs.Grammar.{Stands, Value, bare, string, Follows, the-end, a-space, a-close}
 use Rattle.syntax.specs.Scan.{stepOf, onStep, stringFrom, stringAt, stringValue, bareValue, valueAt, decode, contents}
@@ -120,7 +121,7 @@ module _ (y : ℕ) (ys : List ℕ) (p e : ℕ) (found : Bool) where
         tail = r .tail;
         split = ap (λ (l : List ℕ). y ∷ l) (r .split);
         at = omega (arith, r .at);
-        quoted = escaped h (r .quoted);
+        quoted = escaped (stands-escape y h) (r .quoted);
         as-it-stands = ⊎-elim (λ t. inl t) (λ t. absurd (true≢false (t .0))) (r .as-it-stands);
       }
 
@@ -187,13 +188,13 @@ string-found (plain {b = b} {s = s} h q) t met p =
 string-found (escaped {b = b} {s = s} h q) t met p =
     let r = string-found q t true (p + 1 + 1) in
     let n : p + 1 + 1 + length s ≡ p + suc (suc (length s)) = omega arith in
-    (r .0, string-escape b (s ++ quote ∷ t) met p h ∙ r .1 ∙ ap (λ (k : ℕ). FoundString.Closed k (r .0)) n)
+    (r .0, string-escape b (s ++ quote ∷ t) met p (escape-stands h .0) ∙ r .1 ∙ ap (λ (k : ℕ). FoundString.Closed k (r .0)) n)
 
 quoted-decode : {s v : List ℕ} → Quoted s v → decode false s ≡ v
 unfolding decode isPlain
 quoted-decode nothing-more = refl
 quoted-decode (plain {b = b} h q) = rw (apart isPlain b backslash h refl) (cons-same refl (quoted-decode q))
-quoted-decode (escaped h q) = cons-same refl (quoted-decode q)
+quoted-decode (escaped h q) = cons-same (escape-stands h .1) (quoted-decode q)
 
 -- ---- a value that is found is one
 

@@ -1,57 +1,18 @@
--- Laws of the split at the first bar.
+-- Folding and the split at the first bar change places: a token may be folded whole and then split, or split and then folded.
 -- Assumes nothing.
-use mathlib.Core.Path.{_≡_, refl, sym, subst}
-use Prim.Native.Nat.{ℕ, _+_, _-_, _≤_, _<_}
-use native.Mathlib.Omega.{arith}
-use mathlib.Core.List.{List, _∷_, _++_}
-use lib.ListN.{length, take, drop, length-append}
-use lib.Seq.{take-append-seam, drop-append-add}
-use borrow.Author.Tests.{lt-ltb, le-ltb}
-use Rattle.base.proofs.Lists.{rest}
-use Rattle.text.specs.Bar.{bar, firstBar, NoBar, FirstBarAt, at-end, behind}
+use mathlib.Core.Path.{_≡_}
+use Prim.Native.Nat.{ℕ}
+use mathlib.Core.List.{List}
+use Rattle.base.specs.Split.{split}
+use Rattle.base.proofs.Split.{split-whole, split-at, split-cases}
+use Rattle.text.specs.Bar.{bar}
 use Rattle.text.specs.Fold.{foldText}
-use Rattle.text.proofs.Bar.{firstBar-reads}
 use Rattle.text.proofs.Folded.{foldText-bar, foldText-noBar}
-use Rattle.token.specs.Split.{no-bar, at-bar, split, foldParts}
+use Rattle.token.specs.Split.{foldParts}
 
--- ---- by the index of the first bar, with the parts as slices have them
-
-module _ (t : List ℕ) (i : ℕ) (e : i ≡ firstBar t) where
-  pub split-none : length t ≤ i → split t ≡ no-bar t
-  unfolding split
-  split-none h = rw (← e, le-ltb i (length t) h)
-
-  pub split-parts : i < length t → split t ≡ at-bar (take i t) (take (length t - (i + 1)) (drop (i + 1) t))
-  unfolding split
-  split-parts h = rw (← e, lt-ltb i (length t) h, rest t (i + 1))
-
--- ---- by the spelling
-
-pub split-no-bar : (c : List ℕ) → NoBar c → split c ≡ no-bar c
-split-no-bar c h =
-    let e : firstBar c ≡ length c = firstBar-reads c (length c) .1 (at-end h refl) in
-    split-none c (length c) (sym e) (omega arith)
-
-pub split-at-bar : (s c : List ℕ) → NoBar s → split (s ++ (bar ∷ c)) ≡ at-bar s c
-unfolding split
-split-at-bar s c h =
-    let t = s ++ (bar ∷ c) in
-    let e : firstBar t ≡ length s = firstBar-reads t (length s) .1 (behind s c refl h refl) in
-    rw (e, lt-ltb (length s) (length t) (omega (arith, length-append s (bar ∷ c))), take-append-seam, drop-append-add)
-
--- every text has no bar or a first one
-pub split-cases : (P : List ℕ → Type 0) → ((c : List ℕ) → NoBar c → P c) → ((s c : List ℕ) → NoBar s → P (s ++ (bar ∷ c))) → (t : List ℕ) → P t
-split-cases P without with-bar t = go (firstBar-reads t (firstBar t) .0 refl)
-  where
-    go : FirstBarAt t (firstBar t) → P t
-    go (at-end h e) = without t h
-    go (behind s c e h l) = subst P (sym e) (with-bar s c h)
-
--- ---- folding: a token may be folded whole and then split, or split and then folded
-
-pub split-folded : (t : List ℕ) → split (foldText t) ≡ foldParts (split t)
+pub split-folded : (t : List ℕ) → split bar (foldText t) ≡ foldParts (split bar t)
 unfolding foldParts
 split-folded =
-    split-cases (λ (t : List ℕ). split (foldText t) ≡ foldParts (split t))
-    (λ c h. rw (split-no-bar c h, split-no-bar (foldText c) (foldText-noBar h)))
-    (λ s c h. rw (split-at-bar s c h, foldText-bar s c, split-at-bar (foldText s) (foldText c) (foldText-noBar h)))
+    split-cases bar (λ (t : List ℕ). split bar (foldText t) ≡ foldParts (split bar t))
+    (λ c h. rw (split-whole bar c h, split-whole bar (foldText c) (foldText-noBar h)))
+    (λ s c h. rw (split-at bar s c h, foldText-bar s c, split-at bar (foldText s) (foldText c) (foldText-noBar h)))

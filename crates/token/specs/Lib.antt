@@ -5,3 +5,4 @@ pub mod Filter
 pub mod Namespace
 pub mod Match
 pub mod Spelling
+pub mod Rules

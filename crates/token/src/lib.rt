@@ -3,7 +3,7 @@
 ghost use mathlib.Core.Path.{_≡_};
 ghost use mathlib.Core.Option.{some};
 ghost use Rattle.text.specs.Compare.{same};
-ghost use Rattle.token.specs.Split.{at-bar};
+ghost use Rattle.base.specs.Split.{parts};
 ghost use Rattle.token.specs.Card.{tokenOf, cardReadable};
 ghost use Rattle.token.specs.Filter.{splitForm, filterForm, filterReadable};
 ghost use Rattle.token.specs.Namespace.{namespaceOf};
@@ -13,7 +13,7 @@ ghost use Rattle.token.specs.Match.{meets, matches};
 pub fn card_readable(s: &[u8]) -> bool
     ensures { λ r. ⌜ r ≡ cardReadable (now (s .entry)) ⌝ }
 {
-    let bar = text::first_bar(s);
+    let bar = base::first_of(s, b'|');
     if bar < s.len() {
         return bar + 1 < s.len();
     }
@@ -37,7 +37,7 @@ pub fn filter_readable(s: &[u8]) -> bool
 pub fn matches(card: &[u8], filter: &[u8]) -> bool
     ensures { λ r. ⌜ r ≡ matches (now (card .entry)) (now (filter .entry)) ⌝ }
 {
-    let bar = text::first_bar(card);
+    let bar = base::first_of(card, b'|');
     if bar < card.len() {
         let after = bar + 1;
         return token_matches(&card[..bar], &card[after..], filter);
@@ -53,7 +53,7 @@ fn token_matches(system: &[u8], code: &[u8], filter: &[u8]) -> bool
     if code.len() == 0 {
         return false;
     }
-    let bar = text::first_bar(filter);
+    let bar = base::first_of(filter, b'|');
     if bar < filter.len() {
         let after = bar + 1;
         return parts_match(system, code, &filter[..bar], &filter[after..]);
@@ -67,7 +67,7 @@ fn token_matches(system: &[u8], code: &[u8], filter: &[u8]) -> bool
 
 // The same for a filter's token that has a bar, by the parts before and after it.
 fn parts_match(system: &[u8], code: &[u8], before: &[u8], after: &[u8]) -> bool
-    ensures { λ r. ⌜ r ≡ meets (some (record { system = now (system .entry); code = now (code .entry) })) (splitForm (at-bar (now (before .entry)) (now (after .entry)))) ⌝ }
+    ensures { λ r. ⌜ r ≡ meets (some (record { system = now (system .entry); code = now (code .entry) })) (splitForm (parts (now (before .entry)) (now (after .entry)))) ⌝ }
 {
     if before.len() == 0 {
         if after.len() == 0 {

@@ -1,15 +1,15 @@
 // Answers in words.
 use crate::write::labelled;
 use crate::write::write;
+use refusal::Refusal;
 use sirophan::Checked;
 use sirophan::Matched;
-use sirophan::Refusal;
 use sirophan::Selected;
 
 // A refusal: its number and its place.
 fn refused(r: Refusal) {
     let reason = r.reason;
-    labelled(b"", sirophan::number(reason) as u64);
+    labelled(b"", refusal::number(reason) as u64);
     labelled(b" at ", r.place as u64);
 }
 

@@ -4,6 +4,7 @@ use crate::block::{Card, Entry, Kind, Sheet};
 use crate::date::Date;
 use crate::filter::{Filter, Operation, Test};
 use crate::number::Decimal;
+use crate::period;
 use crate::text;
 use crate::token::{Pattern, Token};
 
@@ -39,6 +40,7 @@ enum Asks {
 pub enum Value<'a> {
     String(&'a [u8]),
     Number(Decimal),
+    /// The span of a date, or of a period.
     Date(Date),
     Token(Token<'a>),
     Reference(&'a [u8]),
@@ -53,7 +55,7 @@ pub fn has_meaning(kind: Kind, operation: Operation) -> bool {
         _ => match kind {
             Kind::String => matches!(operation, Eq | Co | Sw | Ew),
             Kind::Number => matches!(operation, Eq | Gt | Lt | Ge | Le | Co),
-            Kind::Date => matches!(operation, Eq | Gt | Lt | Ge | Le | Sa | Eb | Po | Co),
+            Kind::Date | Kind::Period => matches!(operation, Eq | Gt | Lt | Ge | Le | Sa | Eb | Po | Co),
             Kind::Token => matches!(operation, Eq),
             Kind::Reference => matches!(operation, Re),
         },
@@ -94,7 +96,7 @@ fn asks(kind: Kind, operation: Operation, value: &[u8]) -> Option<Asks> {
     match kind {
         Kind::String => Some(Asks::String(operation, value.to_vec())),
         Kind::Number => Some(Asks::Number(operation, Decimal::read(value)?)),
-        Kind::Date => Some(Asks::Date(operation, Date::read(value)?)),
+        Kind::Date | Kind::Period => Some(Asks::Date(operation, Date::read(value)?)),
         Kind::Token => Some(Asks::Token(operation, Pattern::read(value)?)),
         Kind::Reference => (!value.is_empty()).then(|| Asks::Reference(value.to_vec())),
     }
@@ -117,6 +119,7 @@ pub fn read_value(kind: Kind, text: &[u8]) -> Option<Value<'_>> {
         Kind::Date => Date::read(text).map(Value::Date),
         Kind::Token => Token::read(text).map(Value::Token),
         Kind::Reference => (!text.is_empty()).then_some(Value::Reference(text)),
+        Kind::Period => period::read(text).map(Value::Date),
     }
 }
 

@@ -9,8 +9,8 @@ use Rattle.token.proofs.token_matches.Tie as tie
 returns : tie.Need-returns
 returns c = search (token-no-code, needs)
 
-first-bar-requires : tie.Need-first-bar-requires
-first-bar-requires c κs = search needs
+first-of-requires : tie.Need-first-of-requires
+first-of-requires c κs = search needs
 
 add-after : tie.Need-add-after
 add-after c = search needs
@@ -47,7 +47,7 @@ token-matches-spec =
     tie.close
     (tie.spec
     returns
-    first-bar-requires
+    first-of-requires
     add-after
     slice-aggregate-parts-match
     sub-parts-match

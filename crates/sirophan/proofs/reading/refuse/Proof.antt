@@ -1,6 +1,7 @@
 -- `sirophan::reading::refuse` meets its contract: the refusal's number is its reason's. Assumes nothing.
 use mathlib.Core.Path.{refl}
-use Rattle.sirophan.specs.Answers.{refusalAnswer, checkedAnswer}
+use Rattle.refusal.specs.Answers.{refusalAnswer}
+use Rattle.sirophan.specs.Answers.{checkedAnswer}
 use Rattle.sirophan.proofs.reading.refuse.Statement.{statement}
 use Rattle.sirophan.proofs.reading.refuse.Tie as tie
 

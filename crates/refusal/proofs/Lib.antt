@@ -1,0 +1,4 @@
+-- Laws of the order among refusals, of answers, and of steps decided one after the other.
+pub mod Order
+pub mod Answers
+pub mod Deciding
