@@ -44,7 +44,13 @@ fn first_of(a: FirstFault, b: FirstFault) -> FirstFault
 }
 
 // One test, with its first byte at a position: its fault, if it has one, there.
-fn test_summary(sheet: &[u8], bundle: u8, filter: &[u8], position: usize, test: RawTest) -> Summary
+pub fn test_summary(
+    sheet: &[u8],
+    bundle: u8,
+    filter: &[u8],
+    position: usize,
+    test: RawTest,
+) -> Summary
     requires { ⌜ readSheet (now sheet) ≡ Reading.WellFormed ⌝ }
     requires { ⌜ length (now filter) ≤ 1024 ⌝ }
     requires { ⌜ Placed (now filter) test ⌝ }
@@ -65,7 +71,7 @@ fn test_summary(sheet: &[u8], bundle: u8, filter: &[u8], position: usize, test: 
 }
 
 // What two parts gather together, the first part's fault before the second's.
-fn join_summaries(a: Summary, b: Summary) -> Summary
+pub fn join_summaries(a: Summary, b: Summary) -> Summary
     requires { ⌜ a .tests + b .tests ≤ 1024 ⌝ }
     ensures { λ r. ⌜ r ≡ joinSummaries a b ⌝ }
 {

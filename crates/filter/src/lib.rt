@@ -3,6 +3,8 @@ mod check;
 mod verdict;
 
 pub use check::check_filter;
+pub use check::join_summaries;
+pub use check::test_summary;
 use judge::FirstFault;
 pub use verdict::judge_filter;
 

@@ -29,7 +29,7 @@ fn unsupported(operator: u8) -> bool
 }
 
 // Whether an operator has a meaning for a kind.
-fn has_meaning(operator: u8, kind: u8) -> bool
+pub fn has_meaning(operator: u8, kind: u8) -> bool
     ensures { λ r. ⌜ r ≡ hasMeaning operator kind ⌝ }
 {
     match kind::meaning_of(operator, kind) {

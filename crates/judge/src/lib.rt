@@ -4,6 +4,7 @@ mod sets;
 mod tests;
 mod verdicts;
 
+pub use faults::has_meaning;
 pub use sets::conforms;
 pub use sets::is_under;
 pub use tests::member_counts;

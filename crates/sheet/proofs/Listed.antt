@@ -1,6 +1,6 @@
 -- Where a parameter that is found stands: by its name, and by its index.
 -- Assumes nothing.
-use Prim.Native.Nat.{ℕ, zero, suc, _+_, _<_}
+use Prim.Native.Nat.{ℕ, zero, suc, _+_, _-_, _<_}
 use native.Mathlib.Nat.{add-zero}
 use native.Mathlib.Omega.{arith}
 use mathlib.Core.Path.{_≡_, refl, ap, ap₂, sym, _∙_, subst}
@@ -8,8 +8,8 @@ use mathlib.Core.Bool.{Bool, true, false, cond, _&&_}
 use lib.Dec.{eqb}
 use borrow.Author.Tests.{eqb-true, eq-eqb, ne-eqb}
 use mathlib.Core.Logic.{_↔_}
-use mathlib.Core.List.{List, [], _∷_, _++_}
-use lib.ListN.{length, length-append}
+use mathlib.Core.List.{List, [], _∷_, _++_, map}
+use lib.ListN.{length, getD, replicate, length-append}
 use Rattle.base.specs.Lists.{All, all-empty, all-cons, equal}
 use Rattle.base.proofs.Tests.{and-left, and-right}
 use Rattle.base.proofs.All.{all-head, all-right}
@@ -17,7 +17,7 @@ use Rattle.base.proofs.Lists.{equal-same, equal-refl}
 use Rattle.block.specs.declared.Reading.the-variants.{WellFormed}
 use Rattle.sheet.specs.Sheet.{Parameter, parameter, kindAt, parametersOf, readSheet}
 use Rattle.sheet.specs.Encode.{MayShare, Distinct, distinct-cons}
-use Rattle.sheet.specs.Find.{findFrom, find, enter, Listed}
+use Rattle.sheet.specs.Find.{findFrom, find, enter, Listed, padded, tableOf, kindsOf}
 use Rattle.sheet.specs.declared.Found.{Found}
 use Rattle.sheet.specs.declared.Found.the-variants.{At, Missing}
 use Rattle.sheet.proofs.Read.{sheet-count}
@@ -116,6 +116,29 @@ kind-back (p ∷ before) q after = kind-back before q after
 
 pub listed-kind : (ps : List Parameter) (i : ℕ) (q : Parameter) → Listed ps i q → kindAt i ps ≡ q .kind
 listed-kind ps i q l = ap₂ kindAt (sym (l .index)) (l .split) ∙ kind-back (l .before) q (l .after)
+
+-- the same in a table
+past-zeros : (n i : ℕ) → _≡_ {A = ℕ} (getD (replicate n 0) i 0) 0
+past-zeros zero i = refl
+past-zeros (suc n) zero = refl
+past-zeros (suc n) (suc i) = past-zeros n i
+
+pub table-kind : (ps : List Parameter) (i : ℕ) → getD (kindsOf ps) i 0 ≡ kindAt i ps
+unfolding tableOf padded kindAt
+table-kind ps i = go (32 - length (map (λ (p : Parameter). p .kind) ps)) ps i
+  where
+    go : (n : ℕ) (ps : List Parameter) (i : ℕ) → getD (map (λ (p : Parameter). p .kind) ps ++ replicate n 0) i 0 ≡ kindAt i ps
+    go n [] i = past-zeros n i
+    go n (p ∷ ps) zero = refl
+    go n (p ∷ ps) (suc i) = go n ps i
+
+pub table-listed : (of : Parameter → ℕ) (ps : List Parameter) (i : ℕ) (q : Parameter) → Listed ps i q → getD (tableOf of ps) i 0 ≡ of q
+unfolding tableOf padded
+table-listed of ps i q l = ap₂ (λ (j : ℕ) (qs : List Parameter). getD (tableOf of qs) j 0) (sym (l .index)) (l .split) ∙ go (32 - length (map of (l .before ++ (q ∷ l .after)))) (l .before)
+  where
+    go : (n : ℕ) (before : List Parameter) → getD (map of (before ++ (q ∷ l .after)) ++ replicate n 0) (length before) 0 ≡ of q
+    go n [] = refl
+    go n (p ∷ before) = go n before
 
 -- an index that is found is below 32, so that it can be raised
 pub find-below : (b : List ℕ) → readSheet b ≡ WellFormed → (c : ℕ) (n : List ℕ) (f : Found) → f ≡ find c n (parametersOf b) → (i k : ℕ) → f ≡ At i k → i + 1 < 256

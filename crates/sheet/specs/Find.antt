@@ -44,6 +44,14 @@ pub record Listed (ps : List Parameter) (i : ℕ) (p : Parameter) : Type 0 where
 unfoldable pub padded : ℕ → List ℕ → List ℕ
 padded n xs = xs ++ replicate (n - length xs) 0
 
--- the kinds by index, and 0 past the last, in 32 cells
-unfoldable pub kindsOf : List Parameter → List ℕ
-kindsOf ps = padded 32 (map (λ p. p .kind) ps)
+-- a part of each parameter by index, and 0 past the last, in 32 cells
+unfoldable pub tableOf : (Parameter → ℕ) → List Parameter → List ℕ
+tableOf of ps = padded 32 (map of ps)
+
+-- the kinds by index
+abbrev pub kindsOf : List Parameter → List ℕ
+kindsOf = tableOf (λ p. p .kind)
+
+-- the bundles by index: 0 for a parameter at the top, and else the place plus 1 of its bundle
+abbrev pub parentsOf : List Parameter → List ℕ
+parentsOf = tableOf (λ p. p .bundle)

@@ -15,7 +15,7 @@ ghost use lib.Dec.{eqb};
 ghost use Rattle.block.specs.Seal.{HasSize};
 ghost use Rattle.block.specs.Items.{items, Walk};
 ghost use Rattle.sheet.specs.Sheet.{parameter, parameterCount, parametersOf, isKind, isParameter, areParameters, clashes, absent, distinct, kindAt, hasParent, haveParents, areRight, sheetLayout, readSheet, ParameterAt};
-ghost use Rattle.sheet.specs.Find.{find, enter, kindsOf};
+ghost use Rattle.sheet.specs.Find.{find, enter, kindsOf, parentsOf};
 
 // A parameter: its kind (1 string, 2 number, 3 date, 4 token, 5 reference, 6 period, 7 bundle), its bundle (0, or a bundle's index plus 1),
 // and where its name starts and ends in the sheet. The next parameter starts where the name ends.
@@ -328,4 +328,23 @@ pub fn kinds(sheet: &[u8]) -> [u8; 32]
         index += 1;
     }
     kinds
+}
+
+// The bundles of a well-formed sheet's parameters by their index, each the bundle's index plus 1, and 0 at the top and past the last.
+pub fn parents(sheet: &[u8]) -> [u8; 32]
+    requires { ⌜ readSheet (now sheet) ≡ Reading.WellFormed ⌝ }
+    ensures { λ r. ⌜ r ≡ parentsOf (parametersOf (now (sheet .entry))) ⌝ }
+{
+    let mut parents = [0u8; 32];
+    let mut at = 2;
+    let mut left = parameter_count(sheet);
+    let mut index: usize = 0;
+    while left > 0 {
+        let p = parameter_at(sheet, at, left);
+        parents[index] = p.bundle;
+        at = p.end;
+        left -= 1;
+        index += 1;
+    }
+    parents
 }

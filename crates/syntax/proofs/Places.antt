@@ -18,6 +18,7 @@ use Rattle.syntax.specs.Strings.{quote, isBare}
 use Rattle.syntax.specs.Placed.{PlacedValue, Placed}
 use Rattle.syntax.specs.Scan.{skipAt, has, memberAt, afterClose, memberAfter, choiceAt, choiceOr, stringAt, stringValue, valueAt, follows, operatorAt, withOperator, withValue, testValue, testOperator, nameEnd, testAt, openAt, testOr, headAt, connectiveAt, closeAt}
 use Rattle.syntax.specs.declared.FoundString.{FoundString}
+use Rattle.syntax.specs.declared.RawValue.{RawValue}
 use Rattle.syntax.specs.declared.FoundValue.{FoundValue}
 use Rattle.syntax.specs.declared.FoundOperator.{FoundOperator}
 use Rattle.syntax.specs.declared.RawTest.{RawTest}
@@ -60,6 +61,9 @@ value-placed xs p =
     cond-elim (ValuePlaced xs) (eqb (getD xs p 0) quote) (λ q. string-placed xs p (stringAt xs false false (p + 1)) refl s)
     (λ q. cond-elim (ValuePlaced xs) (isBare (getD xs p 0)) (λ b. let r = run-end-within isBare xs p k in record { order = r .0; within = r .1 }) (λ b. tt)))
     (λ i. tt)
+
+pub value-at-placed : (xs : List ℕ) (p : ℕ) (f : FoundValue) (v : RawValue) → f ≡ valueAt xs p → f ≡ FoundValue.Value v → PlacedValue xs v
+value-at-placed xs p f v e h = rw (sym e ∙ h) at (value-placed xs p)
 
 -- ---- tests
 

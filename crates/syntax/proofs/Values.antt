@@ -316,10 +316,36 @@ string-at xs p s v h q =
         let b : r .body ≡ s = sym (take-at (r .body) (quote ∷ r .tail) (length s) l) ∙ ap (take (length s)) (sym (r .split) ∙ d) ∙ take-at s (quote ∷ h .0) (length s) refl in
         ⊎-elim (λ t. inl t) (λ (t : (false ≡ false) × (decode false (r .body) ≡ r .body)). inr (subst (λ (k : List ℕ). decode false k ≡ k) b (t .1))) (r .as-it-stands)
 
+-- a bare word goes on as long as it can
+pub value-named : {xs : List ℕ} {p q : ℕ} {v : List ℕ} → Value xs p q v → ((getD xs p 0 ≡ quote → ⊥) → run isBare (drop q xs) ≡ 0) → Found xs p q v
+value-named {xs} (bare {p = p} {b = b} {w = w} s all n) f =
+    let first : getD xs p 0 ≡ b = getD-drop-cons xs p b (w ++ s .0) (s .1) in
+    bare-found xs p b w s all n (ap (run isBare) (sym (stands-after xs p (b ∷ w) s)) ∙ f (λ e. n (sym first ∙ e)))
+value-named {xs} (string {p = p} {s = s} {v = v} i q) f = string-at xs p s v i q
+
 pub value-found : {xs : List ℕ} {p q close : ℕ} {v : List ℕ} → Value xs p q v → isBare close ≡ false → Follows close (drop q xs) → Found xs p q v
-value-found {xs} {close = close} (bare {p = p} {b = b} {w = w} s all n) h f =
-    bare-found xs p b w s all n (follows-run close h (subst (Follows close) (stands-after xs p (b ∷ w) s) f))
-value-found {xs} (string {p = p} {s = s} {v = v} i q) h f = string-at xs p s v i q
+value-found {close = close} w h f = value-named w (λ n. follows-run close h f)
+
+-- behind a run no other begins
+run-past : (p : ℕ → Bool) (s : List ℕ) → run p (drop (run p s) s) ≡ 0
+unfolding run
+run-past p [] = refl
+run-past p (x ∷ s) = ⊎-elim (λ (d : p x ≡ true). rw d (run-past p s)) (λ (d : p x ≡ false). rw (d, d)) (decided (p x))
+
+-- where a bare word that is found ends, none goes on
+abbrev Ends : List ℕ → FoundValue → Type 0
+Ends xs (FoundValue.Value v) = run isBare (drop (v .next) xs) ≡ 0
+Ends xs FoundValue.Nothing = Unit {0}
+
+pub value-ends : (xs : List ℕ) (p : ℕ) (v : RawValue) → valueAt xs p ≡ FoundValue.Value v → (getD xs p 0 ≡ quote → ⊥) → run isBare (drop (v .next) xs) ≡ 0
+unfolding valueAt runEnd
+value-ends xs p v e n =
+    let z : run isBare (drop (p + run isBare (drop p xs)) xs) ≡ 0 = ap (run isBare) (sym (drop-drop (run isBare (drop p xs)) p xs)) ∙ run-past isBare (drop p xs) in
+    let all : Ends xs (valueAt xs p) =
+    cond-elim (Ends xs) (ltb p (length xs))
+    (λ i. cond-elim (Ends xs) (eqb (getD xs p 0) quote) (λ q. absurd (n (eqb-true (getD xs p 0) quote q))) (λ q. cond-elim (Ends xs) (isBare (getD xs p 0)) (λ b. z) (λ b. tt)))
+    (λ i. tt) in
+    rw e at all
 
 pub value-no-space : {xs : List ℕ} {p q : ℕ} {v : List ℕ} → Value xs p q v → NoSpaceAt xs p
 unfolding isBare

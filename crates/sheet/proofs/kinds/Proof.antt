@@ -5,7 +5,7 @@ use Rattle.sheet.proofs.kinds.Statement.{statement}
 use Rattle.sheet.proofs.kinds.Tie as tie
 
 abbrev Inv-loop : tie.InvT-loop
-Inv-loop sheet kinds₀ at₀ left₀ index₀ kinds at left index = Filling sheet kinds at left index
+Inv-loop sheet kinds₀ at₀ left₀ index₀ kinds at left index = Filling (λ p. p .kind) sheet kinds at left index
 
 abbrev μ-loop : tie.MeasureT-loop
 μ-loop sheet kinds₀ at₀ left₀ index₀ kinds at left index = left

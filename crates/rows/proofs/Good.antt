@@ -1,0 +1,197 @@
+-- The test for good rows passes exactly where they are good.
+-- Assumes nothing.
+use Prim.Native.Nat.{ℕ, zero, suc, _+_, _≤_, _<_}
+use native.Mathlib.Omega.{arith}
+use mathlib.Core.Path.{_≡_, refl, sym, ap, subst, _∙_}
+use mathlib.Core.Bool.{Bool, true, false, not, _&&_}
+use mathlib.Core.Logic.{_↔_, ⊎-elim}
+use mathlib.Core.Option.{Option, none, some}
+use mathlib.Core.List.{List, _∷_, _++_}
+use lib.Dec.{eqb, ltb, leb}
+use lib.ListN.{length, getD, length-append}
+use borrow.Author.Tests.{lt-ltb, ltb-true, le-leb, leb-true, eq-eqb, ne-eqb, eqb-true, eqb-false, not-true}
+use Rattle.base.specs.Lists.{All}
+use Rattle.base.specs.Kinds.{bundleKind}
+use Rattle.base.specs.Operators.{operatorWords}
+use Rattle.base.proofs.Tests.{and-left, and-right, and-both, both-ways}
+use Rattle.base.proofs.All.{all-head, all-right}
+use Rattle.sheet.specs.Sheet.{Parameter, kindAt}
+use Rattle.sheet.specs.Find.{Listed, kindsOf, parentsOf}
+use Rattle.sheet.specs.Encode.{WellFormedSheet, WellFormedParameter, HasParent, at-top, in-bundle}
+use Rattle.sheet.proofs.Listed.{at-listed, table-kind, table-listed}
+use Rattle.syntax.specs.Scan.{valueAt}
+use Rattle.syntax.specs.declared.RawValue.{RawValue}
+use Rattle.syntax.specs.declared.FoundValue.{FoundValue}
+use Rattle.syntax.proofs.Values.{Found}
+use Rattle.kind.specs.Table.{hasMeaning}
+use Rattle.kind.specs.Readable.{valueReadable}
+use Rattle.kind.specs.Rules.{ReadableValue}
+use Rattle.kind.proofs.Rules.{value-iff, operator-iff}
+use Rattle.rows.specs.Expression.{Expression, probing, choosing, joining, negating, testCount}
+use Rattle.rows.specs.Cells.{encode, stated, Sayable, Writable, writable-test, writable-bracket, writable-join, writable-not}
+use Rattle.rows.specs.Nesting.{depthOf}
+use Rattle.rows.specs.Good.{ValueFrom, FitsTo, Fits, fits-test, fits-bracket, fits-join, fits-not, Good}
+use Rattle.rows.specs.Shapes.{kindFits, valueIn, valueFits, probeFits, testShape, notShape, bracketShape, joinShape, shapeOf, isWithin, goodBy, good}
+use Rattle.rows.specs.declared.Probe.{Probe}
+use Rattle.rows.specs.declared.Shape.{Shape}
+use Rattle.rows.proofs.Stating.{stated-encode, stated-cells, some-same, none-some}
+use Rattle.rows.proofs.Nesting.{chain-of, of-chain}
+use Rattle.rows.proofs.Shapes.{shape-shallow, shallow-shape}
+use Rattle.rows.proofs.Values.{found-from, from-found}
+
+-- a property of every parameter holds of the one that is listed
+pub listed-all : (P : Parameter → Type 0) {ps : List Parameter} {i : ℕ} {q : Parameter} → All P ps → Listed ps i q → P q
+listed-all P all l = all-head P (all-right P (l .before) (subst (All P) (l .split) all))
+
+not-eqb : (a b : ℕ) → (a ≡ b → ⊥) → not (eqb a b) ≡ true
+not-eqb a b h = rw (ne-eqb a b h)
+
+-- ---- a test
+
+module _ (ps : List Parameter) (w : WellFormedSheet ps) (xs : List ℕ) where
+  kind-there : {i : ℕ} {q : Parameter} → Listed ps i q → q .kind ≡ 0 → ⊥
+  kind-there l z =
+      ⊎-elim (λ k. omega (arith, z, k .lowest)) (λ (k : _ ≡ bundleKind). let n : _≡_ {A = ℕ} 0 7 = sym z ∙ k in omega (arith, n)) (listed-all WellFormedParameter (w .parameters) l .kind)
+
+  found-fits : (k kind : ℕ) (f : FoundValue) (p : ℕ) → valueAt xs p ≡ f → valueFits k kind xs f ≡ true → (v : List ℕ) × (ValueFrom xs p v × ReadableValue kind v k)
+  found-fits k kind (FoundValue.Value v) p e h = (valueIn xs v, (found-from xs p v e, value-iff kind (valueIn xs v) k .0 h))
+  found-fits k kind FoundValue.Nothing p e h = both-ways h refl
+
+  probe-there : (p : Probe) → probeFits (kindsOf ps) xs p ≡ true → (q : Parameter) × (Listed ps (p .index) q × FitsTo xs q p)
+  unfolding probeFits kindFits operatorWords
+  probe-there p h =
+      let kind : ℕ = getD (kindsOf ps) (p .index) 0 in
+      let k : ℕ = p .operator in
+      let a : kindFits k kind ≡ true = and-left (kindFits k kind) (valueFits k kind xs (valueAt xs (p .position))) h in
+      let b : (not (eqb kind bundleKind) && (ltb k 19 && hasMeaning k kind)) ≡ true = and-right (not (eqb kind 0)) (not (eqb kind bundleKind) && (ltb k 19 && hasMeaning k kind)) a in
+      let d : (ltb k 19 && hasMeaning k kind) ≡ true = and-right (not (eqb kind bundleKind)) (ltb k 19 && hasMeaning k kind) b in
+      let some-kind : kind ≡ 0 → ⊥ = eqb-false kind 0 (not-true (eqb kind 0) (and-left (not (eqb kind 0)) (not (eqb kind bundleKind) && (ltb k 19 && hasMeaning k kind)) a)) in
+      let l = there (p .index) kind refl some-kind in
+      let same : kind ≡ l .0 .kind = table-listed (λ q. q .kind) ps (p .index) (l .0) (l .1) in
+      let v = found-fits k kind (valueAt xs (p .position)) (p .position) refl (and-right (kindFits k kind) (valueFits k kind xs (valueAt xs (p .position))) h) in (
+        l .0,
+        (
+          l .1,
+          record {
+            no-bundle = λ z. eqb-false kind bundleKind (not-true (eqb kind bundleKind) (and-left (not (eqb kind bundleKind)) (ltb k 19 && hasMeaning k kind) b)) (same ∙ z);
+            one-of = ltb-true k 19 (and-left (ltb k 19) (hasMeaning k kind) d);
+            has-operator = operator-iff (l .0 .kind) k .0 (ap (hasMeaning k) (sym same) ∙ and-right (ltb k 19) (hasMeaning k kind) d);
+            contents = v .0;
+            from = v .1 .0;
+            readable = subst (λ (n : ℕ). ReadableValue n (v .0) k) same (v .1 .1);
+          },
+        ),
+      )
+    where
+      there : (i kind : ℕ) → getD (kindsOf ps) i 0 ≡ kind → (kind ≡ 0 → ⊥) → (q : Parameter) × Listed ps i q
+      there i zero e n = absurd (n refl)
+      there i (suc k) e n = let r = at-listed i ps k (sym (table-kind ps i) ∙ e) in (r .0, r .1)
+
+  probe-fits : (p : Probe) (q : Parameter) → Listed ps (p .index) q → FitsTo xs q p → probeFits (kindsOf ps) xs p ≡ true
+  unfolding probeFits kindFits operatorWords
+  probe-fits p q l f =
+      let same : getD (kindsOf ps) (p .index) 0 ≡ q .kind = table-listed (λ r. r .kind) ps (p .index) q l in
+      let v = from-found (f .from) in
+      rw (same, not-eqb (q .kind) 0 (kind-there l), not-eqb (q .kind) bundleKind (f .no-bundle), lt-ltb (p .operator) 19 (f .one-of), operator-iff (q .kind) (p .operator) .1 (f .has-operator), v .found, v .decodes)
+      (value-iff (q .kind) (f .contents) (p .operator) .1 (f .readable))
+
+  -- ---- an expression
+
+  abbrev shape : Expression → Shape
+  shape = shapeOf (kindsOf ps) (parentsOf ps) xs
+
+  parent-of : {i : ℕ} {q : Parameter} → Listed ps i q → getD (parentsOf ps) i 0 ≡ q .bundle
+  parent-of {i} {q} l = table-listed (λ r. r .bundle) ps i q l
+
+  -- the bundle that a parameter stands in
+  bundle-of : {i : ℕ} {q : Parameter} → Listed ps i q → (j : ℕ) → q .bundle ≡ suc j → (b : Parameter) × (Listed ps j b × (b .kind ≡ bundleKind))
+  bundle-of {q = q} l j e = by-parent (listed-all (HasParent ps) (w .parents) l)
+    where
+      by-parent : HasParent ps q → (b : Parameter) × (Listed ps j b × (b .kind ≡ bundleKind))
+      by-parent (at-top z) = absurd (omega (arith, z, e))
+      by-parent (in-bundle {i = i} {q = b} m k n d) = let s : i ≡ j = omega (arith, n, e) in (b, (subst (λ (x : ℕ). Listed ps x b) s m, k))
+
+  shape-fits : (e : Expression) → shape e .fits ≡ true → Fits ps xs (shape e .scope) e
+  unfolding shapeOf testShape notShape bracketShape joinShape
+  shape-fits (probing p) h = let t = probe-there p h in fits-test (t .1 .0) (sym (parent-of (t .1 .0))) (t .1 .1)
+  shape-fits (choosing e p) h =
+      let parent : ℕ = getD (parentsOf ps) (p .index) 0 in
+      let inner : Bool = shape e .fits in
+      let rest : Bool = not (eqb parent 0) && eqb parent (shape e .scope) in
+      let a : (probeFits (kindsOf ps) xs p && rest) ≡ true = and-right inner (probeFits (kindsOf ps) xs p && rest) h in
+      let b : rest ≡ true = and-right (probeFits (kindsOf ps) xs p) rest a in
+      let t = probe-there p (and-left (probeFits (kindsOf ps) xs p) rest a) in
+      by-parent parent refl (eqb-false parent 0 (not-true (eqb parent 0) (and-left (not (eqb parent 0)) (eqb parent (shape e .scope)) b)))
+      (eqb-true parent (shape e .scope) (and-right (not (eqb parent 0)) (eqb parent (shape e .scope)) b)) t (shape-fits e (and-left inner (probeFits (kindsOf ps) xs p && rest) h))
+    where
+      by-parent : (n : ℕ) → getD (parentsOf ps) (p .index) 0 ≡ n → (n ≡ 0 → ⊥) → n ≡ shape e .scope → (q : Parameter) × (Listed ps (p .index) q × FitsTo xs q p) → Fits ps xs (shape e .scope) e → Fits ps xs 0 (choosing e p)
+      by-parent zero i n s t f = absurd (n refl)
+      by-parent (suc j) i n s t f =
+          let within : t .0 .bundle ≡ suc j = sym (parent-of (t .1 .0)) ∙ i in
+          let b = bundle-of (t .1 .0) j within in
+          fits-bracket (t .1 .0) within (b .1 .0) (b .1 .1) (t .1 .1) (subst (λ (x : ℕ). Fits ps xs x e) (sym s) f)
+  shape-fits (joining c e f) h =
+      let a : (shape f .fits && eqb (shape e .scope) (shape f .scope)) ≡ true = and-right (shape e .fits) (shape f .fits && eqb (shape e .scope) (shape f .scope)) h in
+      let s : shape e .scope ≡ shape f .scope = eqb-true (shape e .scope) (shape f .scope) (and-right (shape f .fits) (eqb (shape e .scope) (shape f .scope)) a) in
+      fits-join (shape-fits e (and-left (shape e .fits) (shape f .fits && eqb (shape e .scope) (shape f .scope)) h))
+      (subst (λ (x : ℕ). Fits ps xs x f) (sym s) (shape-fits f (and-left (shape f .fits) (eqb (shape e .scope) (shape f .scope)) a)))
+  shape-fits (negating e) h = fits-not (shape-fits e h)
+
+  fits-shape : {c : ℕ} {e : Expression} → Fits ps xs c e → (shape e .fits ≡ true) × (shape e .scope ≡ c)
+  unfolding shapeOf testShape notShape bracketShape joinShape
+  fits-shape (fits-test {p = p} {q = q} l e f) = (probe-fits p q l f, parent-of l ∙ e)
+  fits-shape (fits-bracket {e = e} {p = p} {j = j} {q = q} l i m k f g) =
+      let r = fits-shape g in
+      let parent : getD (parentsOf ps) (p .index) 0 ≡ suc j = parent-of l ∙ i in
+      (rw (r .0, probe-fits p q l f, parent, not-eqb (suc j) 0 (λ z. omega (arith, z)), r .1, eq-eqb (suc j) (suc j) refl), refl)
+  fits-shape (fits-join {c = c} {e = e} {f = f} a b) =
+      let r = fits-shape a in
+      let s = fits-shape b in
+      (rw (r .0, s .0, r .1, s .1) (eq-eqb c c refl), r .1)
+  fits-shape (fits-not a) = fits-shape a
+
+  -- what fits can be written
+  fits-sayable : {p : Probe} {q : Parameter} → Listed ps (p .index) q → FitsTo xs q p → Sayable p
+  unfolding operatorWords
+  fits-sayable {p} {q} l f =
+      record {
+        index = omega (arith, w .count, ap length (l .split), length-append (l .before) (q ∷ l .after), l .index);
+        operator = omega (arith, f .one-of);
+      }
+
+  fits-writable : {c : ℕ} {e : Expression} → Fits ps xs c e → Writable e
+  fits-writable (fits-test l e f) = writable-test (fits-sayable l f)
+  fits-writable (fits-bracket l i m k f g) = writable-bracket (fits-writable g) (fits-sayable l f)
+  fits-writable (fits-join a b) = writable-join (fits-writable a) (fits-writable b)
+  fits-writable (fits-not a) = writable-not (fits-writable a)
+
+  -- ---- rows
+
+  good-of : (cs : List ℕ) (o : Option Expression) → stated cs ≡ o → goodBy (kindsOf ps) (parentsOf ps) xs o ≡ true → Good ps xs cs
+  unfolding isWithin
+  good-of cs none e h = both-ways h refl
+  good-of cs (some f) e h =
+      let deep : Bool = leb (shape f .chain) 8 in
+      let rest : Bool = shape f .fits && eqb (shape f .scope) 0 in
+      let a : (deep && rest) ≡ true = and-right (leb (testCount f) 32) (deep && rest) h in
+      let b : rest ≡ true = and-right deep rest a in
+      record {
+        expression = f;
+        written = stated-cells cs f e;
+        nests = chain-of f 8 (shape-shallow (kindsOf ps) (parentsOf ps) xs f (and-left deep rest a));
+        few = leb-true (testCount f) 32 (and-left (leb (testCount f) 32) (deep && rest) h);
+        fits = subst (λ (c : ℕ). Fits ps xs c f) (eqb-true (shape f .scope) 0 (and-right (shape f .fits) (eqb (shape f .scope) 0) b)) (shape-fits f (and-left (shape f .fits) (eqb (shape f .scope) 0) b));
+      }
+
+  pub good-states : {cs : List ℕ} (g : Good ps xs cs) → stated cs ≡ some (g .expression)
+  good-states g = ap stated (g .written) ∙ stated-encode (g .expression) (fits-writable (g .fits))
+
+  of-good : (cs : List ℕ) → Good ps xs cs → good (kindsOf ps) (parentsOf ps) xs cs ≡ true
+  unfolding good isWithin
+  of-good cs g =
+      let s = fits-shape (g .fits) in
+      rw (good-states g, le-leb (testCount (g .expression)) 32 (g .few), shallow-shape (kindsOf ps) (parentsOf ps) xs (g .expression) (of-chain (g .nests)), s .0, s .1)
+
+  pub good-iff : (cs : List ℕ) → (good (kindsOf ps) (parentsOf ps) xs cs ≡ true) ↔ Good ps xs cs
+  unfolding good
+  good-iff cs = (λ h. good-of cs (stated cs) refl h, λ g. of-good cs g)

@@ -1,0 +1,15 @@
+-- The laws that the proofs cite.
+pub mod Cells
+pub mod Stating
+pub mod Nesting
+pub mod Shapes
+pub mod Values
+pub mod Good
+pub mod Fitting
+pub mod Machine
+pub mod Testing
+pub mod Numbers
+pub mod Writing
+pub mod Saying
+pub mod Meaning
+pub mod Preparing

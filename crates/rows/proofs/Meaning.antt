@@ -1,0 +1,93 @@
+-- What rows say is what the tree that they state says; where the tests of a tree stand in the text makes no difference.
+-- Assumes nothing.
+use Prim.Native.Nat.{ℕ, zero, suc, _-_}
+use native.Mathlib.Omega.{arith}
+use mathlib.Core.Path.{_≡_, refl, sym, ap, ap₂, subst, _∙_}
+use mathlib.Core.Bool.{Bool, true, false, cond, not}
+use mathlib.Core.List.{List, [], _∷_, _++_}
+use lib.ListN.{length, getD}
+use Rattle.base.specs.Lists.{All}
+use Rattle.base.specs.Kinds.{bundleKind}
+use Rattle.base.proofs.All.{all-head, all-right}
+use Rattle.sheet.specs.Sheet.{Parameter, parameter}
+use Rattle.sheet.specs.Find.{find, enter, Listed, kindsOf, parentsOf}
+use Rattle.sheet.specs.Encode.{WellFormedSheet, HasParent, at-top, in-bundle}
+use Rattle.sheet.specs.declared.Found.{Found}
+use Rattle.sheet.proofs.Listed.{find-iff, table-listed}
+use Rattle.card.specs.Card.{Entry}
+use Rattle.syntax.specs.Tree.{Test, name, moved, Tree, test, bracketed, join, negation}
+use Rattle.syntax.specs.Scan.{valueAt}
+use Rattle.syntax.specs.declared.FoundValue.{FoundValue}
+use Rattle.syntax.proofs.Values.{Found as ValueFound}
+use Rattle.judge.specs.Sets.{lookup, ofOccurrence, keep}
+use Rattle.judge.specs.Verdicts.{saysAt, testSays, joined, filterSays}
+use Rattle.judge.proofs.Rules.{enters}
+use Rattle.rows.specs.Expression.{Expression, probing, choosing, joining, negating}
+use Rattle.rows.specs.Good.{FitsTo, Fits, fits-test, fits-bracket, fits-join, fits-not, Good}
+use Rattle.rows.specs.Shapes.{valueIn}
+use Rattle.rows.specs.Saying.{probeSaysBy, probeSays, expressionSays}
+use Rattle.rows.specs.Stated.{nameAt, valueBy, testFor, bundleFor, treeOf, erase}
+use Rattle.rows.specs.declared.Probe.{Probe}
+use Rattle.rows.proofs.Good.{listed-all}
+use Rattle.rows.proofs.Values.{from-found}
+
+pub name-listed : {ps : List Parameter} {i : ℕ} {q : Parameter} → Listed ps i q → nameAt i ps ≡ q .name
+unfolding nameAt
+name-listed {ps} {i} {q} l = ap₂ nameAt (sym (l .index)) (l .split) ∙ go (l .before)
+  where
+    go : (before : List Parameter) → nameAt (length before) (before ++ (q ∷ l .after)) ≡ q .name
+    go [] = refl
+    go (p ∷ before) = go before
+
+pub keep-same : (p q : Entry → Bool) → ((e : Entry) → p e ≡ q e) → (es : List Entry) → keep p es ≡ keep q es
+unfolding keep
+keep-same p q h [] = refl
+keep-same p q h (e ∷ es) = ap₂ (λ (b : Bool) (l : List Entry). cond b (e ∷ l) l) (h e) (keep-same p q h es)
+
+pub bundle-name : (ps : List Parameter) (p : Probe) (j : ℕ) → getD (parentsOf ps) (p .index) 0 ≡ suc j → bundleFor ps p ≡ nameAt j ps
+unfolding bundleFor
+bundle-name ps p j h =
+    let before : suc j - 1 ≡ j = omega arith in
+    ap (λ (x : ℕ). nameAt (x - 1) ps) h ∙ ap (λ (x : ℕ). nameAt x ps) before
+
+module _ (ps : List Parameter) (w : WellFormedSheet ps) (xs : List ℕ) where
+  -- a bundle stands at the top
+  pub bundle-at-top : {j : ℕ} {b : Parameter} → Listed ps j b → b .kind ≡ bundleKind → b .bundle ≡ 0
+  bundle-at-top {b = b} l k = by-parent (listed-all (HasParent ps) (w .parents) l)
+    where
+      by-parent : HasParent ps b → b .bundle ≡ 0
+      by-parent (at-top z) = z
+      by-parent (in-bundle m i n d) = absurd (d k)
+
+  probe-is : (c : ℕ) (p : Probe) (q : Parameter) → Listed ps (p .index) q → q .bundle ≡ c → FitsTo xs q p → (es : List Entry) → probeSays (kindsOf ps) xs p es ≡ testSays ps c es (testFor ps xs p)
+  unfolding probeSays testSays testFor lookup
+  probe-is c p q l e f es =
+      let v = from-found (f .from) in
+      let kind : getD (kindsOf ps) (p .index) 0 ≡ q .kind = table-listed (λ r. r .kind) ps (p .index) q l in
+      let there : Listed ps (p .index) (parameter (q .kind) c (q .name)) = subst (λ (x : ℕ). Listed ps (p .index) (parameter (q .kind) x (q .name))) e l in
+      let at : find c (nameAt (p .index) ps) ps ≡ Found.At (p .index) (q .kind) = ap (λ (n : List ℕ). find c n ps) (name-listed l) ∙ find-iff c (q .name) ps (w .names) (p .index) (q .kind) .1 there in
+      rw (kind, v .found, at)
+
+  pub says-is : {c : ℕ} {e : Expression} → Fits ps xs c e → (es : List Entry) → expressionSays (kindsOf ps) xs es e ≡ filterSays ps c es (treeOf ps xs e)
+  unfolding expressionSays filterSays treeOf
+  says-is (fits-test {c = c} {p = p} {q = q} l e f) es = probe-is c p q l e f es
+  says-is (fits-bracket {e = e} {p = p} {j = j} {q = q} {b = b} l i m k f g) es =
+      let parent : getD (parentsOf ps) (p .index) 0 ≡ suc j = table-listed (λ r. r .bundle) ps (p .index) q l ∙ i in
+      let named : bundleFor ps p ≡ b .name = bundle-name ps p j parent ∙ name-listed m in
+      let there : Listed ps j (parameter bundleKind 0 (b .name)) = subst (λ (x : ℕ). Listed ps j (parameter bundleKind x (b .name))) (bundle-at-top m k) (subst (λ (x : ℕ). Listed ps j (parameter x (b .bundle) (b .name))) k m) in
+      let inside : enter ps 0 (bundleFor ps p) ≡ suc j = ap (enter ps 0) named ∙ enters ps w 0 (b .name) j there in
+      ap (λ (l : List Entry). probeSays (kindsOf ps) xs p l) (keep-same (λ n. expressionSays (kindsOf ps) xs (ofOccurrence (n .occurrence) es) e) (λ n. filterSays ps (suc j) (ofOccurrence (n .occurrence) es) (treeOf ps xs e)) (λ n. says-is g (ofOccurrence (n .occurrence) es)) es)
+      ∙ probe-is (suc j) p q l i f (keep (λ n. filterSays ps (suc j) (ofOccurrence (n .occurrence) es) (treeOf ps xs e)) es)
+      ∙ ap (λ (x : ℕ). testSays ps x (keep (λ n. filterSays ps x (ofOccurrence (n .occurrence) es) (treeOf ps xs e)) es) (testFor ps xs p)) (sym inside)
+  says-is (fits-join {k = k} a b) es = ap₂ (joined k) (says-is a es) (says-is b es)
+  says-is (fits-not a) es = ap not (says-is a es)
+
+-- ---- positions
+
+pub erase-says : (ps : List Parameter) (c : ℕ) (es : List Entry) (f : Tree) → filterSays ps c es (erase f) ≡ filterSays ps c es f
+unfolding filterSays erase testSays
+erase-says ps c es (test t) = refl
+erase-says ps c es (bracketed p b f t) =
+    ap (λ (l : List Entry). testSays ps (enter ps c b) l t) (keep-same (λ e. filterSays ps (enter ps c b) (ofOccurrence (e .occurrence) es) (erase f)) (λ e. filterSays ps (enter ps c b) (ofOccurrence (e .occurrence) es) f) (λ e. erase-says ps (enter ps c b) (ofOccurrence (e .occurrence) es) f) es)
+erase-says ps c es (join k f g) = ap₂ (joined k) (erase-says ps c es f) (erase-says ps c es g)
+erase-says ps c es (negation f) = ap not (erase-says ps c es f)

@@ -1,0 +1,18 @@
+-- `rows::write::connect_cell` meets its contract. Assumes nothing.
+use borrow.Author.Needs.{needs}
+use Rattle.rows.specs.Cells.{cellOf}
+use Rattle.rows.proofs.write.connect_cell.Statement.{statement}
+use Rattle.rows.proofs.write.connect_cell.Tie as tie
+use Rattle.rows.proofs.write.connect_cell.Reads as reads
+use Rattle.rows.proofs.write.connect_cell.Lts as lts
+
+returns : tie.Need-returns
+unfolding cellOf
+returns c = rw (c .if1 .taken)
+
+returns-2 : tie.Need-returns-2
+unfolding cellOf
+returns-2 c = rw (c .if1 .left)
+
+pub connect-cell-spec : {M : Type 1} → statement M
+connect-cell-spec = tie.close (tie.spec returns returns-2)

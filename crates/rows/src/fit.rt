@@ -1,0 +1,102 @@
+// Tests of rows: whether each names a parameter with its operator, and a value that is one and readable.
+use crate::Probe;
+use crate::Shape;
+use base::kind::BUNDLE;
+use judge::has_meaning;
+use syntax::FoundValue;
+use syntax::RawValue;
+use syntax::value::decode;
+use syntax::value::read_value;
+ghost use mathlib.Core.Path.{_≡_};
+ghost use mathlib.Core.Bool.{false};
+ghost use Prim.Native.Nat.{_≤_, _<_};
+ghost use lib.ListN.{length};
+ghost use Rattle.syntax.specs.Placed.{PlacedValue};
+ghost use Rattle.syntax.specs.Scan.{decode as decoded};
+ghost use Rattle.kind.specs.Readable.{valueReadable};
+ghost use Rattle.rows.specs.Shapes.{kindFits, valueIn, probeFits, testShape};
+
+// Whether a parameter of this kind is there, is no bundle, and has the operator.
+fn kind_fits(operator: u8, kind: u8) -> bool
+    ensures { λ r. ⌜ r ≡ kindFits operator kind ⌝ }
+{
+    if kind == 0 {
+        return false;
+    }
+    if kind == BUNDLE {
+        return false;
+    }
+    if operator >= 19 {
+        return false;
+    }
+    has_meaning(operator, kind)
+}
+
+// Whether the bytes of a string that has escapes are readable.
+fn escaped_fits(operator: u8, kind: u8, raw: &[u8]) -> bool
+    requires { ⌜ length (now raw) ≤ 1024 ⌝ }
+    ensures { λ r. ⌜ r ≡ valueReadable operator kind (decoded false (now (raw .entry))) ⌝ }
+{
+    let mut value = [0u8; 1024];
+    let n = decode(raw, &mut value);
+    kind::value_readable(operator, kind, &value[..n])
+}
+
+// Whether a value of the filter is readable for an operator and a kind.
+fn value_fits(operator: u8, kind: u8, filter: &[u8], value: RawValue) -> bool
+    requires { ⌜ length (now filter) ≤ 1024 ⌝ }
+    requires { ⌜ PlacedValue (now filter) value ⌝ }
+    ensures { λ r. ⌜ r ≡ valueReadable operator kind (valueIn (now (filter .entry)) value) ⌝ }
+{
+    let start = value.start;
+    let end = value.end;
+    if value.escaped {
+        return escaped_fits(operator, kind, &filter[start..end]);
+    }
+    kind::value_readable(operator, kind, &filter[start..end])
+}
+
+// Whether a test names a parameter with its operator, and its value is one by the grammar and readable.
+fn probe_fits(kinds: &[u8], filter: &[u8], probe: Probe) -> bool
+    requires { ⌜ length (now kinds) ≡ 32 ⌝ }
+    requires { ⌜ length (now filter) ≤ 1024 ⌝ }
+    requires { ⌜ probe .index < 32 ⌝ }
+    ensures { λ r. ⌜ r ≡ probeFits (now (kinds .entry)) (now (filter .entry)) probe ⌝ }
+{
+    let index = probe.index as usize;
+    let kind = kinds[index];
+    if !kind_fits(probe.operator, kind) {
+        return false;
+    }
+    if probe.position > filter.len() {
+        return false;
+    }
+    match read_value(filter, probe.position) {
+        FoundValue::Value(value) => value_fits(probe.operator, kind, filter, value),
+        FoundValue::Nothing => false,
+    }
+}
+
+fn wide(b: u8) -> u32
+    ensures { λ r. ⌜ (r ≡ b) × (r ≤ 255) ⌝ }
+{
+    b as u32
+}
+
+// The shape of a test.
+pub fn test_shape(kinds: &[u8], parents: &[u8], filter: &[u8], probe: Probe) -> Shape
+    requires { ⌜ length (now kinds) ≡ 32 ⌝ }
+    requires { ⌜ length (now parents) ≡ 32 ⌝ }
+    requires { ⌜ length (now filter) ≤ 1024 ⌝ }
+    requires { ⌜ probe .index < 32 ⌝ }
+    ensures { λ r. ⌜ (r ≡ testShape (now (kinds .entry)) (now (parents .entry)) (now (filter .entry)) probe) × ((r .chain ≤ 15) × ((r .item ≤ 15) × (r .scope ≤ 255))) ⌝ }
+{
+    let index = probe.index as usize;
+    let scope = wide(parents[index]);
+    Shape {
+        chain: 0,
+        item: 0,
+        scope,
+        fits: probe_fits(kinds, filter, probe),
+    }
+}
