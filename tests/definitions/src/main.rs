@@ -10,7 +10,8 @@ use std::path::Path;
 use std::process::ExitCode;
 use std::{env, fs};
 
-const PROMISES: &str = "crates/sirophan/proofs/Promises.antt";
+/// The files with the promises.
+const PROMISES: [&str; 1] = ["crates/sirophan/proofs/Promises.antt"];
 const PAGE: &str = "docs/DEFINITIONS.md";
 
 fn main() -> ExitCode {
@@ -34,22 +35,22 @@ fn main() -> ExitCode {
 fn read() -> Result<(Repository, Vec<Promise>), String> {
     let files = files::read(Path::new(".")).map_err(|reason| format!("crates: {reason}"))?;
     let told = |fault: Fault| fault.to_string();
-    let repository = Repository::read(files, PROMISES).map_err(told)?;
-    let promises = reach::promises(&repository, PROMISES, TWINS).map_err(told)?;
+    let repository = Repository::read(files, &PROMISES).map_err(told)?;
+    let promises = reach::promises(&repository, &PROMISES, TWINS).map_err(told)?;
     Ok((repository, promises))
 }
 
 /// The page as it should be.
 fn made() -> Result<String, String> {
     let (repository, promises) = read()?;
-    Ok(page::page(&repository, &promises, TWINS))
+    Ok(page::page(&repository, &PROMISES, &promises, TWINS))
 }
 
 /// Prints all that is behind one statement.
 fn tell(statement: &str) -> Result<(), String> {
     let (repository, promises) = read()?;
     let promise = promises.iter().find(|promise| promise.name == statement);
-    let promise = promise.ok_or(format!("{PROMISES}: there is no statement {statement}"))?;
+    let promise = promise.ok_or(format!("there is no statement {statement} among the promises"))?;
     print!("{}", page::files_behind(&repository, &promise.behind));
     Ok(())
 }

@@ -10,18 +10,19 @@ use std::fmt::Write;
 pub const COMMAND: &str = "cargo run --offline --manifest-path tests/Cargo.toml -p definitions";
 
 /// The page.
-pub fn page(repository: &Repository, promises: &[Promise], twins: &[Twin]) -> String {
+pub fn page(repository: &Repository, statements: &[&str], promises: &[Promise], twins: &[Twin]) -> String {
     let all: BTreeSet<&Id> = promises.iter().flat_map(|promise| &promise.behind).collect();
     let files = by_file(all.iter().copied()).len();
     let lines = |ids: &BTreeSet<&Id>| ids.iter().map(|id| repository.lines(id)).sum::<usize>();
     let mut page = format!(
         "# Definitions to believe\n\n\
-         This page is made by a program (`tests/definitions`) from what the statements in `crates/sirophan/proofs/Promises.antt` refer to,\n\
+         This page is made by a program (`tests/definitions`) from what the statements in {} refer to,\n\
          and the gate fails where it is stale. To make it anew:\n\n    {COMMAND}\n\n\
          The proofs need not be read. What has to be read and believed, to know what the {} promises say, are their own lines and the\n\
          definitions that they name, with all that these name in turn:\n\n\
          **{} definitions, {} lines in {} files.**\n\n\
          Lines are counted without comments. A definition of a file in `src` is a type of the code that a statement speaks of.\n",
+        listed(statements.iter().map(|file| quoted(file)), " and "),
         promises.len(),
         all.len(),
         lines(&all),
@@ -30,7 +31,7 @@ pub fn page(repository: &Repository, promises: &[Promise], twins: &[Twin]) -> St
     write_twins(&mut page, twins);
     page.push_str(
         "\n## The statements\n\n\
-         Under each demand, in the order of the file: what a statement's own text names, by crate and file, and how many definitions and\n\
+         Under each demand, in the order of the files: what a statement's own text names, by crate and file, and how many definitions and\n\
          lines there are behind it. A computing twin is in italics, and does not count. With a statement's name behind it, as in\n\
          `-p definitions -- check-refused`, the program prints all that is behind that one, by file.\n",
     );

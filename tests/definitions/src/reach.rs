@@ -21,12 +21,16 @@ pub struct Promise {
     pub twins: BTreeSet<Id>,
 }
 
-/// The promises of a file, in its order. A twin that is not there, or that its promises do not speak of, is a fault.
-pub fn promises(repository: &Repository, file: &str, twins: &[Twin]) -> Result<Vec<Promise>, Fault> {
+/// The promises of the files, in their order. A twin that is not there, or that its promises do not speak of, is a fault.
+pub fn promises(repository: &Repository, files: &[&str], twins: &[Twin]) -> Result<Vec<Promise>, Fault> {
     let ids: BTreeSet<Id> = twins.iter().map(id).collect();
-    let source = repository.source(file).ok_or_else(|| Fault::new(file, 0, "there is no such file"))?;
+    let mut statements = Vec::new();
+    for file in files {
+        let source = repository.source(file).ok_or_else(|| Fault::new(file, 0, "there is no such file"))?;
+        statements.extend(source.definitions.iter().map(|definition| (*file, definition)));
+    }
     let mut promises = Vec::new();
-    for definition in &source.definitions {
+    for (file, definition) in statements {
         let statement = Id { file: file.into(), name: definition.name.clone() };
         let names = repository.statement_references(&statement)?;
         let mut promise = Promise {

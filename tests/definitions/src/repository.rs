@@ -56,13 +56,13 @@ pub struct Repository {
 }
 
 impl Repository {
-    /// Reads the files of specifications, and that of the promises.
-    pub fn read(files: Files, promises: &str) -> Result<Repository, Fault> {
+    /// Reads the files of specifications, and those of the promises.
+    pub fn read(files: Files, promises: &[&str]) -> Result<Repository, Fault> {
         let mut sources = BTreeMap::new();
-        if !files.contains_key(promises) {
-            return Err(Fault::new(promises, 0, "there is no such file"));
+        if let Some(missing) = promises.iter().find(|file| !files.contains_key(**file)) {
+            return Err(Fault::new(missing, 0, "there is no such file"));
         }
-        let wanted = |file: &str| file == promises || (file.contains("/specs/") && file.ends_with(".antt"));
+        let wanted = |file: &str| promises.contains(&file) || (file.contains("/specs/") && file.ends_with(".antt"));
         for (file, text) in files.iter().filter(|(file, _)| wanted(file)) {
             sources.insert(file.clone(), Source::read(file, text)?);
         }

@@ -38,4 +38,7 @@ pub const TWINS: &[Twin] = &[
     twin("crates/kind/specs/Stands.antt", "dateStands", &["dates-stand"]),
     twin("crates/date/specs/Arithmetic.antt", "beforeByNumber", &["days-before-month"]),
     twin("crates/number/specs/Billionths.antt", "inside", &["number-held"]),
+    twin("crates/sirophan/specs/Spelling.antt", "spellAnswer", &["spell-refused", "spell-answered"]),
+    twin("crates/sirophan/specs/Spelling.antt", "spellBytes", &["refusal-keeps-buffer"]),
+    twin("crates/spell/specs/Plain.antt", "plain", &["plain-spelling", "spell-answered"]),
 ];

@@ -98,7 +98,7 @@ helper = two
 }
 
 fn promises(files: Files) -> Result<Vec<Promise>, Fault> {
-    reach::promises(&Repository::read(files, PROMISES)?, PROMISES, &TWINS)
+    reach::promises(&Repository::read(files, &[PROMISES])?, &[PROMISES], &TWINS)
 }
 
 /// What is behind a statement, as `FILE NAME`.
@@ -155,8 +155,8 @@ fn names_of_the_prover_are_told_apart() {
 
 #[test]
 fn the_page_has_totals_statements_and_files() {
-    let repository = Repository::read(tree(), PROMISES).unwrap();
-    let page = page::page(&repository, &promises(tree()).unwrap(), &TWINS);
+    let repository = Repository::read(tree(), &[PROMISES]).unwrap();
+    let page = page::page(&repository, &[PROMISES], &promises(tree()).unwrap(), &TWINS);
     for line in [
         "**10 definitions, 30 lines in 3 files.**",
         "| `isEven` | `crates/low/specs/Rules.antt` | `even-told` |",
