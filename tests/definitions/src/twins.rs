@@ -44,7 +44,5 @@ pub const TWINS: &[Twin] = &[
     twin("crates/number/specs/Billionths.antt", "inside", &["number-held"]),
     twin("crates/sirophan/specs/Spelling.antt", "spellAnswer", &["spell-refused", "spell-answered"]),
     twin("crates/sirophan/specs/Spelling.antt", "spellBytes", &["refusal-keeps-buffer"]),
-    twin("crates/report/specs/Operation.antt", "reportAnswer", &["report-refused", "report-answered"]),
-    twin("crates/report/specs/Operation.antt", "reportRows", &["report-answered"]),
     twin("crates/spell/specs/Plain.antt", "plain", &["plain-spelling", "spell-answered"]),
 ];
