@@ -25,7 +25,7 @@ use Rattle.report.proofs.Table as table
 use Rattle.report.proofs.Reporting as reporting
 use Rattle.report.proofs.Words as words
 
--- ---- refusals
+-- ---- the report: refusals
 
 -- refused with a number and a place exactly where that line of the table holds and none before it does
 pub report-refused : (sheet text cards : List ℕ) (room : ℕ) → Bytes sheet → Bytes cards → (n p : ℕ)
@@ -35,7 +35,7 @@ report-refused = table.report-table
 pub refusal-keeps-rows : (sheet text cards : List ℕ) (rows : List Tally) (n i : ℕ) → reportAnswer sheet text cards (length rows) ≡ refused n i → reportRows sheet text cards rows ≡ rows
 refusal-keeps-rows = reporting.refusal-keeps
 
--- ---- counts
+-- ---- the report: yes and no
 
 -- where no line holds, a report answers on how many cards match answers yes, and on how many no, which make up the run, and writes the rows
 pub report-answered : (sheet text cards : List ℕ) (s : SheetBlock sheet) (rows : List Tally) (bs : List (List ℕ)) → Run cards bs → Bytes sheet → Bytes cards
@@ -46,7 +46,7 @@ report-answered = reporting.report-answered
 pub report-by-match : (sheet text cards : List ℕ) (s : SheetBlock sheet) (rows : List Tally) (bs : List (List ℕ)) → Run cards bs → ReportsByMatch sheet text cards (s .parameters) rows bs
 report-by-match = reporting.reports-by-match
 
--- ---- rows
+-- ---- the report: its rows
 
 -- each row says how many cards of the run have its parameter, and how many values stand under it
 pub row-in-words : (ps : List Parameter) (bs : List (List ℕ)) (rows : List Tally) (i : ℕ) → i < length ps → RowSays i bs (rowsOf ps bs rows)

@@ -21,6 +21,7 @@ const fn twin(file: &'static str, name: &'static str, promises: &'static [&'stat
 }
 
 const OPERATIONS: &str = "crates/sirophan/specs/Operations.antt";
+const REPORT: &str = "crates/report/specs/Operation.antt";
 
 /// All of them. What is behind one of them does not count as behind a statement that names it.
 pub const TWINS: &[Twin] = &[
@@ -28,6 +29,9 @@ pub const TWINS: &[Twin] = &[
     twin(OPERATIONS, "matchAnswer", &["match-refused", "match-verdict"]),
     twin(OPERATIONS, "selectAnswer", &["select-refused", "select-answered"]),
     twin(OPERATIONS, "selectCells", &["refusal-keeps-list", "select-answered"]),
+    twin(REPORT, "reportAnswer", &["report-refused", "report-answered"]),
+    twin(REPORT, "reportRows", &["refusal-keeps-rows", "report-answered"]),
+    twin("crates/report/specs/Tallies.antt", "tallies", &["row-in-words"]),
     twin("crates/sheet/specs/Sheet.antt", "readSheet", &["sheet-read"]),
     twin("crates/card/specs/Card.antt", "readCard", &["card-read"]),
     twin("crates/syntax/specs/Reader.antt", "read", &["filter-read"]),
@@ -40,7 +44,5 @@ pub const TWINS: &[Twin] = &[
     twin("crates/number/specs/Billionths.antt", "inside", &["number-held"]),
     twin("crates/sirophan/specs/Spelling.antt", "spellAnswer", &["spell-refused", "spell-answered"]),
     twin("crates/sirophan/specs/Spelling.antt", "spellBytes", &["refusal-keeps-buffer"]),
-    twin("crates/report/specs/Operation.antt", "reportAnswer", &["report-refused", "report-answered"]),
-    twin("crates/report/specs/Operation.antt", "reportRows", &["report-answered"]),
     twin("crates/spell/specs/Plain.antt", "plain", &["plain-spelling", "spell-answered"]),
 ];
