@@ -30,6 +30,7 @@ use Rattle.judge.specs.Faults.{firstFault}
 use Rattle.refusal.specs.Answers.{count, refused}
 use Rattle.refusal.specs.Steps.{Step, found, _>>=_}
 use Rattle.sirophan.specs.Operations.{sheetStep, takeSheet, treeStep, takeFilter, testsStep, Prepared, prepare, checkAnswer}
+use Rattle.sirophan.specs.Demand.{filterTests}
 use Rattle.sirophan.specs.Numbers.{TestLine, line-14, line-18, line-15, line-16, line-17}
 use Rattle.refusal.specs.Order.{group, rank, Before, Decides}
 use Rattle.sirophan.specs.Refusals.{SheetLine, line-1, line-2, line-3, TextLine, line-10, line-11, TestsLine, line-of-test, CheckLine}
@@ -152,7 +153,7 @@ module _ (ps : List Parameter) where
   abbrev LineAmong : List Test → ℕ → ℕ → Type 0
   LineAmong ts n p = (t : Test) × List·Memᴰ t ts × HeadLine t n p
 
-  head-decided : {t : Test} {s : Step (Unit {0})} → TestOutcome ps t s → Decided (λ u. Unit {0}) (HeadLine t) s
+  head-decided : {t : Test} {s : Step (Unit {0})} → TestOutcome (filterTests ps) t s → Decided (λ u. Unit {0}) (HeadLine t) s
   head-decided (test-means m no-line) = none-holds tt (λ n p l. no-line n (l .0))
   head-decided {t = t} (test-refused r) =
       one-decides

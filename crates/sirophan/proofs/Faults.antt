@@ -28,6 +28,7 @@ use Rattle.judge.specs.Rules.{NamesIn, Names, names, names-member, NotOnSheet, 
 use Rattle.kind.specs.Rules.{HasOperator}
 use Rattle.refusal.specs.Order.{rank}
 use Rattle.sirophan.specs.Numbers.{TestLine, line-14, line-18, line-15, line-16, line-17, Numbered}
+use Rattle.sirophan.specs.Demand.{filterTests}
 use Rattle.kind.proofs.Rules.{value-iff}
 use Rattle.kind.proofs.Rules.{operator-iff}
 use Rattle.judge.proofs.Rules.{unsupported-lacks, names-iff, missing-iff}
@@ -85,8 +86,8 @@ module _ (ps : List Parameter) (w : WellFormedSheet ps) (t : Test) where
   -- ---- what a test comes to: a meaning on every conforming card, or a refusal
 
   -- a test whose path names a parameter lacks a meaning on the card with one entry under it
-  refused-at : (i k : ℕ) → (k ≡ bundleKind → ⊥) → Names ps (t .path) i k → (n : ℕ) → Numbered ps t n
-      → ((es : List Entry) → (valuesAt i es ≡ [] → ⊥) → LacksMeaning ps es t) → Refused ps t n
+  refused-at : (i k : ℕ) → (k ≡ bundleKind → ⊥) → Names ps (t .path) i k → (n : ℕ) → Numbered (TestLine ps t) n
+      → ((es : List Entry) → (valuesAt i es ≡ [] → ⊥) → LacksMeaning ps es t) → Refused (filterTests ps) t n
   refused-at i k z j n table lacks =
       let p = parameter k (names-listed j .0) (names-listed j .1) in
       let l = names-listed j .2 in
@@ -99,7 +100,7 @@ module _ (ps : List Parameter) (w : WellFormedSheet ps) (t : Test) where
         lacks = lacks es (one-entry-value ps w i p l);
       }
 
-  outcome-by : {fault : Fault} → Judged ps t fault → TestOutcome ps t (faultStep fault (t .at))
+  outcome-by : {fault : Fault} → Judged ps t fault → TestOutcome (filterTests ps) t (faultStep fault (t .at))
   unfolding rank
   outcome-by (judged-unknown u) =
       test-refused
@@ -157,5 +158,5 @@ module _ (ps : List Parameter) (w : WellFormedSheet ps) (t : Test) where
       no-line n (line-16 j′ u m) = m (has j′)
       no-line n (line-17 j′ m) = m (reads j′)
 
-  pub outcome : TestOutcome ps t (faultStep (testFault ps 0 t) (t .at))
+  pub outcome : TestOutcome (filterTests ps) t (faultStep (testFault ps 0 t) (t .at))
   outcome = outcome-by judged

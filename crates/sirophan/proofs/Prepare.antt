@@ -28,6 +28,7 @@ use Rattle.judge.specs.Verdicts.{filterSays}
 use Rattle.refusal.specs.Answers.{yesOrNo, count}
 use Rattle.refusal.specs.Steps.{Step, found, stop, _>>=_, answer}
 use Rattle.sirophan.specs.Operations.{sheetStep, takeSheet, failureStep, treeStep, takeFilter, faultStep, testsStep, Prepared, prepare, takeCard, checkAnswer, matchAnswer}
+use Rattle.sirophan.specs.Demand.{TestRules, filterTests}
 use Rattle.sirophan.proofs.Outcomes.{TestOutcome, test-means, test-refused, TestsOutcome, all-mean, one-refused, AtMost, found-at-most, stop-at-most}
 use Rattle.sirophan.proofs.Faults.{outcome}
 
@@ -44,19 +45,21 @@ step-or-else Fault.Unsupported p rest = refl
 step-or-else Fault.NoMeaning p rest = refl
 step-or-else Fault.Unreadable p rest = refl
 
+-- what one test comes to, and then those after it
+pub outcome-next : {T : Type 0} (rules : TestRules T) {t : T} {ts : List T} {first rest : Step (Unit {0})} → TestOutcome rules t first → TestsOutcome rules ts rest
+    → TestsOutcome rules (t ∷ ts) (first >>= λ u. rest)
+outcome-next rules {t = t} {ts = ts} (test-refused {n = n} r) s = one-refused [] t ts n refl all-empty r
+outcome-next rules (test-means m _) (all-mean ms) = all-mean (all-cons m ms)
+outcome-next {T} rules {t = t} (test-means m _) (one-refused before u after n e ms r) = one-refused (t ∷ before) u after n (ap (λ (l : List T). t ∷ l) e) (all-cons m ms) r
+
 module _ (ps : List Parameter) where
   pub tests-next : (t : Test) (ts : List Test) → testsStep ps (t ∷ ts) ≡ (faultStep (testFault ps 0 t) (t .at) >>= λ u. testsStep ps ts)
   unfolding testsStep firstFault
   tests-next t ts = step-or-else (testFault ps 0 t) (t .at) (firstFault ps 0 ts)
 
-  outcome-next : {t : Test} {ts : List Test} {first rest : Step (Unit {0})} → TestOutcome ps t first → TestsOutcome ps ts rest → TestsOutcome ps (t ∷ ts) (first >>= λ u. rest)
-  outcome-next {t = t} {ts = ts} (test-refused {n = n} r) s = one-refused [] t ts n refl all-empty r
-  outcome-next (test-means m _) (all-mean ms) = all-mean (all-cons m ms)
-  outcome-next {t = t} (test-means m _) (one-refused before u after n e ms r) = one-refused (t ∷ before) u after n (ap (λ (l : List Test). t ∷ l) e) (all-cons m ms) r
-
-  pub tests-outcome : WellFormedSheet ps → (ts : List Test) → TestsOutcome ps ts (testsStep ps ts)
+  pub tests-outcome : WellFormedSheet ps → (ts : List Test) → TestsOutcome (filterTests ps) ts (testsStep ps ts)
   tests-outcome w [] = unfold testsStep firstFault in all-mean all-empty
-  tests-outcome w (t ∷ ts) = rw (tests-next t ts) (outcome-next (outcome ps w t) (tests-outcome w ts))
+  tests-outcome w (t ∷ ts) = rw (tests-next t ts) (outcome-next (filterTests ps) (outcome ps w t) (tests-outcome w ts))
 
 -- ---- check and match, by what is prepared
 

@@ -48,10 +48,10 @@ use Rattle.refusal.specs.Answers.{Answer, yes, no, count, refused}
 use Rattle.sirophan.specs.Operations.{checkAnswer, matchAnswer, selectAnswer, selectCells}
 use Rattle.kind.specs.Rules.{ReadableOnCard, ReadableValue}
 use Rattle.kind.specs.Rules.{HasOperator}
-use Rattle.judge.specs.Rules.{Conforms}
+use Rattle.judge.specs.Rules.{Conforms, FilterSays}
 use Rattle.kind.specs.Rules.{StandsIn}
 use Rattle.sirophan.specs.Verdicts.{Verdict}
-use Rattle.sirophan.specs.Demand.{Demand, MeetsDemand, Agree}
+use Rattle.sirophan.specs.Demand.{TestRules, Demand, Agree, FilterDemand, MeetsDemand}
 use Rattle.sirophan.specs.Selection.{Run, matchingCards, matchingNumbers, occurrences, bearing, SelectsByMatch, SelectAnswers}
 use Rattle.refusal.specs.Order.{rank, Decides}
 use Rattle.sirophan.specs.Refusals.{CheckLine, MatchLine, SelectLine}
@@ -161,7 +161,7 @@ days-before-month = calendar.days-before-month
 
 -- where check passes, match answers yes exactly where the filter says yes of the card, and no where it does not
 pub match-verdict : (sheet text : List ℕ) (s : SheetBlock sheet) (f : Tree) → length text ≤ 1024 → Spells text f → checkAnswer sheet text ≡ count (length (testsOf f))
-    → (card : List ℕ) (es : List Entry) → Conforms (s .parameters) card es → Verdict (s .parameters) es f (matchAnswer sheet text card)
+    → (card : List ℕ) (es : List Entry) → Conforms (s .parameters) card es → Verdict (FilterSays (s .parameters) 0 es f) (matchAnswer sheet text card)
 match-verdict = demand.match-verdict
 
 -- a selection lists the record numbers of the cards on which match answers yes, in card order
@@ -189,9 +189,9 @@ select-place-within = bounds.place-within
 pub check-and-match : MeetsDemand checkAnswer matchAnswer
 check-and-match = demand.demand-met
 
--- nothing is left free
-pub demand-determines : (ps : List Parameter) (f : Tree) (check check′ : Answer) (match match′ : List ℕ → Answer) → Demand ps f check match → Demand ps f check′ match′
-    → Agree ps f check check′ match match′
+-- nothing is left free, whatever the kind of test
+pub demand-determines : {T : Type 0} (rules : TestRules T) (tests : List T) (Says : List Entry → Type 0) (check check′ : Answer) (match match′ : List ℕ → Answer)
+    → Demand rules tests Says check match → Demand rules tests Says check′ match′ → Agree rules tests check check′ match match′
 demand-determines = determinacy.demand-determines
 
 -- two filters for the trial sheet: `title co "BOOK"`, with a meaning on every conforming card, and `code gt 5`, without
@@ -203,22 +203,22 @@ code-filter = impossible.code-spelled
 
 -- they shut out: a check that refuses everything, a count made up, a check that passes everything, a match that refuses everything,
 -- one that says yes to all, and one that answers no where there is no meaning
-pub check-never-refuses-all : (n p : ℕ) (match : List ℕ → Answer) → Demand trialParameters (test titleTest) (refused n p) match → ⊥
+pub check-never-refuses-all : (n p : ℕ) (match : List ℕ → Answer) → FilterDemand trialParameters (test titleTest) (refused n p) match → ⊥
 check-never-refuses-all = impossible.check-refuses-all
 
-pub check-never-miscounts : (n : ℕ) → (n ≡ 1 → ⊥) → (match : List ℕ → Answer) → Demand trialParameters (test titleTest) (count n) match → ⊥
+pub check-never-miscounts : (n : ℕ) → (n ≡ 1 → ⊥) → (match : List ℕ → Answer) → FilterDemand trialParameters (test titleTest) (count n) match → ⊥
 check-never-miscounts = impossible.check-miscounts
 
-pub check-never-passes-all : (n : ℕ) (match : List ℕ → Answer) → Demand trialParameters (test codeTest) (count n) match → ⊥
+pub check-never-passes-all : (n : ℕ) (match : List ℕ → Answer) → FilterDemand trialParameters (test codeTest) (count n) match → ⊥
 check-never-passes-all = impossible.check-passes-all
 
-pub match-never-refuses-all : (n p : ℕ) (check : Answer) → Demand trialParameters (test titleTest) check (λ card. refused n p) → ⊥
+pub match-never-refuses-all : (n p : ℕ) (check : Answer) → FilterDemand trialParameters (test titleTest) check (λ card. refused n p) → ⊥
 match-never-refuses-all = impossible.match-refuses-all
 
-pub match-never-says-yes-to-all : (check : Answer) → Demand trialParameters (test titleTest) check (λ card. yes) → ⊥
+pub match-never-says-yes-to-all : (check : Answer) → FilterDemand trialParameters (test titleTest) check (λ card. yes) → ⊥
 match-never-says-yes-to-all = impossible.match-says-yes
 
-pub match-never-says-no-without-meaning : (check : Answer) → Demand trialParameters (test codeTest) check (λ card. no) → ⊥
+pub match-never-says-no-without-meaning : (check : Answer) → FilterDemand trialParameters (test codeTest) check (λ card. no) → ⊥
 match-never-says-no-without-meaning = impossible.match-says-no
 
 -- ---- the trial card
