@@ -22,7 +22,7 @@ use Rattle.text.specs.Bar.{firstBar}
 use Rattle.number.specs.Reading as numbers
 use Rattle.date.specs.Fields.{between}
 use Rattle.date.specs.Texts as dates
-use Rattle.token.specs.Split.{split}
+use Rattle.token.specs.Split.{splitAt, split}
 use Rattle.token.specs.Card as tokens
 use Rattle.block.specs.declared.Reading.the-variants.{WellFormed}
 use Rattle.base.specs.Kinds.{bundleKind}
@@ -74,7 +74,7 @@ reads-conforms ps b bytes r h =
 -- ---- a text for each kind
 
 witness-reads : passes (λ k. cardReadable (k + 1) (witnessText (k + 1))) 5 ≡ true
-unfolding cardReadable witnessText numbers.readable numbers.read run isDigit dates.readable dates.isDate dates.read dates.readYear dates.fourAt dates.twoAt dates.pair dates.digitOf between tokens.cardReadable tokens.cardToken tokens.splitToken tokens.tokenOf split firstBar
+unfolding cardReadable witnessText numbers.readable numbers.read run isDigit dates.readable dates.isDate dates.read dates.readYear dates.fourAt dates.twoAt dates.pair dates.digitOf between tokens.cardReadable tokens.cardToken tokens.splitToken tokens.tokenOf split splitAt firstBar
 witness-reads = refl
 
 witness-readable : (kind : ℕ) → 1 ≤ kind → kind ≤ 5 → ReadableOnCard kind (witnessText kind)

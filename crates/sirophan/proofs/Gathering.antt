@@ -22,7 +22,8 @@ use Rattle.refusal.specs.Steps.{Step, found, stop, _>>=_}
 use Rattle.sirophan.specs.Operations.{blocks, takeCard}
 use Rattle.sirophan.specs.Passing.{textSays, cardVerdict, verdictStep}
 use Rattle.sirophan.specs.Selecting.{runNumbers, Gathers}
-use Rattle.sirophan.proofs.Passing.{taken, card-taken}
+use Rattle.refusal.proofs.Steps.{taken}
+use Rattle.sirophan.proofs.Passing.{card-taken}
 
 -- ---- a card that has a verdict is well formed
 

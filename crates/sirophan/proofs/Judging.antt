@@ -4,7 +4,7 @@ use Prim.Native.Nat.{ℕ}
 use mathlib.Core.Path.{_≡_, refl, sym, ap, _∙_}
 use mathlib.Core.Bool.{Bool, true, false, cond}
 use mathlib.Core.Option.{Option, none, some}
-use mathlib.Core.List.{List, [], _∷_}
+use mathlib.Core.List.{List}
 use lib.Dec.{eqb, leb}
 use lib.ListN.{length}
 use Rattle.base.specs.Runs.{RunEnd}
@@ -16,9 +16,9 @@ use Rattle.syntax.specs.Tree.{Tree, testsOf}
 use Rattle.syntax.specs.Grammar.{round}
 use Rattle.syntax.specs.Scan.{isSpace, skipAt}
 use Rattle.syntax.specs.Reader.{Parsed, parsed, unparsed, filterAt, whole, read}
-use Rattle.judge.specs.Sets.{chosenOf, conforms, conformsTo, keep}
-use Rattle.judge.specs.declared.Chosen.{Chosen}
+use Rattle.judge.specs.Sets.{chosenOf, conforms, conformsTo}
 use Rattle.judge.specs.Verdicts.{filterSays}
+use Rattle.judge.proofs.Entries.{every, chosen-every}
 use Rattle.judge.proofs.Table.{table-conforms}
 use Rattle.filter.specs.Folds.{judging}
 use Rattle.filter.specs.Walks.{answerOf}
@@ -35,15 +35,6 @@ kept-tree : (b c : Bool) (f g : Tree) → cond b (cond c (some f) none) none ≡
 kept-tree true true f g h = cc
 kept-tree true false f g h = cc
 kept-tree false c f g h = cc
-
--- all entries of the card count
-abbrev pub every : Chosen
-every = record { all = true; occurrence = 0 }
-
-chosen-every : (es : List Entry) → chosenOf every es ≡ es
-unfolding chosenOf keep
-chosen-every [] = refl
-chosen-every (e ∷ es) = ap (λ (l : List Entry). e ∷ l) (chosen-every es)
 
 module _ (ps : List Parameter) (es : List Entry) (b xs : List ℕ) (p : Passing b xs) (start : ℕ) (s : RunEnd isSpace xs 0 start) (w : Judged) (e : w ≡ answerOf Judged.Done Judged.Nothing (judging true ps 0 (chosenOf every es)) (filterAt 8 xs round start)) where
   read-from : (g : Parsed) → filterAt 8 xs round start ≡ g → whole xs g ≡ some (p .tree)

@@ -22,16 +22,12 @@ use Rattle.refusal.specs.declared.Refusal.{Refusal}
 use Rattle.sirophan.specs.declared.verdict.CardVerdict.{CardVerdict}
 use Rattle.refusal.specs.Answers.{count, refused, yesOrNo, numberOf, refusalAnswer}
 use Rattle.sirophan.specs.Answers.{checkedAnswer, matchedAnswer}
+use Rattle.refusal.proofs.Steps.{taken}
 use Rattle.refusal.specs.Steps.{Step, found, stop, _>>=_, answer}
 use Rattle.sirophan.specs.Operations.{treeStep, takeFilter, testsStep, takeSheet, sheetStep, Prepared, prepare, Card, cardStep, takeCard, checkAnswer, matchAnswer}
 use Rattle.sirophan.specs.Passing.{Passing, cardVerdict, verdictStep}
 
 -- ---- check has passed them
-
--- what was found first, where something was found after it
-pub taken : {A B : Type 0} (s : Step A) (next : A → Step B) (b : B) → (s >>= next) ≡ found b → (a : A) × (s ≡ found a) × (next a ≡ found b)
-taken (found a) next b h = (a, refl, h)
-taken (stop n p) next b h = absurd (let z : _≡_ {A = ℕ} 0 1 = cc in omega arith)
 
 prepared-found : (s : Step Prepared) (n : ℕ) → answer (s >>= λ p. found (count (length (testsOf (p .filter))))) ≡ count n → (p : Prepared) × (s ≡ found p)
 prepared-found (found p) n h = (p, refl)

@@ -12,18 +12,27 @@ use Rattle.text.specs.Bar.{bar, firstBar, NoBar, FirstBarAt, at-end, behind}
 use Rattle.text.specs.Fold.{foldText}
 use Rattle.text.proofs.Bar.{firstBar-reads}
 use Rattle.text.proofs.Folded.{foldText-bar, foldText-noBar}
-use Rattle.token.specs.Split.{no-bar, at-bar, split, foldParts}
+use Rattle.token.specs.Split.{no-bar, at-bar, splitAt, split, foldParts}
 
--- ---- by the index of the first bar, with the parts as slices have them
+-- ---- by the index of the bar, with the parts as slices have them
 
-module _ (t : List ℕ) (i : ℕ) (e : i ≡ firstBar t) where
-  pub split-none : length t ≤ i → split t ≡ no-bar t
-  unfolding split
-  split-none h = rw (← e, le-ltb i (length t) h)
+module _ (t : List ℕ) (i : ℕ) where
+  pub splitAt-none : length t ≤ i → splitAt i t ≡ no-bar t
+  unfolding splitAt
+  splitAt-none h = rw (le-ltb i (length t) h)
 
-  pub split-parts : i < length t → split t ≡ at-bar (take i t) (take (length t - (i + 1)) (drop (i + 1) t))
-  unfolding split
-  split-parts h = rw (← e, lt-ltb i (length t) h, rest t (i + 1))
+  pub splitAt-parts : i < length t → splitAt i t ≡ at-bar (take i t) (take (length t - (i + 1)) (drop (i + 1) t))
+  unfolding splitAt
+  splitAt-parts h = rw (lt-ltb i (length t) h, rest t (i + 1))
+
+  module _ (e : i ≡ firstBar t) where
+    pub split-none : length t ≤ i → split t ≡ no-bar t
+    unfolding split
+    split-none h = rw (← e) (splitAt-none h)
+
+    pub split-parts : i < length t → split t ≡ at-bar (take i t) (take (length t - (i + 1)) (drop (i + 1) t))
+    unfolding split
+    split-parts h = rw (← e) (splitAt-parts h)
 
 -- ---- by the spelling
 
@@ -32,12 +41,16 @@ split-no-bar c h =
     let e : firstBar c ≡ length c = firstBar-reads c (length c) .1 (at-end h refl) in
     split-none c (length c) (sym e) (omega arith)
 
+pub splitAt-there : (s c : List ℕ) (b : ℕ) → splitAt (length s) (s ++ (b ∷ c)) ≡ at-bar s c
+unfolding splitAt
+splitAt-there s c b = rw (lt-ltb (length s) (length (s ++ (b ∷ c))) (omega (arith, length-append s (b ∷ c))), take-append-seam, drop-append-add)
+
 pub split-at-bar : (s c : List ℕ) → NoBar s → split (s ++ (bar ∷ c)) ≡ at-bar s c
 unfolding split
 split-at-bar s c h =
     let t = s ++ (bar ∷ c) in
     let e : firstBar t ≡ length s = firstBar-reads t (length s) .1 (behind s c refl h refl) in
-    rw (e, lt-ltb (length s) (length t) (omega (arith, length-append s (bar ∷ c))), take-append-seam, drop-append-add)
+    rw e (splitAt-there s c bar)
 
 -- every text has no bar or a first one
 pub split-cases : (P : List ℕ → Type 0) → ((c : List ℕ) → NoBar c → P c) → ((s c : List ℕ) → NoBar s → P (s ++ (bar ∷ c))) → (t : List ℕ) → P t

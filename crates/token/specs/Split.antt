@@ -1,4 +1,4 @@
--- A text split at its first bar.
+-- A text split at a bar.
 -- Assumes nothing.
 use Prim.Native.Nat.{ℕ, _+_}
 use mathlib.Core.Bool.{cond}
@@ -8,14 +8,18 @@ use lib.ListN.{length, take, drop}
 use Rattle.text.specs.Fold.{foldText}
 use Rattle.text.specs.Bar.{firstBar}
 
--- the whole text where it has no bar, or the parts before and after the first
+-- the whole text where there is no bar to split it at, or the parts before and after the bar
 pub data Split : Type 0 where
   no-bar : List ℕ → Split
   at-bar : List ℕ → List ℕ → Split
 
+-- split at the index i, where the text has a byte there
+unfoldable pub splitAt : ℕ → List ℕ → Split
+splitAt i t = cond (ltb i (length t)) (at-bar (take i t) (drop (i + 1) t)) (no-bar t)
+
 -- 01: split at its first bar
 unfoldable pub split : List ℕ → Split
-split t = cond (ltb (firstBar t) (length t)) (at-bar (take (firstBar t) t) (drop (firstBar t + 1) t)) (no-bar t)
+split t = splitAt (firstBar t) t
 
 -- the parts folded, each by itself
 unfoldable pub foldParts : Split → Split
