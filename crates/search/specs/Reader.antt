@@ -12,7 +12,7 @@ use Rattle.base.specs.Names.{between}
 use Rattle.base.specs.Runs.{runEnd, differs}
 use Rattle.syntax.specs.Strings.{backslash}
 use Rattle.text.specs.Bar.{bar}
-use Rattle.refusal.specs.Steps.{Step, found, stop}
+use Rattle.refusal.specs.Steps.{Step, found, stop, _>>=_}
 use Rattle.search.specs.Spelling.{ampersand, equals, percent, plus, comma, Sign, byte, cut, split, isSpecial, cutSigns, Alternative, alternative, Query, alternativesOf}
 
 -- the value of a hex digit, or 16 where the byte is none
