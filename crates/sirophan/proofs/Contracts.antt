@@ -7,7 +7,7 @@ use lib.ListN.{length, getD}
 use Rattle.base.proofs.All.{bytes-of}
 use Rattle.refusal.specs.Answers.{Answer}
 use Rattle.sirophan.specs.Answers.{checkedAnswer, matchedAnswer, selectedAnswer}
-use Rattle.sirophan.specs.Operations.{checkAnswer, matchAnswer, selectAnswer}
+use Rattle.sirophan.specs.Operations.{checkAnswer, filterQuestion, matchAnswer, selectAnswer}
 use Rattle.sirophan.specs.Refusals.{CheckLine, MatchLine, SelectLine}
 use Rattle.sirophan.specs.Selecting.{Selects}
 use Rattle.sirophan.specs.Contracts.{RefusedBy, Checks, Matches, SelectsInto}
@@ -37,7 +37,7 @@ matches sheet text card r e s c =
       refuses = refused-by (MatchLine sheet text card) (matchedAnswer r) (matchAnswer sheet text card) e (match-table sheet text card (bytes-of sheet s) (bytes-of card c));
     }
 
-pub selects-into : (sheet text cards list : List ℕ) (r : Selected) (exit : List ℕ) → Selects sheet text cards list r exit → Sliced sheet → Sliced cards
+pub selects-into : (sheet text cards list : List ℕ) (r : Selected) (exit : List ℕ) → Selects (filterQuestion sheet text) cards list r exit → Sliced sheet → Sliced cards
     → SelectsInto sheet text cards list r exit
 selects-into sheet text cards list r exit h s c =
     record {

@@ -3,7 +3,7 @@
 use Prim.Native.Nat.{ℕ}
 use mathlib.Core.Path.{_≡_, refl, sym, ap, _∙_}
 use mathlib.Core.Bool.{Bool, true, false, cond}
-use mathlib.Core.Option.{Option, none, some}
+use mathlib.Core.Option.{none, some}
 use mathlib.Core.List.{List}
 use lib.Dec.{eqb, leb}
 use lib.ListN.{length}
@@ -26,7 +26,7 @@ use Rattle.filter.specs.declared.Judged.{Judged}
 use Rattle.filter.proofs.Walk.{was-filter, was-none}
 use Rattle.filter.proofs.Judging.{judged-cases, judging-is}
 use Rattle.refusal.specs.Steps.{found, stop}
-use Rattle.sirophan.specs.Operations.{Card, cardStep, takeCard}
+use Rattle.sirophan.specs.Operations.{Card, cardStep, takeCard, Question}
 use Rattle.sirophan.specs.Passing.{Passing, textSays, cardVerdict}
 
 -- ---- what the filter says
@@ -55,19 +55,19 @@ module _ (ps : List Parameter) (es : List Entry) (b xs : List ℕ) (p : Passing 
 
 -- ---- one card
 
-module _ (ps : List Parameter) (f : Option Tree) (b : List ℕ) (r : Reading) (e : r ≡ readCard b) where
-  pub card-refused : (k : Reading) (n : ℕ) → ((fits : Bool) (c : Card) (i : ℕ) → cardStep k fits c i ≡ stop n i) → r ≡ k → (i : ℕ) → stop n i ≡ cardVerdict ps f i b
+module _ (q : Question) (b : List ℕ) (r : Reading) (e : r ≡ readCard b) where
+  pub card-refused : (k : Reading) (n : ℕ) → ((fits : Bool) (c : Card) (i : ℕ) → cardStep k fits c i ≡ stop n i) → r ≡ k → (i : ℕ) → stop n i ≡ cardVerdict q i b
   unfolding cardVerdict takeCard
-  card-refused k n t h i = rw (sym e ∙ h, t (conforms ps (entriesOf b)) (record { number = recordNumber b; entries = entriesOf b }) i)
+  card-refused k n t h i = rw (sym e ∙ h, t (conforms (q .parameters) (entriesOf b)) (record { number = recordNumber b; entries = entriesOf b }) i)
 
-  module _ (ks : List ℕ) (t : ks ≡ kindsOf ps) (o : Bool) (g : o ≡ conformsTo ks (entriesOf b)) (h : r ≡ Reading.WellFormed) where
-    fits : o ≡ conforms ps (entriesOf b)
-    fits = g ∙ ap (λ (k : List ℕ). conformsTo k (entriesOf b)) t ∙ table-conforms ps (entriesOf b)
+  module _ (ks : List ℕ) (t : ks ≡ kindsOf (q .parameters)) (o : Bool) (g : o ≡ conformsTo ks (entriesOf b)) (h : r ≡ Reading.WellFormed) where
+    fits : o ≡ conforms (q .parameters) (entriesOf b)
+    fits = g ∙ ap (λ (k : List ℕ). conformsTo k (entriesOf b)) t ∙ table-conforms (q .parameters) (entriesOf b)
 
-    pub card-misfit : o ≡ false → (i : ℕ) → stop 23 i ≡ cardVerdict ps f i b
+    pub card-misfit : o ≡ false → (i : ℕ) → stop 23 i ≡ cardVerdict q i b
     unfolding cardVerdict takeCard
     card-misfit n i = rw (sym e ∙ h, sym fits ∙ n)
 
-    pub card-says : (v : Bool) → o ≡ true → v ≡ textSays ps (entriesOf b) f → (i : ℕ) → found v ≡ cardVerdict ps f i b
+    pub card-says : (v : Bool) → o ≡ true → v ≡ q .says (entriesOf b) → (i : ℕ) → found v ≡ cardVerdict q i b
     unfolding cardVerdict takeCard
     card-says v y s i = rw (sym e ∙ h, sym fits ∙ y, s)

@@ -15,6 +15,7 @@ use Rattle.card.specs.Card.{Entry, recordNumber, entriesOf}
 use Rattle.syntax.specs.Tree.{Test}
 use Rattle.judge.specs.Faults.{unsupported}
 use Rattle.judge.specs.declared.Fault.{Fault}
+use Rattle.refusal.specs.Answers.{Answer}
 use Rattle.refusal.specs.Steps.{Step, found, stop}
 use Rattle.sirophan.specs.Operations.{Card, takeCard}
 use Rattle.kind.specs.Rules.{ReadableValue}
@@ -83,12 +84,16 @@ pub data CardsOutcome (ps : List Parameter) (i : ℕ) (bs : List (List ℕ)) : S
   one-stopped : (before : List (List ℕ)) (b : List ℕ) (after : List (List ℕ)) (n j : ℕ) → bs ≡ before ++ (b ∷ after) → j ≡ i + length before
       → All (Taken ps) before → n ≤ 23 → Stopped ps n b → CardsOutcome ps i bs (stop n j)
 
+-- a number that neither a card nor a list is refused with
+abbrev pub OtherNumber : ℕ → Type 0
+OtherNumber n = 21 ≤ n → n ≤ 30 → ⊥
+
 -- a selection from a run, for a list of `room` cells
-pub data SelectionOutcome (sheet text : List ℕ) (bs : List (List ℕ)) (room : ℕ) : Step (List ℕ) → Type 0 where
-  not-prepared : (n i : ℕ) → n ≤ 18 → SelectionOutcome sheet text bs room (stop n i)
-  card-refused : (n i : ℕ) → n ≤ 23 → RefusesCard sheet text bs n i → SelectionOutcome sheet text bs room (stop n i)
-  no-room : (i : ℕ) → i ≡ length (matchingCards sheet text bs) → room < i → SelectionOutcome sheet text bs room (stop 30 i)
-  numbers-found : SelectionOutcome sheet text bs room (found (matchingNumbers sheet text bs))
+pub data SelectionOutcome (match : List ℕ → Answer) (bs : List (List ℕ)) (room : ℕ) : Step (List ℕ) → Type 0 where
+  not-asked : (n i : ℕ) → OtherNumber n → SelectionOutcome match bs room (stop n i)
+  card-refused : (n i : ℕ) → n ≤ 23 → RefusesCard match bs n i → SelectionOutcome match bs room (stop n i)
+  no-room : (i : ℕ) → i ≡ length (matchingCards match bs) → room < i → SelectionOutcome match bs room (stop 30 i)
+  numbers-found : SelectionOutcome match bs room (found (matchingNumbers match bs))
 
 -- ---- any step
 

@@ -24,10 +24,9 @@ use Rattle.place.specs.declared.Why.{Why}
 use Rattle.judge.specs.Faults.{testFault, orElse, firstFault}
 use Rattle.judge.specs.declared.Fault.{Fault}
 use Rattle.judge.specs.declared.FirstFault.{FirstFault}
-use Rattle.judge.specs.Verdicts.{filterSays}
 use Rattle.refusal.specs.Answers.{yesOrNo, count}
 use Rattle.refusal.specs.Steps.{Step, found, stop, _>>=_, answer}
-use Rattle.sirophan.specs.Operations.{sheetStep, takeSheet, failureStep, treeStep, takeFilter, faultStep, testsStep, Prepared, prepare, takeCard, checkAnswer, matchAnswer}
+use Rattle.sirophan.specs.Operations.{sheetStep, takeSheet, failureStep, treeStep, takeFilter, faultStep, testsStep, Prepared, prepare, takeCard, checkAnswer, Question, questionOf, matchBy, filterQuestion}
 use Rattle.sirophan.specs.Demand.{TestRules, filterTests}
 use Rattle.sirophan.proofs.Outcomes.{TestOutcome, test-means, test-refused, TestsOutcome, all-mean, one-refused, AtMost, found-at-most, stop-at-most}
 use Rattle.sirophan.proofs.Faults.{outcome}
@@ -63,15 +62,19 @@ module _ (ps : List Parameter) where
 
 -- ---- check and match, by what is prepared
 
+pub match-by : (asked : Step Question) (r : Step Question) → asked ≡ r → (card : List ℕ)
+    → matchBy asked card ≡ answer (r >>= λ q. takeCard (q .parameters) 0 card >>= λ c. found (yesOrNo (q .says (c .entries))))
+unfolding matchBy
+match-by asked r e card = rw e
+
 module _ (sheet text : List ℕ) (r : Step Prepared) (e : prepare sheet text ≡ r) where
   pub check-by : checkAnswer sheet text ≡ answer (r >>= λ p. found (count (length (testsOf (p .filter)))))
   unfolding checkAnswer
   check-by = rw e
 
-  pub match-by : (card : List ℕ)
-      → matchAnswer sheet text card ≡ answer (r >>= λ p. takeCard (p .parameters) 0 card >>= λ c. found (yesOrNo (filterSays (p .parameters) 0 (c .entries) (p .filter))))
-  unfolding matchAnswer
-  match-by card = rw e
+  pub question-by : filterQuestion sheet text ≡ (r >>= λ p. found (questionOf p))
+  unfolding filterQuestion
+  question-by = rw e
 
 -- ---- sheet and text
 
@@ -128,7 +131,7 @@ fault-at-most Fault.Unsupported p = stop-at-most 15 p (omega arith)
 fault-at-most Fault.NoMeaning p = stop-at-most 16 p (omega arith)
 fault-at-most Fault.Unreadable p = stop-at-most 17 p (omega arith)
 
-pub prepare-number : (sheet text : List ℕ) (n p : ℕ) → prepare sheet text ≡ stop n p → n ≤ 18
+prepare-number : (sheet text : List ℕ) (n p : ℕ) → prepare sheet text ≡ stop n p → n ≤ 18
 unfolding prepare takeSheet takeFilter testsStep
 prepare-number sheet text =
     at-most-number
@@ -136,3 +139,12 @@ prepare-number sheet text =
     (λ ps. at-most-then
     (cond-elim (AtMost 18) (eqb (length text) 0 || ltb 1024 (length text)) (λ _. stop-at-most 10 0 (omega arith)) (λ _. tree-at-most text (read text)))
     (λ f. at-most-then (fault-at-most (firstFault ps 0 (testsOf f) .fault) (firstFault ps 0 (testsOf f) .position)) (λ u. found-at-most))))
+
+-- a filter is refused with none of the numbers that cards and lists are refused with
+pub question-number : (sheet text : List ℕ) (n p : ℕ) → filterQuestion sheet text ≡ stop n p → n ≤ 18
+unfolding filterQuestion
+question-number sheet text n p e = by (prepare sheet text) refl e
+  where
+    by : (r : Step Prepared) → prepare sheet text ≡ r → (r >>= λ p. found (questionOf p)) ≡ stop n p → n ≤ 18
+    by (found q) f g = absurd (let z : _≡_ {A = ℕ} 0 1 = cc in omega arith)
+    by (stop m q) f g = let same : m ≡ n = cc in omega (arith, prepare-number sheet text m q f)

@@ -45,7 +45,7 @@ use Rattle.kind.specs.Table.{hasMeaning}
 use Rattle.kind.specs.declared.Relation.{Relation}
 use Rattle.refusal.proofs.Order as order
 use Rattle.refusal.specs.Answers.{Answer, yes, no, count, refused}
-use Rattle.sirophan.specs.Operations.{checkAnswer, matchAnswer, selectAnswer, selectCells}
+use Rattle.sirophan.specs.Operations.{checkAnswer, filterQuestion, matchAnswer, selectAnswer, selectCells}
 use Rattle.kind.specs.Rules.{ReadableOnCard, ReadableValue}
 use Rattle.kind.specs.Rules.{HasOperator}
 use Rattle.judge.specs.Rules.{Conforms, FilterSays}
@@ -101,7 +101,7 @@ pub number-unique : {d m : ℕ} {text : List ℕ} {p n k : ℕ} → Number d m t
 number-unique = place.number-unique
 
 pub refusal-keeps-list : (sheet text cards list : List ℕ) (n i : ℕ) → selectAnswer sheet text cards (length list) ≡ refused n i → selectCells sheet text cards list ≡ list
-refusal-keeps-list = selection.refusal-keeps
+refusal-keeps-list sheet text = selection.refusal-keeps (filterQuestion sheet text) (selection.filter-number sheet text)
 
 -- ---- demand 2: the answer is the meaning
 
@@ -165,24 +165,26 @@ pub match-verdict : (sheet text : List ℕ) (s : SheetBlock sheet) (f : Tree) �
 match-verdict = demand.match-verdict
 
 -- a selection lists the record numbers of the cards on which match answers yes, in card order
-pub select-by-match : (sheet text cards list : List ℕ) (bs : List (List ℕ)) → Run cards bs → SelectsByMatch sheet text cards list bs
-select-by-match = selection.selects-by-match
+pub select-by-match : (sheet text cards list : List ℕ) (bs : List (List ℕ)) → Run cards bs
+    → SelectsByMatch (matchAnswer sheet text) (selectAnswer sheet text cards (length list)) (selectCells sheet text cards list) list bs
+select-by-match sheet text = selection.selects-by-match (filterQuestion sheet text) (selection.filter-number sheet text)
 
 -- where no line of the table holds, it answers, and with these
 pub select-answered : (sheet text cards list : List ℕ) → Bytes sheet → Bytes cards → (bs : List (List ℕ)) → Run cards bs
-    → ((n p : ℕ) → SelectLine sheet text cards (length list) n p → ⊥) → SelectAnswers sheet text cards list bs
+    → ((n p : ℕ) → SelectLine sheet text cards (length list) n p → ⊥)
+    → SelectAnswers (matchAnswer sheet text) (selectAnswer sheet text cards (length list)) (selectCells sheet text cards list) list bs
 select-answered = answered.select-answered
 
 -- each as often as matching cards bear it
-pub select-occurrences : (sheet text : List ℕ) (bs : List (List ℕ)) (x : ℕ) → occurrences x (matchingNumbers sheet text bs) ≡ length (bearing x (matchingCards sheet text bs))
+pub select-occurrences : (match : List ℕ → Answer) (bs : List (List ℕ)) (x : ℕ) → occurrences x (matchingNumbers match bs) ≡ length (bearing x (matchingCards match bs))
 select-occurrences = selection.matching-occurrences
 
 -- what select answers is small: a count is no larger than the list, the place of a refused card no larger than the run
 pub select-count-within : (sheet text cards list : List ℕ) (n : ℕ) → selectAnswer sheet text cards (length list) ≡ count n → n ≤ length list
-select-count-within = bounds.count-within
+select-count-within sheet text = bounds.count-within (filterQuestion sheet text) (selection.filter-number sheet text)
 
 pub select-place-within : (sheet text cards list : List ℕ) (n p : ℕ) → selectAnswer sheet text cards (length list) ≡ refused n p → 21 ≤ n → n ≤ 23 → p < 128
-select-place-within = bounds.place-within
+select-place-within sheet text = bounds.place-within (filterQuestion sheet text) (selection.filter-number sheet text)
 
 -- ---- demand 3: what check passes and what it refuses
 
