@@ -15,6 +15,7 @@ use Rattle.base.specs.Kinds.{string, token, reference}
 use Rattle.base.specs.Operators.{operatorWords, eq, sw, re, pr}
 use Rattle.base.proofs.Tests.{or-left, or-right, or-either, and-left, and-right, cond-elim}
 use Rattle.sheet.specs.Encode.{ValueKind}
+use Rattle.judge.specs.Faults.{unsupported}
 use Rattle.search.specs.Asking.{takesPrefix, prefixes, wordOf, AskedBy, asked-prefix, asked-eq, asked-start, asked-token, asked-reference, Asked, prefixed, askedOf}
 
 -- ---- the rule has one operator and one value, the computed ones
@@ -105,6 +106,17 @@ asked-there (suc (suc (suc (suc zero)))) t v = asked-token refl
 asked-there (suc (suc (suc (suc (suc zero))))) t v = asked-reference refl
 asked-there (suc (suc (suc (suc (suc (suc zero)))))) t v = prefixed-asks 6 refl t prefixes two-bytes (λ k m. m) (λ k m. inl m)
 asked-there (suc (suc (suc (suc (suc (suc (suc k))))))) t v = absurd (omega (arith, v .highest))
+
+-- what is asked is none of the operators that are not supported
+pub asked-supported : {kind o : ℕ} {t v : List ℕ} → AskedBy kind t o v → unsupported o ≡ false
+unfolding unsupported member
+asked-supported (asked-prefix {k = k} p m) =
+    at-one (λ (j : ℕ). unsupported j ≡ false) prefixes k
+    (all-cons refl (all-cons refl (all-cons refl (all-cons refl (all-cons refl (all-cons refl (all-cons refl (all-cons refl all-empty)))))))) m
+asked-supported (asked-eq p h) = refl
+asked-supported (asked-start h) = refl
+asked-supported (asked-token h) = refl
+asked-supported (asked-reference h) = refl
 
 -- nothing asks for pr
 pub never-pr : {kind o : ℕ} {t v : List ℕ} → AskedBy kind t o v → o ≡ pr → ⊥

@@ -45,7 +45,7 @@ use Rattle.refusal.proofs.Order.{apart-at, before-itself, before-ranks, later-g
 -- ---- the sheet
 
 -- the parameters found are those of the sheet
-abbrev OfSheet : List ℕ → List Parameter → Type 0
+abbrev pub OfSheet : List ℕ → List Parameter → Type 0
 OfSheet sheet ps = (s : SheetBlock sheet) × (s .parameters ≡ ps)
 
 module _ (sheet : List ℕ) where
@@ -75,9 +75,15 @@ module _ (sheet : List ℕ) where
       one-decides (record { holds = line-3 u; first = sheet-first 3 (omega arith) (λ l. a) (λ l. b) })
   sheet-step (all-right a b s) = none-holds (s, sym (sheet-parameters s)) (sheet-none a b s)
 
-  sheet-decided : Bytes sheet → Decided (OfSheet sheet) (SheetLine sheet) (takeSheet sheet)
+  pub sheet-decided : Bytes sheet → Decided (OfSheet sheet) (SheetLine sheet) (takeSheet sheet)
   unfolding takeSheet
   sheet-decided bytes = sheet-step (sheet-reads-to sheet bytes)
+
+pub sheet-group : {sheet : List ℕ} (n p : ℕ) → SheetLine sheet n p → group n ≤ group 3
+unfolding group member
+sheet-group n p (line-1 u) = omega arith
+sheet-group n p (line-2 u) = omega arith
+sheet-group n p (line-3 u) = omega arith
 
 -- ---- the text
 
@@ -198,12 +204,6 @@ module _ (sheet text : List ℕ) where
     filter-decided =
         decided-found (λ u. record { parameters = s .parameters; filter = f }) (λ u _. (s, refl, spells))
         (decided-as (λ n p. (among-there n p, among-back)) (tests-decided (s .parameters) (s .well-formed) (tests-rise text f spells)))
-
-  sheet-group : (n p : ℕ) → SheetLine sheet n p → group n ≤ group 3
-  unfolding group member
-  sheet-group n p (line-1 u) = omega arith
-  sheet-group n p (line-2 u) = omega arith
-  sheet-group n p (line-3 u) = omega arith
 
   text-group : (n p : ℕ) → TextLine text n p → (group 3 < group n) × (group n ≤ group 11)
   unfolding group member

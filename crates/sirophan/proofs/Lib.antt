@@ -23,6 +23,9 @@ pub mod MatchTable
 pub mod SelectTable
 pub mod Contracts
 pub mod Answered
+pub mod SearchFaults
+pub mod SearchDemand
+pub mod SearchTable
 pub mod Operators
 pub mod Trial
 pub mod Promises

@@ -34,7 +34,7 @@ use Rattle.sirophan.proofs.Faults.{outcome}
 -- ---- tests
 
 -- the first of two faults, as a step
-step-or-else : (fault : Fault) (p : ℕ) (rest : FirstFault)
+pub step-or-else : (fault : Fault) (p : ℕ) (rest : FirstFault)
     → faultStep (orElse (record { fault = fault; position = p }) rest .fault) (orElse (record { fault = fault; position = p }) rest .position)
     ≡ (faultStep fault p >>= λ u. faultStep (rest .fault) (rest .position))
 step-or-else Fault.Nothing p rest = refl

@@ -8,6 +8,9 @@ pub mod Numbers
 pub mod Demand
 pub mod Selection
 pub mod Refusals
+pub mod Searching
+pub mod SearchDemand
+pub mod SearchRefusals
 pub mod Contracts
 pub mod Witness
 pub mod Trial
