@@ -79,7 +79,7 @@ kept-says says {q = q} h = query-kept says q (pairs-some h)
 -- ---- what a push keeps
 
 module _ {A B : Type 0} where
-  map-append : (f : A → B) (xs ys : List A) → map f (xs ++ ys) ≡ map f xs ++ map f ys
+  pub map-append : (f : A → B) (xs ys : List A) → map f (xs ++ ys) ≡ map f xs ++ map f ys
   map-append f [] ys = refl
   map-append f (x ∷ xs) ys = ap (λ (l : List B). f x ∷ l) (map-append f xs ys)
 

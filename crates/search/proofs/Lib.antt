@@ -15,3 +15,4 @@ mod Holding
 mod Passing
 mod Taking
 mod Judging
+pub mod Taken

@@ -23,7 +23,7 @@ keep-pair-length [] = refl
 keep-pair-length (a ∷ []) = refl
 keep-pair-length (a ∷ b ∷ rest) = ap suc (keep-pair-length (b ∷ rest))
 
-keep-length : (q : Query) → length (keepAll q) ≡ length (alternativesOf q)
+pub keep-length : (q : Query) → length (keepAll q) ≡ length (alternativesOf q)
 unfolding keepAll flatten
 keep-length [] = refl
 keep-length (p ∷ q) = omega (arith, length-append (keepPair p) (keepAll q), length-append p (flatten q), keep-pair-length p, keep-length q)

@@ -9,8 +9,9 @@ use lib.ListN.{length, take, set}
 use Rattle.base.specs.Lists.{All}
 use Rattle.base.specs.Parts.{part}
 use Rattle.judge.specs.declared.Fault.{Fault}
-use Rattle.search.specs.Spelling.{Alternative, alternative, Query, cutSigns}
+use Rattle.search.specs.Spelling.{Alternative, alternative, Query, alternativesOf, cutSigns}
 use Rattle.refusal.specs.Steps.{found, stop}
+use Rattle.search.specs.Meaning.{queryMet}
 use Rattle.search.specs.Reader.{signsOf, readPairs, takeQuery}
 use Rattle.search.specs.declared.QueryOutcome.{QueryOutcome}
 use Rattle.search.specs.declared.QueryRead.{QueryRead}
@@ -108,3 +109,11 @@ isFault Fault.BareBundle = true
 isFault Fault.Unsupported = true
 isFault Fault.NoMeaning = true
 isFault Fault.Unreadable = true
+
+-- a search string was taken, and the rows keep its query
+pub record RowsOf (text bytes : List ℕ) (rows : Rows) (q : Query) : Type 0 where
+  pub taken : takeQuery text ≡ found q
+  pub within : RowsWithin (length bytes) rows
+  pub alternatives : alternativesIn bytes rows ≡ alternativesOf q
+  pub count : rows .count ≡ length (alternativesOf q)
+  pub says : (says : Alternative → Bool) → rowsSay says bytes rows ≡ queryMet says q

@@ -118,7 +118,7 @@ pub fn read_query(text: &[u8], bytes: &mut [u8]) -> QueryRead
 }
 
 // Rows that keep nothing.
-fn no_rows() -> Rows {
+pub fn no_rows() -> Rows {
     Rows {
         count: 0,
         rows: [Row {

@@ -71,3 +71,18 @@ module _ (q : Question) (b : List ℕ) (r : Reading) (e : r ≡ readCard b) wher
     pub card-says : (v : Bool) → o ≡ true → v ≡ q .says (entriesOf b) → (i : ℕ) → found v ≡ cardVerdict q i b
     unfolding cardVerdict takeCard
     card-says v y s i = rw (sym e ∙ h, sym fits ∙ y, s)
+
+-- ---- by what reading says of the card
+
+pub card-known : (b : List ℕ) (r : Reading) → r ≡ readCard b → r ≡ Reading.WellFormed → readCard b ≡ Reading.WellFormed
+card-known b r e h = sym e ∙ h
+
+module _ (q : Question) (b : List ℕ) (r : Reading) (e : r ≡ readCard b) where
+  pub card-size : r ≡ Reading.WrongSize → (i : ℕ) → stop 20 i ≡ cardVerdict q i b
+  card-size = card-refused q b r e Reading.WrongSize 20 (λ fits c i. refl)
+
+  pub card-sum : r ≡ Reading.WrongSum → (i : ℕ) → stop 21 i ≡ cardVerdict q i b
+  card-sum = card-refused q b r e Reading.WrongSum 21 (λ fits c i. refl)
+
+  pub card-layout : r ≡ Reading.WrongLayout → (i : ℕ) → stop 22 i ≡ cardVerdict q i b
+  card-layout = card-refused q b r e Reading.WrongLayout 22 (λ fits c i. refl)

@@ -23,6 +23,7 @@ pub mod MatchTable
 pub mod SelectTable
 pub mod Contracts
 pub mod Answered
+pub mod SearchPassing
 pub mod SearchFaults
 pub mod SearchDemand
 pub mod SearchTable

@@ -108,3 +108,11 @@ module _ (asked : Step Question) (cards list : List ℕ) where
 pub select-refused : (sheet text cards list : List ℕ) (c : Checked) (r : Refusal) → checkedAnswer c ≡ checkAnswer sheet text → c ≡ Checked.Refused r
     → Selects (filterQuestion sheet text) cards list (Selected.Refused r) list
 select-refused sheet text cards list c r e h = select-stopped (filterQuestion sheet text) cards list r (question-stopped sheet text c r e h)
+
+-- of a question that is found already
+module _ (q : Question) (cards list : List ℕ) (r : Refusal) where
+  pub found-parted : (length cards % 512 ≡ 0 → ⊥) → r .reason ≡ Reason.CardSize → r .place ≡ 0 → Selects (found q) cards list (Selected.Refused r) list
+  found-parted = select-parted (found q) cards list q refl r
+
+  pub found-over : length cards % 512 ≡ 0 → 65536 < length cards → r .reason ≡ Reason.CardSize → r .place ≡ 0 → Selects (found q) cards list (Selected.Refused r) list
+  found-over = select-over (found q) cards list q refl r

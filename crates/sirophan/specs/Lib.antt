@@ -11,6 +11,7 @@ pub mod Refusals
 pub mod Searching
 pub mod SearchDemand
 pub mod SearchRefusals
+pub mod SearchPassing
 pub mod Contracts
 pub mod Witness
 pub mod Trial

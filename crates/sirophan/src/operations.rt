@@ -5,8 +5,11 @@ use crate::Matched;
 use crate::Selected;
 use crate::reading::check_bytes;
 use crate::run::select_bytes;
+use crate::searching::check_search_bytes;
+use crate::searching::match_search_bytes;
+use crate::searching::select_search_bytes;
 use crate::verdict::match_bytes;
-ghost use Rattle.sirophan.specs.Contracts.{Checks, Matches, SelectsInto};
+ghost use Rattle.sirophan.specs.Contracts.{Checks, Matches, SelectsInto, ChecksSearch, MatchesSearch, SelectsSearchInto};
 
 // How many tests a filter has, where each has a meaning on every card that fits the sheet.
 pub fn check(sheet: &[u8], filter: &[u8]) -> Checked
@@ -27,4 +30,25 @@ pub fn select(sheet: &[u8], filter: &[u8], cards: &[u8], list: &mut [u32]) -> Se
     ensures { λ r. ⌜ SelectsInto (now (sheet .entry)) (now (filter .entry)) (now (cards .entry)) (now (list .entry)) r (now (list .exit)) ⌝ }
 {
     select_bytes(sheet, filter, cards, list)
+}
+
+// How many alternatives a search string has, where each has a meaning on every card that fits the sheet.
+pub fn check_search(sheet: &[u8], text: &[u8]) -> Checked
+    ensures { λ r. ⌜ ChecksSearch (now (sheet .entry)) (now (text .entry)) r ⌝ }
+{
+    check_search_bytes(sheet, text)
+}
+
+// Whether a card matches a search string.
+pub fn match_search(sheet: &[u8], text: &[u8], card: &[u8]) -> Matched
+    ensures { λ r. ⌜ MatchesSearch (now (sheet .entry)) (now (text .entry)) (now (card .entry)) r ⌝ }
+{
+    match_search_bytes(sheet, text, card)
+}
+
+// Writes the record numbers of the cards of a run that match a search string into the list, in card order, and answers how many they are.
+pub fn select_search(sheet: &[u8], text: &[u8], cards: &[u8], list: &mut [u32]) -> Selected
+    ensures { λ r. ⌜ SelectsSearchInto (now (sheet .entry)) (now (text .entry)) (now (cards .entry)) (now (list .entry)) r (now (list .exit)) ⌝ }
+{
+    select_search_bytes(sheet, text, cards, list)
 }
