@@ -104,11 +104,11 @@ at-most-then : {A B : Type 0} {most : ℕ} {s : Step A} {next : A → Step B} �
 at-most-then (found-at-most {x = x}) h = h x
 at-most-then (stop-at-most n p l) h = stop-at-most n p l
 
-at-most-number : {A : Type 0} {most : ℕ} {s : Step A} → AtMost most s → (n p : ℕ) → s ≡ stop n p → n ≤ most
+pub at-most-number : {A : Type 0} {most : ℕ} {s : Step A} → AtMost most s → (n p : ℕ) → s ≡ stop n p → n ≤ most
 at-most-number found-at-most n p e = absurd (let z : _≡_ {A = ℕ} 0 1 = cc in omega arith)
 at-most-number (stop-at-most m q l) n p e = let z : m ≡ n = cc in omega arith
 
-sheet-at-most : (r : Reading) (ps : List Parameter) → AtMost 18 (sheetStep r ps)
+pub sheet-at-most : (r : Reading) (ps : List Parameter) → AtMost 18 (sheetStep r ps)
 sheet-at-most Reading.WellFormed ps = found-at-most
 sheet-at-most Reading.WrongSize ps = stop-at-most 1 0 (omega arith)
 sheet-at-most Reading.WrongSum ps = stop-at-most 2 0 (omega arith)
@@ -123,7 +123,7 @@ tree-at-most : (text : List ℕ) (o : Option Tree) → AtMost 18 (treeStep text 
 tree-at-most text (some f) = found-at-most
 tree-at-most text none = failure-at-most (failure deepest mostTests text .why) (failure deepest mostTests text .place)
 
-fault-at-most : (fault : Fault) (p : ℕ) → AtMost 18 (faultStep fault p)
+pub fault-at-most : (fault : Fault) (p : ℕ) → AtMost 18 (faultStep fault p)
 fault-at-most Fault.Nothing p = found-at-most
 fault-at-most Fault.UnknownName p = stop-at-most 14 p (omega arith)
 fault-at-most Fault.BareBundle p = stop-at-most 18 p (omega arith)

@@ -55,6 +55,15 @@ use Rattle.sirophan.specs.Demand.{TestRules, Demand, Agree, FilterDemand
 use Rattle.sirophan.specs.Selection.{Run, matchingCards, matchingNumbers, occurrences, bearing, SelectsByMatch, SelectAnswers}
 use Rattle.refusal.specs.Order.{rank, Decides}
 use Rattle.sirophan.specs.Refusals.{CheckLine, MatchLine, SelectLine}
+use Rattle.search.specs.Spelling.{Query, SpellsQuery}
+use Rattle.search.specs.Reader.{takeQuery}
+use Rattle.search.proofs.Reading as query-reading
+use Rattle.refusal.specs.Steps.{found}
+use Rattle.sirophan.specs.Searching.{checkSearchAnswer, searchQuestion, matchSearchAnswer, selectSearchAnswer, selectSearchCells}
+use Rattle.sirophan.specs.SearchDemand.{MeetsSearchDemand}
+use Rattle.sirophan.specs.SearchRefusals.{CheckSearchLine, MatchSearchLine, SelectSearchLine}
+use Rattle.sirophan.proofs.SearchDemand as search-demand
+use Rattle.sirophan.proofs.SearchTable as search-table
 use Rattle.sirophan.specs.Trial.{Row, trialRows, bundleRows, titleTest, codeTest}
 use Rattle.kind.proofs.Rules as rules
 use Rattle.sirophan.proofs.Failing as failing
@@ -222,6 +231,44 @@ match-never-says-yes-to-all = impossible.match-says-yes
 
 pub match-never-says-no-without-meaning : (check : Answer) → FilterDemand trialParameters (test codeTest) check (λ card. no) → ⊥
 match-never-says-no-without-meaning = impossible.match-says-no
+
+-- ---- 02: search strings
+
+-- a string is read as a query exactly where it spells it, and there is at most one
+pub query-read : (text : List ℕ) (q : Query) → (takeQuery text ≡ found q) ↔ SpellsQuery text q
+query-read = query-reading.query-read
+
+pub query-unique : (text : List ℕ) (q r : Query) → SpellsQuery text q → SpellsQuery text r → q ≡ r
+query-unique = query-reading.query-unique
+
+-- demand 1: each operation is refused exactly where a line of its table decides
+pub check-search-refused : (sheet text : List ℕ) → Bytes sheet → (n p : ℕ) → (checkSearchAnswer sheet text ≡ refused n p) ↔ Decides (CheckSearchLine sheet text) n p
+check-search-refused = search-table.check-search-table
+
+pub match-search-refused : (sheet text card : List ℕ) → Bytes sheet → Bytes card → (n p : ℕ)
+    → (matchSearchAnswer sheet text card ≡ refused n p) ↔ Decides (MatchSearchLine sheet text card) n p
+match-search-refused = search-table.match-search-table
+
+pub select-search-refused : (sheet text cards : List ℕ) (room : ℕ) → Bytes sheet → Bytes cards → (n p : ℕ)
+    → (selectSearchAnswer sheet text cards room ≡ refused n p) ↔ Decides (SelectSearchLine sheet text cards room) n p
+select-search-refused = search-table.select-search-table
+
+pub search-refusal-keeps-list : (sheet text cards list : List ℕ) (n i : ℕ) → selectSearchAnswer sheet text cards (length list) ≡ refused n i → selectSearchCells sheet text cards list ≡ list
+search-refusal-keeps-list sheet text = selection.refusal-keeps (searchQuestion sheet text) (search-table.search-number sheet text)
+
+-- demand 2: a selection lists the record numbers of the cards on which match answers yes, in card order; where no line holds, it answers
+pub select-search-by-match : (sheet text cards list : List ℕ) (bs : List (List ℕ)) → Run cards bs
+    → SelectsByMatch (matchSearchAnswer sheet text) (selectSearchAnswer sheet text cards (length list)) (selectSearchCells sheet text cards list) list bs
+select-search-by-match sheet text = selection.selects-by-match (searchQuestion sheet text) (search-table.search-number sheet text)
+
+pub select-search-answered : (sheet text cards list : List ℕ) → Bytes sheet → Bytes cards → (bs : List (List ℕ)) → Run cards bs
+    → ((n p : ℕ) → SelectSearchLine sheet text cards (length list) n p → ⊥)
+    → SelectAnswers (matchSearchAnswer sheet text) (selectSearchAnswer sheet text cards (length list)) (selectSearchCells sheet text cards list) list bs
+select-search-answered = search-table.select-search-answered
+
+-- demand 3 over alternatives; that nothing is left free is demand-determines
+pub check-and-match-search : MeetsSearchDemand checkSearchAnswer matchSearchAnswer
+check-and-match-search = search-demand.search-demand-met
 
 -- ---- the trial card
 

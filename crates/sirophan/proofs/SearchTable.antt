@@ -9,7 +9,7 @@ use mathlib.Core.List.{List, [], _∷_, _++_, cons≢nil}
 use lib.ListN.{length}
 use Rattle.base.specs.Bytes.{Bytes}
 use Rattle.base.specs.Lists.{All, all-empty, all-cons, member}
-use Rattle.sheet.specs.Sheet.{Parameter}
+use Rattle.sheet.specs.Sheet.{Parameter, parametersOf, readSheet}
 use Rattle.sheet.specs.Encode.{SheetBlock, WellFormedSheet}
 use Rattle.search.specs.Spelling.{Alternative, Query, alternativesOf, SpellsQuery}
 use Rattle.search.specs.Reader.{takeQuery}
@@ -21,20 +21,58 @@ use Rattle.search.proofs.Lines.{query-decided}
 use Rattle.refusal.specs.Answers.{count, refused}
 use Rattle.refusal.specs.Order.{group, rank, Decides}
 use Rattle.refusal.specs.Steps.{Step, found, stop, _>>=_}
+use Rattle.refusal.proofs.Steps.{stop-not-found}
 use Rattle.refusal.proofs.Answers.{count-not-refused}
 use Rattle.refusal.proofs.Deciding.{Decided, none-holds, one-decides, decided-as, decided-then, decided-found, decided-answer}
 use Rattle.refusal.proofs.Order.{apart-at, no-lower-rank}
+use Rattle.sirophan.specs.Operations.{takeSheet}
 use Rattle.sirophan.specs.Refusals.{SheetLine}
 use Rattle.sirophan.specs.Searching.{alternativesStep, PreparedQuery, prepareQuery, checkSearchAnswer, questionOfQuery, searchQuestion, matchSearchAnswer, selectSearchAnswer, selectSearchCells}
+use Rattle.sirophan.specs.Selection.{Run, SelectAnswers}
 use Rattle.sirophan.specs.Selection.{Run, SelectAnswers}
 use Rattle.sirophan.specs.SearchDemand.{searchTests}
 use Rattle.sirophan.specs.SearchRefusals.{FirstLine, AlternativesLine, line-of-alternative, CheckSearchLine, MatchSearchLine, SelectSearchLine}
 use Rattle.sirophan.proofs.Outcomes.{TestOutcome, test-means, test-refused, OtherNumber}
+use Rattle.sirophan.proofs.Answered.{select-answered-by}
 use Rattle.sirophan.proofs.CheckTable.{sheet-parameters, sheet-decided, sheet-group}
 use Rattle.sirophan.proofs.MatchTable.{AskedOn, match-table-by}
 use Rattle.sirophan.proofs.SelectTable.{select-table-by}
 use Rattle.sirophan.proofs.Answered.{select-answered-by}
+use Rattle.sirophan.proofs.Prepare.{at-most-number, sheet-at-most, fault-at-most}
 use Rattle.sirophan.proofs.SearchFaults.{alternative-outcome, alternatives-next}
+
+-- ---- the numbers of these refusals
+
+-- a step that is refused with a number of which P holds, and then another
+stops : {A B : Type 0} (P : ℕ → Type 0) (s : Step A) (next : A → Step B) → ((n p : ℕ) → s ≡ stop n p → P n) → ((a : A) (n p : ℕ) → next a ≡ stop n p → P n)
+    → (n p : ℕ) → (s >>= next) ≡ stop n p → P n
+stops P (found a) next f g n p e = g a n p e
+stops P (stop m q) next f g n p e = let same : m ≡ n = cc in subst P same (f m q refl)
+
+query-other : (text : List ℕ) (n p : ℕ) → takeQuery text ≡ stop n p → OtherNumber n
+query-other text n p e = by-decided (takeQuery text) (query-decided text) e
+  where
+    by-line : {m q : ℕ} → QueryLine text m q → OtherNumber m
+    by-line (line-10 u) low high = omega arith
+    by-line (line-50 r u) low high = omega arith
+    by-line (line-51 r u) low high = omega arith
+
+    by-decided : (s : Step Query) → Decided (SpellsQuery text) (QueryLine text) s → s ≡ stop n p → OtherNumber n
+    by-decided (found q) (none-holds k h) e = absurd (let z : _≡_ {A = ℕ} 0 1 = cc in omega arith)
+    by-decided (stop m q) (one-decides d) e = let same : m ≡ n = cc in subst OtherNumber same (by-line (d .holds))
+
+-- a search string is refused with none of the numbers that cards and lists are refused with
+pub search-number : (sheet text : List ℕ) (n p : ℕ) → searchQuestion sheet text ≡ stop n p → OtherNumber n
+unfolding searchQuestion prepareQuery takeSheet alternativesStep
+search-number sheet text =
+    stops OtherNumber (prepareQuery sheet text) (λ p. found (questionOfQuery p))
+    (stops OtherNumber (takeSheet sheet) (λ ps. takeQuery text >>= λ q. alternativesStep ps (alternativesOf q) >>= λ u. found (record { parameters = ps; query = q }))
+    (λ n p e low high. omega (arith, at-most-number (sheet-at-most (readSheet sheet) (parametersOf sheet)) n p e))
+    (λ ps. stops OtherNumber (takeQuery text) (λ q. alternativesStep ps (alternativesOf q) >>= λ u. found (record { parameters = ps; query = q })) (query-other text)
+    (λ q. stops OtherNumber (alternativesStep ps (alternativesOf q)) (λ u. found (record { parameters = ps; query = q }))
+    (λ n p e low high. omega (arith, at-most-number (fault-at-most (firstAlternativeFault ps (alternativesOf q) .fault) (firstAlternativeFault ps (alternativesOf q) .position)) n p e))
+    (λ u n p e. stop-not-found (sym e)))))
+    (λ p n q e. stop-not-found (sym e))
 
 -- ---- alternatives
 
@@ -176,3 +214,10 @@ module _ (sheet text : List ℕ) where
   pub select-search-table : (cards : List ℕ) (room : ℕ) → Bytes sheet → Bytes cards → (n p : ℕ)
       → (selectSearchAnswer sheet text cards room ≡ refused n p) ↔ Decides (SelectSearchLine sheet text cards room) n p
   select-search-table cards room bytes = select-table-by sheet (searchQuestion sheet text) cards room (CheckSearchLine sheet text) search-group (question-decided bytes)
+
+  pub select-search-answered : (cards list : List ℕ) → Bytes sheet → Bytes cards → (bs : List (List ℕ)) → Run cards bs
+      → ((n p : ℕ) → SelectSearchLine sheet text cards (length list) n p → ⊥)
+      → SelectAnswers (matchSearchAnswer sheet text) (selectSearchAnswer sheet text cards (length list)) (selectSearchCells sheet text cards list) list bs
+  select-search-answered cards list sheet-bytes bytes bs run none =
+      select-answered-by (searchQuestion sheet text) (search-number sheet text) cards list bs run
+      (λ n p e. none n p (select-search-table cards (length list) sheet-bytes bytes n p .0 e .holds))
