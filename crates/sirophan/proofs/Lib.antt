@@ -24,6 +24,7 @@ pub mod SelectTable
 pub mod Contracts
 pub mod Answered
 pub mod SearchPassing
+pub mod SameQuestion
 pub mod SearchFaults
 pub mod SearchDemand
 pub mod SearchTable

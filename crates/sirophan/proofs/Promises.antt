@@ -62,6 +62,8 @@ use Rattle.refusal.specs.Steps.{found}
 use Rattle.sirophan.specs.Searching.{checkSearchAnswer, searchQuestion, matchSearchAnswer, selectSearchAnswer, selectSearchCells}
 use Rattle.sirophan.specs.SearchDemand.{MeetsSearchDemand}
 use Rattle.sirophan.specs.SearchRefusals.{CheckSearchLine, MatchSearchLine, SelectSearchLine}
+use Rattle.sirophan.specs.SameQuestion.{SameQuestion, AnsweredAlike}
+use Rattle.sirophan.proofs.SameQuestion as same-question
 use Rattle.sirophan.proofs.SearchDemand as search-demand
 use Rattle.sirophan.proofs.SearchTable as search-table
 use Rattle.sirophan.specs.Trial.{Row, trialRows, bundleRows, titleTest, codeTest}
@@ -269,6 +271,11 @@ select-search-answered = search-table.select-search-answered
 -- demand 3 over alternatives; that nothing is left free is demand-determines
 pub check-and-match-search : MeetsSearchDemand checkSearchAnswer matchSearchAnswer
 check-and-match-search = search-demand.search-demand-met
+
+-- a filter that asks the same, and that check passes, is answered the same
+pub search-as-filter : (sheet text query : List ℕ) (s : SheetBlock sheet) (f : Tree) (q : Query) → Spells text f → SpellsQuery query q → SameQuestion (s .parameters) q f
+    → checkAnswer sheet text ≡ count (length (testsOf f)) → AnsweredAlike sheet query text
+search-as-filter = same-question.same-question
 
 -- ---- the trial card
 

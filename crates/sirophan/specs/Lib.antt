@@ -12,6 +12,7 @@ pub mod Searching
 pub mod SearchDemand
 pub mod SearchRefusals
 pub mod SearchPassing
+pub mod SameQuestion
 pub mod Contracts
 pub mod Witness
 pub mod Trial
