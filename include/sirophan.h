@@ -1,11 +1,12 @@
 /*
  * Sirophan: which catalogue cards of an archive match a FHIR R4 _filter.
  *
- * A sheet says which parameters the cards have and of which kind each is; a card holds a record number and search
- * values. Both are blocks of 512 bytes, in two forms that the first byte tells apart: a sheet begins with 0x50, or with
- * 0x51 where its parameters may be bundles and their members; a card begins with 0x43, or with 0x44 where its entries
- * have occurrences. Every sheet may be used with every card. A filter is a text of 1 to 1,024 bytes. docs/RULES.md
- * has the blocks byte by byte and says what filters mean.
+ * A sheet says which parameters the cards have and of which kind each is (1 string, 2 number, 3 date, 4 token,
+ * 5 reference, 6 period); a card holds a record number and search values. Both are blocks of 512 bytes, in two forms
+ * that the first byte tells apart: a sheet begins with 0x50, or with 0x51 where its parameters may be bundles (kind 7)
+ * and their members; a card begins with 0x43, or with 0x44 where its entries have occurrences. Every sheet may be used
+ * with every card. A filter is a text of 1 to 1,024 bytes. docs/RULES.md has the blocks byte by byte and says what
+ * filters mean.
  *
  * None of them is trusted: each function checks all that it is given, and for every input it ends with an answer or
  * with a numbered refusal.

@@ -1,9 +1,13 @@
 //! The command `sirophan` as it is run: what it says on both streams, and its status. Messages are compared whole.
 
-use std::fs;
-use std::io::Write;
+use std::ffi::{CStr, c_char, c_int};
+use std::fs::{self, File};
+use std::io::{Read, Write};
+use std::os::fd::FromRawFd;
 use std::path::{Path, PathBuf};
 use std::process::{Command, Stdio};
+use std::thread;
+use std::time::Duration;
 
 const PROGRAM: &str = env!("CARGO_BIN_EXE_sirophan");
 const REPOSITORY: &str = concat!(env!("CARGO_MANIFEST_DIR"), "/..");
@@ -172,14 +176,28 @@ fn help_and_version() {
     for part in ["sirophan pick [--stream] SHEET FILTER CARDS", "sirophan verify DIR", "Status: 0 answered"] {
         assert!(help.output.contains(part), "{part}");
     }
-    folder.run(&["--version"]).says(0, concat!("sirophan ", env!("CARGO_PKG_VERSION"), "\n"), "");
+    for option in ["--version", "-V", "version"] {
+        folder.run(&[option]).says(0, concat!("sirophan ", env!("CARGO_PKG_VERSION"), "\n"), "");
+    }
+    let pick = folder.run(&["pick", "--help"]).output;
+    for line in [["help", "pick"], ["--help", "pick"], ["pick", "-h"]] {
+        folder.run(&line).says(0, &pick, "");
+    }
 }
 
 #[test]
 fn command_lines_that_are_not_understood() {
     let folder = Folder::new("usage");
     folder.run(&[]).fails(1, "sirophan: No command was given. `sirophan --help` lists the commands.\n");
-    folder.run(&["pik"]).fails(1, "sirophan: pik is no command. `sirophan --help` lists the commands.\n");
+    folder
+        .run(&["pik"])
+        .fails(1, "sirophan: pik is no command. Is it pick or pack? `sirophan --help` lists the commands.\n");
+    folder.run(&["search"]).fails(1, "sirophan: search is no command. `sirophan --help` lists the commands.\n");
+    folder.run(&["help", "search"]).fails(1, "sirophan: search is no command. `sirophan --help` lists the commands.\n");
+    folder.run(&["--json", "pick"]).fails(
+        1,
+        "sirophan: --json stands before the command. Options stand behind it. `sirophan --help` lists the commands.\n",
+    );
     folder.run(&["pick", "a"]).fails(1, "sirophan: 1 path given. Usage: sirophan pick [--stream] SHEET FILTER CARDS\n");
     folder
         .run(&["check", "--stream", "a", "b"])
@@ -227,7 +245,7 @@ fn pick_refuses_a_filter_before_the_cards() {
          \x20                ^^^^^^^^^\n\
          standard input: refused 16 at 17: The operator has no meaning for a parameter of this kind.\n\
          \x20 code is a token, which has the operators eq, ne and pr.\n\
-         \x20 gt is for numbers and dates. If that is what code holds, the sheet gives it the wrong kind.\n",
+         \x20 gt is for numbers, dates and periods. If that is what code holds, the sheet gives it the wrong kind.\n",
     );
     let json = folder.run_with(&["pick", "--json", "sheet.bin", "-", "cards.bin"], b"title eq");
     json.fails(
@@ -276,6 +294,25 @@ fn pick_names_the_card_at_fault() {
         2,
         "cards.bin: refused 20 at 0: The card is not 512 bytes long, or the run is no whole number of cards or over 128.\n\
          \x20 Behind its last whole card it has 1 byte.\n",
+    );
+    let text = "It is a text. A description becomes cards by `sirophan pack DIR OUT`.";
+    folder.write("cards.bin", "record: 1\n");
+    folder.pick("title pr true").fails(
+        2,
+        &format!(
+            "cards.bin: refused 20 at 0: The card is not 512 bytes long, or the run is no whole number of cards or over 128.\n\
+             \x20 {text}\n"
+        ),
+    );
+    folder.write("cards.bin", "record: 1\ntitle Ward 41\n".repeat(64).split_at(1024).0);
+    folder
+        .pick("title pr true")
+        .fails(2, &format!("cards.bin: refused 21 at 0: The card's check sum is wrong.\n  card 0: {text}\n"));
+    folder.write("cards.bin", folder.read("sheet.bin"));
+    folder.pick("title pr true").fails(
+        2,
+        "cards.bin: refused 22 at 0: The card breaks its layout.\n\
+         \x20 card 0: The card breaks its layout. It has the first byte of a sheet.\n",
     );
 }
 
@@ -349,6 +386,11 @@ fn check_answers_with_the_tests() {
         "{\"count\":1,\"tests\":[{\"field\":\"pages\",\"kind\":\"number\",\"operator\":\"gt\",\"value\":\"5\"}]}\n",
         "",
     );
+    folder.run_with(&["check", "--json", "sheet.bin", "-"], b"title co \"a\\tb \\\\ c\"").says(
+        0,
+        "{\"count\":1,\"tests\":[{\"field\":\"title\",\"kind\":\"string\",\"operator\":\"co\",\"value\":\"a\\u0009b \\\\ c\"}]}\n",
+        "",
+    );
     let folder = Folder::packed("check-name", "token discharge-date\n", "record: 1\n", "discharge-date eq 1974");
     folder.run(&["check", "sheet.bin", "filter.txt"]).says(
         0,
@@ -389,6 +431,15 @@ fn check_helps_with_tests() {
             unreadable,
             "pages is a number, and twelve cannot be read as one: 1 to 8 digits, then perhaps a point and 1 to 9 digits.",
         ),
+        (
+            "related[target eq x].type pr true",
+            16,
+            8,
+            "The operator has no meaning for a parameter of this kind.",
+            "related.target is a reference, which has the operators pr and re.\n  A reference is asked by re, as in \
+             `re Patient/17`.\n  eq is for strings, numbers, dates, tokens and periods. If that is what \
+             related.target holds, the sheet gives it the wrong kind.",
+        ),
         ("pages pr maybe", 17, 0, unreadable, "Behind pr stands true (there is a text) or false (there is none)."),
         (
             "related pr true",
@@ -419,12 +470,13 @@ fn check_helps_with_texts_that_are_no_filters() {
         folder.check(filter).fails(2, &message);
     };
     let words = "Words have a space before them.";
+    let title = "title is a string, which has the operators eq, ne, co, sw, ew and pr.";
     for (filter, place, help) in [
         (" ", 1, "Here could stand a name or `(`."),
-        ("title", 5, "Here could stand an operator or `[`. Words have a space before them."),
+        ("related", 7, "Here could stand an operator or `[`. Words have a space before them."),
+        ("wrad", 4, "Here could stand an operator or `[`. Words have a space before them."),
         ("title eq", 8, "Here could stand a value. Words have a space before them."),
         ("title eq ", 9, "Here could stand a value."),
-        ("title e", 7, "The last word cannot end here: it is no name and no operator."),
         ("title eq \"a\"b", 12, "Here could stand `and`, `or` or the end. Words have a space before them."),
         ("title eq x)", 10, "Here could stand `and`, `or` or the end. Words have a space before them."),
         ("(title eq x", 11, "Here could stand `)`, `and` or `or`. Words have a space before them."),
@@ -441,12 +493,30 @@ fn check_helps_with_texts_that_are_no_filters() {
     ] {
         told(filter, place, help);
     }
+    let no_word = "The last word cannot end here: it is no name and no operator.";
+    told("title e", 7, &format!("{no_word}\n  {title}"));
+    told("title", 5, &format!("Here could stand an operator. {words}\n  {title}"));
+    let token = "type is a token, which has the operators eq, ne and pr.";
+    told(
+        "related[type = x].target pr true",
+        13,
+        &format!("= is written eq.\n  Here could stand an operator.\n  {token}"),
+    );
+    told("related[type is x].target pr true", 14, &format!("{no_word}\n  {token}"));
+    // What other languages have.
+    told("title = x", 6, &format!("= is written eq.\n  Here could stand an operator.\n  {title}"));
+    let joins = "Here could stand `and`, `or` or the end.";
+    told("title eq x && title pr true", 11, &format!("&& is written and.\n  {joins}"));
+    told("title equals x", 8, &format!("equals is written eq.\n  Here could stand a value. {words}"));
+    let several = "A value of several words stands between double quotes.";
+    told("title eq Ward book 4", 14, &format!("{several}\n  {joins}"));
+    told("(title eq x) title pr true", 13, joins);
     let value = "Here could stand a value.";
     told("title eq \u{F6}", 9, &format!("Letters beyond ASCII stand between double quotes only.\n  {value}"));
     let curly = "It has a curly quote. Texts are quoted with the straight sign \".";
     told("title eq \u{201C}x\u{201D}", 9, &format!("{curly}\n  {value}"));
     let capitals = "EQ is written eq: operators, and, or and not are in small letters.";
-    told("title EQ x", 6, &format!("{capitals}\n  Here could stand an operator."));
+    told("title EQ x", 6, &format!("{capitals}\n  Here could stand an operator.\n  {title}"));
     for (filter, shown, place, help, stands) in [
         (
             "title eq x\r\n",
@@ -474,7 +544,7 @@ fn check_helps_with_texts_that_are_no_filters() {
             "title\u{FFFD}eq x\n     ^",
             5,
             "It has a tab. Only spaces may stand between the words.",
-            format!("Here could stand an operator or `[`. {words}"),
+            format!("Here could stand an operator. {words}\n  {title}"),
         ),
     ] {
         let sentence = "The text is no filter by the grammar: no filter goes on like this.";
@@ -500,6 +570,12 @@ fn check_helps_with_texts_that_are_no_filters() {
     let long =
         "standard input: refused 10 at 0: The filter is empty or longer than 1,024 bytes.\n  It has 2,000 bytes.\n";
     folder.check(&"x".repeat(2000)).fails(2, long);
+    folder.write("many.bin", folder.read("cards.bin").repeat(3));
+    folder.run(&["check", "sheet.bin", "many.bin"]).fails(
+        2,
+        "many.bin: refused 10 at 0: The filter is empty or longer than 1,024 bytes.\n\
+         \x20 It is a file of blocks. The filter is another file, such as filter.txt, and comes before the cards.\n",
+    );
 }
 
 #[test]
@@ -574,6 +650,55 @@ fn fields_show_what_the_cards_hold() {
         "{\"cards\":1,\"fields\":[{\"field\":\"d\",\"kind\":\"date\",\"cards\":1,\"values\":1,\"example\":\"1974\",\
          \"looks_like\":null,\"warnings\":[]}]}\n",
         "",
+    );
+}
+
+/// Periods: packed, shown in words, asked by dates, and told where they cannot be read.
+#[test]
+fn periods_in_words() {
+    let sheet = "period stay\nstring ward\nperiod discharge-date\n";
+    let cards = "record: 1\nstay 1974-06/1974\nrecord: 2\nstay 1974/\nward 1960/\nrecord: 3\nstay /1974-06\n";
+    let folder = Folder::packed("periods", sheet, cards, "stay lt 1974-06");
+    folder.run(&["show", "cards.bin"]).says(
+        0,
+        "card 0, record 1, 1 entry\n\
+         \x20 name  kind    text\n\
+         \x20 stay  period  1974-06/1974 (from 1974-06 to the end of 1974)\n\
+         card 1, record 2, 2 entries\n\
+         \x20 name  kind    text\n\
+         \x20 stay  period  1974/ (from 1974 on, end open)\n\
+         \x20 ward  string  1960/\n\
+         card 2, record 3, 1 entry\n\
+         \x20 name  kind    text\n\
+         \x20 stay  period  /1974-06 (to the end of 1974-06, start open)\n",
+        "",
+    );
+    folder.run(&["fields", "sheet.bin", "cards.bin"]).says(
+        0,
+        "3 cards\n\
+         \x20 field           kind    cards  values  example\n\
+         \x20 stay            period  3      3       1974-06/1974\n\
+         \x20 ward            string  1      1       1960/\n\
+         \x20 discharge-date  period  0      0\n\
+         warning: ward is a string, and 1 of 1 value looks like a period.\n\
+         \x20 If it holds periods, the sheet gives it the wrong kind, and a filter asks something else than it seems to.\n",
+        "",
+    );
+    folder.pick("stay gt 1974-06").says(0, "1\n2\n2 of 3\n", "");
+    folder.pick("stay eq 1974").says(0, "1\n1 of 3\n", "");
+    folder.check("discharge-date eq 1974").says(0, "1 test\n  discharge-date  period  eq  1974\n", "");
+    folder.check("stay eq 1974/").fails(
+        2,
+        "stay eq 1974/\n^^^^^^^^^^^^^\nstandard input: refused 17 at 0: The value cannot be read as the parameter's kind, or for pr \
+         as true or false.\n\
+         \x20 stay is a period, which a filter asks by a date, and 1974/ cannot be read as one: YYYY, YYYY-MM, YYYY-MM-DD, or \
+         YYYY-MM-DDThh:mm:ss with Z or a zone such as +02:00.\n",
+    );
+    folder.write("cards.txt", "record: 1\nstay 1974\n");
+    folder.run(&["pack", ".", "."]).fails(
+        2,
+        "./cards.txt:2: record 1, stay: 1974 cannot be read as a period: two dates with a slash between, of which one may be \
+         missing, such as 1974-06/1975, 1974/ or /1975; it ends after it starts.\n",
     );
 }
 
@@ -684,11 +809,16 @@ fn pack_tells_what_has_no_room() {
             "./cards.txt:2: record 1, title: the text has 256 bytes, and an entry has room for 255. Shorten it.\n",
         ),
         (entry(1).repeat(65), "./cards.txt:66: record 1: a card has room for 64 entries, and this is one more.\n"),
+        (entry(1).repeat(650), "./cards.txt:66: record 1: a card has room for 64 entries, and this is one more.\n"),
+        (entry(1 << 16), "./cards.txt:2: this line has over 65,536 bytes. Is this a description?\n"),
+        (" ".repeat(1 << 16) + &entry(1), "./cards.txt:2: this line has over 65,536 bytes. Is this a description?\n"),
     ];
     for (entries, message) in cases {
         folder.write("cards.txt", card(&entries));
         folder.run(&["pack", ".", "."]).fails(2, message);
     }
+    folder.write("cards.txt", format!("#{}\n{}", " a comment".repeat(1 << 14), card(&entry(1))));
+    folder.run(&["pack", ".", "."]).says(0, "1 card and a sheet with 1 parameter, in .\n", "");
     folder.write("cards.txt", "title x\n".repeat(25));
     let said = folder.run(&["pack", ".", "."]);
     assert_eq!((said.status, said.errors.lines().count()), (2, 21));
@@ -705,7 +835,7 @@ fn pack_tells_the_faults_of_a_sheet() {
     let names = "A name begins with a letter or _, goes on with letters, digits, _ and -, has at most 30 bytes, and is not and, \
                  or or not.";
     let cases = [
-        ("word a\n", 1, "word is no kind. The kinds are string, number, date, token, reference and bundle."),
+        ("word a\n", 1, "word is no kind. The kinds are string, number, date, token, reference, period and bundle."),
         ("string a\n\ndate a\n", 3, "a has the same name as a at place 0. Rename one of them."),
         ("string a\nbundle b\ntoken b.a\n", 3, "b.a has the same name as a at place 0. Rename one of them."),
         ("bundle a\nbundle a.b\n", 2, "a.b is a bundle in a bundle. Put it at the top, under a name without a dot."),
@@ -722,7 +852,9 @@ fn pack_tells_the_faults_of_a_sheet() {
     }
     let many = |count: usize| (0..count).map(|number| format!("date p{number}\n")).collect::<String>();
     assert_eq!(pack(&many(32)).status, 0);
-    pack(&many(33)).fails(2, "./sheet.txt:33: a sheet has room for 32 parameters, and this is one more.\n");
+    for count in [33, 330] {
+        pack(&many(count)).fails(2, "./sheet.txt:33: a sheet has room for 32 parameters, and this is one more.\n");
+    }
     let long: String = (0..20).map(|number| format!("date {}{number:02}\n", "p".repeat(28))).collect();
     pack(&long).fails(2, "./sheet.txt:20: the names take 640 bytes with their heads, and a sheet has room for 506.\n");
 }
@@ -836,6 +968,7 @@ fn show_marks_what_is_wrong() {
     let rest = "block 2 is neither a sheet nor a card\nblock 3 has only 88 bytes\n";
     folder.run(&["show", "cards.bin"]).says(0, &format!("{first}{second}{rest}"), "");
     folder.run(&["show", "--record", "6", "cards.bin"]).says(0, second, "");
+    folder.run(&["show", "--record=6", "cards.bin"]).says(0, second, "");
     folder.run(&["show", "--record", "7", "cards.bin"]).fails(2, "no card has the record number 7.\n");
     folder.run(&["show", "--json", "--record", "5", "cards.bin"]).says(
         0,
@@ -891,6 +1024,27 @@ fn verify_goes_through_all_cards() {
     folder.run(&["verify", "packed"]).says(0, &found("blocks"), "");
     folder.run(&["pack", ".", "."]);
     folder.run(&["verify", "."]).says(0, &(found("description") + &found("blocks")), "");
+    let help = "  One of them has changed since it was packed. `sirophan pack` makes the blocks anew.\n";
+    for (changed, message) in [
+        (
+            cards.replace("record: 2000\n", "record: 2000\ntitle x\n"),
+            "card 2000 is not record 2000 as ./cards.txt describes it.",
+        ),
+        (cards.replace("record: 2000\n", "record: 7\n"), "card 2000 is not record 7 as ./cards.txt describes it."),
+    ] {
+        folder.write("cards.txt", changed);
+        folder.run(&["verify", "."]).fails(2, &format!("./cards.bin: {message}\n{help}"));
+    }
+    folder.write("cards.txt", format!("{cards}record: 1\n"));
+    let message = "./cards.bin has 3,000 cards only, and ./cards.txt describes more.";
+    folder.run(&["verify", "."]).fails(2, &format!("{message}\n{help}"));
+    folder.write("cards.txt", "record: 0\npages 12\n");
+    let message = "./cards.bin has more cards than the 1 that ./cards.txt describes.";
+    folder.run(&["verify", "."]).fails(2, &format!("{message}\n{help}"));
+    folder.write("cards.txt", &cards).write("sheet.txt", "string pages\nstring title\n");
+    let message = "./sheet.bin is not the sheet that ./sheet.txt describes.";
+    folder.run(&["verify", "."]).fails(2, &format!("{message}\n{help}"));
+    folder.write("sheet.txt", sheet);
     folder.change("packed/cards.bin", |cards| {
         for card in [2, 3, 2500] {
             cards[card * 512 + 8] = b'x';
@@ -961,6 +1115,12 @@ fn folders_that_cannot_be_written() {
     fs::create_dir_all(folder.path.join("out/cards.bin")).unwrap();
     folder.run(&["pack", &ward, "out"]).fails(3, "sirophan: out/cards.bin cannot be replaced: Is a directory\n");
     assert!(!folder.path.join("out/cards.bin.new").exists());
+    // On a full disk the archive that was there stays, and nothing else.
+    folder.change("cards.bin", |cards| cards.truncate(512));
+    std::os::unix::fs::symlink("/dev/full", folder.path.join("cards.bin.new")).unwrap();
+    folder.run(&["pack", &ward, "."]).fails(3, "sirophan: ./cards.bin cannot be written: No space left on device\n");
+    assert_eq!(folder.files(), ["cards.bin", "filter.txt", "out", "sheet.bin"]);
+    assert_eq!(folder.read("cards.bin").len(), 512);
 }
 
 #[test]
@@ -1002,4 +1162,94 @@ fn pipes_that_are_closed() {
         assert_eq!(String::from_utf8(output.stderr).unwrap(), "", "{command:?}");
         assert_eq!(output.status.code(), Some(3), "{command:?}");
     }
+}
+
+// ---- what takes over a second
+
+unsafe extern "C" {
+    fn posix_openpt(flags: c_int) -> c_int;
+    fn grantpt(terminal: c_int) -> c_int;
+    fn unlockpt(terminal: c_int) -> c_int;
+    fn ptsname(terminal: c_int) -> *const c_char;
+}
+
+/// A terminal: the side that a program writes to, and the side that reads what it wrote.
+fn terminal() -> (File, File) {
+    const READ_AND_WRITE: c_int = 2;
+    // Safe: the descriptor is the call's own, and the name is copied before another call could change it.
+    let (reader, name) = unsafe {
+        let reader = posix_openpt(READ_AND_WRITE);
+        assert!(reader >= 0 && grantpt(reader) == 0 && unlockpt(reader) == 0);
+        (File::from_raw_fd(reader), CStr::from_ptr(ptsname(reader)).to_str().unwrap().to_string())
+    };
+    (fs::OpenOptions::new().read(true).write(true).open(name).unwrap(), reader)
+}
+
+/// All that was written to a terminal, once its writers have gone; the end of it is an error.
+fn shown(mut reader: File) -> String {
+    let mut bytes = [0; 1 << 16];
+    let mut shown = Vec::new();
+    while let Ok(count @ 1..) = reader.read(&mut bytes) {
+        shown.extend(&bytes[..count]);
+    }
+    String::from_utf8(shown).unwrap()
+}
+
+/// Runs a command while `feed` gives it its input, and answers what it shows on a terminal and what on standard output.
+fn on_a_terminal(folder: &Folder, arguments: &[&str], feed: impl FnOnce(std::process::ChildStdin)) -> (String, String) {
+    let (writer, reader) = terminal();
+    let mut command = Command::new(PROGRAM);
+    command.args(arguments).current_dir(&folder.path).stdin(Stdio::piped()).stdout(Stdio::piped()).stderr(writer);
+    let mut child = command.spawn().unwrap();
+    drop(command);
+    feed(child.stdin.take().unwrap());
+    let output = child.wait_with_output().unwrap();
+    (shown(reader), String::from_utf8(output.stdout).unwrap())
+}
+
+const LONG: Duration = Duration::from_millis(1300);
+
+/// A line shows how far it is, on a terminal alone, and is gone at the end.
+#[test]
+fn pick_shows_how_far_it_is() {
+    let cards: String = (0..512).map(|record| format!("record: {record}\n")).collect();
+    let folder = Folder::packed("progress", "string title\n", &cards, "title pr true\n");
+    let bytes = folder.read("cards.bin");
+    let slowly = |mut input: std::process::ChildStdin| {
+        let (first, second) = bytes.split_at(256 * 512);
+        input.write_all(first).unwrap();
+        thread::sleep(LONG);
+        input.write_all(second).unwrap();
+    };
+    let arguments = ["pick", "sheet.bin", "filter.txt", "-"];
+    let (shown, output) = on_a_terminal(&folder, &arguments, slowly);
+    assert!(shown.starts_with("\r512 cards\x1B[K") && shown.ends_with("\r\x1B[K"), "{shown:?}");
+    assert_eq!(output, "0 of 512\n");
+    let (shown, output) = on_a_terminal(&folder, &arguments, |mut input| input.write_all(&bytes).unwrap());
+    assert_eq!((shown.as_str(), output.as_str()), ("", "0 of 512\n"));
+}
+
+/// The same of packing. A description need not be a file, and then has no size.
+#[test]
+fn pack_shows_how_far_it_is() {
+    let folder = Folder::described("pack-progress", "string title\n", "", "title pr true\n");
+    let cards = folder.path.join("cards.txt");
+    fs::remove_file(&cards).unwrap();
+    assert!(Command::new("mkfifo").arg(&cards).status().unwrap().success());
+    // By a thread of its own: where the command ends without opening the file, nobody waits for it.
+    let slowly = || {
+        let cards = cards.clone();
+        thread::spawn(move || {
+            let mut file = fs::OpenOptions::new().write(true).open(cards).unwrap();
+            file.write_all(b"record: 1\n").unwrap();
+            thread::sleep(LONG);
+            file.write_all(b"record: 2\nrecord: 3\n").unwrap();
+        })
+    };
+    let packed = "3 cards and a sheet with 1 parameter, in new\n";
+    let (shown, output) = on_a_terminal(&folder, &["pack", ".", "new"], |_| drop(slowly()));
+    assert!(shown.starts_with("\r1 card\x1B[K") && shown.ends_with("\r\x1B[K"), "{shown:?}");
+    assert_eq!(output, packed);
+    slowly();
+    folder.run(&["pack", ".", "new"]).says(0, packed, "");
 }

@@ -153,6 +153,16 @@ int main(void) {
     store_sum(&sheet);
     expect("title as a token", sirophan_match(SHEET, FILTER(filter), cards, BLOCK), SIROPHAN_NO_MEANING, 0);
 
+    /* The date of birth is now a period, which no date by itself is on a card; in a filter it is asked by a date. */
+    sheet.bytes[9] = 6;
+    store_sum(&sheet);
+    expect("a date as a period", sirophan_match(SHEET, FILTER("birthdate eq 1974"), cards, BLOCK),
+           SIROPHAN_CARD_MISFIT, 0);
+    expect("a period asked", sirophan_check(SHEET, FILTER("birthdate eq 1974/")), SIROPHAN_UNREADABLE, 0);
+    block stay = card(9, (const char *const[5]){"1234-5", "1974/", NULL, NULL, NULL}, NULL);
+    expect("an open period", sirophan_match(SHEET, FILTER("birthdate gt 1999"), stay.bytes, BLOCK), 0, 1);
+    expect("never eq", sirophan_match(SHEET, FILTER("birthdate eq 1974"), stay.bytes, BLOCK), 0, 0);
+
     printf("%d passed, %d failed\n", passed, failed);
     return failed == 0 ? 0 : 1;
 }

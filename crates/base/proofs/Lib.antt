@@ -8,6 +8,7 @@ pub mod All
 pub mod Parts
 pub mod Affixes
 pub mod Runs
+pub mod Split
 pub mod Invariants
 pub mod Loops
 pub mod Digits

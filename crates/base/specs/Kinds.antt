@@ -17,6 +17,10 @@ token = 4
 abbrev pub reference : ℕ
 reference = 5
 
+-- 02: "add kind 6, period"
+abbrev pub period : ℕ
+period = 6
+
 -- 02: "kind 7 is a bundle"
 abbrev pub bundleKind : ℕ
 bundleKind = 7

@@ -5,6 +5,7 @@ pub mod Lists
 pub mod Parts
 pub mod Affixes
 pub mod Runs
+pub mod Split
 pub mod Bytes
 pub mod Ascii
 pub mod Digits

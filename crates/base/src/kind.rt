@@ -9,5 +9,7 @@ pub const TOKEN: u8 = 4;
 
 pub const REFERENCE: u8 = 5;
 
+pub const PERIOD: u8 = 6;
+
 // Kind 7 is a bundle, which has no texts.
 pub const BUNDLE: u8 = 7;

@@ -9,6 +9,7 @@ ghost use lib.ListN.{length};
 ghost use Rattle.base.specs.Digits.{isDigit};
 ghost use Rattle.base.specs.Lists.{equal};
 ghost use Rattle.base.specs.Runs.{differs, RunEnd};
+ghost use Rattle.base.specs.Split.{firstOf};
 
 // The byte as a number.
 pub fn wide(b: u8) -> u64
@@ -54,4 +55,11 @@ pub fn place_of(s: &[u8], from: usize, byte: u8) -> usize
         i += 1;
     }
     i
+}
+
+// The first position where the byte stands, or the length where it does not.
+pub fn first_of(s: &[u8], byte: u8) -> usize
+    ensures { λ r. ⌜ (r ≡ firstOf byte (now (s .entry))) × (r ≤ length (now (s .entry))) ⌝ }
+{
+    place_of(s, 0, byte)
 }

@@ -15,7 +15,7 @@ use Rattle.block.specs.Items.{zeros, hasMarks, lengthAt, next, markAt, textAt, 
 use Rattle.block.specs.Readings.{reading}
 use Rattle.card.specs.Card.{recordNumber, entryCount, entriesOf, readCard}
 use Rattle.card.specs.Encode.{entryBytes, cardBody, encodeCard, ReadsAsCard}
-use Rattle.card.specs.Trial.{trialEntries, trialCard, bundleEntries, bundleCard}
+use Rattle.card.specs.Trial.{trialEntries, trialCard, bundleEntries, bundleCard, stayEntries, stayCard}
 
 pub trial-card-encoded : encodeCard false 7 trialEntries ≡ trialCard
 unfolding trialEntries trialCard encodeCard cardBody entryBytes seal padded sumFrom wordBytes join
@@ -48,3 +48,9 @@ bundle-card-reads =
       number = refl;
       entries = refl;
     }
+
+-- and the card with periods
+
+pub stay-card-encoded : encodeCard false 9 stayEntries ≡ stayCard
+unfolding stayEntries stayCard encodeCard cardBody entryBytes seal padded sumFrom wordBytes join
+stay-card-encoded = refl

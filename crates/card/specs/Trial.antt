@@ -1,4 +1,4 @@
--- Document 01's trial card, number 7: title, birthdate twice, code, pages and subject.
+-- Document 01's trial card, number 7: title, birthdate twice, code, pages and subject; a card with occurrences; and one with periods.
 -- Assumes nothing.
 use Prim.Native.Nat.{ℕ}
 use mathlib.Core.List.{List, [], _∷_, _++_}
@@ -62,3 +62,21 @@ bundleCard =
     ++ (6 ∷ 0 ∷ 11 ∷ ascii "Ward book 4")
     ++ replicate 362 0
     ++ (169 ∷ 40 ∷ 11 ∷ 0 ∷ [])
+
+-- a card with periods, number 9: one with both ends, one without its end and one without its start
+unfoldable pub stayEntries : List Entry
+stayEntries =
+    entry 0 0 (ascii "1974-06/1974")
+    ∷ entry 1 0 (ascii "1974/")
+    ∷ entry 2 0 (ascii "/1974-06")
+    ∷ []
+
+-- its 512 bytes: the number 9, 3 entries, 471 zeros and the check sum
+unfoldable pub stayCard : List ℕ
+stayCard =
+    (0x43 ∷ 9 ∷ 0 ∷ 0 ∷ 0 ∷ 3 ∷ [])
+    ++ (0 ∷ 12 ∷ ascii "1974-06/1974")
+    ++ (1 ∷ 5 ∷ ascii "1974/")
+    ++ (2 ∷ 8 ∷ ascii "/1974-06")
+    ++ replicate 471 0
+    ++ (53 ∷ 116 ∷ 0 ∷ 0 ∷ [])

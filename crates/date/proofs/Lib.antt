@@ -9,4 +9,3 @@ pub mod Complete
 pub mod Sound
 pub mod Spelling
 pub mod Readings
-pub mod Relations

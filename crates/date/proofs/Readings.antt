@@ -6,11 +6,13 @@ use mathlib.Core.List.{List}
 use native.Mathlib.Omega.{arith}
 use lib.Dec.{lit≤}
 use lib.IntN.{ℤ, pos}
-use Rattle.base.proofs.Integers.{natAbs-neg}
+use lib.Signed.{≤ℤ-refl}
+use Rattle.base.proofs.Integers.{natAbs-neg, ltZ-iff}
 use Rattle.date.specs.Calendar.{yearLength}
 use Rattle.date.specs.Fields.{ValidDay, ValidTime, ValidOffset}
 use Rattle.date.specs.Spans.{dateOf, daysFrom, secondFrom, yearDate, monthDate, dayDate, secondDate, Proper}
 use Rattle.date.specs.Texts.{read}
+use Rattle.date.specs.Instants.{InRange}
 use Rattle.date.specs.Spelling.{SpellsZone, spells-utc, spells-east, spells-west, Spells, spells-year, spells-month, spells-day, spells-second}
 use Rattle.date.specs.declared.Date.{Date}
 use Rattle.date.specs.declared.Reading.the-variants.{Readable}
@@ -51,3 +53,7 @@ spells-proper (spells-second v t z) = second-proper _ v t (spells-offset z)
 
 pub read-proper : (s : List ℕ) {d : Date} → read s ≡ Readable d → Proper d
 read-proper s e = spells-proper (reads-spells s e)
+
+-- its start is one of its instants
+pub read-first : (s : List ℕ) {d : Date} → read s ≡ Readable d → InRange d (d .start)
+read-first s {d} e = record { from = ≤ℤ-refl (d .start); before = ltZ-iff (d .start) (d .end) .0 (read-proper s e .order) }

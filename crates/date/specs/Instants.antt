@@ -1,4 +1,4 @@
--- The instants of a date: what it is that one date holds another.
+-- The instants of a date.
 -- Assumes nothing.
 use lib.IntN.{ℤ}
 use lib.Signed.{_≤ℤ_, _<ℤ_}
@@ -8,7 +8,3 @@ use Rattle.date.specs.declared.Date.{Date}
 pub record InRange (d : Date) (t : ℤ) : Type 0 where
   pub from : d .start ≤ℤ t
   pub before : t <ℤ d .end
-
--- every instant of the range of a lies in that of b
-abbrev pub Held : Date → Date → Type 0
-Held a b = (t : ℤ) → InRange a t → InRange b t

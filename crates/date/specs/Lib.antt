@@ -7,5 +7,4 @@ pub mod Marks
 pub mod Texts
 pub mod Spelling
 pub mod Succession
-pub mod Relations
 pub mod Instants

@@ -1,20 +1,9 @@
-// Dates. A text reads to a span of whole seconds, or is unreadable; two dates stand in the relations that the filter's
-// operations ask for. `days` has the calendar, `seconds` makes dates of numbers of days and seconds, `reader` reads the
-// texts and `compare` has the relations.
-mod compare;
+// Dates. A text reads to a span of whole seconds, or is unreadable. `days` has the calendar, `seconds` makes dates of
+// numbers of days and seconds, and `reader` reads the texts.
 mod days;
 mod reader;
 mod seconds;
 
-pub use compare::covers;
-pub use compare::earlier;
-pub use compare::earlier_or_inside;
-pub use compare::ends_before;
-pub use compare::inside;
-pub use compare::later;
-pub use compare::later_or_inside;
-pub use compare::overlaps;
-pub use compare::starts_after;
 pub use reader::read;
 pub use reader::readable;
 

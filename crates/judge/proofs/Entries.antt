@@ -10,6 +10,7 @@ use borrow.Author.Tests.{eq-eqb, ne-eqb}
 use Rattle.base.proofs.Tests.{both-ways, and-left, and-right}
 use Rattle.card.specs.Card.{Entry, entry}
 use Rattle.kind.specs.Readable.{cardReadable}
+use Rattle.kind.specs.Table as table
 use Rattle.kind.specs.Stands.{stands}
 use Rattle.kind.specs.declared.Relation.{Relation}
 use Rattle.judge.specs.Sets.{valuesAt, counts, chosenOf, conformsTo, keep}
@@ -20,7 +21,7 @@ use Rattle.judge.specs.Verdicts.{someValue, isEmpty, related, entryRelat
 
 -- 0 is no kind
 none-readable : (t : List ℕ) → false ≡ cardReadable 0 t
-unfolding cardReadable
+unfolding cardReadable table.ofKind table.kinds
 none-readable t = refl
 
 pub past-readable : (kinds : List ℕ) (i : ℕ) (t : List ℕ) → length kinds ≤ i → false ≡ cardReadable (getD kinds i 0) t

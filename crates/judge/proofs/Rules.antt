@@ -27,22 +27,22 @@ use Rattle.sheet.specs.declared.Found.{Found}
 use Rattle.sheet.proofs.Listed.{find-iff, at-listed, listed-kind}
 use Rattle.card.specs.Card.{Entry}
 use Rattle.syntax.specs.Tree.{Path, name, member, Test, under, Tree, test, bracketed, join, negation, and, or, testsOf}
-use Rattle.kind.specs.Table.{stringRow, numberRow, dateRow, tokenRow, referenceRow, row, relationIn, asked, rowMeaning, meaningOf, isMeaning, hasMeaning}
+use Rattle.kind.specs.Table.{stringRow, numberRow, dateRow, tokenRow, referenceRow, kinds, ofKind, row, relationIn, asked, rowMeaning, meaningOf, isMeaning, hasMeaning}
 use Rattle.kind.specs.declared.Meaning.{Meaning}
 use Rattle.kind.specs.declared.Relation.{Relation}
 use Rattle.judge.specs.Sets.{lookup, entryConforms, conforms, valuesAt, ofOccurrence, keep}
 use Rattle.judge.specs.Faults.{unsupported}
 use Rattle.judge.specs.Rules.{EntryConforms, NamesIn, Names, names, names-member, NotOnSheet, LacksMeaning, neither, Says, says-present, says-absent, says-relates, says-differs, Keeps, keeps-none, keeps, leaves, FilterSays}
-use Rattle.kind.proofs.Rules.{card-iff, true-iff, false-iff, ne-not-in-row, pr-not-in-row, by-row, stands-iff}
+use Rattle.kind.proofs.Rules.{row-reads, card-iff, true-iff, false-iff, ne-not-in-row, pr-not-in-row, eachRow, by-row, stands-iff}
 use Rattle.kind.specs.Stands.{stands}
 use Rattle.judge.specs.Verdicts.{someValue, isEmpty, saysOf, saysAt, testSays, filterSays}
 
 -- no kind has ap, ss, sb, in or ni
 five-lack : (kind : ℕ) → every (λ k. not (hasMeaning k kind)) (approximately ∷ ss ∷ sb ∷ «in» ∷ ni ∷ []) ≡ true
-unfolding every hasMeaning meaningOf rowMeaning relationIn stringRow numberRow dateRow tokenRow referenceRow
+unfolding every hasMeaning meaningOf rowMeaning relationIn eachRow kinds stringRow numberRow dateRow tokenRow referenceRow
 five-lack =
-    by-row (λ us. every (λ k. not (isMeaning (cond (eqb k pr) Meaning.Present (rowMeaning us k)))) (approximately ∷ ss ∷ sb ∷ «in» ∷ ni ∷ []) ≡ true)
-    refl refl refl refl refl refl
+    by-row (λ us. every (λ k. not (isMeaning (cond (eqb k pr) Meaning.Present (rowMeaning us k)))) (approximately ∷ ss ∷ sb ∷ «in» ∷ ni ∷ []))
+    refl refl
 
 pub unsupported-lacks : (kind k : ℕ) → unsupported k ≡ true → hasMeaning k kind ≡ false
 unfolding unsupported
@@ -136,7 +136,7 @@ names-kind ps w {k = k} j =
 
 module _ (ps : List Parameter) where
   entry-there : (e : Entry) (k : ℕ) → kindAt (e .index) ps ≡ k → cardReadable k (e .text) ≡ true → EntryConforms ps e
-  unfolding cardReadable
+  unfolding cardReadable ofKind kinds
   entry-there e zero g h = absurd (false≢true h)
   entry-there e (suc k) g h =
       let l = at-listed (e .index) ps k g in
@@ -259,12 +259,12 @@ module _ (ps : List Parameter) (w : WellFormedSheet ps) (c : ℕ) (es : List Ent
       → Says ps c es t
   unfolding saysOf
   says-by j (means-present e) meaning h = says-present-or-absent j e meaning h
-  says-by {i = i} j (means-relation {r = r} e) meaning h =
+  says-by {i = i} {k = k} j (means-relation {r = r} e) meaning h =
       let x = some-there (λ x. stands r x (t .value)) (valuesAt i es) h in
-      says-relates j e (x .1) (stands-iff r (x .0) (t .value) .0 (x .2))
-  says-by {i = i} j (means-other {r = r} n e) meaning h =
+      says-relates j (row-reads k (t .operator) r .0 e) (x .1) (stands-iff r (x .0) (t .value) .0 (x .2))
+  says-by {i = i} {k = k} j (means-other {r = r} n e) meaning h =
       let x = some-there (λ x. not (stands r x (t .value))) (valuesAt i es) h in
-      says-differs j n e (x .1) (λ s. both-ways (stands-iff r (x .0) (t .value) .1 s) (not-true (stands r (x .0) (t .value)) (x .2)))
+      says-differs j n (row-reads k eq r .0 e) (x .1) (λ s. both-ways (stands-iff r (x .0) (t .value) .1 s) (not-true (stands r (x .0) (t .value)) (x .2)))
   says-by j means-nothing meaning h = absurd (false≢true h)
 
   says-there : PrSpelled t → (o : Found) → lookup ps c (t .path) ≡ o → saysAt o (t .operator) (t .value) es ≡ true → Says ps c es t
@@ -285,10 +285,10 @@ module _ (ps : List Parameter) (w : WellFormedSheet ps) (c : ℕ) (es : List Ent
   says-back (says-absent {i = i} {k = k} j e v z) =
       at-parameter Meaning.Present j (rw e (present k)) (rw (false-not-true (t .value) v) (empty-iff (valuesAt i es) .1 z))
   says-back (says-relates {i = i} {k = k} {r = r} {x = x} j e m s) =
-      at-parameter (Meaning.Relates r) j (relation-means (t .operator) k r e) (some-back (λ x. stands r x (t .value)) m (stands-iff r x (t .value) .1 s))
+      at-parameter (Meaning.Relates r) j (relation-means (t .operator) k r (row-reads k (t .operator) r .1 e)) (some-back (λ x. stands r x (t .value)) m (stands-iff r x (t .value) .1 s))
   says-back (says-differs {i = i} {k = k} {r = r} {x = x} j n e m s) =
       let differs : not (stands r x (t .value)) ≡ true = ⊎-elim (λ h. absurd (s (stands-iff r x (t .value) .0 h))) (λ h. ap not h) (decided (stands r x (t .value))) in
-      at-parameter (Meaning.Differs r) j (rw n (other-means k r e)) (some-back (λ x. not (stands r x (t .value))) m differs)
+      at-parameter (Meaning.Differs r) j (rw n (other-means k r (row-reads k eq r .1 e))) (some-back (λ x. not (stands r x (t .value))) m differs)
 
   -- a test with a meaning says yes exactly where the rules do
   pub says-iff : PrSpelled t → (testSays ps c es t ≡ true) ↔ Says ps c es t

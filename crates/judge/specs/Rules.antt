@@ -14,12 +14,10 @@ use Rattle.sheet.specs.Find.{Listed}
 use Rattle.card.specs.Card.{Entry}
 use Rattle.card.specs.Encode.{encodeCard, WellFormedCard}
 use Rattle.syntax.specs.Tree.{Path, name, member, Test, Tree, test, bracketed, join, negation, and, or}
-use Rattle.kind.specs.Table.{row, relationIn}
 use Rattle.kind.specs.declared.Relation.{Relation}
 use Rattle.judge.specs.Sets.{valuesAt, ofOccurrence}
-use Rattle.kind.specs.Rules.{ReadableOnCard, TrueOrFalse, ReadableValue, HasOperator, StandsIn}
+use Rattle.kind.specs.Rules.{ReadableOnCard, TrueOrFalse, ReadableValue, Row, HasOperator, StandsIn}
 use mathlib.Core.Logic.{_⊎_}
-use mathlib.Core.Option.{some}
 
 -- ---- cards
 
@@ -74,10 +72,10 @@ pub data Says (ps : List Parameter) (c : ℕ) (es : List Entry) (t : Test) : Typ
   says-present : {i k : ℕ} → NamesIn ps c (t .path) i k → t .operator ≡ pr → foldText (t .value) ≡ ascii "true" → (valuesAt i es ≡ [] → ⊥) → Says ps c es t
   says-absent : {i k : ℕ} → NamesIn ps c (t .path) i k → t .operator ≡ pr → foldText (t .value) ≡ ascii "false" → valuesAt i es ≡ [] → Says ps c es t
   -- "some text in the set stands in the relation"
-  says-relates : {i k : ℕ} {r : Relation} {x : List ℕ} → NamesIn ps c (t .path) i k → relationIn (row k) (t .operator) ≡ some r → List·Memᴰ x (valuesAt i es)
+  says-relates : {i k : ℕ} {r : Relation} {x : List ℕ} → NamesIn ps c (t .path) i k → Row k (t .operator) r → List·Memᴰ x (valuesAt i es)
       → StandsIn r x (t .value) → Says ps c es t
   -- "ne: some text in the set is not eq"
-  says-differs : {i k : ℕ} {r : Relation} {x : List ℕ} → NamesIn ps c (t .path) i k → t .operator ≡ ne → relationIn (row k) eq ≡ some r → List·Memᴰ x (valuesAt i es)
+  says-differs : {i k : ℕ} {r : Relation} {x : List ℕ} → NamesIn ps c (t .path) i k → t .operator ≡ ne → Row k eq r → List·Memᴰ x (valuesAt i es)
       → (StandsIn r x (t .value) → ⊥) → Says ps c es t
 
 -- of the entries, those are kept of which P holds, in their order

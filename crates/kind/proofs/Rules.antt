@@ -1,28 +1,27 @@
 -- The computed tests of kinds are the rules: readable texts, operators with a meaning, relations.
 -- Assumes nothing.
-use Prim.Native.Nat.{ℕ, zero, suc, _<_}
-use native.Mathlib.Omega.{arith}
+use Prim.Native.Nat.{ℕ}
 use mathlib.Core.Path.{_≡_, refl, ap, sym, _∙_, subst}
-use mathlib.Core.Bool.{Bool, true, false, cond, not, _||_, false≢true}
+use mathlib.Core.Bool.{Bool, true, false, not, _&&_, _||_, false≢true}
 use mathlib.Core.Logic.{_↔_, _⊎_, inl, inr, ⊎-elim}
-use mathlib.Core.List.{List, [], _∷_, List·Memᴰ, List·Memᴰ·head, List·Memᴰ·tail}
+use mathlib.Core.List.{List, [], _∷_}
 use lib.Dec.{eqb}
 use lib.ListN.{length}
-use borrow.Author.Tests.{not-true, ne-eqb, eqb-true, eqb-false, eq-eqb, ltb-true, lt-ltb, leb-true, le-leb}
+use borrow.Author.Tests.{not-true, ne-eqb, eqb-true, eqb-false, ltb-true, lt-ltb, leb-true, le-leb}
 use Rattle.base.specs.Ascii.{ascii}
 use Rattle.base.specs.Operators.{pr, eq, ne}
+use Rattle.base.specs.Kinds.{string, number, date, token, reference, period}
 use Rattle.base.proofs.Lists.{length-zero}
-use Rattle.base.proofs.Integers.{leZ-iff, ltZ-iff}
-use Rattle.base.proofs.Tests.{and-left, and-right, and-both, or-either, or-left, or-right, decided, both-ways, cond-either, cond-elim}
+use Rattle.base.specs.Lists.{All, all-empty, all-cons}
+use Rattle.base.proofs.Tests.{and-left, and-right, and-both, or-either, or-left, or-right, cond-either, cond-elim}
 use Rattle.text.specs.Fold.{isCapital, isAccented, foldByte, foldFrom, foldText}
 use Rattle.text.specs.Compare.{same}
 use Rattle.text.proofs.Readings.{same-reads, starts-reads, ends-reads, contains-reads}
-use Rattle.base.specs.Kinds.{string, number, date, token, reference}
 use Rattle.kind.specs.Readable.{cardReadable, filterReadable, isTrue, isFalse, valueReadable}
-use Rattle.kind.specs.Rules.{Readable, readable-string, readable-number, readable-date, readable-token, readable-reference, CardToken, FilterToken, ReadableOnCard, ReadableInFilter, TrueOrFalse, spells-true, spells-false, ReadableValue, value-of-pr, value-of-kind, InRow, HasOperator, operator-of-row, operator-pr, operator-ne, StandsIn, string-same, string-contains, string-starts, string-ends, NumbersStand, number-inside, number-greater, number-less, number-at-least, number-at-most, number-covers, DatesStand, date-inside, date-later, date-earlier, date-later-or-inside, date-earlier-or-inside, date-starts-after, date-ends-before, date-overlaps, date-covers, numbers-stand, dates-stand, tokens-stand, references-same}
-use mathlib.Core.Option.{Option, none, some}
+use Rattle.kind.specs.Rules.{readable-string, readable-number, readable-date, readable-token, readable-reference, readable-period, ReadableOnCard, ReadableInFilter, TrueOrFalse, spells-true, spells-false, ReadableValue, value-of-pr, value-of-kind, HasDates, dates-of-date, dates-of-period, Row, string-eq, string-co, string-sw, string-ew, number-eq, number-gt, number-lt, number-ge, number-le, number-co, date-eq, date-gt, date-lt, date-ge, date-le, date-sa, date-eb, date-po, date-co, token-eq, reference-re, HasOperator, operator-of-row, operator-pr, operator-ne, StandsIn, string-same, string-contains, string-starts, string-ends, NumbersStand, number-inside, number-greater, number-less, number-at-least, number-at-most, number-covers, DatesStand, date-inside, date-later, date-earlier, date-later-or-inside, date-earlier-or-inside, date-starts-after, date-ends-before, date-overlaps, date-covers, numbers-stand, dates-stand, tokens-stand, references-same}
+use mathlib.Core.Option.{Option, none, some, Option·some-injective, Option·none-ne-some}
 use Rattle.base.specs.Options.{isSome}
-use Rattle.kind.specs.Table.{Use, means, stringRow, numberRow, dateRow, tokenRow, referenceRow, row, relationIn, asked, rowMeaning, meaningOf, isMeaning, hasMeaning}
+use Rattle.kind.specs.Table.{Use, stringRow, numberRow, dateRow, tokenRow, referenceRow, Kind, kinds, ofKind, row, relationIn, asked, rowMeaning, meaningOf, isMeaning, hasMeaning}
 use Rattle.kind.specs.declared.Meaning.{Meaning}
 use Rattle.kind.specs.declared.Relation.{Relation}
 use Rattle.token.proofs.Readings.{matches-reads}
@@ -36,15 +35,17 @@ use Rattle.number.specs.declared.Decimal.{Decimal}
 use Rattle.number.proofs.Spelling as number-spelling
 use Rattle.number.proofs.Range as ranges
 use Rattle.date.specs.Texts as dates
-use Rattle.date.specs.Spans.{Proper}
-use Rattle.date.specs.Relations.{inside, laterOrInside, earlierOrInside, overlaps}
 use Rattle.date.specs.declared.Date.{Date}
+use Rattle.date.specs.Instants.{InRange}
 use Rattle.date.proofs.Spelling as date-spelling
-use Rattle.date.proofs.Relations as relations
-use Rattle.date.proofs.Readings.{read-proper}
-use lib.Signed.{ltZ}
-use Rattle.token.specs.Card as tokens
-use Rattle.token.specs.Filter as forms
+use Rattle.date.proofs.Readings.{read-first}
+use Rattle.period.specs.Instants.{Inhabited, Held, SomeAfter, SomeBefore}
+use Rattle.period.specs.Relations.{inside, later, earlier, laterOrInside, earlierOrInside}
+use Rattle.period.specs.Texts as periods
+use Rattle.period.specs.declared.Period.{Period}
+use Rattle.period.specs.declared.Reading as period-readings
+use Rattle.period.proofs.Relations as relations
+use Rattle.period.proofs.Spelling as period-spelling
 use Rattle.token.proofs.Readings as token-spelling
 use Rattle.number.specs.declared.Reading as number-readings
 use Rattle.date.specs.declared.Reading as date-readings
@@ -58,58 +59,59 @@ not-empty t = (
   (λ n. ap not (ne-eqb (length t) 0 (λ e. n (length-zero t e)))),
 )
 
-module _ (IsToken : List ℕ → Type 0) (t : List ℕ) (isToken : Bool) (token-iff : (isToken ≡ true) ↔ IsToken t) where
-  -- the test of a kind, where isToken is that of tokens
-  abbrev byKind : ℕ → Bool
-  byKind kind =
-      cond (eqb kind string) true
-      (cond (eqb kind number) (numbers.readable t)
-      (cond (eqb kind date) (dates.readable t)
-      (cond (eqb kind token) isToken
-      (cond (eqb kind reference) (not (eqb (length t) 0)) false))))
+-- what holds of each kind of the table, and of a number that is not in it, holds of every number
+by-kind : {A : Type 0} (P : ℕ → A → Type 0) (other : A) (f : Kind → A) → ((k : ℕ) → P k other) → (xs : List Kind) → All (λ (x : Kind). P (x .number) (f x)) xs → (k : ℕ) → P k (ofKind other f xs k)
+unfolding ofKind
+by-kind P other f rest [] all-empty k = rest k
+by-kind P other f rest (x ∷ xs) (all-cons h all) k =
+    cond-elim (P k) (eqb k (x .number)) (λ e. subst (λ (n : ℕ). P n (f x)) (sym (eqb-true k (x .number) e)) h) (λ _. by-kind P other f rest xs all k)
 
-  kind-beyond : (kind : ℕ) → 5 < kind → byKind kind ≡ false
-  kind-beyond kind h =
-      rw (ne-eqb kind string (λ e. omega arith), ne-eqb kind number (λ e. omega arith), ne-eqb kind date (λ e. omega arith), ne-eqb kind token (λ e. omega arith), ne-eqb kind reference (λ e. omega arith))
+module _ (t : List ℕ) where
+  card-there : (kind : ℕ) → cardReadable kind t ≡ true → ReadableOnCard kind t
+  unfolding cardReadable kinds
+  card-there =
+      by-kind (λ k b. b ≡ true → ReadableOnCard k t) false (λ x. x .onCard t) (λ k h. absurd (false≢true h)) kinds
+      (all-cons (λ h. readable-string)
+      (all-cons (λ h. readable-number (number-spelling.readable-spells t .0 h .1))
+      (all-cons (λ h. readable-date (date-spelling.readable-spells t .0 h .1))
+      (all-cons (λ h. readable-token (token-spelling.cardReadable-reads t .0 h))
+      (all-cons (λ h. readable-reference (not-empty t .0 h))
+      (all-cons (λ h. readable-period (period-spelling.readable-spells t .0 h)) all-empty))))))
 
-  kind-there : (kind : ℕ) → byKind kind ≡ true → Readable IsToken kind t
-  kind-there zero h = absurd (false≢true h)
-  kind-there (suc zero) h = readable-string
-  kind-there (suc (suc zero)) h = readable-number (number-spelling.readable-spells t .0 h .1)
-  kind-there (suc (suc (suc zero))) h = readable-date (date-spelling.readable-spells t .0 h .1)
-  kind-there (suc (suc (suc (suc zero)))) h = readable-token (token-iff .0 h)
-  kind-there (suc (suc (suc (suc (suc zero))))) h = readable-reference (not-empty t .0 h)
-  kind-there (suc (suc (suc (suc (suc (suc kind)))))) h = both-ways h (kind-beyond (suc (suc (suc (suc (suc (suc kind)))))) (omega arith))
+  filter-there : (kind : ℕ) → filterReadable kind t ≡ true → ReadableInFilter kind t
+  unfolding filterReadable kinds
+  filter-there =
+      by-kind (λ k b. b ≡ true → ReadableInFilter k t) false (λ x. x .inFilter t) (λ k h. absurd (false≢true h)) kinds
+      (all-cons (λ h. readable-string)
+      (all-cons (λ h. readable-number (number-spelling.readable-spells t .0 h .1))
+      (all-cons (λ h. readable-date (date-spelling.readable-spells t .0 h .1))
+      (all-cons (λ h. readable-token (token-spelling.filterReadable-reads t .0 h))
+      (all-cons (λ h. readable-reference (not-empty t .0 h))
+      (all-cons (λ h. readable-period (date-spelling.readable-spells t .0 h)) all-empty))))))
 
-  kind-back : {kind : ℕ} → Readable IsToken kind t → byKind kind ≡ true
-  kind-back readable-string = refl
-  kind-back (readable-number {d = d} s) = number-spelling.readable-spells t .1 (d, s)
-  kind-back (readable-date {d = d} s) = date-spelling.readable-spells t .1 (d, s)
-  kind-back (readable-token k) = token-iff .1 k
-  kind-back (readable-reference n) = not-empty t .1 n
+  card-back : {kind : ℕ} → ReadableOnCard kind t → cardReadable kind t ≡ true
+  unfolding cardReadable ofKind kinds
+  card-back readable-string = refl
+  card-back (readable-number {d = d} s) = number-spelling.readable-spells t .1 (d, s)
+  card-back (readable-date {d = d} s) = date-spelling.readable-spells t .1 (d, s)
+  card-back (readable-token k) = token-spelling.cardReadable-reads t .1 k
+  card-back (readable-reference n) = not-empty t .1 n
+  card-back (readable-period p) = period-spelling.readable-spells t .1 p
 
-module _ (kind : ℕ) (t : List ℕ) where
-  pub card-iff : (cardReadable kind t ≡ true) ↔ ReadableOnCard kind t
-  unfolding cardReadable
-  card-iff =
-      let reads = token-spelling.cardReadable-reads t in
-      (kind-there CardToken t (tokens.cardReadable t) reads kind, kind-back CardToken t (tokens.cardReadable t) reads)
+  filter-back : {kind : ℕ} → ReadableInFilter kind t → filterReadable kind t ≡ true
+  unfolding filterReadable ofKind kinds
+  filter-back readable-string = refl
+  filter-back (readable-number {d = d} s) = number-spelling.readable-spells t .1 (d, s)
+  filter-back (readable-date {d = d} s) = date-spelling.readable-spells t .1 (d, s)
+  filter-back (readable-token k) = token-spelling.filterReadable-reads t .1 k
+  filter-back (readable-reference n) = not-empty t .1 n
+  filter-back (readable-period p) = date-spelling.readable-spells t .1 p
 
-  -- in a filter only tokens differ
-  filter-by-kind : filterReadable kind t ≡ byKind FilterToken t (forms.filterReadable t) (token-spelling.filterReadable-reads t) kind
-  unfolding filterReadable cardReadable
-  filter-by-kind =
-      ⊎-elim
-      (λ e. let k : kind ≡ token = eqb-true kind token e in rw k)
-      (λ e. rw e)
-      (decided (eqb kind token))
+pub card-iff : (kind : ℕ) (t : List ℕ) → (cardReadable kind t ≡ true) ↔ ReadableOnCard kind t
+card-iff kind t = (card-there t kind, card-back t)
 
-  filter-iff : (filterReadable kind t ≡ true) ↔ ReadableInFilter kind t
-  filter-iff =
-      let reads = token-spelling.filterReadable-reads t in (
-        (λ h. kind-there FilterToken t (forms.filterReadable t) reads kind (sym filter-by-kind ∙ h)),
-        (λ r. filter-by-kind ∙ kind-back FilterToken t (forms.filterReadable t) reads r),
-      )
+filter-iff : (kind : ℕ) (t : List ℕ) → (filterReadable kind t ≡ true) ↔ ReadableInFilter kind t
+filter-iff kind t = (filter-there t kind, filter-back t)
 
 -- ---- by operator
 
@@ -151,31 +153,82 @@ module _ (kind : ℕ) (v : List ℕ) where
 
 -- ---- the rows of the table
 
--- what holds of each row, and of no row, holds of the row of every kind
-pub by-row : (P : List Use → Type 0) → P stringRow → P numberRow → P dateRow → P tokenRow → P referenceRow → P [] → (kind : ℕ) → P (row kind)
+-- a test passes on the row of each kind
+unfoldable pub eachRow : (List Use → Bool) → List Kind → Bool
+eachRow p [] = true
+eachRow p (x ∷ xs) = p (x .operators) && eachRow p xs
+
+each-all : (p : List Use → Bool) (xs : List Kind) → eachRow p xs ≡ true → All (λ (x : Kind). p (x .operators) ≡ true) xs
+unfolding eachRow
+each-all p [] h = all-empty
+each-all p (x ∷ xs) h = all-cons (and-left (p (x .operators)) (eachRow p xs) h) (each-all p xs (and-right (p (x .operators)) (eachRow p xs) h))
+
+-- a test that passes on each row of the table, and on none, passes on the row of every kind
+pub by-row : (p : List Use → Bool) → p [] ≡ true → eachRow p kinds ≡ true → (kind : ℕ) → p (row kind) ≡ true
 unfolding row
-by-row P s n d t r e kind =
-    cond-elim P (eqb kind string) (λ _. s)
-    (λ _. cond-elim P (eqb kind number) (λ _. n)
-    (λ _. cond-elim P (eqb kind date) (λ _. d)
-    (λ _. cond-elim P (eqb kind token) (λ _. t)
-    (λ _. cond-elim P (eqb kind reference) (λ _. r) (λ _. e)))))
+by-row p empty h = by-kind (λ k us. p us ≡ true) [] (λ x. x .operators) (λ k. empty) kinds (each-all p kinds h)
 
-row-there : (us : List Use) (k : ℕ) → isSome (relationIn us k) ≡ true → InRow k us
+-- an operator that a row has stands in the table, where each of the row does
+in-row : (n : ℕ) (us : List Use) → All (λ (u : Use). Row n (u .operator) (u .relation)) us → (k : ℕ) (r : Relation) → relationIn us k ≡ some r → Row n k r
 unfolding relationIn
-row-there [] k h = absurd (false≢true h)
-row-there (u ∷ us) k h =
-    cond-elim (λ (o : Option Relation). isSome o ≡ true → InRow k (u ∷ us)) (eqb k (u .operator))
-    (λ e g. (u .relation, List·Memᴰ·head (ap (λ (o : ℕ). means o (u .relation)) (eqb-true k (u .operator) e))))
-    (λ e g. let w = row-there us k g in (w .0, List·Memᴰ·tail (w .1)))
-    h
+in-row n [] all-empty k r e = absurd (Option·none-ne-some r e)
+in-row n (u ∷ us) (all-cons h all) k r e =
+    ⊎-elim
+    (λ c. let same : u .relation ≡ r = Option·some-injective (u .relation) r (c .1) in subst (Row n k) same (subst (λ (o : ℕ). Row n o (u .relation)) (sym (eqb-true k (u .operator) (c .0))) h))
+    (λ c. in-row n us all k r (c .1))
+    (cond-either (eqb k (u .operator)) (some (u .relation)) (relationIn us k) e)
 
-row-back : {us : List Use} {k : ℕ} {r : Relation} → List·Memᴰ (means k r) us → isSome (relationIn us k) ≡ true
-unfolding relationIn
-row-back {k = k} (List·Memᴰ·head {x = u} e) = rw (eq-eqb k (u .operator) (ap (λ (v : Use). v .operator) e))
-row-back {k = k} (List·Memᴰ·tail {x = u} {xs = us} m) =
-    let r = row-back m in
-    cond-elim (λ (o : Option Relation). isSome o ≡ true) (eqb k (u .operator)) (λ e. refl) (λ e. r)
+-- the row of dates, for either kind that has it
+dates-in-row : {n : ℕ} → HasDates n → All (λ (u : Use). Row n (u .operator) (u .relation)) dateRow
+unfolding dateRow
+dates-in-row d =
+    all-cons (date-eq d) (all-cons (date-gt d) (all-cons (date-lt d) (all-cons (date-ge d) (all-cons (date-le d) (all-cons (date-sa d)
+    (all-cons (date-eb d) (all-cons (date-po d) (all-cons (date-co d) all-empty))))))))
+
+dates-row : {n : ℕ} → HasDates n → row n ≡ dateRow
+unfolding row ofKind kinds
+dates-row dates-of-date = refl
+dates-row dates-of-period = refl
+
+row-there : (kind k : ℕ) (r : Relation) → relationIn (row kind) k ≡ some r → Row kind k r
+unfolding row kinds stringRow numberRow tokenRow referenceRow
+row-there kind k r =
+    by-kind (λ n us. relationIn us k ≡ some r → Row n k r) [] (λ x. x .operators) (λ n. in-row n [] all-empty k r) kinds
+    (all-cons (in-row string stringRow (all-cons string-eq (all-cons string-co (all-cons string-sw (all-cons string-ew all-empty)))) k r)
+    (all-cons (in-row number numberRow (all-cons number-eq (all-cons number-gt (all-cons number-lt (all-cons number-ge (all-cons number-le (all-cons number-co all-empty)))))) k r)
+    (all-cons (in-row date dateRow (dates-in-row dates-of-date) k r)
+    (all-cons (in-row token tokenRow (all-cons token-eq all-empty) k r)
+    (all-cons (in-row reference referenceRow (all-cons reference-re all-empty) k r)
+    (all-cons (in-row period dateRow (dates-in-row dates-of-period) k r) all-empty))))))
+    kind
+
+row-back : {kind k : ℕ} {r : Relation} → Row kind k r → relationIn (row kind) k ≡ some r
+unfolding relationIn row ofKind kinds stringRow numberRow dateRow tokenRow referenceRow
+row-back string-eq = refl
+row-back string-co = refl
+row-back string-sw = refl
+row-back string-ew = refl
+row-back number-eq = refl
+row-back number-gt = refl
+row-back number-lt = refl
+row-back number-ge = refl
+row-back number-le = refl
+row-back number-co = refl
+row-back (date-eq d) = rw (dates-row d)
+row-back (date-gt d) = rw (dates-row d)
+row-back (date-lt d) = rw (dates-row d)
+row-back (date-ge d) = rw (dates-row d)
+row-back (date-le d) = rw (dates-row d)
+row-back (date-sa d) = rw (dates-row d)
+row-back (date-eb d) = rw (dates-row d)
+row-back (date-po d) = rw (dates-row d)
+row-back (date-co d) = rw (dates-row d)
+row-back token-eq = refl
+row-back reference-re = refl
+
+-- the relation that a row gives an operator is that of the table
+pub row-reads : (kind k : ℕ) (r : Relation) → (relationIn (row kind) k ≡ some r) ↔ Row kind k r
+row-reads kind k r = (row-there kind k r, row-back)
 
 -- ---- operators
 
@@ -184,34 +237,48 @@ asked-some how h (some r) = h r
 asked-some how h none = refl
 
 -- no row has ne or pr of its own
+absent : (o : Option Relation) → not (isSome o) ≡ true → o ≡ none
+absent none h = refl
+absent (some r) h = absurd (false≢true h)
+
 pub ne-not-in-row : (kind : ℕ) → relationIn (row kind) ne ≡ none
-unfolding relationIn stringRow numberRow dateRow tokenRow referenceRow
-ne-not-in-row = by-row (λ us. relationIn us ne ≡ none) refl refl refl refl refl refl
+unfolding eachRow kinds relationIn stringRow numberRow dateRow tokenRow referenceRow
+ne-not-in-row kind = absent (relationIn (row kind) ne) (by-row (λ us. not (isSome (relationIn us ne))) refl refl kind)
 
 pub pr-not-in-row : (kind : ℕ) → relationIn (row kind) pr ≡ none
-unfolding relationIn stringRow numberRow dateRow tokenRow referenceRow
-pr-not-in-row = by-row (λ us. relationIn us pr ≡ none) refl refl refl refl refl refl
+unfolding eachRow kinds relationIn stringRow numberRow dateRow tokenRow referenceRow
+pr-not-in-row kind = absent (relationIn (row kind) pr) (by-row (λ us. not (isSome (relationIn us pr))) refl refl kind)
+
+-- what is some relation is one
+some-is : (o : Option Relation) → isSome o ≡ true → (r : Relation) × (o ≡ some r)
+some-is (some r) h = (r, refl)
+some-is none h = absurd (false≢true h)
 
 module _ (kind : ℕ) where
+  -- a relation that a row gives an operator
+  given : (how : Relation → Meaning) → ((r : Relation) → isMeaning (how r) ≡ true) → (k : ℕ) → isMeaning (asked how (relationIn (row kind) k)) ≡ true → (r : Relation) × Row kind k r
+  given how h k e =
+      let w = some-is (relationIn (row kind) k) (sym (asked-some how h (relationIn (row kind) k)) ∙ e) in
+      (w .0, row-there kind k (w .0) (w .1))
+
   operator-there : (k : ℕ) → hasMeaning k kind ≡ true → HasOperator kind k
   unfolding hasMeaning meaningOf rowMeaning
   operator-there k =
       cond-elim (λ (m : Meaning). isMeaning m ≡ true → HasOperator kind k) (eqb k pr)
       (λ e h. subst (HasOperator kind) (sym (eqb-true k pr e)) operator-pr)
       (λ _. cond-elim (λ (m : Meaning). isMeaning m ≡ true → HasOperator kind k) (eqb k ne)
-      (λ e h. subst (HasOperator kind) (sym (eqb-true k ne e)) (operator-ne (row-there (row kind) eq (sym (asked-some Meaning.Differs (λ r. refl) (relationIn (row kind) eq)) ∙ h))))
-      (λ e h. operator-of-row (row-there (row kind) k (sym (asked-some Meaning.Relates (λ r. refl) (relationIn (row kind) k)) ∙ h))))
+      (λ e h. subst (HasOperator kind) (sym (eqb-true k ne e)) (operator-ne (given Meaning.Differs (λ r. refl) eq h .1)))
+      (λ e h. operator-of-row (given Meaning.Relates (λ r. refl) k h .1)))
 
   operator-back : {k : ℕ} → HasOperator kind k → hasMeaning k kind ≡ true
   unfolding hasMeaning meaningOf rowMeaning
   operator-back operator-pr = refl
-  operator-back (operator-ne w) = asked-some Meaning.Differs (λ r. refl) (relationIn (row kind) eq) ∙ row-back (w .1)
-  operator-back (operator-of-row {k = k} w) =
-      let some-relation : isSome (relationIn (row kind) k) ≡ true = row-back (w .1) in
+  operator-back (operator-ne w) = rw (row-back w)
+  operator-back (operator-of-row {k = k} {r = r} w) =
       cond-elim (λ (m : Meaning). isMeaning m ≡ true) (eqb k pr) (λ _. refl)
       (λ _. cond-elim (λ (m : Meaning). isMeaning m ≡ true) (eqb k ne)
-      (λ e. both-ways some-relation (ap (λ (o : ℕ). isSome (relationIn (row kind) o)) (eqb-true k ne e) ∙ ap isSome (ne-not-in-row kind)))
-      (λ _. asked-some Meaning.Relates (λ r. refl) (relationIn (row kind) k) ∙ some-relation))
+      (λ e. absurd (Option·none-ne-some r (sym (ne-not-in-row kind) ∙ ap (relationIn (row kind)) (sym (eqb-true k ne e)) ∙ row-back w)))
+      (λ _. rw (row-back w)))
 
   pub operator-iff : (k : ℕ) → (hasMeaning k kind ≡ true) ↔ HasOperator kind k
   operator-iff k = (operator-there k, operator-back)
@@ -240,7 +307,7 @@ module _ (i f : Decimal) (bi : Bounded i) (bf : Bounded f) where
   number-back (number-at-most h) = le-leb _ _ h
   number-back (number-covers h) = and-both _ _ (le-leb _ _ (h .0)) (lt-ltb _ _ (h .1))
 
--- ---- a relation of two dates
+-- ---- a relation of a period and a date
 
 -- either of two tests is either of what they say
 either-iff : (a b : Bool) {A B : Type 0} → (a ≡ true) ↔ A → (b ≡ true) ↔ B → ((a || b) ≡ true) ↔ (A ⊎ B)
@@ -249,35 +316,41 @@ either-iff a b p q = (
   (λ s. ⊎-elim (λ e. or-left a b (p .1 e)) (λ e. or-right a b (q .1 e)) s),
 )
 
-module _ (i f : Date) (pi : Proper i) (pf : Proper f) where
+module _ (i : Period) (has : Inhabited i) (f : Date) (first : InRange f (f .start)) where
+  later-or-inside-iff : (laterOrInside i f ≡ true) ↔ (SomeAfter i f ⊎ Held i f)
+  unfolding laterOrInside
+  later-or-inside-iff = either-iff (later i f) (inside i f) (relations.later-iff i has f first) (relations.inside-iff i has f first)
+
+  earlier-or-inside-iff : (earlierOrInside i f ≡ true) ↔ (SomeBefore i f ⊎ Held i f)
+  unfolding earlierOrInside
+  earlier-or-inside-iff = either-iff (earlier i f) (inside i f) (relations.earlier-iff i has f first) (relations.inside-iff i has f first)
+
   date-there : (r : DateRelation) → dateStands r i f ≡ true → DatesStand i f r
-  unfolding dateStands laterOrInside earlierOrInside overlaps
-  date-there DateRelation.Inside h = date-inside (relations.inside-iff i f pi .0 h)
-  date-there DateRelation.Later h = date-later (ltZ-iff (f .end) (i .end) .0 h)
-  date-there DateRelation.Earlier h = date-earlier (ltZ-iff (i .start) (f .start) .0 h)
-  date-there DateRelation.LaterOrInside h =
-      date-later-or-inside (either-iff (ltZ (f .end) (i .end)) (inside i f) (ltZ-iff (f .end) (i .end)) (relations.inside-iff i f pi) .0 h)
-  date-there DateRelation.EarlierOrInside h =
-      date-earlier-or-inside (either-iff (ltZ (i .start) (f .start)) (inside i f) (ltZ-iff (i .start) (f .start)) (relations.inside-iff i f pi) .0 h)
-  date-there DateRelation.StartsAfter h = date-starts-after (leZ-iff (f .end) (i .start) .0 h)
-  date-there DateRelation.EndsBefore h = date-ends-before (leZ-iff (i .end) (f .start) .0 h)
-  date-there DateRelation.Overlaps h =
-      let left : Bool = ltZ (i .start) (f .end) in
-      let right : Bool = ltZ (f .start) (i .end) in
-      date-overlaps (ltZ-iff (i .start) (f .end) .0 (and-left left right h)) (ltZ-iff (f .start) (i .end) .0 (and-right left right h))
-  date-there DateRelation.Covers h = date-covers (relations.inside-iff f i pf .0 h)
+  unfolding dateStands
+  date-there DateRelation.Inside h = date-inside (relations.inside-iff i has f first .0 h)
+  date-there DateRelation.Later h = date-later (relations.later-iff i has f first .0 h)
+  date-there DateRelation.Earlier h = date-earlier (relations.earlier-iff i has f first .0 h)
+  date-there DateRelation.LaterOrInside h = date-later-or-inside (later-or-inside-iff .0 h)
+  date-there DateRelation.EarlierOrInside h = date-earlier-or-inside (earlier-or-inside-iff .0 h)
+  date-there DateRelation.StartsAfter h = date-starts-after (relations.starts-after-iff i has f first .0 h)
+  date-there DateRelation.EndsBefore h = date-ends-before (relations.ends-before-iff i has f first .0 h)
+  date-there DateRelation.Overlaps h = date-overlaps (relations.overlaps-iff i has f first .0 h)
+  date-there DateRelation.Covers h = date-covers (relations.covers-iff i has f first .0 h)
 
   date-back : {r : DateRelation} → DatesStand i f r → dateStands r i f ≡ true
-  unfolding dateStands laterOrInside earlierOrInside overlaps
-  date-back (date-inside h) = relations.inside-iff i f pi .1 h
-  date-back (date-later h) = ltZ-iff (f .end) (i .end) .1 h
-  date-back (date-earlier h) = ltZ-iff (i .start) (f .start) .1 h
-  date-back (date-later-or-inside h) = either-iff (ltZ (f .end) (i .end)) (inside i f) (ltZ-iff (f .end) (i .end)) (relations.inside-iff i f pi) .1 h
-  date-back (date-earlier-or-inside h) = either-iff (ltZ (i .start) (f .start)) (inside i f) (ltZ-iff (i .start) (f .start)) (relations.inside-iff i f pi) .1 h
-  date-back (date-starts-after h) = leZ-iff (f .end) (i .start) .1 h
-  date-back (date-ends-before h) = leZ-iff (i .end) (f .start) .1 h
-  date-back (date-overlaps h k) = and-both (ltZ (i .start) (f .end)) (ltZ (f .start) (i .end)) (ltZ-iff (i .start) (f .end) .1 h) (ltZ-iff (f .start) (i .end) .1 k)
-  date-back (date-covers h) = relations.inside-iff f i pf .1 h
+  unfolding dateStands
+  date-back (date-inside h) = relations.inside-iff i has f first .1 h
+  date-back (date-later h) = relations.later-iff i has f first .1 h
+  date-back (date-earlier h) = relations.earlier-iff i has f first .1 h
+  date-back (date-later-or-inside h) = later-or-inside-iff .1 h
+  date-back (date-earlier-or-inside h) = earlier-or-inside-iff .1 h
+  date-back (date-starts-after h) = relations.starts-after-iff i has f first .1 h
+  date-back (date-ends-before h) = relations.ends-before-iff i has f first .1 h
+  date-back (date-overlaps h) = relations.overlaps-iff i has f first .1 h
+  date-back (date-covers h) = relations.covers-iff i has f first .1 h
+
+  pub date-iff : (r : DateRelation) → (dateStands r i f ≡ true) ↔ DatesStand i f r
+  date-iff r = (date-there r, date-back)
 
 -- ---- a relation of two texts
 
@@ -288,12 +361,12 @@ numbers-there r x v (number-readings.Reading.Number i) (number-readings.Reading.
 numbers-there r x v (number-readings.Reading.Number i) number-readings.Reading.Unreadable d e h = absurd (false≢true h)
 numbers-there r x v number-readings.Reading.Unreadable b d e h = absurd (false≢true h)
 
-dates-there : (r : DateRelation) (x v : List ℕ) (a b : date-readings.Reading) → dates.read x ≡ a → dates.read v ≡ b → datesStand r a b ≡ true → StandsIn (Relation.Dates r) x v
-dates-there r x v (date-readings.Reading.Readable i) (date-readings.Reading.Readable f) d e h =
-    dates-stand (date-spelling.read-spells x i .0 d) (date-spelling.read-spells v f .0 e)
-    (date-there i f (read-proper x d) (read-proper v e) r h)
-dates-there r x v (date-readings.Reading.Readable i) date-readings.Reading.Unreadable d e h = absurd (false≢true h)
-dates-there r x v date-readings.Reading.Unreadable b d e h = absurd (false≢true h)
+dates-there : (r : DateRelation) (x v : List ℕ) (a : period-readings.Reading) (b : date-readings.Reading) → periods.readSpan x ≡ a → dates.read v ≡ b → datesStand r a b ≡ true → StandsIn (Relation.Dates r) x v
+dates-there r x v (period-readings.Reading.Readable i) (date-readings.Reading.Readable f) d e h =
+    let s = period-spelling.span-spells x i .0 d in
+    dates-stand s (date-spelling.read-spells v f .0 e) (date-there i (period-spelling.span-inhabited s) f (read-first v e) r h)
+dates-there r x v (period-readings.Reading.Readable i) date-readings.Reading.Unreadable d e h = absurd (false≢true h)
+dates-there r x v period-readings.Reading.Unreadable b d e h = absurd (false≢true h)
 
 module _ (x v : List ℕ) where
   stands-there : (r : Relation) → stands r x v ≡ true → StandsIn r x v
@@ -303,7 +376,7 @@ module _ (x v : List ℕ) where
   stands-there (Relation.Strings StringRelation.Starts) h = let w = starts-reads x v .0 h in string-starts (w .0) (w .1)
   stands-there (Relation.Strings StringRelation.Ends) h = let w = ends-reads x v .0 h in string-ends (w .0) (w .1)
   stands-there (Relation.Numbers r) h = numbers-there r x v (numbers.read x) (numbers.read v) refl refl h
-  stands-there (Relation.Dates r) h = dates-there r x v (dates.read x) (dates.read v) refl refl h
+  stands-there (Relation.Dates r) h = dates-there r x v (periods.readSpan x) (dates.read v) refl refl h
   stands-there Relation.Tokens h = let w = matches-reads x v .0 h in tokens-stand (w .2) (w .3) (w .4)
   stands-there Relation.References h = references-same (same-reads x v .0 h)
 
@@ -318,9 +391,9 @@ stands-back (numbers-stand {x = x} {v = v} {i = i} {f = f} a b h) =
     let e : numbers.read v ≡ number-readings.Reading.Number f = number-spelling.read-spells v f .1 b in
     rw (d, e) (number-back i f (number-spelling.read-bounded x i d) (number-spelling.read-bounded v f e) h)
 stands-back (dates-stand {x = x} {v = v} {i = i} {f = f} a b h) =
-    let d : dates.read x ≡ date-readings.Reading.Readable i = date-spelling.read-spells x i .1 a in
+    let d : periods.readSpan x ≡ period-readings.Reading.Readable i = period-spelling.span-spells x i .1 a in
     let e : dates.read v ≡ date-readings.Reading.Readable f = date-spelling.read-spells v f .1 b in
-    rw (d, e) (date-back i f (read-proper x d) (read-proper v e) h)
+    rw (d, e) (date-back i (period-spelling.span-inhabited a) f (read-first v e) h)
 stands-back (tokens-stand {x = x} {v = v} {i = i} {f = f} a b h) = matches-reads x v .1 (i, f, a, b, h)
 stands-back (references-same {x = x} {v = v} e) = same-reads x v .1 e
 

@@ -6,8 +6,8 @@ use mathlib.Core.Bool.{Bool, true, false, cond}
 use borrow.Author.Tests.{eq-eqb, ne-eqb}
 use lib.Dec.{eqb}
 use Rattle.base.specs.Operators.{eq, ne, co, sw, ew, gt, lt, ge, le, sa, eb, pr, po, re}
-use Rattle.base.specs.Kinds.{string, number, date, token, reference}
-use Rattle.kind.specs.Table.{stringRow, numberRow, dateRow, tokenRow, referenceRow, row, relationIn, rowMeaning, meaningOf}
+use Rattle.base.specs.Kinds.{string, number, date, token, reference, period}
+use Rattle.kind.specs.Table.{stringRow, numberRow, dateRow, tokenRow, referenceRow, kinds, ofKind, row, relationIn, rowMeaning, meaningOf}
 use Rattle.kind.specs.declared.Meaning.{Meaning}
 use Rattle.kind.specs.declared.Meaning.the-variants.{Present, Nothing}
 
@@ -49,27 +49,31 @@ module _ (k kind : ℕ) where
 
   module _ (n : k ≡ pr → ⊥) (m : Meaning) where
     pub of-string : kind ≡ string → m ≡ rowMeaning stringRow k → m ≡ meaningOf k kind
-    unfolding meaningOf row
+    unfolding meaningOf row ofKind kinds
     of-string e h = rw (ne-eqb k pr n, e) h
 
     pub of-number : kind ≡ number → m ≡ rowMeaning numberRow k → m ≡ meaningOf k kind
-    unfolding meaningOf row
+    unfolding meaningOf row ofKind kinds
     of-number e h = rw (ne-eqb k pr n, e) h
 
     pub of-date : kind ≡ date → m ≡ rowMeaning dateRow k → m ≡ meaningOf k kind
-    unfolding meaningOf row
+    unfolding meaningOf row ofKind kinds
     of-date e h = rw (ne-eqb k pr n, e) h
 
     pub of-token : kind ≡ token → m ≡ rowMeaning tokenRow k → m ≡ meaningOf k kind
-    unfolding meaningOf row
+    unfolding meaningOf row ofKind kinds
     of-token e h = rw (ne-eqb k pr n, e) h
 
     pub of-reference : kind ≡ reference → m ≡ rowMeaning referenceRow k → m ≡ meaningOf k kind
-    unfolding meaningOf row
+    unfolding meaningOf row ofKind kinds
     of-reference e h = rw (ne-eqb k pr n, e) h
 
-  pub of-none : (k ≡ pr → ⊥) → (kind ≡ string → ⊥) → (kind ≡ number → ⊥) → (kind ≡ date → ⊥) → (kind ≡ token → ⊥) → (kind ≡ reference → ⊥) → Nothing ≡ meaningOf k kind
-  unfolding meaningOf row rowMeaning relationIn
-  of-none n a b c d e =
-      rw (ne-eqb k pr n, ne-eqb kind string a, ne-eqb kind number b, ne-eqb kind date c, ne-eqb kind token d, ne-eqb kind reference e)
+    pub of-period : kind ≡ period → m ≡ rowMeaning dateRow k → m ≡ meaningOf k kind
+    unfolding meaningOf row ofKind kinds
+    of-period e h = rw (ne-eqb k pr n, e) h
+
+  pub of-none : (k ≡ pr → ⊥) → (kind ≡ string → ⊥) → (kind ≡ number → ⊥) → (kind ≡ date → ⊥) → (kind ≡ token → ⊥) → (kind ≡ reference → ⊥) → (kind ≡ period → ⊥) → Nothing ≡ meaningOf k kind
+  unfolding meaningOf row ofKind kinds rowMeaning relationIn
+  of-none n a b c d e f =
+      rw (ne-eqb k pr n, ne-eqb kind string a, ne-eqb kind number b, ne-eqb kind date c, ne-eqb kind token d, ne-eqb kind reference e, ne-eqb kind period f)
       (either-way (eqb k ne) Nothing)

@@ -10,6 +10,9 @@ use Rattle.number.specs.declared.Reading as number-readings
 use Rattle.date.specs.Texts as dates
 use Rattle.date.specs.declared.Date.{Date}
 use Rattle.date.specs.declared.Reading as date-readings
+use Rattle.period.specs.Texts as periods
+use Rattle.period.specs.declared.Period.{Period}
+use Rattle.period.specs.declared.Reading as period-readings
 use Rattle.kind.specs.declared.NumberRelation.{NumberRelation}
 use Rattle.kind.specs.declared.DateRelation.{DateRelation}
 use Rattle.kind.specs.Stands.{numberStands, numbersStand, dateStands, datesStand}
@@ -29,13 +32,13 @@ module _ (relation : NumberRelation) (i f : List ℕ) (r : number-readings.Readi
 
 -- ---- dates
 
-module _ (relation : DateRelation) (i f : List ℕ) (r : date-readings.Reading) (e : r ≡ dates.read i) where
-  pub dates-unreadable : r ≡ date-readings.Reading.Unreadable → false ≡ datesStand relation (dates.read i) (dates.read f)
+module _ (relation : DateRelation) (i f : List ℕ) (r : period-readings.Reading) (e : r ≡ periods.readSpan i) where
+  pub dates-unreadable : r ≡ period-readings.Reading.Unreadable → false ≡ datesStand relation (periods.readSpan i) (dates.read f)
   dates-unreadable h = rw (sym e ∙ h)
 
-  module _ (a : Date) (h : r ≡ date-readings.Reading.Readable a) (s : date-readings.Reading) (k : s ≡ dates.read f) where
-    pub date-unreadable : s ≡ date-readings.Reading.Unreadable → false ≡ datesStand relation (dates.read i) (dates.read f)
+  module _ (a : Period) (h : r ≡ period-readings.Reading.Readable a) (s : date-readings.Reading) (k : s ≡ dates.read f) where
+    pub date-unreadable : s ≡ date-readings.Reading.Unreadable → false ≡ datesStand relation (periods.readSpan i) (dates.read f)
     date-unreadable j = rw (sym e ∙ h, sym k ∙ j)
 
-    pub dates-stand : (b : Date) (t : Bool) → s ≡ date-readings.Reading.Readable b → t ≡ dateStands relation a b → t ≡ datesStand relation (dates.read i) (dates.read f)
+    pub dates-stand : (b : Date) (t : Bool) → s ≡ date-readings.Reading.Readable b → t ≡ dateStands relation a b → t ≡ datesStand relation (periods.readSpan i) (dates.read f)
     dates-stand b t j l = rw (sym e ∙ h, sym k ∙ j) l

@@ -9,10 +9,13 @@ use Rattle.number.specs.Billionths as billionths
 use Rattle.number.specs.Reading as numbers
 use Rattle.number.specs.declared.Decimal.{Decimal}
 use Rattle.number.specs.declared.Reading as number-readings
-use Rattle.date.specs.Relations as date
 use Rattle.date.specs.Texts as dates
 use Rattle.date.specs.declared.Date.{Date}
 use Rattle.date.specs.declared.Reading as date-readings
+use Rattle.period.specs.Relations as period
+use Rattle.period.specs.Texts as periods
+use Rattle.period.specs.declared.Period.{Period}
+use Rattle.period.specs.declared.Reading as period-readings
 use Rattle.token.specs.Match as tokens
 use Rattle.kind.specs.declared.StringRelation.{StringRelation}
 use Rattle.kind.specs.declared.NumberRelation.{NumberRelation}
@@ -40,27 +43,27 @@ numbersStand r (number-readings.Reading.Number i) (number-readings.Reading.Numbe
 numbersStand r (number-readings.Reading.Number i) number-readings.Reading.Unreadable = false
 numbersStand r number-readings.Reading.Unreadable f = false
 
--- i is the card's date, f the filter's
-unfoldable pub dateStands : DateRelation → Date → Date → Bool
-dateStands DateRelation.Inside i f = date.inside i f
-dateStands DateRelation.Later i f = date.later i f
-dateStands DateRelation.Earlier i f = date.earlier i f
-dateStands DateRelation.LaterOrInside i f = date.laterOrInside i f
-dateStands DateRelation.EarlierOrInside i f = date.earlierOrInside i f
-dateStands DateRelation.StartsAfter i f = date.startsAfter i f
-dateStands DateRelation.EndsBefore i f = date.endsBefore i f
-dateStands DateRelation.Overlaps i f = date.overlaps i f
-dateStands DateRelation.Covers i f = date.covers i f
+-- i is the card's period, f the filter's date
+unfoldable pub dateStands : DateRelation → Period → Date → Bool
+dateStands DateRelation.Inside i f = period.inside i f
+dateStands DateRelation.Later i f = period.later i f
+dateStands DateRelation.Earlier i f = period.earlier i f
+dateStands DateRelation.LaterOrInside i f = period.laterOrInside i f
+dateStands DateRelation.EarlierOrInside i f = period.earlierOrInside i f
+dateStands DateRelation.StartsAfter i f = period.startsAfter i f
+dateStands DateRelation.EndsBefore i f = period.endsBefore i f
+dateStands DateRelation.Overlaps i f = period.overlaps i f
+dateStands DateRelation.Covers i f = period.covers i f
 
-abbrev pub datesStand : DateRelation → date-readings.Reading → date-readings.Reading → Bool
-datesStand r (date-readings.Reading.Readable i) (date-readings.Reading.Readable f) = dateStands r i f
-datesStand r (date-readings.Reading.Readable i) date-readings.Reading.Unreadable = false
-datesStand r date-readings.Reading.Unreadable f = false
+abbrev pub datesStand : DateRelation → period-readings.Reading → date-readings.Reading → Bool
+datesStand r (period-readings.Reading.Readable i) (date-readings.Reading.Readable f) = dateStands r i f
+datesStand r (period-readings.Reading.Readable i) date-readings.Reading.Unreadable = false
+datesStand r period-readings.Reading.Unreadable f = false
 
--- i is the card's text, f the filter's value
+-- i is the card's text, f the filter's value; a card's date and period are both spans
 unfoldable pub stands : Relation → List ℕ → List ℕ → Bool
 stands (Relation.Strings r) i f = stringStands r i f
 stands (Relation.Numbers r) i f = numbersStand r (numbers.read i) (numbers.read f)
-stands (Relation.Dates r) i f = datesStand r (dates.read i) (dates.read f)
+stands (Relation.Dates r) i f = datesStand r (periods.readSpan i) (dates.read f)
 stands Relation.Tokens i f = tokens.matches i f
 stands Relation.References i f = texts.same i f

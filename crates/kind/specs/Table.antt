@@ -1,12 +1,18 @@
--- Document 01's table: the operators with a meaning for each kind, and the relation that each asks for.
+-- The table of kinds: for each the texts that are readable, the operators with a meaning, and the relation that each asks for.
 -- Assumes nothing.
 use Prim.Native.Nat.{ℕ}
-use mathlib.Core.Bool.{Bool, true, false, cond}
+use mathlib.Core.Bool.{Bool, true, false, cond, not}
 use mathlib.Core.List.{List, [], _∷_}
 use mathlib.Core.Option.{Option, none, some}
 use lib.Dec.{eqb}
+use lib.ListN.{length}
 use Rattle.base.specs.Operators.{eq, ne, co, sw, ew, gt, lt, ge, le, sa, eb, pr, po, re}
-use Rattle.base.specs.Kinds.{string, number, date, token, reference}
+use Rattle.base.specs.Kinds.{string, number, date, token, reference, period}
+use Rattle.number.specs.Reading as number-texts
+use Rattle.date.specs.Texts as date-texts
+use Rattle.period.specs.Texts as period-texts
+use Rattle.token.specs.Card as tokens
+use Rattle.token.specs.Filter as forms
 use Rattle.kind.specs.declared.StringRelation.the-variants as strings
 use Rattle.kind.specs.declared.NumberRelation.the-variants as numbers
 use Rattle.kind.specs.declared.DateRelation.the-variants as dates
@@ -34,7 +40,7 @@ numberRow =
     means eq (Numbers numbers.Inside) ∷ means gt (Numbers numbers.Greater) ∷ means lt (Numbers numbers.Less)
     ∷ means ge (Numbers numbers.AtLeast) ∷ means le (Numbers numbers.AtMost) ∷ means co (Numbers numbers.Covers) ∷ []
 
--- the same eq; "date: gt; lt; ge; le; sa; eb; po; co F inside I"
+-- the same eq; "date: gt; lt; ge; le; sa; eb; po; co F inside I"; 02: of periods "the operations are those of dates"
 unfoldable pub dateRow : List Use
 dateRow =
     means eq (Dates dates.Inside) ∷ means gt (Dates dates.Later) ∷ means lt (Dates dates.Earlier)
@@ -49,11 +55,42 @@ tokenRow = means eq Tokens ∷ []
 unfoldable pub referenceRow : List Use
 referenceRow = means re References ∷ []
 
+-- a kind: its number, which texts are readable on a card, which values in a filter, and its operators
+pub record Kind : Type 0 where
+  pub number : ℕ
+  pub onCard : List ℕ → Bool
+  pub inFilter : List ℕ → Bool
+  pub operators : List Use
+
+abbrev kindOf : ℕ → (List ℕ → Bool) → (List ℕ → Bool) → List Use → Kind
+kindOf n card filter us = record { number = n; onCard = card; inFilter = filter; operators = us }
+
+-- "string: every text"; "reference: not empty"
+abbrev pub anyText : List ℕ → Bool
+anyText t = true
+
+abbrev pub notEmpty : List ℕ → Bool
+notEmpty t = not (eqb (length t) 0)
+
+-- only tokens and periods differ in a filter: 02: "the filter's value stays a date"
+unfoldable pub kinds : List Kind
+kinds =
+    kindOf string anyText anyText stringRow
+    ∷ kindOf number number-texts.readable number-texts.readable numberRow
+    ∷ kindOf date date-texts.readable date-texts.readable dateRow
+    ∷ kindOf token tokens.cardReadable forms.filterReadable tokenRow
+    ∷ kindOf reference notEmpty notEmpty referenceRow
+    ∷ kindOf period period-texts.readable date-texts.readable dateRow
+    ∷ []
+
+-- what the table has for a number, and what there is for a number that is not in it
+unfoldable pub ofKind : {A : Type 0} → A → (Kind → A) → List Kind → ℕ → A
+ofKind other f [] k = other
+ofKind other f (x ∷ xs) k = cond (eqb k (x .number)) (f x) (ofKind other f xs k)
+
 -- the row of a kind
 unfoldable pub row : ℕ → List Use
-row kind =
-    cond (eqb kind string) stringRow (cond (eqb kind number) numberRow (cond (eqb kind date) dateRow
-    (cond (eqb kind token) tokenRow (cond (eqb kind reference) referenceRow []))))
+row = ofKind [] (λ (x : Kind). x .operators) kinds
 
 -- the relation of an operator in a row, if it stands there
 unfoldable pub relationIn : List Use → ℕ → Option Relation

@@ -100,6 +100,7 @@ pub fn meaning_of(operator: u8, kind: u8) -> Meaning
         kind::DATE => date_meaning(operator),
         kind::TOKEN => token_meaning(operator),
         kind::REFERENCE => reference_meaning(operator),
+        kind::PERIOD => date_meaning(operator),
         _ => Meaning::Nothing,
     }
 }

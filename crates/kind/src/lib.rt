@@ -28,7 +28,7 @@ pub enum NumberRelation {
     Covers,
 }
 
-// The relations of dates, the card's against the filter's.
+// The relations of a card's date or period and a filter's date.
 pub enum DateRelation {
     Inside,
     Later,

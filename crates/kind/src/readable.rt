@@ -1,6 +1,7 @@
 // Readable texts by kind, on a card and in a filter.
 use base::kind::DATE;
 use base::kind::NUMBER;
+use base::kind::PERIOD;
 use base::kind::REFERENCE;
 use base::kind::STRING;
 use base::kind::TOKEN;
@@ -18,16 +19,20 @@ pub fn card_readable(kind: u8, text: &[u8]) -> bool
         DATE => date::readable(text),
         TOKEN => token::card_readable(text),
         REFERENCE => text.len() != 0,
+        PERIOD => period::readable(text),
         _ => false,
     }
 }
 
-// Whether a filter's value is readable as a kind.
+// Whether a filter's value is readable as a kind: only tokens and periods differ from a card's.
 fn filter_readable(kind: u8, value: &[u8]) -> bool
     ensures { λ r. ⌜ r ≡ filterReadable kind (now (value .entry)) ⌝ }
 {
     if kind == TOKEN {
         return token::filter_readable(value);
+    }
+    if kind == PERIOD {
+        return date::readable(value);
     }
     card_readable(kind, value)
 }

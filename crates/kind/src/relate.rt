@@ -5,11 +5,13 @@ use crate::Relation;
 use crate::StringRelation;
 use date::Date;
 use number::Decimal;
+use period::Period;
 ghost use mathlib.Core.Path.{_≡_};
 ghost use Rattle.number.specs.Value.{Bounded};
 ghost use Rattle.kind.specs.Stands.{stringStands, numberStands, dateStands, stands, numbersStand, datesStand};
 ghost use Rattle.number.specs.Reading as numbers;
 ghost use Rattle.date.specs.Texts as dates;
+ghost use Rattle.period.specs.Texts as periods;
 
 fn string_stands(relation: StringRelation, text: &[u8], value: &[u8]) -> bool
     ensures { λ r. ⌜ r ≡ stringStands relation (now (text .entry)) (now (value .entry)) ⌝ }
@@ -49,26 +51,26 @@ fn numbers_stand(relation: NumberRelation, text: &[u8], value: &[u8]) -> bool
     number_stands(relation, i, f)
 }
 
-fn date_stands(relation: DateRelation, i: Date, f: Date) -> bool
+fn date_stands(relation: DateRelation, i: Period, f: Date) -> bool
     ensures { λ r. ⌜ r ≡ dateStands relation i f ⌝ }
 {
     match relation {
-        DateRelation::Inside => date::inside(i, f),
-        DateRelation::Later => date::later(i, f),
-        DateRelation::Earlier => date::earlier(i, f),
-        DateRelation::LaterOrInside => date::later_or_inside(i, f),
-        DateRelation::EarlierOrInside => date::earlier_or_inside(i, f),
-        DateRelation::StartsAfter => date::starts_after(i, f),
-        DateRelation::EndsBefore => date::ends_before(i, f),
-        DateRelation::Overlaps => date::overlaps(i, f),
-        DateRelation::Covers => date::covers(i, f),
+        DateRelation::Inside => period::inside(i, f),
+        DateRelation::Later => period::later(i, f),
+        DateRelation::Earlier => period::earlier(i, f),
+        DateRelation::LaterOrInside => period::later_or_inside(i, f),
+        DateRelation::EarlierOrInside => period::earlier_or_inside(i, f),
+        DateRelation::StartsAfter => period::starts_after(i, f),
+        DateRelation::EndsBefore => period::ends_before(i, f),
+        DateRelation::Overlaps => period::overlaps(i, f),
+        DateRelation::Covers => period::covers(i, f),
     }
 }
 
 fn dates_stand(relation: DateRelation, text: &[u8], value: &[u8]) -> bool
-    ensures { λ r. ⌜ r ≡ datesStand relation (dates.read (now (text .entry))) (dates.read (now (value .entry))) ⌝ }
+    ensures { λ r. ⌜ r ≡ datesStand relation (periods.readSpan (now (text .entry))) (dates.read (now (value .entry))) ⌝ }
 {
-    let date::Reading::Readable(i) = date::read(text) else {
+    let period::Reading::Readable(i) = period::read_span(text) else {
         return false;
     };
     let date::Reading::Readable(f) = date::read(value) else {

@@ -2,6 +2,10 @@
 -- Assumes nothing.
 use Prim.Native.Nat.{ℕ, _+_, _/_, _^_, _≤_, _<_}
 use mathlib.Core.Path.{_≡_}
+use mathlib.Core.List.{List}
+use lib.ListN.{length}
+use Rattle.refusal.specs.Answers.{count}
+use Rattle.sirophan.specs.Operations.{selectAnswer}
 use Rattle.pick.specs.declared.files.Filled.{Filled}
 use Rattle.pick.specs.declared.runs.Totals.{Totals}
 use Rattle.pick.specs.declared.runs.Turn.{Turn}
@@ -24,12 +28,17 @@ pub record Countable (t : Totals) : Type 0 where
   pub matching : t .matches ≤ t .cards
   pub few : t .cards < mostCards
 
--- the totals u are t with a run of `size` bytes
-pub record Added (t : Totals) (size : ℕ) (u : Totals) : Type 0 where
-  pub matching : u .matches ≤ t .cards + 128
+-- the totals u are t with a run of `size` bytes, of which `count` cards match
+pub record Added (t : Totals) (count size : ℕ) (u : Totals) : Type 0 where
+  pub matches : u .matches ≡ t .matches + count
   pub cards : u .cards ≡ t .cards + size / 512
 
--- unless the output has ended, a run of `size` bytes is added to the totals t
-abbrev pub RunAdded : Totals → ℕ → Turn → Type 0
-RunAdded t size (Turn.More u) = Added t size u
-RunAdded t size Turn.Ended = Unit {0}
+-- unless the output has ended, the cards are added to the totals t, and as many matches as select counts among them
+abbrev pub RunAdded : (sheet filter cards : List ℕ) → Totals → Turn → Type 0
+RunAdded sheet filter cards t (Turn.More u) = (n : ℕ) × (selectAnswer sheet filter cards 128 ≡ count n) × (n ≤ 128) × Added t n (length cards) u
+RunAdded sheet filter cards t Turn.Ended = Unit {0}
+
+-- unless the output has ended, a full run is added, of which at most all cards match
+abbrev pub FullRunAdded : Totals → Turn → Type 0
+FullRunAdded t (Turn.More u) = (n : ℕ) × (n ≤ 128) × Added t n 65536 u
+FullRunAdded t Turn.Ended = Unit {0}

@@ -1,4 +1,5 @@
 // Lines of the output. Each is put together in a buffer and written in one piece.
+use libc::STDERR_FILENO;
 use libc::STDOUT_FILENO;
 ghost use Prim.Native.Nat.{_+_, _*_, _≤_};
 ghost use mathlib.Core.Path.{_≡_};
@@ -6,6 +7,22 @@ ghost use lib.ListN.{length};
 
 // The longest line with one number: 20 digits and a line feed.
 const NUMBER_LINE: usize = 21;
+
+// Writes a piece of the output, and answers whether that was done; where not, standard error says so.
+fn print(piece: &[u8]) -> bool {
+    if io::write_all(STDOUT_FILENO, piece) {
+        return true;
+    }
+    io::write_all(STDERR_FILENO, b"pick: the output cannot be written\n");
+    false
+}
+
+// Says on standard error how the program is used.
+pub fn print_usage() {
+    let usage =
+        b"pick takes no arguments: it reads sheet.bin, filter.txt and cards.bin in the current folder\n";
+    io::write_all(STDERR_FILENO, usage);
+}
 
 // Puts a text into the buffer from a position on, and answers the position behind it.
 fn put(text: &[u8], buffer: &mut [u8], at: usize) -> usize
@@ -57,7 +74,7 @@ pub fn print_numbers(numbers: &[u32]) -> bool
 {
     let mut buffer = [0u8; 128 * NUMBER_LINE];
     let size = put_lines(numbers, &mut buffer);
-    io::write_all(STDOUT_FILENO, &buffer[0..size])
+    print(&buffer[0..size])
 }
 
 // Prints a refusal, as `refused 16 at 0`.
@@ -68,7 +85,7 @@ pub fn print_refusal(number: u64, place: u64) {
     let at = put(b" at ", &mut buffer, first);
     let second = put_number(place, &mut buffer, at);
     let size = put(b"\n", &mut buffer, second);
-    io::write_all(STDOUT_FILENO, &buffer[0..size]);
+    print(&buffer[0..size]);
 }
 
 // Prints the last line, as `2 of 3`.
@@ -78,7 +95,7 @@ pub fn print_count(matches: u64, cards: u64) {
     let of = put(b" of ", &mut buffer, first);
     let second = put_number(cards, &mut buffer, of);
     let size = put(b"\n", &mut buffer, second);
-    io::write_all(STDOUT_FILENO, &buffer[0..size]);
+    print(&buffer[0..size]);
 }
 
 // Prints what cannot be done with a file, as `cards.bin cannot be read`. The words around the two texts take 12 bytes.
@@ -90,5 +107,5 @@ pub fn print_failure(file: &[u8], done: &[u8])
     let words = put(b" cannot be ", &mut buffer, name);
     let end = put(done, &mut buffer, words);
     let size = put(b"\n", &mut buffer, end);
-    io::write_all(STDOUT_FILENO, &buffer[0..size]);
+    print(&buffer[0..size]);
 }

@@ -7,6 +7,7 @@ mod runs;
 use files::Filled;
 use files::fill;
 use lines::print_failure;
+use lines::print_usage;
 use runs::print_matches;
 ghost use Prim.Native.Nat.{_≤_};
 ghost use mathlib.Core.Path.{_≡_};
@@ -60,6 +61,10 @@ fn pick(sheet: &[u8], filter: &[u8]) {
 
 // Each buffer has room for one byte more than its file may have, so that a file that is too long is refused and not cut.
 fn main() {
+    if os::arg_count() > 1 {
+        print_usage();
+        return;
+    }
     let mut sheet = [0u8; 513];
     let Filled::Bytes(size) = load(b"sheet.bin", &mut sheet) else {
         return;

@@ -13,7 +13,7 @@ ghost use Prim.Native.Nat.{_≤_, _<_};
 ghost use mathlib.Core.Path.{_≡_};
 ghost use lib.ListN.{length};
 ghost use Rattle.pick.specs.Places.{placeInFile};
-ghost use Rattle.pick.specs.Bounds.{PlaceBound, mostCards, Countable, Added, RunAdded};
+ghost use Rattle.pick.specs.Bounds.{PlaceBound, mostCards, Countable, Added, RunAdded, FullRunAdded};
 
 // The bytes of 128 cards. A run of fewer is the last.
 const FULL_RUN: usize = 65536;
@@ -38,7 +38,7 @@ fn add_run(totals: Totals, count: usize, size: usize) -> Totals
     requires { ⌜ Countable totals ⌝ }
     requires { ⌜ count ≤ 128 ⌝ }
     requires { ⌜ size ≤ 65536 ⌝ }
-    ensures { λ r. ⌜ Added totals size r ⌝ }
+    ensures { λ r. ⌜ Added totals count size r ⌝ }
 {
     Totals {
         matches: totals.matches + count as u64,
@@ -66,7 +66,7 @@ fn place_in_file(number: u32, place: usize, cards_before: u64) -> u64
 fn print_run(sheet: &[u8], filter: &[u8], cards: &[u8], totals: Totals) -> Turn
     requires { ⌜ Countable totals ⌝ }
     requires { ⌜ length (now cards) ≤ 65536 ⌝ }
-    ensures { λ r. ⌜ RunAdded totals (length (now (cards .entry))) r ⌝ }
+    ensures { λ r. ⌜ RunAdded (now (sheet .entry)) (now (filter .entry)) (now (cards .entry)) totals r ⌝ }
 {
     let mut list = [0u32; 128];
     let selected = select(sheet, filter, cards, &mut list);
@@ -92,7 +92,7 @@ fn print_run(sheet: &[u8], filter: &[u8], cards: &[u8], totals: Totals) -> Turn
 fn next_run(sheet: &[u8], filter: &[u8], fd: i32, buffer: &mut [u8], totals: Totals) -> Turn
     requires { ⌜ length (now buffer) ≡ 65536 ⌝ }
     requires { ⌜ Countable totals ⌝ }
-    ensures { λ r. ⌜ RunAdded totals 65536 r ⌝ }
+    ensures { λ r. ⌜ FullRunAdded totals r ⌝ }
 {
     let Filled::Bytes(size) = fill(fd, buffer) else {
         print_failure(b"cards.bin", b"read");

@@ -17,7 +17,7 @@ use Rattle.base.proofs.Runs.{run-append, run-every}
 use Rattle.base.proofs.Lists.{all-every}
 use Rattle.base.proofs.All.{all-map}
 use Rattle.base.proofs.Tests.{decided}
-use Rattle.search.specs.Spelling.{Without}
+use Rattle.base.specs.Split.{Without}
 
 pub drop-right : (b : ℕ) (m w : List ℕ) → drop (length m + 1) (m ++ (b ∷ w)) ≡ w
 drop-right b m w = drop-append-add m (b ∷ w) 1

@@ -18,7 +18,8 @@ use Rattle.refusal.proofs.Steps.{stop-not-found}
 use Rattle.refusal.specs.Order.{rank, group, Before}
 use Rattle.refusal.proofs.Deciding.{Decided, none-holds, one-decides}
 use Rattle.refusal.proofs.Order.{later-group, no-lower-rank}
-use Rattle.search.specs.Spelling.{ampersand, equals, Without, Alternative, Query, alternativesOf, PairAt, PairsAt, last-pair, next-pair, SpellsQuery}
+use Rattle.base.specs.Split.{Without}
+use Rattle.search.specs.Spelling.{ampersand, equals, Alternative, Query, alternativesOf, PairAt, PairsAt, last-pair, next-pair, SpellsQuery}
 use Rattle.search.specs.Reader.{decoded, pairOf, readPair, readPairs, takeQuery}
 use Rattle.search.specs.Lines.{PartAt, part-last, part-first, part-later, QueryLine, line-10, line-50, line-51}
 use Rattle.search.proofs.Cuts.{cut-shorter, Cut, cut-at, no-cut, cut-of, cut-unique, not-both}

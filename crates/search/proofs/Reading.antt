@@ -17,7 +17,8 @@ use Rattle.base.proofs.All.{all-append}
 use Rattle.base.proofs.Tests.{cond-first}
 use Rattle.refusal.specs.Steps.{Step, found, stop, _>>=_}
 use Rattle.refusal.proofs.Steps.{stop-not-found, taken}
-use Rattle.search.specs.Spelling.{ampersand, equals, Without, cutSigns, Alternative, alternative, Query, alternativesOf, PairAt, a-pair, PairsAt, last-pair, next-pair, SpellsQuery}
+use Rattle.base.specs.Split.{Without}
+use Rattle.search.specs.Spelling.{ampersand, equals, cutSigns, Alternative, alternative, Query, alternativesOf, PairAt, a-pair, PairsAt, last-pair, next-pair, SpellsQuery}
 use Rattle.search.specs.Reader.{decoded, signsOf, pairOf, readPair, readPairs, takeQuery}
 use Rattle.search.proofs.Cuts.{drop-right, cut-shorter, cut-end, whole-end, Cut, cut-at, no-cut, cut-of}
 use Rattle.search.proofs.Decoding.{decoded-there, decoded-back}

@@ -17,7 +17,7 @@ use Rattle.sheet.specs.Encode.{ValueKind, WellFormedSheet}
 use Rattle.sheet.specs.declared.Found.{Found}
 use Rattle.card.specs.Card.{Entry}
 use Rattle.syntax.specs.Tree.{name}
-use Rattle.kind.specs.Table.{meaningOf, rowMeaning, row, relationIn}
+use Rattle.kind.specs.Table.{meaningOf, rowMeaning, row, ofKind, kinds, relationIn}
 use Rattle.judge.specs.Sets.{lookup, valuesAt}
 use Rattle.judge.specs.Verdicts.{someValue, saysOf, saysAt, testSays}
 use Rattle.judge.specs.Rules.{Names}
@@ -31,7 +31,7 @@ use Rattle.search.proofs.Asking.{asks-for, asked-is, asked-there, never
 
 -- a bundle's name says nothing
 bundle-silent : (t : List ℕ) (set : List (List ℕ)) → saysOf (meaningOf (askedOf bundleKind t .operator) bundleKind) (askedOf bundleKind t .value) set ≡ false
-unfolding askedOf takesPrefix meaningOf rowMeaning row relationIn saysOf
+unfolding askedOf takesPrefix meaningOf rowMeaning row ofKind kinds relationIn saysOf
 bundle-silent t set = refl
 
 module _ (ps : List Parameter) (w : WellFormedSheet ps) (es : List Entry) (a : Alternative) where

@@ -1,19 +1,18 @@
 -- What a search string that was taken leaves: rows that keep its query; and why one was not taken.
 -- Assumes nothing.
-use Prim.Native.Nat.{ℕ, _≤_}
+use Prim.Native.Nat.{ℕ}
 use native.Mathlib.Omega.{arith}
 use mathlib.Core.Path.{_≡_, refl, ap, _∙_}
-use mathlib.Core.Bool.{Bool, false}
+use mathlib.Core.Bool.{false}
 use mathlib.Core.List.{List, [], _∷_, _++_, map, flatten}
-use lib.ListN.{length, take}
+use lib.ListN.{take}
 use Rattle.base.proofs.All.{all-map}
 use Rattle.refusal.specs.Steps.{stop}
 use Rattle.search.specs.Spelling.{Alternative, Query, alternativesOf}
 use Rattle.search.specs.Reader.{takeQuery}
-use Rattle.search.specs.Rows.{Kept, keepPair, keepAll, keptIn, keptSays, RowWithin, RowsWithin, alternativeIn, alternativesIn, rowsSay, TakenOf, taken-query, taken-size, taken-bad, taken-many, RowsOf}
+use Rattle.search.specs.Rows.{Kept, keepPair, keepAll, keptIn, keptSays, RowWithin, alternativeIn, alternativesIn, rowsSay, TakenOf, taken-query, taken-size, taken-bad, taken-many, RowsOf}
 use Rattle.search.specs.declared.QueryTaken.{QueryTaken}
 use Rattle.search.specs.declared.Row.{Row}
-use Rattle.search.specs.declared.Rows.{Rows}
 use Rattle.search.specs.declared.TextOutcome.{TextOutcome}
 use Rattle.search.proofs.Keeping.{kept-says, map-append}
 use Rattle.search.proofs.Reading.{query-there}

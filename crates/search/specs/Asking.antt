@@ -8,13 +8,13 @@ use lib.Dec.{eqb}
 use lib.ListN.{length, getD, drop}
 use Rattle.base.specs.Lists.{member}
 use Rattle.base.specs.Affixes.{hasPrefix}
-use Rattle.base.specs.Kinds.{string, number, date, token, reference}
+use Rattle.base.specs.Kinds.{string, number, date, token, reference, period}
 use Rattle.base.specs.Operators.{operatorWords, eq, ne, gt, lt, ge, le, sa, eb, sw, re}
 use Rattle.search.specs.declared.Prefixed.{Prefixed}
 
--- "numbers, dates and periods take a prefix": 6 is the kind of periods
+-- "numbers, dates and periods take a prefix"
 unfoldable pub takesPrefix : ℕ → Bool
-takesPrefix kind = eqb kind number || (eqb kind date || eqb kind 6)
+takesPrefix kind = eqb kind number || (eqb kind date || eqb kind period)
 
 -- "of eq, ne, gt, lt, ge, le, sa, eb"
 abbrev pub prefixes : List ℕ

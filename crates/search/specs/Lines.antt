@@ -5,7 +5,8 @@ use mathlib.Core.Path.{_≡_}
 use mathlib.Core.Logic.{_⊎_}
 use mathlib.Core.List.{List, _∷_, _++_}
 use lib.ListN.{length}
-use Rattle.search.specs.Spelling.{ampersand, Without, Alternative, Query, alternativesOf, PairAt, PairsAt}
+use Rattle.base.specs.Split.{Without}
+use Rattle.search.specs.Spelling.{ampersand, Alternative, Query, alternativesOf, PairAt, PairsAt}
 
 -- a part between ampersands and its first byte, where the text's first byte is p
 pub data PartAt : ℕ → List ℕ → ℕ → List ℕ → Type 0 where

@@ -6,7 +6,8 @@ use mathlib.Core.Path.{_≡_}
 use mathlib.Core.Bool.{Bool, true, false}
 use mathlib.Core.List.{List, [], _∷_, _++_, map, flatten}
 use lib.ListN.{length}
-use Rattle.base.specs.Lists.{All, member}
+use Rattle.base.specs.Lists.{member}
+use Rattle.base.specs.Split.{Without}
 use Rattle.text.specs.Bar.{bar}
 use Rattle.syntax.specs.Strings.{backslash}
 
@@ -24,10 +25,6 @@ plus = code "+"
 
 abbrev pub comma : ℕ
 comma = code ","
-
--- no byte is b
-abbrev pub Without : ℕ → List ℕ → Type 0
-Without b = All (λ (x : ℕ). x ≡ b → ⊥)
 
 -- a hex digit and its value, in either case
 pub data HexDigit : ℕ → ℕ → Type 0 where

@@ -1,6 +1,14 @@
 // What a text asks under a kind: "numbers, dates and periods take a prefix", none meaning eq; "a string asks for a start,
 // a token for 01's four forms, a reference for sameness".
 use crate::Prefixed;
+use base::kind::DATE;
+use base::kind::NUMBER;
+use base::kind::PERIOD;
+use base::kind::STRING;
+use base::kind::TOKEN;
+use base::operator::EQ;
+use base::operator::RE;
+use base::operator::SW;
 use syntax::FoundOperator;
 use syntax::test::read_operator;
 ghost use mathlib.Core.Path.{_≡_};
@@ -11,13 +19,13 @@ ghost use Rattle.search.specs.Asking.{takesPrefix, prefixes, prefixed, a
 fn takes_prefix(kind: u8) -> bool
     ensures { λ r. ⌜ r ≡ takesPrefix kind ⌝ }
 {
-    if kind == 2 {
+    if kind == NUMBER {
         return true;
     }
-    if kind == 3 {
+    if kind == DATE {
         return true;
     }
-    kind == 6
+    kind == PERIOD
 }
 
 // Whether the operator's word is a prefix: eq, ne, gt, lt, ge, le, sa, eb.
@@ -52,12 +60,12 @@ fn prefix_asked(text: &[u8]) -> Prefixed
                 };
             }
             return Prefixed {
-                operator: 0,
+                operator: EQ,
                 skip: 0,
             };
         }
         FoundOperator::Nothing => Prefixed {
-            operator: 0,
+            operator: EQ,
             skip: 0,
         },
     }
@@ -70,20 +78,20 @@ pub fn asked_of(kind: u8, text: &[u8]) -> Prefixed
     if takes_prefix(kind) {
         return prefix_asked(text);
     }
-    if kind == 1 {
+    if kind == STRING {
         return Prefixed {
-            operator: 3,
+            operator: SW,
             skip: 0,
         };
     }
-    if kind == 4 {
+    if kind == TOKEN {
         return Prefixed {
-            operator: 0,
+            operator: EQ,
             skip: 0,
         };
     }
     Prefixed {
-        operator: 18,
+        operator: RE,
         skip: 0,
     }
 }

@@ -23,9 +23,9 @@ use Rattle.sheet.proofs.Listed.{at-listed, listed-kind}
 
 -- what a kind decides
 module _ (w : Bool) (k : ℕ) where
-  pub kind-value : 1 ≤ k → k ≤ 5 → true ≡ isKind w k
+  pub kind-value : 1 ≤ k → k ≤ 6 → true ≡ isKind w k
   unfolding isKind between
-  kind-value low high = rw (le-leb 1 k low, le-leb k 5 high)
+  kind-value low high = rw (le-leb 1 k low, le-leb k 6 high)
 
   pub kind-bundle : k ≡ 7 → w ≡ isKind w k
   unfolding isKind between
@@ -35,9 +35,9 @@ module _ (w : Bool) (k : ℕ) where
   unfolding isKind between
   kind-low l = rw (lt-leb 1 k l, ne-eqb k 7 (λ e. omega arith), and-false w)
 
-  pub kind-other : 1 ≤ k → 5 < k → (k ≡ 7 → ⊥) → false ≡ isKind w k
+  pub kind-other : 1 ≤ k → 6 < k → (k ≡ 7 → ⊥) → false ≡ isKind w k
   unfolding isKind between
-  kind-other h l n = rw (le-leb 1 k h, lt-leb k 5 l, ne-eqb k 7 n, and-false w)
+  kind-other h l n = rw (le-leb 1 k h, lt-leb k 6 l, ne-eqb k 7 n, and-false w)
 
 -- what a kind's test and the name decide
 module _ (w : Bool) (k c : ℕ) (n : List ℕ) (t : Bool) (i : t ≡ isKind w k) where
@@ -165,8 +165,8 @@ distinct-end = refl
 kind-there : (w : Bool) (k : ℕ) → isKind w k ≡ true → ValueKind k ⊎ ((k ≡ bundleKind) × (w ≡ true))
 unfolding isKind between
 kind-there w k h =
-    ⊎-elim (λ (v : (leb 1 k && leb k 5) ≡ true). inl (record { lowest = leb-true 1 k (and-left (leb 1 k) (leb k 5) v); highest = leb-true k 5 (and-right (leb 1 k) (leb k 5) v) }))
-    (λ (v : (w && eqb k 7) ≡ true). inr (eqb-true k 7 (and-right w (eqb k 7) v), and-left w (eqb k 7) v)) (or-either (leb 1 k && leb k 5) (w && eqb k 7) h)
+    ⊎-elim (λ (v : (leb 1 k && leb k 6) ≡ true). inl (record { lowest = leb-true 1 k (and-left (leb 1 k) (leb k 6) v); highest = leb-true k 6 (and-right (leb 1 k) (leb k 6) v) }))
+    (λ (v : (w && eqb k 7) ≡ true). inr (eqb-true k 7 (and-right w (eqb k 7) v), and-left w (eqb k 7) v)) (or-either (leb 1 k && leb k 6) (w && eqb k 7) h)
 
 -- what it takes on a sheet with bundles or without
 abbrev pub FormOf : Bool → Parameter → Type 0

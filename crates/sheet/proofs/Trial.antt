@@ -17,7 +17,7 @@ use Rattle.block.specs.Items.{zeros, hasMarks, lengthAt, next, markAt, textAt, 
 use Rattle.block.specs.Readings.{reading}
 use Rattle.sheet.specs.Sheet.{parameterCount, parametersOf, isKind, isParameter, areParameters, clashes, absent, distinct, kindAt, hasParent, haveParents, areRight, sheetLayout, readSheet}
 use Rattle.sheet.specs.Encode.{parameterBytes, sheetBody, encodeSheet, ReadsAsSheet}
-use Rattle.sheet.specs.Trial.{trialParameters, trialSheet, bundleParameters, bundleSheet}
+use Rattle.sheet.specs.Trial.{trialParameters, trialSheet, bundleParameters, bundleSheet, stayParameters, staySheet}
 
 pub trial-sheet-encoded : encodeSheet false trialParameters ≡ trialSheet
 unfolding trialParameters trialSheet encodeSheet sheetBody parameterBytes seal padded sumFrom wordBytes join
@@ -48,3 +48,9 @@ bundle-sheet-reads =
       reading = refl;
       parameters = refl;
     }
+
+-- and the sheet with periods
+
+pub stay-sheet-encoded : encodeSheet false stayParameters ≡ staySheet
+unfolding stayParameters staySheet encodeSheet sheetBody parameterBytes seal padded sumFrom wordBytes join
+stay-sheet-encoded = refl

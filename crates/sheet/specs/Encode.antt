@@ -12,7 +12,7 @@ use Rattle.base.specs.Names.{Name}
 use Rattle.block.specs.Seal.{seal}
 use Rattle.block.specs.Items.{marks, join}
 use Rattle.block.specs.declared.Reading.the-variants.{WellFormed}
-use Rattle.base.specs.Kinds.{bundleKind}
+use Rattle.base.specs.Kinds.{string, period, bundleKind}
 use Rattle.sheet.specs.Sheet.{Parameter, parametersOf, readSheet}
 use Rattle.sheet.specs.Find.{Listed}
 
@@ -32,12 +32,12 @@ sheetBody marked ps = sheetFirst marked ∷ length ps ∷ join (parameterBytes m
 unfoldable pub encodeSheet : Bool → List Parameter → List ℕ
 encodeSheet marked ps = seal (sheetBody marked ps)
 
--- a kind of values
+-- a kind of values: string, number, date, token, reference or, by 02, period
 pub record ValueKind (k : ℕ) : Type 0 where
-  pub lowest : 1 ≤ k
-  pub highest : k ≤ 5
+  pub lowest : string ≤ k
+  pub highest : k ≤ period
 
--- a parameter that can be written: kind 1 to 5 or 7, and a name of 1 to 30 bytes
+-- a parameter that can be written: kind 1 to 6 or 7, and a name of 1 to 30 bytes
 pub record WellFormedParameter (p : Parameter) : Type 0 where
   pub kind : ValueKind (p .kind) ⊎ (p .kind ≡ bundleKind)
   pub shortest : 1 ≤ length (p .name)

@@ -6,7 +6,7 @@ use mathlib.Core.List.{List, [], _∷_}
 use lib.Dec.{leb, eqb}
 use lib.ListN.{length, getD}
 use Rattle.base.specs.Lists.{equal}
-use Rattle.base.specs.Kinds.{bundleKind}
+use Rattle.base.specs.Kinds.{string, period, bundleKind}
 use Rattle.base.specs.Names.{between, isName}
 use Rattle.block.specs.Seal.{check}
 use Rattle.block.specs.Items.{hasMarks, hasEither, items, Step}
@@ -14,7 +14,7 @@ use Rattle.block.specs.Readings.{reading}
 use Rattle.block.specs.declared.Reading.{Reading}
 use Rattle.sheet.specs.declared.Parameter.{Parameter as Span}
 
--- a parameter: its kind (1 string, 2 number, 3 date, 4 token, 5 reference, 7 bundle), its bundle and its name; 02: the bundle is
+-- a parameter: its kind (1 string, 2 number, 3 date, 4 token, 5 reference, 6 period, 7 bundle), its bundle and its name; 02: the bundle is
 -- "0 or the place plus 1 of the parameter's bundle"
 pub record Parameter : Type 0 where
   pub kind : ℕ
@@ -32,9 +32,9 @@ parameterCount b = getD b 1 0
 unfoldable pub parametersOf : List ℕ → List Parameter
 parametersOf b = items parameter (parameterCount b) b 2
 
--- the kind is 1 to 5 or, on a sheet with bundles, 7
+-- the kind is 1 to 6 or, on a sheet with bundles, 7
 unfoldable pub isKind : Bool → ℕ → Bool
-isKind marked k = between 1 5 k || (marked && eqb k bundleKind)
+isKind marked k = between string period k || (marked && eqb k bundleKind)
 
 -- the kind is right, and the name has at most 30 bytes and is a name, so that it is not empty
 unfoldable pub isParameter : Bool → Parameter → Bool

@@ -1,4 +1,5 @@
--- Document 01's trial sheet: title string, birthdate date, code token, pages number, subject reference.
+-- Document 01's trial sheet: title string, birthdate date, code token, pages number, subject reference; a sheet with bundles; and one with
+-- periods.
 -- Assumes nothing.
 use Prim.Native.Nat.{ℕ}
 use mathlib.Core.List.{List, [], _∷_, _++_}
@@ -52,3 +53,23 @@ bundleSheet =
     ++ (1 ∷ 0 ∷ 5 ∷ ascii "title")
     ++ replicate 447 0
     ++ (102 ∷ 15 ∷ 2 ∷ 0 ∷ [])
+
+-- a sheet with periods: stay, since and until; and title
+unfoldable pub stayParameters : List Parameter
+stayParameters =
+    parameter 6 0 (ascii "stay")
+    ∷ parameter 6 0 (ascii "since")
+    ∷ parameter 6 0 (ascii "until")
+    ∷ parameter 1 0 (ascii "title")
+    ∷ []
+
+-- its 512 bytes: 4 parameters, 479 zeros and the check sum
+unfoldable pub staySheet : List ℕ
+staySheet =
+    (0x50 ∷ 4 ∷ [])
+    ++ (6 ∷ 4 ∷ ascii "stay")
+    ++ (6 ∷ 5 ∷ ascii "since")
+    ++ (6 ∷ 5 ∷ ascii "until")
+    ++ (1 ∷ 5 ∷ ascii "title")
+    ++ replicate 479 0
+    ++ (40 ∷ 141 ∷ 0 ∷ 0 ∷ [])

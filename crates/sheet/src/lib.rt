@@ -3,7 +3,7 @@
 // kinds by index.
 use base::equal;
 use base::kind::BUNDLE;
-use base::kind::REFERENCE;
+use base::kind::PERIOD;
 use base::kind::STRING;
 use base::name::is_name;
 use block::Checked;
@@ -17,7 +17,7 @@ ghost use Rattle.block.specs.Items.{items, Walk};
 ghost use Rattle.sheet.specs.Sheet.{parameter, parameterCount, parametersOf, isKind, isParameter, areParameters, clashes, absent, distinct, kindAt, hasParent, haveParents, areRight, sheetLayout, readSheet, ParameterAt};
 ghost use Rattle.sheet.specs.Find.{find, enter, kindsOf};
 
-// A parameter: its kind (1 string, 2 number, 3 date, 4 token, 5 reference, 7 bundle), its bundle (0, or a bundle's index plus 1),
+// A parameter: its kind (1 string, 2 number, 3 date, 4 token, 5 reference, 6 period, 7 bundle), its bundle (0, or a bundle's index plus 1),
 // and where its name starts and ends in the sheet. The next parameter starts where the name ends.
 struct Parameter {
     kind: u8,
@@ -47,14 +47,14 @@ fn parameter_at(sheet: &[u8], at: usize, left: u8) -> Parameter
     }
 }
 
-// Whether a kind is 1 to 5 or, on a sheet with bundles, 7.
+// Whether a kind is 1 to 6 or, on a sheet with bundles, 7.
 fn is_kind(marked: bool, kind: u8) -> bool
     ensures { λ r. ⌜ r ≡ isKind marked kind ⌝ }
 {
     if kind < STRING {
         return false;
     }
-    if kind <= REFERENCE {
+    if kind <= PERIOD {
         return true;
     }
     if kind == BUNDLE {

@@ -6,23 +6,24 @@ use mathlib.Core.Path.{_≡_, refl, ap, sym, _∙_, subst}
 use mathlib.Core.Bool.{true, false}
 use mathlib.Core.Logic.{⊎-elim}
 use mathlib.Core.List.{List, [], _∷_, cons≢nil}
-use lib.Dec.{eqb}
+use lib.Dec.{eqb, ltb}
 use lib.ListN.{length, length-append}
-use borrow.Author.Tests.{eq-eqb}
+use borrow.Author.Tests.{eq-eqb, ltb-true}
 use Rattle.base.specs.Ascii.{ascii}
 use Rattle.base.specs.Bytes.{Bytes}
 use Rattle.base.specs.Digits.{isDigit}
-use Rattle.base.specs.Lists.{All, all-empty, all-cons}
+use Rattle.base.specs.Lists.{All, all-empty, all-cons, every}
 use Rattle.base.specs.Runs.{run}
 use Rattle.base.specs.Below.{passes}
-use Rattle.base.proofs.All.{all-head, all-right}
+use Rattle.base.proofs.All.{all-head, all-right, all-map}
+use Rattle.base.proofs.Lists.{every-all}
 use Rattle.base.proofs.Below.{passes-at}
 use Rattle.base.proofs.Tests.{cond-elim}
-use Rattle.text.specs.Bar.{firstBar}
+use Rattle.base.specs.Split.{split}
 use Rattle.number.specs.Reading as numbers
 use Rattle.date.specs.Fields.{between}
 use Rattle.date.specs.Texts as dates
-use Rattle.token.specs.Split.{splitAt, split}
+use Rattle.period.specs.Texts as periods
 use Rattle.token.specs.Card as tokens
 use Rattle.block.specs.declared.Reading.the-variants.{WellFormed}
 use Rattle.base.specs.Kinds.{bundleKind}
@@ -33,7 +34,8 @@ use Rattle.card.specs.Card.{Entry, entry, entriesOf, readCard}
 use Rattle.card.specs.Encode.{encodeCard, ReadsAsCard}
 use Rattle.card.proofs.Read.{card-length}
 use Rattle.card.proofs.Cards.{card-reads-iff, card-of, empty-card, one-entry-card}
-use Rattle.base.specs.Kinds.{date}
+use Rattle.base.specs.Kinds.{date, period}
+use Rattle.kind.specs.Table.{kinds, ofKind}
 use Rattle.kind.specs.Readable.{cardReadable}
 use Rattle.judge.specs.Sets.{valuesAt, conforms}
 use Rattle.refusal.specs.Steps.{found}
@@ -73,26 +75,30 @@ reads-conforms ps b bytes r h =
 
 -- ---- a text for each kind
 
-witness-reads : passes (λ k. cardReadable (k + 1) (witnessText (k + 1))) 5 ≡ true
-unfolding cardReadable witnessText numbers.readable numbers.read run isDigit dates.readable dates.isDate dates.read dates.readYear dates.fourAt dates.twoAt dates.pair dates.digitOf between tokens.cardReadable tokens.cardToken tokens.splitToken tokens.tokenOf split splitAt firstBar
+witness-reads : passes (λ k. cardReadable (k + 1) (witnessText (k + 1))) period ≡ true
+unfolding cardReadable kinds ofKind witnessText numbers.readable numbers.read run isDigit dates.readable dates.isDate dates.read dates.readYear dates.fourAt dates.twoAt dates.pair dates.digitOf between tokens.cardReadable tokens.cardToken tokens.splitToken tokens.tokenOf split periods.readable periods.isPeriod periods.read periods.readParts periods.openEnd
 witness-reads = refl
 
-witness-readable : (kind : ℕ) → 1 ≤ kind → kind ≤ 5 → ReadableOnCard kind (witnessText kind)
-witness-readable kind low high =
+witness-readable : (kind : ℕ) → ValueKind kind → ReadableOnCard kind (witnessText kind)
+witness-readable kind v =
     let e : kind - 1 + 1 ≡ kind = omega arith in
-    let reads = passes-at (λ k. cardReadable (k + 1) (witnessText (k + 1))) 5 witness-reads (kind - 1) (omega arith) in
+    let reads = passes-at (λ k. cardReadable (k + 1) (witnessText (k + 1))) period witness-reads (kind - 1) (omega arith) in
     card-iff kind (witnessText kind) .0 (subst (λ (k : ℕ). cardReadable k (witnessText k) ≡ true) e reads)
 
-witness-short : (kind : ℕ) → length (witnessText kind) ≤ 20
+-- what holds of the three texts
+by-text : (P : List ℕ → Type 0) → P (ascii "1974") → P (ascii "1974/") → P (ascii "1") → (kind : ℕ) → P (witnessText kind)
 unfolding witnessText
-witness-short kind = cond-elim (λ t. length t ≤ 20) (eqb kind date) {x = ascii "1974"} {y = ascii "1"} (λ _. omega arith) (λ _. omega arith)
+by-text P d p o kind = cond-elim P (eqb kind date) (λ _. d) (λ _. cond-elim P (eqb kind period) (λ _. p) (λ _. o))
+
+witness-short : (kind : ℕ) → length (witnessText kind) ≤ 20
+witness-short = by-text (λ t. length t ≤ 20) (omega arith) (omega arith) (omega arith)
+
+bytes-by-test : (t : List ℕ) → every (λ (x : ℕ). ltb x 256) t ≡ true → Bytes t
+bytes-by-test t e = all-map (λ (x : ℕ). ltb-true x 256) (every-all (λ (x : ℕ). ltb x 256) t e)
 
 witness-bytes : (kind : ℕ) → Bytes (witnessText kind)
-unfolding witnessText
-witness-bytes kind =
-    cond-elim Bytes (eqb kind date)
-    (λ _. all-cons (omega arith) (all-cons (omega arith) (all-cons (omega arith) (all-cons (omega arith) all-empty))))
-    (λ _. all-cons (omega arith) all-empty)
+unfolding every
+witness-bytes = by-text Bytes (bytes-by-test (ascii "1974") refl) (bytes-by-test (ascii "1974/") refl) (bytes-by-test (ascii "1") refl)
 
 -- ---- two cards
 
@@ -111,7 +117,7 @@ module _ (ps : List Parameter) where
     pub one-entry-conforms : (p .kind ≡ bundleKind → ⊥) → Conforms ps (encodeCard false 0 one-entry) one-entry
     one-entry-conforms n =
         let index : i < 32 = omega (arith, w .count, ap length (l .split), length-append (l .before) (p ∷ l .after), l .index) in
-        let readable = ⊎-elim (λ (v : ValueKind (p .kind)). witness-readable (p .kind) (v .lowest) (v .highest)) (λ (e : p .kind ≡ bundleKind). absurd (n e)) (listed-well-formed .kind) in
+        let readable = ⊎-elim (λ (v : ValueKind (p .kind)). witness-readable (p .kind) v) (λ (e : p .kind ≡ bundleKind). absurd (n e)) (listed-well-formed .kind) in
         record {
           marked = false;
           number = 0;

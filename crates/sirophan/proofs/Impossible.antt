@@ -26,8 +26,8 @@ use Rattle.syntax.specs.Strings.{isBare}
 use Rattle.syntax.specs.Scan.{stepOf, stringFrom, stringAt, valueAt, follows, findOperator, operatorAt, testValue, testOperator, testAt, openAt, headAt, connectiveAt, closeAt}
 use Rattle.syntax.specs.Reader.{chainOf, filterOf, itemAt, filterAt, read}
 use Rattle.syntax.proofs.Spelling.{read-spells}
-use Rattle.kind.specs.Table.{stringRow, tokenRow, row, relationIn, rowMeaning, meaningOf, hasMeaning}
-use Rattle.kind.specs.Readable.{cardReadable, filterReadable, valueReadable}
+use Rattle.kind.specs.Table.{stringRow, tokenRow, row, relationIn, rowMeaning, meaningOf, hasMeaning, kinds, ofKind}
+use Rattle.kind.specs.Readable.{filterReadable, valueReadable}
 use Rattle.judge.specs.Sets.{lookup, valuesAt}
 use Rattle.judge.specs.Faults.{unsupported, kindFault, testFault}
 use Rattle.judge.specs.declared.Fault.{Fault}
@@ -55,7 +55,7 @@ pub code-spelled : Spells (ascii "code gt 5") (test codeTest)
 code-spelled = read-spells (ascii "code gt 5") (test codeTest) .0 (trees-read .1)
 
 faults-found : (testFault trialParameters 0 titleTest ≡ Fault.Nothing) × (testFault trialParameters 0 codeTest ≡ Fault.NoMeaning)
-unfolding titleTest codeTest trialParameters testFault kindFault lookup find findFrom equal unsupported member hasMeaning meaningOf rowMeaning relationIn row stringRow tokenRow valueReadable filterReadable cardReadable
+unfolding titleTest codeTest trialParameters testFault kindFault lookup find findFrom equal unsupported member hasMeaning meaningOf rowMeaning relationIn row kinds ofKind stringRow tokenRow valueReadable filterReadable
 faults-found = (refl, refl)
 
 trial-well-formed : WellFormedSheet trialParameters

@@ -3,7 +3,7 @@
 use Prim.Native.Nat.{ℕ, _≤_, _<_}
 use mathlib.Core.Path.{_≡_}
 use mathlib.Core.Bool.{Bool, true}
-use mathlib.Core.Logic.{_↔_}
+use mathlib.Core.Logic.{_↔_, _⊎_}
 use mathlib.Core.Option.{some}
 use mathlib.Core.List.{List, [], _∷_, map}
 use lib.ListN.{length, getD}
@@ -14,11 +14,11 @@ use Rattle.base.specs.Operators.{operatorWords, eq, ne, co, sw, ew, gt, lt, ge,
 use Rattle.block.specs.declared.Reading.the-variants.{WellFormed}
 use Rattle.sheet.specs.Sheet.{Parameter, readSheet}
 use Rattle.sheet.specs.Encode.{encodeSheet, WellFormedSheet, SheetForm, SheetBlock, ReadsAsSheet}
-use Rattle.sheet.specs.Trial.{trialParameters, trialSheet, bundleSheet}
+use Rattle.sheet.specs.Trial.{trialParameters, trialSheet, bundleSheet, staySheet}
 use Rattle.sheet.proofs.Sheets as sheets
 use Rattle.card.specs.Card.{Entry, readCard}
 use Rattle.card.specs.Encode.{encodeCard, WellFormedCard, CardBlock, ReadsAsCard}
-use Rattle.card.specs.Trial.{trialCard, bundleCard}
+use Rattle.card.specs.Trial.{trialCard, bundleCard, stayCard}
 use Rattle.card.proofs.Cards as cards
 use Rattle.syntax.specs.Tree.{Tree, test, testsOf, Rising}
 use Rattle.syntax.specs.Grammar.{deepest, mostTests, Spells}
@@ -29,27 +29,29 @@ use Rattle.place.proofs.Place as place
 use Rattle.date.specs.Calendar.{daysBeforeMonth}
 use Rattle.date.specs.Arithmetic.{beforeByNumber}
 use Rattle.date.proofs.Calendar as calendar
-use Rattle.date.specs.Spans.{Proper}
-use Rattle.date.specs.Relations as date-tests
-use Rattle.date.specs.Instants as instants
+use Rattle.date.specs.Instants.{InRange}
 use Rattle.date.specs.declared.Date.{Date}
-use Rattle.date.proofs.Relations as date-relations
+use Rattle.period.specs.Instants.{Inhabited}
+use Rattle.period.specs.declared.End.{End}
+use Rattle.period.specs.declared.Period.{Period}
+use Rattle.period.proofs.Relations as periods
 use Rattle.number.specs.Value.{Bounded}
 use Rattle.number.specs.Billionths as number-tests
 use Rattle.number.specs.Range as ranges
 use Rattle.number.specs.declared.Decimal.{Decimal}
 use Rattle.number.proofs.Range as number-ranges
 use Rattle.kind.specs.Readable.{cardReadable, valueReadable}
-use Rattle.kind.specs.Stands.{stands}
+use Rattle.kind.specs.Stands.{dateStands, stands}
 use Rattle.kind.specs.Table.{hasMeaning}
 use Rattle.kind.specs.declared.Relation.{Relation}
 use Rattle.refusal.proofs.Order as order
 use Rattle.refusal.specs.Answers.{Answer, yes, no, count, refused}
+use Rattle.kind.specs.declared.DateRelation.{DateRelation}
 use Rattle.sirophan.specs.Operations.{checkAnswer, filterQuestion, matchAnswer, selectAnswer, selectCells}
 use Rattle.kind.specs.Rules.{ReadableOnCard, ReadableValue}
 use Rattle.kind.specs.Rules.{HasOperator}
 use Rattle.judge.specs.Rules.{Conforms, FilterSays}
-use Rattle.kind.specs.Rules.{StandsIn}
+use Rattle.kind.specs.Rules.{DatesStand, date-inside, StandsIn}
 use Rattle.sirophan.specs.Verdicts.{Verdict}
 use Rattle.sirophan.specs.Demand.{TestRules, Demand, Agree, FilterDemand, MeetsDemand}
 use Rattle.sirophan.specs.Selection.{Run, matchingCards, matchingNumbers, occurrences, bearing, SelectsByMatch, SelectAnswers}
@@ -66,7 +68,8 @@ use Rattle.sirophan.specs.SameQuestion.{SameQuestion, AnsweredAlike}
 use Rattle.sirophan.proofs.SameQuestion as same-question
 use Rattle.sirophan.proofs.SearchDemand as search-demand
 use Rattle.sirophan.proofs.SearchTable as search-table
-use Rattle.sirophan.specs.Trial.{Row, trialRows, bundleRows, titleTest, codeTest}
+use Rattle.sirophan.specs.Trial.{Row, trialRows, bundleRows, stayRows, titleTest, codeTest}
+use Rattle.sirophan.specs.Edges.{edgeCard, edgeRows}
 use Rattle.kind.proofs.Rules as rules
 use Rattle.sirophan.proofs.Failing as failing
 use Rattle.sirophan.proofs.Demand as demand
@@ -158,11 +161,17 @@ operator-has-meaning = rules.operator-iff
 pub text-stands : (r : Relation) (x v : List ℕ) → (stands r x v ≡ true) ↔ StandsIn r x v
 text-stands = rules.stands-iff
 
--- eq: the test of a card's date or number against a filter's passes exactly where every instant, every point, of the card's range lies
--- in the filter's; what is read is Proper, or Bounded
-pub date-held : (i f : Date) → Proper i → (date-tests.inside i f ≡ true) ↔ instants.Held i f
-date-held = date-relations.inside-iff
+-- a card's period, its date among them, and a filter's date: the test by their ends passes exactly where the relation holds by their
+-- instants; what is read has an instant, a date its start
+pub dates-stand : (i : Period) → Inhabited i → (f : Date) → InRange f (f .start) → (r : DateRelation) → (dateStands r i f ≡ true) ↔ DatesStand i f r
+dates-stand = rules.date-iff
 
+-- 02: "a stay open at an end is never eq"
+pub open-never-eq : (i : Period) → Inhabited i → (f : Date) → InRange f (f .start) → (i .start ≡ End.Open) ⊎ (i .end ≡ End.Open) → DatesStand i f DateRelation.Inside → ⊥
+open-never-eq i has f first h (date-inside held) = periods.open-never-held i has f first h held
+
+-- eq: the test of a card's number against a filter's passes exactly where every point of the card's range lies in the filter's; what is
+-- read is Bounded
 pub number-held : (i f : Decimal) → Bounded i → Bounded f → (number-tests.inside i f ≡ true) ↔ ranges.Held i f
 number-held = number-ranges.inside-iff
 
@@ -285,3 +294,11 @@ trial-table = trial.trial-rows
 -- 02's filters over bundles, on a sheet with bundles and a card with occurrences
 pub bundle-table : All (λ (r : Row). matchAnswer bundleSheet (r .filter) bundleCard ≡ r .gives) bundleRows
 bundle-table = trial.bundle-rows
+
+-- 02's periods, on a sheet with periods and a card with open ends
+pub period-table : All (λ (r : Row). matchAnswer staySheet (r .filter) stayCard ≡ r .gives) stayRows
+period-table = trial.stay-rows
+
+-- a card at the edges of the rules: escapes, short names, touching spans, half units, each operator by its word
+pub edge-table : All (λ (r : Row). matchAnswer trialSheet (r .filter) edgeCard ≡ r .gives) edgeRows
+edge-table = trial.edge-rows

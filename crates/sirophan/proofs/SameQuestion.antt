@@ -14,15 +14,16 @@ use Rattle.base.specs.Lists.{All, all-empty, all-cons}
 use Rattle.base.specs.Operators.{eq}
 use Rattle.base.proofs.All.{all-append, all-left, all-right}
 use Rattle.base.proofs.Tests.{cond-elim, decided}
-use Rattle.text.specs.Bar.{FirstBarAt}
+use Rattle.text.specs.Bar.{bar}
 use Rattle.text.specs.Compare.{same}
-use Rattle.text.proofs.Bar.{firstBar-reads}
 use Rattle.token.specs.Card.{Token, cardToken}
 use Rattle.token.specs.Filter.{splitForm, formAt, filterForm}
 use Rattle.token.specs.Match.{asks, meets, matches, matchesAt}
 use Rattle.token.specs.Namespace.{namespaceOf, systemOf}
-use Rattle.token.specs.Split as tokens
-use Rattle.token.specs.Split.{split, splitAt}
+use Rattle.base.specs.Split as tokens
+use Rattle.base.specs.Split.{firstOf}
+use Rattle.token.specs.Split.{splitAt}
+use Rattle.token.proofs.Split.{splitAt-first}
 use Rattle.token.proofs.Rules.{stands-namespace}
 use Rattle.token.proofs.Readings.{filterForm-reads, formAt-reads}
 use Rattle.sheet.specs.Sheet.{Parameter}
@@ -31,7 +32,7 @@ use Rattle.sheet.specs.declared.Found.{Found}
 use Rattle.card.specs.Card.{Entry}
 use Rattle.syntax.specs.Tree.{Path, name, Test, Connective, and, or, Tree, testsOf}
 use Rattle.syntax.specs.Grammar.{Spells}
-use Rattle.kind.specs.Table.{meaningOf, rowMeaning, row, tokenRow, relationIn}
+use Rattle.kind.specs.Table.{meaningOf, rowMeaning, row, ofKind, kinds, tokenRow, relationIn}
 use Rattle.kind.specs.Rules.{readable-token, ReadableInFilter, ReadableValue, value-of-pr, value-of-kind, HasOperator}
 use Rattle.kind.specs.Stands.{stands}
 use Rattle.judge.specs.Sets.{lookup, valuesAt}
@@ -120,39 +121,39 @@ some-same p q (x ∷ xs) h = ap (λ (b : Bool). b || someValue p xs) (h x) ∙ a
 
 -- the system of the split stands for itself
 data Literal : tokens.Split → Type 0 where
-  literal-none : {c : List ℕ} → Literal (tokens.no-bar c)
-  literal-system : {s c : List ℕ} → namespaceOf s ≡ s → Literal (tokens.at-bar s c)
+  literal-none : {c : List ℕ} → Literal (tokens.whole c)
+  literal-system : {s c : List ℕ} → namespaceOf s ≡ s → Literal (tokens.parts s c)
 
 literal-asks : (d : tokens.Split) (t : Option Token) → Literal d → meets false t (splitForm d) ≡ meets true t (splitForm d)
 unfolding splitForm meets asks systemOf
-literal-asks (tokens.no-bar []) none l = refl
-literal-asks (tokens.no-bar []) (some t) l = refl
-literal-asks (tokens.no-bar (b ∷ c)) none l = refl
-literal-asks (tokens.no-bar (b ∷ c)) (some t) l = refl
-literal-asks (tokens.at-bar [] []) none l = refl
-literal-asks (tokens.at-bar [] []) (some t) l = refl
-literal-asks (tokens.at-bar [] (b ∷ c)) none l = refl
-literal-asks (tokens.at-bar [] (b ∷ c)) (some t) l = refl
-literal-asks (tokens.at-bar (y ∷ s) []) none l = refl
-literal-asks (tokens.at-bar (y ∷ s) []) (some t) (literal-system e) = ap (λ (n : List ℕ). same (t .system) n) (sym e)
-literal-asks (tokens.at-bar (y ∷ s) (b ∷ c)) none l = refl
-literal-asks (tokens.at-bar (y ∷ s) (b ∷ c)) (some t) (literal-system e) = ap (λ (n : List ℕ). same (t .system) n && same (t .code) (b ∷ c)) (sym e)
+literal-asks (tokens.whole []) none l = refl
+literal-asks (tokens.whole []) (some t) l = refl
+literal-asks (tokens.whole (b ∷ c)) none l = refl
+literal-asks (tokens.whole (b ∷ c)) (some t) l = refl
+literal-asks (tokens.parts [] []) none l = refl
+literal-asks (tokens.parts [] []) (some t) l = refl
+literal-asks (tokens.parts [] (b ∷ c)) none l = refl
+literal-asks (tokens.parts [] (b ∷ c)) (some t) l = refl
+literal-asks (tokens.parts (y ∷ s) []) none l = refl
+literal-asks (tokens.parts (y ∷ s) []) (some t) (literal-system e) = ap (λ (n : List ℕ). same (t .system) n) (sym e)
+literal-asks (tokens.parts (y ∷ s) (b ∷ c)) none l = refl
+literal-asks (tokens.parts (y ∷ s) (b ∷ c)) (some t) (literal-system e) = ap (λ (n : List ℕ). same (t .system) n && same (t .code) (b ∷ c)) (sym e)
 
 split-literal : (i : ℕ) (t : List ℕ) → (i < length t → namespaceOf (take i t) ≡ take i t) → Literal (splitAt i t)
 unfolding splitAt
 split-literal i t h = cond-elim Literal (ltb i (length t)) (λ e. literal-system (h (ltb-true i (length t) e))) (λ e. literal-none)
 
-module _ (i : ℕ) (t : List ℕ) (bar : FirstBarAt t i) where
+module _ (i : ℕ) (t : List ℕ) (first : i ≡ firstOf bar t) where
   pub form-same : formAt i t ≡ filterForm t
-  unfolding formAt filterForm split
-  form-same = ap (λ (n : ℕ). splitForm (splitAt n t)) (sym (firstBar-reads t i .1 bar))
+  unfolding formAt filterForm
+  form-same = ap (λ (n : ℕ). splitForm (splitAt n t)) first ∙ ap splitForm (splitAt-first t)
 
   token-same : (i < length t → namespaceOf (take i t) ≡ take i t) → (x : List ℕ) → matchesAt x i t ≡ matches x t
   unfolding matchesAt matches formAt
   token-same h x = literal-asks (splitAt i t) (cardToken x) (split-literal i t h) ∙ ap (meets true (cardToken x)) form-same
 
   token-set : (i < length t → namespaceOf (take i t) ≡ take i t) → (set : List (List ℕ)) → someValue (λ x. matchesAt x i t) set ≡ saysOf (meaningOf eq token) t set
-  unfolding meaningOf rowMeaning row tokenRow relationIn saysOf stands
+  unfolding meaningOf rowMeaning row ofKind kinds tokenRow relationIn saysOf stands
   token-set h set = some-same (λ x. matchesAt x i t) (λ x. matches x t) set (token-same h)
 
 -- ---- an alternative says what its test says

@@ -2,16 +2,15 @@
 -- Assumes nothing.
 use Prim.Native.Nat.{ℕ, _≤_, _<_}
 use native.Mathlib.Omega.{arith}
-use mathlib.Core.Path.{_≡_, refl, ap, sym, _∙_, subst}
+use mathlib.Core.Path.{_≡_, refl, ap, sym, subst}
 use mathlib.Core.Bool.{true, false, cond}
 use mathlib.Core.Logic.{_↔_, ⊎-elim}
-use mathlib.Core.List.{List, [], _∷_, List·Memᴰ·head}
+use mathlib.Core.List.{List, [], _∷_}
 use lib.Dec.{eqb}
 use borrow.Author.Tests.{eqb-true, eqb-false}
 use Rattle.base.specs.Kinds.{token, bundleKind}
 use Rattle.base.specs.Lists.{all-empty}
 use Rattle.base.specs.Operators.{eq, pr}
-use Rattle.base.specs.Options.{isSome}
 use Rattle.base.proofs.Options.{isSome-reads}
 use Rattle.base.proofs.Tests.{both-ways, cond-elim}
 use Rattle.sheet.specs.Sheet.{Parameter, parameter}
@@ -23,16 +22,14 @@ use Rattle.syntax.specs.Tree.{name}
 use Rattle.token.specs.Filter.{Form, formAt, readableAt}
 use Rattle.token.specs.Spelling.{SplitSpells}
 use Rattle.token.proofs.Readings.{formAt-reads}
-use Rattle.kind.specs.Table.{hasMeaning, row, tokenRow}
+use Rattle.kind.specs.Table.{hasMeaning}
 use Rattle.kind.specs.Readable.{valueReadable}
-use Rattle.kind.specs.Rules.{ReadableInFilter, ReadableValue, value-of-pr, value-of-kind, HasOperator, operator-of-row}
-use Rattle.kind.specs.declared.Relation.the-variants.{Tokens}
+use Rattle.kind.specs.Rules.{ReadableInFilter, ReadableValue, value-of-pr, value-of-kind, HasOperator, token-eq, operator-of-row}
 use Rattle.kind.proofs.Rules.{value-iff, operator-iff}
 use Rattle.judge.specs.Sets.{lookup, valuesAt}
-use Rattle.judge.specs.Faults.{unsupported, kindFault}
+use Rattle.judge.specs.Faults.{kindFault}
 use Rattle.judge.specs.Rules.{Names, NotOnSheet}
 use Rattle.judge.specs.declared.Fault.{Fault}
-use Rattle.judge.specs.declared.FirstFault.{FirstFault}
 use Rattle.judge.proofs.Rules.{names-iff, names-kind, names-listed, missing-iff}
 use Rattle.search.specs.Spelling.{Alternative}
 use Rattle.search.specs.Asking.{AskedBy, Asked, askedOf}
@@ -40,7 +37,7 @@ use Rattle.search.specs.Meaning.{textFault, faultAt, alternativeFault, firstAlt
 use Rattle.search.specs.Rules.{ReadableAlternative, readable-form, readable-value, LacksMeaning, not-on-sheet, bundle-named, lacks-operator, unreadable, AlternativeLine, line-14, line-14-bundle, line-16, line-17}
 use Rattle.search.proofs.Asking.{asked-is, token-asks, asked-there, never-pr, asked-supported}
 use Rattle.refusal.specs.Order.{rank}
-use Rattle.refusal.specs.Steps.{Step, found, _>>=_}
+use Rattle.refusal.specs.Steps.{_>>=_}
 use Rattle.sirophan.specs.Operations.{faultStep}
 use Rattle.sirophan.specs.Searching.{alternativesStep}
 use Rattle.sirophan.specs.Numbers.{Numbered}
@@ -50,8 +47,7 @@ use Rattle.sirophan.proofs.Outcomes.{Refused, TestOutcome, test-means, 
 use Rattle.sirophan.proofs.Prepare.{step-or-else, outcome-next}
 
 token-has : HasOperator token eq
-unfolding row tokenRow
-token-has = operator-of-row (Tokens, List·Memᴰ·head refl)
+token-has = operator-of-row token-eq
 
 -- each operator that is asked is one of the kind
 abbrev Has : ℕ → Alternative → Type 0

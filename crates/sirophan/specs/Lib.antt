@@ -16,3 +16,4 @@ pub mod SameQuestion
 pub mod Contracts
 pub mod Witness
 pub mod Trial
+pub mod Edges

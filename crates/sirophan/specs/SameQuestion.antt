@@ -5,7 +5,8 @@ use mathlib.Core.Path.{_≡_}
 use mathlib.Core.List.{List, [], _∷_, _++_}
 use lib.ListN.{length, take}
 use Rattle.base.specs.Kinds.{token}
-use Rattle.text.specs.Bar.{FirstBarAt}
+use Rattle.base.specs.Split.{firstOf}
+use Rattle.text.specs.Bar.{bar}
 use Rattle.token.specs.Rules.{StandsFor}
 use Rattle.sheet.specs.Sheet.{Parameter}
 use Rattle.syntax.specs.Tree.{name, Test, Connective, and, or, Tree, test, join}
@@ -28,7 +29,7 @@ pub record AsksAlike (ps : List Parameter) (a : Alternative) (t : Test) : Type 0
   pub names : Names ps (name (a .name)) index kind
   pub asked : AskedBy kind (a .text) (t .operator) (t .value)
   -- "escaped bars aside": a token is split at its first bar
-  pub bars : kind ≡ token → FirstBarAt (a .text) (a .split)
+  pub bars : kind ≡ token → a .split ≡ firstOf bar (a .text)
   -- "short system names .. aside": its system, where it has a bar, stands for itself
   pub systems : kind ≡ token → a .split < length (a .text) → StandsFor (take (a .split) (a .text)) (take (a .split) (a .text))
 

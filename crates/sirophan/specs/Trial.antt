@@ -1,4 +1,5 @@
--- Document 01's trial card: the rows of its table that are marked to be proved; and a table for a card with occurrences.
+-- Document 01's trial card: the rows of its table that are marked to be proved; and tables for a card with occurrences and for one with
+-- periods.
 -- Assumes nothing.
 use Prim.Native.Nat.{ℕ}
 use mathlib.Core.List.{List, [], _∷_}
@@ -54,6 +55,31 @@ bundleRows =
     ∷ row (ascii "related[type gt 5].target re Observation/4") (refused 16 8)
     ∷ row (ascii "marriage[date lt never].name eq Berg") (refused 17 9)
     ∷ row (ascii "related[type eq x] .target re Observation/4") (refused 11 18)
+    ∷ []
+
+-- 02's periods, on the sheet with periods and card 9: stay is 1974-06/1974, since is 1974/ and until is /1974-06
+
+unfoldable pub stayRows : List Row
+stayRows =
+    row (ascii "stay eq 1974") yes
+    ∷ row (ascii "stay eq 1974-06") no
+    ∷ row (ascii "stay co 1974-12") yes
+    ∷ row (ascii "stay eb 1975") yes
+    ∷ row (ascii "since eq 1974") no
+    ∷ row (ascii "since ne 1974") yes
+    ∷ row (ascii "since gt 1999") yes
+    ∷ row (ascii "since le 1974") no
+    ∷ row (ascii "since co 1980") yes
+    ∷ row (ascii "since eb 1999") no
+    ∷ row (ascii "since sa 1973") yes
+    ∷ row (ascii "until eq 1974") no
+    ∷ row (ascii "until lt 1900") yes
+    ∷ row (ascii "until ge 1974-06") no
+    ∷ row (ascii "until eb 1974-07") yes
+    ∷ row (ascii "until po 1974-07") no
+    ∷ row (ascii "until sa 1900") no
+    ∷ row (ascii "since sw 1974") (refused 16 0)
+    ∷ row (ascii "since eq 1974/") (refused 17 0)
     ∷ []
 
 -- ---- two filters that show which programs the demand on check and match shuts out

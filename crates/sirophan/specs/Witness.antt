@@ -5,8 +5,8 @@ use mathlib.Core.Bool.{cond}
 use mathlib.Core.List.{List}
 use lib.Dec.{eqb}
 use Rattle.base.specs.Ascii.{ascii}
-use Rattle.base.specs.Kinds.{date}
+use Rattle.base.specs.Kinds.{date, period}
 
--- a date has four digits at least; one digit is a string, a number, a token and a reference
+-- a date has four digits at least, and a period a slash; one digit is a string, a number, a token and a reference
 unfoldable pub witnessText : ℕ → List ℕ
-witnessText kind = cond (eqb kind date) (ascii "1974") (ascii "1")
+witnessText kind = cond (eqb kind date) (ascii "1974") (cond (eqb kind period) (ascii "1974/") (ascii "1"))

@@ -1,7 +1,6 @@
 -- The laws of texts.
 pub mod Fold
 pub mod Folded
-pub mod Bar
 pub mod Readings
 mod Invariants
 mod Compare

@@ -1,4 +1,4 @@
-// Comparisons of texts that ignore the case of A to Z and of the letters U+00C0 to U+00DE, and the first bar of a text.
+// Comparisons of texts that ignore the case of A to Z and of the letters U+00C0 to U+00DE.
 // All comparisons read a text folded, through `folded_at` alone.
 ghost use mathlib.Core.Path.{_≡_};
 ghost use Prim.Native.Nat.{_+_, _≤_, _<_};
@@ -8,7 +8,6 @@ ghost use lib.ListN.{length, getD, drop};
 ghost use Rattle.text.specs.Fold.{isCapital, lead, isAccented, foldText};
 ghost use Rattle.base.specs.Affixes.{hasPrefix};
 ghost use Rattle.text.specs.Compare.{same, starts, ends, contains};
-ghost use Rattle.text.specs.Bar.{firstBar};
 
 // Whether a byte is a capital of A to Z.
 fn is_capital(b: u8) -> bool
@@ -114,11 +113,4 @@ pub fn contains(a: &[u8], b: &[u8]) -> bool
         at += 1;
     }
     false
-}
-
-// The index of the first bar, or the length where there is none.
-pub fn first_bar(s: &[u8]) -> usize
-    ensures { λ r. ⌜ (r ≡ firstBar (now (s .entry))) × (r ≤ length (now (s .entry))) ⌝ }
-{
-    base::place_of(s, 0, b'|')
 }

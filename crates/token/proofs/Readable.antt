@@ -13,11 +13,12 @@ use borrow.Author.Tests.{lt-ltb, ltb-true, eqb-true, eqb-false}
 use Rattle.base.specs.Options.{isSome}
 use Rattle.base.proofs.Tests.{decided, same-test}
 use Rattle.base.proofs.Lists.{rest}
-use Rattle.text.specs.Bar.{bar, firstBar}
-use Rattle.token.specs.Split.{no-bar, at-bar}
+use Rattle.text.specs.Bar.{bar}
+use Rattle.base.specs.Split.{firstOf, whole, parts}
+use Rattle.base.proofs.Split.{split-none, split-parts}
 use Rattle.token.specs.Card.{tokenOf, splitToken, cardToken, cardReadable}
 use Rattle.token.specs.Filter.{splitForm, formAt, readableAt, filterReadable}
-use Rattle.token.proofs.Split.{splitAt-none, splitAt-parts, split-none, split-parts}
+use Rattle.token.proofs.Split.{splitAt-none, splitAt-parts}
 use Rattle.token.proofs.Readings.{filterUnreadable-reads}
 
 -- ---- cards
@@ -32,15 +33,15 @@ ltb-left : (m n : ℕ) → ltb m n ≡ ltb 0 (n - m)
 ltb-left m n =
     same-test (ltb m n) (ltb 0 (n - m)) (λ p. lt-ltb 0 (n - m) (omega (arith, ltb-true m n p))) (λ p. lt-ltb m n (omega (arith, ltb-true 0 (n - m) p)))
 
-module _ (t : List ℕ) (i : ℕ) (e : i ≡ firstBar t) where
+module _ (t : List ℕ) (i : ℕ) (e : i ≡ firstOf bar t) where
   pub card-readable-no-bar : length t ≤ i → ltb 0 (length t) ≡ cardReadable t
   unfolding cardReadable cardToken splitToken
-  card-readable-no-bar h = rw (split-none t i e h) (sym (tokenOf-readable [] t))
+  card-readable-no-bar h = rw (split-none bar t i e h) (sym (tokenOf-readable [] t))
 
   pub card-readable-at-bar : i < length t → ltb (i + 1) (length t) ≡ cardReadable t
   unfolding cardReadable cardToken splitToken
   card-readable-at-bar h =
-      rw (split-parts t i e h, rest t (i + 1), tokenOf-readable (take i t) (drop (i + 1) t), length-drop (i + 1) t)
+      rw (split-parts bar t i e h, rest t (i + 1), tokenOf-readable (take i t) (drop (i + 1) t), length-drop (i + 1) t)
       (ltb-left (i + 1) (length t))
 
 -- ---- filters
@@ -70,14 +71,14 @@ filter-readable-single (x ∷ y ∷ t) h k = absurd (omega arith)
 
 -- ---- split at an index
 
-parts-readable : (s c : List ℕ) → isSome (splitForm (at-bar s c)) ≡ ltb 0 (length s + length c)
+parts-readable : (s c : List ℕ) → isSome (splitForm (parts s c)) ≡ ltb 0 (length s + length c)
 unfolding splitForm
 parts-readable [] [] = refl
 parts-readable [] (x ∷ c) = sym (lt-ltb 0 (0 + length (x ∷ c)) (omega arith))
 parts-readable (y ∷ s) [] = sym (lt-ltb 0 (length (y ∷ s) + 0) (omega arith))
 parts-readable (y ∷ s) (x ∷ c) = sym (lt-ltb 0 (length (y ∷ s) + length (x ∷ c)) (omega arith))
 
-whole-readable : (c : List ℕ) → isSome (splitForm (no-bar c)) ≡ ltb 0 (length c)
+whole-readable : (c : List ℕ) → isSome (splitForm (whole c)) ≡ ltb 0 (length c)
 unfolding splitForm
 whole-readable [] = refl
 whole-readable (x ∷ c) = sym (lt-ltb 0 (length (x ∷ c)) (omega arith))

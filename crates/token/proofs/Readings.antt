@@ -10,20 +10,22 @@ use mathlib.Core.Logic.{_⊎_, inl, inr, ⊎-elim, _↔_}
 use mathlib.Core.Option.{Option, none, some, Option·some-injective, Option·none-ne-some}
 use lib.Dec.{ltb}
 use lib.ListN.{length, getD, take, drop}
-use lib.Seq.{split-at, length-take-le}
+use lib.Seq.{split-at as seam, length-take-le}
 use borrow.Author.Tests.{ltb-true, ltb-false}
 use Rattle.base.specs.Lists.{all-empty}
 use Rattle.base.specs.Options.{isSome}
 use Rattle.base.proofs.Options.{isSome-reads}
 use Rattle.base.proofs.Tests.{cond-elim}
 use Rattle.text.specs.Bar.{bar, NoBar}
-use Rattle.token.specs.Split.{Split, no-bar, at-bar, splitAt}
+use Rattle.base.specs.Split.{Split, whole, parts}
+use Rattle.base.proofs.Split.{split-whole, split-at, split-cases}
+use Rattle.token.specs.Split.{splitAt}
 use Rattle.token.specs.Card.{Token, tokenOf, splitToken, cardToken, cardReadable}
 use Rattle.token.specs.Filter.{Form, splitForm, formAt, filterForm, filterReadable}
 use Rattle.token.specs.Match.{asks, meets, matches, matchesAt}
 use Rattle.token.specs.Rules.{StandsFor, Itself, AsksBy, Asks}
 use Rattle.token.specs.Spelling.{NotEmpty, CardSpells, spells-code, spells-token, FilterSpells, spells-any-system, spells-system-code, spells-no-system, spells-any-code, SplitSpells, split-any-system, split-system-code, split-no-system, split-any-code}
-use Rattle.token.proofs.Split.{splitAt-none, splitAt-there, split-no-bar, split-at-bar, split-cases}
+use Rattle.token.proofs.Split.{splitAt-none, splitAt-there}
 use Rattle.token.proofs.Rules.{asks-reads, asks-itself}
 use Rattle.token.proofs.Forms.{tokenOf-some, splitForm-any-system, splitForm-system-code, splitForm-no-system, splitForm-any-code}
 
@@ -37,14 +39,14 @@ tokenOf-parts k s (x ∷ c) e = (omega arith, Option·some-injective _ k e)
 cardToken-spells : (k : Token) (t : List ℕ) → cardToken t ≡ some k → CardSpells t k
 unfolding cardToken splitToken
 cardToken-spells k =
-    split-cases (λ (t : List ℕ). cardToken t ≡ some k → CardSpells t k)
-    (λ c h e. let w = tokenOf-parts k [] c (rw (split-no-bar c h) at e) in subst (CardSpells c) (w .1) (spells-code h (w .0)))
-    (λ s c h e. let w = tokenOf-parts k s c (rw (split-at-bar s c h) at e) in subst (CardSpells (s ++ (bar ∷ c))) (w .1) (spells-token h (w .0)))
+    split-cases bar (λ (t : List ℕ). cardToken t ≡ some k → CardSpells t k)
+    (λ c h e. let w = tokenOf-parts k [] c (rw (split-whole bar c h) at e) in subst (CardSpells c) (w .1) (spells-code h (w .0)))
+    (λ s c h e. let w = tokenOf-parts k s c (rw (split-at bar s c h) at e) in subst (CardSpells (s ++ (bar ∷ c))) (w .1) (spells-token h (w .0)))
 
 spells-cardToken : {t : List ℕ} {k : Token} → CardSpells t k → cardToken t ≡ some k
 unfolding cardToken splitToken
-spells-cardToken (spells-code {c = c} h n) = rw (split-no-bar c h) (tokenOf-some [] c n)
-spells-cardToken (spells-token {s = s} {c = c} h n) = rw (split-at-bar s c h) (tokenOf-some s c n)
+spells-cardToken (spells-code {c = c} h n) = rw (split-whole bar c h) (tokenOf-some [] c n)
+spells-cardToken (spells-token {s = s} {c = c} h n) = rw (split-at bar s c h) (tokenOf-some s c n)
 
 pub cardToken-reads : (t : List ℕ) (k : Token) → (cardToken t ≡ some k) ↔ CardSpells t k
 cardToken-reads t k = (cardToken-spells k t, spells-cardToken)
@@ -55,12 +57,12 @@ cardReadable-reads t = isSome-reads (CardSpells t) (cardToken t) (cardToken-read
 
 -- ---- filters
 
-no-bar-spells : (f : Form) (c : List ℕ) → NoBar c → splitForm (no-bar c) ≡ some f → FilterSpells c f
+no-bar-spells : (f : Form) (c : List ℕ) → NoBar c → splitForm (whole c) ≡ some f → FilterSpells c f
 unfolding splitForm
 no-bar-spells f [] h e = absurd (Option·none-ne-some f e)
 no-bar-spells f (x ∷ c) h e = subst (FilterSpells (x ∷ c)) (Option·some-injective _ f e) (spells-any-system h (omega arith))
 
-at-bar-spells : (f : Form) (s c : List ℕ) → NoBar s → splitForm (at-bar s c) ≡ some f → FilterSpells (s ++ (bar ∷ c)) f
+at-bar-spells : (f : Form) (s c : List ℕ) → NoBar s → splitForm (parts s c) ≡ some f → FilterSpells (s ++ (bar ∷ c)) f
 unfolding splitForm
 at-bar-spells f [] [] h e = absurd (Option·none-ne-some f e)
 at-bar-spells f [] (x ∷ c) h e = subst (FilterSpells _) (Option·some-injective _ f e) (spells-no-system (omega arith))
@@ -70,16 +72,16 @@ at-bar-spells f (y ∷ s) (x ∷ c) h e = subst (FilterSpells _) (Option·some-i
 filterForm-spells : (f : Form) (t : List ℕ) → filterForm t ≡ some f → FilterSpells t f
 unfolding filterForm
 filterForm-spells f =
-    split-cases (λ (t : List ℕ). filterForm t ≡ some f → FilterSpells t f)
-    (λ c h e. no-bar-spells f c h (rw (split-no-bar c h) at e))
-    (λ s c h e. at-bar-spells f s c h (rw (split-at-bar s c h) at e))
+    split-cases bar (λ (t : List ℕ). filterForm t ≡ some f → FilterSpells t f)
+    (λ c h e. no-bar-spells f c h (rw (split-whole bar c h) at e))
+    (λ s c h e. at-bar-spells f s c h (rw (split-at bar s c h) at e))
 
 spells-filterForm : {t : List ℕ} {f : Form} → FilterSpells t f → filterForm t ≡ some f
 unfolding filterForm
-spells-filterForm (spells-any-system {c = c} h n) = rw (split-no-bar c h) (splitForm-any-system c n)
-spells-filterForm (spells-system-code {s = s} {c = c} h m n) = rw (split-at-bar s c h) (splitForm-system-code s c m n)
-spells-filterForm (spells-no-system {c = c} n) = rw (split-at-bar [] c all-empty) (splitForm-no-system c n)
-spells-filterForm (spells-any-code {s = s} h m) = rw (split-at-bar s [] h) (splitForm-any-code s m)
+spells-filterForm (spells-any-system {c = c} h n) = rw (split-whole bar c h) (splitForm-any-system c n)
+spells-filterForm (spells-system-code {s = s} {c = c} h m n) = rw (split-at bar s c h) (splitForm-system-code s c m n)
+spells-filterForm (spells-no-system {c = c} n) = rw (split-at bar [] c all-empty) (splitForm-no-system c n)
+spells-filterForm (spells-any-code {s = s} h m) = rw (split-at bar s [] h) (splitForm-any-code s m)
 
 pub filterForm-reads : (t : List ℕ) (f : Form) → (filterForm t ≡ some f) ↔ FilterSpells t f
 filterForm-reads t f = (filterForm-spells f t, spells-filterForm)
@@ -90,12 +92,12 @@ filterReadable-reads t = isSome-reads (FilterSpells t) (filterForm t) (filterFor
 
 -- ---- a text that is split at an index of its own
 
-whole-spells : (c : List ℕ) (i : ℕ) (f : Form) → length c ≤ i → splitForm (no-bar c) ≡ some f → SplitSpells c i f
+whole-spells : (c : List ℕ) (i : ℕ) (f : Form) → length c ≤ i → splitForm (whole c) ≡ some f → SplitSpells c i f
 unfolding splitForm
 whole-spells [] i f h e = absurd (Option·none-ne-some f e)
 whole-spells (x ∷ c) i f h e = subst (SplitSpells (x ∷ c) i) (Option·some-injective _ f e) (split-any-system h (omega arith))
 
-parts-spell : (s c : List ℕ) (b : ℕ) (f : Form) → splitForm (at-bar s c) ≡ some f → SplitSpells (s ++ (b ∷ c)) (length s) f
+parts-spell : (s c : List ℕ) (b : ℕ) (f : Form) → splitForm (parts s c) ≡ some f → SplitSpells (s ++ (b ∷ c)) (length s) f
 unfolding splitForm
 parts-spell [] [] b f e = absurd (Option·none-ne-some f e)
 parts-spell [] (x ∷ c) b f e = subst (SplitSpells (b ∷ x ∷ c) 0) (Option·some-injective _ f e) (split-no-system b (omega arith))
@@ -109,9 +111,9 @@ formAt-spells t i f =
     cond-elim (λ (d : Split). splitForm d ≡ some f → SplitSpells t i f) (ltb i (length t))
     (λ h e.
     let l : i < length t = ltb-true i (length t) h in
-    let whole : t ≡ take i t ++ (getD t i 0 ∷ drop (i + 1) t) = split-at t i 0 l ∙ ap (λ (n : ℕ). take i t ++ (getD t i 0 ∷ drop n t)) (sym (add-one i)) in
+    let all : t ≡ take i t ++ (getD t i 0 ∷ drop (i + 1) t) = seam t i 0 l ∙ ap (λ (n : ℕ). take i t ++ (getD t i 0 ∷ drop n t)) (sym (add-one i)) in
     let size : length (take i t) ≡ i = length-take-le i t (omega arith) in
-    subst (λ (u : List ℕ). SplitSpells u i f) (sym whole)
+    subst (λ (u : List ℕ). SplitSpells u i f) (sym all)
     (subst (λ (n : ℕ). SplitSpells (take i t ++ (getD t i 0 ∷ drop (i + 1) t)) n f) size (parts-spell (take i t) (drop (i + 1) t) (getD t i 0) f e)))
     (λ h e. whole-spells t i f (ltb-false i (length t) h) e)
 
@@ -127,12 +129,12 @@ formAt-reads t i f = (formAt-spells t i f, spells-formAt)
 
 -- ---- unreadable in a filter: an empty text and a lone bar, and nothing else
 
-no-bar-unreadable : (c : List ℕ) → isSome (splitForm (no-bar c)) ≡ false → (c ≡ []) ⊎ (c ≡ bar ∷ [])
+no-bar-unreadable : (c : List ℕ) → isSome (splitForm (whole c)) ≡ false → (c ≡ []) ⊎ (c ≡ bar ∷ [])
 unfolding splitForm
 no-bar-unreadable [] h = inl refl
 no-bar-unreadable (x ∷ c) h = absurd (true≢false h)
 
-at-bar-unreadable : (s c : List ℕ) → isSome (splitForm (at-bar s c)) ≡ false → (s ++ (bar ∷ c) ≡ []) ⊎ (s ++ (bar ∷ c) ≡ bar ∷ [])
+at-bar-unreadable : (s c : List ℕ) → isSome (splitForm (parts s c)) ≡ false → (s ++ (bar ∷ c) ≡ []) ⊎ (s ++ (bar ∷ c) ≡ bar ∷ [])
 unfolding splitForm
 at-bar-unreadable [] [] h = inr refl
 at-bar-unreadable [] (x ∷ c) h = absurd (true≢false h)
@@ -141,18 +143,18 @@ at-bar-unreadable (y ∷ s) (x ∷ c) h = absurd (true≢false h)
 
 empty-unreadable : filterReadable [] ≡ false
 unfolding filterReadable filterForm splitForm
-empty-unreadable = rw (split-no-bar [] all-empty)
+empty-unreadable = rw (split-whole bar [] all-empty)
 
 lone-unreadable : filterReadable (bar ∷ []) ≡ false
 unfolding filterReadable filterForm splitForm
-lone-unreadable = rw (split-at-bar [] [] all-empty)
+lone-unreadable = rw (split-at bar [] [] all-empty)
 
 pub filterUnreadable-reads : (t : List ℕ) → (filterReadable t ≡ false) ↔ ((t ≡ []) ⊎ (t ≡ bar ∷ []))
 unfolding filterReadable filterForm
 filterUnreadable-reads t = (
-  split-cases (λ (u : List ℕ). filterReadable u ≡ false → (u ≡ []) ⊎ (u ≡ bar ∷ []))
-      (λ c h e. no-bar-unreadable c (rw (split-no-bar c h) at e))
-      (λ s c h e. at-bar-unreadable s c (rw (split-at-bar s c h) at e))
+  split-cases bar (λ (u : List ℕ). filterReadable u ≡ false → (u ≡ []) ⊎ (u ≡ bar ∷ []))
+      (λ c h e. no-bar-unreadable c (rw (split-whole bar c h) at e))
+      (λ s c h e. at-bar-unreadable s c (rw (split-at bar s c h) at e))
       t,
   ⊎-elim (λ e. rw e empty-unreadable) (λ e. rw e lone-unreadable),
 )

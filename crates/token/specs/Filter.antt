@@ -5,7 +5,9 @@ use mathlib.Core.Bool.{Bool}
 use mathlib.Core.List.{List, [], _∷_}
 use mathlib.Core.Option.{Option, none, some}
 use Rattle.base.specs.Options.{isSome}
-use Rattle.token.specs.Split.{Split, no-bar, at-bar, splitAt, split}
+use Rattle.base.specs.Split.{Split, whole, parts, split}
+use Rattle.text.specs.Bar.{bar}
+use Rattle.token.specs.Split.{splitAt}
 
 -- what a token asks for
 pub data Form : Type 0 where
@@ -20,12 +22,12 @@ pub data Form : Type 0 where
 
 -- an empty text and a lone bar are no form
 unfoldable pub splitForm : Split → Option Form
-splitForm (no-bar []) = none
-splitForm (no-bar (x ∷ c)) = some (any-system (x ∷ c))
-splitForm (at-bar [] []) = none
-splitForm (at-bar [] (x ∷ c)) = some (no-system (x ∷ c))
-splitForm (at-bar (y ∷ s) []) = some (any-code (y ∷ s))
-splitForm (at-bar (y ∷ s) (x ∷ c)) = some (system-code (y ∷ s) (x ∷ c))
+splitForm (whole []) = none
+splitForm (whole (x ∷ c)) = some (any-system (x ∷ c))
+splitForm (parts [] []) = none
+splitForm (parts [] (x ∷ c)) = some (no-system (x ∷ c))
+splitForm (parts (y ∷ s) []) = some (any-code (y ∷ s))
+splitForm (parts (y ∷ s) (x ∷ c)) = some (system-code (y ∷ s) (x ∷ c))
 
 -- the form of a text that is split at the index i, if it has one
 unfoldable pub formAt : ℕ → List ℕ → Option Form
@@ -37,7 +39,7 @@ readableAt i t = isSome (formAt i t)
 
 -- the form of a filter's text, if it has one
 unfoldable pub filterForm : List ℕ → Option Form
-filterForm t = splitForm (split t)
+filterForm t = splitForm (split bar t)
 
 -- 01: a readable text of a token in a filter
 unfoldable pub filterReadable : List ℕ → Bool

@@ -3,7 +3,7 @@
 ghost use mathlib.Core.Path.{_≡_};
 ghost use mathlib.Core.Option.{some};
 ghost use Rattle.text.specs.Compare.{same};
-ghost use Rattle.token.specs.Split.{at-bar};
+ghost use Rattle.base.specs.Split.{parts};
 ghost use Rattle.token.specs.Card.{tokenOf, cardToken, cardReadable};
 ghost use Rattle.token.specs.Filter.{splitForm, formAt, readableAt, filterReadable};
 ghost use Rattle.token.specs.Namespace.{namespaceOf, systemOf};
@@ -13,7 +13,7 @@ ghost use Rattle.token.specs.Match.{meets, matches, matchesAt};
 pub fn card_readable(s: &[u8]) -> bool
     ensures { λ r. ⌜ r ≡ cardReadable (now (s .entry)) ⌝ }
 {
-    let bar = text::first_bar(s);
+    let bar = base::first_of(s, b'|');
     if bar < s.len() {
         return bar + 1 < s.len();
     }
@@ -74,7 +74,7 @@ fn system_matches(system: &[u8], asked: &[u8], short: bool) -> bool
 
 // Whether the token of a card's system and code is what a token with a bar asks for, by the parts before and after the bar.
 fn parts_match(system: &[u8], code: &[u8], before: &[u8], after: &[u8], short: bool) -> bool
-    ensures { λ r. ⌜ r ≡ meets short (some (record { system = now (system .entry); code = now (code .entry) })) (splitForm (at-bar (now (before .entry)) (now (after .entry)))) ⌝ }
+    ensures { λ r. ⌜ r ≡ meets short (some (record { system = now (system .entry); code = now (code .entry) })) (splitForm (parts (now (before .entry)) (now (after .entry)))) ⌝ }
 {
     if before.len() == 0 {
         if after.len() == 0 {
@@ -116,7 +116,7 @@ fn token_matches(system: &[u8], code: &[u8], asked: &[u8], bar: usize, short: bo
 fn split_matches(card: &[u8], asked: &[u8], bar: usize, short: bool) -> bool
     ensures { λ r. ⌜ r ≡ meets short (cardToken (now (card .entry))) (formAt bar (now (asked .entry))) ⌝ }
 {
-    let split = text::first_bar(card);
+    let split = base::first_of(card, b'|');
     if split < card.len() {
         let after = split + 1;
         return token_matches(&card[..split], &card[after..], asked, bar, short);
@@ -129,7 +129,7 @@ fn split_matches(card: &[u8], asked: &[u8], bar: usize, short: bool) -> bool
 pub fn matches(card: &[u8], filter: &[u8]) -> bool
     ensures { λ r. ⌜ r ≡ matches (now (card .entry)) (now (filter .entry)) ⌝ }
 {
-    split_matches(card, filter, text::first_bar(filter), true)
+    split_matches(card, filter, base::first_of(filter, b'|'), true)
 }
 
 // Whether a card's token is what a text asks for that is split at `bar`, its system taken as it is written.

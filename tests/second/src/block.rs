@@ -32,11 +32,12 @@ pub enum Kind {
     Date,
     Token,
     Reference,
+    Period,
 }
 
 impl Kind {
     /// The kinds in the order of their numbers, from 1.
-    pub const ALL: [Kind; 5] = [Kind::String, Kind::Number, Kind::Date, Kind::Token, Kind::Reference];
+    pub const ALL: [Kind; 6] = [Kind::String, Kind::Number, Kind::Date, Kind::Token, Kind::Reference, Kind::Period];
 
     /// The kind with this number on a sheet.
     pub fn from_number(number: u8) -> Option<Kind> {
@@ -296,8 +297,8 @@ mod tests {
 
         for parameters in [
             &[(0, &b"a"[..])][..],
-            &[(6, b"a")],
             &[(7, b"a")],
+            &[(8, b"a")],
             &[(1, b"")],
             &[(1, b"0")],
             &[(1, b"-a")],
@@ -309,7 +310,7 @@ mod tests {
             let sheet = write_sheet(parameters).unwrap();
             assert_eq!(read_sheet(&sheet), Err(Flaw::Layout));
         }
-        for parameters in [&[][..], &[(1, &b"a"[..]), (1, b"A")], &[(3, b"not-x")]] {
+        for parameters in [&[][..], &[(1, &b"a"[..]), (1, b"A")], &[(3, b"not-x"), (6, b"stay")]] {
             assert!(read_sheet(&write_sheet(parameters).unwrap()).is_ok());
         }
     }
@@ -361,7 +362,7 @@ mod tests {
             &[(7, 0, "a"), (1, 255, "b")],
             &[(7, 0, "a"), (7, 1, "b")],
             &[(7, 1, "a")],
-            &[(7, 0, "a"), (6, 1, "b")],
+            &[(7, 0, "a"), (8, 1, "b")],
             &[(7, 0, "a"), (1, 1, "a")],
             &[(7, 0, "a"), (1, 1, "b"), (2, 1, "b")],
             &[(7, 0, "a"), (1, 1, "b"), (2, 0, "b")],
@@ -373,7 +374,8 @@ mod tests {
         }
         for parameters in [
             &[][..],
-            &[(1, 0, "a")],
+            &[(1, 0, "a"), (6, 0, "b")],
+            &[(7, 0, "a"), (6, 1, "b")],
             &[(7, 0, "a"), (7, 0, "b")],
             &[(7, 0, "a"), (7, 0, "b"), (1, 1, "c"), (2, 2, "c")],
         ] {

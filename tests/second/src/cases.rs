@@ -12,7 +12,7 @@ use std::slice;
 pub const UNTOUCHED: u32 = 999;
 
 /// The words for the kinds of texts, in the order of their numbers.
-const KINDS: [&str; 5] = ["string", "number", "date", "token", "reference"];
+const KINDS: [&str; 6] = ["string", "number", "date", "token", "reference", "period"];
 
 /// A block by name: a sheet or a card, sound or damaged.
 #[derive(Debug)]

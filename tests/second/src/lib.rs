@@ -14,6 +14,8 @@ pub mod generate;
 pub mod meaning;
 pub mod number;
 pub mod operations;
+pub mod period;
 pub mod pick;
+pub mod search;
 pub mod text;
 pub mod token;

@@ -4,6 +4,8 @@ use crate::block::{Card, Entry, Kind, Sheet};
 use crate::date::Date;
 use crate::filter::{Filter, Operation, Test};
 use crate::number::Decimal;
+use crate::period;
+use crate::search::{Alternative, Sign};
 use crate::text;
 use crate::token::{Pattern, Token};
 
@@ -39,6 +41,7 @@ enum Asks {
 pub enum Value<'a> {
     String(&'a [u8]),
     Number(Decimal),
+    /// The span of a date, or of a period.
     Date(Date),
     Token(Token<'a>),
     Reference(&'a [u8]),
@@ -53,7 +56,7 @@ pub fn has_meaning(kind: Kind, operation: Operation) -> bool {
         _ => match kind {
             Kind::String => matches!(operation, Eq | Co | Sw | Ew),
             Kind::Number => matches!(operation, Eq | Gt | Lt | Ge | Le | Co),
-            Kind::Date => matches!(operation, Eq | Gt | Lt | Ge | Le | Sa | Eb | Po | Co),
+            Kind::Date | Kind::Period => matches!(operation, Eq | Gt | Lt | Ge | Le | Sa | Eb | Po | Co),
             Kind::Token => matches!(operation, Eq),
             Kind::Reference => matches!(operation, Re),
         },
@@ -75,6 +78,46 @@ pub fn question(test: &Test, sheet: &Sheet) -> Result<Question, Fault> {
     Ok(Question { place, asks })
 }
 
+/// What an alternative of a search string asks, or why it has no meaning. A bundle's name counts as one that is not there.
+pub fn searched(alternative: &Alternative, sheet: &Sheet) -> Result<Question, Fault> {
+    let place = find(std::slice::from_ref(&alternative.name), sheet).ok_or(Fault::UnknownName)?;
+    let kind = sheet.parameters[place].kind.ok_or(Fault::UnknownName)?;
+    let text: Vec<u8> = alternative.text.iter().map(|sign| sign.byte()).collect();
+    let (operation, value) = match kind {
+        Kind::Number | Kind::Date | Kind::Period => prefixed(&text),
+        Kind::String => (Operation::Sw, &text[..]),
+        Kind::Token => (Operation::Eq, &text[..]),
+        Kind::Reference => (Operation::Re, &text[..]),
+    };
+    if !has_meaning(kind, operation) {
+        return Err(Fault::NoMeaningForKind);
+    }
+    let asks = match kind {
+        Kind::Token => {
+            let bar = alternative.text.iter().position(|&sign| sign == Sign::Open(b'|'));
+            Pattern::literal(&text, bar).map(|pattern| Asks::Token(operation, pattern))
+        }
+        _ => asks(kind, operation, value),
+    };
+    Ok(Question { place, asks: asks.ok_or(Fault::UnreadableValue)? })
+}
+
+/// The operation that a prefix asks for, and the value behind it; without one it is eq.
+fn prefixed(text: &[u8]) -> (Operation, &[u8]) {
+    use Operation::*;
+    match text {
+        [b'e', b'q', value @ ..] => (Eq, value),
+        [b'n', b'e', value @ ..] => (Ne, value),
+        [b'g', b't', value @ ..] => (Gt, value),
+        [b'l', b't', value @ ..] => (Lt, value),
+        [b'g', b'e', value @ ..] => (Ge, value),
+        [b'l', b'e', value @ ..] => (Le, value),
+        [b's', b'a', value @ ..] => (Sa, value),
+        [b'e', b'b', value @ ..] => (Eb, value),
+        value => (Eq, value),
+    }
+}
+
 /// The place of the parameter that the path leads to: the first name stands at the top, and each other one in the bundle
 /// that the name before it leads to. No parameter stands in one that is not a bundle.
 fn find(path: &[Vec<u8>], sheet: &Sheet) -> Option<usize> {
@@ -94,7 +137,7 @@ fn asks(kind: Kind, operation: Operation, value: &[u8]) -> Option<Asks> {
     match kind {
         Kind::String => Some(Asks::String(operation, value.to_vec())),
         Kind::Number => Some(Asks::Number(operation, Decimal::read(value)?)),
-        Kind::Date => Some(Asks::Date(operation, Date::read(value)?)),
+        Kind::Date | Kind::Period => Some(Asks::Date(operation, Date::read(value)?)),
         Kind::Token => Some(Asks::Token(operation, Pattern::read(value)?)),
         Kind::Reference => (!value.is_empty()).then(|| Asks::Reference(value.to_vec())),
     }
@@ -117,6 +160,7 @@ pub fn read_value(kind: Kind, text: &[u8]) -> Option<Value<'_>> {
         Kind::Date => Date::read(text).map(Value::Date),
         Kind::Token => Token::read(text).map(Value::Token),
         Kind::Reference => (!text.is_empty()).then_some(Value::Reference(text)),
+        Kind::Period => period::read(text).map(Value::Date),
     }
 }
 

@@ -4,6 +4,15 @@ use Rattle.pick.proofs.Bounds.{bytes-within}
 use Rattle.pick.proofs.main.Statement.{statement}
 use Rattle.pick.proofs.main.Tie as tie
 
+arg-count-requires : tie.Need-arg-count-requires
+arg-count-requires c κs = search needs
+
+print-usage-requires : tie.Need-print-usage-requires
+print-usage-requires c κs = search needs
+
+returns : tie.Need-returns
+returns c = search needs
+
 slice-aggregate-load : tie.Need-slice-aggregate-load
 slice-aggregate-load c = search needs
 
@@ -19,8 +28,8 @@ enum-known-size c = search needs
 enum-told : tie.Need-enum-told
 enum-told c = search needs
 
-returns : tie.Need-returns
-returns c = search needs
+returns-2 : tie.Need-returns-2
+returns-2 c = search needs
 
 slice-aggregate-load-3 : tie.Need-slice-aggregate-load-3
 slice-aggregate-load-3 c = search needs
@@ -37,8 +46,8 @@ enum-known-length c = search needs
 enum-told-2 : tie.Need-enum-told-2
 enum-told-2 c = search needs
 
-returns-2 : tie.Need-returns-2
-returns-2 c = search needs
+returns-3 : tie.Need-returns-3
+returns-3 c = search needs
 
 sub-without-line-feed : tie.Need-sub-without-line-feed
 sub-without-line-feed c = search needs
@@ -64,25 +73,28 @@ part-pick-end c = search (bytes-within, needs)
 pick-requires : tie.Need-pick-requires
 pick-requires c κs = search needs
 
-returns-3 : tie.Need-returns-3
-returns-3 c = search needs
+returns-4 : tie.Need-returns-4
+returns-4 c = search needs
 
 pub main-spec : {M : Type 1} → statement M
 main-spec =
     tie.close
     (tie.spec
+    arg-count-requires
+    print-usage-requires
+    returns
     slice-aggregate-load
     slice-aggregate-load-2
     load-requires
     enum-known-size
     enum-told
-    returns
+    returns-2
     slice-aggregate-load-3
     slice-aggregate-load-4
     load-requires-2
     enum-known-length
     enum-told-2
-    returns-2
+    returns-3
     sub-without-line-feed
     part-without-line-feed-start
     part-without-line-feed-end
@@ -91,4 +103,4 @@ main-spec =
     part-pick-start
     part-pick-end
     pick-requires
-    returns-3)
+    returns-4)

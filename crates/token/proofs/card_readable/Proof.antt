@@ -4,8 +4,8 @@ use Rattle.token.proofs.Readable.{card-readable-at-bar, card-readable-n
 use Rattle.token.proofs.card_readable.Statement.{statement}
 use Rattle.token.proofs.card_readable.Tie as tie
 
-first-bar-requires : tie.Need-first-bar-requires
-first-bar-requires c κs = search needs
+first-of-requires : tie.Need-first-of-requires
+first-of-requires c κs = search needs
 
 add-result : tie.Need-add-result
 add-result c = search needs
@@ -17,4 +17,4 @@ returns-2 : tie.Need-returns-2
 returns-2 c = search (card-readable-no-bar, needs)
 
 pub card-readable-spec : {M : Type 1} → statement M
-card-readable-spec = tie.close (tie.spec first-bar-requires add-result returns returns-2)
+card-readable-spec = tie.close (tie.spec first-of-requires add-result returns returns-2)

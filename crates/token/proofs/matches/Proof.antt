@@ -4,8 +4,8 @@ use Rattle.token.proofs.Match.{matches-by}
 use Rattle.token.proofs.matches.Statement.{statement}
 use Rattle.token.proofs.matches.Tie as tie
 
-first-bar-requires : tie.Need-first-bar-requires
-first-bar-requires c κs = search needs
+first-of-requires : tie.Need-first-of-requires
+first-of-requires c κs = search needs
 
 split-matches-requires : tie.Need-split-matches-requires
 split-matches-requires c κs = search needs
@@ -14,4 +14,4 @@ returns : tie.Need-returns
 returns c = search (matches-by, needs)
 
 pub matches-spec : {M : Type 1} → statement M
-matches-spec = tie.close (tie.spec first-bar-requires split-matches-requires returns)
+matches-spec = tie.close (tie.spec first-of-requires split-matches-requires returns)

@@ -6,8 +6,8 @@ use Rattle.token.proofs.Match.{card-at-bar, card-no-bar}
 use Rattle.token.proofs.split_matches.Statement.{statement}
 use Rattle.token.proofs.split_matches.Tie as tie
 
-first-bar-requires : tie.Need-first-bar-requires
-first-bar-requires c κs = search needs
+first-of-requires : tie.Need-first-of-requires
+first-of-requires c κs = search needs
 
 add-after : tie.Need-add-after
 add-after c = search needs
@@ -43,7 +43,7 @@ pub split-matches-spec : {M : Type 1} → statement M
 split-matches-spec =
     tie.close
     (tie.spec
-    first-bar-requires
+    first-of-requires
     add-after
     slice-aggregate-token-matches
     sub-token-matches

@@ -12,6 +12,9 @@ use sirophan::Refusal;
 /// What to do about a wrong check sum.
 const DAMAGED: &str = "It was changed or damaged since it was written: pack it again from its description.";
 
+/// What to do about a description in the place of cards.
+pub const TEXT_FOR_CARDS: &str = "It is a text. A description becomes cards by `sirophan pack DIR OUT`.";
+
 /// A sheet and a filter, with what messages call them.
 pub struct Question {
     pub sheet_name: String,
@@ -47,7 +50,7 @@ impl Question {
                 let shown = sirophan::underline(&self.filter, refusal.place..refusal.place + 1);
                 (Some(shown), text_help(refusal, &self.sheet, &self.filter))
             }
-            _ => (None, vec![size_help(&self.filter)]),
+            _ => (None, vec![filter_size_help(&self.filter)]),
         };
         Message { shown, ..told(refusal, &self.filter_name, help) }
     }
@@ -70,16 +73,24 @@ pub fn require_sound(name: &str, sheet: &Sheet) -> Result<(), Failure> {
 
 /// Help with a sheet that is refused.
 fn sheet_help(number: u32, sheet: &Sheet) -> Vec<String> {
-    let is_text = !sheet.block.is_empty() && str::from_utf8(&sheet.block).is_ok();
     match (number, Sort::of(&sheet.block)) {
         (1, Sort::Card) => vec!["It begins as a card does. The sheet is another file, such as sheet.bin.".into()],
-        (1, Sort::Neither) if is_text => {
+        (1, Sort::Neither) if text::is_text(&sheet.block) => {
             vec!["It is a text. A description becomes a sheet by `sirophan pack DIR OUT`.".into()]
         }
         (1, _) => vec![size_help(&sheet.block)],
         (2, _) => vec![DAMAGED.into()],
         _ => sheet.faults(),
     }
+}
+
+/// Help with a filter that is empty or too long.
+fn filter_size_help(filter: &[u8]) -> String {
+    if !text::is_text(filter) && Sort::of(filter) != Sort::Neither {
+        return "It is a file of blocks. The filter is another file, such as filter.txt, and comes before the cards."
+            .into();
+    }
+    size_help(filter)
 }
 
 /// How many bytes a file has that is too short or too long.
@@ -105,12 +116,41 @@ fn text_help(refusal: Refusal, sheet: &Sheet, filter: &[u8]) -> Vec<String> {
     let holds = |sign: &[u8]| filter.windows(sign.len()).any(|window| window == sign);
     let sign = NO_FILTER.iter().find(|(sign, _)| holds(sign)).map(|(_, help)| help.to_string());
     let letters = (!filter.is_ascii()).then(|| "Letters beyond ASCII stand between double quotes only.".to_string());
+    let (begun, rest) = filter.split_at(refusal.place.min(filter.len()));
     let place = match refusal.number {
-        12 => "Round and square brackets together nest at most 8 deep.".into(),
-        13 => "A filter has at most 32 tests, those inside square brackets counted too.".into(),
-        _ => Beginning { sheet, begun: &filter[..refusal.place.min(filter.len())] }.help(),
+        12 => vec!["Round and square brackets together nest at most 8 deep.".into()],
+        13 => vec!["A filter has at most 32 tests, those inside square brackets counted too.".into()],
+        _ => Beginning { sheet, begun }.help(rest),
     };
-    sign.or(letters).into_iter().chain(capitals(filter)).chain([place]).collect()
+    let word = capitals(filter).or_else(|| foreign(begun, rest));
+    sign.or(letters).into_iter().chain(word).chain(place).collect()
+}
+
+/// Words and signs of other languages, and the words of a filter for them.
+const FOREIGN: [(&str, &str); 13] = [
+    ("=", "eq"),
+    ("==", "eq"),
+    ("equals", "eq"),
+    ("!=", "ne"),
+    ("<>", "ne"),
+    ("<", "lt"),
+    (">", "gt"),
+    ("<=", "le"),
+    (">=", "ge"),
+    ("contains", "co"),
+    ("like", "co"),
+    ("&&", "and"),
+    ("||", "or"),
+];
+
+/// Help with a word or a sign of another language, where the text stops being a filter.
+fn foreign(begun: &[u8], rest: &[u8]) -> Option<String> {
+    let ends_word = |byte: &u8| b" ()[]".contains(byte);
+    let start = begun.iter().rposition(ends_word).map_or(0, |place| place + 1);
+    let end = rest.iter().position(ends_word).unwrap_or(rest.len());
+    let word = [&begun[start..], &rest[..end]].concat();
+    let (theirs, ours) = FOREIGN.iter().find(|(theirs, _)| theirs.as_bytes() == word)?;
+    Some(format!("{theirs} is written {ours}."))
 }
 
 /// The beginning of a text up to where it can no longer become a filter. What could stand behind it, the library is asked.
@@ -136,21 +176,48 @@ impl Beginning<'_> {
         refusal.is_none_or(|refusal| refusal.number >= 14)
     }
 
-    /// What could stand behind the beginning. Words are tried behind a space where they would else go on with the last one.
-    fn help(&self) -> String {
-        let new_word = self.begun.last().is_none_or(|last| b" ([.".contains(last));
-        let word = |word: &str| self.goes_on(&format!("{}{word}", if new_word { "" } else { " " }));
+    /// Whether a word may begin behind it without a space.
+    fn takes_word(&self) -> bool {
+        self.begun.last().is_none_or(|last| b" ([.".contains(last))
+    }
+
+    /// What could stand behind the beginning, in place of the rest.
+    fn help(&self, rest: &[u8]) -> Vec<String> {
         if self.goes_on(" zz( zz(") {
-            return "It goes on between double quotes. Close them with \", and write \\t and the like for control signs.".into();
+            let help =
+                "It goes on between double quotes. Close them with \", and write \\t and the like for control signs.";
+            return vec![help.into()];
         }
+        let choices = self.choices();
+        if choices.is_empty() {
+            let last_word = self.begun.iter().rposition(|&byte| byte == b' ').unwrap_or(0);
+            let operators = Beginning { begun: &self.begun[..last_word], ..*self }.operators();
+            let no_word = "The last word cannot end here: it is no name and no operator.".to_string();
+            return [no_word].into_iter().chain(operators).collect();
+        }
+        let joins = choices.contains(&"`and`") && self.ends_with_bare_word();
+        let several = (joins && rest.first().is_some_and(u8::is_ascii_alphanumeric))
+            .then(|| "A value of several words stands between double quotes.".into());
+        let space = if self.takes_word() { "" } else { " Words have a space before them." };
+        let place = format!("Here could stand {}.{space}", row(&choices, "or"));
+        let operators = self.operators().filter(|_| choices.contains(&"an operator"));
+        several.into_iter().chain([place]).chain(operators).collect()
+    }
+
+    /// The kinds of signs and words that could stand behind it. Words are tried behind a space where they would else go on
+    /// with the last one.
+    fn choices(&self) -> Vec<&'static str> {
+        let word = |word: &str| self.goes_on(&format!("{}{word}", if self.takes_word() { "" } else { " " }));
         // A value may begin with a digit and a name may not; no operator begins with zz.
         let (value, name) = (word("1") && word("\""), word("zz") && !word("1"));
+        // Only a bundle has square brackets.
+        let bracket = self.goes_on("[zz") && !self.goes_on("[1") && self.operators().is_none();
         let choices = [
             (name, "a name"),
             (word("(") && !value, "`(`"),
             (word("eq ") && !value && !name, "an operator"),
             (value, "a value"),
-            (self.goes_on("[zz") && !self.goes_on("[1"), "`[`"),
+            (bracket, "`[`"),
             (self.goes_on(")"), "`)`"),
             (self.goes_on("]"), "`]`"),
             (self.goes_on(".zz") && !self.goes_on("1"), "`.`"),
@@ -158,12 +225,22 @@ impl Beginning<'_> {
             (word("or ") && !value && !name, "`or`"),
             (self.is_filter(), "the end"),
         ];
-        let choices: Vec<&str> = choices.into_iter().filter_map(|(stands, what)| stands.then_some(what)).collect();
-        if choices.is_empty() {
-            return "The last word cannot end here: it is no name and no operator.".into();
-        }
-        let space = if new_word { "" } else { " Words have a space before them." };
-        format!("Here could stand {}.{space}", row(&choices, "or"))
+        choices.into_iter().filter_map(|(stands, what)| stands.then_some(what)).collect()
+    }
+
+    /// Whether a value without quotes, and a space behind it, stand at its end.
+    fn ends_with_bare_word(&self) -> bool {
+        let word = self.begun.trim_ascii_end();
+        word.len() < self.begun.len() && word.last().is_some_and(|last| !b"\")]".contains(last))
+    }
+
+    /// The operators of the field that it ends with, if it ends with one that has texts.
+    fn operators(&self) -> Option<String> {
+        let name = self.begun.trim_ascii_end().rsplit(|byte| b" ([.".contains(byte)).next()?;
+        let mut found = self.sheet.parameters.iter().filter(|parameter| parameter.name == name);
+        let kind = found.next().map(|parameter| parameter.kind).filter(|kind| *kind != BUNDLE)?;
+        let alone = found.all(|parameter| parameter.kind == kind);
+        alone.then(|| operators_of(&String::from_utf8_lossy(name), kind))
     }
 }
 
@@ -205,13 +282,19 @@ fn operator_help(path: &str, kind: u8, operator: &str) -> Vec<String> {
         "{operator} is for {}. If that is what {path} holds, the sheet gives it the wrong kind.",
         row(&kind::kinds_with(operator), "and")
     );
-    vec![operators_of(path, kind), for_others]
+    // The R4 page has its own operator for references, and eq is what one thinks of.
+    let by_re = Reader::new(kind).operators().contains(&"re") && operator == "eq";
+    let by_re = by_re.then(|| "A reference is asked by re, as in `re Patient/17`.".to_string());
+    [operators_of(path, kind)].into_iter().chain(by_re).chain([for_others]).collect()
 }
 
 /// Help with a value that cannot be read.
 fn value_help(path: &str, kind: u8, value: &str) -> Vec<String> {
     kind::by_number(kind).map_or_else(Vec::new, |kind| {
-        vec![format!("{path} is {}, and {value} cannot be read as one: {}.", kind.one, kind.written)]
+        let by = kind::asked_by(kind);
+        let asked =
+            if by.number == kind.number { String::new() } else { format!(", which a filter asks by {}", by.one) };
+        vec![format!("{path} is {}{asked}, and {value} cannot be read as one: {}.", kind.one, by.written)]
     })
 }
 
@@ -284,8 +367,12 @@ fn choices(name: &str, sheet: &Sheet, bundle: u8) -> String {
 pub fn unsound(card: &[u8]) -> Option<String> {
     let refusal = kind::sound_card(card).err()?;
     let seen = match (refusal.number, Sort::of(card)) {
+        (_, Sort::Neither) if text::is_text(card) => {
+            return Some(TEXT_FOR_CARDS.into());
+        }
         (21, _) => return Some(format!("{} {DAMAGED}", refusal.sentence())),
         (_, Sort::Card) => row(&block::faults(card), "and"),
+        (_, Sort::Sheet) => "the first byte of a sheet".into(),
         _ => "the first byte of no card".into(),
     };
     Some(format!("{} It has {seen}.", refusal.sentence()))

@@ -27,6 +27,10 @@ impl Arguments {
                 "--json" => arguments.json = true,
                 "--stream" if options.contains(&"--stream") => arguments.stream = true,
                 "--record" if options.contains(&"--record") => arguments.record = Some(read_record(given.next())?),
+                option if options.contains(&"--record") && option.starts_with("--record=") => {
+                    let given = option.split_once('=').map(|(_, given)| given.to_string());
+                    arguments.record = Some(read_record(given)?);
+                }
                 option => return Err(format!("{option} is no option here.")),
             }
         }

@@ -1,27 +1,23 @@
 //! Goes through a file of cards with all processors, in pieces, and takes what each piece gives in the file's order.
 
 use crate::advice;
-use crate::block::{self, SIZE};
+use crate::block::{self, SIZE, Sort};
 use crate::input::{self, Input};
 use crate::kind;
+use crate::progress::Progress;
 use crate::report::{Failure, Message};
 use crate::sheet::Sheet;
-use crate::text::{counted, grouped};
+use crate::text::{self, counted, grouped};
 use sirophan::Refusal;
 use std::collections::BTreeMap;
-use std::io::{self, IsTerminal, Write};
 use std::num::NonZero;
 use std::sync::{Mutex, MutexGuard, PoisonError};
 use std::thread;
-use std::time::{Duration, Instant};
 
 /// How many cards the library selects from at a time.
 pub const RUN: usize = 128;
 /// How many bytes a piece has, a whole number of runs.
 const PIECE: usize = 2 * RUN * SIZE;
-/// When the progress of a long pass is first shown, and how often then.
-const SHOWN_AFTER: Duration = Duration::from_secs(1);
-const SHOWN_EVERY: Duration = Duration::from_millis(200);
 
 /// Goes through a file. `work` makes something of each piece, given the index of its first card; what it adds up is kept
 /// by each processor for itself. `take` gets what was made, in the order of the file; where it fails, the pass ends. An
@@ -56,7 +52,6 @@ where
         let workers: Vec<_> = (0..processors.min(pieces)).map(|_| scope.spawn(worker)).collect();
         workers.into_iter().map(|worker| worker.join().expect("no work panics")).collect()
     });
-    lock(&source).progress.clear();
     sink.into_inner().unwrap_or_else(PoisonError::into_inner).outcome.map(|()| sums)
 }
 
@@ -70,12 +65,12 @@ struct Source {
     input: Input,
     next: u64,
     ended: bool,
-    progress: Progress,
+    progress: Option<Progress>,
 }
 
 impl Source {
     fn new(input: Input) -> Source {
-        let progress = Progress { size: input.size, began: Instant::now(), shown: None };
+        let progress = input.shows_progress.then(Progress::new);
         Source { input, next: 0, ended: false, progress }
     }
 
@@ -88,9 +83,25 @@ impl Source {
         let number = self.next;
         self.next += 1;
         self.ended = !matches!(filled, Ok(PIECE));
-        self.progress.show(self.next * PIECE as u64);
+        self.show_progress();
         // Behind whole pieces there may be nothing; an empty file is still a piece.
         (number == 0 || !matches!(filled, Ok(0))).then_some((number, filled))
+    }
+
+    /// Shows how many cards are read.
+    fn show_progress(&mut self) {
+        if let Some(progress) = &mut self.progress {
+            progress.show(|| part_read(self.next * PIECE as u64, self.input.size));
+        }
+    }
+}
+
+/// How many cards are read of how many, by the bytes that are.
+pub fn part_read(read: u64, size: Option<u64>) -> String {
+    let cards = |bytes: u64| grouped(bytes / SIZE as u64);
+    match size {
+        Some(size) => format!("{} of {} cards", cards(read.min(size)), cards(size)),
+        None => format!("{} cards", cards(read)),
     }
 }
 
@@ -120,40 +131,12 @@ impl<R, F: FnMut(R) -> Result<(), Failure>> Sink<R, F> {
     }
 }
 
-/// The line that shows on a terminal how far a long pass is.
-struct Progress {
-    size: Option<u64>,
-    began: Instant,
-    shown: Option<Instant>,
-}
-
-impl Progress {
-    /// Shows how far the file is read, if it is time to.
-    fn show(&mut self, bytes: u64) {
-        let due = self.shown.map_or(self.began + SHOWN_AFTER, |shown| shown + SHOWN_EVERY);
-        if Instant::now() < due || !io::stderr().is_terminal() {
-            return;
-        }
-        let cards = |bytes: u64| grouped(bytes / SIZE as u64);
-        let _ = match self.size {
-            Some(size) => write!(io::stderr(), "\r{} of {} cards", cards(bytes.min(size)), cards(size)),
-            None => write!(io::stderr(), "\r{} cards", cards(bytes)),
-        };
-        self.shown = Some(Instant::now());
-    }
-
-    /// Takes the line away.
-    fn clear(&self) {
-        if self.shown.is_some() {
-            let _ = write!(io::stderr(), "\r\x1B[K");
-        }
-    }
-}
-
 /// A card that is refused, or the bytes that are no whole card.
 pub struct AtFault {
     pub refusal: Refusal,
     pub block: Vec<u8>,
+    /// Whether the run that it was found in is a text, and has no cards.
+    in_text: bool,
 }
 
 impl AtFault {
@@ -163,16 +146,17 @@ impl AtFault {
             21..=23 => (refusal.place + first as usize, &run[refusal.place * SIZE..][..SIZE]),
             _ => (refusal.place, &run[run.len() - run.len() % SIZE..]),
         };
-        AtFault { refusal: Refusal { place, ..refusal }, block: block.to_vec() }
+        AtFault { refusal: Refusal { place, ..refusal }, block: block.to_vec(), in_text: text::is_text(run) }
     }
 
     /// The refusal as it is told, with the record and the field.
     pub fn tell(&self, name: &str, sheet: &Sheet) -> Message {
         let mut help: Vec<String> = match self.refusal.number {
+            20 if self.in_text => vec![advice::TEXT_FOR_CARDS.into()],
             20 => vec![format!("Behind its last whole card it has {}.", counted(self.block.len() as u64, "byte"))],
             _ => located(self.refusal.place as u64, &self.block, sheet),
         };
-        if self.refusal.number > 20 && name != input::shown("-") {
+        if self.refusal.number > 20 && Sort::of(&self.block) == Sort::Card && name != input::shown("-") {
             let record = block::record(&self.block);
             help.push(format!(
                 "There is no answer until it is put right. `sirophan show --record {record} {name}` shows it."
@@ -182,11 +166,14 @@ impl AtFault {
     }
 }
 
-/// What is wrong with a card, each sentence with the card's index and its record number.
+/// What is wrong with a card, each sentence with the card's index and, if the block is a card, its record number.
 pub fn located(index: u64, card: &[u8], sheet: &Sheet) -> Vec<String> {
-    let record = block::record(card);
+    let record = match Sort::of(card) {
+        Sort::Card => format!(", record {}", block::record(card)),
+        _ => String::new(),
+    };
     let faults = advice::card_faults(sheet, card);
-    faults.into_iter().map(|fault| format!("card {index}, record {record}: {fault}")).collect()
+    faults.into_iter().map(|fault| format!("card {index}{record}: {fault}")).collect()
 }
 
 /// How the library is asked whether cards fit a sheet: by a filter that has a meaning there, if any has.

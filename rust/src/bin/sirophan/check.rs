@@ -20,32 +20,58 @@ pub fn run(arguments: &Arguments) -> Result<(), Failure> {
         arguments.say(doubt::of_filter(&question.filter, filter));
         arguments.say(doubt::of_names(&question.filter, filter, &question.sheet));
     }
-    let rows: Vec<[String; 4]> = filter.map_or_else(Vec::new, |filter| rows(&question, &filter));
+    let tests = filter.map_or_else(Vec::new, |filter| told(&question, &filter));
     let mut output = Output::new();
     if arguments.json {
-        let tests: Vec<String> = rows.iter().map(test_json).collect();
+        let tests: Vec<String> = tests.iter().map(Told::json).collect();
         output.line(json::object(&[("count", count.to_string()), ("tests", json::array(&tests))]))?;
     } else {
         output.line(counted(count as u64, "test"))?;
+        let rows: Vec<[String; 4]> = tests.into_iter().map(Told::row).collect();
         table::lines(&rows).iter().try_for_each(|line| output.line(line))?;
     }
     output.flush()
 }
 
-/// For each test the parameter's path and kind, the operator and the value.
-fn rows(question: &Question, filter: &Filter) -> Vec<[String; 4]> {
-    let row = |test: &Test| {
-        let place = test.place(&question.sheet, &question.filter)?;
-        let part = |range: &Range<usize>| printable(&question.filter[range.clone()]);
-        let word = kind::word_of(question.sheet.parameters[place].kind);
-        Some([question.sheet.path(place, 0), word, part(&test.operator), part(&test.value)])
-    };
-    filter.tests.iter().filter_map(row).collect()
+/// A test as it is told.
+struct Told {
+    field: String,
+    kind: String,
+    operator: String,
+    /// The value as the filter has it, and what it stands for.
+    written: String,
+    value: Vec<u8>,
 }
 
-/// A test as JSON.
-fn test_json(row: &[String; 4]) -> String {
-    let names = ["field", "kind", "operator", "value"];
-    let pairs: Vec<(&str, String)> = names.into_iter().zip(row.iter().map(|cell| json::string(cell))).collect();
-    json::object(&pairs)
+impl Told {
+    /// For people: the value as it was written.
+    fn row(self) -> [String; 4] {
+        [self.field, self.kind, self.operator, self.written]
+    }
+
+    /// For programs: the value without quotes and escapes.
+    fn json(&self) -> String {
+        json::object(&[
+            ("field", json::string(&self.field)),
+            ("kind", json::string(&self.kind)),
+            ("operator", json::string(&self.operator)),
+            ("value", json::bytes(&self.value)),
+        ])
+    }
+}
+
+/// The tests of a filter.
+fn told(question: &Question, filter: &Filter) -> Vec<Told> {
+    let told = |test: &Test| {
+        let place = test.place(&question.sheet, &question.filter)?;
+        let part = |range: &Range<usize>| printable(&question.filter[range.clone()]);
+        Some(Told {
+            field: question.sheet.path(place, 0),
+            kind: kind::word_of(question.sheet.parameters[place].kind),
+            operator: part(&test.operator),
+            written: part(&test.value),
+            value: test.decoded(&question.filter),
+        })
+    };
+    filter.tests.iter().filter_map(told).collect()
 }

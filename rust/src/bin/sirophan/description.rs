@@ -6,13 +6,16 @@ use crate::block::{self, CARD_HEAD, Item, LONGEST_TEXT, MOST_ENTRIES, MOST_PARAM
 use crate::cards::{Fit, RUN};
 use crate::input::Input;
 use crate::kind;
+use crate::progress::Progress;
 use crate::report::{Failure, Level, Message};
 use crate::sheet::{self, Parameter, Sheet};
-use crate::text::{self, printable, row, spell};
-use std::io::{BufRead, BufReader};
+use crate::text::{self, counted, grouped, printable, row, spell};
+use std::io::{self, BufRead, BufReader, Read};
 
 /// The most faults that are told one by one.
 const MOST_TOLD: usize = 20;
+/// The most bytes of a line that are kept; no entry comes near it. So no description is held in memory, whatever it is.
+const LONGEST_LINE: usize = 1 << 16;
 
 /// Faults that were found, each with the line or the card by which they are put in order.
 #[derive(Default)]
@@ -37,7 +40,7 @@ impl Faults {
             return Ok(());
         }
         self.told.sort_by_key(|(place, _)| *place);
-        let more = (self.more > 0).then(|| Message::error(format!("and {} more.", text::counted(self.more, "fault"))));
+        let more = (self.more > 0).then(|| Message::error(format!("and {} more.", counted(self.more, "fault"))));
         Err(Failure::Refused(self.told.into_iter().map(|(_, message)| message).chain(more).collect()))
     }
 }
@@ -53,6 +56,9 @@ struct Line {
 pub struct Description {
     name: String,
     from: Box<dyn BufRead>,
+    /// Its size, where it has one, and how much of it is read.
+    size: Option<u64>,
+    read: u64,
     number: usize,
     /// What was dropped while reading.
     byte_order_mark: bool,
@@ -63,16 +69,23 @@ pub struct Description {
 impl Description {
     /// Opens a description.
     pub fn open(path: &str) -> Result<Description, Failure> {
-        let from = Box::new(BufReader::with_capacity(1 << 16, Input::open(path)?.into_reader()));
-        let (byte_order_mark, carriage_returns) = (false, false);
+        let input = Input::open(path)?;
         Ok(Description {
             name: path.into(),
-            from,
+            size: input.size,
+            from: Box::new(BufReader::with_capacity(1 << 16, input.into_reader())),
+            read: 0,
             number: 0,
-            byte_order_mark,
-            carriage_returns,
+            byte_order_mark: false,
+            carriage_returns: false,
             faults: Faults::default(),
         })
+    }
+
+    /// How far it is read: `41 % of cards.txt`.
+    fn part_read(&self) -> Option<String> {
+        let size = self.size.filter(|size| *size > 0)?;
+        Some(format!("{} % of {}", self.read.min(size) * 100 / size, self.name))
     }
 
     /// A fault at a line.
@@ -83,19 +96,35 @@ impl Description {
     /// The next line that has a head and a text. Lines that have not are faults, and are passed over.
     fn next(&mut self) -> Result<Option<Line>, Failure> {
         loop {
-            let mut bytes = Vec::new();
-            let read = self.from.read_until(b'\n', &mut bytes);
-            if read.map_err(|reason| Failure::file(&self.name, "read", reason))? == 0 {
+            let (mut bytes, left_out) = self.read_line().map_err(|reason| Failure::file(&self.name, "read", reason))?;
+            if bytes.is_empty() {
                 return Ok(None);
             }
             self.number += 1;
             self.drop_signs(&mut bytes)?;
+            if left_out && !bytes.trim_ascii_start().starts_with(b"#") {
+                let size = grouped(LONGEST_LINE as u64);
+                self.fault(self.number, &format!("this line has over {size} bytes. Is this a description?"));
+                continue;
+            }
             match split(&bytes) {
                 Ok(None) => {}
                 Ok(Some((head, text))) => return Ok(Some(Line { number: self.number, head, text })),
                 Err(fault) => self.fault(self.number, &fault),
             }
         }
+    }
+
+    /// The bytes of the next line, none at the end, and whether the line has more than are kept.
+    fn read_line(&mut self) -> io::Result<(Vec<u8>, bool)> {
+        let mut bytes = Vec::new();
+        self.read += (&mut self.from).take(LONGEST_LINE as u64).read_until(b'\n', &mut bytes)? as u64;
+        let left_out = match bytes.len() {
+            LONGEST_LINE if bytes.last() != Some(&b'\n') => self.from.skip_until(b'\n')? as u64,
+            _ => 0,
+        };
+        self.read += left_out;
+        Ok((bytes, left_out > 0))
     }
 
     /// Takes off the line's end, and signs of other systems: a byte order mark, a carriage return. UTF-16 ends all.
@@ -169,6 +198,8 @@ pub fn read_sheet(description: &mut Description) -> Result<Option<Sheet>, Failur
     let mut lines = Vec::new();
     while let Some(line) = description.next()? {
         match kind::by_word(&line.head) {
+            // One too many is enough to tell.
+            Some(_) if lines.len() > MOST_PARAMETERS => {}
             Some(kind) => lines.push((line.number, kind.number, line.text)),
             None => {
                 let words = row(&kind::words(), "and");
@@ -246,17 +277,19 @@ pub struct Cards<'a> {
     /// The line of the next card's record number, and the number.
     next: Option<(usize, u32)>,
     pub count: u64,
+    progress: Progress,
 }
 
 impl<'a> Cards<'a> {
     /// The cards of a description, by a sheet's names.
     pub fn new(description: Description, sheet: &'a Sheet) -> Cards<'a> {
         let paths = (0..sheet.parameters.len()).map(|place| sheet.path(place, 0)).collect();
-        Cards { description, fit: Fit::new(sheet), paths, next: None, count: 0 }
+        Cards { description, fit: Fit::new(sheet), paths, next: None, count: 0, progress: Progress::new() }
     }
 
     /// The next card. Where it has faults, they are kept, and the card is empty.
     pub fn next(&mut self) -> Result<Option<Vec<u8>>, Failure> {
+        self.show_progress();
         let mut entries = Vec::new();
         let mut current = self.next.take();
         while let Some(line) = self.description.next()? {
@@ -269,6 +302,8 @@ impl<'a> Cards<'a> {
                 continue;
             }
             match current {
+                // One too many is enough to tell.
+                Some(_) if entries.len() > MOST_ENTRIES => {}
                 Some((_, record)) => entries.extend(self.entry(record, line)),
                 None => self.description.fault(
                     line.number,
@@ -279,7 +314,17 @@ impl<'a> Cards<'a> {
                 ),
             }
         }
+        self.progress.clear();
         Ok(current.map(|current| self.card(current, &entries)))
+    }
+
+    /// Shows how many cards are read.
+    fn show_progress(&mut self) {
+        let (count, description) = (self.count, &self.description);
+        self.progress.show(|| {
+            let cards = counted(count, "card");
+            description.part_read().map_or(cards.clone(), |part| format!("{cards}, {part}"))
+        });
     }
 
     /// The number behind `record:`; 0 where it is a fault.

@@ -51,7 +51,8 @@ const NO_DATES: [&str; 3] = ["candidate", "mandate", "update"];
 pub fn of_names(text: &[u8], filter: &Filter, sheet: &Sheet) -> Vec<Message> {
     let places = asked(text, filter, sheet);
     let doubts = places.into_iter().filter_map(|place| {
-        let kind = kind::by_number(sheet.parameters[place].kind).filter(|kind| kind.word != "date")?;
+        let kind = kind::by_number(sheet.parameters[place].kind);
+        let kind = kind.filter(|kind| !["date", "period"].contains(&kind.word))?;
         speaks_of_date(&sheet.name(place)).then(|| {
             let path = sheet.path(place, 0);
             let text = format!("{path} is {}, and its name speaks of a date.", kind.one);

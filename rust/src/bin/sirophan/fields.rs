@@ -2,8 +2,7 @@
 
 use crate::advice;
 use crate::arguments::Arguments;
-use crate::block::SIZE;
-use crate::cards::{self, Fit};
+use crate::cards::Fit;
 use crate::input::{self, Input, shown};
 use crate::json;
 use crate::kind;
@@ -23,24 +22,11 @@ pub fn run(arguments: &Arguments) -> Result<(), Failure> {
     let cards = Input::open(cards_name)?;
     advice::require_sound(&shown(sheet_name), &sheet)?;
     let counter = Counter::new(&sheet, 0..sheet.parameters.len());
-    let fit = Fit::new(&sheet);
-    let name = cards.name.clone();
     let mut total = 0;
-    let tallies = cards::pass(
-        cards,
-        |tally, first, piece| {
-            let (_, fault) = fit.select_piece(first, piece);
-            if fault.is_none() {
-                counter.count(tally, first, piece);
-            }
-            (fault, piece.len() / SIZE)
-        },
-        |(fault, count)| {
-            total += count as u64;
-            fault.map_or(Ok(()), |fault| Err(Failure::refused(fault.tell(&name, &sheet))))
-        },
-    )?;
-    let fields = counter.sum(tallies);
+    let fields = counter.pass(cards, &Fit::new(&sheet), |_, count| {
+        total += count;
+        Ok(())
+    })?;
     if arguments.json { show_json(&sheet, &fields, total) } else { show(&sheet, &fields, total) }
 }
 

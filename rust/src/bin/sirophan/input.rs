@@ -2,7 +2,7 @@
 
 use crate::report::Failure;
 use std::fs::File;
-use std::io::{self, Read};
+use std::io::{self, BufReader, Read};
 
 /// No sheet and no filter is near this size: what is longer need not be read to its end.
 pub const MOST_BYTES: usize = 1 << 20;
@@ -13,6 +13,8 @@ pub struct Input {
     pub name: String,
     /// Its size, where it has one.
     pub size: Option<u64>,
+    /// Whether a line may show how far it is read. Lines of an answer that come meanwhile would run into it.
+    pub shows_progress: bool,
     from: Box<dyn Read + Send>,
 }
 
@@ -20,11 +22,12 @@ impl Input {
     /// Opens a file.
     pub fn open(path: &str) -> Result<Input, Failure> {
         if path == "-" {
-            return Ok(Input { name: shown(path), size: None, from: Box::new(io::stdin()) });
+            return Ok(Input { name: shown(path), size: None, shows_progress: true, from: Box::new(io::stdin()) });
         }
         let file = File::open(path).map_err(|reason| Failure::file(path, "opened", reason))?;
         let size = file.metadata().ok().filter(|data| data.is_file()).map(|data| data.len());
-        Ok(Input { name: path.into(), size, from: Box::new(file) })
+        let from = Box::new(BufReader::with_capacity(1 << 16, file));
+        Ok(Input { name: path.into(), size, shows_progress: true, from })
     }
 
     /// Fills a buffer as far as the file goes, and answers how far.

@@ -3,6 +3,8 @@
 
 use crate::block::{self, Item};
 
+/// The number of the kind whose texts are periods.
+const PERIOD: u8 = 6;
 /// The number of the kind whose parameters are bundles.
 pub const BUNDLE: u8 = 7;
 
@@ -21,7 +23,7 @@ pub struct Kind {
 }
 
 /// The kinds, by their numbers. A further kind is another row.
-pub const KINDS: [Kind; 6] = [
+pub const KINDS: [Kind; 7] = [
     Kind { number: 1, word: "string", one: "a string", many: "strings", written: "any text" },
     Kind {
         number: 2,
@@ -39,6 +41,14 @@ pub const KINDS: [Kind; 6] = [
     },
     Kind { number: 4, word: "token", one: "a token", many: "tokens", written: "a code, or system|code" },
     Kind { number: 5, word: "reference", one: "a reference", many: "references", written: "any text but an empty one" },
+    Kind {
+        number: PERIOD,
+        word: "period",
+        one: "a period",
+        many: "periods",
+        written: "two dates with a slash between, of which one may be missing, such as 1974-06/1975, 1974/ or /1975; it ends \
+                  after it starts",
+    },
     Kind {
         number: BUNDLE,
         word: "bundle",
@@ -68,6 +78,25 @@ pub fn by_number(number: u8) -> Option<&'static Kind> {
 /// The kind with this word.
 pub fn by_word(word: &str) -> Option<&'static Kind> {
     KINDS.iter().find(|kind| kind.word == word)
+}
+
+/// The kind whose texts are the values that a filter asks a kind by: a period is asked by a date, any other by itself.
+pub fn asked_by(kind: &'static Kind) -> &'static Kind {
+    let by = if kind.number == PERIOD { by_word("date") } else { None };
+    by.unwrap_or(kind)
+}
+
+/// What a card's text says, where the signs in it do not say it plainly: the ends of a period.
+pub fn in_words(kind: u8, text: &[u8]) -> Option<String> {
+    if kind != PERIOD || !Reader::new(PERIOD).reads(text) {
+        return None;
+    }
+    let (first, second) = str::from_utf8(text).ok()?.split_once('/')?;
+    Some(match (first, second) {
+        (first, "") => format!("from {first} on, end open"),
+        ("", second) => format!("to the end of {second}, start open"),
+        _ => format!("from {first} to the end of {second}"),
+    })
 }
 
 /// The words of all kinds.
@@ -141,12 +170,18 @@ mod tests {
     #[test]
     fn texts_by_kind() {
         let reads = |word, text: &str| Reader::new(by_word(word).unwrap().number).reads(text.as_bytes());
-        for (word, text) in
-            [("string", ""), ("number", "12.0"), ("date", "1974-06"), ("token", "|x"), ("reference", "x")]
-        {
+        for (word, text) in [
+            ("string", ""),
+            ("number", "12.0"),
+            ("date", "1974-06"),
+            ("token", "|x"),
+            ("reference", "x"),
+            ("period", "1974/"),
+        ] {
             assert!(reads(word, text), "{word} {text}");
         }
-        for (word, text) in [("number", "-1"), ("date", "1974-13"), ("token", "|"), ("reference", ""), ("bundle", "x")]
+        for (word, text) in
+            [("number", "-1"), ("date", "1974-13"), ("token", "|"), ("reference", ""), ("period", "/"), ("bundle", "x")]
         {
             assert!(!reads(word, text), "{word} {text}");
         }
@@ -161,9 +196,21 @@ mod tests {
         assert_eq!(operators("date"), "eq ne co gt lt ge le sa eb pr po");
         assert_eq!(operators("token"), "eq ne pr");
         assert_eq!(operators("reference"), "pr re");
+        assert_eq!(operators("period"), operators("date"));
         assert_eq!(operators("bundle"), "");
-        assert_eq!(kinds_with("gt"), ["numbers", "dates"]);
+        assert_eq!(kinds_with("gt"), ["numbers", "dates", "periods"]);
         assert!(kinds_with("ap").is_empty());
+    }
+
+    /// Periods in words, and what is none.
+    #[test]
+    fn periods_in_words() {
+        let words = |text: &str| in_words(PERIOD, text.as_bytes());
+        assert_eq!(words("1974-06/1975").as_deref(), Some("from 1974-06 to the end of 1975"));
+        assert_eq!(words("1974/").as_deref(), Some("from 1974 on, end open"));
+        assert_eq!(words("/1974").as_deref(), Some("to the end of 1974, start open"));
+        assert_eq!(words("1975/1974"), None);
+        assert_eq!(in_words(1, b"1974/"), None);
     }
 
     /// Names by the library's rule.

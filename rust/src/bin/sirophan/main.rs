@@ -6,7 +6,7 @@
 //! - what they say beside their answers: `advice` on refusals, `doubt` about filters, `tally` of what cards hold;
 //! - what they go through: `cards` in blocks, `description` in words;
 //! - what these are made of: `sheet`, `filter`, `kind`, which asks the library, and `block`;
-//! - in and out: `arguments`, `input`, `report`, `table`, `json`, `text`.
+//! - in and out: `arguments`, `input`, `report`, `progress`, `table`, `json`, `text`.
 
 mod advice;
 mod arguments;
@@ -22,6 +22,7 @@ mod json;
 mod kind;
 mod pack;
 mod pick;
+mod progress;
 mod report;
 mod sheet;
 mod show;
@@ -83,7 +84,7 @@ const COMMANDS: [Command; 6] = [
                \x20   ^^^^^^^^^^^^\n\
                \x20   standard input: refused 16 at 0: The operator has no meaning for a parameter of this kind.\n\
                \x20     code is a token, which has the operators eq, ne and pr.\n\
-               \x20     lt is for numbers and dates. If that is what code holds, the sheet gives it the wrong kind.\n",
+               \x20     lt is for numbers, dates and periods. If that is what code holds, the sheet gives it the wrong kind.\n",
         run: check::run,
     },
     Command {
@@ -113,8 +114,8 @@ const COMMANDS: [Command; 6] = [
                anything is wrong it says where, and OUT stays as it was.\n\n\
                A line has a head and a text; a line that begins with # is left out. A text that begins or ends with a space, is\n\
                empty, or holds bytes that do not print stands in double quotes, with \\\" \\\\ and \\xHH inside. In sheet.txt the\n\
-               head is a kind (string, number, date, token, reference, bundle) and the text a name. In cards.txt the head is\n\
-               `record:` before a record number, or else a name. A bundle's members are named behind it, and on a card those\n\
+               head is a kind (string, number, date, token, reference, period, bundle) and the text a name. In cards.txt the head\n\
+               is `record:` before a record number, or else a name. A bundle's members are named behind it, and on a card those\n\
                with the same number, 0 to 255, belong together; without a number it is 0:\n\n\
                \x20   sheet.txt                    cards.txt\n\
                \x20   bundle     related           record:           7\n\
@@ -150,7 +151,8 @@ const COMMANDS: [Command; 6] = [
         options: &[],
         summary: "says whether all that is in a folder goes together",
         help: "It takes the blocks (sheet.bin, cards.bin), the description (sheet.txt, cards.txt), or both, whichever are in DIR,\n\
-               with filter.txt. It goes through all cards and names each that does not fit, with the field and the reason.\n\n\
+               with filter.txt. It goes through all cards and names each that does not fit, with the field and the reason.\n\
+               Where both are there, it says whether the blocks hold what the description says.\n\n\
                Example:\n\n\
                \x20   $ sirophan verify target/ward\n\
                \x20   the blocks: 3 cards, a sheet with 5 parameters, a filter with 3 tests: all go together\n",
@@ -183,19 +185,29 @@ fn run() -> Result<(), (Failure, bool)> {
     let Some((name, given)) = given.split_first() else {
         return Err(usage_failure("No command was given."));
     };
-    match name.as_str() {
-        "--help" | "-h" | "help" => return print(&overview()).map_err(|failure| (failure, false)),
-        "--version" => {
-            let version = format!("sirophan {}\n", env!("CARGO_PKG_VERSION"));
-            return print(&version).map_err(|failure| (failure, false));
-        }
+    let answered = |text: String| print(&text).map_err(|failure| (failure, false));
+    match (name.as_str(), given) {
+        ("--help" | "-h" | "help", []) => return answered(overview()),
+        ("--help" | "-h" | "help", [name, ..]) => return answered(command_help(command_by(name)?)),
+        ("--version" | "-V" | "version", _) => return answered(format!("sirophan {}", env!("CARGO_PKG_VERSION"))),
         _ => {}
     }
-    let Some(command) = COMMANDS.iter().find(|command| command.name == name) else {
-        return Err(usage_failure(&format!("{name} is no command.")));
-    };
+    let command = command_by(name)?;
     let json = given.iter().any(|argument| argument == "--json");
     run_command(command, given).map_err(|failure| (failure, json))
+}
+
+/// The command with a name.
+fn command_by(name: &str) -> Result<&'static Command, (Failure, bool)> {
+    if let Some(command) = COMMANDS.iter().find(|command| command.name == name) {
+        return Ok(command);
+    }
+    if name.starts_with('-') {
+        return Err(usage_failure(&format!("{name} stands before the command. Options stand behind it.")));
+    }
+    let near = text::nearest(name, &COMMANDS.map(|command| command.name.to_string()));
+    let near = if near.is_empty() { String::new() } else { format!(" Is it {}?", text::row(&near, "or")) };
+    Err(usage_failure(&format!("{name} is no command.{near}")))
 }
 
 /// Runs a command on its arguments.

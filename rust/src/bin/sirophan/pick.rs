@@ -2,19 +2,20 @@
 
 use crate::advice::Question;
 use crate::arguments::Arguments;
-use crate::block::SIZE;
-use crate::cards::{self, Fit};
+use crate::cards::Fit;
 use crate::doubt;
 use crate::filter::Filter;
 use crate::input::Input;
 use crate::json;
 use crate::report::{Failure, Output};
 use crate::tally::Counter;
+use std::io::{self, IsTerminal};
 
 /// Selects from all cards. The list is held back until the last card has passed, unless it is to be streamed.
 pub fn run(arguments: &Arguments) -> Result<(), Failure> {
     let question = Question::read(&arguments.paths[0], &arguments.paths[1])?;
-    let cards = Input::open(&arguments.paths[2])?;
+    let mut cards = Input::open(&arguments.paths[2])?;
+    cards.shows_progress = !(arguments.stream && io::stdout().is_terminal());
     question.check()?;
     let filter = Filter::read(&question.filter);
     if let Some(filter) = &filter {
@@ -24,25 +25,10 @@ pub fn run(arguments: &Arguments) -> Result<(), Failure> {
     let counter = Counter::new(&question.sheet, asked.iter().copied());
     let fit = Fit { sheet: &question.sheet, filter: Some(question.filter.clone()) };
 
-    let name = cards.name.clone();
     let mut list = List { output: Output::new(), held: Vec::new(), matching: 0, cards: 0, arguments };
-    let tallies = cards::pass(
-        cards,
-        |tally, first, piece| {
-            let (found, fault) = fit.select_piece(first, piece);
-            if fault.is_none() {
-                counter.count(tally, first, piece);
-            }
-            (found, fault, piece.len() / SIZE)
-        },
-        |(found, fault, count)| {
-            list.add(found, count)?;
-            fault.map_or(Ok(()), |fault| Err(Failure::refused(fault.tell(&name, &question.sheet))))
-        },
-    );
-    // What was streamed before a refusal comes out, without the count that would make it a list.
-    let fields = match tallies {
-        Ok(tallies) => counter.sum(tallies),
+    let fields = match counter.pass(cards, &fit, |found, count| list.add(found, count)) {
+        Ok(fields) => fields,
+        // What was streamed before a refusal comes out, without the count that would make it a list.
         Err(failure) => return Err(list.output.flush().err().unwrap_or(failure)),
     };
     arguments.say(asked.iter().flat_map(|&place| fields[place].doubts(&question.sheet, place)));
@@ -60,9 +46,9 @@ struct List<'a> {
 
 impl List<'_> {
     /// Adds what was found on so many cards.
-    fn add(&mut self, found: Vec<u32>, cards: usize) -> Result<(), Failure> {
+    fn add(&mut self, found: Vec<u32>, cards: u64) -> Result<(), Failure> {
         self.matching += found.len() as u64;
-        self.cards += cards as u64;
+        self.cards += cards;
         if !self.arguments.stream {
             self.held.extend(found);
             return Ok(());

@@ -3,9 +3,11 @@
 use crate::advice;
 use crate::arguments::Arguments;
 use crate::block::{self, Item, SIZE, Sort};
+use crate::cards;
 use crate::input::{self, Input};
 use crate::json;
 use crate::kind;
+use crate::progress::Progress;
 use crate::report::{Failure, Message, Output};
 use crate::sheet::Sheet;
 use crate::table;
@@ -93,7 +95,12 @@ impl View {
         let mut file = Input::open(path)?;
         let beside = sheet_beside(path);
         let mut block = [0; SIZE];
+        // Where all is shown, one sees how far it is.
+        let mut progress = self.record.map(|_| Progress::new());
         for index in 0.. {
+            if let Some(progress) = &mut progress {
+                progress.show(|| cards::part_read(index * SIZE as u64, file.size));
+            }
             match file.fill(&mut block)? {
                 0 => break,
                 SIZE => self.block(index, &block, &beside)?,
@@ -164,8 +171,10 @@ fn sheet(sheet: &Sheet) -> Shown {
 fn card(index: u64, card: &[u8], sheet: &Sheet) -> Shown {
     let row = |item: Item| {
         let place = usize::from(item.byte);
-        let word = sheet.parameters.get(place).map_or("?".into(), |parameter| kind::word_of(parameter.kind));
-        let text = Cell { shown: spell(item.text), json: json::bytes(item.text) };
+        let kind = sheet.parameters.get(place).map(|parameter| parameter.kind);
+        let word = kind.map_or("?".into(), kind::word_of);
+        let words = kind.and_then(|kind| kind::in_words(kind, item.text));
+        let text = Cell { shown: explained(item.text, words), json: json::bytes(item.text) };
         [Cell::word(sheet.path(place, item.mark)), Cell::word(word), text]
     };
     let (record, count) = (block::record(card), block::count(card));
@@ -181,6 +190,11 @@ fn card(index: u64, card: &[u8], sheet: &Sheet) -> Shown {
             advice::card_faults(sheet, card)
         },
     }
+}
+
+/// A text, and behind it what it says in words.
+fn explained(text: &[u8], words: Option<String>) -> String {
+    words.map_or(spell(text), |words| format!("{} ({words})", spell(text)))
 }
 
 /// The sheet.bin beside a file, or an empty sheet where there is none.

@@ -2,8 +2,10 @@
 //! like those of another kind.
 
 use crate::block::{self, SIZE};
+use crate::cards::{self, Fit};
+use crate::input::Input;
 use crate::kind::{self, Reader};
-use crate::report::Message;
+use crate::report::{Failure, Message};
 use crate::sheet::Sheet;
 use crate::text;
 
@@ -19,8 +21,9 @@ struct Likeness {
 }
 
 /// Likenesses, the more telling first. A further one is another row.
-const LIKENESSES: [Likeness; 3] = [
+const LIKENESSES: [Likeness; 4] = [
     Likeness { kind: "date", doubtful: &["string", "number", "token", "reference"], looks: is_likely_date },
+    Likeness { kind: "period", doubtful: &["string", "token", "reference"], looks: |_| true },
     Likeness { kind: "number", doubtful: &["string"], looks: |_| true },
     Likeness { kind: "token", doubtful: &["string", "reference"], looks: has_system },
 ];
@@ -111,7 +114,7 @@ fn first<T>(one: Option<T>, other: Option<T>, index: impl Fn(&T) -> u64) -> Opti
 
 /// The fields of a sheet, by their places.
 #[derive(Default)]
-pub struct Tally {
+struct Tally {
     fields: Vec<Field>,
 }
 
@@ -137,8 +140,34 @@ impl<'a> Counter<'a> {
         Counter { sheet, asked, readers: readers.collect() }
     }
 
+    /// Goes through cards that all have to fit, and counts them. `take` gets the record numbers that were found in each
+    /// piece, up to a card that does not fit, and how many cards the piece has.
+    pub fn pass(
+        &self,
+        cards: Input,
+        fit: &Fit,
+        mut take: impl FnMut(Vec<u32>, u64) -> Result<(), Failure> + Send,
+    ) -> Result<Vec<Field>, Failure> {
+        let name = cards.name.clone();
+        let tallies = cards::pass(
+            cards,
+            |tally, first, piece| {
+                let (found, fault) = fit.select_piece(first, piece);
+                if fault.is_none() {
+                    self.count(tally, first, piece);
+                }
+                (found, fault, (piece.len() / SIZE) as u64)
+            },
+            |(found, fault, count)| {
+                take(found, count)?;
+                fault.map_or(Ok(()), |fault| Err(Failure::refused(fault.tell(&name, self.sheet))))
+            },
+        )?;
+        Ok(self.sum(tallies))
+    }
+
     /// Counts the cards of a piece, which fit the sheet.
-    pub fn count(&self, tally: &mut Tally, first: u64, piece: &[u8]) {
+    fn count(&self, tally: &mut Tally, first: u64, piece: &[u8]) {
         tally.fields.resize_with(self.asked.len(), Field::default);
         for (card, index) in piece.chunks_exact(SIZE).zip(first..) {
             let mut seen = 0_u32;
@@ -172,7 +201,7 @@ impl<'a> Counter<'a> {
     }
 
     /// What all processors have counted, by the places of the fields.
-    pub fn sum(&self, tallies: Vec<Tally>) -> Vec<Field> {
+    fn sum(&self, tallies: Vec<Tally>) -> Vec<Field> {
         let mut fields = vec![Field::default(); self.asked.len()];
         for tally in tallies {
             fields.iter_mut().zip(tally.fields).for_each(|(field, more)| field.add(more));
@@ -205,6 +234,10 @@ mod tests {
         assert_eq!(look("token", &["1974-06", "1980"]), Some("date"));
         assert_eq!(look("string", &["1974"]), Some("date"));
         assert_eq!(look("number", &["1974", "1980"]), Some("date"));
+        assert_eq!(look("string", &["1974-06/1975", "1974/", "/1980"]), Some("period"));
+        assert_eq!(look("token", &["1974/"]), Some("period"));
+        assert_eq!(look("reference", &["1974/", "Patient/17"]), None);
+        assert_eq!(look("period", &["1974/"]), None);
         assert_eq!(look("string", &["12.0", "250"]), Some("number"));
         assert_eq!(look("string", &["http://loinc.org|1234-5"]), Some("token"));
         assert_eq!(look("token", &["1974", "unknown"]), None);

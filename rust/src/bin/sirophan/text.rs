@@ -89,6 +89,11 @@ pub fn other_encoding(text: &[u8]) -> Option<&'static str> {
     }
 }
 
+/// Whether bytes seem to be a text: blocks have zero bytes.
+pub fn is_text(bytes: &[u8]) -> bool {
+    !bytes.is_empty() && bytes.iter().all(|byte| !byte.is_ascii_control() || b"\t\n\r".contains(byte))
+}
+
 /// Words in a row, with another word before the last one: `eq, ne and pr`.
 pub fn row<T: AsRef<str>>(words: &[T], last: &str) -> String {
     match words {

@@ -2,12 +2,12 @@
 
 use crate::advice::{self, Question};
 use crate::arguments::Arguments;
-use crate::block::SIZE;
+use crate::block::{self, SIZE};
 use crate::cards::{self, AtFault, Fit, RUN};
 use crate::description::{Cards, Description, Faults};
 use crate::input::Input;
 use crate::pack::{self, path_in};
-use crate::report::{Failure, Output};
+use crate::report::{Failure, Message, Output};
 use crate::sheet::Sheet;
 use crate::text::counted;
 use crate::{input, json};
@@ -26,11 +26,17 @@ pub fn run(arguments: &Arguments) -> Result<(), Failure> {
     let folder = &arguments.paths[0];
     let there = |name: &str| Path::new(&path_in(folder, name)).exists();
     let mut found = Vec::new();
-    if there("sheet.txt") && there("cards.txt") {
-        found.push(description(arguments, folder)?);
-    }
+    let described = if there("sheet.txt") && there("cards.txt") {
+        let (told, sheet) = description(arguments, folder)?;
+        found.push(told);
+        Some(sheet)
+    } else {
+        None
+    };
     if found.is_empty() || there("sheet.bin") || there("cards.bin") {
-        found.push(blocks(folder)?);
+        let (told, packed) = blocks(folder)?;
+        found.push(told);
+        described.map_or(Ok(()), |described| compare(folder, &described, &packed))?;
     }
     let mut output = Output::new();
     for Found { what, cards, parameters, tests } in found {
@@ -49,8 +55,8 @@ pub fn run(arguments: &Arguments) -> Result<(), Failure> {
     output.flush()
 }
 
-/// Reads a description as for packing, and writes nothing.
-fn description(arguments: &Arguments, folder: &str) -> Result<Found, Failure> {
+/// Reads a description as for packing, and writes nothing; answers its sheet too.
+fn description(arguments: &Arguments, folder: &str) -> Result<(Found, Sheet), Failure> {
     let name = path_in(folder, "filter.txt");
     let filter = pack::read_filter(&name)?;
     arguments.say(filter.notes.clone());
@@ -63,11 +69,11 @@ fn description(arguments: &Arguments, folder: &str) -> Result<Found, Failure> {
     let sheet_name = path_in(folder, "sheet.txt");
     let question = Question { sheet_name, filter_name: name, sheet, filter: filter.text().to_vec() };
     let tests = question.check()? as u64;
-    Ok(Found { what: "description", cards: count, parameters, tests })
+    Ok((Found { what: "description", cards: count, parameters, tests }, question.sheet))
 }
 
-/// Asks the library of each block.
-fn blocks(folder: &str) -> Result<Found, Failure> {
+/// Asks the library of each block; answers the sheet too.
+fn blocks(folder: &str) -> Result<(Found, Sheet), Failure> {
     let [sheet_name, filter_name, cards_name] =
         ["sheet.bin", "filter.txt", "cards.bin"].map(|name| path_in(folder, name));
     let sheet = Sheet::read(input::read(&sheet_name)?);
@@ -77,7 +83,40 @@ fn blocks(folder: &str) -> Result<Found, Failure> {
     let question = Question { sheet_name, filter_name, sheet, filter };
     let count = verify_cards(&question.sheet, &cards_name, cards)?;
     let tests = question.check()? as u64;
-    Ok(Found { what: "blocks", cards: count, parameters: question.sheet.parameters.len() as u64, tests })
+    let parameters = question.sheet.parameters.len() as u64;
+    Ok((Found { what: "blocks", cards: count, parameters, tests }, question.sheet))
+}
+
+/// Nothing, where sound blocks hold what a sound description says, whichever form they have.
+fn compare(folder: &str, described: &Sheet, packed: &Sheet) -> Result<(), Failure> {
+    let differs = |what: String| {
+        let help = "One of them has changed since it was packed. `sirophan pack` makes the blocks anew.".into();
+        Err(Failure::refused(Message { help: vec![help], ..Message::error(what) }))
+    };
+    let [sheet_text, sheet_name] = ["sheet.txt", "sheet.bin"].map(|name| path_in(folder, name));
+    if described.parameters != packed.parameters {
+        return differs(format!("{sheet_name} is not the sheet that {sheet_text} describes."));
+    }
+    let [cards_text, cards_name] = ["cards.txt", "cards.bin"].map(|name| path_in(folder, name));
+    let mut cards = Cards::new(Description::open(&cards_text)?, described);
+    let mut blocks = Input::open(&cards_name)?;
+    let mut packed = [0; SIZE];
+    while let Some(card) = cards.next()? {
+        let (index, record) = (cards.count - 1, block::record(&card));
+        if blocks.fill(&mut packed)? < SIZE {
+            return differs(format!(
+                "{cards_name} has {} only, and {cards_text} describes more.",
+                counted(index, "card")
+            ));
+        }
+        if block::record(&packed) != record || !block::items(&packed).eq(block::items(&card)) {
+            return differs(format!("{cards_name}: card {index} is not record {record} as {cards_text} describes it."));
+        }
+    }
+    match blocks.fill(&mut packed)? {
+        0 => Ok(()),
+        _ => differs(format!("{cards_name} has more cards than the {} that {cards_text} describes.", cards.count)),
+    }
 }
 
 /// How many cards there are, where all of them fit; else what is wrong with those that do not.

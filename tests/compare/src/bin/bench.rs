@@ -5,7 +5,7 @@
 //! `full | 32`. The archives are made of a fixed seed. They are measured slice by slice, the three taking turns on each,
 //! and for each slice the least time of the rounds counts, so that what else the machine does disturbs little.
 
-use second::block::{self, Entry, BUNDLE, MARKED_CARD, MARKED_SHEET, SIZE, SUMMED};
+use second::block::{self, BUNDLE, Entry, MARKED_CARD, MARKED_SHEET, SIZE, SUMMED};
 use second::generate::Random;
 use second::operations;
 use std::hint::black_box;
@@ -120,6 +120,37 @@ fn bundled_archive(cards: usize) -> Vec<u8> {
         let entries: Vec<_> =
             texts.iter().map(|(head, mark, text)| Entry { head: *head, mark: *mark, text: text.as_bytes() }).collect();
         archive.extend(block::write_card_as(MARKED_CARD, record, &entries).expect("the entries have room"));
+    }
+    archive
+}
+
+/// The filters over periods.
+fn stay_filters() -> Vec<(&'static str, String)> {
+    vec![("1, period", "stay po 1974-06".into())]
+}
+
+/// A sheet with a period and a title.
+fn stay_sheet() -> Vec<u8> {
+    block::write_sheet(&[(6, b"stay"), (1, b"title")]).expect("two names have room")
+}
+
+/// Cards with a title and up to three stays, of which one in three is open at an end.
+fn stay_archive(cards: usize) -> Vec<u8> {
+    let mut random = Random::new(1974, 1);
+    let mut archive = Vec::with_capacity(cards * SIZE);
+    for record in 0..cards as u32 {
+        let mut texts = vec![(1, format!("Ward book {}", random.below(500)))];
+        for _ in 0..random.between(1, 3) {
+            let (year, month, day) = (random.between(1900, 1990), random.between(1, 12), random.between(1, 28));
+            let stay = match random.below(6) {
+                0 => format!("{year}-{month:02}-{day:02}/"),
+                1 => format!("/{year}-{month:02}-{day:02}"),
+                _ => format!("{year}-{month:02}-{day:02}/{}-{month:02}", year + random.between(0, 5)),
+            };
+            texts.push((0, stay));
+        }
+        let entries: Vec<_> = texts.iter().map(|(place, text)| (*place, text.as_bytes())).collect();
+        archive.extend(block::write_card(record, &entries).expect("the entries have room"));
     }
     archive
 }
@@ -245,6 +276,8 @@ fn main() -> ExitCode {
     }
     let archive = bundled_archive(cards);
     let asked = Asked { kind: "bundled", sheet: bundled_sheet(), archive, filters: bundled_filters() };
+    measure(&asked, rounds, rows);
+    let asked = Asked { kind: "stays", sheet: stay_sheet(), archive: stay_archive(cards), filters: stay_filters() };
     measure(&asked, rounds, rows);
     ExitCode::SUCCESS
 }

@@ -1,6 +1,6 @@
 -- `kind::decision::meaning_of` meets its contract: each arm is a kind's row. Assumes nothing.
 use borrow.Author.Needs.{needs}
-use Rattle.kind.proofs.Table.{present, of-string, of-number, of-date, of-token, of-reference, of-none}
+use Rattle.kind.proofs.Table.{present, of-string, of-number, of-date, of-token, of-reference, of-period, of-none}
 use Rattle.kind.proofs.decision.meaning_of.Statement.{statement}
 use Rattle.kind.proofs.decision.meaning_of.Tie as tie
 
@@ -22,6 +22,9 @@ token-meaning-requires c κs = search needs
 reference-meaning-requires : tie.Need-reference-meaning-requires
 reference-meaning-requires c κs = search needs
 
+date-meaning-requires-2 : tie.Need-date-meaning-requires-2
+date-meaning-requires-2 c κs = search needs
+
 returns-2 : tie.Need-returns-2
 returns-2 c = search (of-string, needs)
 
@@ -38,7 +41,10 @@ returns-6 : tie.Need-returns-6
 returns-6 c = search (of-reference, needs)
 
 returns-7 : tie.Need-returns-7
-returns-7 c = let n = c .match .rest in of-none _ _ (c .before .if1 .left) (n .0 .0 .0 .0 .1) (n .0 .0 .0 .1) (n .0 .0 .1) (n .0 .1) (n .1)
+returns-7 c = search (of-period, needs)
+
+returns-8 : tie.Need-returns-8
+returns-8 c = let n = c .match .rest in of-none _ _ (c .before .if1 .left) (n .0 .0 .0 .0 .0 .1) (n .0 .0 .0 .0 .1) (n .0 .0 .0 .1) (n .0 .0 .1) (n .0 .1) (n .1)
 
 pub meaning-of-spec : {M : Type 1} → statement M
 meaning-of-spec =
@@ -50,9 +56,11 @@ meaning-of-spec =
     date-meaning-requires
     token-meaning-requires
     reference-meaning-requires
+    date-meaning-requires-2
     returns-2
     returns-3
     returns-4
     returns-5
     returns-6
-    returns-7)
+    returns-7
+    returns-8)

@@ -4,8 +4,8 @@ use Rattle.kind.proofs.Values.{dates-unreadable, date-unreadable, dates
 use Rattle.kind.proofs.relate.dates_stand.Statement.{statement}
 use Rattle.kind.proofs.relate.dates_stand.Tie as tie
 
-read-requires : tie.Need-read-requires
-read-requires c κs = search needs
+read-span-requires : tie.Need-read-span-requires
+read-span-requires c κs = search needs
 
 enum-known-i : tie.Need-enum-known-i
 enum-known-i c = search needs
@@ -16,8 +16,8 @@ enum-told c = search needs
 returns : tie.Need-returns
 returns c = search (dates-unreadable, needs)
 
-read-requires-2 : tie.Need-read-requires-2
-read-requires-2 c κs = search needs
+read-requires : tie.Need-read-requires
+read-requires c κs = search needs
 
 enum-known-f : tie.Need-enum-known-f
 enum-known-f c = search needs
@@ -38,11 +38,11 @@ pub dates-stand-spec : {M : Type 1} → statement M
 dates-stand-spec =
     tie.close
     (tie.spec
-    read-requires
+    read-span-requires
     enum-known-i
     enum-told
     returns
-    read-requires-2
+    read-requires
     enum-known-f
     enum-told-2
     returns-2

@@ -1,8 +1,9 @@
 -- `pick::runs::next_run` meets its contract: a run that is not the last is full.
 -- Assumes nothing.
 use native.Mathlib.Omega.{arith}
+use lib.ListN.{length-take}
 use borrow.Author.Needs.{needs}
-use Rattle.pick.proofs.Bounds.{bytes-within, more-added, full-run}
+use Rattle.pick.proofs.Bounds.{bytes-within, full-run}
 use Rattle.pick.proofs.runs.next_run.Statement.{statement}
 use Rattle.pick.proofs.runs.next_run.Tie as tie
 
@@ -67,7 +68,10 @@ same-length-4 : tie.Need-same-length-4
 same-length-4 c = search needs
 
 returns-4 : tie.Need-returns-4
-returns-4 c = full-run (omega (arith, bytes-within (c .before .before .before .before .before .before .before .before .size .given .1) (c .before .before .before .before .before .before .before .before .before .before .before .before .fill .ensures))) (more-added _ _ (c .before .before .more .given .1) (c .before .before .before .before .print-run .ensures))
+returns-4 c =
+    full-run _ _ _ _ (c .before .before .more .given .1)
+    (simp length-take (omega (arith, bytes-within (c .before .before .before .before .before .before .before .before .size .given .1) (c .before .before .before .before .before .before .before .before .before .before .before .before .fill .ensures))))
+    (c .before .before .before .before .print-run .ensures)
 
 pub next-run-spec : {M : Type 1} → statement M
 next-run-spec =

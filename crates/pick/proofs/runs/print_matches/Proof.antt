@@ -36,12 +36,12 @@ returns c = search needs
 
 loop-less : tie.Need-loop-less Inv-loop μ-loop
 loop-less c =
-    let more = more-added _ _ (c .before .more .given .1) (c .before .before .before .before .before .next-run .ensures) in
+    let more = more-added _ (c .before .more .given .1) (c .before .before .before .before .before .next-run .ensures) in
     omega arith
 
 loop-again : tie.Need-loop-again Inv-loop μ-loop
 loop-again c =
-    let more = more-added _ _ (c .before .more .given .1) (c .before .before .before .before .before .next-run .ensures) in
+    let more = more-added _ (c .before .more .given .1) (c .before .before .before .before .before .next-run .ensures) in
     (search needs, omega arith, omega arith)
 
 print-too-many-requires : tie.Need-print-too-many-requires Inv-loop μ-loop

@@ -2,7 +2,7 @@
 -- Assumes nothing.
 use native.Mathlib.Omega.{arith}
 use borrow.Author.Needs.{needs}
-use Rattle.pick.proofs.Selecting.{selected-count, selected-place}
+use Rattle.pick.proofs.Selecting.{selected-count, selected-added, selected-place}
 use Rattle.pick.proofs.runs.print_run.Statement.{statement}
 use Rattle.pick.proofs.runs.print_run.Tie as tie
 
@@ -49,7 +49,7 @@ print-refusal-requires : tie.Need-print-refusal-requires
 print-refusal-requires c κs = search needs
 
 returns-2 : tie.Need-returns-2
-returns-2 c = search needs
+returns-2 c = search (selected-added, needs)
 
 returns-3 : tie.Need-returns-3
 returns-3 c = search needs

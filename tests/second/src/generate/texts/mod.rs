@@ -4,11 +4,13 @@
 
 mod dates;
 mod numbers;
+mod periods;
 mod tokens;
 mod words;
 
 use super::random::Random;
 use crate::block::Kind;
+use crate::date::Date;
 use crate::meaning::read_value;
 use crate::token::Pattern;
 
@@ -23,6 +25,7 @@ pub fn readable(random: &mut Random, kind: Kind) -> Vec<u8> {
         Kind::Date => dates::readable(random),
         Kind::Token => tokens::readable(random),
         Kind::Reference => words::reference(random),
+        Kind::Period => periods::readable(random),
     }
 }
 
@@ -36,6 +39,7 @@ pub fn near(random: &mut Random, kind: Kind, text: &[u8]) -> Vec<u8> {
         Kind::Number => numbers::near(random, text),
         Kind::Date => dates::near(random, text),
         Kind::Token => tokens::near(random, text),
+        Kind::Period => periods::near(random, text),
     }
 }
 
@@ -45,15 +49,22 @@ pub fn near_on_card(random: &mut Random, kind: Kind, text: &[u8]) -> Vec<u8> {
     first_good(random, kind, text, is_readable)
 }
 
-/// A text near this one that a filter may ask for.
+/// A text near a card's that a filter may ask for: near a period, a date near one of its own.
 pub fn near_in_filter(random: &mut Random, kind: Kind, text: &[u8]) -> Vec<u8> {
-    first_good(random, kind, text, |near| is_asked(kind, near))
+    match kind {
+        Kind::Period => {
+            let date = periods::one_date(random, text);
+            first_good(random, Kind::Date, &date, |near| is_asked(kind, near))
+        }
+        _ => first_good(random, kind, text, |near| is_asked(kind, near)),
+    }
 }
 
 /// Whether a filter may ask for this text under an operation that the kind has, other than pr.
 fn is_asked(kind: Kind, text: &[u8]) -> bool {
     match kind {
         Kind::Token => Pattern::read(text).is_some(),
+        Kind::Period => Date::read(text).is_some(),
         _ => read_value(kind, text).is_some(),
     }
 }
@@ -77,6 +88,7 @@ pub fn on_the_edge(random: &mut Random, kind: Kind) -> Vec<u8> {
         Kind::Date => dates::on_the_edge(random),
         Kind::Token => random.one(&["", "|", "||", "|a", "a|", "a", "a|b", "|||", "a|b|"]).into(),
         Kind::Reference => random.one(&["", " ", "a", "|", "0"]).into(),
+        Kind::Period => periods::on_the_edge(random),
     };
     if random.once_in(4) {
         return one_byte_changed(random, &edge);

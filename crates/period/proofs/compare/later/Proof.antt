@@ -1,0 +1,14 @@
+-- `period::compare::later` meets its contract: the instant is read back from its bits. Assumes nothing.
+use borrow.Author.Needs.{needs}
+use Rattle.period.proofs.Tests.{ends-after-back}
+use Rattle.period.proofs.compare.later.Statement.{statement}
+use Rattle.period.proofs.compare.later.Tie as tie
+
+ends-after-requires : tie.Need-ends-after-requires
+ends-after-requires c κs = search needs
+
+returns : tie.Need-returns
+returns c = search (ends-after-back, needs)
+
+pub later-spec : {M : Type 1} → statement M
+later-spec = tie.close (tie.spec ends-after-requires returns)

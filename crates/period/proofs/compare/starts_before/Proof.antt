@@ -1,0 +1,20 @@
+-- `period::compare::starts_before` meets its contract: a missing start lies before every instant, and a known one is compared. Assumes nothing.
+use borrow.Author.Needs.{needs}
+use Rattle.period.proofs.Tests.{starts-before-open, starts-before-at}
+use Rattle.period.proofs.compare.starts_before.Statement.{statement}
+use Rattle.period.proofs.compare.starts_before.Tie as tie
+
+enum-told : tie.Need-enum-told
+enum-told c = search needs
+
+enum-known-start : tie.Need-enum-known-start
+enum-known-start c = search needs
+
+returns : tie.Need-returns
+returns c = search (starts-before-open, needs)
+
+returns-2 : tie.Need-returns-2
+returns-2 c = search (starts-before-at, needs)
+
+pub starts-before-spec : {M : Type 1} → statement M
+starts-before-spec = tie.close (tie.spec enum-told enum-known-start returns returns-2)

@@ -1,0 +1,41 @@
+//! Definitions that compute, each tied by promises to one that says its rule in words: they need not be believed.
+
+use std::panic::Location;
+
+/// This file.
+pub const LIST: &str = "tests/definitions/src/twins.rs";
+
+/// A computing definition, and the promises that say what it comes to.
+#[derive(Debug, Clone, Copy)]
+pub struct Twin {
+    pub file: &'static str,
+    pub name: &'static str,
+    pub promises: &'static [&'static str],
+    /// The line of this file that says so.
+    pub line: u32,
+}
+
+#[track_caller]
+const fn twin(file: &'static str, name: &'static str, promises: &'static [&'static str]) -> Twin {
+    Twin { file, name, promises, line: Location::caller().line() }
+}
+
+const OPERATIONS: &str = "crates/sirophan/specs/Operations.antt";
+
+/// All of them. What is behind one of them does not count as behind a statement that names it.
+pub const TWINS: &[Twin] = &[
+    twin(OPERATIONS, "checkAnswer", &["check-refused", "check-and-match"]),
+    twin(OPERATIONS, "matchAnswer", &["match-refused", "match-verdict"]),
+    twin(OPERATIONS, "selectAnswer", &["select-refused", "select-answered"]),
+    twin(OPERATIONS, "selectCells", &["refusal-keeps-list", "select-answered"]),
+    twin("crates/sheet/specs/Sheet.antt", "readSheet", &["sheet-read"]),
+    twin("crates/card/specs/Card.antt", "readCard", &["card-read"]),
+    twin("crates/syntax/specs/Reader.antt", "read", &["filter-read"]),
+    twin("crates/kind/specs/Readable.antt", "cardReadable", &["card-text-readable"]),
+    twin("crates/kind/specs/Readable.antt", "valueReadable", &["value-readable"]),
+    twin("crates/kind/specs/Table.antt", "hasMeaning", &["operator-has-meaning"]),
+    twin("crates/kind/specs/Stands.antt", "stands", &["text-stands"]),
+    twin("crates/kind/specs/Stands.antt", "dateStands", &["dates-stand"]),
+    twin("crates/date/specs/Arithmetic.antt", "beforeByNumber", &["days-before-month"]),
+    twin("crates/number/specs/Billionths.antt", "inside", &["number-held"]),
+];
