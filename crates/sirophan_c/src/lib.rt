@@ -8,6 +8,7 @@ ghost use mathlib.Core.Path.{_≡_};
 ghost use lib.ListN.{length};
 ghost use Rattle.refusal.specs.Answers.{refusalAnswer};
 ghost use Rattle.sirophan.specs.Operations.{checkAnswer, matchAnswer, selectAnswer, selectCells};
+ghost use Rattle.sirophan.specs.Searching.{checkSearchAnswer, matchSearchAnswer, selectSearchAnswer, selectSearchCells};
 ghost use Rattle.sirophan_c.specs.Answers.{told};
 
 // The number of the refusal, 0 where there is none; and the count, 1 for yes and 0 for no, or the refusal's place.
@@ -74,6 +75,61 @@ pub extern "C" fn sirophan_select(
     ensures { λ _. ⌜ now (list .exit) ≡ selectCells (now (sheet .entry)) (now (filter .entry)) (now (cards .entry)) (now (list .entry)) ⌝ }
 {
     let selected = sirophan::select(sheet, filter, cards, list);
+    match selected {
+        Selected::Count(count) => Answer {
+            refusal: 0,
+            value: count,
+        },
+        Selected::Refused(refusal) => refused(refusal),
+    }
+}
+
+// How many alternatives the search string has, or a refusal.
+#[no_mangle]
+pub extern "C" fn sirophan_check_search(sheet: &[u8], text: &[u8]) -> Answer
+    ensures { λ r. ⌜ r ≡ told (checkSearchAnswer (now (sheet .entry)) (now (text .entry))) ⌝ }
+{
+    let checked = sirophan::check_search(sheet, text);
+    match checked {
+        Checked::Tests(tests) => Answer {
+            refusal: 0,
+            value: tests,
+        },
+        Checked::Refused(refusal) => refused(refusal),
+    }
+}
+
+// Whether the card matches the search string, or a refusal.
+#[no_mangle]
+pub extern "C" fn sirophan_match_search(sheet: &[u8], text: &[u8], card: &[u8]) -> Answer
+    ensures { λ r. ⌜ r ≡ told (matchSearchAnswer (now (sheet .entry)) (now (text .entry)) (now (card .entry))) ⌝ }
+{
+    let matched = sirophan::match_search(sheet, text, card);
+    match matched {
+        Matched::Yes => Answer {
+            refusal: 0,
+            value: 1,
+        },
+        Matched::No => Answer {
+            refusal: 0,
+            value: 0,
+        },
+        Matched::Refused(refusal) => refused(refusal),
+    }
+}
+
+// How many cards of the run match the search string, with their record numbers in the list from its first cell on, or a refusal.
+#[no_mangle]
+pub extern "C" fn sirophan_select_search(
+    sheet: &[u8],
+    text: &[u8],
+    cards: &[u8],
+    list: &mut [u32],
+) -> Answer
+    ensures { λ r. ⌜ r ≡ told (selectSearchAnswer (now (sheet .entry)) (now (text .entry)) (now (cards .entry)) (length (now (list .entry)))) ⌝ }
+    ensures { λ _. ⌜ now (list .exit) ≡ selectSearchCells (now (sheet .entry)) (now (text .entry)) (now (cards .entry)) (now (list .entry)) ⌝ }
+{
+    let selected = sirophan::select_search(sheet, text, cards, list);
     match selected {
         Selected::Count(count) => Answer {
             refusal: 0,

@@ -19,6 +19,18 @@ impl Library for Second {
     fn select(&self, sheet: &[u8], filter: &[u8], cards: &[u8], list: &mut [u32]) -> Result<usize, Refusal> {
         operations::select(sheet, filter, cards, list)
     }
+
+    fn check_search(&self, sheet: &[u8], text: &[u8]) -> Result<usize, Refusal> {
+        operations::check_search(sheet, text)
+    }
+
+    fn matches_search(&self, sheet: &[u8], text: &[u8], card: &[u8]) -> Result<bool, Refusal> {
+        operations::matches_search(sheet, text, card)
+    }
+
+    fn select_search(&self, sheet: &[u8], text: &[u8], cards: &[u8], list: &mut [u32]) -> Result<usize, Refusal> {
+        operations::select_search(sheet, text, cards, list)
+    }
 }
 
 #[test]
@@ -35,6 +47,12 @@ fn every_answer_and_mostly_verdicts() {
     for number in [1, 2, 3, 10, 11, 12, 13, 14, 15, 16, 17, 18, 20, 21, 22, 23, 30] {
         let answer = ("select", format!("refused-{number:02}"));
         assert!(outcome.answers.contains_key(&answer), "no selection is refused by {number}");
+    }
+    let verdicts = outcome.verdicts("match by search");
+    assert!(8 * verdicts >= cases, "{verdicts} of {cases} search strings end in yes or no");
+    for number in [1, 2, 3, 10, 50, 51, 14, 16, 17, 20, 21, 22, 23, 30] {
+        let answer = ("select by search", format!("refused-{number:02}"));
+        assert!(outcome.answers.contains_key(&answer), "no selection by a search string is refused by {number}");
     }
 }
 
