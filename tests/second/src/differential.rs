@@ -62,7 +62,7 @@ impl Outcome {
         let listed = |counts: Vec<String>| counts.join(", ");
         let modes = self.modes.iter().map(|(mode, count)| format!("{mode} {count}"));
         println!("cases: {}", listed(modes.collect()));
-        for row in ["check", "match", CONDITIONS, "select"] {
+        for row in ["check", "match", CONDITIONS, "select", "check by search", "match by search", "select by search"] {
             let answers = self.answers.iter().filter(|((of, _), _)| *of == row);
             let answers = answers.map(|((_, answer), count)| format!("{answer} {count}"));
             println!("{row}: {}", listed(answers.collect()));
