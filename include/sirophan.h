@@ -1,5 +1,5 @@
 /*
- * Sirophan: which catalogue cards of an archive match a FHIR R4 _filter.
+ * Sirophan: which catalogue cards of an archive match a FHIR R4 _filter or a search string.
  *
  * A sheet says which parameters the cards have and of which kind each is (1 string, 2 number, 3 date, 4 token,
  * 5 reference, 6 period); a card holds a record number and search values. Both are blocks of 512 bytes, in two forms
@@ -41,6 +41,8 @@ enum {
                                    text that also begins some filter within both limits, as for 12 and 13 */
     SIROPHAN_TOO_DEEP = 12,     /* it is none, and brackets more than 8 deep would let that beginning be longer */
     SIROPHAN_TOO_MANY = 13,     /* it is none, and more than 32 tests would */
+    SIROPHAN_NO_PAIR = 50,      /* search strings: a part between ampersands has a bad % or no "="; place: its first byte */
+    SIROPHAN_MANY_ALTERNATIVES = 51, /* search strings: more than 32 alternatives */
     SIROPHAN_UNKNOWN_NAME = 14, /* a name is not on the sheet, or stands where it cannot, such as a member's without its
                                    bundle; place: the test's first byte, as for 15 to 18 */
     SIROPHAN_BARE_BUNDLE = 18,  /* a bundle's name without a condition in square brackets */
@@ -79,6 +81,24 @@ sirophan_answer sirophan_select(const uint8_t *sheet, size_t sheet_len,
                                 const uint8_t *filter, size_t filter_len,
                                 const uint8_t *cards, size_t cards_len,
                                 uint32_t *list, size_t list_len);
+
+/*
+ * The same by a search string such as birthdate=ge1974&code=http://loinc.org|9: pairs joined by "&", all to be met; commas
+ * in a value give alternatives. Check answers how many alternatives there are. Refusals after the sheet's: 10, 50, 51; then
+ * for the first alternative at fault 14 (bundles and members too), 16 or 17, with the first byte of its pair as the place;
+ * then the cards', and 30.
+ */
+sirophan_answer sirophan_check_search(const uint8_t *sheet, size_t sheet_len,
+                                      const uint8_t *text, size_t text_len);
+
+sirophan_answer sirophan_match_search(const uint8_t *sheet, size_t sheet_len,
+                                      const uint8_t *text, size_t text_len,
+                                      const uint8_t *card, size_t card_len);
+
+sirophan_answer sirophan_select_search(const uint8_t *sheet, size_t sheet_len,
+                                       const uint8_t *text, size_t text_len,
+                                       const uint8_t *cards, size_t cards_len,
+                                       uint32_t *list, size_t list_len);
 
 /*
  * Writes the filter's plain spelling into the buffer, from the byte at the index from on, and answers its length. All

@@ -59,6 +59,28 @@ unsafe extern "C" {
         list_len: usize,
     ) -> Answer;
 
+    pub fn sirophan_check_search(sheet: *const u8, sheet_len: usize, text: *const u8, text_len: usize) -> Answer;
+
+    pub fn sirophan_match_search(
+        sheet: *const u8,
+        sheet_len: usize,
+        text: *const u8,
+        text_len: usize,
+        card: *const u8,
+        card_len: usize,
+    ) -> Answer;
+
+    pub fn sirophan_select_search(
+        sheet: *const u8,
+        sheet_len: usize,
+        text: *const u8,
+        text_len: usize,
+        cards: *const u8,
+        cards_len: usize,
+        list: *mut u32,
+        list_len: usize,
+    ) -> Answer;
+
     pub fn sirophan_spell(
         filter: *const u8,
         filter_len: usize,

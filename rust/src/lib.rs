@@ -57,6 +57,43 @@ pub fn select(sheet: &[u8], filter: &[u8], cards: &[u8], list: &mut [u32]) -> Re
     answer.into_result()
 }
 
+/// Checks a search string, such as `birthdate=ge1974&title=ward`, against a sheet and answers how many alternatives it has.
+///
+/// If it passes, every alternative has a meaning on every card that fits the sheet.
+pub fn check_search(sheet: &[u8], text: &[u8]) -> Result<usize, Refusal> {
+    // SAFETY: each pointer comes with the length of the slice that it is of, and both are only read.
+    let answer = unsafe { ffi::sirophan_check_search(sheet.as_ptr(), sheet.len(), text.as_ptr(), text.len()) };
+    answer.into_result()
+}
+
+/// Answers whether the card matches the search string.
+pub fn matches_search(sheet: &[u8], text: &[u8], card: &[u8]) -> Result<bool, Refusal> {
+    // SAFETY: each pointer comes with the length of the slice that it is of, and all are only read.
+    let answer = unsafe {
+        ffi::sirophan_match_search(sheet.as_ptr(), sheet.len(), text.as_ptr(), text.len(), card.as_ptr(), card.len())
+    };
+    answer.into_result().map(|value| value == 1)
+}
+
+/// Selects from a run of 0 to 128 cards by a search string, as [`select`] does by a filter.
+pub fn select_search(sheet: &[u8], text: &[u8], cards: &[u8], list: &mut [u32]) -> Result<usize, Refusal> {
+    // SAFETY: each pointer comes with the length of the slice that it is of. Only the list is written, and it cannot
+    // overlap the others, since it is borrowed for writing.
+    let answer = unsafe {
+        ffi::sirophan_select_search(
+            sheet.as_ptr(),
+            sheet.len(),
+            text.as_ptr(),
+            text.len(),
+            cards.as_ptr(),
+            cards.len(),
+            list.as_mut_ptr(),
+            list.len(),
+        )
+    };
+    answer.into_result()
+}
+
 /// Puts the plain spelling of a filter into the buffer, from the byte at the index `from` on, and answers its length. All
 /// other bytes stay, and a refusal leaves the whole buffer as it is.
 pub fn spell(filter: &[u8], buffer: &mut [u8], from: usize) -> Result<usize, Refusal> {

@@ -10,8 +10,9 @@ pub struct Refusal {
     /// The number, which says why there is no answer.
     pub number: u32,
     /// For 11 to 13 the length of the longest beginning of the text that also begins some filter, for 14 to 18 the first
-    /// byte of the test in the filter, for 21 to 23 the card's index in the run, for 30 the number of matching cards, for
-    /// 31 the number of rows needed, for 32 the length of the plain spelling, and 0 for all others.
+    /// byte of the test in the filter and in a search string that of the pair, as for 50; for 21 to 23 the card's index in
+    /// the run, for 30 the number of matching cards, for 31 the number of rows needed, for 32 the length of the plain
+    /// spelling, and 0 for all others.
     pub place: usize,
 }
 
@@ -42,15 +43,18 @@ impl Refusal {
             30 => "The list is shorter than the number of matching cards.",
             31 => "The rows are fewer than the sheet's parameters.",
             32 => "The plain spelling would run past the buffer's end.",
+            50 => "A part of the search string is no pair: it has no \"=\", or a % without two hex digits behind it.",
+            51 => "The search string has more than 32 alternatives.",
             _ => "This number is not known to this version.",
         }
     }
 
     /// The refusal as a person would want to see it. Where the text is no filter, it is shown with a caret under the
-    /// byte up to which it could be one; where a test of the filter is at fault, with a caret under the test's first.
+    /// byte up to which it could be one; where a test of the filter is at fault, with a caret under the test's first. In a
+    /// search string the caret is under the first byte of the pair.
     pub fn render(&self, filter: &[u8]) -> String {
         match self.number {
-            11..=18 => format!("{}\n{self}", underline(filter, self.place..self.place + 1)),
+            11..=18 | 50 => format!("{}\n{self}", underline(filter, self.place..self.place + 1)),
             _ => self.to_string(),
         }
     }

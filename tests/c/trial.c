@@ -192,6 +192,13 @@ int main(void) {
     expect_rows("a report on no cards", rows, (const sirophan_tally[7]){{0, 0}, {0, 0}, {0, 0}, {0, 0}, {0, 0}, OLD, OLD},
                 7);
 
+    expect("search: check", sirophan_check_search(SHEET, FILTER("birthdate=ge1974,1980&title=ward")), 0, 3);
+    expect("search: match", sirophan_match_search(SHEET, FILTER("birthdate=ge1974&title=ward"), cards, BLOCK), 0, 1);
+    expect("search: no pair", sirophan_check_search(SHEET, FILTER("title=a&")), SIROPHAN_NO_PAIR, 8);
+    expect("search: first alternative", sirophan_check_search(SHEET, FILTER("pages=abc,sa5")), SIROPHAN_UNREADABLE, 0);
+    expect("search: list too short", sirophan_select_search(SHEET, FILTER("title="), cards, sizeof cards, list, 0),
+           SIROPHAN_SHORT_LIST, 3);
+
     cards[2 * BLOCK] ^= 1;
     expect_counts("a report with the third card damaged",
                   sirophan_report(SHEET, FILTER(filter), cards, sizeof cards, rows, 0), SIROPHAN_CARD_SUM, 2, 0, 0);

@@ -53,6 +53,15 @@ module _ (c : Chosen) (o : ℕ) (same : Bool) where
     pub under-other : (o ≡ c .occurrence → ⊥) → false ≡ (counts c o && same)
     under-other e = rw (n, ne-eqb o (c .occurrence) e)
 
+-- all entries of a card
+abbrev pub every : Chosen
+every = record { all = true; occurrence = 0 }
+
+pub chosen-every : (es : List Entry) → chosenOf every es ≡ es
+unfolding chosenOf keep
+chosen-every [] = refl
+chosen-every (e ∷ es) = ap (λ (l : List Entry). e ∷ l) (chosen-every es)
+
 -- ---- whether there is a text
 
 abbrev pub hasValue : Chosen → ℕ → List Entry → Bool

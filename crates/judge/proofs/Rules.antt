@@ -4,7 +4,7 @@ use Prim.Native.Nat.{ℕ, zero, suc, _+_, _≤_}
 use native.Mathlib.Omega.{arith}
 use mathlib.Core.Path.{_≡_, refl, ap, sym, _∙_, subst}
 use mathlib.Core.Bool.{Bool, true, false, cond, not, false≢true}
-use mathlib.Core.Logic.{_↔_, ⊎-elim, inl, inr}
+use mathlib.Core.Logic.{_↔_, _⊎_, ⊎-elim, inl, inr}
 use mathlib.Core.List.{List, [], _∷_, List·Memᴰ, List·Memᴰ·head, List·Memᴰ·tail, map, cons≢nil}
 use lib.Dec.{eqb}
 use lib.ListN.{length, length-append}
@@ -21,7 +21,7 @@ use Rattle.base.proofs.Lists.{every-member}
 use Rattle.base.proofs.All.{all-head, all-right, all-left}
 use Rattle.base.specs.Kinds.{bundleKind}
 use Rattle.sheet.specs.Sheet.{Parameter, parameter, kindAt}
-use Rattle.sheet.specs.Encode.{HasParent, at-top, in-bundle, WellFormedSheet}
+use Rattle.sheet.specs.Encode.{ValueKind, WellFormedParameter, HasParent, at-top, in-bundle, WellFormedSheet}
 use Rattle.sheet.specs.Find.{find, nowhere, inside, enter, Listed}
 use Rattle.sheet.specs.declared.Found.{Found}
 use Rattle.sheet.proofs.Listed.{find-iff, at-listed, listed-kind}
@@ -118,6 +118,20 @@ module _ (ps : List Parameter) (w : WellFormedSheet ps) where
   pub missing-iff : (path : Path) → (lookup ps 0 path ≡ Found.Missing) ↔ NotOnSheet ps path
   missing-iff path = (missing-there path, (λ n. missing-back path (lookup ps 0 path) refl n))
 
+-- what a path names is listed
+pub names-listed : {ps : List Parameter} {path : Path} {c i k : ℕ} → NamesIn ps c path i k → (b : ℕ) × (n : List ℕ) × Listed ps i (parameter k b n)
+names-listed (names {c = c} {n = n} l) = (c, n, l)
+names-listed (names-member l m) = names-listed m
+
+-- and is a kind of values, or a bundle
+pub names-kind : (ps : List Parameter) → WellFormedSheet ps → {path : Path} {c i k : ℕ} → NamesIn ps c path i k → ValueKind k ⊎ (k ≡ bundleKind)
+names-kind ps w {k = k} j =
+    let (b, n, l) = names-listed j in
+    let good : WellFormedParameter (parameter k b n) =
+    all-head WellFormedParameter (all-right WellFormedParameter (l .before) (subst (All WellFormedParameter) (l .split) (w .parameters)))
+    in
+    good .kind
+
 -- ---- cards
 
 module _ (ps : List Parameter) where
@@ -158,13 +172,13 @@ pub data MeansFor (operator kind : ℕ) : Meaning → Type 0 where
 
 -- ---- some text of a set
 
-some-there : (p : List ℕ → Bool) (xs : List (List ℕ)) → someValue p xs ≡ true → (x : List ℕ) × List·Memᴰ x xs × (p x ≡ true)
+pub some-there : (p : List ℕ → Bool) (xs : List (List ℕ)) → someValue p xs ≡ true → (x : List ℕ) × List·Memᴰ x xs × (p x ≡ true)
 unfolding someValue
 some-there p [] h = absurd (false≢true h)
 some-there p (x ∷ xs) h =
     ⊎-elim (λ e. (x, List·Memᴰ·head refl, e)) (λ r. let w = some-there p xs r in (w .0, List·Memᴰ·tail (w .1), w .2)) (or-either (p x) (someValue p xs) h)
 
-some-back : (p : List ℕ → Bool) {x : List ℕ} {xs : List (List ℕ)} → List·Memᴰ x xs → p x ≡ true → someValue p xs ≡ true
+pub some-back : (p : List ℕ → Bool) {x : List ℕ} {xs : List (List ℕ)} → List·Memᴰ x xs → p x ≡ true → someValue p xs ≡ true
 unfolding someValue
 some-back p (List·Memᴰ·head {x = y} {xs = xs} e) h = or-left (p y) (someValue p xs) (ap p (sym e) ∙ h)
 some-back p (List·Memᴰ·tail {x = y} {xs = xs} m) h = or-right (p y) (someValue p xs) (some-back p m h)
@@ -277,7 +291,7 @@ module _ (ps : List Parameter) (w : WellFormedSheet ps) (c : ℕ) (es : List Ent
       at-parameter (Meaning.Differs r) j (rw n (other-means k r (row-reads k eq r .1 e))) (some-back (λ x. not (stands r x (t .value))) m differs)
 
   -- a test with a meaning says yes exactly where the rules do
-  says-iff : PrSpelled t → (testSays ps c es t ≡ true) ↔ Says ps c es t
+  pub says-iff : PrSpelled t → (testSays ps c es t ≡ true) ↔ Says ps c es t
   unfolding testSays
   says-iff meaning = (says-there meaning (lookup ps c (t .path)) refl, says-back)
 

@@ -64,10 +64,6 @@ pub data LacksMeaning (ps : List Parameter) (es : List Entry) (t : Test) : Type 
   -- "the set is not empty and .. the value is unreadable"
   unreadable : {i k : ℕ} → Names ps (t .path) i k → (valuesAt i es ≡ [] → ⊥) → (ReadableValue k (t .value) (t .operator) → ⊥) → LacksMeaning ps es t
 
--- the test has a meaning on every card that conforms to the sheet
-abbrev pub Meaningful : List Parameter → Test → Type 0
-Meaningful ps t = (card : List ℕ) (es : List Entry) → Conforms ps card es → LacksMeaning ps es t → ⊥
-
 -- ---- verdicts
 
 -- the test says yes of entries es; its path is looked up in c, 0 at the top and a bundle's index plus 1 among its members

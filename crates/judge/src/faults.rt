@@ -41,7 +41,7 @@ pub fn has_meaning(operator: u8, kind: u8) -> bool
 }
 
 // The fault of an operator and a value for a kind, the lowest in number.
-fn kind_fault(operator: u8, kind: u8, value: &[u8]) -> Fault
+pub fn kind_fault(operator: u8, kind: u8, value: &[u8]) -> Fault
     ensures { λ r. ⌜ r ≡ kindFault operator kind (now (value .entry)) ⌝ }
 {
     if unsupported(operator) {

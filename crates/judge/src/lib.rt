@@ -5,6 +5,7 @@ mod tests;
 mod verdicts;
 
 pub use faults::has_meaning;
+pub use faults::kind_fault;
 pub use sets::conforms;
 pub use sets::is_under;
 pub use tests::member_counts;
@@ -12,6 +13,7 @@ pub use tests::member_truth;
 pub use tests::test_fault;
 pub use tests::test_found;
 pub use tests::test_says;
+pub use verdicts::says_of;
 pub use verdicts::some_says;
 
 // What is wrong with a test on a sheet, whatever the card.

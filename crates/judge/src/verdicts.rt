@@ -13,7 +13,7 @@ ghost use Rattle.judge.specs.Sets.{valuesAt, chosenOf};
 ghost use Rattle.judge.specs.Verdicts.{someSays, saysOf, saysAt};
 
 // What a test with this meaning and value says of the texts under a parameter.
-fn says_of(card: &[u8], chosen: Chosen, index: u8, meaning: Meaning, value: &[u8]) -> bool
+pub fn says_of(card: &[u8], chosen: Chosen, index: u8, meaning: Meaning, value: &[u8]) -> bool
     requires { ⌜ readCard (now card) ≡ Reading.WellFormed ⌝ }
     ensures { λ r. ⌜ r ≡ saysOf meaning (now (value .entry)) (valuesAt index (chosenOf chosen (entriesOf (now (card .entry))))) ⌝ }
 {

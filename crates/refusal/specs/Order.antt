@@ -8,7 +8,8 @@ use lib.Dec.{eqb}
 use Rattle.base.specs.Lists.{member}
 
 -- the lines of document 01's table with those of 02, "lowest line first"; numbers that share a line go together, in the order in which
--- they decide there. 02: "12 and 13 share 11's line"; 18 is "ranking between 14 and 15"
+-- they decide there. 02: "12 and 13 share 11's line"; 18 is "ranking between 14 and 15"; of a search string "10; 50 ..; 51 ..; then per
+-- alternative .. 14 .., 16, 17"
 abbrev pub lines : List (List ℕ)
 lines =
     (1 ∷ [])
@@ -16,6 +17,8 @@ lines =
     ∷ (3 ∷ [])
     ∷ (10 ∷ [])
     ∷ (11 ∷ 12 ∷ 13 ∷ [])
+    ∷ (50 ∷ [])
+    ∷ (51 ∷ [])
     ∷ (14 ∷ 18 ∷ 15 ∷ 16 ∷ 17 ∷ [])
     ∷ (20 ∷ [])
     ∷ (21 ∷ 22 ∷ 23 ∷ [])

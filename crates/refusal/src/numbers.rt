@@ -27,5 +27,7 @@ pub fn number(reason: Reason) -> u32
         Reason::ShortList => 30,
         Reason::ShortRows => 31,
         Reason::ShortBuffer => 32,
+        Reason::NoPair => 50,
+        Reason::ManyAlternatives => 51,
     }
 }

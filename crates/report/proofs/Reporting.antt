@@ -14,12 +14,13 @@ use Rattle.sheet.specs.Encode.{SheetBlock}
 use Rattle.card.specs.Card.{entriesOf, recordNumber}
 use Rattle.refusal.specs.Answers.{counts, refused, yesOrNo}
 use Rattle.refusal.specs.Steps.{Step, found, stop, _>>=_, answer}
-use Rattle.sirophan.specs.Operations.{Prepared, prepare, Card, matchAnswer, selectAnswer}
+use Rattle.sirophan.specs.Operations.{Prepared, prepare, Card, questionOf, filterQuestion, matchAnswer, selectAnswer}
 use Rattle.sirophan.specs.Selection.{Run, matchingCards, RefusesCard}
 use Rattle.sirophan.proofs.CheckTable.{sheet-parameters}
 use Rattle.sirophan.proofs.Outcomes.{cardOf, Taken}
+use Rattle.sirophan.proofs.Prepare.{question-by}
 use Rattle.sirophan.proofs.RunTable.{run-unique}
-use Rattle.sirophan.proofs.Selection.{match-taken, matching-numbers, selects-by-match}
+use Rattle.sirophan.proofs.Selection.{match-taken, matching-numbers, selects-by-match, filter-number}
 use Rattle.report.specs.Operation.{Survey, survey, takeRows, says, saying, verdicts, reporting, reportAnswer, entriesIn, tallied, reportRows}
 use Rattle.report.specs.Refusals.{ReportLine}
 use Rattle.report.specs.Reporting.{isNo, otherCards, rowsOf, ReportAnswers, ReportsByMatch}
@@ -30,9 +31,12 @@ use Rattle.report.proofs.Table.{report-table}
 -- ---- match on each card of the run
 
 module _ (sheet text : List ℕ) (p : Prepared) (e : prepare sheet text ≡ found p) where
-  yes-matches : {bs : List (List ℕ)} → All (Taken (p .parameters)) bs → saying (says p) (map cardOf bs) ≡ length (matchingCards sheet text bs)
+  asks : filterQuestion sheet text ≡ found (questionOf p)
+  asks = question-by sheet text (found p) e
+
+  yes-matches : {bs : List (List ℕ)} → All (Taken (p .parameters)) bs → saying (says p) (map cardOf bs) ≡ length (matchingCards (matchAnswer sheet text) bs)
   yes-matches {bs = bs} ts =
-      sym (saying-matches p (map cardOf bs)) ∙ ap length (matching-numbers sheet text p e ts) ∙ length-map (matchingCards sheet text bs) recordNumber
+      sym (saying-matches p (map cardOf bs)) ∙ ap length (matching-numbers (filterQuestion sheet text) (questionOf p) asks ts) ∙ length-map (matchingCards (matchAnswer sheet text) bs) recordNumber
 
   no-next : (b : List ℕ) (bs : List (List ℕ)) (v : Bool) → matchAnswer sheet text b ≡ yesOrNo v
       → cond (not v) (suc (length (otherCards sheet text bs))) (length (otherCards sheet text bs)) ≡ length (otherCards sheet text (b ∷ bs))
@@ -43,7 +47,7 @@ module _ (sheet text : List ℕ) (p : Prepared) (e : prepare sheet text ≡ foun
   no-matches : {bs : List (List ℕ)} → All (Taken (p .parameters)) bs → saying (λ c. not (says p c)) (map cardOf bs) ≡ length (otherCards sheet text bs)
   unfolding saying
   no-matches all-empty = refl
-  no-matches (all-cons {x = b} {xs = bs} t ts) = rw (no-matches ts) (no-next b bs (says p (cardOf b)) (match-taken sheet text p e b t))
+  no-matches (all-cons {x = b} {xs = bs} t ts) = rw (no-matches ts) (no-next b bs (says p (cardOf b)) (match-taken (filterQuestion sheet text) (questionOf p) asks b t))
 
 -- ---- what a report has found
 
@@ -84,10 +88,10 @@ module _ (sheet text cards : List ℕ) (b : SheetBlock sheet) (rows : List Tally
     same-cards : s .cards ≡ map cardOf bs
     same-cards = f .same ∙ ap (map cardOf) same-blocks
 
-    counts-are : verdicts s ≡ counts (length (matchingCards sheet text bs)) (length (otherCards sheet text bs))
+    counts-are : verdicts s ≡ counts (length (matchingCards (matchAnswer sheet text) bs)) (length (otherCards sheet text bs))
     counts-are = rw same-cards (ap₂ counts (yes-matches sheet text (s .prepared) (f .prepares) taken) (no-matches sheet text (s .prepared) (f .prepares) taken))
 
-    make-up : length (matchingCards sheet text bs) + length (otherCards sheet text bs) ≡ length bs
+    make-up : length (matchingCards (matchAnswer sheet text) bs) + length (otherCards sheet text bs) ≡ length bs
     make-up =
         ap₂ (λ (x y : ℕ). x + y) (sym (yes-matches sheet text (s .prepared) (f .prepares) taken)) (sym (no-matches sheet text (s .prepared) (f .prepares) taken))
         ∙ saying-whole (says (s .prepared)) (map cardOf bs) ∙ length-map bs cardOf
@@ -118,20 +122,20 @@ module _ (sheet text cards : List ℕ) (b : SheetBlock sheet) (rows : List Tally
         writes = rows-by (found s) e ∙ rows-are s (found-by s e);
       }
 
-  card-refused : (n i : ℕ) → reporting sheet text cards (length rows) ≡ stop n i → 21 ≤ n → n ≤ 23 → RefusesCard sheet text bs n i
+  card-refused : (n i : ℕ) → reporting sheet text cards (length rows) ≡ stop n i → 21 ≤ n → n ≤ 23 → RefusesCard (matchAnswer sheet text) bs n i
   card-refused n i e low high =
       let list : List ℕ = replicate 128 0 in
       let stopped = survey-stopped sheet text cards n i (reporting-stopped sheet text cards (length rows) n i (λ z. omega arith) e) in
-      selects-by-match sheet text cards list bs run .refuses n i (ap (selectAnswer sheet text cards) (length-replicate {A = ℕ} 128 0) ∙ stopped) low high
+      selects-by-match (filterQuestion sheet text) (filter-number sheet text) cards list bs run .refuses n i (ap (selectAnswer sheet text cards) (length-replicate {A = ℕ} 128 0) ∙ stopped) low high
 
   by-answers : ReportAnswers sheet text cards (b .parameters) rows bs → ReportsByMatch sheet text cards (b .parameters) rows bs
   by-answers r =
       let a = r .verdicts in
       record {
-        says-yes = λ y n h. let z : y ≡ length (matchingCards sheet text bs) = cc in z;
+        says-yes = λ y n h. let z : y ≡ length (matchingCards (matchAnswer sheet text) bs) = cc in z;
         says-no = λ y n h. let z : n ≡ length (otherCards sheet text bs) = cc in z;
         whole = λ y n h.
-            let z : y ≡ length (matchingCards sheet text bs) = cc in
+            let z : y ≡ length (matchingCards (matchAnswer sheet text) bs) = cc in
             let w : n ≡ length (otherCards sheet text bs) = cc in
             rw (z, w) (r .whole);
         writes = λ y n h. r .writes;

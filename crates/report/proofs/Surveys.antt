@@ -17,7 +17,7 @@ use Rattle.syntax.specs.Tree.{testsOf}
 use Rattle.refusal.specs.Answers.{count, refused}
 use Rattle.refusal.specs.Steps.{Step, found, stop, _>>=_, answer}
 use Rattle.sirophan.specs.Answers.{checkedAnswer}
-use Rattle.sirophan.specs.Operations.{checkAnswer, Prepared, prepare, Card, takeRun, takeCards, matching, takeRoom, selection, selectAnswer}
+use Rattle.sirophan.specs.Operations.{checkAnswer, Prepared, prepare, Card, questionOf, filterQuestion, takeRun, takeCards, matching, takeRoom, selection, selectBy, selectAnswer}
 use Rattle.sirophan.specs.Passing.{Passing}
 use Rattle.sirophan.specs.Selection.{Run}
 use Rattle.sirophan.specs.declared.Checked.{Checked}
@@ -29,10 +29,10 @@ use Rattle.report.specs.Operation.{Survey, survey, says, saying}
 
 -- ---- how many cards say yes, and how many no
 
-pub saying-matches : (p : Prepared) (cs : List Card) → length (matching (p .parameters) (p .filter) cs) ≡ saying (says p) cs
+pub saying-matches : (p : Prepared) (cs : List Card) → length (matching (questionOf p .says) cs) ≡ saying (says p) cs
 unfolding matching saying
 saying-matches p [] = refl
-saying-matches p (c ∷ cs) = go (says p c) (matching (p .parameters) (p .filter) cs) (saying-matches p cs)
+saying-matches p (c ∷ cs) = go (says p c) (matching (questionOf p .says) cs) (saying-matches p cs)
   where
     go : (b : Bool) (ns : List ℕ) {k : ℕ} → length ns ≡ k → length (cond b (c .number ∷ ns) ns) ≡ cond b (suc k) k
     go true ns e = ap suc e
@@ -60,39 +60,39 @@ module _ (sheet text cards : List ℕ) where
 
   -- the selection is that of the survey
   abbrev matchesOf : Survey → List ℕ
-  matchesOf s = matching (s .prepared .parameters) (s .prepared .filter) (s .cards)
+  matchesOf s = matching (questionOf (s .prepared) .says) (s .cards)
 
   data Outcome : Step Survey → Step (List ℕ) → Type 0 where
     stopped : (n p : ℕ) → Outcome (stop n p) (stop n p)
     surveyed : (s : Survey) → Found s → Outcome (found s) (found (matchesOf s))
 
   -- all matches of a run have room
-  room-enough : (p : Prepared) (bs : List (List ℕ)) → Run cards bs → takeRoom 128 (matching (p .parameters) (p .filter) (map cardOf bs)) ≡ found (matching (p .parameters) (p .filter) (map cardOf bs))
+  room-enough : (p : Prepared) (bs : List (List ℕ)) → Run cards bs → takeRoom 128 (matching (questionOf p .says) (map cardOf bs)) ≡ found (matching (questionOf p .says) (map cardOf bs))
   unfolding takeRoom
   room-enough p bs run =
-      let few : length (matching (p .parameters) (p .filter) (map cardOf bs)) ≤ 128 =
+      let few : length (matching (questionOf p .says) (map cardOf bs)) ≤ 128 =
       omega (arith, saying-matches p (map cardOf bs), saying-whole (says p) (map cardOf bs), length-map bs cardOf, run .few)
       in
-      rw (le-leb (length (matching (p .parameters) (p .filter) (map cardOf bs))) 128 few)
+      rw (le-leb (length (matching (questionOf p .says) (map cardOf bs))) 128 few)
 
   by-cards : (p : Prepared) (bs : List (List ℕ)) → prepare sheet text ≡ found p → Run cards bs → {cs : Step (List Card)} → CardsOutcome (p .parameters) 0 bs cs
-      → Outcome (cs >>= λ ds. found (record { prepared = p; cards = ds })) (cs >>= λ ds. takeRoom 128 (matching (p .parameters) (p .filter) ds))
+      → Outcome (cs >>= λ ds. found (record { prepared = p; cards = ds })) (cs >>= λ ds. takeRoom 128 (matching (questionOf p .says) ds))
   by-cards p bs e run (all-taken ts) =
       rw (room-enough p bs run) (surveyed (record { prepared = p; cards = map cardOf bs }) (record { blocks = bs; run = run; prepares = e; taken = ts; same = refl }))
   by-cards p bs e run (one-stopped before b after n j split k ts m s) = stopped n j
 
   by-run : (p : Prepared) → prepare sheet text ≡ found p → (r : Step (List (List ℕ))) → takeRun cards ≡ r
-      → Outcome (r >>= λ bs. takeCards (p .parameters) 0 bs >>= λ ds. found (record { prepared = p; cards = ds })) (r >>= λ bs. takeCards (p .parameters) 0 bs >>= λ ds. takeRoom 128 (matching (p .parameters) (p .filter) ds))
+      → Outcome (r >>= λ bs. takeCards (p .parameters) 0 bs >>= λ ds. found (record { prepared = p; cards = ds })) (r >>= λ bs. takeCards (p .parameters) 0 bs >>= λ ds. takeRoom 128 (matching (questionOf p .says) ds))
   by-run p e (stop n i) h = stopped n i
   by-run p e (found bs) h = by-cards p bs e (run-iff cards bs .0 h) (cards-outcome (p .parameters) 0 bs)
 
-  outcome : Outcome (survey sheet text cards) (selection sheet text cards 128)
-  unfolding survey selection
+  outcome : Outcome (survey sheet text cards) (selection (filterQuestion sheet text) cards 128)
+  unfolding survey selection filterQuestion
   outcome = by-prepare (prepare sheet text) refl
     where
       by-prepare : (r : Step Prepared) → prepare sheet text ≡ r
           → Outcome (r >>= λ p. takeRun cards >>= λ bs. takeCards (p .parameters) 0 bs >>= λ ds. found (record { prepared = p; cards = ds }))
-          (r >>= λ p. takeRun cards >>= λ bs. takeCards (p .parameters) 0 bs >>= λ ds. takeRoom 128 (matching (p .parameters) (p .filter) ds))
+          ((r >>= λ p. found (questionOf p)) >>= λ q. takeRun cards >>= λ bs. takeCards (q .parameters) 0 bs >>= λ ds. takeRoom 128 (matching (q .says) ds))
       by-prepare (stop n i) e = stopped n i
       by-prepare (found p) e = by-run p e (takeRun cards) refl
 
@@ -106,7 +106,7 @@ module _ (sheet text cards : List ℕ) where
       go (surveyed t f) h = let same : t ≡ s = cc in subst Found same f
 
   pub survey-stopped : (n p : ℕ) → survey sheet text cards ≡ stop n p → selectAnswer sheet text cards 128 ≡ refused n p
-  unfolding selectAnswer
+  unfolding selectBy
   survey-stopped n p = go outcome
     where
       go : {r : Step Survey} {t : Step (List ℕ)} → Outcome r t → r ≡ stop n p → answer (t >>= λ ns. found (count (length ns))) ≡ refused n p
@@ -115,7 +115,7 @@ module _ (sheet text cards : List ℕ) where
 
   -- where it refuses, the survey stops so
   pub survey-refused : (n p : ℕ) → selectAnswer sheet text cards 128 ≡ refused n p → survey sheet text cards ≡ stop n p
-  unfolding selectAnswer
+  unfolding selectBy
   survey-refused n p = go outcome
     where
       go : {s : Step Survey} {t : Step (List ℕ)} → Outcome s t → answer (t >>= λ ns. found (count (length ns))) ≡ refused n p → s ≡ stop n p
@@ -130,7 +130,7 @@ module _ (sheet text cards : List ℕ) where
     pub yes : saying (says (survey-of .prepared)) (survey-of .cards) ≡ y
 
   pub survey-counted : (y : ℕ) → selectAnswer sheet text cards 128 ≡ count y → Counted y
-  unfolding selectAnswer
+  unfolding selectBy
   survey-counted y = go outcome refl
     where
       go : {s : Step Survey} {t : Step (List ℕ)} → Outcome s t → survey sheet text cards ≡ s → answer (t >>= λ ns. found (count (length ns))) ≡ count y → Counted y

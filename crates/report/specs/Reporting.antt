@@ -33,19 +33,19 @@ rowsOf ps bs rows = tallies (map entriesOf bs) 0 (length ps) ++ drop (length ps)
 
 -- where no line of the table holds, a report answers on how many cards match answers yes, and on how many no, and writes the rows
 pub record ReportAnswers (sheet text cards : List ℕ) (ps : List Parameter) (rows : List Tally) (bs : List (List ℕ)) : Type 0 where
-  pub verdicts : reportAnswer sheet text cards (length rows) ≡ counts (length (matchingCards sheet text bs)) (length (otherCards sheet text bs))
+  pub verdicts : reportAnswer sheet text cards (length rows) ≡ counts (length (matchingCards (matchAnswer sheet text) bs)) (length (otherCards sheet text bs))
   -- "yes and no .. make up the run"
-  pub whole : length (matchingCards sheet text bs) + length (otherCards sheet text bs) ≡ length bs
+  pub whole : length (matchingCards (matchAnswer sheet text) bs) + length (otherCards sheet text bs) ≡ length bs
   pub writes : reportRows sheet text cards rows ≡ rowsOf ps bs rows
 
 -- what a report answers, and writes into the rows, by what match answers on each card of the run
 pub record ReportsByMatch (sheet text cards : List ℕ) (ps : List Parameter) (rows : List Tally) (bs : List (List ℕ)) : Type 0 where
-  pub says-yes : (y n : ℕ) → reportAnswer sheet text cards (length rows) ≡ counts y n → y ≡ length (matchingCards sheet text bs)
+  pub says-yes : (y n : ℕ) → reportAnswer sheet text cards (length rows) ≡ counts y n → y ≡ length (matchingCards (matchAnswer sheet text) bs)
   pub says-no : (y n : ℕ) → reportAnswer sheet text cards (length rows) ≡ counts y n → n ≡ length (otherCards sheet text bs)
   pub whole : (y n : ℕ) → reportAnswer sheet text cards (length rows) ≡ counts y n → y + n ≡ length bs
   pub writes : (y n : ℕ) → reportAnswer sheet text cards (length rows) ≡ counts y n → reportRows sheet text cards rows ≡ rowsOf ps bs rows
   -- "for 21 to 23 the first faulty card decides"
-  pub refuses : (n i : ℕ) → reportAnswer sheet text cards (length rows) ≡ refused n i → 21 ≤ n → n ≤ 23 → RefusesCard sheet text bs n i
+  pub refuses : (n i : ℕ) → reportAnswer sheet text cards (length rows) ≡ refused n i → 21 ≤ n → n ≤ 23 → RefusesCard (matchAnswer sheet text) bs n i
 
 -- ---- a row in words
 

@@ -11,8 +11,8 @@ use borrow.Author.Tests.{leb-true}
 use Rattle.base.proofs.Tests.{cond-elim}
 use Rattle.refusal.specs.Answers.{count, refused}
 use Rattle.refusal.specs.Steps.{Step, found, stop, _>>=_, answer}
-use Rattle.sirophan.specs.Operations.{Prepared, prepare, takeRun, takeCards, matching, takeRoom, selection, selectAnswer}
-use Rattle.sirophan.proofs.Prepare.{prepare-number}
+use Rattle.sirophan.specs.Operations.{Question, takeRun, takeCards, matching, takeRoom, selection, selectBy}
+use Rattle.sirophan.proofs.Outcomes.{OtherNumber}
 use Rattle.sirophan.proofs.Runs.{run-iff, run-or-none}
 use Rattle.sirophan.proofs.Selection.{selects-by-match}
 
@@ -34,10 +34,10 @@ bounded-then (stop n p) f g = stopped (f n p refl)
 other-number : {n p : ℕ} → (21 ≤ n → n ≤ 23 → ⊥) → PlaceBound n p
 other-number h = record { within = λ low high. absurd (h low high) }
 
-module _ (sheet text cards list : List ℕ) where
-  module _ (q : Prepared) (bs : List (List ℕ)) (e : prepare sheet text ≡ found q) (f : takeRun cards ≡ found bs) (n p : ℕ) where
-    card-answer : takeCards (q .parameters) 0 bs ≡ stop n p → selectAnswer sheet text cards (length list) ≡ refused n p
-    unfolding selectAnswer selection
+module _ (asked : Step Question) (other : (n p : ℕ) → asked ≡ stop n p → OtherNumber n) (cards list : List ℕ) where
+  module _ (q : Question) (bs : List (List ℕ)) (e : asked ≡ found q) (f : takeRun cards ≡ found bs) (n p : ℕ) where
+    card-answer : takeCards (q .parameters) 0 bs ≡ stop n p → selectBy asked cards (length list) ≡ refused n p
+    unfolding selectBy selection
     card-answer g = rw (e, f, g)
 
     -- a card that is refused stands in the run at its place
@@ -46,7 +46,7 @@ module _ (sheet text cards list : List ℕ) where
       within = λ low high.
           let run = run-iff cards bs .0 f in
           let few = run .few in
-          let card = selects-by-match sheet text cards list bs run .refuses n p (card-answer g) low high in
+          let card = selects-by-match asked other cards list bs run .refuses n p (card-answer g) low high in
           let index = card .at .index in
           omega (arith, simp length-append at (ap length (card .at .split)));
     }
@@ -55,26 +55,26 @@ module _ (sheet text cards list : List ℕ) where
   run-place n p e =
       other-number (λ low high. ⊎-elim (λ w. let f = w .1 in let z : _≡_ {A = ℕ} 0 1 = cc in omega arith) (λ f. let z : n ≡ 20 = cc in omega arith) (run-or-none cards))
 
-  selection-bounded : Bounded (length list) (selection sheet text cards (length list))
+  selection-bounded : Bounded (length list) (selection asked cards (length list))
   unfolding selection takeRoom
   selection-bounded =
-      bounded-then (prepare sheet text) (λ n p e. other-number (λ low high. omega (arith, prepare-number sheet text n p e)))
+      bounded-then asked (λ n p e. other-number (λ low high. other n p e low (omega arith)))
       (λ q e. bounded-then (takeRun cards) run-place
       (λ bs f. bounded-then (takeCards (q .parameters) 0 bs) (card-place q bs e f)
-      (λ cs g. let ns = matching (q .parameters) (q .filter) cs in
+      (λ cs g. let ns = matching (q .says) cs in
       cond-elim (Bounded (length list)) (leb (length ns) (length list)) (λ h. listed (leb-true (length ns) (length list) h))
       (λ _. stopped (other-number (λ low high. omega arith))))))
 
-  pub count-within : (n : ℕ) → selectAnswer sheet text cards (length list) ≡ count n → n ≤ length list
-  unfolding selectAnswer
+  pub count-within : (n : ℕ) → selectBy asked cards (length list) ≡ count n → n ≤ length list
+  unfolding selectBy
   count-within n = by-bound selection-bounded
     where
       by-bound : {t : Step (List ℕ)} → Bounded (length list) t → answer (t >>= λ ns. found (count (length ns))) ≡ count n → n ≤ length list
       by-bound (listed {ns = ns} h) a = let same : length ns ≡ n = cc in omega arith
       by-bound (stopped h) a = absurd (let z : _≡_ {A = ℕ} 0 1 = cc in omega arith)
 
-  pub place-within : (n p : ℕ) → selectAnswer sheet text cards (length list) ≡ refused n p → 21 ≤ n → n ≤ 23 → p < 128
-  unfolding selectAnswer
+  pub place-within : (n p : ℕ) → selectBy asked cards (length list) ≡ refused n p → 21 ≤ n → n ≤ 23 → p < 128
+  unfolding selectBy
   place-within n p = by-bound selection-bounded
     where
       by-bound : {t : Step (List ℕ)} → Bounded (length list) t → answer (t >>= λ ns. found (count (length ns))) ≡ refused n p → 21 ≤ n → n ≤ 23 → p < 128

@@ -30,6 +30,7 @@ use Rattle.judge.specs.Faults.{firstFault}
 use Rattle.refusal.specs.Answers.{count, refused}
 use Rattle.refusal.specs.Steps.{Step, found, _>>=_}
 use Rattle.sirophan.specs.Operations.{sheetStep, takeSheet, treeStep, takeFilter, testsStep, Prepared, prepare, checkAnswer}
+use Rattle.sirophan.specs.Demand.{filterTests}
 use Rattle.sirophan.specs.Numbers.{TestLine, line-14, line-18, line-15, line-16, line-17}
 use Rattle.refusal.specs.Order.{group, rank, Before, Decides}
 use Rattle.sirophan.specs.Refusals.{SheetLine, line-1, line-2, line-3, TextLine, line-10, line-11, TestsLine, line-of-test, CheckLine}
@@ -44,7 +45,7 @@ use Rattle.refusal.proofs.Order.{apart-at, before-itself, before-ranks, later-g
 -- ---- the sheet
 
 -- the parameters found are those of the sheet
-abbrev OfSheet : List ℕ → List Parameter → Type 0
+abbrev pub OfSheet : List ℕ → List Parameter → Type 0
 OfSheet sheet ps = (s : SheetBlock sheet) × (s .parameters ≡ ps)
 
 module _ (sheet : List ℕ) where
@@ -74,9 +75,15 @@ module _ (sheet : List ℕ) where
       one-decides (record { holds = line-3 u; first = sheet-first 3 (omega arith) (λ l. a) (λ l. b) })
   sheet-step (all-right a b s) = none-holds (s, sym (sheet-parameters s)) (sheet-none a b s)
 
-  sheet-decided : Bytes sheet → Decided (OfSheet sheet) (SheetLine sheet) (takeSheet sheet)
+  pub sheet-decided : Bytes sheet → Decided (OfSheet sheet) (SheetLine sheet) (takeSheet sheet)
   unfolding takeSheet
   sheet-decided bytes = sheet-step (sheet-reads-to sheet bytes)
+
+pub sheet-group : {sheet : List ℕ} (n p : ℕ) → SheetLine sheet n p → group n ≤ group 3
+unfolding group member
+sheet-group n p (line-1 u) = omega arith
+sheet-group n p (line-2 u) = omega arith
+sheet-group n p (line-3 u) = omega arith
 
 -- ---- the text
 
@@ -152,7 +159,7 @@ module _ (ps : List Parameter) where
   abbrev LineAmong : List Test → ℕ → ℕ → Type 0
   LineAmong ts n p = (t : Test) × List·Memᴰ t ts × HeadLine t n p
 
-  head-decided : {t : Test} {s : Step (Unit {0})} → TestOutcome ps t s → Decided (λ u. Unit {0}) (HeadLine t) s
+  head-decided : {t : Test} {s : Step (Unit {0})} → TestOutcome (filterTests ps) t s → Decided (λ u. Unit {0}) (HeadLine t) s
   head-decided (test-means m no-line) = none-holds tt (λ n p l. no-line n (l .0))
   head-decided {t = t} (test-refused r) =
       one-decides
@@ -197,12 +204,6 @@ module _ (sheet text : List ℕ) where
     filter-decided =
         decided-found (λ u. record { parameters = s .parameters; filter = f }) (λ u _. (s, refl, spells))
         (decided-as (λ n p. (among-there n p, among-back)) (tests-decided (s .parameters) (s .well-formed) (tests-rise text f spells)))
-
-  sheet-group : (n p : ℕ) → SheetLine sheet n p → group n ≤ group 3
-  unfolding group member
-  sheet-group n p (line-1 u) = omega arith
-  sheet-group n p (line-2 u) = omega arith
-  sheet-group n p (line-3 u) = omega arith
 
   text-group : (n p : ℕ) → TextLine text n p → (group 3 < group n) × (group n ≤ group 11)
   unfolding group member

@@ -7,16 +7,19 @@ use lib.ListN.{length, getD}
 use Rattle.base.proofs.All.{bytes-of}
 use Rattle.refusal.specs.Answers.{Answer}
 use Rattle.sirophan.specs.Answers.{checkedAnswer, matchedAnswer, selectedAnswer}
-use Rattle.sirophan.specs.Operations.{checkAnswer, matchAnswer, selectAnswer}
+use Rattle.sirophan.specs.Operations.{checkAnswer, filterQuestion, matchAnswer, selectAnswer}
 use Rattle.sirophan.specs.Refusals.{CheckLine, MatchLine, SelectLine}
 use Rattle.sirophan.specs.Selecting.{Selects}
-use Rattle.sirophan.specs.Contracts.{RefusedBy, Checks, Matches, SelectsInto}
+use Rattle.sirophan.specs.Searching.{checkSearchAnswer, searchQuestion, matchSearchAnswer, selectSearchAnswer}
+use Rattle.sirophan.specs.SearchRefusals.{CheckSearchLine, MatchSearchLine, SelectSearchLine}
+use Rattle.sirophan.specs.Contracts.{RefusedBy, Checks, Matches, SelectsInto, ChecksSearch, MatchesSearch, SelectsSearchInto}
 use Rattle.sirophan.specs.declared.Checked.{Checked}
 use Rattle.sirophan.specs.declared.Matched.{Matched}
 use Rattle.sirophan.specs.declared.Selected.{Selected}
 use Rattle.sirophan.proofs.CheckTable.{check-table}
 use Rattle.sirophan.proofs.MatchTable.{match-table}
 use Rattle.sirophan.proofs.SelectTable.{select-table}
+use Rattle.sirophan.proofs.SearchTable.{check-search-table, match-search-table, select-search-table}
 
 -- what a slice's type says of its elements
 abbrev pub Sliced : List ℕ → Type 0
@@ -37,7 +40,7 @@ matches sheet text card r e s c =
       refuses = refused-by (MatchLine sheet text card) (matchedAnswer r) (matchAnswer sheet text card) e (match-table sheet text card (bytes-of sheet s) (bytes-of card c));
     }
 
-pub selects-into : (sheet text cards list : List ℕ) (r : Selected) (exit : List ℕ) → Selects sheet text cards list r exit → Sliced sheet → Sliced cards
+pub selects-into : (sheet text cards list : List ℕ) (r : Selected) (exit : List ℕ) → Selects (filterQuestion sheet text) cards list r exit → Sliced sheet → Sliced cards
     → SelectsInto sheet text cards list r exit
 selects-into sheet text cards list r exit h s c =
     record {
@@ -46,4 +49,33 @@ selects-into sheet text cards list r exit h s c =
       refuses =
           refused-by (SelectLine sheet text cards (length list)) (selectedAnswer r) (selectAnswer sheet text cards (length list)) (h .answers)
           (select-table sheet text cards (length list) (bytes-of sheet s) (bytes-of cards c));
+    }
+
+-- ---- by a search string
+
+pub checks-search : (sheet text : List ℕ) (r : Checked) → checkedAnswer r ≡ checkSearchAnswer sheet text → Sliced sheet → ChecksSearch sheet text r
+checks-search sheet text r e s =
+    record {
+      answers = e;
+      refuses = refused-by (CheckSearchLine sheet text) (checkedAnswer r) (checkSearchAnswer sheet text) e (check-search-table sheet text (bytes-of sheet s));
+    }
+
+pub matches-search : (sheet text card : List ℕ) (r : Matched) → matchedAnswer r ≡ matchSearchAnswer sheet text card → Sliced sheet → Sliced card → MatchesSearch sheet text card r
+matches-search sheet text card r e s c =
+    record {
+      answers = e;
+      refuses =
+          refused-by (MatchSearchLine sheet text card) (matchedAnswer r) (matchSearchAnswer sheet text card) e
+          (match-search-table sheet text card (bytes-of sheet s) (bytes-of card c));
+    }
+
+pub selects-search-into : (sheet text cards list : List ℕ) (r : Selected) (exit : List ℕ) → Selects (searchQuestion sheet text) cards list r exit → Sliced sheet → Sliced cards
+    → SelectsSearchInto sheet text cards list r exit
+selects-search-into sheet text cards list r exit h s c =
+    record {
+      answers = h .answers;
+      cells = h .cells;
+      refuses =
+          refused-by (SelectSearchLine sheet text cards (length list)) (selectedAnswer r) (selectSearchAnswer sheet text cards (length list)) (h .answers)
+          (select-search-table sheet text cards (length list) (bytes-of sheet s) (bytes-of cards c));
     }

@@ -1,7 +1,8 @@
--- Check and match meet the letter's third demand.
+-- Check and match meet the letter's third demand: they go by what the tests come to, and the tests are tried in the order of the text.
 -- Assumes nothing.
 use Prim.Native.Nat.{ℕ, _≤_}
 use mathlib.Core.Path.{_≡_, refl, sym, _∙_, subst}
+use mathlib.Core.Bool.{Bool}
 use mathlib.Core.List.{List}
 use lib.ListN.{length}
 use Rattle.base.specs.Lists.{All}
@@ -12,53 +13,49 @@ use Rattle.card.specs.Card.{Entry}
 use Rattle.syntax.specs.Tree.{Tree, testsOf}
 use Rattle.syntax.specs.Grammar.{Spells}
 use Rattle.judge.specs.Verdicts.{filterSays}
-use Rattle.refusal.specs.Answers.{Answer, yesOrNo, count, refused}
-use Rattle.refusal.specs.Steps.{Step, found, stop}
-use Rattle.sirophan.specs.Operations.{testsStep, Prepared, prepare, checkAnswer, matchAnswer}
-use Rattle.judge.specs.Rules.{Conforms, Meaningful}
+use Rattle.refusal.specs.Answers.{Answer, yesOrNo, count}
+use Rattle.refusal.specs.Steps.{Step, found, stop, _>>=_, answer}
+use Rattle.sirophan.specs.Operations.{testsStep, Prepared, takeCard, checkAnswer, questionOf, filterQuestion, matchAnswer}
+use Rattle.judge.specs.Rules.{Conforms, FilterSays}
 use Rattle.sirophan.specs.Verdicts.{Verdict}
-use Rattle.sirophan.specs.Demand.{Demand, MeetsDemand}
+use Rattle.sirophan.specs.Demand.{TestRules, Meaningful, Demand, filterTests, MeetsDemand}
 use Rattle.sirophan.proofs.Verdicts.{verdict-by}
 use Rattle.refusal.proofs.Answers.{count-not-refused}
 use Rattle.sirophan.proofs.Cards.{conforms-size, conforms-bytes, conforms-taken}
 use Rattle.sirophan.proofs.Outcomes.{TestsOutcome, all-mean, one-refused}
-use Rattle.sirophan.proofs.Prepare.{check-by, match-by, tests-outcome, prepared}
+use Rattle.sirophan.proofs.Prepare.{check-by, match-by, question-by, tests-outcome, prepared}
 
-module _ (sheet text : List ℕ) (s : SheetBlock sheet) (f : Tree) (short : length text ≤ 1024) (spells : Spells text f) where
-  abbrev ps : List Parameter
-  ps = s .parameters
+-- ---- over any kind of test: a check and a match that go by what the tests come to
 
-  abbrev ready : Prepared
-  ready = record { parameters = ps; filter = f }
-
-  meets : {tests : Step (Unit {0})} → testsStep ps (testsOf f) ≡ tests → TestsOutcome ps (testsOf f) tests → Demand ps f (checkAnswer sheet text) (matchAnswer sheet text)
-  meets e (all-mean m) =
-      let done : prepare sheet text ≡ found ready = prepared sheet text s f short spells ∙ rw e in
-      let passed : checkAnswer sheet text ≡ count (length (testsOf f)) = check-by sheet text (found ready) done in
+module _ {T : Type 0} (rules : TestRules T) (ts : List T) (Says : List Entry → Type 0) (says : List Entry → Bool) (check : Answer) (match : List ℕ → Answer) where
+  pub demand-by : {tests : Step (Unit {0})} → TestsOutcome rules ts tests
+      → (All (Meaningful rules) ts → (card : List ℕ) (es : List Entry) → Conforms (rules .parameters) card es → Verdict (Says es) (yesOrNo (says es)))
+      → check ≡ answer (tests >>= λ u. found (count (length ts)))
+      → ((card : List ℕ) → match card ≡ answer (tests >>= λ u. takeCard (rules .parameters) 0 card >>= λ c. found (yesOrNo (says (c .entries)))))
+      → Demand rules ts Says check match
+  demand-by (all-mean m) verdict passed matched =
       record {
         passes = ((λ _. m), (λ _. passed));
         verdict = λ _ card es c.
-            let e : matchAnswer sheet text card ≡ yesOrNo (filterSays ps 0 es f) = match-by sheet text (found ready) done card ∙ rw (conforms-taken c 0) in
-            subst (λ (a : Answer). Verdict ps es f a) (sym e) (verdict-by ps (s .well-formed) es f (all-map (λ t k. k card es c) m));
+            let e : match card ≡ yesOrNo (says es) = matched card ∙ rw (conforms-taken c 0) in
+            subst (λ (a : Answer). Verdict (Says es) a) (sym e) (verdict m card es c);
         refuses = λ n. absurd (n passed);
       }
-  meets e (one-refused before t after n split m r) =
-      let done : prepare sheet text ≡ stop n (t .at) = prepared sheet text s f short spells ∙ rw e in
-      let failed : checkAnswer sheet text ≡ refused n (t .at) = check-by sheet text (stop n (t .at)) done in
-      let senseless : All (Meaningful ps) (testsOf f) → ⊥ =
-      λ all. all-head (Meaningful ps) (all-right (Meaningful ps) before (subst (All (Meaningful ps)) split all)) (r .card) (r .entries) (r .conforms) (r .lacks)
+  demand-by (one-refused before t after n split m r) verdict failed matched =
+      let senseless : All (Meaningful rules) ts → ⊥ =
+      λ all. all-head (Meaningful rules) (all-right (Meaningful rules) before (subst (All (Meaningful rules)) split all)) (r .card) (r .entries) (r .conforms) (r .lacks)
       in
       record {
-        passes = ((λ p. absurd (count-not-refused (length (testsOf f)) n (t .at) (sym p ∙ failed))), (λ all. absurd (senseless all)));
-        verdict = λ p. absurd (count-not-refused (length (testsOf f)) n (t .at) (sym p ∙ failed));
+        passes = ((λ p. absurd (count-not-refused (length ts) n (rules .place t) (sym p ∙ failed))), (λ all. absurd (senseless all)));
+        verdict = λ p. absurd (count-not-refused (length ts) n (rules .place t) (sym p ∙ failed));
         refuses = λ _. record {
           before = before;
           test = t;
           after = after;
-          tests = split;
+          split = split;
           number = n;
           checked = failed;
-          matched = match-by sheet text (stop n (t .at)) done;
+          matched = matched;
           first = m;
           table = r .table;
           card = r .card;
@@ -70,10 +67,41 @@ module _ (sheet text : List ℕ) (s : SheetBlock sheet) (f : Tree) (short : leng
         };
       }
 
+-- ---- filters
+
+module _ (sheet text : List ℕ) (s : SheetBlock sheet) (f : Tree) (short : length text ≤ 1024) (spells : Spells text f) where
+  abbrev ps : List Parameter
+  ps = s .parameters
+
+  abbrev ready : Step (Unit {0}) → Step Prepared
+  ready tests = tests >>= λ u. found (record { parameters = ps; filter = f })
+
+  check-tests : checkAnswer sheet text ≡ answer (testsStep ps (testsOf f) >>= λ u. found (count (length (testsOf f))))
+  check-tests = check-by sheet text (ready (testsStep ps (testsOf f))) (prepared sheet text s f short spells) ∙ by (testsStep ps (testsOf f))
+    where
+      by : (tests : Step (Unit {0})) → answer (ready tests >>= λ p. found (count (length (testsOf (p .filter))))) ≡ answer (tests >>= λ u. found (count (length (testsOf f))))
+      by (found u) = refl
+      by (stop n p) = refl
+
+  match-tests : (card : List ℕ) → matchAnswer sheet text card ≡ answer (testsStep ps (testsOf f) >>= λ u. takeCard ps 0 card >>= λ c. found (yesOrNo (filterSays ps 0 (c .entries) f)))
+  match-tests card =
+      match-by (filterQuestion sheet text) (ready (testsStep ps (testsOf f)) >>= λ p. found (questionOf p))
+      (question-by sheet text (ready (testsStep ps (testsOf f))) (prepared sheet text s f short spells)) card
+      ∙ by (testsStep ps (testsOf f))
+    where
+      by : (tests : Step (Unit {0}))
+          → answer ((ready tests >>= λ p. found (questionOf p)) >>= λ q. takeCard (q .parameters) 0 card >>= λ c. found (yesOrNo (q .says (c .entries))))
+          ≡ answer (tests >>= λ u. takeCard ps 0 card >>= λ c. found (yesOrNo (filterSays ps 0 (c .entries) f)))
+      by (found u) = refl
+      by (stop n p) = refl
+
 pub demand-met : MeetsDemand checkAnswer matchAnswer
-demand-met sheet text s f short spells = meets sheet text s f short spells refl (tests-outcome (s .parameters) (s .well-formed) (testsOf f))
+demand-met sheet text s f short spells =
+    demand-by (filterTests (s .parameters)) (testsOf f) (λ es. FilterSays (s .parameters) 0 es f) (λ es. filterSays (s .parameters) 0 es f) (checkAnswer sheet text) (matchAnswer sheet text)
+    (tests-outcome (s .parameters) (s .well-formed) (testsOf f)) (λ m card es c. verdict-by (s .parameters) (s .well-formed) es f (all-map (λ t k. k card es c) m))
+    (check-tests sheet text s f short spells) (match-tests sheet text s f short spells)
 
 -- where check passes, match answers the filter's yes or no on each conforming card
 pub match-verdict : (sheet text : List ℕ) (s : SheetBlock sheet) (f : Tree) → length text ≤ 1024 → Spells text f → checkAnswer sheet text ≡ count (length (testsOf f))
-    → (card : List ℕ) (es : List Entry) → Conforms (s .parameters) card es → Verdict (s .parameters) es f (matchAnswer sheet text card)
+    → (card : List ℕ) (es : List Entry) → Conforms (s .parameters) card es → Verdict (FilterSays (s .parameters) 0 es f) (matchAnswer sheet text card)
 match-verdict sheet text s f short spells = demand-met sheet text s f short spells .verdict

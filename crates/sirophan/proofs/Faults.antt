@@ -12,11 +12,10 @@ use Rattle.sheet.specs.Sheet.{Parameter, parameter}
 use lib.Dec.{eqb}
 use borrow.Author.Tests.{eqb-true, eqb-false}
 use Rattle.sheet.specs.Encode.{WellFormedSheet}
-use Rattle.sheet.specs.Find.{Listed}
 use Rattle.sheet.specs.declared.Found.{Found}
 use Rattle.card.specs.Card.{Entry}
 use Rattle.card.specs.Encode.{encodeCard}
-use Rattle.syntax.specs.Tree.{Path, Test}
+use Rattle.syntax.specs.Tree.{Test}
 use Rattle.kind.specs.Table.{hasMeaning}
 use Rattle.kind.specs.Readable.{valueReadable}
 use Rattle.judge.specs.Sets.{lookup, valuesAt}
@@ -24,19 +23,16 @@ use Rattle.judge.specs.Faults.{unsupported, kindFault, faultAt, testFault}
 use Rattle.judge.specs.declared.Fault.{Fault}
 use Rattle.sirophan.specs.Operations.{faultStep}
 use Rattle.kind.specs.Rules.{TrueOrFalse, ReadableValue, value-of-pr, value-of-kind}
-use Rattle.judge.specs.Rules.{NamesIn, Names, names, names-member, NotOnSheet, LacksMeaning, not-on-sheet, bare-bundle, neither, lacks-operator, unreadable}
+use Rattle.judge.specs.Rules.{Names, NotOnSheet, LacksMeaning, not-on-sheet, bare-bundle, neither, lacks-operator, unreadable}
 use Rattle.kind.specs.Rules.{HasOperator}
 use Rattle.refusal.specs.Order.{rank}
 use Rattle.sirophan.specs.Numbers.{TestLine, line-14, line-18, line-15, line-16, line-17, Numbered}
+use Rattle.sirophan.specs.Demand.{filterTests}
 use Rattle.kind.proofs.Rules.{value-iff}
 use Rattle.kind.proofs.Rules.{operator-iff}
-use Rattle.judge.proofs.Rules.{unsupported-lacks, names-iff, missing-iff}
+use Rattle.judge.proofs.Rules.{unsupported-lacks, names-iff, names-listed, missing-iff}
 use Rattle.sirophan.proofs.Cards.{empty-conforms, one-entry, one-entry-conforms, one-entry-value}
 use Rattle.sirophan.proofs.Outcomes.{Judged, judged-unknown, judged-bundle, judged-unsupported, judged-meaningless, judged-unreadable, judged-right, Refused, TestOutcome, test-means, test-refused}
-
-names-listed : {ps : List Parameter} {path : Path} {c i k : ℕ} → NamesIn ps c path i k → (b : ℕ) × (n : List ℕ) × Listed ps i (parameter k b n)
-names-listed (names {c = c} {n = n} l) = (c, n, l)
-names-listed (names-member l m) = names-listed m
 
 -- a readable value of pr is true or false
 pr-readable : {kind k : ℕ} {v : List ℕ} → ReadableValue kind v k → k ≡ pr → (TrueOrFalse v → ⊥) → ⊥
@@ -85,8 +81,8 @@ module _ (ps : List Parameter) (w : WellFormedSheet ps) (t : Test) where
   -- ---- what a test comes to: a meaning on every conforming card, or a refusal
 
   -- a test whose path names a parameter lacks a meaning on the card with one entry under it
-  refused-at : (i k : ℕ) → (k ≡ bundleKind → ⊥) → Names ps (t .path) i k → (n : ℕ) → Numbered ps t n
-      → ((es : List Entry) → (valuesAt i es ≡ [] → ⊥) → LacksMeaning ps es t) → Refused ps t n
+  refused-at : (i k : ℕ) → (k ≡ bundleKind → ⊥) → Names ps (t .path) i k → (n : ℕ) → Numbered (TestLine ps t) n
+      → ((es : List Entry) → (valuesAt i es ≡ [] → ⊥) → LacksMeaning ps es t) → Refused (filterTests ps) t n
   refused-at i k z j n table lacks =
       let p = parameter k (names-listed j .0) (names-listed j .1) in
       let l = names-listed j .2 in
@@ -99,7 +95,7 @@ module _ (ps : List Parameter) (w : WellFormedSheet ps) (t : Test) where
         lacks = lacks es (one-entry-value ps w i p l);
       }
 
-  outcome-by : {fault : Fault} → Judged ps t fault → TestOutcome ps t (faultStep fault (t .at))
+  outcome-by : {fault : Fault} → Judged ps t fault → TestOutcome (filterTests ps) t (faultStep fault (t .at))
   unfolding rank
   outcome-by (judged-unknown u) =
       test-refused
@@ -157,5 +153,5 @@ module _ (ps : List Parameter) (w : WellFormedSheet ps) (t : Test) where
       no-line n (line-16 j′ u m) = m (has j′)
       no-line n (line-17 j′ m) = m (reads j′)
 
-  pub outcome : TestOutcome ps t (faultStep (testFault ps 0 t) (t .at))
+  pub outcome : TestOutcome (filterTests ps) t (faultStep (testFault ps 0 t) (t .at))
   outcome = outcome-by judged

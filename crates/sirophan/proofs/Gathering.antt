@@ -6,31 +6,29 @@ use native.Mathlib.Numerals.{add-one}
 use native.Mathlib.Omega.{arith}
 use mathlib.Core.Path.{_≡_, refl, sym, ap, _∙_}
 use mathlib.Core.Bool.{Bool, true, false, cond}
-use mathlib.Core.Option.{Option}
 use mathlib.Core.List.{List, [], _∷_, _++_, append-assoc, append-nil}
 use lib.ListN.{length, take, drop, set, length-set}
 use lib.Seq.{take-suc-set, drop-drop}
 use Rattle.base.specs.Parts.{part}
 use Rattle.block.specs.declared.Reading.{Reading}
-use Rattle.sheet.specs.Sheet.{Parameter}
 use Rattle.card.specs.Card.{recordNumber, readCard}
-use Rattle.syntax.specs.Tree.{Tree}
 use Rattle.sirophan.specs.declared.verdict.CardVerdict.{CardVerdict}
 use Rattle.refusal.specs.declared.Refusal.{Refusal}
 use Rattle.sirophan.specs.declared.Selected.{Selected}
 use Rattle.refusal.specs.Steps.{Step, found, stop, _>>=_}
-use Rattle.sirophan.specs.Operations.{blocks, takeCard}
-use Rattle.sirophan.specs.Passing.{textSays, cardVerdict, verdictStep}
+use Rattle.sirophan.specs.Operations.{Question, blocks, takeCard}
+use Rattle.sirophan.specs.Passing.{cardVerdict, verdictStep}
 use Rattle.sirophan.specs.Selecting.{runNumbers, Gathers}
-use Rattle.sirophan.proofs.Passing.{taken, card-taken}
+use Rattle.refusal.proofs.Steps.{taken}
+use Rattle.sirophan.proofs.Passing.{card-taken}
 
 -- ---- a card that has a verdict is well formed
 
-judged-well-formed : (ps : List Parameter) (f : Option Tree) (b : List ℕ) (y : Bool) → cardVerdict ps f 0 b ≡ found y → readCard b ≡ Reading.WellFormed
+judged-well-formed : (q : Question) (b : List ℕ) (y : Bool) → cardVerdict q 0 b ≡ found y → readCard b ≡ Reading.WellFormed
 unfolding cardVerdict
-judged-well-formed ps f b y h =
-    let (c, t, says) = taken (takeCard ps 0 b) (λ c. found (textSays ps (c .entries) f)) y h in
-    card-taken ps 0 b c t .0
+judged-well-formed q b y h =
+    let (c, t, says) = taken (takeCard (q .parameters) 0 b) (λ c. found (q .says (c .entries))) y h in
+    card-taken (q .parameters) 0 b c t .0
 
 -- ---- the loop
 
@@ -50,7 +48,7 @@ onto-same : (s : Step (List ℕ)) → (s >>= λ ms. found ms) ≡ s
 onto-same (found ms) = refl
 onto-same (stop n p) = refl
 
-pub record Gathering (ps : List Parameter) (f : Option Tree) (cards entry buffer : List ℕ) (at count : ℕ) : Type 0 where
+pub record Gathering (q : Question) (cards entry buffer : List ℕ) (at count : ℕ) : Type 0 where
   -- the index of the card at `at`, and how many cards there are
   pub index : ℕ
   pub total : ℕ
@@ -60,10 +58,10 @@ pub record Gathering (ps : List Parameter) (f : Option Tree) (cards entry buffer
   pub few : count ≤ index
   pub room : total ≤ length buffer
   pub long : length buffer ≡ length entry
-  pub rest : runNumbers ps f 0 (blocks total cards) ≡ onto (take count buffer) (runNumbers ps f index (blocks (total - index) (drop at cards)))
+  pub rest : runNumbers q 0 (blocks total cards) ≡ onto (take count buffer) (runNumbers q index (blocks (total - index) (drop at cards)))
 
-module _ (ps : List Parameter) (f : Option Tree) (cards : List ℕ) where
-  pub gathering-start : (buffer : List ℕ) → length cards % 512 ≡ 0 → length cards / 512 ≤ length buffer → Gathering ps f cards buffer buffer 0 0
+module _ (q : Question) (cards : List ℕ) where
+  pub gathering-start : (buffer : List ℕ) → length cards % 512 ≡ 0 → length cards / 512 ≤ length buffer → Gathering q cards buffer buffer 0 0
   gathering-start buffer w h =
       record {
         index = 0;
@@ -74,25 +72,25 @@ module _ (ps : List Parameter) (f : Option Tree) (cards : List ℕ) where
         few = zero-le;
         room = h;
         long = refl;
-        rest = rw (sub-zero (length cards / 512)) (onto-none (runNumbers ps f 0 (blocks (length cards / 512) cards)));
+        rest = rw (sub-zero (length cards / 512)) (onto-none (runNumbers q 0 (blocks (length cards / 512) cards)));
       }
 
-  module _ {entry buffer : List ℕ} {at count : ℕ} (g : Gathering ps f cards entry buffer at count) where
+  module _ {entry buffer : List ℕ} {at count : ℕ} (g : Gathering q cards entry buffer at count) where
     pub gathering-part : at < length cards → at + 512 ≤ length cards
     gathering-part h = omega (arith, g .at-index, g .size)
 
     pub gathering-room : at < length cards → count < length buffer
     gathering-room h = omega (arith, g .at-index, g .size, g .few, g .room)
 
-    pub gathering-well-formed : (b : List ℕ) (v : CardVerdict) → ((i : ℕ) → verdictStep v i ≡ cardVerdict ps f i b) → (y : Bool) → v ≡ CardVerdict.Says y → readCard b ≡ Reading.WellFormed
-    gathering-well-formed b v e y s = judged-well-formed ps f b y (sym (e 0) ∙ ap (λ (w : CardVerdict). verdictStep w 0) s)
+    pub gathering-well-formed : (b : List ℕ) (v : CardVerdict) → ((i : ℕ) → verdictStep v i ≡ cardVerdict q i b) → (y : Bool) → v ≡ CardVerdict.Says y → readCard b ≡ Reading.WellFormed
+    gathering-well-formed b v e y s = judged-well-formed q b y (sym (e 0) ∙ ap (λ (w : CardVerdict). verdictStep w 0) s)
 
-    module _ (h : at < length cards) (v : CardVerdict) (e : (i : ℕ) → verdictStep v i ≡ cardVerdict ps f i (part cards at (at + 512))) where
+    module _ (h : at < length cards) (v : CardVerdict) (e : (i : ℕ) → verdictStep v i ≡ cardVerdict q i (part cards at (at + 512))) where
       abbrev later : Step (List ℕ)
-      later = runNumbers ps f (suc (g .index)) (blocks (g .total - suc (g .index)) (drop (at + 512) cards))
+      later = runNumbers q (suc (g .index)) (blocks (g .total - suc (g .index)) (drop (at + 512) cards))
 
       -- the card at `at`, and then the cards after it
-      split : runNumbers ps f 0 (blocks (g .total) cards)
+      split : runNumbers q 0 (blocks (g .total) cards)
           ≡ onto (take count buffer) (verdictStep v (g .index) >>= λ y. later >>= λ ns. found (cond y (recordNumber (part cards at (at + 512)) ∷ ns) ns))
       unfolding runNumbers blocks
       split =
@@ -101,7 +99,7 @@ module _ (ps : List Parameter) (f : Option Tree) (cards : List ℕ) where
           g .rest ∙ rw (n, e (g .index), m, ← drop-drop 512 at cards)
 
       next : (filled : List ℕ) (n : ℕ) → length filled ≡ length buffer → n ≤ suc (g .index)
-          → runNumbers ps f 0 (blocks (g .total) cards) ≡ onto (take n filled) later → Gathering ps f cards entry filled (at + 512) n
+          → runNumbers q 0 (blocks (g .total) cards) ≡ onto (take n filled) later → Gathering q cards entry filled (at + 512) n
       next filled n l few rest =
           record {
             index = suc (g .index);
@@ -115,15 +113,15 @@ module _ (ps : List Parameter) (f : Option Tree) (cards : List ℕ) where
             rest = rest;
           }
 
-      pub gathering-match : (y : Bool) (x : ℕ) → v ≡ CardVerdict.Says y → y ≡ true → x ≡ recordNumber (part cards at (at + 512)) → Gathering ps f cards entry (set buffer count x) (at + 512) (count + 1)
+      pub gathering-match : (y : Bool) (x : ℕ) → v ≡ CardVerdict.Says y → y ≡ true → x ≡ recordNumber (part cards at (at + 512)) → Gathering q cards entry (set buffer count x) (at + 512) (count + 1)
       gathering-match y x s t r =
           next (set buffer count x) (count + 1) (length-set buffer count x) (omega (arith, g .few))
           (split ∙ rw (s, t, ← r, add-one count, take-suc-set buffer count x (gathering-room h)) (onto-more (take count buffer) x later))
 
-      pub gathering-other : (y : Bool) → v ≡ CardVerdict.Says y → y ≡ false → Gathering ps f cards entry buffer (at + 512) count
+      pub gathering-other : (y : Bool) → v ≡ CardVerdict.Says y → y ≡ false → Gathering q cards entry buffer (at + 512) count
       gathering-other y s t = next buffer count refl (omega (arith, g .few)) (split ∙ rw (s, t, onto-same later))
 
-      pub gathering-refused : (r : Refusal) → v ≡ CardVerdict.Refused (r .reason) → r .place ≡ at / 512 → Gathers ps f cards (Selected.Refused r) buffer
+      pub gathering-refused : (r : Refusal) → v ≡ CardVerdict.Refused (r .reason) → r .place ≡ at / 512 → Gathers q cards (Selected.Refused r) buffer
       gathering-refused r s t =
           let i : at / 512 ≡ g .index = omega (arith, g .at-index) in
           let n : length cards / 512 ≡ g .total = omega (arith, g .size) in
@@ -132,7 +130,7 @@ module _ (ps : List Parameter) (f : Option Tree) (cards : List ℕ) where
             room = λ k z. absurd (let z : _≡_ {A = ℕ} 0 1 = cc in omega arith);
           }
 
-    pub gathering-end : length cards ≤ at → Gathers ps f cards (Selected.Count count) buffer
+    pub gathering-end : length cards ≤ at → Gathers q cards (Selected.Count count) buffer
     unfolding runNumbers blocks
     gathering-end h =
         let d : g .total - g .index ≡ 0 = omega (arith, g .at-index, g .size) in

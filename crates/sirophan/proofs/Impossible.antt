@@ -34,9 +34,9 @@ use Rattle.judge.specs.declared.Fault.{Fault}
 use Rattle.refusal.specs.Answers.{Answer, yes, no, count, refused}
 use Rattle.refusal.specs.Steps.{found, stop}
 use Rattle.sirophan.specs.Operations.{faultStep}
-use Rattle.judge.specs.Rules.{Meaningful, Says, says-present, says-absent, says-relates, says-differs}
+use Rattle.judge.specs.Rules.{FilterSays, Says, says-present, says-absent, says-relates, says-differs}
 use Rattle.sirophan.specs.Verdicts.{Verdict, answers-yes, answers-no}
-use Rattle.sirophan.specs.Demand.{RefusesAlike, Demand}
+use Rattle.sirophan.specs.Demand.{Meaningful, RefusesAlike, filterTests, FilterDemand}
 use Rattle.sirophan.specs.Trial.{titleTest, codeTest}
 use Rattle.sirophan.proofs.Cards.{empty-conforms}
 use Rattle.sirophan.proofs.Outcomes.{TestOutcome, test-means, test-refused}
@@ -61,19 +61,19 @@ faults-found = (refl, refl)
 trial-well-formed : WellFormedSheet trialParameters
 trial-well-formed = sheet-reads-iff trialSheet false trialParameters .0 trial-sheet-reads .0
 
-outcome-as : (t : Test) (fault : Fault) → testFault trialParameters 0 t ≡ fault → TestOutcome trialParameters t (faultStep fault (t .at))
-outcome-as t fault e = subst (λ (k : Fault). TestOutcome trialParameters t (faultStep k (t .at))) e (outcome trialParameters trial-well-formed t)
+outcome-as : (t : Test) (fault : Fault) → testFault trialParameters 0 t ≡ fault → TestOutcome (filterTests trialParameters) t (faultStep fault (t .at))
+outcome-as t fault e = subst (λ (k : Fault). TestOutcome (filterTests trialParameters) t (faultStep k (t .at))) e (outcome trialParameters trial-well-formed t)
 
-title-means : Meaningful trialParameters titleTest
+title-means : Meaningful (filterTests trialParameters) titleTest
 title-means = meaning (outcome-as titleTest Fault.Nothing (faults-found .0))
   where
-    meaning : TestOutcome trialParameters titleTest (found tt) → Meaningful trialParameters titleTest
+    meaning : TestOutcome (filterTests trialParameters) titleTest (found tt) → Meaningful (filterTests trialParameters) titleTest
     meaning (test-means m _) = m
 
-code-lacks : Meaningful trialParameters codeTest → ⊥
+code-lacks : Meaningful (filterTests trialParameters) codeTest → ⊥
 code-lacks m = shown (outcome-as codeTest Fault.NoMeaning (faults-found .1))
   where
-    shown : TestOutcome trialParameters codeTest (stop 16 (codeTest .at)) → ⊥
+    shown : TestOutcome (filterTests trialParameters) codeTest (stop 16 (codeTest .at)) → ⊥
     shown (test-refused r) = m (r .card) (r .entries) (r .conforms) (r .lacks)
 
 -- of the card with no entries the first filter says no
@@ -84,7 +84,7 @@ says-none (says-absent j e v z) = omega (arith, e)
 says-none (says-relates j e m s) = List·Memᴰ·not-nil m
 says-none (says-differs j n e m s) = List·Memᴰ·not-nil m
 
-says-no : {a : Answer} → Verdict trialParameters [] (test titleTest) a → a ≡ no
+says-no : {a : Answer} → Verdict (FilterSays trialParameters 0 [] (test titleTest)) a → a ≡ no
 says-no (answers-yes s e) = absurd (says-none s)
 says-no (answers-no n e) = e
 
@@ -92,7 +92,7 @@ says-no (answers-no n e) = e
 
 module _ (check : Answer) (match : List ℕ → Answer) where
   -- a filter with a meaning is passed, and match judges the card with no entries
-  module _ (d : Demand trialParameters (test titleTest) check match) where
+  module _ (d : FilterDemand trialParameters (test titleTest) check match) where
     passed : check ≡ count 1
     unfolding testsOf
     passed = d .passes .1 (all-cons title-means all-empty)
@@ -102,31 +102,31 @@ module _ (check : Answer) (match : List ℕ → Answer) where
     judged = says-no (d .verdict passed (encodeCard false 0 []) [] (empty-conforms trialParameters))
 
   -- a filter without is refused, and match refuses alike
-  module _ (d : Demand trialParameters (test codeTest) check match) where
-    refused-alike : RefusesAlike trialParameters (test codeTest) check match
+  module _ (d : FilterDemand trialParameters (test codeTest) check match) where
+    refused-alike : RefusesAlike (filterTests trialParameters) (testsOf (test codeTest)) check match
     unfolding testsOf
-    refused-alike = d .refuses (λ e. code-lacks (all-head (Meaningful trialParameters) (d .passes .0 e)))
+    refused-alike = d .refuses (λ e. code-lacks (all-head (Meaningful (filterTests trialParameters)) (d .passes .0 e)))
 
 -- a check that refuses everything
-pub check-refuses-all : (n p : ℕ) (match : List ℕ → Answer) → Demand trialParameters (test titleTest) (refused n p) match → ⊥
+pub check-refuses-all : (n p : ℕ) (match : List ℕ → Answer) → FilterDemand trialParameters (test titleTest) (refused n p) match → ⊥
 check-refuses-all n p match d = let e = passed (refused n p) match d in let z : _≡_ {A = ℕ} 0 1 = cc in omega arith
 
 -- a count made up
-pub check-miscounts : (n : ℕ) → (n ≡ 1 → ⊥) → (match : List ℕ → Answer) → Demand trialParameters (test titleTest) (count n) match → ⊥
+pub check-miscounts : (n : ℕ) → (n ≡ 1 → ⊥) → (match : List ℕ → Answer) → FilterDemand trialParameters (test titleTest) (count n) match → ⊥
 check-miscounts n other match d = let e = passed (count n) match d in let z : n ≡ 1 = cc in other z
 
 -- a check that passes everything
-pub check-passes-all : (n : ℕ) (match : List ℕ → Answer) → Demand trialParameters (test codeTest) (count n) match → ⊥
+pub check-passes-all : (n : ℕ) (match : List ℕ → Answer) → FilterDemand trialParameters (test codeTest) (count n) match → ⊥
 check-passes-all n match d = let e = refused-alike (count n) match d .checked in let z : _≡_ {A = ℕ} 0 1 = cc in omega arith
 
 -- a match that refuses everything
-pub match-refuses-all : (n p : ℕ) (check : Answer) → Demand trialParameters (test titleTest) check (λ card. refused n p) → ⊥
+pub match-refuses-all : (n p : ℕ) (check : Answer) → FilterDemand trialParameters (test titleTest) check (λ card. refused n p) → ⊥
 match-refuses-all n p check d = let e = judged check (λ card. refused n p) d in let z : _≡_ {A = ℕ} 0 1 = cc in omega arith
 
 -- a match that says yes to all
-pub match-says-yes : (check : Answer) → Demand trialParameters (test titleTest) check (λ card. yes) → ⊥
+pub match-says-yes : (check : Answer) → FilterDemand trialParameters (test titleTest) check (λ card. yes) → ⊥
 match-says-yes check d = let e = judged check (λ card. yes) d in let z : _≡_ {A = ℕ} 0 1 = cc in omega arith
 
 -- a match that answers no where a test has no meaning
-pub match-says-no : (check : Answer) → Demand trialParameters (test codeTest) check (λ card. no) → ⊥
+pub match-says-no : (check : Answer) → FilterDemand trialParameters (test codeTest) check (λ card. no) → ⊥
 match-says-no check d = let e = refused-alike check (λ card. no) d .matched [] in let z : _≡_ {A = ℕ} 0 1 = cc in omega arith

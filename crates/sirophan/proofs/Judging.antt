@@ -3,8 +3,8 @@
 use Prim.Native.Nat.{ℕ}
 use mathlib.Core.Path.{_≡_, refl, sym, ap, _∙_}
 use mathlib.Core.Bool.{Bool, true, false, cond}
-use mathlib.Core.Option.{Option, none, some}
-use mathlib.Core.List.{List, [], _∷_}
+use mathlib.Core.Option.{none, some}
+use mathlib.Core.List.{List}
 use lib.Dec.{eqb, leb}
 use lib.ListN.{length}
 use Rattle.base.specs.Runs.{RunEnd}
@@ -16,9 +16,9 @@ use Rattle.syntax.specs.Tree.{Tree, testsOf}
 use Rattle.syntax.specs.Grammar.{round}
 use Rattle.syntax.specs.Scan.{isSpace, skipAt}
 use Rattle.syntax.specs.Reader.{Parsed, parsed, unparsed, filterAt, whole, read}
-use Rattle.judge.specs.Sets.{chosenOf, conforms, conformsTo, keep}
-use Rattle.judge.specs.declared.Chosen.{Chosen}
+use Rattle.judge.specs.Sets.{chosenOf, conforms, conformsTo}
 use Rattle.judge.specs.Verdicts.{filterSays}
+use Rattle.judge.proofs.Entries.{every, chosen-every}
 use Rattle.judge.proofs.Table.{table-conforms}
 use Rattle.filter.specs.Folds.{judging}
 use Rattle.filter.specs.Walks.{answerOf}
@@ -26,7 +26,7 @@ use Rattle.filter.specs.declared.Judged.{Judged}
 use Rattle.filter.proofs.Walk.{was-filter, was-none}
 use Rattle.filter.proofs.Judging.{judged-cases, judging-is}
 use Rattle.refusal.specs.Steps.{found, stop}
-use Rattle.sirophan.specs.Operations.{Card, cardStep, takeCard}
+use Rattle.sirophan.specs.Operations.{Card, cardStep, takeCard, Question}
 use Rattle.sirophan.specs.Passing.{Passing, textSays, cardVerdict}
 
 -- ---- what the filter says
@@ -35,15 +35,6 @@ kept-tree : (b c : Bool) (f g : Tree) → cond b (cond c (some f) none) none ≡
 kept-tree true true f g h = cc
 kept-tree true false f g h = cc
 kept-tree false c f g h = cc
-
--- all entries of the card count
-abbrev pub every : Chosen
-every = record { all = true; occurrence = 0 }
-
-chosen-every : (es : List Entry) → chosenOf every es ≡ es
-unfolding chosenOf keep
-chosen-every [] = refl
-chosen-every (e ∷ es) = ap (λ (l : List Entry). e ∷ l) (chosen-every es)
 
 module _ (ps : List Parameter) (es : List Entry) (b xs : List ℕ) (p : Passing b xs) (start : ℕ) (s : RunEnd isSpace xs 0 start) (w : Judged) (e : w ≡ answerOf Judged.Done Judged.Nothing (judging true ps 0 (chosenOf every es)) (filterAt 8 xs round start)) where
   read-from : (g : Parsed) → filterAt 8 xs round start ≡ g → whole xs g ≡ some (p .tree)
@@ -64,19 +55,34 @@ module _ (ps : List Parameter) (es : List Entry) (b xs : List ℕ) (p : Passing 
 
 -- ---- one card
 
-module _ (ps : List Parameter) (f : Option Tree) (b : List ℕ) (r : Reading) (e : r ≡ readCard b) where
-  pub card-refused : (k : Reading) (n : ℕ) → ((fits : Bool) (c : Card) (i : ℕ) → cardStep k fits c i ≡ stop n i) → r ≡ k → (i : ℕ) → stop n i ≡ cardVerdict ps f i b
+module _ (q : Question) (b : List ℕ) (r : Reading) (e : r ≡ readCard b) where
+  pub card-refused : (k : Reading) (n : ℕ) → ((fits : Bool) (c : Card) (i : ℕ) → cardStep k fits c i ≡ stop n i) → r ≡ k → (i : ℕ) → stop n i ≡ cardVerdict q i b
   unfolding cardVerdict takeCard
-  card-refused k n t h i = rw (sym e ∙ h, t (conforms ps (entriesOf b)) (record { number = recordNumber b; entries = entriesOf b }) i)
+  card-refused k n t h i = rw (sym e ∙ h, t (conforms (q .parameters) (entriesOf b)) (record { number = recordNumber b; entries = entriesOf b }) i)
 
-  module _ (ks : List ℕ) (t : ks ≡ kindsOf ps) (o : Bool) (g : o ≡ conformsTo ks (entriesOf b)) (h : r ≡ Reading.WellFormed) where
-    fits : o ≡ conforms ps (entriesOf b)
-    fits = g ∙ ap (λ (k : List ℕ). conformsTo k (entriesOf b)) t ∙ table-conforms ps (entriesOf b)
+  module _ (ks : List ℕ) (t : ks ≡ kindsOf (q .parameters)) (o : Bool) (g : o ≡ conformsTo ks (entriesOf b)) (h : r ≡ Reading.WellFormed) where
+    fits : o ≡ conforms (q .parameters) (entriesOf b)
+    fits = g ∙ ap (λ (k : List ℕ). conformsTo k (entriesOf b)) t ∙ table-conforms (q .parameters) (entriesOf b)
 
-    pub card-misfit : o ≡ false → (i : ℕ) → stop 23 i ≡ cardVerdict ps f i b
+    pub card-misfit : o ≡ false → (i : ℕ) → stop 23 i ≡ cardVerdict q i b
     unfolding cardVerdict takeCard
     card-misfit n i = rw (sym e ∙ h, sym fits ∙ n)
 
-    pub card-says : (v : Bool) → o ≡ true → v ≡ textSays ps (entriesOf b) f → (i : ℕ) → found v ≡ cardVerdict ps f i b
+    pub card-says : (v : Bool) → o ≡ true → v ≡ q .says (entriesOf b) → (i : ℕ) → found v ≡ cardVerdict q i b
     unfolding cardVerdict takeCard
     card-says v y s i = rw (sym e ∙ h, sym fits ∙ y, s)
+
+-- ---- by what reading says of the card
+
+pub card-known : (b : List ℕ) (r : Reading) → r ≡ readCard b → r ≡ Reading.WellFormed → readCard b ≡ Reading.WellFormed
+card-known b r e h = sym e ∙ h
+
+module _ (q : Question) (b : List ℕ) (r : Reading) (e : r ≡ readCard b) where
+  pub card-size : r ≡ Reading.WrongSize → (i : ℕ) → stop 20 i ≡ cardVerdict q i b
+  card-size = card-refused q b r e Reading.WrongSize 20 (λ fits c i. refl)
+
+  pub card-sum : r ≡ Reading.WrongSum → (i : ℕ) → stop 21 i ≡ cardVerdict q i b
+  card-sum = card-refused q b r e Reading.WrongSum 21 (λ fits c i. refl)
+
+  pub card-layout : r ≡ Reading.WrongLayout → (i : ℕ) → stop 22 i ≡ cardVerdict q i b
+  card-layout = card-refused q b r e Reading.WrongLayout 22 (λ fits c i. refl)

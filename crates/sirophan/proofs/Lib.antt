@@ -25,6 +25,11 @@ pub mod Contracts
 pub mod Answered
 pub mod SpellTable
 pub mod Spells
+pub mod SearchPassing
+pub mod SameQuestion
+pub mod SearchFaults
+pub mod SearchDemand
+pub mod SearchTable
 pub mod Operators
 pub mod Trial
 pub mod Promises

@@ -6,7 +6,7 @@ use native.Mathlib.Nat.{le-refl, le-of-eq}
 use native.Mathlib.Omega.{arith}
 use mathlib.Core.Path.{_≡_, refl, ap, sym, _∙_, subst}
 use mathlib.Core.Bool.{Bool, true, false}
-use mathlib.Core.Logic.{_↔_}
+use mathlib.Core.Logic.{_↔_, _⊎_}
 use mathlib.Core.List.{List}
 use lib.ListN.{length}
 use Rattle.base.specs.Lists.{member}
@@ -20,10 +20,9 @@ use Rattle.sheet.specs.Encode.{SheetBlock}
 use Rattle.card.specs.Card.{Entry, entriesOf, readCard}
 use Rattle.card.specs.Encode.{CardBlock}
 use Rattle.judge.specs.Sets.{conforms}
-use Rattle.judge.specs.Verdicts.{filterSays}
 use Rattle.refusal.specs.Answers.{yesOrNo, refused}
-use Rattle.refusal.specs.Steps.{found, stop, _>>=_}
-use Rattle.sirophan.specs.Operations.{Prepared, Card, cardStep, takeCard, matchAnswer}
+use Rattle.refusal.specs.Steps.{Step, found, stop, _>>=_}
+use Rattle.sirophan.specs.Operations.{Card, cardStep, takeCard, Question, questionOf, matchBy, filterQuestion, matchAnswer}
 use Rattle.judge.specs.Rules.{Conforms}
 use Rattle.refusal.specs.Order.{rank, group, Before, Decides}
 use Rattle.sirophan.specs.Refusals.{CheckLine, CardLine, line-21, line-22, line-23, OneCardLine, line-20-match, line-of-card, MatchLine}
@@ -34,7 +33,7 @@ use Rattle.refusal.proofs.Deciding.{Decided, none-holds, one-decides, NotRefuse
 use Rattle.sirophan.proofs.Outcomes.{ReadsTo, size-wrong, sum-wrong, layout-wrong, all-right, cardOf, Taken}
 use Rattle.sirophan.proofs.Blocks.{card-reads-to}
 use Rattle.refusal.proofs.Order.{apart-at, later-group, no-lower-rank}
-use Rattle.sirophan.proofs.CheckTable.{sheet-parameters, check-group, Ready, prepare-decided}
+use Rattle.sirophan.proofs.CheckTable.{sheet-parameters, check-group, prepare-decided}
 
 -- ---- one card
 
@@ -101,7 +100,11 @@ module _ (sheet : List ℕ) where
 
 -- ---- match
 
-module _ (sheet text card : List ℕ) where
+-- the question is about the sheet
+abbrev pub AskedOn : List ℕ → Question → Type 0
+AskedOn sheet q = (s : SheetBlock sheet) × (s .parameters ≡ q .parameters)
+
+module _ (sheet card : List ℕ) where
   wrong-size : {r : Reading} → ReadsTo card (CardBlock card) r → (length card ≡ 512 → ⊥) → r ≡ Reading.WrongSize
   wrong-size (size-wrong u) n = refl
   wrong-size (sum-wrong a u) n = absurd (n a)
@@ -134,18 +137,26 @@ module _ (sheet text card : List ℕ) where
   one-group n p (line-20-match u) = omega arith
   one-group n p (line-of-card l) = let g = card-group sheet l in omega arith
 
-  verdict-decided : Bytes card → (r : Prepared) → Ready sheet text r
-      → Decided NotRefused (OneCardLine sheet card) (takeCard (r .parameters) 0 card >>= λ c. found (yesOrNo (filterSays (r .parameters) 0 (c .entries) (r .filter))))
-  verdict-decided bytes r ready =
-      rw (← ready .1)
-      (decided-found (λ (c : Card). yesOrNo (filterSays (ready .0 .parameters) 0 (c .entries) (r .filter)))
-      (λ c _. verdict-not-refused (filterSays (ready .0 .parameters) 0 (c .entries) (r .filter))) (one-decided (ready .0) bytes))
+  verdict-decided : Bytes card → (q : Question) → AskedOn sheet q
+      → Decided NotRefused (OneCardLine sheet card) (takeCard (q .parameters) 0 card >>= λ c. found (yesOrNo (q .says (c .entries))))
+  verdict-decided bytes q on =
+      rw (← on .1)
+      (decided-found (λ (c : Card). yesOrNo (q .says (c .entries))) (λ c _. verdict-not-refused (q .says (c .entries))) (one-decided (on .0) bytes))
 
-  -- match is refused with a number and a place exactly where that line of the table decides
-  pub match-table : Bytes sheet → Bytes card → (n p : ℕ) → (matchAnswer sheet text card ≡ refused n p) ↔ Decides (MatchLine sheet text card) n p
-  unfolding matchAnswer
-  match-table sheet-bytes bytes =
-      decided-answer (MatchLine sheet text card)
-      (decided-then (CheckLine sheet text) (OneCardLine sheet card)
-      (apart-at (CheckLine sheet text) (OneCardLine sheet card) (group 14) (check-group sheet text) one-group)
-      (prepare-decided sheet text sheet-bytes) (λ r _ ready. verdict-decided bytes r ready))
+  -- match is refused with a number and a place exactly where that line of the table decides; Line has what comes before the card
+  pub match-table-by : (Line : ℕ → ℕ → Type 0) → ((n p : ℕ) → Line n p → group n ≤ group 14) → {asked : Step Question} → Decided (AskedOn sheet) Line asked → Bytes card
+      → (n p : ℕ) → (matchBy asked card ≡ refused n p) ↔ Decides (λ n p. Line n p ⊎ OneCardLine sheet card n p) n p
+  unfolding matchBy
+  match-table-by Line low decided bytes =
+      decided-answer (λ n p. Line n p ⊎ OneCardLine sheet card n p)
+      (decided-then Line (OneCardLine sheet card) (apart-at Line (OneCardLine sheet card) (group 14) low one-group)
+      decided (λ q _ on. verdict-decided bytes q on))
+
+-- ---- filters
+
+pub question-decided : (sheet text : List ℕ) → Bytes sheet → Decided (AskedOn sheet) (CheckLine sheet text) (filterQuestion sheet text)
+unfolding filterQuestion
+question-decided sheet text bytes = decided-found questionOf (λ r ready. (ready .0, ready .1)) (prepare-decided sheet text bytes)
+
+pub match-table : (sheet text card : List ℕ) → Bytes sheet → Bytes card → (n p : ℕ) → (matchAnswer sheet text card ≡ refused n p) ↔ Decides (MatchLine sheet text card) n p
+match-table sheet text card sheet-bytes = match-table-by sheet card (CheckLine sheet text) (check-group sheet text) (question-decided sheet text sheet-bytes)

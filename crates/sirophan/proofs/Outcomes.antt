@@ -15,12 +15,14 @@ use Rattle.card.specs.Card.{Entry, recordNumber, entriesOf}
 use Rattle.syntax.specs.Tree.{Test}
 use Rattle.judge.specs.Faults.{unsupported}
 use Rattle.judge.specs.declared.Fault.{Fault}
+use Rattle.refusal.specs.Answers.{Answer}
 use Rattle.refusal.specs.Steps.{Step, found, stop}
 use Rattle.sirophan.specs.Operations.{Card, takeCard}
 use Rattle.kind.specs.Rules.{ReadableValue}
-use Rattle.judge.specs.Rules.{Conforms, Names, NotOnSheet, LacksMeaning, Meaningful}
+use Rattle.judge.specs.Rules.{Conforms, Names, NotOnSheet}
 use Rattle.kind.specs.Rules.{HasOperator}
-use Rattle.sirophan.specs.Numbers.{TestLine, Numbered}
+use Rattle.sirophan.specs.Numbers.{Numbered}
+use Rattle.sirophan.specs.Demand.{TestRules, Meaningful}
 use Rattle.sirophan.specs.Selection.{matchingCards, matchingNumbers, RefusesCard}
 
 -- ---- blocks
@@ -45,23 +47,23 @@ pub data Judged (ps : List Parameter) (t : Test) : Fault → Type 0 where
   judged-right : {i k : ℕ} → (k ≡ bundleKind → ⊥) → Names ps (t .path) i k → HasOperator k (t .operator) → ReadableValue k (t .value) (t .operator) → Judged ps t Fault.Nothing
 
 -- the table gives the test the number n, and there is a conforming card on which it lacks a meaning
-pub record Refused (ps : List Parameter) (t : Test) (n : ℕ) : Type 0 where
-  pub table : Numbered ps t n
+pub record Refused {T : Type 0} (rules : TestRules T) (t : T) (n : ℕ) : Type 0 where
+  pub table : Numbered (rules .Line t) n
   pub card : List ℕ
   pub entries : List Entry
-  pub conforms : Conforms ps card entries
-  pub lacks : LacksMeaning ps entries t
+  pub conforms : Conforms (rules .parameters) card entries
+  pub lacks : rules .Lacks entries t
 
 -- a test has a meaning on every conforming card, and no line of the table holds for it, or it is refused
-pub data TestOutcome (ps : List Parameter) (t : Test) : Step (Unit {0}) → Type 0 where
-  test-means : Meaningful ps t → ((n : ℕ) → TestLine ps t n → ⊥) → TestOutcome ps t (found tt)
-  test-refused : {n : ℕ} → Refused ps t n → TestOutcome ps t (stop n (t .at))
+pub data TestOutcome {T : Type 0} (rules : TestRules T) (t : T) : Step (Unit {0}) → Type 0 where
+  test-means : Meaningful rules t → ((n : ℕ) → rules .Line t n → ⊥) → TestOutcome rules t (found tt)
+  test-refused : {n : ℕ} → Refused rules t n → TestOutcome rules t (stop n (rules .place t))
 
 -- each of the tests has a meaning on every conforming card, or one is the first that is refused
-pub data TestsOutcome (ps : List Parameter) (ts : List Test) : Step (Unit {0}) → Type 0 where
-  all-mean : All (Meaningful ps) ts → TestsOutcome ps ts (found tt)
-  one-refused : (before : List Test) (t : Test) (after : List Test) (n : ℕ) → ts ≡ before ++ (t ∷ after) → All (Meaningful ps) before → Refused ps t n
-      → TestsOutcome ps ts (stop n (t .at))
+pub data TestsOutcome {T : Type 0} (rules : TestRules T) (ts : List T) : Step (Unit {0}) → Type 0 where
+  all-mean : All (Meaningful rules) ts → TestsOutcome rules ts (found tt)
+  one-refused : (before : List T) (t : T) (after : List T) (n : ℕ) → ts ≡ before ++ (t ∷ after) → All (Meaningful rules) before → Refused rules t n
+      → TestsOutcome rules ts (stop n (rules .place t))
 
 -- ---- cards
 
@@ -82,12 +84,16 @@ pub data CardsOutcome (ps : List Parameter) (i : ℕ) (bs : List (List ℕ)) : S
   one-stopped : (before : List (List ℕ)) (b : List ℕ) (after : List (List ℕ)) (n j : ℕ) → bs ≡ before ++ (b ∷ after) → j ≡ i + length before
       → All (Taken ps) before → n ≤ 23 → Stopped ps n b → CardsOutcome ps i bs (stop n j)
 
+-- a number that neither a card nor a list is refused with
+abbrev pub OtherNumber : ℕ → Type 0
+OtherNumber n = 21 ≤ n → n ≤ 30 → ⊥
+
 -- a selection from a run, for a list of `room` cells
-pub data SelectionOutcome (sheet text : List ℕ) (bs : List (List ℕ)) (room : ℕ) : Step (List ℕ) → Type 0 where
-  not-prepared : (n i : ℕ) → n ≤ 18 → SelectionOutcome sheet text bs room (stop n i)
-  card-refused : (n i : ℕ) → n ≤ 23 → RefusesCard sheet text bs n i → SelectionOutcome sheet text bs room (stop n i)
-  no-room : (i : ℕ) → i ≡ length (matchingCards sheet text bs) → room < i → SelectionOutcome sheet text bs room (stop 30 i)
-  numbers-found : SelectionOutcome sheet text bs room (found (matchingNumbers sheet text bs))
+pub data SelectionOutcome (match : List ℕ → Answer) (bs : List (List ℕ)) (room : ℕ) : Step (List ℕ) → Type 0 where
+  not-asked : (n i : ℕ) → OtherNumber n → SelectionOutcome match bs room (stop n i)
+  card-refused : (n i : ℕ) → n ≤ 23 → RefusesCard match bs n i → SelectionOutcome match bs room (stop n i)
+  no-room : (i : ℕ) → i ≡ length (matchingCards match bs) → room < i → SelectionOutcome match bs room (stop 30 i)
+  numbers-found : SelectionOutcome match bs room (found (matchingNumbers match bs))
 
 -- ---- any step
 

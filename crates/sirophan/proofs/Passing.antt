@@ -15,23 +15,18 @@ use Rattle.card.specs.Card.{recordNumber, entriesOf, readCard}
 use Rattle.syntax.specs.Tree.{Tree, testsOf}
 use Rattle.syntax.specs.Reader.{read}
 use Rattle.judge.specs.Sets.{conforms}
-use Rattle.judge.specs.Verdicts.{filterSays}
 use Rattle.sirophan.specs.declared.Checked.{Checked}
 use Rattle.sirophan.specs.declared.Matched.{Matched}
 use Rattle.refusal.specs.declared.Refusal.{Refusal}
 use Rattle.sirophan.specs.declared.verdict.CardVerdict.{CardVerdict}
 use Rattle.refusal.specs.Answers.{count, refused, yesOrNo, numberOf, refusalAnswer}
 use Rattle.sirophan.specs.Answers.{checkedAnswer, matchedAnswer}
+use Rattle.refusal.proofs.Steps.{taken}
 use Rattle.refusal.specs.Steps.{Step, found, stop, _>>=_, answer}
-use Rattle.sirophan.specs.Operations.{treeStep, takeFilter, testsStep, takeSheet, sheetStep, Prepared, prepare, Card, cardStep, takeCard, checkAnswer, matchAnswer}
-use Rattle.sirophan.specs.Passing.{Passing, cardVerdict, verdictStep}
+use Rattle.sirophan.specs.Operations.{treeStep, takeFilter, testsStep, takeSheet, sheetStep, Prepared, prepare, Card, cardStep, takeCard, checkAnswer, Question, matchBy, filterQuestion, matchAnswer}
+use Rattle.sirophan.specs.Passing.{Passing, textQuestion, cardVerdict, verdictStep}
 
 -- ---- check has passed them
-
--- what was found first, where something was found after it
-pub taken : {A B : Type 0} (s : Step A) (next : A → Step B) (b : B) → (s >>= next) ≡ found b → (a : A) × (s ≡ found a) × (next a ≡ found b)
-taken (found a) next b h = (a, refl, h)
-taken (stop n p) next b h = absurd (let z : _≡_ {A = ℕ} 0 1 = cc in omega arith)
 
 prepared-found : (s : Step Prepared) (n : ℕ) → answer (s >>= λ p. found (count (length (testsOf (p .filter))))) ≡ count n → (p : Prepared) × (s ≡ found p)
 prepared-found (found p) n h = (p, refl)
@@ -69,6 +64,11 @@ passing b xs c n e h =
       prepared = is ∙ sym made ∙ ap (λ (qs : List Parameter). found (record { parameters = qs; filter = f })) (sym same);
     }
 
+-- what a filter that check has passed asks
+pub passing-asks : (b xs : List ℕ) (p : Passing b xs) → filterQuestion b xs ≡ found (textQuestion (parametersOf b) (read xs))
+unfolding filterQuestion
+passing-asks b xs p = rw (p .prepared, p .reads)
+
 -- ---- a card
 
 card-found : (r : Reading) (fits : Bool) (c : Card) (i : ℕ) (d : Card) → cardStep r fits c i ≡ found d → (r ≡ Reading.WellFormed) × (d ≡ c)
@@ -91,34 +91,54 @@ stopped : (s : Step Prepared) (n p : ℕ) → answer (s >>= λ q. found (count (
 stopped (found q) n p h = cc
 stopped (stop m q) n p h = cc
 
-pub prepare-stopped : (b xs : List ℕ) (c : Checked) (r : Refusal) → checkedAnswer c ≡ checkAnswer b xs → c ≡ Checked.Refused r → prepare b xs ≡ stop (numberOf (r .reason)) (r .place)
+prepare-stopped : (b xs : List ℕ) (c : Checked) (r : Refusal) → checkedAnswer c ≡ checkAnswer b xs → c ≡ Checked.Refused r → prepare b xs ≡ stop (numberOf (r .reason)) (r .place)
 unfolding checkedAnswer refusalAnswer checkAnswer
 prepare-stopped b xs c r e h = stopped (prepare b xs) (numberOf (r .reason)) (r .place) (sym e ∙ ap checkedAnswer h)
 
+pub question-stopped : (b xs : List ℕ) (c : Checked) (r : Refusal) → checkedAnswer c ≡ checkAnswer b xs → c ≡ Checked.Refused r
+    → filterQuestion b xs ≡ stop (numberOf (r .reason)) (r .place)
+unfolding filterQuestion
+question-stopped b xs c r e h = rw (prepare-stopped b xs c r e h)
+
 -- ---- match
 
+-- the question is refused, and so is match
+pub match-stopped : (asked : Step Question) (card : List ℕ) (r : Refusal) → asked ≡ stop (numberOf (r .reason)) (r .place) → matchedAnswer (Matched.Refused r) ≡ matchBy asked card
+unfolding matchedAnswer refusalAnswer matchBy
+match-stopped asked card r e = rw e
+
 pub match-refused : (b xs card : List ℕ) (c : Checked) (r : Refusal) → checkedAnswer c ≡ checkAnswer b xs → c ≡ Checked.Refused r → matchedAnswer (Matched.Refused r) ≡ matchAnswer b xs card
-unfolding matchedAnswer refusalAnswer matchAnswer
-match-refused b xs card c r e h = rw (prepare-stopped b xs c r e h)
+match-refused b xs card c r e h = match-stopped (filterQuestion b xs) card r (question-stopped b xs c r e h)
 
 yes-or-no-after : (s : Step Card) (g : Card → Bool) → (s >>= λ c. found (yesOrNo (g c))) ≡ (s >>= λ c. found (g c)) >>= λ b. found (yesOrNo b)
 yes-or-no-after (found c) g = refl
 yes-or-no-after (stop n p) g = refl
 
-module _ (b xs card : List ℕ) (p : Passing b xs) (v : CardVerdict) (e : (i : ℕ) → verdictStep v i ≡ cardVerdict (parametersOf b) (read xs) i card) where
-  match-is : matchAnswer b xs card ≡ answer (verdictStep v 0 >>= λ y. found (yesOrNo y))
-  unfolding matchAnswer cardVerdict
-  match-is =
-      rw (p .prepared, e 0, p .reads) (ap answer (yes-or-no-after (takeCard (parametersOf b) 0 card) (λ c. filterSays (parametersOf b) 0 (c .entries) (p .tree))))
+-- what is asked is known, and so is the verdict on the card
+module _ (asked : Step Question) (q : Question) (card : List ℕ) (p : asked ≡ found q) (v : CardVerdict) (e : (i : ℕ) → verdictStep v i ≡ cardVerdict q i card) where
+  match-is : matchBy asked card ≡ answer (verdictStep v 0 >>= λ y. found (yesOrNo y))
+  unfolding matchBy cardVerdict
+  match-is = rw (p, e 0) (ap answer (yes-or-no-after (takeCard (q .parameters) 0 card) (λ c. q .says (c .entries))))
 
-  pub match-yes : (y : Bool) → v ≡ CardVerdict.Says y → y ≡ true → matchedAnswer Matched.Yes ≡ matchAnswer b xs card
+  pub match-yes : (y : Bool) → v ≡ CardVerdict.Says y → y ≡ true → matchedAnswer Matched.Yes ≡ matchBy asked card
   unfolding matchedAnswer
   match-yes y h k = sym (match-is ∙ rw (h, k))
 
-  pub match-no : (y : Bool) → v ≡ CardVerdict.Says y → y ≡ false → matchedAnswer Matched.No ≡ matchAnswer b xs card
+  pub match-no : (y : Bool) → v ≡ CardVerdict.Says y → y ≡ false → matchedAnswer Matched.No ≡ matchBy asked card
   unfolding matchedAnswer
   match-no y h k = sym (match-is ∙ rw (h, k))
 
-  pub match-card-refused : (r : Refusal) → v ≡ CardVerdict.Refused (r .reason) → r .place ≡ 0 → matchedAnswer (Matched.Refused r) ≡ matchAnswer b xs card
+  pub match-card-refused : (r : Refusal) → v ≡ CardVerdict.Refused (r .reason) → r .place ≡ 0 → matchedAnswer (Matched.Refused r) ≡ matchBy asked card
   unfolding matchedAnswer refusalAnswer
   match-card-refused r h z = sym (match-is ∙ rw (h, z))
+
+-- by a filter that check has passed
+module _ (b xs card : List ℕ) (p : Passing b xs) (v : CardVerdict) (e : (i : ℕ) → verdictStep v i ≡ cardVerdict (textQuestion (parametersOf b) (read xs)) i card) where
+  pub filter-yes : (y : Bool) → v ≡ CardVerdict.Says y → y ≡ true → matchedAnswer Matched.Yes ≡ matchAnswer b xs card
+  filter-yes = match-yes (filterQuestion b xs) (textQuestion (parametersOf b) (read xs)) card (passing-asks b xs p) v e
+
+  pub filter-no : (y : Bool) → v ≡ CardVerdict.Says y → y ≡ false → matchedAnswer Matched.No ≡ matchAnswer b xs card
+  filter-no = match-no (filterQuestion b xs) (textQuestion (parametersOf b) (read xs)) card (passing-asks b xs p) v e
+
+  pub filter-card-refused : (r : Refusal) → v ≡ CardVerdict.Refused (r .reason) → r .place ≡ 0 → matchedAnswer (Matched.Refused r) ≡ matchAnswer b xs card
+  filter-card-refused = match-card-refused (filterQuestion b xs) (textQuestion (parametersOf b) (read xs)) card (passing-asks b xs p) v e

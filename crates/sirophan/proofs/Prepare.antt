@@ -24,17 +24,17 @@ use Rattle.place.specs.declared.Why.{Why}
 use Rattle.judge.specs.Faults.{testFault, orElse, firstFault}
 use Rattle.judge.specs.declared.Fault.{Fault}
 use Rattle.judge.specs.declared.FirstFault.{FirstFault}
-use Rattle.judge.specs.Verdicts.{filterSays}
 use Rattle.refusal.specs.Answers.{yesOrNo, count}
 use Rattle.refusal.specs.Steps.{Step, found, stop, _>>=_, answer}
-use Rattle.sirophan.specs.Operations.{sheetStep, takeSheet, failureStep, treeStep, takeFilter, faultStep, testsStep, Prepared, prepare, takeCard, checkAnswer, matchAnswer}
+use Rattle.sirophan.specs.Operations.{sheetStep, takeSheet, failureStep, treeStep, takeFilter, faultStep, testsStep, Prepared, prepare, takeCard, checkAnswer, Question, questionOf, matchBy, filterQuestion}
+use Rattle.sirophan.specs.Demand.{TestRules, filterTests}
 use Rattle.sirophan.proofs.Outcomes.{TestOutcome, test-means, test-refused, TestsOutcome, all-mean, one-refused, AtMost, found-at-most, stop-at-most}
 use Rattle.sirophan.proofs.Faults.{outcome}
 
 -- ---- tests
 
 -- the first of two faults, as a step
-step-or-else : (fault : Fault) (p : ℕ) (rest : FirstFault)
+pub step-or-else : (fault : Fault) (p : ℕ) (rest : FirstFault)
     → faultStep (orElse (record { fault = fault; position = p }) rest .fault) (orElse (record { fault = fault; position = p }) rest .position)
     ≡ (faultStep fault p >>= λ u. faultStep (rest .fault) (rest .position))
 step-or-else Fault.Nothing p rest = refl
@@ -44,31 +44,37 @@ step-or-else Fault.Unsupported p rest = refl
 step-or-else Fault.NoMeaning p rest = refl
 step-or-else Fault.Unreadable p rest = refl
 
+-- what one test comes to, and then those after it
+pub outcome-next : {T : Type 0} (rules : TestRules T) {t : T} {ts : List T} {first rest : Step (Unit {0})} → TestOutcome rules t first → TestsOutcome rules ts rest
+    → TestsOutcome rules (t ∷ ts) (first >>= λ u. rest)
+outcome-next rules {t = t} {ts = ts} (test-refused {n = n} r) s = one-refused [] t ts n refl all-empty r
+outcome-next rules (test-means m _) (all-mean ms) = all-mean (all-cons m ms)
+outcome-next {T} rules {t = t} (test-means m _) (one-refused before u after n e ms r) = one-refused (t ∷ before) u after n (ap (λ (l : List T). t ∷ l) e) (all-cons m ms) r
+
 module _ (ps : List Parameter) where
   pub tests-next : (t : Test) (ts : List Test) → testsStep ps (t ∷ ts) ≡ (faultStep (testFault ps 0 t) (t .at) >>= λ u. testsStep ps ts)
   unfolding testsStep firstFault
   tests-next t ts = step-or-else (testFault ps 0 t) (t .at) (firstFault ps 0 ts)
 
-  outcome-next : {t : Test} {ts : List Test} {first rest : Step (Unit {0})} → TestOutcome ps t first → TestsOutcome ps ts rest → TestsOutcome ps (t ∷ ts) (first >>= λ u. rest)
-  outcome-next {t = t} {ts = ts} (test-refused {n = n} r) s = one-refused [] t ts n refl all-empty r
-  outcome-next (test-means m _) (all-mean ms) = all-mean (all-cons m ms)
-  outcome-next {t = t} (test-means m _) (one-refused before u after n e ms r) = one-refused (t ∷ before) u after n (ap (λ (l : List Test). t ∷ l) e) (all-cons m ms) r
-
-  pub tests-outcome : WellFormedSheet ps → (ts : List Test) → TestsOutcome ps ts (testsStep ps ts)
+  pub tests-outcome : WellFormedSheet ps → (ts : List Test) → TestsOutcome (filterTests ps) ts (testsStep ps ts)
   tests-outcome w [] = unfold testsStep firstFault in all-mean all-empty
-  tests-outcome w (t ∷ ts) = rw (tests-next t ts) (outcome-next (outcome ps w t) (tests-outcome w ts))
+  tests-outcome w (t ∷ ts) = rw (tests-next t ts) (outcome-next (filterTests ps) (outcome ps w t) (tests-outcome w ts))
 
 -- ---- check and match, by what is prepared
+
+pub match-by : (asked : Step Question) (r : Step Question) → asked ≡ r → (card : List ℕ)
+    → matchBy asked card ≡ answer (r >>= λ q. takeCard (q .parameters) 0 card >>= λ c. found (yesOrNo (q .says (c .entries))))
+unfolding matchBy
+match-by asked r e card = rw e
 
 module _ (sheet text : List ℕ) (r : Step Prepared) (e : prepare sheet text ≡ r) where
   pub check-by : checkAnswer sheet text ≡ answer (r >>= λ p. found (count (length (testsOf (p .filter)))))
   unfolding checkAnswer
   check-by = rw e
 
-  pub match-by : (card : List ℕ)
-      → matchAnswer sheet text card ≡ answer (r >>= λ p. takeCard (p .parameters) 0 card >>= λ c. found (yesOrNo (filterSays (p .parameters) 0 (c .entries) (p .filter))))
-  unfolding matchAnswer
-  match-by card = rw e
+  pub question-by : filterQuestion sheet text ≡ (r >>= λ p. found (questionOf p))
+  unfolding filterQuestion
+  question-by = rw e
 
 -- ---- sheet and text
 
@@ -98,11 +104,11 @@ at-most-then : {A B : Type 0} {most : ℕ} {s : Step A} {next : A → Step B} �
 at-most-then (found-at-most {x = x}) h = h x
 at-most-then (stop-at-most n p l) h = stop-at-most n p l
 
-at-most-number : {A : Type 0} {most : ℕ} {s : Step A} → AtMost most s → (n p : ℕ) → s ≡ stop n p → n ≤ most
+pub at-most-number : {A : Type 0} {most : ℕ} {s : Step A} → AtMost most s → (n p : ℕ) → s ≡ stop n p → n ≤ most
 at-most-number found-at-most n p e = absurd (let z : _≡_ {A = ℕ} 0 1 = cc in omega arith)
 at-most-number (stop-at-most m q l) n p e = let z : m ≡ n = cc in omega arith
 
-sheet-at-most : (r : Reading) (ps : List Parameter) → AtMost 18 (sheetStep r ps)
+pub sheet-at-most : (r : Reading) (ps : List Parameter) → AtMost 18 (sheetStep r ps)
 sheet-at-most Reading.WellFormed ps = found-at-most
 sheet-at-most Reading.WrongSize ps = stop-at-most 1 0 (omega arith)
 sheet-at-most Reading.WrongSum ps = stop-at-most 2 0 (omega arith)
@@ -117,7 +123,7 @@ tree-at-most : (text : List ℕ) (o : Option Tree) → AtMost 18 (treeStep text 
 tree-at-most text (some f) = found-at-most
 tree-at-most text none = failure-at-most (failure deepest mostTests text .why) (failure deepest mostTests text .place)
 
-fault-at-most : (fault : Fault) (p : ℕ) → AtMost 18 (faultStep fault p)
+pub fault-at-most : (fault : Fault) (p : ℕ) → AtMost 18 (faultStep fault p)
 fault-at-most Fault.Nothing p = found-at-most
 fault-at-most Fault.UnknownName p = stop-at-most 14 p (omega arith)
 fault-at-most Fault.BareBundle p = stop-at-most 18 p (omega arith)
@@ -125,7 +131,7 @@ fault-at-most Fault.Unsupported p = stop-at-most 15 p (omega arith)
 fault-at-most Fault.NoMeaning p = stop-at-most 16 p (omega arith)
 fault-at-most Fault.Unreadable p = stop-at-most 17 p (omega arith)
 
-pub prepare-number : (sheet text : List ℕ) (n p : ℕ) → prepare sheet text ≡ stop n p → n ≤ 18
+prepare-number : (sheet text : List ℕ) (n p : ℕ) → prepare sheet text ≡ stop n p → n ≤ 18
 unfolding prepare takeSheet takeFilter testsStep
 prepare-number sheet text =
     at-most-number
@@ -133,3 +139,12 @@ prepare-number sheet text =
     (λ ps. at-most-then
     (cond-elim (AtMost 18) (eqb (length text) 0 || ltb 1024 (length text)) (λ _. stop-at-most 10 0 (omega arith)) (λ _. tree-at-most text (read text)))
     (λ f. at-most-then (fault-at-most (firstFault ps 0 (testsOf f) .fault) (firstFault ps 0 (testsOf f) .position)) (λ u. found-at-most))))
+
+-- a filter is refused with none of the numbers that cards and lists are refused with
+pub question-number : (sheet text : List ℕ) (n p : ℕ) → filterQuestion sheet text ≡ stop n p → n ≤ 18
+unfolding filterQuestion
+question-number sheet text n p e = by (prepare sheet text) refl e
+  where
+    by : (r : Step Prepared) → prepare sheet text ≡ r → (r >>= λ p. found (questionOf p)) ≡ stop n p → n ≤ 18
+    by (found q) f g = absurd (let z : _≡_ {A = ℕ} 0 1 = cc in omega arith)
+    by (stop m q) f g = let same : m ≡ n = cc in omega (arith, prepare-number sheet text m q f)

@@ -52,17 +52,28 @@ use Rattle.kind.specs.declared.Relation.{Relation}
 use Rattle.refusal.proofs.Order as order
 use Rattle.refusal.specs.Answers.{Answer, yes, no, count, refused}
 use Rattle.kind.specs.declared.DateRelation.{DateRelation}
-use Rattle.sirophan.specs.Operations.{checkAnswer, matchAnswer, selectAnswer, selectCells}
+use Rattle.sirophan.specs.Operations.{checkAnswer, filterQuestion, matchAnswer, selectAnswer, selectCells}
 use Rattle.kind.specs.Rules.{ReadableOnCard, ReadableValue}
 use Rattle.kind.specs.Rules.{HasOperator}
-use Rattle.judge.specs.Rules.{Conforms}
+use Rattle.judge.specs.Rules.{Conforms, FilterSays}
 use Rattle.kind.specs.Rules.{DatesStand, date-inside, StandsIn}
 use Rattle.sirophan.specs.Verdicts.{Verdict}
-use Rattle.sirophan.specs.Demand.{Demand, MeetsDemand, Agree}
+use Rattle.sirophan.specs.Demand.{TestRules, Demand, Agree, FilterDemand, MeetsDemand}
 use Rattle.sirophan.specs.Selection.{Run, matchingCards, matchingNumbers, occurrences, bearing, SelectsByMatch, SelectAnswers}
 use Rattle.refusal.specs.Order.{rank, Decides}
 use Rattle.sirophan.specs.Refusals.{CheckLine, MatchLine, SelectLine, SpellLine}
 use Rattle.sirophan.specs.Spelling.{spellAnswer, spellBytes, SpellAnswers}
+use Rattle.search.specs.Spelling.{Query, SpellsQuery}
+use Rattle.search.specs.Reader.{takeQuery}
+use Rattle.search.proofs.Reading as query-reading
+use Rattle.refusal.specs.Steps.{found}
+use Rattle.sirophan.specs.Searching.{checkSearchAnswer, searchQuestion, matchSearchAnswer, selectSearchAnswer, selectSearchCells}
+use Rattle.sirophan.specs.SearchDemand.{MeetsSearchDemand}
+use Rattle.sirophan.specs.SearchRefusals.{CheckSearchLine, MatchSearchLine, SelectSearchLine}
+use Rattle.sirophan.specs.SameQuestion.{SameQuestion, AnsweredAlike}
+use Rattle.sirophan.proofs.SameQuestion as same-question
+use Rattle.sirophan.proofs.SearchDemand as search-demand
+use Rattle.sirophan.proofs.SearchTable as search-table
 use Rattle.sirophan.specs.Trial.{Row, trialRows, bundleRows, stayRows, titleTest, codeTest}
 use Rattle.sirophan.specs.Edges.{edgeCard, edgeRows}
 use Rattle.kind.proofs.Rules as rules
@@ -115,7 +126,7 @@ pub number-unique : {d m : ℕ} {text : List ℕ} {p n k : ℕ} → Number d m t
 number-unique = place.number-unique
 
 pub refusal-keeps-list : (sheet text cards list : List ℕ) (n i : ℕ) → selectAnswer sheet text cards (length list) ≡ refused n i → selectCells sheet text cards list ≡ list
-refusal-keeps-list = selection.refusal-keeps
+refusal-keeps-list sheet text = selection.refusal-keeps (filterQuestion sheet text) (selection.filter-number sheet text)
 
 pub refusal-keeps-buffer : (text : List ℕ) (from : ℕ) (buffer : List ℕ) (n p : ℕ) → spellAnswer text from (length buffer) ≡ refused n p → spellBytes text from buffer ≡ buffer
 refusal-keeps-buffer = spell.refusal-keeps-buffer
@@ -184,37 +195,39 @@ days-before-month = calendar.days-before-month
 
 -- where check passes, match answers yes exactly where the filter says yes of the card, and no where it does not
 pub match-verdict : (sheet text : List ℕ) (s : SheetBlock sheet) (f : Tree) → length text ≤ 1024 → Spells text f → checkAnswer sheet text ≡ count (length (testsOf f))
-    → (card : List ℕ) (es : List Entry) → Conforms (s .parameters) card es → Verdict (s .parameters) es f (matchAnswer sheet text card)
+    → (card : List ℕ) (es : List Entry) → Conforms (s .parameters) card es → Verdict (FilterSays (s .parameters) 0 es f) (matchAnswer sheet text card)
 match-verdict = demand.match-verdict
 
 -- a selection lists the record numbers of the cards on which match answers yes, in card order
-pub select-by-match : (sheet text cards list : List ℕ) (bs : List (List ℕ)) → Run cards bs → SelectsByMatch sheet text cards list bs
-select-by-match = selection.selects-by-match
+pub select-by-match : (sheet text cards list : List ℕ) (bs : List (List ℕ)) → Run cards bs
+    → SelectsByMatch (matchAnswer sheet text) (selectAnswer sheet text cards (length list)) (selectCells sheet text cards list) list bs
+select-by-match sheet text = selection.selects-by-match (filterQuestion sheet text) (selection.filter-number sheet text)
 
 -- where no line of the table holds, it answers, and with these
 pub select-answered : (sheet text cards list : List ℕ) → Bytes sheet → Bytes cards → (bs : List (List ℕ)) → Run cards bs
-    → ((n p : ℕ) → SelectLine sheet text cards (length list) n p → ⊥) → SelectAnswers sheet text cards list bs
+    → ((n p : ℕ) → SelectLine sheet text cards (length list) n p → ⊥)
+    → SelectAnswers (matchAnswer sheet text) (selectAnswer sheet text cards (length list)) (selectCells sheet text cards list) list bs
 select-answered = answered.select-answered
 
 -- each as often as matching cards bear it
-pub select-occurrences : (sheet text : List ℕ) (bs : List (List ℕ)) (x : ℕ) → occurrences x (matchingNumbers sheet text bs) ≡ length (bearing x (matchingCards sheet text bs))
+pub select-occurrences : (match : List ℕ → Answer) (bs : List (List ℕ)) (x : ℕ) → occurrences x (matchingNumbers match bs) ≡ length (bearing x (matchingCards match bs))
 select-occurrences = selection.matching-occurrences
 
 -- what select answers is small: a count is no larger than the list, the place of a refused card no larger than the run
 pub select-count-within : (sheet text cards list : List ℕ) (n : ℕ) → selectAnswer sheet text cards (length list) ≡ count n → n ≤ length list
-select-count-within = bounds.count-within
+select-count-within sheet text = bounds.count-within (filterQuestion sheet text) (selection.filter-number sheet text)
 
 pub select-place-within : (sheet text cards list : List ℕ) (n p : ℕ) → selectAnswer sheet text cards (length list) ≡ refused n p → 21 ≤ n → n ≤ 23 → p < 128
-select-place-within = bounds.place-within
+select-place-within sheet text = bounds.place-within (filterQuestion sheet text) (selection.filter-number sheet text)
 
 -- ---- demand 3: what check passes and what it refuses
 
 pub check-and-match : MeetsDemand checkAnswer matchAnswer
 check-and-match = demand.demand-met
 
--- nothing is left free
-pub demand-determines : (ps : List Parameter) (f : Tree) (check check′ : Answer) (match match′ : List ℕ → Answer) → Demand ps f check match → Demand ps f check′ match′
-    → Agree ps f check check′ match match′
+-- nothing is left free, whatever the kind of test
+pub demand-determines : {T : Type 0} (rules : TestRules T) (tests : List T) (Says : List Entry → Type 0) (check check′ : Answer) (match match′ : List ℕ → Answer)
+    → Demand rules tests Says check match → Demand rules tests Says check′ match′ → Agree rules tests check check′ match match′
 demand-determines = determinacy.demand-determines
 
 -- two filters for the trial sheet: `title co "BOOK"`, with a meaning on every conforming card, and `code gt 5`, without
@@ -226,22 +239,22 @@ code-filter = impossible.code-spelled
 
 -- they shut out: a check that refuses everything, a count made up, a check that passes everything, a match that refuses everything,
 -- one that says yes to all, and one that answers no where there is no meaning
-pub check-never-refuses-all : (n p : ℕ) (match : List ℕ → Answer) → Demand trialParameters (test titleTest) (refused n p) match → ⊥
+pub check-never-refuses-all : (n p : ℕ) (match : List ℕ → Answer) → FilterDemand trialParameters (test titleTest) (refused n p) match → ⊥
 check-never-refuses-all = impossible.check-refuses-all
 
-pub check-never-miscounts : (n : ℕ) → (n ≡ 1 → ⊥) → (match : List ℕ → Answer) → Demand trialParameters (test titleTest) (count n) match → ⊥
+pub check-never-miscounts : (n : ℕ) → (n ≡ 1 → ⊥) → (match : List ℕ → Answer) → FilterDemand trialParameters (test titleTest) (count n) match → ⊥
 check-never-miscounts = impossible.check-miscounts
 
-pub check-never-passes-all : (n : ℕ) (match : List ℕ → Answer) → Demand trialParameters (test codeTest) (count n) match → ⊥
+pub check-never-passes-all : (n : ℕ) (match : List ℕ → Answer) → FilterDemand trialParameters (test codeTest) (count n) match → ⊥
 check-never-passes-all = impossible.check-passes-all
 
-pub match-never-refuses-all : (n p : ℕ) (check : Answer) → Demand trialParameters (test titleTest) check (λ card. refused n p) → ⊥
+pub match-never-refuses-all : (n p : ℕ) (check : Answer) → FilterDemand trialParameters (test titleTest) check (λ card. refused n p) → ⊥
 match-never-refuses-all = impossible.match-refuses-all
 
-pub match-never-says-yes-to-all : (check : Answer) → Demand trialParameters (test titleTest) check (λ card. yes) → ⊥
+pub match-never-says-yes-to-all : (check : Answer) → FilterDemand trialParameters (test titleTest) check (λ card. yes) → ⊥
 match-never-says-yes-to-all = impossible.match-says-yes
 
-pub match-never-says-no-without-meaning : (check : Answer) → Demand trialParameters (test codeTest) check (λ card. no) → ⊥
+pub match-never-says-no-without-meaning : (check : Answer) → FilterDemand trialParameters (test codeTest) check (λ card. no) → ⊥
 match-never-says-no-without-meaning = impossible.match-says-no
 
 -- ---- the plain spelling (02 [5])
@@ -258,6 +271,49 @@ plain-determined = lengths.determined
 -- spell puts it into the buffer wherever there is room
 pub spell-answered : (text : List ℕ) (from : ℕ) (buffer : List ℕ) (f : Tree) → length text ≤ 1024 → Spells text f → from + length (plain f) ≤ length buffer → SpellAnswers (plain f) text from buffer
 spell-answered = spell.spell-answered
+
+-- ---- search strings (02 [13])
+
+-- a string is read as a query exactly where it spells it, and there is at most one
+pub query-read : (text : List ℕ) (q : Query) → (takeQuery text ≡ found q) ↔ SpellsQuery text q
+query-read = query-reading.query-read
+
+pub query-unique : (text : List ℕ) (q r : Query) → SpellsQuery text q → SpellsQuery text r → q ≡ r
+query-unique = query-reading.query-unique
+
+-- demand 1: each operation is refused exactly where a line of its table decides
+pub check-search-refused : (sheet text : List ℕ) → Bytes sheet → (n p : ℕ) → (checkSearchAnswer sheet text ≡ refused n p) ↔ Decides (CheckSearchLine sheet text) n p
+check-search-refused = search-table.check-search-table
+
+pub match-search-refused : (sheet text card : List ℕ) → Bytes sheet → Bytes card → (n p : ℕ)
+    → (matchSearchAnswer sheet text card ≡ refused n p) ↔ Decides (MatchSearchLine sheet text card) n p
+match-search-refused = search-table.match-search-table
+
+pub select-search-refused : (sheet text cards : List ℕ) (room : ℕ) → Bytes sheet → Bytes cards → (n p : ℕ)
+    → (selectSearchAnswer sheet text cards room ≡ refused n p) ↔ Decides (SelectSearchLine sheet text cards room) n p
+select-search-refused = search-table.select-search-table
+
+pub search-refusal-keeps-list : (sheet text cards list : List ℕ) (n i : ℕ) → selectSearchAnswer sheet text cards (length list) ≡ refused n i → selectSearchCells sheet text cards list ≡ list
+search-refusal-keeps-list sheet text = selection.refusal-keeps (searchQuestion sheet text) (search-table.search-number sheet text)
+
+-- demand 2: a selection lists the record numbers of the cards on which match answers yes, in card order; where no line holds, it answers
+pub select-search-by-match : (sheet text cards list : List ℕ) (bs : List (List ℕ)) → Run cards bs
+    → SelectsByMatch (matchSearchAnswer sheet text) (selectSearchAnswer sheet text cards (length list)) (selectSearchCells sheet text cards list) list bs
+select-search-by-match sheet text = selection.selects-by-match (searchQuestion sheet text) (search-table.search-number sheet text)
+
+pub select-search-answered : (sheet text cards list : List ℕ) → Bytes sheet → Bytes cards → (bs : List (List ℕ)) → Run cards bs
+    → ((n p : ℕ) → SelectSearchLine sheet text cards (length list) n p → ⊥)
+    → SelectAnswers (matchSearchAnswer sheet text) (selectSearchAnswer sheet text cards (length list)) (selectSearchCells sheet text cards list) list bs
+select-search-answered = search-table.select-search-answered
+
+-- demand 3 over alternatives; that nothing is left free is demand-determines
+pub check-and-match-search : MeetsSearchDemand checkSearchAnswer matchSearchAnswer
+check-and-match-search = search-demand.search-demand-met
+
+-- a filter that asks the same, and that check passes, is answered the same
+pub search-as-filter : (sheet text query : List ℕ) (s : SheetBlock sheet) (f : Tree) (q : Query) → Spells text f → SpellsQuery query q → SameQuestion (s .parameters) q f
+    → checkAnswer sheet text ≡ count (length (testsOf f)) → AnsweredAlike sheet query text
+search-as-filter = same-question.same-question
 
 -- ---- the trial card
 

@@ -6,7 +6,7 @@ use native.Mathlib.Omega.{arith}
 use mathlib.Core.Path.{_≡_, refl, ap, sym, _∙_, subst}
 use mathlib.Core.Bool.{Bool, true, false, cond}
 use mathlib.Core.Logic.{_⊎_, inl, inr, ⊎-elim}
-use mathlib.Core.List.{List, [], _∷_, _++_, map, filter}
+use mathlib.Core.List.{List, [], _∷_, _++_, map}
 use lib.Dec.{leb}
 use lib.ListN.{length, drop, length-map}
 use borrow.Author.Tests.{leb-false}
@@ -17,16 +17,14 @@ use Rattle.base.proofs.Tests.{cond-elim}
 use Rattle.block.specs.declared.Reading.{Reading}
 use Rattle.sheet.specs.Sheet.{Parameter}
 use Rattle.card.specs.Card.{recordNumber, entriesOf, readCard}
-use Rattle.syntax.specs.Tree.{Tree}
 use Rattle.judge.specs.Sets.{conforms}
-use Rattle.judge.specs.Verdicts.{filterSays}
-use Rattle.refusal.specs.Answers.{yesOrNo, count, refused}
+use Rattle.refusal.specs.Answers.{Answer, yesOrNo, count, refused}
 use Rattle.refusal.specs.Steps.{Step, found, stop, _>>=_, answer}
-use Rattle.sirophan.specs.Operations.{Prepared, prepare, Card, cardStep, takeCard, takeRun, takeCards, matching, takeRoom, selection, matchAnswer, selectAnswer, written, selectCells}
+use Rattle.sirophan.specs.Operations.{Card, cardStep, takeCard, Question, matchBy, filterQuestion, takeRun, takeCards, matching, takeRoom, selection, selectBy, written, cellsBy}
 use Rattle.sirophan.specs.Selection.{Run, isYes, matchingCards, matchingNumbers, occurrences, bearing, RefusesCard, SelectsByMatch}
 use Rattle.refusal.proofs.Answers.{verdict-not-refused}
-use Rattle.sirophan.proofs.Outcomes.{cardOf, Taken, Stopped, CardsOutcome, all-taken, one-stopped, SelectionOutcome, not-prepared, card-refused, no-room, numbers-found}
-use Rattle.sirophan.proofs.Prepare.{match-by, prepare-number}
+use Rattle.sirophan.proofs.Outcomes.{cardOf, Taken, Stopped, CardsOutcome, all-taken, one-stopped, OtherNumber, SelectionOutcome, not-asked, card-refused, no-room, numbers-found}
+use Rattle.sirophan.proofs.Prepare.{match-by, question-number}
 use Rattle.sirophan.proofs.Runs.{run-iff}
 
 -- ---- a card, at whatever index
@@ -64,128 +62,136 @@ module _ (ps : List Parameter) where
 
 -- ---- match on each card of a run
 
-module _ (sheet text : List ℕ) (p : Prepared) (e : prepare sheet text ≡ found p) where
+module _ (asked : Step Question) (q : Question) (e : asked ≡ found q) where
   abbrev ps : List Parameter
-  ps = p .parameters
+  ps = q .parameters
 
-  abbrev f : Tree
-  f = p .filter
+  pub match-taken : (b : List ℕ) → Taken ps b → matchBy asked b ≡ yesOrNo (q .says (entriesOf b))
+  match-taken b t = match-by asked (found q) e b ∙ rw (t 0)
 
-  pub match-taken : (b : List ℕ) → Taken ps b → matchAnswer sheet text b ≡ yesOrNo (filterSays ps 0 (entriesOf b) f)
-  match-taken b t = match-by sheet text (found p) e b ∙ rw (t 0)
+  match-stopped : (n : ℕ) (b : List ℕ) → Stopped ps n b → matchBy asked b ≡ refused n 0
+  match-stopped n b s = match-by asked (found q) e b ∙ rw (s 0)
 
-  match-stopped : (n : ℕ) (b : List ℕ) → Stopped ps n b → matchAnswer sheet text b ≡ refused n 0
-  match-stopped n b s = match-by sheet text (found p) e b ∙ rw (s 0)
+  taken-not-refused : (b : List ℕ) → Taken ps b → (n i : ℕ) → matchBy asked b ≡ refused n i → ⊥
+  taken-not-refused b t n i h = verdict-not-refused (q .says (entriesOf b)) n i (sym (match-taken b t) ∙ h)
 
-  taken-not-refused : (b : List ℕ) → Taken ps b → (n i : ℕ) → matchAnswer sheet text b ≡ refused n i → ⊥
-  taken-not-refused b t n i h = verdict-not-refused (filterSays ps 0 (entriesOf b) f) n i (sym (match-taken b t) ∙ h)
-
-  -- the numbers of the cards on which the filter says yes are those on which match answers yes
-  numbers-next : (b : List ℕ) (bs : List (List ℕ)) (v : Bool) → matchAnswer sheet text b ≡ yesOrNo v
-      → cond v (recordNumber b ∷ matchingNumbers sheet text bs) (matchingNumbers sheet text bs) ≡ matchingNumbers sheet text (b ∷ bs)
+  -- the numbers of the cards of which yes is said are those on which match answers yes
+  numbers-next : (b : List ℕ) (bs : List (List ℕ)) (v : Bool) → matchBy asked b ≡ yesOrNo v
+      → cond v (recordNumber b ∷ matchingNumbers (matchBy asked) bs) (matchingNumbers (matchBy asked) bs) ≡ matchingNumbers (matchBy asked) (b ∷ bs)
   unfolding isYes
   numbers-next b bs true h = rw h
   numbers-next b bs false h = rw h
 
-  pub matching-numbers : {bs : List (List ℕ)} → All (Taken ps) bs → matching ps f (map cardOf bs) ≡ matchingNumbers sheet text bs
+  pub matching-numbers : {bs : List (List ℕ)} → All (Taken ps) bs → matching (q .says) (map cardOf bs) ≡ matchingNumbers (matchBy asked) bs
   unfolding matching
   matching-numbers all-empty = refl
   matching-numbers (all-cons {x = b} {xs = bs} t ts) =
-      rw (matching-numbers ts) (numbers-next b bs (filterSays ps 0 (entriesOf b) f) (match-taken b t))
+      rw (matching-numbers ts) (numbers-next b bs (q .says (entriesOf b)) (match-taken b t))
 
 -- ---- a selection from a run
 
-module _ (sheet text : List ℕ) (bs : List (List ℕ)) (room : ℕ) where
-  -- the matches fit into the list, or they do not
-  selected-room : (numbers : List ℕ) → numbers ≡ matchingNumbers sheet text bs → SelectionOutcome sheet text bs room (takeRoom room numbers)
-  unfolding takeRoom
-  selected-room numbers e =
-      let few : length numbers ≡ length (matchingCards sheet text bs) = ap length e ∙ length-map (matchingCards sheet text bs) recordNumber in
-      cond-elim (SelectionOutcome sheet text bs room) (leb (length numbers) room)
-      (λ _. subst (λ (ns : List ℕ). SelectionOutcome sheet text bs room (found ns)) (sym e) numbers-found)
-      (λ h. no-room (length numbers) few (leb-false (length numbers) room h))
+module _ (asked : Step Question) (other : (n p : ℕ) → asked ≡ stop n p → OtherNumber n) where
+  module _ (bs : List (List ℕ)) (room : ℕ) where
+    -- the matches fit into the list, or they do not
+    selected-room : (numbers : List ℕ) → numbers ≡ matchingNumbers (matchBy asked) bs → SelectionOutcome (matchBy asked) bs room (takeRoom room numbers)
+    unfolding takeRoom
+    selected-room numbers e =
+        let few : length numbers ≡ length (matchingCards (matchBy asked) bs) = ap length e ∙ length-map (matchingCards (matchBy asked) bs) recordNumber in
+        cond-elim (SelectionOutcome (matchBy asked) bs room) (leb (length numbers) room)
+        (λ _. subst (λ (ns : List ℕ). SelectionOutcome (matchBy asked) bs room (found ns)) (sym e) numbers-found)
+        (λ h. no-room (length numbers) few (leb-false (length numbers) room h))
 
-  module _ (p : Prepared) (e : prepare sheet text ≡ found p) where
-    selected-cards : {cards : Step (List Card)} → CardsOutcome (p .parameters) 0 bs cards → SelectionOutcome sheet text bs room (cards >>= λ cs. takeRoom room (matching (p .parameters) (p .filter) cs))
-    selected-cards (all-taken ts) = selected-room (matching (p .parameters) (p .filter) (map cardOf bs)) (matching-numbers sheet text p e ts)
-    selected-cards (one-stopped before b after n j split k ts m s) =
-        card-refused n j m
-        (record {
-          card = b;
-          at = record { before = before; after = after; split = split; index = omega arith };
-          refuses = match-stopped sheet text p e n b s;
-          earlier = all-map (taken-not-refused sheet text p e) ts;
-        })
+    module _ (q : Question) (e : asked ≡ found q) where
+      selected-cards : {cards : Step (List Card)} → CardsOutcome (q .parameters) 0 bs cards → SelectionOutcome (matchBy asked) bs room (cards >>= λ cs. takeRoom room (matching (q .says) cs))
+      selected-cards (all-taken ts) = selected-room (matching (q .says) (map cardOf bs)) (matching-numbers asked q e ts)
+      selected-cards (one-stopped before b after n j split k ts m s) =
+          card-refused n j m
+          (record {
+            card = b;
+            at = record { before = before; after = after; split = split; index = omega arith };
+            refuses = match-stopped asked q e n b s;
+            earlier = all-map (taken-not-refused asked q e) ts;
+          })
 
-  selected : (cards : List ℕ) → Run cards bs → SelectionOutcome sheet text bs room (selection sheet text cards room)
-  unfolding selection
-  selected cards run = by-prepare (prepare sheet text) refl
-    where
-      by-prepare : (r : Step Prepared) → prepare sheet text ≡ r
-          → SelectionOutcome sheet text bs room (r >>= λ p. takeRun cards >>= λ cs. takeCards (p .parameters) 0 cs >>= λ ds. takeRoom room (matching (p .parameters) (p .filter) ds))
-      by-prepare (stop n i) e = not-prepared n i (prepare-number sheet text n i e)
-      by-prepare (found p) e = rw (run-iff cards bs .1 run) (selected-cards p e (cards-outcome (p .parameters) 0 bs))
+    selected : (cards : List ℕ) → Run cards bs → SelectionOutcome (matchBy asked) bs room (selection asked cards room)
+    unfolding selection
+    selected cards run = by asked refl
+      where
+        by : (r : Step Question) → asked ≡ r
+            → SelectionOutcome (matchBy asked) bs room (r >>= λ q. takeRun cards >>= λ cs. takeCards (q .parameters) 0 cs >>= λ ds. takeRoom room (matching (q .says) ds))
+        by (stop n i) e = not-asked n i (other n i e)
+        by (found q) e = rw (run-iff cards bs .1 run) (selected-cards q e (cards-outcome (q .parameters) 0 bs))
 
--- ---- the theorems
+  -- ---- the theorems
 
-module _ (sheet text cards list : List ℕ) where
-  module _ (s : Step (List ℕ)) (e : selection sheet text cards (length list) ≡ s) where
-    answer-by : selectAnswer sheet text cards (length list) ≡ answer (s >>= λ ns. found (count (length ns)))
-    unfolding selectAnswer
-    answer-by = rw e
+  module _ (cards list : List ℕ) where
+    abbrev select : Answer
+    select = selectBy asked cards (length list)
 
-    cells-by : selectCells sheet text cards list ≡ written s list
-    unfolding selectCells
-    cells-by = rw e
+    abbrev cells : List ℕ
+    cells = cellsBy asked cards list
 
-  -- "no refusal writes to a list"
-  pub refusal-keeps : (n i : ℕ) → selectAnswer sheet text cards (length list) ≡ refused n i → selectCells sheet text cards list ≡ list
-  refusal-keeps n i h = by-step (selection sheet text cards (length list)) refl
-    where
-      by-step : (s : Step (List ℕ)) → selection sheet text cards (length list) ≡ s → selectCells sheet text cards list ≡ list
-      by-step (stop m j) e = cells-by (stop m j) e
-      by-step (found ns) e = absurd (let a = answer-by (found ns) e in let z : _≡_ {A = ℕ} 0 1 = cc in omega arith)
+    module _ (s : Step (List ℕ)) (e : selection asked cards (length list) ≡ s) where
+      answer-by : select ≡ answer (s >>= λ ns. found (count (length ns)))
+      unfolding selectBy
+      answer-by = rw e
 
-  module _ (bs : List (List ℕ)) where
-    by-refusal : (n i : ℕ) → selection sheet text cards (length list) ≡ stop n i → (21 ≤ n → n ≤ 23 → RefusesCard sheet text bs n i)
-        → (n ≡ 30 → (i ≡ length (matchingCards sheet text bs)) × (length list < i)) → SelectsByMatch sheet text cards list bs
-    by-refusal n i e card room =
-        let refusal : selectAnswer sheet text cards (length list) ≡ refused n i = answer-by (stop n i) e in
-        record {
-          counts = λ m h. absurd (let z : _≡_ {A = ℕ} 0 1 = cc in omega arith);
-          writes = λ m h. absurd (let z : _≡_ {A = ℕ} 0 1 = cc in omega arith);
-          refuses = λ m j h low high.
-              let number : n ≡ m = cc in
-              let place : i ≡ j = cc in
-              rw (← number, ← place) (card (omega arith) (omega arith));
-          lacks-room = λ j h.
-              let number : n ≡ 30 = cc in
-              let place : i ≡ j = cc in
-              rw (← place) (room number);
-        }
+      cells-by : cells ≡ written s list
+      unfolding cellsBy
+      cells-by = rw e
 
-    by-numbers : selection sheet text cards (length list) ≡ found (matchingNumbers sheet text bs) → SelectsByMatch sheet text cards list bs
-    by-numbers e =
-        let ns = matchingNumbers sheet text bs in
-        let counted : selectAnswer sheet text cards (length list) ≡ count (length ns) = answer-by (found ns) e in
-        record {
-          counts = λ m h. let same : m ≡ length ns = cc in same ∙ length-map (matchingCards sheet text bs) recordNumber;
-          writes = λ m h. let same : length ns ≡ m = cc in cells-by (found ns) e ∙ ap (λ (k : ℕ). ns ++ drop k list) same;
-          refuses = λ m j h. absurd (let z : _≡_ {A = ℕ} 0 1 = cc in omega arith);
-          lacks-room = λ j h. absurd (let z : _≡_ {A = ℕ} 0 1 = cc in omega arith);
-        }
+    -- "no refusal writes to a list"
+    pub refusal-keeps : (n i : ℕ) → select ≡ refused n i → cells ≡ list
+    refusal-keeps n i h = by-step (selection asked cards (length list)) refl
+      where
+        by-step : (s : Step (List ℕ)) → selection asked cards (length list) ≡ s → cells ≡ list
+        by-step (stop m j) e = cells-by (stop m j) e
+        by-step (found ns) e = absurd (let a = answer-by (found ns) e in let z : _≡_ {A = ℕ} 0 1 = cc in omega arith)
 
-    by-selection : {s : Step (List ℕ)} → selection sheet text cards (length list) ≡ s → SelectionOutcome sheet text bs (length list) s → SelectsByMatch sheet text cards list bs
-    by-selection e (not-prepared n i l) = by-refusal n i e (λ low high. absurd (omega arith)) (λ h. absurd (omega arith))
-    by-selection e (card-refused n i l r) = by-refusal n i e (λ low high. r) (λ h. absurd (omega arith))
-    by-selection e (no-room i k l) = by-refusal 30 i e (λ low high. absurd (omega arith)) (λ h. (k, l))
-    by-selection e numbers-found = by-numbers e
+    module _ (bs : List (List ℕ)) where
+      by-refusal : (n i : ℕ) → selection asked cards (length list) ≡ stop n i → (21 ≤ n → n ≤ 23 → RefusesCard (matchBy asked) bs n i)
+          → (n ≡ 30 → (i ≡ length (matchingCards (matchBy asked) bs)) × (length list < i)) → SelectsByMatch (matchBy asked) select cells list bs
+      by-refusal n i e card room =
+          let refusal : select ≡ refused n i = answer-by (stop n i) e in
+          record {
+            counts = λ m h. absurd (let z : _≡_ {A = ℕ} 0 1 = cc in omega arith);
+            writes = λ m h. absurd (let z : _≡_ {A = ℕ} 0 1 = cc in omega arith);
+            refuses = λ m j h low high.
+                let number : n ≡ m = cc in
+                let place : i ≡ j = cc in
+                rw (← number, ← place) (card (omega arith) (omega arith));
+            lacks-room = λ j h.
+                let number : n ≡ 30 = cc in
+                let place : i ≡ j = cc in
+                rw (← place) (room number);
+          }
 
-    pub selects-by-match : Run cards bs → SelectsByMatch sheet text cards list bs
-    selects-by-match run = by-selection refl (selected sheet text bs (length list) cards run)
+      by-numbers : selection asked cards (length list) ≡ found (matchingNumbers (matchBy asked) bs) → SelectsByMatch (matchBy asked) select cells list bs
+      by-numbers e =
+          let ns = matchingNumbers (matchBy asked) bs in
+          let counted : select ≡ count (length ns) = answer-by (found ns) e in
+          record {
+            counts = λ m h. let same : m ≡ length ns = cc in same ∙ length-map (matchingCards (matchBy asked) bs) recordNumber;
+            writes = λ m h. let same : length ns ≡ m = cc in cells-by (found ns) e ∙ ap (λ (k : ℕ). ns ++ drop k list) same;
+            refuses = λ m j h. absurd (let z : _≡_ {A = ℕ} 0 1 = cc in omega arith);
+            lacks-room = λ j h. absurd (let z : _≡_ {A = ℕ} 0 1 = cc in omega arith);
+          }
+
+      by-selection : {s : Step (List ℕ)} → selection asked cards (length list) ≡ s → SelectionOutcome (matchBy asked) bs (length list) s → SelectsByMatch (matchBy asked) select cells list bs
+      by-selection e (not-asked n i o) = by-refusal n i e (λ low high. absurd (o low (omega arith))) (λ h. absurd (o (omega arith) (omega arith)))
+      by-selection e (card-refused n i l r) = by-refusal n i e (λ low high. r) (λ h. absurd (omega arith))
+      by-selection e (no-room i k l) = by-refusal 30 i e (λ low high. absurd (omega arith)) (λ h. (k, l))
+      by-selection e numbers-found = by-numbers e
+
+      pub selects-by-match : Run cards bs → SelectsByMatch (matchBy asked) select cells list bs
+      selects-by-match run = by-selection refl (selected bs (length list) cards run)
+
+-- a filter's question
+pub filter-number : (sheet text : List ℕ) (n p : ℕ) → filterQuestion sheet text ≡ stop n p → OtherNumber n
+filter-number sheet text n p e low high = omega (arith, question-number sheet text n p e)
 
 -- ---- record numbers
 
 -- a record number stands among those of the matches as often as matching cards bear it
-pub matching-occurrences : (sheet text : List ℕ) (bs : List (List ℕ)) (x : ℕ) → occurrences x (matchingNumbers sheet text bs) ≡ length (bearing x (matchingCards sheet text bs))
-matching-occurrences sheet text bs x = filter-map (λ n. ℕ-discrete n x) recordNumber (matchingCards sheet text bs)
+pub matching-occurrences : (match : List ℕ → Answer) (bs : List (List ℕ)) (x : ℕ) → occurrences x (matchingNumbers match bs) ≡ length (bearing x (matchingCards match bs))
+matching-occurrences match bs x = filter-map (λ n. ℕ-discrete n x) recordNumber (matchingCards match bs)

@@ -16,11 +16,12 @@ use Rattle.judge.proofs.Rules.{pr-spelled, filter-says-iff}
 use Rattle.refusal.specs.Answers.{yesOrNo}
 use Rattle.sirophan.specs.Verdicts.{Verdict, answers-yes, answers-no}
 
+-- a verdict that computes what Says states
+pub verdict-of : {Says : Type 0} (b : Bool) → (b ≡ true) ↔ Says → Verdict Says (yesOrNo b)
+verdict-of true i = answers-yes (i .0 refl) refl
+verdict-of false i = answers-no (λ s. false≢true (i .1 s)) refl
+
 -- where no test lacks a meaning on the entries
 pub verdict-by : (ps : List Parameter) → WellFormedSheet ps → (es : List Entry) (f : Tree) → All (λ (t : Test). LacksMeaning ps es t → ⊥) (testsOf f)
-    → Verdict ps es f (yesOrNo (filterSays ps 0 es f))
-verdict-by ps w es f h = by (filterSays ps 0 es f) (filter-says-iff ps w 0 es f (all-map (λ t. pr-spelled ps es t) h))
-  where
-    by : (b : Bool) → (b ≡ true) ↔ FilterSays ps 0 es f → Verdict ps es f (yesOrNo b)
-    by true i = answers-yes (i .0 refl) refl
-    by false i = answers-no (λ s. false≢true (i .1 s)) refl
+    → Verdict (FilterSays ps 0 es f) (yesOrNo (filterSays ps 0 es f))
+verdict-by ps w es f h = verdict-of (filterSays ps 0 es f) (filter-says-iff ps w 0 es f (all-map (λ t. pr-spelled ps es t) h))

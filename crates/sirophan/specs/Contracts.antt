@@ -11,6 +11,8 @@ use Rattle.sirophan.specs.Operations.{checkAnswer, matchAnswer, selectAn
 use Rattle.sirophan.specs.Spelling.{spellAnswer, spellBytes}
 use Rattle.refusal.specs.Order.{Decides}
 use Rattle.sirophan.specs.Refusals.{CheckLine, MatchLine, SelectLine, SpellLine}
+use Rattle.sirophan.specs.Searching.{checkSearchAnswer, matchSearchAnswer, selectSearchAnswer, selectSearchCells}
+use Rattle.sirophan.specs.SearchRefusals.{CheckSearchLine, MatchSearchLine, SelectSearchLine}
 use Rattle.sirophan.specs.declared.Checked.{Checked}
 use Rattle.sirophan.specs.declared.Matched.{Matched}
 use Rattle.sirophan.specs.declared.Selected.{Selected}
@@ -39,3 +41,18 @@ pub record SpellsInto (text : List ℕ) (from : ℕ) (buffer : List ℕ) (r : Sp
   pub answers : spelledAnswer r ≡ spellAnswer text from (length buffer)
   pub bytes : exit ≡ spellBytes text from buffer
   pub refuses : RefusedBy (SpellLine text from (length buffer)) (spelledAnswer r)
+
+-- ---- by a search string
+
+pub record ChecksSearch (sheet text : List ℕ) (r : Checked) : Type 0 where
+  pub answers : checkedAnswer r ≡ checkSearchAnswer sheet text
+  pub refuses : RefusedBy (CheckSearchLine sheet text) (checkedAnswer r)
+
+pub record MatchesSearch (sheet text card : List ℕ) (r : Matched) : Type 0 where
+  pub answers : matchedAnswer r ≡ matchSearchAnswer sheet text card
+  pub refuses : RefusedBy (MatchSearchLine sheet text card) (matchedAnswer r)
+
+pub record SelectsSearchInto (sheet text cards list : List ℕ) (r : Selected) (exit : List ℕ) : Type 0 where
+  pub answers : selectedAnswer r ≡ selectSearchAnswer sheet text cards (length list)
+  pub cells : exit ≡ selectSearchCells sheet text cards list
+  pub refuses : RefusedBy (SelectSearchLine sheet text cards (length list)) (selectedAnswer r)

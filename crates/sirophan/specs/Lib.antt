@@ -9,6 +9,11 @@ pub mod Numbers
 pub mod Demand
 pub mod Selection
 pub mod Refusals
+pub mod Searching
+pub mod SearchDemand
+pub mod SearchRefusals
+pub mod SearchPassing
+pub mod SameQuestion
 pub mod Contracts
 pub mod Witness
 pub mod Trial

@@ -26,7 +26,7 @@ pub data TestLine (ps : List Parameter) (t : Test) : ℕ → Type 0 where
   -- "value unreadable"
   line-17 : {i k : ℕ} → Names ps (t .path) i k → (ReadableValue k (t .value) (t .operator) → ⊥) → TestLine ps t 17
 
--- the number that the table gives the test: "within it the lower number"
-pub record Numbered (ps : List Parameter) (t : Test) (n : ℕ) : Type 0 where
-  pub line : TestLine ps t n
-  pub lowest : (m : ℕ) → TestLine ps t m → rank n ≤ rank m
+-- of the lines that hold of a test, the table gives it the number n: "within it the lower number"
+pub record Numbered (Line : ℕ → Type 0) (n : ℕ) : Type 0 where
+  pub line : Line n
+  pub lowest : (m : ℕ) → Line m → rank n ≤ rank m

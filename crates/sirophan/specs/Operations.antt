@@ -100,11 +100,29 @@ checkAnswer sheet text = answer (do
   p ← prepare sheet text
   found (count (length (testsOf (p .filter)))))
 
-unfoldable pub matchAnswer : List ℕ → List ℕ → List ℕ → Answer
-matchAnswer sheet text card = answer (do
+-- what is asked of cards: the parameters of the sheet, and what is said of a card's entries
+pub record Question : Type 0 where
+  pub parameters : List Parameter
+  pub says : List Entry → Bool
+
+-- the answer of match to a question, or why there is none
+unfoldable pub matchBy : Step Question → List ℕ → Answer
+matchBy asked card = answer (do
+  q ← asked
+  c ← takeCard (q .parameters) 0 card
+  found (yesOrNo (q .says (c .entries))))
+
+-- what a filter asks
+abbrev pub questionOf : Prepared → Question
+questionOf p = record { parameters = p .parameters; says = λ es. filterSays (p .parameters) 0 es (p .filter) }
+
+unfoldable pub filterQuestion : List ℕ → List ℕ → Step Question
+filterQuestion sheet text = do
   p ← prepare sheet text
-  c ← takeCard (p .parameters) 0 card
-  found (yesOrNo (filterSays (p .parameters) 0 (c .entries) (p .filter))))
+  found (questionOf p)
+
+abbrev pub matchAnswer : List ℕ → List ℕ → List ℕ → Answer
+matchAnswer sheet text = matchBy (filterQuestion sheet text)
 
 -- ---- select
 
@@ -126,26 +144,27 @@ takeCards ps i (b ∷ bs) = do
   cs ← takeCards ps (suc i) bs
   found (c ∷ cs)
 
--- the record numbers of the cards on which the filter says yes, in card order and repeats kept
-unfoldable pub matching : List Parameter → Tree → List Card → List ℕ
-matching ps f [] = []
-matching ps f (c ∷ cs) = cond (filterSays ps 0 (c .entries) f) (c .number ∷ matching ps f cs) (matching ps f cs)
+-- the record numbers of the cards of which yes is said, in card order and repeats kept
+unfoldable pub matching : (List Entry → Bool) → List Card → List ℕ
+matching says [] = []
+matching says (c ∷ cs) = cond (says (c .entries)) (c .number ∷ matching says cs) (matching says cs)
 
 -- 30: "list shorter than the matches", place the number of matches
 unfoldable pub takeRoom : ℕ → List ℕ → Step (List ℕ)
 takeRoom room numbers = cond (leb (length numbers) room) (found numbers) (stop 30 (length numbers))
 
 -- the numbers that a selection writes, for a list of `room` cells
-unfoldable pub selection : List ℕ → List ℕ → List ℕ → ℕ → Step (List ℕ)
-selection sheet text cards room = do
-  p ← prepare sheet text
+unfoldable pub selection : Step Question → List ℕ → ℕ → Step (List ℕ)
+selection asked cards room = do
+  q ← asked
   bs ← takeRun cards
-  cs ← takeCards (p .parameters) 0 bs
-  takeRoom room (matching (p .parameters) (p .filter) cs)
+  cs ← takeCards (q .parameters) 0 bs
+  takeRoom room (matching (q .says) cs)
 
-unfoldable pub selectAnswer : List ℕ → List ℕ → List ℕ → ℕ → Answer
-selectAnswer sheet text cards room = answer (do
-  ns ← selection sheet text cards room
+-- the answer of select to a question, or why there is none
+unfoldable pub selectBy : Step Question → List ℕ → ℕ → Answer
+selectBy asked cards room = answer (do
+  ns ← selection asked cards room
   found (count (length ns)))
 
 -- the list's cells after a selection: the numbers from the first cell on, and later cells as they were; on a refusal all of them
@@ -153,5 +172,12 @@ abbrev pub written : Step (List ℕ) → List ℕ → List ℕ
 written (found ns) list = ns ++ drop (length ns) list
 written (stop n p) list = list
 
-unfoldable pub selectCells : List ℕ → List ℕ → List ℕ → List ℕ → List ℕ
-selectCells sheet text cards list = written (selection sheet text cards (length list)) list
+unfoldable pub cellsBy : Step Question → List ℕ → List ℕ → List ℕ
+cellsBy asked cards list = written (selection asked cards (length list)) list
+
+-- by a filter
+abbrev pub selectAnswer : List ℕ → List ℕ → List ℕ → ℕ → Answer
+selectAnswer sheet text = selectBy (filterQuestion sheet text)
+
+abbrev pub selectCells : List ℕ → List ℕ → List ℕ → List ℕ → List ℕ
+selectCells sheet text = cellsBy (filterQuestion sheet text)

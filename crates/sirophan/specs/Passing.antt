@@ -17,7 +17,7 @@ use Rattle.place.specs.declared.Failure.{Failure}
 use Rattle.filter.specs.declared.Summary.{Summary}
 use Rattle.refusal.specs.Answers.{Answer, count, refused, numberOf}
 use Rattle.refusal.specs.Steps.{Step, found, stop, _>>=_, answer}
-use Rattle.sirophan.specs.Operations.{faultStep, prepare, takeCard}
+use Rattle.sirophan.specs.Operations.{faultStep, prepare, takeCard, Question}
 use Rattle.sirophan.specs.declared.verdict.CardVerdict.{CardVerdict}
 
 -- the answer of check for a text that is a filter, from what was gathered reading it
@@ -42,8 +42,12 @@ textSays ps es (some f) = filterSays ps 0 es f
 textSays ps es none = false
 
 -- the verdict of the card with the index i, or its refusal
-unfoldable pub cardVerdict : List Parameter → Option Tree → ℕ → List ℕ → Step Bool
-cardVerdict ps f i b = takeCard ps i b >>= λ c. found (textSays ps (c .entries) f)
+unfoldable pub cardVerdict : Question → ℕ → List ℕ → Step Bool
+cardVerdict q i b = takeCard (q .parameters) i b >>= λ c. found (q .says (c .entries))
+
+-- what the text asks, as the code judges by it
+abbrev pub textQuestion : List Parameter → Option Tree → Question
+textQuestion ps f = record { parameters = ps; says = λ es. textSays ps es f }
 
 -- what each case of the code's answer states
 abbrev pub verdictStep : CardVerdict → ℕ → Step Bool

@@ -15,6 +15,8 @@ use Rattle.syntax.specs.Grammar.{deepest, mostTests, Spells}
 use Rattle.spell.specs.Plain.{plain}
 use Rattle.place.specs.Begins.{Begins, Longest, Number}
 use Rattle.judge.specs.Rules.{Conforms}
+use Rattle.refusal.specs.Answers.{Answer}
+use Rattle.sirophan.specs.Operations.{matchAnswer}
 use Rattle.sirophan.specs.Numbers.{TestLine}
 use Rattle.sirophan.specs.Selection.{Run, CardAt, matchingCards}
 
@@ -79,13 +81,14 @@ pub data CardsLine (sheet cards : List ℕ) : ℕ → ℕ → Type 0 where
   line-of-card-at : {bs : List (List ℕ)} {n i : ℕ} {b : List ℕ} → Run cards bs → CardAt bs i b → CardLine sheet b n → CardsLine sheet cards n i
 
 -- about the list
-pub data RoomLine (sheet text cards : List ℕ) (room : ℕ) : ℕ → ℕ → Type 0 where
+pub data RoomLine (match : List ℕ → Answer) (cards : List ℕ) (room : ℕ) : ℕ → ℕ → Type 0 where
   -- "list shorter than the matches", at the "number of matches"
-  line-30 : {bs : List (List ℕ)} → Run cards bs → room < length (matchingCards sheet text bs)
-      → RoomLine sheet text cards room 30 (length (matchingCards sheet text bs))
+  line-30 : {bs : List (List ℕ)} → Run cards bs → room < length (matchingCards match bs)
+      → RoomLine match cards room 30 (length (matchingCards match bs))
 
 abbrev pub SelectLine : (sheet text cards : List ℕ) → (room : ℕ) → ℕ → ℕ → Type 0
-SelectLine sheet text cards room n p = CheckLine sheet text n p ⊎ (RunLine cards n p ⊎ (CardsLine sheet cards n p ⊎ RoomLine sheet text cards room n p))
+SelectLine sheet text cards room n p =
+    CheckLine sheet text n p ⊎ (RunLine cards n p ⊎ (CardsLine sheet cards n p ⊎ RoomLine (matchAnswer sheet text) cards room n p))
 
 -- ---- spell, into a buffer of `room` bytes from the place `from` on
 

@@ -3,25 +3,22 @@
 use Prim.Native.Nat.{ℕ, suc, _/_, _≤_}
 use mathlib.Core.Path.{_≡_}
 use mathlib.Core.Bool.{cond}
-use mathlib.Core.Option.{Option}
 use mathlib.Core.List.{List, [], _∷_}
 use lib.ListN.{length, take}
-use Rattle.sheet.specs.Sheet.{Parameter}
 use Rattle.card.specs.Card.{recordNumber}
-use Rattle.syntax.specs.Tree.{Tree}
 use Rattle.refusal.specs.Answers.{numberOf}
 use Rattle.sirophan.specs.Answers.{selectedAnswer}
 use Rattle.refusal.specs.Steps.{Step, found, stop, _>>=_}
-use Rattle.sirophan.specs.Operations.{blocks, selectAnswer, selectCells}
+use Rattle.sirophan.specs.Operations.{Question, blocks, selectBy, cellsBy}
 use Rattle.sirophan.specs.Passing.{cardVerdict}
 use Rattle.sirophan.specs.declared.Selected.{Selected}
 
--- the record numbers of the cards on which the filter says yes, or the first refusal; i is the index of the first card
-unfoldable pub runNumbers : List Parameter → Option Tree → ℕ → List (List ℕ) → Step (List ℕ)
-runNumbers ps f i [] = found []
-runNumbers ps f i (b ∷ bs) = do
-  y ← cardVerdict ps f i b
-  ns ← runNumbers ps f (suc i) bs
+-- the record numbers of the cards of which yes is said, or the first refusal; i is the index of the first card
+unfoldable pub runNumbers : Question → ℕ → List (List ℕ) → Step (List ℕ)
+runNumbers q i [] = found []
+runNumbers q i (b ∷ bs) = do
+  y ← cardVerdict q i b
+  ns ← runNumbers q (suc i) bs
   found (cond y (recordNumber b ∷ ns) ns)
 
 -- what each case of the code's answer states of the numbers gathered in its buffer
@@ -30,11 +27,11 @@ gatheredStep (Selected.Count n) buffer = found (take n buffer)
 gatheredStep (Selected.Refused r) buffer = stop (numberOf (r .reason)) (r .place)
 
 -- what gathering owes: the numbers of the cards stand in the buffer from its first cell on
-pub record Gathers (ps : List Parameter) (f : Option Tree) (cards : List ℕ) (r : Selected) (buffer : List ℕ) : Type 0 where
-  pub numbers : gatheredStep r buffer ≡ runNumbers ps f 0 (blocks (length cards / 512) cards)
+pub record Gathers (q : Question) (cards : List ℕ) (r : Selected) (buffer : List ℕ) : Type 0 where
+  pub numbers : gatheredStep r buffer ≡ runNumbers q 0 (blocks (length cards / 512) cards)
   pub room : (n : ℕ) → r ≡ Selected.Count n → n ≤ length buffer
 
 -- what select owes: the answer, and every cell of the list at exit
-pub record Selects (sheet text cards list : List ℕ) (r : Selected) (exit : List ℕ) : Type 0 where
-  pub answers : selectedAnswer r ≡ selectAnswer sheet text cards (length list)
-  pub cells : exit ≡ selectCells sheet text cards list
+pub record Selects (asked : Step Question) (cards list : List ℕ) (r : Selected) (exit : List ℕ) : Type 0 where
+  pub answers : selectedAnswer r ≡ selectBy asked cards (length list)
+  pub cells : exit ≡ cellsBy asked cards list

@@ -1,14 +1,18 @@
-// Sirophan: which cards of an archive match a filter. A filter either has a meaning on every card that fits the sheet, and
-// is answered exactly, or is refused with a number and a place.
+// Sirophan: which cards of an archive match a filter or a search string. It either has a meaning on every card that fits the sheet,
+// and is answered exactly, or is refused with a number and a place.
 mod operations;
 mod reading;
 mod run;
+mod searching;
 mod spelling;
 mod verdict;
 
 pub use operations::check;
+pub use operations::check_search;
 pub use operations::match_card;
+pub use operations::match_search;
 pub use operations::select;
+pub use operations::select_search;
 pub use operations::spell;
 use refusal::Refusal;
 

@@ -6,9 +6,12 @@ use crate::Selected;
 use crate::Spelled;
 use crate::reading::check_bytes;
 use crate::run::select_bytes;
+use crate::searching::check_search_bytes;
+use crate::searching::match_search_bytes;
+use crate::searching::select_search_bytes;
 use crate::spelling::spell_bytes;
 use crate::verdict::match_bytes;
-ghost use Rattle.sirophan.specs.Contracts.{Checks, Matches, SelectsInto, SpellsInto};
+ghost use Rattle.sirophan.specs.Contracts.{Checks, Matches, SelectsInto, SpellsInto, ChecksSearch, MatchesSearch, SelectsSearchInto};
 
 // How many tests a filter has, where each has a meaning on every card that fits the sheet.
 pub fn check(sheet: &[u8], filter: &[u8]) -> Checked
@@ -36,4 +39,25 @@ pub fn spell(filter: &[u8], buffer: &mut [u8], from: usize) -> Spelled
     ensures { λ r. ⌜ SpellsInto (now (filter .entry)) from (now (buffer .entry)) r (now (buffer .exit)) ⌝ }
 {
     spell_bytes(filter, buffer, from)
+}
+
+// How many alternatives a search string has, where each has a meaning on every card that fits the sheet.
+pub fn check_search(sheet: &[u8], text: &[u8]) -> Checked
+    ensures { λ r. ⌜ ChecksSearch (now (sheet .entry)) (now (text .entry)) r ⌝ }
+{
+    check_search_bytes(sheet, text)
+}
+
+// Whether a card matches a search string.
+pub fn match_search(sheet: &[u8], text: &[u8], card: &[u8]) -> Matched
+    ensures { λ r. ⌜ MatchesSearch (now (sheet .entry)) (now (text .entry)) (now (card .entry)) r ⌝ }
+{
+    match_search_bytes(sheet, text, card)
+}
+
+// Writes the record numbers of the cards of a run that match a search string into the list, in card order, and answers how many they are.
+pub fn select_search(sheet: &[u8], text: &[u8], cards: &[u8], list: &mut [u32]) -> Selected
+    ensures { λ r. ⌜ SelectsSearchInto (now (sheet .entry)) (now (text .entry)) (now (cards .entry)) (now (list .entry)) r (now (list .exit)) ⌝ }
+{
+    select_search_bytes(sheet, text, cards, list)
 }

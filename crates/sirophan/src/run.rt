@@ -13,11 +13,12 @@ ghost use lib.ListN.{length, drop};
 ghost use Rattle.sheet.specs.Sheet.{parametersOf};
 ghost use Rattle.sheet.specs.Find.{kindsOf};
 ghost use Rattle.syntax.specs.Reader.{read};
-ghost use Rattle.sirophan.specs.Passing.{Passing};
+ghost use Rattle.sirophan.specs.Operations.{filterQuestion};
+ghost use Rattle.sirophan.specs.Passing.{Passing, textQuestion};
 ghost use Rattle.sirophan.specs.Selecting.{Gathers, Selects};
 
 // Writes the numbers over the list's first cells.
-fn write(numbers: &[u32], list: &mut [u32])
+pub fn write(numbers: &[u32], list: &mut [u32])
     requires { ⌜ length (now numbers) ≤ length (now list) ⌝ }
     ensures { λ _. ⌜ now (list .exit) ≡ now (numbers .entry) ++ drop (length (now (numbers .entry))) (now (list .entry)) ⌝ }
 {
@@ -34,7 +35,7 @@ fn gather(sheet: &[u8], kinds: &[u8], filter: &[u8], cards: &[u8], buffer: &mut 
     requires { ⌜ now kinds ≡ kindsOf (parametersOf (now sheet)) ⌝ }
     requires { ⌜ length (now cards) % 512 ≡ 0 ⌝ }
     requires { ⌜ length (now cards) / 512 ≤ length (now buffer) ⌝ }
-    ensures { λ r. ⌜ Gathers (parametersOf (now (sheet .entry))) (read (now (filter .entry))) (now (cards .entry)) r (now (buffer .exit)) ⌝ }
+    ensures { λ r. ⌜ Gathers (textQuestion (parametersOf (now (sheet .entry))) (read (now (filter .entry)))) (now (cards .entry)) r (now (buffer .exit)) ⌝ }
 {
     let mut at = 0;
     let mut count = 0;
@@ -63,7 +64,7 @@ fn gather(sheet: &[u8], kinds: &[u8], filter: &[u8], cards: &[u8], buffer: &mut 
 // Selects from the cards under a sheet and a filter that check has passed.
 fn select_cards(sheet: &[u8], filter: &[u8], cards: &[u8], list: &mut [u32]) -> Selected
     requires { ⌜ Passing (now sheet) (now filter) ⌝ }
-    ensures { λ r. ⌜ Selects (now (sheet .entry)) (now (filter .entry)) (now (cards .entry)) (now (list .entry)) r (now (list .exit)) ⌝ }
+    ensures { λ r. ⌜ Selects (filterQuestion (now (sheet .entry)) (now (filter .entry))) (now (cards .entry)) (now (list .entry)) r (now (list .exit)) ⌝ }
 {
     if cards.len() % 512 != 0 {
         return Selected::Refused(Refusal {
@@ -99,7 +100,7 @@ fn select_cards(sheet: &[u8], filter: &[u8], cards: &[u8], list: &mut [u32]) -> 
 // Writes the record numbers of the cards that match into the list, from its first cell, in card order and with repeats, and
 // answers how many; or why there is no answer, and where. Later cells stay, and on a refusal all of them.
 pub fn select_bytes(sheet: &[u8], filter: &[u8], cards: &[u8], list: &mut [u32]) -> Selected
-    ensures { λ r. ⌜ Selects (now (sheet .entry)) (now (filter .entry)) (now (cards .entry)) (now (list .entry)) r (now (list .exit)) ⌝ }
+    ensures { λ r. ⌜ Selects (filterQuestion (now (sheet .entry)) (now (filter .entry))) (now (cards .entry)) (now (list .entry)) r (now (list .exit)) ⌝ }
 {
     let checked = check_bytes(sheet, filter);
     match checked {

@@ -19,7 +19,7 @@ ghost use Rattle.card.specs.Card.{entriesOf, readCard};
 ghost use Rattle.syntax.specs.Reader.{read};
 ghost use Rattle.sirophan.specs.Answers.{matchedAnswer};
 ghost use Rattle.sirophan.specs.Operations.{matchAnswer};
-ghost use Rattle.sirophan.specs.Passing.{Passing, textSays, cardVerdict, verdictStep};
+ghost use Rattle.sirophan.specs.Passing.{Passing, textSays, textQuestion, cardVerdict, verdictStep};
 
 // What judging one card answers: the filter's yes or no, or why the card is refused.
 pub enum CardVerdict {
@@ -55,7 +55,7 @@ fn says(sheet: &[u8], filter: &[u8], card: &[u8]) -> bool
 pub fn judge_card(sheet: &[u8], kinds: &[u8], filter: &[u8], card: &[u8]) -> CardVerdict
     requires { ⌜ Passing (now sheet) (now filter) ⌝ }
     requires { ⌜ now kinds ≡ kindsOf (parametersOf (now sheet)) ⌝ }
-    ensures { λ r. ⌜ ((i : ℕ) → verdictStep r i ≡ cardVerdict (parametersOf (now (sheet .entry))) (read (now (filter .entry))) i (now (card .entry))) ⌝ }
+    ensures { λ r. ⌜ ((i : ℕ) → verdictStep r i ≡ cardVerdict (textQuestion (parametersOf (now (sheet .entry))) (read (now (filter .entry)))) i (now (card .entry))) ⌝ }
 {
     let reading = card::read_card(card);
     match reading {

@@ -28,37 +28,47 @@ refusal-told r n e = ap (λ (m : ℕ). answer m (r .place)) e
 case-told : {R : Type 0} (of : R → paper.Answer) {a : paper.Answer} {r c : R} → of r ≡ a → r ≡ c → told (of c) ≡ told a
 case-told of e h = ap told (ap of (sym h) ∙ e)
 
+module _ (c : Checked) where
+  pub tests-told : (n : ℕ) → c ≡ Checked.Tests n → answer 0 n ≡ told (checkedAnswer c)
+  unfolding told checkedAnswer
+  tests-told n h = rw h
+
+  pub check-refusal-told : (r : Refusal) (t : Answer) → c ≡ Checked.Refused r → t ≡ told (refusalAnswer r) → t ≡ told (checkedAnswer c)
+  unfolding checkedAnswer
+  check-refusal-told r t h o = rw h o
+
+module _ (m : Matched) where
+  pub yes-told : m ≡ Matched.Yes → answer 0 1 ≡ told (matchedAnswer m)
+  unfolding told matchedAnswer
+  yes-told h = rw h
+
+  pub no-told : m ≡ Matched.No → answer 0 0 ≡ told (matchedAnswer m)
+  unfolding told matchedAnswer
+  no-told h = rw h
+
+  pub match-refusal-told : (r : Refusal) (t : Answer) → m ≡ Matched.Refused r → t ≡ told (refusalAnswer r) → t ≡ told (matchedAnswer m)
+  unfolding matchedAnswer
+  match-refusal-told r t h o = rw h o
+
+module _ (s : Selected) where
+  pub count-told : (n : ℕ) → s ≡ Selected.Count n → answer 0 n ≡ told (selectedAnswer s)
+  unfolding told selectedAnswer
+  count-told n h = rw h
+
+  pub select-refusal-told : (r : Refusal) (t : Answer) → s ≡ Selected.Refused r → t ≡ told (refusalAnswer r) → t ≡ told (selectedAnswer s)
+  unfolding selectedAnswer
+  select-refusal-told r t h o = rw h o
+
 module _ (a : paper.Answer) where
-  module _ (c : Checked) (e : checkedAnswer c ≡ a) where
-    pub tests-told : (n : ℕ) → c ≡ Checked.Tests n → answer 0 n ≡ told a
-    unfolding told checkedAnswer
-    tests-told n = case-told checkedAnswer e
+  -- what an operation gave, told by its numbers
+  pub check-told : (c : Checked) (t : Answer) → checkedAnswer c ≡ a → t ≡ told (checkedAnswer c) → t ≡ told a
+  check-told c t e o = o ∙ ap told e
 
-    pub check-refusal-told : (r : Refusal) (t : Answer) → c ≡ Checked.Refused r → t ≡ told (refusalAnswer r) → t ≡ told a
-    unfolding checkedAnswer
-    check-refusal-told r t h o = o ∙ case-told checkedAnswer e h
+  pub match-told : (m : Matched) (t : Answer) → matchedAnswer m ≡ a → t ≡ told (matchedAnswer m) → t ≡ told a
+  match-told m t e o = o ∙ ap told e
 
-  module _ (m : Matched) (e : matchedAnswer m ≡ a) where
-    pub yes-told : m ≡ Matched.Yes → answer 0 1 ≡ told a
-    unfolding told matchedAnswer
-    yes-told = case-told matchedAnswer e
-
-    pub no-told : m ≡ Matched.No → answer 0 0 ≡ told a
-    unfolding told matchedAnswer
-    no-told = case-told matchedAnswer e
-
-    pub match-refusal-told : (r : Refusal) (t : Answer) → m ≡ Matched.Refused r → t ≡ told (refusalAnswer r) → t ≡ told a
-    unfolding matchedAnswer
-    match-refusal-told r t h o = o ∙ case-told matchedAnswer e h
-
-  module _ (s : Selected) (e : selectedAnswer s ≡ a) where
-    pub count-told : (n : ℕ) → s ≡ Selected.Count n → answer 0 n ≡ told a
-    unfolding told selectedAnswer
-    count-told n = case-told selectedAnswer e
-
-    pub select-refusal-told : (r : Refusal) (t : Answer) → s ≡ Selected.Refused r → t ≡ told (refusalAnswer r) → t ≡ told a
-    unfolding selectedAnswer
-    select-refusal-told r t h o = o ∙ case-told selectedAnswer e h
+  pub select-told : (s : Selected) (t : Answer) → selectedAnswer s ≡ a → t ≡ told (selectedAnswer s) → t ≡ told a
+  select-told s t e o = o ∙ ap told e
 
   module _ (s : Spelled) (e : spelledAnswer s ≡ a) where
     pub length-told : (n : ℕ) → s ≡ Spelled.Length n → answer 0 n ≡ told a

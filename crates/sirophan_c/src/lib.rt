@@ -10,8 +10,10 @@ use sirophan::Spelled;
 ghost use mathlib.Core.Path.{_≡_};
 ghost use lib.ListN.{length};
 ghost use Rattle.refusal.specs.Answers.{refusalAnswer};
+ghost use Rattle.sirophan.specs.Answers.{checkedAnswer, matchedAnswer, selectedAnswer};
 ghost use Rattle.sirophan.specs.Operations.{checkAnswer, matchAnswer, selectAnswer, selectCells};
 ghost use Rattle.sirophan.specs.Spelling.{spellAnswer, spellBytes};
+ghost use Rattle.sirophan.specs.Searching.{checkSearchAnswer, matchSearchAnswer, selectSearchAnswer, selectSearchCells};
 ghost use Rattle.report.specs.Operation.{reportedAnswer};
 ghost use Rattle.sirophan_c.specs.Answers.{told, toldCounts};
 ghost use Rattle.sirophan_c.specs.Contracts.{TellsReport};
@@ -43,12 +45,10 @@ fn refused(refusal: Refusal) -> Answer
     }
 }
 
-// How many tests the filter has, or a refusal.
-#[no_mangle]
-pub extern "C" fn sirophan_check(sheet: &[u8], filter: &[u8]) -> Answer
-    ensures { λ r. ⌜ r ≡ told (checkAnswer (now (sheet .entry)) (now (filter .entry))) ⌝ }
+// Check's answer in numbers.
+fn told_check(checked: Checked) -> Answer
+    ensures { λ r. ⌜ r ≡ told (checkedAnswer checked) ⌝ }
 {
-    let checked = sirophan::check(sheet, filter);
     match checked {
         Checked::Tests(tests) => Answer {
             refusal: 0,
@@ -58,12 +58,10 @@ pub extern "C" fn sirophan_check(sheet: &[u8], filter: &[u8]) -> Answer
     }
 }
 
-// Whether the card matches the filter, or a refusal.
-#[no_mangle]
-pub extern "C" fn sirophan_match(sheet: &[u8], filter: &[u8], card: &[u8]) -> Answer
-    ensures { λ r. ⌜ r ≡ told (matchAnswer (now (sheet .entry)) (now (filter .entry)) (now (card .entry))) ⌝ }
+// Match's answer in numbers.
+fn told_match(matched: Matched) -> Answer
+    ensures { λ r. ⌜ r ≡ told (matchedAnswer matched) ⌝ }
 {
-    let matched = sirophan::match_card(sheet, filter, card);
     match matched {
         Matched::Yes => Answer {
             refusal: 0,
@@ -75,6 +73,37 @@ pub extern "C" fn sirophan_match(sheet: &[u8], filter: &[u8], card: &[u8]) -> An
         },
         Matched::Refused(refusal) => refused(refusal),
     }
+}
+
+// Select's answer in numbers.
+fn told_select(selected: Selected) -> Answer
+    ensures { λ r. ⌜ r ≡ told (selectedAnswer selected) ⌝ }
+{
+    match selected {
+        Selected::Count(count) => Answer {
+            refusal: 0,
+            value: count,
+        },
+        Selected::Refused(refusal) => refused(refusal),
+    }
+}
+
+// How many tests the filter has, or a refusal.
+#[no_mangle]
+pub extern "C" fn sirophan_check(sheet: &[u8], filter: &[u8]) -> Answer
+    ensures { λ r. ⌜ r ≡ told (checkAnswer (now (sheet .entry)) (now (filter .entry))) ⌝ }
+{
+    let checked = sirophan::check(sheet, filter);
+    told_check(checked)
+}
+
+// Whether the card matches the filter, or a refusal.
+#[no_mangle]
+pub extern "C" fn sirophan_match(sheet: &[u8], filter: &[u8], card: &[u8]) -> Answer
+    ensures { λ r. ⌜ r ≡ told (matchAnswer (now (sheet .entry)) (now (filter .entry)) (now (card .entry))) ⌝ }
+{
+    let matched = sirophan::match_card(sheet, filter, card);
+    told_match(matched)
 }
 
 // How many cards of the run match the filter, with their record numbers in the list from its first cell on, or a refusal.
@@ -89,13 +118,40 @@ pub extern "C" fn sirophan_select(
     ensures { λ _. ⌜ now (list .exit) ≡ selectCells (now (sheet .entry)) (now (filter .entry)) (now (cards .entry)) (now (list .entry)) ⌝ }
 {
     let selected = sirophan::select(sheet, filter, cards, list);
-    match selected {
-        Selected::Count(count) => Answer {
-            refusal: 0,
-            value: count,
-        },
-        Selected::Refused(refusal) => refused(refusal),
-    }
+    told_select(selected)
+}
+
+// How many alternatives the search string has, or a refusal.
+#[no_mangle]
+pub extern "C" fn sirophan_check_search(sheet: &[u8], text: &[u8]) -> Answer
+    ensures { λ r. ⌜ r ≡ told (checkSearchAnswer (now (sheet .entry)) (now (text .entry))) ⌝ }
+{
+    let checked = sirophan::check_search(sheet, text);
+    told_check(checked)
+}
+
+// Whether the card matches the search string, or a refusal.
+#[no_mangle]
+pub extern "C" fn sirophan_match_search(sheet: &[u8], text: &[u8], card: &[u8]) -> Answer
+    ensures { λ r. ⌜ r ≡ told (matchSearchAnswer (now (sheet .entry)) (now (text .entry)) (now (card .entry))) ⌝ }
+{
+    let matched = sirophan::match_search(sheet, text, card);
+    told_match(matched)
+}
+
+// How many cards of the run match the search string, with their record numbers in the list from its first cell on, or a refusal.
+#[no_mangle]
+pub extern "C" fn sirophan_select_search(
+    sheet: &[u8],
+    text: &[u8],
+    cards: &[u8],
+    list: &mut [u32],
+) -> Answer
+    ensures { λ r. ⌜ r ≡ told (selectSearchAnswer (now (sheet .entry)) (now (text .entry)) (now (cards .entry)) (length (now (list .entry)))) ⌝ }
+    ensures { λ _. ⌜ now (list .exit) ≡ selectSearchCells (now (sheet .entry)) (now (text .entry)) (now (cards .entry)) (now (list .entry)) ⌝ }
+{
+    let selected = sirophan::select_search(sheet, text, cards, list);
+    told_select(selected)
 }
 
 // The length of the filter's plain spelling, which stands in the buffer from the place on, or a refusal.

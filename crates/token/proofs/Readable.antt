@@ -8,15 +8,17 @@ use mathlib.Core.List.{List, [], _∷_}
 use mathlib.Core.Logic.{inl, inr, ⊎-elim}
 use lib.Dec.{eqb, ltb}
 use lib.ListN.{length, getD, take, drop, length-drop}
+use lib.Seq.{length-take-le}
 use borrow.Author.Tests.{lt-ltb, ltb-true, eqb-true, eqb-false}
 use Rattle.base.specs.Options.{isSome}
 use Rattle.base.proofs.Tests.{decided, same-test}
 use Rattle.base.proofs.Lists.{rest}
-use Rattle.base.specs.Split.{firstOf}
 use Rattle.text.specs.Bar.{bar}
-use Rattle.token.specs.Card.{tokenOf, splitToken, cardToken, cardReadable}
-use Rattle.token.specs.Filter.{filterReadable}
+use Rattle.base.specs.Split.{firstOf, whole, parts}
 use Rattle.base.proofs.Split.{split-none, split-parts}
+use Rattle.token.specs.Card.{tokenOf, splitToken, cardToken, cardReadable}
+use Rattle.token.specs.Filter.{splitForm, formAt, readableAt, filterReadable}
+use Rattle.token.proofs.Split.{splitAt-none, splitAt-parts}
 use Rattle.token.proofs.Readings.{filterUnreadable-reads}
 
 -- ---- cards
@@ -66,3 +68,28 @@ pub filter-readable-single : (t : List ℕ) → (length t ≡ 0 → ⊥) → len
 filter-readable-single [] h k = absurd (h refl)
 filter-readable-single (x ∷ []) h k = filter-readable-byte x
 filter-readable-single (x ∷ y ∷ t) h k = absurd (omega arith)
+
+-- ---- split at an index
+
+parts-readable : (s c : List ℕ) → isSome (splitForm (parts s c)) ≡ ltb 0 (length s + length c)
+unfolding splitForm
+parts-readable [] [] = refl
+parts-readable [] (x ∷ c) = sym (lt-ltb 0 (0 + length (x ∷ c)) (omega arith))
+parts-readable (y ∷ s) [] = sym (lt-ltb 0 (length (y ∷ s) + 0) (omega arith))
+parts-readable (y ∷ s) (x ∷ c) = sym (lt-ltb 0 (length (y ∷ s) + length (x ∷ c)) (omega arith))
+
+whole-readable : (c : List ℕ) → isSome (splitForm (whole c)) ≡ ltb 0 (length c)
+unfolding splitForm
+whole-readable [] = refl
+whole-readable (x ∷ c) = sym (lt-ltb 0 (length (x ∷ c)) (omega arith))
+
+module _ (t : List ℕ) (i : ℕ) where
+  pub readable-at-bar : i < length t → ltb 1 (length t) ≡ readableAt i t
+  unfolding readableAt formAt
+  readable-at-bar h =
+      let size : length (take i t) + (length t - (i + 1)) ≡ length t - 1 = omega (arith, length-take-le i t (omega arith)) in
+      rw (splitAt-parts t i h, rest t (i + 1), parts-readable (take i t) (drop (i + 1) t), length-drop (i + 1) t, size) (ltb-left 1 (length t))
+
+  pub readable-at-none : length t ≤ i → ltb 0 (length t) ≡ readableAt i t
+  unfolding readableAt formAt
+  readable-at-none h = rw (splitAt-none t i h) (sym (whole-readable t))

@@ -1,24 +1,32 @@
 -- What readable, the forms and matching mean, by the spellings.
 -- Assumes nothing.
-use mathlib.Core.Path.{_≡_, refl, subst}
-use Prim.Native.Nat.{ℕ}
+use mathlib.Core.Path.{_≡_, refl, sym, ap, _∙_, subst}
+use Prim.Native.Nat.{ℕ, _+_, _≤_, _<_}
+use native.Mathlib.Numerals.{add-one}
 use native.Mathlib.Omega.{arith}
-use mathlib.Core.Bool.{true, false, false≢true, true≢false}
+use mathlib.Core.Bool.{Bool, true, false, false≢true, true≢false}
 use mathlib.Core.List.{List, [], _∷_, _++_}
 use mathlib.Core.Logic.{_⊎_, inl, inr, ⊎-elim, _↔_}
 use mathlib.Core.Option.{Option, none, some, Option·some-injective, Option·none-ne-some}
+use lib.Dec.{ltb}
+use lib.ListN.{length, getD, take, drop}
+use lib.Seq.{split-at as seam, length-take-le}
+use borrow.Author.Tests.{ltb-true, ltb-false}
 use Rattle.base.specs.Lists.{all-empty}
 use Rattle.base.specs.Options.{isSome}
 use Rattle.base.proofs.Options.{isSome-reads}
+use Rattle.base.proofs.Tests.{cond-elim}
 use Rattle.text.specs.Bar.{bar, NoBar}
-use Rattle.base.specs.Split.{whole, parts}
-use Rattle.token.specs.Card.{Token, tokenOf, splitToken, cardToken, cardReadable}
-use Rattle.token.specs.Filter.{Form, splitForm, filterForm, filterReadable}
-use Rattle.token.specs.Match.{meets, matches}
-use Rattle.token.specs.Rules.{Asks}
-use Rattle.token.specs.Spelling.{NotEmpty, CardSpells, spells-code, spells-token, FilterSpells, spells-any-system, spells-system-code, spells-no-system, spells-any-code}
+use Rattle.base.specs.Split.{Split, whole, parts}
 use Rattle.base.proofs.Split.{split-whole, split-at, split-cases}
-use Rattle.token.proofs.Rules.{asks-reads}
+use Rattle.token.specs.Split.{splitAt}
+use Rattle.token.specs.Card.{Token, tokenOf, splitToken, cardToken, cardReadable}
+use Rattle.token.specs.Filter.{Form, splitForm, formAt, filterForm, filterReadable}
+use Rattle.token.specs.Match.{asks, meets, matches, matchesAt}
+use Rattle.token.specs.Rules.{StandsFor, Itself, AsksBy, Asks}
+use Rattle.token.specs.Spelling.{NotEmpty, CardSpells, spells-code, spells-token, FilterSpells, spells-any-system, spells-system-code, spells-no-system, spells-any-code, SplitSpells, split-any-system, split-system-code, split-no-system, split-any-code}
+use Rattle.token.proofs.Split.{splitAt-none, splitAt-there}
+use Rattle.token.proofs.Rules.{asks-reads, asks-itself}
 use Rattle.token.proofs.Forms.{tokenOf-some, splitForm-any-system, splitForm-system-code, splitForm-no-system, splitForm-any-code}
 
 -- ---- cards
@@ -82,6 +90,43 @@ pub filterReadable-reads : (t : List ℕ) → (filterReadable t ≡ true) ↔ ((
 unfolding filterReadable
 filterReadable-reads t = isSome-reads (FilterSpells t) (filterForm t) (filterForm-reads t)
 
+-- ---- a text that is split at an index of its own
+
+whole-spells : (c : List ℕ) (i : ℕ) (f : Form) → length c ≤ i → splitForm (whole c) ≡ some f → SplitSpells c i f
+unfolding splitForm
+whole-spells [] i f h e = absurd (Option·none-ne-some f e)
+whole-spells (x ∷ c) i f h e = subst (SplitSpells (x ∷ c) i) (Option·some-injective _ f e) (split-any-system h (omega arith))
+
+parts-spell : (s c : List ℕ) (b : ℕ) (f : Form) → splitForm (parts s c) ≡ some f → SplitSpells (s ++ (b ∷ c)) (length s) f
+unfolding splitForm
+parts-spell [] [] b f e = absurd (Option·none-ne-some f e)
+parts-spell [] (x ∷ c) b f e = subst (SplitSpells (b ∷ x ∷ c) 0) (Option·some-injective _ f e) (split-no-system b (omega arith))
+parts-spell (y ∷ s) [] b f e = subst (SplitSpells ((y ∷ s) ++ (b ∷ [])) (length (y ∷ s))) (Option·some-injective _ f e) (split-any-code b (omega arith))
+parts-spell (y ∷ s) (x ∷ c) b f e =
+    subst (SplitSpells ((y ∷ s) ++ (b ∷ x ∷ c)) (length (y ∷ s))) (Option·some-injective _ f e) (split-system-code b (omega arith) (omega arith))
+
+formAt-spells : (t : List ℕ) (i : ℕ) (f : Form) → formAt i t ≡ some f → SplitSpells t i f
+unfolding formAt splitAt
+formAt-spells t i f =
+    cond-elim (λ (d : Split). splitForm d ≡ some f → SplitSpells t i f) (ltb i (length t))
+    (λ h e.
+    let l : i < length t = ltb-true i (length t) h in
+    let all : t ≡ take i t ++ (getD t i 0 ∷ drop (i + 1) t) = seam t i 0 l ∙ ap (λ (n : ℕ). take i t ++ (getD t i 0 ∷ drop n t)) (sym (add-one i)) in
+    let size : length (take i t) ≡ i = length-take-le i t (omega arith) in
+    subst (λ (u : List ℕ). SplitSpells u i f) (sym all)
+    (subst (λ (n : ℕ). SplitSpells (take i t ++ (getD t i 0 ∷ drop (i + 1) t)) n f) size (parts-spell (take i t) (drop (i + 1) t) (getD t i 0) f e)))
+    (λ h e. whole-spells t i f (ltb-false i (length t) h) e)
+
+spells-formAt : {t : List ℕ} {i : ℕ} {f : Form} → SplitSpells t i f → formAt i t ≡ some f
+unfolding formAt
+spells-formAt (split-any-system {c = c} {i = i} h n) = rw (splitAt-none c i h) (splitForm-any-system c n)
+spells-formAt (split-system-code {s = s} {c = c} b m n) = rw (splitAt-there s c b) (splitForm-system-code s c m n)
+spells-formAt (split-no-system {c = c} b n) = rw (splitAt-there [] c b) (splitForm-no-system c n)
+spells-formAt (split-any-code {s = s} b m) = rw (splitAt-there s [] b) (splitForm-any-code s m)
+
+pub formAt-reads : (t : List ℕ) (i : ℕ) (f : Form) → (formAt i t ≡ some f) ↔ SplitSpells t i f
+formAt-reads t i f = (formAt-spells t i f, spells-formAt)
+
 -- ---- unreadable in a filter: an empty text and a lone bar, and nothing else
 
 no-bar-unreadable : (c : List ℕ) → isSome (splitForm (whole c)) ≡ false → (c ≡ []) ⊎ (c ≡ bar ∷ [])
@@ -114,14 +159,25 @@ filterUnreadable-reads t = (
   ⊎-elim (λ e. rw e empty-unreadable) (λ e. rw e lone-unreadable),
 )
 
--- ---- matching: the card spells a token, the filter a form, and the form asks for the token
+-- ---- matching: the card spells a token, what is asked a form, and the form asks for the token
+
+module _ (short : Bool) (Stands : List ℕ → List ℕ → Type 0) (asks-are : (f : Form) (k : Token) → (asks short f k ≡ true) ↔ AsksBy Stands f k) where
+  meets-reads : (card : List ℕ) (form : Option Form) (Spelled : Form → Type 0) → ((f : Form) → (form ≡ some f) ↔ Spelled f)
+      → (meets short (cardToken card) form ≡ true) ↔ ((k : Token) × (f : Form) × CardSpells card k × Spelled f × AsksBy Stands f k)
+  unfolding meets
+  meets-reads card form Spelled spelled =
+      (read (cardToken card) form refl refl, λ w. rw (spells-cardToken (w .2), spelled (w .1) .1 (w .3)) (asks-are (w .1) (w .0) .1 (w .4)))
+    where
+      read : (o : Option Token) (p : Option Form) → cardToken card ≡ o → form ≡ p → meets short o p ≡ true → (k : Token) × (f : Form) × CardSpells card k × Spelled f × AsksBy Stands f k
+      read none p e d h = absurd (false≢true h)
+      read (some k) none e d h = absurd (false≢true h)
+      read (some k) (some f) e d h = (k, f, cardToken-spells k card e, spelled f .0 d, asks-are f k .0 h)
 
 pub matches-reads : (card filter : List ℕ) → (matches card filter ≡ true) ↔ ((k : Token) × (f : Form) × CardSpells card k × FilterSpells filter f × Asks f k)
-unfolding matches meets
-matches-reads card filter =
-    (read (cardToken card) (filterForm filter) refl refl, λ w. rw (spells-cardToken (w .2), spells-filterForm (w .3)) (asks-reads (w .1) (w .0) .1 (w .4)))
-  where
-    read : (o : Option Token) (p : Option Form) → cardToken card ≡ o → filterForm filter ≡ p → meets o p ≡ true → (k : Token) × (f : Form) × CardSpells card k × FilterSpells filter f × Asks f k
-    read none p e d h = absurd (false≢true h)
-    read (some k) none e d h = absurd (false≢true h)
-    read (some k) (some f) e d h = (k, f, cardToken-spells k card e, filterForm-spells f filter d, asks-reads f k .0 h)
+unfolding matches
+matches-reads card filter = meets-reads true StandsFor asks-reads card (filterForm filter) (FilterSpells filter) (filterForm-reads filter)
+
+-- and without the short names, of a text that is split at the index i
+pub matchesAt-reads : (card : List ℕ) (i : ℕ) (text : List ℕ) → (matchesAt card i text ≡ true) ↔ ((k : Token) × (f : Form) × CardSpells card k × SplitSpells text i f × AsksBy Itself f k)
+unfolding matchesAt
+matchesAt-reads card i text = meets-reads false Itself asks-itself card (formAt i text) (SplitSpells text i) (formAt-reads text i)

@@ -14,9 +14,9 @@ use Rattle.text.specs.Compare.{same}
 use Rattle.text.proofs.Readings.{same-reads}
 use Rattle.token.specs.Card.{Token}
 use Rattle.token.specs.Filter.{Form, any-system, system-code, no-system, any-code}
-use Rattle.token.specs.Namespace.{standsFor, namespaceOf}
+use Rattle.token.specs.Namespace.{standsFor, namespaceOf, systemOf}
 use Rattle.token.specs.Match.{asks}
-use Rattle.token.specs.Rules.{StandsFor, stands-for-loinc, stands-for-snomed, stands-for-rxnorm, stands-for-ucum, stands-for-itself, Asks, asks-any-system, asks-system-code, asks-no-system, asks-any-code}
+use Rattle.token.specs.Rules.{StandsFor, stands-for-loinc, stands-for-snomed, stands-for-rxnorm, stands-for-ucum, stands-for-itself, Itself, AsksBy, Asks, asks-any-system, asks-system-code, asks-no-system, asks-any-code}
 
 -- ---- systems
 
@@ -66,32 +66,42 @@ module _ (s : List ℕ) where
   stands-namespace (stands-for-itself a b c d) =
       rw (absent (ascii "loinc") (short-folded .0) a, absent (ascii "snomed") (short-folded .1) b, absent (ascii "rxnorm") (short-folded .2) c, absent (ascii "ucum") (short-folded .3) d)
 
--- ---- forms
+-- ---- forms, where Stands is what a system stands for, with the short names or without
 
--- the test of a system against what the filter's stands for
-system-there : (x s : List ℕ) → same x (namespaceOf s) ≡ true → foldText x ≡ foldText (namespaceOf s)
-system-there x s = same-reads x (namespaceOf s) .0
+module _ (short : Bool) (Stands : List ℕ → List ℕ → Type 0) (stands : (s : List ℕ) → Stands s (systemOf short s)) (one : (s n : List ℕ) → Stands s n → systemOf short s ≡ n) where
+  -- the test of a system against what the one that is asked for stands for
+  system-there : (x s : List ℕ) → same x (systemOf short s) ≡ true → foldText x ≡ foldText (systemOf short s)
+  system-there x s = same-reads x (systemOf short s) .0
 
-system-back : (x s : List ℕ) {n : List ℕ} → StandsFor s n → foldText x ≡ foldText n → same x (namespaceOf s) ≡ true
-system-back x s f e = same-reads x (namespaceOf s) .1 (e ∙ ap foldText (sym (stands-namespace s f)))
+  system-back : (x s : List ℕ) {n : List ℕ} → Stands s n → foldText x ≡ foldText n → same x (systemOf short s) ≡ true
+  system-back x s {n} f e = same-reads x (systemOf short s) .1 (e ∙ ap foldText (sym (one s n f)))
 
-there : (f : Form) (t : Token) → asks f t ≡ true → Asks f t
-unfolding asks
-there (any-system c) t h = asks-any-system (same-reads (t .code) c .0 h)
-there (system-code s c) t h =
-    asks-system-code (namespace-stands s) (system-there (t .system) s (and-left (same (t .system) (namespaceOf s)) (same (t .code) c) h))
-    (same-reads (t .code) c .0 (and-right (same (t .system) (namespaceOf s)) (same (t .code) c) h))
-there (no-system c) t h =
-    asks-no-system (equal-same (t .system) [] (and-left (equal (t .system) []) (same (t .code) c) h)) (same-reads (t .code) c .0 (and-right (equal (t .system) []) (same (t .code) c) h))
-there (any-code s) t h = asks-any-code (namespace-stands s) (system-there (t .system) s h)
+  there : (f : Form) (t : Token) → asks short f t ≡ true → AsksBy Stands f t
+  unfolding asks
+  there (any-system c) t h = asks-any-system (same-reads (t .code) c .0 h)
+  there (system-code s c) t h =
+      asks-system-code (stands s) (system-there (t .system) s (and-left (same (t .system) (systemOf short s)) (same (t .code) c) h))
+      (same-reads (t .code) c .0 (and-right (same (t .system) (systemOf short s)) (same (t .code) c) h))
+  there (no-system c) t h =
+      asks-no-system (equal-same (t .system) [] (and-left (equal (t .system) []) (same (t .code) c) h)) (same-reads (t .code) c .0 (and-right (equal (t .system) []) (same (t .code) c) h))
+  there (any-code s) t h = asks-any-code (stands s) (system-there (t .system) s h)
 
-back : {f : Form} {t : Token} → Asks f t → asks f t ≡ true
-unfolding asks
-back (asks-any-system {c = c} {t = t} e) = same-reads (t .code) c .1 e
-back (asks-system-code {s = s} {c = c} {t = t} f e d) = and-both (same (t .system) (namespaceOf s)) (same (t .code) c) (system-back (t .system) s f e) (same-reads (t .code) c .1 d)
-back (asks-no-system {c = c} {t = t} e d) = and-both (equal (t .system) []) (same (t .code) c) (rw e (equal-refl [])) (same-reads (t .code) c .1 d)
-back (asks-any-code {s = s} {t = t} f e) = system-back (t .system) s f e
+  back : {f : Form} {t : Token} → AsksBy Stands f t → asks short f t ≡ true
+  unfolding asks
+  back (asks-any-system {c = c} {t = t} e) = same-reads (t .code) c .1 e
+  back (asks-system-code {s = s} {c = c} {t = t} f e d) = and-both (same (t .system) (systemOf short s)) (same (t .code) c) (system-back (t .system) s f e) (same-reads (t .code) c .1 d)
+  back (asks-no-system {c = c} {t = t} e d) = and-both (equal (t .system) []) (same (t .code) c) (rw e (equal-refl [])) (same-reads (t .code) c .1 d)
+  back (asks-any-code {s = s} {t = t} f e) = system-back (t .system) s f e
+
+  forms-read : (f : Form) (t : Token) → (asks short f t ≡ true) ↔ AsksBy Stands f t
+  forms-read f t = (there f t, back)
 
 -- a form asks for a token exactly where the test says so
-pub asks-reads : (f : Form) (t : Token) → (asks f t ≡ true) ↔ Asks f t
-asks-reads f t = (there f t, back)
+pub asks-reads : (f : Form) (t : Token) → (asks true f t ≡ true) ↔ Asks f t
+unfolding systemOf
+asks-reads = forms-read true StandsFor namespace-stands (λ s n. stands-namespace s)
+
+-- and without the short names
+pub asks-itself : (f : Form) (t : Token) → (asks false f t ≡ true) ↔ AsksBy Itself f t
+unfolding systemOf
+asks-itself = forms-read false Itself (λ s. refl) (λ s n e. e)

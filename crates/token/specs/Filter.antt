@@ -1,4 +1,4 @@
--- Tokens in filters: the four forms.
+-- Tokens that are asked for: the four forms.
 -- Assumes nothing.
 use Prim.Native.Nat.{ℕ}
 use mathlib.Core.Bool.{Bool}
@@ -7,8 +7,9 @@ use mathlib.Core.Option.{Option, none, some}
 use Rattle.base.specs.Options.{isSome}
 use Rattle.base.specs.Split.{Split, whole, parts, split}
 use Rattle.text.specs.Bar.{bar}
+use Rattle.token.specs.Split.{splitAt}
 
--- what a filter's token asks for
+-- what a token asks for
 pub data Form : Type 0 where
   -- code: this code, whichever system
   any-system : List ℕ → Form
@@ -27,6 +28,14 @@ splitForm (parts [] []) = none
 splitForm (parts [] (x ∷ c)) = some (no-system (x ∷ c))
 splitForm (parts (y ∷ s) []) = some (any-code (y ∷ s))
 splitForm (parts (y ∷ s) (x ∷ c)) = some (system-code (y ∷ s) (x ∷ c))
+
+-- the form of a text that is split at the index i, if it has one
+unfoldable pub formAt : ℕ → List ℕ → Option Form
+formAt i t = splitForm (splitAt i t)
+
+-- whether it has one
+unfoldable pub readableAt : ℕ → List ℕ → Bool
+readableAt i t = isSome (formAt i t)
 
 -- the form of a filter's text, if it has one
 unfoldable pub filterForm : List ℕ → Option Form

@@ -1,7 +1,7 @@
 -- The short names that a filter may use for a system, and the namespaces that they stand for.
 -- Assumes nothing.
 use Prim.Native.Nat.{ℕ}
-use mathlib.Core.Bool.{cond}
+use mathlib.Core.Bool.{Bool, true, false, cond}
 use mathlib.Core.List.{List, [], _∷_}
 use Rattle.base.specs.Ascii.{ascii}
 use Rattle.text.specs.Compare.{same}
@@ -28,3 +28,8 @@ standsFor (row ∷ rows) s = cond (same s (row .name)) (row .namespace) (standsF
 -- what a filter's system stands for
 unfoldable pub namespaceOf : List ℕ → List ℕ
 namespaceOf s = standsFor shortNames s
+
+-- what a system asks for: its namespace where short names are meant, and else itself
+unfoldable pub systemOf : (short : Bool) → List ℕ → List ℕ
+systemOf true s = namespaceOf s
+systemOf false s = s

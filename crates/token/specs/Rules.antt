@@ -1,4 +1,4 @@
--- What a filter's token asks for, in document 01's words: the short names of systems, and the four forms.
+-- What a token asks for, in document 01's words: the short names of systems, and the four forms.
 -- Assumes nothing.
 use Prim.Native.Nat.{ℕ}
 use mathlib.Core.Path.{_≡_}
@@ -16,13 +16,21 @@ pub data StandsFor (s : List ℕ) : List ℕ → Type 0 where
   stands-for-ucum : foldText s ≡ ascii "ucum" → StandsFor s (ascii "http://unitsofmeasure.org")
   stands-for-itself : (foldText s ≡ ascii "loinc" → ⊥) → (foldText s ≡ ascii "snomed" → ⊥) → (foldText s ≡ ascii "rxnorm" → ⊥) → (foldText s ≡ ascii "ucum" → ⊥) → StandsFor s s
 
--- the form asks for the card's token; "text comparisons ignore the case"
-pub data Asks : Form → Token → Type 0 where
+-- 02: "without the short system names" a system stands for itself
+abbrev pub Itself : List ℕ → List ℕ → Type 0
+Itself s n = s ≡ n
+
+-- the form asks for the card's token, where Stands says what a system stands for; "text comparisons ignore the case"
+pub data AsksBy (Stands : List ℕ → List ℕ → Type 0) : Form → Token → Type 0 where
   -- "code (no bar, whichever system)"
-  asks-any-system : {c : List ℕ} {t : Token} → foldText (t .code) ≡ foldText c → Asks (any-system c) t
+  asks-any-system : {c : List ℕ} {t : Token} → foldText (t .code) ≡ foldText c → AsksBy Stands (any-system c) t
   -- "system|code"
-  asks-system-code : {s n c : List ℕ} {t : Token} → StandsFor s n → foldText (t .system) ≡ foldText n → foldText (t .code) ≡ foldText c → Asks (system-code s c) t
+  asks-system-code : {s n c : List ℕ} {t : Token} → Stands s n → foldText (t .system) ≡ foldText n → foldText (t .code) ≡ foldText c → AsksBy Stands (system-code s c) t
   -- "|code (no system)"
-  asks-no-system : {c : List ℕ} {t : Token} → t .system ≡ [] → foldText (t .code) ≡ foldText c → Asks (no-system c) t
+  asks-no-system : {c : List ℕ} {t : Token} → t .system ≡ [] → foldText (t .code) ≡ foldText c → AsksBy Stands (no-system c) t
   -- "system| (every code of it)"
-  asks-any-code : {s n : List ℕ} {t : Token} → StandsFor s n → foldText (t .system) ≡ foldText n → Asks (any-code s) t
+  asks-any-code : {s n : List ℕ} {t : Token} → Stands s n → foldText (t .system) ≡ foldText n → AsksBy Stands (any-code s) t
+
+-- a filter's form
+abbrev pub Asks : Form → Token → Type 0
+Asks = AsksBy StandsFor

@@ -21,6 +21,7 @@ const fn twin(file: &'static str, name: &'static str, promises: &'static [&'stat
 }
 
 const OPERATIONS: &str = "crates/sirophan/specs/Operations.antt";
+const SEARCHING: &str = "crates/sirophan/specs/Searching.antt";
 const REPORT: &str = "crates/report/specs/Operation.antt";
 
 /// All of them. What is behind one of them does not count as behind a statement that names it.
@@ -29,6 +30,11 @@ pub const TWINS: &[Twin] = &[
     twin(OPERATIONS, "matchAnswer", &["match-refused", "match-verdict"]),
     twin(OPERATIONS, "selectAnswer", &["select-refused", "select-answered"]),
     twin(OPERATIONS, "selectCells", &["refusal-keeps-list", "select-answered"]),
+    twin(SEARCHING, "checkSearchAnswer", &["check-search-refused", "check-and-match-search"]),
+    twin(SEARCHING, "matchSearchAnswer", &["match-search-refused", "check-and-match-search"]),
+    twin(SEARCHING, "selectSearchAnswer", &["select-search-refused", "select-search-answered"]),
+    twin(SEARCHING, "selectSearchCells", &["search-refusal-keeps-list", "select-search-answered"]),
+    twin("crates/search/specs/Reader.antt", "takeQuery", &["query-read"]),
     twin(REPORT, "reportAnswer", &["report-refused", "report-answered"]),
     twin(REPORT, "reportRows", &["refusal-keeps-rows", "report-answered"]),
     twin("crates/report/specs/Tallies.antt", "tallies", &["row-in-words"]),

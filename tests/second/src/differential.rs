@@ -19,13 +19,16 @@ pub const CONDITIONS: &str = "match with a condition";
 /// How many differences are printed in full.
 const PRINTED: u64 = 3;
 
-/// What can be tested: the operations.
+/// What can be tested: the operations, of which three go by a search string too.
 pub trait Library {
     fn check(&self, sheet: &[u8], filter: &[u8]) -> Result<usize, Refusal>;
     fn matches(&self, sheet: &[u8], filter: &[u8], card: &[u8]) -> Result<bool, Refusal>;
     fn select(&self, sheet: &[u8], filter: &[u8], cards: &[u8], list: &mut [u32]) -> Result<usize, Refusal>;
     fn report(&self, sheet: &[u8], filter: &[u8], cards: &[u8], rows: &mut [Tally]) -> Result<(usize, usize), Refusal>;
     fn spell(&self, filter: &[u8], buffer: &mut [u8], from: usize) -> Result<usize, Refusal>;
+    fn check_search(&self, sheet: &[u8], text: &[u8]) -> Result<usize, Refusal>;
+    fn matches_search(&self, sheet: &[u8], text: &[u8], card: &[u8]) -> Result<bool, Refusal>;
+    fn select_search(&self, sheet: &[u8], text: &[u8], cards: &[u8], list: &mut [u32]) -> Result<usize, Refusal>;
 }
 
 /// What a run of the test found.
@@ -61,7 +64,8 @@ impl Outcome {
         let listed = |counts: Vec<String>| counts.join(", ");
         let modes = self.modes.iter().map(|(mode, count)| format!("{mode} {count}"));
         println!("cases: {}", listed(modes.collect()));
-        for row in ["check", "match", CONDITIONS, "select", "report", "spell"] {
+        let by_search = ["check by search", "match by search", "select by search"];
+        for row in ["check", "match", CONDITIONS, "select", "report", "spell"].into_iter().chain(by_search) {
             let answers = self.answers.iter().filter(|((of, _), _)| *of == row);
             let answers = answers.map(|((_, answer), count)| format!("{answer} {count}"));
             println!("{row}: {}", listed(answers.collect()));
@@ -83,7 +87,9 @@ pub fn run(library: &impl Library, seed: u64, cases: u64) -> Outcome {
         let (case, mode) = generate::case(seed, number);
         *outcome.modes.entry(mode).or_default() += 1;
         outcome.marked += u64::from(case.is_marked());
-        let differences = compare(library, &case, &mut outcome.answers);
+        let query = generate::query(seed, number, &case);
+        let mut differences = compare(library, &case, &mut outcome.answers);
+        differences.extend(compare_search(library, &case, &query, &mut outcome.answers));
         if differences.is_empty() {
             outcome.passed += 1;
             continue;
@@ -92,6 +98,7 @@ pub fn run(library: &impl Library, seed: u64, cases: u64) -> Outcome {
         if outcome.failed <= PRINTED {
             println!("seed {seed}, case {number} ({mode}):");
             differences.iter().for_each(|difference| println!("  {difference}"));
+            println!("  search string: {:?}", String::from_utf8_lossy(&query));
             print_case(&case);
         }
     }
@@ -147,6 +154,39 @@ fn compare(library: &impl Library, case: &Case, answers: &mut BTreeMap<(&'static
     note("spell", told(ours, |length| if length < filter.len() { "shorter" } else { "plain already" }));
     differences.extend(difference("spell", ours, theirs));
     differences.extend(difference("buffer", our_buffer, their_buffer));
+    differences
+}
+
+/// The same by a search string.
+fn compare_search(
+    library: &impl Library,
+    case: &Case,
+    query: &[u8],
+    answers: &mut BTreeMap<(&'static str, String), u64>,
+) -> Vec<String> {
+    let Case { sheet, card, cards, list, .. } = case;
+    let mut differences = Vec::new();
+    let mut note = |operation: &'static str, answer: String| {
+        *answers.entry((operation, answer)).or_default() += 1;
+    };
+
+    let (ours, theirs) = (operations::check_search(sheet, query), library.check_search(sheet, query));
+    note("check by search", told(ours, |_| "alternatives"));
+    differences.extend(difference("check by search", ours, theirs));
+
+    let (ours, theirs) = (operations::matches_search(sheet, query, card), library.matches_search(sheet, query, card));
+    note("match by search", told(ours, |yes| if yes { "yes" } else { "no" }));
+    differences.extend(difference("match by search", ours, theirs));
+
+    let lent = list.len();
+    let mut our_list = list.clone();
+    our_list.resize(lent + GUARD, 0);
+    let mut their_list = our_list.clone();
+    let ours = operations::select_search(sheet, query, cards, &mut our_list[..lent]);
+    let theirs = library.select_search(sheet, query, cards, &mut their_list[..lent]);
+    note("select by search", told(ours, |count| if count > 0 { "some cards" } else { "no cards" }));
+    differences.extend(difference("select by search", ours, theirs));
+    differences.extend(difference("list by search", our_list, their_list));
     differences
 }
 

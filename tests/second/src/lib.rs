@@ -16,6 +16,7 @@ pub mod number;
 pub mod operations;
 pub mod period;
 pub mod pick;
+pub mod search;
 pub mod spelling;
 pub mod spellings;
 pub mod text;

@@ -5,6 +5,7 @@ use crate::date::Date;
 use crate::filter::{Filter, Operation, Test};
 use crate::number::Decimal;
 use crate::period;
+use crate::search::{Alternative, Sign};
 use crate::text;
 use crate::token::{Pattern, Token};
 
@@ -75,6 +76,46 @@ pub fn question(test: &Test, sheet: &Sheet) -> Result<Question, Fault> {
     }
     let asks = asks(kind, operation, &test.value).ok_or(Fault::UnreadableValue)?;
     Ok(Question { place, asks })
+}
+
+/// What an alternative of a search string asks, or why it has no meaning. A bundle's name counts as one that is not there.
+pub fn searched(alternative: &Alternative, sheet: &Sheet) -> Result<Question, Fault> {
+    let place = find(std::slice::from_ref(&alternative.name), sheet).ok_or(Fault::UnknownName)?;
+    let kind = sheet.parameters[place].kind.ok_or(Fault::UnknownName)?;
+    let text: Vec<u8> = alternative.text.iter().map(|sign| sign.byte()).collect();
+    let (operation, value) = match kind {
+        Kind::Number | Kind::Date | Kind::Period => prefixed(&text),
+        Kind::String => (Operation::Sw, &text[..]),
+        Kind::Token => (Operation::Eq, &text[..]),
+        Kind::Reference => (Operation::Re, &text[..]),
+    };
+    if !has_meaning(kind, operation) {
+        return Err(Fault::NoMeaningForKind);
+    }
+    let asks = match kind {
+        Kind::Token => {
+            let bar = alternative.text.iter().position(|&sign| sign == Sign::Open(b'|'));
+            Pattern::literal(&text, bar).map(|pattern| Asks::Token(operation, pattern))
+        }
+        _ => asks(kind, operation, value),
+    };
+    Ok(Question { place, asks: asks.ok_or(Fault::UnreadableValue)? })
+}
+
+/// The operation that a prefix asks for, and the value behind it; without one it is eq.
+fn prefixed(text: &[u8]) -> (Operation, &[u8]) {
+    use Operation::*;
+    match text {
+        [b'e', b'q', value @ ..] => (Eq, value),
+        [b'n', b'e', value @ ..] => (Ne, value),
+        [b'g', b't', value @ ..] => (Gt, value),
+        [b'l', b't', value @ ..] => (Lt, value),
+        [b'g', b'e', value @ ..] => (Ge, value),
+        [b'l', b'e', value @ ..] => (Le, value),
+        [b's', b'a', value @ ..] => (Sa, value),
+        [b'e', b'b', value @ ..] => (Eb, value),
+        value => (Eq, value),
+    }
 }
 
 /// The place of the parameter that the path leads to: the first name stands at the top, and each other one in the bundle

@@ -4,6 +4,7 @@ use crate::beginning;
 use crate::block::{self, Card, Flaw, Sheet};
 use crate::filter::{self, Filter, Test};
 use crate::meaning::{self, Fault, Question};
+use crate::search;
 use crate::spelling;
 
 /// The most cards of a run.
@@ -38,18 +39,23 @@ fn run(cards: &[u8]) -> Result<impl Iterator<Item = &[u8]>, Refusal> {
 
 /// Writes the record numbers of the matching cards into the list and answers how many they are.
 pub fn select(sheet: &[u8], filter: &[u8], cards: &[u8], list: &mut [u32]) -> Result<usize, Refusal> {
-    let asked = Asked::read(sheet, filter)?;
-    let mut found = Vec::new();
-    for (index, card) in run(cards)?.enumerate() {
-        let (card, verdict) = asked.judge(card, index)?;
-        if verdict {
-            found.push(card.record);
-        }
-    }
-    let cells = list.get_mut(..found.len());
-    let cells = cells.ok_or(refused(30, found.len()))?;
-    cells.copy_from_slice(&found);
-    Ok(found.len())
+    Asked::read(sheet, filter)?.select(cards, list)
+}
+
+/// Answers how many alternatives the search string has.
+pub fn check_search(sheet: &[u8], text: &[u8]) -> Result<usize, Refusal> {
+    Ok(Asked::search(sheet, text)?.filter.count())
+}
+
+/// Answers whether the card matches the search string.
+pub fn matches_search(sheet: &[u8], text: &[u8], card: &[u8]) -> Result<bool, Refusal> {
+    let (_, verdict) = Asked::search(sheet, text)?.judge(card, 0)?;
+    Ok(verdict)
+}
+
+/// Selects by a search string.
+pub fn select_search(sheet: &[u8], text: &[u8], cards: &[u8], list: &mut [u32]) -> Result<usize, Refusal> {
+    Asked::search(sheet, text)?.select(cards, list)
 }
 
 /// A row of a report: how many cards have a parameter, and how many values stand under it.
@@ -106,21 +112,40 @@ struct Asked {
 
 impl Asked {
     fn read(sheet: &[u8], filter: &[u8]) -> Result<Asked, Refusal> {
-        let sheet = block::read_sheet(sheet).map_err(|flaw| match flaw {
-            Flaw::Size => refused(1, 0),
-            Flaw::Sum => refused(2, 0),
-            Flaw::Layout => refused(3, 0),
-        })?;
+        let sheet = read_sheet(sheet)?;
         let filter = read_filter(filter)?.try_map(&mut |test| {
-            meaning::question(&test, &sheet).map_err(|fault| match fault {
-                Fault::UnknownName => refused(14, test.place),
-                Fault::BareBundle => refused(18, test.place),
-                Fault::UnservedOperation => refused(15, test.place),
-                Fault::NoMeaningForKind => refused(16, test.place),
-                Fault::UnreadableValue => refused(17, test.place),
-            })
+            meaning::question(&test, &sheet).map_err(|fault| refused(number(fault), test.place))
         })?;
         Ok(Asked { sheet, filter })
+    }
+
+    /// The same of a search string and its alternatives.
+    fn search(sheet: &[u8], text: &[u8]) -> Result<Asked, Refusal> {
+        let sheet = read_sheet(sheet)?;
+        if text.is_empty() || text.len() > filter::LONGEST {
+            return Err(refused(10, 0));
+        }
+        let pairs = search::read(text).map_err(|place| refused(50, place))?;
+        if pairs.iter().map(Vec::len).sum::<usize>() > search::MOST_ALTERNATIVES {
+            return Err(refused(51, 0));
+        }
+        let filter = search::question(&pairs, &sheet).map_err(|(place, fault)| refused(number(fault), place))?;
+        Ok(Asked { sheet, filter })
+    }
+
+    /// Writes the record numbers of the matching cards into the list and answers how many they are.
+    fn select(&self, cards: &[u8], list: &mut [u32]) -> Result<usize, Refusal> {
+        let mut found = Vec::new();
+        for (index, card) in run(cards)?.enumerate() {
+            let (card, verdict) = self.judge(card, index)?;
+            if verdict {
+                found.push(card.record);
+            }
+        }
+        let cells = list.get_mut(..found.len());
+        let cells = cells.ok_or(refused(30, found.len()))?;
+        cells.copy_from_slice(&found);
+        Ok(found.len())
     }
 
     /// A card, which stands at this index, and the yes or no of it.
@@ -138,4 +163,23 @@ impl Asked {
 
 fn refused(number: u32, place: usize) -> Refusal {
     Refusal { number, place }
+}
+
+fn read_sheet(sheet: &[u8]) -> Result<Sheet, Refusal> {
+    block::read_sheet(sheet).map_err(|flaw| match flaw {
+        Flaw::Size => refused(1, 0),
+        Flaw::Sum => refused(2, 0),
+        Flaw::Layout => refused(3, 0),
+    })
+}
+
+/// The number of a test's fault.
+fn number(fault: Fault) -> u32 {
+    match fault {
+        Fault::UnknownName => 14,
+        Fault::BareBundle => 18,
+        Fault::UnservedOperation => 15,
+        Fault::NoMeaningForKind => 16,
+        Fault::UnreadableValue => 17,
+    }
 }

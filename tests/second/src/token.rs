@@ -52,6 +52,18 @@ impl Pattern {
         Some(Pattern { system: system.map(namespace).map(<[u8]>::to_vec), code: code.map(<[u8]>::to_vec) })
     }
 
+    /// Reads a token of a search string, which is split at this bar or has none; its system is taken as it is written.
+    pub fn literal(text: &[u8], bar: Option<usize>) -> Option<Pattern> {
+        let (system, code) = match bar {
+            Some(bar) => (Some(&text[..bar]), &text[bar + 1..]),
+            None => (None, text),
+        };
+        if code.is_empty() && system.is_none_or(<[u8]>::is_empty) {
+            return None;
+        }
+        Some(Pattern { system: system.map(<[u8]>::to_vec), code: (!code.is_empty()).then(|| code.to_vec()) })
+    }
+
     /// Whether the token is one that the filter asks for.
     pub fn matches(&self, token: Token) -> bool {
         let asks = |part: &Option<Vec<u8>>, held| part.as_ref().is_none_or(|part| text::same(part, held));

@@ -27,6 +27,18 @@ impl Library for Second {
     fn spell(&self, filter: &[u8], buffer: &mut [u8], from: usize) -> Result<usize, Refusal> {
         operations::spell(filter, buffer, from)
     }
+
+    fn check_search(&self, sheet: &[u8], text: &[u8]) -> Result<usize, Refusal> {
+        operations::check_search(sheet, text)
+    }
+
+    fn matches_search(&self, sheet: &[u8], text: &[u8], card: &[u8]) -> Result<bool, Refusal> {
+        operations::matches_search(sheet, text, card)
+    }
+
+    fn select_search(&self, sheet: &[u8], text: &[u8], cards: &[u8], list: &mut [u32]) -> Result<usize, Refusal> {
+        operations::select_search(sheet, text, cards, list)
+    }
 }
 
 #[test]
@@ -48,6 +60,12 @@ fn every_answer_and_mostly_verdicts() {
     }
     for answer in ["shorter", "plain already", "refused-10", "refused-11", "refused-12", "refused-13", "refused-32"] {
         assert!(outcome.answers.contains_key(&("spell", answer.to_string())), "nothing spelled is {answer}");
+    }
+    let verdicts = outcome.verdicts("match by search");
+    assert!(8 * verdicts >= cases, "{verdicts} of {cases} search strings end in yes or no");
+    for number in [1, 2, 3, 10, 50, 51, 14, 16, 17, 20, 21, 22, 23, 30] {
+        let answer = ("select by search", format!("refused-{number:02}"));
+        assert!(outcome.answers.contains_key(&answer), "no selection by a search string is refused by {number}");
     }
 }
 

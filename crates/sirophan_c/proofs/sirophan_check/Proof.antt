@@ -1,26 +1,17 @@
--- `sirophan_c::sirophan_check` meets its contract: each case of check's answer has its two numbers. Assumes nothing.
+-- `sirophan_c::sirophan_check` meets its contract: the numbers are those of what check answers. Assumes nothing.
 use borrow.Author.Needs.{needs}
-use Rattle.sirophan_c.proofs.Answers.{tests-told, check-refusal-told}
+use Rattle.sirophan_c.proofs.Answers.{check-told}
 use Rattle.sirophan_c.proofs.sirophan_check.Statement.{statement}
 use Rattle.sirophan_c.proofs.sirophan_check.Tie as tie
 
 check-requires : tie.Need-check-requires
 check-requires c κs = search needs
 
-enum-known-checked : tie.Need-enum-known-checked
-enum-known-checked c = search needs
-
-enum-known-checked-2 : tie.Need-enum-known-checked-2
-enum-known-checked-2 c = search needs
-
-refused-requires : tie.Need-refused-requires
-refused-requires c κs = search needs
+told-check-requires : tie.Need-told-check-requires
+told-check-requires c κs = search needs
 
 returns : tie.Need-returns
-returns c = search (tests-told, needs)
-
-returns-2 : tie.Need-returns-2
-returns-2 c = search (check-refusal-told, needs)
+returns c = search (check-told, needs)
 
 pub sirophan-check-spec : {M : Type 1} → statement M
-sirophan-check-spec = tie.close (tie.spec check-requires enum-known-checked enum-known-checked-2 refused-requires returns returns-2)
+sirophan-check-spec = tie.close (tie.spec check-requires told-check-requires returns)

@@ -1,42 +1,17 @@
--- `sirophan_c::sirophan_match` meets its contract: each case of match's answer has its two numbers. Assumes nothing.
+-- `sirophan_c::sirophan_match` meets its contract: the numbers are those of what match_card answers. Assumes nothing.
 use borrow.Author.Needs.{needs}
-use Rattle.sirophan_c.proofs.Answers.{yes-told, no-told, match-refusal-told}
+use Rattle.sirophan_c.proofs.Answers.{match-told}
 use Rattle.sirophan_c.proofs.sirophan_match.Statement.{statement}
 use Rattle.sirophan_c.proofs.sirophan_match.Tie as tie
 
 match-card-requires : tie.Need-match-card-requires
 match-card-requires c κs = search needs
 
-enum-told : tie.Need-enum-told
-enum-told c = search needs
-
-enum-told-2 : tie.Need-enum-told-2
-enum-told-2 c = search needs
-
-enum-known-matched : tie.Need-enum-known-matched
-enum-known-matched c = search needs
-
-refused-requires : tie.Need-refused-requires
-refused-requires c κs = search needs
+told-match-requires : tie.Need-told-match-requires
+told-match-requires c κs = search needs
 
 returns : tie.Need-returns
-returns c = search (yes-told, needs)
-
-returns-2 : tie.Need-returns-2
-returns-2 c = search (no-told, needs)
-
-returns-3 : tie.Need-returns-3
-returns-3 c = search (match-refusal-told, needs)
+returns c = search (match-told, needs)
 
 pub sirophan-match-spec : {M : Type 1} → statement M
-sirophan-match-spec =
-    tie.close
-    (tie.spec
-    match-card-requires
-    enum-told
-    enum-told-2
-    enum-known-matched
-    refused-requires
-    returns
-    returns-2
-    returns-3)
+sirophan-match-spec = tie.close (tie.spec match-card-requires told-match-requires returns)

@@ -1,42 +1,20 @@
--- `sirophan_c::sirophan_select` meets its contract: each case of select's answer has its two numbers, and the cells are select's. Assumes nothing.
+-- `sirophan_c::sirophan_select` meets its contract: the numbers and the cells are those of what select answers and writes. Assumes nothing.
 use borrow.Author.Needs.{needs}
-use Rattle.sirophan_c.proofs.Answers.{count-told, select-refusal-told}
+use Rattle.sirophan_c.proofs.Answers.{select-told}
 use Rattle.sirophan_c.proofs.sirophan_select.Statement.{statement}
 use Rattle.sirophan_c.proofs.sirophan_select.Tie as tie
 
 select-requires : tie.Need-select-requires
 select-requires c κs = search needs
 
-enum-known-selected : tie.Need-enum-known-selected
-enum-known-selected c = search needs
-
-enum-known-selected-2 : tie.Need-enum-known-selected-2
-enum-known-selected-2 c = search needs
-
-refused-requires : tie.Need-refused-requires
-refused-requires c κs = search needs
+told-select-requires : tie.Need-told-select-requires
+told-select-requires c κs = search needs
 
 same-length : tie.Need-same-length
 same-length c = search needs
 
 returns : tie.Need-returns
-returns c = search (count-told, needs)
-
-same-length-2 : tie.Need-same-length-2
-same-length-2 c = search needs
-
-returns-2 : tie.Need-returns-2
-returns-2 c = search (select-refusal-told, needs)
+returns c = search (select-told, needs)
 
 pub sirophan-select-spec : {M : Type 1} → statement M
-sirophan-select-spec =
-    tie.close
-    (tie.spec
-    select-requires
-    enum-known-selected
-    enum-known-selected-2
-    refused-requires
-    same-length
-    returns
-    same-length-2
-    returns-2)
+sirophan-select-spec = tie.close (tie.spec select-requires told-select-requires same-length returns)

@@ -1,56 +1,17 @@
--- `token::matches` meets its contract: the card's first bar says where its text is split. Assumes nothing.
+-- `token::matches` meets its contract: a filter's text is split at its first bar. Assumes nothing.
 use borrow.Author.Needs.{needs}
-use native.Mathlib.Omega.{arith}
-use lib.ListN.{length-take}
-use Rattle.token.proofs.Match.{matches-at-bar, matches-no-bar}
+use Rattle.token.proofs.Match.{matches-by}
 use Rattle.token.proofs.matches.Statement.{statement}
 use Rattle.token.proofs.matches.Tie as tie
 
 first-of-requires : tie.Need-first-of-requires
 first-of-requires c κs = search needs
 
-add-after : tie.Need-add-after
-add-after c = search needs
-
-slice-aggregate-token-matches : tie.Need-slice-aggregate-token-matches
-slice-aggregate-token-matches c = simp length-take (omega arith)
-
-sub-token-matches : tie.Need-sub-token-matches
-sub-token-matches c = search needs
-
-part-token-matches-start : tie.Need-part-token-matches-start
-part-token-matches-start c = search needs
-
-part-token-matches-end : tie.Need-part-token-matches-end
-part-token-matches-end c = search needs
-
-token-matches-requires : tie.Need-token-matches-requires
-token-matches-requires c κs = search needs
+split-matches-requires : tie.Need-split-matches-requires
+split-matches-requires c κs = search needs
 
 returns : tie.Need-returns
-returns c = search (matches-at-bar, needs)
-
-slice-aggregate-token-matches-2 : tie.Need-slice-aggregate-token-matches-2
-slice-aggregate-token-matches-2 c = search needs
-
-token-matches-requires-2 : tie.Need-token-matches-requires-2
-token-matches-requires-2 c κs = search needs
-
-returns-2 : tie.Need-returns-2
-returns-2 c = search (matches-no-bar, needs)
+returns c = search (matches-by, needs)
 
 pub matches-spec : {M : Type 1} → statement M
-matches-spec =
-    tie.close
-    (tie.spec
-    first-of-requires
-    add-after
-    slice-aggregate-token-matches
-    sub-token-matches
-    part-token-matches-start
-    part-token-matches-end
-    token-matches-requires
-    returns
-    slice-aggregate-token-matches-2
-    token-matches-requires-2
-    returns-2)
+matches-spec = tie.close (tie.spec first-of-requires split-matches-requires returns)

@@ -1,98 +1,21 @@
--- `token::system_matches` meets its contract: the tests say which short name, if any, the system is. Assumes nothing.
+-- `token::system_matches` meets its contract: the flag says whether short names are meant. Assumes nothing.
 use borrow.Author.Needs.{needs}
-use Rattle.token.proofs.Namespace.{namespace}
+use Rattle.token.proofs.Match.{system-short, system-itself}
 use Rattle.token.proofs.system_matches.Statement.{statement}
 use Rattle.token.proofs.system_matches.Tie as tie
 
-slice-aggregate-same : tie.Need-slice-aggregate-same
-slice-aggregate-same c = search needs
+namespace-matches-requires : tie.Need-namespace-matches-requires
+namespace-matches-requires c κs = search needs
+
+returns : tie.Need-returns
+returns c = search (system-short, needs)
 
 same-requires : tie.Need-same-requires
 same-requires c κs = search needs
 
-slice-aggregate-same-2 : tie.Need-slice-aggregate-same-2
-slice-aggregate-same-2 c = search needs
-
-same-requires-2 : tie.Need-same-requires-2
-same-requires-2 c κs = search needs
-
-returns : tie.Need-returns
-returns c = search (namespace, needs) depth 9
-
-slice-aggregate-same-3 : tie.Need-slice-aggregate-same-3
-slice-aggregate-same-3 c = search needs
-
-same-requires-3 : tie.Need-same-requires-3
-same-requires-3 c κs = search needs
-
-slice-aggregate-same-4 : tie.Need-slice-aggregate-same-4
-slice-aggregate-same-4 c = search needs
-
-same-requires-4 : tie.Need-same-requires-4
-same-requires-4 c κs = search needs
-
 returns-2 : tie.Need-returns-2
-returns-2 c = search (namespace, needs) depth 9
-
-slice-aggregate-same-5 : tie.Need-slice-aggregate-same-5
-slice-aggregate-same-5 c = search needs
-
-same-requires-5 : tie.Need-same-requires-5
-same-requires-5 c κs = search needs
-
-slice-aggregate-same-6 : tie.Need-slice-aggregate-same-6
-slice-aggregate-same-6 c = search needs
-
-same-requires-6 : tie.Need-same-requires-6
-same-requires-6 c κs = search needs
-
-returns-3 : tie.Need-returns-3
-returns-3 c = search (namespace, needs) depth 9
-
-slice-aggregate-same-7 : tie.Need-slice-aggregate-same-7
-slice-aggregate-same-7 c = search needs
-
-same-requires-7 : tie.Need-same-requires-7
-same-requires-7 c κs = search needs
-
-slice-aggregate-same-8 : tie.Need-slice-aggregate-same-8
-slice-aggregate-same-8 c = search needs
-
-same-requires-8 : tie.Need-same-requires-8
-same-requires-8 c κs = search needs
-
-returns-4 : tie.Need-returns-4
-returns-4 c = search (namespace, needs) depth 9
-
-same-requires-9 : tie.Need-same-requires-9
-same-requires-9 c κs = search needs
-
-returns-5 : tie.Need-returns-5
-returns-5 c = search (namespace, needs) depth 9
+returns-2 c = search (system-itself, needs)
 
 pub system-matches-spec : {M : Type 1} → statement M
 system-matches-spec =
-    tie.close
-    (tie.spec
-    slice-aggregate-same
-    same-requires
-    slice-aggregate-same-2
-    same-requires-2
-    returns
-    slice-aggregate-same-3
-    same-requires-3
-    slice-aggregate-same-4
-    same-requires-4
-    returns-2
-    slice-aggregate-same-5
-    same-requires-5
-    slice-aggregate-same-6
-    same-requires-6
-    returns-3
-    slice-aggregate-same-7
-    same-requires-7
-    slice-aggregate-same-8
-    same-requires-8
-    returns-4
-    same-requires-9
-    returns-5)
+    tie.close (tie.spec namespace-matches-requires returns same-requires returns-2)

@@ -9,9 +9,6 @@ use Rattle.token.proofs.token_matches.Tie as tie
 returns : tie.Need-returns
 returns c = search (token-no-code, needs)
 
-first-of-requires : tie.Need-first-of-requires
-first-of-requires c κs = search needs
-
 add-after : tie.Need-add-after
 add-after c = search needs
 
@@ -47,7 +44,6 @@ token-matches-spec =
     tie.close
     (tie.spec
     returns
-    first-of-requires
     add-after
     slice-aggregate-parts-match
     sub-parts-match

@@ -25,6 +25,18 @@ impl Library for Proved {
         sirophan::select(sheet, filter, cards, list).map_err(refusal)
     }
 
+    fn check_search(&self, sheet: &[u8], text: &[u8]) -> Result<usize, Refusal> {
+        sirophan::check_search(sheet, text).map_err(refusal)
+    }
+
+    fn matches_search(&self, sheet: &[u8], text: &[u8], card: &[u8]) -> Result<bool, Refusal> {
+        sirophan::matches_search(sheet, text, card).map_err(refusal)
+    }
+
+    fn select_search(&self, sheet: &[u8], text: &[u8], cards: &[u8], list: &mut [u32]) -> Result<usize, Refusal> {
+        sirophan::select_search(sheet, text, cards, list).map_err(refusal)
+    }
+
     fn spell(&self, filter: &[u8], buffer: &mut [u8], from: usize) -> Result<usize, Refusal> {
         sirophan::spell(filter, buffer, from).map_err(refusal)
     }

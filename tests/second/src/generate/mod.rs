@@ -5,9 +5,11 @@ mod damage;
 mod filters;
 mod limits;
 mod modes;
+mod queries;
 mod random;
 mod texts;
 
+pub use queries::query;
 pub use random::Random;
 
 use crate::block::{MARKED_CARD, MARKED_SHEET, SIZE};

@@ -4,12 +4,13 @@ use Prim.Native.Nat.{_-_}
 use lib.ListN.{length}
 use Rattle.sheet.specs.Sheet.{parametersOf}
 use Rattle.syntax.specs.Reader.{read}
+use Rattle.sirophan.specs.Passing.{textQuestion}
 use Rattle.sirophan.proofs.Gathering.{Gathering, gathering-start, gathering-part, gathering-room, gathering-well-formed, gathering-match, gathering-other, gathering-refused, gathering-end}
 use Rattle.sirophan.proofs.run.gather.Statement.{statement}
 use Rattle.sirophan.proofs.run.gather.Tie as tie
 
 abbrev Inv-loop : tie.InvT-loop
-Inv-loop sheet kinds filter cards buffer₀ at₀ count₀ buffer at count = Gathering (parametersOf sheet) (read filter) cards buffer₀ buffer at count
+Inv-loop sheet kinds filter cards buffer₀ at₀ count₀ buffer at count = Gathering (textQuestion (parametersOf sheet) (read filter)) cards buffer₀ buffer at count
 
 abbrev μ-loop : tie.MeasureT-loop
 μ-loop sheet kinds filter cards buffer₀ at₀ count₀ buffer at count = length cards - at

@@ -34,13 +34,13 @@ returns-2 : tie.Need-returns-2
 returns-2 c = search (card-misfit, needs)
 
 returns-3 : tie.Need-returns-3
-returns-3 c = card-refused _ _ _ _ (c .before .before .read-card .ensures) Reading.WrongSize 20 (λ o d i. refl) (c .enum-told2 .given .1)
+returns-3 c = card-refused _ _ _ (c .before .before .read-card .ensures) Reading.WrongSize 20 (λ o d i. refl) (c .enum-told2 .given .1)
 
 returns-4 : tie.Need-returns-4
-returns-4 c = card-refused _ _ _ _ (c .before .before .read-card .ensures) Reading.WrongSum 21 (λ o d i. refl) (c .enum-told3 .given .1)
+returns-4 c = card-refused _ _ _ (c .before .before .read-card .ensures) Reading.WrongSum 21 (λ o d i. refl) (c .enum-told3 .given .1)
 
 returns-5 : tie.Need-returns-5
-returns-5 c = card-refused _ _ _ _ (c .before .before .read-card .ensures) Reading.WrongLayout 22 (λ o d i. refl) (c .enum-told4 .given .1)
+returns-5 c = card-refused _ _ _ (c .before .before .read-card .ensures) Reading.WrongLayout 22 (λ o d i. refl) (c .enum-told4 .given .1)
 
 pub judge-card-spec : {M : Type 1} → statement M
 judge-card-spec =

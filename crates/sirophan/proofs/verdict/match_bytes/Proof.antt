@@ -1,6 +1,6 @@
 -- `sirophan::verdict::match_bytes` meets its contract: check first, then the card. Assumes nothing.
 use borrow.Author.Needs.{needs}
-use Rattle.sirophan.proofs.Passing.{passing, match-refused, match-yes, match-no, match-card-refused}
+use Rattle.sirophan.proofs.Passing.{passing, match-refused, filter-yes, filter-no, filter-card-refused}
 use Rattle.sirophan.proofs.verdict.match_bytes.Statement.{statement}
 use Rattle.sirophan.proofs.verdict.match_bytes.Tie as tie
 
@@ -26,7 +26,7 @@ enum-known-verdict : tie.Need-enum-known-verdict
 enum-known-verdict c = search needs
 
 returns : tie.Need-returns
-returns c = search (match-yes, passing, needs)
+returns c = search (filter-yes, passing, needs)
 
 enum-known-verdict-2 : tie.Need-enum-known-verdict-2
 enum-known-verdict-2 c = search needs
@@ -35,10 +35,10 @@ returns-2 : tie.Need-returns-2
 returns-2 c = search (match-refused, needs)
 
 returns-3 : tie.Need-returns-3
-returns-3 c = search (match-no, passing, needs)
+returns-3 c = search (filter-no, passing, needs)
 
 returns-4 : tie.Need-returns-4
-returns-4 c = search (match-card-refused, passing, needs)
+returns-4 c = search (filter-card-refused, passing, needs)
 
 pub match-bytes-spec : {M : Type 1} → statement M
 match-bytes-spec =

@@ -1,0 +1,283 @@
+-- What the code answers of an alternative, and the loops over a card's entries and over the rows of a query: what is left decides.
+-- Assumes nothing.
+use Prim.Native.Nat.{ℕ, suc, _+_, _-_, _≤_, _<_}
+use native.Mathlib.Numerals.{add-one}
+use native.Mathlib.Omega.{arith}
+use mathlib.Core.Path.{_≡_, refl, ap, sym, _∙_, subst}
+use mathlib.Core.Bool.{Bool, true, false, cond, not, _&&_, _||_}
+use mathlib.Core.List.{List, [], _∷_, _++_, map}
+use lib.Dec.{eqb}
+use lib.ListN.{length, getD, take, drop, take-append-drop, drop-of-length-le}
+use lib.Seq.{length-take-le, drop-cons, getD-take}
+use borrow.Author.Tests.{eq-eqb, ne-eqb}
+use Rattle.base.specs.Kinds.{token, bundleKind}
+use Rattle.base.specs.Lists.{All}
+use Rattle.base.specs.Parts.{part}
+use Rattle.base.proofs.All.{all-head, all-right}
+use Rattle.base.proofs.Lists.{rest}
+use Rattle.token.specs.Filter.{readableAt}
+use Rattle.token.specs.Match.{matchesAt}
+use Rattle.sheet.specs.Sheet.{Parameter}
+use Rattle.sheet.specs.Find.{find}
+use Rattle.sheet.specs.declared.Found.{Found}
+use Rattle.card.specs.Card.{Entry, entry}
+use Rattle.kind.specs.Table.{meaningOf}
+use Rattle.kind.specs.declared.Meaning.{Meaning}
+use Rattle.judge.specs.Sets.{lookup, valuesAt, chosenOf}
+use Rattle.judge.specs.Faults.{kindFault, orElse}
+use Rattle.judge.specs.Verdicts.{someValue, saysOf}
+use Rattle.judge.specs.declared.Fault.{Fault}
+use Rattle.judge.specs.declared.FirstFault.{FirstFault}
+use Rattle.judge.proofs.Entries.{every, chosen-every}
+use Rattle.search.specs.Spelling.{Alternative}
+use Rattle.search.specs.Asking.{askedOf, PrefixOf}
+use Rattle.search.specs.Meaning.{textFault, faultAt, alternativeFault, firstAlternativeFault, textSays, saysAt, alternativeSays}
+use Rattle.search.specs.Rows.{keptIn, keptSays, alternativeIn, alternativesIn, rowsSay, isFault, RowWithin, RowsWithin}
+use Rattle.search.specs.declared.Prefixed.{Prefixed}
+use Rattle.search.specs.declared.Row.{Row}
+use Rattle.search.specs.declared.Rows.{Rows}
+
+-- ---- the value behind a prefix, as a slice has it
+
+module _ (kind : ℕ) (text : List ℕ) (r : Prefixed) (p : PrefixOf (askedOf kind text) text r) where
+  pub prefix-within : r .skip ≤ length text
+  prefix-within = p .within
+
+  value-is : take (length text - r .skip) (drop (r .skip) text) ≡ askedOf kind text .value
+  value-is = rest text (r .skip) ∙ p .value
+
+  module _ (split : ℕ) (other : kind ≡ 4 → ⊥) where
+    pub fault-asked : (f : Fault) → f ≡ kindFault (r .operator) kind (take (length text - r .skip) (drop (r .skip) text)) → f ≡ textFault kind split text
+    unfolding textFault
+    fault-asked f e = e ∙ rw (ne-eqb kind token other, value-is, p .operator)
+
+    pub says-asked : (i : ℕ) (es : List Entry) (m : Meaning) (b : Bool) → m ≡ meaningOf (r .operator) kind
+        → b ≡ saysOf m (take (length text - r .skip) (drop (r .skip) text)) (valuesAt i (chosenOf every es)) → b ≡ textSays kind split text (valuesAt i es)
+    unfolding textSays
+    says-asked i es m b e g = g ∙ rw (ne-eqb kind token other, value-is, e, p .operator, chosen-every es)
+
+-- ---- the fault of an alternative
+
+module _ (kind split : ℕ) (text : List ℕ) where
+  pub token-readable : (t : Bool) → kind ≡ 4 → t ≡ readableAt split text → t ≡ true → Fault.Nothing ≡ textFault kind split text
+  unfolding textFault
+  token-readable t k e h = rw (eq-eqb kind token k, sym e ∙ h)
+
+  pub token-unreadable : (t : Bool) → kind ≡ 4 → t ≡ readableAt split text → t ≡ false → Fault.Unreadable ≡ textFault kind split text
+  unfolding textFault
+  token-unreadable t k e h = rw (eq-eqb kind token k, sym e ∙ h)
+
+  pub at-bundle : kind ≡ 7 → Fault.UnknownName ≡ cond (eqb kind bundleKind) Fault.UnknownName (textFault kind split text)
+  at-bundle k = rw (eq-eqb kind bundleKind k)
+
+  pub at-kind : (f : Fault) → (kind ≡ 7 → ⊥) → f ≡ textFault kind split text → f ≡ cond (eqb kind bundleKind) Fault.UnknownName (textFault kind split text)
+  at-kind f k e = e ∙ rw (ne-eqb kind bundleKind k)
+
+module _ (split : ℕ) (text : List ℕ) (o : Found) (there : Found) (e : o ≡ there) where
+  pub fault-found : (i kind : ℕ) (f : Fault) → o ≡ Found.At i kind → f ≡ cond (eqb kind bundleKind) Fault.UnknownName (textFault kind split text) → f ≡ faultAt there split text
+  fault-found i kind f h g = g ∙ rw (sym e ∙ h)
+
+  pub fault-missing : o ≡ Found.Missing → Fault.UnknownName ≡ faultAt there split text
+  fault-missing h = rw (sym e ∙ h)
+
+  pub says-found : (es : List Entry) (i kind : ℕ) (b : Bool) → o ≡ Found.At i kind → b ≡ textSays kind split text (valuesAt i es) → b ≡ saysAt there split text es
+  says-found es i kind b h g = g ∙ rw (sym e ∙ h)
+
+  pub says-missing : (es : List Entry) → o ≡ Found.Missing → false ≡ saysAt there split text es
+  says-missing es h = rw (sym e ∙ h)
+
+module _ (ps : List Parameter) (bytes : List ℕ) (row : Row) where
+  pub row-faulted : (f : Fault) → f ≡ faultAt (find 0 (part bytes (row .name) (row .until)) ps) (row .split) (part bytes (row .text) (row .end)) → f ≡ alternativeFault ps (alternativeIn bytes row)
+  unfolding alternativeFault keptIn lookup
+  row-faulted f e = e
+
+  pub row-said : (es : List Entry) (met b : Bool) → met ≡ false → b ≡ saysAt (find 0 (part bytes (row .name) (row .until)) ps) (row .split) (part bytes (row .text) (row .end)) es
+      → b ≡ (met || alternativeSays ps es (alternativeIn bytes row))
+  unfolding alternativeSays keptIn lookup
+  row-said es met b m e = e ∙ rw m
+
+  pub row-met : (es : List Entry) (met : Bool) → met ≡ true → true ≡ (met || alternativeSays ps es (alternativeIn bytes row))
+  row-met es met m = rw m
+
+-- ---- tokens under a parameter
+
+pub token-says : (kind split : ℕ) (text : List ℕ) (set : List (List ℕ)) (b : Bool) → kind ≡ 4 → b ≡ someValue (λ x. matchesAt x split text) set → b ≡ textSays kind split text set
+unfolding textSays
+token-says kind split text set b k e = e ∙ rw (eq-eqb kind token k)
+
+pub under-asked : (under : Bool) (x : List ℕ) (split : ℕ) (asked : List ℕ) (b : Bool) → under ≡ true → b ≡ matchesAt x split asked → b ≡ (under && matchesAt x split asked)
+under-asked under x split asked b u e = e ∙ rw u
+
+pub not-under : (under : Bool) (x : List ℕ) (split : ℕ) (asked : List ℕ) → under ≡ false → false ≡ (under && matchesAt x split asked)
+not-under under x split asked u = rw u
+
+abbrev pub someAsked : ℕ → List ℕ → ℕ → List Entry → Bool
+someAsked split asked i es = someValue (λ x. matchesAt x split asked) (valuesAt i es)
+
+module _ (split : ℕ) (asked : List ℕ) (i j o : ℕ) (t : List ℕ) (es : List Entry) (b : Bool) (e : b ≡ (eqb j i && matchesAt t split asked)) where
+  pub asked-here : b ≡ true → true ≡ someAsked split asked i (entry j o t ∷ es)
+  unfolding valuesAt someValue
+  asked-here h = go (eqb j i) refl
+    where
+      go : (u : Bool) → eqb j i ≡ u → true ≡ someAsked split asked i (entry j o t ∷ es)
+      go true p = let m : matchesAt t split asked ≡ true = sym (ap (λ (x : Bool). x && matchesAt t split asked) p) ∙ sym e ∙ h in rw (p, m)
+      go false p = let z : false ≡ true = sym (ap (λ (x : Bool). x && matchesAt t split asked) p) ∙ sym e ∙ h in cc
+
+  pub asked-next : b ≡ false → someAsked split asked i (entry j o t ∷ es) ≡ someAsked split asked i es
+  unfolding valuesAt someValue
+  asked-next h = go (eqb j i) refl
+    where
+      go : (u : Bool) → eqb j i ≡ u → someAsked split asked i (entry j o t ∷ es) ≡ someAsked split asked i es
+      go true p = let m : matchesAt t split asked ≡ false = sym (ap (λ (x : Bool). x && matchesAt t split asked) p) ∙ sym e ∙ h in rw (p, m)
+      go false p = rw p
+
+pub asked-end : (split : ℕ) (asked : List ℕ) (i : ℕ) → false ≡ someAsked split asked i []
+unfolding valuesAt someValue
+asked-end split asked i = refl
+
+-- ---- the rows of a query
+
+abbrev noRow : Row
+noRow = record { at = 0; name = 0; until = 0; text = 0; end = 0; split = 0; last = false }
+
+abbrev rowAt : Rows → ℕ → Row
+rowAt rows i = getD (rows .rows) i noRow
+
+-- the rows from the i-th on
+abbrev rowsFrom : Rows → ℕ → List Row
+rowsFrom rows i = drop i (take (rows .count) (rows .rows))
+
+module _ {n : ℕ} {rows : Rows} (w : RowsWithin n rows) where
+  kept-length : length (take (rows .count) (rows .rows)) ≡ rows .count
+  kept-length = length-take-le (rows .count) (rows .rows) (omega (arith, w .few, w .cells))
+
+  from-next : (i : ℕ) → i < rows .count → rowsFrom rows i ≡ rowAt rows i ∷ rowsFrom rows (i + 1)
+  from-next i h =
+      let here : getD (take (rows .count) (rows .rows)) i noRow ≡ rowAt rows i = getD-take (rows .count) (rows .rows) i noRow h in
+      rw (add-one i) (drop-cons (take (rows .count) (rows .rows)) i noRow (omega (arith, kept-length)) ∙ ap (λ (r : Row). r ∷ drop (suc i) (take (rows .count) (rows .rows))) here)
+
+  from-end : (i : ℕ) → rows .count ≤ i → rowsFrom rows i ≡ []
+  from-end i h = drop-of-length-le (take (rows .count) (rows .rows)) {i = i} (omega (arith, kept-length))
+
+  pub row-within : (i : ℕ) → i < rows .count → RowWithin n (rowAt rows i)
+  row-within i h =
+      let whole : take (rows .count) (rows .rows) ≡ take i (take (rows .count) (rows .rows)) ++ (rowAt rows i ∷ rowsFrom rows (i + 1)) =
+      sym (take-append-drop i (take (rows .count) (rows .rows))) ∙ ap (λ (l : List Row). take i (take (rows .count) (rows .rows)) ++ l) (from-next i h)
+      in
+      all-head (RowWithin n) (all-right (RowWithin n) (take i (take (rows .count) (rows .rows))) (subst (All (RowWithin n)) whole (w .within)))
+
+  pub row-few : (i : ℕ) → i < rows .count → i < 32
+  row-few i h = omega (arith, w .few)
+
+-- ---- the loop of `first_fault`
+
+pub record Facing (n : ℕ) (ps : List Parameter) (bytes : List ℕ) (rows : Rows) (i : ℕ) : Type 0 where
+  pub within : RowsWithin n rows
+  pub left : firstAlternativeFault ps (alternativesIn bytes rows) ≡ firstAlternativeFault ps (map (alternativeIn bytes) (rowsFrom rows i))
+
+or-else-first : (f : Fault) (p : ℕ) (rest : FirstFault) → isFault f ≡ true → orElse (record { fault = f; position = p }) rest ≡ record { fault = f; position = p }
+or-else-first Fault.Nothing p rest h = let z : false ≡ true = h in cc
+or-else-first Fault.UnknownName p rest h = refl
+or-else-first Fault.BareBundle p rest h = refl
+or-else-first Fault.Unsupported p rest h = refl
+or-else-first Fault.NoMeaning p rest h = refl
+or-else-first Fault.Unreadable p rest h = refl
+
+or-else-rest : (f : Fault) (p : ℕ) (rest : FirstFault) → isFault f ≡ false → orElse (record { fault = f; position = p }) rest ≡ rest
+or-else-rest Fault.Nothing p rest h = refl
+or-else-rest Fault.UnknownName p rest h = let z : true ≡ false = h in cc
+or-else-rest Fault.BareBundle p rest h = let z : true ≡ false = h in cc
+or-else-rest Fault.Unsupported p rest h = let z : true ≡ false = h in cc
+or-else-rest Fault.NoMeaning p rest h = let z : true ≡ false = h in cc
+or-else-rest Fault.Unreadable p rest h = let z : true ≡ false = h in cc
+
+pub facing-starts : {n : ℕ} {ps : List Parameter} {bytes : List ℕ} {rows : Rows} → RowsWithin n rows → Facing n ps bytes rows 0
+unfolding alternativesIn
+facing-starts w = record { within = w; left = refl }
+
+module _ {n : ℕ} {ps : List Parameter} {bytes : List ℕ} {rows : Rows} {i : ℕ} (g : Facing n ps bytes rows i) where
+  pub facing-row : i < rows .count → RowWithin n (rowAt rows i)
+  facing-row h = row-within (g .within) i h
+
+  pub facing-few : i < rows .count → i < 32
+  facing-few h = row-few (g .within) i h
+
+  module _ (h : i < rows .count) (f : Fault) (e : f ≡ alternativeFault ps (alternativeIn bytes (rowAt rows i))) (t : Bool) (k : t ≡ isFault f) where
+    split-left : firstAlternativeFault ps (alternativesIn bytes rows) ≡ orElse (record { fault = f; position = rowAt rows i .at }) (firstAlternativeFault ps (map (alternativeIn bytes) (rowsFrom rows (i + 1))))
+    unfolding firstAlternativeFault keptIn
+    split-left =
+        g .left ∙ ap (λ (l : List Row). firstAlternativeFault ps (map (alternativeIn bytes) l)) (from-next (g .within) i h)
+        ∙ ap (λ (x : Fault). orElse (record { fault = x; position = rowAt rows i .at }) (firstAlternativeFault ps (map (alternativeIn bytes) (rowsFrom rows (i + 1))))) (sym e)
+
+    pub facing-fault : t ≡ true → record { fault = f; position = rowAt rows i .at } ≡ firstAlternativeFault ps (alternativesIn bytes rows)
+    facing-fault y = sym (split-left ∙ or-else-first f (rowAt rows i .at) (firstAlternativeFault ps (map (alternativeIn bytes) (rowsFrom rows (i + 1)))) (sym k ∙ y))
+
+    pub facing-next : t ≡ false → Facing n ps bytes rows (i + 1)
+    facing-next y =
+        record { within = g .within; left = split-left ∙ or-else-rest f (rowAt rows i .at) (firstAlternativeFault ps (map (alternativeIn bytes) (rowsFrom rows (i + 1)))) (sym k ∙ y) }
+
+  pub facing-ends : rows .count ≤ i → record { fault = Fault.Nothing; position = 0 } ≡ firstAlternativeFault ps (alternativesIn bytes rows)
+  unfolding firstAlternativeFault
+  facing-ends h = sym (g .left ∙ ap (λ (l : List Row). firstAlternativeFault ps (map (alternativeIn bytes) l)) (from-end (g .within) i h))
+
+-- ---- the loop of `rows_say`
+
+pub record Saying (n : ℕ) (says : Alternative → Bool) (bytes : List ℕ) (rows : Rows) (i : ℕ) (met : Bool) : Type 0 where
+  pub within : RowsWithin n rows
+  pub left : rowsSay says bytes rows ≡ keptSays says met (map (keptIn bytes) (rowsFrom rows i))
+
+pub saying-starts : {n : ℕ} {says : Alternative → Bool} {bytes : List ℕ} {rows : Rows} → RowsWithin n rows → Saying n says bytes rows 0 false
+unfolding rowsSay
+saying-starts w = record { within = w; left = refl }
+
+module _ {n : ℕ} {says : Alternative → Bool} {bytes : List ℕ} {rows : Rows} {i : ℕ} {met : Bool} (g : Saying n says bytes rows i met) where
+  pub saying-row : i < rows .count → RowWithin n (rowAt rows i)
+  saying-row h = row-within (g .within) i h
+
+  pub saying-few : i < rows .count → i < 32
+  saying-few h = row-few (g .within) i h
+
+  module _ (h : i < rows .count) (b : Bool) (e : b ≡ (met || says (alternativeIn bytes (rowAt rows i)))) where
+    abbrev later : Bool → Bool
+    later m = keptSays says m (map (keptIn bytes) (rowsFrom rows (i + 1)))
+
+    saying-split : rowsSay says bytes rows ≡ cond (rowAt rows i .last) (b && later false) (later b)
+    unfolding keptSays keptIn
+    saying-split =
+        g .left ∙ ap (λ (l : List Row). keptSays says met (map (keptIn bytes) l)) (from-next (g .within) i h)
+        ∙ ap (λ (x : Bool). cond (rowAt rows i .last) (x && later false) (later x)) (sym e)
+
+    by-last : (last : Bool) → (last && not b) ≡ false → cond last (b && later false) (later b) ≡ later (not last && b)
+    by-last true u = go b u
+      where
+        go : (c : Bool) → (true && not c) ≡ false → (c && later false) ≡ later (not true && c)
+        go true u = refl
+        go false u = let z : true ≡ false = u in cc
+    by-last false u = refl
+
+    pub saying-fails : (u : Bool) → u ≡ (rowAt rows i .last && not b) → u ≡ true → false ≡ rowsSay says bytes rows
+    saying-fails u k y = sym (saying-split ∙ fails (rowAt rows i .last) b (later false) (later b) (sym k ∙ y))
+      where
+        fails : (last c x y : Bool) → (last && not c) ≡ true → cond last (c && x) y ≡ false
+        fails true false x y h = refl
+        fails true true x y h = let z : false ≡ true = h in cc
+        fails false c x y h = let z : false ≡ true = h in cc
+
+    pub saying-next : (u v : Bool) → u ≡ (rowAt rows i .last && not b) → u ≡ false → v ≡ (not (rowAt rows i .last) && b) → Saying n says bytes rows (i + 1) v
+    saying-next u v k y c = record { within = g .within; left = saying-split ∙ by-last (rowAt rows i .last) (sym k ∙ y) ∙ ap later (sym c) }
+
+  pub saying-ends : rows .count ≤ i → true ≡ rowsSay says bytes rows
+  unfolding keptSays
+  saying-ends h = sym (g .left ∙ ap (λ (l : List Row). keptSays says met (map (keptIn bytes) l)) (from-end (g .within) i h))
+
+pub unmet-last : (last said : Bool) → last ≡ true → not said ≡ (last && not said)
+unmet-last last said h = rw h
+
+pub unmet-on : (last said : Bool) → last ≡ false → false ≡ (last && not said)
+unmet-on last said h = rw h
+
+pub carried-last : (last said : Bool) → last ≡ true → false ≡ (not last && said)
+carried-last last said h = rw h
+
+pub carried-on : (last said : Bool) → last ≡ false → said ≡ (not last && said)
+carried-on last said h = rw h

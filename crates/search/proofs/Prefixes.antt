@@ -1,0 +1,160 @@
+-- What a text asks, from the operator that is read at its beginning.
+-- Assumes nothing.
+use Prim.Native.Nat.{ℕ, zero, suc, _+_, _≤_, _<_}
+use native.Mathlib.Omega.{arith}
+use mathlib.Core.Path.{_≡_, refl, ap, sym, _∙_, subst}
+use mathlib.Core.Bool.{Bool, true, false, cond}
+use mathlib.Core.Logic.{⊎-elim}
+use mathlib.Core.List.{List, _++_}
+use lib.Dec.{eqb, ltb}
+use lib.ListN.{length, drop, length-append}
+use lib.Seq.{drop-append-add}
+use borrow.Author.Tests.{eq-eqb, ne-eqb, le-ltb}
+use Rattle.base.specs.Lists.{member, All, all-empty, all-cons}
+use Rattle.base.specs.Affixes.{hasPrefix}
+use Rattle.base.specs.Operators.{operatorWords, eq, ne, gt, lt, ge, le, sa, eb, sw, re}
+use Rattle.base.proofs.Tests.{decided, both-ways}
+use Rattle.base.specs.Kinds.{string, number, date, token}
+use Rattle.syntax.specs.Scan.{operatorAt}
+use Rattle.syntax.specs.declared.FoundOperator.{FoundOperator}
+use Rattle.syntax.proofs.Operators.{operator-derives, operator-found}
+use Rattle.search.specs.Asking.{takesPrefix, prefixes, wordOf, Asked, prefixed, askedOf, PrefixOf}
+use Rattle.search.specs.declared.Prefixed.{Prefixed}
+use Rattle.search.proofs.Asking.{asks-for, at-one, prefixed-word, no-prefix, prefix-splits, two-bytes}
+
+-- ---- kinds
+
+module _ (kind : ℕ) where
+  pub takes-number : kind ≡ 2 → true ≡ takesPrefix kind
+  unfolding takesPrefix
+  takes-number e = rw e
+
+  pub takes-date : kind ≡ 3 → true ≡ takesPrefix kind
+  unfolding takesPrefix
+  takes-date e = rw e
+
+  pub takes-period : (t : Bool) → t ≡ eqb kind 6 → (kind ≡ 2 → ⊥) → (kind ≡ 3 → ⊥) → t ≡ takesPrefix kind
+  unfolding takesPrefix
+  takes-period t e n m = e ∙ rw (ne-eqb kind number n, ne-eqb kind date m)
+
+-- ---- prefixes
+
+pub prefix-first : (k : ℕ) → k < 2 → true ≡ member k prefixes
+unfolding member
+prefix-first zero h = refl
+prefix-first (suc zero) h = refl
+prefix-first (suc (suc k)) h = absurd (omega arith)
+
+pub prefix-gap : (k : ℕ) → 2 ≤ k → k < 5 → false ≡ member k prefixes
+unfolding member
+prefix-gap zero l h = absurd (omega arith)
+prefix-gap (suc zero) l h = absurd (omega arith)
+prefix-gap (suc (suc zero)) l h = refl
+prefix-gap (suc (suc (suc zero))) l h = refl
+prefix-gap (suc (suc (suc (suc zero)))) l h = refl
+prefix-gap (suc (suc (suc (suc (suc k))))) l h = absurd (omega arith)
+
+pub prefix-middle : (k : ℕ) → 5 ≤ k → k < 9 → true ≡ member k prefixes
+unfolding member
+prefix-middle zero l h = absurd (omega arith)
+prefix-middle (suc zero) l h = absurd (omega arith)
+prefix-middle (suc (suc zero)) l h = absurd (omega arith)
+prefix-middle (suc (suc (suc zero))) l h = absurd (omega arith)
+prefix-middle (suc (suc (suc (suc zero)))) l h = absurd (omega arith)
+prefix-middle (suc (suc (suc (suc (suc zero))))) l h = refl
+prefix-middle (suc (suc (suc (suc (suc (suc zero)))))) l h = refl
+prefix-middle (suc (suc (suc (suc (suc (suc (suc zero))))))) l h = refl
+prefix-middle (suc (suc (suc (suc (suc (suc (suc (suc zero)))))))) l h = refl
+prefix-middle (suc (suc (suc (suc (suc (suc (suc (suc (suc k))))))))) l h = absurd (omega arith)
+
+pub prefix-nine : (k : ℕ) → 9 ≤ k → k < 10 → false ≡ member k prefixes
+unfolding member
+prefix-nine zero l h = absurd (omega arith)
+prefix-nine (suc zero) l h = absurd (omega arith)
+prefix-nine (suc (suc zero)) l h = absurd (omega arith)
+prefix-nine (suc (suc (suc zero))) l h = absurd (omega arith)
+prefix-nine (suc (suc (suc (suc zero)))) l h = absurd (omega arith)
+prefix-nine (suc (suc (suc (suc (suc zero))))) l h = absurd (omega arith)
+prefix-nine (suc (suc (suc (suc (suc (suc zero)))))) l h = absurd (omega arith)
+prefix-nine (suc (suc (suc (suc (suc (suc (suc zero))))))) l h = absurd (omega arith)
+prefix-nine (suc (suc (suc (suc (suc (suc (suc (suc zero)))))))) l h = absurd (omega arith)
+prefix-nine (suc (suc (suc (suc (suc (suc (suc (suc (suc zero))))))))) l h = refl
+prefix-nine (suc (suc (suc (suc (suc (suc (suc (suc (suc (suc k)))))))))) l h = absurd (omega arith)
+
+pub prefix-last : (r : Bool) (k : ℕ) → r ≡ ltb k 12 → 10 ≤ k → r ≡ member k prefixes
+unfolding member
+prefix-last r zero e h = absurd (omega arith)
+prefix-last r (suc zero) e h = absurd (omega arith)
+prefix-last r (suc (suc zero)) e h = absurd (omega arith)
+prefix-last r (suc (suc (suc zero))) e h = absurd (omega arith)
+prefix-last r (suc (suc (suc (suc zero)))) e h = absurd (omega arith)
+prefix-last r (suc (suc (suc (suc (suc zero))))) e h = absurd (omega arith)
+prefix-last r (suc (suc (suc (suc (suc (suc zero)))))) e h = absurd (omega arith)
+prefix-last r (suc (suc (suc (suc (suc (suc (suc zero))))))) e h = absurd (omega arith)
+prefix-last r (suc (suc (suc (suc (suc (suc (suc (suc zero)))))))) e h = absurd (omega arith)
+prefix-last r (suc (suc (suc (suc (suc (suc (suc (suc (suc zero))))))))) e h = absurd (omega arith)
+prefix-last r (suc (suc (suc (suc (suc (suc (suc (suc (suc (suc zero)))))))))) e h = e
+prefix-last r (suc (suc (suc (suc (suc (suc (suc (suc (suc (suc (suc zero))))))))))) e h = e
+prefix-last r (suc (suc (suc (suc (suc (suc (suc (suc (suc (suc (suc (suc k)))))))))))) e h =
+    let n : ℕ = suc (suc (suc (suc (suc (suc (suc (suc (suc (suc (suc (suc k))))))))))) in
+    e ∙ rw (le-ltb n 12 (omega arith), ne-eqb n eq (λ z. omega arith), ne-eqb n ne (λ z. omega arith), ne-eqb n gt (λ z. omega arith), ne-eqb n lt (λ z. omega arith), ne-eqb n ge (λ z. omega arith), ne-eqb n le (λ z. omega arith), ne-eqb n sa (λ z. omega arith), ne-eqb n eb (λ z. omega arith))
+
+in-words : All (λ (k : ℕ). k < length operatorWords) prefixes
+unfolding operatorWords
+in-words = all-cons {x = eq} (omega arith) (all-cons {x = ne} (omega arith) (all-cons {x = gt} (omega arith) (all-cons {x = lt} (omega arith) (all-cons {x = ge} (omega arith) (all-cons {x = le} (omega arith) (all-cons {x = sa} (omega arith) (all-cons {x = eb} (omega arith) all-empty)))))))
+
+abbrev with-prefix : ℕ → ℕ → Prefixed
+with-prefix k n = record { operator = k; skip = n }
+
+module _ (text : List ℕ) where
+  as-asked : (o n : ℕ) (v : List ℕ) (asked : Asked) → asked ≡ asks-for o v → drop n text ≡ v → n ≤ length text → PrefixOf asked text (with-prefix o n)
+  as-asked o n v asked e d h = record { operator = sym (ap (λ (a : Asked). a .operator) e); value = d ∙ sym (ap (λ (a : Asked). a .value) e); within = h }
+
+  pub prefix-is : (f : FoundOperator) (t : Bool) (k : ℕ) → f ≡ operatorAt text 0 → f ≡ FoundOperator.Is k → t ≡ member k prefixes → t ≡ true → PrefixOf (prefixed prefixes text) text (with-prefix k 2)
+  prefix-is f t k e h m u =
+      let o = operator-derives text 0 k (sym e ∙ h) in
+      let is : text ≡ wordOf k ++ o .stands .0 = o .stands .1 in
+      let two : length (wordOf k) ≡ 2 = at-one (λ (j : ℕ). length (wordOf j) ≡ 2) prefixes k two-bytes (sym m ∙ u) in
+      let rest : drop 2 text ≡ o .stands .0 =
+      ap (drop 2) is ∙ ap (λ (n : ℕ). drop n (wordOf k ++ o .stands .0)) (sym two ∙ plus-zero (length (wordOf k))) ∙ drop-append-add (wordOf k) (o .stands .0) 0
+      in
+      as-asked k 2 (o .stands .0) (prefixed prefixes text) (ap (prefixed prefixes) is ∙ prefixed-word k (o .stands .0) (sym m ∙ u)) rest
+      (omega (arith, ap length is, length-append (wordOf k) (o .stands .0), two))
+    where
+      plus-zero : (n : ℕ) → n ≡ n + 0
+      plus-zero n = omega arith
+
+  -- no prefix stands at the beginning, where the operator read there is none
+  without : ((k : ℕ) → member k prefixes ≡ true → operatorAt text 0 ≡ FoundOperator.Is k → ⊥) → PrefixOf (prefixed prefixes text) text (with-prefix 0 0)
+  without n = as-asked eq 0 text (prefixed prefixes text) (no-prefix prefixes text never) refl (omega arith)
+    where
+      found-there : (k : ℕ) → member k prefixes ≡ true → hasPrefix text (wordOf k) ≡ true → ⊥
+      found-there k m h =
+          n k m (operator-found (record { one-of = at-one (λ (j : ℕ). j < length operatorWords) prefixes k in-words m; stands = (drop (length (wordOf k)) text, prefix-splits text (wordOf k) h) }))
+
+      never : (k : ℕ) → member k prefixes ≡ true → hasPrefix text (wordOf k) ≡ false
+      never k m = ⊎-elim (λ h. absurd (found-there k m h)) (λ h. h) (decided (hasPrefix text (wordOf k)))
+
+  pub other-operator : (f : FoundOperator) (t : Bool) (k : ℕ) → f ≡ operatorAt text 0 → f ≡ FoundOperator.Is k → t ≡ member k prefixes → t ≡ false → PrefixOf (prefixed prefixes text) text (with-prefix 0 0)
+  other-operator f t k e h m u =
+      without (λ j x y. let same : FoundOperator.Is k ≡ FoundOperator.Is j = sym h ∙ e ∙ y in let z : k ≡ j = cc in both-ways (ap (λ (i : ℕ). member i prefixes) z ∙ x) (sym m ∙ u))
+
+  pub no-operator : (f : FoundOperator) → f ≡ operatorAt text 0 → f ≡ FoundOperator.Nothing → PrefixOf (prefixed prefixes text) text (with-prefix 0 0)
+  no-operator f e h = without (λ j x y. let same : FoundOperator.Nothing ≡ FoundOperator.Is j = sym h ∙ e ∙ y in let z : _≡_ {A = ℕ} 0 1 = cc in omega arith)
+
+  module _ (kind : ℕ) (t : Bool) (e : t ≡ takesPrefix kind) where
+    pub asked-by-prefix : (q : Prefixed) → PrefixOf (prefixed prefixes text) text q → t ≡ true → PrefixOf (askedOf kind text) text q
+    unfolding askedOf
+    asked-by-prefix q h u = subst (λ (a : Asked). PrefixOf a text q) (sym (ap (λ (x : Bool). cond x (prefixed prefixes text) (cond (eqb kind string) (asks-for sw text) (cond (eqb kind token) (asks-for eq text) (asks-for re text)))) (sym e ∙ u))) h
+
+    pub asked-of-string : t ≡ false → kind ≡ 1 → PrefixOf (askedOf kind text) text (with-prefix 3 0)
+    unfolding askedOf
+    asked-of-string u k = as-asked sw 0 text (askedOf kind text) (rw (sym e ∙ u, eq-eqb kind string k)) refl (omega arith)
+
+    pub asked-of-token : t ≡ false → (kind ≡ 1 → ⊥) → kind ≡ 4 → PrefixOf (askedOf kind text) text (with-prefix 0 0)
+    unfolding askedOf
+    asked-of-token u n k = as-asked eq 0 text (askedOf kind text) (rw (sym e ∙ u, ne-eqb kind string n, eq-eqb kind token k)) refl (omega arith)
+
+    pub asked-of-other : t ≡ false → (kind ≡ 1 → ⊥) → (kind ≡ 4 → ⊥) → PrefixOf (askedOf kind text) text (with-prefix 18 0)
+    unfolding askedOf
+    asked-of-other u n m = as-asked re 0 text (askedOf kind text) (rw (sym e ∙ u, ne-eqb kind string n, ne-eqb kind token m)) refl (omega arith)

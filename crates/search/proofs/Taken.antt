@@ -1,0 +1,79 @@
+-- What a search string that was taken leaves: rows that keep its query; and why one was not taken.
+-- Assumes nothing.
+use Prim.Native.Nat.{ℕ}
+use native.Mathlib.Omega.{arith}
+use mathlib.Core.Path.{_≡_, refl, ap, _∙_}
+use mathlib.Core.Bool.{false}
+use mathlib.Core.List.{List, [], _∷_, _++_, map, flatten}
+use lib.ListN.{take}
+use Rattle.base.proofs.All.{all-map}
+use Rattle.refusal.specs.Steps.{stop}
+use Rattle.search.specs.Spelling.{Alternative, Query, alternativesOf}
+use Rattle.search.specs.Reader.{takeQuery}
+use Rattle.search.specs.Rows.{Kept, keepPair, keepAll, keptIn, keptSays, RowWithin, alternativeIn, alternativesIn, rowsSay, TakenOf, taken-query, taken-size, taken-bad, taken-many, RowsOf}
+use Rattle.search.specs.declared.QueryTaken.{QueryTaken}
+use Rattle.search.specs.declared.Row.{Row}
+use Rattle.search.specs.declared.TextOutcome.{TextOutcome}
+use Rattle.search.proofs.Keeping.{kept-says, map-append}
+use Rattle.search.proofs.Reading.{query-there}
+use Rattle.search.proofs.Taking.{keep-length}
+
+abbrev alternativeOf : Kept → Alternative
+alternativeOf k = k .alternative
+
+-- the alternatives that are kept
+pair-alternatives : (p : List Alternative) → map alternativeOf (keepPair p) ≡ p
+unfolding keepPair
+pair-alternatives [] = refl
+pair-alternatives (a ∷ []) = refl
+pair-alternatives (a ∷ b ∷ rest) = ap (λ (l : List Alternative). a ∷ l) (pair-alternatives (b ∷ rest))
+
+all-alternatives : (q : Query) → map alternativeOf (keepAll q) ≡ alternativesOf q
+unfolding keepAll flatten
+all-alternatives [] = refl
+all-alternatives (p ∷ q) =
+    map-append alternativeOf (keepPair p) (keepAll q) ∙ ap (λ (l : List Alternative). l ++ map alternativeOf (keepAll q)) (pair-alternatives p)
+    ∙ ap (λ (l : List Alternative). p ++ l) (all-alternatives q)
+
+kept-alternatives : (bytes : List ℕ) (rs : List Row) → map (alternativeIn bytes) rs ≡ map alternativeOf (map (keptIn bytes) rs)
+kept-alternatives bytes [] = refl
+kept-alternatives bytes (r ∷ rs) = ap (λ (l : List Alternative). alternativeIn bytes r ∷ l) (kept-alternatives bytes rs)
+
+module _ {text bytes : List ℕ} where
+  pub taken-rows : {r : QueryTaken} → TakenOf text bytes r → r .outcome ≡ TextOutcome.Taken → (q : Query) × RowsOf text bytes (r .rows) q
+  unfolding alternativesIn rowsSay
+  taken-rows (taken-query {q = q} {rows = rows} used u e few k) o = (
+    q,
+    record {
+      taken = e;
+      within = record {
+        few = few;
+        cells = k .cells;
+        within = all-map (λ (r : Row) (w : RowWithin used r). record { name = w .name; until = omega (arith, w .until); text = w .text; end = omega (arith, w .end) }) (k .ends few);
+      };
+      alternatives = kept-alternatives bytes (take (rows .count) (rows .rows)) ∙ ap (map alternativeOf) (k .kept few) ∙ all-alternatives q;
+      count = k .count ∙ keep-length q;
+      says = λ says. ap (keptSays says false) (k .kept few) ∙ kept-says says (query-there text q e .pairs);
+    },
+  )
+  taken-rows (taken-size e) o = absurd (let z : _≡_ {A = ℕ} 0 1 = cc in omega arith)
+  taken-rows (taken-bad e) o = absurd (let z : _≡_ {A = ℕ} 0 1 = cc in omega arith)
+  taken-rows (taken-many e) o = absurd (let z : _≡_ {A = ℕ} 0 1 = cc in omega arith)
+
+  pub taken-by-size : {r : QueryTaken} → TakenOf text bytes r → r .outcome ≡ TextOutcome.Size → takeQuery text ≡ stop 10 0
+  taken-by-size (taken-size e) o = e
+  taken-by-size (taken-query used u e few k) o = absurd (let z : _≡_ {A = ℕ} 0 1 = cc in omega arith)
+  taken-by-size (taken-bad e) o = absurd (let z : _≡_ {A = ℕ} 0 1 = cc in omega arith)
+  taken-by-size (taken-many e) o = absurd (let z : _≡_ {A = ℕ} 0 1 = cc in omega arith)
+
+  pub taken-by-pair : {r : QueryTaken} (p : ℕ) → TakenOf text bytes r → r .outcome ≡ TextOutcome.Bad p → takeQuery text ≡ stop 50 p
+  taken-by-pair p (taken-bad {at = q} e) o = let z : q ≡ p = cc in e ∙ ap (λ (i : ℕ). stop 50 i) z
+  taken-by-pair p (taken-size e) o = absurd (let z : _≡_ {A = ℕ} 0 1 = cc in omega arith)
+  taken-by-pair p (taken-query used u e few k) o = absurd (let z : _≡_ {A = ℕ} 0 1 = cc in omega arith)
+  taken-by-pair p (taken-many e) o = absurd (let z : _≡_ {A = ℕ} 0 1 = cc in omega arith)
+
+  pub taken-by-count : {r : QueryTaken} → TakenOf text bytes r → r .outcome ≡ TextOutcome.Many → takeQuery text ≡ stop 51 0
+  taken-by-count (taken-many e) o = e
+  taken-by-count (taken-size e) o = absurd (let z : _≡_ {A = ℕ} 0 1 = cc in omega arith)
+  taken-by-count (taken-query used u e few k) o = absurd (let z : _≡_ {A = ℕ} 0 1 = cc in omega arith)
+  taken-by-count (taken-bad e) o = absurd (let z : _≡_ {A = ℕ} 0 1 = cc in omega arith)

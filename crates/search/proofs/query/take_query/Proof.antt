@@ -1,0 +1,62 @@
+-- `search::query::take_query` meets its contract: the tests are those of the definition. Assumes nothing.
+use borrow.Author.Needs.{needs}
+use Rattle.search.proofs.Taking.{take-empty, take-long, take-bad, take-many, take-all}
+use Rattle.search.proofs.query.take_query.Statement.{statement}
+use Rattle.search.proofs.query.take_query.Tie as tie
+
+no-rows-requires : tie.Need-no-rows-requires
+no-rows-requires c κs = search needs
+
+returns : tie.Need-returns
+returns c = search (take-empty, needs)
+
+no-rows-requires-2 : tie.Need-no-rows-requires-2
+no-rows-requires-2 c κs = search needs
+
+returns-2 : tie.Need-returns-2
+returns-2 c = search (take-long, needs)
+
+read-query-requires : tie.Need-read-query-requires
+read-query-requires c κs = search needs
+
+enum-known-outcome : tie.Need-enum-known-outcome
+enum-known-outcome c = search needs
+
+same-length : tie.Need-same-length
+same-length c = search needs
+
+returns-3 : tie.Need-returns-3
+returns-3 c = search (take-bad, needs)
+
+enum-told : tie.Need-enum-told
+enum-told c = search needs
+
+same-length-2 : tie.Need-same-length-2
+same-length-2 c = search needs
+
+returns-4 : tie.Need-returns-4
+returns-4 c = search (take-many, needs)
+
+same-length-3 : tie.Need-same-length-3
+same-length-3 c = search needs
+
+returns-5 : tie.Need-returns-5
+returns-5 c = search (take-all, needs)
+
+pub take-query-spec : {M : Type 1} → statement M
+take-query-spec =
+    tie.close
+    (tie.spec
+    no-rows-requires
+    returns
+    no-rows-requires-2
+    returns-2
+    read-query-requires
+    enum-known-outcome
+    same-length
+    returns-3
+    enum-told
+    same-length-2
+    returns-4
+    same-length-3
+    returns-5)

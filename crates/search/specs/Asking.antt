@@ -1,0 +1,57 @@
+-- What an alternative's text asks under a kind: an operator and a value.
+-- Assumes nothing.
+use Prim.Native.Nat.{ℕ, _≤_}
+use mathlib.Core.Path.{_≡_}
+use mathlib.Core.Bool.{Bool, true, false, cond, _||_}
+use mathlib.Core.List.{List, [], _∷_, _++_}
+use lib.Dec.{eqb}
+use lib.ListN.{length, getD, drop}
+use Rattle.base.specs.Lists.{member}
+use Rattle.base.specs.Affixes.{hasPrefix}
+use Rattle.base.specs.Kinds.{string, number, date, token, reference, period}
+use Rattle.base.specs.Operators.{operatorWords, eq, ne, gt, lt, ge, le, sa, eb, sw, re}
+use Rattle.search.specs.declared.Prefixed.{Prefixed}
+
+-- "numbers, dates and periods take a prefix"
+unfoldable pub takesPrefix : ℕ → Bool
+takesPrefix kind = eqb kind number || (eqb kind date || eqb kind period)
+
+-- "of eq, ne, gt, lt, ge, le, sa, eb"
+abbrev pub prefixes : List ℕ
+prefixes = eq ∷ ne ∷ gt ∷ lt ∷ ge ∷ le ∷ sa ∷ eb ∷ []
+
+-- an operator's word
+abbrev pub wordOf : ℕ → List ℕ
+wordOf k = getD operatorWords k []
+
+-- the text asks for the operator with the value
+pub data AskedBy (kind : ℕ) : List ℕ → ℕ → List ℕ → Type 0 where
+  asked-prefix : {k : ℕ} {v : List ℕ} → takesPrefix kind ≡ true → member k prefixes ≡ true → AskedBy kind (wordOf k ++ v) k v
+  -- "none meaning eq"
+  asked-eq : {v : List ℕ} → takesPrefix kind ≡ true → ((k : ℕ) → member k prefixes ≡ true → hasPrefix v (wordOf k) ≡ false) → AskedBy kind v eq v
+  -- "a string asks for a start, a token for 01's four forms .., a reference for sameness"
+  asked-start : {v : List ℕ} → kind ≡ string → AskedBy kind v sw v
+  asked-token : {v : List ℕ} → kind ≡ token → AskedBy kind v eq v
+  asked-reference : {v : List ℕ} → kind ≡ reference → AskedBy kind v re v
+
+-- ---- as it is computed
+
+pub record Asked : Type 0 where
+  pub operator : ℕ
+  pub value : List ℕ
+
+-- the first of the words that the text begins with
+unfoldable pub prefixed : List ℕ → List ℕ → Asked
+prefixed [] t = record { operator = eq; value = t }
+prefixed (k ∷ ks) t = cond (hasPrefix t (wordOf k)) (record { operator = k; value = drop 2 t }) (prefixed ks t)
+
+unfoldable pub askedOf : ℕ → List ℕ → Asked
+askedOf kind t =
+    cond (takesPrefix kind) (prefixed prefixes t)
+    (cond (eqb kind string) (record { operator = sw; value = t }) (cond (eqb kind token) (record { operator = eq; value = t }) (record { operator = re; value = t })))
+
+-- what `asked_of` answers: the operator, and how many bytes stand before the value
+pub record PrefixOf (asked : Asked) (text : List ℕ) (r : Prefixed) : Type 0 where
+  pub operator : r .operator ≡ asked .operator
+  pub value : drop (r .skip) text ≡ asked .value
+  pub within : r .skip ≤ length text

@@ -1,0 +1,172 @@
+// A query as it is kept: a row for each alternative, up to 32, over one buffer of decoded bytes.
+use crate::Held;
+use crate::PairRead;
+use crate::QueryOutcome;
+use crate::QueryRead;
+use crate::QueryTaken;
+use crate::Row;
+use crate::Rows;
+use crate::TextOutcome;
+use crate::pair::read_pair;
+use crate::pieces::next_alternative;
+ghost use mathlib.Core.Path.{_≡_};
+ghost use Prim.Native.Nat.{_+_, _≤_, _<_};
+ghost use lib.ListN.{length};
+ghost use Rattle.search.specs.Rows.{pushed, PairHeld, QueryOf, TakenOf};
+
+// The rows with one more; beyond 32 they are only counted.
+fn push(q: Rows, row: Row) -> Rows
+    requires { ⌜ q .count < 4096 ⌝ }
+    ensures { λ r. ⌜ r ≡ pushed q row ⌝ }
+{
+    let k = q.count;
+    let mut next = q;
+    next.count = k + 1;
+    if k < 32 {
+        next.rows[k] = row;
+        return next;
+    }
+    next
+}
+
+// Keeps the alternatives of a decoded value, with the name that stands in the buffer from `name` up to `until`; their texts
+// are written from `start` on.
+pub fn keep_pair(
+    value: &[u8],
+    at: usize,
+    name: usize,
+    until: usize,
+    start: usize,
+    bytes: &mut [u8],
+    entry: Rows,
+) -> Held
+    requires { ⌜ length (now value) + start ≤ length (now bytes) ⌝ }
+    requires { ⌜ name ≤ until ⌝ }
+    requires { ⌜ until ≤ start ⌝ }
+    requires { ⌜ entry .count + length (now value) < 4000 ⌝ }
+    ensures { λ r. ⌜ PairHeld (now (value .entry)) at name until start (now (bytes .entry)) entry (now (bytes .exit)) r ⌝ }
+{
+    let mut rows = entry;
+    let mut used = start;
+    let mut from = 0;
+    let mut more = true;
+    while more {
+        let piece = next_alternative(value, from, &mut bytes[used..]);
+        let end = used + piece.len;
+        rows = push(
+            rows,
+            Row {
+                at,
+                name,
+                until,
+                text: used,
+                end,
+                split: piece.split,
+                last: !piece.more,
+            },
+        );
+        used = end;
+        from = piece.next;
+        more = piece.more;
+    }
+    Held { rows, used }
+}
+
+// Reads the pairs of a search string: a row for each alternative, over the bytes that are written into the buffer; or where
+// the first pair begins that is none.
+pub fn read_query(text: &[u8], bytes: &mut [u8]) -> QueryRead
+    requires { ⌜ length (now text) ≤ 1024 ⌝ }
+    requires { ⌜ length (now text) ≤ length (now bytes) ⌝ }
+    ensures { λ r. ⌜ QueryOf (now (text .entry)) (now (bytes .exit)) r ⌝ }
+{
+    let mut rows = Rows {
+        count: 0,
+        rows: [Row {
+            at: 0,
+            name: 0,
+            until: 0,
+            text: 0,
+            end: 0,
+            split: 0,
+            last: false,
+        }; 32],
+    };
+    let mut used = 0;
+    let mut at = 0;
+    let mut more = true;
+    let mut value = [0u8; 1024];
+    while more {
+        let end = base::place_of(text, at, b'&');
+        let read = read_pair(&text[at..end], &mut bytes[used..], &mut value);
+        let PairRead::Lengths(name_len, value_len) = read else {
+            return QueryRead {
+                rows,
+                outcome: QueryOutcome::Bad(at),
+            };
+        };
+        let until = used + name_len;
+        let held = keep_pair(&value[..value_len], at, used, until, until, bytes, rows);
+        rows = held.rows;
+        used = held.used;
+        more = end < text.len();
+        at = end + 1;
+    }
+    QueryRead {
+        rows,
+        outcome: QueryOutcome::Read,
+    }
+}
+
+// Rows that keep nothing.
+pub fn no_rows() -> Rows {
+    Rows {
+        count: 0,
+        rows: [Row {
+            at: 0,
+            name: 0,
+            until: 0,
+            text: 0,
+            end: 0,
+            split: 0,
+            last: false,
+        }; 32],
+    }
+}
+
+// Reads a search string: 10, 50 and 51 in this order, or its alternatives.
+pub fn take_query(text: &[u8], bytes: &mut [u8]) -> QueryTaken
+    requires { ⌜ 1024 ≤ length (now bytes) ⌝ }
+    ensures { λ r. ⌜ TakenOf (now (text .entry)) (now (bytes .exit)) r ⌝ }
+{
+    if text.len() == 0 {
+        return QueryTaken {
+            rows: no_rows(),
+            outcome: TextOutcome::Size,
+        };
+    }
+    if text.len() > 1024 {
+        return QueryTaken {
+            rows: no_rows(),
+            outcome: TextOutcome::Size,
+        };
+    }
+    let read = read_query(text, bytes);
+    let rows = read.rows;
+    let outcome = read.outcome;
+    if let QueryOutcome::Bad(at) = outcome {
+        return QueryTaken {
+            rows,
+            outcome: TextOutcome::Bad(at),
+        };
+    }
+    if rows.count > 32 {
+        return QueryTaken {
+            rows,
+            outcome: TextOutcome::Many,
+        };
+    }
+    QueryTaken {
+        rows,
+        outcome: TextOutcome::Taken,
+    }
+}

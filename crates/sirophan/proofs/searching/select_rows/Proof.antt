@@ -1,0 +1,74 @@
+-- `sirophan::searching::select_rows` meets its contract, by the laws of any question. Assumes nothing.
+use borrow.Author.Needs.{needs}
+use Rattle.sirophan.proofs.Selecting.{found-parted, found-over, gathered-room, select-card-refused, select-short, select-writes}
+use Rattle.sirophan.proofs.searching.select_rows.Statement.{statement}
+use Rattle.sirophan.proofs.searching.select_rows.Tie as tie
+
+returns : tie.Need-returns
+returns c = search (found-parted, needs)
+
+returns-2 : tie.Need-returns-2
+returns-2 c = search (found-over, needs)
+
+kinds-requires : tie.Need-kinds-requires
+kinds-requires c κs = search needs
+
+slice-aggregate-gather-rows : tie.Need-slice-aggregate-gather-rows
+slice-aggregate-gather-rows c = search needs
+
+slice-aggregate-gather-rows-2 : tie.Need-slice-aggregate-gather-rows-2
+slice-aggregate-gather-rows-2 c = search needs
+
+gather-rows-requires : tie.Need-gather-rows-requires
+gather-rows-requires c κs = (search needs, (search needs, (search needs, (search needs, search needs))))
+
+enum-known-gathered : tie.Need-enum-known-gathered
+enum-known-gathered c = search needs
+
+returns-3 : tie.Need-returns-3
+returns-3 c = search (select-short, needs)
+
+sub-write : tie.Need-sub-write
+sub-write c = search needs
+
+part-write-start : tie.Need-part-write-start
+part-write-start c = search needs
+
+part-write-end : tie.Need-part-write-end
+part-write-end c = search (gathered-room, needs)
+
+write-requires : tie.Need-write-requires
+write-requires c κs = search needs
+
+enum-known-gathered-2 : tie.Need-enum-known-gathered-2
+enum-known-gathered-2 c = search needs
+
+same-length : tie.Need-same-length
+same-length c = search needs
+
+returns-4 : tie.Need-returns-4
+returns-4 c = search (select-writes, needs)
+
+returns-5 : tie.Need-returns-5
+returns-5 c = search (select-card-refused, needs)
+
+pub select-rows-spec : {M : Type 1} → statement M
+select-rows-spec =
+    tie.close
+    (tie.spec
+    returns
+    returns-2
+    kinds-requires
+    slice-aggregate-gather-rows
+    slice-aggregate-gather-rows-2
+    gather-rows-requires
+    enum-known-gathered
+    returns-3
+    sub-write
+    part-write-start
+    part-write-end
+    write-requires
+    enum-known-gathered-2
+    same-length
+    returns-4
+    returns-5)

@@ -1,0 +1,249 @@
+// Check, match and select by a search string. Its alternatives are kept in rows over a buffer of decoded bytes, once for all cards.
+use crate::Checked;
+use crate::Matched;
+use crate::Selected;
+use crate::reading::outcome;
+use crate::reading::refuse;
+use crate::run::write;
+use crate::verdict::CardVerdict;
+use block::Reading;
+use filter::Summary;
+use judge::conforms;
+use refusal::Reason;
+use refusal::Refusal;
+use search::Rows;
+use search::TextOutcome;
+use search::faults::first_fault;
+use search::query::no_rows;
+use search::query::take_query;
+use search::says::rows_say;
+ghost use mathlib.Core.Path.{_≡_};
+ghost use Prim.Native.Nat.{ℕ, _%_, _/_, _≤_};
+ghost use lib.ListN.{length};
+ghost use Rattle.sheet.specs.Sheet.{parametersOf, readSheet};
+ghost use Rattle.sheet.specs.Find.{kindsOf};
+ghost use Rattle.search.specs.Rows.{RowsWithin};
+ghost use Rattle.refusal.specs.Steps.{found};
+ghost use Rattle.sirophan.specs.Answers.{checkedAnswer, matchedAnswer};
+ghost use Rattle.sirophan.specs.Passing.{cardVerdict, verdictStep};
+ghost use Rattle.sirophan.specs.Selecting.{Gathers, Selects};
+ghost use Rattle.sirophan.specs.Searching.{checkSearchAnswer, searchQuestion, matchSearchAnswer};
+ghost use Rattle.sirophan.specs.SearchPassing.{rowsAnswer, rowsQuestion, ReadsRows};
+
+// What check answers to a search string, and the rows of one that it passes.
+pub struct SearchRead {
+    pub checked: Checked,
+    pub rows: Rows,
+}
+
+// The first fault among the alternatives that rows keep, or their number.
+fn check_rows(sheet: &[u8], bytes: &[u8], rows: Rows) -> Checked
+    requires { ⌜ readSheet (now sheet) ≡ Reading.WellFormed ⌝ }
+    requires { ⌜ RowsWithin (length (now bytes)) rows ⌝ }
+    ensures { λ r. ⌜ checkedAnswer r ≡ rowsAnswer (parametersOf (now (sheet .entry))) (now (bytes .entry)) rows ⌝ }
+{
+    let first = first_fault(sheet, bytes, rows);
+    outcome(Summary {
+        tests: rows.count,
+        first,
+    })
+}
+
+// A search string on a well-formed sheet.
+fn read_text(sheet: &[u8], text: &[u8], bytes: &mut [u8]) -> SearchRead
+    requires { ⌜ readSheet (now sheet) ≡ Reading.WellFormed ⌝ }
+    requires { ⌜ 1024 ≤ length (now bytes) ⌝ }
+    ensures { λ r. ⌜ ReadsRows (now (sheet .entry)) (now (text .entry)) (now (bytes .exit)) r ⌝ }
+{
+    let taken = take_query(text, bytes);
+    let rows = taken.rows;
+    let outcome = taken.outcome;
+    match outcome {
+        TextOutcome::Taken => SearchRead {
+            checked: check_rows(sheet, bytes, rows),
+            rows,
+        },
+        TextOutcome::Size => SearchRead {
+            checked: refuse(Reason::FilterSize, 0),
+            rows,
+        },
+        TextOutcome::Bad(at) => SearchRead {
+            checked: refuse(Reason::NoPair, at),
+            rows,
+        },
+        TextOutcome::Many => SearchRead {
+            checked: refuse(Reason::ManyAlternatives, 0),
+            rows,
+        },
+    }
+}
+
+// Reads a sheet and a search string: what check answers, and the rows over the bytes that are written into the buffer.
+fn read_search(sheet: &[u8], text: &[u8], bytes: &mut [u8]) -> SearchRead
+    requires { ⌜ 1024 ≤ length (now bytes) ⌝ }
+    ensures { λ r. ⌜ ReadsRows (now (sheet .entry)) (now (text .entry)) (now (bytes .exit)) r ⌝ }
+{
+    let reading = sheet::read_sheet(sheet);
+    match reading {
+        Reading::WellFormed => read_text(sheet, text, bytes),
+        Reading::WrongSize => SearchRead {
+            checked: refuse(Reason::SheetSize, 0),
+            rows: no_rows(),
+        },
+        Reading::WrongSum => SearchRead {
+            checked: refuse(Reason::SheetSum, 0),
+            rows: no_rows(),
+        },
+        Reading::WrongLayout => SearchRead {
+            checked: refuse(Reason::SheetLayout, 0),
+            rows: no_rows(),
+        },
+    }
+}
+
+// How many alternatives a search string has, where each has a meaning on every card that fits the sheet; or why not, and where.
+pub fn check_search_bytes(sheet: &[u8], text: &[u8]) -> Checked
+    ensures { λ r. ⌜ checkedAnswer r ≡ checkSearchAnswer (now (sheet .entry)) (now (text .entry)) ⌝ }
+{
+    let mut bytes = [0u8; 1024];
+    let read = read_search(sheet, text, &mut bytes);
+    read.checked
+}
+
+// The verdict on a card, or why it is refused; `kinds` are those of the sheet.
+fn judge_rows(sheet: &[u8], kinds: &[u8], bytes: &[u8], rows: Rows, card: &[u8]) -> CardVerdict
+    requires { ⌜ readSheet (now sheet) ≡ Reading.WellFormed ⌝ }
+    requires { ⌜ now kinds ≡ kindsOf (parametersOf (now sheet)) ⌝ }
+    requires { ⌜ RowsWithin (length (now bytes)) rows ⌝ }
+    ensures { λ r. ⌜ ((i : ℕ) → verdictStep r i ≡ cardVerdict (rowsQuestion (parametersOf (now (sheet .entry))) (now (bytes .entry)) rows) i (now (card .entry))) ⌝ }
+{
+    let reading = card::read_card(card);
+    match reading {
+        Reading::WellFormed => {
+            if conforms(kinds, card) {
+                return CardVerdict::Says(rows_say(sheet, card, bytes, rows));
+            }
+            CardVerdict::Refused(Reason::CardMisfit)
+        }
+        Reading::WrongSize => CardVerdict::Refused(Reason::CardSize),
+        Reading::WrongSum => CardVerdict::Refused(Reason::CardSum),
+        Reading::WrongLayout => CardVerdict::Refused(Reason::CardLayout),
+    }
+}
+
+// Whether a card matches a search string on a sheet, or why there is no answer, and where.
+pub fn match_search_bytes(sheet: &[u8], text: &[u8], card: &[u8]) -> Matched
+    ensures { λ r. ⌜ matchedAnswer r ≡ matchSearchAnswer (now (sheet .entry)) (now (text .entry)) (now (card .entry)) ⌝ }
+{
+    let mut bytes = [0u8; 1024];
+    let read = read_search(sheet, text, &mut bytes);
+    let rows = read.rows;
+    let checked = read.checked;
+    match checked {
+        Checked::Refused(refusal) => Matched::Refused(refusal),
+        Checked::Tests(_) => {
+            let kinds = sheet::kinds(sheet);
+            let verdict = judge_rows(sheet, &kinds, &bytes, rows, card);
+            match verdict {
+                CardVerdict::Says(yes) => {
+                    if yes {
+                        return Matched::Yes;
+                    }
+                    Matched::No
+                }
+                CardVerdict::Refused(reason) => Matched::Refused(Refusal { reason, place: 0 }),
+            }
+        }
+    }
+}
+
+// Gathers the record numbers of the cards that match in the buffer, until a card is refused; `kinds` are those of the sheet.
+fn gather_rows(
+    sheet: &[u8],
+    kinds: &[u8],
+    bytes: &[u8],
+    rows: Rows,
+    cards: &[u8],
+    buffer: &mut [u32],
+) -> Selected
+    requires { ⌜ readSheet (now sheet) ≡ Reading.WellFormed ⌝ }
+    requires { ⌜ now kinds ≡ kindsOf (parametersOf (now sheet)) ⌝ }
+    requires { ⌜ RowsWithin (length (now bytes)) rows ⌝ }
+    requires { ⌜ length (now cards) % 512 ≡ 0 ⌝ }
+    requires { ⌜ length (now cards) / 512 ≤ length (now buffer) ⌝ }
+    ensures { λ r. ⌜ Gathers (rowsQuestion (parametersOf (now (sheet .entry))) (now (bytes .entry)) rows) (now (cards .entry)) r (now (buffer .exit)) ⌝ }
+{
+    let mut at = 0;
+    let mut count = 0;
+    while at < cards.len() {
+        let end = at + 512;
+        let card = &cards[at..end];
+        match judge_rows(sheet, kinds, bytes, rows, card) {
+            CardVerdict::Says(yes) => {
+                if yes {
+                    buffer[count] = card::record_number(card);
+                    count += 1;
+                }
+                at = end;
+            }
+            CardVerdict::Refused(reason) => {
+                return Selected::Refused(Refusal {
+                    reason,
+                    place: at / 512,
+                });
+            }
+        }
+    }
+    Selected::Count(count)
+}
+
+// Selects from the cards by the rows of a search string that check has passed.
+fn select_rows(sheet: &[u8], bytes: &[u8], rows: Rows, cards: &[u8], list: &mut [u32]) -> Selected
+    requires { ⌜ readSheet (now sheet) ≡ Reading.WellFormed ⌝ }
+    requires { ⌜ RowsWithin (length (now bytes)) rows ⌝ }
+    ensures { λ r. ⌜ Selects (found (rowsQuestion (parametersOf (now (sheet .entry))) (now (bytes .entry)) rows)) (now (cards .entry)) (now (list .entry)) r (now (list .exit)) ⌝ }
+{
+    if cards.len() % 512 != 0 {
+        return Selected::Refused(Refusal {
+            reason: Reason::CardSize,
+            place: 0,
+        });
+    }
+    if cards.len() > 65536 {
+        return Selected::Refused(Refusal {
+            reason: Reason::CardSize,
+            place: 0,
+        });
+    }
+    let kinds = sheet::kinds(sheet);
+    // a refusal writes nothing, so the numbers wait here until the last card is judged
+    let mut buffer = [0u32; 128];
+    let gathered = gather_rows(sheet, &kinds, bytes, rows, cards, &mut buffer);
+    match gathered {
+        Selected::Count(matches) => {
+            if matches > list.len() {
+                return Selected::Refused(Refusal {
+                    reason: Reason::ShortList,
+                    place: matches,
+                });
+            }
+            write(&buffer[0..matches], list);
+            Selected::Count(matches)
+        }
+        Selected::Refused(refusal) => Selected::Refused(refusal),
+    }
+}
+
+// Writes the record numbers of the cards that match into the list, as select by a filter does.
+pub fn select_search_bytes(sheet: &[u8], text: &[u8], cards: &[u8], list: &mut [u32]) -> Selected
+    ensures { λ r. ⌜ Selects (searchQuestion (now (sheet .entry)) (now (text .entry))) (now (cards .entry)) (now (list .entry)) r (now (list .exit)) ⌝ }
+{
+    let mut bytes = [0u8; 1024];
+    let read = read_search(sheet, text, &mut bytes);
+    let rows = read.rows;
+    let checked = read.checked;
+    match checked {
+        Checked::Tests(_) => select_rows(sheet, &bytes, rows, cards, list),
+        Checked::Refused(refusal) => Selected::Refused(refusal),
+    }
+}

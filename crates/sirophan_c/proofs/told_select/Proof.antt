@@ -1,0 +1,23 @@
+-- `sirophan_c::told_select` meets its contract: each case by its two numbers. Assumes nothing.
+use borrow.Author.Needs.{needs}
+use Rattle.sirophan_c.proofs.Answers.{count-told, select-refusal-told}
+use Rattle.sirophan_c.proofs.told_select.Statement.{statement}
+use Rattle.sirophan_c.proofs.told_select.Tie as tie
+
+enum-known-selected : tie.Need-enum-known-selected
+enum-known-selected c = search needs
+
+enum-known-selected-2 : tie.Need-enum-known-selected-2
+enum-known-selected-2 c = search needs
+
+refused-requires : tie.Need-refused-requires
+refused-requires c κs = search needs
+
+returns : tie.Need-returns
+returns c = search (count-told, needs)
+
+returns-2 : tie.Need-returns-2
+returns-2 c = search (select-refusal-told, needs)
+
+pub told-select-spec : {M : Type 1} → statement M
+told-select-spec = tie.close (tie.spec enum-known-selected enum-known-selected-2 refused-requires returns returns-2)
