@@ -7,7 +7,7 @@ pub mod Selecting
 pub mod Outcomes
 pub mod Cards
 pub mod Faults
-pub mod Prepare
+pub mod Inputs
 pub mod Failing
 pub mod Demand
 pub mod Determinacy
