@@ -34,6 +34,8 @@ numberOf Reason.CardSum = 21
 numberOf Reason.CardLayout = 22
 numberOf Reason.CardMisfit = 23
 numberOf Reason.ShortList = 30
+numberOf Reason.ShortRows = 34
+numberOf Reason.BadRows = 40
 
 unfoldable pub refusalAnswer : Refusal → Answer
 refusalAnswer r = refused (numberOf (r .reason)) (r .place)

@@ -38,10 +38,14 @@ pub enum Reason {
     CardMisfit,
     // 30: the list is shorter than the matches.
     ShortList,
+    // 34: the list is shorter than the rows.
+    ShortRows,
+    // 40: the rows are not good.
+    BadRows,
 }
 
 // A refusal: why, and where. The place is the length of the longest beginning that also begins some filter, a test's first byte, a
-// card's index, the number of matches, or 0.
+// card's index, the number of matches, the cells that rows need, or 0.
 pub struct Refusal {
     pub reason: Reason,
     pub place: usize,

@@ -25,5 +25,7 @@ pub fn number(reason: Reason) -> u32
         Reason::CardLayout => 22,
         Reason::CardMisfit => 23,
         Reason::ShortList => 30,
+        Reason::ShortRows => 34,
+        Reason::BadRows => 40,
     }
 }

@@ -11,8 +11,8 @@ use borrow.Author.Tests.{leb-true}
 use Rattle.base.proofs.Tests.{cond-elim}
 use Rattle.refusal.specs.Answers.{count, refused}
 use Rattle.refusal.specs.Steps.{Step, found, stop, _>>=_, answer}
-use Rattle.sirophan.specs.Operations.{Prepared, prepare, takeRun, takeCards, matching, takeRoom, selection, selectAnswer}
-use Rattle.sirophan.proofs.Prepare.{prepare-number}
+use Rattle.sirophan.specs.Operations.{Inputs, takeInputs, takeRun, takeCards, matching, takeRoom, selection, selectAnswer}
+use Rattle.sirophan.proofs.Inputs.{inputs-number}
 use Rattle.sirophan.proofs.Runs.{run-iff, run-or-none}
 use Rattle.sirophan.proofs.Selection.{selects-by-match}
 
@@ -35,7 +35,7 @@ other-number : {n p : ℕ} → (21 ≤ n → n ≤ 23 → ⊥) → PlaceBound n 
 other-number h = record { within = λ low high. absurd (h low high) }
 
 module _ (sheet text cards list : List ℕ) where
-  module _ (q : Prepared) (bs : List (List ℕ)) (e : prepare sheet text ≡ found q) (f : takeRun cards ≡ found bs) (n p : ℕ) where
+  module _ (q : Inputs) (bs : List (List ℕ)) (e : takeInputs sheet text ≡ found q) (f : takeRun cards ≡ found bs) (n p : ℕ) where
     card-answer : takeCards (q .parameters) 0 bs ≡ stop n p → selectAnswer sheet text cards (length list) ≡ refused n p
     unfolding selectAnswer selection
     card-answer g = rw (e, f, g)
@@ -58,7 +58,7 @@ module _ (sheet text cards list : List ℕ) where
   selection-bounded : Bounded (length list) (selection sheet text cards (length list))
   unfolding selection takeRoom
   selection-bounded =
-      bounded-then (prepare sheet text) (λ n p e. other-number (λ low high. omega (arith, prepare-number sheet text n p e)))
+      bounded-then (takeInputs sheet text) (λ n p e. other-number (λ low high. omega (arith, inputs-number sheet text n p e)))
       (λ q e. bounded-then (takeRun cards) run-place
       (λ bs f. bounded-then (takeCards (q .parameters) 0 bs) (card-place q bs e f)
       (λ cs g. let ns = matching (q .parameters) (q .filter) cs in

@@ -14,7 +14,7 @@ use Rattle.syntax.specs.Grammar.{Spells}
 use Rattle.judge.specs.Verdicts.{filterSays}
 use Rattle.refusal.specs.Answers.{Answer, yesOrNo, count, refused}
 use Rattle.refusal.specs.Steps.{Step, found, stop}
-use Rattle.sirophan.specs.Operations.{testsStep, Prepared, prepare, checkAnswer, matchAnswer}
+use Rattle.sirophan.specs.Operations.{testsStep, Inputs, takeInputs, checkAnswer, matchAnswer}
 use Rattle.judge.specs.Rules.{Conforms, Meaningful}
 use Rattle.sirophan.specs.Verdicts.{Verdict}
 use Rattle.sirophan.specs.Demand.{Demand, MeetsDemand}
@@ -22,18 +22,18 @@ use Rattle.sirophan.proofs.Verdicts.{verdict-by}
 use Rattle.refusal.proofs.Answers.{count-not-refused}
 use Rattle.sirophan.proofs.Cards.{conforms-size, conforms-bytes, conforms-taken}
 use Rattle.sirophan.proofs.Outcomes.{TestsOutcome, all-mean, one-refused}
-use Rattle.sirophan.proofs.Prepare.{check-by, match-by, tests-outcome, prepared}
+use Rattle.sirophan.proofs.Inputs.{check-by, match-by, tests-outcome, inputs-taken}
 
 module _ (sheet text : List ℕ) (s : SheetBlock sheet) (f : Tree) (short : length text ≤ 1024) (spells : Spells text f) where
   abbrev ps : List Parameter
   ps = s .parameters
 
-  abbrev ready : Prepared
+  abbrev ready : Inputs
   ready = record { parameters = ps; filter = f }
 
   meets : {tests : Step (Unit {0})} → testsStep ps (testsOf f) ≡ tests → TestsOutcome ps (testsOf f) tests → Demand ps f (checkAnswer sheet text) (matchAnswer sheet text)
   meets e (all-mean m) =
-      let done : prepare sheet text ≡ found ready = prepared sheet text s f short spells ∙ rw e in
+      let done : takeInputs sheet text ≡ found ready = inputs-taken sheet text s f short spells ∙ rw e in
       let passed : checkAnswer sheet text ≡ count (length (testsOf f)) = check-by sheet text (found ready) done in
       record {
         passes = ((λ _. m), (λ _. passed));
@@ -43,7 +43,7 @@ module _ (sheet text : List ℕ) (s : SheetBlock sheet) (f : Tree) (short : leng
         refuses = λ n. absurd (n passed);
       }
   meets e (one-refused before t after n split m r) =
-      let done : prepare sheet text ≡ stop n (t .at) = prepared sheet text s f short spells ∙ rw e in
+      let done : takeInputs sheet text ≡ stop n (t .at) = inputs-taken sheet text s f short spells ∙ rw e in
       let failed : checkAnswer sheet text ≡ refused n (t .at) = check-by sheet text (stop n (t .at)) done in
       let senseless : All (Meaningful ps) (testsOf f) → ⊥ =
       λ all. all-head (Meaningful ps) (all-right (Meaningful ps) before (subst (All (Meaningful ps)) split all)) (r .card) (r .entries) (r .conforms) (r .lacks)

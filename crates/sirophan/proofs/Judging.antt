@@ -40,7 +40,7 @@ kept-tree false c f g h = cc
 abbrev pub every : Chosen
 every = record { all = true; occurrence = 0 }
 
-chosen-every : (es : List Entry) → chosenOf every es ≡ es
+pub chosen-every : (es : List Entry) → chosenOf every es ≡ es
 unfolding chosenOf keep
 chosen-every [] = refl
 chosen-every (e ∷ es) = ap (λ (l : List Entry). e ∷ l) (chosen-every es)

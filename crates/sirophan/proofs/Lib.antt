@@ -8,7 +8,9 @@ pub mod Selecting
 pub mod Outcomes
 pub mod Cards
 pub mod Faults
-pub mod Prepare
+pub mod Inputs
+pub mod Filled
+pub mod RowsJudged
 pub mod Failing
 pub mod Demand
 pub mod Determinacy
@@ -21,6 +23,7 @@ pub mod Blocks
 pub mod CheckTable
 pub mod MatchTable
 pub mod SelectTable
+pub mod RowsTable
 pub mod Contracts
 pub mod Answered
 pub mod Operators

@@ -23,7 +23,7 @@ use Rattle.judge.specs.Sets.{conforms}
 use Rattle.judge.specs.Verdicts.{filterSays}
 use Rattle.refusal.specs.Answers.{yesOrNo, refused}
 use Rattle.refusal.specs.Steps.{found, stop, _>>=_}
-use Rattle.sirophan.specs.Operations.{Prepared, Card, cardStep, takeCard, matchAnswer}
+use Rattle.sirophan.specs.Operations.{Inputs, Card, cardStep, takeCard, matchAnswer}
 use Rattle.judge.specs.Rules.{Conforms}
 use Rattle.refusal.specs.Order.{rank, group, Before, Decides}
 use Rattle.sirophan.specs.Refusals.{CheckLine, CardLine, line-21, line-22, line-23, OneCardLine, line-20-match, line-of-card, MatchLine}
@@ -34,7 +34,7 @@ use Rattle.refusal.proofs.Deciding.{Decided, none-holds, one-decides, NotRefuse
 use Rattle.sirophan.proofs.Outcomes.{ReadsTo, size-wrong, sum-wrong, layout-wrong, all-right, cardOf, Taken}
 use Rattle.sirophan.proofs.Blocks.{card-reads-to}
 use Rattle.refusal.proofs.Order.{apart-at, later-group, no-lower-rank}
-use Rattle.sirophan.proofs.CheckTable.{sheet-parameters, check-group, Ready, prepare-decided}
+use Rattle.sirophan.proofs.CheckTable.{sheet-parameters, check-group, Ready, inputs-decided}
 
 -- ---- one card
 
@@ -69,7 +69,7 @@ module _ (sheet : List ℕ) where
     LineAt i n p = CardLine sheet b n × (p ≡ i)
 
     -- and what is found where none holds
-    abbrev TakenAs : Card → Type 0
+    abbrev pub TakenAs : Card → Type 0
     TakenAs c = Taken ps b × (c ≡ cardOf b)
 
     -- the line that ranks lowest decides
@@ -121,7 +121,7 @@ module _ (sheet text card : List ℕ) where
   one-back e (line-20-match u) = absurd (u e)
   one-back e (line-of-card l) = (l, refl)
 
-  one-decided : (s : SheetBlock sheet) → Bytes card → Decided (TakenAs sheet s card) (OneCardLine sheet card) (takeCard (s .parameters) 0 card)
+  pub one-decided : (s : SheetBlock sheet) → Bytes card → Decided (TakenAs sheet s card) (OneCardLine sheet card) (takeCard (s .parameters) 0 card)
   unfolding takeCard
   one-decided s bytes = by-size (ℕ-discrete (length card) 512)
     where
@@ -134,7 +134,7 @@ module _ (sheet text card : List ℕ) where
   one-group n p (line-20-match u) = omega arith
   one-group n p (line-of-card l) = let g = card-group sheet l in omega arith
 
-  verdict-decided : Bytes card → (r : Prepared) → Ready sheet text r
+  verdict-decided : Bytes card → (r : Inputs) → Ready sheet text r
       → Decided NotRefused (OneCardLine sheet card) (takeCard (r .parameters) 0 card >>= λ c. found (yesOrNo (filterSays (r .parameters) 0 (c .entries) (r .filter))))
   verdict-decided bytes r ready =
       rw (← ready .1)
@@ -148,4 +148,4 @@ module _ (sheet text card : List ℕ) where
       decided-answer (MatchLine sheet text card)
       (decided-then (CheckLine sheet text) (OneCardLine sheet card)
       (apart-at (CheckLine sheet text) (OneCardLine sheet card) (group 14) (check-group sheet text) one-group)
-      (prepare-decided sheet text sheet-bytes) (λ r _ ready. verdict-decided bytes r ready))
+      (inputs-decided sheet text sheet-bytes) (λ r _ ready. verdict-decided bytes r ready))

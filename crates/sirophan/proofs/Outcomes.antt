@@ -84,7 +84,7 @@ pub data CardsOutcome (ps : List Parameter) (i : ℕ) (bs : List (List ℕ)) : S
 
 -- a selection from a run, for a list of `room` cells
 pub data SelectionOutcome (sheet text : List ℕ) (bs : List (List ℕ)) (room : ℕ) : Step (List ℕ) → Type 0 where
-  not-prepared : (n i : ℕ) → n ≤ 18 → SelectionOutcome sheet text bs room (stop n i)
+  not-passed : (n i : ℕ) → n ≤ 18 → SelectionOutcome sheet text bs room (stop n i)
   card-refused : (n i : ℕ) → n ≤ 23 → RefusesCard sheet text bs n i → SelectionOutcome sheet text bs room (stop n i)
   no-room : (i : ℕ) → i ≡ length (matchingCards sheet text bs) → room < i → SelectionOutcome sheet text bs room (stop 30 i)
   numbers-found : SelectionOutcome sheet text bs room (found (matchingNumbers sheet text bs))

@@ -23,7 +23,7 @@ use Rattle.sirophan.specs.declared.verdict.CardVerdict.{CardVerdict}
 use Rattle.refusal.specs.Answers.{count, refused, yesOrNo, numberOf, refusalAnswer}
 use Rattle.sirophan.specs.Answers.{checkedAnswer, matchedAnswer}
 use Rattle.refusal.specs.Steps.{Step, found, stop, _>>=_, answer}
-use Rattle.sirophan.specs.Operations.{treeStep, takeFilter, testsStep, takeSheet, sheetStep, Prepared, prepare, Card, cardStep, takeCard, checkAnswer, matchAnswer}
+use Rattle.sirophan.specs.Operations.{treeStep, takeFilter, testsStep, takeSheet, sheetStep, Inputs, takeInputs, Card, cardStep, takeCard, checkAnswer, matchAnswer}
 use Rattle.sirophan.specs.Passing.{Passing, cardVerdict, verdictStep}
 
 -- ---- check has passed them
@@ -33,9 +33,9 @@ pub taken : {A B : Type 0} (s : Step A) (next : A → Step B) (b : B) → (s >>=
 taken (found a) next b h = (a, refl, h)
 taken (stop n p) next b h = absurd (let z : _≡_ {A = ℕ} 0 1 = cc in omega arith)
 
-prepared-found : (s : Step Prepared) (n : ℕ) → answer (s >>= λ p. found (count (length (testsOf (p .filter))))) ≡ count n → (p : Prepared) × (s ≡ found p)
-prepared-found (found p) n h = (p, refl)
-prepared-found (stop m p) n h = absurd (let z : _≡_ {A = ℕ} 0 1 = cc in omega arith)
+inputs-found : (s : Step Inputs) (n : ℕ) → answer (s >>= λ p. found (count (length (testsOf (p .filter))))) ≡ count n → (p : Inputs) × (s ≡ found p)
+inputs-found (found p) n h = (p, refl)
+inputs-found (stop m p) n h = absurd (let z : _≡_ {A = ℕ} 0 1 = cc in omega arith)
 
 sheet-found : (r : Reading) (ps qs : List Parameter) → sheetStep r ps ≡ found qs → (r ≡ Reading.WellFormed) × (ps ≡ qs)
 sheet-found Reading.WellFormed ps qs h = (refl, cc)
@@ -53,9 +53,9 @@ text-found text false true o f h = (cc, cc)
 text-found text false false o f h = (refl, tree-found text o f h)
 
 pub passing : (b xs : List ℕ) (c : Checked) (n : ℕ) → checkedAnswer c ≡ checkAnswer b xs → c ≡ Checked.Tests n → Passing b xs
-unfolding checkedAnswer checkAnswer prepare takeSheet takeFilter
+unfolding checkedAnswer checkAnswer takeInputs takeSheet takeFilter
 passing b xs c n e h =
-    let (p, is) = prepared-found (prepare b xs) n (sym e ∙ ap checkedAnswer h) in
+    let (p, is) = inputs-found (takeInputs b xs) n (sym e ∙ ap checkedAnswer h) in
     let (ps, s, rest) = taken (takeSheet b) (λ qs. takeFilter xs >>= λ f. testsStep qs (testsOf f) >>= λ u. found (record { parameters = qs; filter = f })) p is in
     let (f, t, last) = taken (takeFilter xs) (λ f. testsStep ps (testsOf f) >>= λ u. found (record { parameters = ps; filter = f })) p rest in
     let (u, v, made) = taken (testsStep ps (testsOf f)) (λ u. found (record { parameters = ps; filter = f })) p last in
@@ -66,7 +66,7 @@ passing b xs c n e h =
       sheet-well-formed = well;
       short = ltb-false 1024 (length xs) short;
       reads = reads;
-      prepared = is ∙ sym made ∙ ap (λ (qs : List Parameter). found (record { parameters = qs; filter = f })) (sym same);
+      inputs-taken = is ∙ sym made ∙ ap (λ (qs : List Parameter). found (record { parameters = qs; filter = f })) (sym same);
     }
 
 -- ---- a card
@@ -87,19 +87,19 @@ card-taken ps i b d h =
 
 -- ---- check has refused
 
-stopped : (s : Step Prepared) (n p : ℕ) → answer (s >>= λ q. found (count (length (testsOf (q .filter))))) ≡ refused n p → s ≡ stop n p
+stopped : (s : Step Inputs) (n p : ℕ) → answer (s >>= λ q. found (count (length (testsOf (q .filter))))) ≡ refused n p → s ≡ stop n p
 stopped (found q) n p h = cc
 stopped (stop m q) n p h = cc
 
-pub prepare-stopped : (b xs : List ℕ) (c : Checked) (r : Refusal) → checkedAnswer c ≡ checkAnswer b xs → c ≡ Checked.Refused r → prepare b xs ≡ stop (numberOf (r .reason)) (r .place)
+pub inputs-stopped : (b xs : List ℕ) (c : Checked) (r : Refusal) → checkedAnswer c ≡ checkAnswer b xs → c ≡ Checked.Refused r → takeInputs b xs ≡ stop (numberOf (r .reason)) (r .place)
 unfolding checkedAnswer refusalAnswer checkAnswer
-prepare-stopped b xs c r e h = stopped (prepare b xs) (numberOf (r .reason)) (r .place) (sym e ∙ ap checkedAnswer h)
+inputs-stopped b xs c r e h = stopped (takeInputs b xs) (numberOf (r .reason)) (r .place) (sym e ∙ ap checkedAnswer h)
 
 -- ---- match
 
 pub match-refused : (b xs card : List ℕ) (c : Checked) (r : Refusal) → checkedAnswer c ≡ checkAnswer b xs → c ≡ Checked.Refused r → matchedAnswer (Matched.Refused r) ≡ matchAnswer b xs card
 unfolding matchedAnswer refusalAnswer matchAnswer
-match-refused b xs card c r e h = rw (prepare-stopped b xs c r e h)
+match-refused b xs card c r e h = rw (inputs-stopped b xs c r e h)
 
 yes-or-no-after : (s : Step Card) (g : Card → Bool) → (s >>= λ c. found (yesOrNo (g c))) ≡ (s >>= λ c. found (g c)) >>= λ b. found (yesOrNo b)
 yes-or-no-after (found c) g = refl
@@ -109,7 +109,7 @@ module _ (b xs card : List ℕ) (p : Passing b xs) (v : CardVerdict) (e : (i : �
   match-is : matchAnswer b xs card ≡ answer (verdictStep v 0 >>= λ y. found (yesOrNo y))
   unfolding matchAnswer cardVerdict
   match-is =
-      rw (p .prepared, e 0, p .reads) (ap answer (yes-or-no-after (takeCard (parametersOf b) 0 card) (λ c. filterSays (parametersOf b) 0 (c .entries) (p .tree))))
+      rw (p .inputs-taken, e 0, p .reads) (ap answer (yes-or-no-after (takeCard (parametersOf b) 0 card) (λ c. filterSays (parametersOf b) 0 (c .entries) (p .tree))))
 
   pub match-yes : (y : Bool) → v ≡ CardVerdict.Says y → y ≡ true → matchedAnswer Matched.Yes ≡ matchAnswer b xs card
   unfolding matchedAnswer

@@ -18,7 +18,7 @@ use Rattle.sheet.specs.Encode.{SheetBlock}
 use Rattle.card.specs.Card.{recordNumber}
 use Rattle.refusal.specs.Answers.{count, refused}
 use Rattle.refusal.specs.Steps.{found, stop, _>>=_}
-use Rattle.sirophan.specs.Operations.{Prepared, prepare, Card, takeRun, takeCards, matching, takeRoom, selection, selectAnswer}
+use Rattle.sirophan.specs.Operations.{Inputs, takeInputs, Card, takeRun, takeCards, matching, takeRoom, selection, selectAnswer}
 use Rattle.refusal.specs.Order.{rank, group, Before, Decides}
 use Rattle.sirophan.specs.Selection.{Run, CardAt, matchingCards}
 use Rattle.sirophan.specs.Refusals.{CheckLine, CardLine, RunLine, line-20-select, CardsLine, line-of-card-at, RoomLine, line-30, SelectLine}
@@ -28,7 +28,7 @@ use Rattle.sirophan.proofs.Outcomes.{cardOf, Taken}
 use Rattle.sirophan.proofs.Runs.{run-iff, run-or-none}
 use Rattle.sirophan.proofs.Selection.{matching-numbers}
 use Rattle.refusal.proofs.Order.{apart-at, later-place, no-lower-rank}
-use Rattle.sirophan.proofs.CheckTable.{check-group, prepare-decided}
+use Rattle.sirophan.proofs.CheckTable.{check-group, inputs-decided}
 use Rattle.sirophan.proofs.MatchTable.{card-group, LineAt, card-decided}
 
 -- ---- the run
@@ -131,7 +131,7 @@ module _ (sheet text cards : List ℕ) (room : ℕ) where
   abbrev RestLine : ℕ → ℕ → Type 0
   RestLine n p = RunLine cards n p ⊎ (CardsLine sheet cards n p ⊎ RoomLine sheet text cards room n p)
 
-  module _ (r : Prepared) (e : prepare sheet text ≡ found r) (bs : List (List ℕ)) (run : Run cards bs) where
+  module _ (r : Inputs) (e : takeInputs sheet text ≡ found r) (bs : List (List ℕ)) (run : Run cards bs) where
     abbrev matches : ℕ
     matches = length (matchingCards sheet text bs)
 
@@ -181,7 +181,7 @@ module _ (sheet text cards : List ℕ) (room : ℕ) where
   rest-group n p (inl l) = omega (arith, run-group n p l)
   rest-group n p (inr l) = omega (arith, cards-or-room n p l)
 
-  module _ (bytes : Bytes cards) (r : Prepared) (e : prepare sheet text ≡ found r) (s : SheetBlock sheet) (same : s .parameters ≡ r .parameters) where
+  module _ (bytes : Bytes cards) (r : Inputs) (e : takeInputs sheet text ≡ found r) (s : SheetBlock sheet) (same : s .parameters ≡ r .parameters) where
     run-step : (bs : List (List ℕ)) → Run cards bs
         → Decided (λ (ns : List ℕ). Unit {0}) (λ n p. CardsLine sheet cards n p ⊎ RoomLine sheet text cards room n p)
         (takeCards (r .parameters) 0 bs >>= λ cs. takeRoom room (matching (r .parameters) (r .filter) cs))
@@ -210,4 +210,4 @@ module _ (sheet text cards : List ℕ) (room : ℕ) where
       decided-answer (SelectLine sheet text cards room)
       (decided-found (λ (ns : List ℕ). count (length ns)) (λ ns _. count-not-refused (length ns))
       (decided-then (CheckLine sheet text) RestLine (apart-at (CheckLine sheet text) RestLine (group 14) (check-group sheet text) rest-group)
-      (prepare-decided sheet text sheet-bytes) (λ r e ready. rest-decided bytes r e (ready .0) (ready .1))))
+      (inputs-decided sheet text sheet-bytes) (λ r e ready. rest-decided bytes r e (ready .0) (ready .1))))

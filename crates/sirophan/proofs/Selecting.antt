@@ -25,7 +25,7 @@ use Rattle.refusal.specs.Steps.{Step, found, stop, _>>=_}
 use Rattle.sirophan.specs.Operations.{checkAnswer, Card, takeCard, takeRun, takeCards, matching, takeRoom, selection, selectAnswer, selectCells}
 use Rattle.sirophan.specs.Passing.{Passing, cardVerdict}
 use Rattle.sirophan.specs.Selecting.{runNumbers, gatheredStep, Gathers, Selects}
-use Rattle.sirophan.proofs.Passing.{card-taken, prepare-stopped}
+use Rattle.sirophan.proofs.Passing.{card-taken, inputs-stopped}
 
 -- ---- the numbers of a run are those of its matching cards
 
@@ -68,7 +68,7 @@ module _ (sheet text cards list : List ℕ) where
   -- check has refused
   pub select-refused : (c : Checked) (r : Refusal) → checkedAnswer c ≡ checkAnswer sheet text → c ≡ Checked.Refused r → Selects sheet text cards list (Selected.Refused r) list
   unfolding selection
-  select-refused c r e h = selects-stop r (rw (prepare-stopped sheet text c r e h))
+  select-refused c r e h = selects-stop r (rw (inputs-stopped sheet text c r e h))
 
   module _ (p : Passing sheet text) where
     abbrev ps : List Parameter
@@ -77,7 +77,7 @@ module _ (sheet text cards list : List ℕ) where
     selection-is : (room : ℕ) → selection sheet text cards room ≡ takeRun cards >>= λ bs. runNumbers ps (read text) 0 bs >>= takeRoom room
     unfolding selection
     selection-is room =
-        rw (p .prepared, p .reads)
+        rw (p .inputs-taken, p .reads)
         (after (takeRun cards) _ _
         (λ bs. room-after room ps (p .tree) (takeCards ps 0 bs) ∙ ap (λ (s : Step (List ℕ)). s >>= takeRoom room) (sym (run-numbers ps (p .tree) 0 bs))))
 

@@ -22,11 +22,11 @@ use Rattle.judge.specs.Sets.{conforms}
 use Rattle.judge.specs.Verdicts.{filterSays}
 use Rattle.refusal.specs.Answers.{yesOrNo, count, refused}
 use Rattle.refusal.specs.Steps.{Step, found, stop, _>>=_, answer}
-use Rattle.sirophan.specs.Operations.{Prepared, prepare, Card, cardStep, takeCard, takeRun, takeCards, matching, takeRoom, selection, matchAnswer, selectAnswer, written, selectCells}
+use Rattle.sirophan.specs.Operations.{Inputs, takeInputs, Card, cardStep, takeCard, takeRun, takeCards, matching, takeRoom, selection, matchAnswer, selectAnswer, written, selectCells}
 use Rattle.sirophan.specs.Selection.{Run, isYes, matchingCards, matchingNumbers, occurrences, bearing, RefusesCard, SelectsByMatch}
 use Rattle.refusal.proofs.Answers.{verdict-not-refused}
-use Rattle.sirophan.proofs.Outcomes.{cardOf, Taken, Stopped, CardsOutcome, all-taken, one-stopped, SelectionOutcome, not-prepared, card-refused, no-room, numbers-found}
-use Rattle.sirophan.proofs.Prepare.{match-by, prepare-number}
+use Rattle.sirophan.proofs.Outcomes.{cardOf, Taken, Stopped, CardsOutcome, all-taken, one-stopped, SelectionOutcome, not-passed, card-refused, no-room, numbers-found}
+use Rattle.sirophan.proofs.Inputs.{match-by, inputs-number}
 use Rattle.sirophan.proofs.Runs.{run-iff}
 
 -- ---- a card, at whatever index
@@ -64,7 +64,7 @@ module _ (ps : List Parameter) where
 
 -- ---- match on each card of a run
 
-module _ (sheet text : List ℕ) (p : Prepared) (e : prepare sheet text ≡ found p) where
+module _ (sheet text : List ℕ) (p : Inputs) (e : takeInputs sheet text ≡ found p) where
   abbrev ps : List Parameter
   ps = p .parameters
 
@@ -105,7 +105,7 @@ module _ (sheet text : List ℕ) (bs : List (List ℕ)) (room : ℕ) where
       (λ _. subst (λ (ns : List ℕ). SelectionOutcome sheet text bs room (found ns)) (sym e) numbers-found)
       (λ h. no-room (length numbers) few (leb-false (length numbers) room h))
 
-  module _ (p : Prepared) (e : prepare sheet text ≡ found p) where
+  module _ (p : Inputs) (e : takeInputs sheet text ≡ found p) where
     selected-cards : {cards : Step (List Card)} → CardsOutcome (p .parameters) 0 bs cards → SelectionOutcome sheet text bs room (cards >>= λ cs. takeRoom room (matching (p .parameters) (p .filter) cs))
     selected-cards (all-taken ts) = selected-room (matching (p .parameters) (p .filter) (map cardOf bs)) (matching-numbers sheet text p e ts)
     selected-cards (one-stopped before b after n j split k ts m s) =
@@ -119,12 +119,12 @@ module _ (sheet text : List ℕ) (bs : List (List ℕ)) (room : ℕ) where
 
   selected : (cards : List ℕ) → Run cards bs → SelectionOutcome sheet text bs room (selection sheet text cards room)
   unfolding selection
-  selected cards run = by-prepare (prepare sheet text) refl
+  selected cards run = by-inputs (takeInputs sheet text) refl
     where
-      by-prepare : (r : Step Prepared) → prepare sheet text ≡ r
+      by-inputs : (r : Step Inputs) → takeInputs sheet text ≡ r
           → SelectionOutcome sheet text bs room (r >>= λ p. takeRun cards >>= λ cs. takeCards (p .parameters) 0 cs >>= λ ds. takeRoom room (matching (p .parameters) (p .filter) ds))
-      by-prepare (stop n i) e = not-prepared n i (prepare-number sheet text n i e)
-      by-prepare (found p) e = rw (run-iff cards bs .1 run) (selected-cards p e (cards-outcome (p .parameters) 0 bs))
+      by-inputs (stop n i) e = not-passed n i (inputs-number sheet text n i e)
+      by-inputs (found p) e = rw (run-iff cards bs .1 run) (selected-cards p e (cards-outcome (p .parameters) 0 bs))
 
 -- ---- the theorems
 
@@ -176,7 +176,7 @@ module _ (sheet text cards list : List ℕ) where
         }
 
     by-selection : {s : Step (List ℕ)} → selection sheet text cards (length list) ≡ s → SelectionOutcome sheet text bs (length list) s → SelectsByMatch sheet text cards list bs
-    by-selection e (not-prepared n i l) = by-refusal n i e (λ low high. absurd (omega arith)) (λ h. absurd (omega arith))
+    by-selection e (not-passed n i l) = by-refusal n i e (λ low high. absurd (omega arith)) (λ h. absurd (omega arith))
     by-selection e (card-refused n i l r) = by-refusal n i e (λ low high. r) (λ h. absurd (omega arith))
     by-selection e (no-room i k l) = by-refusal 30 i e (λ low high. absurd (omega arith)) (λ h. (k, l))
     by-selection e numbers-found = by-numbers e

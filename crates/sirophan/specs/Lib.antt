@@ -2,6 +2,7 @@
 pub mod Answers
 pub mod Operations
 pub mod Passing
+pub mod Preparing
 pub mod Selecting
 pub mod Verdicts
 pub mod Numbers
@@ -9,6 +10,7 @@ pub mod Demand
 pub mod Selection
 pub mod Refusals
 pub mod Contracts
+pub mod RowsRefusals
 pub mod Witness
 pub mod Trial
 pub mod Edges

@@ -57,12 +57,12 @@ unfoldable pub testsStep : List Parameter → List Test → Step (Unit {0})
 testsStep ps ts = faultStep (firstFault ps 0 ts .fault) (firstFault ps 0 ts .position)
 
 -- the parameters of the sheet and the tree of the filter
-pub record Prepared : Type 0 where
+pub record Inputs : Type 0 where
   pub parameters : List Parameter
   pub filter : Tree
 
-unfoldable pub prepare : List ℕ → List ℕ → Step Prepared
-prepare sheet text = do
+unfoldable pub takeInputs : List ℕ → List ℕ → Step Inputs
+takeInputs sheet text = do
   ps ← takeSheet sheet
   f ← takeFilter text
   u ← testsStep ps (testsOf f)
@@ -97,12 +97,12 @@ filterAnswer ps text = answer (do
 
 unfoldable pub checkAnswer : List ℕ → List ℕ → Answer
 checkAnswer sheet text = answer (do
-  p ← prepare sheet text
+  p ← takeInputs sheet text
   found (count (length (testsOf (p .filter)))))
 
 unfoldable pub matchAnswer : List ℕ → List ℕ → List ℕ → Answer
 matchAnswer sheet text card = answer (do
-  p ← prepare sheet text
+  p ← takeInputs sheet text
   c ← takeCard (p .parameters) 0 card
   found (yesOrNo (filterSays (p .parameters) 0 (c .entries) (p .filter))))
 
@@ -138,7 +138,7 @@ takeRoom room numbers = cond (leb (length numbers) room) (found numbers) (stop 3
 -- the numbers that a selection writes, for a list of `room` cells
 unfoldable pub selection : List ℕ → List ℕ → List ℕ → ℕ → Step (List ℕ)
 selection sheet text cards room = do
-  p ← prepare sheet text
+  p ← takeInputs sheet text
   bs ← takeRun cards
   cs ← takeCards (p .parameters) 0 bs
   takeRoom room (matching (p .parameters) (p .filter) cs)

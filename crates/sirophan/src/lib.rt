@@ -1,6 +1,8 @@
 // Sirophan: which cards of an archive match a filter. A filter either has a meaning on every card that fits the sheet, and
 // is answered exactly, or is refused with a number and a place.
+mod judgement;
 mod operations;
+mod preparation;
 mod reading;
 mod run;
 mod verdict;
@@ -26,5 +28,11 @@ pub enum Matched {
 // What select answers: how many record numbers it has written into the list, or a refusal.
 pub enum Selected {
     Count(usize),
+    Refused(Refusal),
+}
+
+// What prepare answers: how many cells of rows it has written into the list, or a refusal.
+pub enum Prepared {
+    Cells(usize),
     Refused(Refusal),
 }

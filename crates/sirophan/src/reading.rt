@@ -21,14 +21,14 @@ ghost use Rattle.sirophan.specs.Passing.{summaryAnswer, failureAnswer};
 ghost use Rattle.sirophan.specs.Operations.{filterAnswer, checkAnswer};
 
 // A refusal as check's answer.
-fn refuse(reason: Reason, place: usize) -> Checked
+pub fn refuse(reason: Reason, place: usize) -> Checked
     ensures { λ r. ⌜ checkedAnswer r ≡ refused (numberOf reason) place ⌝ }
 {
     Checked::Refused(Refusal { reason, place })
 }
 
 // The answer for a text that is a filter: the first fault, or the number of tests.
-fn outcome(summary: Summary) -> Checked
+pub fn outcome(summary: Summary) -> Checked
     ensures { λ r. ⌜ checkedAnswer r ≡ summaryAnswer summary ⌝ }
 {
     let first = summary.first;
@@ -44,7 +44,7 @@ fn outcome(summary: Summary) -> Checked
 }
 
 // The answer for a text that is no filter.
-fn no_filter(filter: &[u8]) -> Checked
+pub fn no_filter(filter: &[u8]) -> Checked
     ensures { λ r. ⌜ checkedAnswer r ≡ failureAnswer (failure deepest mostTests (now (filter .entry))) ⌝ }
 {
     let failure = find_failure(filter);

@@ -17,7 +17,7 @@ ghost use Rattle.sirophan.specs.Passing.{Passing};
 ghost use Rattle.sirophan.specs.Selecting.{Gathers, Selects};
 
 // Writes the numbers over the list's first cells.
-fn write(numbers: &[u32], list: &mut [u32])
+pub fn write(numbers: &[u32], list: &mut [u32])
     requires { ⌜ length (now numbers) ≤ length (now list) ⌝ }
     ensures { λ _. ⌜ now (list .exit) ≡ now (numbers .entry) ++ drop (length (now (numbers .entry))) (now (list .entry)) ⌝ }
 {
