@@ -1,6 +1,6 @@
 -- Prepare, as the code comes to its answer and its cells.
 -- Assumes nothing.
-use Prim.Native.Nat.{ℕ, _+_, _≤_, _<_}
+use Prim.Native.Nat.{ℕ, _+_, _-_, _≤_, _<_}
 use native.Mathlib.Omega.{arith}
 use mathlib.Core.Path.{_≡_, refl, sym, ap, _∙_}
 use mathlib.Core.Option.{Option, none, some}
@@ -170,7 +170,8 @@ module _ (ps : List Parameter) (xs : List ℕ) (n : length xs ≡ 0 → ⊥) (l 
           fill-done c n e i size =
               let clean : faultStep (a .summary .first .fault) (a .summary .first .position) ≡ found tt = no-fault (a .summary) c n e i in
               let same : a .cells ≡ cellCount (was .tree) = ap (λ (o : Outcome). o .cells) (was .value) in
-              let cells : take (a .cells) after ≡ rowCells ps xs (was .tree) = ap (λ (x : ℕ). take x after) same ∙ was .cells in
+              let at-first : a .cells ≡ 0 + cellCount (was .tree) = omega (arith, same) in
+              let cells : take (a .cells) after ≡ rowCells ps xs (was .tree) = ap (λ (x : ℕ). take x after) at-first ∙ was .cells in
               let t = writing.filter-takes ps 0 xs 0 round 8 start v before after end a w h in
               record {
                 rows = ap found cells ∙ sym (rows-by ∙ ap (λ (q : Step (Unit {0})). q >>= λ u. found (rowCells ps xs (was .tree))) clean);
@@ -198,13 +199,23 @@ rows-filter ps xs (found f) = rows-tests ps xs f (testsStep ps (testsOf f))
 rows-filter ps xs (stop n p) = refl
 
 module _ (b xs : List ℕ) (k : Reading) (e : k ≡ readSheet b) (r : Prepared) (buffer : List ℕ) where
-  pub fill-sheet : (c : Checked) (j : Reading) (n : ℕ) → ((ps : List Parameter) → sheetStep j ps ≡ stop n 0) → k ≡ j → checkedAnswer c ≡ refused n 0 → preparedAnswer r ≡ checkedAnswer c → Fills b xs r buffer
+  fill-sheet : (c : Checked) (j : Reading) (n : ℕ) → ((ps : List Parameter) → sheetStep j ps ≡ stop n 0) → k ≡ j → checkedAnswer c ≡ refused n 0 → preparedAnswer r ≡ checkedAnswer c → Fills b xs r buffer
   unfolding takeInputs takeSheet
   fill-sheet c j n t i h g =
       record {
         rows = refused-step r buffer n 0 (g ∙ h) ∙ sym (rw (sym e ∙ i, t (parametersOf b)));
         room = λ m q. absurd (refused-room r n 0 (g ∙ h) m q);
       }
+
+  module _ (c : Checked) where
+    pub fill-size : k ≡ Reading.WrongSize → checkedAnswer c ≡ refused (numberOf Reason.SheetSize) 0 → preparedAnswer r ≡ checkedAnswer c → Fills b xs r buffer
+    fill-size = fill-sheet c Reading.WrongSize 1 (λ ps. refl)
+
+    pub fill-sum : k ≡ Reading.WrongSum → checkedAnswer c ≡ refused (numberOf Reason.SheetSum) 0 → preparedAnswer r ≡ checkedAnswer c → Fills b xs r buffer
+    fill-sum = fill-sheet c Reading.WrongSum 2 (λ ps. refl)
+
+    pub fill-layout : k ≡ Reading.WrongLayout → checkedAnswer c ≡ refused (numberOf Reason.SheetLayout) 0 → preparedAnswer r ≡ checkedAnswer c → Fills b xs r buffer
+    fill-layout = fill-sheet c Reading.WrongLayout 3 (λ ps. refl)
 
   pub fill-right : k ≡ Reading.WellFormed → FillsText (parametersOf b) xs r buffer → Fills b xs r buffer
   unfolding takeInputs takeSheet textRows
@@ -244,8 +255,10 @@ module _ (b xs list : List ℕ) (r : Prepared) (buffer : List ℕ) (f : Fills b 
     pub prepare-done : (exit : List ℕ) → n ≤ length list → exit ≡ part buffer 0 n ++ drop (length (part buffer 0 n)) list → Prepares b xs list (Prepared.Cells n) exit
     unfolding prepareAnswer prepareCells preparedAnswer takeCells
     prepare-done exit l e =
+        let all : n - 0 ≡ n = omega arith in
+        let whole-part : part buffer 0 n ≡ take n buffer = ap (λ (k : ℕ). take k buffer) all in
         let s : preparation b xs (length list) ≡ found (take n buffer) = filled ∙ rw (taken-length, le-leb n (length list) l) in
         record {
           answers = sym (ap (λ (x : Step (List ℕ)). answer (x >>= λ cs. found (count (length cs)))) s ∙ ap count taken-length);
-          cells = e ∙ sym (ap (λ (x : Step (List ℕ)). written x list) s);
+          cells = e ∙ ap (λ (x : List ℕ). x ++ drop (length x) list) whole-part ∙ sym (ap (λ (x : Step (List ℕ)). written x list) s);
         }

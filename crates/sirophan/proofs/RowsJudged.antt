@@ -74,9 +74,19 @@ module _ (b xs cs card : List ℕ) (ok : readSheet b ≡ Reading.WellFormed) (n 
     stated-answer = rw (sized, sym tested ∙ h, judge-whole .states)
 
     module _ (k : Reading) (e : k ≡ readCard card) where
-      pub judge-card-refused : (r : Matched) (j : Reading) (m : ℕ) → ((fits : Bool) (c : Card) → cardStep j fits c 0 ≡ stop m 0) → k ≡ j → matchedAnswer r ≡ refused m 0 → matchedAnswer r ≡ rowsAnswer ps xs cs card
+      judge-card-refused : (r : Matched) (j : Reading) (m : ℕ) → ((fits : Bool) (c : Card) → cardStep j fits c 0 ≡ stop m 0) → k ≡ j → matchedAnswer r ≡ refused m 0 → matchedAnswer r ≡ rowsAnswer ps xs cs card
       unfolding takeCard
       judge-card-refused r j m t i a = a ∙ sym (stated-answer ∙ rw (sym e ∙ i, t (conforms ps (entriesOf card)) _))
+
+      module _ (r : Matched) where
+        pub judge-card-size : k ≡ Reading.WrongSize → matchedAnswer r ≡ refused (numberOf Reason.CardSize) 0 → matchedAnswer r ≡ rowsAnswer ps xs cs card
+        judge-card-size = judge-card-refused r Reading.WrongSize 20 (λ fits c. refl)
+
+        pub judge-card-sum : k ≡ Reading.WrongSum → matchedAnswer r ≡ refused (numberOf Reason.CardSum) 0 → matchedAnswer r ≡ rowsAnswer ps xs cs card
+        judge-card-sum = judge-card-refused r Reading.WrongSum 21 (λ fits c. refl)
+
+        pub judge-card-layout : k ≡ Reading.WrongLayout → matchedAnswer r ≡ refused (numberOf Reason.CardLayout) 0 → matchedAnswer r ≡ rowsAnswer ps xs cs card
+        judge-card-layout = judge-card-refused r Reading.WrongLayout 22 (λ fits c. refl)
 
       module _ (i : k ≡ Reading.WellFormed) (fits : Bool) (f : fits ≡ conformsTo kinds (entriesOf card)) where
         conforming : fits ≡ conforms ps (entriesOf card)
@@ -104,9 +114,18 @@ module _ (b xs cs card : List ℕ) (ok : readSheet b ≡ Reading.WellFormed) (n 
 -- ---- the sheet
 
 module _ (b xs cs card : List ℕ) (k : Reading) (e : k ≡ readSheet b) (r : Matched) where
-  pub judge-sheet : (j : Reading) (n : ℕ) → ((ps : List Parameter) → sheetStep j ps ≡ stop n 0) → k ≡ j → matchedAnswer r ≡ refused n 0 → matchedAnswer r ≡ judgeAnswer b xs cs card
+  judge-sheet : (j : Reading) (n : ℕ) → ((ps : List Parameter) → sheetStep j ps ≡ stop n 0) → k ≡ j → matchedAnswer r ≡ refused n 0 → matchedAnswer r ≡ judgeAnswer b xs cs card
   unfolding judgeAnswer takeSheet
   judge-sheet j n t i h = h ∙ rw (sym e ∙ i, t (parametersOf b))
+
+  pub judge-size : k ≡ Reading.WrongSize → matchedAnswer r ≡ refused (numberOf Reason.SheetSize) 0 → matchedAnswer r ≡ judgeAnswer b xs cs card
+  judge-size = judge-sheet Reading.WrongSize 1 (λ ps. refl)
+
+  pub judge-sum : k ≡ Reading.WrongSum → matchedAnswer r ≡ refused (numberOf Reason.SheetSum) 0 → matchedAnswer r ≡ judgeAnswer b xs cs card
+  judge-sum = judge-sheet Reading.WrongSum 2 (λ ps. refl)
+
+  pub judge-layout : k ≡ Reading.WrongLayout → matchedAnswer r ≡ refused (numberOf Reason.SheetLayout) 0 → matchedAnswer r ≡ judgeAnswer b xs cs card
+  judge-layout = judge-sheet Reading.WrongLayout 3 (λ ps. refl)
 
   pub judge-right : k ≡ Reading.WellFormed → matchedAnswer r ≡ rowsAnswer (parametersOf b) xs cs card → matchedAnswer r ≡ judgeAnswer b xs cs card
   unfolding judgeAnswer takeSheet rowsAnswer

@@ -8,7 +8,9 @@ mod run;
 mod verdict;
 
 pub use operations::check;
+pub use operations::judge;
 pub use operations::match_card;
+pub use operations::prepare;
 pub use operations::select;
 use refusal::Refusal;
 
