@@ -24,6 +24,7 @@ pub mod CheckTable
 pub mod MatchTable
 pub mod SelectTable
 pub mod RowsTable
+pub mod RowsAnswered
 pub mod Contracts
 pub mod Answered
 pub mod Operators

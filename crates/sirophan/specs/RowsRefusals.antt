@@ -4,14 +4,16 @@ use Prim.Native.Nat.{ℕ, _<_}
 use mathlib.Core.Path.{_≡_}
 use mathlib.Core.Logic.{_⊎_}
 use mathlib.Core.List.{List, _++_}
-use lib.ListN.{length, drop}
+use lib.ListN.{length, take, drop}
 use Rattle.sheet.specs.Sheet.{Parameter}
 use Rattle.sheet.specs.Encode.{SheetBlock}
 use Rattle.syntax.specs.Tree.{Tree}
 use Rattle.syntax.specs.Grammar.{Spells}
 use Rattle.rows.specs.Good.{Good}
-use Rattle.refusal.specs.Answers.{Answer, count}
+use Rattle.rows.specs.Stated.{treeOf, erase}
+use Rattle.refusal.specs.Answers.{count, refused}
 use Rattle.sirophan.specs.Answers.{matchedAnswer}
+use Rattle.sirophan.specs.Operations.{matchAnswer}
 use Rattle.sirophan.specs.Preparing.{rowCells, prepareAnswer, prepareCells, judgeAnswer, preparedAnswer}
 use Rattle.sirophan.specs.Refusals.{SheetLine, CheckLine, OneCardLine}
 use Rattle.sirophan.specs.Contracts.{RefusedBy}
@@ -60,3 +62,14 @@ pub record Judges (sheet text cells card : List ℕ) (r : Matched) : Type 0 wher
 pub record PrepareAnswers (sheet text list : List ℕ) (ps : List Parameter) (f : Tree) : Type 0 where
   pub counts : prepareAnswer sheet text (length list) ≡ count (length (rowCells ps text f))
   pub writes : prepareCells sheet text list ≡ rowCells ps text f ++ drop (length (rowCells ps text f)) list
+
+-- the n cells that prepare has filled are good rows, and state the filter: the same tests, joined, negated and bracketed the same
+pub record PreparesGood (sheet text list : List ℕ) (ps : List Parameter) (f : Tree) (n : ℕ) : Type 0 where
+  pub rows : Good ps text (take n (prepareCells sheet text list))
+  pub states : erase (treeOf ps text (rows .expression)) ≡ erase f
+
+-- "match stays as the two after each other": with a list that is long enough, what prepare refuses match refuses alike, and else match is
+-- judge on the rows that prepare has written
+pub record MatchIs (sheet text card list : List ℕ) : Type 0 where
+  pub refused-alike : (n p : ℕ) → prepareAnswer sheet text (length list) ≡ refused n p → matchAnswer sheet text card ≡ refused n p
+  pub judged : (n : ℕ) → prepareAnswer sheet text (length list) ≡ count n → matchAnswer sheet text card ≡ judgeAnswer sheet text (take n (prepareCells sheet text list)) card
