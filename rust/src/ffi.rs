@@ -40,4 +40,24 @@ unsafe extern "C" {
         list: *mut u32,
         list_len: usize,
     ) -> Answer;
+
+    pub fn sirophan_prepare(
+        sheet: *const u8,
+        sheet_len: usize,
+        filter: *const u8,
+        filter_len: usize,
+        list: *mut u32,
+        list_len: usize,
+    ) -> Answer;
+
+    pub fn sirophan_judge(
+        sheet: *const u8,
+        sheet_len: usize,
+        filter: *const u8,
+        filter_len: usize,
+        rows: *const u32,
+        rows_len: usize,
+        card: *const u8,
+        card_len: usize,
+    ) -> Answer;
 }

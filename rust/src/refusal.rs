@@ -10,8 +10,8 @@ pub struct Refusal {
     /// The number, which says why there is no answer.
     pub number: u32,
     /// For 11 to 13 the length of the longest beginning of the text that also begins some filter, for 14 to 18 the first
-    /// byte of the test in the filter, for 21 to 23 the card's index in the run, for 30 the number of matching cards, and
-    /// 0 for all others.
+    /// byte of the test in the filter, for 21 to 23 the card's index in the run, for 30 the number of matching cards, for
+    /// 34 the cells that the rows need, and 0 for all others.
     pub place: usize,
 }
 
@@ -40,6 +40,8 @@ impl Refusal {
             22 => "The card breaks its layout.",
             23 => "The card does not fit the sheet: a text is under a bundle or no parameter, or cannot be read.",
             30 => "The list is shorter than the number of matching cards.",
+            34 => "The list is shorter than the filter's rows.",
+            40 => "The rows are not good for this sheet and this filter.",
             _ => "This number is not known to this version.",
         }
     }

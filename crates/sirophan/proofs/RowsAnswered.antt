@@ -275,8 +275,10 @@ module _ (sheet text list : List ℕ) where
       short-of h = let z : 1024 < length text → ⊥ = λ l. h 10 0 (inr (inl (line-10 (inr l)))) in omega arith
 
       by-inputs : (r : Step Inputs) → takeInputs sheet text ≡ r → ((n : ℕ) → prepareAnswer sheet text (length list) ≡ count n → n ≤ 1024) × ((p : ℕ) → prepareAnswer sheet text (length list) ≡ refused 34 p → p ≤ 1024)
-      by-inputs (stop n p) e = ((λ m h. let a : refused n p ≡ count m = sym (prepares (stop n p) e) ∙ h in let z : _≡_ {A = ℕ} 0 1 = cc in absurd (omega arith)),
-       (λ q h. let a : refused n p ≡ refused 34 q = sym (prepares (stop n p) e) ∙ h in let b : n ≡ 34 = cc in absurd (omega (arith, inputs-number sheet text n p e))))
+      by-inputs (stop n p) e = (
+        (λ m h. let a : refused n p ≡ count m = sym (prepares (stop n p) e) ∙ h in let z : _≡_ {A = ℕ} 0 1 = cc in absurd (omega arith)),
+        (λ q h. let a : refused n p ≡ refused 34 q = sym (prepares (stop n p) e) ∙ h in let b : n ≡ 34 = cc in absurd (omega (arith, inputs-number sheet text n p e))),
+      )
       by-inputs (found y) e =
           let k = known-of (inputs-decided sheet text bytes) y e in
           by-room (rowCells (y .parameters) text (y .filter)) (omega (arith, cells-within (y .parameters) text (y .filter) (k .0 .2), short-of (k .1))) (prepareAnswer sheet text (length list)) (prepares (found y) e)
