@@ -16,14 +16,22 @@ const GUARD: usize = 4;
 /// The row of answers of match where the filter has a condition inside a path.
 pub const CONDITIONS: &str = "match with a condition";
 
+/// Rows fill at most this many cells: each takes a byte of the text.
+const MOST_CELLS: usize = 1024;
+
 /// How many differences are printed in full.
 const PRINTED: u64 = 3;
 
-/// What can be tested: the three operations.
+/// The row of answers of judge on rows that the case's own filter does not have.
+pub const OTHER_ROWS: &str = "judge of other rows";
+
+/// What can be tested: the operations.
 pub trait Library {
     fn check(&self, sheet: &[u8], filter: &[u8]) -> Result<usize, Refusal>;
     fn matches(&self, sheet: &[u8], filter: &[u8], card: &[u8]) -> Result<bool, Refusal>;
     fn select(&self, sheet: &[u8], filter: &[u8], cards: &[u8], list: &mut [u32]) -> Result<usize, Refusal>;
+    fn prepare(&self, sheet: &[u8], filter: &[u8], list: &mut [u32]) -> Result<usize, Refusal>;
+    fn judge(&self, sheet: &[u8], filter: &[u8], rows: &[u32], card: &[u8]) -> Result<bool, Refusal>;
 }
 
 /// What a run of the test found.
@@ -59,7 +67,7 @@ impl Outcome {
         let listed = |counts: Vec<String>| counts.join(", ");
         let modes = self.modes.iter().map(|(mode, count)| format!("{mode} {count}"));
         println!("cases: {}", listed(modes.collect()));
-        for row in ["check", "match", CONDITIONS, "select"] {
+        for row in ["check", "match", CONDITIONS, "select", "prepare", "judge", OTHER_ROWS] {
             let answers = self.answers.iter().filter(|((of, _), _)| *of == row);
             let answers = answers.map(|((_, answer), count)| format!("{answer} {count}"));
             println!("{row}: {}", listed(answers.collect()));
@@ -81,7 +89,8 @@ pub fn run(library: &impl Library, seed: u64, cases: u64) -> Outcome {
         let (case, mode) = generate::case(seed, number);
         *outcome.modes.entry(mode).or_default() += 1;
         outcome.marked += u64::from(case.is_marked());
-        let differences = compare(library, &case, &mut outcome.answers);
+        let rows = generate::rows(seed, number, &case);
+        let differences = compare(library, &case, &rows, &mut outcome.answers);
         if differences.is_empty() {
             outcome.passed += 1;
             continue;
@@ -91,13 +100,19 @@ pub fn run(library: &impl Library, seed: u64, cases: u64) -> Outcome {
             println!("seed {seed}, case {number} ({mode}):");
             differences.iter().for_each(|difference| println!("  {difference}"));
             print_case(&case);
+            println!("  rows: {rows:?}");
         }
     }
     outcome
 }
 
 /// Runs each operation on both sides and tells where they differ.
-fn compare(library: &impl Library, case: &Case, answers: &mut BTreeMap<(&'static str, String), u64>) -> Vec<String> {
+fn compare(
+    library: &impl Library,
+    case: &Case,
+    rows: &[u32],
+    answers: &mut BTreeMap<(&'static str, String), u64>,
+) -> Vec<String> {
     let Case { sheet, filter, card, cards, list } = case;
     let mut differences = Vec::new();
     let mut note = |operation: &'static str, answer: String| {
@@ -125,6 +140,27 @@ fn compare(library: &impl Library, case: &Case, answers: &mut BTreeMap<(&'static
     note("select", told(ours, |count| if count > 0 { "some cards" } else { "no cards" }));
     differences.extend(difference("select", ours, theirs));
     differences.extend(difference("list", our_list, their_list));
+
+    let mut our_list = list.clone();
+    our_list.resize(lent + GUARD, 0);
+    let mut their_list = our_list.clone();
+    let ours = operations::prepare(sheet, filter, &mut our_list[..lent]);
+    let theirs = library.prepare(sheet, filter, &mut their_list[..lent]);
+    note("prepare", told(ours, |_| "cells"));
+    differences.extend(difference("prepare", ours, theirs));
+    differences.extend(difference("prepared list", our_list, their_list));
+
+    let mut prepared = [0; MOST_CELLS];
+    if let Ok(cells) = library.prepare(sheet, filter, &mut prepared) {
+        let cells = &prepared[..cells];
+        let (ours, theirs) = (operations::matches(sheet, filter, card), library.judge(sheet, filter, cells, card));
+        note("judge", told(ours, |yes| if yes { "yes" } else { "no" }));
+        differences.extend(difference("judge of prepared rows", ours, theirs));
+    }
+
+    let (ours, theirs) = (operations::judge(sheet, filter, rows, card), library.judge(sheet, filter, rows, card));
+    note(OTHER_ROWS, told(ours, |yes| if yes { "yes" } else { "no" }));
+    differences.extend(difference("judge", ours, theirs));
     differences
 }
 

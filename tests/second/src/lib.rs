@@ -1,7 +1,7 @@
 //! A second implementation of Sirophan in plain Rust. It was written from the definition of the card filter alone,
 //! without a look at the proved code, so that the two are unlikely to share a mistake.
 //!
-//! It answers what `check`, `match`, `select` and the program `pick` must answer, and it generates the inputs on which
+//! It answers what `check`, `match`, `select`, `prepare`, `judge` and the program `pick` must answer, and it generates the inputs on which
 //! the differential test compares the two.
 
 pub mod beginning;
@@ -16,5 +16,6 @@ pub mod number;
 pub mod operations;
 pub mod period;
 pub mod pick;
+pub mod rows;
 pub mod text;
 pub mod token;

@@ -1,9 +1,10 @@
-//! The three operations on bytes, with their refusals in the order of the table.
+//! The operations on bytes, with their refusals in the order of the table.
 
 use crate::beginning;
 use crate::block::{self, Flaw, Sheet};
 use crate::filter::{self, Filter};
 use crate::meaning::{self, Fault, Question};
+use crate::rows;
 
 /// The most cards of a run.
 pub const MOST_CARDS: usize = 128;
@@ -46,6 +47,26 @@ pub fn select(sheet: &[u8], filter: &[u8], cards: &[u8], list: &mut [u32]) -> Re
     Ok(found.len())
 }
 
+/// Writes the filter's rows into the list and answers how many cells they fill.
+pub fn prepare(sheet: &[u8], text: &[u8], list: &mut [u32]) -> Result<usize, Refusal> {
+    let asked = Asked::read(sheet, text)?;
+    let filter = filter::read(text).expect("a text that was read");
+    let rows = rows::write(&filter, &asked.sheet);
+    let cells = list.get_mut(..rows.len());
+    let cells = cells.ok_or(refused(34, rows.len()))?;
+    cells.copy_from_slice(&rows);
+    Ok(rows.len())
+}
+
+/// Answers whether the card matches what the rows state.
+pub fn judge(sheet: &[u8], text: &[u8], rows: &[u32], card: &[u8]) -> Result<bool, Refusal> {
+    let sheet = read_sheet(sheet)?;
+    has_size(text)?;
+    let filter = rows::read(rows, text, &sheet).ok_or(refused(40, 0))?;
+    let (_, verdict) = Asked { sheet, filter }.judge(card, 0)?;
+    Ok(verdict)
+}
+
 /// A sheet and a filter of which every test has a meaning on every card that fits the sheet.
 struct Asked {
     sheet: Sheet,
@@ -54,14 +75,8 @@ struct Asked {
 
 impl Asked {
     fn read(sheet: &[u8], filter: &[u8]) -> Result<Asked, Refusal> {
-        let sheet = block::read_sheet(sheet).map_err(|flaw| match flaw {
-            Flaw::Size => refused(1, 0),
-            Flaw::Sum => refused(2, 0),
-            Flaw::Layout => refused(3, 0),
-        })?;
-        if filter.is_empty() || filter.len() > filter::LONGEST {
-            return Err(refused(10, 0));
-        }
+        let sheet = read_sheet(sheet)?;
+        has_size(filter)?;
         let filter = filter::read(filter).ok_or_else(|| {
             let (number, place) = beginning::failure(filter);
             refused(number, place)
@@ -88,6 +103,19 @@ impl Asked {
         let held = meaning::held(&card, &self.sheet).ok_or(refused(23, index))?;
         Ok((card.record, meaning::verdict(&self.filter, &held)))
     }
+}
+
+fn read_sheet(sheet: &[u8]) -> Result<Sheet, Refusal> {
+    block::read_sheet(sheet).map_err(|flaw| match flaw {
+        Flaw::Size => refused(1, 0),
+        Flaw::Sum => refused(2, 0),
+        Flaw::Layout => refused(3, 0),
+    })
+}
+
+fn has_size(text: &[u8]) -> Result<(), Refusal> {
+    let fits = !text.is_empty() && text.len() <= filter::LONGEST;
+    fits.then_some(()).ok_or(refused(10, 0))
 }
 
 fn refused(number: u32, place: usize) -> Refusal {

@@ -23,6 +23,14 @@ impl Library for Proved {
     fn select(&self, sheet: &[u8], filter: &[u8], cards: &[u8], list: &mut [u32]) -> Result<usize, Refusal> {
         sirophan::select(sheet, filter, cards, list).map_err(refusal)
     }
+
+    fn prepare(&self, sheet: &[u8], filter: &[u8], list: &mut [u32]) -> Result<usize, Refusal> {
+        sirophan::prepare_into(sheet, filter, list).map_err(refusal)
+    }
+
+    fn judge(&self, sheet: &[u8], filter: &[u8], rows: &[u32], card: &[u8]) -> Result<bool, Refusal> {
+        sirophan::judge(sheet, filter, rows, card).map_err(refusal)
+    }
 }
 
 fn refusal(refusal: sirophan::Refusal) -> Refusal {

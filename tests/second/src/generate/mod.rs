@@ -6,9 +6,11 @@ mod filters;
 mod limits;
 mod modes;
 mod random;
+mod rows;
 mod texts;
 
 pub use random::Random;
+pub use rows::rows;
 
 use crate::block::{MARKED_CARD, MARKED_SHEET, SIZE};
 use crate::filter;
