@@ -95,7 +95,7 @@ number-group (number-13 x y) = refl
 number-group (number-11 x y) = refl
 
 module _ (text : List ℕ) where
-  abbrev SizeWrong : Type 0
+  abbrev pub SizeWrong : Type 0
   SizeWrong = (length text ≡ 0) ⊎ (1024 < length text)
 
   -- none comes before 10
@@ -125,10 +125,10 @@ module _ (text : List ℕ) where
         first = text-first a (text-place text) (text-number text);
       })
 
-  size-there : (eqb (length text) 0 || ltb 1024 (length text)) ≡ true → SizeWrong
+  pub size-there : (eqb (length text) 0 || ltb 1024 (length text)) ≡ true → SizeWrong
   size-there h = ⊎-elim (λ e. inl (eqb-true (length text) 0 e)) (λ e. inr (ltb-true 1024 (length text) e)) (or-either (eqb (length text) 0) (ltb 1024 (length text)) h)
 
-  size-back : SizeWrong → (eqb (length text) 0 || ltb 1024 (length text)) ≡ true
+  pub size-back : SizeWrong → (eqb (length text) 0 || ltb 1024 (length text)) ≡ true
   size-back =
       ⊎-elim
       (λ e. or-left (eqb (length text) 0) (ltb 1024 (length text)) (eq-eqb (length text) 0 e))

@@ -131,7 +131,7 @@ fault-at-most Fault.Unsupported p = stop-at-most 15 p (omega arith)
 fault-at-most Fault.NoMeaning p = stop-at-most 16 p (omega arith)
 fault-at-most Fault.Unreadable p = stop-at-most 17 p (omega arith)
 
-inputs-number : (sheet text : List ℕ) (n p : ℕ) → takeInputs sheet text ≡ stop n p → n ≤ 18
+pub inputs-number : (sheet text : List ℕ) (n p : ℕ) → takeInputs sheet text ≡ stop n p → n ≤ 18
 unfolding takeInputs takeSheet takeFilter testsStep
 inputs-number sheet text =
     at-most-number

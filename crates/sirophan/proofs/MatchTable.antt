@@ -68,7 +68,7 @@ module _ (sheet : List ℕ) where
     LineAt i n p = CardLine sheet b n × (p ≡ i)
 
     -- and what is found where none holds
-    abbrev TakenAs : Card → Type 0
+    abbrev pub TakenAs : Card → Type 0
     TakenAs c = Taken ps b × (c ≡ cardOf b)
 
     -- the line that ranks lowest decides
@@ -124,7 +124,7 @@ module _ (sheet card : List ℕ) where
   one-back e (line-20-match u) = absurd (u e)
   one-back e (line-of-card l) = (l, refl)
 
-  one-decided : (s : SheetBlock sheet) → Bytes card → Decided (TakenAs sheet s card) (OneCardLine sheet card) (takeCard (s .parameters) 0 card)
+  pub one-decided : (s : SheetBlock sheet) → Bytes card → Decided (TakenAs sheet s card) (OneCardLine sheet card) (takeCard (s .parameters) 0 card)
   unfolding takeCard
   one-decided s bytes = by-size (ℕ-discrete (length card) 512)
     where
