@@ -142,6 +142,27 @@ int main(void) {
     expect_cells("two of three", list, (const uint32_t[4]){7, 300, UNTOUCHED, UNTOUCHED}, 4);
     expect("no cards", sirophan_select(SHEET, FILTER(filter), cards, 0, list, 0), 0, 0);
 
+    /* The filter is read once, and its rows are judged on each card. */
+    const char *joined = "title co book and not (pages gt 100) or subject re Patient/17";
+    uint32_t rows[8] = {UNTOUCHED, UNTOUCHED, UNTOUCHED, UNTOUCHED, UNTOUCHED, UNTOUCHED, UNTOUCHED, UNTOUCHED};
+    expect("rows too long", sirophan_prepare(SHEET, FILTER(joined), rows, 5), SIROPHAN_SHORT_ROWS, 6);
+    expect("rows of a senseless filter", sirophan_prepare(SHEET, FILTER("code gt 5"), rows, 0), SIROPHAN_NO_MEANING, 0);
+    expect_cells("rows too long", rows, (const uint32_t[2]){UNTOUCHED, UNTOUCHED}, 2);
+    expect("six rows", sirophan_prepare(SHEET, FILTER(joined), rows, 8), 0, 6);
+    expect_cells("six rows", rows + 2, (const uint32_t[2]){2, 3}, 2);
+    expect_cells("six rows", rows + 5, (const uint32_t[3]){4, UNTOUCHED, UNTOUCHED}, 3);
+    expect("row of a test", (sirophan_answer){0, rows[0]}, 0, 8 * (0 + 32 * (2 + 32 * 9)));
+    expect("card 7 judged", sirophan_judge(SHEET, FILTER(joined), rows, 6, cards, BLOCK), 0, 1);
+    expect("card 19 judged", sirophan_judge(SHEET, FILTER(joined), rows, 6, cards + BLOCK, BLOCK), 0, 0);
+    expect("card 300 judged", sirophan_judge(SHEET, FILTER(joined), rows, 6, cards + 2 * BLOCK, BLOCK), 0, 1);
+    expect("a part of the rows", sirophan_judge(SHEET, FILTER(joined), rows, 4, cards + BLOCK, BLOCK), 0, 0);
+    expect("rows that do not join", sirophan_judge(SHEET, FILTER(joined), rows, 5, cards, BLOCK), SIROPHAN_BAD_ROWS, 0);
+    expect("no rows", sirophan_judge(SHEET, FILTER(joined), rows, 0, cards, BLOCK), SIROPHAN_BAD_ROWS, 0);
+    expect("rows of another filter", sirophan_judge(SHEET, FILTER("title eq a"), rows, 6, cards, BLOCK),
+           SIROPHAN_BAD_ROWS, 0);
+    expect("rows and no filter", sirophan_judge(SHEET, FILTER(""), rows, 6, cards, BLOCK), SIROPHAN_FILTER_SIZE, 0);
+    expect("rows and a short card", sirophan_judge(SHEET, FILTER(joined), rows, 6, cards, 7), SIROPHAN_CARD_SIZE, 0);
+
     cards[2 * BLOCK] ^= 1;
     expect("third card damaged", sirophan_select(SHEET, FILTER(filter), cards, sizeof cards, list, 4),
            SIROPHAN_CARD_SUM, 2);
