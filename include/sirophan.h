@@ -49,13 +49,15 @@ enum {
     SIROPHAN_UNSUPPORTED = 15,  /* the operator is ap, ss, sb, in or ni */
     SIROPHAN_NO_MEANING = 16,   /* another operator without a meaning for the parameter's kind */
     SIROPHAN_UNREADABLE = 17,   /* the value cannot be read */
+    SIROPHAN_BAD_ROWS = 40,     /* judge: the rows are not good for this sheet and this filter's text */
     SIROPHAN_CARD_SIZE = 20,    /* the card is not 512 bytes; the run is no whole number of cards, or over 128 */
     SIROPHAN_CARD_SUM = 21,     /* a card's check sum is wrong; place: the card's index, as for 22 and 23 */
     SIROPHAN_CARD_LAYOUT = 22,  /* a card breaks its layout */
     SIROPHAN_CARD_MISFIT = 23,  /* a card does not fit the sheet; a text under a bundle is among the reasons */
     SIROPHAN_SHORT_LIST = 30,   /* the list is shorter than the matches; place: their number */
     SIROPHAN_SHORT_ROWS = 31,   /* the rows are fewer than the parameters; place: the number needed */
-    SIROPHAN_SHORT_BUFFER = 32  /* the plain spelling would run past the buffer's end; place: its length */
+    SIROPHAN_SHORT_BUFFER = 32, /* the plain spelling would run past the buffer's end; place: its length */
+    SIROPHAN_SHORT_CELLS = 34   /* the list is shorter than the filter's rows; place: the cells that they need */
 };
 
 /* An answer. */
@@ -81,6 +83,25 @@ sirophan_answer sirophan_select(const uint8_t *sheet, size_t sheet_len,
                                 const uint8_t *filter, size_t filter_len,
                                 const uint8_t *cards, size_t cards_len,
                                 uint32_t *list, size_t list_len);
+
+/*
+ * Reads a sheet and a filter once, for many cards: writes the filter's rows into the list, from its first cell on, and
+ * answers how many cells they fill, never more than 1,024. list_len is in cells. Later cells stay, and a refusal writes
+ * nothing.
+ */
+sirophan_answer sirophan_prepare(const uint8_t *sheet, size_t sheet_len,
+                                 const uint8_t *filter, size_t filter_len,
+                                 uint32_t *list, size_t list_len);
+
+/*
+ * Answers whether the card matches what the rows state: 1 for yes, 0 for no. rows_len is the number of cells that
+ * sirophan_prepare has filled. With the same sheet and filter the answer is that of sirophan_match. Rows are tested like
+ * any other input, and may come from a file.
+ */
+sirophan_answer sirophan_judge(const uint8_t *sheet, size_t sheet_len,
+                               const uint8_t *filter, size_t filter_len,
+                               const uint32_t *rows, size_t rows_len,
+                               const uint8_t *card, size_t card_len);
 
 /*
  * The same by a search string such as birthdate=ge1974&code=http://loinc.org|9: pairs joined by "&", all to be met; commas

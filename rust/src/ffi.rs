@@ -59,6 +59,26 @@ unsafe extern "C" {
         list_len: usize,
     ) -> Answer;
 
+    pub fn sirophan_prepare(
+        sheet: *const u8,
+        sheet_len: usize,
+        filter: *const u8,
+        filter_len: usize,
+        list: *mut u32,
+        list_len: usize,
+    ) -> Answer;
+
+    pub fn sirophan_judge(
+        sheet: *const u8,
+        sheet_len: usize,
+        filter: *const u8,
+        filter_len: usize,
+        rows: *const u32,
+        rows_len: usize,
+        card: *const u8,
+        card_len: usize,
+    ) -> Answer;
+
     pub fn sirophan_check_search(sheet: *const u8, sheet_len: usize, text: *const u8, text_len: usize) -> Answer;
 
     pub fn sirophan_match_search(

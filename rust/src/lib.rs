@@ -15,8 +15,10 @@
 //! ```
 
 mod ffi;
+mod prepared;
 mod refusal;
 
+pub use prepared::{MOST_CELLS, Prepared, judge, prepare, prepare_into};
 pub use refusal::{Refusal, underline};
 
 /// Checks a filter against a sheet and answers how many tests the filter has.

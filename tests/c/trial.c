@@ -199,6 +199,27 @@ int main(void) {
     expect("search: list too short", sirophan_select_search(SHEET, FILTER("title="), cards, sizeof cards, list, 0),
            SIROPHAN_SHORT_LIST, 3);
 
+    /* The filter is read once, and its rows are judged on each card. */
+    const char *joined = "title co book and not (pages gt 100) or subject re Patient/17";
+    uint32_t prepared[8] = {UNTOUCHED, UNTOUCHED, UNTOUCHED, UNTOUCHED, UNTOUCHED, UNTOUCHED, UNTOUCHED, UNTOUCHED};
+    expect("rows too long", sirophan_prepare(SHEET, FILTER(joined), prepared, 5), SIROPHAN_SHORT_CELLS, 6);
+    expect("rows of a senseless filter", sirophan_prepare(SHEET, FILTER("code gt 5"), prepared, 0), SIROPHAN_NO_MEANING, 0);
+    expect_cells("rows too long", prepared, (const uint32_t[2]){UNTOUCHED, UNTOUCHED}, 2);
+    expect("six rows", sirophan_prepare(SHEET, FILTER(joined), prepared, 8), 0, 6);
+    expect_cells("six rows", prepared + 2, (const uint32_t[2]){2, 3}, 2);
+    expect_cells("six rows", prepared + 5, (const uint32_t[3]){4, UNTOUCHED, UNTOUCHED}, 3);
+    expect("row of a test", (sirophan_answer){0, prepared[0]}, 0, 8 * (0 + 32 * (2 + 32 * 9)));
+    expect("card 7 judged", sirophan_judge(SHEET, FILTER(joined), prepared, 6, cards, BLOCK), 0, 1);
+    expect("card 19 judged", sirophan_judge(SHEET, FILTER(joined), prepared, 6, cards + BLOCK, BLOCK), 0, 0);
+    expect("card 300 judged", sirophan_judge(SHEET, FILTER(joined), prepared, 6, cards + 2 * BLOCK, BLOCK), 0, 1);
+    expect("a part of the rows", sirophan_judge(SHEET, FILTER(joined), prepared, 4, cards + BLOCK, BLOCK), 0, 0);
+    expect("rows that do not join", sirophan_judge(SHEET, FILTER(joined), prepared, 5, cards, BLOCK), SIROPHAN_BAD_ROWS, 0);
+    expect("no rows", sirophan_judge(SHEET, FILTER(joined), prepared, 0, cards, BLOCK), SIROPHAN_BAD_ROWS, 0);
+    expect("rows of another filter", sirophan_judge(SHEET, FILTER("title eq a"), prepared, 6, cards, BLOCK),
+           SIROPHAN_BAD_ROWS, 0);
+    expect("rows and no filter", sirophan_judge(SHEET, FILTER(""), prepared, 6, cards, BLOCK), SIROPHAN_FILTER_SIZE, 0);
+    expect("rows and a short card", sirophan_judge(SHEET, FILTER(joined), prepared, 6, cards, 7), SIROPHAN_CARD_SIZE, 0);
+
     cards[2 * BLOCK] ^= 1;
     expect_counts("a report with the third card damaged",
                   sirophan_report(SHEET, FILTER(filter), cards, sizeof cards, rows, 0), SIROPHAN_CARD_SUM, 2, 0, 0);

@@ -42,13 +42,17 @@ pub enum Reason {
     ShortRows,
     // 32: the plain spelling would run past the buffer's end.
     ShortBuffer,
+    // 34: the list is shorter than the rows of a filter.
+    ShortCells,
+    // 40: the rows are not good.
+    BadRows,
     // 50: a part of a search string is no pair: it has a bad % or no "="; 51: a search string has more than 32 alternatives.
     NoPair,
     ManyAlternatives,
 }
 
 // A refusal: why, and where. The place is the length of the longest beginning that also begins some filter, a test's or a pair's first
-// byte, a card's index, the number of matches or of rows needed, the length of the plain spelling, or 0.
+// byte, a card's index, the number of matches, of rows or of cells needed, the length of the plain spelling, or 0.
 pub struct Refusal {
     pub reason: Reason,
     pub place: usize,

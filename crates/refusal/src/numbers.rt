@@ -27,6 +27,8 @@ pub fn number(reason: Reason) -> u32
         Reason::ShortList => 30,
         Reason::ShortRows => 31,
         Reason::ShortBuffer => 32,
+        Reason::ShortCells => 34,
+        Reason::BadRows => 40,
         Reason::NoPair => 50,
         Reason::ManyAlternatives => 51,
     }

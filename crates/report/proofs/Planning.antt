@@ -49,7 +49,7 @@ module _ (sheet text cards : List ℕ) {y : ℕ} (c : Counted sheet text cards y
   pub counted-sheet : readSheet sheet ≡ WellFormed
   counted-sheet = found-sheet sheet text cards s (c .found-as)
 
-  counted-rows : length (s .prepared .parameters) ≡ parameterCount sheet
+  counted-rows : length (s .inputs .parameters) ≡ parameterCount sheet
   unfolding parametersOf
   counted-rows = ap length (found-parameters sheet text cards s (c .found-as)) ∙ items-length parameter (parameterCount sheet) sheet 2
 
@@ -62,8 +62,8 @@ module _ (sheet text cards : List ℕ) {y : ℕ} (c : Counted sheet text cards y
   counted-cards : length (s .cards) ≡ length bs
   counted-cards = ap length (c .found-as .same) ∙ length-map bs cardOf
 
-  counted-whole : y + saying (λ d. not (says (s .prepared) d)) (s .cards) ≡ length cards / 512
-  counted-whole = omega (arith, c .yes, saying-whole (says (s .prepared)) (s .cards), counted-cards, counted-total)
+  counted-whole : y + saying (λ d. not (says (s .inputs) d)) (s .cards) ≡ length cards / 512
+  counted-whole = omega (arith, c .yes, saying-whole (says (s .inputs)) (s .cards), counted-cards, counted-total)
 
   counted-entries : entriesIn s ≡ map entriesOf (blocks (length cards / 512) cards)
   counted-entries =
@@ -120,7 +120,7 @@ module _ (sheet text cards list : List ℕ) (sel : Selected) (exit : List ℕ) (
         refused-plan r q (λ k l. rw (survey-refused sheet text cards (numberOf (r .reason)) (r .place) (sym selected ∙ ap selectedAnswer e)))
 
     module _ (y n : ℕ) (e : sel ≡ Selected.Count y) (k : n ≡ parameterCount sheet) where
-      rows-are : length (counted y e .survey-of .prepared .parameters) ≡ n
+      rows-are : length (counted y e .survey-of .inputs .parameters) ≡ n
       rows-are = counted-rows sheet text cards (counted y e) ∙ sym k
 
       pub plan-short : room < n → (r : Refusal) → r .reason ≡ Reason.ShortRows → r .place ≡ n → p ≡ record { rows = 0; steps = 0; answer = Reported.Refused r } → Plans sheet text cards room p
@@ -135,7 +135,7 @@ module _ (sheet text cards list : List ℕ) (sel : Selected) (exit : List ℕ) (
       unfolding reportedAnswer reportAnswer reportRows
       plan-counts l q =
           let c = counted y e in
-          let others : length cards / 512 - y ≡ saying (λ d. not (says (c .survey-of .prepared) d)) (c .survey-of .cards) = omega (arith, counted-whole sheet text cards c) in
+          let others : length cards / 512 - y ≡ saying (λ d. not (says (c .survey-of .inputs) d)) (c .survey-of .cards) = omega (arith, counted-whole sheet text cards c) in
           let told : reportedAnswer (p .answer) ≡ reportAnswer sheet text cards room = rw (q, found-so l room refl) (ap₂ counts (sym (c .yes)) others) in
           let total : length cards ≡ 512 * (length cards / 512) = omega (arith, run-size (c .found-as .run)) in
           let few : length cards / 512 ≤ 128 = omega (arith, counted-total sheet text cards c, c .found-as .run .few) in

@@ -14,11 +14,11 @@ use Rattle.sheet.specs.Encode.{SheetBlock}
 use Rattle.card.specs.Card.{entriesOf, recordNumber}
 use Rattle.refusal.specs.Answers.{counts, refused, yesOrNo}
 use Rattle.refusal.specs.Steps.{Step, found, stop, _>>=_, answer}
-use Rattle.sirophan.specs.Operations.{Prepared, prepare, Card, questionOf, filterQuestion, matchAnswer, selectAnswer}
+use Rattle.sirophan.specs.Operations.{Inputs, takeInputs, Card, questionOf, filterQuestion, matchAnswer, selectAnswer}
 use Rattle.sirophan.specs.Selection.{Run, matchingCards, RefusesCard}
 use Rattle.sirophan.proofs.CheckTable.{sheet-parameters}
 use Rattle.sirophan.proofs.Outcomes.{cardOf, Taken}
-use Rattle.sirophan.proofs.Prepare.{question-by}
+use Rattle.sirophan.proofs.Inputs.{question-by}
 use Rattle.sirophan.proofs.RunTable.{run-unique}
 use Rattle.sirophan.proofs.Selection.{match-taken, matching-numbers, selects-by-match, filter-number}
 use Rattle.report.specs.Operation.{Survey, survey, takeRows, says, saying, verdicts, reporting, reportAnswer, entriesIn, tallied, reportRows}
@@ -30,7 +30,7 @@ use Rattle.report.proofs.Table.{report-table}
 
 -- ---- match on each card of the run
 
-module _ (sheet text : List ℕ) (p : Prepared) (e : prepare sheet text ≡ found p) where
+module _ (sheet text : List ℕ) (p : Inputs) (e : takeInputs sheet text ≡ found p) where
   asks : filterQuestion sheet text ≡ found (questionOf p)
   asks = question-by sheet text (found p) e
 
@@ -62,7 +62,7 @@ module _ (sheet text cards : List ℕ) (room : ℕ) where
 
       by-survey : (r : Step Survey) → (r >>= takeRows room) ≡ found s → r ≡ found s
       by-survey (stop n p) h = absurd (let z : _≡_ {A = ℕ} 0 1 = cc in omega arith)
-      by-survey (found t) h = by-room t (leb (length (t .prepared .parameters)) room) 31 (length (t .prepared .parameters)) h
+      by-survey (found t) h = by-room t (leb (length (t .inputs .parameters)) room) 31 (length (t .inputs .parameters)) h
 
   -- a refusal with another number than 31 is the survey's
   reporting-stopped : (n p : ℕ) → (n ≡ 31 → ⊥) → reporting sheet text cards room ≡ stop n p → survey sheet text cards ≡ stop n p
@@ -75,31 +75,31 @@ module _ (sheet text cards : List ℕ) (room : ℕ) where
 
       by-survey : (r : Step Survey) → (r >>= takeRows room) ≡ stop n p → r ≡ stop n p
       by-survey (stop m q) h = h
-      by-survey (found t) h = by-room t (leb (length (t .prepared .parameters)) room) (length (t .prepared .parameters)) h
+      by-survey (found t) h = by-room t (leb (length (t .inputs .parameters)) room) (length (t .inputs .parameters)) h
 
 module _ (sheet text cards : List ℕ) (b : SheetBlock sheet) (rows : List Tally) (bs : List (List ℕ)) (run : Run cards bs) where
   module _ (s : Survey) (f : Found sheet text cards s) where
     same-blocks : f .blocks ≡ bs
     same-blocks = run-unique (f .run) run
 
-    taken : All (Taken (s .prepared .parameters)) bs
-    taken = subst (All (Taken (s .prepared .parameters))) same-blocks (f .taken)
+    taken : All (Taken (s .inputs .parameters)) bs
+    taken = subst (All (Taken (s .inputs .parameters))) same-blocks (f .taken)
 
     same-cards : s .cards ≡ map cardOf bs
     same-cards = f .same ∙ ap (map cardOf) same-blocks
 
     counts-are : verdicts s ≡ counts (length (matchingCards (matchAnswer sheet text) bs)) (length (otherCards sheet text bs))
-    counts-are = rw same-cards (ap₂ counts (yes-matches sheet text (s .prepared) (f .prepares) taken) (no-matches sheet text (s .prepared) (f .prepares) taken))
+    counts-are = rw same-cards (ap₂ counts (yes-matches sheet text (s .inputs) (f .inputs-taken) taken) (no-matches sheet text (s .inputs) (f .inputs-taken) taken))
 
     make-up : length (matchingCards (matchAnswer sheet text) bs) + length (otherCards sheet text bs) ≡ length bs
     make-up =
-        ap₂ (λ (x y : ℕ). x + y) (sym (yes-matches sheet text (s .prepared) (f .prepares) taken)) (sym (no-matches sheet text (s .prepared) (f .prepares) taken))
-        ∙ saying-whole (says (s .prepared)) (map cardOf bs) ∙ length-map bs cardOf
+        ap₂ (λ (x y : ℕ). x + y) (sym (yes-matches sheet text (s .inputs) (f .inputs-taken) taken)) (sym (no-matches sheet text (s .inputs) (f .inputs-taken) taken))
+        ∙ saying-whole (says (s .inputs)) (map cardOf bs) ∙ length-map bs cardOf
 
     rows-are : tallied (found s) rows ≡ rowsOf (b .parameters) bs rows
     rows-are =
         let entries : entriesIn s ≡ map entriesOf bs = ap (map (λ (c : Card). c .entries)) same-cards ∙ map-map (λ (c : Card). c .entries) cardOf bs in
-        let count : s .prepared .parameters ≡ b .parameters = found-parameters sheet text cards s f ∙ sheet-parameters sheet b in
+        let count : s .inputs .parameters ≡ b .parameters = found-parameters sheet text cards s f ∙ sheet-parameters sheet b in
         rw (entries, count)
 
   module _ (t : Step Survey) (e : reporting sheet text cards (length rows) ≡ t) where

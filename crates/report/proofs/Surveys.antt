@@ -17,7 +17,7 @@ use Rattle.syntax.specs.Tree.{testsOf}
 use Rattle.refusal.specs.Answers.{count, refused}
 use Rattle.refusal.specs.Steps.{Step, found, stop, _>>=_, answer}
 use Rattle.sirophan.specs.Answers.{checkedAnswer}
-use Rattle.sirophan.specs.Operations.{checkAnswer, Prepared, prepare, Card, questionOf, filterQuestion, takeRun, takeCards, matching, takeRoom, selection, selectBy, selectAnswer}
+use Rattle.sirophan.specs.Operations.{checkAnswer, Inputs, takeInputs, Card, questionOf, filterQuestion, takeRun, takeCards, matching, takeRoom, selection, selectBy, selectAnswer}
 use Rattle.sirophan.specs.Passing.{Passing}
 use Rattle.sirophan.specs.Selection.{Run}
 use Rattle.sirophan.specs.declared.Checked.{Checked}
@@ -29,7 +29,7 @@ use Rattle.report.specs.Operation.{Survey, survey, says, saying}
 
 -- ---- how many cards say yes, and how many no
 
-pub saying-matches : (p : Prepared) (cs : List Card) → length (matching (questionOf p .says) cs) ≡ saying (says p) cs
+pub saying-matches : (p : Inputs) (cs : List Card) → length (matching (questionOf p .says) cs) ≡ saying (says p) cs
 unfolding matching saying
 saying-matches p [] = refl
 saying-matches p (c ∷ cs) = go (says p c) (matching (questionOf p .says) cs) (saying-matches p cs)
@@ -54,20 +54,20 @@ module _ (sheet text cards : List ℕ) where
   pub record Found (s : Survey) : Type 0 where
     pub blocks : List (List ℕ)
     pub run : Run cards blocks
-    pub prepares : prepare sheet text ≡ found (s .prepared)
-    pub taken : All (Taken (s .prepared .parameters)) blocks
+    pub inputs-taken : takeInputs sheet text ≡ found (s .inputs)
+    pub taken : All (Taken (s .inputs .parameters)) blocks
     pub same : s .cards ≡ map cardOf blocks
 
   -- the selection is that of the survey
   abbrev matchesOf : Survey → List ℕ
-  matchesOf s = matching (questionOf (s .prepared) .says) (s .cards)
+  matchesOf s = matching (questionOf (s .inputs) .says) (s .cards)
 
   data Outcome : Step Survey → Step (List ℕ) → Type 0 where
     stopped : (n p : ℕ) → Outcome (stop n p) (stop n p)
     surveyed : (s : Survey) → Found s → Outcome (found s) (found (matchesOf s))
 
   -- all matches of a run have room
-  room-enough : (p : Prepared) (bs : List (List ℕ)) → Run cards bs → takeRoom 128 (matching (questionOf p .says) (map cardOf bs)) ≡ found (matching (questionOf p .says) (map cardOf bs))
+  room-enough : (p : Inputs) (bs : List (List ℕ)) → Run cards bs → takeRoom 128 (matching (questionOf p .says) (map cardOf bs)) ≡ found (matching (questionOf p .says) (map cardOf bs))
   unfolding takeRoom
   room-enough p bs run =
       let few : length (matching (questionOf p .says) (map cardOf bs)) ≤ 128 =
@@ -75,26 +75,26 @@ module _ (sheet text cards : List ℕ) where
       in
       rw (le-leb (length (matching (questionOf p .says) (map cardOf bs))) 128 few)
 
-  by-cards : (p : Prepared) (bs : List (List ℕ)) → prepare sheet text ≡ found p → Run cards bs → {cs : Step (List Card)} → CardsOutcome (p .parameters) 0 bs cs
-      → Outcome (cs >>= λ ds. found (record { prepared = p; cards = ds })) (cs >>= λ ds. takeRoom 128 (matching (questionOf p .says) ds))
+  by-cards : (p : Inputs) (bs : List (List ℕ)) → takeInputs sheet text ≡ found p → Run cards bs → {cs : Step (List Card)} → CardsOutcome (p .parameters) 0 bs cs
+      → Outcome (cs >>= λ ds. found (record { inputs = p; cards = ds })) (cs >>= λ ds. takeRoom 128 (matching (questionOf p .says) ds))
   by-cards p bs e run (all-taken ts) =
-      rw (room-enough p bs run) (surveyed (record { prepared = p; cards = map cardOf bs }) (record { blocks = bs; run = run; prepares = e; taken = ts; same = refl }))
+      rw (room-enough p bs run) (surveyed (record { inputs = p; cards = map cardOf bs }) (record { blocks = bs; run = run; inputs-taken = e; taken = ts; same = refl }))
   by-cards p bs e run (one-stopped before b after n j split k ts m s) = stopped n j
 
-  by-run : (p : Prepared) → prepare sheet text ≡ found p → (r : Step (List (List ℕ))) → takeRun cards ≡ r
-      → Outcome (r >>= λ bs. takeCards (p .parameters) 0 bs >>= λ ds. found (record { prepared = p; cards = ds })) (r >>= λ bs. takeCards (p .parameters) 0 bs >>= λ ds. takeRoom 128 (matching (questionOf p .says) ds))
+  by-run : (p : Inputs) → takeInputs sheet text ≡ found p → (r : Step (List (List ℕ))) → takeRun cards ≡ r
+      → Outcome (r >>= λ bs. takeCards (p .parameters) 0 bs >>= λ ds. found (record { inputs = p; cards = ds })) (r >>= λ bs. takeCards (p .parameters) 0 bs >>= λ ds. takeRoom 128 (matching (questionOf p .says) ds))
   by-run p e (stop n i) h = stopped n i
   by-run p e (found bs) h = by-cards p bs e (run-iff cards bs .0 h) (cards-outcome (p .parameters) 0 bs)
 
   outcome : Outcome (survey sheet text cards) (selection (filterQuestion sheet text) cards 128)
   unfolding survey selection filterQuestion
-  outcome = by-prepare (prepare sheet text) refl
+  outcome = by-inputs (takeInputs sheet text) refl
     where
-      by-prepare : (r : Step Prepared) → prepare sheet text ≡ r
-          → Outcome (r >>= λ p. takeRun cards >>= λ bs. takeCards (p .parameters) 0 bs >>= λ ds. found (record { prepared = p; cards = ds }))
+      by-inputs : (r : Step Inputs) → takeInputs sheet text ≡ r
+          → Outcome (r >>= λ p. takeRun cards >>= λ bs. takeCards (p .parameters) 0 bs >>= λ ds. found (record { inputs = p; cards = ds }))
           ((r >>= λ p. found (questionOf p)) >>= λ q. takeRun cards >>= λ bs. takeCards (q .parameters) 0 bs >>= λ ds. takeRoom 128 (matching (q .says) ds))
-      by-prepare (stop n i) e = stopped n i
-      by-prepare (found p) e = by-run p e (takeRun cards) refl
+      by-inputs (stop n i) e = stopped n i
+      by-inputs (found p) e = by-run p e (takeRun cards) refl
 
   -- ---- what it comes to, and by what select answers
 
@@ -127,7 +127,7 @@ module _ (sheet text cards : List ℕ) where
     pub survey-of : Survey
     pub finds : survey sheet text cards ≡ found survey-of
     pub found-as : Found survey-of
-    pub yes : saying (says (survey-of .prepared)) (survey-of .cards) ≡ y
+    pub yes : saying (says (survey-of .inputs)) (survey-of .cards) ≡ y
 
   pub survey-counted : (y : ℕ) → selectAnswer sheet text cards 128 ≡ count y → Counted y
   unfolding selectBy
@@ -137,23 +137,23 @@ module _ (sheet text cards : List ℕ) where
       go (stopped m q) e h = absurd (let z : _≡_ {A = ℕ} 0 1 = cc in omega arith)
       go (surveyed s f) e h =
           let same : length (matchesOf s) ≡ y = cc in
-          record { survey-of = s; finds = e; found-as = f; yes = sym (saying-matches (s .prepared) (s .cards)) ∙ same }
+          record { survey-of = s; finds = e; found-as = f; yes = sym (saying-matches (s .inputs) (s .cards)) ∙ same }
 
   -- ---- the sheet and the cards of a survey
 
   module _ (s : Survey) (f : Found s) where
-    checked : checkedAnswer (Checked.Tests (length (testsOf (s .prepared .filter)))) ≡ checkAnswer sheet text
+    checked : checkedAnswer (Checked.Tests (length (testsOf (s .inputs .filter)))) ≡ checkAnswer sheet text
     unfolding checkedAnswer checkAnswer
-    checked = rw (f .prepares)
+    checked = rw (f .inputs-taken)
 
     passes : Passing sheet text
-    passes = passing sheet text (Checked.Tests (length (testsOf (s .prepared .filter)))) (length (testsOf (s .prepared .filter))) checked refl
+    passes = passing sheet text (Checked.Tests (length (testsOf (s .inputs .filter)))) (length (testsOf (s .inputs .filter))) checked refl
 
     pub found-sheet : readSheet sheet ≡ WellFormed
     found-sheet = passes .sheet-well-formed
 
-    pub found-parameters : s .prepared .parameters ≡ parametersOf sheet
-    found-parameters = let e = f .prepares in let g = passes .prepared in cc
+    pub found-parameters : s .inputs .parameters ≡ parametersOf sheet
+    found-parameters = let e = f .inputs-taken in let g = passes .inputs-taken in cc
 
     pub found-cards : All (λ (b : List ℕ). readCard b ≡ WellFormed) (f .blocks)
-    found-cards = all-map (λ b t. card-taken (s .prepared .parameters) 0 b (cardOf b) (t 0) .0) (f .taken)
+    found-cards = all-map (λ b t. card-taken (s .inputs .parameters) 0 b (cardOf b) (t 0) .0) (f .taken)

@@ -22,7 +22,7 @@ use Rattle.refusal.proofs.Deciding.{Decided, none-holds, one-decides, decided-a
 use Rattle.refusal.proofs.Order.{apart-at, no-lower-rank}
 use Rattle.sirophan.specs.Operations.{Card, takeCards}
 use Rattle.sirophan.specs.Refusals.{CheckLine, RunLine, CardsLine}
-use Rattle.sirophan.proofs.CheckTable.{sheet-parameters, check-group, prepare-decided}
+use Rattle.sirophan.proofs.CheckTable.{sheet-parameters, check-group, inputs-decided}
 use Rattle.sirophan.proofs.RunTable.{run-decided, run-group, cards-group, taken-decided}
 use Rattle.report.specs.Operation.{Survey, survey, takeRows, verdicts, reporting, reportAnswer}
 use Rattle.report.specs.Refusals.{RowsLine, line-31, ReportLine}
@@ -43,7 +43,7 @@ module _ (sheet text cards : List ℕ) where
 
   -- the sheet has the parameters of the survey
   abbrev HasSheet : Survey → Type 0
-  HasSheet s = (b : SheetBlock sheet) × (b .parameters ≡ s .prepared .parameters)
+  HasSheet s = (b : SheetBlock sheet) × (b .parameters ≡ s .inputs .parameters)
 
   runs-above : (n p : ℕ) → RunLines n p → group 14 < group n
   unfolding group member
@@ -63,11 +63,11 @@ module _ (sheet text cards : List ℕ) where
   survey-decided : Bytes sheet → Bytes cards → Decided HasSheet SurveyLine (survey sheet text cards)
   unfolding survey
   survey-decided sheet-bytes bytes =
-      decided-then (CheckLine sheet text) RunLines (apart-at (CheckLine sheet text) RunLines (group 14) (check-group sheet text) runs-above) (prepare-decided sheet text sheet-bytes)
+      decided-then (CheckLine sheet text) RunLines (apart-at (CheckLine sheet text) RunLines (group 14) (check-group sheet text) runs-above) (inputs-decided sheet text sheet-bytes)
       (λ p _ ready.
       decided-then (RunLine cards) (CardsLine sheet cards)
       (apart-at (RunLine cards) (CardsLine sheet cards) (group 20) (λ n q l. le-of-eq (run-group sheet cards n q l)) cards-above) (run-decided cards)
-      (λ bs _ run. decided-found (λ (cs : List Card). record { prepared = p; cards = cs }) (λ cs _. (ready .0, ready .1))
+      (λ bs _ run. decided-found (λ (cs : List Card). record { inputs = p; cards = cs }) (λ cs _. (ready .0, ready .1))
       (subst (λ (ps : List Parameter). Decided (λ (cs : List Card). Unit {0}) (CardsLine sheet cards) (takeCards ps 0 bs)) (ready .1)
       (decided-known (taken-decided sheet cards bytes (ready .0) bs run)))))
 
@@ -88,10 +88,10 @@ module _ (sheet text cards : List ℕ) where
     unfolding takeRows
     rows-decided s k =
         let b = k .0 in
-        let same : length (b .parameters) ≡ length (s .prepared .parameters) = ap length (k .1) in
-        cond-elim (Decided HasSheet (RowsLine sheet room)) (leb (length (s .prepared .parameters)) room)
-        (λ h. none-holds k (rows-none b (omega (arith, leb-true (length (s .prepared .parameters)) room h))))
-        (λ h. rw (← same) (one-decides (record { holds = line-31 b (omega (arith, leb-false (length (s .prepared .parameters)) room h)); first = rows-first b })))
+        let same : length (b .parameters) ≡ length (s .inputs .parameters) = ap length (k .1) in
+        cond-elim (Decided HasSheet (RowsLine sheet room)) (leb (length (s .inputs .parameters)) room)
+        (λ h. none-holds k (rows-none b (omega (arith, leb-true (length (s .inputs .parameters)) room h))))
+        (λ h. rw (← same) (one-decides (record { holds = line-31 b (omega (arith, leb-false (length (s .inputs .parameters)) room h)); first = rows-first b })))
 
     rows-above : (n p : ℕ) → RowsLine sheet room n p → group 21 < group n
     unfolding group member

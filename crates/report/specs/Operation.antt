@@ -9,7 +9,7 @@ use Rattle.card.specs.Card.{Entry}
 use Rattle.judge.specs.Verdicts.{filterSays}
 use Rattle.refusal.specs.Answers.{Answer, counts, refusalAnswer}
 use Rattle.refusal.specs.Steps.{Step, found, stop, _>>=_, answer}
-use Rattle.sirophan.specs.Operations.{Prepared, prepare, Card, takeRun, takeCards}
+use Rattle.sirophan.specs.Operations.{Inputs, takeInputs, Card, takeRun, takeCards}
 use Rattle.report.specs.Tallies.{tallies}
 use Rattle.report.specs.declared.Tally.{Tally}
 use Rattle.report.specs.declared.Reported.{Reported}
@@ -21,26 +21,26 @@ reportedAnswer (Reported.Refused r) = refusalAnswer r
 
 -- a sheet and a filter that check passes, and a run of cards that conform
 pub record Survey : Type 0 where
-  pub prepared : Prepared
+  pub inputs : Inputs
   pub cards : List Card
 
 unfoldable pub survey : (sheet text cards : List ℕ) → Step Survey
 survey sheet text cards = do
-  p ← prepare sheet text
+  p ← takeInputs sheet text
   bs ← takeRun cards
   cs ← takeCards (p .parameters) 0 bs
-  found (record { prepared = p; cards = cs })
+  found (record { inputs = p; cards = cs })
 
 -- how many rows there are: "one per parameter"
 abbrev pub rowCount : Survey → ℕ
-rowCount s = length (s .prepared .parameters)
+rowCount s = length (s .inputs .parameters)
 
 -- 31: "when the rows are fewer than the parameters, place the number needed"
 unfoldable pub takeRows : ℕ → Survey → Step Survey
 takeRows room s = cond (leb (rowCount s) room) (found s) (stop 31 (rowCount s))
 
 -- what the filter says of a card
-abbrev pub says : Prepared → Card → Bool
+abbrev pub says : Inputs → Card → Bool
 says p c = filterSays (p .parameters) 0 (c .entries) (p .filter)
 
 -- on how many cards a test passes
@@ -50,7 +50,7 @@ saying test (c ∷ cs) = cond (test c) (suc (saying test cs)) (saying test cs)
 
 -- "how many say yes, how many say no"
 abbrev pub verdicts : Survey → Answer
-verdicts s = counts (saying (says (s .prepared)) (s .cards)) (saying (λ c. not (says (s .prepared) c)) (s .cards))
+verdicts s = counts (saying (says (s .inputs)) (s .cards)) (saying (λ c. not (says (s .inputs) c)) (s .cards))
 
 unfoldable pub reporting : (sheet text cards : List ℕ) → (room : ℕ) → Step Survey
 reporting sheet text cards room = do

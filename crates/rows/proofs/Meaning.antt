@@ -4,31 +4,39 @@ use Prim.Native.Nat.{ℕ, zero, suc, _-_}
 use native.Mathlib.Omega.{arith}
 use mathlib.Core.Path.{_≡_, refl, sym, ap, ap₂, subst, _∙_}
 use mathlib.Core.Bool.{Bool, true, false, cond, not}
-use mathlib.Core.List.{List, [], _∷_, _++_}
+use mathlib.Core.Option.{Option, none, some}
+use mathlib.Core.List.{List, [], _∷_, _++_, map}
+use lib.Dec.{leb}
 use lib.ListN.{length, getD}
-use Rattle.base.specs.Lists.{All}
+use borrow.Author.Tests.{leb-true}
+use Rattle.base.specs.Lists.{All, all-empty, all-cons}
+use Rattle.base.specs.Operators.{pr}
 use Rattle.base.specs.Kinds.{bundleKind}
-use Rattle.base.proofs.All.{all-head, all-right}
+use Rattle.base.proofs.Tests.{and-left, both-ways}
+use Rattle.base.proofs.All.{all-append}
 use Rattle.sheet.specs.Sheet.{Parameter, parameter}
 use Rattle.sheet.specs.Find.{find, enter, Listed, kindsOf, parentsOf}
 use Rattle.sheet.specs.Encode.{WellFormedSheet, HasParent, at-top, in-bundle}
 use Rattle.sheet.specs.declared.Found.{Found}
 use Rattle.sheet.proofs.Listed.{find-iff, table-listed}
 use Rattle.card.specs.Card.{Entry}
-use Rattle.syntax.specs.Tree.{Test, name, moved, Tree, test, bracketed, join, negation}
+use Rattle.syntax.specs.Tree.{Test, name, moved, under, testsOf, Tree, test, bracketed, join, negation}
 use Rattle.syntax.specs.Scan.{valueAt}
 use Rattle.syntax.specs.declared.FoundValue.{FoundValue}
 use Rattle.syntax.proofs.Values.{Found as ValueFound}
 use Rattle.judge.specs.Sets.{lookup, ofOccurrence, keep}
 use Rattle.judge.specs.Verdicts.{saysAt, testSays, joined, filterSays}
-use Rattle.judge.proofs.Rules.{enters}
-use Rattle.rows.specs.Expression.{Expression, probing, choosing, joining, negating}
+use Rattle.kind.specs.Rules.{TrueOrFalse, ReadableValue, value-of-pr, value-of-kind}
+use Rattle.judge.proofs.Rules.{PrSpelled, enters}
+use Rattle.rows.specs.Expression.{Expression, probing, choosing, joining, negating, testCount}
+use Rattle.rows.specs.Cells.{stated}
 use Rattle.rows.specs.Good.{FitsTo, Fits, fits-test, fits-bracket, fits-join, fits-not, Good}
-use Rattle.rows.specs.Shapes.{valueIn}
-use Rattle.rows.specs.Saying.{probeSaysBy, probeSays, expressionSays}
+use Rattle.rows.specs.Shapes.{valueIn, shapeOf, isWithin, goodBy, good}
+use Rattle.rows.specs.Saying.{probeSaysBy, probeSays, expressionSays, statedSays, rowsSay, Whole}
 use Rattle.rows.specs.Stated.{nameAt, valueBy, testFor, bundleFor, treeOf, erase}
 use Rattle.rows.specs.declared.Probe.{Probe}
-use Rattle.rows.proofs.Good.{listed-all}
+use Rattle.rows.proofs.Stating.{some-same}
+use Rattle.rows.proofs.Good.{listed-all, good-states, good-iff}
 use Rattle.rows.proofs.Values.{from-found}
 
 pub name-listed : {ps : List Parameter} {i : ℕ} {q : Parameter} → Listed ps i q → nameAt i ps ≡ q .name
@@ -91,3 +99,46 @@ erase-says ps c es (bracketed p b f t) =
     ap (λ (l : List Entry). testSays ps (enter ps c b) l t) (keep-same (λ e. filterSays ps (enter ps c b) (ofOccurrence (e .occurrence) es) (erase f)) (λ e. filterSays ps (enter ps c b) (ofOccurrence (e .occurrence) es) f) (λ e. erase-says ps (enter ps c b) (ofOccurrence (e .occurrence) es) f) es)
 erase-says ps c es (join k f g) = ap₂ (joined k) (erase-says ps c es f) (erase-says ps c es g)
 erase-says ps c es (negation f) = ap not (erase-says ps c es f)
+
+-- ---- good rows
+
+-- they state an expression that a stack of 32 holds
+pub good-whole : (kinds parents xs cs : List ℕ) → good kinds parents xs cs ≡ true → Whole cs
+unfolding good
+good-whole kinds parents xs cs h = by-stated (stated cs) refl h
+  where
+    by-stated : (o : Option Expression) → stated cs ≡ o → goodBy kinds parents xs o ≡ true → Whole cs
+    by-stated none i g = both-ways g refl
+    by-stated (some e) i g = record { expression = e; states = i; few = leb-true (testCount e) 32 (and-left (leb (testCount e) 32) (isWithin (shapeOf kinds parents xs e)) g) }
+
+-- and say what its tree says
+pub rows-mean : (ps : List Parameter) → WellFormedSheet ps → (xs cs : List ℕ) (e : Expression) → good (kindsOf ps) (parentsOf ps) xs cs ≡ true → stated cs ≡ some e → (es : List Entry)
+    → rowsSay (kindsOf ps) xs es cs ≡ filterSays ps 0 es (treeOf ps xs e)
+unfolding rowsSay
+rows-mean ps w xs cs e h i es =
+    let g : Good ps xs cs = good-iff ps w xs cs .0 h in
+    let same : g .expression ≡ e = some-same (sym (good-states ps w xs g) ∙ i) in
+    ap (statedSays (kindsOf ps) xs es) i ∙ says-is ps w xs (subst (Fits ps xs 0) same (g .fits)) es
+
+-- pr's values are true or false
+value-of : (ps : List Parameter) (xs : List ℕ) (p : Probe) (q : Parameter) → FitsTo xs q p → PrSpelled (testFor ps xs p)
+unfolding testFor
+value-of ps xs p q f e =
+    let v = from-found (f .from) in
+    let same : valueBy xs (valueAt xs (p .position)) ≡ f .contents = ap (valueBy xs) (v .found) ∙ v .decodes in
+    subst TrueOrFalse (sym same) (spelled (subst (ReadableValue (q .kind) (f .contents)) e (f .readable)))
+  where
+    spelled : {k : ℕ} {w : List ℕ} → ReadableValue k w pr → TrueOrFalse w
+    spelled (value-of-pr t) = t
+    spelled (value-of-kind n r) = absurd (n refl)
+
+pub fits-spelled : (ps : List Parameter) (xs : List ℕ) {c : ℕ} {e : Expression} → Fits ps xs c e → All PrSpelled (testsOf (treeOf ps xs e))
+unfolding treeOf testsOf
+fits-spelled ps xs (fits-test {p = p} {q = q} l e f) = all-cons (value-of ps xs p q f) all-empty
+fits-spelled ps xs (fits-bracket {e = e} {p = p} {q = q} l i m k f g) = spelled-under (bundleFor ps p) (moved (p .position) (testFor ps xs p) ∷ testsOf (treeOf ps xs e)) (all-cons (value-of ps xs p q f) (fits-spelled ps xs g))
+  where
+    spelled-under : (b : List ℕ) (ts : List Test) → All PrSpelled ts → All PrSpelled (map (under b) ts)
+    spelled-under b [] all-empty = all-empty
+    spelled-under b (t ∷ ts) (all-cons a h) = all-cons a (spelled-under b ts h)
+fits-spelled ps xs (fits-join a b) = all-append PrSpelled (fits-spelled ps xs a) (fits-spelled ps xs b)
+fits-spelled ps xs (fits-not a) = fits-spelled ps xs a

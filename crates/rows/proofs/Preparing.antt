@@ -238,5 +238,6 @@ module _ (ps : List Parameter) (w : WellFormedSheet ps) (xs : List ℕ) where
         }
 
     -- and state it
-    pub prepared-states : erase (treeOf ps xs (prepared ps xs 0 f)) ≡ erase f
+    pub prepared-states : erase (treeOf ps xs (prepared-good .expression)) ≡ erase f
+    unfolding prepared-good
     prepared-states = whole .same

@@ -29,7 +29,7 @@ use Rattle.place.proofs.Place.{text-place, text-number, longest-unique, number-
 use Rattle.judge.specs.Faults.{firstFault}
 use Rattle.refusal.specs.Answers.{count, refused}
 use Rattle.refusal.specs.Steps.{Step, found, _>>=_}
-use Rattle.sirophan.specs.Operations.{sheetStep, takeSheet, treeStep, takeFilter, testsStep, Prepared, prepare, checkAnswer}
+use Rattle.sirophan.specs.Operations.{sheetStep, takeSheet, treeStep, takeFilter, testsStep, Inputs, takeInputs, checkAnswer}
 use Rattle.sirophan.specs.Demand.{filterTests}
 use Rattle.sirophan.specs.Numbers.{TestLine, line-14, line-18, line-15, line-16, line-17}
 use Rattle.refusal.specs.Order.{group, rank, Before, Decides}
@@ -38,7 +38,7 @@ use Rattle.refusal.proofs.Answers.{count-not-refused}
 use Rattle.refusal.proofs.Deciding.{Decided, none-holds, one-decides, decided-as, decided-then, decided-found, decided-answer}
 use Rattle.sirophan.proofs.Outcomes.{ReadsTo, size-wrong, sum-wrong, layout-wrong, all-right, TestOutcome, test-means, test-refused}
 use Rattle.sirophan.proofs.Faults.{outcome}
-use Rattle.sirophan.proofs.Prepare.{tests-next}
+use Rattle.sirophan.proofs.Inputs.{tests-next}
 use Rattle.sirophan.proofs.Blocks.{sheet-reads-to}
 use Rattle.refusal.proofs.Order.{apart-at, before-itself, before-ranks, later-group, later-place, no-lower-rank}
 
@@ -95,7 +95,7 @@ number-group (number-13 x y) = refl
 number-group (number-11 x y) = refl
 
 module _ (text : List ℕ) where
-  abbrev SizeWrong : Type 0
+  abbrev pub SizeWrong : Type 0
   SizeWrong = (length text ≡ 0) ⊎ (1024 < length text)
 
   -- none comes before 10
@@ -125,10 +125,10 @@ module _ (text : List ℕ) where
         first = text-first a (text-place text) (text-number text);
       })
 
-  size-there : (eqb (length text) 0 || ltb 1024 (length text)) ≡ true → SizeWrong
+  pub size-there : (eqb (length text) 0 || ltb 1024 (length text)) ≡ true → SizeWrong
   size-there h = ⊎-elim (λ e. inl (eqb-true (length text) 0 e)) (λ e. inr (ltb-true 1024 (length text) e)) (or-either (eqb (length text) 0) (ltb 1024 (length text)) h)
 
-  size-back : SizeWrong → (eqb (length text) 0 || ltb 1024 (length text)) ≡ true
+  pub size-back : SizeWrong → (eqb (length text) 0 || ltb 1024 (length text)) ≡ true
   size-back =
       ⊎-elim
       (λ e. or-left (eqb (length text) 0) (ltb 1024 (length text)) (eq-eqb (length text) 0 e))
@@ -186,8 +186,8 @@ module _ (ps : List Parameter) where
 -- ---- check
 
 module _ (sheet text : List ℕ) where
-  -- what is prepared: the sheet's parameters and the text's tree
-  abbrev pub Ready : Prepared → Type 0
+  -- what is taken: the sheet's parameters and the text's tree
+  abbrev pub Ready : Inputs → Type 0
   Ready r = (s : SheetBlock sheet) × (s .parameters ≡ r .parameters) × Spells text (r .filter)
 
   module _ (s : SheetBlock sheet) (f : Tree) (spells : Spells text f) where
@@ -234,9 +234,9 @@ module _ (sheet text : List ℕ) where
       (apart-at (TextLine text) (TestsLine sheet text) (group 11) (λ n p l. text-group n p l .1) (λ n p l. tests-group n p l .0))
       (text-decided text) (λ f _ spells. filter-decided s f spells)
 
-  pub prepare-decided : Bytes sheet → Decided Ready (CheckLine sheet text) (prepare sheet text)
-  unfolding prepare
-  prepare-decided bytes =
+  pub inputs-decided : Bytes sheet → Decided Ready (CheckLine sheet text) (takeInputs sheet text)
+  unfolding takeInputs
+  inputs-decided bytes =
       decided-then (SheetLine sheet) (λ n p. TextLine text n p ⊎ TestsLine sheet text n p)
       (apart-at (SheetLine sheet) (λ n p. TextLine text n p ⊎ TestsLine sheet text n p) (group 3) sheet-group (λ n p l. later-groups n p l .0))
       (sheet-decided sheet bytes) (λ ps _ of-sheet. rw (← of-sheet .1) (text-step (of-sheet .0)))
@@ -246,4 +246,4 @@ module _ (sheet text : List ℕ) where
   unfolding checkAnswer
   check-table bytes =
       decided-answer (CheckLine sheet text)
-      (decided-found (λ r. count (length (testsOf (r .filter)))) (λ r _. count-not-refused (length (testsOf (r .filter)))) (prepare-decided bytes))
+      (decided-found (λ r. count (length (testsOf (r .filter)))) (λ r _. count-not-refused (length (testsOf (r .filter)))) (inputs-decided bytes))

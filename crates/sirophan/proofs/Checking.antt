@@ -30,7 +30,7 @@ use Rattle.sirophan.specs.declared.Checked.{Checked}
 use Rattle.refusal.specs.Answers.{Answer, count, refused, numberOf}
 use Rattle.sirophan.specs.Answers.{checkedAnswer}
 use Rattle.refusal.specs.Steps.{Step, found, stop, _>>=_, answer}
-use Rattle.sirophan.specs.Operations.{treeStep, takeFilter, faultStep, testsStep, sheetStep, takeSheet, filterAnswer, Prepared, prepare, checkAnswer}
+use Rattle.sirophan.specs.Operations.{treeStep, takeFilter, faultStep, testsStep, sheetStep, takeSheet, filterAnswer, Inputs, takeInputs, checkAnswer}
 use Rattle.sirophan.specs.Passing.{summaryAnswer, failureAnswer}
 
 -- ---- the answer for a text that is a filter
@@ -112,26 +112,26 @@ walk-within ps xs start w end a e h = filter-ahead Walked.Done Walked.Nothing wa
 
 -- ---- the sheet
 
-abbrev prepared-as : List Parameter → Tree → Prepared
-prepared-as ps f = record { parameters = ps; filter = f }
+abbrev inputs-as : List Parameter → Tree → Inputs
+inputs-as ps f = record { parameters = ps; filter = f }
 
-abbrev counted : Prepared → Step Answer
+abbrev counted : Inputs → Step Answer
 counted p = found (count (length (testsOf (p .filter))))
 
 -- counting after all is read is counting where the tests are read
-count-tests : (ps : List Parameter) (f : Tree) (t : Step (Unit {0})) → (t >>= λ u. found (prepared-as ps f)) >>= counted ≡ t >>= λ u. found (count (length (testsOf f)))
+count-tests : (ps : List Parameter) (f : Tree) (t : Step (Unit {0})) → (t >>= λ u. found (inputs-as ps f)) >>= counted ≡ t >>= λ u. found (count (length (testsOf f)))
 count-tests ps f (found u) = refl
 count-tests ps f (stop n p) = refl
 
-count-filter : (ps : List Parameter) (t : Step Tree) → (t >>= λ f. testsStep ps (testsOf f) >>= λ u. found (prepared-as ps f)) >>= counted ≡ t >>= λ f. testsStep ps (testsOf f) >>= λ u. found (count (length (testsOf f)))
+count-filter : (ps : List Parameter) (t : Step Tree) → (t >>= λ f. testsStep ps (testsOf f) >>= λ u. found (inputs-as ps f)) >>= counted ≡ t >>= λ f. testsStep ps (testsOf f) >>= λ u. found (count (length (testsOf f)))
 count-filter ps (found f) = count-tests ps f (testsStep ps (testsOf f))
 count-filter ps (stop n p) = refl
 
 module _ (b xs : List ℕ) (r : Reading) (e : r ≡ readSheet b) (c : Checked) where
   pub check-sheet : (k : Reading) (n : ℕ) → ((ps : List Parameter) → sheetStep k ps ≡ stop n 0) → r ≡ k → checkedAnswer c ≡ refused n 0 → checkedAnswer c ≡ checkAnswer b xs
-  unfolding checkAnswer prepare takeSheet
+  unfolding checkAnswer takeInputs takeSheet
   check-sheet k n t i h = h ∙ rw (sym e ∙ i, t (parametersOf b))
 
   pub check-filter : r ≡ Reading.WellFormed → checkedAnswer c ≡ filterAnswer (parametersOf b) xs → checkedAnswer c ≡ checkAnswer b xs
-  unfolding checkAnswer prepare takeSheet filterAnswer
+  unfolding checkAnswer takeInputs takeSheet filterAnswer
   check-filter h g = g ∙ rw (sym e ∙ h) (sym (ap answer (count-filter (parametersOf b) (takeFilter xs))))

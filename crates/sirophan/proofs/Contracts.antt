@@ -16,10 +16,14 @@ use Rattle.sirophan.specs.Contracts.{RefusedBy, Checks, Matches, Selects
 use Rattle.sirophan.specs.declared.Checked.{Checked}
 use Rattle.sirophan.specs.declared.Matched.{Matched}
 use Rattle.sirophan.specs.declared.Selected.{Selected}
+use Rattle.sirophan.specs.declared.Prepared.{Prepared}
+use Rattle.sirophan.specs.Preparing.{prepareAnswer, judgeAnswer, preparedAnswer, Prepares}
+use Rattle.sirophan.specs.RowsRefusals.{PrepareLine, JudgeLine, PreparesInto, Judges}
 use Rattle.sirophan.proofs.CheckTable.{check-table}
 use Rattle.sirophan.proofs.MatchTable.{match-table}
 use Rattle.sirophan.proofs.SelectTable.{select-table}
 use Rattle.sirophan.proofs.SearchTable.{check-search-table, match-search-table, select-search-table}
+use Rattle.sirophan.proofs.RowsTable.{prepare-table, judge-table}
 
 -- what a slice's type says of its elements
 abbrev pub Sliced : List ℕ → Type 0
@@ -78,4 +82,21 @@ selects-search-into sheet text cards list r exit h s c =
       refuses =
           refused-by (SelectSearchLine sheet text cards (length list)) (selectedAnswer r) (selectSearchAnswer sheet text cards (length list)) (h .answers)
           (select-search-table sheet text cards (length list) (bytes-of sheet s) (bytes-of cards c));
+    }
+
+-- ---- by rows
+
+pub prepares-into : (sheet text list : List ℕ) (r : Prepared) (exit : List ℕ) → Prepares sheet text list r exit → Sliced sheet → PreparesInto sheet text list r exit
+prepares-into sheet text list r exit h s =
+    record {
+      answers = h .answers;
+      cells = h .cells;
+      refuses = refused-by (PrepareLine sheet text (length list)) (preparedAnswer r) (prepareAnswer sheet text (length list)) (h .answers) (prepare-table sheet text (length list) (bytes-of sheet s));
+    }
+
+pub judges : (sheet text cells card : List ℕ) (r : Matched) → matchedAnswer r ≡ judgeAnswer sheet text cells card → Sliced sheet → Sliced card → Judges sheet text cells card r
+judges sheet text cells card r e s c =
+    record {
+      answers = e;
+      refuses = refused-by (JudgeLine sheet text cells card) (matchedAnswer r) (judgeAnswer sheet text cells card) e (judge-table sheet text cells card (bytes-of sheet s) (bytes-of card c));
     }

@@ -15,7 +15,7 @@ use Rattle.syntax.specs.Grammar.{Spells}
 use Rattle.judge.specs.Verdicts.{filterSays}
 use Rattle.refusal.specs.Answers.{Answer, yesOrNo, count}
 use Rattle.refusal.specs.Steps.{Step, found, stop, _>>=_, answer}
-use Rattle.sirophan.specs.Operations.{testsStep, Prepared, takeCard, checkAnswer, questionOf, filterQuestion, matchAnswer}
+use Rattle.sirophan.specs.Operations.{testsStep, Inputs, takeCard, checkAnswer, questionOf, filterQuestion, matchAnswer}
 use Rattle.judge.specs.Rules.{Conforms, FilterSays}
 use Rattle.sirophan.specs.Verdicts.{Verdict}
 use Rattle.sirophan.specs.Demand.{TestRules, Meaningful, Demand, filterTests, MeetsDemand}
@@ -23,7 +23,7 @@ use Rattle.sirophan.proofs.Verdicts.{verdict-by}
 use Rattle.refusal.proofs.Answers.{count-not-refused}
 use Rattle.sirophan.proofs.Cards.{conforms-size, conforms-bytes, conforms-taken}
 use Rattle.sirophan.proofs.Outcomes.{TestsOutcome, all-mean, one-refused}
-use Rattle.sirophan.proofs.Prepare.{check-by, match-by, question-by, tests-outcome, prepared}
+use Rattle.sirophan.proofs.Inputs.{check-by, match-by, question-by, tests-outcome, inputs-taken}
 
 -- ---- over any kind of test: a check and a match that go by what the tests come to
 
@@ -73,11 +73,11 @@ module _ (sheet text : List ℕ) (s : SheetBlock sheet) (f : Tree) (short : leng
   abbrev ps : List Parameter
   ps = s .parameters
 
-  abbrev ready : Step (Unit {0}) → Step Prepared
+  abbrev ready : Step (Unit {0}) → Step Inputs
   ready tests = tests >>= λ u. found (record { parameters = ps; filter = f })
 
   check-tests : checkAnswer sheet text ≡ answer (testsStep ps (testsOf f) >>= λ u. found (count (length (testsOf f))))
-  check-tests = check-by sheet text (ready (testsStep ps (testsOf f))) (prepared sheet text s f short spells) ∙ by (testsStep ps (testsOf f))
+  check-tests = check-by sheet text (ready (testsStep ps (testsOf f))) (inputs-taken sheet text s f short spells) ∙ by (testsStep ps (testsOf f))
     where
       by : (tests : Step (Unit {0})) → answer (ready tests >>= λ p. found (count (length (testsOf (p .filter))))) ≡ answer (tests >>= λ u. found (count (length (testsOf f))))
       by (found u) = refl
@@ -86,7 +86,7 @@ module _ (sheet text : List ℕ) (s : SheetBlock sheet) (f : Tree) (short : leng
   match-tests : (card : List ℕ) → matchAnswer sheet text card ≡ answer (testsStep ps (testsOf f) >>= λ u. takeCard ps 0 card >>= λ c. found (yesOrNo (filterSays ps 0 (c .entries) f)))
   match-tests card =
       match-by (filterQuestion sheet text) (ready (testsStep ps (testsOf f)) >>= λ p. found (questionOf p))
-      (question-by sheet text (ready (testsStep ps (testsOf f))) (prepared sheet text s f short spells)) card
+      (question-by sheet text (ready (testsStep ps (testsOf f))) (inputs-taken sheet text s f short spells)) card
       ∙ by (testsStep ps (testsOf f))
     where
       by : (tests : Step (Unit {0}))

@@ -18,8 +18,8 @@ use Rattle.place.specs.Machine.{failure}
 use Rattle.place.specs.Machine as place
 use Rattle.place.proofs.Place.{text-place, text-number, longest-unique, number-unique}
 use Rattle.refusal.specs.Answers.{refused}
-use Rattle.sirophan.specs.Operations.{takeFilter, prepare, checkAnswer}
-use Rattle.sirophan.proofs.Prepare.{sheet-taken}
+use Rattle.sirophan.specs.Operations.{takeFilter, takeInputs, checkAnswer}
+use Rattle.sirophan.proofs.Inputs.{sheet-taken}
 
 reads-none : (text : List ℕ) → ((f : Tree) → Spells text f → ⊥) → read text ≡ none
 reads-none text h = go (read text) refl
@@ -30,7 +30,7 @@ reads-none text h = go (read text) refl
 
 module _ (sheet text : List ℕ) (s : SheetBlock sheet) (some-bytes : 1 ≤ length text) (short : length text ≤ 1024) (no-filter : (f : Tree) → Spells text f → ⊥) where
   failed : checkAnswer sheet text ≡ refused (place.numberOf (failure deepest mostTests text .why)) (failure deepest mostTests text .place)
-  unfolding checkAnswer prepare takeFilter
+  unfolding checkAnswer takeInputs takeFilter
   failed =
       let n : length text ≡ 0 → ⊥ = λ e. omega arith in
       rw (sheet-taken sheet s, ne-eqb (length text) 0 n, le-ltb 1024 (length text) short, reads-none text no-filter)

@@ -7,7 +7,9 @@ pub mod Selecting
 pub mod Outcomes
 pub mod Cards
 pub mod Faults
-pub mod Prepare
+pub mod Inputs
+pub mod Filled
+pub mod RowsJudged
 pub mod Failing
 pub mod Demand
 pub mod Determinacy
@@ -21,6 +23,8 @@ pub mod CheckTable
 pub mod MatchTable
 pub mod RunTable
 pub mod SelectTable
+pub mod RowsTable
+pub mod RowsAnswered
 pub mod Contracts
 pub mod Answered
 pub mod SpellTable

@@ -33,7 +33,7 @@ use Rattle.refusal.proofs.Deciding.{Decided, none-holds, one-decides, NotRefuse
 use Rattle.sirophan.proofs.Outcomes.{ReadsTo, size-wrong, sum-wrong, layout-wrong, all-right, cardOf, Taken}
 use Rattle.sirophan.proofs.Blocks.{card-reads-to}
 use Rattle.refusal.proofs.Order.{apart-at, later-group, no-lower-rank}
-use Rattle.sirophan.proofs.CheckTable.{sheet-parameters, check-group, prepare-decided}
+use Rattle.sirophan.proofs.CheckTable.{sheet-parameters, check-group, inputs-decided}
 
 -- ---- one card
 
@@ -68,7 +68,7 @@ module _ (sheet : List ℕ) where
     LineAt i n p = CardLine sheet b n × (p ≡ i)
 
     -- and what is found where none holds
-    abbrev TakenAs : Card → Type 0
+    abbrev pub TakenAs : Card → Type 0
     TakenAs c = Taken ps b × (c ≡ cardOf b)
 
     -- the line that ranks lowest decides
@@ -124,7 +124,7 @@ module _ (sheet card : List ℕ) where
   one-back e (line-20-match u) = absurd (u e)
   one-back e (line-of-card l) = (l, refl)
 
-  one-decided : (s : SheetBlock sheet) → Bytes card → Decided (TakenAs sheet s card) (OneCardLine sheet card) (takeCard (s .parameters) 0 card)
+  pub one-decided : (s : SheetBlock sheet) → Bytes card → Decided (TakenAs sheet s card) (OneCardLine sheet card) (takeCard (s .parameters) 0 card)
   unfolding takeCard
   one-decided s bytes = by-size (ℕ-discrete (length card) 512)
     where
@@ -156,7 +156,7 @@ module _ (sheet card : List ℕ) where
 
 pub question-decided : (sheet text : List ℕ) → Bytes sheet → Decided (AskedOn sheet) (CheckLine sheet text) (filterQuestion sheet text)
 unfolding filterQuestion
-question-decided sheet text bytes = decided-found questionOf (λ r ready. (ready .0, ready .1)) (prepare-decided sheet text bytes)
+question-decided sheet text bytes = decided-found questionOf (λ r ready. (ready .0, ready .1)) (inputs-decided sheet text bytes)
 
 pub match-table : (sheet text card : List ℕ) → Bytes sheet → Bytes card → (n p : ℕ) → (matchAnswer sheet text card ≡ refused n p) ↔ Decides (MatchLine sheet text card) n p
 match-table sheet text card sheet-bytes = match-table-by sheet card (CheckLine sheet text) (check-group sheet text) (question-decided sheet text sheet-bytes)

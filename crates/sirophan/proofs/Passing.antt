@@ -23,14 +23,14 @@ use Rattle.refusal.specs.Answers.{count, refused, yesOrNo, numberOf, refusalAns
 use Rattle.sirophan.specs.Answers.{checkedAnswer, matchedAnswer}
 use Rattle.refusal.proofs.Steps.{taken}
 use Rattle.refusal.specs.Steps.{Step, found, stop, _>>=_, answer}
-use Rattle.sirophan.specs.Operations.{treeStep, takeFilter, testsStep, takeSheet, sheetStep, Prepared, prepare, Card, cardStep, takeCard, checkAnswer, Question, matchBy, filterQuestion, matchAnswer}
+use Rattle.sirophan.specs.Operations.{treeStep, takeFilter, testsStep, takeSheet, sheetStep, Inputs, takeInputs, Card, cardStep, takeCard, checkAnswer, Question, matchBy, filterQuestion, matchAnswer}
 use Rattle.sirophan.specs.Passing.{Passing, textQuestion, cardVerdict, verdictStep}
 
 -- ---- check has passed them
 
-prepared-found : (s : Step Prepared) (n : ℕ) → answer (s >>= λ p. found (count (length (testsOf (p .filter))))) ≡ count n → (p : Prepared) × (s ≡ found p)
-prepared-found (found p) n h = (p, refl)
-prepared-found (stop m p) n h = absurd (let z : _≡_ {A = ℕ} 0 1 = cc in omega arith)
+inputs-found : (s : Step Inputs) (n : ℕ) → answer (s >>= λ p. found (count (length (testsOf (p .filter))))) ≡ count n → (p : Inputs) × (s ≡ found p)
+inputs-found (found p) n h = (p, refl)
+inputs-found (stop m p) n h = absurd (let z : _≡_ {A = ℕ} 0 1 = cc in omega arith)
 
 sheet-found : (r : Reading) (ps qs : List Parameter) → sheetStep r ps ≡ found qs → (r ≡ Reading.WellFormed) × (ps ≡ qs)
 sheet-found Reading.WellFormed ps qs h = (refl, cc)
@@ -48,9 +48,9 @@ text-found text false true o f h = (cc, cc)
 text-found text false false o f h = (refl, tree-found text o f h)
 
 pub passing : (b xs : List ℕ) (c : Checked) (n : ℕ) → checkedAnswer c ≡ checkAnswer b xs → c ≡ Checked.Tests n → Passing b xs
-unfolding checkedAnswer checkAnswer prepare takeSheet takeFilter
+unfolding checkedAnswer checkAnswer takeInputs takeSheet takeFilter
 passing b xs c n e h =
-    let (p, is) = prepared-found (prepare b xs) n (sym e ∙ ap checkedAnswer h) in
+    let (p, is) = inputs-found (takeInputs b xs) n (sym e ∙ ap checkedAnswer h) in
     let (ps, s, rest) = taken (takeSheet b) (λ qs. takeFilter xs >>= λ f. testsStep qs (testsOf f) >>= λ u. found (record { parameters = qs; filter = f })) p is in
     let (f, t, last) = taken (takeFilter xs) (λ f. testsStep ps (testsOf f) >>= λ u. found (record { parameters = ps; filter = f })) p rest in
     let (u, v, made) = taken (testsStep ps (testsOf f)) (λ u. found (record { parameters = ps; filter = f })) p last in
@@ -61,13 +61,13 @@ passing b xs c n e h =
       sheet-well-formed = well;
       short = ltb-false 1024 (length xs) short;
       reads = reads;
-      prepared = is ∙ sym made ∙ ap (λ (qs : List Parameter). found (record { parameters = qs; filter = f })) (sym same);
+      inputs-taken = is ∙ sym made ∙ ap (λ (qs : List Parameter). found (record { parameters = qs; filter = f })) (sym same);
     }
 
 -- what a filter that check has passed asks
 pub passing-asks : (b xs : List ℕ) (p : Passing b xs) → filterQuestion b xs ≡ found (textQuestion (parametersOf b) (read xs))
 unfolding filterQuestion
-passing-asks b xs p = rw (p .prepared, p .reads)
+passing-asks b xs p = rw (p .inputs-taken, p .reads)
 
 -- ---- a card
 
@@ -87,18 +87,18 @@ card-taken ps i b d h =
 
 -- ---- check has refused
 
-stopped : (s : Step Prepared) (n p : ℕ) → answer (s >>= λ q. found (count (length (testsOf (q .filter))))) ≡ refused n p → s ≡ stop n p
+stopped : (s : Step Inputs) (n p : ℕ) → answer (s >>= λ q. found (count (length (testsOf (q .filter))))) ≡ refused n p → s ≡ stop n p
 stopped (found q) n p h = cc
 stopped (stop m q) n p h = cc
 
-prepare-stopped : (b xs : List ℕ) (c : Checked) (r : Refusal) → checkedAnswer c ≡ checkAnswer b xs → c ≡ Checked.Refused r → prepare b xs ≡ stop (numberOf (r .reason)) (r .place)
+inputs-stopped : (b xs : List ℕ) (c : Checked) (r : Refusal) → checkedAnswer c ≡ checkAnswer b xs → c ≡ Checked.Refused r → takeInputs b xs ≡ stop (numberOf (r .reason)) (r .place)
 unfolding checkedAnswer refusalAnswer checkAnswer
-prepare-stopped b xs c r e h = stopped (prepare b xs) (numberOf (r .reason)) (r .place) (sym e ∙ ap checkedAnswer h)
+inputs-stopped b xs c r e h = stopped (takeInputs b xs) (numberOf (r .reason)) (r .place) (sym e ∙ ap checkedAnswer h)
 
 pub question-stopped : (b xs : List ℕ) (c : Checked) (r : Refusal) → checkedAnswer c ≡ checkAnswer b xs → c ≡ Checked.Refused r
     → filterQuestion b xs ≡ stop (numberOf (r .reason)) (r .place)
 unfolding filterQuestion
-question-stopped b xs c r e h = rw (prepare-stopped b xs c r e h)
+question-stopped b xs c r e h = rw (inputs-stopped b xs c r e h)
 
 -- ---- match
 

@@ -74,6 +74,18 @@ use Rattle.sirophan.specs.SameQuestion.{SameQuestion, AnsweredAlike}
 use Rattle.sirophan.proofs.SameQuestion as same-question
 use Rattle.sirophan.proofs.SearchDemand as search-demand
 use Rattle.sirophan.proofs.SearchTable as search-table
+use Rattle.sheet.specs.Find.{kindsOf, parentsOf}
+use Rattle.rows.specs.Expression.{Expression}
+use Rattle.rows.specs.Cells.{encode, stated}
+use Rattle.rows.specs.Good.{Good}
+use Rattle.rows.specs.Shapes.{good}
+use Rattle.rows.specs.Stated.{treeOf}
+use Rattle.rows.proofs.Good as rows
+use Rattle.rows.proofs.Stating as stating
+use Rattle.sirophan.specs.Preparing.{prepareAnswer, prepareCells, judgeAnswer}
+use Rattle.sirophan.specs.RowsRefusals.{PrepareLine, JudgeLine, PrepareAnswers, PreparesGood, MatchIs}
+use Rattle.sirophan.proofs.RowsTable as rows-table
+use Rattle.sirophan.proofs.RowsAnswered as rows-answered
 use Rattle.sirophan.specs.Trial.{Row, trialRows, bundleRows, stayRows, titleTest, codeTest}
 use Rattle.sirophan.specs.Edges.{edgeCard, edgeRows}
 use Rattle.kind.proofs.Rules as rules
@@ -219,6 +231,50 @@ select-count-within sheet text = bounds.count-within (filterQuestion sheet text)
 
 pub select-place-within : (sheet text cards list : List ℕ) (n p : ℕ) → selectAnswer sheet text cards (length list) ≡ refused n p → 21 ≤ n → n ≤ 23 → p < 128
 select-place-within sheet text = bounds.place-within (filterQuestion sheet text) (selection.filter-number sheet text)
+
+-- ---- 02: rows, which prepare writes and judge takes
+
+-- each is refused with a number and a place exactly where that line holds and none before it does
+pub prepare-refused : (sheet text : List ℕ) (room : ℕ) → Bytes sheet → (n p : ℕ) → (prepareAnswer sheet text room ≡ refused n p) ↔ Decides (PrepareLine sheet text room) n p
+prepare-refused = rows-table.prepare-table
+
+pub judge-refused : (sheet text cells card : List ℕ) → Bytes sheet → Bytes card → (n p : ℕ)
+    → (judgeAnswer sheet text cells card ≡ refused n p) ↔ Decides (JudgeLine sheet text cells card) n p
+judge-refused = rows-table.judge-table
+
+-- where no line holds prepare answers the cells of the filter's rows, and writes them before what the list held; a refusal keeps the list
+pub prepare-answered : (sheet text : List ℕ) (s : SheetBlock sheet) (f : Tree) → length text ≤ 1024 → Spells text f → Bytes sheet → (list : List ℕ)
+    → ((n p : ℕ) → PrepareLine sheet text (length list) n p → ⊥) → PrepareAnswers sheet text list (s .parameters) f
+prepare-answered = rows-answered.prepare-answered
+
+pub prepare-keeps-list : (sheet text list : List ℕ) (n p : ℕ) → prepareAnswer sheet text (length list) ≡ refused n p → prepareCells sheet text list ≡ list
+prepare-keeps-list = rows-answered.prepare-keeps
+
+-- neither its answer nor the place of 34 is over 1,024
+pub prepare-within : (sheet text list : List ℕ) → Bytes sheet
+    → ((n : ℕ) → prepareAnswer sheet text (length list) ≡ count n → n ≤ 1024) × ((p : ℕ) → prepareAnswer sheet text (length list) ≡ refused 34 p → p ≤ 1024)
+prepare-within = rows-answered.prepare-within
+
+-- the rows that it writes are good, and state the filter
+pub prepare-good : (sheet text : List ℕ) (s : SheetBlock sheet) (f : Tree) → length text ≤ 1024 → Spells text f → (list : List ℕ) (n : ℕ)
+    → prepareAnswer sheet text (length list) ≡ count n → PreparesGood sheet text list (s .parameters) f n
+prepare-good = rows-answered.prepares-good
+
+-- the test for good rows passes exactly where they are good; cells are the rows of one expression at most
+pub rows-good : (ps : List Parameter) → WellFormedSheet ps → (text cells : List ℕ) → (good (kindsOf ps) (parentsOf ps) text cells ≡ true) ↔ Good ps text cells
+rows-good = rows.good-iff
+
+pub rows-state-one : (cells : List ℕ) (e : Expression) → stated cells ≡ some e → cells ≡ encode e
+rows-state-one = stating.stated-cells
+
+-- judge answers the meaning of what good rows state, on each conforming card
+pub judge-answered : (sheet text cells : List ℕ) (s : SheetBlock sheet) → 1 ≤ length text → length text ≤ 1024 → (g : Good (s .parameters) text cells) (card : List ℕ) (es : List Entry)
+    → Conforms (s .parameters) card es → Verdict (FilterSays (s .parameters) 0 es (treeOf (s .parameters) text (g .expression))) (judgeAnswer sheet text cells card)
+judge-answered = rows-answered.judge-answered
+
+-- match is the two after each other
+pub match-is : (sheet text card list : List ℕ) → Bytes sheet → 1024 ≤ length list → MatchIs sheet text card list
+match-is = rows-answered.match-is
 
 -- ---- demand 3: what check passes and what it refuses
 

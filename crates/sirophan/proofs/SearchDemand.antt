@@ -14,31 +14,31 @@ use Rattle.search.proofs.Rules.{query-says-iff}
 use Rattle.refusal.specs.Answers.{yesOrNo, count}
 use Rattle.refusal.specs.Steps.{Step, found, stop, _>>=_, answer}
 use Rattle.sirophan.specs.Operations.{takeCard}
-use Rattle.sirophan.specs.Searching.{alternativesStep, PreparedQuery, prepareQuery, checkSearchAnswer, questionOfQuery, searchQuestion, matchSearchAnswer}
+use Rattle.sirophan.specs.Searching.{alternativesStep, QueryInputs, takeQueryInputs, checkSearchAnswer, questionOfQuery, searchQuestion, matchSearchAnswer}
 use Rattle.sirophan.specs.SearchDemand.{searchTests, MeetsSearchDemand}
 use Rattle.sirophan.proofs.Verdicts.{verdict-of}
 use Rattle.sirophan.proofs.Demand.{demand-by}
-use Rattle.sirophan.proofs.Prepare.{match-by, sheet-taken}
+use Rattle.sirophan.proofs.Inputs.{match-by, sheet-taken}
 use Rattle.sirophan.proofs.SearchFaults.{alternatives-outcome}
 
 module _ (sheet text : List ℕ) (s : SheetBlock sheet) (q : Query) (spells : SpellsQuery text q) where
   abbrev ps : List Parameter
   ps = s .parameters
 
-  abbrev ready : Step (Unit {0}) → Step PreparedQuery
+  abbrev ready : Step (Unit {0}) → Step QueryInputs
   ready tests = tests >>= λ u. found (record { parameters = ps; query = q })
 
-  pub query-prepared : prepareQuery sheet text ≡ ready (alternativesStep ps (alternativesOf q))
-  unfolding prepareQuery
-  query-prepared = rw (sheet-taken sheet s, query-back text q spells)
+  pub query-inputs : takeQueryInputs sheet text ≡ ready (alternativesStep ps (alternativesOf q))
+  unfolding takeQueryInputs
+  query-inputs = rw (sheet-taken sheet s, query-back text q spells)
 
   pub query-question : searchQuestion sheet text ≡ (ready (alternativesStep ps (alternativesOf q)) >>= λ p. found (questionOfQuery p))
   unfolding searchQuestion
-  query-question = rw query-prepared
+  query-question = rw query-inputs
 
   check-alternatives : checkSearchAnswer sheet text ≡ answer (alternativesStep ps (alternativesOf q) >>= λ u. found (count (length (alternativesOf q))))
   unfolding checkSearchAnswer
-  check-alternatives = rw query-prepared (by (alternativesStep ps (alternativesOf q)))
+  check-alternatives = rw query-inputs (by (alternativesStep ps (alternativesOf q)))
     where
       by : (tests : Step (Unit {0})) → answer (ready tests >>= λ p. found (count (length (alternativesOf (p .query))))) ≡ answer (tests >>= λ u. found (count (length (alternativesOf q))))
       by (found u) = refl

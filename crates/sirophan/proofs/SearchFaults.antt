@@ -44,7 +44,7 @@ use Rattle.sirophan.specs.Numbers.{Numbered}
 use Rattle.sirophan.specs.SearchDemand.{searchTests}
 use Rattle.sirophan.proofs.Cards.{empty-conforms, one-entry, one-entry-conforms, one-entry-value}
 use Rattle.sirophan.proofs.Outcomes.{Refused, TestOutcome, test-means, test-refused, TestsOutcome, all-mean}
-use Rattle.sirophan.proofs.Prepare.{step-or-else, outcome-next}
+use Rattle.sirophan.proofs.Inputs.{step-or-else, outcome-next}
 
 token-has : HasOperator token eq
 token-has = operator-of-row token-eq

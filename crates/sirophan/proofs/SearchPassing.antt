@@ -25,7 +25,7 @@ use Rattle.sirophan.specs.Answers.{checkedAnswer, matchedAnswer}
 use Rattle.sirophan.specs.Operations.{faultStep, sheetStep, takeSheet, Question}
 use Rattle.sirophan.specs.Passing.{summaryAnswer}
 use Rattle.sirophan.specs.Selecting.{Selects}
-use Rattle.sirophan.specs.Searching.{alternativesStep, PreparedQuery, prepareQuery, checkSearchAnswer, questionOfQuery, searchQuestion, matchSearchAnswer}
+use Rattle.sirophan.specs.Searching.{alternativesStep, QueryInputs, takeQueryInputs, checkSearchAnswer, questionOfQuery, searchQuestion, matchSearchAnswer}
 use Rattle.sirophan.specs.SearchPassing.{rowsAnswer, rowsQuestion, PassingRows, ReadsRows}
 use Rattle.sirophan.specs.declared.Checked.{Checked}
 use Rattle.sirophan.specs.declared.Matched.{Matched}
@@ -46,7 +46,7 @@ unfolding checkedAnswer
 no-tests c n k p e h = let z : count n ≡ refused k p = ap checkedAnswer (sym h) ∙ e in let y : _≡_ {A = ℕ} 0 1 = cc in omega arith
 
 module _ (sheet text bytes : List ℕ) (c : Checked) (rows : Rows) where
-  refuses : (k p : ℕ) → prepareQuery sheet text ≡ stop k p → checkedAnswer c ≡ refused k p → ReadsRows sheet text bytes (record { checked = c; rows = rows })
+  refuses : (k p : ℕ) → takeQueryInputs sheet text ≡ stop k p → checkedAnswer c ≡ refused k p → ReadsRows sheet text bytes (record { checked = c; rows = rows })
   refuses k p e h =
       let answered : checkedAnswer c ≡ checkSearchAnswer sheet text = h ∙ sym (unfold checkSearchAnswer in rw e) in
       record { answers = answered; passes = λ n t. absurd (no-tests c n k p h t) }
@@ -54,7 +54,7 @@ module _ (sheet text bytes : List ℕ) (c : Checked) (rows : Rows) where
   -- the sheet is refused
   sheet-refuses : (r k : Reading) (n : ℕ) → ((ps : List Parameter) → sheetStep k ps ≡ stop n 0) → r ≡ readSheet sheet → r ≡ k → checkedAnswer c ≡ refused n 0
       → ReadsRows sheet text bytes (record { checked = c; rows = rows })
-  sheet-refuses r k n t e i h = refuses n 0 (unfold prepareQuery takeSheet in rw (sym e ∙ i, t (parametersOf sheet))) h
+  sheet-refuses r k n t e i h = refuses n 0 (unfold takeQueryInputs takeSheet in rw (sym e ∙ i, t (parametersOf sheet))) h
 
   module _ (r : Reading) (e : r ≡ readSheet sheet) where
     pub sheet-size : r ≡ Reading.WrongSize → checkedAnswer c ≡ refused 1 0 → ReadsRows sheet text bytes (record { checked = c; rows = rows })
@@ -68,7 +68,7 @@ module _ (sheet text bytes : List ℕ) (c : Checked) (rows : Rows) where
 
   module _ (w : readSheet sheet ≡ Reading.WellFormed) where
     text-refuses : (k p : ℕ) → takeQuery text ≡ stop k p → checkedAnswer c ≡ refused k p → ReadsRows sheet text bytes (record { checked = c; rows = rows })
-    text-refuses k p e = refuses k p (unfold prepareQuery takeSheet in rw (w, e))
+    text-refuses k p e = refuses k p (unfold takeQueryInputs takeSheet in rw (w, e))
 
     pub size-refuses : (r : QueryTaken) → TakenOf text bytes r → r .outcome ≡ TextOutcome.Size → checkedAnswer c ≡ refused 10 0 → ReadsRows sheet text bytes (record { checked = c; rows = rows })
     size-refuses r t o = text-refuses 10 0 (taken-by-size t o)
@@ -88,17 +88,17 @@ module _ (sheet text bytes : List ℕ) (w : readSheet sheet ≡ Reading.WellForm
   abbrev ps : List Parameter
   ps = parametersOf sheet
 
-  abbrev prepared-as : PreparedQuery
-  prepared-as = record { parameters = ps; query = q }
+  abbrev inputs-as : QueryInputs
+  inputs-as = record { parameters = ps; query = q }
 
-  abbrev ready-by : Step (Unit {0}) → Step PreparedQuery
-  ready-by t = t >>= λ u. found prepared-as
+  abbrev ready-by : Step (Unit {0}) → Step QueryInputs
+  ready-by t = t >>= λ u. found inputs-as
 
-  abbrev counted : PreparedQuery → Step Answer
+  abbrev counted : QueryInputs → Step Answer
   counted p = found (count (length (alternativesOf (p .query))))
 
-  ready : prepareQuery sheet text ≡ ready-by (alternativesStep ps (alternativesOf q))
-  unfolding prepareQuery takeSheet
+  ready : takeQueryInputs sheet text ≡ ready-by (alternativesStep ps (alternativesOf q))
+  unfolding takeQueryInputs takeSheet
   ready = rw (w, of .taken)
 
   rows-answer : checkSearchAnswer sheet text ≡ rowsAnswer ps bytes rows
@@ -114,7 +114,7 @@ module _ (sheet text bytes : List ℕ) (w : readSheet sheet ≡ Reading.WellForm
   unfolding querySays
   same-says = fun-ext (λ es. sym (of .says (alternativeSays ps es)))
 
-  passed-tests : (t : Step (Unit {0})) (c : Checked) (n : ℕ) → checkedAnswer c ≡ answer (ready-by t >>= counted) → c ≡ Checked.Tests n → ready-by t ≡ found prepared-as
+  passed-tests : (t : Step (Unit {0})) (c : Checked) (n : ℕ) → checkedAnswer c ≡ answer (ready-by t >>= counted) → c ≡ Checked.Tests n → ready-by t ≡ found inputs-as
   passed-tests (found u) c n e h = refl
   passed-tests (stop k p) c n e h = absurd (no-tests c n k p e h)
 
@@ -122,19 +122,19 @@ module _ (sheet text bytes : List ℕ) (w : readSheet sheet ≡ Reading.WellForm
   unfolding checkSearchAnswer
   check-by = rw ready
 
-  question-by : prepareQuery sheet text ≡ found prepared-as → searchQuestion sheet text ≡ found (questionOfQuery prepared-as)
+  question-by : takeQueryInputs sheet text ≡ found inputs-as → searchQuestion sheet text ≡ found (questionOfQuery inputs-as)
   unfolding searchQuestion
   question-by e = rw e
 
   taken-passes : (c : Checked) → checkedAnswer c ≡ checkSearchAnswer sheet text → (n : ℕ) → c ≡ Checked.Tests n → PassingRows sheet text bytes rows
   taken-passes c e n h =
-      let prepared : prepareQuery sheet text ≡ found prepared-as =
+      let inputs-taken : takeQueryInputs sheet text ≡ found inputs-as =
       ready ∙ passed-tests (alternativesStep ps (alternativesOf q)) c n (e ∙ check-by) h
       in
       record {
         sheet-well-formed = w;
         within = of .within;
-        asked = question-by prepared ∙ ap (λ (f : List Entry → Bool). found (record { parameters = ps; says = f })) same-says;
+        asked = question-by inputs-taken ∙ ap (λ (f : List Entry → Bool). found (record { parameters = ps; says = f })) same-says;
       }
 
 pub rows-read : (sheet text bytes : List ℕ) → readSheet sheet ≡ Reading.WellFormed → (r : QueryTaken) (c : Checked) → TakenOf text bytes r → r .outcome ≡ TextOutcome.Taken
@@ -156,16 +156,16 @@ module _ (sheet text bytes : List ℕ) (r : SearchRead) (read : ReadsRows sheet 
   search-checked = read .answers
 
   question-stopped : (f : Refusal) → r .checked ≡ Checked.Refused f → searchQuestion sheet text ≡ stop (numberOf (f .reason)) (f .place)
-  question-stopped f h = (unfold searchQuestion in rw (stopped (prepareQuery sheet text) refl))
+  question-stopped f h = (unfold searchQuestion in rw (stopped (takeQueryInputs sheet text) refl))
     where
-      stopped : (s : Step PreparedQuery) → prepareQuery sheet text ≡ s → s ≡ stop (numberOf (f .reason)) (f .place)
+      stopped : (s : Step QueryInputs) → takeQueryInputs sheet text ≡ s → s ≡ stop (numberOf (f .reason)) (f .place)
       stopped (found p) e = absurd (let a : checkedAnswer (Checked.Refused f) ≡ count (length (alternativesOf (p .query))) = sym (ap checkedAnswer h) ∙ read .answers ∙ (unfold checkSearchAnswer in rw e) in never a)
         where
           never : {n : ℕ} → checkedAnswer (Checked.Refused f) ≡ count n → ⊥
           never a = unfold checkedAnswer refusalAnswer in (let z : _≡_ {A = ℕ} 0 1 = cc in omega arith)
       stopped (stop n p) e = same (sym (ap checkedAnswer h) ∙ read .answers ∙ (unfold checkSearchAnswer in rw e))
         where
-          same : checkedAnswer (Checked.Refused f) ≡ refused n p → _≡_ {A = Step PreparedQuery} (stop n p) (stop (numberOf (f .reason)) (f .place))
+          same : checkedAnswer (Checked.Refused f) ≡ refused n p → _≡_ {A = Step QueryInputs} (stop n p) (stop (numberOf (f .reason)) (f .place))
           same a = unfold checkedAnswer refusalAnswer in cc
 
   pub search-refused : (card : List ℕ) (f : Refusal) → r .checked ≡ Checked.Refused f → matchedAnswer (Matched.Refused f) ≡ matchSearchAnswer sheet text card

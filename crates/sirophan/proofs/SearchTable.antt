@@ -27,7 +27,7 @@ use Rattle.refusal.proofs.Deciding.{Decided, none-holds, one-decides, decided-a
 use Rattle.refusal.proofs.Order.{apart-at, no-lower-rank}
 use Rattle.sirophan.specs.Operations.{takeSheet}
 use Rattle.sirophan.specs.Refusals.{SheetLine}
-use Rattle.sirophan.specs.Searching.{alternativesStep, PreparedQuery, prepareQuery, checkSearchAnswer, questionOfQuery, searchQuestion, matchSearchAnswer, selectSearchAnswer, selectSearchCells}
+use Rattle.sirophan.specs.Searching.{alternativesStep, QueryInputs, takeQueryInputs, checkSearchAnswer, questionOfQuery, searchQuestion, matchSearchAnswer, selectSearchAnswer, selectSearchCells}
 use Rattle.sirophan.specs.Selection.{Run, SelectAnswers}
 use Rattle.sirophan.specs.Selection.{Run, SelectAnswers}
 use Rattle.sirophan.specs.SearchDemand.{searchTests}
@@ -38,7 +38,7 @@ use Rattle.sirophan.proofs.CheckTable.{sheet-parameters, sheet-decided,
 use Rattle.sirophan.proofs.MatchTable.{AskedOn, match-table-by}
 use Rattle.sirophan.proofs.SelectTable.{select-table-by}
 use Rattle.sirophan.proofs.Answered.{select-answered-by}
-use Rattle.sirophan.proofs.Prepare.{at-most-number, sheet-at-most, fault-at-most}
+use Rattle.sirophan.proofs.Inputs.{at-most-number, sheet-at-most, fault-at-most}
 use Rattle.sirophan.proofs.SearchFaults.{alternative-outcome, alternatives-next}
 
 -- ---- the numbers of these refusals
@@ -63,9 +63,9 @@ query-other text n p e = by-decided (takeQuery text) (query-decided text) e
 
 -- a search string is refused with none of the numbers that cards and lists are refused with
 pub search-number : (sheet text : List ℕ) (n p : ℕ) → searchQuestion sheet text ≡ stop n p → OtherNumber n
-unfolding searchQuestion prepareQuery takeSheet alternativesStep
+unfolding searchQuestion takeQueryInputs takeSheet alternativesStep
 search-number sheet text =
-    stops OtherNumber (prepareQuery sheet text) (λ p. found (questionOfQuery p))
+    stops OtherNumber (takeQueryInputs sheet text) (λ p. found (questionOfQuery p))
     (stops OtherNumber (takeSheet sheet) (λ ps. takeQuery text >>= λ q. alternativesStep ps (alternativesOf q) >>= λ u. found (record { parameters = ps; query = q }))
     (λ n p e low high. omega (arith, at-most-number (sheet-at-most (readSheet sheet) (parametersOf sheet)) n p e))
     (λ ps. stops OtherNumber (takeQuery text) (λ q. alternativesStep ps (alternativesOf q) >>= λ u. found (record { parameters = ps; query = q })) (query-other text)
@@ -140,11 +140,11 @@ module _ (ps : List Parameter) where
 -- ---- check
 
 module _ (sheet text : List ℕ) where
-  -- what is prepared: the sheet's parameters and the string's query
-  abbrev Ready : PreparedQuery → Type 0
+  -- what is taken: the sheet's parameters and the string's query
+  abbrev Ready : QueryInputs → Type 0
   Ready r = (s : SheetBlock sheet) × (s .parameters ≡ r .parameters) × SpellsQuery text (r .query)
 
-  abbrev ready : SheetBlock sheet → Query → PreparedQuery
+  abbrev ready : SheetBlock sheet → Query → QueryInputs
   ready s q = record { parameters = s .parameters; query = q }
 
   module _ (s : SheetBlock sheet) (q : Query) (spells : SpellsQuery text q) where
@@ -188,9 +188,9 @@ module _ (sheet text : List ℕ) where
       (apart-at (QueryLine text) (AlternativesLine sheet text) (group 51) (λ n p l. query-group n p l .1) (λ n p l. alternatives-group n p l .0))
       (query-decided text) (λ q _ spells. query-step s q spells)
 
-  query-prepared : Bytes sheet → Decided Ready (CheckSearchLine sheet text) (prepareQuery sheet text)
-  unfolding prepareQuery
-  query-prepared bytes =
+  query-inputs : Bytes sheet → Decided Ready (CheckSearchLine sheet text) (takeQueryInputs sheet text)
+  unfolding takeQueryInputs
+  query-inputs bytes =
       decided-then (SheetLine sheet) (λ n p. QueryLine text n p ⊎ AlternativesLine sheet text n p)
       (apart-at (SheetLine sheet) (λ n p. QueryLine text n p ⊎ AlternativesLine sheet text n p) (group 3) sheet-group (λ n p l. later-groups n p l .0))
       (sheet-decided sheet bytes) (λ ps _ of-sheet. rw (← of-sheet .1) (text-step (of-sheet .0)))
@@ -200,13 +200,13 @@ module _ (sheet text : List ℕ) where
   unfolding checkSearchAnswer
   check-search-table bytes =
       decided-answer (CheckSearchLine sheet text)
-      (decided-found (λ r. count (length (alternativesOf (r .query)))) (λ r _. count-not-refused (length (alternativesOf (r .query)))) (query-prepared bytes))
+      (decided-found (λ r. count (length (alternativesOf (r .query)))) (λ r _. count-not-refused (length (alternativesOf (r .query)))) (query-inputs bytes))
 
   -- ---- match and select
 
   question-decided : Bytes sheet → Decided (AskedOn sheet) (CheckSearchLine sheet text) (searchQuestion sheet text)
   unfolding searchQuestion
-  question-decided bytes = decided-found questionOfQuery (λ r ready. (ready .0, ready .1)) (query-prepared bytes)
+  question-decided bytes = decided-found questionOfQuery (λ r ready. (ready .0, ready .1)) (query-inputs bytes)
 
   pub match-search-table : (card : List ℕ) → Bytes sheet → Bytes card → (n p : ℕ) → (matchSearchAnswer sheet text card ≡ refused n p) ↔ Decides (MatchSearchLine sheet text card) n p
   match-search-table card bytes = match-table-by sheet card (CheckSearchLine sheet text) search-group (question-decided bytes)

@@ -24,7 +24,7 @@ use Rattle.sirophan.specs.Operations.{Card, cardStep, takeCard, Question
 use Rattle.sirophan.specs.Selection.{Run, isYes, matchingCards, matchingNumbers, occurrences, bearing, RefusesCard, SelectsByMatch}
 use Rattle.refusal.proofs.Answers.{verdict-not-refused}
 use Rattle.sirophan.proofs.Outcomes.{cardOf, Taken, Stopped, CardsOutcome, all-taken, one-stopped, OtherNumber, SelectionOutcome, not-asked, card-refused, no-room, numbers-found}
-use Rattle.sirophan.proofs.Prepare.{match-by, question-number}
+use Rattle.sirophan.proofs.Inputs.{match-by, question-number}
 use Rattle.sirophan.proofs.Runs.{run-iff}
 
 -- ---- a card, at whatever index

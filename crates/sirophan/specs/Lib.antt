@@ -2,6 +2,7 @@
 pub mod Answers
 pub mod Operations
 pub mod Passing
+pub mod Preparing
 pub mod Selecting
 pub mod Spelling
 pub mod Verdicts
@@ -15,6 +16,7 @@ pub mod SearchRefusals
 pub mod SearchPassing
 pub mod SameQuestion
 pub mod Contracts
+pub mod RowsRefusals
 pub mod Witness
 pub mod Trial
 pub mod Edges

@@ -57,12 +57,12 @@ unfoldable pub testsStep : List Parameter → List Test → Step (Unit {0})
 testsStep ps ts = faultStep (firstFault ps 0 ts .fault) (firstFault ps 0 ts .position)
 
 -- the parameters of the sheet and the tree of the filter
-pub record Prepared : Type 0 where
+pub record Inputs : Type 0 where
   pub parameters : List Parameter
   pub filter : Tree
 
-unfoldable pub prepare : List ℕ → List ℕ → Step Prepared
-prepare sheet text = do
+unfoldable pub takeInputs : List ℕ → List ℕ → Step Inputs
+takeInputs sheet text = do
   ps ← takeSheet sheet
   f ← takeFilter text
   u ← testsStep ps (testsOf f)
@@ -97,7 +97,7 @@ filterAnswer ps text = answer (do
 
 unfoldable pub checkAnswer : List ℕ → List ℕ → Answer
 checkAnswer sheet text = answer (do
-  p ← prepare sheet text
+  p ← takeInputs sheet text
   found (count (length (testsOf (p .filter)))))
 
 -- what is asked of cards: the parameters of the sheet, and what is said of a card's entries
@@ -113,12 +113,12 @@ matchBy asked card = answer (do
   found (yesOrNo (q .says (c .entries))))
 
 -- what a filter asks
-abbrev pub questionOf : Prepared → Question
+abbrev pub questionOf : Inputs → Question
 questionOf p = record { parameters = p .parameters; says = λ es. filterSays (p .parameters) 0 es (p .filter) }
 
 unfoldable pub filterQuestion : List ℕ → List ℕ → Step Question
 filterQuestion sheet text = do
-  p ← prepare sheet text
+  p ← takeInputs sheet text
   found (questionOf p)
 
 abbrev pub matchAnswer : List ℕ → List ℕ → List ℕ → Answer

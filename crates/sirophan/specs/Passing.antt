@@ -17,7 +17,7 @@ use Rattle.place.specs.declared.Failure.{Failure}
 use Rattle.filter.specs.declared.Summary.{Summary}
 use Rattle.refusal.specs.Answers.{Answer, count, refused, numberOf}
 use Rattle.refusal.specs.Steps.{Step, found, stop, _>>=_, answer}
-use Rattle.sirophan.specs.Operations.{faultStep, prepare, takeCard, Question}
+use Rattle.sirophan.specs.Operations.{faultStep, takeInputs, takeCard, Question}
 use Rattle.sirophan.specs.declared.verdict.CardVerdict.{CardVerdict}
 
 -- the answer of check for a text that is a filter, from what was gathered reading it
@@ -34,7 +34,7 @@ pub record Passing (sheet text : List ℕ) : Type 0 where
   pub sheet-well-formed : readSheet sheet ≡ Reading.WellFormed
   pub short : length text ≤ 1024
   pub reads : read text ≡ some tree
-  pub prepared : prepare sheet text ≡ found (record { parameters = parametersOf sheet; filter = tree })
+  pub inputs-taken : takeInputs sheet text ≡ found (record { parameters = parametersOf sheet; filter = tree })
 
 -- what the text's filter says of entries
 abbrev pub textSays : List Parameter → List Entry → Option Tree → Bool

@@ -16,12 +16,12 @@ unfoldable pub alternativesStep : List Parameter → List Alternative → Step (
 alternativesStep ps list = faultStep (firstAlternativeFault ps list .fault) (firstAlternativeFault ps list .position)
 
 -- the parameters of the sheet and the pairs of the search string
-pub record PreparedQuery : Type 0 where
+pub record QueryInputs : Type 0 where
   pub parameters : List Parameter
   pub query : Query
 
-unfoldable pub prepareQuery : List ℕ → List ℕ → Step PreparedQuery
-prepareQuery sheet text = do
+unfoldable pub takeQueryInputs : List ℕ → List ℕ → Step QueryInputs
+takeQueryInputs sheet text = do
   ps ← takeSheet sheet
   q ← takeQuery text
   u ← alternativesStep ps (alternativesOf q)
@@ -30,16 +30,16 @@ prepareQuery sheet text = do
 -- "check's count take alternatives for tests"
 unfoldable pub checkSearchAnswer : List ℕ → List ℕ → Answer
 checkSearchAnswer sheet text = answer (do
-  p ← prepareQuery sheet text
+  p ← takeQueryInputs sheet text
   found (count (length (alternativesOf (p .query)))))
 
 -- what a search string asks
-abbrev pub questionOfQuery : PreparedQuery → Question
+abbrev pub questionOfQuery : QueryInputs → Question
 questionOfQuery p = record { parameters = p .parameters; says = λ es. querySays (p .parameters) es (p .query) }
 
 unfoldable pub searchQuestion : List ℕ → List ℕ → Step Question
 searchQuestion sheet text = do
-  p ← prepareQuery sheet text
+  p ← takeQueryInputs sheet text
   found (questionOfQuery p)
 
 abbrev pub matchSearchAnswer : List ℕ → List ℕ → List ℕ → Answer

@@ -1,6 +1,8 @@
 // Sirophan: which cards of an archive match a filter or a search string. It either has a meaning on every card that fits the sheet,
 // and is answered exactly, or is refused with a number and a place.
+mod judgement;
 mod operations;
+mod preparation;
 mod reading;
 mod run;
 mod searching;
@@ -9,8 +11,10 @@ mod verdict;
 
 pub use operations::check;
 pub use operations::check_search;
+pub use operations::judge;
 pub use operations::match_card;
 pub use operations::match_search;
+pub use operations::prepare;
 pub use operations::select;
 pub use operations::select_search;
 pub use operations::spell;
@@ -38,5 +42,11 @@ pub enum Selected {
 // What spell answers: the length of the plain spelling that it has written into the buffer, or a refusal.
 pub enum Spelled {
     Length(usize),
+    Refused(Refusal),
+}
+
+// What prepare answers: how many cells of rows it has written into the list, or a refusal.
+pub enum Prepared {
+    Cells(usize),
     Refused(Refusal),
 }

@@ -2,8 +2,11 @@
 // refusals decides. A slice holds bytes, so that nothing is asked of the caller.
 use crate::Checked;
 use crate::Matched;
+use crate::Prepared;
 use crate::Selected;
 use crate::Spelled;
+use crate::judgement::judge_bytes;
+use crate::preparation::prepare_bytes;
 use crate::reading::check_bytes;
 use crate::run::select_bytes;
 use crate::searching::check_search_bytes;
@@ -12,6 +15,7 @@ use crate::searching::select_search_bytes;
 use crate::spelling::spell_bytes;
 use crate::verdict::match_bytes;
 ghost use Rattle.sirophan.specs.Contracts.{Checks, Matches, SelectsInto, SpellsInto, ChecksSearch, MatchesSearch, SelectsSearchInto};
+ghost use Rattle.sirophan.specs.RowsRefusals.{PreparesInto, Judges};
 
 // How many tests a filter has, where each has a meaning on every card that fits the sheet.
 pub fn check(sheet: &[u8], filter: &[u8]) -> Checked
@@ -60,4 +64,19 @@ pub fn select_search(sheet: &[u8], text: &[u8], cards: &[u8], list: &mut [u32]) 
     ensures { λ r. ⌜ SelectsSearchInto (now (sheet .entry)) (now (text .entry)) (now (cards .entry)) (now (list .entry)) r (now (list .exit)) ⌝ }
 {
     select_search_bytes(sheet, text, cards, list)
+}
+
+// Writes the rows of a filter into the list, for judge, and answers how many cells they fill.
+pub fn prepare(sheet: &[u8], filter: &[u8], list: &mut [u32]) -> Prepared
+    ensures { λ r. ⌜ PreparesInto (now (sheet .entry)) (now (filter .entry)) (now (list .entry)) r (now (list .exit)) ⌝ }
+{
+    prepare_bytes(sheet, filter, list)
+}
+
+// Whether a card matches what rows state: for rows that prepare has written of the same sheet and filter, whether it matches the
+// filter. Other rows are tested like any input.
+pub fn judge(sheet: &[u8], filter: &[u8], rows: &[u32], card: &[u8]) -> Matched
+    ensures { λ r. ⌜ Judges (now (sheet .entry)) (now (filter .entry)) (now (rows .entry)) (now (card .entry)) r ⌝ }
+{
+    judge_bytes(sheet, filter, rows, card)
 }

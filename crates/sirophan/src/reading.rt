@@ -56,7 +56,7 @@ pub fn failure_reason(why: Why) -> Reason
 }
 
 // The answer for a text that is no filter.
-fn no_filter(filter: &[u8]) -> Checked
+pub fn no_filter(filter: &[u8]) -> Checked
     ensures { λ r. ⌜ checkedAnswer r ≡ failureAnswer (failure deepest mostTests (now (filter .entry))) ⌝ }
 {
     let failure = find_failure(filter);

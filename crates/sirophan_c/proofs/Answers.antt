@@ -15,6 +15,8 @@ use Rattle.report.specs.Operation.{reportedAnswer}
 use Rattle.report.specs.Contracts.{Reports}
 use Rattle.report.specs.declared.Tally.{Tally}
 use Rattle.report.specs.declared.Reported.{Reported}
+use Rattle.sirophan.specs.declared.Prepared.{Prepared}
+use Rattle.sirophan.specs.Preparing.{preparedAnswer}
 use Rattle.sirophan_c.specs.declared.Answer.{Answer}
 use Rattle.sirophan_c.specs.declared.Counts.{Counts}
 use Rattle.sirophan_c.specs.Answers.{answer, told, countsOf, toldCounts}
@@ -78,6 +80,15 @@ module _ (a : paper.Answer) where
     pub spell-refusal-told : (r : Refusal) (t : Answer) → s ≡ Spelled.Refused r → t ≡ told (refusalAnswer r) → t ≡ told a
     unfolding spelledAnswer
     spell-refusal-told r t h o = o ∙ case-told spelledAnswer e h
+
+  module _ (p : Prepared) (e : preparedAnswer p ≡ a) where
+    pub cells-told : (n : ℕ) → p ≡ Prepared.Cells n → answer 0 n ≡ told a
+    unfolding told preparedAnswer
+    cells-told n = case-told preparedAnswer e
+
+    pub prepare-refusal-told : (r : Refusal) (t : Answer) → p ≡ Prepared.Refused r → t ≡ told (refusalAnswer r) → t ≡ told a
+    unfolding preparedAnswer
+    prepare-refusal-told r t h o = o ∙ case-told preparedAnswer e h
 
 module _ (r : Reported) where
   pub counts-told : (y n : ℕ) → r ≡ Reported.Counts y n → countsOf 0 0 y n ≡ toldCounts (reportedAnswer r)

@@ -5,6 +5,7 @@ use report::Reported;
 use report::Tally;
 use sirophan::Checked;
 use sirophan::Matched;
+use sirophan::Prepared;
 use sirophan::Selected;
 use sirophan::Spelled;
 ghost use mathlib.Core.Path.{_≡_};
@@ -14,6 +15,7 @@ ghost use Rattle.sirophan.specs.Answers.{checkedAnswer, matchedAnswer, selected
 ghost use Rattle.sirophan.specs.Operations.{checkAnswer, matchAnswer, selectAnswer, selectCells};
 ghost use Rattle.sirophan.specs.Spelling.{spellAnswer, spellBytes};
 ghost use Rattle.sirophan.specs.Searching.{checkSearchAnswer, matchSearchAnswer, selectSearchAnswer, selectSearchCells};
+ghost use Rattle.sirophan.specs.Preparing.{prepareAnswer, prepareCells, judgeAnswer};
 ghost use Rattle.report.specs.Operation.{reportedAnswer};
 ghost use Rattle.sirophan_c.specs.Answers.{told, toldCounts};
 ghost use Rattle.sirophan_c.specs.Contracts.{TellsReport};
@@ -168,6 +170,31 @@ pub extern "C" fn sirophan_spell(filter: &[u8], buffer: &mut [u8], from: usize) 
         },
         Spelled::Refused(refusal) => refused(refusal),
     }
+}
+
+// How many cells the rows of the filter fill, with the rows in the list from its first cell on, or a refusal.
+#[no_mangle]
+pub extern "C" fn sirophan_prepare(sheet: &[u8], filter: &[u8], list: &mut [u32]) -> Answer
+    ensures { λ r. ⌜ r ≡ told (prepareAnswer (now (sheet .entry)) (now (filter .entry)) (length (now (list .entry)))) ⌝ }
+    ensures { λ _. ⌜ now (list .exit) ≡ prepareCells (now (sheet .entry)) (now (filter .entry)) (now (list .entry)) ⌝ }
+{
+    let prepared = sirophan::prepare(sheet, filter, list);
+    match prepared {
+        Prepared::Cells(cells) => Answer {
+            refusal: 0,
+            value: cells,
+        },
+        Prepared::Refused(refusal) => refused(refusal),
+    }
+}
+
+// Whether the card matches what the rows state, or a refusal.
+#[no_mangle]
+pub extern "C" fn sirophan_judge(sheet: &[u8], filter: &[u8], rows: &[u32], card: &[u8]) -> Answer
+    ensures { λ r. ⌜ r ≡ told (judgeAnswer (now (sheet .entry)) (now (filter .entry)) (now (rows .entry)) (now (card .entry))) ⌝ }
+{
+    let judged = sirophan::judge(sheet, filter, rows, card);
+    told_match(judged)
 }
 
 // A report's answer in numbers.

@@ -207,8 +207,10 @@ impl Repository {
         let mut found = BTreeSet::new();
         for (number, line) in self.type_of(&id.file, &id.name).unwrap_or_default().iter().skip(1) {
             let Some(place) = line.find([':', '(']) else { continue };
-            let within = line[place..].split(|c: char| !c.is_alphanumeric() && c != '_');
-            for name in within.filter(|name| name.starts_with(char::is_alphabetic) && !PRIMITIVE.contains(name)) {
+            // a word with a colon behind it is a field's name
+            let within = line[place..].split(|c: char| !c.is_alphanumeric() && !['_', ':'].contains(&c));
+            let types = within.filter(|name| name.starts_with(char::is_alphabetic) && !name.ends_with(':'));
+            for name in types.filter(|name| !PRIMITIVE.contains(name)) {
                 if self.type_of(&id.file, name).is_none() {
                     let what = format!("the type {name} in {} is not declared in this file", id.name);
                     return Err(Fault::new(&id.file, *number, what));

@@ -22,6 +22,7 @@ const fn twin(file: &'static str, name: &'static str, promises: &'static [&'stat
 
 const OPERATIONS: &str = "crates/sirophan/specs/Operations.antt";
 const SEARCHING: &str = "crates/sirophan/specs/Searching.antt";
+const PREPARING: &str = "crates/sirophan/specs/Preparing.antt";
 const REPORT: &str = "crates/report/specs/Operation.antt";
 
 /// All of them. What is behind one of them does not count as behind a statement that names it.
@@ -35,6 +36,10 @@ pub const TWINS: &[Twin] = &[
     twin(SEARCHING, "selectSearchAnswer", &["select-search-refused", "select-search-answered"]),
     twin(SEARCHING, "selectSearchCells", &["search-refusal-keeps-list", "select-search-answered"]),
     twin("crates/search/specs/Reader.antt", "takeQuery", &["query-read"]),
+    twin(PREPARING, "prepareAnswer", &["prepare-refused", "prepare-answered"]),
+    twin(PREPARING, "prepareCells", &["prepare-keeps-list", "prepare-answered"]),
+    twin(PREPARING, "judgeAnswer", &["judge-refused", "judge-answered"]),
+    twin("crates/rows/specs/Shapes.antt", "good", &["rows-good"]),
     twin(REPORT, "reportAnswer", &["report-refused", "report-answered"]),
     twin(REPORT, "reportRows", &["refusal-keeps-rows", "report-answered"]),
     twin("crates/report/specs/Tallies.antt", "tallies", &["row-in-words"]),

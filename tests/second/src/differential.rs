@@ -16,8 +16,14 @@ const GUARD: usize = 4;
 /// The row of answers of match where the filter has a condition inside a path.
 pub const CONDITIONS: &str = "match with a condition";
 
+/// Rows fill at most this many cells: each takes a byte of the text.
+const MOST_CELLS: usize = 1024;
+
 /// How many differences are printed in full.
 const PRINTED: u64 = 3;
+
+/// The row of answers of judge on rows that the case's own filter does not have.
+pub const OTHER_ROWS: &str = "judge of other rows";
 
 /// What can be tested: the operations, of which three go by a search string too.
 pub trait Library {
@@ -29,6 +35,8 @@ pub trait Library {
     fn check_search(&self, sheet: &[u8], text: &[u8]) -> Result<usize, Refusal>;
     fn matches_search(&self, sheet: &[u8], text: &[u8], card: &[u8]) -> Result<bool, Refusal>;
     fn select_search(&self, sheet: &[u8], text: &[u8], cards: &[u8], list: &mut [u32]) -> Result<usize, Refusal>;
+    fn prepare(&self, sheet: &[u8], filter: &[u8], list: &mut [u32]) -> Result<usize, Refusal>;
+    fn judge(&self, sheet: &[u8], filter: &[u8], rows: &[u32], card: &[u8]) -> Result<bool, Refusal>;
 }
 
 /// What a run of the test found.
@@ -65,7 +73,9 @@ impl Outcome {
         let modes = self.modes.iter().map(|(mode, count)| format!("{mode} {count}"));
         println!("cases: {}", listed(modes.collect()));
         let by_search = ["check by search", "match by search", "select by search"];
-        for row in ["check", "match", CONDITIONS, "select", "report", "spell"].into_iter().chain(by_search) {
+        let by_rows = ["prepare", "judge", OTHER_ROWS];
+        let others = by_search.into_iter().chain(by_rows);
+        for row in ["check", "match", CONDITIONS, "select", "report", "spell"].into_iter().chain(others) {
             let answers = self.answers.iter().filter(|((of, _), _)| *of == row);
             let answers = answers.map(|((_, answer), count)| format!("{answer} {count}"));
             println!("{row}: {}", listed(answers.collect()));
@@ -88,8 +98,10 @@ pub fn run(library: &impl Library, seed: u64, cases: u64) -> Outcome {
         *outcome.modes.entry(mode).or_default() += 1;
         outcome.marked += u64::from(case.is_marked());
         let query = generate::query(seed, number, &case);
+        let rows = generate::rows(seed, number, &case);
         let mut differences = compare(library, &case, &mut outcome.answers);
         differences.extend(compare_search(library, &case, &query, &mut outcome.answers));
+        differences.extend(compare_rows(library, &case, &rows, &mut outcome.answers));
         if differences.is_empty() {
             outcome.passed += 1;
             continue;
@@ -100,6 +112,7 @@ pub fn run(library: &impl Library, seed: u64, cases: u64) -> Outcome {
             differences.iter().for_each(|difference| println!("  {difference}"));
             println!("  search string: {:?}", String::from_utf8_lossy(&query));
             print_case(&case);
+            println!("  rows to judge: {rows:?}");
         }
     }
     outcome
@@ -187,6 +200,43 @@ fn compare_search(
     note("select by search", told(ours, |count| if count > 0 { "some cards" } else { "no cards" }));
     differences.extend(difference("select by search", ours, theirs));
     differences.extend(difference("list by search", our_list, their_list));
+    differences
+}
+
+/// The same by rows.
+fn compare_rows(
+    library: &impl Library,
+    case: &Case,
+    rows: &[u32],
+    answers: &mut BTreeMap<(&'static str, String), u64>,
+) -> Vec<String> {
+    let Case { sheet, filter, card, list, .. } = case;
+    let mut differences = Vec::new();
+    let mut note = |operation: &'static str, answer: String| {
+        *answers.entry((operation, answer)).or_default() += 1;
+    };
+
+    let lent = list.len();
+    let mut our_list = list.clone();
+    our_list.resize(lent + GUARD, 0);
+    let mut their_list = our_list.clone();
+    let ours = operations::prepare(sheet, filter, &mut our_list[..lent]);
+    let theirs = library.prepare(sheet, filter, &mut their_list[..lent]);
+    note("prepare", told(ours, |_| "cells"));
+    differences.extend(difference("prepare", ours, theirs));
+    differences.extend(difference("prepared list", our_list, their_list));
+
+    let mut prepared = [0; MOST_CELLS];
+    if let Ok(cells) = library.prepare(sheet, filter, &mut prepared) {
+        let cells = &prepared[..cells];
+        let (ours, theirs) = (operations::matches(sheet, filter, card), library.judge(sheet, filter, cells, card));
+        note("judge", told(ours, |yes| if yes { "yes" } else { "no" }));
+        differences.extend(difference("judge of prepared rows", ours, theirs));
+    }
+
+    let (ours, theirs) = (operations::judge(sheet, filter, rows, card), library.judge(sheet, filter, rows, card));
+    note(OTHER_ROWS, told(ours, |yes| if yes { "yes" } else { "no" }));
+    differences.extend(difference("judge", ours, theirs));
     differences
 }
 

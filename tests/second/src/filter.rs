@@ -87,6 +87,8 @@ pub struct Test {
     pub path: Vec<Vec<u8>>,
     pub operation: Operation,
     pub value: Vec<u8>,
+    /// Where the value begins; a string at its quote.
+    pub value_place: usize,
 }
 
 impl<T> Filter<T> {
@@ -171,6 +173,12 @@ pub fn read(text: &[u8]) -> Option<Filter<Test>> {
     (filter.count() <= MOST_TESTS).then_some(filter)
 }
 
+/// The value that begins at a place of a text, whatever stands behind it; a bare word is as long as it can be.
+pub fn value_at(text: &[u8], place: usize) -> Option<Vec<u8>> {
+    let mut reader = Reader { text, at: place, bundles: Vec::new(), ends_close: false };
+    (place <= text.len()).then(|| reader.value()).flatten()
+}
+
 /// Whether some filter, with brackets at most so deep and at most so many tests, is this text with nothing behind it but
 /// what closes the brackets that are open at its end: round ones by ")", square ones by "]", a dot and a test.
 pub fn closes(text: &[u8], depth: usize, tests: usize) -> bool {
@@ -238,7 +246,7 @@ impl<'a> Reader<'a> {
         self.bundles.push(bundle.to_vec());
         let condition = self.bracket(depth_left, b'[', b']')?;
         let test = if self.is_closed_by_end() {
-            Test { place, path: Vec::new(), operation: Operation::Eq, value: Vec::new() }
+            Test { place, path: Vec::new(), operation: Operation::Eq, value: Vec::new(), value_place: self.at }
         } else {
             self.byte(b'.')?;
             let member = self.name();
@@ -273,13 +281,19 @@ impl<'a> Reader<'a> {
         if self.spaces() == 0 {
             return None;
         }
-        let value = match self.peek() {
-            Some(b'"') => self.string()?,
-            _ => self.bare_word()?,
-        };
+        let value_place = self.at;
+        let value = self.value()?;
         let mut path = self.bundles.clone();
         path.push(name.to_vec());
-        Some(Test { place, path, operation, value })
+        Some(Test { place, path, operation, value, value_place })
+    }
+
+    /// A quoted string or a bare word.
+    fn value(&mut self) -> Option<Vec<u8>> {
+        match self.peek() {
+            Some(b'"') => self.string(),
+            _ => self.bare_word(),
+        }
     }
 
     /// The bytes that a name may have, as far as they go.

@@ -1,7 +1,7 @@
 //! A second implementation of Sirophan in plain Rust. It was written from the definition of the card filter alone,
 //! without a look at the proved code, so that the two are unlikely to share a mistake.
 //!
-//! It answers what `check`, `match`, `select`, `report`, `spell` and the program `pick` must answer, and it generates the inputs on which
+//! It answers what `check`, `match`, `select`, `report`, `spell`, `prepare`, `judge` and the program `pick` must answer, and it generates the inputs on which
 //! the differential test compares the two.
 
 pub mod beginning;
@@ -16,6 +16,7 @@ pub mod number;
 pub mod operations;
 pub mod period;
 pub mod pick;
+pub mod rows;
 pub mod search;
 pub mod spelling;
 pub mod spellings;

@@ -66,15 +66,19 @@ pub fn has_meaning(kind: Kind, operation: Operation) -> bool {
 /// What the test asks, or why it has no meaning.
 pub fn question(test: &Test, sheet: &Sheet) -> Result<Question, Fault> {
     let place = find(&test.path, sheet).ok_or(Fault::UnknownName)?;
+    question_at(place, test.operation, &test.value, sheet)
+}
+
+/// The same of the parameter at a place of the sheet.
+pub fn question_at(place: usize, operation: Operation, value: &[u8], sheet: &Sheet) -> Result<Question, Fault> {
     let kind = sheet.parameters[place].kind.ok_or(Fault::BareBundle)?;
-    let operation = test.operation;
     if matches!(operation, Operation::Ap | Operation::Ss | Operation::Sb | Operation::In | Operation::Ni) {
         return Err(Fault::UnservedOperation);
     }
     if !has_meaning(kind, operation) {
         return Err(Fault::NoMeaningForKind);
     }
-    let asks = asks(kind, operation, &test.value).ok_or(Fault::UnreadableValue)?;
+    let asks = asks(kind, operation, value).ok_or(Fault::UnreadableValue)?;
     Ok(Question { place, asks })
 }
 
@@ -120,7 +124,7 @@ fn prefixed(text: &[u8]) -> (Operation, &[u8]) {
 
 /// The place of the parameter that the path leads to: the first name stands at the top, and each other one in the bundle
 /// that the name before it leads to. No parameter stands in one that is not a bundle.
-fn find(path: &[Vec<u8>], sheet: &Sheet) -> Option<usize> {
+pub fn find(path: &[Vec<u8>], sheet: &Sheet) -> Option<usize> {
     let mut found = None;
     for name in path {
         let mut parameters = sheet.parameters.iter();

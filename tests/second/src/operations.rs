@@ -4,6 +4,7 @@ use crate::beginning;
 use crate::block::{self, Card, Flaw, Sheet};
 use crate::filter::{self, Filter, Test};
 use crate::meaning::{self, Fault, Question};
+use crate::rows;
 use crate::search;
 use crate::spelling;
 
@@ -95,13 +96,31 @@ pub fn spell(filter: &[u8], buffer: &mut [u8], from: usize) -> Result<usize, Ref
 
 /// Reads a text as a filter.
 fn read_filter(text: &[u8]) -> Result<Filter<Test>, Refusal> {
-    if text.is_empty() || text.len() > filter::LONGEST {
-        return Err(refused(10, 0));
-    }
+    has_size(text)?;
     filter::read(text).ok_or_else(|| {
         let (number, place) = beginning::failure(text);
         refused(number, place)
     })
+}
+
+/// Writes the filter's rows into the list and answers how many cells they fill.
+pub fn prepare(sheet: &[u8], text: &[u8], list: &mut [u32]) -> Result<usize, Refusal> {
+    let asked = Asked::read(sheet, text)?;
+    let filter = filter::read(text).expect("a text that was read");
+    let rows = rows::write(&filter, &asked.sheet);
+    let cells = list.get_mut(..rows.len());
+    let cells = cells.ok_or(refused(34, rows.len()))?;
+    cells.copy_from_slice(&rows);
+    Ok(rows.len())
+}
+
+/// Answers whether the card matches what the rows state.
+pub fn judge(sheet: &[u8], text: &[u8], rows: &[u32], card: &[u8]) -> Result<bool, Refusal> {
+    let sheet = read_sheet(sheet)?;
+    has_size(text)?;
+    let filter = rows::read(rows, text, &sheet).ok_or(refused(40, 0))?;
+    let (_, verdict) = Asked { sheet, filter }.judge(card, 0)?;
+    Ok(verdict)
 }
 
 /// A sheet and a filter of which every test has a meaning on every card that fits the sheet.
@@ -122,9 +141,7 @@ impl Asked {
     /// The same of a search string and its alternatives.
     fn search(sheet: &[u8], text: &[u8]) -> Result<Asked, Refusal> {
         let sheet = read_sheet(sheet)?;
-        if text.is_empty() || text.len() > filter::LONGEST {
-            return Err(refused(10, 0));
-        }
+        has_size(text)?;
         let pairs = search::read(text).map_err(|place| refused(50, place))?;
         if pairs.iter().map(Vec::len).sum::<usize>() > search::MOST_ALTERNATIVES {
             return Err(refused(51, 0));
@@ -161,16 +178,21 @@ impl Asked {
     }
 }
 
-fn refused(number: u32, place: usize) -> Refusal {
-    Refusal { number, place }
-}
-
 fn read_sheet(sheet: &[u8]) -> Result<Sheet, Refusal> {
     block::read_sheet(sheet).map_err(|flaw| match flaw {
         Flaw::Size => refused(1, 0),
         Flaw::Sum => refused(2, 0),
         Flaw::Layout => refused(3, 0),
     })
+}
+
+fn has_size(text: &[u8]) -> Result<(), Refusal> {
+    let fits = !text.is_empty() && text.len() <= filter::LONGEST;
+    fits.then_some(()).ok_or(refused(10, 0))
+}
+
+fn refused(number: u32, place: usize) -> Refusal {
+    Refusal { number, place }
 }
 
 /// The number of a test's fault.

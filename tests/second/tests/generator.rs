@@ -1,6 +1,6 @@
 //! The generated inputs reach what they are meant to reach, and come out the same every time.
 
-use second::differential::{CONDITIONS, Library, run};
+use second::differential::{CONDITIONS, Library, OTHER_ROWS, run};
 use second::generate;
 use second::operations::{self, Refusal, Tally};
 
@@ -39,6 +39,14 @@ impl Library for Second {
     fn select_search(&self, sheet: &[u8], text: &[u8], cards: &[u8], list: &mut [u32]) -> Result<usize, Refusal> {
         operations::select_search(sheet, text, cards, list)
     }
+
+    fn prepare(&self, sheet: &[u8], filter: &[u8], list: &mut [u32]) -> Result<usize, Refusal> {
+        operations::prepare(sheet, filter, list)
+    }
+
+    fn judge(&self, sheet: &[u8], filter: &[u8], rows: &[u32], card: &[u8]) -> Result<bool, Refusal> {
+        operations::judge(sheet, filter, rows, card)
+    }
 }
 
 #[test]
@@ -67,6 +75,11 @@ fn every_answer_and_mostly_verdicts() {
         let answer = ("select by search", format!("refused-{number:02}"));
         assert!(outcome.answers.contains_key(&answer), "no selection by a search string is refused by {number}");
     }
+    assert!(outcome.answers.contains_key(&("prepare", "refused-34".into())), "no list is too short for rows");
+    let verdicts = outcome.verdicts(OTHER_ROWS);
+    assert!(5 * verdicts >= cases, "{verdicts} of {cases} have good rows of another filter, or some changed ones");
+    let bad = outcome.answers[&(OTHER_ROWS, "refused-40".to_string())];
+    assert!(5 * bad >= cases, "{bad} of {cases} have rows that are not good");
 }
 
 #[test]

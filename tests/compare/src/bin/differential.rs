@@ -25,6 +25,14 @@ impl Library for Proved {
         sirophan::select(sheet, filter, cards, list).map_err(refusal)
     }
 
+    fn prepare(&self, sheet: &[u8], filter: &[u8], list: &mut [u32]) -> Result<usize, Refusal> {
+        sirophan::prepare_into(sheet, filter, list).map_err(refusal)
+    }
+
+    fn judge(&self, sheet: &[u8], filter: &[u8], rows: &[u32], card: &[u8]) -> Result<bool, Refusal> {
+        sirophan::judge(sheet, filter, rows, card).map_err(refusal)
+    }
+
     fn check_search(&self, sheet: &[u8], text: &[u8]) -> Result<usize, Refusal> {
         sirophan::check_search(sheet, text).map_err(refusal)
     }

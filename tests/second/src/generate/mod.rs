@@ -7,10 +7,12 @@ mod limits;
 mod modes;
 mod queries;
 mod random;
+mod rows;
 mod texts;
 
 pub use queries::query;
 pub use random::Random;
+pub use rows::rows;
 
 use crate::block::{MARKED_CARD, MARKED_SHEET, SIZE};
 use crate::filter;
@@ -58,7 +60,7 @@ pub fn case(seed: u64, number: u64) -> (Case, &'static str) {
     for mode in &MODES {
         if left < mode.weight {
             let mut case = (mode.make)(&mut random);
-            case.rows = rows(&mut random, &case.sheet);
+            case.rows = tallies(&mut random, &case.sheet);
             lend_buffer(&mut random, &mut case);
             return (case, mode.name);
         }
@@ -68,7 +70,7 @@ pub fn case(seed: u64, number: u64) -> (Case, &'static str) {
 }
 
 /// Rows with something in each: mostly as many as the sheet needs, or some more, and now and then too few.
-fn rows(random: &mut Random, sheet: &[u8]) -> Vec<Tally> {
+fn tallies(random: &mut Random, sheet: &[u8]) -> Vec<Tally> {
     let needed = sheet.get(1).map_or(0, |&count| usize::from(count % 64));
     let length = match random.below(8) {
         0 => needed.saturating_sub(1),

@@ -1,4 +1,4 @@
--- What the operations prepare: the parameters of a well-formed sheet, the tree that a text spells, and the first test that is refused.
+-- What the operations take: the parameters of a well-formed sheet, the tree that a text spells, and the first test that is refused.
 -- Assumes nothing.
 use Prim.Native.Nat.{ℕ, _≤_}
 use native.Mathlib.Omega.{arith}
@@ -26,7 +26,7 @@ use Rattle.judge.specs.declared.Fault.{Fault}
 use Rattle.judge.specs.declared.FirstFault.{FirstFault}
 use Rattle.refusal.specs.Answers.{yesOrNo, count}
 use Rattle.refusal.specs.Steps.{Step, found, stop, _>>=_, answer}
-use Rattle.sirophan.specs.Operations.{sheetStep, takeSheet, failureStep, treeStep, takeFilter, faultStep, testsStep, Prepared, prepare, takeCard, checkAnswer, Question, questionOf, matchBy, filterQuestion}
+use Rattle.sirophan.specs.Operations.{sheetStep, takeSheet, failureStep, treeStep, takeFilter, faultStep, testsStep, Inputs, takeInputs, takeCard, checkAnswer, Question, questionOf, matchBy, filterQuestion}
 use Rattle.sirophan.specs.Demand.{TestRules, filterTests}
 use Rattle.sirophan.proofs.Outcomes.{TestOutcome, test-means, test-refused, TestsOutcome, all-mean, one-refused, AtMost, found-at-most, stop-at-most}
 use Rattle.sirophan.proofs.Faults.{outcome}
@@ -60,14 +60,14 @@ module _ (ps : List Parameter) where
   tests-outcome w [] = unfold testsStep firstFault in all-mean all-empty
   tests-outcome w (t ∷ ts) = rw (tests-next t ts) (outcome-next (filterTests ps) (outcome ps w t) (tests-outcome w ts))
 
--- ---- check and match, by what is prepared
+-- ---- check and match, by what is taken
 
 pub match-by : (asked : Step Question) (r : Step Question) → asked ≡ r → (card : List ℕ)
     → matchBy asked card ≡ answer (r >>= λ q. takeCard (q .parameters) 0 card >>= λ c. found (yesOrNo (q .says (c .entries))))
 unfolding matchBy
 match-by asked r e card = rw e
 
-module _ (sheet text : List ℕ) (r : Step Prepared) (e : prepare sheet text ≡ r) where
+module _ (sheet text : List ℕ) (r : Step Inputs) (e : takeInputs sheet text ≡ r) where
   pub check-by : checkAnswer sheet text ≡ answer (r >>= λ p. found (count (length (testsOf (p .filter)))))
   unfolding checkAnswer
   check-by = rw e
@@ -93,10 +93,10 @@ unfolding takeFilter
 filter-taken text f short s =
     rw (ne-eqb (length text) 0 (spells-length text f s), le-ltb 1024 (length text) short, read-spells text f .1 s)
 
-pub prepared : (sheet text : List ℕ) (s : SheetBlock sheet) (f : Tree) → length text ≤ 1024 → Spells text f
-    → prepare sheet text ≡ (testsStep (s .parameters) (testsOf f) >>= λ u. found (record { parameters = s .parameters; filter = f }))
-unfolding prepare
-prepared sheet text s f short spells = rw (sheet-taken sheet s, filter-taken text f short spells)
+pub inputs-taken : (sheet text : List ℕ) (s : SheetBlock sheet) (f : Tree) → length text ≤ 1024 → Spells text f
+    → takeInputs sheet text ≡ (testsStep (s .parameters) (testsOf f) >>= λ u. found (record { parameters = s .parameters; filter = f }))
+unfolding takeInputs
+inputs-taken sheet text s f short spells = rw (sheet-taken sheet s, filter-taken text f short spells)
 
 -- ---- the numbers of these refusals
 
@@ -131,9 +131,9 @@ fault-at-most Fault.Unsupported p = stop-at-most 15 p (omega arith)
 fault-at-most Fault.NoMeaning p = stop-at-most 16 p (omega arith)
 fault-at-most Fault.Unreadable p = stop-at-most 17 p (omega arith)
 
-prepare-number : (sheet text : List ℕ) (n p : ℕ) → prepare sheet text ≡ stop n p → n ≤ 18
-unfolding prepare takeSheet takeFilter testsStep
-prepare-number sheet text =
+pub inputs-number : (sheet text : List ℕ) (n p : ℕ) → takeInputs sheet text ≡ stop n p → n ≤ 18
+unfolding takeInputs takeSheet takeFilter testsStep
+inputs-number sheet text =
     at-most-number
     (at-most-then (sheet-at-most (readSheet sheet) (parametersOf sheet))
     (λ ps. at-most-then
@@ -143,8 +143,8 @@ prepare-number sheet text =
 -- a filter is refused with none of the numbers that cards and lists are refused with
 pub question-number : (sheet text : List ℕ) (n p : ℕ) → filterQuestion sheet text ≡ stop n p → n ≤ 18
 unfolding filterQuestion
-question-number sheet text n p e = by (prepare sheet text) refl e
+question-number sheet text n p e = by (takeInputs sheet text) refl e
   where
-    by : (r : Step Prepared) → prepare sheet text ≡ r → (r >>= λ p. found (questionOf p)) ≡ stop n p → n ≤ 18
+    by : (r : Step Inputs) → takeInputs sheet text ≡ r → (r >>= λ p. found (questionOf p)) ≡ stop n p → n ≤ 18
     by (found q) f g = absurd (let z : _≡_ {A = ℕ} 0 1 = cc in omega arith)
-    by (stop m q) f g = let same : m ≡ n = cc in omega (arith, prepare-number sheet text m q f)
+    by (stop m q) f g = let same : m ≡ n = cc in omega (arith, inputs-number sheet text m q f)

@@ -1,0 +1,14 @@
+-- `sirophan::judgement::refuse` meets its contract. Assumes nothing.
+use borrow.Author.Needs.{needs}
+use mathlib.Core.Path.{refl}
+use Rattle.refusal.specs.Answers.{refusalAnswer}
+use Rattle.sirophan.specs.Answers.{matchedAnswer}
+use Rattle.sirophan.proofs.judgement.refuse.Statement.{statement}
+use Rattle.sirophan.proofs.judgement.refuse.Tie as tie
+
+returns : tie.Need-returns
+unfolding refusalAnswer matchedAnswer
+returns c = refl
+
+pub refuse-spec : {M : Type 1} → statement M
+refuse-spec = tie.close (tie.spec returns)

@@ -1,0 +1,18 @@
+-- `sirophan::operations::judge` meets its contract: the table is that of the definition, and slices hold bytes. Assumes nothing.
+use borrow.Author.Needs.{needs}
+use native.Mathlib.Omega.{arith}
+use Rattle.sirophan.proofs.Contracts.{judges}
+use Rattle.sirophan.proofs.operations.judge.Statement.{statement}
+use Rattle.sirophan.proofs.operations.judge.Tie as tie
+use Rattle.sirophan.proofs.operations.judge.Reads as reads
+use Rattle.sirophan.proofs.operations.judge.Lts as lts
+use Rattle.sirophan.proofs.judgement.judge_bytes.Reads as judge-bytes-reads
+
+judge-bytes-requires : tie.Need-judge-bytes-requires
+judge-bytes-requires c κs = search needs
+
+returns : tie.Need-returns
+returns c = judges _ _ _ _ _ (c .judge-bytes .ensures) (λ i. omega (arith, c .before .before .before .before .shared-slice-known .given i)) (λ i. omega (arith, c .before .shared-slice-known4 .given i))
+
+pub judge-spec : {M : Type 1} → statement M
+judge-spec = tie.close (tie.spec judge-bytes-requires returns)

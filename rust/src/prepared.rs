@@ -1,0 +1,76 @@
+//! A filter that is read once, for many cards.
+
+use crate::{Refusal, ffi};
+
+/// Rows fill at most this many cells: each takes a byte of the filter.
+pub const MOST_CELLS: usize = 1024;
+
+/// A filter on a sheet, both checked and read. It owns all that it needs, so that its rows always belong to its sheet
+/// and its filter.
+///
+/// ```
+/// fn print_matches(sheet: &[u8], filter: &[u8], cards: &[[u8; 512]]) -> Result<(), sirophan::Refusal> {
+///     let prepared = sirophan::prepare(sheet, filter)?;
+///     for (index, card) in cards.iter().enumerate() {
+///         if prepared.matches(card)? {
+///             println!("card {index} matches");
+///         }
+///     }
+///     Ok(())
+/// }
+/// ```
+#[derive(Clone, Debug)]
+pub struct Prepared {
+    sheet: Box<[u8]>,
+    filter: Box<[u8]>,
+    rows: Box<[u32]>,
+}
+
+impl Prepared {
+    /// Answers whether the card matches the filter. Only the card can be refused, with 20 to 23.
+    pub fn matches(&self, card: &[u8]) -> Result<bool, Refusal> {
+        judge(&self.sheet, &self.filter, &self.rows, card)
+    }
+
+    /// The filter's rows, which [`judge`] takes with the same sheet and filter.
+    pub fn rows(&self) -> &[u32] {
+        &self.rows
+    }
+}
+
+/// Reads a filter on a sheet, for many cards. What [`check`](crate::check) refuses is refused alike.
+pub fn prepare(sheet: &[u8], filter: &[u8]) -> Result<Prepared, Refusal> {
+    let mut list = [0; MOST_CELLS];
+    let cells = prepare_into(sheet, filter, &mut list)?;
+    Ok(Prepared { sheet: sheet.into(), filter: filter.into(), rows: list[..cells].into() })
+}
+
+/// Writes the rows of a filter into the list, from its first cell on, and answers how many cells they fill. Later cells
+/// stay, and a refusal leaves the whole list as it is.
+pub fn prepare_into(sheet: &[u8], filter: &[u8], list: &mut [u32]) -> Result<usize, Refusal> {
+    // SAFETY: each pointer comes with the length of the slice that it is of. Only the list is written, and it cannot
+    // overlap the others, since it is borrowed for writing.
+    let answer = unsafe {
+        ffi::sirophan_prepare(sheet.as_ptr(), sheet.len(), filter.as_ptr(), filter.len(), list.as_mut_ptr(), list.len())
+    };
+    answer.into_result()
+}
+
+/// Answers whether the card matches what rows state on a sheet and a filter. Rows are tested like any other input: those
+/// that are not good for this sheet and this filter are refused with 40.
+pub fn judge(sheet: &[u8], filter: &[u8], rows: &[u32], card: &[u8]) -> Result<bool, Refusal> {
+    // SAFETY: each pointer comes with the length of the slice that it is of, and all are only read.
+    let answer = unsafe {
+        ffi::sirophan_judge(
+            sheet.as_ptr(),
+            sheet.len(),
+            filter.as_ptr(),
+            filter.len(),
+            rows.as_ptr(),
+            rows.len(),
+            card.as_ptr(),
+            card.len(),
+        )
+    };
+    answer.into_result().map(|value| value == 1)
+}
