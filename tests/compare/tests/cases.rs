@@ -1,18 +1,35 @@
-//! The proved library gives the reports that were found by hand. The other cases are run by the program `trial`.
+//! The proved library gives the answers that were found by hand, where the program `trial` does not run the cases.
 
-use second::cases::{Cases, Operation, UNTOUCHED, spell_report};
+use second::cases::{Cases, Operation, UNTOUCHED, spell_prepared, spell_report, spell_verdict};
 use second::operations::Tally;
 
 #[test]
-fn reports_found_by_hand() {
+fn answers_found_by_hand() {
     let cases = Cases::read(include_str!("../../cases.txt")).unwrap();
-    let mut reports = 0;
+    let (mut reports, mut rows_judged) = (0, 0);
     for case in &cases.cases {
-        let Operation::Report { rows, .. } = case.operation else { continue };
-        let mut rows = vec![Tally { cards: UNTOUCHED, values: UNTOUCHED }; rows];
-        let answer = compare::report(cases.sheet_of(case), &case.filter, &cases.cards_of(case), &mut rows);
-        assert_eq!(spell_report(answer, &rows), case.answer, "`{}`", case.written);
-        reports += 1;
+        let (sheet, filter, cards) = (cases.sheet_of(case), &case.filter, cases.cards_of(case));
+        let answer = match &case.operation {
+            Operation::Report { rows, .. } => {
+                reports += 1;
+                let mut rows = vec![Tally { cards: UNTOUCHED, values: UNTOUCHED }; *rows];
+                spell_report(compare::report(sheet, filter, &cards, &mut rows), &rows)
+            }
+            Operation::Prepare { cells } => {
+                let mut list = vec![UNTOUCHED; *cells];
+                let answer = sirophan::prepare_into(sheet, filter, &mut list).map_err(compare::refusal);
+                spell_prepared(answer, &list)
+            }
+            Operation::Judge { rows, .. } => {
+                rows_judged += 1;
+                spell_verdict(sirophan::judge(sheet, filter, rows, &cards).map_err(compare::refusal))
+            }
+            operation => {
+                assert!(operation.is_run_by_trial());
+                continue;
+            }
+        };
+        assert_eq!(answer, case.answer, "`{}`", case.written);
     }
-    assert!(reports > 0);
+    assert!(reports > 0 && rows_judged > 0);
 }

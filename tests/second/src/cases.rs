@@ -3,12 +3,13 @@
 //! The head of that file says how it is written.
 
 use crate::block::{self, CARD, Entry, Kind, MARKED_CARD, MARKED_SHEET, SHEET};
+use crate::filter::OPERATIONS;
 use crate::operations::{self, Refusal, Tally};
 use std::fmt::Write;
 use std::iter::Peekable;
 use std::slice;
 
-/// What the cells of a list hold before a selection, and the rows before a report, twice.
+/// What the cells of a list hold before select and prepare, and the rows before a report, twice.
 pub const UNTOUCHED: u32 = 999;
 
 /// The words for the kinds of texts, in the order of their numbers.
@@ -48,6 +49,15 @@ pub enum Operation {
     Match { card: usize },
     Select { cards: Vec<usize>, cells: usize },
     Report { cards: Vec<usize>, rows: usize },
+    Prepare { cells: usize },
+    Judge { card: usize, rows: Vec<u32> },
+}
+
+impl Operation {
+    /// Whether the program `trial` runs it. The others are run by the tests of `compare`.
+    pub fn is_run_by_trial(&self) -> bool {
+        matches!(self, Operation::Check | Operation::Match { .. } | Operation::Select { .. })
+    }
 }
 
 impl Cases {
@@ -69,11 +79,11 @@ impl Cases {
         &self.blocks[case.sheet].bytes
     }
 
-    /// The bytes of the cards, one card after the other; none for a check.
+    /// The bytes of the cards, one card after the other; none where none is asked for.
     pub fn cards_of(&self, case: &Case) -> Vec<u8> {
         let cards = match &case.operation {
-            Operation::Check => &[],
-            Operation::Match { card } => slice::from_ref(card),
+            Operation::Check | Operation::Prepare { .. } => &[],
+            Operation::Match { card } | Operation::Judge { card, .. } => slice::from_ref(card),
             Operation::Select { cards, .. } | Operation::Report { cards, .. } => cards.as_slice(),
         };
         cards.iter().flat_map(|&card| &self.blocks[card].bytes).copied().collect()
@@ -88,11 +98,7 @@ impl Cases {
                 Ok(tests) => format!("tests {tests}"),
                 Err(refusal) => spell_refusal(refusal),
             },
-            Operation::Match { .. } => match operations::matches(sheet, &case.filter, &cards) {
-                Ok(true) => "yes".to_string(),
-                Ok(false) => "no".to_string(),
-                Err(refusal) => spell_refusal(refusal),
-            },
+            Operation::Match { .. } => spell_verdict(operations::matches(sheet, &case.filter, &cards)),
             Operation::Select { cells, .. } => {
                 let mut list = vec![UNTOUCHED; *cells];
                 let mut answer = match operations::select(sheet, &case.filter, &cards, &mut list) {
@@ -109,6 +115,11 @@ impl Cases {
                 let mut rows = vec![Tally { cards: UNTOUCHED, values: UNTOUCHED }; *rows];
                 spell_report(operations::report(sheet, &case.filter, &cards, &mut rows), &rows)
             }
+            Operation::Prepare { cells } => {
+                let mut list = vec![UNTOUCHED; *cells];
+                spell_prepared(operations::prepare(sheet, &case.filter, &mut list), &list)
+            }
+            Operation::Judge { rows, .. } => spell_verdict(operations::judge(sheet, &case.filter, rows, &cards)),
         }
     }
 
@@ -139,6 +150,11 @@ impl Cases {
             (["report", _, cards @ .., "into", rows], Some(_)) => {
                 let cards = cards.iter().map(|card| self.repeated(card)).collect::<Option<Vec<_>>>()?;
                 Operation::Report { cards: cards.concat(), rows: rows.parse().ok()? }
+            }
+            (["prepare", _, "into", cells], Some(_)) => Operation::Prepare { cells: cells.parse().ok()? },
+            (["judge", _, card, "by", rows @ ..], Some(_)) => {
+                let rows = rows.iter().map(|row| repeated_row(row)).collect::<Option<Vec<_>>>()?;
+                Operation::Judge { card: self.index(card)?, rows: rows.concat() }
             }
             _ => return None,
         };
@@ -227,6 +243,67 @@ impl Cases {
 
 fn spell_refusal(refusal: Refusal) -> String {
     format!("{} at {}", refusal.number, refusal.place)
+}
+
+/// A yes or no.
+pub fn spell_verdict(answer: Result<bool, Refusal>) -> String {
+    match answer {
+        Ok(true) => "yes".to_string(),
+        Ok(false) => "no".to_string(),
+        Err(refusal) => spell_refusal(refusal),
+    }
+}
+
+/// The answer of prepare, with the cells.
+pub fn spell_prepared(answer: Result<usize, Refusal>, cells: &[u32]) -> String {
+    let mut spelled = match answer {
+        Ok(filled) => format!("filled {filled}"),
+        Err(refusal) => spell_refusal(refusal),
+    };
+    spelled.push_str(" cells");
+    for &cell in cells {
+        write!(spelled, " {}", spell_row(cell)).unwrap();
+    }
+    spelled
+}
+
+/// The rows without tests, by their numbers.
+const WORDS: [(&str, u32); 3] = [("not", 2), ("and", 3), ("or", 4)];
+
+/// A row as the file writes it; any other cell as a number.
+fn spell_row(cell: u32) -> String {
+    if let Some((word, _)) = WORDS.iter().find(|(_, number)| *number == cell) {
+        return word.to_string();
+    }
+    let (test, bracket) = (cell / 8, cell % 8);
+    match OPERATIONS.get((test / 32 % 32) as usize) {
+        Some((operator, _)) if bracket < 2 => {
+            let bracket = if bracket == 1 { "]" } else { "" };
+            format!("{bracket}{}.{}@{}", test % 32, String::from_utf8_lossy(operator), test / 1024)
+        }
+        _ => cell.to_string(),
+    }
+}
+
+/// A row that the file writes, or as many as the number before "*" says.
+fn repeated_row(written: &str) -> Option<Vec<u32>> {
+    let (times, row) = written.split_once('*').unwrap_or(("1", written));
+    Some(vec![read_row(row)?; times.parse().ok()?])
+}
+
+/// The cell of a row that the file writes.
+fn read_row(written: &str) -> Option<u32> {
+    if let Some((_, number)) = WORDS.iter().find(|(word, _)| *word == written) {
+        return Some(*number);
+    }
+    let Some((test, place)) = written.split_once('@') else { return written.parse().ok() };
+    let (test, bracket) = test.strip_prefix(']').map_or((test, 0), |test| (test, 1));
+    let (parameter, operator) = test.split_once('.')?;
+    let operator = match operator.parse() {
+        Ok(number) => number,
+        Err(_) => OPERATIONS.iter().position(|(word, _)| *word == operator.as_bytes())? as u32,
+    };
+    Some(8 * (parameter.parse::<u32>().ok()? + 32 * (operator + 32 * place.parse::<u32>().ok()?)) + bracket)
 }
 
 /// The answer of a report, with the rows.

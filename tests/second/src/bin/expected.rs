@@ -3,7 +3,7 @@
 //!
 //! `expected --against FILE` compares that with what the program printed; its last line counts the lines that agree.
 //! `expected --cases` writes the file of cases that the program reads, to standard output.
-//! Reports are no cases of that program: the tests of `compare` run them.
+//! Cases of report, prepare and judge are none of that program: the tests of `compare` run them.
 
 use second::cases::{Case, Cases, Operation};
 use std::io::Write;
@@ -38,7 +38,7 @@ fn lines(cases: &Cases) -> Vec<String> {
 
 /// The cases of the program, and what the line of each has before the answer: its number and the filter as written.
 fn labelled(cases: &Cases) -> impl Iterator<Item = (&Case, String)> {
-    let run = cases.cases.iter().filter(|case| !matches!(case.operation, Operation::Report { .. }));
+    let run = cases.cases.iter().filter(|case| case.operation.is_run_by_trial());
     run.zip(1..).map(|(case, number)| (case, format!("{number} `{}` ", case.written)))
 }
 
@@ -90,7 +90,9 @@ fn packed(cases: &Cases) -> Vec<u8> {
             Operation::Check => (0, 0),
             Operation::Match { .. } => (1, 0),
             Operation::Select { cells, .. } => (2, cells),
-            Operation::Report { .. } => unreachable!("reports are no cases of the program"),
+            Operation::Report { .. } | Operation::Prepare { .. } | Operation::Judge { .. } => {
+                unreachable!("no case of the program")
+            }
         };
         let parts = [label.as_bytes(), cases.sheet_of(case), &case.filter, &cases.cards_of(case)];
         bytes.extend(number(operation));
