@@ -16,6 +16,7 @@ pub record Entry : Type 0 where
   pub occurrence : ℕ
   pub text : List ℕ
 
+-- an entry by its index, occurrence and text
 abbrev pub entry : ℕ → ℕ → List ℕ → Entry
 entry i o t = record { index = i; occurrence = o; text = t }
 

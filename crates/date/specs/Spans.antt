@@ -35,15 +35,19 @@ secondFrom day second offset = dateOf (day * 86400 + second) (day * 86400 + seco
 
 -- ---- a year, a month, a day, a second
 
+-- 1974 is the whole year
 unfoldable pub yearDate : ℕ → Date
 yearDate y = daysFrom (dayNumber y 1 1) (yearLength y)
 
+-- 1974-06 is the whole month
 unfoldable pub monthDate : ℕ → ℕ → Date
 monthDate y m = daysFrom (dayNumber y m 1) (monthLength (leapYear y) m)
 
+-- 1974-06-01 is the whole day
 unfoldable pub dayDate : ℕ → ℕ → ℕ → Date
 dayDate y m d = daysFrom (dayNumber y m d) 1
 
+-- a time of day is its one second, moved by the zone's offset
 unfoldable pub secondDate : ℕ → ℕ → ℕ → ℕ → ℕ → ℕ → ℤ → Date
 secondDate y m d hour minute second offset = secondFrom (dayNumber y m d) (secondOfDay hour minute second) offset
 

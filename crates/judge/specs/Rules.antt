@@ -42,6 +42,7 @@ pub data NamesIn (ps : List Parameter) : ℕ → Path → ℕ → ℕ → Type 0
   names : {c : ℕ} {n : List ℕ} {i k : ℕ} → Listed ps i (parameter k c n) → NamesIn ps c (name n) i k
   names-member : {c j : ℕ} {b : List ℕ} {path : Path} {i k : ℕ} → Listed ps j (parameter bundleKind c b) → NamesIn ps (suc j) path i k → NamesIn ps c (member b path) i k
 
+-- the same from the top of the sheet, outside of every bundle
 abbrev pub Names : List Parameter → Path → ℕ → ℕ → Type 0
 Names ps = NamesIn ps 0
 

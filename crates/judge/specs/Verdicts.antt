@@ -22,6 +22,7 @@ unfoldable pub someValue : (List ℕ → Bool) → List (List ℕ) → Bool
 someValue p [] = false
 someValue p (x ∷ xs) = p x || someValue p xs
 
+-- there is no text in the set
 unfoldable pub isEmpty : List (List ℕ) → Bool
 isEmpty [] = true
 isEmpty (x ∷ xs) = false
@@ -50,6 +51,7 @@ textCounts (Meaning.Relates r) v x = related false r v x
 textCounts (Meaning.Differs r) v x = related true r v x
 textCounts Meaning.Nothing v x = false
 
+-- what a test says, where some says that some text counts: pr false asks for none
 unfoldable pub someSays : Meaning → Bool → Bool → Bool
 someSays Meaning.Present truth some = cond truth some (not some)
 someSays (Meaning.Relates r) truth some = some

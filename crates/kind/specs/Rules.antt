@@ -53,9 +53,11 @@ CardPeriod t = (p : Period) × periods.Spells t p
 abbrev pub FilterPeriod : List ℕ → Type 0
 FilterPeriod t = (d : Date) × dates.Spells t d
 
+-- "each text is readable as its kind", of a card's text
 abbrev pub ReadableOnCard : ℕ → List ℕ → Type 0
 ReadableOnCard = Readable CardToken CardPeriod
 
+-- the same of a filter's value: a token may be of any of the four forms, and a period is compared with a date
 abbrev pub ReadableInFilter : ℕ → List ℕ → Type 0
 ReadableInFilter = Readable FilterToken FilterPeriod
 

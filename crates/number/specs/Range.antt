@@ -6,9 +6,11 @@ use Rattle.number.specs.declared.Decimal.{Decimal}
 
 -- ---- the order of two fractions, by cross multiplication
 
+-- a lies below b
 abbrev pub Less : Fraction → Fraction → Type 0
 Less a b = a .numerator * b .denominator < b .numerator * a .denominator
 
+-- a lies below b or is as large
 abbrev pub AtMost : Fraction → Fraction → Type 0
 AtMost a b = a .numerator * b .denominator ≤ b .numerator * a .denominator
 

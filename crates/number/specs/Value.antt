@@ -12,6 +12,7 @@ pub record Bounded (d : Decimal) : Type 0 where
 
 -- ---- exact fractions, of denominators above zero
 
+-- the numerator over the denominator
 pub record Fraction : Type 0 where
   pub numerator : ℕ
   pub denominator : ℕ
@@ -23,6 +24,7 @@ isLess a b = ltb (a .numerator * b .denominator) (b .numerator * a .denominator)
 unfoldable pub isAtMost : Fraction → Fraction → Bool
 isAtMost a b = leb (a .numerator * b .denominator) (b .numerator * a .denominator)
 
+-- the sum, over the product of the denominators
 unfoldable pub plus : Fraction → Fraction → Fraction
 plus a b =
     record {

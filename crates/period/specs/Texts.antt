@@ -19,6 +19,7 @@ use Rattle.period.specs.declared.Reading.{Reading}
 abbrev pub slash : ℕ
 slash = code "/"
 
+-- a period by its two ends
 abbrev pub period : End → End → Period
 period start end = record { start = start; end = end }
 

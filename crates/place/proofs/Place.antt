@@ -1,6 +1,6 @@
 -- Statements: the place and the number of a text, at document 01's limits; a text has one of each.
 -- Assumes nothing.
-use Prim.Native.Nat.{ℕ, _≤_}
+use Prim.Native.Nat.{ℕ}
 use native.Mathlib.Omega.{arith}
 use mathlib.Core.Path.{_≡_, refl}
 use mathlib.Core.Bool.{Bool, true, false, _&&_}
@@ -47,11 +47,6 @@ number-unique (number-13 x n) (number-11 y z) = absurd (z x)
 number-unique (number-11 x n) (number-12 y) = absurd (x y)
 number-unique (number-11 x n) (number-13 y z) = absurd (n y)
 number-unique (number-11 x n) (number-11 y z) = refl
-
-pub number-bounds : {d m : ℕ} {xs : List ℕ} {p n : ℕ} → Number d m xs p n → (11 ≤ n) × (n ≤ 13)
-number-bounds (number-12 x) = (omega arith, omega arith)
-number-bounds (number-13 x n) = (omega arith, omega arith)
-number-bounds (number-11 x n) = (omega arith, omega arith)
 
 -- ---- vectors
 

@@ -19,6 +19,7 @@ pub record Begins (d m : ℕ) (xs : List ℕ) : Type 0 where
 abbrev pub AnyDepth : ℕ → List ℕ → Type 0
 AnyDepth m xs = (d : ℕ) × Begins d m xs
 
+-- the same with as many tests as one likes
 abbrev pub AnyTests : ℕ → List ℕ → Type 0
 AnyTests d xs = (m : ℕ) × Begins d m xs
 

@@ -9,6 +9,7 @@ use Rattle.card.specs.Card.{Entry}
 use Rattle.judge.specs.Sets.{valuesAt}
 use Rattle.report.specs.declared.Tally.{Tally}
 
+-- a row by its two counts
 abbrev pub tally : ℕ → ℕ → Tally
 tally c v = record { cards = c; values = v }
 

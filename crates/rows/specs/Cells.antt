@@ -18,6 +18,7 @@ use Rattle.rows.specs.declared.Row.{Row}
 abbrev pub numberOf : Probe → ℕ
 numberOf p = p .index + 32 * (p .operator + 32 * p .position)
 
+-- the test that a number says, digit by digit: the index below 32, the operator below 32, the position
 unfoldable pub probeOf : ℕ → Probe
 probeOf n = record { index = n % 32; operator = n / 32 % 32; position = n / 32 / 32 }
 
@@ -28,10 +29,12 @@ rowOf c =
     (cond (eqb (c % 8) 1) (Row.Bracket (probeOf (c / 8)))
     (cond (eqb c 2) Row.Not (cond (eqb c 3) (Row.Connect true) (cond (eqb c 4) (Row.Connect false) Row.Unknown))))
 
+-- the code knows a connective by whether it is and
 abbrev pub isAnd : Connective → Bool
 isAnd and = true
 isAnd or = false
 
+-- the cell of a row; a row that is none has one too, which says nothing
 unfoldable pub cellOf : Row → ℕ
 cellOf (Row.Test p) = 8 * numberOf p
 cellOf (Row.Bracket p) = 8 * numberOf p + 1
@@ -42,6 +45,7 @@ cellOf Row.Unknown = 5
 
 -- ---- the cells of an expression
 
+-- an expression's rows follow those of its parts, so that they are written in one pass
 unfoldable pub encode : Expression → List ℕ
 encode (probing p) = cellOf (Row.Test p) ∷ []
 encode (choosing e p) = encode e ++ (cellOf (Row.Bracket p) ∷ [])
@@ -74,14 +78,17 @@ push (Row.Connect a) (f ∷ []) = none
 push (Row.Connect a) (f ∷ e ∷ st) = some (joining (connective a) e f ∷ st)
 push Row.Unknown st = none
 
+-- goes on with the stack, where there is one
 abbrev pub andThen : (List Expression → Option (List Expression)) → Option (List Expression) → Option (List Expression)
 andThen next none = none
 andThen next (some st) = next st
 
+-- all cells, one after the other, on a stack
 unfoldable pub run : List ℕ → List Expression → Option (List Expression)
 run [] st = some st
 run (c ∷ cs) st = andThen (λ s. run cs s) (push (rowOf c) st)
 
+-- the one expression on the stack
 abbrev pub only : Option (List Expression) → Option Expression
 only none = none
 only (some []) = none

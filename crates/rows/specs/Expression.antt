@@ -4,6 +4,7 @@ use Prim.Native.Nat.{ℕ, suc, _+_}
 use Rattle.syntax.specs.Tree.{Connective}
 use Rattle.rows.specs.declared.Probe.{Probe}
 
+-- what rows state: tests, each by its parameter, operator and value's position, joined and negated
 pub data Expression : Type 0 where
   probing : Probe → Expression
   -- the test of a member, on the occurrences of its bundle of which the expression in the brackets says yes

@@ -45,6 +45,7 @@ pub data Fits (ps : List Parameter) (xs : List ℕ) : ℕ → Expression → Typ
   fits-join : {c : ℕ} {k : Connective} {e f : Expression} → Fits ps xs c e → Fits ps xs c f → Fits ps xs c (joining k e f)
   fits-not : {c : ℕ} {e : Expression} → Fits ps xs c e → Fits ps xs c (negating e)
 
+-- 02's good rows, on a sheet's parameters and a text
 pub record Good (ps : List Parameter) (xs cs : List ℕ) : Type 0 where
   pub expression : Expression
   -- "they form one whole expression .. and nothing after it"

@@ -24,6 +24,7 @@ abbrev pub valueBy : List ℕ → FoundValue → List ℕ
 valueBy xs (FoundValue.Value v) = valueIn xs v
 valueBy xs FoundValue.Nothing = []
 
+-- the test that a row names: its parameter's name, its operator, and the value at its position of the text
 unfoldable pub testFor : List Parameter → List ℕ → Probe → Test
 testFor ps xs p = record { at = p .position; path = name (nameAt (p .index) ps); operator = p .operator; value = valueBy xs (valueAt xs (p .position)) }
 
@@ -31,6 +32,7 @@ testFor ps xs p = record { at = p .position; path = name (nameAt (p .index) ps);
 unfoldable pub bundleFor : List Parameter → Probe → List ℕ
 bundleFor ps p = nameAt (getD (parentsOf ps) (p .index) 0 - 1) ps
 
+-- the filter that an expression states on a sheet's parameters and a text
 unfoldable pub treeOf : List Parameter → List ℕ → Expression → Tree
 treeOf ps xs (probing p) = test (testFor ps xs p)
 treeOf ps xs (choosing e p) = bracketed (p .position) (bundleFor ps p) (treeOf ps xs e) (testFor ps xs p)

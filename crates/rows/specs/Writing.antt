@@ -33,6 +33,7 @@ indexOf Found.Missing = 0
 unfoldable pub probeFor : List Parameter → List ℕ → ℕ → Test → Probe
 probeFor ps xs c t = record { index = indexOf (lookup ps c (t .path)); operator = t .operator; position = valuePlace xs (t .at) }
 
+-- the expression of a filter's rows: each name is the index that it has in its bundle, and each value is its position
 unfoldable pub prepared : List Parameter → List ℕ → ℕ → Tree → Expression
 prepared ps xs c (test t) = probing (probeFor ps xs c t)
 prepared ps xs c (bracketed p b f t) = choosing (prepared ps xs (enter ps c b) f) (probeFor ps xs (enter ps c b) t)

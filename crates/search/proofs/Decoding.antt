@@ -113,6 +113,3 @@ decoded-back (encodes-percent {h = h} {l = l} {x = x} {y = y} {s = s} a b e) =
     let p = digit-back a in
     let q = digit-back b in
     decoded-percent h l s ∙ rw (p .0, q .0, lt-ltb x 16 (p .1), lt-ltb y 16 (q .1), decoded-back e)
-
-pub decoded-iff : (s v : List ℕ) → (decoded s ≡ some v) ↔ Encodes s v
-decoded-iff s v = (decoded-there s v, decoded-back)

@@ -269,15 +269,3 @@ module _ {n : ℕ} {says : Alternative → Bool} {bytes : List ℕ} {rows : Rows
   pub saying-ends : rows .count ≤ i → true ≡ rowsSay says bytes rows
   unfolding keptSays
   saying-ends h = sym (g .left ∙ ap (λ (l : List Row). keptSays says met (map (keptIn bytes) l)) (from-end (g .within) i h))
-
-pub unmet-last : (last said : Bool) → last ≡ true → not said ≡ (last && not said)
-unmet-last last said h = rw h
-
-pub unmet-on : (last said : Bool) → last ≡ false → false ≡ (last && not said)
-unmet-on last said h = rw h
-
-pub carried-last : (last said : Bool) → last ≡ true → false ≡ (not last && said)
-carried-last last said h = rw h
-
-pub carried-on : (last said : Bool) → last ≡ false → said ≡ (not last && said)
-carried-on last said h = rw h

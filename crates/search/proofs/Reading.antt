@@ -67,19 +67,6 @@ pair-back (a-pair {p = p} {m = m} {n = n} {w = w} {u = u} {v = v} x h y d f g) =
 pub pair-without : {p : ℕ} {s : List ℕ} {a : List Alternative} → PairAt p s a → Without ampersand s
 pair-without (a-pair x h y d f g) = all-append (λ (z : ℕ). z ≡ ampersand → ⊥) x (all-cons (λ e. omega arith) y)
 
--- a part that is no pair is refused
-pub pair-none : (p : ℕ) (s : List ℕ) → Without ampersand s → ((a : List Alternative) → PairAt p s a → ⊥) → readPair p s ≡ stop 50 p
-pair-none p s o n = by-cut o n (cut-of equals s)
-  where
-    of-parts : (m w : List ℕ) (x y : Option (List ℕ)) → ((a : List Alternative) → pairOf p x y ≡ found a → ⊥) → pairOf p x y ≡ stop 50 p
-    of-parts m w (some x) (some y) k = absurd (k _ refl)
-    of-parts m w (some x) none k = refl
-    of-parts m w none y k = refl
-
-    by-cut : {t : List ℕ} → Without ampersand t → ((a : List Alternative) → PairAt p t a → ⊥) → Cut equals t → readPair p t ≡ stop 50 p
-    by-cut o n (cut-at m w h) = pair-cut p m w h ∙ of-parts m w (decoded m) (decoded w) (λ a e. n a (pair-there p (m ++ (equals ∷ w)) a o (pair-cut p m w h ∙ e)))
-    by-cut {t} o n (no-cut h) = pair-whole p t h
-
 -- ---- pairs
 
 pub pairs-cut : (n p : ℕ) (s xs : List ℕ) → Without ampersand s

@@ -53,9 +53,10 @@ pub data AlternativeSays (ps : List Parameter) (es : List Entry) (a : Alternativ
   -- "its meaning is 01's": that of the test which it asks for
   says-test : {i k o : ℕ} {v : List ℕ} → (k ≡ token → ⊥) → Names ps (name (a .name)) i k → AskedBy k (a .text) o v → Says ps 0 es (testOf a o v) → AlternativeSays ps es a
 
--- "pairs .., all to be met"; "commas in the value give alternatives": some alternative of each pair says yes
+-- "commas in the value give alternatives": some alternative of the pair says yes
 abbrev pub PairSays : List Parameter → List Entry → List Alternative → Type 0
 PairSays ps es p = (a : Alternative) × List·Memᴰ a p × AlternativeSays ps es a
 
+-- "pairs joined by "&", all to be met": each pair says yes
 abbrev pub QuerySays : List Parameter → List Entry → Query → Type 0
 QuerySays ps es = All (PairSays ps es)

@@ -11,6 +11,7 @@ use Rattle.base.specs.Split.{Without}
 use Rattle.text.specs.Bar.{bar}
 use Rattle.syntax.specs.Strings.{backslash}
 
+-- the bytes that cut and encode a search string
 abbrev pub ampersand : ℕ
 ampersand = code "&"
 
@@ -49,6 +50,7 @@ pub data Sign : Type 0 where
 unfoldable pub isSpecial : ℕ → Bool
 isSpecial b = member b (code "$" ∷ comma ∷ backslash ∷ bar ∷ [])
 
+-- whether the next byte is one that a backslash makes plain
 abbrev pub beginsSpecial : List ℕ → Bool
 beginsSpecial [] = false
 beginsSpecial (b ∷ s) = isSpecial b
@@ -69,6 +71,7 @@ abbrev pub onFirst : Sign → List (List Sign) → List (List Sign)
 onFirst x [] = (x ∷ []) ∷ []
 onFirst x (w ∷ ws) = (x ∷ w) ∷ ws
 
+-- the alternatives of a value, as signs: one more than it has cuts
 unfoldable pub cutSigns : List Sign → List (List Sign)
 cutSigns [] = [] ∷ []
 cutSigns (cut ∷ v) = [] ∷ cutSigns v
@@ -96,6 +99,7 @@ pub record Alternative : Type 0 where
   pub text : List ℕ
   pub split : ℕ
 
+-- an alternative of the pair at p, by its parameter's name and its signs
 abbrev pub alternative : ℕ → List ℕ → List Sign → Alternative
 alternative p n w = record { at = p; name = n; text = textOf w; split = splitOf w }
 
@@ -103,6 +107,7 @@ alternative p n w = record { at = p; name = n; text = textOf w; split = splitOf 
 abbrev pub Query : Type 0
 Query = List (List Alternative)
 
+-- all alternatives, in the order of the text
 abbrev pub alternativesOf : Query → List Alternative
 alternativesOf = flatten
 

@@ -26,10 +26,12 @@ find c n ps = findFrom 0 c n ps
 abbrev pub nowhere : ℕ
 nowhere = 255
 
+-- the bundle number by which members of a parameter that was found are looked up; nowhere, where it is no bundle
 abbrev pub inside : Found → ℕ
 inside (At i k) = cond (eqb k bundleKind) (i + 1) nowhere
 inside Missing = nowhere
 
+-- the bundle number of the bundle with the name n in the bundle c
 unfoldable pub enter : List Parameter → ℕ → List ℕ → ℕ
 enter ps c n = inside (find c n ps)
 

@@ -21,6 +21,7 @@ pub record Parameter : Type 0 where
   pub bundle : ℕ
   pub name : List ℕ
 
+-- a parameter by its kind, bundle and name
 abbrev pub parameter : ℕ → ℕ → List ℕ → Parameter
 parameter k b n = record { kind = k; bundle = b; name = n }
 

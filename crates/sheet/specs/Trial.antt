@@ -7,6 +7,7 @@ use lib.ListN.{replicate}
 use Rattle.base.specs.Ascii.{ascii}
 use Rattle.sheet.specs.Sheet.{Parameter, parameter}
 
+-- the parameters of document 01's trial sheet
 unfoldable pub trialParameters : List Parameter
 trialParameters =
     parameter 1 0 (ascii "title")

@@ -25,6 +25,7 @@ edgeCard =
     ++ replicate 327 0
     ++ (35 ∷ 217 ∷ 20 ∷ 0 ∷ [])
 
+-- each rule at its edge: touching spans, half units, each namespace, each escape, each operator's word
 unfoldable pub edgeRows : List Row
 edgeRows =
     row (ascii "title eq \"\\\"\\\\\\/\\b\\f\\n\\r\\t\"") yes

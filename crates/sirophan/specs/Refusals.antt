@@ -45,6 +45,7 @@ pub data TestsLine (sheet text : List ℕ) : ℕ → ℕ → Type 0 where
   line-of-test : (s : SheetBlock sheet) {f : Tree} {t : Test} {n : ℕ} → Spells text f → List·Memᴰ t (testsOf f) → TestLine (s .parameters) t n
       → TestsLine sheet text n (t .at)
 
+-- every line of check's table
 abbrev pub CheckLine : (sheet text : List ℕ) → ℕ → ℕ → Type 0
 CheckLine sheet text n p = SheetLine sheet n p ⊎ (TextLine text n p ⊎ TestsLine sheet text n p)
 
@@ -65,6 +66,7 @@ pub data OneCardLine (sheet card : List ℕ) : ℕ → ℕ → Type 0 where
   line-20-match : (length card ≡ 512 → ⊥) → OneCardLine sheet card 20 0
   line-of-card : {n : ℕ} → CardLine sheet card n → OneCardLine sheet card n 0
 
+-- every line of match's table: check's, and those of its card
 abbrev pub MatchLine : (sheet text card : List ℕ) → ℕ → ℕ → Type 0
 MatchLine sheet text card n p = CheckLine sheet text n p ⊎ OneCardLine sheet card n p
 
@@ -86,6 +88,7 @@ pub data RoomLine (match : List ℕ → Answer) (cards : List ℕ) (room : ℕ) 
   line-30 : {bs : List (List ℕ)} → Run cards bs → room < length (matchingCards match bs)
       → RoomLine match cards room 30 (length (matchingCards match bs))
 
+-- every line of select's table: check's, those of the run and its cards, and 30
 abbrev pub SelectLine : (sheet text cards : List ℕ) → (room : ℕ) → ℕ → ℕ → Type 0
 SelectLine sheet text cards room n p =
     CheckLine sheet text n p ⊎ (RunLine cards n p ⊎ (CardsLine sheet cards n p ⊎ RoomLine (matchAnswer sheet text) cards room n p))
@@ -97,5 +100,6 @@ pub data BufferLine (text : List ℕ) (from room : ℕ) : ℕ → ℕ → Type 0
   -- 02: "when it would run past the buffer's end, place its length"
   line-32 : {f : Tree} → Spells text f → room < from + length (plain f) → BufferLine text from room 32 (length (plain f))
 
+-- every line of spell's table
 abbrev pub SpellLine : (text : List ℕ) → (from room : ℕ) → ℕ → ℕ → Type 0
 SpellLine text from room n p = TextLine text n p ⊎ BufferLine text from room n p

@@ -33,6 +33,7 @@ pub record AsksAlike (ps : List Parameter) (a : Alternative) (t : Test) : Type 0
   -- "short system names .. aside": its system, where it has a bar, stands for itself
   pub systems : kind ≡ token → a .split < length (a .text) → StandsFor (take (a .split) (a .text)) (take (a .split) (a .text))
 
+-- the alternatives of a pair and tests that ask for the same, one by one
 pub data TestsAlike (ps : List Parameter) : List Alternative → List Tree → Type 0 where
   alike-end : TestsAlike ps [] []
   alike-next : {a : Alternative} {rest : List Alternative} {t : Test} {fs : List Tree} → AsksAlike ps a t → TestsAlike ps rest fs → TestsAlike ps (a ∷ rest) (test t ∷ fs)

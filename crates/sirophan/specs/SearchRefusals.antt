@@ -36,6 +36,7 @@ CheckSearchLine sheet text n p = SheetLine sheet n p ⊎ (QueryLine text n p ⊎
 abbrev pub MatchSearchLine : (sheet text card : List ℕ) → ℕ → ℕ → Type 0
 MatchSearchLine sheet text card n p = CheckSearchLine sheet text n p ⊎ OneCardLine sheet card n p
 
+-- every line of select's table for a search string
 abbrev pub SelectSearchLine : (sheet text cards : List ℕ) → (room : ℕ) → ℕ → ℕ → Type 0
 SelectSearchLine sheet text cards room n p =
     CheckSearchLine sheet text n p ⊎ (RunLine cards n p ⊎ (CardsLine sheet cards n p ⊎ RoomLine (matchSearchAnswer sheet text) cards room n p))

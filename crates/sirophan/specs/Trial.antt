@@ -13,9 +13,11 @@ pub record Row : Type 0 where
   pub filter : List ℕ
   pub gives : Answer
 
+-- a filter and the answer that it gives
 abbrev pub row : List ℕ → Answer → Row
 row filter gives = record { filter = filter; gives = gives }
 
+-- document 01's trial table, on its sheet and card
 unfoldable pub trialRows : List Row
 trialRows =
     row (ascii "title co \"BOOK\"") yes

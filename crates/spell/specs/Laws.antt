@@ -9,6 +9,7 @@ use Rattle.syntax.specs.Tree.{Tree}
 use Rattle.syntax.specs.Grammar.{Spells}
 use Rattle.spell.specs.Plain.{erase}
 
+-- what 02 asks of the plain spelling; no other function meets it
 pub record PlainSpelling (plain : Tree → List ℕ) : Type 0 where
   -- "reading it back gives the same tests, joined, negated and grouped the same"
   pub reads-back : (text : List ℕ) (f : Tree) → Spells text f → (g : Tree) × (Spells (plain f) g × (erase g ≡ erase f))

@@ -77,6 +77,7 @@ pub data Closes (xs : List ℕ) (close : ℕ) : ℕ → ℕ → Type 0 where
 abbrev pub round : ℕ
 round = code ")"
 
+-- what closes a condition in a path
 abbrev pub square : ℕ
 square = code "]"
 
@@ -115,8 +116,10 @@ pub record Within (d m : ℕ) (xs : List ℕ) (f : Tree) : Type 0 where
 abbrev pub deepest : ℕ
 deepest = 8
 
+-- "a filter has at most 32 tests"
 abbrev pub mostTests : ℕ
 mostTests = 32
 
+-- the text is a filter, within both limits
 abbrev pub Spells : List ℕ → Tree → Type 0
 Spells = Within deepest mostTests

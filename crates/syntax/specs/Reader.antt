@@ -20,6 +20,7 @@ pub data Parsed : Type 0 where
   parsed : ℕ → Tree → Parsed
   unparsed : Parsed
 
+-- the code knows a connective by whether it is and
 abbrev pub connective : Bool → Connective
 connective true = and
 connective false = or

@@ -31,6 +31,7 @@ use Rattle.syntax.specs.declared.FoundClose.{FoundClose}
 
 -- ---- spaces and words
 
+-- "only the byte 0x20 is a space"
 abbrev pub isSpace : ℕ → Bool
 isSpace b = eqb b 0x20
 
@@ -52,6 +53,7 @@ stepOf false b =
     (cond (eqb b backslash) (StringStep.More true)
     (cond (leb 0x20 b) (StringStep.More false) StringStep.Wrong))
 
+-- goes on behind a byte of a string, or ends there
 abbrev pub onStep : StringStep → (Bool → FoundString) → ℕ → Bool → FoundString
 onStep (StringStep.More pending) next p escaped = next pending
 onStep StringStep.Close next p escaped = FoundString.Closed p escaped
@@ -62,6 +64,7 @@ unfoldable pub stringFrom : List ℕ → Bool → Bool → ℕ → FoundString
 stringFrom [] pending escaped p = FoundString.Nothing
 stringFrom (y ∷ ys) pending escaped p = onStep (stepOf pending y) (λ k. stringFrom ys k (escaped || k) (p + 1)) p escaped
 
+-- the same from the position p of the text
 unfoldable pub stringAt : List ℕ → Bool → Bool → ℕ → FoundString
 stringAt xs pending escaped p = stringFrom (drop p xs) pending escaped p
 
@@ -70,9 +73,11 @@ abbrev pub stringValue : ℕ → FoundString → FoundValue
 stringValue p (FoundString.Closed e escaped) = FoundValue.Value (record { start = p + 1; end = e; escaped = escaped; next = e + 1 })
 stringValue p FoundString.Nothing = FoundValue.Nothing
 
+-- the bare word from p up to e
 abbrev pub bareValue : ℕ → ℕ → FoundValue
 bareValue p e = FoundValue.Value (record { start = p; end = e; escaped = false; next = e })
 
+-- the value that begins at p: a string with its closing quote, or a bare word as long as it goes
 unfoldable pub valueAt : List ℕ → ℕ → FoundValue
 valueAt xs p =
     cond (ltb p (length xs))

@@ -13,6 +13,7 @@ use Rattle.base.specs.Lists.{member}
 abbrev pub quote : ℕ
 quote = 0x22
 
+-- begins an escape
 abbrev pub backslash : ℕ
 backslash = 0x5c
 

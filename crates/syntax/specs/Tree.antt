@@ -27,6 +27,7 @@ under b t = record { at = t .at; path = member b (t .path); operator = t .operat
 pub data Connective : Type 0 where
   and or : Connective
 
+-- a filter that was read
 pub data Tree : Type 0 where
   test : Test → Tree
   -- where it begins, the bundle's name, the filter in its brackets, and the member's test as it stands after them

@@ -27,7 +27,3 @@ module _ (a b : List ℕ) where
   pub contains-reads : (contains a b ≡ true) ↔ ((p : List ℕ) × (q : List ℕ) × (foldText a ≡ p ++ (foldText b ++ q)))
   unfolding contains
   contains-reads = (infix-rest (foldText a) (foldText b), λ w. rw (w .2) (infix-append (w .0) (foldText b) (w .1)))
-
--- the empty text is contained everywhere
-pub contains-empty : (a : List ℕ) → contains a [] ≡ true
-contains-empty a = contains-reads a [] .1 ([], foldText a, rw foldText-empty)

@@ -5,6 +5,7 @@ use Prim.Native.Char.{code}
 use mathlib.Core.List.{List}
 use Rattle.base.specs.Split.{Without}
 
+-- parts a token's system from its code
 abbrev pub bar : ℕ
 bar = code "|"
 
