@@ -56,11 +56,7 @@ length-map f (x ∷ xs) = ap suc (length-map f xs)
 else-assoc : (f : Fault) (p : ℕ) (b c : FirstFault)
     → orElse (orElse (record { fault = f; position = p }) b) c ≡ orElse (record { fault = f; position = p }) (orElse b c)
 else-assoc Fault.Nothing p b c = refl
-else-assoc Fault.UnknownName p b c = refl
-else-assoc Fault.BareBundle p b c = refl
-else-assoc Fault.Unsupported p b c = refl
-else-assoc Fault.NoMeaning p b c = refl
-else-assoc Fault.Unreadable p b c = refl
+else-assoc (Fault.Because r) p b c = refl
 
 pub fault-append : (ps : List Parameter) (c : ℕ) (ts us : List Test) → firstFault ps c (ts ++ us) ≡ orElse (firstFault ps c ts) (firstFault ps c us)
 unfolding firstFault

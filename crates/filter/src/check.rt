@@ -35,11 +35,7 @@ fn first_of(a: FirstFault, b: FirstFault) -> FirstFault
     let fault = a.fault;
     match fault {
         Fault::Nothing => b,
-        Fault::UnknownName => a,
-        Fault::BareBundle => a,
-        Fault::Unsupported => a,
-        Fault::NoMeaning => a,
-        Fault::Unreadable => a,
+        Fault::Because(_) => a,
     }
 }
 

@@ -27,6 +27,7 @@ use Rattle.judge.specs.Faults.{unsupported, kindFault, faultAt, testFaul
 use Rattle.judge.specs.Sets.{lookup, valuesAt, chosenOf}
 use Rattle.judge.specs.declared.Chosen.{Chosen}
 use Rattle.judge.specs.Verdicts.{isEmpty, someValue, related, textCounts, someSays, saysOf, saysAt, testSays}
+use Rattle.refusal.specs.declared.Reason.{Reason}
 use Rattle.judge.specs.declared.Fault.{Fault}
 use Rattle.judge.proofs.Entries.{hasValue}
 
@@ -84,12 +85,12 @@ module _ (k kind : ℕ) (m : Meaning) (e : m ≡ meaningOf k kind) where
 -- ---- faults
 
 module _ (k kind : ℕ) (v : List ℕ) (u : Bool) (e : u ≡ unsupported k) where
-  pub fault-unsupported : u ≡ true → Fault.Unsupported ≡ kindFault k kind v
+  pub fault-unsupported : u ≡ true → Fault.Because Reason.Unsupported ≡ kindFault k kind v
   unfolding kindFault
   fault-unsupported h = rw (sym e ∙ h)
 
   module _ (h : u ≡ false) (m : Bool) (f : m ≡ hasMeaning k kind) where
-    pub fault-meaning : m ≡ false → Fault.NoMeaning ≡ kindFault k kind v
+    pub fault-meaning : m ≡ false → Fault.Because Reason.NoMeaning ≡ kindFault k kind v
     unfolding kindFault
     fault-meaning i = rw (sym e ∙ h, sym f ∙ i)
 
@@ -98,21 +99,21 @@ module _ (k kind : ℕ) (v : List ℕ) (u : Bool) (e : u ≡ unsupported k) wher
       unfolding kindFault
       fault-nothing j = rw (sym e ∙ h, sym f ∙ i, sym g ∙ j)
 
-      pub fault-unreadable : r ≡ false → Fault.Unreadable ≡ kindFault k kind v
+      pub fault-unreadable : r ≡ false → Fault.Because Reason.Unreadable ≡ kindFault k kind v
       unfolding kindFault
       fault-unreadable j = rw (sym e ∙ h, sym f ∙ i, sym g ∙ j)
 
-pub fault-bundle : (k kind : ℕ) (v : List ℕ) → kind ≡ 7 → Fault.BareBundle ≡ cond (eqb kind bundleKind) Fault.BareBundle (kindFault k kind v)
+pub fault-bundle : (k kind : ℕ) (v : List ℕ) → kind ≡ 7 → Fault.Because Reason.BareBundle ≡ cond (eqb kind bundleKind) (Fault.Because Reason.BareBundle) (kindFault k kind v)
 fault-bundle k kind v e = rw e
 
-pub fault-kind : (k kind : ℕ) (v : List ℕ) (r : Fault) → (kind ≡ 7 → ⊥) → r ≡ kindFault k kind v → r ≡ cond (eqb kind bundleKind) Fault.BareBundle (kindFault k kind v)
+pub fault-kind : (k kind : ℕ) (v : List ℕ) (r : Fault) → (kind ≡ 7 → ⊥) → r ≡ kindFault k kind v → r ≡ cond (eqb kind bundleKind) (Fault.Because Reason.BareBundle) (kindFault k kind v)
 fault-kind k kind v r n e = rw (ne-eqb kind 7 n) e
 
 module _ (f found : Found) (k : ℕ) (v : List ℕ) (e : f ≡ found) where
-  pub fault-found : (i kind : ℕ) (r : Fault) → f ≡ Found.At i kind → r ≡ cond (eqb kind bundleKind) Fault.BareBundle (kindFault k kind v) → r ≡ faultAt found k v
+  pub fault-found : (i kind : ℕ) (r : Fault) → f ≡ Found.At i kind → r ≡ cond (eqb kind bundleKind) (Fault.Because Reason.BareBundle) (kindFault k kind v) → r ≡ faultAt found k v
   fault-found i kind r h g = rw (sym e ∙ h) g
 
-  pub fault-missing : f ≡ Found.Missing → Fault.UnknownName ≡ faultAt found k v
+  pub fault-missing : f ≡ Found.Missing → Fault.Because Reason.UnknownName ≡ faultAt found k v
   fault-missing h = rw (sym e ∙ h)
 
   -- ---- verdicts

@@ -12,6 +12,7 @@ use Rattle.sheet.specs.declared.Found.{Found}
 use Rattle.syntax.specs.Tree.{Test}
 use Rattle.kind.specs.Table.{hasMeaning}
 use Rattle.kind.specs.Readable.{valueReadable}
+use Rattle.refusal.specs.declared.Reason.{Reason}
 use Rattle.judge.specs.Sets.{lookup}
 use Rattle.judge.specs.declared.Fault.{Fault}
 use Rattle.judge.specs.declared.FirstFault.{FirstFault}
@@ -23,16 +24,16 @@ unsupported k = member k (ap ∷ ss ∷ sb ∷ «in» ∷ ni ∷ [])
 -- the fault of an operator and a value for a kind: the line with the lowest number
 unfoldable pub kindFault : ℕ → ℕ → List ℕ → Fault
 kindFault k kind v =
-    cond (unsupported k) Fault.Unsupported
+    cond (unsupported k) (Fault.Because Reason.Unsupported)
     (cond (hasMeaning k kind)
-    (cond (valueReadable k kind v) Fault.Nothing Fault.Unreadable)
-    Fault.NoMeaning)
+    (cond (valueReadable k kind v) Fault.Nothing (Fault.Because Reason.Unreadable))
+    (Fault.Because Reason.NoMeaning))
 
 -- the same at what the path names
 -- 02: 18 "for a bundle's name with no bracket"
 abbrev pub faultAt : Found → ℕ → List ℕ → Fault
-faultAt Found.Missing k v = Fault.UnknownName
-faultAt (Found.At i kind) k v = cond (eqb kind bundleKind) Fault.BareBundle (kindFault k kind v)
+faultAt Found.Missing k v = Fault.Because Reason.UnknownName
+faultAt (Found.At i kind) k v = cond (eqb kind bundleKind) (Fault.Because Reason.BareBundle) (kindFault k kind v)
 
 -- of a test whose path is looked up in c
 unfoldable pub testFault : List Parameter → ℕ → Test → Fault
@@ -44,11 +45,7 @@ orElse a b = byFault (a .fault)
   where
     byFault : Fault → FirstFault
     byFault Fault.Nothing = b
-    byFault Fault.UnknownName = a
-    byFault Fault.BareBundle = a
-    byFault Fault.Unsupported = a
-    byFault Fault.NoMeaning = a
-    byFault Fault.Unreadable = a
+    byFault (Fault.Because r) = a
 
 -- "the first test in the text decides": its fault, and the position of its first byte
 unfoldable pub firstFault : List Parameter → ℕ → List Test → FirstFault

@@ -8,6 +8,7 @@ use base::operator::SB;
 use base::operator::SS;
 use block::Reading;
 use kind::Meaning;
+use refusal::Reason;
 use sheet::Found;
 ghost use mathlib.Core.Path.{_≡_};
 ghost use mathlib.Core.Bool.{cond};
@@ -45,23 +46,23 @@ pub fn kind_fault(operator: u8, kind: u8, value: &[u8]) -> Fault
     ensures { λ r. ⌜ r ≡ kindFault operator kind (now (value .entry)) ⌝ }
 {
     if unsupported(operator) {
-        return Fault::Unsupported;
+        return Fault::Because(Reason::Unsupported);
     }
     if has_meaning(operator, kind) {
         if kind::value_readable(operator, kind, value) {
             return Fault::Nothing;
         }
-        return Fault::Unreadable;
+        return Fault::Because(Reason::Unreadable);
     }
-    Fault::NoMeaning
+    Fault::Because(Reason::NoMeaning)
 }
 
 // The fault of an operator and a value at a parameter of a kind: at a bundle's, that it is one.
 fn parameter_fault(operator: u8, kind: u8, value: &[u8]) -> Fault
-    ensures { λ r. ⌜ r ≡ cond (eqb kind bundleKind) Fault.BareBundle (kindFault operator kind (now (value .entry))) ⌝ }
+    ensures { λ r. ⌜ r ≡ cond (eqb kind bundleKind) (Fault.Because Reason.BareBundle) (kindFault operator kind (now (value .entry))) ⌝ }
 {
     if kind == BUNDLE {
-        return Fault::BareBundle;
+        return Fault::Because(Reason::BareBundle);
     }
     kind_fault(operator, kind, value)
 }
@@ -73,6 +74,6 @@ pub fn fault_at(sheet: &[u8], bundle: u8, name: &[u8], operator: u8, value: &[u8
 {
     match sheet::find(sheet, bundle, name) {
         Found::At { index: _, kind } => parameter_fault(operator, kind, value),
-        Found::Missing => Fault::UnknownName,
+        Found::Missing => Fault::Because(Reason::UnknownName),
     }
 }

@@ -6,6 +6,7 @@ mod verdicts;
 
 pub use faults::has_meaning;
 pub use faults::kind_fault;
+use refusal::Reason;
 pub use sets::conforms;
 pub use sets::is_under;
 pub use tests::member_counts;
@@ -16,19 +17,10 @@ pub use tests::test_says;
 pub use verdicts::says_of;
 pub use verdicts::some_says;
 
-// What is wrong with a test on a sheet, whatever the card.
+// What is wrong with a test on a sheet, whatever the card: nothing, or why it is refused.
 pub enum Fault {
     Nothing,
-    // 14: the name is not on the sheet.
-    UnknownName,
-    // 18: a bundle's name with no bracket.
-    BareBundle,
-    // 15: the operator is ap, ss, sb, in or ni.
-    Unsupported,
-    // 16: another operator without a meaning for the kind.
-    NoMeaning,
-    // 17: the value is unreadable.
-    Unreadable,
+    Because(Reason),
 }
 
 // Which entries of a card count: all, or those of one occurrence.

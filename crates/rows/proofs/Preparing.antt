@@ -86,11 +86,7 @@ clean-all ps c (t ∷ ts) h = by-fault (testFault ps c t) refl h (clean-all ps c
     by-fault : (f : Fault) → testFault ps c t ≡ f → orElse (record { fault = f; position = t .at }) (firstFault ps c ts) .fault ≡ Fault.Nothing
         → (firstFault ps c ts .fault ≡ Fault.Nothing → All (λ (u : Test). testFault ps c u ≡ Fault.Nothing) ts) → All (λ (u : Test). testFault ps c u ≡ Fault.Nothing) (t ∷ ts)
     by-fault Fault.Nothing e g again = all-cons e (again g)
-    by-fault Fault.UnknownName e g again = let z : _≡_ {A = ℕ} 0 1 = cc in absurd (omega arith)
-    by-fault Fault.BareBundle e g again = let z : _≡_ {A = ℕ} 0 1 = cc in absurd (omega arith)
-    by-fault Fault.Unsupported e g again = let z : _≡_ {A = ℕ} 0 1 = cc in absurd (omega arith)
-    by-fault Fault.NoMeaning e g again = let z : _≡_ {A = ℕ} 0 1 = cc in absurd (omega arith)
-    by-fault Fault.Unreadable e g again = let z : _≡_ {A = ℕ} 0 1 = cc in absurd (omega arith)
+    by-fault (Fault.Because r) e g again = let z : _≡_ {A = ℕ} 0 1 = cc in absurd (omega arith)
 
 -- inside brackets names are looked up in the bundle
 clean-under : (ps : List Parameter) (c : ℕ) (b : List ℕ) (ts : List Test) → All (λ (t : Test). testFault ps c t ≡ Fault.Nothing) (map (under b) ts) → All (λ (t : Test). testFault ps (enter ps c b) t ≡ Fault.Nothing) ts

@@ -26,6 +26,7 @@ use Rattle.kind.specs.declared.Meaning.{Meaning}
 use Rattle.judge.specs.Sets.{lookup, valuesAt, chosenOf}
 use Rattle.judge.specs.Faults.{kindFault, orElse}
 use Rattle.judge.specs.Verdicts.{someValue, saysOf}
+use Rattle.refusal.specs.declared.Reason.{Reason}
 use Rattle.judge.specs.declared.Fault.{Fault}
 use Rattle.judge.specs.declared.FirstFault.{FirstFault}
 use Rattle.judge.proofs.Entries.{every, chosen-every}
@@ -63,21 +64,21 @@ module _ (kind split : ℕ) (text : List ℕ) where
   unfolding textFault
   token-readable t k e h = rw (eq-eqb kind token k, sym e ∙ h)
 
-  pub token-unreadable : (t : Bool) → kind ≡ 4 → t ≡ readableAt split text → t ≡ false → Fault.Unreadable ≡ textFault kind split text
+  pub token-unreadable : (t : Bool) → kind ≡ 4 → t ≡ readableAt split text → t ≡ false → Fault.Because Reason.Unreadable ≡ textFault kind split text
   unfolding textFault
   token-unreadable t k e h = rw (eq-eqb kind token k, sym e ∙ h)
 
-  pub at-bundle : kind ≡ 7 → Fault.UnknownName ≡ cond (eqb kind bundleKind) Fault.UnknownName (textFault kind split text)
+  pub at-bundle : kind ≡ 7 → Fault.Because Reason.UnknownName ≡ cond (eqb kind bundleKind) (Fault.Because Reason.UnknownName) (textFault kind split text)
   at-bundle k = rw (eq-eqb kind bundleKind k)
 
-  pub at-kind : (f : Fault) → (kind ≡ 7 → ⊥) → f ≡ textFault kind split text → f ≡ cond (eqb kind bundleKind) Fault.UnknownName (textFault kind split text)
+  pub at-kind : (f : Fault) → (kind ≡ 7 → ⊥) → f ≡ textFault kind split text → f ≡ cond (eqb kind bundleKind) (Fault.Because Reason.UnknownName) (textFault kind split text)
   at-kind f k e = e ∙ rw (ne-eqb kind bundleKind k)
 
 module _ (split : ℕ) (text : List ℕ) (o : Found) (there : Found) (e : o ≡ there) where
-  pub fault-found : (i kind : ℕ) (f : Fault) → o ≡ Found.At i kind → f ≡ cond (eqb kind bundleKind) Fault.UnknownName (textFault kind split text) → f ≡ faultAt there split text
+  pub fault-found : (i kind : ℕ) (f : Fault) → o ≡ Found.At i kind → f ≡ cond (eqb kind bundleKind) (Fault.Because Reason.UnknownName) (textFault kind split text) → f ≡ faultAt there split text
   fault-found i kind f h g = g ∙ rw (sym e ∙ h)
 
-  pub fault-missing : o ≡ Found.Missing → Fault.UnknownName ≡ faultAt there split text
+  pub fault-missing : o ≡ Found.Missing → Fault.Because Reason.UnknownName ≡ faultAt there split text
   fault-missing h = rw (sym e ∙ h)
 
   pub says-found : (es : List Entry) (i kind : ℕ) (b : Bool) → o ≡ Found.At i kind → b ≡ textSays kind split text (valuesAt i es) → b ≡ saysAt there split text es
@@ -177,19 +178,11 @@ pub record Facing (n : ℕ) (ps : List Parameter) (bytes : List ℕ) (rows : Row
 
 or-else-first : (f : Fault) (p : ℕ) (rest : FirstFault) → isFault f ≡ true → orElse (record { fault = f; position = p }) rest ≡ record { fault = f; position = p }
 or-else-first Fault.Nothing p rest h = let z : false ≡ true = h in cc
-or-else-first Fault.UnknownName p rest h = refl
-or-else-first Fault.BareBundle p rest h = refl
-or-else-first Fault.Unsupported p rest h = refl
-or-else-first Fault.NoMeaning p rest h = refl
-or-else-first Fault.Unreadable p rest h = refl
+or-else-first (Fault.Because r) p rest h = refl
 
 or-else-rest : (f : Fault) (p : ℕ) (rest : FirstFault) → isFault f ≡ false → orElse (record { fault = f; position = p }) rest ≡ rest
 or-else-rest Fault.Nothing p rest h = refl
-or-else-rest Fault.UnknownName p rest h = let z : true ≡ false = h in cc
-or-else-rest Fault.BareBundle p rest h = let z : true ≡ false = h in cc
-or-else-rest Fault.Unsupported p rest h = let z : true ≡ false = h in cc
-or-else-rest Fault.NoMeaning p rest h = let z : true ≡ false = h in cc
-or-else-rest Fault.Unreadable p rest h = let z : true ≡ false = h in cc
+or-else-rest (Fault.Because r) p rest h = let z : true ≡ false = h in cc
 
 pub facing-starts : {n : ℕ} {ps : List Parameter} {bytes : List ℕ} {rows : Rows} → RowsWithin n rows → Facing n ps bytes rows 0
 unfolding alternativesIn

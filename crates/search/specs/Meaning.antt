@@ -15,6 +15,7 @@ use Rattle.kind.specs.Table.{meaningOf}
 use Rattle.judge.specs.Sets.{lookup, valuesAt}
 use Rattle.judge.specs.Faults.{kindFault, orElse}
 use Rattle.judge.specs.Verdicts.{someValue, saysOf}
+use Rattle.refusal.specs.declared.Reason.{Reason}
 use Rattle.judge.specs.declared.Fault.{Fault}
 use Rattle.judge.specs.declared.FirstFault.{FirstFault}
 use Rattle.search.specs.Spelling.{Alternative, Query}
@@ -25,13 +26,13 @@ use Rattle.search.specs.Asking.{askedOf}
 -- 16 and 17 of a text under a kind: a token by its own split, any other by the operator and the value that are asked
 unfoldable pub textFault : (kind split : ℕ) → List ℕ → Fault
 textFault kind split text =
-    cond (eqb kind token) (cond (readableAt split text) Fault.Nothing Fault.Unreadable)
+    cond (eqb kind token) (cond (readableAt split text) Fault.Nothing (Fault.Because Reason.Unreadable))
     (kindFault (askedOf kind text .operator) kind (askedOf kind text .value))
 
 -- "14 (bundles and members too)": a member's name is not found at the top
 abbrev pub faultAt : Found → (split : ℕ) → List ℕ → Fault
-faultAt Found.Missing split text = Fault.UnknownName
-faultAt (Found.At i kind) split text = cond (eqb kind bundleKind) Fault.UnknownName (textFault kind split text)
+faultAt Found.Missing split text = Fault.Because Reason.UnknownName
+faultAt (Found.At i kind) split text = cond (eqb kind bundleKind) (Fault.Because Reason.UnknownName) (textFault kind split text)
 
 unfoldable pub alternativeFault : List Parameter → Alternative → Fault
 alternativeFault ps a = faultAt (lookup ps 0 (name (a .name))) (a .split) (a .text)

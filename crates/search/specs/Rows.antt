@@ -104,11 +104,7 @@ rowsSay says bytes rows = keptSays says false (map (keptIn bytes) (take (rows .c
 
 abbrev pub isFault : Fault → Bool
 isFault Fault.Nothing = false
-isFault Fault.UnknownName = true
-isFault Fault.BareBundle = true
-isFault Fault.Unsupported = true
-isFault Fault.NoMeaning = true
-isFault Fault.Unreadable = true
+isFault (Fault.Because r) = true
 
 -- a search string was taken, and the rows keep its query
 pub record RowsOf (text bytes : List ℕ) (rows : Rows) (q : Query) : Type 0 where

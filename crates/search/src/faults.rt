@@ -7,6 +7,7 @@ use base::kind::TOKEN;
 use block::Reading;
 use judge::Fault;
 use judge::FirstFault;
+use refusal::Reason;
 use sheet::Found;
 ghost use mathlib.Core.Path.{_≡_};
 ghost use mathlib.Core.Bool.{cond};
@@ -26,7 +27,7 @@ fn text_fault(kind: u8, split: usize, text: &[u8]) -> Fault
         if token::readable_at(text, split) {
             return Fault::Nothing;
         }
-        return Fault::Unreadable;
+        return Fault::Because(Reason::Unreadable);
     }
     let asked = asked_of(kind, text);
     let skip = asked.skip;
@@ -35,10 +36,10 @@ fn text_fault(kind: u8, split: usize, text: &[u8]) -> Fault
 
 // The same at a parameter: "14 (bundles and members too)".
 fn parameter_fault(kind: u8, split: usize, text: &[u8]) -> Fault
-    ensures { λ r. ⌜ r ≡ cond (eqb kind bundleKind) Fault.UnknownName (textFault kind split (now (text .entry))) ⌝ }
+    ensures { λ r. ⌜ r ≡ cond (eqb kind bundleKind) (Fault.Because Reason.UnknownName) (textFault kind split (now (text .entry))) ⌝ }
 {
     if kind == BUNDLE {
-        return Fault::UnknownName;
+        return Fault::Because(Reason::UnknownName);
     }
     text_fault(kind, split, text)
 }
@@ -50,7 +51,7 @@ fn fault_at(sheet: &[u8], name: &[u8], split: usize, text: &[u8]) -> Fault
 {
     match sheet::find(sheet, 0, name) {
         Found::At { index: _, kind } => parameter_fault(kind, split, text),
-        Found::Missing => Fault::UnknownName,
+        Found::Missing => Fault::Because(Reason::UnknownName),
     }
 }
 
@@ -73,11 +74,7 @@ fn is_fault(fault: Fault) -> bool
 {
     match fault {
         Fault::Nothing => false,
-        Fault::UnknownName => true,
-        Fault::BareBundle => true,
-        Fault::Unsupported => true,
-        Fault::NoMeaning => true,
-        Fault::Unreadable => true,
+        Fault::Because(_) => true,
     }
 }
 

@@ -35,9 +35,9 @@ use Rattle.sirophan.specs.Passing.{summaryAnswer, failureAnswer}
 
 -- ---- the answer for a text that is a filter
 
-pub outcome-fault : (s : Summary) (c : Checked) (f : Fault) (n : ℕ) → ((p : ℕ) → faultStep f p ≡ stop n p) → s .first .fault ≡ f → checkedAnswer c ≡ refused n (s .first .position) → checkedAnswer c ≡ summaryAnswer s
+pub outcome-fault : (s : Summary) (c : Checked) (r : Reason) → s .first .fault ≡ Fault.Because r → checkedAnswer c ≡ refused (numberOf r) (s .first .position) → checkedAnswer c ≡ summaryAnswer s
 unfolding summaryAnswer
-outcome-fault s c f n t e h = rw (e, t (s .first .position)) h
+outcome-fault s c r e h = rw e h
 
 pub outcome-tests : (s : Summary) → s .first .fault ≡ Fault.Nothing → checkedAnswer (Checked.Tests (s .tests)) ≡ summaryAnswer s
 unfolding summaryAnswer checkedAnswer

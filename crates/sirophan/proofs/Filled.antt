@@ -91,11 +91,7 @@ no-fault s c n e i = by-fault (s .first .fault) refl
 
     by-fault : (f : Fault) → s .first .fault ≡ f → faultStep (s .first .fault) (s .first .position) ≡ found tt
     by-fault Fault.Nothing h = ap (λ (f : Fault). faultStep f (s .first .position)) h
-    by-fault Fault.UnknownName h = ap (λ (f : Fault). faultStep f (s .first .position)) h ∙ refusal-is-none Fault.UnknownName 14 h refl
-    by-fault Fault.BareBundle h = ap (λ (f : Fault). faultStep f (s .first .position)) h ∙ refusal-is-none Fault.BareBundle 18 h refl
-    by-fault Fault.Unsupported h = ap (λ (f : Fault). faultStep f (s .first .position)) h ∙ refusal-is-none Fault.Unsupported 15 h refl
-    by-fault Fault.NoMeaning h = ap (λ (f : Fault). faultStep f (s .first .position)) h ∙ refusal-is-none Fault.NoMeaning 16 h refl
-    by-fault Fault.Unreadable h = ap (λ (f : Fault). faultStep f (s .first .position)) h ∙ refusal-is-none Fault.Unreadable 17 h refl
+    by-fault (Fault.Because r) h = ap (λ (f : Fault). faultStep f (s .first .position)) h ∙ refusal-is-none (Fault.Because r) (numberOf r) h refl
 
 -- an answer that is a refusal comes of a step that stopped there
 stopped-at : {A : Type 0} (q : Step A) (a : A → Answer) (n p : ℕ) → ((x : A) → a x ≡ refused n p → ⊥) → answer (q >>= λ x. found (a x)) ≡ refused n p → q ≡ stop n p

@@ -30,6 +30,7 @@ use Rattle.kind.specs.Table.{stringRow, tokenRow, row, relationIn, rowMeaning, 
 use Rattle.kind.specs.Readable.{filterReadable, valueReadable}
 use Rattle.judge.specs.Sets.{lookup, valuesAt}
 use Rattle.judge.specs.Faults.{unsupported, kindFault, testFault}
+use Rattle.refusal.specs.declared.Reason.{Reason}
 use Rattle.judge.specs.declared.Fault.{Fault}
 use Rattle.refusal.specs.Answers.{Answer, yes, no, count, refused}
 use Rattle.refusal.specs.Steps.{found, stop}
@@ -54,7 +55,7 @@ title-spelled = read-spells (ascii "title co \"BOOK\"") (test titleTest) .0 (tre
 pub code-spelled : Spells (ascii "code gt 5") (test codeTest)
 code-spelled = read-spells (ascii "code gt 5") (test codeTest) .0 (trees-read .1)
 
-faults-found : (testFault trialParameters 0 titleTest ≡ Fault.Nothing) × (testFault trialParameters 0 codeTest ≡ Fault.NoMeaning)
+faults-found : (testFault trialParameters 0 titleTest ≡ Fault.Nothing) × (testFault trialParameters 0 codeTest ≡ (Fault.Because Reason.NoMeaning))
 unfolding titleTest codeTest trialParameters testFault kindFault lookup find findFrom equal unsupported member hasMeaning meaningOf rowMeaning relationIn row kinds ofKind stringRow tokenRow valueReadable filterReadable
 faults-found = (refl, refl)
 
@@ -71,7 +72,7 @@ title-means = meaning (outcome-as titleTest Fault.Nothing (faults-found .0))
     meaning (test-means m _) = m
 
 code-lacks : Meaningful (filterTests trialParameters) codeTest → ⊥
-code-lacks m = shown (outcome-as codeTest Fault.NoMeaning (faults-found .1))
+code-lacks m = shown (outcome-as codeTest (Fault.Because Reason.NoMeaning) (faults-found .1))
   where
     shown : TestOutcome (filterTests trialParameters) codeTest (stop 16 (codeTest .at)) → ⊥
     shown (test-refused r) = m (r .card) (r .entries) (r .conforms) (r .lacks)

@@ -10,10 +10,12 @@ use lib.Dec.{eqb, ltb}
 use lib.ListN.{length}
 use borrow.Author.Tests.{ne-eqb, le-ltb}
 use Rattle.base.specs.Lists.{all-empty, all-cons}
+use Rattle.base.specs.Kinds.{bundleKind}
 use Rattle.base.proofs.Tests.{cond-elim}
 use Rattle.block.specs.declared.Reading.{Reading}
 use Rattle.sheet.specs.Sheet.{Parameter, parametersOf, readSheet}
 use Rattle.sheet.specs.Encode.{WellFormedSheet, SheetBlock}
+use Rattle.sheet.specs.declared.Found.{Found}
 use Rattle.sheet.proofs.Sheets.{sheet-reads-iff}
 use Rattle.syntax.specs.Tree.{Test, Tree, testsOf}
 use Rattle.syntax.specs.Grammar.{deepest, mostTests, Spells}
@@ -21,7 +23,10 @@ use Rattle.syntax.specs.Reader.{read}
 use Rattle.syntax.proofs.Spelling.{read-spells, spells-not-empty}
 use Rattle.place.specs.Machine.{failure}
 use Rattle.place.specs.declared.Why.{Why}
-use Rattle.judge.specs.Faults.{testFault, orElse, firstFault}
+use Rattle.kind.specs.Table.{hasMeaning}
+use Rattle.kind.specs.Readable.{valueReadable}
+use Rattle.judge.specs.Sets.{lookup}
+use Rattle.judge.specs.Faults.{unsupported, kindFault, faultAt, testFault, orElse, firstFault}
 use Rattle.judge.specs.declared.Fault.{Fault}
 use Rattle.judge.specs.declared.FirstFault.{FirstFault}
 use Rattle.refusal.specs.Answers.{yesOrNo, count}
@@ -38,11 +43,7 @@ pub step-or-else : (fault : Fault) (p : ℕ) (rest : FirstFault)
     → faultStep (orElse (record { fault = fault; position = p }) rest .fault) (orElse (record { fault = fault; position = p }) rest .position)
     ≡ (faultStep fault p >>= λ u. faultStep (rest .fault) (rest .position))
 step-or-else Fault.Nothing p rest = refl
-step-or-else Fault.UnknownName p rest = refl
-step-or-else Fault.BareBundle p rest = refl
-step-or-else Fault.Unsupported p rest = refl
-step-or-else Fault.NoMeaning p rest = refl
-step-or-else Fault.Unreadable p rest = refl
+step-or-else (Fault.Because r) p rest = refl
 
 -- what one test comes to, and then those after it
 pub outcome-next : {T : Type 0} (rules : TestRules T) {t : T} {ts : List T} {first rest : Step (Unit {0})} → TestOutcome rules t first → TestsOutcome rules ts rest
@@ -100,7 +101,7 @@ inputs-taken sheet text s f short spells = rw (sheet-taken sheet s, filter-taken
 
 -- ---- the numbers of these refusals
 
-at-most-then : {A B : Type 0} {most : ℕ} {s : Step A} {next : A → Step B} → AtMost most s → ((x : A) → AtMost most (next x)) → AtMost most (s >>= next)
+pub at-most-then : {A B : Type 0} {most : ℕ} {s : Step A} {next : A → Step B} → AtMost most s → ((x : A) → AtMost most (next x)) → AtMost most (s >>= next)
 at-most-then (found-at-most {x = x}) h = h x
 at-most-then (stop-at-most n p l) h = stop-at-most n p l
 
@@ -123,22 +124,32 @@ tree-at-most : (text : List ℕ) (o : Option Tree) → AtMost 18 (treeStep text 
 tree-at-most text (some f) = found-at-most
 tree-at-most text none = failure-at-most (failure deepest mostTests text .why) (failure deepest mostTests text .place)
 
-pub fault-at-most : (fault : Fault) (p : ℕ) → AtMost 18 (faultStep fault p)
-fault-at-most Fault.Nothing p = found-at-most
-fault-at-most Fault.UnknownName p = stop-at-most 14 p (omega arith)
-fault-at-most Fault.BareBundle p = stop-at-most 18 p (omega arith)
-fault-at-most Fault.Unsupported p = stop-at-most 15 p (omega arith)
-fault-at-most Fault.NoMeaning p = stop-at-most 16 p (omega arith)
-fault-at-most Fault.Unreadable p = stop-at-most 17 p (omega arith)
+pub kind-at-most : (k kind : ℕ) (v : List ℕ) (p : ℕ) → AtMost 18 (faultStep (kindFault k kind v) p)
+unfolding kindFault
+kind-at-most k kind v p =
+    cond-elim (λ f. AtMost 18 (faultStep f p)) (unsupported k) (λ _. stop-at-most 15 p (omega arith))
+    (λ _. cond-elim (λ f. AtMost 18 (faultStep f p)) (hasMeaning k kind)
+    (λ _. cond-elim (λ f. AtMost 18 (faultStep f p)) (valueReadable k kind v) (λ _. found-at-most) (λ _. stop-at-most 17 p (omega arith)))
+    (λ _. stop-at-most 16 p (omega arith)))
+
+fault-at-most : (o : Found) (k : ℕ) (v : List ℕ) (p : ℕ) → AtMost 18 (faultStep (faultAt o k v) p)
+fault-at-most Found.Missing k v p = stop-at-most 14 p (omega arith)
+fault-at-most (Found.At i kind) k v p =
+    cond-elim (λ f. AtMost 18 (faultStep f p)) (eqb kind bundleKind) (λ _. stop-at-most 18 p (omega arith)) (λ _. kind-at-most k kind v p)
+
+tests-at-most : (ps : List Parameter) (ts : List Test) → AtMost 18 (testsStep ps ts)
+unfolding testFault
+tests-at-most ps [] = unfold testsStep firstFault in found-at-most
+tests-at-most ps (t ∷ ts) = rw (tests-next ps t ts) (at-most-then (fault-at-most (lookup ps 0 (t .path)) (t .operator) (t .value) (t .at)) (λ u. tests-at-most ps ts))
 
 pub inputs-number : (sheet text : List ℕ) (n p : ℕ) → takeInputs sheet text ≡ stop n p → n ≤ 18
-unfolding takeInputs takeSheet takeFilter testsStep
+unfolding takeInputs takeSheet takeFilter
 inputs-number sheet text =
     at-most-number
     (at-most-then (sheet-at-most (readSheet sheet) (parametersOf sheet))
     (λ ps. at-most-then
     (cond-elim (AtMost 18) (eqb (length text) 0 || ltb 1024 (length text)) (λ _. stop-at-most 10 0 (omega arith)) (λ _. tree-at-most text (read text)))
-    (λ f. at-most-then (fault-at-most (firstFault ps 0 (testsOf f) .fault) (firstFault ps 0 (testsOf f) .position)) (λ u. found-at-most))))
+    (λ f. at-most-then (tests-at-most ps (testsOf f)) (λ u. found-at-most))))
 
 -- a filter is refused with none of the numbers that cards and lists are refused with
 pub question-number : (sheet text : List ℕ) (n p : ℕ) → filterQuestion sheet text ≡ stop n p → n ≤ 18

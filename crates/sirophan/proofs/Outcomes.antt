@@ -14,6 +14,7 @@ use Rattle.sheet.specs.Sheet.{Parameter}
 use Rattle.card.specs.Card.{Entry, recordNumber, entriesOf}
 use Rattle.syntax.specs.Tree.{Test}
 use Rattle.judge.specs.Faults.{unsupported}
+use Rattle.refusal.specs.declared.Reason.{Reason}
 use Rattle.judge.specs.declared.Fault.{Fault}
 use Rattle.refusal.specs.Answers.{Answer}
 use Rattle.refusal.specs.Steps.{Step, found, stop}
@@ -38,12 +39,12 @@ pub data ReadsTo (b : List ℕ) (IsBlock : Type 0) : Reading → Type 0 where
 
 -- the fault of a test
 pub data Judged (ps : List Parameter) (t : Test) : Fault → Type 0 where
-  judged-unknown : NotOnSheet ps (t .path) → Judged ps t Fault.UnknownName
-  judged-bundle : {i : ℕ} → Names ps (t .path) i bundleKind → Judged ps t Fault.BareBundle
-  judged-unsupported : {i k : ℕ} → (k ≡ bundleKind → ⊥) → Names ps (t .path) i k → unsupported (t .operator) ≡ true → Judged ps t Fault.Unsupported
-  judged-meaningless : {i k : ℕ} → (k ≡ bundleKind → ⊥) → Names ps (t .path) i k → unsupported (t .operator) ≡ false → (HasOperator k (t .operator) → ⊥) → Judged ps t Fault.NoMeaning
+  judged-unknown : NotOnSheet ps (t .path) → Judged ps t (Fault.Because Reason.UnknownName)
+  judged-bundle : {i : ℕ} → Names ps (t .path) i bundleKind → Judged ps t (Fault.Because Reason.BareBundle)
+  judged-unsupported : {i k : ℕ} → (k ≡ bundleKind → ⊥) → Names ps (t .path) i k → unsupported (t .operator) ≡ true → Judged ps t (Fault.Because Reason.Unsupported)
+  judged-meaningless : {i k : ℕ} → (k ≡ bundleKind → ⊥) → Names ps (t .path) i k → unsupported (t .operator) ≡ false → (HasOperator k (t .operator) → ⊥) → Judged ps t (Fault.Because Reason.NoMeaning)
   judged-unreadable : {i k : ℕ} → (k ≡ bundleKind → ⊥) → Names ps (t .path) i k → unsupported (t .operator) ≡ false → HasOperator k (t .operator)
-      → (ReadableValue k (t .value) (t .operator) → ⊥) → Judged ps t Fault.Unreadable
+      → (ReadableValue k (t .value) (t .operator) → ⊥) → Judged ps t (Fault.Because Reason.Unreadable)
   judged-right : {i k : ℕ} → (k ≡ bundleKind → ⊥) → Names ps (t .path) i k → HasOperator k (t .operator) → ReadableValue k (t .value) (t .operator) → Judged ps t Fault.Nothing
 
 -- the table gives the test the number n, and there is a conforming card on which it lacks a meaning

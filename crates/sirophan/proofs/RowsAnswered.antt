@@ -61,11 +61,7 @@ known-of (one-decides d) x e = let z : _≡_ {A = ℕ} 0 1 = cc in absurd (omega
 
 no-fault : (f : Fault) (p : ℕ) → faultStep f p ≡ found tt → f ≡ Fault.Nothing
 no-fault Fault.Nothing p e = refl
-no-fault Fault.UnknownName p e = let z : _≡_ {A = ℕ} 0 1 = cc in absurd (omega arith)
-no-fault Fault.BareBundle p e = let z : _≡_ {A = ℕ} 0 1 = cc in absurd (omega arith)
-no-fault Fault.Unsupported p e = let z : _≡_ {A = ℕ} 0 1 = cc in absurd (omega arith)
-no-fault Fault.NoMeaning p e = let z : _≡_ {A = ℕ} 0 1 = cc in absurd (omega arith)
-no-fault Fault.Unreadable p e = let z : _≡_ {A = ℕ} 0 1 = cc in absurd (omega arith)
+no-fault (Fault.Because r) p e = let z : _≡_ {A = ℕ} 0 1 = cc in absurd (omega arith)
 
 -- what is found where the room is enough
 found-cells : (room : ℕ) (cs ds : List ℕ) → takeCells room cs ≡ found ds → ds ≡ cs

@@ -29,6 +29,7 @@ use Rattle.kind.proofs.Rules.{value-iff, operator-iff}
 use Rattle.judge.specs.Sets.{lookup, valuesAt}
 use Rattle.judge.specs.Faults.{kindFault}
 use Rattle.judge.specs.Rules.{Names, NotOnSheet}
+use Rattle.refusal.specs.declared.Reason.{Reason}
 use Rattle.judge.specs.declared.Fault.{Fault}
 use Rattle.judge.proofs.Rules.{names-iff, names-kind, names-listed, missing-iff}
 use Rattle.search.specs.Spelling.{Alternative}
@@ -55,11 +56,11 @@ Has k a = (o : ℕ) (v : List ℕ) → AskedBy k (a .text) o v → HasOperator k
 
 -- the fault of an alternative
 data Judged (ps : List Parameter) (a : Alternative) : Fault → Type 0 where
-  judged-unknown : NotOnSheet ps (name (a .name)) → Judged ps a Fault.UnknownName
-  judged-bundle : {i : ℕ} → Names ps (name (a .name)) i bundleKind → Judged ps a Fault.UnknownName
+  judged-unknown : NotOnSheet ps (name (a .name)) → Judged ps a (Fault.Because Reason.UnknownName)
+  judged-bundle : {i : ℕ} → Names ps (name (a .name)) i bundleKind → Judged ps a (Fault.Because Reason.UnknownName)
   judged-meaningless : {i k o : ℕ} {v : List ℕ} → (k ≡ bundleKind → ⊥) → Names ps (name (a .name)) i k → AskedBy k (a .text) o v → (HasOperator k o → ⊥)
-      → Judged ps a Fault.NoMeaning
-  judged-unreadable : {i k : ℕ} → (k ≡ bundleKind → ⊥) → Names ps (name (a .name)) i k → Has k a → (ReadableAlternative k a → ⊥) → Judged ps a Fault.Unreadable
+      → Judged ps a (Fault.Because Reason.NoMeaning)
+  judged-unreadable : {i k : ℕ} → (k ≡ bundleKind → ⊥) → Names ps (name (a .name)) i k → Has k a → (ReadableAlternative k a → ⊥) → Judged ps a (Fault.Because Reason.Unreadable)
   judged-right : {i k : ℕ} → (k ≡ bundleKind → ⊥) → Names ps (name (a .name)) i k → Has k a → ReadableAlternative k a → Judged ps a Fault.Nothing
 
 module _ (ps : List Parameter) (w : WellFormedSheet ps) (a : Alternative) where
@@ -80,7 +81,7 @@ module _ (ps : List Parameter) (w : WellFormedSheet ps) (a : Alternative) where
       form-of (readable-form {f = f} e h) = (f, h)
       form-of (readable-value n h r) = absurd (n is)
 
-      judged-token : Judged ps a (cond (readableAt (a .split) (a .text)) Fault.Nothing Fault.Unreadable)
+      judged-token : Judged ps a (cond (readableAt (a .split) (a .text)) Fault.Nothing (Fault.Because Reason.Unreadable))
       judged-token =
           cond-elim (Judged ps a) (readableAt (a .split) (a .text))
           (λ h. judged-right z j form-has (readable-form is (reads .0 h .1)))

@@ -6,14 +6,22 @@ use native.Mathlib.Omega.{arith}
 use mathlib.Core.Path.{_≡_, refl, ap, sym, _∙_, subst}
 use mathlib.Core.Logic.{_↔_, _⊎_, inl, inr, ⊎-elim}
 use mathlib.Core.List.{List, [], _∷_, _++_, cons≢nil}
+use lib.Dec.{eqb}
 use lib.ListN.{length}
 use Rattle.base.specs.Bytes.{Bytes}
 use Rattle.base.specs.Lists.{All, all-empty, all-cons, member}
+use Rattle.base.specs.Kinds.{token, bundleKind}
+use Rattle.base.proofs.Tests.{cond-elim}
+use Rattle.token.specs.Filter.{readableAt}
 use Rattle.sheet.specs.Sheet.{Parameter, parametersOf, readSheet}
 use Rattle.sheet.specs.Encode.{SheetBlock, WellFormedSheet}
+use Rattle.sheet.specs.declared.Found.{Found}
+use Rattle.syntax.specs.Tree.{name}
 use Rattle.search.specs.Spelling.{Alternative, Query, alternativesOf, SpellsQuery}
 use Rattle.search.specs.Reader.{takeQuery}
-use Rattle.search.specs.Meaning.{firstAlternativeFault}
+use Rattle.judge.specs.Sets.{lookup}
+use Rattle.search.specs.Asking.{askedOf}
+use Rattle.search.specs.Meaning.{textFault, faultAt, alternativeFault, firstAlternativeFault}
 use Rattle.search.specs.Lines.{QueryLine, line-10, line-50, line-51}
 use Rattle.search.specs.Rules.{AlternativeLine, line-14, line-14-bundle, line-16, line-17}
 use Rattle.search.proofs.Reading.{query-unique}
@@ -25,20 +33,18 @@ use Rattle.refusal.proofs.Steps.{stop-not-found}
 use Rattle.refusal.proofs.Answers.{count-not-refused}
 use Rattle.refusal.proofs.Deciding.{Decided, none-holds, one-decides, decided-as, decided-then, decided-found, decided-answer}
 use Rattle.refusal.proofs.Order.{apart-at, no-lower-rank}
-use Rattle.sirophan.specs.Operations.{takeSheet}
+use Rattle.sirophan.specs.Operations.{takeSheet, faultStep}
 use Rattle.sirophan.specs.Refusals.{SheetLine}
 use Rattle.sirophan.specs.Searching.{alternativesStep, QueryInputs, takeQueryInputs, checkSearchAnswer, questionOfQuery, searchQuestion, matchSearchAnswer, selectSearchAnswer, selectSearchCells}
 use Rattle.sirophan.specs.Selection.{Run, SelectAnswers}
-use Rattle.sirophan.specs.Selection.{Run, SelectAnswers}
 use Rattle.sirophan.specs.SearchDemand.{searchTests}
 use Rattle.sirophan.specs.SearchRefusals.{FirstLine, AlternativesLine, line-of-alternative, CheckSearchLine, MatchSearchLine, SelectSearchLine}
-use Rattle.sirophan.proofs.Outcomes.{TestOutcome, test-means, test-refused, OtherNumber}
+use Rattle.sirophan.proofs.Outcomes.{TestOutcome, test-means, test-refused, OtherNumber, AtMost, found-at-most, stop-at-most}
 use Rattle.sirophan.proofs.Answered.{select-answered-by}
 use Rattle.sirophan.proofs.CheckTable.{sheet-parameters, sheet-decided, sheet-group}
 use Rattle.sirophan.proofs.MatchTable.{AskedOn, match-table-by}
 use Rattle.sirophan.proofs.SelectTable.{select-table-by}
-use Rattle.sirophan.proofs.Answered.{select-answered-by}
-use Rattle.sirophan.proofs.Inputs.{at-most-number, sheet-at-most, fault-at-most}
+use Rattle.sirophan.proofs.Inputs.{at-most-then, at-most-number, sheet-at-most, kind-at-most}
 use Rattle.sirophan.proofs.SearchFaults.{alternative-outcome, alternatives-next}
 
 -- ---- the numbers of these refusals
@@ -61,16 +67,34 @@ query-other text n p e = by-decided (takeQuery text) (query-decided text) e
     by-decided (found q) (none-holds k h) e = absurd (let z : _≡_ {A = ℕ} 0 1 = cc in omega arith)
     by-decided (stop m q) (one-decides d) e = let same : m ≡ n = cc in subst OtherNumber same (by-line (d .holds))
 
+text-at-most : (kind split : ℕ) (text : List ℕ) (p : ℕ) → AtMost 18 (faultStep (textFault kind split text) p)
+unfolding textFault
+text-at-most kind split text p =
+    cond-elim (λ f. AtMost 18 (faultStep f p)) (eqb kind token)
+    (λ _. cond-elim (λ f. AtMost 18 (faultStep f p)) (readableAt split text) (λ _. found-at-most) (λ _. stop-at-most 17 p (omega arith)))
+    (λ _. kind-at-most (askedOf kind text .operator) kind (askedOf kind text .value) p)
+
+fault-at-most : (o : Found) (split : ℕ) (text : List ℕ) (p : ℕ) → AtMost 18 (faultStep (faultAt o split text) p)
+fault-at-most Found.Missing split text p = stop-at-most 14 p (omega arith)
+fault-at-most (Found.At i kind) split text p =
+    cond-elim (λ f. AtMost 18 (faultStep f p)) (eqb kind bundleKind) (λ _. stop-at-most 14 p (omega arith)) (λ _. text-at-most kind split text p)
+
+alternatives-at-most : (ps : List Parameter) (list : List Alternative) → AtMost 18 (alternativesStep ps list)
+unfolding alternativeFault
+alternatives-at-most ps [] = unfold alternativesStep firstAlternativeFault in found-at-most
+alternatives-at-most ps (a ∷ list) =
+    rw (alternatives-next ps a list) (at-most-then (fault-at-most (lookup ps 0 (name (a .name))) (a .split) (a .text) (a .at)) (λ u. alternatives-at-most ps list))
+
 -- a search string is refused with none of the numbers that cards and lists are refused with
 pub search-number : (sheet text : List ℕ) (n p : ℕ) → searchQuestion sheet text ≡ stop n p → OtherNumber n
-unfolding searchQuestion takeQueryInputs takeSheet alternativesStep
+unfolding searchQuestion takeQueryInputs takeSheet
 search-number sheet text =
     stops OtherNumber (takeQueryInputs sheet text) (λ p. found (questionOfQuery p))
     (stops OtherNumber (takeSheet sheet) (λ ps. takeQuery text >>= λ q. alternativesStep ps (alternativesOf q) >>= λ u. found (record { parameters = ps; query = q }))
     (λ n p e low high. omega (arith, at-most-number (sheet-at-most (readSheet sheet) (parametersOf sheet)) n p e))
     (λ ps. stops OtherNumber (takeQuery text) (λ q. alternativesStep ps (alternativesOf q) >>= λ u. found (record { parameters = ps; query = q })) (query-other text)
     (λ q. stops OtherNumber (alternativesStep ps (alternativesOf q)) (λ u. found (record { parameters = ps; query = q }))
-    (λ n p e low high. omega (arith, at-most-number (fault-at-most (firstAlternativeFault ps (alternativesOf q) .fault) (firstAlternativeFault ps (alternativesOf q) .position)) n p e))
+    (λ n p e low high. omega (arith, at-most-number (alternatives-at-most ps (alternativesOf q)) n p e))
     (λ u n p e. stop-not-found (sym e)))))
     (λ p n q e. stop-not-found (sym e))
 

@@ -19,7 +19,7 @@ use Rattle.judge.specs.Sets.{conforms}
 use Rattle.judge.specs.Faults.{firstFault}
 use Rattle.judge.specs.Verdicts.{filterSays}
 use Rattle.judge.specs.declared.Fault.{Fault}
-use Rattle.refusal.specs.Answers.{Answer, yesOrNo, count}
+use Rattle.refusal.specs.Answers.{Answer, yesOrNo, count, numberOf}
 use Rattle.refusal.specs.Steps.{Step, found, stop, _>>=_, answer}
 
 -- ---- the sheet: 1, 2, 3
@@ -47,11 +47,7 @@ takeFilter text = cond (eqb (length text) 0 || ltb 1024 (length text)) (stop 10 
 
 abbrev pub faultStep : Fault → ℕ → Step (Unit {0})
 faultStep Fault.Nothing p = found tt
-faultStep Fault.UnknownName p = stop 14 p
-faultStep Fault.BareBundle p = stop 18 p
-faultStep Fault.Unsupported p = stop 15 p
-faultStep Fault.NoMeaning p = stop 16 p
-faultStep Fault.Unreadable p = stop 17 p
+faultStep (Fault.Because r) p = stop (numberOf r) p
 
 unfoldable pub testsStep : List Parameter → List Test → Step (Unit {0})
 testsStep ps ts = faultStep (firstFault ps 0 ts .fault) (firstFault ps 0 ts .position)

@@ -36,11 +36,7 @@ pub fn outcome(summary: Summary) -> Checked
     let fault = first.fault;
     match fault {
         Fault::Nothing => Checked::Tests(summary.tests),
-        Fault::UnknownName => refuse(Reason::UnknownName, first.position),
-        Fault::BareBundle => refuse(Reason::BareBundle, first.position),
-        Fault::Unsupported => refuse(Reason::Unsupported, first.position),
-        Fault::NoMeaning => refuse(Reason::NoMeaning, first.position),
-        Fault::Unreadable => refuse(Reason::Unreadable, first.position),
+        Fault::Because(reason) => refuse(reason, first.position),
     }
 }
 
