@@ -11,9 +11,10 @@ use lib.Seq.{take-append-add, take-append-seam}
 use Rattle.syntax.specs.Tree.{Tree}
 use Rattle.syntax.specs.Grammar.{Spaces, no-space, space, Within}
 use Rattle.place.specs.Begins.{Begins, Longest, Number, number-11, number-12, number-13}
-use Rattle.place.specs.declared.Why.{Why}
-use Rattle.place.specs.declared.Failure.{Failure}
-use Rattle.place.specs.Machine.{Phase, State, state, Step, live, deep, many, wrong, step, onStep, failureFrom, start, failure, numberOf}
+use Rattle.refusal.specs.declared.Reason.{Reason}
+use Rattle.refusal.specs.declared.Refusal.{Refusal}
+use Rattle.place.specs.Machine.{Phase, State, state, Step, live, deep, many, wrong, step, onStep, failureFrom, start, failure}
+use Rattle.refusal.specs.Answers.{numberOf}
 use Rattle.place.proofs.Steps.{ended-bare, ended-item}
 use Rattle.place.proofs.Walks.{Walk, Runs, rests, goes, then-runs, runs-fewer, runs-same, runs-walk}
 use Rattle.place.proofs.Walking.{begins-runs, tests-some}
@@ -56,27 +57,27 @@ runs-begin {d} {m} {ws} {t} h r = go t r (runs-good r (omega arith, h, tt))
 -- ---- where it fails
 
 -- why it goes no further from the state
-pub data Dead (d m : ℕ) (t : State) : List ℕ → Why → Type 0 where
-  dead-end : Dead d m t [] Why.NoFilter
-  dead-deep : {b : ℕ} {c : List ℕ} → step d m t b ≡ deep → Dead d m t (b ∷ c) Why.TooDeep
-  dead-many : {b : ℕ} {c : List ℕ} → step d m t b ≡ many → Dead d m t (b ∷ c) Why.TooMany
-  dead-wrong : {b : ℕ} {c : List ℕ} → step d m t b ≡ wrong → Dead d m t (b ∷ c) Why.NoFilter
+pub data Dead (d m : ℕ) (t : State) : List ℕ → Reason → Type 0 where
+  dead-end : Dead d m t [] Reason.NoFilter
+  dead-deep : {b : ℕ} {c : List ℕ} → step d m t b ≡ deep → Dead d m t (b ∷ c) Reason.TooDeep
+  dead-many : {b : ℕ} {c : List ℕ} → step d m t b ≡ many → Dead d m t (b ∷ c) Reason.TooMany
+  dead-wrong : {b : ℕ} {c : List ℕ} → step d m t b ≡ wrong → Dead d m t (b ∷ c) Reason.NoFilter
 
-pub record Failed (d m : ℕ) (s : State) (ys : List ℕ) (p : ℕ) (r : Failure) : Type 0 where
+pub record Failed (d m : ℕ) (s : State) (ys : List ℕ) (p : ℕ) (r : Refusal) : Type 0 where
   pub gone : List ℕ
   pub left : List ℕ
   pub at : State
   pub split : ys ≡ gone ++ left
   pub runs : Runs d m s gone at
   pub place : r .place ≡ p + length gone
-  pub dead : Dead d m at left (r .why)
+  pub dead : Dead d m at left (r .reason)
 
 fails : (d m : ℕ) (s : State) (ys : List ℕ) (p : ℕ) → Failed d m s ys p (failureFrom d m s ys p)
 unfolding failureFrom
 fails d m s [] p = record { gone = []; left = []; at = s; split = refl; runs = rests; place = sym (add-zero p); dead = dead-end }
 fails d m s (y ∷ ys) p = go (step d m s y) refl (λ t. fails d m t ys (p + 1))
   where
-    here : (r : Failure) → r .place ≡ p → Dead d m s (y ∷ ys) (r .why) → Failed d m s (y ∷ ys) p r
+    here : (r : Refusal) → r .place ≡ p → Dead d m s (y ∷ ys) (r .reason) → Failed d m s (y ∷ ys) p r
     here r e z = record { gone = []; left = y ∷ ys; at = s; split = refl; runs = rests; place = e ∙ sym (add-zero p); dead = z }
 
     go : (x : Step) → step d m s y ≡ x → ((t : State) → Failed d m t ys (p + 1) (failureFrom d m t ys (p + 1)))
@@ -84,9 +85,9 @@ fails d m s (y ∷ ys) p = go (step d m s y) refl (λ t. fails d m t ys (p + 1))
     go (live t) e next =
         let r = next t in
         record { gone = y ∷ r .gone; left = r .left; at = r .at; split = ap (λ (l : List ℕ). y ∷ l) (r .split); runs = goes e (r .runs); place = omega (arith, r .place); dead = r .dead }
-    go deep e next = here (record { why = Why.TooDeep; place = p }) refl (dead-deep e)
-    go many e next = here (record { why = Why.TooMany; place = p }) refl (dead-many e)
-    go wrong e next = here (record { why = Why.NoFilter; place = p }) refl (dead-wrong e)
+    go deep e next = here (record { reason = Reason.TooDeep; place = p }) refl (dead-deep e)
+    go many e next = here (record { reason = Reason.TooMany; place = p }) refl (dead-many e)
+    go wrong e next = here (record { reason = Reason.NoFilter; place = p }) refl (dead-wrong e)
 
 -- ---- what a longer beginning tells
 
@@ -102,7 +103,7 @@ take-past gone left q h =
     let z : q ≡ length gone + (q - length gone) = omega arith in
     ap (λ (n : ℕ). take n (gone ++ left)) z ∙ take-append-add gone left (q - length gone)
 
-module _ {d m : ℕ} {xs : List ℕ} {r : Failure} (s : Failed d m start xs 0 r) (some : 1 ≤ m) where
+module _ {d m : ℕ} {xs : List ℕ} {r : Refusal} (s : Failed d m start xs 0 r) (some : 1 ≤ m) where
   -- under other limits, the machine comes to the same state and goes on from it
   next-live : (D M q : ℕ) → r .place < q → q ≤ length xs → Begins D M (take q xs)
       → (b : ℕ) × (c : List ℕ) × (u : State) × (s .left ≡ b ∷ c) × (step D M (s .at) b ≡ live u)
@@ -148,7 +149,7 @@ module _ {d m : ℕ} {xs : List ℕ} {r : Failure} (s : Failed d m start xs 0 r)
       let k = next-live D M q lt le g in
       absurd (omega (arith, ap length (sym (k .3) ∙ e)))
 
-  none-longer : (l : List ℕ) (n : Why) → s .left ≡ l → Dead d m (s .at) l n → (q : ℕ) → r .place < q → q ≤ length xs → Begins d m (take q xs) → ⊥
+  none-longer : (l : List ℕ) (n : Reason) → s .left ≡ l → Dead d m (s .at) l n → (q : ℕ) → r .place < q → q ≤ length xs → Begins d m (take q xs) → ⊥
   none-longer l n e dead-end q lt le g = end-live d m e q lt le g
   none-longer l n e (dead-deep {b = b} {c = c} w) q lt le g = let k = byte-live d m b c e q lt le g in live-deep (sym (k .1) ∙ w)
   none-longer l n e (dead-many {b = b} {c = c} w) q lt le g = let k = byte-live d m b c e q lt le g in live-many (sym (k .1) ∙ w)
@@ -167,7 +168,7 @@ module _ {d m : ℕ} {xs : List ℕ} {r : Failure} (s : Failed d m start xs 0 r)
       record {
         within = place-within;
         begins = subst (Begins d m) (sym gone-take) (runs-begin some (s .runs));
-        none-longer = λ q lt le g. none-longer (s .left) (r .why) refl (s .dead) q lt le g;
+        none-longer = λ q lt le g. none-longer (s .left) (r .reason) refl (s .dead) q lt le g;
       }
 
   -- the machine goes one byte further under other limits
@@ -183,7 +184,7 @@ module _ {d m : ℕ} {xs : List ℕ} {r : Failure} (s : Failed d m start xs 0 r)
         subst (Begins D M) (sym t) (runs-begin (omega arith) runs),
       )
 
-  number-of : (l : List ℕ) (n : Why) → s .left ≡ l → Dead d m (s .at) l n → Good d m (s .at) → Number d m xs (r .place) (numberOf n)
+  number-of : (l : List ℕ) (n : Reason) → s .left ≡ l → Dead d m (s .at) l n → Good d m (s .at) → Number d m xs (r .place) (numberOf n)
   number-of l n e dead-end g =
       number-11 (λ x. end-live (x .begins .0) m e (x .size) (x .more) (x .within) (x .begins .1)) (λ x. end-live d (x .begins .0) e (x .size) (x .more) (x .within) (x .begins .1))
   number-of l n e (dead-deep {b = b} {c = c} w) g =
@@ -204,8 +205,8 @@ module _ {d m : ℕ} {xs : List ℕ} {r : Failure} (s : Failed d m start xs 0 r)
       (λ x. let y = byte-live d (x .begins .0) b c e (x .size) (x .more) (x .within) (x .begins .1) in
       state-lifts d m d (x .begins .0) (s .at) b g .wrong-stays w (inl refl) (y .0) (y .1))
 
-  pub failed-number : Number d m xs (r .place) (numberOf (r .why))
-  failed-number = number-of (s .left) (r .why) refl (s .dead) (runs-good (s .runs) (start-good some))
+  pub failed-number : Number d m xs (r .place) (numberOf (r .reason))
+  failed-number = number-of (s .left) (r .reason) refl (s .dead) (runs-good (s .runs) (start-good some))
 
 -- the place is the length of the longest beginning of the text that begins some filter within both limits
 pub failure-longest : (d m : ℕ) (xs : List ℕ) → 1 ≤ m → Longest (Begins d m) xs (failure d m xs .place)
@@ -213,6 +214,6 @@ unfolding failure
 failure-longest d m xs h = failed-longest (fails d m start xs 0) h
 
 -- and the number is the one for that place
-pub failure-number : (d m : ℕ) (xs : List ℕ) → 1 ≤ m → Number d m xs (failure d m xs .place) (numberOf (failure d m xs .why))
+pub failure-number : (d m : ℕ) (xs : List ℕ) → 1 ≤ m → Number d m xs (failure d m xs .place) (numberOf (failure d m xs .reason))
 unfolding failure
 failure-number d m xs h = failed-number (fails d m start xs 0) h

@@ -1,6 +1,6 @@
 -- Statements: the place and the number of a text, at document 01's limits; a text has one of each.
 -- Assumes nothing.
-use Prim.Native.Nat.{ℕ}
+use Prim.Native.Nat.{ℕ, _≤_}
 use native.Mathlib.Omega.{arith}
 use mathlib.Core.Path.{_≡_, refl}
 use mathlib.Core.Bool.{Bool, true, false, _&&_}
@@ -16,7 +16,8 @@ use Rattle.syntax.specs.Strings.{isBare, isEscape}
 use Rattle.syntax.specs.Grammar.{deepest, mostTests}
 use Rattle.syntax.specs.Scan.{stepOf}
 use Rattle.place.specs.Begins.{Begins, Longest, Number, number-11, number-12, number-13}
-use Rattle.place.specs.Machine.{someWord, beginsOperator, isOperator, step, failureFrom, failure, numberOf}
+use Rattle.place.specs.Machine.{someWord, beginsOperator, isOperator, step, failureFrom, failure}
+use Rattle.refusal.specs.Answers.{numberOf}
 use Rattle.place.proofs.Longest.{failure-longest, failure-number}
 
 -- ---- a text's place and number
@@ -24,7 +25,7 @@ use Rattle.place.proofs.Longest.{failure-longest, failure-number}
 pub text-place : (xs : List ℕ) → Longest (Begins deepest mostTests) xs (failure deepest mostTests xs .place)
 text-place xs = failure-longest deepest mostTests xs (omega arith)
 
-pub text-number : (xs : List ℕ) → Number deepest mostTests xs (failure deepest mostTests xs .place) (numberOf (failure deepest mostTests xs .why))
+pub text-number : (xs : List ℕ) → Number deepest mostTests xs (failure deepest mostTests xs .place) (numberOf (failure deepest mostTests xs .reason))
 text-number xs = failure-number deepest mostTests xs (omega arith)
 
 -- ---- there is one of each
@@ -48,6 +49,11 @@ number-unique (number-11 x n) (number-12 y) = absurd (x y)
 number-unique (number-11 x n) (number-13 y z) = absurd (n y)
 number-unique (number-11 x n) (number-11 y z) = refl
 
+pub number-bound : {d m : ℕ} {xs : List ℕ} {p n : ℕ} → Number d m xs p n → n ≤ 13
+number-bound (number-12 x) = omega arith
+number-bound (number-13 x n) = omega arith
+number-bound (number-11 x n) = omega arith
+
 -- ---- vectors
 
 record Row : Type 0 where
@@ -59,7 +65,7 @@ row : List ℕ → ℕ → ℕ → Row
 row t n p = record { text = t; number = n; place = p }
 
 agrees : Row → Bool
-agrees r = eqb (numberOf (failure deepest mostTests (r .text) .why)) (r .number) && eqb (failure deepest mostTests (r .text) .place) (r .place)
+agrees r = eqb (numberOf (failure deepest mostTests (r .text) .reason)) (r .number) && eqb (failure deepest mostTests (r .text) .place) (r .place)
 
 all-agree : List Row → Bool
 all-agree [] = true

@@ -26,8 +26,8 @@ use Rattle.syntax.specs.declared.FoundOperator.{FoundOperator}
 use Rattle.place.specs.declared.Mode.{Mode}
 use Rattle.place.specs.declared.Reached.{Reached}
 use Rattle.place.specs.declared.Outcome.{Outcome}
-use Rattle.place.specs.declared.Why.{Why}
-use Rattle.place.specs.declared.Failure.{Failure}
+use Rattle.refusal.specs.declared.Reason.{Reason}
+use Rattle.refusal.specs.declared.Refusal.{Refusal}
 use Rattle.place.specs.declared.Found.{Found}
 use Rattle.place.specs.Machine.{Phase, Bracket, round-open, square-open, State, state, Step, live, deep, many, wrong, someWord, beginsOperator, isOperator, step, onStep, failureFrom, start, failure, itemOver, over, onLive, endsFrom, isFilter, found}
 use Rattle.place.specs.Machine as machine
@@ -370,9 +370,9 @@ pub over-brackets : (r : Reached) (t : Bool) → t ≡ coded.itemOver (r .mode) 
 unfolding coded.over
 over-brackets r t e h = rw (sym e ∙ h)
 
-failed : (xs : List ℕ) (f : Failure) → isFilter deepest mostTests xs ≡ false → f ≡ failure deepest mostTests xs → Found.Failed f ≡ found deepest mostTests xs
+failed : (xs : List ℕ) (f : Refusal) → isFilter deepest mostTests xs ≡ false → f ≡ failure deepest mostTests xs → Found.Failed f ≡ found deepest mostTests xs
 unfolding found
-failed xs f n e = rw n (ap (λ (x : Failure). Found.Failed x) e)
+failed xs f n e = rw n (ap (λ (x : Refusal). Found.Failed x) e)
 
 module _ (xs : List ℕ) (at : ℕ) (r : Reached) (a : Reaching xs at r) where
   module _ (h : length xs ≤ at) (t : Bool) (e : t ≡ coded.over r) where
@@ -386,15 +386,15 @@ module _ (xs : List ℕ) (at : ℕ) (r : Reached) (a : Reaching xs at r) where
     unfolding found
     reaching-filter i = rw (ends-here ∙ i)
 
-    pub reaching-ends : t ≡ false → Found.Failed (record { why = Why.NoFilter; place = at }) ≡ found deepest mostTests xs
+    pub reaching-ends : t ≡ false → Found.Failed (record { reason = Reason.NoFilter; place = at }) ≡ found deepest mostTests xs
     unfolding failureFrom
-    reaching-ends i = failed xs (record { why = Why.NoFilter; place = at }) (ends-here ∙ i) (sym (a .left ∙ rw (drop-of-length-le xs h)))
+    reaching-ends i = failed xs (record { reason = Reason.NoFilter; place = at }) (ends-here ∙ i) (sym (a .left ∙ rw (drop-of-length-le xs h)))
 
   module _ (o : Outcome) (e : o ≡ advance xs at r) (h : at < length xs) where
     abbrev stepped : Step
     stepped = step deepest mostTests (state (phaseOf xs at (r .mode)) (a .open-brackets) (r .tests)) (getD xs at 0)
 
-    abbrev next-from : State → Failure
+    abbrev next-from : State → Refusal
     next-from t = failureFrom deepest mostTests t (drop (at + 1) xs) (at + 1)
 
     abbrev next-ends : State → Bool
@@ -431,46 +431,46 @@ module _ (xs : List ℕ) (at : ℕ) (r : Reached) (a : Reaching xs at r) where
               ends = y ∙ rw (u, w);
             }
 
-    pub reaching-deep : o ≡ Outcome.Deep → Found.Failed (record { why = Why.TooDeep; place = at }) ≡ found deepest mostTests xs
+    pub reaching-deep : o ≡ Outcome.Deep → Found.Failed (record { reason = Reason.TooDeep; place = at }) ≡ found deepest mostTests xs
     reaching-deep f = go stepped (subst (λ (z : Outcome). To xs at z stepped) f to-step) one-on one-on-ends
       where
-        go : (s : Step) → To xs at Outcome.Deep s → failure deepest mostTests xs ≡ onStep s next-from at → isFilter deepest mostTests xs ≡ onLive s next-ends → Found.Failed (record { why = Why.TooDeep; place = at }) ≡ found deepest mostTests xs
-        go deep to-deep z y = failed xs (record { why = Why.TooDeep; place = at }) y (sym z)
+        go : (s : Step) → To xs at Outcome.Deep s → failure deepest mostTests xs ≡ onStep s next-from at → isFilter deepest mostTests xs ≡ onLive s next-ends → Found.Failed (record { reason = Reason.TooDeep; place = at }) ≡ found deepest mostTests xs
+        go deep to-deep z y = failed xs (record { reason = Reason.TooDeep; place = at }) y (sym z)
 
-    pub reaching-many : o ≡ Outcome.Many → Found.Failed (record { why = Why.TooMany; place = at }) ≡ found deepest mostTests xs
+    pub reaching-many : o ≡ Outcome.Many → Found.Failed (record { reason = Reason.TooMany; place = at }) ≡ found deepest mostTests xs
     reaching-many f = go stepped (subst (λ (z : Outcome). To xs at z stepped) f to-step) one-on one-on-ends
       where
-        go : (s : Step) → To xs at Outcome.Many s → failure deepest mostTests xs ≡ onStep s next-from at → isFilter deepest mostTests xs ≡ onLive s next-ends → Found.Failed (record { why = Why.TooMany; place = at }) ≡ found deepest mostTests xs
-        go many to-many z y = failed xs (record { why = Why.TooMany; place = at }) y (sym z)
+        go : (s : Step) → To xs at Outcome.Many s → failure deepest mostTests xs ≡ onStep s next-from at → isFilter deepest mostTests xs ≡ onLive s next-ends → Found.Failed (record { reason = Reason.TooMany; place = at }) ≡ found deepest mostTests xs
+        go many to-many z y = failed xs (record { reason = Reason.TooMany; place = at }) y (sym z)
 
-    pub reaching-wrong : o ≡ Outcome.Wrong → Found.Failed (record { why = Why.NoFilter; place = at }) ≡ found deepest mostTests xs
+    pub reaching-wrong : o ≡ Outcome.Wrong → Found.Failed (record { reason = Reason.NoFilter; place = at }) ≡ found deepest mostTests xs
     reaching-wrong f = go stepped (subst (λ (z : Outcome). To xs at z stepped) f to-step) one-on one-on-ends
       where
-        go : (s : Step) → To xs at Outcome.Wrong s → failure deepest mostTests xs ≡ onStep s next-from at → isFilter deepest mostTests xs ≡ onLive s next-ends → Found.Failed (record { why = Why.NoFilter; place = at }) ≡ found deepest mostTests xs
-        go wrong to-wrong z y = failed xs (record { why = Why.NoFilter; place = at }) y (sym z)
+        go : (s : Step) → To xs at Outcome.Wrong s → failure deepest mostTests xs ≡ onStep s next-from at → isFilter deepest mostTests xs ≡ onLive s next-ends → Found.Failed (record { reason = Reason.NoFilter; place = at }) ≡ found deepest mostTests xs
+        go wrong to-wrong z y = failed xs (record { reason = Reason.NoFilter; place = at }) y (sym z)
 
 -- ---- where a text that is a filter would fail: at its end
 
-ends-failure : (d m : ℕ) (s : State) (ys : List ℕ) (p : ℕ) → endsFrom d m s ys ≡ true → record { why = Why.NoFilter; place = p + length ys } ≡ failureFrom d m s ys p
+ends-failure : (d m : ℕ) (s : State) (ys : List ℕ) (p : ℕ) → endsFrom d m s ys ≡ true → record { reason = Reason.NoFilter; place = p + length ys } ≡ failureFrom d m s ys p
 unfolding endsFrom failureFrom
-ends-failure d m s [] p e = ap (λ (n : ℕ). record { why = Why.NoFilter; place = n }) (add-zero p)
+ends-failure d m s [] p e = ap (λ (n : ℕ). record { reason = Reason.NoFilter; place = n }) (add-zero p)
 ends-failure d m s (y ∷ ys) p e = go (step d m s y) e (λ t. ends-failure d m t ys (p + 1))
   where
-    go : (x : Step) → onLive x (λ t. endsFrom d m t ys) ≡ true → ((t : State) → endsFrom d m t ys ≡ true → record { why = Why.NoFilter; place = p + 1 + length ys } ≡ failureFrom d m t ys (p + 1))
-        → record { why = Why.NoFilter; place = p + length (y ∷ ys) } ≡ onStep x (λ t. failureFrom d m t ys (p + 1)) p
-    go (live t) h on = let z : p + length (y ∷ ys) ≡ p + 1 + length ys = omega arith in ap (λ (n : ℕ). record { why = Why.NoFilter; place = n }) z ∙ on t h
+    go : (x : Step) → onLive x (λ t. endsFrom d m t ys) ≡ true → ((t : State) → endsFrom d m t ys ≡ true → record { reason = Reason.NoFilter; place = p + 1 + length ys } ≡ failureFrom d m t ys (p + 1))
+        → record { reason = Reason.NoFilter; place = p + length (y ∷ ys) } ≡ onStep x (λ t. failureFrom d m t ys (p + 1)) p
+    go (live t) h on = let z : p + length (y ∷ ys) ≡ p + 1 + length ys = omega arith in ap (λ (n : ℕ). record { reason = Reason.NoFilter; place = n }) z ∙ on t h
     go deep h on = both-ways h refl
     go many h on = both-ways h refl
     go wrong h on = both-ways h refl
 
 module _ (xs : List ℕ) (r : Found) (e : r ≡ found deepest mostTests xs) where
-  pub failure-filter : r ≡ Found.Filter → record { why = Why.NoFilter; place = length xs } ≡ failure deepest mostTests xs
+  pub failure-filter : r ≡ Found.Filter → record { reason = Reason.NoFilter; place = length xs } ≡ failure deepest mostTests xs
   unfolding found failure isFilter
   failure-filter h =
       let t : isFilter deepest mostTests xs ≡ true = cond-first (isFilter deepest mostTests xs) Found.Filter (Found.Failed (failure deepest mostTests xs)) (λ z. let y : _≡_ {A = ℕ} 0 1 = cc in omega arith) (sym e ∙ h) .0 in
-      ap (λ (n : ℕ). record { why = Why.NoFilter; place = n }) (sym (zero-add (length xs))) ∙ ends-failure deepest mostTests start xs 0 t
+      ap (λ (n : ℕ). record { reason = Reason.NoFilter; place = n }) (sym (zero-add (length xs))) ∙ ends-failure deepest mostTests start xs 0 t
 
-  pub failure-failed : (f : Failure) → r ≡ Found.Failed f → f ≡ failure deepest mostTests xs
+  pub failure-failed : (f : Refusal) → r ≡ Found.Failed f → f ≡ failure deepest mostTests xs
   unfolding found
   failure-failed f h = go (isFilter deepest mostTests xs) (sym e ∙ h)
     where

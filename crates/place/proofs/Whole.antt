@@ -12,7 +12,7 @@ use Rattle.base.proofs.Tests.{both-ways}
 use Rattle.syntax.specs.Tree.{Tree}
 use Rattle.syntax.specs.Grammar.{Within, Spells, deepest, mostTests}
 use Rattle.place.specs.Machine.{Phase, at-item, in-name, after-not, after-name, in-operator, after-operator, at-value, in-bare, in-string, after-item, after-space, in-connective, after-square, at-member, in-member, State, state, Step, live, deep, many, wrong, step, start, itemOver, over, onLive, endsFrom, isFilter, failure, found}
-use Rattle.place.specs.declared.Failure.{Failure}
+use Rattle.refusal.specs.declared.Refusal.{Refusal}
 use Rattle.place.specs.declared.Found.{Found}
 use Rattle.place.proofs.Steps.{ended-bare, ended-item}
 use Rattle.place.proofs.Walks.{Walk, Runs, rests, goes, runs-walk, walk-runs}
@@ -92,7 +92,7 @@ module _ (xs : List ℕ) (r : Found) (e : r ≡ found deepest mostTests xs) wher
       go true k = filter-iff xs .0 k
       go false k = absurd (let z = found-by false k in let y : _≡_ {A = ℕ} 0 1 = cc in omega arith)
 
-  pub found-failed : (p : Failure) → r ≡ Found.Failed p → ((f : Tree) → Spells xs f → ⊥) × (p ≡ failure deepest mostTests xs)
+  pub found-failed : (p : Refusal) → r ≡ Found.Failed p → ((f : Tree) → Spells xs f → ⊥) × (p ≡ failure deepest mostTests xs)
   found-failed p h = go (isFilter deepest mostTests xs) refl
     where
       go : (t : Bool) → isFilter deepest mostTests xs ≡ t → ((f : Tree) → Spells xs f → ⊥) × (p ≡ failure deepest mostTests xs)

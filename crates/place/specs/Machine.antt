@@ -14,8 +14,8 @@ use Rattle.syntax.specs.Strings.{quote, isBare}
 use Rattle.syntax.specs.Grammar.{round, square}
 use Rattle.syntax.specs.Scan.{isSpace, stepOf}
 use Rattle.syntax.specs.declared.StringStep.{StringStep}
-use Rattle.place.specs.declared.Why.{Why}
-use Rattle.place.specs.declared.Failure.{Failure}
+use Rattle.refusal.specs.declared.Reason.{Reason}
+use Rattle.refusal.specs.declared.Refusal.{Refusal}
 use Rattle.place.specs.declared.Found.{Found}
 
 -- what the bytes so far end in
@@ -147,28 +147,23 @@ step d m (state (in-member w) k n) b =
 
 -- ---- where it fails
 
-abbrev pub onStep : Step → (State → Failure) → ℕ → Failure
+abbrev pub onStep : Step → (State → Refusal) → ℕ → Refusal
 onStep (live s) next p = next s
-onStep deep next p = record { why = Why.TooDeep; place = p }
-onStep many next p = record { why = Why.TooMany; place = p }
-onStep wrong next p = record { why = Why.NoFilter; place = p }
+onStep deep next p = record { reason = Reason.TooDeep; place = p }
+onStep many next p = record { reason = Reason.TooMany; place = p }
+onStep wrong next p = record { reason = Reason.NoFilter; place = p }
 
 -- from a state on, of the bytes from p on; at the end of a text no byte is wrong, and the text is too short
-unfoldable pub failureFrom : (d m : ℕ) → State → List ℕ → ℕ → Failure
-failureFrom d m s [] p = record { why = Why.NoFilter; place = p }
+unfoldable pub failureFrom : (d m : ℕ) → State → List ℕ → ℕ → Refusal
+failureFrom d m s [] p = record { reason = Reason.NoFilter; place = p }
 failureFrom d m s (y ∷ ys) p = onStep (step d m s y) (λ t. failureFrom d m t ys (p + 1)) p
 
 -- no bracket is open, and one test is due
 abbrev pub start : State
 start = state at-item [] 1
 
-unfoldable pub failure : (d m : ℕ) → List ℕ → Failure
+unfoldable pub failure : (d m : ℕ) → List ℕ → Refusal
 failure d m xs = failureFrom d m start xs 0
-
-abbrev pub numberOf : Why → ℕ
-numberOf Why.NoFilter = 11
-numberOf Why.TooDeep = 12
-numberOf Why.TooMany = 13
 
 -- ---- whether the text is a filter
 

@@ -2,6 +2,8 @@
 // within both limits begins with the bytes so far.
 mod step;
 
+use refusal::Reason;
+use refusal::Refusal;
 use step::advance;
 ghost use mathlib.Core.Path.{_≡_};
 ghost use Rattle.syntax.specs.Grammar.{deepest, mostTests};
@@ -58,23 +60,11 @@ pub enum Outcome {
     Wrong,
 }
 
-// Why a text is no filter: 11, 12 and 13.
-pub enum Why {
-    NoFilter,
-    TooDeep,
-    TooMany,
-}
-
-// Why, and the length of the longest beginning that begins some filter within both limits.
-pub struct Failure {
-    pub why: Why,
-    pub place: usize,
-}
-
-// What a text is: a filter, or none, and where it fails to be one.
+// What a text is: a filter, or none, and where it fails to be one: by the length of its longest beginning that begins some filter
+// within both limits.
 pub enum Found {
     Filter,
-    Failed(Failure),
+    Failed(Refusal),
 }
 
 // Whether an item has ended, perhaps with a space.
@@ -131,20 +121,20 @@ pub fn find(s: &[u8]) -> Found
                 at += 1;
             }
             Outcome::Deep => {
-                return Found::Failed(Failure {
-                    why: Why::TooDeep,
+                return Found::Failed(Refusal {
+                    reason: Reason::TooDeep,
                     place: at,
                 });
             }
             Outcome::Many => {
-                return Found::Failed(Failure {
-                    why: Why::TooMany,
+                return Found::Failed(Refusal {
+                    reason: Reason::TooMany,
                     place: at,
                 });
             }
             Outcome::Wrong => {
-                return Found::Failed(Failure {
-                    why: Why::NoFilter,
+                return Found::Failed(Refusal {
+                    reason: Reason::NoFilter,
                     place: at,
                 });
             }
@@ -153,19 +143,19 @@ pub fn find(s: &[u8]) -> Found
     if is_over(reached) {
         return Found::Filter;
     }
-    Found::Failed(Failure {
-        why: Why::NoFilter,
+    Found::Failed(Refusal {
+        reason: Reason::NoFilter,
         place: at,
     })
 }
 
 // Where a text that is no filter stops being the beginning of one.
-pub fn find_failure(s: &[u8]) -> Failure
+pub fn find_failure(s: &[u8]) -> Refusal
     ensures { λ r. ⌜ r ≡ failure deepest mostTests (now (s .entry)) ⌝ }
 {
     match find(s) {
-        Found::Filter => Failure {
-            why: Why::NoFilter,
+        Found::Filter => Refusal {
+            reason: Reason::NoFilter,
             place: s.len(),
         },
         Found::Failed(failure) => failure,

@@ -15,8 +15,6 @@ use Rattle.syntax.specs.Scan.{isSpace}
 use Rattle.syntax.specs.Grammar.{round, deepest, mostTests}
 use Rattle.syntax.specs.Reader.{parsed, filterAt, whole, read}
 use Rattle.place.specs.Machine.{failure}
-use Rattle.place.specs.Machine as place
-use Rattle.place.specs.declared.Failure.{Failure}
 use Rattle.judge.specs.Faults.{firstFault}
 use Rattle.judge.specs.declared.Fault.{Fault}
 use Rattle.filter.specs.Folds.{reading}
@@ -26,12 +24,13 @@ use Rattle.filter.specs.declared.Walked.{Walked}
 use Rattle.filter.proofs.Walk.{WasFilter, was-filter, was-none, filter-ahead}
 use Rattle.filter.proofs.Reading.{walked-cases, reading-is}
 use Rattle.refusal.specs.declared.Reason.{Reason}
+use Rattle.refusal.specs.declared.Refusal.{Refusal}
 use Rattle.sirophan.specs.declared.Checked.{Checked}
-use Rattle.refusal.specs.Answers.{Answer, count, refused, numberOf}
+use Rattle.refusal.specs.Answers.{Answer, count, refused, numberOf, refusalAnswer}
 use Rattle.sirophan.specs.Answers.{checkedAnswer}
 use Rattle.refusal.specs.Steps.{Step, found, stop, _>>=_, answer}
 use Rattle.sirophan.specs.Operations.{treeStep, takeFilter, faultStep, testsStep, sheetStep, takeSheet, filterAnswer, Inputs, takeInputs, checkAnswer}
-use Rattle.sirophan.specs.Passing.{summaryAnswer, failureAnswer}
+use Rattle.sirophan.specs.Passing.{summaryAnswer}
 
 -- ---- the answer for a text that is a filter
 
@@ -45,9 +44,9 @@ outcome-tests s e = rw e
 
 -- ---- the answer for a text that is none
 
-pub failure-answered : (r f : Failure) (c : Checked) (k : Reason) → f ≡ r → numberOf k ≡ place.numberOf (f .why) → checkedAnswer c ≡ refused (numberOf k) (f .place) → checkedAnswer c ≡ failureAnswer r
-unfolding failureAnswer
-failure-answered r f c k i e h = rw (← i, ← e) h
+pub failure-answered : (r f : Refusal) → f ≡ r → checkedAnswer (Checked.Refused f) ≡ refusalAnswer r
+unfolding checkedAnswer
+failure-answered r f e = rw e
 
 -- ---- the filter's text
 
@@ -67,12 +66,12 @@ module _ (ps : List Parameter) (xs : List ℕ) (n : length xs ≡ 0 → ⊥) (l 
   unfolding takeFilter
   text-read o e = rw (ne-eqb (length xs) 0 n, le-ltb 1024 (length xs) l, e)
 
-  text-none : (c : Checked) → read xs ≡ none → checkedAnswer c ≡ failureAnswer (failure deepest mostTests xs) → checkedAnswer c ≡ filterAnswer ps xs
-  unfolding filterAnswer failureAnswer
+  text-none : (c : Checked) → read xs ≡ none → checkedAnswer c ≡ refusalAnswer (failure deepest mostTests xs) → checkedAnswer c ≡ filterAnswer ps xs
+  unfolding filterAnswer refusalAnswer
   text-none c e h = h ∙ rw (text-read none e)
 
   module _ (start : ℕ) (s : RunEnd isSpace xs 0 start) (w : Walked) (e : w ≡ answerOf Walked.Done Walked.Nothing (reading ps 0) (filterAt 8 xs round start)) where
-    pub text-nothing : (c : Checked) → w ≡ Walked.Nothing → checkedAnswer c ≡ failureAnswer (failure deepest mostTests xs) → checkedAnswer c ≡ filterAnswer ps xs
+    pub text-nothing : (c : Checked) → w ≡ Walked.Nothing → checkedAnswer c ≡ refusalAnswer (failure deepest mostTests xs) → checkedAnswer c ≡ filterAnswer ps xs
     unfolding read
     text-nothing c h = text-none c (rw (← s .is, was-none Walked.Done Walked.Nothing walked-cases (reading ps 0) xs round 8 start w e h))
 
@@ -90,11 +89,11 @@ module _ (ps : List Parameter) (xs : List ℕ) (n : length xs ≡ 0 → ⊥) (l 
       unfolding read
       read-whole = rw (← s .is, was .read)
 
-      pub text-trails : (c : Checked) → (after ≡ length xs → ⊥) → checkedAnswer c ≡ failureAnswer (failure deepest mostTests xs) → checkedAnswer c ≡ filterAnswer ps xs
+      pub text-trails : (c : Checked) → (after ≡ length xs → ⊥) → checkedAnswer c ≡ refusalAnswer (failure deepest mostTests xs) → checkedAnswer c ≡ filterAnswer ps xs
       text-trails c k = text-none c (read-whole ∙ rw (← t .is, ne-eqb after (length xs) k))
 
       module _ (k : after ≡ length xs) where
-        pub text-many : (c : Checked) → 32 < a .tests → checkedAnswer c ≡ failureAnswer (failure deepest mostTests xs) → checkedAnswer c ≡ filterAnswer ps xs
+        pub text-many : (c : Checked) → 32 < a .tests → checkedAnswer c ≡ refusalAnswer (failure deepest mostTests xs) → checkedAnswer c ≡ filterAnswer ps xs
         text-many c m =
             let j : 32 < length (testsOf (was .tree)) = rw tests-are at m in
             text-none c (read-whole ∙ rw (← t .is, eq-eqb after (length xs) k, lt-leb (length (testsOf (was .tree))) 32 j))

@@ -15,9 +15,8 @@ use Rattle.syntax.specs.Reader.{read}
 use Rattle.syntax.proofs.Spelling.{read-spells}
 use Rattle.place.specs.Begins.{Begins, Longest, Number}
 use Rattle.place.specs.Machine.{failure}
-use Rattle.place.specs.Machine as place
 use Rattle.place.proofs.Place.{text-place, text-number, longest-unique, number-unique}
-use Rattle.refusal.specs.Answers.{refused}
+use Rattle.refusal.specs.Answers.{refused, numberOf}
 use Rattle.sirophan.specs.Operations.{takeFilter, takeInputs, checkAnswer}
 use Rattle.sirophan.proofs.Inputs.{sheet-taken}
 
@@ -29,7 +28,7 @@ reads-none text h = go (read text) refl
     go (some f) e = absurd (h f (read-spells text f .0 e))
 
 module _ (sheet text : List ℕ) (s : SheetBlock sheet) (some-bytes : 1 ≤ length text) (short : length text ≤ 1024) (no-filter : (f : Tree) → Spells text f → ⊥) where
-  failed : checkAnswer sheet text ≡ refused (place.numberOf (failure deepest mostTests text .why)) (failure deepest mostTests text .place)
+  failed : checkAnswer sheet text ≡ refused (numberOf (failure deepest mostTests text .reason)) (failure deepest mostTests text .place)
   unfolding checkAnswer takeInputs takeFilter
   failed =
       let n : length text ≡ 0 → ⊥ = λ e. omega arith in
@@ -42,11 +41,11 @@ module _ (sheet text : List ℕ) (s : SheetBlock sheet) (some-bytes : 1 ≤ leng
       there e =
           let z = sym failed ∙ e in
           let u : failure deepest mostTests text .place ≡ p = cc in
-          let v : place.numberOf (failure deepest mostTests text .why) ≡ n = cc in
+          let v : numberOf (failure deepest mostTests text .reason) ≡ n = cc in
           (subst (Longest (Begins deepest mostTests) text) u (text-place text), subst₂ (λ (q m : ℕ). Number deepest mostTests text q m) u v (text-number text))
 
       back : Longest (Begins deepest mostTests) text p × Number deepest mostTests text p n → checkAnswer sheet text ≡ refused n p
       back h =
           let u : failure deepest mostTests text .place ≡ p = longest-unique (text-place text) (h .0) in
-          let w : Number deepest mostTests text p (place.numberOf (failure deepest mostTests text .why)) = subst (λ (q : ℕ). Number deepest mostTests text q (place.numberOf (failure deepest mostTests text .why))) u (text-number text) in
+          let w : Number deepest mostTests text p (numberOf (failure deepest mostTests text .reason)) = subst (λ (q : ℕ). Number deepest mostTests text q (numberOf (failure deepest mostTests text .reason))) u (text-number text) in
           failed ∙ ap₂ refused (number-unique w (h .1)) u

@@ -17,7 +17,6 @@ use Rattle.syntax.specs.Scan.{isSpace}
 use Rattle.syntax.specs.Grammar.{round, deepest, mostTests}
 use Rattle.syntax.specs.Reader.{parsed, filterAt, whole, read}
 use Rattle.place.specs.Machine.{failure}
-use Rattle.place.specs.Machine as place
 use Rattle.judge.specs.Faults.{firstFault}
 use Rattle.judge.specs.declared.Fault.{Fault}
 use Rattle.filter.specs.Folds.{summaryOf}
@@ -33,7 +32,7 @@ use Rattle.refusal.specs.Answers.{Answer, count, refused, numberOf, refusalAnsw
 use Rattle.refusal.specs.Steps.{Step, found, stop, _>>=_, answer}
 use Rattle.sirophan.specs.Answers.{checkedAnswer}
 use Rattle.sirophan.specs.Operations.{treeStep, takeFilter, faultStep, testsStep, sheetStep, takeSheet, Inputs, takeInputs, written}
-use Rattle.sirophan.specs.Passing.{summaryAnswer, failureAnswer}
+use Rattle.sirophan.specs.Passing.{summaryAnswer}
 use Rattle.sirophan.specs.Preparing.{rowCells, takeCells, preparation, prepareAnswer, prepareCells, preparedAnswer, filledStep, textRows, FillsText, Fills, Prepares}
 use Rattle.sirophan.specs.declared.Checked.{Checked}
 use Rattle.sirophan.specs.declared.Prepared.{Prepared}
@@ -113,13 +112,13 @@ module _ (ps : List Parameter) (xs : List ℕ) (n : length xs ≡ 0 → ⊥) (l 
   unfolding takeFilter
   text-read o e = rw (ne-eqb (length xs) 0 n, le-ltb 1024 (length xs) l, e)
 
-  no-tree : (c : Checked) (r : Prepared) (buffer : List ℕ) → read xs ≡ none → checkedAnswer c ≡ failureAnswer (failure deepest mostTests xs) → preparedAnswer r ≡ checkedAnswer c → FillsText ps xs r buffer
-  unfolding textRows failureAnswer
+  no-tree : (c : Checked) (r : Prepared) (buffer : List ℕ) → read xs ≡ none → checkedAnswer c ≡ refusalAnswer (failure deepest mostTests xs) → preparedAnswer r ≡ checkedAnswer c → FillsText ps xs r buffer
+  unfolding textRows refusalAnswer
   no-tree c r buffer e h g =
-      text-refused ps xs c r buffer g (place.numberOf (failure deepest mostTests xs .why)) (failure deepest mostTests xs .place) h (rw (text-read none e))
+      text-refused ps xs c r buffer g (numberOf (failure deepest mostTests xs .reason)) (failure deepest mostTests xs .place) h (rw (text-read none e))
 
   module _ (start : ℕ) (s : RunEnd isSpace xs 0 start) (v : Written) (before after : List ℕ) (w : Wrote ps 0 xs 0 (filterAt 8 xs round start) v before after) where
-    pub fill-nothing : (c : Checked) (r : Prepared) → v ≡ Written.Nothing → checkedAnswer c ≡ failureAnswer (failure deepest mostTests xs) → preparedAnswer r ≡ checkedAnswer c → FillsText ps xs r after
+    pub fill-nothing : (c : Checked) (r : Prepared) → v ≡ Written.Nothing → checkedAnswer c ≡ refusalAnswer (failure deepest mostTests xs) → preparedAnswer r ≡ checkedAnswer c → FillsText ps xs r after
     unfolding read
     fill-nothing c r h = no-tree c r after (rw (← s .is, writing.was-none ps 0 xs 0 w h))
 
@@ -144,13 +143,13 @@ module _ (ps : List Parameter) (xs : List ℕ) (n : length xs ≡ 0 → ⊥) (l 
         whole-right : (f : Tree) → behind ≡ length xs → length (testsOf f) ≤ 32 → whole xs (parsed end f) ≡ some f
         whole-right f k m = rw (← t .is, eq-eqb behind (length xs) k, le-leb (length (testsOf f)) 32 m)
 
-        pub fill-trails : (c : Checked) (r : Prepared) → (behind ≡ length xs → ⊥) → checkedAnswer c ≡ failureAnswer (failure deepest mostTests xs) → preparedAnswer r ≡ checkedAnswer c → FillsText ps xs r after
+        pub fill-trails : (c : Checked) (r : Prepared) → (behind ≡ length xs → ⊥) → checkedAnswer c ≡ refusalAnswer (failure deepest mostTests xs) → preparedAnswer r ≡ checkedAnswer c → FillsText ps xs r after
         fill-trails c r k = no-tree c r after (read-as end (was .tree) (was .read) ∙ whole-trails (was .tree) k)
 
         tests-are : a .summary .tests ≡ length (testsOf (was .tree))
         tests-are = ap (λ (o : Outcome). o .summary .tests) (was .value)
 
-        pub fill-many : (c : Checked) (r : Prepared) → behind ≡ length xs → 32 < a .summary .tests → checkedAnswer c ≡ failureAnswer (failure deepest mostTests xs) → preparedAnswer r ≡ checkedAnswer c → FillsText ps xs r after
+        pub fill-many : (c : Checked) (r : Prepared) → behind ≡ length xs → 32 < a .summary .tests → checkedAnswer c ≡ refusalAnswer (failure deepest mostTests xs) → preparedAnswer r ≡ checkedAnswer c → FillsText ps xs r after
         fill-many c r k m = no-tree c r after (read-as end (was .tree) (was .read) ∙ whole-many (was .tree) k (omega (arith, tests-are)))
 
         -- the text is a filter: its faults decide

@@ -22,16 +22,16 @@ use Rattle.syntax.specs.Grammar.{deepest, mostTests, Spells}
 use Rattle.syntax.specs.Reader.{read}
 use Rattle.syntax.proofs.Spelling.{read-spells, spells-not-empty}
 use Rattle.place.specs.Machine.{failure}
-use Rattle.place.specs.declared.Why.{Why}
+use Rattle.place.proofs.Place.{text-number, number-bound}
 use Rattle.kind.specs.Table.{hasMeaning}
 use Rattle.kind.specs.Readable.{valueReadable}
 use Rattle.judge.specs.Sets.{lookup}
 use Rattle.judge.specs.Faults.{unsupported, kindFault, faultAt, testFault, orElse, firstFault}
 use Rattle.judge.specs.declared.Fault.{Fault}
 use Rattle.judge.specs.declared.FirstFault.{FirstFault}
-use Rattle.refusal.specs.Answers.{yesOrNo, count}
+use Rattle.refusal.specs.Answers.{yesOrNo, count, numberOf}
 use Rattle.refusal.specs.Steps.{Step, found, stop, _>>=_, answer}
-use Rattle.sirophan.specs.Operations.{sheetStep, takeSheet, failureStep, treeStep, takeFilter, faultStep, testsStep, Inputs, takeInputs, takeCard, checkAnswer, Question, questionOf, matchBy, filterQuestion}
+use Rattle.sirophan.specs.Operations.{sheetStep, takeSheet, treeStep, takeFilter, faultStep, testsStep, Inputs, takeInputs, takeCard, checkAnswer, Question, questionOf, matchBy, filterQuestion}
 use Rattle.sirophan.specs.Demand.{TestRules, filterTests}
 use Rattle.sirophan.proofs.Outcomes.{TestOutcome, test-means, test-refused, TestsOutcome, all-mean, one-refused, AtMost, found-at-most, stop-at-most}
 use Rattle.sirophan.proofs.Faults.{outcome}
@@ -115,14 +115,10 @@ sheet-at-most Reading.WrongSize ps = stop-at-most 1 0 (omega arith)
 sheet-at-most Reading.WrongSum ps = stop-at-most 2 0 (omega arith)
 sheet-at-most Reading.WrongLayout ps = stop-at-most 3 0 (omega arith)
 
-failure-at-most : (w : Why) (p : ℕ) → AtMost 18 (failureStep (record { why = w; place = p }))
-failure-at-most Why.NoFilter p = stop-at-most 11 p (omega arith)
-failure-at-most Why.TooDeep p = stop-at-most 12 p (omega arith)
-failure-at-most Why.TooMany p = stop-at-most 13 p (omega arith)
-
 tree-at-most : (text : List ℕ) (o : Option Tree) → AtMost 18 (treeStep text o)
 tree-at-most text (some f) = found-at-most
-tree-at-most text none = failure-at-most (failure deepest mostTests text .why) (failure deepest mostTests text .place)
+tree-at-most text none =
+    stop-at-most (numberOf (failure deepest mostTests text .reason)) (failure deepest mostTests text .place) (omega (arith, number-bound (text-number text)))
 
 pub kind-at-most : (k kind : ℕ) (v : List ℕ) (p : ℕ) → AtMost 18 (faultStep (kindFault k kind v) p)
 unfolding kindFault

@@ -14,14 +14,13 @@ use Rattle.syntax.specs.Tree.{Tree}
 use Rattle.syntax.specs.Grammar.{Spells}
 use Rattle.syntax.specs.Reader.{read}
 use Rattle.syntax.proofs.Spelling.{read-spells, spells-not-empty}
-use Rattle.place.specs.Machine as place
-use Rattle.place.specs.declared.Failure.{Failure}
 use Rattle.spell.specs.Plain.{plain}
 use Rattle.spell.specs.Spelling as spell
 use Rattle.spell.specs.declared.Outcome.{Outcome}
-use Rattle.refusal.specs.Answers.{count, refused, numberOf}
-use Rattle.refusal.specs.Steps.{Step, found, stop, _>>=_, answer}
 use Rattle.refusal.specs.declared.Reason.{Reason}
+use Rattle.refusal.specs.declared.Refusal.{Refusal}
+use Rattle.refusal.specs.Answers.{count, refused, refusalAnswer}
+use Rattle.refusal.specs.Steps.{Step, found, stop, _>>=_, answer}
 use Rattle.sirophan.specs.Answers.{spelledAnswer}
 use Rattle.sirophan.specs.Operations.{treeStep, takeFilter}
 use Rattle.sirophan.specs.Refusals.{SpellLine}
@@ -35,10 +34,10 @@ use Rattle.sirophan.proofs.SpellTable.{spell-table}
 
 module _ (text : List ℕ) (from : ℕ) (buffer : List ℕ) where
   room-answer : (w : List ℕ) → outcomeAnswer (spell.placed w from (length buffer)) ≡ answer (takeBuffer from (length buffer) w >>= λ s. found (count (length s)))
-  unfolding spell.placed takeBuffer outcomeAnswer
+  unfolding spell.placed takeBuffer outcomeAnswer refusalAnswer
   room-answer w = go (leb (from + length w) (length buffer))
     where
-      go : (t : Bool) → outcomeAnswer (cond t (Outcome.Length (length w)) (Outcome.TooLong (length w))) ≡ answer (cond t (found w) (stop 32 (length w)) >>= λ s. found (count (length s)))
+      go : (t : Bool) → outcomeAnswer (cond t (Outcome.Length (length w)) (Outcome.Refused (record { reason = Reason.ShortBuffer; place = length w }))) ≡ answer (cond t (found w) (stop 32 (length w)) >>= λ s. found (count (length s)))
       go true = refl
       go false = refl
 
@@ -52,17 +51,17 @@ module _ (text : List ℕ) (from : ℕ) (buffer : List ℕ) where
 
   tree-answer : (o : Option Tree) → outcomeAnswer (spell.treeOutcome text from (length buffer) o) ≡ answer (treeStep text o >>= λ f. takeBuffer from (length buffer) (plain f) >>= λ w. found (count (length w)))
   tree-answer (some f) = room-answer (plain f)
-  tree-answer none = unfold outcomeAnswer in refl
+  tree-answer none = unfold outcomeAnswer refusalAnswer in refl
 
   tree-bytes : (o : Option Tree) → spell.treeBytes from buffer o ≡ putInto from buffer (treeStep text o >>= λ f. takeBuffer from (length buffer) (plain f))
   tree-bytes (some f) = room-bytes (plain f)
   tree-bytes none = refl
 
   answer-is : outcomeAnswer (spell.outcome text from (length buffer)) ≡ spellAnswer text from (length buffer)
-  unfolding spell.outcome spellAnswer spelling takeFilter outcomeAnswer
+  unfolding spell.outcome spellAnswer spelling takeFilter outcomeAnswer refusalAnswer
   answer-is = go (eqb (length text) 0 || ltb 1024 (length text)) (read text)
     where
-      go : (t : Bool) (o : Option Tree) → outcomeAnswer (cond t Outcome.WrongSize (spell.treeOutcome text from (length buffer) o))
+      go : (t : Bool) (o : Option Tree) → outcomeAnswer (cond t spell.wrongSize (spell.treeOutcome text from (length buffer) o))
           ≡ answer (cond t (stop 10 0) (treeStep text o) >>= (λ f. takeBuffer from (length buffer) (plain f)) >>= λ w. found (count (length w)))
       go true o = refl
       go false (some f) = room-answer (plain f)
@@ -114,14 +113,6 @@ module _ (o : Outcome) where
   unfolding spelledAnswer outcomeAnswer
   length-spelled n e = rw e
 
-  pub size-spelled : (r : Spelled) → o ≡ Outcome.WrongSize → spelledAnswer r ≡ refused 10 0 → spelledAnswer r ≡ outcomeAnswer o
-  unfolding outcomeAnswer
-  size-spelled r e h = rw e h
-
-  pub failure-spelled : (r : Spelled) (f : Failure) (k : Reason) → o ≡ Outcome.Failed f → numberOf k ≡ place.numberOf (f .why) → spelledAnswer r ≡ refused (numberOf k) (f .place) → spelledAnswer r ≡ outcomeAnswer o
-  unfolding outcomeAnswer
-  failure-spelled r f k e g h = rw e (h ∙ ap (λ (n : ℕ). refused n (f .place)) g)
-
-  pub long-spelled : (r : Spelled) (n : ℕ) → o ≡ Outcome.TooLong n → spelledAnswer r ≡ refused 32 n → spelledAnswer r ≡ outcomeAnswer o
-  unfolding outcomeAnswer
-  long-spelled r n e h = rw e h
+  pub refusal-spelled : (r : Refusal) → o ≡ Outcome.Refused r → spelledAnswer (Spelled.Refused r) ≡ outcomeAnswer o
+  unfolding spelledAnswer outcomeAnswer
+  refusal-spelled r e = rw e

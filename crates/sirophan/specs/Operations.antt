@@ -13,12 +13,11 @@ use Rattle.syntax.specs.Tree.{Test, Tree, testsOf}
 use Rattle.syntax.specs.Grammar.{deepest, mostTests}
 use Rattle.syntax.specs.Reader.{read}
 use Rattle.place.specs.Machine.{failure}
-use Rattle.place.specs.Machine as place
-use Rattle.place.specs.declared.Failure.{Failure}
 use Rattle.judge.specs.Sets.{conforms}
 use Rattle.judge.specs.Faults.{firstFault}
 use Rattle.judge.specs.Verdicts.{filterSays}
 use Rattle.judge.specs.declared.Fault.{Fault}
+use Rattle.refusal.specs.declared.Refusal.{Refusal}
 use Rattle.refusal.specs.Answers.{Answer, yesOrNo, count, numberOf}
 use Rattle.refusal.specs.Steps.{Step, found, stop, _>>=_, answer}
 
@@ -35,8 +34,8 @@ takeSheet sheet = sheetStep (readSheet sheet) (parametersOf sheet)
 
 -- ---- the filter: 10, 11 to 13, and 14 to 18 for the first test at fault; names are looked up at the top
 
-abbrev pub failureStep : Failure → Step Tree
-failureStep r = stop (place.numberOf (r .why)) (r .place)
+abbrev pub failureStep : Refusal → Step Tree
+failureStep r = stop (numberOf (r .reason)) (r .place)
 
 abbrev pub treeStep : List ℕ → Option Tree → Step Tree
 treeStep text (some f) = found f

@@ -6,10 +6,9 @@ use mathlib.Core.Bool.{cond}
 use mathlib.Core.List.{List, _++_}
 use lib.Dec.{leb}
 use lib.ListN.{length, take, drop}
-use Rattle.place.specs.Machine as place
 use Rattle.spell.specs.Plain.{plain}
 use Rattle.spell.specs.declared.Outcome.{Outcome}
-use Rattle.refusal.specs.Answers.{Answer, count, refused}
+use Rattle.refusal.specs.Answers.{Answer, count, refusalAnswer}
 use Rattle.refusal.specs.Steps.{Step, found, stop, _>>=_, answer}
 use Rattle.sirophan.specs.Answers.{spelledAnswer}
 use Rattle.sirophan.specs.Operations.{takeFilter}
@@ -44,9 +43,7 @@ spellBytes text from buffer = putInto from buffer (spelling text from (length bu
 -- the answer for what spelling came to
 unfoldable pub outcomeAnswer : Outcome → Answer
 outcomeAnswer (Outcome.Length n) = count n
-outcomeAnswer Outcome.WrongSize = refused 10 0
-outcomeAnswer (Outcome.Failed r) = refused (place.numberOf (r .why)) (r .place)
-outcomeAnswer (Outcome.TooLong n) = refused 32 n
+outcomeAnswer (Outcome.Refused r) = refusalAnswer r
 
 pub record SpellsAs (text : List ℕ) (from : ℕ) (buffer : List ℕ) (r : Spelled) (exit : List ℕ) : Type 0 where
   pub answers : spelledAnswer r ≡ spellAnswer text from (length buffer)

@@ -6,7 +6,6 @@ use filter::Summary;
 use filter::Walked;
 use filter::check_filter;
 use judge::Fault;
-use place::Why;
 use place::find_failure;
 use refusal::Reason;
 use refusal::Refusal;
@@ -14,11 +13,10 @@ use syntax::scan::skip;
 ghost use mathlib.Core.Path.{_≡_};
 ghost use Rattle.sheet.specs.Sheet.{parametersOf, readSheet};
 ghost use Rattle.syntax.specs.Grammar.{deepest, mostTests};
-ghost use Rattle.place.specs.Machine as place;
 ghost use Rattle.place.specs.Machine.{failure};
-ghost use Rattle.refusal.specs.Answers.{refused, numberOf};
+ghost use Rattle.refusal.specs.Answers.{refused, numberOf, refusalAnswer};
 ghost use Rattle.sirophan.specs.Answers.{checkedAnswer};
-ghost use Rattle.sirophan.specs.Passing.{summaryAnswer, failureAnswer};
+ghost use Rattle.sirophan.specs.Passing.{summaryAnswer};
 ghost use Rattle.sirophan.specs.Operations.{filterAnswer, checkAnswer};
 
 // A refusal as check's answer.
@@ -40,24 +38,11 @@ pub fn outcome(summary: Summary) -> Checked
     }
 }
 
-// Why a text that is no filter is refused.
-pub fn failure_reason(why: Why) -> Reason
-    ensures { λ r. ⌜ numberOf r ≡ place.numberOf why ⌝ }
-{
-    match why {
-        Why::NoFilter => Reason::NoFilter,
-        Why::TooDeep => Reason::TooDeep,
-        Why::TooMany => Reason::TooMany,
-    }
-}
-
 // The answer for a text that is no filter.
 pub fn no_filter(filter: &[u8]) -> Checked
-    ensures { λ r. ⌜ checkedAnswer r ≡ failureAnswer (failure deepest mostTests (now (filter .entry))) ⌝ }
+    ensures { λ r. ⌜ checkedAnswer r ≡ refusalAnswer (failure deepest mostTests (now (filter .entry))) ⌝ }
 {
-    let failure = find_failure(filter);
-    let why = failure.why;
-    refuse(failure_reason(why), failure.place)
+    Checked::Refused(find_failure(filter))
 }
 
 // The filter on a well-formed sheet.

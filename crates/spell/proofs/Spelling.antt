@@ -18,12 +18,13 @@ use Rattle.syntax.specs.Scan.{isSpace, skipAt}
 use Rattle.syntax.specs.Reader.{Parsed, parsed, unparsed, filterAt, whole, read}
 use Rattle.syntax.proofs.Spelling.{read-spells}
 use Rattle.place.specs.Machine.{found}
-use Rattle.place.specs.declared.Failure.{Failure}
+use Rattle.refusal.specs.declared.Reason.{Reason}
+use Rattle.refusal.specs.declared.Refusal.{Refusal}
 use Rattle.place.specs.declared.Found.{Found}
 use Rattle.place.proofs.Whole.{found-filter, found-failed}
 use Rattle.spell.specs.Plain.{plain}
 use Rattle.spell.specs.Walks.{RoomFor, Spelt}
-use Rattle.spell.specs.Spelling.{placed, outcome, put, bytes, SpellsInto, IsFilter, TextRoom, TextSpelt, TextLength, PlacedInto}
+use Rattle.spell.specs.Spelling.{wrongSize, placed, outcome, put, bytes, SpellsInto, IsFilter, TextRoom, TextSpelt, TextLength, PlacedInto}
 use Rattle.spell.specs.declared.Written.{Written}
 use Rattle.spell.specs.declared.Outcome.{Outcome}
 use Rattle.spell.proofs.Length.{never-longer}
@@ -86,13 +87,13 @@ pub room-left : (size from n : ℕ) → from ≤ size → leb n (size - from) �
 room-left size from n h = same-test (leb n (size - from)) (leb (from + n) size) (λ k. le-leb (from + n) size (omega (arith, leb-true n (size - from) k))) (λ k. le-leb n (size - from) (omega (arith, leb-true (from + n) size k)))
 
 module _ (xs buffer : List ℕ) (from n : ℕ) (t : TextLength xs n) where
-  too-long : length buffer < from + n → PlacedInto xs buffer from (Outcome.TooLong n) buffer
+  too-long : length buffer < from + n → PlacedInto xs buffer from (Outcome.Refused (record { reason = Reason.ShortBuffer; place = n })) buffer
   unfolding placed put
   too-long h =
       let z : leb (from + length (plain (t .tree))) (length buffer) ≡ false = lt-leb (from + length (plain (t .tree))) (length buffer) (omega (arith, t .long)) in
       record { tree = t .tree; reads = t .reads; answers = rw (z, t .long); bytes-are = rw z }
 
-  pub place-past : (r : Bool) → r ≡ leb (from + n) (length buffer) → r ≡ false → PlacedInto xs buffer from (Outcome.TooLong n) buffer
+  pub place-past : (r : Bool) → r ≡ leb (from + n) (length buffer) → r ≡ false → PlacedInto xs buffer from (Outcome.Refused (record { reason = Reason.ShortBuffer; place = n })) buffer
   place-past r e h = too-long (leb-false (from + n) (length buffer) (sym e ∙ h))
 
   module _ (r : Bool) (e : r ≡ leb (from + n) (length buffer)) (g : r ≡ true) where
@@ -128,15 +129,15 @@ module _ (xs buffer : List ℕ) (from n : ℕ) (t : TextLength xs n) where
 -- ---- the whole
 
 module _ (text buffer : List ℕ) (from : ℕ) where
-  wrong-size : (eqb (length text) 0 || ltb 1024 (length text)) ≡ true → SpellsInto text buffer from Outcome.WrongSize buffer
+  wrong-size : (eqb (length text) 0 || ltb 1024 (length text)) ≡ true → SpellsInto text buffer from wrongSize buffer
   unfolding outcome bytes
   wrong-size e = record { answers = rw e; bytes-are = rw e }
 
-  pub spell-empty : length text ≡ 0 → SpellsInto text buffer from Outcome.WrongSize buffer
+  pub spell-empty : length text ≡ 0 → SpellsInto text buffer from wrongSize buffer
   spell-empty h = wrong-size (rw (eq-eqb (length text) 0 h))
 
   module _ (n : length text ≡ 0 → ⊥) where
-    pub spell-over : 1024 < length text → SpellsInto text buffer from Outcome.WrongSize buffer
+    pub spell-over : 1024 < length text → SpellsInto text buffer from wrongSize buffer
     spell-over h = wrong-size (rw (ne-eqb (length text) 0 n, lt-ltb 1024 (length text) h))
 
     module _ (l : length text ≤ 1024) where
@@ -144,12 +145,12 @@ module _ (text buffer : List ℕ) (from : ℕ) where
       right-size = rw (ne-eqb (length text) 0 n, le-ltb 1024 (length text) l)
 
       module _ (r : Found) (e : r ≡ found deepest mostTests text) where
-        pub spell-failed : (p : Failure) → r ≡ Found.Failed p → SpellsInto text buffer from (Outcome.Failed p) buffer
+        pub spell-failed : (p : Refusal) → r ≡ Found.Failed p → SpellsInto text buffer from (Outcome.Refused p) buffer
         unfolding outcome bytes
         spell-failed p h =
             let w = found-failed text r e p h in
             let m : read text ≡ none = not-read (read text) refl (w .0) in
-            record { answers = rw (right-size, m) (ap (λ (x : Failure). Outcome.Failed x) (w .1)); bytes-are = rw (right-size, m) }
+            record { answers = rw (right-size, m) (ap (λ (x : Refusal). Outcome.Refused x) (w .1)); bytes-are = rw (right-size, m) }
           where
             not-read : (o : Option Tree) → read text ≡ o → ((f : Tree) → Spells text f → ⊥) → read text ≡ none
             not-read (some f) k z = absurd (z f (read-spells text f .0 k))

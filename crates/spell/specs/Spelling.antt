@@ -10,6 +10,7 @@ use lib.ListN.{length, take, drop}
 use Rattle.syntax.specs.Tree.{Tree}
 use Rattle.syntax.specs.Grammar.{deepest, mostTests}
 use Rattle.syntax.specs.Reader.{read}
+use Rattle.refusal.specs.declared.Reason.{Reason}
 use Rattle.place.specs.Machine.{failure}
 use Rattle.spell.specs.Plain.{plain}
 use Rattle.spell.specs.Writing.{Room, Puts}
@@ -17,14 +18,17 @@ use Rattle.spell.specs.declared.Outcome.{Outcome}
 
 -- the text's length is the answer, unless it "would run past the buffer's end"
 unfoldable pub placed : List ℕ → (from room : ℕ) → Outcome
-placed w from room = cond (leb (from + length w) room) (Outcome.Length (length w)) (Outcome.TooLong (length w))
+placed w from room = cond (leb (from + length w) room) (Outcome.Length (length w)) (Outcome.Refused (record { reason = Reason.ShortBuffer; place = length w }))
+
+abbrev pub wrongSize : Outcome
+wrongSize = Outcome.Refused (record { reason = Reason.FilterSize; place = 0 })
 
 abbrev pub treeOutcome : List ℕ → (from room : ℕ) → Option Tree → Outcome
 treeOutcome text from room (some f) = placed (plain f) from room
-treeOutcome text from room none = Outcome.Failed (failure deepest mostTests text)
+treeOutcome text from room none = Outcome.Refused (failure deepest mostTests text)
 
 unfoldable pub outcome : List ℕ → (from room : ℕ) → Outcome
-outcome text from room = cond (eqb (length text) 0 || ltb 1024 (length text)) Outcome.WrongSize (treeOutcome text from room (read text))
+outcome text from room = cond (eqb (length text) 0 || ltb 1024 (length text)) wrongSize (treeOutcome text from room (read text))
 
 -- "the text is put into the buffer from the place the caller names, .. and all other bytes stay"; "buffer as given" where it has no room
 unfoldable pub put : List ℕ → ℕ → List ℕ → List ℕ

@@ -4,9 +4,10 @@ mod test;
 mod value;
 mod walk;
 
-use place::Failure;
 use place::Found;
 use place::find;
+use refusal::Reason;
+use refusal::Refusal;
 use syntax::scan::skip;
 use walk::write_filter;
 ghost use mathlib.Core.Path.{_≡_};
@@ -29,16 +30,10 @@ pub struct Written {
     pub join: bool,
 }
 
-// What spelling a text comes to.
+// What spelling a text comes to: the length of the plain spelling, which is written, or why none is.
 pub enum Outcome {
-    // The length of the plain spelling, which is written.
     Length(usize),
-    // The text is empty or over 1,024 bytes.
-    WrongSize,
-    // The text is no filter.
-    Failed(Failure),
-    // The plain spelling, of this length, would run past the buffer's end.
-    TooLong(usize),
+    Refused(Refusal),
 }
 
 // Writes the plain spelling of a filter, and answers its length.
@@ -91,7 +86,10 @@ fn place_text(filter: &[u8], buffer: &mut [u8], from: usize) -> Outcome
         let written = write_text(filter, &mut buffer[from..]);
         return Outcome::Length(written);
     }
-    Outcome::TooLong(length)
+    Outcome::Refused(Refusal {
+        reason: Reason::ShortBuffer,
+        place: length,
+    })
 }
 
 // Writes the plain spelling of a filter into the buffer from a place on, and answers its length; or why not, and then the buffer is as
@@ -100,14 +98,20 @@ pub fn spell(filter: &[u8], buffer: &mut [u8], from: usize) -> Outcome
     ensures { λ r. ⌜ SpellsInto (now (filter .entry)) (now (buffer .entry)) from r (now (buffer .exit)) ⌝ }
 {
     if filter.len() == 0 {
-        return Outcome::WrongSize;
+        return Outcome::Refused(Refusal {
+            reason: Reason::FilterSize,
+            place: 0,
+        });
     }
     if filter.len() > 1024 {
-        return Outcome::WrongSize;
+        return Outcome::Refused(Refusal {
+            reason: Reason::FilterSize,
+            place: 0,
+        });
     }
     let found = find(filter);
     match found {
         Found::Filter => place_text(filter, buffer, from),
-        Found::Failed(failure) => Outcome::Failed(failure),
+        Found::Failed(failure) => Outcome::Refused(failure),
     }
 }
