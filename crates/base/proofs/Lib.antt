@@ -12,4 +12,5 @@ pub mod Split
 pub mod Invariants
 pub mod Loops
 pub mod Digits
+pub mod Between
 pub mod Names

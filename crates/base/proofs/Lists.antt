@@ -5,14 +5,14 @@ use Prim.Native.Nat.{ℕ, suc, _+_, _-_, _<_}
 use native.Mathlib.Numerals.{add-one}
 use native.Mathlib.Omega.{arith}
 use mathlib.Core.Bool.{Bool, true, false, false≢true, and-false}
-use mathlib.Core.Logic.{inl, inr, ⊎-elim, ite}
-use mathlib.Core.List.{List, [], _∷_, map, filter}
+use mathlib.Core.Logic.{_⊎_, inl, inr, ⊎-elim, ite}
+use mathlib.Core.List.{List, [], _∷_, _++_, map, filter}
 use lib.Dec.{eqb}
-use lib.ListN.{length, getD, take, drop, length-drop, drop-of-length-le}
+use lib.ListN.{length, getD, take, drop, length-drop, drop-of-length-le, length-append}
 use lib.Seq.{take-all, drop-cons}
 use types.Run.{OneOf}
 use borrow.Author.Tests.{eq-eqb, ne-eqb, eqb-true}
-use Rattle.base.specs.Lists.{All, all-empty, all-cons, every, equal, member}
+use Rattle.base.specs.Lists.{Listed, All, all-empty, all-cons, every, equal, member}
 use Rattle.base.proofs.Tests.{and-left, and-right, and-both, or-either, or-right, decided}
 
 -- ---- parts
@@ -107,3 +107,25 @@ module _ {A B : Type 0} {P : B → Type 0} (d : (y : B) → Dec (P y)) (f : A �
   pub filter-map : (xs : List A) → length (filter d (map f xs)) ≡ length (filter (λ x. d (f x)) xs)
   filter-map [] = refl
   filter-map (x ∷ xs) = filter-next x (filter d (map f xs)) (filter (λ x. d (f x)) xs) (filter-map xs) (d (f x))
+
+-- ---- an element by its index
+
+module _ {A : Type 0} where
+  pub listed-nil : {i : ℕ} {x : A} → Listed [] i x → ⊥
+  listed-nil {x = x} l = omega (arith, ap length (l .split), length-append (l .before) (x ∷ l .after))
+
+  pub listed-first : (x : A) (xs : List A) → Listed (x ∷ xs) 0 x
+  listed-first x xs = record { before = []; after = xs; split = refl; index = refl }
+
+  pub listed-later : (y : A) {xs : List A} {i : ℕ} {x : A} → Listed xs i x → Listed (y ∷ xs) (suc i) x
+  listed-later y l = record { before = y ∷ l .before; after = l .after; split = ap (λ (t : List A). y ∷ t) (l .split); index = ap suc (l .index) }
+
+  -- the first element, or one of the rest
+  pub listed-cases : (y : A) (xs : List A) (i : ℕ) (x : A) → Listed (y ∷ xs) i x → ((i ≡ 0) × (x ≡ y)) ⊎ ((k : ℕ) × (i ≡ suc k) × Listed xs k x)
+  listed-cases y xs i x l = by-before (l .before) (l .split) (l .index)
+    where
+      by-before : (before : List A) → y ∷ xs ≡ before ++ (x ∷ l .after) → length before ≡ i → ((i ≡ 0) × (x ≡ y)) ⊎ ((k : ℕ) × (i ≡ suc k) × Listed xs k x)
+      by-before [] e h = let same : x ≡ y = cc in inl (sym h, same)
+      by-before (z ∷ before) e h =
+          let rest : xs ≡ before ++ (x ∷ l .after) = cc in
+          inr (length before, sym h, record { before = before; after = l .after; split = rest; index = refl })

@@ -6,14 +6,16 @@ use mathlib.Core.Path.{_≡_, refl, ap, sym, _∙_, subst}
 use mathlib.Core.Bool.{Bool, true, false, not, _&&_, _||_, false≢true}
 use mathlib.Core.Logic.{_↔_, ⊎-elim}
 use mathlib.Core.List.{List, [], _∷_}
-use lib.Dec.{leb, eqb}
+use lib.Dec.{eqb}
 use lib.ListN.{length, take, drop, getD}
-use borrow.Author.Tests.{not-true, leb-true, eqb-true}
+use borrow.Author.Tests.{not-true, eqb-true}
 use Rattle.base.specs.Ascii.{ascii}
 use Rattle.base.specs.Bytes.{Byte, Bytes}
 use Rattle.base.specs.Digits.{isDigit}
 use Rattle.base.specs.Lists.{all-cons, every, equal}
-use Rattle.base.specs.Names.{between, isLetter, isNameStart, isNamePart, isReserved, isName, Name}
+use Rattle.base.specs.Between.{between}
+use Rattle.base.specs.Names.{isLetter, isNameStart, isNamePart, isReserved, isName, Name}
+use Rattle.base.proofs.Between.{between-high}
 use Rattle.base.proofs.Tests.{and-left, and-right, or-either, both-ways}
 use Rattle.base.proofs.All.{all-map}
 use Rattle.base.proofs.Digits.{digit-high}
@@ -101,10 +103,6 @@ pub name-iff : (n : List ℕ) → (isName n ≡ true) ↔ Name n
 name-iff n = (name-there n, name-back n)
 
 -- ---- the bytes of a name
-
-between-high : (low high b : ℕ) → between low high b ≡ true → b ≤ high
-unfolding between
-between-high low high b h = leb-true b high (and-right (leb low b) (leb b high) h)
 
 letter-byte : (b : ℕ) → isLetter b ≡ true → Byte b
 unfolding isLetter

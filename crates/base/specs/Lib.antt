@@ -9,6 +9,7 @@ pub mod Split
 pub mod Bytes
 pub mod Ascii
 pub mod Digits
+pub mod Between
 pub mod Names
 pub mod Operators
 pub mod Kinds

@@ -1,9 +1,18 @@
--- Properties of every element of a list, as a predicate and as a test; equality of two lists of numbers as a test.
+-- An element of a list by its index; properties of every element, as a predicate and as a test; equality of two lists of numbers as a test.
 -- Assumes nothing.
 use Prim.Native.Nat.{ℕ}
+use mathlib.Core.Path.{_≡_}
 use mathlib.Core.Bool.{Bool, true, false, _&&_, _||_}
-use mathlib.Core.List.{List, [], _∷_}
+use mathlib.Core.List.{List, [], _∷_, _++_}
 use lib.Dec.{eqb}
+use lib.ListN.{length}
+
+-- x stands in the list at the index i
+pub record Listed {A : Type 0} (xs : List A) (i : ℕ) (x : A) : Type 0 where
+  pub before : List A
+  pub after : List A
+  pub split : xs ≡ before ++ (x ∷ after)
+  pub index : length before ≡ i
 
 -- P holds of every element
 pub data All {A : Type 0} (P : A → Type 0) : List A → Type 0 where

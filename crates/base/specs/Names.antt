@@ -5,14 +5,11 @@ use Prim.Native.Char.{code}
 use mathlib.Core.Path.{_≡_}
 use mathlib.Core.Bool.{Bool, true, false, not, _&&_, _||_}
 use mathlib.Core.List.{List, [], _∷_}
-use lib.Dec.{leb, eqb}
+use lib.Dec.{eqb}
+use Rattle.base.specs.Between.{between}
 use Rattle.base.specs.Ascii.{ascii}
 use Rattle.base.specs.Digits.{isDigit}
 use Rattle.base.specs.Lists.{All, every, equal}
-
--- the byte is one of those from low to high
-unfoldable pub between : ℕ → ℕ → ℕ → Bool
-between low high b = leb low b && leb b high
 
 -- an ASCII letter
 unfoldable pub isLetter : ℕ → Bool

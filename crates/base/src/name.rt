@@ -4,7 +4,8 @@ use crate::equal;
 use crate::is_digit;
 ghost use mathlib.Core.Path.{_≡_};
 ghost use Rattle.base.specs.Lists.{every};
-ghost use Rattle.base.specs.Names.{between, isLetter, isNameStart, isNamePart, isReserved, isName};
+ghost use Rattle.base.specs.Between.{between};
+ghost use Rattle.base.specs.Names.{isLetter, isNameStart, isNamePart, isReserved, isName};
 
 // Whether a byte is one of those from `low` to `high`.
 fn between(low: u8, high: u8, b: u8) -> bool

@@ -15,9 +15,10 @@ use Rattle.base.specs.Parts.{part}
 use Rattle.base.proofs.Tests.{and-left, and-right}
 use Rattle.base.proofs.All.{all-append}
 use Rattle.base.proofs.Parts.{drop-at-index, drop-first, part-length, part-cons, part-append, part-bytes}
+use Rattle.base.specs.Parts.{padded}
 use Rattle.block.specs.Words.{wordBytes}
 use Rattle.block.specs.Sum.{sumFrom}
-use Rattle.block.specs.Seal.{padded, seal}
+use Rattle.block.specs.Seal.{seal}
 use Rattle.block.specs.Items.{zeros, hasMarks, headSize, lengthAt, next, markAt, textAt, laidOut, hasLayout, items, marks, join}
 use Rattle.block.proofs.Contents.{Held, Written}
 use Rattle.block.proofs.Seal.{after, seal-body, seal-bytes, seal-sealed, sealed-seal}
@@ -46,7 +47,7 @@ zeros-are (x ∷ s) h =
 after-zeros : (body : List ℕ) → zeros (take (508 - length body) (after body)) ≡ true
 after-zeros body =
     let n = 508 - length body in
-    ap zeros (take-at (replicate n 0) (wordBytes (sumFrom 1 (padded body))) n (length-replicate n 0)) ∙ zeros-replicate n
+    ap zeros (take-at (replicate n 0) (wordBytes (sumFrom 1 (padded 508 body))) n (length-replicate n 0)) ∙ zeros-replicate n
 
 -- ---- an item that was written
 

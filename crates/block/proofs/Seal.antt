@@ -13,9 +13,10 @@ use borrow.Author.Tests.{eq-eqb, ne-eqb, eqb-true}
 use Rattle.base.specs.Bytes.{Byte, Bytes}
 use Rattle.base.proofs.Tests.{cond-first}
 use Rattle.base.proofs.All.{all-append, all-replicate}
+use Rattle.base.specs.Parts.{padded}
 use Rattle.block.specs.Words.{word, wordBytes}
 use Rattle.block.specs.Sum.{sumFrom, checkSum}
-use Rattle.block.specs.Seal.{check, IsSealed, padded, seal}
+use Rattle.block.specs.Seal.{check, IsSealed, seal}
 use Rattle.block.specs.declared.Checked.{Checked}
 use Rattle.block.specs.declared.Checked.the-variants.{Sealed, WrongSize, WrongSum}
 use Rattle.block.proofs.Words.{word-bytes, word-length, word-written, word-read}
@@ -61,40 +62,40 @@ check-length b r e k = check-sealed b (sym e ∙ k) .size
 
 -- what follows a body in its seal
 abbrev pub after : List ℕ → List ℕ
-after body = replicate (508 - length body) 0 ++ wordBytes (sumFrom 1 (padded body))
+after body = replicate (508 - length body) 0 ++ wordBytes (sumFrom 1 (padded 508 body))
 
 pub seal-body : (body : List ℕ) → seal body ≡ body ++ after body
 unfolding seal padded
-seal-body body = append-assoc body (replicate (508 - length body) 0) (wordBytes (sumFrom 1 (padded body)))
+seal-body body = append-assoc body (replicate (508 - length body) 0) (wordBytes (sumFrom 1 (padded 508 body)))
 
 module _ (body : List ℕ) (room : length body ≤ 508) where
-  padded-length : length (padded body) ≡ 508
+  padded-length : length (padded 508 body) ≡ 508
   unfolding padded
   padded-length = simp (length-append, length-replicate) (omega arith)
 
-  take-seal : take 508 (seal body) ≡ padded body
+  take-seal : take 508 (seal body) ≡ padded 508 body
   unfolding seal
-  take-seal = take-at (padded body) (wordBytes (sumFrom 1 (padded body))) 508 padded-length
+  take-seal = take-at (padded 508 body) (wordBytes (sumFrom 1 (padded 508 body))) 508 padded-length
 
   module _ (h : Bytes body) where
-    padded-bytes : Bytes (padded body)
+    padded-bytes : Bytes (padded 508 body)
     unfolding padded
     padded-bytes = all-append Byte h (all-replicate Byte (508 - length body) (omega arith))
 
     -- a seal is a list of bytes
     pub seal-bytes : Bytes (seal body)
     unfolding seal
-    seal-bytes = all-append Byte padded-bytes (word-bytes (sumFrom 1 (padded body)))
+    seal-bytes = all-append Byte padded-bytes (word-bytes (sumFrom 1 (padded 508 body)))
 
     -- with the size and the check sum of a block
     pub seal-sealed : IsSealed (seal body)
     unfolding seal checkSum
     seal-sealed =
-        let n = sumFrom 1 (padded body) in
+        let n = sumFrom 1 (padded 508 body) in
         let small : n < 2 ^ 32 = omega (arith, sum-largest padded-bytes padded-length) in
-        let last : drop 508 (seal body) ≡ wordBytes n ++ [] = drop-at (padded body) (wordBytes n) 508 padded-length ∙ sym (append-nil (wordBytes n)) in
+        let last : drop 508 (seal body) ≡ wordBytes n ++ [] = drop-at (padded 508 body) (wordBytes n) 508 padded-length ∙ sym (append-nil (wordBytes n)) in
         record {
-          size = length-append (padded body) (wordBytes n) ∙ omega (arith, padded-length, word-length n);
+          size = length-append (padded 508 body) (wordBytes n) ∙ omega (arith, padded-length, word-length n);
           sum = ap (sumFrom 1) take-seal ∙ sym (word-written (seal body) 508 n [] small last);
         }
 
@@ -107,7 +108,7 @@ module _ (b : List ℕ) (h : Bytes b) (s : IsSealed b) where
       sym (take-all 4 (drop 508 b) all) ∙ sym (word-read b 508 h (omega (arith, s .size))) ∙ ap wordBytes (sym (s .sum))
 
   -- a sealed block is the seal of the body that its first 508 bytes pad
-  pub sealed-seal : (body : List ℕ) → take 508 b ≡ padded body → b ≡ seal body
+  pub sealed-seal : (body : List ℕ) → take 508 b ≡ padded 508 body → b ≡ seal body
   unfolding seal checkSum
   sealed-seal body e =
       sym (take-append-drop 508 b) ∙ ap₂ (λ (x y : List ℕ). x ++ y) e (last-four ∙ ap (λ (l : List ℕ). wordBytes (sumFrom 1 l)) e)

@@ -1,11 +1,12 @@
 -- Size and check sum of a block: as a test, and as what makes a block of its body.
 -- Assumes nothing.
-use Prim.Native.Nat.{ℕ, _-_}
+use Prim.Native.Nat.{ℕ}
 use mathlib.Core.Path.{_≡_}
 use mathlib.Core.Bool.{cond}
 use mathlib.Core.List.{List, _++_}
 use lib.Dec.{eqb}
-use lib.ListN.{length, replicate}
+use lib.ListN.{length}
+use Rattle.base.specs.Parts.{padded}
 use Rattle.block.specs.Words.{word, wordBytes}
 use Rattle.block.specs.Sum.{checkSum, sumFrom}
 use Rattle.block.specs.declared.Checked.{Checked}
@@ -24,10 +25,6 @@ pub record IsSealed (b : List ℕ) : Type 0 where
   pub size : HasSize b
   pub sum : checkSum b ≡ word b 508
 
--- a body of at most 508 bytes, with zeros from its end to byte 507
-unfoldable pub padded : List ℕ → List ℕ
-padded body = body ++ replicate (508 - length body) 0
-
 -- the block of a body of at most 508 bytes: the body, zeros to byte 507 and the check sum
 unfoldable pub seal : List ℕ → List ℕ
-seal body = padded body ++ wordBytes (sumFrom 1 (padded body))
+seal body = padded 508 body ++ wordBytes (sumFrom 1 (padded 508 body))

@@ -10,7 +10,8 @@ use Rattle.base.proofs.All.{all-map}
 use Rattle.base.proofs.Lists.{every-all}
 use Rattle.block.specs.Words.{wordBytes}
 use Rattle.block.specs.Sum.{sumFrom, checkSum}
-use Rattle.block.specs.Seal.{check, padded, seal}
+use Rattle.base.specs.Parts.{padded}
+use Rattle.block.specs.Seal.{check, seal}
 use Rattle.block.specs.Items.{zeros, hasMarks, lengthAt, next, markAt, textAt, laidOut, hasLayout, hasEither, items, join}
 use Rattle.block.specs.Readings.{reading}
 use Rattle.card.specs.Card.{recordNumber, entryCount, entriesOf, readCard}

@@ -12,8 +12,9 @@ use Rattle.base.proofs.Below.{passes-at, passes-same}
 use Rattle.base.proofs.Tests.{both-ways}
 use Rattle.date.specs.Calendar.{leapYear, leapDay, yearLength, monthLength, daysBeforeMonth, daysOfYears, dayNumber}
 use Rattle.date.specs.Arithmetic.{lengthByNumber, beforeByNumber, leapYears}
-use Rattle.date.specs.Fields.{ValidYear, ValidMonth, ValidDay, between}
-use Rattle.date.proofs.Fields.{between-low, between-high}
+use Rattle.base.specs.Between.{between}
+use Rattle.base.proofs.Between.{between-low, between-high}
+use Rattle.date.specs.Fields.{ValidYear, ValidMonth, ValidDay}
 
 -- ---- months
 
@@ -64,17 +65,17 @@ month-ends false m h =
     leb-true _ _ (passes-at (λ (k : ℕ). leb (daysBeforeMonth false k + monthLength false k) 365) 13 refl m (omega arith))
 
 -- a month has 1 to 31 days
-month-days : (leap : Bool) (m : ℕ) → 1 ≤ m → m ≤ 12 → between 1 (monthLength leap m) 31 ≡ true
+month-days : (leap : Bool) (m : ℕ) → 1 ≤ m → m ≤ 12 → between 1 31 (monthLength leap m) ≡ true
 unfolding monthLength between
 month-days leap zero l h = let z : ⊥ = omega arith in absurd z
-month-days true (suc n) l h = passes-at (λ (k : ℕ). between 1 (monthLength true (suc k)) 31) 12 refl n (omega arith)
-month-days false (suc n) l h = passes-at (λ (k : ℕ). between 1 (monthLength false (suc k)) 31) 12 refl n (omega arith)
+month-days true (suc n) l h = passes-at (λ (k : ℕ). between 1 31 (monthLength true (suc k))) 12 refl n (omega arith)
+month-days false (suc n) l h = passes-at (λ (k : ℕ). between 1 31 (monthLength false (suc k))) 12 refl n (omega arith)
 
 pub month-first : {y m : ℕ} → ValidMonth y m → 1 ≤ monthLength (leapYear y) m
-month-first {y} {m} v = between-low 1 _ 31 (month-days (leapYear y) m (v .low) (v .high))
+month-first {y} {m} v = between-low 1 31 _ (month-days (leapYear y) m (v .low) (v .high))
 
 month-last : {y m : ℕ} → ValidMonth y m → monthLength (leapYear y) m ≤ 31
-month-last {y} {m} v = between-high 1 _ 31 (month-days (leapYear y) m (v .low) (v .high))
+month-last {y} {m} v = between-high 1 31 _ (month-days (leapYear y) m (v .low) (v .high))
 
 -- a day of a month has at most two digits
 pub day-below : {y m d : ℕ} → ValidDay y m d → d < 100

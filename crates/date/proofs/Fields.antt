@@ -1,6 +1,6 @@
 -- Laws of the fields: each test passes exactly where its record holds.
 -- Assumes nothing.
-use Prim.Native.Nat.{ℕ, _+_, _*_, _≤_, _<_}
+use Prim.Native.Nat.{ℕ, _+_, _*_, _<_}
 use mathlib.Core.Bool.{Bool, true, _&&_}
 use mathlib.Core.Path.{_≡_}
 use native.Mathlib.Omega.{arith}
@@ -8,41 +8,35 @@ use lib.Dec.{leb}
 use borrow.Author.Tests.{leb-true, le-leb}
 use Rattle.base.proofs.Tests.{and-left, and-right, and-both}
 use Rattle.date.specs.Calendar.{leapYear, monthLength}
-use Rattle.date.specs.Fields.{ValidYear, ValidMonth, ValidDay, ValidTime, ValidZone, between, validYear, validMonth, validDay, validTime, validZone}
+use Rattle.base.specs.Between.{between}
+use Rattle.base.proofs.Between.{between-low, between-high, between-passes}
+use Rattle.date.specs.Fields.{ValidYear, ValidMonth, ValidDay, ValidTime, ValidZone, validYear, validMonth, validDay, validTime, validZone}
 use Rattle.date.specs.Spans.{secondOfDay}
 
 -- ---- a test that passed says its record
 
-pub between-low : (low n high : ℕ) → between low n high ≡ true → low ≤ n
-unfolding between
-between-low low n high h = leb-true low n (and-left (leb low n) (leb n high) h)
-
-pub between-high : (low n high : ℕ) → between low n high ≡ true → n ≤ high
-unfolding between
-between-high low n high h = leb-true n high (and-right (leb low n) (leb n high) h)
-
 pub year-says : {y : ℕ} → validYear y ≡ true → ValidYear y
-year-says {y} h = record { low = between-low 1 y 9999 h; high = between-high 1 y 9999 h }
+year-says {y} h = record { low = between-low 1 9999 y h; high = between-high 1 9999 y h }
 
 pub month-says : {y m : ℕ} → validMonth y m ≡ true → ValidMonth y m
 unfolding validMonth
 month-says {y} {m} h =
-    let month : between 1 m 12 ≡ true = and-right (validYear y) (between 1 m 12) h in
+    let month : between 1 12 m ≡ true = and-right (validYear y) (between 1 12 m) h in
     record {
-      year = year-says (and-left (validYear y) (between 1 m 12) h);
-      low = between-low 1 m 12 month;
-      high = between-high 1 m 12 month;
+      year = year-says (and-left (validYear y) (between 1 12 m) h);
+      low = between-low 1 12 m month;
+      high = between-high 1 12 m month;
     }
 
 pub day-says : {y m d : ℕ} → validDay y m d ≡ true → ValidDay y m d
 unfolding validDay
 day-says {y} {m} {d} h =
     let last : ℕ = monthLength (leapYear y) m in
-    let day : between 1 d last ≡ true = and-right (validMonth y m) (between 1 d last) h in
+    let day : between 1 last d ≡ true = and-right (validMonth y m) (between 1 last d) h in
     record {
-      month = month-says (and-left (validMonth y m) (between 1 d last) h);
-      low = between-low 1 d last day;
-      high = between-high 1 d last day;
+      month = month-says (and-left (validMonth y m) (between 1 last d) h);
+      low = between-low 1 last d day;
+      high = between-high 1 last d day;
     }
 
 pub time-says : {h m s : ℕ} → validTime h m s ≡ true → ValidTime h m s
@@ -65,21 +59,17 @@ zone-says {h} {m} t =
 
 -- ---- where a record holds, its test passes
 
-between-passes : {low n high : ℕ} → low ≤ n → n ≤ high → between low n high ≡ true
-unfolding between
-between-passes {low} {n} {high} p q = and-both (leb low n) (leb n high) (le-leb low n p) (le-leb n high q)
-
 pub year-passes : {y : ℕ} → ValidYear y → validYear y ≡ true
 year-passes v = between-passes (v .low) (v .high)
 
 pub month-passes : {y m : ℕ} → ValidMonth y m → validMonth y m ≡ true
 unfolding validMonth
-month-passes {y} {m} v = and-both (validYear y) (between 1 m 12) (year-passes (v .year)) (between-passes (v .low) (v .high))
+month-passes {y} {m} v = and-both (validYear y) (between 1 12 m) (year-passes (v .year)) (between-passes (v .low) (v .high))
 
 pub day-passes : {y m d : ℕ} → ValidDay y m d → validDay y m d ≡ true
 unfolding validDay
 day-passes {y} {m} {d} v =
-    and-both (validMonth y m) (between 1 d (monthLength (leapYear y) m)) (month-passes (v .month)) (between-passes (v .low) (v .high))
+    and-both (validMonth y m) (between 1 (monthLength (leapYear y) m) d) (month-passes (v .month)) (between-passes (v .low) (v .high))
 
 pub time-passes : {h m s : ℕ} → ValidTime h m s → validTime h m s ≡ true
 unfolding validTime
@@ -96,6 +86,6 @@ time-bound v e = omega arith
 
 -- ---- a day's test as the code makes it
 
-pub day-test : (y m d : ℕ) {last : ℕ} {p q : Bool} → p ≡ validMonth y m → p ≡ true → last ≡ monthLength (leapYear y) m → q ≡ between 1 d last → q ≡ validDay y m d
+pub day-test : (y m d : ℕ) {last : ℕ} {p q : Bool} → p ≡ validMonth y m → p ≡ true → last ≡ monthLength (leapYear y) m → q ≡ between 1 last d → q ≡ validDay y m d
 unfolding validDay
 day-test y m d e h l f = rw (← e, h, ← l) f

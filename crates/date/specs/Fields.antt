@@ -4,6 +4,7 @@ use Prim.Native.Nat.{ℕ, _+_, _*_, _≤_}
 use mathlib.Core.Bool.{Bool, _&&_}
 use lib.Dec.{leb}
 use lib.IntN.{ℤ, natAbs}
+use Rattle.base.specs.Between.{between}
 use Rattle.date.specs.Calendar.{leapYear, monthLength}
 
 -- ---- records
@@ -42,18 +43,14 @@ ValidOffset offset = natAbs offset ≤ 840
 
 -- ---- tests
 
--- n lies between two bounds, both allowed
-unfoldable pub between : ℕ → ℕ → ℕ → Bool
-between low n high = leb low n && leb n high
-
 abbrev pub validYear : ℕ → Bool
-validYear y = between 1 y 9999
+validYear y = between 1 9999 y
 
 unfoldable pub validMonth : ℕ → ℕ → Bool
-validMonth y m = validYear y && between 1 m 12
+validMonth y m = validYear y && between 1 12 m
 
 unfoldable pub validDay : ℕ → ℕ → ℕ → Bool
-validDay y m d = validMonth y m && between 1 d (monthLength (leapYear y) m)
+validDay y m d = validMonth y m && between 1 (monthLength (leapYear y) m) d
 
 unfoldable pub validTime : ℕ → ℕ → ℕ → Bool
 validTime h m s = leb h 23 && (leb m 59 && leb s 59)

@@ -2,7 +2,8 @@
 // numbers may stand in the fields of a date's text.
 ghost use mathlib.Core.Path.{_≡_};
 ghost use Rattle.date.specs.Calendar.{leapYear, yearLength, monthLength, daysBeforeMonth, dayNumber};
-ghost use Rattle.date.specs.Fields.{between, validYear, validMonth, validDay, validTime, ValidMonth, ValidDay};
+ghost use Rattle.base.specs.Between.{between};
+ghost use Rattle.date.specs.Fields.{validYear, validMonth, validDay, validTime, ValidMonth, ValidDay};
 
 // Whether a year is a leap year.
 fn leap_year(y: u64) -> bool
@@ -63,7 +64,7 @@ pub fn day_number(y: u64, m: u64, d: u64) -> u64
 
 // Whether a number lies between two bounds, both allowed.
 fn between(low: u64, n: u64, high: u64) -> bool
-    ensures { λ r. ⌜ r ≡ between low n high ⌝ }
+    ensures { λ r. ⌜ r ≡ between low high n ⌝ }
 {
     low <= n && n <= high
 }

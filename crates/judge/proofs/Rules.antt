@@ -16,13 +16,13 @@ use Rattle.text.specs.Fold.{foldText}
 use Rattle.kind.specs.Readable.{cardReadable, isTrue, isFalse}
 use Rattle.kind.specs.Rules.{ReadableOnCard, TrueOrFalse, spells-true, spells-false}
 use mathlib.Core.Option.{Option, none, some}
-use Rattle.base.specs.Lists.{All, all-empty, all-cons, every}
+use Rattle.base.specs.Lists.{Listed, All, all-empty, all-cons, every}
 use Rattle.base.proofs.Lists.{every-member}
 use Rattle.base.proofs.All.{all-head, all-right, all-left}
 use Rattle.base.specs.Kinds.{bundleKind}
 use Rattle.sheet.specs.Sheet.{Parameter, parameter, kindAt}
 use Rattle.sheet.specs.Encode.{ValueKind, WellFormedParameter, HasParent, at-top, in-bundle, WellFormedSheet}
-use Rattle.sheet.specs.Find.{find, nowhere, inside, enter, Listed}
+use Rattle.sheet.specs.Find.{find, nowhere, inside, enter}
 use Rattle.sheet.specs.declared.Found.{Found}
 use Rattle.sheet.proofs.Listed.{find-iff, at-listed, listed-kind}
 use Rattle.card.specs.Card.{Entry}

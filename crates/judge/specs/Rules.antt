@@ -7,10 +7,9 @@ use Rattle.base.specs.Ascii.{ascii}
 use Rattle.base.specs.Operators.{pr, eq, ne}
 use Rattle.text.specs.Fold.{foldText}
 use mathlib.Core.Bool.{Bool}
-use Rattle.base.specs.Lists.{All}
+use Rattle.base.specs.Lists.{Listed, All}
 use Rattle.base.specs.Kinds.{bundleKind}
 use Rattle.sheet.specs.Sheet.{Parameter, parameter}
-use Rattle.sheet.specs.Find.{Listed}
 use Rattle.card.specs.Card.{Entry}
 use Rattle.card.specs.Encode.{encodeCard, WellFormedCard}
 use Rattle.syntax.specs.Tree.{Path, name, member, Test, Tree, test, bracketed, join, negation, and, or}

@@ -15,7 +15,8 @@ use Rattle.base.specs.Lists.{All, all-empty, all-cons, every, equal, member}
 use Rattle.base.specs.Bytes.{Byte, Bytes}
 use Rattle.base.specs.Digits.{isDigit}
 use Rattle.base.specs.Affixes.{hasPrefix}
-use Rattle.base.specs.Names.{between, isLetter, isNameStart, isNamePart, isName, isReserved, Name}
+use Rattle.base.specs.Between.{between}
+use Rattle.base.specs.Names.{isLetter, isNameStart, isNamePart, isName, isReserved, Name}
 use Rattle.base.specs.Operators.{operatorWords}
 use Rattle.base.proofs.Tests.{and-left, and-right, or-either, cond-elim}
 use Rattle.base.proofs.All.{all-append}

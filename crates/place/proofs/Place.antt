@@ -10,7 +10,8 @@ use borrow.Author.Tests.{ltb-true, ltb-false}
 use Rattle.base.specs.Ascii.{ascii}
 use Rattle.base.specs.Lists.{every, equal, member}
 use Rattle.base.specs.Digits.{isDigit}
-use Rattle.base.specs.Names.{between, isLetter, isNameStart, isNamePart, isReserved, isName}
+use Rattle.base.specs.Between.{between}
+use Rattle.base.specs.Names.{isLetter, isNameStart, isNamePart, isReserved, isName}
 use Rattle.base.specs.Operators.{operatorWords}
 use Rattle.syntax.specs.Strings.{isBare, isEscape}
 use Rattle.syntax.specs.Grammar.{deepest, mostTests}

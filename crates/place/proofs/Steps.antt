@@ -11,7 +11,8 @@ use borrow.Author.Tests.{eq-eqb, ne-eqb, lt-ltb, not-true}
 use Rattle.base.specs.Ascii.{ascii}
 use Rattle.base.specs.Lists.{every, equal}
 use Rattle.base.specs.Digits.{isDigit}
-use Rattle.base.specs.Names.{between, isLetter, isNameStart, isNamePart, isReserved, isName}
+use Rattle.base.specs.Between.{between}
+use Rattle.base.specs.Names.{isLetter, isNameStart, isNamePart, isReserved, isName}
 use Rattle.base.proofs.Tests.{and-left, and-right, apart}
 use Rattle.syntax.specs.Strings.{quote, backslash, isBare, isPlain, isEscape}
 use Rattle.syntax.specs.Scan.{stepOf}

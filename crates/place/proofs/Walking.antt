@@ -12,7 +12,8 @@ use lib.ListN.{length, getD, length-append, length-map}
 use borrow.Author.Tests.{not-true, ltb-true}
 use Rattle.base.specs.Ascii.{ascii}
 use Rattle.base.specs.Lists.{All, all-empty, all-cons, equal, member}
-use Rattle.base.specs.Names.{between, isLetter, isNameStart, isNamePart, isName, Name}
+use Rattle.base.specs.Between.{between}
+use Rattle.base.specs.Names.{isLetter, isNameStart, isNamePart, isName, Name}
 use Rattle.base.specs.Operators.{operatorWords}
 use Rattle.base.proofs.Tests.{and-left, and-right}
 use Rattle.base.proofs.Below.{passes-at}

@@ -7,10 +7,9 @@ use mathlib.Core.List.{List}
 use lib.ListN.{length, getD}
 use Rattle.base.specs.Bytes.{Bytes}
 use Rattle.base.specs.Kinds.{bundleKind}
-use Rattle.base.specs.Lists.{All}
+use Rattle.base.specs.Lists.{Listed, All}
 use Rattle.sheet.specs.Sheet.{Parameter}
 use Rattle.sheet.specs.Encode.{SheetBlock}
-use Rattle.sheet.specs.Find.{Listed}
 use Rattle.card.specs.Card.{entriesOf}
 use Rattle.judge.specs.Rules.{Conforms}
 use Rattle.refusal.specs.Answers.{refused}

@@ -10,10 +10,9 @@ use lib.Dec.{eqb}
 use lib.ListN.{length, drop, getD, length-append, List·getD-append}
 use borrow.Author.Tests.{ne-eqb}
 use Rattle.base.specs.Kinds.{bundleKind}
-use Rattle.base.specs.Lists.{All, all-empty, all-cons}
+use Rattle.base.specs.Lists.{Listed, All, all-empty, all-cons}
 use Rattle.base.proofs.Tests.{both-ways}
 use Rattle.sheet.specs.Sheet.{Parameter, kindAt}
-use Rattle.sheet.specs.Find.{Listed}
 use Rattle.sheet.proofs.Listed.{listed-kind}
 use Rattle.card.specs.Card.{Entry, entriesOf}
 use Rattle.kind.specs.Readable.{cardReadable}

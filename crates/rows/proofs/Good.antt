@@ -10,13 +10,13 @@ use mathlib.Core.List.{List, _∷_, _++_}
 use lib.Dec.{eqb, ltb, leb}
 use lib.ListN.{length, getD, length-append}
 use borrow.Author.Tests.{lt-ltb, ltb-true, le-leb, leb-true, eq-eqb, ne-eqb, eqb-true, eqb-false, not-true}
-use Rattle.base.specs.Lists.{All}
+use Rattle.base.specs.Lists.{Listed, All}
 use Rattle.base.specs.Kinds.{bundleKind}
 use Rattle.base.specs.Operators.{operatorWords}
 use Rattle.base.proofs.Tests.{and-left, and-right, and-both, both-ways}
 use Rattle.base.proofs.All.{all-head, all-right}
 use Rattle.sheet.specs.Sheet.{Parameter, kindAt}
-use Rattle.sheet.specs.Find.{Listed, kindsOf, parentsOf}
+use Rattle.sheet.specs.Find.{kindsOf, parentsOf}
 use Rattle.sheet.specs.Encode.{WellFormedSheet, WellFormedParameter, HasParent, at-top, in-bundle}
 use Rattle.sheet.proofs.Listed.{at-listed, table-kind, table-listed}
 use Rattle.syntax.specs.Scan.{valueAt}

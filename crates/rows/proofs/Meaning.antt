@@ -9,13 +9,13 @@ use mathlib.Core.List.{List, [], _∷_, _++_, map}
 use lib.Dec.{leb}
 use lib.ListN.{length, getD}
 use borrow.Author.Tests.{leb-true}
-use Rattle.base.specs.Lists.{All, all-empty, all-cons}
+use Rattle.base.specs.Lists.{Listed, All, all-empty, all-cons}
 use Rattle.base.specs.Operators.{pr}
 use Rattle.base.specs.Kinds.{bundleKind}
 use Rattle.base.proofs.Tests.{and-left, both-ways}
 use Rattle.base.proofs.All.{all-append}
 use Rattle.sheet.specs.Sheet.{Parameter, parameter}
-use Rattle.sheet.specs.Find.{find, enter, Listed, kindsOf, parentsOf}
+use Rattle.sheet.specs.Find.{find, enter, kindsOf, parentsOf}
 use Rattle.sheet.specs.Encode.{WellFormedSheet, HasParent, at-top, in-bundle}
 use Rattle.sheet.specs.declared.Found.{Found}
 use Rattle.sheet.proofs.Listed.{find-iff, table-listed}

@@ -8,13 +8,13 @@ use mathlib.Core.List.{List, [], _∷_, _++_, map}
 use lib.Dec.{eqb}
 use lib.ListN.{length, getD, length-append}
 use borrow.Author.Tests.{eqb-false}
-use Rattle.base.specs.Lists.{All, all-empty, all-cons}
+use Rattle.base.specs.Lists.{Listed, All, all-empty, all-cons}
 use Rattle.base.specs.Kinds.{bundleKind}
 use Rattle.base.specs.Operators.{operatorWords}
 use Rattle.base.proofs.Tests.{cond-elim}
 use Rattle.base.proofs.All.{all-head, all-left, all-right}
 use Rattle.sheet.specs.Sheet.{Parameter, parameter}
-use Rattle.sheet.specs.Find.{find, enter, Listed, parentsOf}
+use Rattle.sheet.specs.Find.{find, enter, parentsOf}
 use Rattle.sheet.specs.Encode.{WellFormedSheet}
 use Rattle.sheet.specs.declared.Found.{Found}
 use Rattle.sheet.proofs.Listed.{find-iff, table-listed}

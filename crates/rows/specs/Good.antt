@@ -8,7 +8,7 @@ use lib.ListN.{length, getD}
 use Rattle.base.specs.Kinds.{bundleKind}
 use Rattle.base.specs.Operators.{operatorWords}
 use Rattle.sheet.specs.Sheet.{Parameter}
-use Rattle.sheet.specs.Find.{Listed}
+use Rattle.base.specs.Lists.{Listed}
 use Rattle.syntax.specs.Tree.{Connective}
 use Rattle.syntax.specs.Strings.{quote, isBare}
 use Rattle.syntax.specs.Grammar.{Value, deepest, mostTests}

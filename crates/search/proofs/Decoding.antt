@@ -11,7 +11,7 @@ use mathlib.Core.List.{List, [], _∷_}
 use lib.Dec.{eqb, leb, ltb}
 use borrow.Author.Tests.{ne-eqb, eqb-true, eqb-false, ltb-true, lt-ltb, leb-true, le-leb, lt-leb}
 use Rattle.base.specs.Digits.{isDigit}
-use Rattle.base.specs.Names.{between}
+use Rattle.base.specs.Between.{between}
 use Rattle.base.proofs.Tests.{and-left, and-right, decided, cond-elim, cond-first}
 use Rattle.search.specs.Spelling.{percent, plus, HexDigit, hex-digit, hex-capital, hex-small, Encodes, encodes-end, encodes-byte, encodes-space, encodes-percent}
 use Rattle.search.specs.Reader.{hexValue, prepend, decoded}

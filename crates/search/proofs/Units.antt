@@ -12,7 +12,7 @@ use lib.ListN.{length, getD, take, drop, set, length-set, length-drop, drop-of-l
 use lib.Seq.{take-suc-set}
 use borrow.Author.Tests.{eq-eqb, ne-eqb, eqb-true, eqb-false, lt-ltb, le-ltb, ltb-true, ltb-false, le-leb, lt-leb}
 use Rattle.base.specs.Digits.{isDigit}
-use Rattle.base.specs.Names.{between}
+use Rattle.base.specs.Between.{between}
 use Rattle.base.proofs.Lists.{drop-next}
 use Rattle.base.proofs.Tests.{cond-elim}
 use Rattle.search.specs.Spelling.{percent, plus}

@@ -8,7 +8,7 @@ use mathlib.Core.List.{List, [], _∷_, map}
 use lib.Dec.{eqb, leb, ltb}
 use lib.ListN.{length, drop, take}
 use Rattle.base.specs.Digits.{isDigit}
-use Rattle.base.specs.Names.{between}
+use Rattle.base.specs.Between.{between}
 use Rattle.base.specs.Runs.{runEnd, differs}
 use Rattle.syntax.specs.Strings.{backslash}
 use Rattle.text.specs.Bar.{bar}

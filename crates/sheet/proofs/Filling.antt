@@ -13,7 +13,8 @@ use Rattle.block.specs.declared.Reading.the-variants.{WellFormed}
 use Rattle.block.proofs.Invariants.{Visited}
 use Rattle.block.proofs.Items.{visited-next, visited-end, items-length}
 use Rattle.sheet.specs.Sheet.{Parameter, parameter, parameterCount, parametersOf, readSheet}
-use Rattle.sheet.specs.Find.{padded, tableOf}
+use Rattle.base.specs.Parts.{padded}
+use Rattle.sheet.specs.Find.{tableOf}
 use Rattle.sheet.proofs.Read.{sheet-count, parameters-start}
 
 -- the table that the parameters to come make of the cells filled so far with a part of each

@@ -10,25 +10,19 @@ use borrow.Author.Tests.{eqb-true, eq-eqb, ne-eqb}
 use mathlib.Core.Logic.{_↔_}
 use mathlib.Core.List.{List, [], _∷_, _++_, map}
 use lib.ListN.{length, getD, replicate, length-append}
-use Rattle.base.specs.Lists.{All, all-empty, all-cons, equal}
+use Rattle.base.specs.Lists.{Listed, All, all-empty, all-cons, equal}
 use Rattle.base.proofs.Tests.{and-left, and-right}
 use Rattle.base.proofs.All.{all-head, all-right}
 use Rattle.base.proofs.Lists.{equal-same, equal-refl}
 use Rattle.block.specs.declared.Reading.the-variants.{WellFormed}
+use Rattle.base.specs.Parts.{padded}
+use Rattle.base.proofs.Lists.{listed-first, listed-later}
 use Rattle.sheet.specs.Sheet.{Parameter, parameter, kindAt, parametersOf, readSheet}
 use Rattle.sheet.specs.Encode.{MayShare, Distinct, distinct-cons}
-use Rattle.sheet.specs.Find.{findFrom, find, enter, Listed, padded, tableOf, kindsOf}
+use Rattle.sheet.specs.Find.{findFrom, find, enter, tableOf, kindsOf}
 use Rattle.sheet.specs.declared.Found.{Found}
 use Rattle.sheet.specs.declared.Found.the-variants.{At, Missing}
 use Rattle.sheet.proofs.Read.{sheet-count}
-
--- ---- a parameter and its index
-
-listed-first : (p : Parameter) (ps : List Parameter) → Listed (p ∷ ps) 0 p
-listed-first p ps = record { before = []; after = ps; split = refl; index = refl }
-
-listed-later : (q : Parameter) (ps : List Parameter) (i : ℕ) (p : Parameter) → Listed ps i p → Listed (q ∷ ps) (suc i) p
-listed-later q ps i p l = record { before = q ∷ l .before; after = l .after; split = ap (λ (t : List Parameter). q ∷ t) (l .split); index = ap suc (l .index) }
 
 -- ---- what is found by name
 
@@ -55,7 +49,7 @@ found-listed j c n (p ∷ ps) i k h =
         (0, index, subst (λ (q : Parameter). Listed (p ∷ ps) 0 q) same (listed-first p ps))
     by-name false e g again =
         let r = again g in
-        (suc (r .0), omega (arith, r .1), listed-later p ps (r .0) (parameter k c n) (r .2))
+        (suc (r .0), omega (arith, r .1), listed-later p (r .2))
 
 -- no parameter has the name n in the bundle c
 abbrev Unnamed : ℕ → List ℕ → List Parameter → Type 0
@@ -107,7 +101,7 @@ pub at-listed : (i : ℕ) (ps : List Parameter) (k : ℕ) → kindAt i ps ≡ su
 unfolding kindAt
 at-listed i [] k h = absurd (omega arith)
 at-listed zero (p ∷ ps) k h = (p, listed-first p ps, h)
-at-listed (suc i) (p ∷ ps) k h = let r = at-listed i ps k h in (r .0, listed-later p ps i (r .0) (r .1), r .2)
+at-listed (suc i) (p ∷ ps) k h = let r = at-listed i ps k h in (r .0, listed-later p (r .1), r .2)
 
 kind-back : (before : List Parameter) (q : Parameter) (after : List Parameter) → kindAt (length before) (before ++ (q ∷ after)) ≡ q .kind
 unfolding kindAt

@@ -10,7 +10,8 @@ use lib.Dec.{leb, eqb}
 use lib.ListN.{length}
 use borrow.Author.Tests.{not-true, leb-true, le-leb, lt-leb, eqb-true, eqb-false, eq-eqb, ne-eqb}
 use Rattle.base.specs.Lists.{All, all-empty, all-cons, equal}
-use Rattle.base.specs.Names.{between, isName}
+use Rattle.base.specs.Between.{between}
+use Rattle.base.specs.Names.{isName}
 use Rattle.base.proofs.Tests.{and-left, and-right, and-both, both-ways, or-either}
 use Rattle.base.proofs.Lists.{equal-same, equal-refl}
 use Rattle.base.proofs.Names.{name-iff, name-length}

@@ -7,12 +7,14 @@ use lib.Dec.{ltb}
 use borrow.Author.Tests.{ltb-true}
 use Rattle.base.specs.Digits.{isDigit}
 use Rattle.base.specs.Lists.{every, equal}
-use Rattle.base.specs.Names.{between, isLetter, isNameStart, isNamePart, isReserved, isName}
+use Rattle.base.specs.Between.{between}
+use Rattle.base.specs.Names.{isLetter, isNameStart, isNamePart, isReserved, isName}
 use Rattle.base.proofs.All.{all-map}
 use Rattle.base.proofs.Lists.{every-all}
 use Rattle.block.specs.Words.{wordBytes}
 use Rattle.block.specs.Sum.{sumFrom, checkSum}
-use Rattle.block.specs.Seal.{check, padded, seal}
+use Rattle.base.specs.Parts.{padded}
+use Rattle.block.specs.Seal.{check, seal}
 use Rattle.block.specs.Items.{zeros, hasMarks, lengthAt, next, markAt, textAt, laidOut, hasLayout, hasEither, items, join}
 use Rattle.block.specs.Readings.{reading}
 use Rattle.sheet.specs.Sheet.{parameterCount, parametersOf, isKind, isParameter, areParameters, clashes, absent, distinct, kindAt, hasParent, haveParents, areRight, sheetLayout, readSheet}

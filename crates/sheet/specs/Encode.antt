@@ -7,14 +7,13 @@ use mathlib.Core.Path.{_≡_}
 use mathlib.Core.List.{List, [], _∷_, _++_}
 use lib.ListN.{length, getD}
 use Rattle.base.specs.Bytes.{Bytes}
-use Rattle.base.specs.Lists.{All}
+use Rattle.base.specs.Lists.{Listed, All}
 use Rattle.base.specs.Names.{Name}
 use Rattle.block.specs.Seal.{seal}
 use Rattle.block.specs.Items.{marks, join}
 use Rattle.block.specs.declared.Reading.the-variants.{WellFormed}
 use Rattle.base.specs.Kinds.{string, period, bundleKind}
 use Rattle.sheet.specs.Sheet.{Parameter, parametersOf, readSheet}
-use Rattle.sheet.specs.Find.{Listed}
 
 -- the first byte of a sheet without bundles, and of one with them (02)
 abbrev pub sheetFirst : Bool → ℕ

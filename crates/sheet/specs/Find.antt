@@ -1,13 +1,12 @@
 -- How a parameter is found by its name, and the kinds by index.
 -- Assumes nothing.
-use Prim.Native.Nat.{ℕ, suc, _+_, _-_}
-use mathlib.Core.Path.{_≡_}
+use Prim.Native.Nat.{ℕ, suc, _+_}
 use mathlib.Core.Bool.{cond, _&&_}
 use lib.Dec.{eqb}
-use mathlib.Core.List.{List, [], _∷_, _++_, map}
-use lib.ListN.{length, replicate}
+use mathlib.Core.List.{List, [], _∷_, map}
 use Rattle.base.specs.Lists.{equal}
 use Rattle.base.specs.Kinds.{bundleKind}
+use Rattle.base.specs.Parts.{padded}
 use Rattle.sheet.specs.Sheet.{Parameter}
 use Rattle.sheet.specs.declared.Found.{Found}
 use Rattle.sheet.specs.declared.Found.the-variants.{At, Missing}
@@ -34,17 +33,6 @@ inside Missing = nowhere
 -- the bundle number of the bundle with the name n in the bundle c
 unfoldable pub enter : List Parameter → ℕ → List ℕ → ℕ
 enter ps c n = inside (find c n ps)
-
--- the parameter p stands in the list at the index i
-pub record Listed (ps : List Parameter) (i : ℕ) (p : Parameter) : Type 0 where
-  pub before : List Parameter
-  pub after : List Parameter
-  pub split : ps ≡ before ++ (p ∷ after)
-  pub index : length before ≡ i
-
--- the list with zeros up to a length
-unfoldable pub padded : ℕ → List ℕ → List ℕ
-padded n xs = xs ++ replicate (n - length xs) 0
 
 -- a part of each parameter by index, and 0 past the last, in 32 cells
 unfoldable pub tableOf : (Parameter → ℕ) → List Parameter → List ℕ

@@ -7,7 +7,8 @@ use lib.Dec.{leb, eqb}
 use lib.ListN.{length, getD}
 use Rattle.base.specs.Lists.{equal}
 use Rattle.base.specs.Kinds.{string, period, bundleKind}
-use Rattle.base.specs.Names.{between, isName}
+use Rattle.base.specs.Between.{between}
+use Rattle.base.specs.Names.{isName}
 use Rattle.block.specs.Seal.{check}
 use Rattle.block.specs.Items.{hasMarks, hasEither, items, Step}
 use Rattle.block.specs.Readings.{reading}

@@ -12,7 +12,7 @@ use borrow.Author.Tests.{eq-eqb, ltb-true}
 use Rattle.base.specs.Ascii.{ascii}
 use Rattle.base.specs.Bytes.{Bytes}
 use Rattle.base.specs.Digits.{isDigit}
-use Rattle.base.specs.Lists.{All, all-empty, all-cons, every}
+use Rattle.base.specs.Lists.{Listed, All, all-empty, all-cons, every}
 use Rattle.base.specs.Runs.{run}
 use Rattle.base.specs.Below.{passes}
 use Rattle.base.proofs.All.{all-head, all-right, all-map}
@@ -21,7 +21,7 @@ use Rattle.base.proofs.Below.{passes-at}
 use Rattle.base.proofs.Tests.{cond-elim}
 use Rattle.base.specs.Split.{split}
 use Rattle.number.specs.Reading as numbers
-use Rattle.date.specs.Fields.{between}
+use Rattle.base.specs.Between.{between}
 use Rattle.date.specs.Texts as dates
 use Rattle.period.specs.Texts as periods
 use Rattle.token.specs.Card as tokens
@@ -29,7 +29,6 @@ use Rattle.block.specs.declared.Reading.the-variants.{WellFormed}
 use Rattle.base.specs.Kinds.{bundleKind}
 use Rattle.sheet.specs.Sheet.{Parameter}
 use Rattle.sheet.specs.Encode.{ValueKind, WellFormedParameter, WellFormedSheet}
-use Rattle.sheet.specs.Find.{Listed}
 use Rattle.card.specs.Card.{Entry, entry, entriesOf, readCard}
 use Rattle.card.specs.Encode.{encodeCard, ReadsAsCard}
 use Rattle.card.proofs.Read.{card-length}

@@ -10,7 +10,8 @@ use Rattle.base.specs.Ascii.{ascii}
 use Rattle.base.specs.Lists.{all-empty, all-cons, every, equal, member}
 use Rattle.base.specs.Affixes.{hasPrefix}
 use Rattle.base.specs.Digits.{isDigit}
-use Rattle.base.specs.Names.{between, isLetter, isNameStart, isNamePart, isReserved, isName}
+use Rattle.base.specs.Between.{between}
+use Rattle.base.specs.Names.{isLetter, isNameStart, isNamePart, isReserved, isName}
 use Rattle.base.specs.Operators.{operatorWords}
 use Rattle.base.specs.Runs.{run, runEnd}
 use Rattle.base.proofs.All.{all-head}

@@ -3,18 +3,19 @@
 use Prim.Native.Nat.{ℕ, suc, _+_}
 use native.Mathlib.Nat.{le-refl}
 use native.Mathlib.Omega.{arith}
-use mathlib.Core.Path.{_≡_, refl, ap, ap₂, sym, _∙_, subst}
+use mathlib.Core.Path.{_≡_, refl, ap₂, sym, _∙_, subst}
 use mathlib.Core.Logic.{_↔_, _⊎_, inl, inr, ⊎-elim}
-use mathlib.Core.List.{List, [], _∷_, _++_, map, flatten}
-use lib.ListN.{length, length-append}
+use mathlib.Core.List.{List, [], _∷_, map, flatten}
+use lib.ListN.{length}
 use Rattle.base.specs.Bytes.{Byte, Bytes}
-use Rattle.base.specs.Lists.{All, all-empty, all-cons, member}
+use Rattle.base.specs.Lists.{Listed, All, all-empty, all-cons, member}
+use Rattle.base.proofs.Lists.{listed-nil, listed-first, listed-later, listed-cases}
 use Rattle.base.proofs.All.{all-left, all-right}
 use Rattle.sheet.specs.Encode.{SheetBlock}
 use Rattle.refusal.specs.Steps.{found, stop}
 use Rattle.sirophan.specs.Operations.{Card, takeRun, takeCards}
 use Rattle.refusal.specs.Order.{rank, group, Before}
-use Rattle.sirophan.specs.Selection.{Run, CardAt}
+use Rattle.sirophan.specs.Selection.{Run}
 use Rattle.sirophan.specs.Refusals.{CardLine, RunLine, line-20-select, CardsLine, line-of-card-at}
 use Rattle.refusal.proofs.Deciding.{Decided, none-holds, one-decides, decided-as, decided-then, decided-found}
 use Rattle.sirophan.proofs.Outcomes.{cardOf, Taken}
@@ -49,37 +50,18 @@ module _ (cards : List ℕ) where
 
 -- ---- its cards
 
-card-at-nil : {j : ℕ} {c : List ℕ} → CardAt [] j c → ⊥
-card-at-nil {c = c} a = omega (arith, ap length (a .split), length-append (a .before) (c ∷ a .after))
-
-card-at-first : (b : List ℕ) (bs : List (List ℕ)) → CardAt (b ∷ bs) 0 b
-card-at-first b bs = record { before = []; after = bs; split = refl; index = refl }
-
-card-at-later : (b : List ℕ) {bs : List (List ℕ)} {j : ℕ} {c : List ℕ} → CardAt bs j c → CardAt (b ∷ bs) (suc j) c
-card-at-later b a = record { before = b ∷ a .before; after = a .after; split = ap (λ (l : List (List ℕ)). b ∷ l) (a .split); index = ap suc (a .index) }
-
--- the first card of a run, or one of the rest
-card-at-cases : (b : List ℕ) (bs : List (List ℕ)) (j : ℕ) (c : List ℕ) → CardAt (b ∷ bs) j c → ((j ≡ 0) × (c ≡ b)) ⊎ ((k : ℕ) × (j ≡ suc k) × CardAt bs k c)
-card-at-cases b bs j c a = by-before (a .before) (a .split) (a .index)
-  where
-    by-before : (before : List (List ℕ)) → b ∷ bs ≡ before ++ (c ∷ a .after) → length before ≡ j → ((j ≡ 0) × (c ≡ b)) ⊎ ((k : ℕ) × (j ≡ suc k) × CardAt bs k c)
-    by-before [] e i = let same : c ≡ b = cc in inl (sym i, same)
-    by-before (x ∷ before) e i =
-        let rest : bs ≡ before ++ (c ∷ a .after) = cc in
-        inr (length before, sym i, record { before = before; after = a .after; split = rest; index = refl })
-
 module _ (sheet : List ℕ) (s : SheetBlock sheet) where
   -- a line of some card of bs, of which the first has the index i
   abbrev LineFrom : ℕ → List (List ℕ) → ℕ → ℕ → Type 0
-  LineFrom i bs n p = (j : ℕ) × (b : List ℕ) × CardAt bs j b × CardLine sheet b n × (p ≡ i + j)
+  LineFrom i bs n p = (j : ℕ) × (b : List ℕ) × Listed bs j b × CardLine sheet b n × (p ≡ i + j)
 
   from-cons : (i : ℕ) (b : List ℕ) (bs : List (List ℕ)) (n p : ℕ) → (LineAt sheet s b i n p ⊎ LineFrom (suc i) bs n p) ↔ LineFrom i (b ∷ bs) n p
   from-cons i b bs n p = (
-    ⊎-elim (λ l. (0, b, card-at-first b bs, l .0, omega (arith, l .1))) (λ l. (suc (l .0), l .1, card-at-later b (l .2), l .3, omega (arith, l .4))),
+    ⊎-elim (λ l. (0, b, listed-first b bs, l .0, omega (arith, l .1))) (λ l. (suc (l .0), l .1, listed-later b (l .2), l .3, omega (arith, l .4))),
     (λ l. ⊎-elim
         (λ e. inl (subst (λ (c : List ℕ). CardLine sheet c n) (e .1) (l .3), omega (arith, l .4, e .0)))
         (λ e. inr (e .0, l .1, e .2, l .3, omega (arith, l .4, e .1)))
-        (card-at-cases b bs (l .0) (l .1) (l .2))),
+        (listed-cases b bs (l .0) (l .1) (l .2))),
   )
 
   -- each card is taken
@@ -89,7 +71,7 @@ module _ (sheet : List ℕ) (s : SheetBlock sheet) where
   cards-decided : {bs : List (List ℕ)} → All (λ (b : List ℕ). length b ≡ 512) bs → All Bytes bs → (i : ℕ)
       → Decided (AllTaken bs) (LineFrom i bs) (takeCards (s .parameters) i bs)
   unfolding takeCards
-  cards-decided all-empty all-empty i = none-holds (all-empty, refl) (λ n p l. card-at-nil (l .2))
+  cards-decided all-empty all-empty i = none-holds (all-empty, refl) (λ n p l. listed-nil (l .2))
   cards-decided (all-cons {x = b} {xs = bs} size sizes) (all-cons bytes all-bytes) i =
       decided-as (from-cons i b bs)
       (decided-then (LineAt sheet s b i) (LineFrom (suc i) bs)
@@ -107,7 +89,7 @@ module _ (sheet : List ℕ) (s : SheetBlock sheet) where
 
     from-back : {n p : ℕ} → CardsLine sheet cards n p → LineFrom 0 bs n p
     from-back (line-of-card-at {n = n} {i = i} {b = b} run′ a l) =
-        (i, b, subst (λ (cs : List (List ℕ)). CardAt cs i b) (run-unique run′ run) a, l, omega arith)
+        (i, b, subst (λ (cs : List (List ℕ)). Listed cs i b) (run-unique run′ run) a, l, omega arith)
 
 -- the cards of a run of bytes are bytes
 flatten-bytes : (bs : List (List ℕ)) → Bytes (flatten bs) → All Bytes bs

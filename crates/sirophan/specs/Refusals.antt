@@ -5,6 +5,7 @@ use mathlib.Core.Path.{_≡_}
 use mathlib.Core.Logic.{_⊎_}
 use mathlib.Core.List.{List, List·Memᴰ}
 use lib.ListN.{length}
+use Rattle.base.specs.Lists.{Listed}
 use Rattle.block.specs.Words.{word}
 use Rattle.block.specs.Sum.{checkSum}
 use Rattle.sheet.specs.Encode.{SheetBlock}
@@ -18,7 +19,7 @@ use Rattle.judge.specs.Rules.{Conforms}
 use Rattle.refusal.specs.Answers.{Answer}
 use Rattle.sirophan.specs.Operations.{matchAnswer}
 use Rattle.sirophan.specs.Numbers.{TestLine}
-use Rattle.sirophan.specs.Selection.{Run, CardAt, matchingCards}
+use Rattle.sirophan.specs.Selection.{Run, matchingCards}
 
 -- ---- check
 
@@ -80,7 +81,7 @@ pub data RunLine (cards : List ℕ) : ℕ → ℕ → Type 0 where
 -- about its cards
 pub data CardsLine (sheet cards : List ℕ) : ℕ → ℕ → Type 0 where
   -- 21 to 23, at the "card's index"
-  line-of-card-at : {bs : List (List ℕ)} {n i : ℕ} {b : List ℕ} → Run cards bs → CardAt bs i b → CardLine sheet b n → CardsLine sheet cards n i
+  line-of-card-at : {bs : List (List ℕ)} {n i : ℕ} {b : List ℕ} → Run cards bs → Listed bs i b → CardLine sheet b n → CardsLine sheet cards n i
 
 -- about the list
 pub data RoomLine (match : List ℕ → Answer) (cards : List ℕ) (room : ℕ) : ℕ → ℕ → Type 0 where

@@ -4,9 +4,9 @@ use Prim.Native.Nat.{ℕ, _≤_, _<_}
 use native.Mathlib.Decide.{ℕ-discrete}
 use native.Mathlib.Omega.{arith}
 use mathlib.Core.Path.{_≡_, refl}
-use mathlib.Core.List.{List, _∷_, _++_, map, filter, flatten}
+use mathlib.Core.List.{List, _++_, map, filter, flatten}
 use lib.ListN.{length, drop}
-use Rattle.base.specs.Lists.{All}
+use Rattle.base.specs.Lists.{Listed, All}
 use Rattle.card.specs.Card.{recordNumber}
 use Rattle.refusal.specs.Answers.{Answer, count, counts, refused}
 
@@ -40,17 +40,10 @@ occurrences x ns = length (filter (λ n. ℕ-discrete n x) ns)
 abbrev pub bearing : ℕ → List (List ℕ) → List (List ℕ)
 bearing x bs = filter (λ b. ℕ-discrete (recordNumber b) x) bs
 
--- the card with the index i of the run is b
-pub record CardAt (bs : List (List ℕ)) (i : ℕ) (b : List ℕ) : Type 0 where
-  pub before : List (List ℕ)
-  pub after : List (List ℕ)
-  pub split : bs ≡ before ++ (b ∷ after)
-  pub index : length before ≡ i
-
 -- match refuses the card with the index i with the number n, and none before it
 pub record RefusesCard (match : List ℕ → Answer) (bs : List (List ℕ)) (n i : ℕ) : Type 0 where
   pub card : List ℕ
-  pub at : CardAt bs i card
+  pub at : Listed bs i card
   pub refuses : match card ≡ refused n 0
   pub earlier : All (λ (b : List ℕ). (m p : ℕ) → match b ≡ refused m p → ⊥) (at .before)
 

@@ -13,7 +13,8 @@ use borrow.Author.Tests.{eq-eqb, ne-eqb}
 use Rattle.base.specs.Ascii.{ascii}
 use Rattle.base.specs.Digits.{isDigit}
 use Rattle.base.specs.Lists.{every, equal}
-use Rattle.base.specs.Names.{between, isLetter, isNameStart, isNamePart, isReserved, isName}
+use Rattle.base.specs.Between.{between}
+use Rattle.base.specs.Names.{isLetter, isNameStart, isNamePart, isReserved, isName}
 use Rattle.base.specs.Affixes.{hasPrefix}
 use Rattle.base.specs.Runs.{run, runEnd, RunEnd}
 use Rattle.syntax.specs.Tree.{Connective, and, or}

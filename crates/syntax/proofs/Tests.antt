@@ -12,7 +12,8 @@ use lib.Seq.{drop-cons, drop-length, length-take-le}
 use borrow.Author.Tests.{eqb-true, eq-eqb, ne-eqb}
 use Rattle.base.specs.Lists.{All, all-cons, every}
 use Rattle.base.specs.Digits.{isDigit}
-use Rattle.base.specs.Names.{between, isLetter, isNameStart, isNamePart, isReserved, isName, Name}
+use Rattle.base.specs.Between.{between}
+use Rattle.base.specs.Names.{isLetter, isNameStart, isNamePart, isReserved, isName, Name}
 use Rattle.base.specs.Parts.{part}
 use Rattle.base.specs.Runs.{run, runEnd, RunEnd}
 use Rattle.base.proofs.Tests.{and-right, or-either, or-left, apart, cond-elim}

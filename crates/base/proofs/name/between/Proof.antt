@@ -1,6 +1,6 @@
 -- `base::name::between` meets its contract: the tests are those of the definition. Assumes nothing.
 use borrow.Author.Tests.{le-leb, lt-leb}
-use Rattle.base.specs.Names.{between}
+use Rattle.base.specs.Between.{between}
 use Rattle.base.proofs.name.between.Statement.{statement}
 use Rattle.base.proofs.name.between.Tie as tie
 

@@ -1,6 +1,6 @@
 -- `date::days::between` meets its contract: the tests are those of the definition. Assumes nothing.
 use borrow.Author.Tests.{le-leb, lt-leb}
-use Rattle.date.specs.Fields.{between}
+use Rattle.base.specs.Between.{between}
 use Rattle.date.proofs.days.between.Statement.{statement}
 use Rattle.date.proofs.days.between.Tie as tie
 
