@@ -50,6 +50,7 @@ use Rattle.sirophan.proofs.Verdicts.{verdict-spelled}
 use Rattle.rows.proofs.Meaning.{erase-says, fits-spelled}
 use Rattle.sirophan.proofs.CheckTable.{Ready, inputs-decided}
 use Rattle.sirophan.proofs.Inputs.{sheet-taken, inputs-taken, inputs-number, question-by, match-by}
+use Rattle.sirophan.proofs.Passing.{same-verdicts}
 use Rattle.sirophan.proofs.RowsTable.{prepare-table}
 
 -- ---- what was taken
@@ -59,7 +60,7 @@ known-of : {A : Type 0} {Known : A → Type 0} {Line : ℕ → ℕ → Type 0} {
 known-of {Known = Known} (none-holds {x = y} k h) x e = let same : y ≡ x = cc in (subst Known same k, h)
 known-of (one-decides d) x e = let z : _≡_ {A = ℕ} 0 1 = cc in absurd (omega arith)
 
-no-fault : (f : Fault) (p : ℕ) → faultStep f p ≡ found tt → f ≡ Fault.Nothing
+pub no-fault : (f : Fault) (p : ℕ) → faultStep f p ≡ found tt → f ≡ Fault.Nothing
 no-fault Fault.Nothing p e = refl
 no-fault Fault.UnknownName p e = let z : _≡_ {A = ℕ} 0 1 = cc in absurd (omega arith)
 no-fault Fault.BareBundle p e = let z : _≡_ {A = ℕ} 0 1 = cc in absurd (omega arith)
@@ -182,10 +183,6 @@ module _ (sheet text cells : List ℕ) (s : SheetBlock sheet) (some-text : 1 ≤
       subst (λ (a : Answer). Verdict (FilterSays (s .parameters) 0 es (treeOf (s .parameters) text (g .expression))) a) (sym e) (verdict-spelled (s .parameters) (s .well-formed) es (treeOf (s .parameters) text (g .expression)) (fits-spelled (s .parameters) text (g .fits)))
 
 -- ---- match is prepare and judge after each other
-
-same-verdicts : (q : Step Card) (a b : Card → Bool) → ((c : Card) → a c ≡ b c) → answer (q >>= λ c. found (yesOrNo (a c))) ≡ answer (q >>= λ c. found (yesOrNo (b c)))
-same-verdicts (found c) a b h = ap yesOrNo (h c)
-same-verdicts (stop n p) a b h = refl
 
 enough : (room : ℕ) (cs : List ℕ) → length cs ≤ room → takeCells room cs ≡ found cs
 unfolding takeCells
