@@ -14,7 +14,7 @@ use Rattle.sheet.specs.Find.{kindsOf, parentsOf}
 use Rattle.sheet.specs.Encode.{WellFormedSheet}
 use Rattle.sheet.proofs.RoundTrip.{sheet-well-formed}
 use Rattle.card.specs.Card.{Entry}
-use Rattle.syntax.specs.Tree.{Tree, testsOf}
+use Rattle.syntax.specs.Tree.{testsOf}
 use Rattle.syntax.specs.Grammar.{Spells}
 use Rattle.syntax.proofs.Spelling.{read-spells}
 use Rattle.judge.specs.Faults.{firstFault}

@@ -2,34 +2,25 @@
 -- Assumes nothing.
 use Prim.Native.Nat.{ℕ, _≤_, _<_}
 use native.Mathlib.Omega.{arith}
-use mathlib.Core.Path.{_≡_, refl, sym, ap, ap₂, subst, _∙_}
+use mathlib.Core.Path.{_≡_, refl, sym, ap, ap₂, _∙_}
 use mathlib.Core.Bool.{Bool, true, false}
-use mathlib.Core.Option.{some}
 use mathlib.Core.List.{List}
 use lib.ListN.{length}
 use borrow.Author.Tests.{eq-eqb, ne-eqb, lt-ltb, le-ltb}
 use Rattle.block.specs.declared.Reading.{Reading}
 use Rattle.sheet.specs.Sheet.{Parameter, parametersOf, readSheet}
 use Rattle.sheet.specs.Find.{kindsOf, parentsOf}
-use Rattle.sheet.specs.Encode.{WellFormedSheet}
 use Rattle.sheet.proofs.RoundTrip.{sheet-well-formed}
-use Rattle.card.specs.Card.{Entry, entriesOf, readCard}
-use Rattle.syntax.specs.Tree.{Tree}
-use Rattle.judge.specs.Sets.{chosenOf, conforms, conformsTo}
 use Rattle.judge.specs.Verdicts.{filterSays}
-use Rattle.judge.specs.declared.Chosen.{Chosen}
-use Rattle.judge.proofs.Table.{table-conforms}
-use Rattle.judge.proofs.Entries.{every, chosen-every}
-use Rattle.rows.specs.Cells.{stated}
 use Rattle.rows.specs.Shapes.{good}
 use Rattle.rows.specs.Saying.{rowsSay, Whole}
 use Rattle.rows.specs.Stated.{treeOf}
 use Rattle.rows.proofs.Meaning.{good-whole, rows-mean}
 use Rattle.refusal.specs.declared.Reason.{Reason}
 use Rattle.refusal.specs.Answers.{yesOrNo, refused, numberOf}
-use Rattle.refusal.specs.Steps.{Step, found, stop, _>>=_, answer}
+use Rattle.refusal.specs.Steps.{found, stop, _>>=_, answer}
 use Rattle.sirophan.specs.Answers.{matchedAnswer}
-use Rattle.sirophan.specs.Operations.{sheetStep, takeSheet, Card, cardStep, takeCard}
+use Rattle.sirophan.specs.Operations.{sheetStep, takeSheet, Card, takeCard}
 use Rattle.sirophan.specs.Passing.{cardVerdict, verdictStep}
 use Rattle.sirophan.specs.Asking.{verdictAnswer, cellsQuestion}
 use Rattle.sirophan.specs.Preparing.{takeSize, takeRows, rowsAnswer, judgeAnswer}

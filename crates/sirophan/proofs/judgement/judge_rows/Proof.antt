@@ -1,6 +1,5 @@
 -- `sirophan::judgement::judge_rows` meets its contract: the text, the rows, the card. Assumes nothing.
 use borrow.Author.Needs.{needs}
-use Rattle.rows.proofs.Meaning.{good-whole}
 use Rattle.sirophan.proofs.RowsJudged.{judge-empty, judge-long, judge-bad, judge-whole, judge-verdict}
 use Rattle.sirophan.proofs.judgement.judge_rows.Statement.{statement}
 use Rattle.sirophan.proofs.judgement.judge_rows.Tie as tie
