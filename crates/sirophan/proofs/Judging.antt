@@ -130,38 +130,26 @@ module _ (kinds b : List ℕ) (t : CardTaken) (e : TakesCard kinds b t) where
 
 -- ---- whichever way
 
-module _ (b xs cs : List ℕ) (rows : Rows) (a : Asked) (k : Asks b xs cs rows a) where
-  pub asks-short : a ≡ Asked.Rows → length xs ≤ 1024
-  asks-short h = by a k h
-    where
-      by : (a : Asked) → Asks b xs cs rows a → a ≡ Asked.Rows → length xs ≤ 1024
-      by Asked.Rows (asks-rows l w) h = l
-      by Asked.Text (asks-text p) h = absurd (let y : _≡_ {A = ℕ} 0 1 = cc in omega arith)
-      by Asked.Search (asks-search w) h = absurd (let y : _≡_ {A = ℕ} 0 1 = cc in omega arith)
+module _ (b xs cs : List ℕ) (rows : Rows) where
+  pub asks-short : (a : Asked) → Asks b xs cs rows a → a ≡ Asked.Rows → length xs ≤ 1024
+  asks-short Asked.Rows (asks-rows l w) h = l
+  asks-short Asked.Text (asks-text p) h = absurd (let y : _≡_ {A = ℕ} 0 1 = cc in omega arith)
+  asks-short Asked.Search (asks-search w) h = absurd (let y : _≡_ {A = ℕ} 0 1 = cc in omega arith)
 
-  pub asks-whole : a ≡ Asked.Rows → Whole cs
-  asks-whole h = by a k h
-    where
-      by : (a : Asked) → Asks b xs cs rows a → a ≡ Asked.Rows → Whole cs
-      by Asked.Rows (asks-rows l w) h = w
-      by Asked.Text (asks-text p) h = absurd (let y : _≡_ {A = ℕ} 0 1 = cc in omega arith)
-      by Asked.Search (asks-search w) h = absurd (let y : _≡_ {A = ℕ} 0 1 = cc in omega arith)
+  pub asks-whole : (a : Asked) → Asks b xs cs rows a → a ≡ Asked.Rows → Whole cs
+  asks-whole Asked.Rows (asks-rows l w) h = w
+  asks-whole Asked.Text (asks-text p) h = absurd (let y : _≡_ {A = ℕ} 0 1 = cc in omega arith)
+  asks-whole Asked.Search (asks-search w) h = absurd (let y : _≡_ {A = ℕ} 0 1 = cc in omega arith)
 
-  pub asks-passing : a ≡ Asked.Text → Passing b xs
-  asks-passing h = by a k h
-    where
-      by : (a : Asked) → Asks b xs cs rows a → a ≡ Asked.Text → Passing b xs
-      by Asked.Text (asks-text p) h = p
-      by Asked.Rows (asks-rows l w) h = absurd (let y : _≡_ {A = ℕ} 0 1 = cc in omega arith)
-      by Asked.Search (asks-search w) h = absurd (let y : _≡_ {A = ℕ} 0 1 = cc in omega arith)
+  pub asks-passing : (a : Asked) → Asks b xs cs rows a → a ≡ Asked.Text → Passing b xs
+  asks-passing Asked.Rows (asks-rows l w) h = absurd (let y : _≡_ {A = ℕ} 0 1 = cc in omega arith)
+  asks-passing Asked.Text (asks-text p) h = p
+  asks-passing Asked.Search (asks-search w) h = absurd (let y : _≡_ {A = ℕ} 0 1 = cc in omega arith)
 
-  pub asks-within : a ≡ Asked.Search → RowsWithin (length xs) rows
-  asks-within h = by a k h
-    where
-      by : (a : Asked) → Asks b xs cs rows a → a ≡ Asked.Search → RowsWithin (length xs) rows
-      by Asked.Search (asks-search w) h = w
-      by Asked.Rows (asks-rows l w) h = absurd (let y : _≡_ {A = ℕ} 0 1 = cc in omega arith)
-      by Asked.Text (asks-text p) h = absurd (let y : _≡_ {A = ℕ} 0 1 = cc in omega arith)
+  pub asks-within : (a : Asked) → Asks b xs cs rows a → a ≡ Asked.Search → RowsWithin (length xs) rows
+  asks-within Asked.Rows (asks-rows l w) h = absurd (let y : _≡_ {A = ℕ} 0 1 = cc in omega arith)
+  asks-within Asked.Text (asks-text p) h = absurd (let y : _≡_ {A = ℕ} 0 1 = cc in omega arith)
+  asks-within Asked.Search (asks-search w) h = w
 
 module _ (ps : List Parameter) (xs cs : List ℕ) (rows : Rows) (a : Asked) (v : CardVerdict) (b : List ℕ) where
   pub asked-rows : a ≡ Asked.Rows → (kinds : List ℕ) → kinds ≡ kindsOf ps → ((qs : List Parameter) → kinds ≡ kindsOf qs → (i : ℕ) → verdictStep v i ≡ cardVerdict (cellsQuestion qs xs cs) i b)

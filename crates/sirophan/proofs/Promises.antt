@@ -1,6 +1,6 @@
 -- The promises, grouped by the letter's demands; each is proved where its one line says. The contracts of check, match_card and select say
--- that the code answers as checkAnswer, matchAnswer and selectAnswer do, and leaves the list as selectCells says; that of spell, that it
--- answers as spellAnswer does, and leaves the buffer as spellBytes says. Assumes nothing.
+-- that the code answers as checkAnswer, matchAnswer and selectAnswer do, and leaves the list as selectCells says, and those of match_by_text
+-- and select_by the same; that of spell, that it answers as spellAnswer does, and leaves the buffer as spellBytes says. Assumes nothing.
 use Prim.Native.Nat.{ℕ, _+_, _≤_, _<_}
 use mathlib.Core.Path.{_≡_, sym, _∙_}
 use mathlib.Core.Bool.{Bool, true}

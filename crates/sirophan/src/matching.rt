@@ -10,7 +10,7 @@ ghost use Rattle.sirophan.specs.Answers.{matchedAnswer};
 ghost use Rattle.sirophan.specs.Operations.{matchAnswer};
 ghost use Rattle.sirophan.specs.Preparing.{preparedAnswer};
 
-// Prepare's refusal as match's answer.
+// Prepare's refusal as match's answer. Cells are never handed back, and what they would give is left open.
 fn hand_back(prepared: Prepared) -> Matched
     ensures { λ r. ⌜ ((n p : ℕ) → preparedAnswer prepared ≡ refused n p → matchedAnswer r ≡ refused n p) ⌝ }
 {
