@@ -27,7 +27,7 @@ impl Refusal {
             1 => "The sheet is not 512 bytes long.",
             2 => "The sheet's check sum is wrong.",
             3 => "The sheet breaks its layout, or the rules for its names or its bundles.",
-            10 => "The filter is empty or longer than 1,024 bytes.",
+            10 => "The filter or search string is empty or longer than 1,024 bytes.",
             11 => "The text is no filter by the grammar: no filter goes on like this.",
             12 => "The text is no filter: here it would need brackets more than 8 deep.",
             13 => "The text is no filter: here it would need more than 32 tests.",

@@ -6,6 +6,7 @@ pub mod Integers
 pub mod Lists
 pub mod All
 pub mod Parts
+pub mod Writing
 pub mod Affixes
 pub mod Runs
 pub mod Split

@@ -3,6 +3,7 @@ pub mod Options
 pub mod Below
 pub mod Lists
 pub mod Parts
+pub mod Writing
 pub mod Affixes
 pub mod Runs
 pub mod Split

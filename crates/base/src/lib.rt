@@ -1,4 +1,5 @@
-// What every layer uses: a byte as a number, whether it is a digit, whether two texts are the same, where a byte stands, and names.
+// What every layer uses: a byte as a number, whether it is a digit, whether two texts are the same, where a byte stands, writing a text
+// into a buffer, and names.
 pub mod kind;
 pub mod name;
 pub mod operator;
@@ -10,6 +11,7 @@ ghost use Rattle.base.specs.Digits.{isDigit};
 ghost use Rattle.base.specs.Lists.{equal};
 ghost use Rattle.base.specs.Runs.{differs, RunEnd};
 ghost use Rattle.base.specs.Split.{firstOf};
+ghost use Rattle.base.specs.Writing.{Room, Puts};
 
 // The byte as a number.
 pub fn wide(b: u8) -> u64
@@ -62,4 +64,17 @@ pub fn first_of(s: &[u8], byte: u8) -> usize
     ensures { λ r. ⌜ (r ≡ firstOf byte (now (s .entry))) × (r ≤ length (now (s .entry))) ⌝ }
 {
     place_of(s, 0, byte)
+}
+
+// Writes the word over the first bytes of a part, and answers its length.
+pub fn write_word(word: &[u8], out: &mut [u8]) -> usize
+    requires { ⌜ Room (now word) (now out) ⌝ }
+    ensures { λ r. ⌜ Puts (now (word .entry)) (now (out .entry)) (now (out .exit)) r ⌝ }
+{
+    let mut i = 0;
+    while i < word.len() {
+        out[i] = word[i];
+        i += 1;
+    }
+    i
 }

@@ -1,6 +1,7 @@
 -- Laws that the program's proofs share.
 pub mod Bounds
-pub mod Digits
+pub mod Decimal
+pub mod Putting
 pub mod Places
 pub mod Selecting
 pub mod Texts

@@ -1,15 +1,16 @@
-// Lines of the output. Each is put together in a buffer and written in one piece.
+// Lines of the output. Each is put over the first bytes of a part of a buffer, and a buffer is written in one piece.
+use base::write_word;
 use libc::STDERR_FILENO;
 use libc::STDOUT_FILENO;
 ghost use Prim.Native.Nat.{_+_, _*_, _≤_};
 ghost use mathlib.Core.Path.{_≡_};
+ghost use mathlib.Core.List.{_++_};
 ghost use lib.ListN.{length};
-
-// The longest line with one number: 20 digits and a line feed.
-const NUMBER_LINE: usize = 21;
+ghost use Rattle.base.specs.Writing.{Room, Puts};
+ghost use Rattle.pick.specs.Lines.{decimal, labelled, numberLine, lines, refusalLine, countLine, failureLine};
 
 // Writes a piece of the output, and answers whether that was done; where not, standard error says so.
-fn print(piece: &[u8]) -> bool {
+pub fn print(piece: &[u8]) -> bool {
     if io::write_all(STDOUT_FILENO, piece) {
         return true;
     }
@@ -24,88 +25,105 @@ pub fn print_usage() {
     io::write_all(STDERR_FILENO, usage);
 }
 
-// Puts a text into the buffer from a position on, and answers the position behind it.
-fn put(text: &[u8], buffer: &mut [u8], at: usize) -> usize
-    requires { ⌜ at + length (now text) ≤ length (now buffer) ⌝ }
-    ensures { λ r. ⌜ r ≡ at + length (now (text .entry)) ⌝ }
-{
-    let mut i = 0;
-    while i < text.len() {
-        buffer[at + i] = text[i];
-        i += 1;
-    }
-    at + i
-}
-
-// Puts a number in decimal digits into the buffer from a position on, and answers the position behind it.
-fn put_number(n: u64, buffer: &mut [u8], at: usize) -> usize
-    requires { ⌜ at + 20 ≤ length (now buffer) ⌝ }
-    ensures { λ r. ⌜ r ≤ at + 20 ⌝ }
+// Puts a number in decimal digits, and answers how many they are.
+fn put_number(n: u64, out: &mut [u8]) -> usize
+    requires { ⌜ Room (decimal n) (now out) ⌝ }
+    ensures { λ r. ⌜ Puts (decimal n) (now (out .entry)) (now (out .exit)) r ⌝ }
 {
     let mut digits = [0u8; 20];
     let count = io::decimal(n, &mut digits);
-    put(&digits[..count], buffer, at)
+    write_word(&digits[..count], out)
+}
+
+// Puts a number behind a word.
+fn put_labelled(word: &[u8], n: u64, out: &mut [u8]) -> usize
+    requires { ⌜ Room (labelled (now word) n) (now out) ⌝ }
+    ensures { λ r. ⌜ Puts (labelled (now (word .entry)) n) (now (out .entry)) (now (out .exit)) r ⌝ }
+{
+    let end = write_word(word, out);
+    end + put_number(n, &mut out[end..])
+}
+
+// Puts one word behind another.
+fn put_words(first: &[u8], second: &[u8], out: &mut [u8]) -> usize
+    requires { ⌜ Room (now first ++ now second) (now out) ⌝ }
+    ensures { λ r. ⌜ Puts (now (first .entry) ++ now (second .entry)) (now (out .entry)) (now (out .exit)) r ⌝ }
+{
+    let end = write_word(first, out);
+    end + write_word(second, &mut out[end..])
 }
 
 // A number of 32 bits as one of 64.
-pub fn wide(x: u32) -> u64 {
+pub fn wide(x: u32) -> u64
+    ensures { λ r. ⌜ r ≡ x ⌝ }
+{
     x as u64
 }
 
-// Puts the numbers into the buffer, each on a line, and answers how many bytes they take.
-fn put_lines(numbers: &[u32], buffer: &mut [u8]) -> usize
-    requires { ⌜ 21 * length (now numbers) ≤ length (now buffer) ⌝ }
-    ensures { λ r. ⌜ r ≤ 21 * length (now (numbers .entry)) ⌝ }
+// Puts a number on a line.
+fn put_line(n: u64, out: &mut [u8]) -> usize
+    requires { ⌜ Room (numberLine n) (now out) ⌝ }
+    ensures { λ r. ⌜ Puts (numberLine n) (now (out .entry)) (now (out .exit)) r ⌝ }
+{
+    let end = put_number(n, out);
+    end + write_word(b"\n", &mut out[end..])
+}
+
+// Puts numbers, each on a line.
+pub fn put_lines(numbers: &[u32], out: &mut [u8]) -> usize
+    requires { ⌜ 21 * length (now numbers) ≤ length (now out) ⌝ }
+    ensures { λ r. ⌜ Puts (lines (now (numbers .entry))) (now (out .entry)) (now (out .exit)) r ⌝ }
 {
     let mut at = 0;
     let mut i = 0;
     while i < numbers.len() {
-        let end = put_number(wide(numbers[i]), buffer, at);
-        buffer[end] = b'\n';
-        at = end + 1;
+        at += put_line(wide(numbers[i]), &mut out[at..]);
         i += 1;
     }
     at
 }
 
-// Prints the record numbers of a run, each on a line, and answers whether they were written.
-pub fn print_numbers(numbers: &[u32]) -> bool
-    requires { ⌜ length (now numbers) ≤ 128 ⌝ }
+// Puts a refusal, as `refused 16 at 0`.
+pub fn put_refusal(number: u64, place: u64, out: &mut [u8]) -> usize
+    requires { ⌜ Room (refusalLine number place) (now out) ⌝ }
+    ensures { λ r. ⌜ Puts (refusalLine number place) (now (out .entry)) (now (out .exit)) r ⌝ }
 {
-    let mut buffer = [0u8; 128 * NUMBER_LINE];
-    let size = put_lines(numbers, &mut buffer);
-    print(&buffer[0..size])
+    let first = put_labelled(b"refused ", number, out);
+    let second = first + put_labelled(b" at ", place, &mut out[first..]);
+    second + write_word(b"\n", &mut out[second..])
 }
 
-// Prints a refusal, as `refused 16 at 0`.
-pub fn print_refusal(number: u64, place: u64) {
-    let mut buffer = [0u8; 64];
-    let word = put(b"refused ", &mut buffer, 0);
-    let first = put_number(number, &mut buffer, word);
-    let at = put(b" at ", &mut buffer, first);
-    let second = put_number(place, &mut buffer, at);
-    let size = put(b"\n", &mut buffer, second);
-    print(&buffer[0..size]);
+// Puts the last line, as `2 of 3`.
+fn put_count(matches: u64, cards: u64, out: &mut [u8]) -> usize
+    requires { ⌜ Room (countLine matches cards) (now out) ⌝ }
+    ensures { λ r. ⌜ Puts (countLine matches cards) (now (out .entry)) (now (out .exit)) r ⌝ }
+{
+    let first = put_number(matches, out);
+    let second = first + put_labelled(b" of ", cards, &mut out[first..]);
+    second + write_word(b"\n", &mut out[second..])
 }
 
-// Prints the last line, as `2 of 3`.
+// Puts what cannot be done with a file, as `cards.bin cannot be read`.
+fn put_failure(file: &[u8], done: &[u8], out: &mut [u8]) -> usize
+    requires { ⌜ Room (failureLine (now file) (now done)) (now out) ⌝ }
+    ensures { λ r. ⌜ Puts (failureLine (now (file .entry)) (now (done .entry))) (now (out .entry)) (now (out .exit)) r ⌝ }
+{
+    let end = put_words(file, b" cannot be ", out);
+    end + put_words(done, b"\n", &mut out[end..])
+}
+
+// Prints the last line.
 pub fn print_count(matches: u64, cards: u64) {
     let mut buffer = [0u8; 64];
-    let first = put_number(matches, &mut buffer, 0);
-    let of = put(b" of ", &mut buffer, first);
-    let second = put_number(cards, &mut buffer, of);
-    let size = put(b"\n", &mut buffer, second);
+    let size = put_count(matches, cards, &mut buffer);
     print(&buffer[0..size]);
 }
 
-// Prints what cannot be done with a file, as `cards.bin cannot be read`. The words around the two texts take 12 bytes.
+// Prints what cannot be done with a file. The words around the two texts take 12 bytes.
 pub fn print_failure(file: &[u8], done: &[u8])
     requires { ⌜ length (now file) + length (now done) ≤ 52 ⌝ }
 {
     let mut buffer = [0u8; 64];
-    let name = put(file, &mut buffer, 0);
-    let words = put(b" cannot be ", &mut buffer, name);
-    let end = put(done, &mut buffer, words);
-    let size = put(b"\n", &mut buffer, end);
+    let size = put_failure(file, done, &mut buffer);
     print(&buffer[0..size]);
 }

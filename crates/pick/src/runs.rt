@@ -1,10 +1,11 @@
 // The runs of a file of cards: up to 128 at a time are selected from, and their numbers printed.
 use crate::files::Filled;
 use crate::files::fill;
+use crate::lines::print;
 use crate::lines::print_count;
 use crate::lines::print_failure;
-use crate::lines::print_numbers;
-use crate::lines::print_refusal;
+use crate::lines::put_lines;
+use crate::lines::put_refusal;
 use crate::lines::wide;
 use refusal::number;
 use sirophan::Selected;
@@ -14,6 +15,7 @@ ghost use mathlib.Core.Path.{_≡_};
 ghost use lib.ListN.{length};
 ghost use Rattle.pick.specs.Places.{placeInFile};
 ghost use Rattle.pick.specs.Bounds.{PlaceBound, mostCards, Countable, Added, RunAdded, FullRunAdded};
+ghost use Rattle.pick.specs.Runs.{RunPut};
 
 // The bytes of 128 cards. A run of fewer is the last.
 const FULL_RUN: usize = 65536;
@@ -62,29 +64,55 @@ fn place_in_file(number: u32, place: usize, cards_before: u64) -> u64
     cards_before + place
 }
 
-// Prints the record numbers of the cards of a run that match, or a refusal.
-fn print_run(sheet: &[u8], filter: &[u8], cards: &[u8], totals: Totals) -> Turn
+// What a run's text takes of a buffer, and what the run leads to.
+struct RunText {
+    size: usize,
+    turn: Turn,
+}
+
+// Puts the record numbers of the cards of a run that match, each on a line, or a refusal.
+fn put_run(sheet: &[u8], filter: &[u8], cards: &[u8], totals: Totals, out: &mut [u8]) -> RunText
     requires { ⌜ Countable totals ⌝ }
     requires { ⌜ length (now cards) ≤ 65536 ⌝ }
-    ensures { λ r. ⌜ RunAdded (now (sheet .entry)) (now (filter .entry)) (now (cards .entry)) totals r ⌝ }
+    requires { ⌜ 2688 ≤ length (now out) ⌝ }
+    ensures { λ r. ⌜ RunPut (now (sheet .entry)) (now (filter .entry)) (now (cards .entry)) totals (now (out .entry)) (now (out .exit)) r ⌝ }
 {
     let mut list = [0u32; 128];
     let selected = select(sheet, filter, cards, &mut list);
     match selected {
         Selected::Count(count) => {
-            if !print_numbers(&list[0..count]) {
-                return Turn::Ended;
+            let size = put_lines(&list[0..count], out);
+            RunText {
+                size,
+                turn: Turn::More(add_run(totals, count, cards.len())),
             }
-            Turn::More(add_run(totals, count, cards.len()))
         }
         Selected::Refused(refusal) => {
             let reason = refusal.reason;
             let number = number(reason);
             let place = place_in_file(number, refusal.place, totals.cards);
-            print_refusal(wide(number), place);
-            Turn::Ended
+            let size = put_refusal(wide(number), place, out);
+            RunText {
+                size,
+                turn: Turn::Ended,
+            }
         }
     }
+}
+
+// Prints what a run says; the output has ended, too, where that cannot be written. Each of 128 lines has at most 21 bytes.
+fn print_run(sheet: &[u8], filter: &[u8], cards: &[u8], totals: Totals) -> Turn
+    requires { ⌜ Countable totals ⌝ }
+    requires { ⌜ length (now cards) ≤ 65536 ⌝ }
+    ensures { λ r. ⌜ RunAdded (now (sheet .entry)) (now (filter .entry)) (now (cards .entry)) totals r ⌝ }
+{
+    let mut buffer = [0u8; 2688];
+    let run = put_run(sheet, filter, cards, totals, &mut buffer);
+    let size = run.size;
+    if !print(&buffer[0..size]) {
+        return Turn::Ended;
+    }
+    run.turn
 }
 
 // Reads the next run and prints what it gives, and after the last run the count. The last run has fewer cards than a full

@@ -2,7 +2,6 @@
 use crate::Decoded;
 use crate::PairRead;
 use crate::decode::decode;
-ghost use mathlib.Core.Path.{_≡_};
 ghost use Prim.Native.Nat.{_≤_};
 ghost use lib.ListN.{length};
 ghost use Rattle.search.specs.Scan.{PairOf};

@@ -15,8 +15,9 @@ use Rattle.syntax.specs.Strings.{quote, backslash, isBare, isPlain}
 use Rattle.syntax.specs.Scan.{decode, Decoded}
 use Rattle.syntax.specs.declared.RawValue.{RawValue}
 use Rattle.spell.specs.Plain.{isWord, escapeOf, escaped, plainValue}
-use Rattle.spell.specs.Writing.{Room, Puts, escapedByte, quoted, valueOf}
-use Rattle.spell.proofs.Writing.{room-same, puts-same, lent, back, Wrote, wrote-start, wrote-room, wrote-fits, wrote-next, wrote-end, first-room, first-within, second-room, second-wrote, third-room, third-wrote}
+use Rattle.base.specs.Writing.{Room, Puts}
+use Rattle.spell.specs.Writing.{escapedByte, quoted, valueOf}
+use Rattle.base.proofs.Writing.{room-same, puts-same, lent, back, Wrote, wrote-start, wrote-room, wrote-fits, wrote-next, wrote-end, first-room, first-within, second-room, second-wrote, third-room, third-wrote}
 
 -- ---- a byte between the quotes
 

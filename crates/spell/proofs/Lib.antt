@@ -3,7 +3,6 @@ pub mod Values
 pub mod Length
 pub mod Reading
 pub mod Shortest
-pub mod Writing
 pub mod Bytes
 pub mod Tests
 pub mod Moving

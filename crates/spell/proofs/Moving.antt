@@ -12,7 +12,7 @@ use lib.Seq.{take-suc, take-suc-set, drop-set-lt, drop-drop, length-take-le}
 use Rattle.base.specs.Ascii.{ascii}
 use Rattle.base.proofs.Parts.{drop-first}
 use Rattle.spell.specs.Plain.{inRound, inRoundIf}
-use Rattle.spell.specs.Writing.{Room, Puts}
+use Rattle.base.specs.Writing.{Room, Puts}
 
 -- the first i bytes are moved, and the next is kept aside
 pub record Moving (entry out : List ℕ) (count i kept : ℕ) : Type 0 where

@@ -10,9 +10,10 @@ use Rattle.base.specs.Ascii.{ascii}
 use Rattle.syntax.specs.Reader.{connective}
 use Rattle.syntax.specs.declared.RawTest.{RawTest}
 use Rattle.spell.specs.Plain.{connectiveText}
-use Rattle.spell.specs.Writing.{Room, Puts, testText}
+use Rattle.base.specs.Writing.{Room, Puts}
+use Rattle.spell.specs.Writing.{testText}
 use Rattle.spell.specs.Walks.{choiceText, memberText}
-use Rattle.spell.proofs.Writing.{lent, back, Wrote, wrote-end, first-room, first-within, last-room, last-wrote}
+use Rattle.base.proofs.Writing.{lent, back, Wrote, wrote-end, first-room, first-within, last-room, last-wrote}
 
 -- ---- a name and "["
 

@@ -28,7 +28,7 @@ use Rattle.spell.specs.Spelling.{wrongSize, placed, outcome, put, bytes,
 use Rattle.spell.specs.declared.Written.{Written}
 use Rattle.spell.specs.declared.Outcome.{Outcome}
 use Rattle.spell.proofs.Length.{never-longer}
-use Rattle.spell.proofs.Writing.{lent, back}
+use Rattle.base.proofs.Writing.{lent, back}
 use Rattle.spell.proofs.Walking.{same-tree}
 
 none-some : {X : Type 0} {f : Tree} → _≡_ {A = Option Tree} none (some f) → X

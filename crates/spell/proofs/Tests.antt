@@ -14,8 +14,9 @@ use Rattle.base.proofs.Lists.{equal-same}
 use Rattle.syntax.specs.declared.RawTest.{RawTest}
 use Rattle.syntax.proofs.Operators.{operatorLetters}
 use Rattle.spell.specs.Plain.{operatorWord, plainValue, plainTest}
-use Rattle.spell.specs.Writing.{Room, Puts, valueOf, operatorText, testText}
-use Rattle.spell.proofs.Writing.{room-same, puts-same, lent, back, Wrote, wrote-end, first-room, first-within, second-room, second-wrote, third-room, third-wrote}
+use Rattle.base.specs.Writing.{Room, Puts}
+use Rattle.spell.specs.Writing.{valueOf, operatorText, testText}
+use Rattle.base.proofs.Writing.{room-same, puts-same, lent, back, Wrote, wrote-end, first-room, first-within, second-room, second-wrote, third-room, third-wrote}
 
 -- ---- the operator: its letters stand in one text, from 2 * k on
 

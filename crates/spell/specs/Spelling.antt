@@ -13,7 +13,7 @@ use Rattle.syntax.specs.Reader.{read}
 use Rattle.refusal.specs.declared.Reason.{Reason}
 use Rattle.place.specs.Machine.{failure}
 use Rattle.spell.specs.Plain.{plain}
-use Rattle.spell.specs.Writing.{Room, Puts}
+use Rattle.base.specs.Writing.{Room, Puts}
 use Rattle.spell.specs.declared.Outcome.{Outcome}
 
 -- the text's length is the answer, unless it "would run past the buffer's end"

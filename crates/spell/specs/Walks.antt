@@ -12,7 +12,8 @@ use Rattle.syntax.specs.Scan.{skipAt}
 use Rattle.syntax.specs.Reader.{Parsed, parsed, connective, inBracket, inChoice, filterAt}
 use Rattle.syntax.specs.declared.RawTest.{RawTest}
 use Rattle.spell.specs.Plain.{connectiveText, isJoin, operand}
-use Rattle.spell.specs.Writing.{Room, Puts, testText}
+use Rattle.base.specs.Writing.{Room, Puts}
+use Rattle.spell.specs.Writing.{testText}
 use Rattle.spell.specs.declared.Written.{Written}
 
 -- a tree was parsed, and the part has room for its text

@@ -1,10 +1,8 @@
--- What the writers owe: the bytes that they put over the first of a buffer's part, and that the others are as they were.
+-- The texts that the writers put over the first bytes of a part.
 -- Assumes nothing.
-use Prim.Native.Nat.{ℕ, _≤_}
-use mathlib.Core.Path.{_≡_}
+use Prim.Native.Nat.{ℕ}
 use mathlib.Core.Bool.{cond}
 use mathlib.Core.List.{List, [], _∷_, _++_}
-use lib.ListN.{length, drop}
 use Rattle.base.specs.Ascii.{ascii}
 use Rattle.base.specs.Parts.{part}
 use Rattle.syntax.specs.Strings.{quote, backslash, isPlain}
@@ -12,15 +10,6 @@ use Rattle.syntax.specs.Scan.{contents, testOf}
 use Rattle.syntax.specs.declared.RawValue.{RawValue}
 use Rattle.syntax.specs.declared.RawTest.{RawTest}
 use Rattle.spell.specs.Plain.{escapeOf, escaped, operatorWord, plainTest}
-
--- the part has room for the text
-pub record Room (text part : List ℕ) : Type 0 where
-  pub fits : length text ≤ length part
-
--- the text stands over the first bytes of the part; count is its length
-pub record Puts (text part exit : List ℕ) (count : ℕ) : Type 0 where
-  pub long : count ≡ length text
-  pub bytes : exit ≡ text ++ drop count part
 
 -- a byte of a value as it stands between the quotes
 unfoldable pub escapedByte : ℕ → List ℕ

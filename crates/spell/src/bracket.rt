@@ -2,7 +2,7 @@
 ghost use Prim.Native.Nat.{_+_, _≤_};
 ghost use lib.ListN.{length, take};
 ghost use Rattle.spell.specs.Plain.{inRound, inRoundIf};
-ghost use Rattle.spell.specs.Writing.{Room, Puts};
+ghost use Rattle.base.specs.Writing.{Room, Puts};
 
 // Moves the first bytes to make room for a pair of brackets around them, and answers the length of it all.
 fn bracket(count: usize, out: &mut [u8]) -> usize

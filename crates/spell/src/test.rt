@@ -1,11 +1,12 @@
 // Tests in their plain spelling: a name, an operator and a value, with one space between.
 use crate::value::write_value;
-use crate::value::write_word;
+use base::write_word;
 use syntax::RawTest;
 ghost use Prim.Native.Nat.{_≤_, _<_};
 ghost use lib.ListN.{length};
 ghost use Rattle.syntax.specs.Placed.{Placed};
-ghost use Rattle.spell.specs.Writing.{Room, Puts, operatorText, testText};
+ghost use Rattle.base.specs.Writing.{Room, Puts};
+ghost use Rattle.spell.specs.Writing.{operatorText, testText};
 
 // Writes an operator with a space on either side, and answers how many bytes that takes.
 fn write_operator(operator: u8, out: &mut [u8]) -> usize

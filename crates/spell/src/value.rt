@@ -1,5 +1,6 @@
 // Values in their plain spelling: "a bare word wherever the value can be one, else a string in its shortest form". Each writer
 // puts its text over the first bytes of the part that it is lent.
+use base::write_word;
 use syntax::RawValue;
 use syntax::value::decode;
 use syntax::value::is_bare;
@@ -12,20 +13,8 @@ ghost use Rattle.syntax.specs.Strings.{isBare, isPlain};
 ghost use Rattle.syntax.specs.Scan.{decode as decoded};
 ghost use Rattle.syntax.specs.Placed.{PlacedValue};
 ghost use Rattle.spell.specs.Plain.{isWord, escapeOf, escaped, plainValue};
-ghost use Rattle.spell.specs.Writing.{Room, Puts, escapedByte, quoted, valueOf};
-
-// Writes the word, and answers its length.
-pub fn write_word(word: &[u8], out: &mut [u8]) -> usize
-    requires { ⌜ Room (now word) (now out) ⌝ }
-    ensures { λ r. ⌜ Puts (now (word .entry)) (now (out .entry)) (now (out .exit)) r ⌝ }
-{
-    let mut i = 0;
-    while i < word.len() {
-        out[i] = word[i];
-        i += 1;
-    }
-    i
-}
+ghost use Rattle.base.specs.Writing.{Room, Puts};
+ghost use Rattle.spell.specs.Writing.{escapedByte, quoted, valueOf};
 
 // Whether every byte may stand in a bare word.
 fn all_bare(value: &[u8]) -> bool

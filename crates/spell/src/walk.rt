@@ -4,7 +4,7 @@ use crate::Spot;
 use crate::Written;
 use crate::bracket::bracket_join;
 use crate::test::write_test;
-use crate::value::write_word;
+use base::write_word;
 use syntax::FoundConnective;
 use syntax::FoundTest;
 use syntax::Head;
@@ -19,7 +19,7 @@ ghost use lib.ListN.{length};
 ghost use Rattle.syntax.specs.Placed.{Placed};
 ghost use Rattle.syntax.specs.Reader.{connective, itemAt, filterAt};
 ghost use Rattle.spell.specs.Plain.{connectiveText, plain, operand};
-ghost use Rattle.spell.specs.Writing.{Room, Puts};
+ghost use Rattle.base.specs.Writing.{Room, Puts};
 ghost use Rattle.spell.specs.Walks.{RoomFor, Spelt, joined, choiceText, memberText, bracketAt, chosenAt};
 
 // Writes a connective with a space on either side, and answers its length.

@@ -1,6 +1,5 @@
-// A case in the file: six numbers, which are the operation (0 check, 1 match, 2 select), the lengths of its label, sheet,
-// filter and cards, and the cells of its list; then the bytes of label, sheet, filter and cards. A number is four bytes, low
-// byte first.
+// A case in the file: six numbers, which are the operation (`ask` has the list), the lengths of its label, sheet, filter and
+// cards, and the cells of its list; then the bytes of label, sheet, filter and cards. A number is four bytes, low byte first.
 use crate::ask::ask;
 use crate::write::write;
 ghost use Prim.Native.Nat.{_≤_};

@@ -34,9 +34,9 @@ pub struct Cases {
 pub struct Case {
     pub operation: Operation,
     pub sheet: usize,
-    /// The filter as the file writes it.
+    /// The filter or the search string as the file writes it.
     pub written: String,
-    /// The filter's bytes.
+    /// Its bytes.
     pub filter: Vec<u8>,
     /// The answer that the file gives, found by hand.
     pub answer: String,
@@ -51,12 +51,15 @@ pub enum Operation {
     Report { cards: Vec<usize>, rows: usize },
     Prepare { cells: usize },
     Judge { card: usize, rows: Vec<u32> },
+    CheckSearch,
+    MatchSearch { card: usize },
+    SelectSearch { cards: Vec<usize>, cells: usize },
 }
 
 impl Operation {
     /// Whether the program `trial` runs it. The others are run by the tests of `compare`.
     pub fn is_run_by_trial(&self) -> bool {
-        matches!(self, Operation::Check | Operation::Match { .. } | Operation::Select { .. })
+        !matches!(self, Operation::Report { .. } | Operation::Prepare { .. } | Operation::Judge { .. })
     }
 }
 
@@ -82,9 +85,13 @@ impl Cases {
     /// The bytes of the cards, one card after the other; none where none is asked for.
     pub fn cards_of(&self, case: &Case) -> Vec<u8> {
         let cards = match &case.operation {
-            Operation::Check | Operation::Prepare { .. } => &[],
-            Operation::Match { card } | Operation::Judge { card, .. } => slice::from_ref(card),
-            Operation::Select { cards, .. } | Operation::Report { cards, .. } => cards.as_slice(),
+            Operation::Check | Operation::CheckSearch | Operation::Prepare { .. } => &[],
+            Operation::Match { card } | Operation::MatchSearch { card } | Operation::Judge { card, .. } => {
+                slice::from_ref(card)
+            }
+            Operation::Select { cards, .. }
+            | Operation::SelectSearch { cards, .. }
+            | Operation::Report { cards, .. } => cards.as_slice(),
         };
         cards.iter().flat_map(|&card| &self.blocks[card].bytes).copied().collect()
     }
@@ -94,14 +101,17 @@ impl Cases {
         let sheet = self.sheet_of(case);
         let cards = self.cards_of(case);
         match &case.operation {
-            Operation::Check => match operations::check(sheet, &case.filter) {
-                Ok(tests) => format!("tests {tests}"),
-                Err(refusal) => spell_refusal(refusal),
-            },
+            Operation::Check => spell_checked(operations::check(sheet, &case.filter)),
+            Operation::CheckSearch => spell_checked(operations::check_search(sheet, &case.filter)),
             Operation::Match { .. } => spell_verdict(operations::matches(sheet, &case.filter, &cards)),
+            Operation::MatchSearch { .. } => spell_verdict(operations::matches_search(sheet, &case.filter, &cards)),
             Operation::Select { cells, .. } => {
                 let mut list = vec![UNTOUCHED; *cells];
                 spell_selection(operations::select(sheet, &case.filter, &cards, &mut list), &list)
+            }
+            Operation::SelectSearch { cells, .. } => {
+                let mut list = vec![UNTOUCHED; *cells];
+                spell_selection(operations::select_search(sheet, &case.filter, &cards, &mut list), &list)
             }
             Operation::Report { rows, .. } => {
                 let mut rows = vec![Tally { cards: UNTOUCHED, values: UNTOUCHED }; *rows];
@@ -134,14 +144,17 @@ impl Cases {
             }
             (["damaged", name, "from", other], None) => return self.damaged(name, other, parts),
             (["check", _], Some(_)) => Operation::Check,
+            (["check_search", _], Some(_)) => Operation::CheckSearch,
             (["match", _, card], Some(_)) => Operation::Match { card: self.index(card)? },
+            (["match_search", _, card], Some(_)) => Operation::MatchSearch { card: self.index(card)? },
             (["select", _, cards @ .., "into", cells], Some(_)) => {
-                let cards = cards.iter().map(|card| self.repeated(card)).collect::<Option<Vec<_>>>()?;
-                Operation::Select { cards: cards.concat(), cells: cells.parse().ok()? }
+                Operation::Select { cards: self.run(cards)?, cells: cells.parse().ok()? }
+            }
+            (["select_search", _, cards @ .., "into", cells], Some(_)) => {
+                Operation::SelectSearch { cards: self.run(cards)?, cells: cells.parse().ok()? }
             }
             (["report", _, cards @ .., "into", rows], Some(_)) => {
-                let cards = cards.iter().map(|card| self.repeated(card)).collect::<Option<Vec<_>>>()?;
-                Operation::Report { cards: cards.concat(), rows: rows.parse().ok()? }
+                Operation::Report { cards: self.run(cards)?, rows: rows.parse().ok()? }
             }
             (["prepare", _, "into", cells], Some(_)) => Operation::Prepare { cells: cells.parse().ok()? },
             (["judge", _, card, "by", rows @ ..], Some(_)) => {
@@ -222,6 +235,12 @@ impl Cases {
         Some(())
     }
 
+    /// Cards by their names, one after the other.
+    fn run(&self, cards: &[&str]) -> Option<Vec<usize>> {
+        let cards = cards.iter().map(|card| self.repeated(card)).collect::<Option<Vec<_>>>()?;
+        Some(cards.concat())
+    }
+
     /// A card by its name, or as often as the number before "*" says.
     fn repeated(&self, card: &str) -> Option<Vec<usize>> {
         let (times, name) = card.split_once('*').unwrap_or(("1", card));
@@ -235,6 +254,14 @@ impl Cases {
 
 fn spell_refusal(refusal: Refusal) -> String {
     format!("{} at {}", refusal.number, refusal.place)
+}
+
+/// A number of tests, or of alternatives.
+fn spell_checked(answer: Result<usize, Refusal>) -> String {
+    match answer {
+        Ok(tests) => format!("tests {tests}"),
+        Err(refusal) => spell_refusal(refusal),
+    }
 }
 
 /// A selection, with the cells of its list.

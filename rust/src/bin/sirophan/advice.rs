@@ -5,6 +5,7 @@ use crate::filter::{Filter, Test};
 use crate::input::{self, shown};
 use crate::kind::{self, BUNDLE, Reader};
 use crate::report::{Failure, Message};
+use crate::search_advice;
 use crate::sheet::{Parameter, Sheet};
 use crate::text::{self, row, spell};
 use sirophan::Refusal;
@@ -15,39 +16,79 @@ const DAMAGED: &str = "It was changed or damaged since it was written: pack it a
 /// What to do about a description in the place of cards.
 pub const TEXT_FOR_CARDS: &str = "It is a text. A description becomes cards by `sirophan pack DIR OUT`.";
 
-/// A sheet and a filter, with what messages call them.
+/// In which words a text asks.
+#[derive(Clone, Copy, Debug, PartialEq, Eq)]
+pub enum Words {
+    Filter,
+    Search,
+}
+
+impl Words {
+    /// How many tests or alternatives a text has, if it has a meaning.
+    pub fn check(self, sheet: &[u8], text: &[u8]) -> Result<usize, Refusal> {
+        match self {
+            Words::Filter => sirophan::check(sheet, text),
+            Words::Search => sirophan::check_search(sheet, text),
+        }
+    }
+
+    /// The record numbers of the cards of a run that match a text.
+    pub fn select(self, sheet: &[u8], text: &[u8], run: &[u8], list: &mut [u32]) -> Result<usize, Refusal> {
+        match self {
+            Words::Filter => sirophan::select(sheet, text, run, list),
+            Words::Search => sirophan::select_search(sheet, text, run, list),
+        }
+    }
+}
+
+/// A sheet and a filter or a search string, with what messages call them.
 pub struct Question {
     pub sheet_name: String,
-    pub filter_name: String,
+    pub text_name: String,
     pub sheet: Sheet,
-    pub filter: Vec<u8>,
+    pub words: Words,
+    pub text: Vec<u8>,
 }
 
 impl Question {
     /// Reads both files.
-    pub fn read(sheet_name: &str, filter_name: &str) -> Result<Question, Failure> {
+    pub fn read(sheet_name: &str, words: Words, text_name: &str) -> Result<Question, Failure> {
         let sheet = Sheet::read(input::read(sheet_name)?);
-        let filter = input::read_filter(filter_name)?;
-        Ok(Question { sheet_name: shown(sheet_name), filter_name: shown(filter_name), sheet, filter })
+        let text = input::read_text(text_name)?;
+        Ok(Question { sheet_name: shown(sheet_name), text_name: shown(text_name), sheet, words, text })
     }
 
-    /// The number of the filter's tests, or the refusal with its help.
+    /// The number of the text's tests or alternatives, or the refusal with its help.
     pub fn check(&self) -> Result<usize, Failure> {
-        sirophan::check(&self.sheet.block, &self.filter).map_err(|refusal| Failure::refused(self.tell(refusal)))
+        self.words.check(&self.sheet.block, &self.text).map_err(|refusal| Failure::refused(self.tell(refusal)))
     }
 
-    /// A refusal of the sheet or the filter as it is told: the test underlined, the library's sentence, and help.
+    /// A refusal of the sheet or the text as it is told.
     fn tell(&self, refusal: Refusal) -> Message {
-        let filter = Filter::read(&self.filter);
+        match (refusal.number, self.words) {
+            (1..=3, _) => sheet_refused(&self.sheet_name, &self.sheet, refusal),
+            (_, Words::Filter) => self.tell_filter(refusal),
+            (_, Words::Search) => search_advice::told(self, refusal),
+        }
+    }
+
+    /// A refusal of the filter as it is told: the test underlined, the library's sentence, and help.
+    fn tell_filter(&self, refusal: Refusal) -> Message {
+        let filter = Filter::read(&self.text);
         let test = filter.as_ref().and_then(|filter| filter.test_at(refusal.place));
         match (refusal.number, test) {
-            (1..=3, _) => sheet_refused(&self.sheet_name, &self.sheet, refusal),
             (14..=18, Some(test)) => {
-                let shown = Some(sirophan::underline(&self.filter, test.whole.clone()));
-                let help = test_help(refusal.number, &self.sheet, &self.filter, test);
-                Message { shown, ..told(refusal, &self.filter_name, help) }
+                let shown = Some(sirophan::underline(&self.text, test.whole.clone()));
+                let help = test_help(refusal.number, &self.sheet, &self.text, test);
+                Message { shown, ..told(refusal, &self.text_name, help) }
             }
-            _ => text_refused(&self.filter_name, &self.filter, &self.sheet.parameters, refusal),
+            _ => {
+                let mut message = text_refused(&self.text_name, &self.text, &self.sheet.parameters, refusal);
+                if Words::Search.check(&self.sheet.block, &self.text).is_ok() {
+                    message.help.insert(0, "It is a search string, and `sirophan search` takes those.".into());
+                }
+                message
+            }
         }
     }
 }
@@ -60,7 +101,7 @@ pub fn text_refused(name: &str, filter: &[u8], parameters: &[Parameter], refusal
             let shown = sirophan::underline(filter, refusal.place..refusal.place + 1);
             (Some(shown), text_help(refusal, parameters, filter))
         }
-        _ => (None, vec![filter_size_help(filter)]),
+        _ => (None, vec![text_size_help(filter)]),
     };
     Message { shown, ..told(refusal, name, help) }
 }
@@ -93,13 +134,13 @@ fn sheet_help(number: u32, sheet: &Sheet) -> Vec<String> {
     }
 }
 
-/// Help with a filter that is empty or too long.
-fn filter_size_help(filter: &[u8]) -> String {
-    if !text::is_text(filter) && Sort::of(filter) != Sort::Neither {
+/// Help with a filter or a search string that is empty or too long.
+pub fn text_size_help(text: &[u8]) -> String {
+    if !text::is_text(text) && Sort::of(text) != Sort::Neither {
         return "It is a file of blocks. The filter is another file, such as filter.txt, and comes before the cards."
             .into();
     }
-    size_help(filter)
+    size_help(text)
 }
 
 /// How many bytes a file has that is too short or too long.
@@ -285,28 +326,31 @@ fn operators_of(path: &str, kind: u8) -> String {
 
 /// Help with an operator that the kind does not have.
 fn operator_help(path: &str, kind: u8, operator: &str) -> Vec<String> {
-    let for_others = format!(
-        "{operator} is for {}. If that is what {path} holds, the sheet gives it the wrong kind.",
-        row(&kind::kinds_with(operator), "and")
-    );
     // The R4 page has its own operator for references, and eq is what one thinks of.
     let by_re = Reader::new(kind).operators().contains(&"re") && operator == "eq";
     let by_re = by_re.then(|| "A reference is asked by re, as in `re Patient/17`.".to_string());
-    [operators_of(path, kind)].into_iter().chain(by_re).chain([for_others]).collect()
+    [operators_of(path, kind)].into_iter().chain(by_re).chain([for_others(path, operator)]).collect()
+}
+
+/// Which kinds have an operator that a field has not.
+pub fn for_others(path: &str, operator: &str) -> String {
+    format!(
+        "{operator} is for {}. If that is what {path} holds, the sheet gives it the wrong kind.",
+        row(&kind::kinds_with(operator), "and")
+    )
 }
 
 /// Help with a value that cannot be read.
-fn value_help(path: &str, kind: u8, value: &str) -> Vec<String> {
+pub fn value_help(path: &str, kind: u8, value: &str) -> Vec<String> {
     kind::by_number(kind).map_or_else(Vec::new, |kind| {
         let by = kind::asked_by(kind);
-        let asked =
-            if by.number == kind.number { String::new() } else { format!(", which a filter asks by {}", by.one) };
+        let asked = if by.number == kind.number { String::new() } else { format!(", which is asked by {}", by.one) };
         vec![format!("{path} is {}{asked}, and {value} cannot be read as one: {}.", kind.one, by.written)]
     })
 }
 
 /// How a bundle is asked.
-fn bundle_help(sheet: &Sheet, name: &[u8]) -> String {
+pub fn bundle_help(sheet: &Sheet, name: &[u8]) -> String {
     let bundle = String::from_utf8_lossy(name);
     let members: Vec<String> = sheet
         .find_bundle(name)
@@ -337,7 +381,7 @@ fn name_help(sheet: &Sheet, filter: &[u8], test: &Test) -> String {
 }
 
 /// Help with a name that stands by itself.
-fn top_name_help(sheet: &Sheet, name: &[u8]) -> String {
+pub fn top_name_help(sheet: &Sheet, name: &[u8]) -> String {
     let member = sheet.parameters.iter().find(|parameter| parameter.bundle > 0 && parameter.name == name);
     let shown = String::from_utf8_lossy(name);
     match member {
@@ -345,7 +389,7 @@ fn top_name_help(sheet: &Sheet, name: &[u8]) -> String {
             let bundle = sheet.name(usize::from(parameter.bundle) - 1);
             format!("{shown} is a member of {bundle}. Write `{bundle}[{shown} pr true].{shown}` in place of {shown}.")
         }
-        None => format!("{shown} is not on the sheet. {}", choices(&shown, sheet, 0)),
+        None => format!("{shown} is not on the sheet. {}", choices(&shown, &names_in(sheet, 0))),
     }
 }
 
@@ -354,18 +398,22 @@ fn member_help(sheet: &Sheet, bundle: &[u8], name: &[u8]) -> String {
     let (shown, of) = (String::from_utf8_lossy(name), String::from_utf8_lossy(bundle));
     match sheet.find_bundle(bundle) {
         None if sheet.find(0, bundle).is_some() => format!("{of} is no bundle, and has no square brackets behind it."),
-        None => format!("{of} is not on the sheet. {}", choices(&of, sheet, 0)),
-        Some(place) => format!("{shown} is no member of {of}. {}", choices(&shown, sheet, place)),
+        None => format!("{of} is not on the sheet. {}", choices(&of, &names_in(sheet, 0))),
+        Some(place) => format!("{shown} is no member of {of}. {}", choices(&shown, &names_in(sheet, place))),
     }
 }
 
+/// The names of a bundle's members, the bundle given as they have it; 0 is the top.
+fn names_in(sheet: &Sheet, bundle: u8) -> Vec<String> {
+    sheet.members(bundle).map(|place| sheet.name(place)).collect()
+}
+
 /// Which names could stand in the place of one: the nearest, or all where none is near.
-fn choices(name: &str, sheet: &Sheet, bundle: u8) -> String {
-    let names: Vec<String> = sheet.members(bundle).map(|place| sheet.name(place)).collect();
-    let near = text::nearest(name, &names);
-    match (&names[..], &near[..]) {
+pub fn choices(name: &str, names: &[String]) -> String {
+    let near = text::nearest(name, names);
+    match (names, &near[..]) {
         ([], _) => "There are no names to choose from.".into(),
-        (_, []) => format!("There are {}.", row(&names, "and")),
+        (_, []) => format!("There are {}.", row(names, "and")),
         _ => format!("Is it {}?", row(&near, "or")),
     }
 }

@@ -1,6 +1,6 @@
 //! Goes through a file of cards with all processors, in pieces, and takes what each piece gives in the file's order.
 
-use crate::advice;
+use crate::advice::{self, Words};
 use crate::block::{self, SIZE, Sort};
 use crate::input::{self, Input};
 use crate::kind;
@@ -176,22 +176,22 @@ pub fn located(index: u64, card: &[u8], sheet: &Sheet) -> Vec<String> {
     faults.into_iter().map(|fault| format!("card {index}{record}: {fault}")).collect()
 }
 
-/// How the library is asked whether cards fit a sheet: by a filter that has a meaning there, if any has.
+/// How the library is asked whether cards fit a sheet: by a text that has a meaning there, if any has.
 pub struct Fit<'a> {
     pub sheet: &'a Sheet,
-    pub filter: Option<Vec<u8>>,
+    pub asked: Option<(Words, Vec<u8>)>,
 }
 
 impl<'a> Fit<'a> {
     /// Of a sheet alone: by a filter of its own.
     pub fn new(sheet: &'a Sheet) -> Fit<'a> {
-        Fit { sheet, filter: sheet.some_filter().map(String::into_bytes) }
+        Fit { sheet, asked: sheet.some_filter().map(|filter| (Words::Filter, filter.into_bytes())) }
     }
 
     /// Selects from a run. A sheet without parameters that have texts takes the cards that are sound and have no entries.
     pub fn select(&self, run: &[u8], list: &mut [u32; RUN]) -> Result<usize, Refusal> {
-        match &self.filter {
-            Some(filter) => sirophan::select(&self.sheet.block, filter, run, list),
+        match &self.asked {
+            Some((words, text)) => words.select(&self.sheet.block, text, run, list),
             None if !run.len().is_multiple_of(SIZE) => Err(Refusal { number: 20, place: 0 }),
             None => {
                 for (place, card) in run.chunks(SIZE).enumerate() {

@@ -1,6 +1,6 @@
 //! `sirophan check`: whether a filter has a meaning on every card that fits a sheet.
 
-use crate::advice::Question;
+use crate::advice::{Question, Words};
 use crate::arguments::Arguments;
 use crate::doubt;
 use crate::filter::{Filter, Test};
@@ -13,13 +13,11 @@ use std::ops::Range;
 
 /// Checks, and answers with the number of tests and a row for each.
 pub fn run(arguments: &Arguments) -> Result<(), Failure> {
-    let question = Question::read(&arguments.paths[0], &arguments.paths[1])?;
+    let question = Question::read(&arguments.paths[0], Words::Filter, &arguments.paths[1])?;
     let count = question.check()?;
-    let filter = Filter::read(&question.filter);
-    if let Some(filter) = &filter {
-        arguments.say(doubt::of_filter(&question.filter, filter));
-        arguments.say(doubt::of_names(&question.filter, filter, &question.sheet));
-    }
+    arguments.say(doubt::of_text(&question));
+    arguments.say(doubt::of_names(&question));
+    let filter = Filter::read(&question.text);
     let tests = filter.map_or_else(Vec::new, |filter| told(&question, &filter));
     let mut output = Output::new();
     if arguments.json {
@@ -63,14 +61,14 @@ impl Told {
 /// The tests of a filter.
 fn told(question: &Question, filter: &Filter) -> Vec<Told> {
     let told = |test: &Test| {
-        let place = test.place(&question.sheet, &question.filter)?;
-        let part = |range: &Range<usize>| printable(&question.filter[range.clone()]);
+        let place = test.place(&question.sheet, &question.text)?;
+        let part = |range: &Range<usize>| printable(&question.text[range.clone()]);
         Some(Told {
             field: question.sheet.path(place, 0),
             kind: kind::word_of(question.sheet.parameters[place].kind),
             operator: part(&test.operator),
             written: part(&test.value),
-            value: test.decoded(&question.filter),
+            value: test.decoded(&question.text),
         })
     };
     filter.tests.iter().filter_map(told).collect()

@@ -1,11 +1,10 @@
 //! `sirophan report`: how many cards say yes to a filter and how many no, and what the cards have under each field.
 
-use crate::advice::Question;
+use crate::advice::{Question, Words};
 use crate::arguments::Arguments;
 use crate::block::SIZE;
 use crate::cards::{AtFault, RUN};
 use crate::doubt;
-use crate::filter::Filter;
 use crate::input::Input;
 use crate::json;
 use crate::kind;
@@ -40,14 +39,11 @@ impl Sum {
 
 /// Reports on all cards, run by run, and answers with the sums.
 pub fn run(arguments: &Arguments) -> Result<(), Failure> {
-    let question = Question::read(&arguments.paths[0], &arguments.paths[1])?;
+    let question = Question::read(&arguments.paths[0], Words::Filter, &arguments.paths[1])?;
     let cards = Input::open(&arguments.paths[2])?;
     question.check()?;
-    let filter = Filter::read(&question.filter);
-    if let Some(filter) = &filter {
-        arguments.say(doubt::of_filter(&question.filter, filter));
-    }
-    let asked = filter.map_or_else(Vec::new, |filter| doubt::asked(&question.filter, &filter, &question.sheet));
+    arguments.say(doubt::of_text(&question));
+    let asked = doubt::asked(&question);
     let counter = Counter::new(&question.sheet, asked.iter().copied());
 
     let mut sum = Sum::new(&question.sheet);
@@ -65,7 +61,7 @@ fn count_piece(question: &Question, first: u64, piece: &[u8]) -> (Sum, Option<At
     let mut sum = Sum::new(&question.sheet);
     let mut rows = vec![Tally::default(); sum.rows.len()];
     for (index, run) in piece.chunks(RUN * SIZE).enumerate() {
-        let counts = match sirophan::report(&question.sheet.block, &question.filter, run, &mut rows) {
+        let counts = match sirophan::report(&question.sheet.block, &question.text, run, &mut rows) {
             Ok(counts) => counts,
             Err(refusal) => return (sum, Some(AtFault::new(refusal, first + (index * RUN) as u64, run))),
         };

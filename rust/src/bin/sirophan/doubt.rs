@@ -1,17 +1,26 @@
-//! Doubts about a filter that the library answers: what it asks may not be what was meant.
+//! Doubts about a filter or a search string that the library answers: what it asks may not be what was meant.
 
+use crate::advice::{Question, Words};
 use crate::filter::{Filter, Test};
 use crate::kind;
 use crate::report::Message;
-use crate::sheet::Sheet;
+use crate::search::{self, Pair};
 use crate::text::{self, printable, spell};
 
 /// Quotes that a value may carry at both ends by mistake.
 const QUOTES: [(&str, &str); 5] =
     [("'", "'"), ("`", "'"), ("\u{2018}", "\u{2019}"), ("\u{201C}", "\u{201D}"), ("\u{201E}", "\u{201C}")];
 
-/// The doubts that the filter alone gives, each as a warning.
-pub fn of_filter(text: &[u8], filter: &Filter) -> Vec<Message> {
+/// The doubts that a filter or a search string alone gives, each as a warning.
+pub fn of_text(question: &Question) -> Vec<Message> {
+    let text = &question.text;
+    match question.words {
+        Words::Filter => Filter::read(text).map_or_else(Vec::new, |filter| of_filter(text, &filter)),
+        Words::Search => search::read(text).map_or_else(Vec::new, |pairs| of_search(text, &pairs)),
+    }
+}
+
+fn of_filter(text: &[u8], filter: &Filter) -> Vec<Message> {
     let joins = filter.bracketed.as_deref().map(|read| {
         Message::warning(
             "`and` and `or` are read from left to right, with equal rank. The filter asks:",
@@ -19,28 +28,56 @@ pub fn of_filter(text: &[u8], filter: &Filter) -> Vec<Message> {
         )
     });
     let quotes = filter.tests.iter().filter_map(|test| quoted_twice(text, test));
-    let encoding = text::other_encoding(text).map(|why| {
-        Message::warning(
-            format!("the filter seems to be in another encoding: {why}."),
-            "Letters beyond ASCII have other bytes there: on cards in UTF-8 it does not find them.",
-        )
-    });
-    joins.into_iter().chain(quotes).chain(encoding).collect()
+    joins.into_iter().chain(quotes).chain(encoding("filter", text)).collect()
 }
 
-/// A value that asks for quotes.
+fn of_search(text: &[u8], pairs: &[Pair]) -> Vec<Message> {
+    let line_end = text.iter().any(|byte| b"\r\n".contains(byte)).then(|| {
+        Message::warning(
+            "the search string has a line end in it, and asks for it too.",
+            "Save it with one line feed at its end, or without a line end.",
+        )
+    });
+    let values = || pairs.iter().flat_map(|pair| pair.alternatives.iter().map(move |value| (&pair.name, &value.text)));
+    let quotes = values().filter_map(|(name, value)| {
+        let shown = String::from_utf8_lossy(value);
+        let quoted =
+            inside_quotes(&shown).is_some() || (shown.len() > 1 && shown.starts_with('"') && shown.ends_with('"'));
+        quoted.then(|| asks_for_quotes(name, value, "A search string has no quotes: leave them out.".into()))
+    });
+    let encoding = values().find_map(|(_, value)| encoding("search string", value));
+    line_end.into_iter().chain(quotes).chain(encoding).collect()
+}
+
+/// A text in another encoding.
+fn encoding(what: &str, text: &[u8]) -> Option<Message> {
+    let why = text::other_encoding(text)?;
+    Some(Message::warning(
+        format!("the {what} seems to be in another encoding: {why}."),
+        "Letters beyond ASCII have other bytes there: on cards in UTF-8 it does not find them.",
+    ))
+}
+
+/// A value of a test that asks for quotes.
 fn quoted_twice(text: &[u8], test: &Test) -> Option<Message> {
     let value = test.decoded(text);
     let shown = String::from_utf8_lossy(&value);
-    let inside = QUOTES.iter().find_map(|(open, close)| shown.strip_prefix(open)?.strip_suffix(close));
     let bare_word = !text[test.value.clone()].starts_with(b"\"");
-    let help = match inside {
+    let help = match inside_quotes(&shown) {
         Some(inside) => format!("Write \"{}\" to ask without them.", printable(inside.as_bytes())),
         None if bare_word && value.contains(&b'"') => "A text in double quotes begins and ends with one.".into(),
         None => return None,
     };
-    let name = printable(&text[test.name.clone()]);
-    Some(Message::warning(format!("the value {} of {name} asks for its quotes too.", spell(&value)), help))
+    Some(asks_for_quotes(&text[test.name.clone()], &value, help))
+}
+
+/// What a value has between quotes that it carries at both ends.
+fn inside_quotes(value: &str) -> Option<&str> {
+    QUOTES.iter().find_map(|(open, close)| value.strip_prefix(open)?.strip_suffix(close))
+}
+
+fn asks_for_quotes(name: &[u8], value: &[u8], help: String) -> Message {
+    Message::warning(format!("the value {} of {} asks for its quotes too.", spell(value), printable(name)), help)
 }
 
 /// Ends of names that speak of a date, and names that only end like it.
@@ -48,9 +85,9 @@ const DATE_ENDS: [&str; 5] = ["date", "birth", "death", "lastupdated", "authored
 const NO_DATES: [&str; 3] = ["candidate", "mandate", "update"];
 
 /// The doubts that the names of the asked fields give: a name that speaks of a date, on a field of another kind.
-pub fn of_names(text: &[u8], filter: &Filter, sheet: &Sheet) -> Vec<Message> {
-    let places = asked(text, filter, sheet);
-    let doubts = places.into_iter().filter_map(|place| {
+pub fn of_names(question: &Question) -> Vec<Message> {
+    let sheet = &question.sheet;
+    let doubts = asked(question).into_iter().filter_map(|place| {
         let kind = kind::by_number(sheet.parameters[place].kind);
         let kind = kind.filter(|kind| !["date", "period"].contains(&kind.word))?;
         speaks_of_date(&sheet.name(place)).then(|| {
@@ -69,9 +106,19 @@ fn speaks_of_date(name: &str) -> bool {
     ends_with(&DATE_ENDS) && !ends_with(&NO_DATES)
 }
 
-/// The places of the parameters that a filter asks, each once.
-pub fn asked(text: &[u8], filter: &Filter, sheet: &Sheet) -> Vec<usize> {
-    let mut places: Vec<usize> = filter.tests.iter().filter_map(|test| test.place(sheet, text)).collect();
+/// The places of the parameters that a filter or a search string asks, each once.
+pub fn asked(question: &Question) -> Vec<usize> {
+    let (sheet, text) = (&question.sheet, &question.text);
+    let mut places: Vec<usize> = match question.words {
+        Words::Filter => {
+            let tests = Filter::read(text).map_or_else(Vec::new, |filter| filter.tests);
+            tests.iter().filter_map(|test| test.place(sheet, text)).collect()
+        }
+        Words::Search => {
+            let pairs = search::read(text).unwrap_or_default();
+            pairs.iter().filter_map(|pair| sheet.find(0, &pair.name)).collect()
+        }
+    };
     places.sort();
     places.dedup();
     places

@@ -73,19 +73,18 @@ pub fn read(path: &str) -> Result<Vec<u8>, Failure> {
     Input::open(path)?.whole()
 }
 
-/// A filter as its file has it, without one last line feed.
-pub fn read_filter(path: &str) -> Result<Vec<u8>, Failure> {
-    let mut filter = match Input::open(path) {
-        Err(Failure::Unusable(mut message)) if path.contains(' ') => {
-            message
-                .help
-                .push("FILTER is a file. A filter itself can be given on standard input, with - as FILTER.".into());
+/// A filter or a search string as its file has it, without one last line feed.
+pub fn read_text(path: &str) -> Result<Vec<u8>, Failure> {
+    let mut text = match Input::open(path) {
+        Err(Failure::Unusable(mut message)) if path.contains([' ', '=']) => {
+            let itself = "This is to be a file. The text itself can be given on standard input, with - as the file.";
+            message.help.push(itself.into());
             return Err(Failure::Unusable(message));
         }
         opened => opened?.whole()?,
     };
-    if filter.last() == Some(&b'\n') {
-        filter.pop();
+    if text.last() == Some(&b'\n') {
+        text.pop();
     }
-    Ok(filter)
+    Ok(text)
 }

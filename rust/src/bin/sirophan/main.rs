@@ -2,10 +2,10 @@
 //!
 //! Its parts, from the top down:
 //!
-//! - the commands: `pick`, `check`, `report` (in `counts`), `plain`, `fields`, `pack`, `show`, `verify`;
-//! - what they say beside their answers: `advice` on refusals, `doubt` about filters, `tally` of what cards hold;
+//! - the commands: `pick` and `search` (in `pick`), `check`, `report` (in `counts`), `plain`, `fields`, `pack`, `show`, `verify`;
+//! - what they say beside their answers: `advice` and `search_advice` on refusals, `doubt` about what is asked, `tally` of what cards hold;
 //! - what they go through: `cards` in blocks, `description` in words;
-//! - what these are made of: `sheet`, `filter`, `kind`, which asks the library, and `block`;
+//! - what these are made of: `sheet`, `filter`, `search`, `kind`, which asks the library, and `block`;
 //! - in and out: `arguments`, `input`, `report`, `progress`, `table`, `json`, `text`.
 
 mod advice;
@@ -26,6 +26,8 @@ mod pick;
 mod plain;
 mod progress;
 mod report;
+mod search;
+mod search_advice;
 mod sheet;
 mod show;
 mod table;
@@ -54,7 +56,7 @@ struct Command {
 }
 
 /// The commands. A later one is another row.
-const COMMANDS: [Command; 8] = [
+const COMMANDS: [Command; 9] = [
     Command {
         name: "pick",
         usage: "[--stream] SHEET FILTER CARDS",
@@ -71,6 +73,20 @@ const COMMANDS: [Command; 8] = [
                \x20   300\n\
                \x20   2 of 3\n",
         run: pick::run,
+    },
+    Command {
+        name: "search",
+        usage: "[--stream] SHEET STRING CARDS",
+        paths: 3..=3,
+        options: &["--stream"],
+        summary: "lists the record numbers of the cards that match a search string",
+        help: "STRING is a file with a string such as `birthdate=ge1974&title=ward,book` on one line. The answer, and what is\n\
+               warned of, is as for `sirophan pick`.\n\n\
+               Example:\n\n\
+               \x20   $ echo 'title=admissions&birthdate=lt1975' | sirophan search target/ward/sheet.bin - target/ward/cards.bin\n\
+               \x20   300\n\
+               \x20   1 of 3\n",
+        run: pick::search,
     },
     Command {
         name: "check",
@@ -277,7 +293,8 @@ fn overview() -> String {
         .collect();
     format!(
         "Which catalogue cards of an archive match a FHIR R4 _filter?\n\n{}\n\n\
-         SHEET is a block of 512 bytes, CARDS a file of such blocks, FILTER a file with the filter on one line.\n\
+         SHEET is a block of 512 bytes, CARDS a file of such blocks, FILTER a file with the filter on one line, STRING\n\
+         one with a search string.\n\
          `sirophan COMMAND --help` says more, with an example; `sirophan --version` the version.\n\n{COMMON}",
         table::lines(&rows).join("\n")
     )

@@ -1,29 +1,35 @@
-//! `sirophan pick`: the record numbers of the cards that match a filter.
+//! `sirophan pick` and `sirophan search`: the record numbers of the cards that match a filter or a search string.
 
-use crate::advice::Question;
+use crate::advice::{Question, Words};
 use crate::arguments::Arguments;
 use crate::cards::Fit;
 use crate::doubt;
-use crate::filter::Filter;
 use crate::input::Input;
 use crate::json;
 use crate::report::{Failure, Output};
 use crate::tally::Counter;
 use std::io::{self, IsTerminal};
 
-/// Selects from all cards. The list is held back until the last card has passed, unless it is to be streamed.
+/// By a filter.
 pub fn run(arguments: &Arguments) -> Result<(), Failure> {
-    let question = Question::read(&arguments.paths[0], &arguments.paths[1])?;
+    list(Words::Filter, arguments)
+}
+
+/// By a search string.
+pub fn search(arguments: &Arguments) -> Result<(), Failure> {
+    list(Words::Search, arguments)
+}
+
+/// Selects from all cards. The list is held back until the last card has passed, unless it is to be streamed.
+fn list(words: Words, arguments: &Arguments) -> Result<(), Failure> {
+    let question = Question::read(&arguments.paths[0], words, &arguments.paths[1])?;
     let mut cards = Input::open(&arguments.paths[2])?;
     cards.shows_progress = !(arguments.stream && io::stdout().is_terminal());
     question.check()?;
-    let filter = Filter::read(&question.filter);
-    if let Some(filter) = &filter {
-        arguments.say(doubt::of_filter(&question.filter, filter));
-    }
-    let asked = filter.map_or_else(Vec::new, |filter| doubt::asked(&question.filter, &filter, &question.sheet));
+    arguments.say(doubt::of_text(&question));
+    let asked = doubt::asked(&question);
     let counter = Counter::new(&question.sheet, asked.iter().copied());
-    let fit = Fit { sheet: &question.sheet, filter: Some(question.filter.clone()) };
+    let fit = Fit { sheet: &question.sheet, asked: Some((words, question.text.clone())) };
 
     let mut list = List { output: Output::new(), held: Vec::new(), matching: 0, cards: 0, arguments };
     let select = |first, piece: &[u8]| fit.select_piece(first, piece);

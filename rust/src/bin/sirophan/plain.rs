@@ -9,7 +9,7 @@ use crate::report::{Failure, Output};
 /// Spells, and answers with the spelling on a line.
 pub fn run(arguments: &Arguments) -> Result<(), Failure> {
     let path = &arguments.paths[0];
-    let filter = input::read_filter(path)?;
+    let filter = input::read_text(path)?;
     let refused = |refusal| Failure::refused(advice::text_refused(&shown(path), &filter, &[], refusal));
     let plain = sirophan::plain(&filter).map_err(refused)?;
     let mut output = Output::new();

@@ -1,6 +1,6 @@
 //! `sirophan verify`: whether all that is in a folder goes together, its blocks and its description.
 
-use crate::advice::{self, Question};
+use crate::advice::{self, Question, Words};
 use crate::arguments::Arguments;
 use crate::block::{self, SIZE};
 use crate::cards::{self, AtFault, Fit, RUN};
@@ -67,20 +67,21 @@ fn description(arguments: &Arguments, folder: &str) -> Result<(Found, Sheet), Fa
     let (count, parameters) = (cards.count, sheet.parameters.len() as u64);
     cards.description.faults.none()?;
     let sheet_name = path_in(folder, "sheet.txt");
-    let question = Question { sheet_name, filter_name: name, sheet, filter: filter.text().to_vec() };
+    let text = filter.text().to_vec();
+    let question = Question { sheet_name, text_name: name, sheet, words: Words::Filter, text };
     let tests = question.check()? as u64;
     Ok((Found { what: "description", cards: count, parameters, tests }, question.sheet))
 }
 
 /// Asks the library of each block; answers the sheet too.
 fn blocks(folder: &str) -> Result<(Found, Sheet), Failure> {
-    let [sheet_name, filter_name, cards_name] =
+    let [sheet_name, text_name, cards_name] =
         ["sheet.bin", "filter.txt", "cards.bin"].map(|name| path_in(folder, name));
     let sheet = Sheet::read(input::read(&sheet_name)?);
-    let filter = input::read_filter(&filter_name)?;
+    let text = input::read_text(&text_name)?;
     let cards = Input::open(&cards_name)?;
     advice::require_sound(&sheet_name, &sheet)?;
-    let question = Question { sheet_name, filter_name, sheet, filter };
+    let question = Question { sheet_name, text_name, sheet, words: Words::Filter, text };
     let count = verify_cards(&question.sheet, &cards_name, cards)?;
     let tests = question.check()? as u64;
     let parameters = question.sheet.parameters.len() as u64;

@@ -216,8 +216,32 @@ struct Asked {
     filters: Vec<(&'static str, String)>,
 }
 
-/// Prints the rows of one archive that begin with the text.
-fn measure(Asked { kind, sheet, archive, filters }: &Asked, rounds: usize, rows: &str) {
+/// A selection from a run, which must not refuse.
+type Select = fn(&[u8], &[u8], &[u8], &mut [u32]) -> usize;
+
+/// Selections by filters, and by search strings: the library's, and the second implementation's.
+const BY_FILTER: [Select; 2] = [
+    |sheet, filter, run, list| sirophan::select(sheet, filter, run, list).expect("a good filter"),
+    |sheet, filter, run, list| operations::select(sheet, filter, run, list).expect("a good filter"),
+];
+const BY_SEARCH: [Select; 2] = [
+    |sheet, text, run, list| sirophan::select_search(sheet, text, run, list).expect("a good string"),
+    |sheet, text, run, list| operations::select_search(sheet, text, run, list).expect("a good string"),
+];
+
+/// The search strings, by the number of their alternatives.
+fn strings() -> Vec<(&'static str, String)> {
+    vec![("4, search string", "title=ward+book+4,ward+book+3&birthdate=le1974-06&pages=ge100".into())]
+}
+
+/// Prints the rows of one archive, asked by filters, that begin with the text.
+fn measure(asked: &Asked, rounds: usize, rows: &str) {
+    measure_by(BY_FILTER, asked, rounds, rows);
+}
+
+/// The same by either selection.
+fn measure_by([ours, theirs]: [Select; 2], asked: &Asked, rounds: usize, rows: &str) {
+    let Asked { kind, sheet, archive, filters } = asked;
     for (name, filter) in filters {
         let row = format!("{kind} | {name}");
         if !row.starts_with(rows) {
@@ -225,12 +249,8 @@ fn measure(Asked { kind, sheet, archive, filters }: &Asked, rounds: usize, rows:
         }
         let filter = filter.as_bytes();
         let mut measured = [
-            Measured::new(archive, move |cards| {
-                matching(cards, |run, list| sirophan::select(sheet, filter, run, list).expect("a good filter"))
-            }),
-            Measured::new(archive, move |cards| {
-                matching(cards, |run, list| operations::select(sheet, filter, run, list).expect("a good filter"))
-            }),
+            Measured::new(archive, move |cards| matching(cards, |run, list| ours(sheet, filter, run, list))),
+            Measured::new(archive, move |cards| matching(cards, |run, list| theirs(sheet, filter, run, list))),
             Measured::new(archive, summed),
         ];
         let mut answers = [0; 3];
@@ -274,10 +294,12 @@ fn main() -> ExitCode {
         let asked = Asked { kind, sheet: sheet(), archive: archive(cards, most_entries), filters: filters() };
         measure(&asked, rounds, rows);
     }
-    let archive = bundled_archive(cards);
-    let asked = Asked { kind: "bundled", sheet: bundled_sheet(), archive, filters: bundled_filters() };
+    let asked =
+        Asked { kind: "bundled", sheet: bundled_sheet(), archive: bundled_archive(cards), filters: bundled_filters() };
     measure(&asked, rounds, rows);
     let asked = Asked { kind: "stays", sheet: stay_sheet(), archive: stay_archive(cards), filters: stay_filters() };
     measure(&asked, rounds, rows);
+    let asked = Asked { kind: "usual", sheet: sheet(), archive: archive(cards, 6), filters: strings() };
+    measure_by(BY_SEARCH, &asked, rounds, rows);
     ExitCode::SUCCESS
 }

@@ -1,5 +1,5 @@
-//! Prints what the program `trial` must print: for each case of `tests/cases.txt` its number, the filter as written
-//! and the answer.
+//! Prints what the program `trial` must print: for each case of `tests/cases.txt` its number, the filter or
+//! the search string as written, and the answer.
 //!
 //! `expected --against FILE` compares that with what the program printed; its last line counts the lines that agree.
 //! `expected --cases` writes the file of cases that the program reads, to standard output.
@@ -80,9 +80,9 @@ fn compare(expected: &[String], file: &str) -> ExitCode {
 }
 
 /// The cases in the form that the program reads: their number; then for each case six numbers, which are the operation
-/// (0 check, 1 match, 2 select), the lengths of label, sheet, filter and cards, and the cells of the list; then the bytes
-/// of label, sheet, filter and cards. A number is four bytes, low byte first. A label is what the line has before the
-/// answer.
+/// (0 check, 1 match, 2 select, and 3 to 5 the same by a search string), the lengths of label, sheet, filter and cards, and
+/// the cells of the list; then the bytes of label, sheet, filter and cards. A number is four bytes, low byte first. A label
+/// is what the line has before the answer.
 fn packed(cases: &Cases) -> Vec<u8> {
     let mut bytes = number(labelled(cases).count()).to_vec();
     for (case, label) in labelled(cases) {
@@ -90,6 +90,9 @@ fn packed(cases: &Cases) -> Vec<u8> {
             Operation::Check => (0, 0),
             Operation::Match { .. } => (1, 0),
             Operation::Select { cells, .. } => (2, cells),
+            Operation::CheckSearch => (3, 0),
+            Operation::MatchSearch { .. } => (4, 0),
+            Operation::SelectSearch { cells, .. } => (5, cells),
             Operation::Report { .. } | Operation::Prepare { .. } | Operation::Judge { .. } => {
                 unreachable!("no case of the program")
             }

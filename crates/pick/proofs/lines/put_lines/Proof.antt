@@ -1,20 +1,20 @@
--- `pick::lines::put_lines` meets its contract: each number takes at most 21 bytes.
--- Assumes nothing.
-use Prim.Native.Nat.{_*_, _-_, _≤_}
-use mathlib.Core.Path.{_≡_}
-use lib.ListN.{length, length-set}
+-- `pick::lines::put_lines` meets its contract: the lines of the numbers so far stand, and those of the others are to come. Assumes nothing.
+use Prim.Native.Nat.{_-_}
+use native.Mathlib.Omega.{arith}
+use lib.ListN.{length}
+use Rattle.pick.proofs.Putting.{LinesPut, lines-begin, lines-within, lines-long, line-room, line-within, line-put, lines-end}
 use borrow.Author.Needs.{needs}
 use Rattle.pick.proofs.lines.put_lines.Statement.{statement}
 use Rattle.pick.proofs.lines.put_lines.Tie as tie
 
 abbrev Inv-loop : tie.InvT-loop
-Inv-loop numbers buffer₀ at₀ i₀ buffer at i = (i ≤ length numbers) × (at ≤ 21 * i) × (length buffer ≡ length buffer₀)
+Inv-loop numbers out₀ at₀ i₀ out at i = LinesPut numbers out₀ out at i
 
 abbrev μ-loop : tie.MeasureT-loop
-μ-loop numbers buffer₀ at₀ i₀ buffer at i = length numbers - i
+μ-loop numbers out₀ at₀ i₀ out at i = length numbers - i
 
 loop-holds : tie.Need-loop-holds Inv-loop μ-loop
-loop-holds c = search needs
+loop-holds c = lines-begin _ _ (λ i. omega (arith, c .before .shared-slice-known .given i)) (search needs)
 
 mul-wide : tie.Need-mul-wide Inv-loop μ-loop
 mul-wide c = search needs
@@ -25,14 +25,20 @@ shared-slice-read-wide c = search needs
 wide-requires : tie.Need-wide-requires Inv-loop μ-loop
 wide-requires c κs = search needs
 
-put-number-requires : tie.Need-put-number-requires Inv-loop μ-loop
-put-number-requires c κs = search needs
+sub-put-line : tie.Need-sub-put-line Inv-loop μ-loop
+sub-put-line c = search (lines-within, needs)
 
-slice-write-buffer : tie.Need-slice-write-buffer Inv-loop μ-loop
-slice-write-buffer c = search needs
+part-put-line-start : tie.Need-part-put-line-start Inv-loop μ-loop
+part-put-line-start c = search (lines-within, needs)
+
+part-put-line-end : tie.Need-part-put-line-end Inv-loop μ-loop
+part-put-line-end c = search needs
+
+put-line-requires : tie.Need-put-line-requires Inv-loop μ-loop
+put-line-requires c κs = search (line-room, needs)
 
 add-at : tie.Need-add-at Inv-loop μ-loop
-add-at c = search needs
+add-at c = record { fits = omega (arith, line-within (c .before .before .before .before .before .before .before .loop .inv) (search needs) (c .before .before .before .before .wide .ensures) (c .before .before .put-line .ensures)) }
 
 add-i : tie.Need-add-i Inv-loop μ-loop
 add-i c = search needs
@@ -41,13 +47,13 @@ loop-less : tie.Need-loop-less Inv-loop μ-loop
 loop-less c = search needs
 
 loop-again : tie.Need-loop-again Inv-loop μ-loop
-loop-again c = (search needs, search needs, simp length-set (search needs))
+loop-again c = search (line-put, needs)
 
 same-length : tie.Need-same-length Inv-loop μ-loop
-same-length c = search needs
+same-length c = search (lines-long, needs)
 
 returns : tie.Need-returns Inv-loop μ-loop
-returns c = search needs
+returns c = search (lines-end, needs)
 
 pub put-lines-spec : {M : Type 1} → statement M
 put-lines-spec =
@@ -59,8 +65,10 @@ put-lines-spec =
     mul-wide
     shared-slice-read-wide
     wide-requires
-    put-number-requires
-    slice-write-buffer
+    sub-put-line
+    part-put-line-start
+    part-put-line-end
+    put-line-requires
     add-at
     add-i
     loop-less

@@ -1,8 +1,6 @@
--- `pick::lines::put_number` meets its contract: a number of 64 bits takes at most 20 digits.
--- Assumes nothing.
-use native.Mathlib.Omega.{arith}
+-- `pick::lines::put_number` meets its contract: the digits are those of the definition. Assumes nothing.
+use Rattle.pick.proofs.Decimal.{number-room, number-puts}
 use borrow.Author.Needs.{needs}
-use Rattle.pick.proofs.Digits.{digits-of-u64}
 use Rattle.pick.proofs.lines.put_number.Statement.{statement}
 use Rattle.pick.proofs.lines.put_number.Tie as tie
 
@@ -12,17 +10,17 @@ decimal-requires c κs = search needs
 array-share-prefix-digits : tie.Need-array-share-prefix-digits
 array-share-prefix-digits c = search needs
 
-slice-aggregate-put : tie.Need-slice-aggregate-put
-slice-aggregate-put c = search needs
+slice-aggregate-write-word : tie.Need-slice-aggregate-write-word
+slice-aggregate-write-word c = search needs
 
-put-requires : tie.Need-put-requires
-put-requires c κs = omega (arith, digits-of-u64 (search needs) (c .before .before .decimal .ensures .1 .0))
+write-word-requires : tie.Need-write-word-requires
+write-word-requires c κs = search (number-room, needs)
 
 same-length : tie.Need-same-length
 same-length c = search needs
 
 returns : tie.Need-returns
-returns c = omega (arith, digits-of-u64 (search needs) (c .before .before .before .before .before .decimal .ensures .1 .0))
+returns c = search (number-puts, needs)
 
 pub put-number-spec : {M : Type 1} → statement M
 put-number-spec =
@@ -30,7 +28,7 @@ put-number-spec =
     (tie.spec
     decimal-requires
     array-share-prefix-digits
-    slice-aggregate-put
-    put-requires
+    slice-aggregate-write-word
+    write-word-requires
     same-length
     returns)

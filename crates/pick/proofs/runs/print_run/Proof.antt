@@ -1,76 +1,44 @@
--- `pick::runs::print_run` meets its contract: select counts no more than the list holds, and refuses a card at its index.
+-- `pick::runs::print_run` meets its contract: the text stands within its buffer, and the turn is the run's.
 -- Assumes nothing.
-use native.Mathlib.Omega.{arith}
+use Rattle.pick.proofs.Selecting.{run-added}
+use Rattle.pick.proofs.Putting.{puts-within}
 use borrow.Author.Needs.{needs}
-use Rattle.pick.proofs.Selecting.{selected-count, selected-added, selected-place}
 use Rattle.pick.proofs.runs.print_run.Statement.{statement}
 use Rattle.pick.proofs.runs.print_run.Tie as tie
 
-slice-aggregate-select : tie.Need-slice-aggregate-select
-slice-aggregate-select c = search needs
+slice-aggregate-put-run : tie.Need-slice-aggregate-put-run
+slice-aggregate-put-run c = search needs
 
-select-requires : tie.Need-select-requires
-select-requires c κs = search needs
+put-run-requires : tie.Need-put-run-requires
+put-run-requires c κs = search needs
 
-enum-known-selected : tie.Need-enum-known-selected
-enum-known-selected c = search needs
+sub-print : tie.Need-sub-print
+sub-print c = search needs
 
-sub-print-numbers : tie.Need-sub-print-numbers
-sub-print-numbers c = search needs
+part-print-start : tie.Need-part-print-start
+part-print-start c = search needs
 
-part-print-numbers-start : tie.Need-part-print-numbers-start
-part-print-numbers-start c = search needs
+part-print-end : tie.Need-part-print-end
+part-print-end c = search (puts-within, needs)
 
-part-print-numbers-end : tie.Need-part-print-numbers-end
-part-print-numbers-end c = omega (arith, selected-count _ _ _ _ (c .before .before .before .before .before .select .ensures) _ (c .before .before .selected .given .1))
-
-print-numbers-requires : tie.Need-print-numbers-requires
-print-numbers-requires c κs = omega (arith, selected-count _ _ _ _ (c .before .before .before .before .before .before .select .ensures) _ (c .before .before .before .selected .given .1))
+print-requires : tie.Need-print-requires
+print-requires c κs = search needs
 
 returns : tie.Need-returns
 returns c = search needs
 
-add-run-requires : tie.Need-add-run-requires
-add-run-requires c κs = (search needs, (omega (arith, selected-count _ _ _ _ (c .before .before .before .before .before .before .before .before .select .ensures) _ (c .before .before .before .before .before .selected .given .1)), search needs))
-
-enum-known-selected-2 : tie.Need-enum-known-selected-2
-enum-known-selected-2 c = search needs
-
-number-requires : tie.Need-number-requires
-number-requires c κs = search needs
-
-place-in-file-requires : tie.Need-place-in-file-requires
-place-in-file-requires c κs = (rw (c .number .ensures) (selected-place _ _ _ _ (c .before .before .before .before .before .select .ensures) _ (c .before .before .selected2 .given .1)), search needs)
-
-wide-requires : tie.Need-wide-requires
-wide-requires c κs = search needs
-
-print-refusal-requires : tie.Need-print-refusal-requires
-print-refusal-requires c κs = search needs
-
 returns-2 : tie.Need-returns-2
-returns-2 c = search (selected-added, needs)
-
-returns-3 : tie.Need-returns-3
-returns-3 c = search needs
+returns-2 c = search (run-added, needs)
 
 pub print-run-spec : {M : Type 1} → statement M
 print-run-spec =
     tie.close
     (tie.spec
-    slice-aggregate-select
-    select-requires
-    enum-known-selected
-    sub-print-numbers
-    part-print-numbers-start
-    part-print-numbers-end
-    print-numbers-requires
+    slice-aggregate-put-run
+    put-run-requires
+    sub-print
+    part-print-start
+    part-print-end
+    print-requires
     returns
-    add-run-requires
-    enum-known-selected-2
-    number-requires
-    place-in-file-requires
-    wide-requires
-    print-refusal-requires
-    returns-2
-    returns-3)
+    returns-2)

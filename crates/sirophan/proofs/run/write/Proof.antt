@@ -2,7 +2,7 @@
 use borrow.Author.Needs.{needs}
 use Prim.Native.Nat.{_-_}
 use lib.ListN.{length}
-use Rattle.spell.proofs.Writing.{Writing, writing-fits, writing-room, writing-next, writing-whole}
+use Rattle.base.proofs.Writing.{Writing, writing-fits, writing-room, writing-next, writing-whole}
 use Rattle.sirophan.proofs.run.write.Statement.{statement}
 use Rattle.sirophan.proofs.run.write.Tie as tie
 

@@ -7,7 +7,7 @@ use mathlib.Core.Path.{_≡_, refl, sym, ap, _∙_}
 use mathlib.Core.List.{List, [], _++_, append-assoc, append-nil}
 use lib.ListN.{length, getD, take, drop, set, length-set, length-append, length-drop, take-append-drop, drop-of-length-le}
 use lib.Seq.{take-all, take-suc, take-suc-set, drop-set-lt, drop-drop, drop-at, take-at, length-take-le}
-use Rattle.spell.specs.Writing.{Room, Puts}
+use Rattle.base.specs.Writing.{Room, Puts}
 
 -- ---- a word, of which i bytes stand
 

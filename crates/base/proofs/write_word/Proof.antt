@@ -1,10 +1,10 @@
--- `spell::value::write_word` meets its contract: the first bytes are the word's, the others as they were. Assumes nothing.
+-- `base::write_word` meets its contract: the first bytes are the word's, the others as they were. Assumes nothing.
 use Prim.Native.Nat.{_-_}
 use lib.ListN.{length}
-use Rattle.spell.proofs.Writing.{Writing, writing-start, writing-room, writing-next, writing-end}
+use Rattle.base.proofs.Writing.{Writing, writing-start, writing-room, writing-next, writing-end}
 use borrow.Author.Needs.{needs}
-use Rattle.spell.proofs.value.write_word.Statement.{statement}
-use Rattle.spell.proofs.value.write_word.Tie as tie
+use Rattle.base.proofs.write_word.Statement.{statement}
+use Rattle.base.proofs.write_word.Tie as tie
 
 abbrev Inv-loop : tie.InvT-loop
 Inv-loop word out₀ i₀ out i = Writing word out₀ out i
