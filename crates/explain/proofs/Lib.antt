@@ -1,0 +1,3 @@
+-- Laws of the tests that decide.
+pub mod Exact
+pub mod Deciding

@@ -1,0 +1,1 @@
+// Why a filter says what it says of a card (02: "why this card?"): the tests that decide.
