@@ -20,10 +20,10 @@ use Rattle.explain.proofs.Exact.{suffices-stands, stands-suffices, says
 suffices-more : (f : Tree) (v k l : ℕ → Bool) → ((j : ℕ) → j < outerCount f → k j ≡ true → l j ≡ true) → Suffices f v k → Suffices f v l
 suffices-more f v k l h s u a = s u (λ i b e. a i b (h i b e))
 
-without-here : (i : ℕ) (k : ℕ → Bool) → without i k i ≡ false
+pub without-here : (i : ℕ) (k : ℕ → Bool) → without i k i ≡ false
 without-here i k = let e = eq-eqb i i refl in cc
 
-without-other : (i j : ℕ) (k : ℕ → Bool) → (j ≡ i → ⊥) → without i k j ≡ k j
+pub without-other : (i j : ℕ) (k : ℕ → Bool) → (j ≡ i → ⊥) → without i k j ≡ k j
 without-other i j k n = let e = ne-eqb j i n in cc
 
 losing-before : (i j : ℕ) (k : ℕ → Bool) → j < i → losing i k j ≡ true

@@ -1,4 +1,9 @@
 -- Laws of the tests that decide.
 pub mod Exact
-pub mod Verdicts
+pub mod Numbered
 pub mod Deciding
+pub mod Leaves
+pub mod Stack
+pub mod Marking
+pub mod Sparing
+pub mod Telling
