@@ -7,3 +7,7 @@ pub mod Stack
 pub mod Marking
 pub mod Sparing
 pub mod Telling
+pub mod Alike
+pub mod Explaining
+pub mod Table
+pub mod Contracts

@@ -26,7 +26,7 @@ unfoldable pub outers : List Expression → ℕ
 outers [] = 0
 outers (e ∷ st) = outers st + outerCount (outline e)
 
-outer-tests : (e : Expression) → (0 < outerCount (outline e)) × (outerCount (outline e) ≤ testCount e)
+pub outer-tests : (e : Expression) → (0 < outerCount (outline e)) × (outerCount (outline e) ≤ testCount e)
 unfolding treeOf outerCount testCount
 outer-tests (probing p) = (omega arith, omega arith)
 outer-tests (choosing e p) = (omega arith, omega arith)
