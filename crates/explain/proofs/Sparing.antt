@@ -117,14 +117,15 @@ module _ (rows : List ℕ) (tests : ℕ) (before marks : List ℕ) (left : ℕ) 
   pub sparing-again : i < length (set marks i 0)
   sparing-again = omega (arith, sparing-inside, length-set marks i 0)
 
-  pub sparing-next : (whole old x : ℕ) → MarksWhole rows (set marks i 0) whole → old ≡ getD marks i 0 → x ≡ cond (isDecided (markOf whole)) 0 old → Sparing rows tests before (set (set marks i 0) i x) i
+  pub sparing-next : (whole old x : ℕ) → MarksWhole rows (set marks i 0) whole → old ≡ getD marks i 0 → x ≡ cond (isDecided (markOf whole)) 0 old → Sparing rows tests before (set (set marks i 0) i x) (left - 1)
   sparing-next whole old x w o e =
       let up : left ≡ suc i = omega (arith, l, d) in
-      record {
+      rw (← d)
+      (record {
         kept = λ f v a n h. kept-next (outline f) v i marks (subst (λ (k : ℕ). Kept (outline f) v k marks) up (s .kept f v a n h)) sparing-inside whole (w .whole f a) old x o e;
         size = length-set (set marks i 0) i x ∙ length-set marks i 0 ∙ s .size;
         few = omega (arith, s .few, up);
-      }
+      })
 
 -- the cells from i on, as a part of the list
 cells-are : (v kept : ℕ → Bool) (marks : List ℕ) (n i : ℕ) → i + n ≤ length marks → ((j : ℕ) → i ≤ j → j < i + n → getD marks j 0 ≡ cell (kept j) (v j)) → take n (drop i marks) ≡ cells v kept i n
