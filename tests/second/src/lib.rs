@@ -9,6 +9,7 @@ pub mod block;
 pub mod cases;
 pub mod date;
 pub mod differential;
+pub mod explain;
 pub mod filter;
 pub mod generate;
 pub mod meaning;
