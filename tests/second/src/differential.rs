@@ -80,7 +80,9 @@ impl Outcome {
         let by_search = ["check by search", "match by search", "select by search"];
         let by_rows = ["prepare", "judge", OTHER_ROWS];
         let others = by_search.into_iter().chain(by_rows);
-        for row in ["check", "match", CONDITIONS, "explain", SPARED, "select", "report", "spell"].into_iter().chain(others) {
+        for row in
+            ["check", "match", CONDITIONS, "explain", SPARED, "select", "report", "spell"].into_iter().chain(others)
+        {
             let answers = self.answers.iter().filter(|((of, _), _)| *of == row);
             let answers = answers.map(|((_, answer), count)| format!("{answer} {count}"));
             println!("{row}: {}", listed(answers.collect()));

@@ -25,7 +25,15 @@ pub fn cells<T>(filter: &Filter<T>, says: impl Fn(&T, Option<&Filter<T>>) -> boo
         kept[number] = false;
         kept[number] = !stands(&outline, &verdicts, &kept);
     }
-    let cell = |(kept, yes): (bool, &bool)| if !kept { 0 } else if *yes { 1 } else { 2 };
+    let cell = |(kept, yes): (bool, &bool)| {
+        if !kept {
+            0
+        } else if *yes {
+            1
+        } else {
+            2
+        }
+    };
     kept.into_iter().zip(&verdicts).map(cell).collect()
 }
 
