@@ -15,11 +15,13 @@
 //! ```
 
 mod engine;
+mod explained;
 mod ffi;
 mod prepared;
 mod refusal;
 
 pub use engine::{Engine, matches_by_text, select_by};
+pub use explained::{Explained, Explanation, Mark, explain, explain_into};
 pub use prepared::{MOST_CELLS, Prepared, judge, prepare, prepare_into};
 pub use refusal::{Refusal, underline};
 

@@ -12,6 +12,9 @@ use std::slice;
 /// What the cells of a list hold before select and prepare, and the rows before a report, twice.
 pub const UNTOUCHED: u32 = 999;
 
+/// What the cells hold before explain.
+pub const UNMARKED: u8 = 9;
+
 /// The words for the kinds of texts, in the order of their numbers.
 const KINDS: [&str; 6] = ["string", "number", "date", "token", "reference", "period"];
 
@@ -48,6 +51,7 @@ pub enum Operation {
     Check,
     Match { card: usize },
     Select { cards: Vec<usize>, cells: usize },
+    Explain { card: usize, cells: usize },
     Report { cards: Vec<usize>, rows: usize },
     Prepare { cells: usize },
     Judge { card: usize, rows: Vec<u32> },
@@ -86,9 +90,10 @@ impl Cases {
     pub fn cards_of(&self, case: &Case) -> Vec<u8> {
         let cards = match &case.operation {
             Operation::Check | Operation::CheckSearch | Operation::Prepare { .. } => &[],
-            Operation::Match { card } | Operation::MatchSearch { card } | Operation::Judge { card, .. } => {
-                slice::from_ref(card)
-            }
+            Operation::Match { card }
+            | Operation::MatchSearch { card }
+            | Operation::Explain { card, .. }
+            | Operation::Judge { card, .. } => slice::from_ref(card),
             Operation::Select { cards, .. }
             | Operation::SelectSearch { cards, .. }
             | Operation::Report { cards, .. } => cards.as_slice(),
@@ -112,6 +117,10 @@ impl Cases {
             Operation::SelectSearch { cells, .. } => {
                 let mut list = vec![UNTOUCHED; *cells];
                 spell_selection(operations::select_search(sheet, &case.filter, &cards, &mut list), &list)
+            }
+            Operation::Explain { cells, .. } => {
+                let mut marks = vec![UNMARKED; *cells];
+                spell_explained(operations::explain(sheet, &case.filter, &cards, &mut marks), &marks)
             }
             Operation::Report { rows, .. } => {
                 let mut rows = vec![Tally { cards: UNTOUCHED, values: UNTOUCHED }; *rows];
@@ -147,6 +156,9 @@ impl Cases {
             (["check_search", _], Some(_)) => Operation::CheckSearch,
             (["match", _, card], Some(_)) => Operation::Match { card: self.index(card)? },
             (["match_search", _, card], Some(_)) => Operation::MatchSearch { card: self.index(card)? },
+            (["explain", _, card, "into", cells], Some(_)) => {
+                Operation::Explain { card: self.index(card)?, cells: cells.parse().ok()? }
+            }
             (["select", _, cards @ .., "into", cells], Some(_)) => {
                 Operation::Select { cards: self.run(cards)?, cells: cells.parse().ok()? }
             }
@@ -284,6 +296,16 @@ pub fn spell_verdict(answer: Result<bool, Refusal>) -> String {
         Ok(false) => "no".to_string(),
         Err(refusal) => spell_refusal(refusal),
     }
+}
+
+/// The answer of explain, with the cells.
+pub fn spell_explained(answer: Result<bool, Refusal>, cells: &[u8]) -> String {
+    let mut spelled = spell_verdict(answer);
+    spelled.push_str(" cells");
+    for cell in cells {
+        write!(spelled, " {cell}").unwrap();
+    }
+    spelled
 }
 
 /// The answer of prepare, with the cells.

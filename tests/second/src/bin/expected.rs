@@ -93,7 +93,10 @@ fn packed(cases: &Cases) -> Vec<u8> {
             Operation::CheckSearch => (3, 0),
             Operation::MatchSearch { .. } => (4, 0),
             Operation::SelectSearch { cells, .. } => (5, cells),
-            Operation::Report { .. } | Operation::Prepare { .. } | Operation::Judge { .. } => {
+            Operation::Explain { .. }
+            | Operation::Report { .. }
+            | Operation::Prepare { .. }
+            | Operation::Judge { .. } => {
                 unreachable!("no case of the program")
             }
         };
