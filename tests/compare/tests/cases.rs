@@ -2,7 +2,8 @@
 //! operations, and all of match and select by the engine over the text.
 
 use second::cases::{
-    Cases, Operation, UNMARKED, UNTOUCHED, spell_explained, spell_prepared, spell_report, spell_selection, spell_verdict,
+    Cases, Operation, UNMARKED, UNTOUCHED, spell_explained, spell_prepared, spell_report, spell_selection,
+    spell_verdict,
 };
 use second::operations::Tally;
 use sirophan::{Engine, matches_by_text, select_by};
