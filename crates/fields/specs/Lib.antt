@@ -1,0 +1,2 @@
+-- The names that a filter uses, and cards with the same texts under them.
+pub mod Used
