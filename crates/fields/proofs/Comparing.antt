@@ -2,7 +2,7 @@
 -- Assumes nothing.
 use Prim.Native.Nat.{ℕ}
 use mathlib.Core.Path.{_≡_, refl, ap, ap₂, sym, _∙_, subst}
-use mathlib.Core.Bool.{Bool, true, false, _&&_}
+use mathlib.Core.Bool.{Bool, true, _&&_}
 use mathlib.Core.Logic.{⊎-elim}
 use mathlib.Core.List.{List, [], _∷_, map, List·Memᴰ, List·Memᴰ·not-nil, List·Memᴰ·cases-cons, Memᴰ·map, Memᴰ·of-map}
 use Rattle.base.specs.Lists.{equal}
@@ -67,13 +67,13 @@ module _ (ps : List Parameter) (w : WellFormedSheet ps) (es es′ : List Entry) 
   pub name-by : (n : List ℕ) → lookup ps 0 (name n) ≡ Found.At i k → alike (valuesAt i es) (valuesAt i es′) ≡ true → SameUnder ps es es′ (name n)
   name-by n e t =
       same-name (λ j l named x.
-        let same : i ≡ j = found-index (sym e ∙ names-iff ps w (name n) j l .1 named) in
-        let h = members-by (valuesAt i es) (valuesAt i es′) t x in
-        rw (← same) ((λ held. values-there i es′ x (h .0 (values-back i es (held .0) x (held .1)))), (λ held. values-there i es x (h .1 (values-back i es′ (held .0) x (held .1))))))
+      let same : i ≡ j = found-index (sym e ∙ names-iff ps w (name n) j l .1 named) in
+      let h = members-by (valuesAt i es) (valuesAt i es′) t x in
+      rw (← same) ((λ held. values-there i es′ x (h .0 (values-back i es (held .0) x (held .1)))), (λ held. values-there i es x (h .1 (values-back i es′ (held .0) x (held .1))))))
 
   pub member-by : (b : List ℕ) (path : Path) → lookup ps 0 (member b path) ≡ Found.At i k → alike (marksAt i es) (marksAt i es′) ≡ true → SameUnder ps es es′ (member b path)
   member-by b path e t =
       same-member (λ j l named o x.
-        let same : i ≡ j = found-index (sym e ∙ names-iff ps w (member b path) j l .1 named) in
-        let h = members-by (marksAt i es) (marksAt i es′) t (o ∷ x) in
-        rw (← same) ((λ held. marks-there i es′ o x (h .0 (marks-back i es o x held))), (λ held. marks-there i es o x (h .1 (marks-back i es′ o x held)))))
+      let same : i ≡ j = found-index (sym e ∙ names-iff ps w (member b path) j l .1 named) in
+      let h = members-by (marksAt i es) (marksAt i es′) t (o ∷ x) in
+      rw (← same) ((λ held. marks-there i es′ o x (h .0 (marks-back i es o x held))), (λ held. marks-there i es o x (h .1 (marks-back i es′ o x held)))))

@@ -4,3 +4,5 @@ pub mod Verdicts
 pub mod Answers
 pub mod Comparing
 pub mod Trial
+pub mod Leaks
+pub mod Promises

@@ -48,8 +48,8 @@ values-there i [] x m = absurd (List·Memᴰ·not-nil m)
 values-there i (e ∷ es) x m =
     cond-elim (λ (l : List (List ℕ)). List·Memᴰ x l → (o : ℕ) × Holds (e ∷ es) i o x) (isUnder i e)
     (λ t n. ⊎-elim
-      (λ q. (e .occurrence, List·Memᴰ·head (ap₂ (λ (j : ℕ) (y : List ℕ). entry j (e .occurrence) y) (sym (eqb-true (e .index) i t)) q)))
-      (λ q. let w = values-there i es x q in (w .0, List·Memᴰ·tail (w .1))) (List·Memᴰ·cases-cons n))
+    (λ q. (e .occurrence, List·Memᴰ·head (ap₂ (λ (j : ℕ) (y : List ℕ). entry j (e .occurrence) y) (sym (eqb-true (e .index) i t)) q)))
+    (λ q. let w = values-there i es x q in (w .0, List·Memᴰ·tail (w .1))) (List·Memᴰ·cases-cons n))
     (λ t n. let w = values-there i es x n in (w .0, List·Memᴰ·tail (w .1))) m
 
 pub values-back : (i : ℕ) (es : List Entry) (o : ℕ) (x : List ℕ) → Holds es i o x → List·Memᴰ x (valuesAt i es)
@@ -62,9 +62,10 @@ values-back i (e ∷ es) o x m =
     (List·Memᴰ·cases-cons m)
 
 pub values-same : {es es′ : List Entry} (i : ℕ) → SameTexts es es′ i → SameMembers (valuesAt i es) (valuesAt i es′)
-values-same {es} {es′} i h x =
-    (λ m. let w = h x .0 (values-there i es x m) in values-back i es′ (w .0) x (w .1),
-    λ m. let w = h x .1 (values-there i es′ x m) in values-back i es (w .0) x (w .1))
+values-same {es} {es′} i h x = (
+  λ m. let w = h x .0 (values-there i es x m) in values-back i es′ (w .0) x (w .1),
+  λ m. let w = h x .1 (values-there i es′ x m) in values-back i es (w .0) x (w .1),
+)
 
 -- ---- entries that are kept
 
@@ -85,9 +86,10 @@ keep-back p (d ∷ es) e m t =
 
 -- two tests that agree keep the same texts in the same occurrences
 pub keep-alike : (p p′ : Entry → Bool) → ((e : Entry) → p e ≡ p′ e) → {es es′ : List Entry} {i : ℕ} → SameOccurrences es es′ i → SameOccurrences (keep p es) (keep p′ es′) i
-keep-alike p p′ same {es} {es′} {i} h o x =
-    (λ m. let w = keep-there p es (entry i o x) m in keep-back p′ es′ (entry i o x) (h o x .0 (w .0)) (sym (same (entry i o x)) ∙ w .1),
-    λ m. let w = keep-there p′ es′ (entry i o x) m in keep-back p es (entry i o x) (h o x .1 (w .0)) (same (entry i o x) ∙ w .1))
+keep-alike p p′ same {es} {es′} {i} h o x = (
+  λ m. let w = keep-there p es (entry i o x) m in keep-back p′ es′ (entry i o x) (h o x .0 (w .0)) (sym (same (entry i o x)) ∙ w .1),
+  λ m. let w = keep-there p′ es′ (entry i o x) m in keep-back p es (entry i o x) (h o x .1 (w .0)) (same (entry i o x) ∙ w .1),
+)
 
 pub texts-of : {es es′ : List Entry} {i : ℕ} → SameOccurrences es es′ i → SameTexts es es′ i
 texts-of h x = ((λ w. (w .0, h (w .0) x .0 (w .1))), (λ w. (w .0, h (w .0) x .1 (w .1))))

@@ -18,8 +18,7 @@ use Rattle.base.specs.Split.{split}
 use Rattle.base.proofs.All.{all-map}
 use Rattle.base.proofs.Lists.{every-all}
 use Rattle.number.specs.Reading as numbers
-use Rattle.date.specs.Calendar as calendar
-use Rattle.date.specs.Fields as dates-fields
+use Rattle.date.specs.Fields as date-fields
 use Rattle.date.specs.Texts as dates
 use Rattle.token.specs.Card as tokens
 use Rattle.block.specs.Words.{wordBytes}
@@ -83,7 +82,7 @@ relation-card-reads =
 
 conforming : (conforms trialParameters trialEntries ≡ true) × (conforms trialParameters dateEntries ≡ true)
     × (conforms bundleParameters bundleEntries ≡ true) × (conforms bundleParameters relationEntries ≡ true)
-unfolding trialParameters trialEntries dateEntries bundleParameters bundleEntries relationEntries conforms entryConforms kindAt cardReadable kinds ofKind numbers.readable numbers.read run isDigit dates.readable dates.isDate dates.read dates.readYear dates.fourAt dates.twoAt dates.pair dates.digitOf dates-fields.between tokens.cardReadable tokens.cardToken tokens.splitToken tokens.tokenOf split dates.readMonth dates-fields.validMonth dates.fieldAt numbers.readFraction
+unfolding trialParameters trialEntries dateEntries bundleParameters bundleEntries relationEntries conforms entryConforms kindAt cardReadable kinds ofKind numbers.readable numbers.read run isDigit dates.readable dates.isDate dates.read dates.readYear dates.fourAt dates.twoAt dates.pair dates.digitOf date-fields.between tokens.cardReadable tokens.cardToken tokens.splitToken tokens.tokenOf split dates.readMonth date-fields.validMonth dates.fieldAt numbers.readFraction
 conforming = (refl, refl, refl, refl)
 
 -- ---- the texts under the names

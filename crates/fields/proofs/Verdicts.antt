@@ -3,7 +3,7 @@
 -- Assumes nothing.
 use Prim.Native.Nat.{ℕ}
 use mathlib.Core.Path.{_≡_, refl, ap, ap₂, subst}
-use mathlib.Core.Bool.{Bool, cond, not, _&&_, _||_}
+use mathlib.Core.Bool.{cond, not, _&&_, _||_}
 use mathlib.Core.List.{List, [], _∷_, _++_, map, map-append, flatten}
 use lib.Dec.{eqb}
 use Rattle.base.specs.Kinds.{token}
@@ -26,6 +26,12 @@ use Rattle.search.specs.Meaning.{textSays, alternativeSays, pairMet, queryMet, 
 use Rattle.search.specs.Meaning as queries
 use Rattle.fields.specs.Used.{namesOf, alternativeNames, queryNames, SameTexts, SameOccurrences, SameUnder, same-name, same-member, Alike, ByNames}
 use Rattle.fields.proofs.Sets.{SameMembers, some-same, says-same, values-same, keep-alike, texts-of}
+
+-- what holds of the names of both parts holds of those of each
+pub parts-same : {A B : Type 0} (P : B → Type 0) (of : A → B) (xs ys : List A) → All P (map of (xs ++ ys)) → All P (map of xs) × All P (map of ys)
+parts-same P of xs ys h =
+    let both = subst (All P) (map-append of xs ys) h in
+    (all-left P (map of xs) (map of ys) both, all-right P (map of xs) both)
 
 -- ---- the same texts under a path that is looked up in c, 0 at the top and a bundle's index plus 1 in its brackets
 
@@ -74,9 +80,8 @@ module _ (ps : List Parameter) where
       (keep (λ e. filterSays ps (enter ps c b) (ofOccurrence (e .occurrence) es′) f) es′) t
       (λ i k e. texts-of (keep-alike _ _ (λ d. inner (d .occurrence)) (same-within h i k e)))
   filter-same (join k f g) c es es′ h =
-      let paths = map-append (λ (t : Test). t .path) (testsOf f) (testsOf g) in
-      let both : All (SameIn c es es′) (namesOf f ++ namesOf g) = subst (All (SameIn c es es′)) paths h in
-      ap₂ (joined k) (filter-same f c es es′ (all-left (SameIn c es es′) (namesOf f) (namesOf g) both)) (filter-same g c es es′ (all-right (SameIn c es es′) (namesOf f) both))
+      let (left, right) = parts-same (SameIn c es es′) (λ (t : Test). t .path) (testsOf f) (testsOf g) h in
+      ap₂ (joined k) (filter-same f c es es′ left) (filter-same g c es es′ right)
   filter-same (negation f) c es es′ h = ap not (filter-same f c es es′ h)
 
   -- ---- at the top
@@ -115,8 +120,8 @@ module _ (ps : List Parameter) where
     unfolding querySays queryMet flatten
     query-same [] es es′ h = refl
     query-same (p ∷ q) es es′ h =
-        let both : Alike ps (alternativeNames p ++ queryNames q) es es′ = subst (λ (l : List Path). Alike ps l es es′) (map-append (λ (a : Alternative). name (a .name)) p (alternativesOf q)) h in
-        ap₂ _&&_ (pair-same es es′ p (all-left (SameUnder ps es es′) (alternativeNames p) (queryNames q) both)) (query-same q es es′ (all-right (SameUnder ps es es′) (alternativeNames p) both))
+        let (first, rest) = parts-same (SameUnder ps es es′) (λ (a : Alternative). name (a .name)) p (alternativesOf q) h in
+        ap₂ _&&_ (pair-same es es′ p first) (query-same q es es′ rest)
 
 -- the meaning of filters goes by the names used
 pub by-names : ByNames (λ ps es f. filterSays ps 0 es f)

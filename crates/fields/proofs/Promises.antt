@@ -1,0 +1,71 @@
+-- What stands of a card behind an answer (02: helpers who may see only some fields): the texts under the names used, and nothing else. Each is
+-- proved where its one line says. Not claimed for cards that do not conform, since 23 looks at all fields, nor for select, which gives record
+-- numbers away. Assumes nothing.
+use Prim.Native.Nat.{ℕ}
+use mathlib.Core.Path.{_≡_}
+use mathlib.Core.List.{List}
+use Rattle.base.specs.Ascii.{ascii}
+use Rattle.sheet.specs.Encode.{SheetBlock}
+use Rattle.sheet.specs.Trial.{trialSheet, bundleSheet}
+use Rattle.card.specs.Card.{Entry}
+use Rattle.card.specs.Trial.{trialCard, bundleCard}
+use Rattle.syntax.specs.Tree.{Tree}
+use Rattle.syntax.specs.Grammar.{Spells}
+use Rattle.judge.specs.Rules.{Conforms}
+use Rattle.judge.specs.Verdicts.{filterSays}
+use Rattle.search.specs.Spelling.{Query, SpellsQuery}
+use Rattle.rows.specs.Good.{Good}
+use Rattle.rows.specs.Stated.{treeOf}
+use Rattle.refusal.specs.Answers.{yes}
+use Rattle.sirophan.specs.Operations.{matchAnswer}
+use Rattle.sirophan.specs.Preparing.{judgeAnswer}
+use Rattle.sirophan.specs.Searching.{matchSearchAnswer}
+use Rattle.fields.specs.Used.{namesOf, queryNames, Alike, ByNames, UsesOnly}
+use Rattle.fields.specs.Leaks.{allTextsSay, occurringSays}
+use Rattle.fields.specs.Trial.{dateCard, dateNames, relationCard, relationNames}
+use Rattle.fields.proofs.Verdicts as verdicts
+use Rattle.fields.proofs.Answers as answers
+use Rattle.fields.proofs.Trial as trial
+use Rattle.fields.proofs.Leaks as leaks
+
+-- ---- two cards that both conform, and hold the same texts under the names used, are answered alike
+
+pub match-no-other-field : (sheet text card card′ : List ℕ) (s : SheetBlock sheet) (es es′ : List Entry) → Conforms (s .parameters) card es → Conforms (s .parameters) card′ es′
+    → ((f : Tree) → Spells text f → Alike (s .parameters) (namesOf f) es es′) → matchAnswer sheet text card ≡ matchAnswer sheet text card′
+match-no-other-field = answers.match-same
+
+-- over any cells, by the names of the expression that they state
+pub judge-no-other-field : (sheet text card card′ : List ℕ) (s : SheetBlock sheet) (es es′ : List Entry) → Conforms (s .parameters) card es → Conforms (s .parameters) card′ es′
+    → (cells : List ℕ) → ((g : Good (s .parameters) text cells) → Alike (s .parameters) (namesOf (treeOf (s .parameters) text (g .expression))) es es′)
+    → judgeAnswer sheet text cells card ≡ judgeAnswer sheet text cells card′
+judge-no-other-field = answers.judge-same
+
+pub match-search-no-other-field : (sheet text card card′ : List ℕ) (s : SheetBlock sheet) (es es′ : List Entry) → Conforms (s .parameters) card es → Conforms (s .parameters) card′ es′
+    → ((q : Query) → SpellsQuery text q → Alike (s .parameters) (queryNames q) es es′) → matchSearchAnswer sheet text card ≡ matchSearchAnswer sheet text card′
+match-search-no-other-field = answers.match-search-same
+
+-- ---- the rule on the meaning of filters, and two meanings that it shuts out
+
+pub filters-by-names : ByNames (λ ps es f. filterSays ps 0 es f)
+filters-by-names = verdicts.by-names
+
+pub all-texts-never-by-names : ByNames allTextsSay → ⊥
+all-texts-never-by-names = leaks.all-texts-leak
+
+pub occurrences-never-by-names : ByNames occurringSays → ⊥
+occurrences-never-by-names = leaks.occurrence-leak
+
+-- ---- beside the trial cards: one with the same birthdates, and one with the same relations and dates of marriage
+
+pub same-birthdates : (text : List ℕ) → UsesOnly dateNames text → matchAnswer trialSheet text trialCard ≡ matchAnswer trialSheet text dateCard
+same-birthdates = trial.date-answers
+
+pub same-relations : (text : List ℕ) → UsesOnly relationNames text → matchAnswer bundleSheet text bundleCard ≡ matchAnswer bundleSheet text relationCard
+same-relations = trial.relation-answers
+
+-- a row of the trial table and one of the table for bundles, so that there are such filters
+pub birthdate-row : matchAnswer trialSheet (ascii "birthdate le 1974-06") dateCard ≡ yes
+birthdate-row = trial.date-row
+
+pub relation-row : matchAnswer bundleSheet (ascii "related[type eq \"has-component\"].target re Observation/4") relationCard ≡ yes
+relation-row = trial.relation-row
