@@ -11,8 +11,7 @@ use Rattle.card.specs.Card.{Entry}
 use Rattle.card.specs.Trial.{trialCard, bundleCard}
 use Rattle.syntax.specs.Tree.{Tree}
 use Rattle.syntax.specs.Grammar.{Spells}
-use Rattle.judge.specs.Rules.{Conforms}
-use Rattle.judge.specs.Verdicts.{filterSays}
+use Rattle.judge.specs.Rules.{Conforms, FilterSays}
 use Rattle.search.specs.Spelling.{Query, SpellsQuery}
 use Rattle.rows.specs.Good.{Good}
 use Rattle.rows.specs.Stated.{treeOf}
@@ -21,20 +20,21 @@ use Rattle.sirophan.specs.Operations.{matchAnswer}
 use Rattle.sirophan.specs.Preparing.{judgeAnswer}
 use Rattle.sirophan.specs.Searching.{matchSearchAnswer}
 use Rattle.fields.specs.Used.{namesOf, queryNames, Alike, ByNames, UsesOnly}
-use Rattle.fields.specs.Leaks.{allTextsSay, occurringSays}
+use Rattle.fields.specs.Leaks.{AllTextsSay, OccurringSay}
 use Rattle.fields.specs.Trial.{dateCard, dateNames, relationCard, relationNames}
 use Rattle.fields.proofs.Verdicts as verdicts
 use Rattle.fields.proofs.Answers as answers
 use Rattle.fields.proofs.Trial as trial
 use Rattle.fields.proofs.Leaks as leaks
 
--- ---- two cards that both conform, and hold the same texts under the names used, are answered alike
+-- ---- helpers who may see only some fields (02 [14])
 
+-- two cards that both conform, and hold the same texts under the names that a filter uses, are answered alike
 pub match-no-other-field : (sheet text card card′ : List ℕ) (s : SheetBlock sheet) (es es′ : List Entry) → Conforms (s .parameters) card es → Conforms (s .parameters) card′ es′
     → ((f : Tree) → Spells text f → Alike (s .parameters) (namesOf f) es es′) → matchAnswer sheet text card ≡ matchAnswer sheet text card′
 match-no-other-field = answers.match-same
 
--- over any cells, by the names of the expression that they state
+-- over any cells, by the names that the expression uses which they state
 pub judge-no-other-field : (sheet text card card′ : List ℕ) (s : SheetBlock sheet) (es es′ : List Entry) → Conforms (s .parameters) card es → Conforms (s .parameters) card′ es′
     → (cells : List ℕ) → ((g : Good (s .parameters) text cells) → Alike (s .parameters) (namesOf (treeOf (s .parameters) text (g .expression))) es es′)
     → judgeAnswer sheet text cells card ≡ judgeAnswer sheet text cells card′
@@ -44,19 +44,18 @@ pub match-search-no-other-field : (sheet text card card′ : List ℕ) (s : Shee
     → ((q : Query) → SpellsQuery text q → Alike (s .parameters) (queryNames q) es es′) → matchSearchAnswer sheet text card ≡ matchSearchAnswer sheet text card′
 match-search-no-other-field = answers.match-search-same
 
--- ---- the rule on the meaning of filters, and two meanings that it shuts out
-
-pub filters-by-names : ByNames (λ ps es f. filterSays ps 0 es f)
+-- the same of the meaning of filters; it shuts out a meaning in which a name's set is all texts of the card, and one in which brackets ask for
+-- an occurrence of the bundle at all
+pub filters-by-names : ByNames (λ ps es f. FilterSays ps 0 es f)
 filters-by-names = verdicts.by-names
 
-pub all-texts-never-by-names : ByNames allTextsSay → ⊥
+pub all-texts-never-by-names : ByNames AllTextsSay → ⊥
 all-texts-never-by-names = leaks.all-texts-leak
 
-pub occurrences-never-by-names : ByNames occurringSays → ⊥
+pub occurrences-never-by-names : ByNames OccurringSay → ⊥
 occurrences-never-by-names = leaks.occurrence-leak
 
--- ---- beside the trial cards: one with the same birthdates, and one with the same relations and dates of marriage
-
+-- beside the trial cards: one with the same birthdates, and one with the same relations and dates of marriage
 pub same-birthdates : (text : List ℕ) → UsesOnly dateNames text → matchAnswer trialSheet text trialCard ≡ matchAnswer trialSheet text dateCard
 same-birthdates = trial.date-answers
 

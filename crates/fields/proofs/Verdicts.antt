@@ -2,7 +2,7 @@
 -- occurrences say yes, and these on the texts in each.
 -- Assumes nothing.
 use Prim.Native.Nat.{ℕ}
-use mathlib.Core.Path.{_≡_, refl, ap, ap₂, subst}
+use mathlib.Core.Path.{_≡_, refl, ap, ap₂, sym, _∙_, subst}
 use mathlib.Core.Bool.{cond, not, _&&_, _||_}
 use mathlib.Core.List.{List, [], _∷_, _++_, map, map-append, flatten}
 use lib.Dec.{eqb}
@@ -19,7 +19,8 @@ use Rattle.syntax.specs.Tree.{Path, name, member, Test, under, Tree, test, brac
 use Rattle.kind.specs.Table.{meaningOf}
 use Rattle.judge.specs.Sets.{lookup, valuesAt, keep, ofOccurrence}
 use Rattle.judge.specs.Verdicts.{saysAt, testSays, joined, filterSays}
-use Rattle.judge.proofs.Rules.{names-iff}
+use Rattle.judge.specs.Rules.{FilterSays}
+use Rattle.judge.proofs.Rules.{names-iff, pr-spelled, filter-says-iff}
 use Rattle.search.specs.Spelling.{Alternative, Query, alternativesOf}
 use Rattle.search.specs.Asking.{askedOf}
 use Rattle.search.specs.Meaning.{textSays, alternativeSays, pairMet, queryMet, querySays}
@@ -124,5 +125,10 @@ module _ (ps : List Parameter) where
         ap₂ _&&_ (pair-same es es′ p first) (query-same q es es′ rest)
 
 -- the meaning of filters goes by the names used
-pub by-names : ByNames (λ ps es f. filterSays ps 0 es f)
-by-names ps w card card′ es es′ c c′ f h = verdict-same ps w f es es′ h
+pub by-names : ByNames (λ ps es f. FilterSays ps 0 es f)
+by-names ps w card card′ es es′ c c′ f m h =
+    let spelled = all-map (λ t. pr-spelled ps es t) m in
+    let same = verdict-same ps w f es es′ h in (
+      (λ s. filter-says-iff ps w 0 es′ f spelled .0 (sym same ∙ filter-says-iff ps w 0 es f spelled .1 s)),
+      (λ s. filter-says-iff ps w 0 es f spelled .0 (same ∙ filter-says-iff ps w 0 es′ f spelled .1 s)),
+    )

@@ -1,39 +1,44 @@
 -- Two meanings under which a field counts that the filter does not use: each is the filter's own but for one rule.
 -- Assumes nothing.
-use Prim.Native.Nat.{ℕ}
-use mathlib.Core.Bool.{Bool, false, not, _&&_, _||_}
-use mathlib.Core.List.{List, [], _∷_, map}
-use lib.Dec.{eqb}
-use lib.ListN.{getD}
-use Rattle.sheet.specs.Sheet.{Parameter}
-use Rattle.sheet.specs.Find.{enter, parentsOf}
-use Rattle.sheet.specs.declared.Found.{Found}
-use Rattle.card.specs.Card.{Entry}
-use Rattle.syntax.specs.Tree.{Test, Tree, test, bracketed, join, negation}
-use Rattle.kind.specs.Table.{meaningOf}
-use Rattle.judge.specs.Sets.{lookup}
-use Rattle.judge.specs.Verdicts.{saysOf, joined, filterSays}
+use Prim.Native.Nat.{ℕ, zero, suc}
+use mathlib.Core.List.{List, [], _++_, map, List·Memᴰ}
+use lib.ListN.{length}
+use Rattle.base.specs.Kinds.{bundleKind}
+use Rattle.base.specs.Lists.{All}
+use Rattle.sheet.specs.Sheet.{Parameter, parameter}
+use Rattle.sheet.specs.Find.{Listed}
+use Rattle.card.specs.Card.{Entry, entry}
+use Rattle.syntax.specs.Tree.{Path, name, member, Tree}
+use Rattle.judge.specs.Rules.{FilterSays}
+use Rattle.fields.specs.Used.{namesOf}
 
 -- ---- the set of a name is all texts of the card, whatever they stand under
 
-abbrev pub allTextsAt : Found → List Entry → Test → Bool
-allTextsAt Found.Missing es t = false
-allTextsAt (Found.At i kind) es t = saysOf (meaningOf (t .operator) kind) (t .value) (map (λ (e : Entry). e .text) es)
+-- each text under each of the first n parameters
+unfoldable pub spread : ℕ → List Entry → List Entry
+spread zero es = []
+spread (suc i) es = map (λ (e : Entry). entry i (e .occurrence) (e .text)) es ++ spread i es
 
-unfoldable pub allTextsSay : List Parameter → List Entry → Tree → Bool
-allTextsSay ps es (test t) = allTextsAt (lookup ps 0 (t .path)) es t
-allTextsSay ps es (bracketed p b f t) = filterSays ps 0 es (bracketed p b f t)
-allTextsSay ps es (join k f g) = joined k (allTextsSay ps es f) (allTextsSay ps es g)
-allTextsSay ps es (negation f) = not (allTextsSay ps es f)
+abbrev pub AllTextsSay : List Parameter → List Entry → Tree → Type 0
+AllTextsSay ps es f = FilterSays ps 0 (spread (length ps) es) f
 
--- ---- a test after brackets asks besides that the bundle has an occurrence: an entry under some member of it
+-- ---- square brackets ask besides that the bundle has an occurrence on the card
 
-unfoldable pub occurs : List Parameter → ℕ → List Entry → Bool
-occurs ps c [] = false
-occurs ps c (e ∷ es) = eqb (getD (parentsOf ps) (e .index) 0) c || occurs ps c es
+-- some entry stands under a member of the bundle with the name b
+pub record Occurs (ps : List Parameter) (es : List Entry) (b : List ℕ) : Type 0 where
+  pub bundle : ℕ
+  pub is-bundle : Listed ps bundle (parameter bundleKind 0 b)
+  pub index : ℕ
+  pub occurrence : ℕ
+  pub text : List ℕ
+  pub held : List·Memᴰ (entry index occurrence text) es
+  pub kind : ℕ
+  pub name : List ℕ
+  pub is-member : Listed ps index (parameter kind (suc bundle) name)
 
-unfoldable pub occurringSays : List Parameter → List Entry → Tree → Bool
-occurringSays ps es (test t) = filterSays ps 0 es (test t)
-occurringSays ps es (bracketed p b f t) = occurs ps (enter ps 0 b) es && filterSays ps 0 es (bracketed p b f t)
-occurringSays ps es (join k f g) = joined k (occurringSays ps es f) (occurringSays ps es g)
-occurringSays ps es (negation f) = not (occurringSays ps es f)
+pub data Occurring (ps : List Parameter) (es : List Entry) : Path → Type 0 where
+  no-bundle : {n : List ℕ} → Occurring ps es (name n)
+  occurring : {b : List ℕ} {path : Path} → Occurs ps es b → Occurring ps es (member b path)
+
+abbrev pub OccurringSay : List Parameter → List Entry → Tree → Type 0
+OccurringSay ps es f = All (Occurring ps es) (namesOf f) × FilterSays ps 0 es f

@@ -1,8 +1,6 @@
 -- The names that a filter, rows or a search string use, and two cards that hold the same texts under names.
 -- Assumes nothing.
 use Prim.Native.Nat.{ℕ}
-use mathlib.Core.Path.{_≡_}
-use mathlib.Core.Bool.{Bool}
 use mathlib.Core.Logic.{_↔_}
 use mathlib.Core.List.{List, List·Memᴰ, map}
 use Rattle.base.specs.Lists.{All}
@@ -11,7 +9,7 @@ use Rattle.sheet.specs.Encode.{WellFormedSheet}
 use Rattle.card.specs.Card.{Entry, entry}
 use Rattle.syntax.specs.Tree.{Path, name, member, Test, Tree, testsOf}
 use Rattle.syntax.specs.Grammar.{Spells}
-use Rattle.judge.specs.Rules.{Names, Conforms}
+use Rattle.judge.specs.Rules.{Names, Conforms, LacksMeaning}
 use Rattle.search.specs.Spelling.{Alternative, Query, alternativesOf}
 
 -- ---- names
@@ -51,11 +49,11 @@ abbrev pub Alike : List Parameter → List Path → (es es′ : List Entry) → 
 Alike ps paths es es′ = All (SameUnder ps es es′) paths
 
 -- "two cards that both fit the sheet, and hold the same texts under the names a filter uses, .. get the same verdict": of a meaning of
--- filters, which says yes or no of entries on a sheet
-abbrev pub ByNames : (List Parameter → List Entry → Tree → Bool) → Type 0
-ByNames says =
+-- filters, on a filter of which every test has a meaning on the card
+abbrev pub ByNames : (List Parameter → List Entry → Tree → Type 0) → Type 0
+ByNames Says =
     (ps : List Parameter) → WellFormedSheet ps → (card card′ : List ℕ) (es es′ : List Entry) → Conforms ps card es → Conforms ps card′ es′
-    → (f : Tree) → Alike ps (namesOf f) es es′ → says ps es f ≡ says ps es′ f
+    → (f : Tree) → All (λ t. LacksMeaning ps es t → ⊥) (testsOf f) → Alike ps (namesOf f) es es′ → Says ps es f ↔ Says ps es′ f
 
 -- the text is a filter that uses none but these names, or no filter
 abbrev pub UsesOnly : List Path → List ℕ → Type 0
