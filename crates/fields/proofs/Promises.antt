@@ -1,9 +1,10 @@
 -- What stands of a card behind an answer (02: helpers who may see only some fields): the texts under the names used, and nothing else. Each is
 -- proved where its one line says. Not claimed for cards that do not conform, since 23 looks at all fields, nor for select, which gives record
 -- numbers away. Assumes nothing.
-use Prim.Native.Nat.{ℕ}
+use Prim.Native.Nat.{ℕ, _≤_}
 use mathlib.Core.Path.{_≡_}
 use mathlib.Core.List.{List}
+use lib.ListN.{length, take}
 use Rattle.base.specs.Ascii.{ascii}
 use Rattle.sheet.specs.Encode.{SheetBlock}
 use Rattle.sheet.specs.Trial.{trialSheet, bundleSheet}
@@ -15,15 +16,16 @@ use Rattle.judge.specs.Rules.{Conforms, FilterSays}
 use Rattle.search.specs.Spelling.{Query, SpellsQuery}
 use Rattle.rows.specs.Good.{Good}
 use Rattle.rows.specs.Stated.{treeOf}
-use Rattle.refusal.specs.Answers.{yes}
+use Rattle.refusal.specs.Answers.{yes, count}
 use Rattle.sirophan.specs.Operations.{matchAnswer}
-use Rattle.sirophan.specs.Preparing.{judgeAnswer}
+use Rattle.sirophan.specs.Preparing.{prepareAnswer, prepareCells, judgeAnswer}
 use Rattle.sirophan.specs.Searching.{matchSearchAnswer}
 use Rattle.fields.specs.Used.{namesOf, queryNames, Alike, ByNames, UsesOnly}
 use Rattle.fields.specs.Leaks.{AllTextsSay, OccurringSay}
 use Rattle.fields.specs.Trial.{dateCard, dateNames, relationCard, relationNames}
 use Rattle.fields.proofs.Verdicts as verdicts
 use Rattle.fields.proofs.Answers as answers
+use Rattle.fields.proofs.Prepared as prepared
 use Rattle.fields.proofs.Trial as trial
 use Rattle.fields.proofs.Leaks as leaks
 
@@ -40,6 +42,12 @@ pub judge-no-other-field : (sheet text card card′ : List ℕ) (s : SheetBlock 
     → judgeAnswer sheet text cells card ≡ judgeAnswer sheet text cells card′
 judge-no-other-field = answers.judge-same
 
+-- and the rows that prepare writes use the filter's names
+pub prepared-names : (sheet text : List ℕ) (s : SheetBlock sheet) (f : Tree) → length text ≤ 1024 → Spells text f → (list : List ℕ) (n : ℕ) → prepareAnswer sheet text (length list) ≡ count n
+    → (g : Good (s .parameters) text (take n (prepareCells sheet text list))) → namesOf (treeOf (s .parameters) text (g .expression)) ≡ namesOf f
+prepared-names = prepared.prepared-names
+
+-- by a search string, by the names of its alternatives
 pub match-search-no-other-field : (sheet text card card′ : List ℕ) (s : SheetBlock sheet) (es es′ : List Entry) → Conforms (s .parameters) card es → Conforms (s .parameters) card′ es′
     → ((q : Query) → SpellsQuery text q → Alike (s .parameters) (queryNames q) es es′) → matchSearchAnswer sheet text card ≡ matchSearchAnswer sheet text card′
 match-search-no-other-field = answers.match-search-same
