@@ -3,6 +3,7 @@ pub mod Sets
 pub mod Verdicts
 pub mod Answers
 pub mod Prepared
+pub mod Explanations
 pub mod Comparing
 pub mod Trial
 pub mod Leaks

@@ -20,11 +20,13 @@ use Rattle.refusal.specs.Answers.{yes, count}
 use Rattle.sirophan.specs.Operations.{matchAnswer}
 use Rattle.sirophan.specs.Preparing.{prepareAnswer, prepareCells, judgeAnswer}
 use Rattle.sirophan.specs.Searching.{matchSearchAnswer}
+use Rattle.explain.specs.Operation.{explainAnswer, explainCells}
 use Rattle.fields.specs.Used.{namesOf, queryNames, Alike, ByNames, UsesOnly}
 use Rattle.fields.specs.Leaks.{AllTextsSay, OccurringSay}
 use Rattle.fields.specs.Trial.{dateCard, dateNames, relationCard, relationNames}
 use Rattle.fields.proofs.Verdicts as verdicts
 use Rattle.fields.proofs.Answers as answers
+use Rattle.fields.proofs.Explanations as explanations
 use Rattle.fields.proofs.Prepared as prepared
 use Rattle.fields.proofs.Trial as trial
 use Rattle.fields.proofs.Leaks as leaks
@@ -35,6 +37,12 @@ use Rattle.fields.proofs.Leaks as leaks
 pub match-no-other-field : (sheet text card card′ : List ℕ) (s : SheetBlock sheet) (es es′ : List Entry) → Conforms (s .parameters) card es → Conforms (s .parameters) card′ es′
     → ((f : Tree) → Spells text f → Alike (s .parameters) (namesOf f) es es′) → matchAnswer sheet text card ≡ matchAnswer sheet text card′
 match-no-other-field = answers.match-same
+
+-- and explained alike: the answer, and every cell of the list
+pub explain-no-other-field : (sheet text card card′ : List ℕ) (s : SheetBlock sheet) (es es′ : List Entry) → Conforms (s .parameters) card es → Conforms (s .parameters) card′ es′
+    → ((f : Tree) → Spells text f → Alike (s .parameters) (namesOf f) es es′) → (list : List ℕ)
+    → (explainAnswer sheet text card (length list) ≡ explainAnswer sheet text card′ (length list)) × (explainCells sheet text card list ≡ explainCells sheet text card′ list)
+explain-no-other-field = explanations.explain-same
 
 -- over any cells, by the names that the expression uses which they state
 pub judge-no-other-field : (sheet text card card′ : List ℕ) (s : SheetBlock sheet) (es es′ : List Entry) → Conforms (s .parameters) card es → Conforms (s .parameters) card′ es′
