@@ -37,6 +37,7 @@ numberOf Reason.CardMisfit = 23
 numberOf Reason.ShortList = 30
 numberOf Reason.ShortRows = 31
 numberOf Reason.ShortBuffer = 32
+numberOf Reason.ShortMarks = 33
 numberOf Reason.ShortCells = 34
 numberOf Reason.BadRows = 40
 numberOf Reason.NoPair = 50

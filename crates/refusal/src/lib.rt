@@ -42,6 +42,8 @@ pub enum Reason {
     ShortRows,
     // 32: the plain spelling would run past the buffer's end.
     ShortBuffer,
+    // 33: the list has fewer cells than the filter has tests.
+    ShortMarks,
     // 34: the list is shorter than the rows of a filter.
     ShortCells,
     // 40: the rows are not good.
@@ -52,7 +54,7 @@ pub enum Reason {
 }
 
 // A refusal: why, and where. The place is the length of the longest beginning that also begins some filter, a test's or a pair's first
-// byte, a card's index, the number of matches, of rows or of cells needed, the length of the plain spelling, or 0.
+// byte, a card's index, the number of matches, of rows, of tests or of cells needed, the length of the plain spelling, or 0.
 pub struct Refusal {
     pub reason: Reason,
     pub place: usize,

@@ -27,6 +27,7 @@ pub fn number(reason: Reason) -> u32
         Reason::ShortList => 30,
         Reason::ShortRows => 31,
         Reason::ShortBuffer => 32,
+        Reason::ShortMarks => 33,
         Reason::ShortCells => 34,
         Reason::BadRows => 40,
         Reason::NoPair => 50,

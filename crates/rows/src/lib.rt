@@ -8,6 +8,7 @@ mod whole;
 mod write;
 
 use filter::Summary;
+pub use cell::row_of;
 pub use says::rows_say;
 pub use whole::are_good;
 pub use write::write_filter;

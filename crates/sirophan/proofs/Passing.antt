@@ -71,7 +71,7 @@ passing-asks b xs p = rw (p .inputs-taken, p .reads)
 
 -- ---- a card
 
-card-found : (r : Reading) (fits : Bool) (c : Card) (i : ℕ) (d : Card) → cardStep r fits c i ≡ found d → (r ≡ Reading.WellFormed) × (d ≡ c)
+pub card-found : (r : Reading) (fits : Bool) (c : Card) (i : ℕ) (d : Card) → cardStep r fits c i ≡ found d → (r ≡ Reading.WellFormed) × (d ≡ c)
 card-found Reading.WellFormed true c i d h = (refl, cc)
 card-found Reading.WellFormed false c i d h = (cc, cc)
 card-found Reading.WrongSize fits c i d h = (cc, cc)

@@ -55,7 +55,7 @@ use Rattle.sirophan.proofs.RowsTable.{prepare-table}
 -- ---- what was taken
 
 -- of what was found, what is known, and that no line holds
-known-of : {A : Type 0} {Known : A → Type 0} {Line : ℕ → ℕ → Type 0} {s : Step A} → Decided Known Line s → (x : A) → s ≡ found x → Known x × ((n p : ℕ) → Line n p → ⊥)
+pub known-of : {A : Type 0} {Known : A → Type 0} {Line : ℕ → ℕ → Type 0} {s : Step A} → Decided Known Line s → (x : A) → s ≡ found x → Known x × ((n p : ℕ) → Line n p → ⊥)
 known-of {Known = Known} (none-holds {x = y} k h) x e = let same : y ≡ x = cc in (subst Known same k, h)
 known-of (one-decides d) x e = let z : _≡_ {A = ℕ} 0 1 = cc in absurd (omega arith)
 

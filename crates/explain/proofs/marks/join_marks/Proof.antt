@@ -1,0 +1,42 @@
+-- `explain::marks::join_marks` meets its contract. Assumes nothing.
+use Rattle.explain.proofs.Leaves.{join-both, join-either}
+use borrow.Author.Needs.{needs}
+use Rattle.explain.proofs.marks.join_marks.Statement.{statement}
+use Rattle.explain.proofs.marks.join_marks.Tie as tie
+use Rattle.explain.proofs.marks.join_marks.Reads as reads
+use Rattle.explain.proofs.marks.join_marks.Lts as lts
+use Rattle.explain.proofs.marks.both.Reads as both-reads
+use Rattle.explain.proofs.marks.opposite.Reads as opposite-reads
+
+both-requires : tie.Need-both-requires
+both-requires c κs = search needs
+
+returns : tie.Need-returns
+returns c = search (join-both, needs)
+
+opposite-requires : tie.Need-opposite-requires
+opposite-requires c κs = search needs
+
+opposite-requires-2 : tie.Need-opposite-requires-2
+opposite-requires-2 c κs = search needs
+
+both-requires-2 : tie.Need-both-requires-2
+both-requires-2 c κs = search needs
+
+opposite-requires-3 : tie.Need-opposite-requires-3
+opposite-requires-3 c κs = search needs
+
+returns-2 : tie.Need-returns-2
+returns-2 c = search (join-either, needs)
+
+pub join-marks-spec : {M : Type 1} → statement M
+join-marks-spec =
+    tie.close
+    (tie.spec
+    both-requires
+    returns
+    opposite-requires
+    opposite-requires-2
+    both-requires-2
+    opposite-requires-3
+    returns-2)

@@ -1,0 +1,19 @@
+-- `explain::marks::opposite` meets its contract. Assumes nothing.
+use Rattle.explain.proofs.Leaves.{opposite-yes, opposite-no, opposite-open}
+use borrow.Author.Needs.{needs}
+use Rattle.explain.proofs.marks.opposite.Statement.{statement}
+use Rattle.explain.proofs.marks.opposite.Tie as tie
+use Rattle.explain.proofs.marks.opposite.Reads as reads
+use Rattle.explain.proofs.marks.opposite.Lts as lts
+
+returns : tie.Need-returns
+returns c = search (opposite-yes, needs)
+
+returns-2 : tie.Need-returns-2
+returns-2 c = search (opposite-no, needs)
+
+returns-3 : tie.Need-returns-3
+returns-3 c = search (opposite-open, needs)
+
+pub opposite-spec : {M : Type 1} → statement M
+opposite-spec = tie.close (tie.spec returns returns-2 returns-3)

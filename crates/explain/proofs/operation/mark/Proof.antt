@@ -1,0 +1,76 @@
+-- `explain::operation::mark` meets its contract. Assumes nothing.
+use Rattle.explain.proofs.Explaining.{mark-few, mark-short, mark-part, mark-room, mark-yes, mark-no}
+use borrow.Author.Needs.{needs}
+use Rattle.explain.proofs.operation.mark.Statement.{statement}
+use Rattle.explain.proofs.operation.mark.Tie as tie
+use Rattle.explain.proofs.operation.mark.Reads as reads
+use Rattle.explain.proofs.operation.mark.Lts as lts
+use Rattle.explain.proofs.operation.write.Reads as write-reads
+use Rattle.explain.proofs.spare.spare.Reads as spare-reads
+use Rattle.explain.proofs.verdicts.take_verdicts.Reads as take-verdicts-reads
+use Rattle.sheet.proofs.kinds.Reads as kinds-reads
+
+kinds-requires : tie.Need-kinds-requires
+kinds-requires c κs = search needs
+
+slice-aggregate-take-verdicts : tie.Need-slice-aggregate-take-verdicts
+slice-aggregate-take-verdicts c = search needs
+
+slice-aggregate-take-verdicts-2 : tie.Need-slice-aggregate-take-verdicts-2
+slice-aggregate-take-verdicts-2 c = search needs
+
+take-verdicts-requires : tie.Need-take-verdicts-requires
+take-verdicts-requires c κs = (search needs, (search needs, (search needs, (search needs, search needs))))
+
+returns : tie.Need-returns
+returns c = search (mark-short, needs)
+
+slice-aggregate-spare : tie.Need-slice-aggregate-spare
+slice-aggregate-spare c = search needs
+
+spare-requires : tie.Need-spare-requires
+spare-requires c κs = (search needs, (search (mark-few, needs), search needs))
+
+sub-write : tie.Need-sub-write
+sub-write c = search needs
+
+part-write-start : tie.Need-part-write-start
+part-write-start c = search needs
+
+part-write-end : tie.Need-part-write-end
+part-write-end c = search (mark-part, needs)
+
+write-requires : tie.Need-write-requires
+write-requires c κs = search (mark-room, needs)
+
+same-length : tie.Need-same-length
+same-length c = search needs
+
+returns-2 : tie.Need-returns-2
+returns-2 c = search (mark-yes, needs)
+
+same-length-2 : tie.Need-same-length-2
+same-length-2 c = search needs
+
+returns-3 : tie.Need-returns-3
+returns-3 c = search (mark-no, needs)
+
+pub mark-spec : {M : Type 1} → statement M
+mark-spec =
+    tie.close
+    (tie.spec
+    kinds-requires
+    slice-aggregate-take-verdicts
+    slice-aggregate-take-verdicts-2
+    take-verdicts-requires
+    returns
+    slice-aggregate-spare
+    spare-requires
+    sub-write
+    part-write-start
+    part-write-end
+    write-requires
+    same-length
+    returns-2
+    same-length-2
+    returns-3)

@@ -1,0 +1,19 @@
+-- `explain::spare::remains` meets its contract. Assumes nothing.
+use Rattle.explain.proofs.Leaves.{remains-yes, remains-no, remains-kept}
+use borrow.Author.Needs.{needs}
+use Rattle.explain.proofs.spare.remains.Statement.{statement}
+use Rattle.explain.proofs.spare.remains.Tie as tie
+use Rattle.explain.proofs.spare.remains.Reads as reads
+use Rattle.explain.proofs.spare.remains.Lts as lts
+
+returns : tie.Need-returns
+returns c = search (remains-yes, needs)
+
+returns-2 : tie.Need-returns-2
+returns-2 c = search (remains-no, needs)
+
+returns-3 : tie.Need-returns-3
+returns-3 c = search (remains-kept, needs)
+
+pub remains-spec : {M : Type 1} → statement M
+remains-spec = tie.close (tie.spec returns returns-2 returns-3)

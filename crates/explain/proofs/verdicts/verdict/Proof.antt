@@ -1,0 +1,20 @@
+-- `explain::verdicts::verdict` meets its contract. Assumes nothing.
+use Rattle.explain.proofs.Telling.{verdict-yes, verdict-no}
+use borrow.Author.Needs.{needs}
+use Rattle.explain.proofs.verdicts.verdict.Statement.{statement}
+use Rattle.explain.proofs.verdicts.verdict.Tie as tie
+use Rattle.explain.proofs.verdicts.verdict.Reads as reads
+use Rattle.explain.proofs.verdicts.verdict.Lts as lts
+use Rattle.rows.proofs.rows_say.Reads as rows-say-reads
+
+rows-say-requires : tie.Need-rows-say-requires
+rows-say-requires c κs = search needs
+
+returns : tie.Need-returns
+returns c = search (verdict-yes, needs)
+
+returns-2 : tie.Need-returns-2
+returns-2 c = search (verdict-no, needs)
+
+pub verdict-spec : {M : Type 1} → statement M
+verdict-spec = tie.close (tie.spec rows-say-requires returns returns-2)

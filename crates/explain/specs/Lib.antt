@@ -1,0 +1,8 @@
+-- Why a filter says what it says of a card: the tests that decide and how they are computed, the operation and its refusals, and what the
+-- promises about it say; then what the code owes over rows.
+pub mod Deciding
+pub mod Marks
+pub mod Operation
+pub mod Refusals
+pub mod Rows
+pub mod Contracts
