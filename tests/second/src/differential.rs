@@ -106,7 +106,7 @@ pub fn run(library: &impl Library, seed: u64, cases: u64) -> Outcome {
         let mut differences = compare(library, &case, &mut outcome.answers);
         differences.extend(compare_search(library, &case, &query, &mut outcome.answers));
         differences.extend(compare_rows(library, &case, &rows, &mut outcome.answers));
-        let mut random = Random::new(seed ^ number, number);
+        let mut random = Random::new(seed.wrapping_add(1), number);
         differences.extend(compare_alike(library, &case, &query, &rows, &mut random, &mut outcome.answers));
         if differences.is_empty() {
             outcome.passed += 1;

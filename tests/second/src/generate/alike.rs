@@ -52,16 +52,18 @@ pub fn alike(random: &mut Random, sheet: &Sheet, card: &[u8], used: &Used) -> Op
     let mut entries = Vec::new();
     for entry in &read.entries {
         let (place, text) = (usize::from(entry.head), entry.text.to_vec());
-        match used.contains(&place) {
-            true => drop(needed.insert((place, if is_member(place) { entry.mark } else { 0 }, text))),
-            false => others(random, sheet, Entry { place, occurrence: entry.mark, text }, &mut entries),
+        if used.contains(&place) {
+            needed.insert((place, if is_member(place) { entry.mark } else { 0 }, text));
+        } else {
+            others(random, sheet, Entry { place, occurrence: entry.mark, text }, &mut entries);
         }
     }
     let has_occurrences = needed.iter().any(|(place, occurrence, _)| is_member(*place) && *occurrence != 0);
     for (place, occurrence, text) in needed {
-        for needed in [true].into_iter().chain(random.once_in(3).then_some(false)) {
+        for copy in 0..random.one(&[1, 1, 2]) {
             let occurrence = if is_member(place) { occurrence } else { random.byte() };
-            put(random, &mut entries, Drawn { entry: Entry { place, occurrence, text: text.clone() }, needed });
+            let entry = Entry { place, occurrence, text: text.clone() };
+            put(random, &mut entries, Drawn { entry, needed: copy == 0 });
         }
     }
     strangers(random, sheet, used, &mut entries);
