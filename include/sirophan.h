@@ -57,6 +57,7 @@ enum {
     SIROPHAN_SHORT_LIST = 30,   /* the list is shorter than the matches; place: their number */
     SIROPHAN_SHORT_ROWS = 31,   /* the rows are fewer than the parameters; place: the number needed */
     SIROPHAN_SHORT_BUFFER = 32, /* the plain spelling would run past the buffer's end; place: its length */
+    SIROPHAN_SHORT_MARKS = 33,  /* the cells are fewer than the filter's tests; place: their number */
     SIROPHAN_SHORT_CELLS = 34   /* the list is shorter than the filter's rows; place: the cells that they need */
 };
 
@@ -104,7 +105,25 @@ sirophan_answer sirophan_judge(const uint8_t *sheet, size_t sheet_len,
                                const uint8_t *card, size_t card_len);
 
 /*
- * The same by a search string such as birthdate=ge1974&code=http://loinc.org|9: pairs joined by "&", all to be met; commas
+ * Answers whether the card matches the filter, 1 for yes and 0 for no, and why: writes a cell for each test, in the order of
+ * the filter from the first cell on. With the verdicts of the tests that decide alone the answer stands, no matter what the
+ * others say, and none of them can be spared; of several such sets it is the one got by going from the last test to the
+ * first and sparing each that can be spared. A test with a condition in square brackets is one. cells_len is in cells, and
+ * 32 are always enough. Later cells stay, and a refusal writes nothing.
+ */
+enum {
+    SIROPHAN_SPARED = 0,     /* the answer stands whatever the test says */
+    SIROPHAN_DECIDES_YES = 1, /* the test decides by its yes, */
+    SIROPHAN_DECIDES_NO = 2   /* or by its no */
+};
+
+sirophan_answer sirophan_explain(const uint8_t *sheet, size_t sheet_len,
+                                 const uint8_t *filter, size_t filter_len,
+                                 const uint8_t *card, size_t card_len,
+                                 uint8_t *cells, size_t cells_len);
+
+/*
+ * Check, match and select by a search string such as birthdate=ge1974&code=http://loinc.org|9: pairs joined by "&", all to be met; commas
  * in a value give alternatives. Check answers how many alternatives there are. Refusals after the sheet's: 10, 50, 51; then
  * for the first alternative at fault 14 (bundles and members too), 16 or 17, with the first byte of its pair as the place;
  * then the cards', and 30.

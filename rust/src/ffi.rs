@@ -109,6 +109,17 @@ unsafe extern "C" {
         from: usize,
     ) -> Answer;
 
+    pub fn sirophan_explain(
+        sheet: *const u8,
+        sheet_len: usize,
+        filter: *const u8,
+        filter_len: usize,
+        card: *const u8,
+        card_len: usize,
+        cells: *mut u8,
+        cells_len: usize,
+    ) -> Answer;
+
     pub fn sirophan_report(
         sheet: *const u8,
         sheet_len: usize,

@@ -14,10 +14,12 @@
 //! }
 //! ```
 
+mod explained;
 mod ffi;
 mod prepared;
 mod refusal;
 
+pub use explained::{Explained, Explanation, Mark, explain, explain_into};
 pub use prepared::{MOST_CELLS, Prepared, judge, prepare, prepare_into};
 pub use refusal::{Refusal, underline};
 

@@ -12,7 +12,7 @@ pub struct Refusal {
     /// For 11 to 13 the length of the longest beginning of the text that also begins some filter, for 14 to 18 the first
     /// byte of the test in the filter and in a search string that of the pair, as for 50; for 21 to 23 the card's index in
     /// the run, for 30 the number of matching cards, for 31 the number of rows needed, for 32 the length of the plain
-    /// spelling, for 34 the cells that a filter's rows need, and 0 for all others.
+    /// spelling, for 33 the number of tests, for 34 the cells that a filter's rows need, and 0 for all others.
     pub place: usize,
 }
 
@@ -43,6 +43,7 @@ impl Refusal {
             30 => "The list is shorter than the number of matching cards.",
             31 => "The rows are fewer than the sheet's parameters.",
             32 => "The plain spelling would run past the buffer's end.",
+            33 => "The list has fewer cells than the filter has tests.",
             34 => "The list is shorter than the filter's rows.",
             40 => "The rows are not good for this sheet and this filter.",
             50 => "A part of the search string is no pair: it has no \"=\", or a % without two hex digits behind it.",
@@ -91,7 +92,7 @@ pub fn underline(filter: &[u8], part: Range<usize>) -> String {
 }
 
 /// The characters of a text, with a mark for each that is not UTF-8 or would not print.
-fn printable(text: &[u8]) -> Vec<char> {
+pub(crate) fn printable(text: &[u8]) -> Vec<char> {
     let mark = |c: char| if c.is_control() { char::REPLACEMENT_CHARACTER } else { c };
     String::from_utf8_lossy(text).chars().map(mark).collect()
 }

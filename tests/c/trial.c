@@ -220,6 +220,16 @@ int main(void) {
     expect("rows and no filter", sirophan_judge(SHEET, FILTER(""), prepared, 6, cards, BLOCK), SIROPHAN_FILTER_SIZE, 0);
     expect("rows and a short card", sirophan_judge(SHEET, FILTER(joined), prepared, 6, cards, 7), SIROPHAN_CARD_SIZE, 0);
 
+    /* The tests that decide, with their own verdicts. */
+    uint8_t marks[4] = {9, 9, 9, 9};
+    expect("too few cells", sirophan_explain(SHEET, FILTER(joined), cards, BLOCK, marks, 2), SIROPHAN_SHORT_MARKS, 3);
+    expect_bytes("too few cells", marks, "\11\11\11\11", 4);
+    expect("card 7 explained", sirophan_explain(SHEET, FILTER(joined), cards, BLOCK, marks, 4), 0, 1);
+    expect_bytes("card 7 explained", marks, "\1\2\0\11", 4);
+    expect("card 19 explained", sirophan_explain(SHEET, FILTER(joined), cards + BLOCK, BLOCK, marks, 3), 0, 0);
+    expect_bytes("card 19 explained", marks, "\0\1\2\11", 4);
+    expect("a short card explained", sirophan_explain(SHEET, FILTER(joined), cards, 7, marks, 0), SIROPHAN_CARD_SIZE, 0);
+
     cards[2 * BLOCK] ^= 1;
     expect_counts("a report with the third card damaged",
                   sirophan_report(SHEET, FILTER(filter), cards, sizeof cards, rows, 0), SIROPHAN_CARD_SUM, 2, 0, 0);

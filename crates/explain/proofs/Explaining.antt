@@ -60,17 +60,17 @@ use Rattle.explain.proofs.Stack.{outer-tests}
 
 -- ---- by what was found
 
-not-refused : (b : Bool) (n p : ℕ) → yesOrNo b ≡ refused n p → ⊥
+pub not-refused : (b : Bool) (n p : ℕ) → yesOrNo b ≡ refused n p → ⊥
 not-refused true n p e = let z : _≡_ {A = ℕ} 0 1 = cc in omega arith
 not-refused false n p e = let z : _≡_ {A = ℕ} 0 1 = cc in omega arith
 
 module _ (sheet text card : List ℕ) where
-  explaining-by : (room : ℕ) (r : Step Inputs) → takeInputs sheet text ≡ r
+  pub explaining-by : (room : ℕ) (r : Step Inputs) → takeInputs sheet text ≡ r
       → explaining sheet text card room ≡ (r >>= λ p. takeCard (p .parameters) 0 card >>= λ c. takeMarks room (outerCount (p .filter)) (explanationOf p c))
   unfolding explaining
   explaining-by room r e = rw e
 
-  match-answer-by : (r : Step Inputs) → takeInputs sheet text ≡ r
+  pub match-answer-by : (r : Step Inputs) → takeInputs sheet text ≡ r
       → matchAnswer sheet text card ≡ answer (r >>= λ p. takeCard (p .parameters) 0 card >>= λ c. found (yesOrNo (filterSays (p .parameters) 0 (c .entries) (p .filter))))
   match-answer-by (found p) e = match-by (filterQuestion sheet text) (found (questionOf p)) (question-by sheet text (found p) e) card
   match-answer-by (stop n p) e = match-by (filterQuestion sheet text) (stop n p) (question-by sheet text (stop n p) e) card

@@ -1,4 +1,4 @@
--- Laws of the tests that decide.
+-- Laws of the tests that decide, of the walks over rows, the table of refusals, and the promises.
 pub mod Exact
 pub mod Numbered
 pub mod Deciding
@@ -11,3 +11,5 @@ pub mod Alike
 pub mod Explaining
 pub mod Table
 pub mod Contracts
+pub mod Answered
+pub mod Promises

@@ -95,11 +95,11 @@ module _ (f : Tree) (v : ℕ → Bool) (i : ℕ) (marks : List ℕ) (k : Kept f 
 pub record Sparing (rows : List ℕ) (tests : ℕ) (before marks : List ℕ) (left : ℕ) : Type 0 where
   pub kept : (e : Expression) (v : ℕ → Bool) → stated rows ≡ some e → tests ≡ outerCount (outline e) → ((j : ℕ) → j < tests → getD before j 0 ≡ cell true (v j)) → Kept (outline e) v left marks
   pub size : length marks ≡ 32
-  pub few : left ≤ 32
+  pub within : left ≤ tests
 
-pub sparing-start : (rows : List ℕ) (tests : ℕ) (before : List ℕ) → tests ≤ 32 → length before ≡ 32 → Sparing rows tests before before tests
+pub sparing-start : (rows : List ℕ) (tests : ℕ) (before : List ℕ) → length before ≡ 32 → Sparing rows tests before before tests
 unfolding deciding
-sparing-start rows tests before t z =
+sparing-start rows tests before z =
     record {
       kept = λ e v s n h. record {
         kept = λ j. true;
@@ -107,24 +107,25 @@ sparing-start rows tests before t z =
         marked = λ j l. h j (omega (arith, l, n));
       };
       size = z;
-      few = t;
+      within = omega arith;
     }
 
-module _ (rows : List ℕ) (tests : ℕ) (before marks : List ℕ) (left : ℕ) (s : Sparing rows tests before marks left) (i : ℕ) (l : 0 < left) (d : i ≡ left - 1) where
+module _ (rows : List ℕ) (tests : ℕ) (before marks : List ℕ) (left : ℕ) (s : Sparing rows tests before marks left) (t : tests ≤ 32) (i : ℕ) (l : 0 < left) (d : i ≡ left - 1) where
   pub sparing-inside : i < length marks
-  sparing-inside = omega (arith, s .few, s .size, l, d)
+  sparing-inside = omega (arith, t, s .within, s .size, l, d)
 
   pub sparing-again : i < length (set marks i 0)
   sparing-again = omega (arith, sparing-inside, length-set marks i 0)
 
-  pub sparing-next : (whole old x : ℕ) → MarksWhole rows (set marks i 0) whole → old ≡ getD marks i 0 → x ≡ cond (isDecided (markOf whole)) 0 old → Sparing rows tests before (set (set marks i 0) i x) i
+  pub sparing-next : (whole old x : ℕ) → MarksWhole rows (set marks i 0) whole → old ≡ getD marks i 0 → x ≡ cond (isDecided (markOf whole)) 0 old → Sparing rows tests before (set (set marks i 0) i x) (left - 1)
   sparing-next whole old x w o e =
       let up : left ≡ suc i = omega (arith, l, d) in
-      record {
+      rw (← d)
+      (record {
         kept = λ f v a n h. kept-next (outline f) v i marks (subst (λ (k : ℕ). Kept (outline f) v k marks) up (s .kept f v a n h)) sparing-inside whole (w .whole f a) old x o e;
         size = length-set (set marks i 0) i x ∙ length-set marks i 0 ∙ s .size;
-        few = omega (arith, s .few, up);
-      }
+        within = omega (arith, s .within, up);
+      })
 
 -- the cells from i on, as a part of the list
 cells-are : (v kept : ℕ → Bool) (marks : List ℕ) (n i : ℕ) → i + n ≤ length marks → ((j : ℕ) → i ≤ j → j < i + n → getD marks j 0 ≡ cell (kept j) (v j)) → take n (drop i marks) ≡ cells v kept i n

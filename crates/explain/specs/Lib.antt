@@ -4,5 +4,6 @@ pub mod Deciding
 pub mod Marks
 pub mod Operation
 pub mod Refusals
+pub mod Explaining
 pub mod Rows
 pub mod Contracts

@@ -35,6 +35,6 @@ pub fn spare(rows: &[u32], tests: usize, marks: &mut [u8])
         marks[i] = 0;
         let whole = mark_of(rows, marks);
         marks[i] = remains(whole, mark);
-        left = i;
+        left -= 1;
     }
 }

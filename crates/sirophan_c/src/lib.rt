@@ -16,6 +16,7 @@ ghost use Rattle.sirophan.specs.Operations.{checkAnswer, matchAnswer, selectAns
 ghost use Rattle.sirophan.specs.Spelling.{spellAnswer, spellBytes};
 ghost use Rattle.sirophan.specs.Searching.{checkSearchAnswer, matchSearchAnswer, selectSearchAnswer, selectSearchCells};
 ghost use Rattle.sirophan.specs.Preparing.{prepareAnswer, prepareCells, judgeAnswer};
+ghost use Rattle.explain.specs.Operation.{explainAnswer, explainCells};
 ghost use Rattle.report.specs.Operation.{reportedAnswer};
 ghost use Rattle.sirophan_c.specs.Answers.{told, toldCounts};
 ghost use Rattle.sirophan_c.specs.Contracts.{TellsReport};
@@ -195,6 +196,21 @@ pub extern "C" fn sirophan_judge(sheet: &[u8], filter: &[u8], rows: &[u32], card
 {
     let judged = sirophan::judge(sheet, filter, rows, card);
     told_match(judged)
+}
+
+// Whether the card matches the filter, with a cell for each test in the cells from the first on, or a refusal.
+#[no_mangle]
+pub extern "C" fn sirophan_explain(
+    sheet: &[u8],
+    filter: &[u8],
+    card: &[u8],
+    cells: &mut [u8],
+) -> Answer
+    ensures { λ r. ⌜ r ≡ told (explainAnswer (now (sheet .entry)) (now (filter .entry)) (now (card .entry)) (length (now (cells .entry)))) ⌝ }
+    ensures { λ _. ⌜ now (cells .exit) ≡ explainCells (now (sheet .entry)) (now (filter .entry)) (now (card .entry)) (now (cells .entry)) ⌝ }
+{
+    let explained = explain::explain(sheet, filter, card, cells);
+    told_match(explained)
 }
 
 // A report's answer in numbers.

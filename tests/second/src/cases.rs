@@ -12,6 +12,9 @@ use std::slice;
 /// What the cells of a list hold before select and prepare, and the rows before a report, twice.
 pub const UNTOUCHED: u32 = 999;
 
+/// What the cells hold before explain.
+pub const UNMARKED: u8 = 9;
+
 /// The words for the kinds of texts, in the order of their numbers.
 const KINDS: [&str; 6] = ["string", "number", "date", "token", "reference", "period"];
 
@@ -48,6 +51,7 @@ pub enum Operation {
     Check,
     Match { card: usize },
     Select { cards: Vec<usize>, cells: usize },
+    Explain { card: usize, cells: usize },
     Report { cards: Vec<usize>, rows: usize },
     Prepare { cells: usize },
     Judge { card: usize, rows: Vec<u32> },
@@ -83,7 +87,9 @@ impl Cases {
     pub fn cards_of(&self, case: &Case) -> Vec<u8> {
         let cards = match &case.operation {
             Operation::Check | Operation::Prepare { .. } => &[],
-            Operation::Match { card } | Operation::Judge { card, .. } => slice::from_ref(card),
+            Operation::Match { card } | Operation::Explain { card, .. } | Operation::Judge { card, .. } => {
+                slice::from_ref(card)
+            }
             Operation::Select { cards, .. } | Operation::Report { cards, .. } => cards.as_slice(),
         };
         cards.iter().flat_map(|&card| &self.blocks[card].bytes).copied().collect()
@@ -110,6 +116,10 @@ impl Cases {
                     write!(answer, " {cell}").unwrap();
                 }
                 answer
+            }
+            Operation::Explain { cells, .. } => {
+                let mut marks = vec![UNMARKED; *cells];
+                spell_explained(operations::explain(sheet, &case.filter, &cards, &mut marks), &marks)
             }
             Operation::Report { rows, .. } => {
                 let mut rows = vec![Tally { cards: UNTOUCHED, values: UNTOUCHED }; *rows];
@@ -143,6 +153,9 @@ impl Cases {
             (["damaged", name, "from", other], None) => return self.damaged(name, other, parts),
             (["check", _], Some(_)) => Operation::Check,
             (["match", _, card], Some(_)) => Operation::Match { card: self.index(card)? },
+            (["explain", _, card, "into", cells], Some(_)) => {
+                Operation::Explain { card: self.index(card)?, cells: cells.parse().ok()? }
+            }
             (["select", _, cards @ .., "into", cells], Some(_)) => {
                 let cards = cards.iter().map(|card| self.repeated(card)).collect::<Option<Vec<_>>>()?;
                 Operation::Select { cards: cards.concat(), cells: cells.parse().ok()? }
@@ -252,6 +265,16 @@ pub fn spell_verdict(answer: Result<bool, Refusal>) -> String {
         Ok(false) => "no".to_string(),
         Err(refusal) => spell_refusal(refusal),
     }
+}
+
+/// The answer of explain, with the cells.
+pub fn spell_explained(answer: Result<bool, Refusal>, cells: &[u8]) -> String {
+    let mut spelled = spell_verdict(answer);
+    spelled.push_str(" cells");
+    for cell in cells {
+        write!(spelled, " {cell}").unwrap();
+    }
+    spelled
 }
 
 /// The answer of prepare, with the cells.

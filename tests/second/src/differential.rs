@@ -1,6 +1,7 @@
 //! The differential test: a library under test beside the second implementation, on generated inputs.
 
 use crate::block;
+use crate::filter;
 use crate::generate::{self, Case, Random};
 use crate::operations::{self, Refusal, Tally};
 use std::collections::BTreeMap;
@@ -26,6 +27,9 @@ const PRINTED: u64 = 3;
 /// The row of answers of judge on rows that the case's own filter does not have.
 pub const OTHER_ROWS: &str = "judge of other rows";
 
+/// The row of answers of explain where some test is spared.
+pub const SPARED: &str = "explain that spares";
+
 /// The row of answers of match on a card with the same texts under the names that the filter uses.
 pub const ALIKE: &str = "match of a card alike";
 
@@ -34,6 +38,7 @@ pub trait Library {
     fn check(&self, sheet: &[u8], filter: &[u8]) -> Result<usize, Refusal>;
     fn matches(&self, sheet: &[u8], filter: &[u8], card: &[u8]) -> Result<bool, Refusal>;
     fn select(&self, sheet: &[u8], filter: &[u8], cards: &[u8], list: &mut [u32]) -> Result<usize, Refusal>;
+    fn explain(&self, sheet: &[u8], filter: &[u8], card: &[u8], cells: &mut [u8]) -> Result<bool, Refusal>;
     fn report(&self, sheet: &[u8], filter: &[u8], cards: &[u8], rows: &mut [Tally]) -> Result<(usize, usize), Refusal>;
     fn spell(&self, filter: &[u8], buffer: &mut [u8], from: usize) -> Result<usize, Refusal>;
     fn check_search(&self, sheet: &[u8], text: &[u8]) -> Result<usize, Refusal>;
@@ -79,7 +84,9 @@ impl Outcome {
         let by_search = ["check by search", "match by search", "select by search"];
         let by_rows = ["prepare", "judge", OTHER_ROWS, ALIKE];
         let others = by_search.into_iter().chain(by_rows);
-        for row in ["check", "match", CONDITIONS, "select", "report", "spell"].into_iter().chain(others) {
+        for row in
+            ["check", "match", CONDITIONS, "explain", SPARED, "select", "report", "spell"].into_iter().chain(others)
+        {
             let answers = self.answers.iter().filter(|((of, _), _)| *of == row);
             let answers = answers.map(|((_, answer), count)| format!("{answer} {count}"));
             println!("{row}: {}", listed(answers.collect()));
@@ -105,6 +112,7 @@ pub fn run(library: &impl Library, seed: u64, cases: u64) -> Outcome {
         let rows = generate::rows(seed, number, &case);
         let mut differences = compare(library, &case, &mut outcome.answers);
         differences.extend(compare_search(library, &case, &query, &mut outcome.answers));
+        differences.extend(compare_explained(library, &case, &mut outcome.answers));
         differences.extend(compare_rows(library, &case, &rows, &mut outcome.answers));
         let mut random = Random::new(seed.wrapping_add(1), number);
         differences.extend(compare_alike(library, &case, &query, &rows, &mut random, &mut outcome.answers));
@@ -173,6 +181,35 @@ fn compare(library: &impl Library, case: &Case, answers: &mut BTreeMap<(&'static
     note("spell", told(ours, |length| if length < filter.len() { "shorter" } else { "plain already" }));
     differences.extend(difference("spell", ours, theirs));
     differences.extend(difference("buffer", our_buffer, their_buffer));
+    differences
+}
+
+/// The same of explain, into as many cells as there are tests, into one less, and into more.
+fn compare_explained(
+    library: &impl Library,
+    case: &Case,
+    answers: &mut BTreeMap<(&'static str, String), u64>,
+) -> Vec<String> {
+    let Case { sheet, filter, card, .. } = case;
+    let mut differences = Vec::new();
+    let mut note = |operation: &'static str, answer: String| {
+        *answers.entry((operation, answer)).or_default() += 1;
+    };
+
+    let tests = filter::read(filter).map_or(0, |filter| filter.outer_count());
+    for lent in [tests.saturating_sub(1), tests, tests + 2] {
+        let mut ours_marked = vec![GUARD as u8; lent + GUARD];
+        let mut theirs_marked = ours_marked.clone();
+        let ours = operations::explain(sheet, filter, card, &mut ours_marked[..lent]);
+        let theirs = library.explain(sheet, filter, card, &mut theirs_marked[..lent]);
+        let answer = told(ours, |yes| if yes { "yes" } else { "no" });
+        if ours.is_ok() && ours_marked.contains(&0) {
+            note(SPARED, answer.clone());
+        }
+        note("explain", answer);
+        differences.extend(difference("explain", ours, theirs));
+        differences.extend(difference("marks", ours_marked, theirs_marked));
+    }
     differences
 }
 
@@ -246,7 +283,8 @@ fn compare_rows(
     differences
 }
 
-/// Whether each side answers on a card alike as on the case's own: by the filter, by the rows and by the search string.
+/// Whether each side answers on a card alike as on the case's own: by the filter, with the explanation, by the rows and by the
+/// search string.
 fn compare_alike(
     library: &impl Library,
     case: &Case,
@@ -265,6 +303,10 @@ fn compare_alike(
         let answer = told(ours(&other), |yes| if yes { "yes" } else { "no" });
         *answers.entry((ALIKE, answer)).or_default() += 1;
         differences.extend(unlike("match", ours, theirs, card, &other));
+
+        let ours = |card: &[u8]| explained(|cells| operations::explain(sheet, filter, card, cells));
+        let theirs = |card: &[u8]| explained(|cells| library.explain(sheet, filter, card, cells));
+        differences.extend(unlike("explain", ours, theirs, card, &other));
     }
     if let Some(other) = generate::alike(random, &read, card, &generate::used_by_rows(rows, filter, &read)) {
         let ours = |card: &[u8]| operations::judge(sheet, filter, rows, card);
@@ -277,6 +319,12 @@ fn compare_alike(
         differences.extend(unlike("match by search", ours, theirs, card, &other));
     }
     differences
+}
+
+/// An explanation, with every cell.
+fn explained(explain: impl Fn(&mut [u8]) -> Result<bool, Refusal>) -> (Result<bool, Refusal>, Vec<u8>) {
+    let mut cells = vec![u8::MAX; filter::MOST_TESTS + GUARD];
+    (explain(&mut cells), cells)
 }
 
 /// Where one side does not answer alike on two cards.

@@ -98,6 +98,12 @@ impl<T> Filter<T> {
         self.first.count() + items.map(Item::count).sum::<usize>()
     }
 
+    /// How many tests it has, one with a condition counted once.
+    pub fn outer_count(&self) -> usize {
+        let items = self.rest.iter().map(|(_, item)| item);
+        self.first.outer_count() + items.map(Item::outer_count).sum::<usize>()
+    }
+
     /// Whether some test has a condition inside its path.
     pub fn has_condition(&self) -> bool {
         let mut items = self.rest.iter().map(|(_, item)| item);
@@ -131,6 +137,13 @@ impl<T> Filter<T> {
 }
 
 impl<T> Item<T> {
+    fn outer_count(&self) -> usize {
+        match self {
+            Item::Test(..) => 1,
+            Item::Bracket(filter) | Item::Not(filter) => filter.outer_count(),
+        }
+    }
+
     fn count(&self) -> usize {
         match self {
             Item::Test(_, condition) => 1 + condition.as_ref().map_or(0, |filter| filter.count()),

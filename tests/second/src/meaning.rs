@@ -194,7 +194,7 @@ pub fn verdict(filter: &Filter<Question>, held: &[Held]) -> bool {
 
 impl Question {
     /// The test's yes or no. A condition is judged for each occurrence by itself, and chooses those that say yes.
-    fn verdict(&self, condition: Option<&Filter<Question>>, held: &[Held]) -> bool {
+    pub fn verdict(&self, condition: Option<&Filter<Question>>, held: &[Held]) -> bool {
         let is_chosen = |occurrence| condition.is_none_or(|condition| verdict(condition, &at(occurrence, held)));
         let mut set = held.iter().filter(|one| one.place == self.place && is_chosen(one.occurrence));
         match &self.asks {

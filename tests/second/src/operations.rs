@@ -2,8 +2,9 @@
 
 use crate::beginning;
 use crate::block::{self, Card, Flaw, Sheet};
+use crate::explain;
 use crate::filter::{self, Filter, Test};
-use crate::meaning::{self, Fault, Question};
+use crate::meaning::{self, Fault, Held, Question};
 use crate::rows;
 use crate::search;
 use crate::spelling;
@@ -83,6 +84,16 @@ pub fn report(sheet: &[u8], filter: &[u8], cards: &[u8], rows: &mut [Tally]) -> 
     let needed = rows.get_mut(..tallies.len());
     needed.ok_or(refused(31, tallies.len()))?.copy_from_slice(&tallies);
     Ok((yes, no))
+}
+
+/// Answers whether the card matches the filter, and writes a cell for each test: whether it is spared, or how it decides.
+pub fn explain(sheet: &[u8], filter: &[u8], card: &[u8], cells: &mut [u8]) -> Result<bool, Refusal> {
+    let asked = Asked::read(sheet, filter)?;
+    let (_, held) = asked.card(card, 0)?;
+    let marks = explain::cells(&asked.filter, |question, condition| question.verdict(condition, &held));
+    let needed = cells.get_mut(..marks.len());
+    needed.ok_or(refused(33, marks.len()))?.copy_from_slice(&marks);
+    Ok(meaning::verdict(&asked.filter, &held))
 }
 
 /// Puts the plain spelling of the filter into the buffer from this place on and answers its length.
@@ -167,14 +178,19 @@ impl Asked {
 
     /// A card, which stands at this index, and the yes or no of it.
     fn judge<'a>(&self, card: &'a [u8], index: usize) -> Result<(Card<'a>, bool), Refusal> {
+        let (card, held) = self.card(card, index)?;
+        Ok((card, meaning::verdict(&self.filter, &held)))
+    }
+
+    /// A card, which stands at this index, and what it holds.
+    fn card<'a>(&self, card: &'a [u8], index: usize) -> Result<(Card<'a>, Vec<Held<'a>>), Refusal> {
         let card = block::read_card(card).map_err(|flaw| match flaw {
             Flaw::Size => refused(20, 0),
             Flaw::Sum => refused(21, index),
             Flaw::Layout => refused(22, index),
         })?;
         let held = meaning::held(&card, &self.sheet).ok_or(refused(23, index))?;
-        let verdict = meaning::verdict(&self.filter, &held);
-        Ok((card, verdict))
+        Ok((card, held))
     }
 }
 

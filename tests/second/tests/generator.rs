@@ -1,7 +1,7 @@
 //! The generated inputs reach what they are meant to reach, and come out the same every time.
 
 use second::block;
-use second::differential::{ALIKE, CONDITIONS, Library, OTHER_ROWS, run};
+use second::differential::{ALIKE, CONDITIONS, Library, OTHER_ROWS, SPARED, run};
 use second::generate::{self, Random, Used};
 use second::operations::{self, Refusal, Tally};
 
@@ -19,6 +19,10 @@ impl Library for Second {
 
     fn select(&self, sheet: &[u8], filter: &[u8], cards: &[u8], list: &mut [u32]) -> Result<usize, Refusal> {
         operations::select(sheet, filter, cards, list)
+    }
+
+    fn explain(&self, sheet: &[u8], filter: &[u8], card: &[u8], cells: &mut [u8]) -> Result<bool, Refusal> {
+        operations::explain(sheet, filter, card, cells)
     }
 
     fn report(&self, sheet: &[u8], filter: &[u8], cards: &[u8], rows: &mut [Tally]) -> Result<(usize, usize), Refusal> {
@@ -67,6 +71,14 @@ fn every_answer_and_mostly_verdicts() {
         let answer = ("report", format!("refused-{:02}", if number == 30 { 31 } else { number }));
         assert!(outcome.answers.contains_key(&answer), "no report is {}", answer.1);
     }
+    for number in [1, 2, 3, 10, 11, 12, 13, 14, 15, 16, 17, 18, 20, 21, 22, 23, 33] {
+        let answer = ("explain", format!("refused-{number:02}"));
+        assert!(outcome.answers.contains_key(&answer), "no explanation is refused by {number}");
+    }
+    // each case is explained into three lists
+    let (verdicts, sparing) = (outcome.verdicts("explain"), outcome.verdicts(SPARED));
+    assert!(verdicts >= cases / 3, "{verdicts} of {cases} explanations end in yes or no");
+    assert!(5 * sparing >= verdicts, "{sparing} of {verdicts} explanations spare a test");
     for answer in ["shorter", "plain already", "refused-10", "refused-11", "refused-12", "refused-13", "refused-32"] {
         assert!(outcome.answers.contains_key(&("spell", answer.to_string())), "nothing spelled is {answer}");
     }

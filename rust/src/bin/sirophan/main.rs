@@ -2,7 +2,7 @@
 //!
 //! Its parts, from the top down:
 //!
-//! - the commands: `pick`, `check`, `report` (in `counts`), `plain`, `fields`, `pack`, `show`, `verify`;
+//! - the commands: `pick`, `explain`, `check`, `report` (in `counts`), `plain`, `fields`, `pack`, `show`, `verify`;
 //! - what they say beside their answers: `advice` on refusals, `doubt` about filters, `tally` of what cards hold;
 //! - what they go through: `cards` in blocks, `description` in words;
 //! - what these are made of: `sheet`, `filter`, `kind`, which asks the library, and `block`;
@@ -16,6 +16,7 @@ mod check;
 mod counts;
 mod description;
 mod doubt;
+mod explain;
 mod fields;
 mod filter;
 mod input;
@@ -54,7 +55,7 @@ struct Command {
 }
 
 /// The commands. A later one is another row.
-const COMMANDS: [Command; 8] = [
+const COMMANDS: [Command; 9] = [
     Command {
         name: "pick",
         usage: "[--stream] SHEET FILTER CARDS",
@@ -71,6 +72,24 @@ const COMMANDS: [Command; 8] = [
                \x20   300\n\
                \x20   2 of 3\n",
         run: pick::run,
+    },
+    Command {
+        name: "explain",
+        usage: "--record N SHEET FILTER CARDS",
+        paths: 3..=3,
+        options: &["--record"],
+        summary: "says why a filter says yes or no of the cards with a record number",
+        help: "It underlines the tests that decide, with what each says: with these alone the answer stands, no matter what the\n\
+               others say, and none of them can be spared. Of several such sets it shows the one that is left when the tests are\n\
+               tried from the last to the first and each that can be spared is. A test with a condition in square brackets is\n\
+               one.\n\n\
+               Example:\n\n\
+               \x20   $ sirophan explain --record 300 target/ward/sheet.bin target/ward/filter.txt target/ward/cards.bin\n\
+               \x20   card 2, record 300: yes\n\
+               \x20   birthdate le 1974-06 and (code eq loinc|1234-5 or title co \"admissions\")\n\
+               \x20   ^^^^^^^^^^^^^^^^^^^^                              ^^^^^^^^^^^^^^^^^^^^^\n\
+               \x20   yes                                               yes\n",
+        run: explain::run,
     },
     Command {
         name: "check",

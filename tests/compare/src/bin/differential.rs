@@ -49,6 +49,10 @@ impl Library for Proved {
         sirophan::spell(filter, buffer, from).map_err(refusal)
     }
 
+    fn explain(&self, sheet: &[u8], filter: &[u8], card: &[u8], cells: &mut [u8]) -> Result<bool, Refusal> {
+        sirophan::explain_into(sheet, filter, card, cells).map_err(refusal)
+    }
+
     fn report(&self, sheet: &[u8], filter: &[u8], cards: &[u8], rows: &mut [Tally]) -> Result<(usize, usize), Refusal> {
         compare::report(sheet, filter, cards, rows)
     }

@@ -90,7 +90,10 @@ fn packed(cases: &Cases) -> Vec<u8> {
             Operation::Check => (0, 0),
             Operation::Match { .. } => (1, 0),
             Operation::Select { cells, .. } => (2, cells),
-            Operation::Report { .. } | Operation::Prepare { .. } | Operation::Judge { .. } => {
+            Operation::Explain { .. }
+            | Operation::Report { .. }
+            | Operation::Prepare { .. }
+            | Operation::Judge { .. } => {
                 unreachable!("no case of the program")
             }
         };

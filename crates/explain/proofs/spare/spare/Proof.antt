@@ -35,6 +35,9 @@ remains-requires c κs = search needs
 slice-write-marks-2 : tie.Need-slice-write-marks-2 Inv-loop μ-loop
 slice-write-marks-2 c = search (sparing-again, needs)
 
+sub-left : tie.Need-sub-left Inv-loop μ-loop
+sub-left c = search needs
+
 loop-less : tie.Need-loop-less Inv-loop μ-loop
 loop-less c = search needs
 
@@ -60,6 +63,7 @@ spare-spec =
     mark-of-requires
     remains-requires
     slice-write-marks-2
+    sub-left
     loop-less
     loop-again
     same-length

@@ -1,0 +1,74 @@
+-- The promises about explain (02: "why this card?"); each is proved where its one line says. The contract of `explain` says that the code
+-- answers as explainAnswer does, and leaves the list as explainCells says. Assumes nothing.
+use Prim.Native.Nat.{ℕ, _≤_, _<_}
+use mathlib.Core.Path.{_≡_}
+use mathlib.Core.Bool.{Bool, true}
+use mathlib.Core.Logic.{_↔_}
+use mathlib.Core.List.{List}
+use lib.ListN.{length}
+use Rattle.base.specs.Bytes.{Bytes}
+use Rattle.base.specs.Lists.{All}
+use Rattle.sheet.specs.Sheet.{Parameter}
+use Rattle.sheet.specs.Encode.{SheetBlock}
+use Rattle.card.specs.Card.{Entry}
+use Rattle.syntax.specs.Tree.{Tree}
+use Rattle.syntax.specs.Grammar.{Spells}
+use Rattle.judge.specs.Rules.{Conforms}
+use Rattle.judge.specs.Verdicts.{filterSays}
+use Rattle.refusal.specs.Answers.{refused}
+use Rattle.refusal.specs.Order.{Decides}
+use Rattle.explain.specs.Deciding.{outerTests, outerCount, verdicts, saysBy, Suffices, Explains}
+use Rattle.explain.specs.Marks.{suffices, deciding, explanation}
+use Rattle.explain.specs.Operation.{explainAnswer, explainCells}
+use Rattle.explain.specs.Refusals.{ExplainLine}
+use Rattle.explain.specs.Explaining.{ExplainAnswers, AsMatch}
+use Rattle.explain.proofs.Exact as exact
+use Rattle.explain.proofs.Numbered as numbered
+use Rattle.explain.proofs.Deciding as deciding-set
+use Rattle.explain.proofs.Table as table
+use Rattle.explain.proofs.Answered as answered
+
+-- ---- refusals
+
+-- refused with a number and a place exactly where that line of the table holds and none before it does
+pub explain-refused : (sheet text card : List ℕ) (room : ℕ) → Bytes sheet → Bytes card → (n p : ℕ) → (explainAnswer sheet text card room ≡ refused n p) ↔ Decides (ExplainLine sheet text card room) n p
+explain-refused = table.explain-table
+
+pub refusal-keeps-list : (sheet text card list : List ℕ) (n p : ℕ) → explainAnswer sheet text card (length list) ≡ refused n p → explainCells sheet text card list ≡ list
+refusal-keeps-list = answered.refusal-keeps
+
+-- match's answer, or 33 where match answers yes or no
+pub explain-as-match : (sheet text card list : List ℕ) → AsMatch sheet text card (length list)
+explain-as-match = answered.as-match
+
+-- ---- the answer
+
+-- where no line holds, explain answers the filter's yes or no, and writes the cells of the tests that decide; later cells stay
+pub explain-answered : (sheet text card list : List ℕ) (s : SheetBlock sheet) (f : Tree) → length text ≤ 1024 → Spells text f → (es : List Entry) → Conforms (s .parameters) card es → Bytes sheet
+    → ((n p : ℕ) → ExplainLine sheet text card (length list) n p → ⊥) → ExplainAnswers sheet text card list (s .parameters) es f
+explain-answered = answered.explain-answered
+
+-- ---- the tests that decide
+
+-- the tests that are kept are the ones that 02 names, and no others are
+pub deciding-explains : (f : Tree) (v : ℕ → Bool) → Explains f v (deciding f v)
+deciding-explains = deciding-set.explains
+
+pub explains-unique : (f : Tree) (v kept other : ℕ → Bool) → Explains f v kept → Explains f v other → (i : ℕ) → i < outerCount f → kept i ≡ other i
+explains-unique = deciding-set.explains-unique
+
+-- judging with three values tells exactly whether the answer stands, no matter what the others say
+pub sufficing : (f : Tree) (v kept : ℕ → Bool) → (suffices f v kept ≡ true) ↔ Suffices f v kept
+sufficing f v kept = (exact.suffices-stands f v kept, exact.stands-suffices f v kept)
+
+-- by the verdicts of its tests a filter says what it says
+pub says-by-verdicts : (ps : List Parameter) (c : ℕ) (es : List Entry) (f : Tree) → saysBy (verdicts (filterSays ps c es) f) 0 f ≡ filterSays ps c es f
+says-by-verdicts = numbered.says-by-verdicts
+
+-- there is a cell for each outer test, and there is one at least
+pub tests-counted : (f : Tree) → (length (outerTests f) ≡ outerCount f) × (0 < outerCount f)
+tests-counted f = (numbered.tests-counted f, numbered.some-tests f)
+
+-- the cells depend on what the outer tests say, and on nothing else
+pub explanation-same : (says other : Tree → Bool) (f : Tree) → All (λ (t : Tree). says t ≡ other t) (outerTests f) → explanation says f ≡ explanation other f
+explanation-same = numbered.explanation-same

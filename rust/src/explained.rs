@@ -1,0 +1,215 @@
+//! Why a filter says what it says of a card: the tests that decide.
+
+use crate::refusal::printable;
+use crate::{Refusal, ffi};
+use std::ops::Range;
+
+/// A filter has at most this many tests.
+const MOST_TESTS: usize = 32;
+/// How many characters of the filter stand on a line of a rendering.
+const WIDTH: usize = 100;
+
+/// What a test does for the answer.
+#[derive(Clone, Copy, Debug, PartialEq, Eq, Hash)]
+pub enum Mark {
+    /// The answer stands whatever the test says.
+    Spared,
+    /// It decides by its yes, or by its no.
+    Yes,
+    No,
+}
+
+/// A test of the filter, a condition in square brackets being part of the test that it stands in.
+#[derive(Clone, Debug, PartialEq, Eq, Hash)]
+pub struct Explained {
+    /// Where it stands in the filter.
+    pub place: Range<usize>,
+    pub mark: Mark,
+}
+
+/// Why a filter says yes or no of a card: with the verdicts of the tests that decide alone its answer stands, no matter what
+/// the others say, and none of them can be spared.
+#[derive(Clone, Debug, PartialEq, Eq, Hash)]
+pub struct Explanation {
+    pub matches: bool,
+    /// The tests, in the order of the filter.
+    pub tests: Vec<Explained>,
+}
+
+/// Explains what the filter says of the card. What [`matches`](crate::matches) refuses is refused alike.
+///
+/// ```
+/// fn tell(sheet: &[u8], filter: &[u8], card: &[u8]) -> Result<(), sirophan::Refusal> {
+///     let explanation = sirophan::explain(sheet, filter, card)?;
+///     println!("{}", explanation.render(filter));
+///     Ok(())
+/// }
+/// ```
+pub fn explain(sheet: &[u8], filter: &[u8], card: &[u8]) -> Result<Explanation, Refusal> {
+    let mut cells = [0; MOST_TESTS];
+    let matches = explain_into(sheet, filter, card, &mut cells)?;
+    let explained = |(place, cell): (Range<usize>, u8)| {
+        let mark = match cell {
+            1 => Mark::Yes,
+            2 => Mark::No,
+            _ => Mark::Spared,
+        };
+        Explained { place, mark }
+    };
+    let tests = outer_tests(filter).into_iter().zip(cells).map(explained).collect();
+    Ok(Explanation { matches, tests })
+}
+
+/// Answers whether the card matches the filter, and writes a cell for each test into the list, from its first cell on: 0
+/// where it is spared, 1 where it decides by its yes, 2 where it decides by its no. Later cells stay, and a refusal leaves
+/// all of them as they are; 33 says how many are needed.
+pub fn explain_into(sheet: &[u8], filter: &[u8], card: &[u8], cells: &mut [u8]) -> Result<bool, Refusal> {
+    // SAFETY: each pointer comes with the length of the slice that it is of. Only the cells are written, and they cannot
+    // overlap the others, since they are borrowed for writing.
+    let answer = unsafe {
+        ffi::sirophan_explain(
+            sheet.as_ptr(),
+            sheet.len(),
+            filter.as_ptr(),
+            filter.len(),
+            card.as_ptr(),
+            card.len(),
+            cells.as_mut_ptr(),
+            cells.len(),
+        )
+    };
+    answer.into_result().map(|value| value == 1)
+}
+
+impl Explanation {
+    /// The filter as a person would want to see it: the tests that decide are underlined, with a `yes` or a `no` under each.
+    ///
+    /// ```text
+    /// title co book or birthdate le 1974-06 and pages gt 12
+    ///                  ^^^^^^^^^^^^^^^^^^^^     ^^^^^^^^^^^
+    ///                  yes                      yes
+    /// ```
+    pub fn render(&self, filter: &[u8]) -> String {
+        let shown = printable(filter);
+        let mut carets = vec![' '; shown.len()];
+        let mut words = vec![' '; shown.len()];
+        for Explained { place, mark } in &self.tests {
+            let word = match mark {
+                Mark::Spared => continue,
+                Mark::Yes => "yes",
+                Mark::No => "no",
+            };
+            let column = |byte: usize| printable(&filter[..byte]).len();
+            carets[column(place.start)..column(place.end)].fill('^');
+            words[column(place.start)..].iter_mut().zip(word.chars()).for_each(|(cell, letter)| *cell = letter);
+        }
+        let mut lines = Vec::new();
+        for start in (0..shown.len()).step_by(WIDTH) {
+            let end = shown.len().min(start + WIDTH);
+            let row = |row: &[char]| row[start..end].iter().collect::<String>().trim_end().to_string();
+            let below = [row(&carets), row(&words)].into_iter().filter(|line| !line.is_empty());
+            lines.extend([row(&shown)].into_iter().chain(below));
+        }
+        lines.join("\n")
+    }
+}
+
+/// Where the tests of a filter stand that are in no square brackets. Only a text that is a filter is read here, so that
+/// each step is told by the next byte.
+fn outer_tests(filter: &[u8]) -> Vec<Range<usize>> {
+    let mut tests = Vec::new();
+    skip_filter(filter, 0, &mut |test| tests.push(test));
+    tests
+}
+
+/// Goes past the items of a filter and the words that join them, up to its end or a closing square bracket.
+fn skip_filter(text: &[u8], from: usize, found: &mut dyn FnMut(Range<usize>)) -> usize {
+    let mut at = from;
+    loop {
+        at = behind(text, at, |byte| matches!(byte, b' ' | b'('));
+        let not = text[at..].strip_prefix(b"not").map(|_| behind(text, at + 3, |byte| byte == b' '));
+        match not.filter(|&open| text.get(open) == Some(&b'(')) {
+            Some(open) => {
+                at = open;
+                continue;
+            }
+            None => {
+                let end = skip_test(text, at);
+                found(at..end);
+                at = behind(text, end, |byte| matches!(byte, b' ' | b')'));
+            }
+        }
+        if at == text.len() || text[at] == b']' {
+            return at;
+        }
+        at = skip_word(text, at);
+    }
+}
+
+/// Goes past a test: a path, an operator and a value.
+fn skip_test(text: &[u8], from: usize) -> usize {
+    let mut at = skip_word(text, from);
+    if text.get(at) == Some(&b'[') {
+        at = skip_filter(text, at + 1, &mut |_| {});
+        at = skip_word(text, at + 2);
+    }
+    at = behind(text, at, |byte| byte == b' ');
+    at = skip_word(text, at);
+    at = behind(text, at, |byte| byte == b' ');
+    if text.get(at) != Some(&b'"') {
+        return behind(text, at, |byte| !matches!(byte, b' ' | b')' | b']'));
+    }
+    at += 1;
+    while at < text.len() && text[at] != b'"' {
+        at += if text[at] == b'\\' { 2 } else { 1 };
+    }
+    text.len().min(at + 1)
+}
+
+/// Goes past a name, an operator or a joining word.
+fn skip_word(text: &[u8], from: usize) -> usize {
+    behind(text, from, |byte| byte.is_ascii_alphanumeric() || matches!(byte, b'_' | b'-'))
+}
+
+/// Where the bytes end that pass.
+fn behind(text: &[u8], from: usize, passes: impl Fn(u8) -> bool) -> usize {
+    let from = from.min(text.len());
+    from + text[from..].iter().take_while(|byte| passes(**byte)).count()
+}
+
+#[cfg(test)]
+mod tests {
+    use super::*;
+
+    /// Tests are found in brackets and behind `not`, with their own brackets, and where a name is a word of the grammar.
+    #[test]
+    fn outer_tests_of_a_filter() {
+        let part = |text: &'static [u8]| -> Vec<&str> {
+            outer_tests(text).into_iter().map(|place| str::from_utf8(&text[place]).unwrap()).collect()
+        };
+        assert_eq!(part(b"a eq 1"), ["a eq 1"]);
+        assert_eq!(part(b" not ( a eq \"x\\\") or b\" )or not eq (1 "), [r#"a eq "x\") or b""#, "not eq (1"]);
+        assert_eq!(part(b"(a eq 1)and(not(b eq 2))or and ne or"), ["a eq 1", "b eq 2", "and ne or"]);
+        assert_eq!(
+            part(b"r[ not (t eq \"]\") or u eq [ ].x pr true and ((y lt 2))"),
+            [r#"r[ not (t eq "]") or u eq [ ].x pr true"#, "y lt 2"]
+        );
+    }
+
+    /// Deciding tests are underlined, with their words; a long filter goes over several lines.
+    #[test]
+    fn rendering() {
+        let filter = b"a eq 1 or b ne 2 and c lt 3";
+        let marks = [Mark::Spared, Mark::Yes, Mark::No];
+        let tests = outer_tests(filter).into_iter().zip(marks).map(|(place, mark)| Explained { place, mark });
+        let explanation = Explanation { matches: true, tests: tests.collect() };
+        let shown = "a eq 1 or b ne 2 and c lt 3\n          ^^^^^^     ^^^^^^\n          yes        no";
+        assert_eq!(explanation.render(filter), shown);
+
+        let filter = format!("a eq {} or b eq 2", "x".repeat(100));
+        let place = outer_tests(filter.as_bytes()).remove(1);
+        let explanation = Explanation { matches: true, tests: vec![Explained { place, mark: Mark::Yes }] };
+        let shown = format!("a eq {}\nxxxxx or b eq 2\n         ^^^^^^\n         yes", "x".repeat(95));
+        assert_eq!(explanation.render(filter.as_bytes()), shown);
+    }
+}
