@@ -1,7 +1,8 @@
 //! The differential test: a library under test beside the second implementation, on generated inputs.
 
+use crate::block;
 use crate::filter;
-use crate::generate::{self, Case};
+use crate::generate::{self, Case, Random};
 use crate::operations::{self, Refusal, Tally};
 use std::collections::BTreeMap;
 use std::fmt::Debug;
@@ -28,6 +29,9 @@ pub const OTHER_ROWS: &str = "judge of other rows";
 
 /// The row of answers of explain where some test is spared.
 pub const SPARED: &str = "explain that spares";
+
+/// The row of answers of match on a card with the same texts under the names that the filter uses.
+pub const ALIKE: &str = "match of a card alike";
 
 /// What can be tested: the operations, of which three go by a search string too, and two by the engine over the text.
 pub trait Library {
@@ -80,7 +84,7 @@ impl Outcome {
         let modes = self.modes.iter().map(|(mode, count)| format!("{mode} {count}"));
         println!("cases: {}", listed(modes.collect()));
         let by_search = ["check by search", "match by search", "select by search"];
-        let by_rows = ["prepare", "judge", OTHER_ROWS];
+        let by_rows = ["prepare", "judge", OTHER_ROWS, ALIKE];
         let others = by_search.into_iter().chain(by_rows);
         for row in
             ["check", "match", CONDITIONS, "explain", SPARED, "select", "report", "spell"].into_iter().chain(others)
@@ -112,6 +116,8 @@ pub fn run(library: &impl Library, seed: u64, cases: u64) -> Outcome {
         differences.extend(compare_search(library, &case, &query, &mut outcome.answers));
         differences.extend(compare_explained(library, &case, &mut outcome.answers));
         differences.extend(compare_rows(library, &case, &rows, &mut outcome.answers));
+        let mut random = Random::new(seed.wrapping_add(1), number);
+        differences.extend(compare_alike(library, &case, &query, &rows, &mut random, &mut outcome.answers));
         if differences.is_empty() {
             outcome.passed += 1;
             continue;
@@ -281,6 +287,66 @@ fn compare_rows(
     note(OTHER_ROWS, told(ours, |yes| if yes { "yes" } else { "no" }));
     differences.extend(difference("judge", ours, theirs));
     differences
+}
+
+/// Whether each side answers on a card alike as on the case's own: by the filter, with the explanation, by the rows and by the
+/// search string.
+fn compare_alike(
+    library: &impl Library,
+    case: &Case,
+    query: &[u8],
+    rows: &[u32],
+    random: &mut Random,
+    answers: &mut BTreeMap<(&'static str, String), u64>,
+) -> Vec<String> {
+    let Case { sheet, filter, card, .. } = case;
+    let Ok(read) = block::read_sheet(sheet) else { return Vec::new() };
+    let mut differences = Vec::new();
+
+    if let Some(other) = generate::alike(random, &read, card, &generate::used_by_filter(filter, &read)) {
+        let ours = |card: &[u8]| operations::matches(sheet, filter, card);
+        let theirs = |card: &[u8]| library.matches(sheet, filter, card);
+        let answer = told(ours(&other), |yes| if yes { "yes" } else { "no" });
+        *answers.entry((ALIKE, answer)).or_default() += 1;
+        differences.extend(unlike("match", ours, theirs, card, &other));
+
+        let ours = |card: &[u8]| explained(|cells| operations::explain(sheet, filter, card, cells));
+        let theirs = |card: &[u8]| explained(|cells| library.explain(sheet, filter, card, cells));
+        differences.extend(unlike("explain", ours, theirs, card, &other));
+    }
+    if let Some(other) = generate::alike(random, &read, card, &generate::used_by_rows(rows, filter, &read)) {
+        let ours = |card: &[u8]| operations::judge(sheet, filter, rows, card);
+        let theirs = |card: &[u8]| library.judge(sheet, filter, rows, card);
+        differences.extend(unlike("judge", ours, theirs, card, &other));
+    }
+    if let Some(other) = generate::alike(random, &read, card, &generate::used_by_query(query, &read)) {
+        let ours = |card: &[u8]| operations::matches_search(sheet, query, card);
+        let theirs = |card: &[u8]| library.matches_search(sheet, query, card);
+        differences.extend(unlike("match by search", ours, theirs, card, &other));
+    }
+    differences
+}
+
+/// An explanation, with every cell.
+fn explained(explain: impl Fn(&mut [u8]) -> Result<bool, Refusal>) -> (Result<bool, Refusal>, Vec<u8>) {
+    let mut cells = vec![u8::MAX; filter::MOST_TESTS + GUARD];
+    (explain(&mut cells), cells)
+}
+
+/// Where one side does not answer alike on two cards.
+fn unlike<T: PartialEq + Debug>(
+    operation: &str,
+    ours: impl Fn(&[u8]) -> T,
+    theirs: impl Fn(&[u8]) -> T,
+    card: &[u8],
+    other: &[u8],
+) -> Vec<String> {
+    let told = |side: &str, own: T, alike: T| {
+        (own != alike).then(|| format!("{operation}, {side}: {own:?}, and {alike:?} on a card alike: {other:02x?}"))
+    };
+    let sides =
+        [told("the library", theirs(card), theirs(other)), told("the second implementation", ours(card), ours(other))];
+    sides.into_iter().flatten().collect()
 }
 
 fn told<T>(answer: Result<T, Refusal>, tell: impl Fn(T) -> &'static str) -> String {

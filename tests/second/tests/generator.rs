@@ -1,7 +1,8 @@
 //! The generated inputs reach what they are meant to reach, and come out the same every time.
 
-use second::differential::{CONDITIONS, Library, OTHER_ROWS, SPARED, run};
-use second::generate;
+use second::block;
+use second::differential::{ALIKE, CONDITIONS, Library, OTHER_ROWS, SPARED, run};
+use second::generate::{self, Random, Used};
 use second::operations::{self, Refusal, Tally};
 
 /// The second implementation beside itself.
@@ -100,6 +101,28 @@ fn every_answer_and_mostly_verdicts() {
     assert!(5 * verdicts >= cases, "{verdicts} of {cases} have good rows of another filter, or some changed ones");
     let bad = outcome.answers[&(OTHER_ROWS, "refused-40".to_string())];
     assert!(5 * bad >= cases, "{bad} of {cases} have rows that are not good");
+    let verdicts = outcome.verdicts(ALIKE);
+    assert!(3 * verdicts >= cases, "{verdicts} of {cases} end in yes or no on a card alike");
+}
+
+/// Cards alike are other cards, of the same verdict; where no name counts as used, many verdicts change.
+#[test]
+fn cards_alike() {
+    let (mut pairs, mut others, mut changed) = (0, 0, 0);
+    for number in 0..4000 {
+        let (case, _) = generate::case(1, number);
+        let verdict = |card: &[u8]| operations::matches(&case.sheet, &case.filter, card);
+        let (Ok(sheet), Ok(_)) = (block::read_sheet(&case.sheet), verdict(&case.card)) else { continue };
+        let mut random = Random::new(2, number);
+        let mut alike = |used: &Used| generate::alike(&mut random, &sheet, &case.card, used).unwrap();
+        let other = alike(&generate::used_by_filter(&case.filter, &sheet));
+        assert_eq!(verdict(&other), verdict(&case.card), "{:?}", String::from_utf8_lossy(&case.filter));
+        pairs += 1;
+        others += u32::from(other != case.card);
+        changed += u32::from(verdict(&alike(&Used::new())) != verdict(&case.card));
+    }
+    assert!(10 * others >= 9 * pairs, "{others} of {pairs} cards are other ones");
+    assert!(10 * changed >= pairs, "{changed} of {pairs} verdicts change where no name counts as used");
 }
 
 #[test]

@@ -1,5 +1,6 @@
 //! The inputs of the differential test. Each is made of the seed and its number alone.
 
+mod alike;
 mod archive;
 mod damage;
 mod filters;
@@ -10,6 +11,7 @@ mod random;
 mod rows;
 mod texts;
 
+pub use alike::{Used, alike, used_by_filter, used_by_query, used_by_rows};
 pub use queries::query;
 pub use random::Random;
 pub use rows::rows;
