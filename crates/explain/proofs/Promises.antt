@@ -34,8 +34,8 @@ use Rattle.explain.proofs.Answered as answered
 pub explain-refused : (sheet text card : List ℕ) (room : ℕ) → Bytes sheet → Bytes card → (n p : ℕ) → (explainAnswer sheet text card room ≡ refused n p) ↔ Decides (ExplainLine sheet text card room) n p
 explain-refused = table.explain-table
 
-pub refusal-keeps-list : (sheet text card list : List ℕ) (n p : ℕ) → explainAnswer sheet text card (length list) ≡ refused n p → explainCells sheet text card list ≡ list
-refusal-keeps-list = answered.refusal-keeps
+pub refusal-keeps-cells : (sheet text card list : List ℕ) (n p : ℕ) → explainAnswer sheet text card (length list) ≡ refused n p → explainCells sheet text card list ≡ list
+refusal-keeps-cells = answered.refusal-keeps
 
 -- match's answer, or 33 where match answers yes or no
 pub explain-as-match : (sheet text card list : List ℕ) → AsMatch sheet text card (length list)
