@@ -11,7 +11,11 @@ use std::process::ExitCode;
 use std::{env, fs};
 
 /// The files with the promises.
-const PROMISES: [&str; 2] = ["crates/sirophan/proofs/Promises.antt", "crates/report/proofs/Promises.antt"];
+const PROMISES: [&str; 3] = [
+    "crates/sirophan/proofs/Promises.antt",
+    "crates/report/proofs/Promises.antt",
+    "crates/explain/proofs/Promises.antt",
+];
 const PAGE: &str = "docs/DEFINITIONS.md";
 
 fn main() -> ExitCode {
