@@ -68,12 +68,12 @@ module _ (f : Tree) (v : ℕ → Bool) where
         stand = s;
         untried = λ j h. let n : j ≡ i → ⊥ = λ q. omega arith in without-other i j k n ∙ t .untried j (omega arith);
         turn = λ j a b. ⊎-elim
-          (λ q. let w : j ≡ i = eqb-true j i q in
+            (λ q. let w : j ≡ i = eqb-true j i q in
             subst (λ (x : ℕ). (without i k x ≡ false) ↔ Suffices f v (losing x (without i k))) (sym w)
             (λ c. suffices-more f v (losing i k) (losing i (without i k)) (λ x y z. again x z) (without-losing f v k i s), λ c. without-here i k))
-          (λ q. let n : j ≡ i → ⊥ = eqb-false j i q in
+            (λ q. let n : j ≡ i → ⊥ = eqb-false j i q in
             turn-same f v k (without i k) j (λ x h. let m : x ≡ i → ⊥ = λ y. n (omega arith) in without-other i x k m) (t .turn j (let m : j ≡ i → ⊥ = n in omega arith) b))
-          (decided (eqb j i));
+            (decided (eqb j i));
       }
     where
       again : (x : ℕ) → losing i k x ≡ true → losing i (without i k) x ≡ true
@@ -85,12 +85,13 @@ module _ (f : Tree) (v : ℕ → Bool) where
         stand = t .stand;
         untried = λ j h. t .untried j (omega arith);
         turn = λ j a b. ⊎-elim
-          (λ q. let w : j ≡ i = eqb-true j i q in
-            subst (λ (x : ℕ). (k x ≡ false) ↔ Suffices f v (losing x k)) (sym w)
-            (λ c. absurd (let y = t .untried i (omega arith) in let z : _≡_ {A = ℕ} 0 1 = cc in omega arith),
-            λ c. absurd (let y = stands-suffices f v (without i k) (losing-without f v k i (λ j h. t .untried j (omega arith)) c) in let z : _≡_ {A = ℕ} 0 1 = cc in omega arith)))
-          (λ q. let n : j ≡ i → ⊥ = eqb-false j i q in t .turn j (omega arith) b)
-          (decided (eqb j i));
+            (λ q. let w : j ≡ i = eqb-true j i q in
+            subst (λ (x : ℕ). (k x ≡ false) ↔ Suffices f v (losing x k)) (sym w) (
+              λ c. absurd (let y = t .untried i (omega arith) in let z : _≡_ {A = ℕ} 0 1 = cc in omega arith),
+              λ c. absurd (let y = stands-suffices f v (without i k) (losing-without f v k i (λ j h. t .untried j (omega arith)) c) in let z : _≡_ {A = ℕ} 0 1 = cc in omega arith),
+            ))
+            (λ q. let n : j ≡ i → ⊥ = eqb-false j i q in t .turn j (omega arith) b)
+            (decided (eqb j i));
       }
 
   all-tried : (i : ℕ) (k : ℕ → Bool) → i ≤ outerCount f → Tried f v i k → Tried f v 0 (spareBelow i f v k)
@@ -139,4 +140,3 @@ module _ (f : Tree) (v k l : ℕ → Bool) (a : Explains f v k) (b : Explains f 
 
   pub explains-unique : (i : ℕ) → i < outerCount f → k i ≡ l i
   explains-unique i n = alike-from (outerCount f) i (omega arith) n
-

@@ -131,9 +131,9 @@ comes (join c f g) m i {z} h =
       u = u;
       lies = λ j l r. cond-elim (Fits (m j)) (ltb j (i + outerCount f)) (λ e. a .lies j l (ltb-true j (i + outerCount f) e)) (λ e. b .lies j (ltb-false j (i + outerCount f) e) (omega arith));
       says =
-        (let p : saysBy u i f ≡ saysBy (a .u) i f = says-local f i u (a .u) (λ j l r. let t = lt-ltb j (i + outerCount f) r in cc) in
-        let q : saysBy u (i + outerCount f) g ≡ saysBy (b .u) (i + outerCount f) g = says-local g (i + outerCount f) u (b .u) (λ j l r. let t = le-ltb j (i + outerCount f) l in cc) in
-        ap (λ (x : Bool). joined c x (saysBy u (i + outerCount f) g)) (p ∙ a .says) ∙ ap (λ (x : Bool). joined c (s .left) x) (q ∙ b .says) ∙ s .whole);
+          (let p : saysBy u i f ≡ saysBy (a .u) i f = says-local f i u (a .u) (λ j l r. let t = lt-ltb j (i + outerCount f) r in cc) in
+          let q : saysBy u (i + outerCount f) g ≡ saysBy (b .u) (i + outerCount f) g = says-local g (i + outerCount f) u (b .u) (λ j l r. let t = le-ltb j (i + outerCount f) l in cc) in
+          ap (λ (x : Bool). joined c x (saysBy u (i + outerCount f) g)) (p ∙ a .says) ∙ ap (λ (x : Bool). joined c (s .left) x) (q ∙ b .says) ∙ s .whole);
     }
 comes (negation f) m i {z} h =
     let a = comes f m i (fits-back h) in
@@ -171,12 +171,11 @@ module _ (f : Tree) (v kept : ℕ → Bool) where
       by yes e = refl
       by no e = refl
       by spared e =
-        let b : Bool = saysBy v 0 f in
-        let c : Comes f (masked kept v) 0 (not b) = comes f (masked kept v) 0 (subst (λ (m : Mark). Fits m (not b)) (sym e) fits-spared) in
-        let s = h (c .u) (λ i l t. mask-fits (kept i) (v i) (c .u i) (c .lies i (omega arith) (omega arith)) t) in
-        never (saysBy v 0 f) (sym s ∙ c .says)
+          let b : Bool = saysBy v 0 f in
+          let c : Comes f (masked kept v) 0 (not b) = comes f (masked kept v) 0 (subst (λ (m : Mark). Fits m (not b)) (sym e) fits-spared) in
+          let s = h (c .u) (λ i l t. mask-fits (kept i) (v i) (c .u i) (c .lies i (omega arith) (omega arith)) t) in
+          never (saysBy v 0 f) (sym s ∙ c .says)
         where
           never : (b : Bool) → b ≡ not b → false ≡ true
           never true e = sym e
           never false e = e
-

@@ -7,8 +7,7 @@ use mathlib.Core.Path.{_≡_, refl, sym, ap, ap₂, subst, _∙_}
 use mathlib.Core.Bool.{Bool, true, false}
 use mathlib.Core.Logic.{inl, inr}
 use mathlib.Core.Option.{some}
-use mathlib.Core.List.{List, _++_, map}
-use lib.Dec.{leb}
+use mathlib.Core.List.{List, _++_}
 use lib.ListN.{length, getD, take, drop, replicate, length-append, length-replicate}
 use lib.Seq.{length-take-le}
 use borrow.Author.Tests.{le-leb, lt-leb}
@@ -16,17 +15,16 @@ use Rattle.base.specs.Bytes.{Bytes}
 use Rattle.base.specs.Parts.{part}
 use Rattle.base.proofs.All.{bytes-of}
 use Rattle.block.specs.declared.Reading.{Reading}
-use Rattle.sheet.specs.Sheet.{Parameter, parametersOf, readSheet}
+use Rattle.sheet.specs.Sheet.{Parameter, parametersOf}
 use Rattle.sheet.specs.Find.{kindsOf, parentsOf}
 use Rattle.sheet.specs.Encode.{WellFormedSheet, SheetBlock}
 use Rattle.sheet.proofs.RoundTrip.{sheet-well-formed}
 use Rattle.sheet.proofs.Sheets.{sheet-reads-iff}
-use Rattle.card.specs.Card.{recordNumber, entriesOf, readCard}
+use Rattle.card.specs.Card.{entriesOf, readCard}
 use Rattle.syntax.specs.Tree.{Tree}
 use Rattle.syntax.specs.Grammar.{Spells}
 use Rattle.judge.specs.Sets.{conforms}
 use Rattle.judge.specs.Verdicts.{filterSays}
-use Rattle.rows.specs.Expression.{Expression}
 use Rattle.rows.specs.Cells.{stated}
 use Rattle.rows.specs.Good.{Fits, Good}
 use Rattle.rows.specs.Stated.{treeOf, erase}
@@ -34,7 +32,7 @@ use Rattle.rows.proofs.Good.{good-states, good-iff}
 use Rattle.rows.proofs.Meaning.{good-whole}
 use Rattle.refusal.specs.declared.Reason.{Reason}
 use Rattle.refusal.specs.declared.Refusal.{Refusal}
-use Rattle.refusal.specs.Answers.{Answer, yesOrNo, count, refused, numberOf, refusalAnswer}
+use Rattle.refusal.specs.Answers.{yesOrNo, count, refused, numberOf, refusalAnswer}
 use Rattle.refusal.specs.Steps.{Step, found, stop, _>>=_, answer}
 use Rattle.sirophan.specs.Answers.{matchedAnswer}
 use Rattle.sirophan.specs.Operations.{Inputs, takeInputs, Card, takeCard, questionOf, filterQuestion, matchAnswer, written}
@@ -50,12 +48,11 @@ use Rattle.sirophan.proofs.Outcomes.{cardOf}
 use Rattle.sirophan.proofs.Passing.{card-found}
 use Rattle.sirophan.proofs.RowsAnswered.{known-of, prepares-good, match-is}
 use Rattle.explain.specs.Deciding.{outerCount, verdicts, cell, cells}
-use Rattle.explain.specs.Marks.{deciding, explanation}
+use Rattle.explain.specs.Marks.{explanation}
 use Rattle.explain.specs.Operation.{Explanation, explanationOf, takeMarks, explaining, explainAnswer, explainCells}
 use Rattle.explain.specs.Rows.{outline, outerVerdicts, Tells, Spares}
 use Rattle.explain.specs.Contracts.{Marks, Judged}
 use Rattle.explain.proofs.Alike.{filter-verdicts, filter-alike, deciding-alike}
-use Rattle.explain.proofs.Numbered.{cells-counted}
 use Rattle.explain.proofs.Stack.{outer-tests}
 
 -- ---- by what was found

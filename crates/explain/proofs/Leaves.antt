@@ -7,10 +7,9 @@ use mathlib.Core.Bool.{Bool, true, false, cond}
 use lib.Dec.{eqb}
 use borrow.Author.Tests.{ne-eqb, eqb-true}
 use Rattle.base.proofs.Tests.{cond-elim}
-use Rattle.syntax.specs.Tree.{and, or}
 use Rattle.syntax.specs.Reader.{connective}
 use Rattle.explain.specs.Deciding.{cell}
-use Rattle.explain.specs.Marks.{Mark, spared, yes, no, mark, both, opposite, either, joinedMarks, markOf, isDecided}
+use Rattle.explain.specs.Marks.{Mark, spared, yes, no, mark, both, opposite, joinedMarks, markOf, isDecided}
 
 mark-yes : (n : ℕ) → n ≡ 1 → markOf n ≡ yes
 unfolding markOf

@@ -2,9 +2,9 @@
 -- Assumes nothing.
 use Prim.Native.Nat.{ℕ, _+_, _-_, _≤_, _<_}
 use native.Mathlib.Omega.{arith}
-use mathlib.Core.Path.{_≡_, refl, sym, ap, ap₂, subst, _∙_}
+use mathlib.Core.Path.{_≡_, refl, sym, ap, ap₂, _∙_}
 use mathlib.Core.Bool.{Bool}
-use mathlib.Core.Option.{none, some}
+use mathlib.Core.Option.{none}
 use mathlib.Core.List.{List, [], _∷_}
 use lib.ListN.{length, getD, set, replicate, length-set}
 use lib.Seq.{getD-set-same, getD-set-other}
@@ -20,7 +20,7 @@ use Rattle.rows.specs.declared.Row.{Row}
 use Rattle.explain.specs.Deciding.{outerCount}
 use Rattle.explain.specs.Marks.{Mark, opposite, joinedMarks, markBy, markOf}
 use Rattle.explain.specs.Rows.{outline, marksIn, MarksWhole}
-use Rattle.explain.proofs.Stack.{outers, outers-within, Top, top-of, Walk, walk-start, walk-unknown, walk-bare-bracket, walk-bare-not, walk-short, walk-full, walk-test, on-top, walk-bracket, walk-not, second-on, first-on, walk-connect, walk-whole, walk-one, not-stated, first-low}
+use Rattle.explain.proofs.Stack.{outers, top-of, Walk, walk-start, walk-unknown, walk-bare-bracket, walk-bare-not, walk-short, walk-full, walk-test, on-top, walk-bracket, walk-not, second-on, first-on, walk-connect, walk-whole, walk-one, not-stated, first-low}
 
 -- ---- an expression on the stack
 

@@ -6,7 +6,7 @@ use mathlib.Core.Path.{_≡_, refl, ap, ap₂, sym, _∙_}
 use mathlib.Core.Bool.{Bool, false, not}
 use mathlib.Core.List.{List, [], _∷_, _++_, map}
 use lib.ListN.{length, getD, length-append, length-map, List·getD-append}
-use Rattle.base.specs.Lists.{All, all-empty, all-cons}
+use Rattle.base.specs.Lists.{All, all-cons}
 use Rattle.sheet.specs.Sheet.{Parameter}
 use Rattle.card.specs.Card.{Entry}
 use Rattle.syntax.specs.Tree.{Tree, test, bracketed, join, negation}

@@ -28,27 +28,27 @@ use Rattle.explain.proofs.Deciding as deciding-set
 use Rattle.explain.proofs.Table as table
 use Rattle.explain.proofs.Answered as answered
 
--- ---- refusals
+-- ---- explain: refusals
 
 -- refused with a number and a place exactly where that line of the table holds and none before it does
 pub explain-refused : (sheet text card : List ℕ) (room : ℕ) → Bytes sheet → Bytes card → (n p : ℕ) → (explainAnswer sheet text card room ≡ refused n p) ↔ Decides (ExplainLine sheet text card room) n p
 explain-refused = table.explain-table
 
-pub refusal-keeps-list : (sheet text card list : List ℕ) (n p : ℕ) → explainAnswer sheet text card (length list) ≡ refused n p → explainCells sheet text card list ≡ list
-refusal-keeps-list = answered.refusal-keeps
+pub refusal-keeps-cells : (sheet text card list : List ℕ) (n p : ℕ) → explainAnswer sheet text card (length list) ≡ refused n p → explainCells sheet text card list ≡ list
+refusal-keeps-cells = answered.refusal-keeps
 
 -- match's answer, or 33 where match answers yes or no
 pub explain-as-match : (sheet text card list : List ℕ) → AsMatch sheet text card (length list)
 explain-as-match = answered.as-match
 
--- ---- the answer
+-- ---- explain: the answer
 
 -- where no line holds, explain answers the filter's yes or no, and writes the cells of the tests that decide; later cells stay
 pub explain-answered : (sheet text card list : List ℕ) (s : SheetBlock sheet) (f : Tree) → length text ≤ 1024 → Spells text f → (es : List Entry) → Conforms (s .parameters) card es → Bytes sheet
     → ((n p : ℕ) → ExplainLine sheet text card (length list) n p → ⊥) → ExplainAnswers sheet text card list (s .parameters) es f
 explain-answered = answered.explain-answered
 
--- ---- the tests that decide
+-- ---- explain: the tests that decide
 
 -- the tests that are kept are the ones that 02 names, and no others are
 pub deciding-explains : (f : Tree) (v : ℕ → Bool) → Explains f v (deciding f v)

@@ -7,7 +7,7 @@ use mathlib.Core.Path.{_≡_, refl, sym, ap, ap₂, subst, _∙_}
 use mathlib.Core.Bool.{Bool, true, false, cond}
 use mathlib.Core.Logic.{⊎-elim}
 use mathlib.Core.Option.{some}
-use mathlib.Core.List.{List, [], _∷_}
+use mathlib.Core.List.{List, _∷_}
 use lib.Dec.{eqb}
 use lib.ListN.{length, getD, set, take, drop, length-set}
 use lib.Seq.{drop-cons, getD-set-same, getD-set-other}
@@ -17,7 +17,7 @@ use Rattle.syntax.specs.Tree.{Tree, test, bracketed, join, negation}
 use Rattle.rows.specs.Expression.{Expression}
 use Rattle.rows.specs.Cells.{stated}
 use Rattle.explain.specs.Deciding.{outerCount, without, cell, cells}
-use Rattle.explain.specs.Marks.{Mark, mark, opposite, joinedMarks, markBy, isDecided, masked, suffices, spareBelow, deciding, markOf}
+use Rattle.explain.specs.Marks.{Mark, opposite, joinedMarks, markBy, isDecided, masked, suffices, spareBelow, deciding, markOf}
 use Rattle.explain.specs.Rows.{outline, marksIn, MarksWhole, Spares}
 use Rattle.explain.proofs.Deciding.{without-here, without-other}
 use Rattle.explain.proofs.Leaves.{mark-cell}
@@ -47,9 +47,9 @@ module _ (f : Tree) (v : ℕ → Bool) (i : ℕ) (marks : List ℕ) (k : Kept f 
   loses j b =
       ⊎-elim
       (λ q. let w : j ≡ i = eqb-true j i q in
-        subst (λ (n : ℕ). getD (set marks i 0) n 0 ≡ cell (lost n) (v n)) (sym w) (getD-set-same marks i 0 0 inside ∙ sym (ap (λ (t : Bool). cell t (v i)) (without-here i (k .kept)))))
+      subst (λ (n : ℕ). getD (set marks i 0) n 0 ≡ cell (lost n) (v n)) (sym w) (getD-set-same marks i 0 0 inside ∙ sym (ap (λ (t : Bool). cell t (v i)) (without-here i (k .kept)))))
       (λ q. let n : j ≡ i → ⊥ = eqb-false j i q in
-        getD-set-other marks i j 0 0 n ∙ k .marked j b ∙ sym (ap (λ (t : Bool). cell t (v j)) (without-other i j (k .kept) n)))
+      getD-set-other marks i j 0 0 n ∙ k .marked j b ∙ sym (ap (λ (t : Bool). cell t (v j)) (without-other i j (k .kept) n)))
       (decided (eqb j i))
 
   module _ (whole : ℕ) (w : markOf whole ≡ markBy (marksIn (set marks i 0)) 0 f) where

@@ -2,7 +2,7 @@
 -- Assumes nothing.
 use Prim.Native.Nat.{ℕ, _≤_, _<_}
 use native.Mathlib.Omega.{arith}
-use mathlib.Core.Path.{_≡_, refl, ap, sym, _∙_, subst, subst₂}
+use mathlib.Core.Path.{_≡_, refl, ap, subst, subst₂}
 use mathlib.Core.Logic.{_↔_, _⊎_, inl, inr, ⊎-elim}
 use mathlib.Core.List.{List}
 use lib.Dec.{leb}
@@ -15,13 +15,13 @@ use Rattle.syntax.specs.Tree.{Tree}
 use Rattle.syntax.specs.Grammar.{Spells}
 use Rattle.syntax.proofs.Spelling.{spells-unique}
 use Rattle.refusal.specs.Answers.{yesOrNo, refused}
-use Rattle.refusal.specs.Steps.{Step, found, stop, _>>=_}
+use Rattle.refusal.specs.Steps.{_>>=_}
 use Rattle.refusal.specs.Order.{group, Before, Decides}
 use Rattle.refusal.proofs.Answers.{verdict-not-refused}
 use Rattle.refusal.proofs.Deciding.{Decided, none-holds, one-decides, decided-as, decided-then, decided-found, decided-answer}
 use Rattle.refusal.proofs.Order.{apart-at, before-itself}
-use Rattle.sirophan.specs.Operations.{Inputs, Card, takeInputs, takeCard}
-use Rattle.sirophan.specs.Refusals.{CheckLine, OneCardLine, line-20-match, line-of-card, MatchLine}
+use Rattle.sirophan.specs.Operations.{Inputs, takeCard}
+use Rattle.sirophan.specs.Refusals.{CheckLine, OneCardLine, line-20-match, line-of-card}
 use Rattle.sirophan.proofs.CheckTable.{Ready, check-group, inputs-decided}
 use Rattle.sirophan.proofs.MatchTable.{card-group, one-decided}
 use Rattle.explain.specs.Deciding.{outerCount}

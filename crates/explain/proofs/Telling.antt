@@ -15,16 +15,14 @@ use borrow.Author.Tests.{eqb-true, eqb-false}
 use borrow.Author.Needs.{scaled-fits}
 use mir.Val.{Fits}
 use mir.Syntax.{w64}
-use Rattle.base.specs.Lists.{All}
 use Rattle.base.specs.Parts.{part}
 use Rattle.base.proofs.All.{all-head}
 use Rattle.base.proofs.Tests.{decided}
 use Rattle.card.specs.Card.{Entry}
 use Rattle.syntax.specs.Reader.{connective}
 use Rattle.judge.specs.Sets.{chosenOf}
-use Rattle.judge.specs.declared.Chosen.{Chosen}
 use Rattle.judge.proofs.Entries.{every, chosen-every}
-use Rattle.rows.specs.Expression.{Expression, probing, choosing, joining, negating, testCount}
+use Rattle.rows.specs.Expression.{Expression, probing, choosing, joining, negating}
 use Rattle.rows.specs.Cells.{rowOf, encode, Writable, stated}
 use Rattle.rows.specs.Saying.{expressionSays, statedSays, rowsSay, Whole}
 use Rattle.rows.specs.Stated.{treeOf}

@@ -7,7 +7,7 @@ use mathlib.Core.Bool.{Bool}
 use mathlib.Core.List.{List}
 use lib.ListN.{length}
 use Rattle.block.specs.declared.Reading.{Reading}
-use Rattle.sheet.specs.Sheet.{Parameter, parametersOf, readSheet}
+use Rattle.sheet.specs.Sheet.{parametersOf, readSheet}
 use Rattle.card.specs.Card.{recordNumber, entriesOf, readCard}
 use Rattle.syntax.specs.Tree.{Tree}
 use Rattle.judge.specs.Verdicts.{filterSays}

@@ -7,8 +7,8 @@ mod stack;
 mod whole;
 mod write;
 
-use filter::Summary;
 pub use cell::row_of;
+use filter::Summary;
 pub use says::rows_say;
 pub use whole::are_good;
 pub use write::write_filter;

@@ -1,9 +1,10 @@
 //! The Rust interface: its answers on the trial archive, and how it tells a refusal to a person.
 
 use second::block::{write_card, write_sheet};
-use second::spellings;
+use second::{filter, generate, spellings};
 use sirophan::{
-    Counts, Engine, Refusal, Tally, check, matches, matches_by_text, plain, report, select, select_by, spell, underline,
+    Counts, Engine, Mark, Refusal, Tally, check, explain, explain_into, matches, matches_by_text, plain, report,
+    select, select_by, spell, underline,
 };
 
 fn sheet() -> Vec<u8> {
@@ -59,6 +60,39 @@ fn refusals() {
     let mut rows = [Tally { cards: 9, values: 9 }];
     assert_eq!(report(&sheet(), b"title eq x", &cards, &mut rows), Err(refused(31, 2)));
     assert_eq!(rows, [Tally { cards: 9, values: 9 }]);
+}
+
+#[test]
+fn tests_that_decide() {
+    let filter = b"title eq x or (pages gt 5 and title co book)";
+    let explanation = explain(&sheet(), filter, &card(7, "Ward book 4")).unwrap();
+    assert!(explanation.matches);
+    let tests: Vec<_> = explanation.tests.iter().map(|test| (test.place.clone(), test.mark)).collect();
+    assert_eq!(tests, [(0..10, Mark::Spared), (15..25, Mark::Yes), (30..43, Mark::Yes)]);
+    let mut cells = [9; 4];
+    assert_eq!(explain_into(&sheet(), filter, &card(7, "x"), &mut cells), Ok(true));
+    assert_eq!(cells, [1, 0, 0, 9]);
+    assert_eq!(explain_into(&sheet(), filter, &card(7, "y"), &mut cells[..2]), Err(Refusal { number: 33, place: 3 }));
+    assert_eq!(cells, [1, 0, 0, 9]);
+}
+
+/// The tests that an explanation names stand where the second implementation finds them, one for each cell.
+#[test]
+fn tests_stand_where_they_are_told_to() {
+    let mut explained = 0;
+    for number in 0..4000 {
+        let (case, _) = generate::case(7, number);
+        let Ok(explanation) = explain(&case.sheet, &case.filter, &case.card) else { continue };
+        let read = filter::read(&case.filter).unwrap();
+        let places: Vec<usize> = read.outer_tests().iter().map(|test| test.place).collect();
+        let told: Vec<usize> = explanation.tests.iter().map(|test| test.place.start).collect();
+        assert_eq!(told, places, "{}", String::from_utf8_lossy(&case.filter));
+        for test in &explanation.tests {
+            assert!(check(&case.sheet, &case.filter[test.place.clone()]).is_ok(), "each is a filter by itself");
+        }
+        explained += 1;
+    }
+    assert!(explained > 1000, "{explained} are explained");
 }
 
 #[test]
@@ -143,7 +177,7 @@ fn no_caret_where_the_place_is_not_in_the_filter() {
 #[test]
 fn a_sentence_for_each_number() {
     let sentence = |number| Refusal { number, place: 0 }.sentence();
-    let numbers = [1, 2, 3, 10, 11, 12, 13, 14, 15, 16, 17, 18, 20, 21, 22, 23, 30, 31, 32, 99];
+    let numbers = [1, 2, 3, 10, 11, 12, 13, 14, 15, 16, 17, 18, 20, 21, 22, 23, 30, 31, 32, 33, 34, 40, 50, 51, 99];
     let mut sentences: Vec<&str> = numbers.map(sentence).into();
     sentences.sort();
     sentences.dedup();

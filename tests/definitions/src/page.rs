@@ -22,7 +22,7 @@ pub fn page(repository: &Repository, statements: &[&str], promises: &[Promise], 
          definitions that they name, with all that these name in turn:\n\n\
          **{} definitions, {} lines in {} files.**\n\n\
          Lines are counted without comments. A definition of a file in `src` is a type of the code that a statement speaks of.\n",
-        listed(statements.iter().map(|file| quoted(file)), " and "),
+        listed(statements.iter().map(|file| quoted(file)), ", "),
         promises.len(),
         all.len(),
         lines(&all),

@@ -24,6 +24,7 @@ const OPERATIONS: &str = "crates/sirophan/specs/Operations.antt";
 const SEARCHING: &str = "crates/sirophan/specs/Searching.antt";
 const PREPARING: &str = "crates/sirophan/specs/Preparing.antt";
 const REPORT: &str = "crates/report/specs/Operation.antt";
+const EXPLAIN: &str = "crates/explain/specs/Operation.antt";
 
 /// All of them. What is behind one of them does not count as behind a statement that names it.
 pub const TWINS: &[Twin] = &[
@@ -43,6 +44,10 @@ pub const TWINS: &[Twin] = &[
     twin(REPORT, "reportAnswer", &["report-refused", "report-answered"]),
     twin(REPORT, "reportRows", &["refusal-keeps-rows", "report-answered"]),
     twin("crates/report/specs/Tallies.antt", "tallies", &["row-in-words"]),
+    twin(EXPLAIN, "explainAnswer", &["explain-refused", "explain-answered"]),
+    twin(EXPLAIN, "explainCells", &["refusal-keeps-cells", "explain-answered"]),
+    twin("crates/explain/specs/Marks.antt", "suffices", &["sufficing"]),
+    twin("crates/explain/specs/Marks.antt", "deciding", &["deciding-explains"]),
     twin("crates/sheet/specs/Sheet.antt", "readSheet", &["sheet-read"]),
     twin("crates/card/specs/Card.antt", "readCard", &["card-read"]),
     twin("crates/syntax/specs/Reader.antt", "read", &["filter-read"]),

@@ -202,7 +202,7 @@ fn compare_explained(
         *answers.entry((operation, answer)).or_default() += 1;
     };
 
-    let tests = filter::read(filter).map_or(0, |filter| filter.outer_count());
+    let tests = filter::read(filter).map_or(0, |filter| filter.outer_tests().len());
     for lent in [tests.saturating_sub(1), tests, tests + 2] {
         let mut ours_marked = vec![GUARD as u8; lent + GUARD];
         let mut theirs_marked = ours_marked.clone();

@@ -3,7 +3,7 @@
 use crate::filter::{Filter, Item, Join};
 
 /// Up to so many tests, what the others could say is tried out case by case.
-const FEW: usize = 8;
+const FEW: usize = 6;
 
 /// A filter by the numbers of its tests, from 0 in the order of the text.
 enum Outline {

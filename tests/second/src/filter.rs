@@ -98,10 +98,10 @@ impl<T> Filter<T> {
         self.first.count() + items.map(Item::count).sum::<usize>()
     }
 
-    /// How many tests it has, one with a condition counted once.
-    pub fn outer_count(&self) -> usize {
+    /// Its tests without those of conditions, in the order of the text.
+    pub fn outer_tests(&self) -> Vec<&T> {
         let items = self.rest.iter().map(|(_, item)| item);
-        self.first.outer_count() + items.map(Item::outer_count).sum::<usize>()
+        [&self.first].into_iter().chain(items).flat_map(Item::outer_tests).collect()
     }
 
     /// Whether some test has a condition inside its path.
@@ -137,10 +137,10 @@ impl<T> Filter<T> {
 }
 
 impl<T> Item<T> {
-    fn outer_count(&self) -> usize {
+    fn outer_tests(&self) -> Vec<&T> {
         match self {
-            Item::Test(..) => 1,
-            Item::Bracket(filter) | Item::Not(filter) => filter.outer_count(),
+            Item::Test(test, _) => vec![test],
+            Item::Bracket(filter) | Item::Not(filter) => filter.outer_tests(),
         }
     }
 

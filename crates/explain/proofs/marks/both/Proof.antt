@@ -3,8 +3,6 @@ use Rattle.explain.proofs.Leaves.{both-first, both-second, both-yes, bo
 use borrow.Author.Needs.{needs}
 use Rattle.explain.proofs.marks.both.Statement.{statement}
 use Rattle.explain.proofs.marks.both.Tie as tie
-use Rattle.explain.proofs.marks.both.Reads as reads
-use Rattle.explain.proofs.marks.both.Lts as lts
 
 returns : tie.Need-returns
 returns c = search (both-first, needs)

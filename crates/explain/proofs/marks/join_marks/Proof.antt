@@ -3,10 +3,6 @@ use Rattle.explain.proofs.Leaves.{join-both, join-either}
 use borrow.Author.Needs.{needs}
 use Rattle.explain.proofs.marks.join_marks.Statement.{statement}
 use Rattle.explain.proofs.marks.join_marks.Tie as tie
-use Rattle.explain.proofs.marks.join_marks.Reads as reads
-use Rattle.explain.proofs.marks.join_marks.Lts as lts
-use Rattle.explain.proofs.marks.both.Reads as both-reads
-use Rattle.explain.proofs.marks.opposite.Reads as opposite-reads
 
 both-requires : tie.Need-both-requires
 both-requires c κs = search needs

@@ -5,11 +5,6 @@ use Rattle.explain.proofs.Marking.{Marking, marking-start, marking-full
 use borrow.Author.Needs.{needs}
 use Rattle.explain.proofs.marks.mark_of.Statement.{statement}
 use Rattle.explain.proofs.marks.mark_of.Tie as tie
-use Rattle.explain.proofs.marks.mark_of.Reads as reads
-use Rattle.explain.proofs.marks.mark_of.Lts as lts
-use Rattle.explain.proofs.marks.join_marks.Reads as join-marks-reads
-use Rattle.explain.proofs.marks.opposite.Reads as opposite-reads
-use Rattle.rows.proofs.row_of.Reads as row-of-reads
 
 abbrev Inv-loop : tie.InvT-loop
 Inv-loop rows marks stack₀ firsts₀ top₀ tests₀ i₀ stack firsts top tests i = Marking rows marks stack firsts top tests i

@@ -3,8 +3,6 @@ use Rattle.explain.proofs.Leaves.{opposite-yes, opposite-no, opposite-o
 use borrow.Author.Needs.{needs}
 use Rattle.explain.proofs.marks.opposite.Statement.{statement}
 use Rattle.explain.proofs.marks.opposite.Tie as tie
-use Rattle.explain.proofs.marks.opposite.Reads as reads
-use Rattle.explain.proofs.marks.opposite.Lts as lts
 
 returns : tie.Need-returns
 returns c = search (opposite-yes, needs)

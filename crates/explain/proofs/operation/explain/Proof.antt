@@ -5,11 +5,6 @@ use Rattle.explain.proofs.Contracts.{explains-into}
 use borrow.Author.Needs.{needs}
 use Rattle.explain.proofs.operation.explain.Statement.{statement}
 use Rattle.explain.proofs.operation.explain.Tie as tie
-use Rattle.explain.proofs.operation.explain.Reads as reads
-use Rattle.explain.proofs.operation.explain.Lts as lts
-use Rattle.explain.proofs.operation.mark.Reads as mark-reads
-use Rattle.sirophan.proofs.judge.Reads as judge-reads
-use Rattle.sirophan.proofs.prepare.Reads as prepare-reads
 
 slice-aggregate-prepare : tie.Need-slice-aggregate-prepare
 slice-aggregate-prepare c = search needs

@@ -3,12 +3,6 @@ use Rattle.explain.proofs.Explaining.{mark-few, mark-short, mark-part, 
 use borrow.Author.Needs.{needs}
 use Rattle.explain.proofs.operation.mark.Statement.{statement}
 use Rattle.explain.proofs.operation.mark.Tie as tie
-use Rattle.explain.proofs.operation.mark.Reads as reads
-use Rattle.explain.proofs.operation.mark.Lts as lts
-use Rattle.explain.proofs.operation.write.Reads as write-reads
-use Rattle.explain.proofs.spare.spare.Reads as spare-reads
-use Rattle.explain.proofs.verdicts.take_verdicts.Reads as take-verdicts-reads
-use Rattle.sheet.proofs.kinds.Reads as kinds-reads
 
 kinds-requires : tie.Need-kinds-requires
 kinds-requires c κs = search needs

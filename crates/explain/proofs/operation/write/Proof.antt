@@ -5,8 +5,6 @@ use Rattle.spell.proofs.Writing.{Writing, writing-fits, writing-room, writing-n
 use borrow.Author.Needs.{needs}
 use Rattle.explain.proofs.operation.write.Statement.{statement}
 use Rattle.explain.proofs.operation.write.Tie as tie
-use Rattle.explain.proofs.operation.write.Reads as reads
-use Rattle.explain.proofs.operation.write.Lts as lts
 
 abbrev Inv-loop : tie.InvT-loop
 Inv-loop marks cells₀ i₀ cells i = Writing marks cells₀ cells i

@@ -3,8 +3,6 @@ use Rattle.explain.proofs.Leaves.{remains-yes, remains-no, remains-kept
 use borrow.Author.Needs.{needs}
 use Rattle.explain.proofs.spare.remains.Statement.{statement}
 use Rattle.explain.proofs.spare.remains.Tie as tie
-use Rattle.explain.proofs.spare.remains.Reads as reads
-use Rattle.explain.proofs.spare.remains.Lts as lts
 
 returns : tie.Need-returns
 returns c = search (remains-yes, needs)

@@ -3,10 +3,6 @@ use Rattle.explain.proofs.Sparing.{Sparing, sparing-start, sparing-insi
 use borrow.Author.Needs.{needs}
 use Rattle.explain.proofs.spare.spare.Statement.{statement}
 use Rattle.explain.proofs.spare.spare.Tie as tie
-use Rattle.explain.proofs.spare.spare.Reads as reads
-use Rattle.explain.proofs.spare.spare.Lts as lts
-use Rattle.explain.proofs.marks.mark_of.Reads as mark-of-reads
-use Rattle.explain.proofs.spare.remains.Reads as remains-reads
 
 abbrev Inv-loop : tie.InvT-loop
 Inv-loop rows tests marks₀ left₀ marks left = Sparing rows tests marks₀ marks left

@@ -6,10 +6,6 @@ use Rattle.explain.proofs.Telling.{Telling, telling-start, telling-full
 use borrow.Author.Needs.{needs}
 use Rattle.explain.proofs.verdicts.take_verdicts.Statement.{statement}
 use Rattle.explain.proofs.verdicts.take_verdicts.Tie as tie
-use Rattle.explain.proofs.verdicts.take_verdicts.Reads as reads
-use Rattle.explain.proofs.verdicts.take_verdicts.Lts as lts
-use Rattle.explain.proofs.verdicts.verdict.Reads as verdict-reads
-use Rattle.rows.proofs.row_of.Reads as row-of-reads
 
 abbrev Inv-loop : tie.InvT-loop
 Inv-loop kinds filter rows card marks₀ starts₀ firsts₀ top₀ tests₀ i₀ marks starts firsts top tests i = Telling kinds filter (entriesOf card) rows marks starts firsts top tests i

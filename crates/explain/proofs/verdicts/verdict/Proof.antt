@@ -3,9 +3,6 @@ use Rattle.explain.proofs.Telling.{verdict-yes, verdict-no}
 use borrow.Author.Needs.{needs}
 use Rattle.explain.proofs.verdicts.verdict.Statement.{statement}
 use Rattle.explain.proofs.verdicts.verdict.Tie as tie
-use Rattle.explain.proofs.verdicts.verdict.Reads as reads
-use Rattle.explain.proofs.verdicts.verdict.Lts as lts
-use Rattle.rows.proofs.rows_say.Reads as rows-say-reads
 
 rows-say-requires : tie.Need-rows-say-requires
 rows-say-requires c κs = search needs
