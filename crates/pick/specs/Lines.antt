@@ -25,7 +25,7 @@ decimal n = digitsOf n n
 abbrev pub lineFeed : List ℕ
 lineFeed = 10 ∷ []
 
--- "each matching record number in decimal on its own line"
+-- "prints each record number on a line"
 abbrev pub numberLine : ℕ → List ℕ
 numberLine n = decimal n ++ lineFeed
 
@@ -37,11 +37,11 @@ lines (n ∷ ns) = numberLine n ++ lines ns
 abbrev pub labelled : List ℕ → ℕ → List ℕ
 labelled word n = word ++ decimal n
 
--- `refused 16 at 0`
+-- "a refusal prints `refused 16 at 0`"
 abbrev pub refusalLine : (number place : ℕ) → List ℕ
 refusalLine number place = labelled (ascii "refused ") number ++ (labelled (ascii " at ") place ++ lineFeed)
 
--- `2 of 3`
+-- "and then the count": `2 of 3`
 abbrev pub countLine : (matches cards : ℕ) → List ℕ
 countLine matches cards = decimal matches ++ (labelled (ascii " of ") cards ++ lineFeed)
 
@@ -49,11 +49,11 @@ countLine matches cards = decimal matches ++ (labelled (ascii " of ") cards ++ l
 abbrev pub failureLine : (file done : List ℕ) → List ℕ
 failureLine file done = (file ++ ascii " cannot be ") ++ (done ++ lineFeed)
 
--- what a selection says: the numbers that it lists, or its refusal
+-- what a selection says, behind runs of `before` cards: the numbers that it lists, or its refusal
 unfoldable pub selectionText : (before : ℕ) → Step (List ℕ) → List ℕ
 selectionText before (found ns) = lines ns
 selectionText before (stop number place) = refusalLine number (placeInFile number place before)
 
--- what a run says, behind runs of `before` cards
+-- what a run says
 unfoldable pub runText : (sheet filter cards : List ℕ) (before : ℕ) → List ℕ
 runText sheet filter cards before = selectionText before (selection (filterQuestion sheet filter) cards 128)

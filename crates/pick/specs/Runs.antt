@@ -12,7 +12,7 @@ use Rattle.pick.specs.declared.runs.RunText.{RunText}
 use Rattle.pick.specs.Bounds.{Added}
 use Rattle.pick.specs.Lines.{runText}
 
--- where select lists numbers they are added to the totals t, with the run's cards; a refusal ends the output
+-- where select lists numbers, as many matches are added to the totals t, and the run's cards; a refusal "ends the output"
 abbrev pub TurnAfter : Step (List ℕ) → (size : ℕ) → Totals → Turn → Type 0
 TurnAfter (found ns) size t (Turn.More u) = Added t (length ns) size u
 TurnAfter (found ns) size t Turn.Ended = ⊥
