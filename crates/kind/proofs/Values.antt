@@ -19,7 +19,7 @@ use Rattle.kind.specs.declared.DateRelation.{DateRelation}
 use Rattle.number.proofs.Spelling.{number-bounded}
 use Rattle.kind.specs.declared.Relation.{Relation}
 use Rattle.kind.specs.declared.Readings.{Readings}
-use Rattle.kind.specs.Stands.{Kept, numberStands, numbersStand, dateStands, datesStand, stands, readingsOf, standsRead}
+use Rattle.kind.specs.Stands.{Kept, numberStands, numbersStand, dateStands, datesStand, stands, unread, readingsOf, standsRead}
 
 -- ---- numbers
 
@@ -60,19 +60,19 @@ stands-is Relation.References i f = refl
 pub number-kept : (f : List ℕ) (v : number-readings.Reading) → v ≡ numbers.read f → Kept v
 number-kept f v e = record { bounded = λ d h. number-bounded f v d e h }
 
-pub unreadable-kept : (v : number-readings.Reading) → v ≡ number-readings.Reading.Unreadable → Kept v
-unreadable-kept v e = record { bounded = λ d h. absurd (two d (sym e ∙ h)) }
+pub unread-kept : Kept (unread .number)
+unread-kept = record { bounded = λ d h. absurd (two d h) }
   where
     two : (d : Decimal) → number-readings.Reading.Unreadable ≡ number-readings.Reading.Number d → ⊥
     two d h = let z : _≡_ {A = ℕ} 0 1 = cc in omega arith
 
 pub readings-kept : (relation : Relation) (f : List ℕ) → Kept (readingsOf relation f .number)
 unfolding readingsOf
-readings-kept (Relation.Strings r) f = unreadable-kept number-readings.Reading.Unreadable refl
+readings-kept (Relation.Strings r) f = unread-kept
 readings-kept (Relation.Numbers r) f = number-kept f (numbers.read f) refl
-readings-kept (Relation.Dates r) f = unreadable-kept number-readings.Reading.Unreadable refl
-readings-kept Relation.Tokens f = unreadable-kept number-readings.Reading.Unreadable refl
-readings-kept Relation.References f = unreadable-kept number-readings.Reading.Unreadable refl
+readings-kept (Relation.Dates r) f = unread-kept
+readings-kept Relation.Tokens f = unread-kept
+readings-kept Relation.References f = unread-kept
 
 pub dates-read : (relation : Relation) (i f : List ℕ) (v : Readings) (r : DateRelation) (t : Bool) → relation ≡ Relation.Dates r → t ≡ datesStand r (periods.readSpan i) (v .date) → t ≡ standsRead relation i f v
 unfolding standsRead

@@ -11,6 +11,7 @@ pub use readable::value_readable;
 pub use relate::readings_of;
 pub use relate::stands;
 pub use relate::stands_read;
+pub use relate::unread;
 
 // The relations of strings: same, holds it somewhere, at the start, at the end.
 pub enum StringRelation {

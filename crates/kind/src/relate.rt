@@ -97,7 +97,7 @@ pub fn stands(relation: Relation, text: &[u8], value: &[u8]) -> bool
 }
 
 // Of a value whose bytes are compared.
-fn unread() -> Readings
+pub fn unread() -> Readings
     ensures { λ r. ⌜ r ≡ unread ⌝ }
 {
     Readings {
