@@ -13,3 +13,4 @@ pub mod Writing
 pub mod Saying
 pub mod Meaning
 pub mod Preparing
+pub mod Opening

@@ -7,3 +7,5 @@ pub mod Shapes
 pub mod Writing
 pub mod Saying
 pub mod Stated
+pub mod Opening
+pub mod Packing
