@@ -14,3 +14,5 @@ pub mod Saying
 pub mod Meaning
 pub mod Preparing
 pub mod Opening
+pub mod Jumping
+pub mod Noting

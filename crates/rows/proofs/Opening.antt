@@ -73,7 +73,7 @@ for-small kinds xs p l = by-value (valueAt xs (p .position)) refl
         record { sane = sane-for (meaningOf (p .operator) (getD kinds (p .index) 0)) (valueIn xs v); start-most = omega (arith, q .order, q .within, l); end-most = omega (arith, q .within, l) }
     by-value FoundValue.Nothing e = closed-small
 
-row-small : (kinds xs : List ℕ) (c : ℕ) → length xs ≤ 1024 → Small (openedRow kinds xs c)
+pub row-small : (kinds xs : List ℕ) (c : ℕ) → length xs ≤ 1024 → Small (openedRow kinds xs c)
 unfolding openedRow
 row-small kinds xs c l = by-row (rowOf c)
   where
@@ -316,3 +316,6 @@ pub from-is : (n digits : ℕ) (start end : ℤ) (x : number-readings.Reading) (
     → _≡_ {A = Opened} (record { found = eqb (n % 2) 1; escaped = eqb (n / 2 % 2) 1; truth = eqb (n / 4 % 2) 1; start = n / 128 % 2048; end = n / 128 / 2048; readings = record { number = x; date = y } }) (openedFrom n digits start end)
 unfolding openedFrom
 from-is n digits start end x y a b e h i j = rw (e, h ∙ ap₂ (dateFrom (n / 8 % 16)) i j)
+
+pub from-same : (n digits : ℕ) (start end a b : ℤ) (o : Opened) → o ≡ openedFrom n digits a b → a ≡ start → b ≡ end → o ≡ openedFrom n digits start end
+from-same n digits start end a b o e h k = e ∙ ap₂ (openedFrom n digits) h k

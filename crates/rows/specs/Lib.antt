@@ -9,3 +9,4 @@ pub mod Saying
 pub mod Stated
 pub mod Opening
 pub mod Packing
+pub mod Jumping

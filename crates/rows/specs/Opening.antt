@@ -58,6 +58,12 @@ openedRow kinds xs c = openedIn kinds xs (rowOf c)
 unfoldable pub valueOf : List ℕ → Opened → List ℕ
 valueOf xs o = contents (o .escaped) (part xs (o .start) (o .end))
 
+-- a value of the text that was opened for a meaning
+pub record Known (xs : List ℕ) (m : Meaning) (o : Opened) : Type 0 where
+  pub order : o .start ≤ o .end
+  pub within : o .end ≤ length xs
+  pub read : o .readings ≡ readingsFor m (valueOf xs o)
+
 -- ---- its cells: flags, a mark for what it reads to, and where it stands; a number's digits; a date's ends
 
 -- a number's count of decimals; 10 for a date, 11 for neither

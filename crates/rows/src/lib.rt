@@ -2,6 +2,7 @@
 // trusted, and judged on cards without reading the filter again.
 mod cell;
 mod fit;
+mod jump;
 mod says;
 mod stack;
 mod store;
@@ -9,6 +10,7 @@ mod whole;
 mod write;
 
 use filter::Summary;
+pub use jump::note_jumps;
 use kind::Readings;
 pub use says::rows_say;
 pub use store::open_rows;
