@@ -85,6 +85,27 @@ sirophan_answer sirophan_select(const uint8_t *sheet, size_t sheet_len,
                                 uint32_t *list, size_t list_len);
 
 /*
+ * The engines: which way a filter is judged. On every input both give the same answer, with the same number and place of
+ * a refusal and the same list. sirophan_match and sirophan_select go by rows.
+ */
+enum {
+    SIROPHAN_ENGINE_ROWS = 0, /* by the filter's rows, which are made once for a run */
+    SIROPHAN_ENGINE_TEXT = 1  /* by the filter's text, which is read again for each card: slower, to hold against the rows */
+};
+
+/* Answers what sirophan_match does, by the filter's text. */
+sirophan_answer sirophan_match_by_text(const uint8_t *sheet, size_t sheet_len,
+                                       const uint8_t *filter, size_t filter_len,
+                                       const uint8_t *card, size_t card_len);
+
+/* Does what sirophan_select does, by either engine: any number but SIROPHAN_ENGINE_TEXT stands for rows. */
+sirophan_answer sirophan_select_by(uint32_t engine,
+                                   const uint8_t *sheet, size_t sheet_len,
+                                   const uint8_t *filter, size_t filter_len,
+                                   const uint8_t *cards, size_t cards_len,
+                                   uint32_t *list, size_t list_len);
+
+/*
  * Reads a sheet and a filter once, for many cards: writes the filter's rows into the list, from its first cell on, and
  * answers how many cells they fill, never more than 1,024. list_len is in cells. Later cells stay, and a refusal writes
  * nothing.

@@ -59,6 +59,27 @@ unsafe extern "C" {
         list_len: usize,
     ) -> Answer;
 
+    pub fn sirophan_match_by_text(
+        sheet: *const u8,
+        sheet_len: usize,
+        filter: *const u8,
+        filter_len: usize,
+        card: *const u8,
+        card_len: usize,
+    ) -> Answer;
+
+    pub fn sirophan_select_by(
+        engine: u32,
+        sheet: *const u8,
+        sheet_len: usize,
+        filter: *const u8,
+        filter_len: usize,
+        cards: *const u8,
+        cards_len: usize,
+        list: *mut u32,
+        list_len: usize,
+    ) -> Answer;
+
     pub fn sirophan_prepare(
         sheet: *const u8,
         sheet_len: usize,

@@ -14,10 +14,12 @@
 //! }
 //! ```
 
+mod engine;
 mod ffi;
 mod prepared;
 mod refusal;
 
+pub use engine::{Engine, matches_by_text, select_by};
 pub use prepared::{MOST_CELLS, Prepared, judge, prepare, prepare_into};
 pub use refusal::{Refusal, underline};
 

@@ -156,6 +156,7 @@ int main(void) {
     for (size_t i = 0; i < sizeof trial_table / sizeof *trial_table; i++) {
         row r = trial_table[i];
         expect(r.filter, sirophan_match(SHEET, FILTER(r.filter), cards, BLOCK), r.refusal, r.value);
+        expect(r.filter, sirophan_match_by_text(SHEET, FILTER(r.filter), cards, BLOCK), r.refusal, r.value);
     }
     expect("three tests", sirophan_check(SHEET, FILTER("title pr true or (pages gt 20 and pages gt 30)")), 0, 3);
     expect("empty filter", sirophan_check(SHEET, FILTER("")), SIROPHAN_FILTER_SIZE, 0);
@@ -171,6 +172,19 @@ int main(void) {
     expect("two of three", sirophan_select(SHEET, FILTER(filter), cards, sizeof cards, list, 3), 0, 2);
     expect_cells("two of three", list, (const uint32_t[4]){7, 300, UNTOUCHED, UNTOUCHED}, 4);
     expect("no cards", sirophan_select(SHEET, FILTER(filter), cards, 0, list, 0), 0, 0);
+
+    /* Both engines do the same, and a number that is neither's stands for rows. */
+    const uint32_t engines[3] = {SIROPHAN_ENGINE_ROWS, SIROPHAN_ENGINE_TEXT, UINT32_MAX};
+    for (size_t i = 0; i < 3; i++) {
+        uint32_t cells[3] = {UNTOUCHED, UNTOUCHED, UNTOUCHED};
+        expect("engine: list too short", sirophan_select_by(engines[i], SHEET, FILTER(filter), cards, sizeof cards, cells, 1),
+               SIROPHAN_SHORT_LIST, 2);
+        expect("engine: senseless", sirophan_select_by(engines[i], SHEET, FILTER("pages gt 1 or code gt 5"), cards, 0, cells, 0),
+               SIROPHAN_NO_MEANING, 14);
+        expect_cells("engine: list too short", cells, (const uint32_t[3]){UNTOUCHED, UNTOUCHED, UNTOUCHED}, 3);
+        expect("engine: two of three", sirophan_select_by(engines[i], SHEET, FILTER(filter), cards, sizeof cards, cells, 3), 0, 2);
+        expect_cells("engine: two of three", cells, (const uint32_t[3]){7, 300, UNTOUCHED}, 3);
+    }
 
     uint8_t buffer[12];
     memset(buffer, '.', sizeof buffer);

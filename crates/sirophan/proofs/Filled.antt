@@ -20,10 +20,8 @@ use Rattle.place.specs.Machine.{failure}
 use Rattle.place.specs.Machine as place
 use Rattle.judge.specs.Faults.{firstFault}
 use Rattle.judge.specs.declared.Fault.{Fault}
-use Rattle.filter.specs.Folds.{summaryOf}
 use Rattle.filter.specs.declared.Summary.{Summary}
-use Rattle.rows.specs.Cells.{encode}
-use Rattle.rows.specs.Writing.{prepared, cellCount, outcomeOf, Wrote}
+use Rattle.rows.specs.Writing.{cellCount, Wrote}
 use Rattle.rows.specs.declared.Outcome.{Outcome}
 use Rattle.rows.specs.declared.Written.{Written}
 use Rattle.rows.proofs.Writing as writing

@@ -1,7 +1,8 @@
 -- Match, as the code comes to its answer.
 -- Assumes nothing.
-use Prim.Native.Nat.{ℕ}
-use mathlib.Core.Path.{_≡_, refl, sym, ap, _∙_}
+use Prim.Native.Nat.{ℕ, _≤_}
+use native.Mathlib.Omega.{arith}
+use mathlib.Core.Path.{_≡_, refl, sym, ap, ap₂, _∙_}
 use mathlib.Core.Bool.{Bool, true, false, cond}
 use mathlib.Core.Option.{none, some}
 use mathlib.Core.List.{List}
@@ -25,9 +26,19 @@ use Rattle.filter.specs.Walks.{answerOf}
 use Rattle.filter.specs.declared.Judged.{Judged}
 use Rattle.filter.proofs.Walk.{was-filter, was-none}
 use Rattle.filter.proofs.Judging.{judged-cases, judging-is}
+use Rattle.rows.specs.Saying.{rowsSay, Whole}
+use Rattle.search.specs.Rows.{RowsWithin}
+use Rattle.search.specs.declared.Rows.{Rows}
+use Rattle.refusal.specs.Answers.{numberOf}
 use Rattle.refusal.specs.Steps.{found, stop}
+use Rattle.refusal.specs.declared.Reason.{Reason}
 use Rattle.sirophan.specs.Operations.{Card, cardStep, takeCard, Question}
-use Rattle.sirophan.specs.Passing.{Passing, textSays, cardVerdict}
+use Rattle.sirophan.specs.Passing.{Passing, textSays, textQuestion, cardVerdict, verdictStep}
+use Rattle.sirophan.specs.SearchPassing.{rowsQuestion}
+use Rattle.sirophan.specs.Asking.{TakesCard, cellsQuestion, askedSays, askedQuestion, Asks, asks-rows, asks-text, asks-search}
+use Rattle.sirophan.specs.declared.asking.Asked.{Asked}
+use Rattle.sirophan.specs.declared.verdict.CardTaken.{CardTaken}
+use Rattle.sirophan.specs.declared.verdict.CardVerdict.{CardVerdict}
 
 -- ---- what the filter says
 
@@ -53,36 +64,103 @@ module _ (ps : List Parameter) (es : List Entry) (b xs : List ℕ) (p : Passing 
       let z : none ≡ some (p .tree) = read-from unparsed (was-none Judged.Done Judged.Nothing judged-cases (judging true ps 0 (chosenOf every es)) xs round 8 start w e h) in
       cc
 
--- ---- one card
+-- ---- one card is taken
 
-module _ (q : Question) (b : List ℕ) (r : Reading) (e : r ≡ readCard b) where
-  pub card-refused : (k : Reading) (n : ℕ) → ((fits : Bool) (c : Card) (i : ℕ) → cardStep k fits c i ≡ stop n i) → r ≡ k → (i : ℕ) → stop n i ≡ cardVerdict q i b
-  unfolding cardVerdict takeCard
-  card-refused k n t h i = rw (sym e ∙ h, t (conforms (q .parameters) (entriesOf b)) (record { number = recordNumber b; entries = entriesOf b }) i)
+module _ (kinds b : List ℕ) (r : Reading) (e : r ≡ readCard b) where
+  taken-refused : (k : Reading) (x : Reason) → ((fits : Bool) (c : Card) (i : ℕ) → cardStep k fits c i ≡ stop (numberOf x) i) → r ≡ k → TakesCard kinds b (CardTaken.Refused x)
+  taken-refused k x t h =
+      record {
+        well-formed = λ z. absurd (let y : _≡_ {A = ℕ} 0 1 = cc in omega arith);
+        steps = λ ps l i. (unfold takeCard in rw (sym e ∙ h, t (conforms ps (entriesOf b)) (record { number = recordNumber b; entries = entriesOf b }) i));
+      }
 
-  module _ (ks : List ℕ) (t : ks ≡ kindsOf (q .parameters)) (o : Bool) (g : o ≡ conformsTo ks (entriesOf b)) (h : r ≡ Reading.WellFormed) where
-    fits : o ≡ conforms (q .parameters) (entriesOf b)
-    fits = g ∙ ap (λ (k : List ℕ). conformsTo k (entriesOf b)) t ∙ table-conforms (q .parameters) (entriesOf b)
+  pub takes-size : r ≡ Reading.WrongSize → TakesCard kinds b (CardTaken.Refused Reason.CardSize)
+  takes-size = taken-refused Reading.WrongSize Reason.CardSize (λ fits c i. refl)
 
-    pub card-misfit : o ≡ false → (i : ℕ) → stop 23 i ≡ cardVerdict q i b
-    unfolding cardVerdict takeCard
-    card-misfit n i = rw (sym e ∙ h, sym fits ∙ n)
+  pub takes-sum : r ≡ Reading.WrongSum → TakesCard kinds b (CardTaken.Refused Reason.CardSum)
+  takes-sum = taken-refused Reading.WrongSum Reason.CardSum (λ fits c i. refl)
 
-    pub card-says : (v : Bool) → o ≡ true → v ≡ q .says (entriesOf b) → (i : ℕ) → found v ≡ cardVerdict q i b
-    unfolding cardVerdict takeCard
-    card-says v y s i = rw (sym e ∙ h, sym fits ∙ y, s)
+  pub takes-layout : r ≡ Reading.WrongLayout → TakesCard kinds b (CardTaken.Refused Reason.CardLayout)
+  takes-layout = taken-refused Reading.WrongLayout Reason.CardLayout (λ fits c i. refl)
 
--- ---- by what reading says of the card
+  pub card-known : r ≡ Reading.WellFormed → readCard b ≡ Reading.WellFormed
+  card-known h = sym e ∙ h
 
-pub card-known : (b : List ℕ) (r : Reading) → r ≡ readCard b → r ≡ Reading.WellFormed → readCard b ≡ Reading.WellFormed
-card-known b r e h = sym e ∙ h
+  module _ (o : Bool) (g : o ≡ conformsTo kinds (entriesOf b)) (h : r ≡ Reading.WellFormed) where
+    fits : (ps : List Parameter) → kinds ≡ kindsOf ps → conforms ps (entriesOf b) ≡ o
+    fits ps l = sym (g ∙ ap (λ (k : List ℕ). conformsTo k (entriesOf b)) l ∙ table-conforms ps (entriesOf b))
 
-module _ (q : Question) (b : List ℕ) (r : Reading) (e : r ≡ readCard b) where
-  pub card-size : r ≡ Reading.WrongSize → (i : ℕ) → stop 20 i ≡ cardVerdict q i b
-  card-size = card-refused q b r e Reading.WrongSize 20 (λ fits c i. refl)
+    pub takes-misfit : o ≡ false → TakesCard kinds b (CardTaken.Refused Reason.CardMisfit)
+    takes-misfit n =
+        record {
+          well-formed = λ z. absurd (let y : _≡_ {A = ℕ} 0 1 = cc in omega arith);
+          steps = λ ps l i. (unfold takeCard in rw (sym e ∙ h, fits ps l ∙ n));
+        }
 
-  pub card-sum : r ≡ Reading.WrongSum → (i : ℕ) → stop 21 i ≡ cardVerdict q i b
-  card-sum = card-refused q b r e Reading.WrongSum 21 (λ fits c i. refl)
+    pub takes-conforming : o ≡ true → TakesCard kinds b CardTaken.Conforming
+    takes-conforming y =
+        record {
+          well-formed = λ z. sym e ∙ h;
+          steps = λ ps l i. (unfold takeCard in rw (sym e ∙ h, fits ps l ∙ y));
+        }
 
-  pub card-layout : r ≡ Reading.WrongLayout → (i : ℕ) → stop 22 i ≡ cardVerdict q i b
-  card-layout = card-refused q b r e Reading.WrongLayout 22 (λ fits c i. refl)
+-- ---- and judged
+
+module _ (kinds b : List ℕ) (t : CardTaken) (e : TakesCard kinds b t) where
+  pub conforming-known : t ≡ CardTaken.Conforming → readCard b ≡ Reading.WellFormed
+  conforming-known h = e .well-formed h
+
+  module _ (q : Question) (l : kinds ≡ kindsOf (q .parameters)) where
+    pub judged-says : (v : Bool) → t ≡ CardTaken.Conforming → v ≡ q .says (entriesOf b) → (i : ℕ) → found v ≡ cardVerdict q i b
+    unfolding cardVerdict
+    judged-says v h s i = rw (sym (e .steps (q .parameters) l i), h, s)
+
+    pub judged-refused : (x : Reason) → t ≡ CardTaken.Refused x → (i : ℕ) → stop (numberOf x) i ≡ cardVerdict q i b
+    unfolding cardVerdict
+    judged-refused x h i = rw (sym (e .steps (q .parameters) l i), h)
+
+  -- by rows, whatever the parameters of these kinds
+  module _ (xs cs : List ℕ) where
+    pub rows-says : (v : Bool) → t ≡ CardTaken.Conforming → v ≡ rowsSay kinds xs (chosenOf every (entriesOf b)) cs
+        → (ps : List Parameter) → kinds ≡ kindsOf ps → (i : ℕ) → found v ≡ cardVerdict (cellsQuestion ps xs cs) i b
+    rows-says v h s ps l = judged-says (cellsQuestion ps xs cs) l v h (s ∙ ap₂ (λ (k : List ℕ) (es : List Entry). rowsSay k xs es cs) l (chosen-every (entriesOf b)))
+
+    pub rows-refused : (x : Reason) → t ≡ CardTaken.Refused x → (ps : List Parameter) → kinds ≡ kindsOf ps → (i : ℕ) → stop (numberOf x) i ≡ cardVerdict (cellsQuestion ps xs cs) i b
+    rows-refused x h ps l = judged-refused (cellsQuestion ps xs cs) l x h
+
+-- ---- whichever way
+
+module _ (b xs cs : List ℕ) (rows : Rows) where
+  pub asks-short : (a : Asked) → Asks b xs cs rows a → a ≡ Asked.Rows → length xs ≤ 1024
+  asks-short Asked.Rows (asks-rows l w) h = l
+  asks-short Asked.Text (asks-text p) h = absurd (let y : _≡_ {A = ℕ} 0 1 = cc in omega arith)
+  asks-short Asked.Search (asks-search w) h = absurd (let y : _≡_ {A = ℕ} 0 1 = cc in omega arith)
+
+  pub asks-whole : (a : Asked) → Asks b xs cs rows a → a ≡ Asked.Rows → Whole cs
+  asks-whole Asked.Rows (asks-rows l w) h = w
+  asks-whole Asked.Text (asks-text p) h = absurd (let y : _≡_ {A = ℕ} 0 1 = cc in omega arith)
+  asks-whole Asked.Search (asks-search w) h = absurd (let y : _≡_ {A = ℕ} 0 1 = cc in omega arith)
+
+  pub asks-passing : (a : Asked) → Asks b xs cs rows a → a ≡ Asked.Text → Passing b xs
+  asks-passing Asked.Rows (asks-rows l w) h = absurd (let y : _≡_ {A = ℕ} 0 1 = cc in omega arith)
+  asks-passing Asked.Text (asks-text p) h = p
+  asks-passing Asked.Search (asks-search w) h = absurd (let y : _≡_ {A = ℕ} 0 1 = cc in omega arith)
+
+  pub asks-within : (a : Asked) → Asks b xs cs rows a → a ≡ Asked.Search → RowsWithin (length xs) rows
+  asks-within Asked.Rows (asks-rows l w) h = absurd (let y : _≡_ {A = ℕ} 0 1 = cc in omega arith)
+  asks-within Asked.Text (asks-text p) h = absurd (let y : _≡_ {A = ℕ} 0 1 = cc in omega arith)
+  asks-within Asked.Search (asks-search w) h = w
+
+module _ (ps : List Parameter) (xs cs : List ℕ) (rows : Rows) (a : Asked) (v : CardVerdict) (b : List ℕ) where
+  pub asked-rows : a ≡ Asked.Rows → (kinds : List ℕ) → kinds ≡ kindsOf ps → ((qs : List Parameter) → kinds ≡ kindsOf qs → (i : ℕ) → verdictStep v i ≡ cardVerdict (cellsQuestion qs xs cs) i b)
+      → (i : ℕ) → verdictStep v i ≡ cardVerdict (askedQuestion a ps xs cs rows) i b
+  unfolding askedSays
+  asked-rows h kinds l e i = rw h (e ps l i)
+
+  pub asked-text : a ≡ Asked.Text → ((i : ℕ) → verdictStep v i ≡ cardVerdict (textQuestion ps (read xs)) i b) → (i : ℕ) → verdictStep v i ≡ cardVerdict (askedQuestion a ps xs cs rows) i b
+  unfolding askedSays
+  asked-text h e i = rw h (e i)
+
+  pub asked-search : a ≡ Asked.Search → ((i : ℕ) → verdictStep v i ≡ cardVerdict (rowsQuestion ps xs rows) i b) → (i : ℕ) → verdictStep v i ≡ cardVerdict (askedQuestion a ps xs cs rows) i b
+  unfolding askedSays
+  asked-search h e i = rw h (e i)

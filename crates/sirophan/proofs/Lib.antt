@@ -25,6 +25,8 @@ pub mod RunTable
 pub mod SelectTable
 pub mod RowsTable
 pub mod RowsAnswered
+pub mod RowsAsked
+pub mod RowsMatched
 pub mod Contracts
 pub mod Answered
 pub mod SpellTable

@@ -25,6 +25,7 @@ use Rattle.refusal.proofs.Steps.{taken}
 use Rattle.refusal.specs.Steps.{Step, found, stop, _>>=_, answer}
 use Rattle.sirophan.specs.Operations.{treeStep, takeFilter, testsStep, takeSheet, sheetStep, Inputs, takeInputs, Card, cardStep, takeCard, checkAnswer, Question, matchBy, filterQuestion, matchAnswer}
 use Rattle.sirophan.specs.Passing.{Passing, textQuestion, cardVerdict, verdictStep}
+use Rattle.sirophan.specs.Asking.{verdictAnswer}
 
 -- ---- check has passed them
 
@@ -47,10 +48,9 @@ text-found text true b o f h = (cc, cc)
 text-found text false true o f h = (cc, cc)
 text-found text false false o f h = (refl, tree-found text o f h)
 
-pub passing : (b xs : List ℕ) (c : Checked) (n : ℕ) → checkedAnswer c ≡ checkAnswer b xs → c ≡ Checked.Tests n → Passing b xs
-unfolding checkedAnswer checkAnswer takeInputs takeSheet takeFilter
-passing b xs c n e h =
-    let (p, is) = inputs-found (takeInputs b xs) n (sym e ∙ ap checkedAnswer h) in
+pub passing-inputs : (b xs : List ℕ) (p : Inputs) → takeInputs b xs ≡ found p → Passing b xs
+unfolding takeInputs takeSheet takeFilter
+passing-inputs b xs p is =
     let (ps, s, rest) = taken (takeSheet b) (λ qs. takeFilter xs >>= λ f. testsStep qs (testsOf f) >>= λ u. found (record { parameters = qs; filter = f })) p is in
     let (f, t, last) = taken (takeFilter xs) (λ f. testsStep ps (testsOf f) >>= λ u. found (record { parameters = ps; filter = f })) p rest in
     let (u, v, made) = taken (testsStep ps (testsOf f)) (λ u. found (record { parameters = ps; filter = f })) p last in
@@ -61,8 +61,18 @@ passing b xs c n e h =
       sheet-well-formed = well;
       short = ltb-false 1024 (length xs) short;
       reads = reads;
+      meant = ap (λ (qs : List Parameter). testsStep qs (testsOf f)) same ∙ v;
       inputs-taken = is ∙ sym made ∙ ap (λ (qs : List Parameter). found (record { parameters = qs; filter = f })) (sym same);
     }
+
+pub passing : (b xs : List ℕ) (c : Checked) (n : ℕ) → checkedAnswer c ≡ checkAnswer b xs → c ≡ Checked.Tests n → Passing b xs
+unfolding checkedAnswer checkAnswer
+passing b xs c n e h =
+    let (p, is) = inputs-found (takeInputs b xs) n (sym e ∙ ap checkedAnswer h) in
+    passing-inputs b xs p is
+
+pub passing-sheet : (b xs : List ℕ) (c : Checked) (n : ℕ) → checkedAnswer c ≡ checkAnswer b xs → c ≡ Checked.Tests n → readSheet b ≡ Reading.WellFormed
+passing-sheet b xs c n e h = passing b xs c n e h .sheet-well-formed
 
 -- what a filter that check has passed asks
 pub passing-asks : (b xs : List ℕ) (p : Passing b xs) → filterQuestion b xs ≡ found (textQuestion (parametersOf b) (read xs))
@@ -110,9 +120,13 @@ match-stopped asked card r e = rw e
 pub match-refused : (b xs card : List ℕ) (c : Checked) (r : Refusal) → checkedAnswer c ≡ checkAnswer b xs → c ≡ Checked.Refused r → matchedAnswer (Matched.Refused r) ≡ matchAnswer b xs card
 match-refused b xs card c r e h = match-stopped (filterQuestion b xs) card r (question-stopped b xs c r e h)
 
-yes-or-no-after : (s : Step Card) (g : Card → Bool) → (s >>= λ c. found (yesOrNo (g c))) ≡ (s >>= λ c. found (g c)) >>= λ b. found (yesOrNo b)
+pub yes-or-no-after : (s : Step Card) (g : Card → Bool) → (s >>= λ c. found (yesOrNo (g c))) ≡ (s >>= λ c. found (g c)) >>= λ b. found (yesOrNo b)
 yes-or-no-after (found c) g = refl
 yes-or-no-after (stop n p) g = refl
+
+pub same-verdicts : (q : Step Card) (a b : Card → Bool) → ((c : Card) → a c ≡ b c) → answer (q >>= λ c. found (yesOrNo (a c))) ≡ answer (q >>= λ c. found (yesOrNo (b c)))
+same-verdicts (found c) a b h = ap yesOrNo (h c)
+same-verdicts (stop n p) a b h = refl
 
 -- what is asked is known, and so is the verdict on the card
 module _ (asked : Step Question) (q : Question) (card : List ℕ) (p : asked ≡ found q) (v : CardVerdict) (e : (i : ℕ) → verdictStep v i ≡ cardVerdict q i card) where
@@ -120,25 +134,26 @@ module _ (asked : Step Question) (q : Question) (card : List ℕ) (p : asked ≡
   unfolding matchBy cardVerdict
   match-is = rw (p, e 0) (ap answer (yes-or-no-after (takeCard (q .parameters) 0 card) (λ c. q .says (c .entries))))
 
-  pub match-yes : (y : Bool) → v ≡ CardVerdict.Says y → y ≡ true → matchedAnswer Matched.Yes ≡ matchBy asked card
-  unfolding matchedAnswer
-  match-yes y h k = sym (match-is ∙ rw (h, k))
-
-  pub match-no : (y : Bool) → v ≡ CardVerdict.Says y → y ≡ false → matchedAnswer Matched.No ≡ matchBy asked card
-  unfolding matchedAnswer
-  match-no y h k = sym (match-is ∙ rw (h, k))
-
-  pub match-card-refused : (r : Refusal) → v ≡ CardVerdict.Refused (r .reason) → r .place ≡ 0 → matchedAnswer (Matched.Refused r) ≡ matchBy asked card
-  unfolding matchedAnswer refusalAnswer
-  match-card-refused r h z = sym (match-is ∙ rw (h, z))
+  pub match-answered : (m : Matched) → matchedAnswer m ≡ verdictAnswer v → matchedAnswer m ≡ matchBy asked card
+  unfolding verdictAnswer
+  match-answered m h = h ∙ sym match-is
 
 -- by a filter that check has passed
-module _ (b xs card : List ℕ) (p : Passing b xs) (v : CardVerdict) (e : (i : ℕ) → verdictStep v i ≡ cardVerdict (textQuestion (parametersOf b) (read xs)) i card) where
-  pub filter-yes : (y : Bool) → v ≡ CardVerdict.Says y → y ≡ true → matchedAnswer Matched.Yes ≡ matchAnswer b xs card
-  filter-yes = match-yes (filterQuestion b xs) (textQuestion (parametersOf b) (read xs)) card (passing-asks b xs p) v e
+pub filter-answered : (b xs card : List ℕ) → Passing b xs → (v : CardVerdict) → ((i : ℕ) → verdictStep v i ≡ cardVerdict (textQuestion (parametersOf b) (read xs)) i card) → (m : Matched) → matchedAnswer m ≡ verdictAnswer v
+    → matchedAnswer m ≡ matchAnswer b xs card
+filter-answered b xs card p = match-answered (filterQuestion b xs) (textQuestion (parametersOf b) (read xs)) card (passing-asks b xs p)
 
-  pub filter-no : (y : Bool) → v ≡ CardVerdict.Says y → y ≡ false → matchedAnswer Matched.No ≡ matchAnswer b xs card
-  filter-no = match-no (filterQuestion b xs) (textQuestion (parametersOf b) (read xs)) card (passing-asks b xs p) v e
+-- ---- a verdict as match's answer
 
-  pub filter-card-refused : (r : Refusal) → v ≡ CardVerdict.Refused (r .reason) → r .place ≡ 0 → matchedAnswer (Matched.Refused r) ≡ matchAnswer b xs card
-  filter-card-refused = match-card-refused (filterQuestion b xs) (textQuestion (parametersOf b) (read xs)) card (passing-asks b xs p) v e
+module _ (v : CardVerdict) where
+  pub verdict-yes : (y : Bool) → v ≡ CardVerdict.Says y → y ≡ true → matchedAnswer Matched.Yes ≡ verdictAnswer v
+  unfolding matchedAnswer verdictAnswer
+  verdict-yes y h k = rw (h, k)
+
+  pub verdict-no : (y : Bool) → v ≡ CardVerdict.Says y → y ≡ false → matchedAnswer Matched.No ≡ verdictAnswer v
+  unfolding matchedAnswer verdictAnswer
+  verdict-no y h k = rw (h, k)
+
+  pub verdict-refused : (r : Refusal) → v ≡ CardVerdict.Refused (r .reason) → r .place ≡ 0 → matchedAnswer (Matched.Refused r) ≡ verdictAnswer v
+  unfolding matchedAnswer refusalAnswer verdictAnswer
+  verdict-refused r h z = rw (h, z)

@@ -1,8 +1,8 @@
 -- The promises, grouped by the letter's demands; each is proved where its one line says. The contracts of check, match_card and select say
--- that the code answers as checkAnswer, matchAnswer and selectAnswer do, and leaves the list as selectCells says; that of spell, that it
--- answers as spellAnswer does, and leaves the buffer as spellBytes says. Assumes nothing.
+-- that the code answers as checkAnswer, matchAnswer and selectAnswer do, and leaves the list as selectCells says, and those of match_by_text
+-- and select_by the same; that of spell, that it answers as spellAnswer does, and leaves the buffer as spellBytes says. Assumes nothing.
 use Prim.Native.Nat.{ℕ, _+_, _≤_, _<_}
-use mathlib.Core.Path.{_≡_}
+use mathlib.Core.Path.{_≡_, sym, _∙_}
 use mathlib.Core.Bool.{Bool, true}
 use mathlib.Core.Logic.{_↔_, _⊎_}
 use mathlib.Core.Option.{some}
@@ -52,6 +52,10 @@ use Rattle.kind.specs.declared.Relation.{Relation}
 use Rattle.refusal.proofs.Order as order
 use Rattle.refusal.specs.Answers.{Answer, yes, no, count, refused}
 use Rattle.kind.specs.declared.DateRelation.{DateRelation}
+use Rattle.sirophan.specs.Answers.{matchedAnswer, selectedAnswer}
+use Rattle.sirophan.specs.Contracts.{Matches, SelectsInto}
+use Rattle.sirophan.specs.declared.Matched.{Matched}
+use Rattle.sirophan.specs.declared.Selected.{Selected}
 use Rattle.sirophan.specs.Operations.{checkAnswer, filterQuestion, matchAnswer, selectAnswer, selectCells}
 use Rattle.kind.specs.Rules.{ReadableOnCard, ReadableValue}
 use Rattle.kind.specs.Rules.{HasOperator}
@@ -275,6 +279,17 @@ judge-answered = rows-answered.judge-answered
 -- match is the two after each other
 pub match-is : (sheet text card list : List ℕ) → Bytes sheet → 1024 ≤ length list → MatchIs sheet text card list
 match-is = rows-answered.match-is
+
+-- ---- 02: two engines
+
+-- match_card goes by rows and match_by_text by the filter's text, and both have match's contract: on every input they give the same answer,
+-- refusals and places included; select_by has select's contract for either engine, and so gives the same answer and leaves the same list
+pub engines-match-alike : (sheet text card : List ℕ) (by-rows by-text : Matched) → Matches sheet text card by-rows → Matches sheet text card by-text → matchedAnswer by-rows ≡ matchedAnswer by-text
+engines-match-alike sheet text card by-rows by-text r t = r .answers ∙ sym (t .answers)
+
+pub engines-select-alike : (sheet text cards list : List ℕ) (by-rows by-text : Selected) (rows-exit text-exit : List ℕ) → SelectsInto sheet text cards list by-rows rows-exit
+    → SelectsInto sheet text cards list by-text text-exit → (selectedAnswer by-rows ≡ selectedAnswer by-text) × (rows-exit ≡ text-exit)
+engines-select-alike sheet text cards list by-rows by-text rows-exit text-exit r t = (r .answers ∙ sym (t .answers), r .cells ∙ sym (t .cells))
 
 -- ---- demand 3: what check passes and what it refuses
 

@@ -3,53 +3,44 @@
 -- Assumes nothing.
 use Prim.Native.Nat.{ℕ, _+_, _≤_, _<_}
 use native.Mathlib.Omega.{arith}
-use mathlib.Core.Path.{_≡_, refl, sym, ap, ap₂, subst, _∙_}
-use mathlib.Core.Bool.{Bool, true, false, cond, _||_}
+use mathlib.Core.Path.{_≡_, refl, sym, ap, subst, _∙_}
 use mathlib.Core.Logic.{_⊎_, inl, inr}
-use mathlib.Core.Option.{Option, none, some}
-use mathlib.Core.List.{List, [], _∷_, _++_}
-use lib.Dec.{eqb, ltb, leb}
+use mathlib.Core.List.{List, _++_}
+use lib.Dec.{leb}
 use lib.ListN.{length, take, drop}
 use lib.Seq.{take-at}
-use borrow.Author.Tests.{ne-eqb, le-ltb, le-leb, leb-true}
+use borrow.Author.Tests.{ne-eqb, le-ltb, le-leb}
 use Rattle.base.specs.Bytes.{Bytes}
-use Rattle.base.specs.Lists.{All, all-empty, all-cons}
-use Rattle.base.specs.Operators.{pr}
 use Rattle.base.proofs.Tests.{cond-elim}
-use Rattle.base.proofs.All.{all-append}
 use Rattle.sheet.specs.Sheet.{Parameter}
-use Rattle.sheet.specs.Find.{kindsOf, parentsOf}
-use Rattle.sheet.specs.Encode.{WellFormedSheet, SheetBlock}
+use Rattle.sheet.specs.Encode.{SheetBlock}
 use Rattle.card.specs.Card.{Entry}
-use Rattle.syntax.specs.Tree.{Test, Tree, testsOf}
+use Rattle.syntax.specs.Tree.{Tree, testsOf}
 use Rattle.syntax.specs.Grammar.{Spells}
 use Rattle.syntax.proofs.Complete.{filter-rise}
 use Rattle.judge.specs.Faults.{firstFault}
 use Rattle.judge.specs.Rules.{Conforms, FilterSays}
 use Rattle.judge.specs.Verdicts.{filterSays}
 use Rattle.judge.specs.declared.Fault.{Fault}
-use Rattle.rows.specs.Cells.{encode, stated}
 use Rattle.rows.specs.Good.{Good}
-use Rattle.rows.specs.Shapes.{good}
-use Rattle.rows.specs.Stated.{treeOf, erase}
-use Rattle.rows.specs.Writing.{prepared, cellCount}
+use Rattle.rows.specs.Stated.{treeOf}
 use Rattle.rows.proofs.Good.{good-states, good-iff}
 use Rattle.rows.proofs.Writing.{filter-cells, cells-counted}
 use Rattle.rows.proofs.Preparing.{prepared-good, prepared-states}
 use Rattle.refusal.specs.Answers.{Answer, yesOrNo, count, refused}
 use Rattle.refusal.specs.Steps.{Step, found, stop, _>>=_, answer}
-use Rattle.refusal.specs.Order.{Decides}
 use Rattle.refusal.proofs.Deciding.{Decided, none-holds, one-decides}
-use Rattle.sirophan.specs.Operations.{faultStep, testsStep, takeSheet, Inputs, takeInputs, Card, takeCard, questionOf, filterQuestion, matchAnswer, written}
+use Rattle.sirophan.specs.Operations.{faultStep, testsStep, Inputs, takeInputs, Card, takeCard, questionOf, filterQuestion, written}
 use Rattle.sirophan.specs.Preparing.{rowCells, takeCells, preparation, prepareAnswer, prepareCells, takeSize, takeRows, judgeAnswer}
 use Rattle.sirophan.specs.Refusals.{CheckLine, line-10}
 use Rattle.sirophan.specs.RowsRefusals.{PrepareLine, PrepareAnswers, PreparesGood, MatchIs}
-use Rattle.sirophan.specs.Verdicts.{Verdict, answers-yes, answers-no}
+use Rattle.sirophan.specs.Verdicts.{Verdict}
 use Rattle.sirophan.proofs.Cards.{conforms-taken}
 use Rattle.sirophan.proofs.Verdicts.{verdict-spelled}
 use Rattle.rows.proofs.Meaning.{erase-says, fits-spelled}
-use Rattle.sirophan.proofs.CheckTable.{Ready, inputs-decided}
+use Rattle.sirophan.proofs.CheckTable.{inputs-decided}
 use Rattle.sirophan.proofs.Inputs.{sheet-taken, inputs-taken, inputs-number, question-by, match-by}
+use Rattle.sirophan.proofs.Passing.{same-verdicts}
 use Rattle.sirophan.proofs.RowsTable.{prepare-table}
 
 -- ---- what was taken
@@ -59,7 +50,7 @@ known-of : {A : Type 0} {Known : A → Type 0} {Line : ℕ → ℕ → Type 0} {
 known-of {Known = Known} (none-holds {x = y} k h) x e = let same : y ≡ x = cc in (subst Known same k, h)
 known-of (one-decides d) x e = let z : _≡_ {A = ℕ} 0 1 = cc in absurd (omega arith)
 
-no-fault : (f : Fault) (p : ℕ) → faultStep f p ≡ found tt → f ≡ Fault.Nothing
+pub no-fault : (f : Fault) (p : ℕ) → faultStep f p ≡ found tt → f ≡ Fault.Nothing
 no-fault Fault.Nothing p e = refl
 no-fault Fault.UnknownName p e = let z : _≡_ {A = ℕ} 0 1 = cc in absurd (omega arith)
 no-fault Fault.BareBundle p e = let z : _≡_ {A = ℕ} 0 1 = cc in absurd (omega arith)
@@ -182,10 +173,6 @@ module _ (sheet text cells : List ℕ) (s : SheetBlock sheet) (some-text : 1 ≤
       subst (λ (a : Answer). Verdict (FilterSays (s .parameters) 0 es (treeOf (s .parameters) text (g .expression))) a) (sym e) (verdict-spelled (s .parameters) (s .well-formed) es (treeOf (s .parameters) text (g .expression)) (fits-spelled (s .parameters) text (g .fits)))
 
 -- ---- match is prepare and judge after each other
-
-same-verdicts : (q : Step Card) (a b : Card → Bool) → ((c : Card) → a c ≡ b c) → answer (q >>= λ c. found (yesOrNo (a c))) ≡ answer (q >>= λ c. found (yesOrNo (b c)))
-same-verdicts (found c) a b h = ap yesOrNo (h c)
-same-verdicts (stop n p) a b h = refl
 
 enough : (room : ℕ) (cs : List ℕ) → length cs ≤ room → takeCells room cs ≡ found cs
 unfolding takeCells

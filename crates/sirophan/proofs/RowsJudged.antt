@@ -2,35 +2,30 @@
 -- Assumes nothing.
 use Prim.Native.Nat.{ℕ, _≤_, _<_}
 use native.Mathlib.Omega.{arith}
-use mathlib.Core.Path.{_≡_, refl, sym, ap, ap₂, subst, _∙_}
+use mathlib.Core.Path.{_≡_, refl, sym, ap, ap₂, _∙_}
 use mathlib.Core.Bool.{Bool, true, false}
-use mathlib.Core.Option.{some}
 use mathlib.Core.List.{List}
 use lib.ListN.{length}
 use borrow.Author.Tests.{eq-eqb, ne-eqb, lt-ltb, le-ltb}
 use Rattle.block.specs.declared.Reading.{Reading}
 use Rattle.sheet.specs.Sheet.{Parameter, parametersOf, readSheet}
 use Rattle.sheet.specs.Find.{kindsOf, parentsOf}
-use Rattle.sheet.specs.Encode.{WellFormedSheet}
 use Rattle.sheet.proofs.RoundTrip.{sheet-well-formed}
-use Rattle.card.specs.Card.{Entry, entriesOf, readCard}
-use Rattle.syntax.specs.Tree.{Tree}
-use Rattle.judge.specs.Sets.{chosenOf, conforms, conformsTo}
 use Rattle.judge.specs.Verdicts.{filterSays}
-use Rattle.judge.specs.declared.Chosen.{Chosen}
-use Rattle.judge.proofs.Table.{table-conforms}
-use Rattle.judge.proofs.Entries.{every, chosen-every}
-use Rattle.rows.specs.Cells.{stated}
 use Rattle.rows.specs.Shapes.{good}
 use Rattle.rows.specs.Saying.{rowsSay, Whole}
 use Rattle.rows.specs.Stated.{treeOf}
 use Rattle.rows.proofs.Meaning.{good-whole, rows-mean}
 use Rattle.refusal.specs.declared.Reason.{Reason}
 use Rattle.refusal.specs.Answers.{yesOrNo, refused, numberOf}
-use Rattle.refusal.specs.Steps.{Step, found, stop, _>>=_, answer}
+use Rattle.refusal.specs.Steps.{found, stop, _>>=_, answer}
 use Rattle.sirophan.specs.Answers.{matchedAnswer}
-use Rattle.sirophan.specs.Operations.{sheetStep, takeSheet, Card, cardStep, takeCard}
+use Rattle.sirophan.specs.Operations.{sheetStep, takeSheet, Card, takeCard}
+use Rattle.sirophan.specs.Passing.{cardVerdict, verdictStep}
+use Rattle.sirophan.specs.Asking.{verdictAnswer, cellsQuestion}
 use Rattle.sirophan.specs.Preparing.{takeSize, takeRows, rowsAnswer, judgeAnswer}
+use Rattle.sirophan.specs.declared.verdict.CardVerdict.{CardVerdict}
+use Rattle.sirophan.proofs.Passing.{yes-or-no-after, same-verdicts}
 use Rattle.sirophan.specs.declared.Matched.{Matched}
 
 -- ---- the text's size
@@ -73,43 +68,17 @@ module _ (b xs cs card : List ℕ) (ok : readSheet b ≡ Reading.WellFormed) (n 
     unfolding rowsAnswer takeRows
     stated-answer = rw (sized, sym tested ∙ h, judge-whole .states)
 
-    module _ (k : Reading) (e : k ≡ readCard card) where
-      judge-card-refused : (r : Matched) (j : Reading) (m : ℕ) → ((fits : Bool) (c : Card) → cardStep j fits c 0 ≡ stop m 0) → k ≡ j → matchedAnswer r ≡ refused m 0 → matchedAnswer r ≡ rowsAnswer ps xs cs card
-      unfolding takeCard
-      judge-card-refused r j m t i a = a ∙ sym (stated-answer ∙ rw (sym e ∙ i, t (conforms ps (entriesOf card)) _))
-
-      module _ (r : Matched) where
-        pub judge-card-size : k ≡ Reading.WrongSize → matchedAnswer r ≡ refused (numberOf Reason.CardSize) 0 → matchedAnswer r ≡ rowsAnswer ps xs cs card
-        judge-card-size = judge-card-refused r Reading.WrongSize 20 (λ fits c. refl)
-
-        pub judge-card-sum : k ≡ Reading.WrongSum → matchedAnswer r ≡ refused (numberOf Reason.CardSum) 0 → matchedAnswer r ≡ rowsAnswer ps xs cs card
-        judge-card-sum = judge-card-refused r Reading.WrongSum 21 (λ fits c. refl)
-
-        pub judge-card-layout : k ≡ Reading.WrongLayout → matchedAnswer r ≡ refused (numberOf Reason.CardLayout) 0 → matchedAnswer r ≡ rowsAnswer ps xs cs card
-        judge-card-layout = judge-card-refused r Reading.WrongLayout 22 (λ fits c. refl)
-
-      module _ (i : k ≡ Reading.WellFormed) (fits : Bool) (f : fits ≡ conformsTo kinds (entriesOf card)) where
-        conforming : fits ≡ conforms ps (entriesOf card)
-        conforming = f ∙ ap (λ (q : List ℕ). conformsTo q (entriesOf card)) ek ∙ table-conforms ps (entriesOf card)
-
-        pub judge-misfit : (r : Matched) → fits ≡ false → matchedAnswer r ≡ refused (numberOf Reason.CardMisfit) 0 → matchedAnswer r ≡ rowsAnswer ps xs cs card
-        unfolding takeCard
-        judge-misfit r z a = a ∙ sym (stated-answer ∙ rw (sym e ∙ i, sym conforming ∙ z))
-
-        module _ (z : fits ≡ true) (says : Bool) (s : says ≡ rowsSay kinds xs (chosenOf every (entriesOf card)) cs) where
-          verdict : rowsAnswer ps xs cs card ≡ yesOrNo says
-          unfolding takeCard
-          verdict =
-              let meant : says ≡ filterSays ps 0 (entriesOf card) (treeOf ps xs (judge-whole .expression)) = s ∙ ap₂ (λ (q : List ℕ) (es : List Entry). rowsSay q xs es cs) ek (chosen-every (entriesOf card)) ∙ rows-mean ps (sheet-well-formed b ok) xs cs (judge-whole .expression) (sym tested ∙ h) (judge-whole .states) (entriesOf card) in
-              stated-answer ∙ rw (sym e ∙ i, sym conforming ∙ z) (ap yesOrNo (sym meant))
-
-          pub judge-yes : says ≡ true → matchedAnswer Matched.Yes ≡ rowsAnswer ps xs cs card
-          unfolding matchedAnswer
-          judge-yes y = sym (verdict ∙ ap yesOrNo y)
-
-          pub judge-no : says ≡ false → matchedAnswer Matched.No ≡ rowsAnswer ps xs cs card
-          unfolding matchedAnswer
-          judge-no y = sym (verdict ∙ ap yesOrNo y)
+    -- as the code has judged it
+    pub judge-verdict : (v : CardVerdict) → ((qs : List Parameter) → kinds ≡ kindsOf qs → (i : ℕ) → verdictStep v i ≡ cardVerdict (cellsQuestion qs xs cs) i card)
+        → (m : Matched) → matchedAnswer m ≡ verdictAnswer v → matchedAnswer m ≡ rowsAnswer ps xs cs card
+    judge-verdict v e m a =
+        let verdict : verdictAnswer v ≡ answer (takeCard ps 0 card >>= λ c. found (yesOrNo (rowsSay (kindsOf ps) xs (c .entries) cs))) =
+        (unfold verdictAnswer cardVerdict in (rw (e ps ek 0) (ap answer (sym (yes-or-no-after (takeCard ps 0 card) (λ c. rowsSay (kindsOf ps) xs (c .entries) cs))))))
+        in
+        let meant : (c : Card) → rowsSay (kindsOf ps) xs (c .entries) cs ≡ filterSays ps 0 (c .entries) (treeOf ps xs (judge-whole .expression)) =
+        λ c. rows-mean ps (sheet-well-formed b ok) xs cs (judge-whole .expression) (sym tested ∙ h) (judge-whole .states) (c .entries)
+        in
+        a ∙ verdict ∙ same-verdicts (takeCard ps 0 card) (λ c. rowsSay (kindsOf ps) xs (c .entries) cs) (λ c. filterSays ps 0 (c .entries) (treeOf ps xs (judge-whole .expression))) meant ∙ sym stated-answer
 
 -- ---- the sheet
 

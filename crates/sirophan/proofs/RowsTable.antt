@@ -4,9 +4,9 @@
 use Prim.Native.Nat.{ℕ, _≤_, _<_}
 use native.Mathlib.Omega.{arith}
 use mathlib.Core.Path.{_≡_, refl, ap, sym, _∙_, subst, subst₂}
-use mathlib.Core.Bool.{true, false, _||_}
-use mathlib.Core.Logic.{_↔_, _⊎_, inl, inr, ⊎-elim}
-use mathlib.Core.Option.{Option, none, some}
+use mathlib.Core.Bool.{false, _||_}
+use mathlib.Core.Logic.{_↔_, _⊎_, inl, inr}
+use mathlib.Core.Option.{Option}
 use mathlib.Core.List.{List}
 use lib.Dec.{eqb, ltb, leb}
 use lib.ListN.{length}
@@ -18,21 +18,19 @@ use Rattle.sheet.specs.Sheet.{Parameter}
 use Rattle.sheet.specs.Find.{kindsOf, parentsOf}
 use Rattle.sheet.specs.Encode.{SheetBlock}
 use Rattle.syntax.specs.Tree.{Tree}
-use Rattle.syntax.specs.Grammar.{Spells}
 use Rattle.syntax.proofs.Spelling.{spells-unique}
 use Rattle.judge.specs.Verdicts.{filterSays}
-use Rattle.rows.specs.Cells.{stated}
 use Rattle.rows.specs.Good.{Good}
 use Rattle.rows.specs.Shapes.{good}
 use Rattle.rows.specs.Stated.{treeOf}
 use Rattle.rows.proofs.Good.{good-states, good-iff}
 use Rattle.refusal.specs.Answers.{yesOrNo, count, refused}
-use Rattle.refusal.specs.Steps.{Step, found, stop, _>>=_}
+use Rattle.refusal.specs.Steps.{found, _>>=_}
 use Rattle.refusal.specs.Order.{group, Before, Decides}
 use Rattle.refusal.proofs.Answers.{count-not-refused, verdict-not-refused}
 use Rattle.refusal.proofs.Deciding.{Decided, none-holds, one-decides, NotRefused, decided-then, decided-found, decided-answer}
 use Rattle.refusal.proofs.Order.{apart-at, before-itself}
-use Rattle.sirophan.specs.Operations.{Inputs, Card, takeSheet, takeCard}
+use Rattle.sirophan.specs.Operations.{Inputs, Card, takeCard}
 use Rattle.sirophan.specs.Preparing.{rowCells, takeCells, preparation, prepareAnswer, takeSize, statedStep, takeRows, judgeAnswer}
 use Rattle.sirophan.specs.Refusals.{SheetLine, CheckLine, OneCardLine, line-20-match, line-of-card}
 use Rattle.sirophan.specs.RowsRefusals.{CellsLine, line-34, PrepareLine, SizeLine, line-10-judge, RowsLine, line-40, JudgeLine}

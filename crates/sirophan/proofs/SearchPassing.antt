@@ -3,7 +3,7 @@
 use Prim.Native.Nat.{ℕ}
 use native.Mathlib.Omega.{arith}
 use mathlib.Core.Path.{_≡_, refl, ap, sym, _∙_, subst, fun-ext}
-use mathlib.Core.Bool.{Bool, true, false}
+use mathlib.Core.Bool.{Bool}
 use mathlib.Core.List.{List}
 use lib.ListN.{length}
 use Rattle.block.specs.declared.Reading.{Reading}
@@ -31,10 +31,12 @@ use Rattle.sirophan.specs.declared.Checked.{Checked}
 use Rattle.sirophan.specs.declared.Matched.{Matched}
 use Rattle.sirophan.specs.declared.Selected.{Selected}
 use Rattle.sirophan.specs.declared.searching.SearchRead.{SearchRead}
-use Rattle.sirophan.proofs.Passing.{match-stopped, match-yes, match-no, match-card-refused}
+use Rattle.sirophan.proofs.Passing.{match-stopped, match-answered}
 use Rattle.sirophan.specs.Passing.{cardVerdict, verdictStep}
 use Rattle.sirophan.specs.declared.verdict.CardVerdict.{CardVerdict}
 use Rattle.sirophan.proofs.Selecting.{select-stopped}
+use Rattle.sirophan.specs.Asking.{verdictAnswer, askedSays, askedQuestion, Asks, asks-search}
+use Rattle.sirophan.specs.declared.asking.Asked.{Asked}
 
 pub sheet-known : (sheet : List ℕ) (r : Reading) → r ≡ readSheet sheet → r ≡ Reading.WellFormed → readSheet sheet ≡ Reading.WellFormed
 sheet-known sheet r e h = sym e ∙ h
@@ -184,15 +186,13 @@ module _ (sheet text bytes : List ℕ) (r : SearchRead) (read : ReadsRows sheet 
     asks : searchQuestion sheet text ≡ found (rowsQuestion (parametersOf sheet) bytes (r .rows))
     asks = read .passes n h .asked
 
-    pub selects-as-asked : (cards list : List ℕ) (s : Selected) (exit : List ℕ) → Selects (found (rowsQuestion (parametersOf sheet) bytes (r .rows))) cards list s exit → Selects (searchQuestion sheet text) cards list s exit
-    selects-as-asked cards list s exit g = subst (λ (a : Step Question). Selects a cards list s exit) (sym asks) g
+    pub search-asks : (cells : List ℕ) → Asks sheet bytes cells (r .rows) Asked.Search
+    search-asks cells = asks-search passed-within
 
-    module _ (card : List ℕ) (v : CardVerdict) (e : (i : ℕ) → verdictStep v i ≡ cardVerdict (rowsQuestion (parametersOf sheet) bytes (r .rows)) i card) where
-      pub search-yes : (y : Bool) → v ≡ CardVerdict.Says y → y ≡ true → matchedAnswer Matched.Yes ≡ matchSearchAnswer sheet text card
-      search-yes = match-yes (searchQuestion sheet text) (rowsQuestion (parametersOf sheet) bytes (r .rows)) card asks v e
+    pub search-selects : (cells cards list : List ℕ) (s : Selected) (exit : List ℕ) → Selects (found (askedQuestion Asked.Search (parametersOf sheet) bytes cells (r .rows))) cards list s exit → Selects (searchQuestion sheet text) cards list s exit
+    unfolding askedSays
+    search-selects cells cards list s exit g = subst (λ (a : Step Question). Selects a cards list s exit) (sym asks) g
 
-      pub search-no : (y : Bool) → v ≡ CardVerdict.Says y → y ≡ false → matchedAnswer Matched.No ≡ matchSearchAnswer sheet text card
-      search-no = match-no (searchQuestion sheet text) (rowsQuestion (parametersOf sheet) bytes (r .rows)) card asks v e
-
-      pub search-card-refused : (f : Refusal) → v ≡ CardVerdict.Refused (f .reason) → f .place ≡ 0 → matchedAnswer (Matched.Refused f) ≡ matchSearchAnswer sheet text card
-      search-card-refused = match-card-refused (searchQuestion sheet text) (rowsQuestion (parametersOf sheet) bytes (r .rows)) card asks v e
+    pub search-answered : (card : List ℕ) (v : CardVerdict) → ((i : ℕ) → verdictStep v i ≡ cardVerdict (rowsQuestion (parametersOf sheet) bytes (r .rows)) i card) → (m : Matched) → matchedAnswer m ≡ verdictAnswer v
+        → matchedAnswer m ≡ matchSearchAnswer sheet text card
+    search-answered card = match-answered (searchQuestion sheet text) (rowsQuestion (parametersOf sheet) bytes (r .rows)) card asks

@@ -19,7 +19,7 @@ use Rattle.search.specs.Rules.{AlternativeLine, line-14, line-14-bundle, line-1
 use Rattle.search.proofs.Reading.{query-unique}
 use Rattle.search.proofs.Lines.{query-decided}
 use Rattle.refusal.specs.Answers.{count, refused}
-use Rattle.refusal.specs.Order.{group, rank, Decides}
+use Rattle.refusal.specs.Order.{group, Decides}
 use Rattle.refusal.specs.Steps.{Step, found, stop, _>>=_}
 use Rattle.refusal.proofs.Steps.{stop-not-found}
 use Rattle.refusal.proofs.Answers.{count-not-refused}

@@ -2,7 +2,7 @@
 -- Assumes nothing.
 use Prim.Native.Nat.{ℕ, suc, _%_, _≤_, _<_}
 use native.Mathlib.Nat.{sub-zero}
-use mathlib.Core.Path.{_≡_, refl, sym, ap, _∙_}
+use mathlib.Core.Path.{_≡_, refl, sym, ap, subst, _∙_}
 use mathlib.Core.Bool.{cond}
 use mathlib.Core.List.{List, [], _∷_, _++_}
 use lib.ListN.{length, take, drop}
@@ -18,9 +18,13 @@ use Rattle.refusal.specs.Answers.{numberOf, refusalAnswer}
 use Rattle.sirophan.specs.Answers.{checkedAnswer, selectedAnswer}
 use Rattle.refusal.specs.Steps.{Step, found, stop, _>>=_}
 use Rattle.sirophan.specs.Operations.{checkAnswer, Card, takeCard, Question, filterQuestion, takeRun, takeCards, matching, takeRoom, selection, selectBy, cellsBy}
-use Rattle.sirophan.specs.Passing.{cardVerdict}
+use Rattle.sirophan.specs.Passing.{Passing, cardVerdict}
+use Rattle.sirophan.specs.Asking.{askedSays, askedQuestion, Asks, asks-text}
+use Rattle.sirophan.specs.declared.asking.Asked.{Asked}
+use Rattle.search.specs.declared.Rows.{Rows}
+use Rattle.sheet.specs.Sheet.{parametersOf}
 use Rattle.sirophan.specs.Selecting.{runNumbers, gatheredStep, Gathers, Selects}
-use Rattle.sirophan.proofs.Passing.{card-taken, question-stopped}
+use Rattle.sirophan.proofs.Passing.{card-taken, question-stopped, passing-asks}
 
 -- ---- the numbers of a run are those of its matching cards
 
@@ -108,6 +112,15 @@ module _ (asked : Step Question) (cards list : List ℕ) where
 pub select-refused : (sheet text cards list : List ℕ) (c : Checked) (r : Refusal) → checkedAnswer c ≡ checkAnswer sheet text → c ≡ Checked.Refused r
     → Selects (filterQuestion sheet text) cards list (Selected.Refused r) list
 select-refused sheet text cards list c r e h = select-stopped (filterQuestion sheet text) cards list r (question-stopped sheet text c r e h)
+
+-- check has passed it, and its text asks
+module _ (sheet text : List ℕ) (p : Passing sheet text) (cells : List ℕ) (rows : Rows) where
+  pub text-asks : Asks sheet text cells rows Asked.Text
+  text-asks = asks-text p
+
+  pub text-selects : (cards list : List ℕ) (s : Selected) (exit : List ℕ) → Selects (found (askedQuestion Asked.Text (parametersOf sheet) text cells rows)) cards list s exit → Selects (filterQuestion sheet text) cards list s exit
+  unfolding askedSays
+  text-selects cards list s exit g = subst (λ (a : Step Question). Selects a cards list s exit) (sym (passing-asks sheet text p)) g
 
 -- of a question that is found already
 module _ (q : Question) (cards list : List ℕ) (r : Refusal) where

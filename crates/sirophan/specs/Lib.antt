@@ -14,6 +14,7 @@ pub mod Searching
 pub mod SearchDemand
 pub mod SearchRefusals
 pub mod SearchPassing
+pub mod Asking
 pub mod SameQuestion
 pub mod Contracts
 pub mod RowsRefusals

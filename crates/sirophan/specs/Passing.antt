@@ -9,7 +9,7 @@ use lib.ListN.{length}
 use Rattle.block.specs.declared.Reading.{Reading}
 use Rattle.sheet.specs.Sheet.{Parameter, parametersOf, readSheet}
 use Rattle.card.specs.Card.{Entry}
-use Rattle.syntax.specs.Tree.{Tree}
+use Rattle.syntax.specs.Tree.{Tree, testsOf}
 use Rattle.syntax.specs.Reader.{read}
 use Rattle.judge.specs.Verdicts.{filterSays}
 use Rattle.place.specs.Machine as place
@@ -17,7 +17,7 @@ use Rattle.place.specs.declared.Failure.{Failure}
 use Rattle.filter.specs.declared.Summary.{Summary}
 use Rattle.refusal.specs.Answers.{Answer, count, refused, numberOf}
 use Rattle.refusal.specs.Steps.{Step, found, stop, _>>=_, answer}
-use Rattle.sirophan.specs.Operations.{faultStep, takeInputs, takeCard, Question}
+use Rattle.sirophan.specs.Operations.{faultStep, testsStep, takeInputs, takeCard, Question}
 use Rattle.sirophan.specs.declared.verdict.CardVerdict.{CardVerdict}
 
 -- the answer of check for a text that is a filter, from what was gathered reading it
@@ -34,6 +34,7 @@ pub record Passing (sheet text : List ℕ) : Type 0 where
   pub sheet-well-formed : readSheet sheet ≡ Reading.WellFormed
   pub short : length text ≤ 1024
   pub reads : read text ≡ some tree
+  pub meant : testsStep (parametersOf sheet) (testsOf tree) ≡ found tt
   pub inputs-taken : takeInputs sheet text ≡ found (record { parameters = parametersOf sheet; filter = tree })
 
 -- what the text's filter says of entries

@@ -2,12 +2,12 @@
 -- Assumes nothing.
 use Prim.Native.Nat.{ℕ, _≤_}
 use mathlib.Core.Path.{_≡_}
-use mathlib.Core.Bool.{Bool, cond, _||_}
+use mathlib.Core.Bool.{cond, _||_}
 use mathlib.Core.Option.{Option, none, some}
 use mathlib.Core.List.{List}
 use lib.Dec.{leb, eqb, ltb}
 use lib.ListN.{length, take}
-use Rattle.sheet.specs.Sheet.{Parameter, parametersOf}
+use Rattle.sheet.specs.Sheet.{Parameter}
 use Rattle.sheet.specs.Find.{kindsOf, parentsOf}
 use Rattle.syntax.specs.Tree.{Tree, testsOf}
 use Rattle.judge.specs.Verdicts.{filterSays}
@@ -18,7 +18,7 @@ use Rattle.rows.specs.Stated.{treeOf}
 use Rattle.rows.specs.Writing.{prepared}
 use Rattle.refusal.specs.Answers.{Answer, yesOrNo, count, numberOf, refusalAnswer}
 use Rattle.refusal.specs.Steps.{Step, found, stop, _>>=_, answer}
-use Rattle.sirophan.specs.Operations.{takeSheet, takeFilter, testsStep, Inputs, takeInputs, takeCard, written}
+use Rattle.sirophan.specs.Operations.{takeSheet, takeFilter, testsStep, takeInputs, takeCard, written}
 use Rattle.sirophan.specs.declared.Prepared.{Prepared}
 
 -- ---- prepare, into a list of `room` cells

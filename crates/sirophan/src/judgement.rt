@@ -1,12 +1,11 @@
 // Judge: a card under a sheet and rows that are good for a filter's text.
 use crate::Matched;
+use crate::by_rows::judge_by_rows;
+use crate::verdict::answered;
 use block::Reading;
-use judge::Chosen;
-use judge::conforms;
 use refusal::Reason;
 use refusal::Refusal;
 use rows::are_good;
-use rows::rows_say;
 ghost use mathlib.Core.Path.{_≡_};
 ghost use Rattle.sheet.specs.Sheet.{parametersOf, readSheet};
 ghost use Rattle.refusal.specs.Answers.{refused, numberOf};
@@ -35,31 +34,7 @@ fn judge_rows(sheet: &[u8], filter: &[u8], rows: &[u32], card: &[u8]) -> Matched
     let parents = sheet::parents(sheet);
     let sound = are_good(&kinds, &parents, filter, rows);
     if sound {
-        let reading = card::read_card(card);
-        match reading {
-            Reading::WellFormed => {
-                if conforms(&kinds, card) {
-                    let every = Chosen {
-                        all: true,
-                        occurrence: 0,
-                    };
-                    if rows_say(&kinds, filter, rows, card, every) {
-                        return Matched::Yes;
-                    }
-                    return Matched::No;
-                }
-                return refuse(Reason::CardMisfit);
-            }
-            Reading::WrongSize => {
-                return refuse(Reason::CardSize);
-            }
-            Reading::WrongSum => {
-                return refuse(Reason::CardSum);
-            }
-            Reading::WrongLayout => {
-                return refuse(Reason::CardLayout);
-            }
-        }
+        return answered(judge_by_rows(&kinds, filter, rows, card));
     }
     refuse(Reason::BadRows)
 }

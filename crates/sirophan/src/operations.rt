@@ -1,11 +1,14 @@
 // The operations, with all that is promised of each: the answer of its definition, refused exactly where a line of the table of
 // refusals decides. A slice holds bytes, so that nothing is asked of the caller.
 use crate::Checked;
+use crate::Engine;
 use crate::Matched;
 use crate::Prepared;
 use crate::Selected;
 use crate::Spelled;
+use crate::by_text::match_by_text_bytes;
 use crate::judgement::judge_bytes;
+use crate::matching::match_bytes;
 use crate::preparation::prepare_bytes;
 use crate::reading::check_bytes;
 use crate::run::select_bytes;
@@ -13,7 +16,6 @@ use crate::searching::check_search_bytes;
 use crate::searching::match_search_bytes;
 use crate::searching::select_search_bytes;
 use crate::spelling::spell_bytes;
-use crate::verdict::match_bytes;
 ghost use Rattle.sirophan.specs.Contracts.{Checks, Matches, SelectsInto, SpellsInto, ChecksSearch, MatchesSearch, SelectsSearchInto};
 ghost use Rattle.sirophan.specs.RowsRefusals.{PreparesInto, Judges};
 
@@ -31,11 +33,31 @@ pub fn match_card(sheet: &[u8], filter: &[u8], card: &[u8]) -> Matched
     match_bytes(sheet, filter, card)
 }
 
-// Writes the record numbers of the matching cards of a run into the list, in card order, and answers how many they are.
+// The same by the filter's text, without rows: slower, and to be held against match.
+pub fn match_by_text(sheet: &[u8], filter: &[u8], card: &[u8]) -> Matched
+    ensures { λ r. ⌜ Matches (now (sheet .entry)) (now (filter .entry)) (now (card .entry)) r ⌝ }
+{
+    match_by_text_bytes(sheet, filter, card)
+}
+
+// Writes the record numbers of the matching cards of a run into the list, in card order, and answers how many they are, by either engine.
+pub fn select_by(
+    engine: Engine,
+    sheet: &[u8],
+    filter: &[u8],
+    cards: &[u8],
+    list: &mut [u32],
+) -> Selected
+    ensures { λ r. ⌜ SelectsInto (now (sheet .entry)) (now (filter .entry)) (now (cards .entry)) (now (list .entry)) r (now (list .exit)) ⌝ }
+{
+    select_bytes(engine, sheet, filter, cards, list)
+}
+
+// The same by rows.
 pub fn select(sheet: &[u8], filter: &[u8], cards: &[u8], list: &mut [u32]) -> Selected
     ensures { λ r. ⌜ SelectsInto (now (sheet .entry)) (now (filter .entry)) (now (cards .entry)) (now (list .entry)) r (now (list .exit)) ⌝ }
 {
-    select_bytes(sheet, filter, cards, list)
+    select_by(Engine::Rows, sheet, filter, cards, list)
 }
 
 // Puts the plain spelling of a filter into the buffer from a place on, and answers its length.

@@ -75,7 +75,7 @@ fn fill_text(sheet: &[u8], filter: &[u8], buffer: &mut [u32]) -> Prepared
 }
 
 // The same on any sheet.
-fn fill(sheet: &[u8], filter: &[u8], buffer: &mut [u32]) -> Prepared
+pub fn fill(sheet: &[u8], filter: &[u8], buffer: &mut [u32]) -> Prepared
     requires { ⌜ length (now buffer) ≡ 1024 ⌝ }
     ensures { λ r. ⌜ Fills (now (sheet .entry)) (now (filter .entry)) r (now (buffer .exit)) ⌝ }
 {

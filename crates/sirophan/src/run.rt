@@ -1,20 +1,27 @@
 // Select: the record numbers of the cards of a run that match.
 use crate::Checked;
+use crate::Engine;
+use crate::Prepared;
 use crate::Selected;
+use crate::asking::Asked;
+use crate::asking::judge_asked;
+use crate::preparation::fill;
 use crate::reading::check_bytes;
 use crate::verdict::CardVerdict;
-use crate::verdict::judge_card;
+use block::Reading;
 use refusal::Reason;
 use refusal::Refusal;
+use search::Rows;
+use search::query::no_rows;
 ghost use mathlib.Core.Path.{_≡_};
 ghost use mathlib.Core.List.{_++_};
 ghost use Prim.Native.Nat.{_%_, _/_, _≤_};
 ghost use lib.ListN.{length, drop};
-ghost use Rattle.sheet.specs.Sheet.{parametersOf};
+ghost use Rattle.sheet.specs.Sheet.{parametersOf, readSheet};
 ghost use Rattle.sheet.specs.Find.{kindsOf};
-ghost use Rattle.syntax.specs.Reader.{read};
+ghost use Rattle.refusal.specs.Steps.{found};
 ghost use Rattle.sirophan.specs.Operations.{filterQuestion};
-ghost use Rattle.sirophan.specs.Passing.{Passing, textQuestion};
+ghost use Rattle.sirophan.specs.Asking.{Asks, askedQuestion};
 ghost use Rattle.sirophan.specs.Selecting.{Gathers, Selects};
 
 // Writes the numbers over the list's first cells.
@@ -30,19 +37,30 @@ pub fn write(numbers: &[u32], list: &mut [u32])
 }
 
 // Gathers the record numbers of the cards that match in the buffer, until a card is refused; `kinds` are those of the sheet.
-fn gather(sheet: &[u8], kinds: &[u8], filter: &[u8], cards: &[u8], buffer: &mut [u32]) -> Selected
-    requires { ⌜ Passing (now sheet) (now filter) ⌝ }
+fn gather(
+    asked: Asked,
+    sheet: &[u8],
+    kinds: &[u8],
+    text: &[u8],
+    cells: &[u32],
+    rows: Rows,
+    cards: &[u8],
+    buffer: &mut [u32],
+) -> Selected
+    requires { ⌜ readSheet (now sheet) ≡ Reading.WellFormed ⌝ }
+    requires { ⌜ length (now kinds) ≡ 32 ⌝ }
     requires { ⌜ now kinds ≡ kindsOf (parametersOf (now sheet)) ⌝ }
+    requires { ⌜ Asks (now sheet) (now text) (now cells) rows asked ⌝ }
     requires { ⌜ length (now cards) % 512 ≡ 0 ⌝ }
     requires { ⌜ length (now cards) / 512 ≤ length (now buffer) ⌝ }
-    ensures { λ r. ⌜ Gathers (textQuestion (parametersOf (now (sheet .entry))) (read (now (filter .entry)))) (now (cards .entry)) r (now (buffer .exit)) ⌝ }
+    ensures { λ r. ⌜ Gathers (askedQuestion asked (parametersOf (now (sheet .entry))) (now (text .entry)) (now (cells .entry)) rows) (now (cards .entry)) r (now (buffer .exit)) ⌝ }
 {
     let mut at = 0;
     let mut count = 0;
     while at < cards.len() {
         let end = at + 512;
         let card = &cards[at..end];
-        match judge_card(sheet, kinds, filter, card) {
+        match judge_asked(asked, sheet, kinds, text, cells, rows, card) {
             CardVerdict::Says(yes) => {
                 if yes {
                     buffer[count] = card::record_number(card);
@@ -61,10 +79,19 @@ fn gather(sheet: &[u8], kinds: &[u8], filter: &[u8], cards: &[u8], buffer: &mut 
     Selected::Count(count)
 }
 
-// Selects from the cards under a sheet and a filter that check has passed.
-fn select_cards(sheet: &[u8], filter: &[u8], cards: &[u8], list: &mut [u32]) -> Selected
-    requires { ⌜ Passing (now sheet) (now filter) ⌝ }
-    ensures { λ r. ⌜ Selects (filterQuestion (now (sheet .entry)) (now (filter .entry))) (now (cards .entry)) (now (list .entry)) r (now (list .exit)) ⌝ }
+// Selects from the cards under a sheet and a question that check has passed.
+pub fn select_cards(
+    asked: Asked,
+    sheet: &[u8],
+    text: &[u8],
+    cells: &[u32],
+    rows: Rows,
+    cards: &[u8],
+    list: &mut [u32],
+) -> Selected
+    requires { ⌜ readSheet (now sheet) ≡ Reading.WellFormed ⌝ }
+    requires { ⌜ Asks (now sheet) (now text) (now cells) rows asked ⌝ }
+    ensures { λ r. ⌜ Selects (found (askedQuestion asked (parametersOf (now (sheet .entry))) (now (text .entry)) (now (cells .entry)) rows)) (now (cards .entry)) (now (list .entry)) r (now (list .exit)) ⌝ }
 {
     if cards.len() % 512 != 0 {
         return Selected::Refused(Refusal {
@@ -81,7 +108,7 @@ fn select_cards(sheet: &[u8], filter: &[u8], cards: &[u8], list: &mut [u32]) -> 
     let kinds = sheet::kinds(sheet);
     // a refusal writes nothing, so the numbers wait here until the last card is judged
     let mut buffer = [0u32; 128];
-    let gathered = gather(sheet, &kinds, filter, cards, &mut buffer);
+    let gathered = gather(asked, sheet, &kinds, text, cells, rows, cards, &mut buffer);
     match gathered {
         Selected::Count(matches) => {
             if matches > list.len() {
@@ -97,14 +124,53 @@ fn select_cards(sheet: &[u8], filter: &[u8], cards: &[u8], list: &mut [u32]) -> 
     }
 }
 
-// Writes the record numbers of the cards that match into the list, from its first cell, in card order and with repeats, and
-// answers how many; or why there is no answer, and where. Later cells stay, and on a refusal all of them.
-pub fn select_bytes(sheet: &[u8], filter: &[u8], cards: &[u8], list: &mut [u32]) -> Selected
+// Select by the rows of the filter, which are written once for the run.
+fn select_by_rows(sheet: &[u8], filter: &[u8], cards: &[u8], list: &mut [u32]) -> Selected
+    ensures { λ r. ⌜ Selects (filterQuestion (now (sheet .entry)) (now (filter .entry))) (now (cards .entry)) (now (list .entry)) r (now (list .exit)) ⌝ }
+{
+    let mut cells = [0u32; 1024];
+    let filled = fill(sheet, filter, &mut cells);
+    match filled {
+        Prepared::Cells(n) => select_cards(
+            Asked::Rows,
+            sheet,
+            filter,
+            &cells[0..n],
+            no_rows(),
+            cards,
+            list,
+        ),
+        Prepared::Refused(refusal) => Selected::Refused(refusal),
+    }
+}
+
+// Select by the filter's text, which is read again for each card.
+fn select_by_text(sheet: &[u8], filter: &[u8], cards: &[u8], list: &mut [u32]) -> Selected
     ensures { λ r. ⌜ Selects (filterQuestion (now (sheet .entry)) (now (filter .entry))) (now (cards .entry)) (now (list .entry)) r (now (list .exit)) ⌝ }
 {
     let checked = check_bytes(sheet, filter);
     match checked {
-        Checked::Tests(_) => select_cards(sheet, filter, cards, list),
+        Checked::Tests(_) => {
+            let none = [0u32; 0];
+            select_cards(Asked::Text, sheet, filter, &none, no_rows(), cards, list)
+        }
         Checked::Refused(refusal) => Selected::Refused(refusal),
+    }
+}
+
+// Writes the record numbers of the cards that match into the list, from its first cell, in card order and with repeats, and
+// answers how many; or why there is no answer, and where. Later cells stay, and on a refusal all of them.
+pub fn select_bytes(
+    engine: Engine,
+    sheet: &[u8],
+    filter: &[u8],
+    cards: &[u8],
+    list: &mut [u32],
+) -> Selected
+    ensures { λ r. ⌜ Selects (filterQuestion (now (sheet .entry)) (now (filter .entry))) (now (cards .entry)) (now (list .entry)) r (now (list .exit)) ⌝ }
+{
+    match engine {
+        Engine::Rows => select_by_rows(sheet, filter, cards, list),
+        Engine::Text => select_by_text(sheet, filter, cards, list),
     }
 }

@@ -2,15 +2,17 @@
 use crate::Checked;
 use crate::Matched;
 use crate::Selected;
+use crate::asking::Asked;
 use crate::reading::outcome;
 use crate::reading::refuse;
-use crate::run::write;
+use crate::run::select_cards;
+use crate::verdict::CardTaken;
 use crate::verdict::CardVerdict;
+use crate::verdict::answered;
+use crate::verdict::take_card;
 use block::Reading;
 use filter::Summary;
-use judge::conforms;
 use refusal::Reason;
-use refusal::Refusal;
 use search::Rows;
 use search::TextOutcome;
 use search::faults::first_fault;
@@ -18,15 +20,14 @@ use search::query::no_rows;
 use search::query::take_query;
 use search::says::rows_say;
 ghost use mathlib.Core.Path.{_≡_};
-ghost use Prim.Native.Nat.{ℕ, _%_, _/_, _≤_};
+ghost use Prim.Native.Nat.{ℕ, _≤_};
 ghost use lib.ListN.{length};
 ghost use Rattle.sheet.specs.Sheet.{parametersOf, readSheet};
 ghost use Rattle.sheet.specs.Find.{kindsOf};
 ghost use Rattle.search.specs.Rows.{RowsWithin};
-ghost use Rattle.refusal.specs.Steps.{found};
 ghost use Rattle.sirophan.specs.Answers.{checkedAnswer, matchedAnswer};
 ghost use Rattle.sirophan.specs.Passing.{cardVerdict, verdictStep};
-ghost use Rattle.sirophan.specs.Selecting.{Gathers, Selects};
+ghost use Rattle.sirophan.specs.Selecting.{Selects};
 ghost use Rattle.sirophan.specs.Searching.{checkSearchAnswer, searchQuestion, matchSearchAnswer};
 ghost use Rattle.sirophan.specs.SearchPassing.{rowsAnswer, rowsQuestion, ReadsRows};
 
@@ -111,23 +112,22 @@ pub fn check_search_bytes(sheet: &[u8], text: &[u8]) -> Checked
 }
 
 // The verdict on a card, or why it is refused; `kinds` are those of the sheet.
-fn judge_rows(sheet: &[u8], kinds: &[u8], bytes: &[u8], rows: Rows, card: &[u8]) -> CardVerdict
+pub fn judge_by_search(
+    sheet: &[u8],
+    kinds: &[u8],
+    bytes: &[u8],
+    rows: Rows,
+    card: &[u8],
+) -> CardVerdict
     requires { ⌜ readSheet (now sheet) ≡ Reading.WellFormed ⌝ }
     requires { ⌜ now kinds ≡ kindsOf (parametersOf (now sheet)) ⌝ }
     requires { ⌜ RowsWithin (length (now bytes)) rows ⌝ }
     ensures { λ r. ⌜ ((i : ℕ) → verdictStep r i ≡ cardVerdict (rowsQuestion (parametersOf (now (sheet .entry))) (now (bytes .entry)) rows) i (now (card .entry))) ⌝ }
 {
-    let reading = card::read_card(card);
-    match reading {
-        Reading::WellFormed => {
-            if conforms(kinds, card) {
-                return CardVerdict::Says(rows_say(sheet, card, bytes, rows));
-            }
-            CardVerdict::Refused(Reason::CardMisfit)
-        }
-        Reading::WrongSize => CardVerdict::Refused(Reason::CardSize),
-        Reading::WrongSum => CardVerdict::Refused(Reason::CardSum),
-        Reading::WrongLayout => CardVerdict::Refused(Reason::CardLayout),
+    let taken = take_card(kinds, card);
+    match taken {
+        CardTaken::Conforming => CardVerdict::Says(rows_say(sheet, card, bytes, rows)),
+        CardTaken::Refused(reason) => CardVerdict::Refused(reason),
     }
 }
 
@@ -143,94 +143,8 @@ pub fn match_search_bytes(sheet: &[u8], text: &[u8], card: &[u8]) -> Matched
         Checked::Refused(refusal) => Matched::Refused(refusal),
         Checked::Tests(_) => {
             let kinds = sheet::kinds(sheet);
-            let verdict = judge_rows(sheet, &kinds, &bytes, rows, card);
-            match verdict {
-                CardVerdict::Says(yes) => {
-                    if yes {
-                        return Matched::Yes;
-                    }
-                    Matched::No
-                }
-                CardVerdict::Refused(reason) => Matched::Refused(Refusal { reason, place: 0 }),
-            }
+            answered(judge_by_search(sheet, &kinds, &bytes, rows, card))
         }
-    }
-}
-
-// Gathers the record numbers of the cards that match in the buffer, until a card is refused; `kinds` are those of the sheet.
-fn gather_rows(
-    sheet: &[u8],
-    kinds: &[u8],
-    bytes: &[u8],
-    rows: Rows,
-    cards: &[u8],
-    buffer: &mut [u32],
-) -> Selected
-    requires { ⌜ readSheet (now sheet) ≡ Reading.WellFormed ⌝ }
-    requires { ⌜ now kinds ≡ kindsOf (parametersOf (now sheet)) ⌝ }
-    requires { ⌜ RowsWithin (length (now bytes)) rows ⌝ }
-    requires { ⌜ length (now cards) % 512 ≡ 0 ⌝ }
-    requires { ⌜ length (now cards) / 512 ≤ length (now buffer) ⌝ }
-    ensures { λ r. ⌜ Gathers (rowsQuestion (parametersOf (now (sheet .entry))) (now (bytes .entry)) rows) (now (cards .entry)) r (now (buffer .exit)) ⌝ }
-{
-    let mut at = 0;
-    let mut count = 0;
-    while at < cards.len() {
-        let end = at + 512;
-        let card = &cards[at..end];
-        match judge_rows(sheet, kinds, bytes, rows, card) {
-            CardVerdict::Says(yes) => {
-                if yes {
-                    buffer[count] = card::record_number(card);
-                    count += 1;
-                }
-                at = end;
-            }
-            CardVerdict::Refused(reason) => {
-                return Selected::Refused(Refusal {
-                    reason,
-                    place: at / 512,
-                });
-            }
-        }
-    }
-    Selected::Count(count)
-}
-
-// Selects from the cards by the rows of a search string that check has passed.
-fn select_rows(sheet: &[u8], bytes: &[u8], rows: Rows, cards: &[u8], list: &mut [u32]) -> Selected
-    requires { ⌜ readSheet (now sheet) ≡ Reading.WellFormed ⌝ }
-    requires { ⌜ RowsWithin (length (now bytes)) rows ⌝ }
-    ensures { λ r. ⌜ Selects (found (rowsQuestion (parametersOf (now (sheet .entry))) (now (bytes .entry)) rows)) (now (cards .entry)) (now (list .entry)) r (now (list .exit)) ⌝ }
-{
-    if cards.len() % 512 != 0 {
-        return Selected::Refused(Refusal {
-            reason: Reason::CardSize,
-            place: 0,
-        });
-    }
-    if cards.len() > 65536 {
-        return Selected::Refused(Refusal {
-            reason: Reason::CardSize,
-            place: 0,
-        });
-    }
-    let kinds = sheet::kinds(sheet);
-    // a refusal writes nothing, so the numbers wait here until the last card is judged
-    let mut buffer = [0u32; 128];
-    let gathered = gather_rows(sheet, &kinds, bytes, rows, cards, &mut buffer);
-    match gathered {
-        Selected::Count(matches) => {
-            if matches > list.len() {
-                return Selected::Refused(Refusal {
-                    reason: Reason::ShortList,
-                    place: matches,
-                });
-            }
-            write(&buffer[0..matches], list);
-            Selected::Count(matches)
-        }
-        Selected::Refused(refusal) => Selected::Refused(refusal),
     }
 }
 
@@ -243,7 +157,10 @@ pub fn select_search_bytes(sheet: &[u8], text: &[u8], cards: &[u8], list: &mut [
     let rows = read.rows;
     let checked = read.checked;
     match checked {
-        Checked::Tests(_) => select_rows(sheet, &bytes, rows, cards, list),
+        Checked::Tests(_) => {
+            let none = [0u32; 0];
+            select_cards(Asked::Search, sheet, &bytes, &none, rows, cards, list)
+        }
         Checked::Refused(refusal) => Selected::Refused(refusal),
     }
 }

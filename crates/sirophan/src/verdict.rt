@@ -1,95 +1,54 @@
-// Match: a card under a sheet and a filter that check has passed.
-use crate::Checked;
+// One card under a sheet: whether it is taken, what is said of it, and the answer that this makes.
 use crate::Matched;
-use crate::reading::check_bytes;
 use block::Reading;
-use filter::Judged;
-use filter::Spot;
-use filter::judge_filter;
-use judge::Chosen;
 use judge::conforms;
 use refusal::Reason;
 use refusal::Refusal;
-use syntax::scan::skip;
 ghost use mathlib.Core.Path.{_≡_};
-ghost use Prim.Native.Nat.{ℕ};
-ghost use Rattle.sheet.specs.Sheet.{parametersOf};
-ghost use Rattle.sheet.specs.Find.{kindsOf};
-ghost use Rattle.card.specs.Card.{entriesOf, readCard};
-ghost use Rattle.syntax.specs.Reader.{read};
 ghost use Rattle.sirophan.specs.Answers.{matchedAnswer};
-ghost use Rattle.sirophan.specs.Operations.{matchAnswer};
-ghost use Rattle.sirophan.specs.Passing.{Passing, textSays, textQuestion, cardVerdict, verdictStep};
+ghost use Rattle.sirophan.specs.Asking.{TakesCard, verdictAnswer};
 
-// What judging one card answers: the filter's yes or no, or why the card is refused.
+// Whether a card is well formed and conforms to a sheet; or why it is refused.
+pub enum CardTaken {
+    Conforming,
+    Refused(Reason),
+}
+
+// What judging one card answers: a yes or no, or why the card is refused.
 pub enum CardVerdict {
     Says(bool),
     Refused(Reason),
 }
 
-// What a filter that check has passed says of a well-formed card.
-fn says(sheet: &[u8], filter: &[u8], card: &[u8]) -> bool
-    requires { ⌜ Passing (now sheet) (now filter) ⌝ }
-    requires { ⌜ readCard (now card) ≡ Reading.WellFormed ⌝ }
-    ensures { λ r. ⌜ r ≡ textSays (parametersOf (now (sheet .entry))) (entriesOf (now (card .entry))) (read (now (filter .entry))) ⌝ }
-{
-    let start = skip(filter, 0);
-    let every = Chosen {
-        all: true,
-        occurrence: 0,
-    };
-    let spot = Spot {
-        at: start,
-        deep: 8,
-        close: b')',
-        bundle: 0,
-    };
-    let judged = judge_filter(true, sheet, card, every, filter, spot);
-    match judged {
-        Judged::Done(_, says) => says,
-        Judged::Nothing => false,
-    }
-}
-
-// The verdict on a card, or why it is refused; `kinds` are those of the sheet.
-pub fn judge_card(sheet: &[u8], kinds: &[u8], filter: &[u8], card: &[u8]) -> CardVerdict
-    requires { ⌜ Passing (now sheet) (now filter) ⌝ }
-    requires { ⌜ now kinds ≡ kindsOf (parametersOf (now sheet)) ⌝ }
-    ensures { λ r. ⌜ ((i : ℕ) → verdictStep r i ≡ cardVerdict (textQuestion (parametersOf (now (sheet .entry))) (read (now (filter .entry)))) i (now (card .entry))) ⌝ }
+// Reads a card; `kinds` are those of the sheet.
+pub fn take_card(kinds: &[u8], card: &[u8]) -> CardTaken
+    ensures { λ r. ⌜ TakesCard (now (kinds .entry)) (now (card .entry)) r ⌝ }
 {
     let reading = card::read_card(card);
     match reading {
         Reading::WellFormed => {
             if conforms(kinds, card) {
-                return CardVerdict::Says(says(sheet, filter, card));
+                return CardTaken::Conforming;
             }
-            CardVerdict::Refused(Reason::CardMisfit)
+            CardTaken::Refused(Reason::CardMisfit)
         }
-        Reading::WrongSize => CardVerdict::Refused(Reason::CardSize),
-        Reading::WrongSum => CardVerdict::Refused(Reason::CardSum),
-        Reading::WrongLayout => CardVerdict::Refused(Reason::CardLayout),
+        Reading::WrongSize => CardTaken::Refused(Reason::CardSize),
+        Reading::WrongSum => CardTaken::Refused(Reason::CardSum),
+        Reading::WrongLayout => CardTaken::Refused(Reason::CardLayout),
     }
 }
 
-// Whether a card matches a filter on a sheet, or why there is no answer, and where.
-pub fn match_bytes(sheet: &[u8], filter: &[u8], card: &[u8]) -> Matched
-    ensures { λ r. ⌜ matchedAnswer r ≡ matchAnswer (now (sheet .entry)) (now (filter .entry)) (now (card .entry)) ⌝ }
+// The verdict on one card as match's answer.
+pub fn answered(verdict: CardVerdict) -> Matched
+    ensures { λ r. ⌜ matchedAnswer r ≡ verdictAnswer verdict ⌝ }
 {
-    let checked = check_bytes(sheet, filter);
-    match checked {
-        Checked::Refused(refusal) => Matched::Refused(refusal),
-        Checked::Tests(_) => {
-            let kinds = sheet::kinds(sheet);
-            let verdict = judge_card(sheet, &kinds, filter, card);
-            match verdict {
-                CardVerdict::Says(yes) => {
-                    if yes {
-                        return Matched::Yes;
-                    }
-                    Matched::No
-                }
-                CardVerdict::Refused(reason) => Matched::Refused(Refusal { reason, place: 0 }),
+    match verdict {
+        CardVerdict::Says(yes) => {
+            if yes {
+                return Matched::Yes;
             }
+            Matched::No
         }
+        CardVerdict::Refused(reason) => Matched::Refused(Refusal { reason, place: 0 }),
     }
 }

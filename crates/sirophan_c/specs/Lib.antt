@@ -1,3 +1,4 @@
--- How an answer crosses to C, and what the report for C owes.
+-- How an answer and an engine cross to C, and what the report for C owes.
 pub mod Answers
 pub mod Contracts
+pub mod Engines

@@ -4,6 +4,7 @@ use refusal::number;
 use report::Reported;
 use report::Tally;
 use sirophan::Checked;
+use sirophan::Engine;
 use sirophan::Matched;
 use sirophan::Prepared;
 use sirophan::Selected;
@@ -19,6 +20,7 @@ ghost use Rattle.sirophan.specs.Preparing.{prepareAnswer, prepareCells, judgeAn
 ghost use Rattle.report.specs.Operation.{reportedAnswer};
 ghost use Rattle.sirophan_c.specs.Answers.{told, toldCounts};
 ghost use Rattle.sirophan_c.specs.Contracts.{TellsReport};
+ghost use Rattle.sirophan_c.specs.Engines.{engineOf};
 
 // The number of the refusal, 0 where there is none; and the count, 1 for yes and 0 for no, or the refusal's place.
 #[repr(C)]
@@ -108,6 +110,15 @@ pub extern "C" fn sirophan_match(sheet: &[u8], filter: &[u8], card: &[u8]) -> An
     told_match(matched)
 }
 
+// The same by the filter's text, without rows.
+#[no_mangle]
+pub extern "C" fn sirophan_match_by_text(sheet: &[u8], filter: &[u8], card: &[u8]) -> Answer
+    ensures { λ r. ⌜ r ≡ told (matchAnswer (now (sheet .entry)) (now (filter .entry)) (now (card .entry))) ⌝ }
+{
+    let matched = sirophan::match_by_text(sheet, filter, card);
+    told_match(matched)
+}
+
 // How many cards of the run match the filter, with their record numbers in the list from its first cell on, or a refusal.
 #[no_mangle]
 pub extern "C" fn sirophan_select(
@@ -120,6 +131,33 @@ pub extern "C" fn sirophan_select(
     ensures { λ _. ⌜ now (list .exit) ≡ selectCells (now (sheet .entry)) (now (filter .entry)) (now (cards .entry)) (now (list .entry)) ⌝ }
 {
     let selected = sirophan::select(sheet, filter, cards, list);
+    told_select(selected)
+}
+
+// The engine of a number.
+fn engine_of(number: u32) -> Engine
+    ensures { λ r. ⌜ r ≡ engineOf number ⌝ }
+{
+    if number == 1 {
+        return Engine::Text;
+    }
+    Engine::Rows
+}
+
+// The same by the engine of the number.
+#[no_mangle]
+pub extern "C" fn sirophan_select_by(
+    engine: u32,
+    sheet: &[u8],
+    filter: &[u8],
+    cards: &[u8],
+    list: &mut [u32],
+) -> Answer
+    ensures { λ r. ⌜ r ≡ told (selectAnswer (now (sheet .entry)) (now (filter .entry)) (now (cards .entry)) (length (now (list .entry)))) ⌝ }
+    ensures { λ _. ⌜ now (list .exit) ≡ selectCells (now (sheet .entry)) (now (filter .entry)) (now (cards .entry)) (now (list .entry)) ⌝ }
+{
+    let by = engine_of(engine);
+    let selected = sirophan::select_by(by, sheet, filter, cards, list);
     told_select(selected)
 }
 

@@ -2,7 +2,9 @@
 
 use second::block::{write_card, write_sheet};
 use second::spellings;
-use sirophan::{Counts, Refusal, Tally, check, matches, plain, report, select, spell, underline};
+use sirophan::{
+    Counts, Engine, Refusal, Tally, check, matches, matches_by_text, plain, report, select, select_by, spell, underline,
+};
 
 fn sheet() -> Vec<u8> {
     write_sheet(&[(1, b"title"), (2, b"pages")]).unwrap()
@@ -26,6 +28,22 @@ fn answers() {
     let mut rows = [Tally { cards: 9, values: 9 }; 3];
     assert_eq!(report(&sheet(), filter, &cards, &mut rows), Ok(Counts { yes: 2, no: 1 }));
     assert_eq!(rows.map(|row| (row.cards, row.values)), [(3, 3), (3, 3), (9, 9)]);
+}
+
+#[test]
+fn either_engine() {
+    let cards = [card(7, "Ward book 4"), card(19, "Ward book 5"), card(300, "ward book 40")].concat();
+    let filter = b"not (title eq \"ward book 4\") and pages eq 12";
+    assert_eq!(matches_by_text(&sheet(), filter, &cards[..512]), Ok(false));
+    assert_eq!(matches_by_text(&sheet(), filter, &cards[512..1024]), Ok(true));
+    assert_eq!(matches_by_text(&sheet(), b"pages gt x", &[]), Err(Refusal { number: 17, place: 0 }));
+    for engine in [Engine::Rows, Engine::Text] {
+        let mut list = [9; 4];
+        assert_eq!(select_by(engine, &sheet(), filter, &cards, &mut list[..1]), Err(Refusal { number: 30, place: 2 }));
+        assert_eq!(list, [9; 4]);
+        assert_eq!(select_by(engine, &sheet(), filter, &cards, &mut list), Ok(2));
+        assert_eq!(list, [19, 300, 9, 9]);
+    }
 }
 
 #[test]

@@ -202,6 +202,18 @@ impl Repository {
         None
     }
 
+    /// The file of a type that a file of code names: its own, or that of the crate of `use CRATE::TYPE;`.
+    fn type_file(&self, file: &str, name: &str) -> Option<String> {
+        if self.type_of(file, name).is_some() {
+            return Some(file.to_string());
+        }
+        let end = format!("::{name};");
+        let folder = self.files.get(file)?.lines().find_map(|line| line.strip_prefix("use ")?.strip_suffix(&end))?;
+        let theirs = format!("crates/{folder}/src/lib.rt");
+        self.type_of(&theirs, name)?;
+        Some(theirs)
+    }
+
     /// The types that a type of the code has inside: what stands in brackets or behind a colon.
     fn type_references(&self, id: &Id) -> Result<BTreeSet<Target>, Fault> {
         let mut found = BTreeSet::new();
@@ -211,11 +223,14 @@ impl Repository {
             let within = line[place..].split(|c: char| !c.is_alphanumeric() && !['_', ':'].contains(&c));
             let types = within.filter(|name| name.starts_with(char::is_alphabetic) && !name.ends_with(':'));
             for name in types.filter(|name| !PRIMITIVE.contains(name)) {
-                if self.type_of(&id.file, name).is_none() {
-                    let what = format!("the type {name} in {} is not declared in this file", id.name);
+                let Some(file) = self.type_file(&id.file, name) else {
+                    let what = format!(
+                        "the type {name} in {} is not declared in this file, or in a crate's that it uses",
+                        id.name
+                    );
                     return Err(Fault::new(&id.file, *number, what));
-                }
-                found.insert(own(&id.file, name));
+                };
+                found.insert(own(&file, name));
             }
         }
         Ok(found)

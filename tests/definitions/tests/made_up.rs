@@ -141,6 +141,17 @@ fn all_kinds_of_names_are_followed() {
 }
 
 #[test]
+fn a_type_of_another_crate_is_followed() {
+    let mut files = tree();
+    let shapes = files.get_mut("crates/low/src/lib.rt").unwrap();
+    *shapes = format!("use base::Edge;\n{}", shapes.replace("(Corner)", "(Edge)"));
+    files.insert("crates/base/src/lib.rt".into(), "pub struct Edge {\n    pub y: i64,\n}\n".into());
+    let promises = promises(files).unwrap();
+    let behind = promises.iter().flat_map(|promise| &promise.behind);
+    assert!(behind.into_iter().any(|id| id.file == "crates/base/src/lib.rt" && id.name == "Edge"));
+}
+
+#[test]
 fn a_proof_is_no_part_of_a_statement() {
     let promises = promises(tree()).unwrap();
     let names = promises.iter().flat_map(|promise| &promise.names);
@@ -188,7 +199,9 @@ fn what_cannot_be_resolved_is_told_with_its_line() {
     let told = fault(PROMISES, "declared.Shape.{", "declared.Form.{");
     assert_eq!(told, format!("{PROMISES}:17: no code declares Rattle.low.specs.declared.Form"));
     let told = fault("crates/low/src/lib.rt", "(Corner)", "(Edge)");
-    assert_eq!(told, "crates/low/src/lib.rt:4: the type Edge in Shape is not declared in this file");
+    let nowhere =
+        "crates/low/src/lib.rt:4: the type Edge in Shape is not declared in this file, or in a crate's that it uses";
+    assert_eq!(told, nowhere);
 }
 
 #[test]

@@ -101,15 +101,7 @@ impl Cases {
             Operation::Match { .. } => spell_verdict(operations::matches(sheet, &case.filter, &cards)),
             Operation::Select { cells, .. } => {
                 let mut list = vec![UNTOUCHED; *cells];
-                let mut answer = match operations::select(sheet, &case.filter, &cards, &mut list) {
-                    Ok(count) => format!("count {count}"),
-                    Err(refusal) => spell_refusal(refusal),
-                };
-                answer.push_str(" cells");
-                for cell in list {
-                    write!(answer, " {cell}").unwrap();
-                }
-                answer
+                spell_selection(operations::select(sheet, &case.filter, &cards, &mut list), &list)
             }
             Operation::Report { rows, .. } => {
                 let mut rows = vec![Tally { cards: UNTOUCHED, values: UNTOUCHED }; *rows];
@@ -243,6 +235,19 @@ impl Cases {
 
 fn spell_refusal(refusal: Refusal) -> String {
     format!("{} at {}", refusal.number, refusal.place)
+}
+
+/// A selection, with the cells of its list.
+pub fn spell_selection(answer: Result<usize, Refusal>, cells: &[u32]) -> String {
+    let mut spelled = match answer {
+        Ok(count) => format!("count {count}"),
+        Err(refusal) => spell_refusal(refusal),
+    };
+    spelled.push_str(" cells");
+    for cell in cells {
+        write!(spelled, " {cell}").unwrap();
+    }
+    spelled
 }
 
 /// A yes or no.

@@ -25,11 +25,13 @@ const PRINTED: u64 = 3;
 /// The row of answers of judge on rows that the case's own filter does not have.
 pub const OTHER_ROWS: &str = "judge of other rows";
 
-/// What can be tested: the operations, of which three go by a search string too.
+/// What can be tested: the operations, of which three go by a search string too, and two by the engine over the text.
 pub trait Library {
     fn check(&self, sheet: &[u8], filter: &[u8]) -> Result<usize, Refusal>;
     fn matches(&self, sheet: &[u8], filter: &[u8], card: &[u8]) -> Result<bool, Refusal>;
     fn select(&self, sheet: &[u8], filter: &[u8], cards: &[u8], list: &mut [u32]) -> Result<usize, Refusal>;
+    fn matches_by_text(&self, sheet: &[u8], filter: &[u8], card: &[u8]) -> Result<bool, Refusal>;
+    fn select_by_text(&self, sheet: &[u8], filter: &[u8], cards: &[u8], list: &mut [u32]) -> Result<usize, Refusal>;
     fn report(&self, sheet: &[u8], filter: &[u8], cards: &[u8], rows: &mut [Tally]) -> Result<(usize, usize), Refusal>;
     fn spell(&self, filter: &[u8], buffer: &mut [u8], from: usize) -> Result<usize, Refusal>;
     fn check_search(&self, sheet: &[u8], text: &[u8]) -> Result<usize, Refusal>;
@@ -137,16 +139,20 @@ fn compare(library: &impl Library, case: &Case, answers: &mut BTreeMap<(&'static
     }
     note("match", answer);
     differences.extend(difference("match", ours, theirs));
+    differences.extend(difference("match by text", ours, library.matches_by_text(sheet, filter, card)));
 
     let lent = list.len();
     let mut our_list = list.clone();
     our_list.resize(lent + GUARD, 0);
-    let mut their_list = our_list.clone();
+    let (mut their_list, mut text_list) = (our_list.clone(), our_list.clone());
     let ours = operations::select(sheet, filter, cards, &mut our_list[..lent]);
     let theirs = library.select(sheet, filter, cards, &mut their_list[..lent]);
+    let by_text = library.select_by_text(sheet, filter, cards, &mut text_list[..lent]);
     note("select", told(ours, |count| if count > 0 { "some cards" } else { "no cards" }));
     differences.extend(difference("select", ours, theirs));
-    differences.extend(difference("list", our_list, their_list));
+    differences.extend(difference("select by text", ours, by_text));
+    differences.extend(difference("list", &our_list, &their_list));
+    differences.extend(difference("list by text", &our_list, &text_list));
 
     let lent = rows.len();
     let mut our_rows = rows.clone();

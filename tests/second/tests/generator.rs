@@ -20,6 +20,14 @@ impl Library for Second {
         operations::select(sheet, filter, cards, list)
     }
 
+    fn matches_by_text(&self, sheet: &[u8], filter: &[u8], card: &[u8]) -> Result<bool, Refusal> {
+        operations::matches(sheet, filter, card)
+    }
+
+    fn select_by_text(&self, sheet: &[u8], filter: &[u8], cards: &[u8], list: &mut [u32]) -> Result<usize, Refusal> {
+        operations::select(sheet, filter, cards, list)
+    }
+
     fn report(&self, sheet: &[u8], filter: &[u8], cards: &[u8], rows: &mut [Tally]) -> Result<(usize, usize), Refusal> {
         operations::report(sheet, filter, cards, rows)
     }

@@ -1,4 +1,4 @@
-//! Compares the proved library with the second implementation on generated inputs.
+//! Compares the proved library, by both of its engines, with the second implementation on generated inputs.
 //!
 //! `differential [SEED [CASES]]` prints how often each operation gave each answer; its last line counts the cases that
 //! agree in every answer, every cell of the list, every row and every byte of the buffer, and those that do not.
@@ -23,6 +23,14 @@ impl Library for Proved {
 
     fn select(&self, sheet: &[u8], filter: &[u8], cards: &[u8], list: &mut [u32]) -> Result<usize, Refusal> {
         sirophan::select(sheet, filter, cards, list).map_err(refusal)
+    }
+
+    fn matches_by_text(&self, sheet: &[u8], filter: &[u8], card: &[u8]) -> Result<bool, Refusal> {
+        sirophan::matches_by_text(sheet, filter, card).map_err(refusal)
+    }
+
+    fn select_by_text(&self, sheet: &[u8], filter: &[u8], cards: &[u8], list: &mut [u32]) -> Result<usize, Refusal> {
+        sirophan::select_by(sirophan::Engine::Text, sheet, filter, cards, list).map_err(refusal)
     }
 
     fn prepare(&self, sheet: &[u8], filter: &[u8], list: &mut [u32]) -> Result<usize, Refusal> {

@@ -1,19 +1,18 @@
--- `sirophan::run::gather` meets its contract. Assumes nothing.
+-- `sirophan::run::gather` meets its contract, whichever way it is asked. Assumes nothing.
 use borrow.Author.Needs.{needs}
 use Prim.Native.Nat.{_-_}
 use lib.ListN.{length}
 use Rattle.sheet.specs.Sheet.{parametersOf}
-use Rattle.syntax.specs.Reader.{read}
-use Rattle.sirophan.specs.Passing.{textQuestion}
+use Rattle.sirophan.specs.Asking.{askedQuestion}
 use Rattle.sirophan.proofs.Gathering.{Gathering, gathering-start, gathering-part, gathering-room, gathering-well-formed, gathering-match, gathering-other, gathering-refused, gathering-end}
 use Rattle.sirophan.proofs.run.gather.Statement.{statement}
 use Rattle.sirophan.proofs.run.gather.Tie as tie
 
 abbrev Inv-loop : tie.InvT-loop
-Inv-loop sheet kinds filter cards buffer₀ at₀ count₀ buffer at count = Gathering (textQuestion (parametersOf sheet) (read filter)) cards buffer₀ buffer at count
+Inv-loop asked sheet kinds text cells rows cards buffer₀ at₀ count₀ buffer at count = Gathering (askedQuestion asked (parametersOf sheet) text cells rows) cards buffer₀ buffer at count
 
 abbrev μ-loop : tie.MeasureT-loop
-μ-loop sheet kinds filter cards buffer₀ at₀ count₀ buffer at count = length cards - at
+μ-loop asked sheet kinds text cells rows cards buffer₀ at₀ count₀ buffer at count = length cards - at
 
 loop-holds : tie.Need-loop-holds Inv-loop μ-loop
 loop-holds c = search (gathering-start, needs)
@@ -30,8 +29,8 @@ part-card-start c = search needs
 part-card-end : tie.Need-part-card-end Inv-loop μ-loop
 part-card-end c = search (gathering-part, needs)
 
-judge-card-requires : tie.Need-judge-card-requires Inv-loop μ-loop
-judge-card-requires c κs = search needs
+judge-asked-requires : tie.Need-judge-asked-requires Inv-loop μ-loop
+judge-asked-requires c κs = (search needs, (search needs, (search needs, search needs)))
 
 enum-known-yes : tie.Need-enum-known-yes Inv-loop μ-loop
 enum-known-yes c = search needs
@@ -86,7 +85,7 @@ gather-spec =
     sub-card
     part-card-start
     part-card-end
-    judge-card-requires
+    judge-asked-requires
     enum-known-yes
     record-number-requires
     mul-buffer

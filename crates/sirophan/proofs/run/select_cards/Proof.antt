@@ -1,15 +1,14 @@
--- `sirophan::run::select_cards` meets its contract. Assumes nothing.
+-- `sirophan::run::select_cards` meets its contract, by the laws of any question. Assumes nothing.
 use borrow.Author.Needs.{needs}
-use Rattle.sirophan.proofs.Passing.{passing-asks}
-use Rattle.sirophan.proofs.Selecting.{gathered-room, select-parted, select-over, select-card-refused, select-short, select-writes}
+use Rattle.sirophan.proofs.Selecting.{found-parted, found-over, gathered-room, select-card-refused, select-short, select-writes}
 use Rattle.sirophan.proofs.run.select_cards.Statement.{statement}
 use Rattle.sirophan.proofs.run.select_cards.Tie as tie
 
 returns : tie.Need-returns
-returns c = search (select-parted, passing-asks, needs)
+returns c = search (found-parted, needs)
 
 returns-2 : tie.Need-returns-2
-returns-2 c = search (select-over, passing-asks, needs)
+returns-2 c = search (found-over, needs)
 
 kinds-requires : tie.Need-kinds-requires
 kinds-requires c κs = search needs
@@ -21,13 +20,13 @@ slice-aggregate-gather-2 : tie.Need-slice-aggregate-gather-2
 slice-aggregate-gather-2 c = search needs
 
 gather-requires : tie.Need-gather-requires
-gather-requires c κs = (search needs, (search needs, (search needs, search needs)))
+gather-requires c κs = (search needs, (search needs, (search needs, (search needs, (search needs, search needs)))))
 
 enum-known-gathered : tie.Need-enum-known-gathered
 enum-known-gathered c = search needs
 
 returns-3 : tie.Need-returns-3
-returns-3 c = search (select-short, passing-asks, needs)
+returns-3 c = search (select-short, needs)
 
 sub-write : tie.Need-sub-write
 sub-write c = search needs
@@ -48,10 +47,10 @@ same-length : tie.Need-same-length
 same-length c = search needs
 
 returns-4 : tie.Need-returns-4
-returns-4 c = search (select-writes, passing-asks, needs)
+returns-4 c = search (select-writes, needs)
 
 returns-5 : tie.Need-returns-5
-returns-5 c = search (select-card-refused, passing-asks, needs)
+returns-5 c = search (select-card-refused, needs)
 
 pub select-cards-spec : {M : Type 1} → statement M
 select-cards-spec =

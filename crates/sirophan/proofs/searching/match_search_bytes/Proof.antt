@@ -1,6 +1,6 @@
 -- `sirophan::searching::match_search_bytes` meets its contract: the string first, then the card. Assumes nothing.
 use borrow.Author.Needs.{needs}
-use Rattle.sirophan.proofs.SearchPassing.{passed-sheet, passed-within, search-refused, search-yes, search-no, search-card-refused}
+use Rattle.sirophan.proofs.SearchPassing.{passed-sheet, passed-within, search-refused, search-answered}
 use Rattle.sirophan.proofs.searching.match_search_bytes.Statement.{statement}
 use Rattle.sirophan.proofs.searching.match_search_bytes.Tie as tie
 
@@ -19,32 +19,23 @@ enum-told c = search needs
 kinds-requires : tie.Need-kinds-requires
 kinds-requires c κs = search (passed-sheet, needs)
 
-slice-aggregate-judge-rows : tie.Need-slice-aggregate-judge-rows
-slice-aggregate-judge-rows c = search needs
+slice-aggregate-judge-by-search : tie.Need-slice-aggregate-judge-by-search
+slice-aggregate-judge-by-search c = search needs
 
-slice-aggregate-judge-rows-2 : tie.Need-slice-aggregate-judge-rows-2
-slice-aggregate-judge-rows-2 c = search needs
+slice-aggregate-judge-by-search-2 : tie.Need-slice-aggregate-judge-by-search-2
+slice-aggregate-judge-by-search-2 c = search needs
 
-judge-rows-requires : tie.Need-judge-rows-requires
-judge-rows-requires c κs = search (passed-sheet, passed-within, needs)
+judge-by-search-requires : tie.Need-judge-by-search-requires
+judge-by-search-requires c κs = search (passed-sheet, passed-within, needs)
 
-enum-known-verdict : tie.Need-enum-known-verdict
-enum-known-verdict c = search needs
+answered-requires : tie.Need-answered-requires
+answered-requires c κs = search needs
 
 returns : tie.Need-returns
-returns c = search (search-yes, needs)
-
-enum-known-verdict-2 : tie.Need-enum-known-verdict-2
-enum-known-verdict-2 c = search needs
+returns c = search (search-refused, needs)
 
 returns-2 : tie.Need-returns-2
-returns-2 c = search (search-refused, needs)
-
-returns-3 : tie.Need-returns-3
-returns-3 c = search (search-no, needs)
-
-returns-4 : tie.Need-returns-4
-returns-4 c = search (search-card-refused, needs)
+returns-2 c = search (search-answered, needs)
 
 pub match-search-bytes-spec : {M : Type 1} → statement M
 match-search-bytes-spec =
@@ -55,12 +46,9 @@ match-search-bytes-spec =
     enum-known-checked
     enum-told
     kinds-requires
-    slice-aggregate-judge-rows
-    slice-aggregate-judge-rows-2
-    judge-rows-requires
-    enum-known-verdict
+    slice-aggregate-judge-by-search
+    slice-aggregate-judge-by-search-2
+    judge-by-search-requires
+    answered-requires
     returns
-    enum-known-verdict-2
-    returns-2
-    returns-3
-    returns-4)
+    returns-2)

@@ -1,6 +1,6 @@
 -- `sirophan::searching::select_search_bytes` meets its contract: the string first, then the cards. Assumes nothing.
 use borrow.Author.Needs.{needs}
-use Rattle.sirophan.proofs.SearchPassing.{passed-sheet, passed-within, selects-as-asked, select-search-refused}
+use Rattle.sirophan.proofs.SearchPassing.{passed-sheet, search-asks, search-selects, select-search-refused}
 use Rattle.sirophan.proofs.searching.select_search_bytes.Statement.{statement}
 use Rattle.sirophan.proofs.searching.select_search_bytes.Tie as tie
 
@@ -13,11 +13,14 @@ read-search-requires c κs = search needs
 enum-told : tie.Need-enum-told
 enum-told c = search needs
 
-slice-aggregate-select-rows : tie.Need-slice-aggregate-select-rows
-slice-aggregate-select-rows c = search needs
+slice-aggregate-select-cards : tie.Need-slice-aggregate-select-cards
+slice-aggregate-select-cards c = search needs
 
-select-rows-requires : tie.Need-select-rows-requires
-select-rows-requires c κs = search (passed-sheet, passed-within, needs)
+slice-aggregate-select-cards-2 : tie.Need-slice-aggregate-select-cards-2
+slice-aggregate-select-cards-2 c = search needs
+
+select-cards-requires : tie.Need-select-cards-requires
+select-cards-requires c κs = (search (passed-sheet, needs), search (search-asks, needs))
 
 enum-known-checked : tie.Need-enum-known-checked
 enum-known-checked c = search needs
@@ -26,7 +29,7 @@ same-length : tie.Need-same-length
 same-length c = search needs
 
 returns : tie.Need-returns
-returns c = search (selects-as-asked, needs)
+returns c = search (search-selects, needs)
 
 returns-2 : tie.Need-returns-2
 returns-2 c = search (select-search-refused, needs)
@@ -38,8 +41,9 @@ select-search-bytes-spec =
     slice-aggregate-read-search
     read-search-requires
     enum-told
-    slice-aggregate-select-rows
-    select-rows-requires
+    slice-aggregate-select-cards
+    slice-aggregate-select-cards-2
+    select-cards-requires
     enum-known-checked
     same-length
     returns

@@ -1,9 +1,9 @@
--- `sirophan::operations::select` meets its contract: the table is that of the definition, and slices hold bytes. Assumes nothing.
-use native.Mathlib.Omega.{arith}
+-- `sirophan::operations::select_by` meets its contract: the table is that of the definition, and slices hold bytes. Assumes nothing.
 use borrow.Author.Needs.{needs}
+use native.Mathlib.Omega.{arith}
 use Rattle.sirophan.proofs.Contracts.{selects-into}
-use Rattle.sirophan.proofs.operations.select.Statement.{statement}
-use Rattle.sirophan.proofs.operations.select.Tie as tie
+use Rattle.sirophan.proofs.operations.select_by.Statement.{statement}
+use Rattle.sirophan.proofs.operations.select_by.Tie as tie
 
 select-bytes-requires : tie.Need-select-bytes-requires
 select-bytes-requires c κs = search needs
@@ -14,5 +14,5 @@ same-length c = search needs
 returns : tie.Need-returns
 returns c = selects-into _ _ _ _ _ _ (c .before .before .select-bytes .ensures) (λ i. omega (arith, c .before .before .before .before .before .before .before .shared-slice-known .given i)) (λ i. omega (arith, c .before .before .before .before .before .shared-slice-known3 .given i))
 
-pub select-spec : {M : Type 1} → statement M
-select-spec = tie.close (tie.spec select-bytes-requires same-length returns)
+pub select-by-spec : {M : Type 1} → statement M
+select-by-spec = tie.close (tie.spec select-bytes-requires same-length returns)

@@ -1,8 +1,8 @@
--- `sirophan::verdict::says` meets its contract. Assumes nothing.
+-- `sirophan::by_text::text_says` meets its contract. Assumes nothing.
 use borrow.Author.Needs.{needs}
 use Rattle.sirophan.proofs.Judging.{says-done, says-nothing}
-use Rattle.sirophan.proofs.verdict.says.Statement.{statement}
-use Rattle.sirophan.proofs.verdict.says.Tie as tie
+use Rattle.sirophan.proofs.by_text.text_says.Statement.{statement}
+use Rattle.sirophan.proofs.by_text.text_says.Tie as tie
 
 skip-requires : tie.Need-skip-requires
 skip-requires c κs = search needs
@@ -22,7 +22,7 @@ returns c = search (says-done, needs)
 returns-2 : tie.Need-returns-2
 returns-2 c = search (says-nothing, needs)
 
-pub says-spec : {M : Type 1} → statement M
-says-spec =
+pub text-says-spec : {M : Type 1} → statement M
+text-says-spec =
     tie.close
     (tie.spec skip-requires judge-filter-requires enum-known-judged enum-told returns returns-2)

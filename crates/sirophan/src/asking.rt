@@ -1,0 +1,44 @@
+// What is asked of a card, whichever way: by the rows of a filter, by a filter's text, or by a search string.
+use crate::by_rows::judge_by_rows;
+use crate::by_text::judge_by_text;
+use crate::searching::judge_by_search;
+use crate::verdict::CardVerdict;
+use block::Reading;
+use search::Rows;
+ghost use mathlib.Core.Path.{_≡_};
+ghost use Prim.Native.Nat.{ℕ};
+ghost use lib.ListN.{length};
+ghost use Rattle.sheet.specs.Sheet.{parametersOf, readSheet};
+ghost use Rattle.sheet.specs.Find.{kindsOf};
+ghost use Rattle.sirophan.specs.Passing.{cardVerdict, verdictStep};
+ghost use Rattle.sirophan.specs.Asking.{Asks, askedQuestion};
+
+pub enum Asked {
+    Rows,
+    Text,
+    Search,
+}
+
+// The verdict on a card, or why it is refused: by the rows of the text's filter in the cells, by the text as a filter's, or by the
+// rows of a search string over the text; `kinds` are those of the sheet.
+pub fn judge_asked(
+    asked: Asked,
+    sheet: &[u8],
+    kinds: &[u8],
+    text: &[u8],
+    cells: &[u32],
+    rows: Rows,
+    card: &[u8],
+) -> CardVerdict
+    requires { ⌜ readSheet (now sheet) ≡ Reading.WellFormed ⌝ }
+    requires { ⌜ length (now kinds) ≡ 32 ⌝ }
+    requires { ⌜ now kinds ≡ kindsOf (parametersOf (now sheet)) ⌝ }
+    requires { ⌜ Asks (now sheet) (now text) (now cells) rows asked ⌝ }
+    ensures { λ r. ⌜ ((i : ℕ) → verdictStep r i ≡ cardVerdict (askedQuestion asked (parametersOf (now (sheet .entry))) (now (text .entry)) (now (cells .entry)) rows) i (now (card .entry))) ⌝ }
+{
+    match asked {
+        Asked::Rows => judge_by_rows(kinds, text, cells, card),
+        Asked::Text => judge_by_text(sheet, kinds, text, card),
+        Asked::Search => judge_by_search(sheet, kinds, text, rows, card),
+    }
+}

@@ -1,0 +1,35 @@
+// The first engine: rows that are whole say what a filter says, without its text being read again.
+use crate::verdict::CardTaken;
+use crate::verdict::CardVerdict;
+use crate::verdict::take_card;
+use judge::Chosen;
+use rows::rows_say;
+ghost use mathlib.Core.Path.{_≡_};
+ghost use mathlib.Core.List.{List};
+ghost use Prim.Native.Nat.{ℕ, _≤_};
+ghost use lib.ListN.{length};
+ghost use Rattle.sheet.specs.Sheet.{Parameter};
+ghost use Rattle.sheet.specs.Find.{kindsOf};
+ghost use Rattle.rows.specs.Saying.{Whole};
+ghost use Rattle.sirophan.specs.Passing.{cardVerdict, verdictStep};
+ghost use Rattle.sirophan.specs.Asking.{cellsQuestion};
+
+// The verdict of rows on a card, or why the card is refused; `kinds` are those of the sheet.
+pub fn judge_by_rows(kinds: &[u8], filter: &[u8], rows: &[u32], card: &[u8]) -> CardVerdict
+    requires { ⌜ length (now kinds) ≡ 32 ⌝ }
+    requires { ⌜ length (now filter) ≤ 1024 ⌝ }
+    requires { ⌜ Whole (now rows) ⌝ }
+    ensures { λ r. ⌜ ((ps : List Parameter) → now (kinds .entry) ≡ kindsOf ps → (i : ℕ) → verdictStep r i ≡ cardVerdict (cellsQuestion ps (now (filter .entry)) (now (rows .entry))) i (now (card .entry))) ⌝ }
+{
+    let taken = take_card(kinds, card);
+    match taken {
+        CardTaken::Conforming => {
+            let every = Chosen {
+                all: true,
+                occurrence: 0,
+            };
+            CardVerdict::Says(rows_say(kinds, filter, rows, card, every))
+        }
+        CardTaken::Refused(reason) => CardVerdict::Refused(reason),
+    }
+}
