@@ -3,3 +3,4 @@ pub mod Entries
 pub mod Meaning
 pub mod Table
 pub mod Rules
+pub mod Once

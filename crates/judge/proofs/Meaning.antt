@@ -188,23 +188,6 @@ pub found-name : (ps : List Parameter) (c : ℕ) (xs : List ℕ) (t : RawTest) (
 unfolding lookup
 found-name ps c xs t r e = e
 
-pub counts-present : (m : Meaning) (v x : List ℕ) → m ≡ Meaning.Present → true ≡ textCounts m v x
-unfolding textCounts
-counts-present m v x e = rw e
-
-pub counts-nothing : (m : Meaning) (v x : List ℕ) → m ≡ Meaning.Nothing → false ≡ textCounts m v x
-unfolding textCounts
-counts-nothing m v x e = rw e
-
-module _ (m : Meaning) (v x : List ℕ) (r : Bool) where
-  pub counts-relates : (s : Relation) → m ≡ Meaning.Relates s → r ≡ related false s v x → r ≡ textCounts m v x
-  unfolding textCounts
-  counts-relates s e g = rw e g
-
-  pub counts-differs : (s : Relation) → m ≡ Meaning.Differs s → r ≡ related true s v x → r ≡ textCounts m v x
-  unfolding textCounts
-  counts-differs s e g = rw e g
-
 module _ (m : Meaning) (truth some : Bool) where
   pub some-true : m ≡ Meaning.Present → truth ≡ true → some ≡ someSays m truth some
   unfolding someSays

@@ -3,3 +3,4 @@ pub mod Sets
 pub mod Faults
 pub mod Verdicts
 pub mod Rules
+pub mod Once

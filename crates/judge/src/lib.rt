@@ -2,6 +2,7 @@
 mod faults;
 mod sets;
 mod tests;
+mod values;
 mod verdicts;
 
 pub use faults::has_meaning;
@@ -14,6 +15,8 @@ pub use tests::member_truth;
 pub use tests::test_fault;
 pub use tests::test_found;
 pub use tests::test_says;
+pub use values::counts_read;
+pub use values::readings_for;
 pub use verdicts::says_of;
 pub use verdicts::some_says;
 

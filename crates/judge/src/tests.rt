@@ -2,7 +2,8 @@
 use crate::Chosen;
 use crate::Fault;
 use crate::faults::fault_at;
-use crate::sets::text_related;
+use crate::values::counts_read;
+use crate::values::readings_for;
 use crate::verdicts::says_at;
 use block::Reading;
 use kind::Meaning;
@@ -143,12 +144,7 @@ pub fn test_found(sheet: &[u8], bundle: u8, filter: &[u8], test: RawTest) -> Fou
 fn text_counts(meaning: Meaning, value: &[u8], text: &[u8]) -> bool
     ensures { λ r. ⌜ r ≡ textCounts meaning (now (value .entry)) (now (text .entry)) ⌝ }
 {
-    match meaning {
-        Meaning::Present => true,
-        Meaning::Relates(relation) => text_related(false, relation, value, text),
-        Meaning::Differs(relation) => text_related(true, relation, value, text),
-        Meaning::Nothing => false,
-    }
+    counts_read(meaning, value, readings_for(meaning, value), text)
 }
 
 // `text_counts` with the bytes of a string that has escapes.

@@ -1,7 +1,8 @@
 -- Relations of readable numbers and dates, as the code finds them.
 -- Assumes nothing.
 use Prim.Native.Nat.{ℕ}
-use mathlib.Core.Path.{_≡_, sym, _∙_}
+use native.Mathlib.Omega.{arith}
+use mathlib.Core.Path.{_≡_, refl, sym, _∙_}
 use mathlib.Core.Bool.{Bool, false}
 use mathlib.Core.List.{List}
 use Rattle.number.specs.Reading as numbers
@@ -15,30 +16,64 @@ use Rattle.period.specs.declared.Period.{Period}
 use Rattle.period.specs.declared.Reading as period-readings
 use Rattle.kind.specs.declared.NumberRelation.{NumberRelation}
 use Rattle.kind.specs.declared.DateRelation.{DateRelation}
-use Rattle.kind.specs.Stands.{numberStands, numbersStand, dateStands, datesStand}
+use Rattle.number.proofs.Spelling.{number-bounded}
+use Rattle.kind.specs.declared.Relation.{Relation}
+use Rattle.kind.specs.declared.Readings.{Readings}
+use Rattle.kind.specs.Stands.{Kept, numberStands, numbersStand, dateStands, datesStand, stands, unread, readingsOf, standsRead}
 
 -- ---- numbers
 
-module _ (relation : NumberRelation) (i f : List ℕ) (r : number-readings.Reading) (e : r ≡ numbers.read i) where
-  pub numbers-unreadable : r ≡ number-readings.Reading.Unreadable → false ≡ numbersStand relation (numbers.read i) (numbers.read f)
+module _ (relation : NumberRelation) (i : List ℕ) (v : number-readings.Reading) (r : number-readings.Reading) (e : r ≡ numbers.read i) where
+  pub numbers-unreadable : r ≡ number-readings.Reading.Unreadable → false ≡ numbersStand relation (numbers.read i) v
   numbers-unreadable h = rw (sym e ∙ h)
 
-  module _ (a : Decimal) (h : r ≡ number-readings.Reading.Number a) (s : number-readings.Reading) (k : s ≡ numbers.read f) where
-    pub value-unreadable : s ≡ number-readings.Reading.Unreadable → false ≡ numbersStand relation (numbers.read i) (numbers.read f)
-    value-unreadable j = rw (sym e ∙ h, sym k ∙ j)
+  module _ (a : Decimal) (h : r ≡ number-readings.Reading.Number a) where
+    pub value-unreadable : v ≡ number-readings.Reading.Unreadable → false ≡ numbersStand relation (numbers.read i) v
+    value-unreadable j = rw (sym e ∙ h, j)
 
-    pub numbers-stand : (b : Decimal) (t : Bool) → s ≡ number-readings.Reading.Number b → t ≡ numberStands relation a b → t ≡ numbersStand relation (numbers.read i) (numbers.read f)
-    numbers-stand b t j l = rw (sym e ∙ h, sym k ∙ j) l
+    pub numbers-stand : (b : Decimal) (t : Bool) → v ≡ number-readings.Reading.Number b → t ≡ numberStands relation a b → t ≡ numbersStand relation (numbers.read i) v
+    numbers-stand b t j l = rw (sym e ∙ h, j) l
 
 -- ---- dates
 
-module _ (relation : DateRelation) (i f : List ℕ) (r : period-readings.Reading) (e : r ≡ periods.readSpan i) where
-  pub dates-unreadable : r ≡ period-readings.Reading.Unreadable → false ≡ datesStand relation (periods.readSpan i) (dates.read f)
+module _ (relation : DateRelation) (i : List ℕ) (v : date-readings.Reading) (r : period-readings.Reading) (e : r ≡ periods.readSpan i) where
+  pub dates-unreadable : r ≡ period-readings.Reading.Unreadable → false ≡ datesStand relation (periods.readSpan i) v
   dates-unreadable h = rw (sym e ∙ h)
 
-  module _ (a : Period) (h : r ≡ period-readings.Reading.Readable a) (s : date-readings.Reading) (k : s ≡ dates.read f) where
-    pub date-unreadable : s ≡ date-readings.Reading.Unreadable → false ≡ datesStand relation (periods.readSpan i) (dates.read f)
-    date-unreadable j = rw (sym e ∙ h, sym k ∙ j)
+  module _ (a : Period) (h : r ≡ period-readings.Reading.Readable a) where
+    pub date-unreadable : v ≡ date-readings.Reading.Unreadable → false ≡ datesStand relation (periods.readSpan i) v
+    date-unreadable j = rw (sym e ∙ h, j)
 
-    pub dates-stand : (b : Date) (t : Bool) → s ≡ date-readings.Reading.Readable b → t ≡ dateStands relation a b → t ≡ datesStand relation (periods.readSpan i) (dates.read f)
-    dates-stand b t j l = rw (sym e ∙ h, sym k ∙ j) l
+    pub dates-stand : (b : Date) (t : Bool) → v ≡ date-readings.Reading.Readable b → t ≡ dateStands relation a b → t ≡ datesStand relation (periods.readSpan i) v
+    dates-stand b t j l = rw (sym e ∙ h, j) l
+
+-- ---- a value that was read already
+
+pub stands-is : (relation : Relation) (i f : List ℕ) → standsRead relation i f (readingsOf relation f) ≡ stands relation i f
+unfolding stands standsRead readingsOf
+stands-is (Relation.Strings r) i f = refl
+stands-is (Relation.Numbers r) i f = refl
+stands-is (Relation.Dates r) i f = refl
+stands-is Relation.Tokens i f = refl
+stands-is Relation.References i f = refl
+
+pub number-kept : (f : List ℕ) (v : number-readings.Reading) → v ≡ numbers.read f → Kept v
+number-kept f v e = record { bounded = λ d h. number-bounded f v d e h }
+
+pub unread-kept : Kept (unread .number)
+unread-kept = record { bounded = λ d h. absurd (two d h) }
+  where
+    two : (d : Decimal) → number-readings.Reading.Unreadable ≡ number-readings.Reading.Number d → ⊥
+    two d h = let z : _≡_ {A = ℕ} 0 1 = cc in omega arith
+
+pub readings-kept : (relation : Relation) (f : List ℕ) → Kept (readingsOf relation f .number)
+unfolding readingsOf
+readings-kept (Relation.Strings r) f = unread-kept
+readings-kept (Relation.Numbers r) f = number-kept f (numbers.read f) refl
+readings-kept (Relation.Dates r) f = unread-kept
+readings-kept Relation.Tokens f = unread-kept
+readings-kept Relation.References f = unread-kept
+
+pub dates-read : (relation : Relation) (i f : List ℕ) (v : Readings) (r : DateRelation) (t : Bool) → relation ≡ Relation.Dates r → t ≡ datesStand r (periods.readSpan i) (v .date) → t ≡ standsRead relation i f v
+unfolding standsRead
+dates-read relation i f v r t h e = rw h e

@@ -1,6 +1,7 @@
 -- Whether a card's text stands in a relation to a filter's value. Texts that are not readable stand in none.
 -- Assumes nothing.
 use Prim.Native.Nat.{ℕ}
+use mathlib.Core.Path.{_≡_}
 use mathlib.Core.Bool.{Bool, false}
 use mathlib.Core.List.{List}
 use Rattle.text.specs.Compare as texts
@@ -21,6 +22,7 @@ use Rattle.kind.specs.declared.StringRelation.{StringRelation}
 use Rattle.kind.specs.declared.NumberRelation.{NumberRelation}
 use Rattle.kind.specs.declared.DateRelation.{DateRelation}
 use Rattle.kind.specs.declared.Relation.{Relation}
+use Rattle.kind.specs.declared.Readings.{Readings}
 
 -- i is the card's text, f the filter's value
 unfoldable pub stringStands : StringRelation → List ℕ → List ℕ → Bool
@@ -67,3 +69,28 @@ stands (Relation.Numbers r) i f = numbersStand r (numbers.read i) (numbers.read 
 stands (Relation.Dates r) i f = datesStand r (periods.readSpan i) (dates.read f)
 stands Relation.Tokens i f = tokens.matches i f
 stands Relation.References i f = texts.same i f
+
+-- ---- a value that is read once for many texts
+
+-- a number that was read keeps to its bounds
+pub record Kept (n : number-readings.Reading) : Type 0 where
+  pub bounded : (d : Decimal) → n ≡ number-readings.Reading.Number d → number.Bounded d
+
+-- of a value whose bytes are compared
+abbrev pub unread : Readings
+unread = record { number = number-readings.Reading.Unreadable; date = date-readings.Reading.Unreadable }
+
+-- what a value reads to, where the relation compares what texts read to
+unfoldable pub readingsOf : Relation → List ℕ → Readings
+readingsOf (Relation.Strings r) f = unread
+readingsOf (Relation.Numbers r) f = record { number = numbers.read f; date = date-readings.Reading.Unreadable }
+readingsOf (Relation.Dates r) f = record { number = number-readings.Reading.Unreadable; date = dates.read f }
+readingsOf Relation.Tokens f = unread
+readingsOf Relation.References f = unread
+
+unfoldable pub standsRead : Relation → List ℕ → List ℕ → Readings → Bool
+standsRead (Relation.Strings r) i f v = stringStands r i f
+standsRead (Relation.Numbers r) i f v = numbersStand r (numbers.read i) (v .number)
+standsRead (Relation.Dates r) i f v = datesStand r (periods.readSpan i) (v .date)
+standsRead Relation.Tokens i f v = tokens.matches i f
+standsRead Relation.References i f v = texts.same i f

@@ -8,7 +8,10 @@ pub use decision::meaning_of;
 pub use readable::card_readable;
 pub use readable::is_true;
 pub use readable::value_readable;
+pub use relate::readings_of;
 pub use relate::stands;
+pub use relate::stands_read;
+pub use relate::unread;
 
 // The relations of strings: same, holds it somewhere, at the start, at the end.
 pub enum StringRelation {
@@ -48,6 +51,12 @@ pub enum Relation {
     Dates(DateRelation),
     Tokens,
     References,
+}
+
+// What a filter's value reads to as a number and as a date, where a relation asks for that.
+pub struct Readings {
+    pub number: number::Reading,
+    pub date: date::Reading,
 }
 
 // What an operator means for a kind: whether there is a text at all; that some text stands in the relation, or that

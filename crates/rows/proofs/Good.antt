@@ -35,7 +35,7 @@ use Rattle.rows.specs.Shapes.{kindFits, valueIn, valueFits, probeFits, t
 use Rattle.rows.specs.declared.Probe.{Probe}
 use Rattle.rows.specs.declared.Shape.{Shape}
 use Rattle.rows.proofs.Stating.{stated-encode, stated-cells, some-same, none-some}
-use Rattle.rows.proofs.Nesting.{chain-of, of-chain}
+use Rattle.rows.proofs.Nesting.{chain-of, of-chain, rows-few}
 use Rattle.rows.proofs.Shapes.{shape-shallow, shallow-shape}
 use Rattle.rows.proofs.Values.{found-from, from-found}
 
@@ -195,3 +195,18 @@ module _ (ps : List Parameter) (w : WellFormedSheet ps) (xs : List ℕ) where
   pub good-iff : (cs : List ℕ) → (good (kindsOf ps) (parentsOf ps) xs cs ≡ true) ↔ Good ps xs cs
   unfolding good
   good-iff cs = (λ h. good-of cs (stated cs) refl h, λ g. of-good cs g)
+
+-- good rows are few
+pub good-few : (kinds parents xs cs : List ℕ) → good kinds parents xs cs ≡ true → length cs ≤ 320
+unfolding good isWithin
+good-few kinds parents xs cs h = by-stated (stated cs) refl h
+  where
+    by-stated : (o : Option Expression) → stated cs ≡ o → goodBy kinds parents xs o ≡ true → length cs ≤ 320
+    by-stated none e h = absurd (let z : _≡_ {A = ℕ} 0 1 = cc in omega arith)
+    by-stated (some f) e h =
+        let s : Shape = shapeOf kinds parents xs f in
+        let deep : Bool = leb (s .chain) 8 in
+        let rest : Bool = s .fits && eqb (s .scope) 0 in
+        let a : (deep && rest) ≡ true = and-right (leb (testCount f) 32) (deep && rest) h in
+        let few : testCount f ≤ 32 = leb-true (testCount f) 32 (and-left (leb (testCount f) 32) (deep && rest) h) in
+        omega (arith, few, rows-few f 8 (shape-shallow kinds parents xs f (and-left deep rest a)), ap length (stated-cells cs f e))

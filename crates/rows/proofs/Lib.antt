@@ -13,3 +13,6 @@ pub mod Writing
 pub mod Saying
 pub mod Meaning
 pub mod Preparing
+pub mod Opening
+pub mod Jumping
+pub mod Noting

@@ -1,12 +1,17 @@
 -- The number of brackets that an expression needs decides how deep they nest.
 -- Assumes nothing.
-use Prim.Native.Nat.{ℕ, zero, suc, _+_, _≤_, _<_}
+use Prim.Native.Nat.{ℕ, zero, suc, _+_, _*_, _≤_, _<_}
 use native.Mathlib.Omega.{arith}
-use mathlib.Core.Path.{_≡_, refl}
+use native.Mathlib.Nat.{mul-add, add-mul}
+use mathlib.Core.Path.{_≡_, refl, ap, _∙_}
+use mathlib.Core.List.{List, [], _∷_, _++_}
+use lib.ListN.{length, length-append}
 use mathlib.Core.Bool.{Bool, true, false, cond}
 use lib.Dec.{ltb}
 use borrow.Author.Tests.{ltb-true, ltb-false}
-use Rattle.rows.specs.Expression.{Expression, probing, choosing, joining, negating}
+use Rattle.rows.specs.Expression.{Expression, probing, choosing, joining, negating, testCount}
+use Rattle.rows.specs.Cells.{cellOf, isAnd, encode}
+use Rattle.rows.specs.declared.Row.{Row}
 use Rattle.rows.specs.Nesting.{NestsItem, Nests, nests-test, nests-bracketed, nests-bracket, nests-not, nests-item, nests-more, larger, Depth, depthOf}
 
 larger-of : (a b : ℕ) → (a ≤ larger a b) × (b ≤ larger a b)
@@ -77,3 +82,36 @@ mutual
   pub of-chain : {e : Expression} {d : ℕ} → Nests d e → depthOf e .chain ≤ d
   of-chain (nests-item {e = e} h) = omega (arith, of-item h, chain-item e)
   of-chain (nests-more {d = d} {e = e} {f = f} h k) = larger-least (depthOf e .chain) (depthOf f .item) d (of-chain h) (of-item k)
+
+-- ---- an expression of few tests that nests little has few rows
+
+tests-some : (e : Expression) → 1 ≤ testCount e
+unfolding testCount
+tests-some (probing p) = omega arith
+tests-some (choosing e p) = omega arith
+tests-some (joining c e f) = omega (arith, tests-some e)
+tests-some (negating e) = tests-some e
+
+one-deeper : (t d : ℕ) → t * (2 + suc d) ≡ t * (2 + d) + t
+one-deeper t d = let more : 2 + suc d ≡ 2 + d + 1 = omega arith in ap (λ (n : ℕ). t * n) more ∙ mul-add t (2 + d) 1 ∙ ap (λ (n : ℕ). t * (2 + d) + n) (omega arith)
+
+both-wide : (t u d : ℕ) → (t + u) * d ≡ t * d + u * d
+both-wide t u d = add-mul t u d
+
+pub rows-few : (e : Expression) (d : ℕ) → depthOf e .chain ≤ d → length (encode e) + 1 ≤ testCount e * (2 + d)
+unfolding encode testCount depthOf
+rows-few (probing p) d h = omega arith
+rows-few (choosing e p) zero h = absurd (omega (arith, h))
+rows-few (choosing e p) (suc d) h = omega (arith, rows-few e d (omega (arith, h)), one-deeper (testCount e) d, length-append (encode e) (cellOf (Row.Bracket p) ∷ []))
+rows-few (negating e) zero h = absurd (omega (arith, h))
+rows-few (negating e) (suc d) h = omega (arith, rows-few e d (omega (arith, h)), one-deeper (testCount e) d, tests-some e, length-append (encode e) (cellOf Row.Not ∷ []))
+rows-few (joining c e f) d h =
+    let l = larger-of (depthOf e .chain) (depthOf f .item) in
+    omega (
+      arith,
+      rows-few e d (omega (arith, h, l .0)),
+      rows-few f d (omega (arith, h, l .1, chain-item f)),
+      both-wide (testCount e) (testCount f) (2 + d),
+      length-append (encode e) (encode f ++ (cellOf (Row.Connect (isAnd c)) ∷ [])),
+      length-append (encode f) (cellOf (Row.Connect (isAnd c)) ∷ []),
+    )

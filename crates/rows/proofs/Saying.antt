@@ -2,36 +2,50 @@
 -- Assumes nothing.
 use Prim.Native.Nat.{ℕ, suc, _+_, _-_, _≤_, _<_}
 use native.Mathlib.Omega.{arith}
+use native.Mathlib.Numerals.{add-one}
 use mathlib.Core.Path.{_≡_, refl, sym, ap, ap₂, subst, _∙_}
 use mathlib.Core.Bool.{Bool, true, false, not, _&&_, _||_}
 use mathlib.Core.Option.{Option, none, some}
 use mathlib.Core.List.{List, [], _∷_, _++_, append-assoc}
 use lib.Dec.{eqb}
+use lib.IntN.{ℤ, pos}
 use lib.ListN.{length, getD, take, drop, set, replicate, length-append, length-set, take-append-drop}
 use lib.Seq.{drop-at, take-at, length-take-le}
-use borrow.Author.Tests.{le-ltb}
 use Rattle.base.specs.Lists.{All, all-cons}
 use Rattle.base.specs.Parts.{part}
 use Rattle.base.proofs.All.{all-head}
+use Rattle.base.proofs.Parts.{part-length}
 use Rattle.card.specs.Card.{Entry, entry}
 use Rattle.syntax.specs.Reader.{connective}
-use Rattle.syntax.specs.Scan.{valueAt}
+use Rattle.syntax.specs.Placed.{PlacedValue}
+use Rattle.syntax.specs.Tree.{Connective}
+use Rattle.syntax.specs.Scan.{valueAt, contents, decode, Decoded}
 use Rattle.syntax.specs.declared.RawValue.{RawValue}
 use Rattle.syntax.specs.declared.FoundValue.{FoundValue}
+use Rattle.syntax.proofs.Places.{value-at-placed}
 use Rattle.kind.specs.Table.{meaningOf}
 use Rattle.kind.specs.Readable.{isTrue}
+use Rattle.kind.specs.Stands.{Kept}
+use Rattle.kind.specs.declared.Readings.{Readings}
 use Rattle.kind.specs.declared.Meaning.{Meaning}
 use Rattle.judge.specs.Sets.{valuesAt, counts, chosenOf, ofOccurrence, keep}
 use Rattle.judge.specs.Verdicts.{someValue, textCounts, someSays, saysOf, joined}
 use Rattle.judge.specs.declared.Chosen.{Chosen}
+use Rattle.judge.specs.Once.{countsRead}
 use Rattle.judge.proofs.Meaning.{says-some}
+use Rattle.judge.proofs.Once.{for-kept, once-counts}
 use Rattle.filter.proofs.Judging.{chosen-one, occurrence-whole}
 use Rattle.rows.specs.Expression.{Expression, probing, choosing, joining, negating, testCount}
 use Rattle.rows.specs.Cells.{rowOf, cellOf, isAnd, encode, Writable, push, only, stated}
 use Rattle.rows.specs.Shapes.{valueIn}
-use Rattle.rows.specs.Saying.{probeSaysBy, probeSays, expressionSays, statedSays, rowsSay, Whole, Inner, innerSays, someEntry, occurrenceSays, probeSaysEachBy, probeSaysEach}
+use Rattle.rows.specs.Saying.{probeSaysBy, probeSays, expressionSays, statedSays, rowsSay, Whole, Bracketed, innerSays, someEntry, occurrenceSays, probeSaysEachBy, probeSaysEach}
 use Rattle.rows.specs.declared.Probe.{Probe}
+use Rattle.rows.specs.Opening.{openedValue, openedBy, openedFor, openedIn, openedRow, valueOf, Known, openedFrom, Opens}
+use Rattle.rows.specs.Jumping.{Item, Jumps, Lands, Leapt}
 use Rattle.rows.specs.declared.Row.{Row}
+use Rattle.rows.specs.declared.Opened.{Opened}
+use Rattle.rows.proofs.Opening.{row-small, cells-back}
+use Rattle.rows.proofs.Jumping.{stacked-item}
 use Rattle.rows.proofs.Stating.{stated-encode, flat, total, height-total, some-same}
 use Rattle.rows.proofs.Machine.{Holds, holds-none, holds-more, holds-length, holds-push, Top, top-of, none-on, Stacked, stacked-start, stacked-next, stacked-fails, stacked-end, stacked-total}
 
@@ -132,14 +146,14 @@ unfolding someEntry
 entry-end says k i m v = refl
 
 module _ (kinds xs : List ℕ) (all : List Entry) (inner : List ℕ) (o : ℕ) (u : Bool) where
-  pub chosen-plain : u ≡ true → length inner ≡ 0 → true ≡ (u && occurrenceSays kinds xs all inner o)
+  chosen-plain : u ≡ true → length inner ≡ 0 → true ≡ (u && occurrenceSays kinds xs all inner o)
   chosen-plain h z = rw h (by-length inner z)
     where
       by-length : (cs : List ℕ) → length cs ≡ 0 → true ≡ innerSays kinds xs (ofOccurrence o all) cs
       by-length [] z = refl
       by-length (c ∷ cs) z = absurd (omega (arith, z))
 
-  pub chosen-inner : (r : Bool) → u ≡ true → (length inner ≡ 0 → ⊥) → r ≡ rowsSay kinds xs (chosenOf (record { all = false; occurrence = o }) all) inner → r ≡ (u && occurrenceSays kinds xs all inner o)
+  chosen-inner : (r : Bool) → u ≡ true → (length inner ≡ 0 → ⊥) → r ≡ rowsSay kinds xs (chosenOf (record { all = false; occurrence = o }) all) inner → r ≡ (u && occurrenceSays kinds xs all inner o)
   chosen-inner r h z e = rw h (e ∙ ap (λ (l : List Entry). rowsSay kinds xs l inner) (chosen-one o all) ∙ by-length inner z)
     where
       by-length : (cs : List ℕ) → (length cs ≡ 0 → ⊥) → rowsSay kinds xs (ofOccurrence o all) cs ≡ innerSays kinds xs (ofOccurrence o all) cs
@@ -149,27 +163,104 @@ module _ (kinds xs : List ℕ) (all : List Entry) (inner : List ℕ) (o : ℕ) (
   pub chosen-not : u ≡ false → false ≡ (u && occurrenceSays kinds xs all inner o)
   chosen-not h = rw h
 
-module _ (kinds xs inner : List ℕ) (p : Probe) (k : Chosen) (all : List Entry) where
-  pub probe-outside : length xs < p .position → false ≡ probeSaysEach kinds xs inner p k all
-  unfolding probeSaysEach valueAt
-  probe-outside h = rw (le-ltb (p .position) (length xs) (omega arith))
+module _ (kinds xs : List ℕ) (all : List Entry) (rows : List ℕ) (from to o : ℕ) (u : Bool) where
+  pub bracket-plain : u ≡ true → from ≡ to → true ≡ (u && occurrenceSays kinds xs all (part rows from to) o)
+  bracket-plain h z =
+      let none : to - from ≡ 0 = omega (arith, z) in
+      chosen-plain kinds xs all (part rows from to) o u h (ap (λ (n : ℕ). length (take n (drop from rows))) none)
 
-  module _ (f : FoundValue) (e : f ≡ valueAt xs (p .position)) where
-    pub probe-no-value : f ≡ FoundValue.Nothing → false ≡ probeSaysEach kinds xs inner p k all
-    unfolding probeSaysEach
-    probe-no-value h = rw (sym e ∙ h)
+  pub bracket-inner : (r : Bool) → Bracketed rows from to → u ≡ true → (from ≡ to → ⊥) → r ≡ rowsSay kinds xs (chosenOf (record { all = false; occurrence = o }) all) (part rows from to) → r ≡ (u && occurrenceSays kinds xs all (part rows from to) o)
+  bracket-inner r b h z e = chosen-inner kinds xs all (part rows from to) o u r h (λ n. z (omega (arith, n, part-length rows from to (b .within), b .order))) e
 
-    pub probe-value : (v : RawValue) (m : Meaning) (kind : ℕ) (t s r : Bool) → f ≡ FoundValue.Value v → kind ≡ getD kinds (p .index) 0 → m ≡ meaningOf (p .operator) kind → t ≡ isTrue (valueIn xs v)
-        → s ≡ someEntry (occurrenceSays kinds xs all inner) k (p .index) m (valueIn xs v) all → r ≡ someSays m t s → r ≡ probeSaysEach kinds xs inner p k all
+module _ (kinds xs : List ℕ) (p : Probe) (o : Opened) (e : o ≡ openedFor kinds xs p) where
+  -- what is opened of a value that there is
+  record Told (m : Meaning) : Type 0 where
+    known : Known xs m o
+    value : RawValue
+    found : valueAt xs (p .position) ≡ FoundValue.Value value
+    same : valueOf xs o ≡ valueIn xs value
+    truth : o .truth ≡ isTrue (valueIn xs value)
+
+  told : o .found ≡ true → Told (meaningOf (p .operator) (getD kinds (p .index) 0))
+  unfolding openedFor openedValue valueOf
+  told h = by-value (valueAt xs (p .position)) refl
+    where
+      by-value : (f : FoundValue) → valueAt xs (p .position) ≡ f → Told (meaningOf (p .operator) (getD kinds (p .index) 0))
+      by-value (FoundValue.Value v) i =
+          let is : o ≡ openedValue (meaningOf (p .operator) (getD kinds (p .index) 0)) v (valueIn xs v) = e ∙ ap (openedBy xs (meaningOf (p .operator) (getD kinds (p .index) 0))) i in
+          let q : PlacedValue xs v = value-at-placed xs (p .position) (valueAt xs (p .position)) v refl i in
+          record {
+            known = record { order = rw is (q .order); within = rw is (q .within); read = rw is };
+            value = v;
+            found = i;
+            same = rw is;
+            truth = rw is;
+          }
+      by-value FoundValue.Nothing i =
+          let none : false ≡ true = sym (ap (λ (q : Opened). q .found) (e ∙ ap (openedBy xs (meaningOf (p .operator) (getD kinds (p .index) 0))) i)) ∙ h in
+          absurd (let z : _≡_ {A = ℕ} 0 1 = cc in omega arith)
+
+  pub probe-known : (m : Meaning) (kind : ℕ) → o .found ≡ true → kind ≡ getD kinds (p .index) 0 → m ≡ meaningOf (p .operator) kind → Known xs m o
+  probe-known m kind h i j = subst (λ (n : Meaning). Known xs n o) (sym (j ∙ ap (meaningOf (p .operator)) i)) (told h .known)
+
+  module _ (inner : List ℕ) (k : Chosen) (all : List Entry) where
+    pub probe-closed : o .found ≡ false → false ≡ probeSaysEach kinds xs inner p k all
+    unfolding probeSaysEach openedFor openedValue
+    probe-closed h = by-value (valueAt xs (p .position)) refl
+      where
+        by-value : (f : FoundValue) → valueAt xs (p .position) ≡ f → false ≡ probeSaysEachBy f (getD kinds (p .index) 0) kinds xs inner p k all
+        by-value (FoundValue.Value v) i =
+            let some : true ≡ false = sym (ap (λ (q : Opened). q .found) (e ∙ ap (openedBy xs (meaningOf (p .operator) (getD kinds (p .index) 0))) i)) ∙ h in
+            absurd (let z : _≡_ {A = ℕ} 0 1 = cc in omega arith)
+        by-value FoundValue.Nothing i = refl
+
+    pub probe-opened : (m : Meaning) (kind : ℕ) (s r : Bool) → o .found ≡ true → kind ≡ getD kinds (p .index) 0 → m ≡ meaningOf (p .operator) kind
+        → s ≡ someEntry (occurrenceSays kinds xs all inner) k (p .index) m (valueOf xs o) all → r ≡ someSays m (o .truth) s → r ≡ probeSaysEach kinds xs inner p k all
     unfolding probeSaysEach
-    probe-value v m kind t s r h i j w q y =
-        let same : m ≡ meaningOf (p .operator) (getD kinds (p .index) 0) = j ∙ ap (meaningOf (p .operator)) i in
-        rw (sym e ∙ h) (y ∙ ap₂ (λ (a b : Bool). someSays m a b) w q ∙ ap (λ (n : Meaning). someSays n (isTrue (valueIn xs v)) (someEntry (occurrenceSays kinds xs all inner) k (p .index) n (valueIn xs v) all)) same)
+    probe-opened m kind s r h i j q y =
+        let is : m ≡ meaningOf (p .operator) (getD kinds (p .index) 0) = j ∙ ap (meaningOf (p .operator)) i in
+        let w = told h in
+        rw (w .found) (y ∙ ap₂ (λ (a b : Bool). someSays m a b) (w .truth) (q ∙ ap (λ (v : List ℕ). someEntry (occurrenceSays kinds xs all inner) k (p .index) m v all) (w .same)) ∙ ap (λ (n : Meaning). someSays n (isTrue (valueIn xs (w .value))) (someEntry (occurrenceSays kinds xs all inner) k (p .index) n (valueIn xs (w .value)) all)) is)
+
+-- ---- a value that was opened
+
+module _ (xs : List ℕ) (m : Meaning) (o : Opened) (w : Known xs m o) where
+  pub known-kept : Kept (o .readings .number)
+  known-kept = rw (w .read) (for-kept m (valueOf xs o))
+
+  pub known-escaped : (x : List ℕ) (t : Bool) → o .escaped ≡ true → t ≡ countsRead m (decode false (part xs (o .start) (o .end))) (o .readings) x → t ≡ textCounts m (valueOf xs o) x
+  unfolding valueOf
+  known-escaped x t h e =
+      let same : decode false (part xs (o .start) (o .end)) ≡ valueOf xs o = ap (λ (b : Bool). contents b (part xs (o .start) (o .end))) (sym h) in
+      once-counts m (valueOf xs o) (o .readings) (w .read) x t (e ∙ ap (λ (v : List ℕ). countsRead m v (o .readings) x) same)
+
+  pub known-plain : (x : List ℕ) (t : Bool) → o .escaped ≡ false → t ≡ countsRead m (part xs (o .start) (o .end)) (o .readings) x → t ≡ textCounts m (valueOf xs o) x
+  unfolding valueOf
+  known-plain x t h e =
+      let same : part xs (o .start) (o .end) ≡ valueOf xs o = ap (λ (b : Bool). contents b (part xs (o .start) (o .end))) (sym h) in
+      once-counts m (valueOf xs o) (o .readings) (w .read) x t (e ∙ ap (λ (v : List ℕ). countsRead m v (o .readings) x) same)
+
+pub decoded-counts : (raw out : List ℕ) (n : ℕ) → Decoded raw out n → (m : Meaning) (r : Readings) (x : List ℕ) (t : Bool) → t ≡ countsRead m (take n out) r x → t ≡ countsRead m (decode false raw) r x
+decoded-counts raw out n d m r x t e = e ∙ ap (λ (v : List ℕ). countsRead m v r x) (d .is)
+
+-- what the cells at a row's place stand for
+module _ (kinds xs rows spans digits : List ℕ) (starts ends : List ℤ) (s : Opens kinds xs rows spans digits starts ends (length rows)) (few : length xs ≤ 1024) (i : ℕ) (l : i < length rows) (o : Opened)
+    (e : o ≡ openedFrom (getD spans i 0) (getD digits i 0) (getD starts i (pos 0)) (getD ends i (pos 0))) (r : Row) (h : r ≡ rowOf (getD rows i 0)) where
+  at-row : o ≡ openedRow kinds xs (getD rows i 0)
+  at-row = e ∙ rw (s .span-cells .each i l, s .digit-cells .each i l, s .start-cells .each i l, s .end-cells .each i l) (cells-back (openedRow kinds xs (getD rows i 0)) (row-small kinds xs (getD rows i 0) few))
+
+  pub at-test : (p : Probe) → r ≡ Row.Test p → o ≡ openedFor kinds xs p
+  unfolding openedRow
+  at-test p u = at-row ∙ ap (openedIn kinds xs) (sym h ∙ u)
+
+  pub at-bracket : (p : Probe) → r ≡ Row.Bracket p → o ≡ openedFor kinds xs p
+  unfolding openedRow
+  at-bracket p u = at-row ∙ ap (openedIn kinds xs) (sym h ∙ u)
 
 -- ---- the loop over rows
 
 -- the part before i that is the last of the cells before i
-part-last : (rows a b : List ℕ) (i : ℕ) → a ++ b ≡ take i rows → i ≤ length rows → part rows (i - length b) i ≡ b
+pub part-last : (rows a b : List ℕ) (i : ℕ) → a ++ b ≡ take i rows → i ≤ length rows → part rows (i - length b) i ≡ b
 part-last rows a b i e l =
     let n : length a + length b ≡ i = sym (length-append a b) ∙ ap length e ∙ length-take-le i rows l in
     let m : i - length b ≡ length a = omega (arith, n) in
@@ -268,13 +359,15 @@ module _ (kinds xs : List ℕ) (k : Chosen) (all : List Entry) where
         let whole : length (flat (t .1 .0)) + sizeOf (t .0) ≡ i = sym (length-append (flat (t .1 .0)) (encode (t .0))) ∙ ap length (sym (ap flat (t .1 .1 .0)) ∙ s .stacked .before) ∙ length-take-le i rows (s .within) in
         omega (arith, whole, h, t .1 .1 .1 .1 .0)
 
-    pub judging-inner : (z : ℕ) → (top ≡ 0 → ⊥) → z ≡ getD sizes (top - 1) 0 → Whole rows → Inner (part rows (i - z) i)
+    pub judging-inner : (z : ℕ) → (top ≡ 0 → ⊥) → z ≡ getD sizes (top - 1) 0 → Whole rows → Bracketed rows (i - z) i
     unfolding total
     judging-inner z n h w =
         let t = both-on n in
         let size : z ≡ sizeOf (t .0) = h ∙ t .1 .1 .1 .1 .0 in
         let cells : part rows (i - z) i ≡ encode (t .0) = ap (λ (j : ℕ). part rows (i - j) i) size ∙ inner-cells (t .0) (t .1 .0) (t .1 .1 .0) in
         record {
+          order = omega arith;
+          within = s .within;
           whole = λ y. record {
             expression = t .0;
             states = ap stated cells ∙ stated-encode (t .0) (inner-writable (t .0) (t .1 .0) (t .1 .1 .0));
@@ -371,6 +464,46 @@ module _ (kinds xs : List ℕ) (k : Chosen) (all : List Entry) where
           within = omega (arith, l);
         }
 
+  -- the rows of the expression on top are rows before i
+  pub leap-size : (rows : List ℕ) (says : List Bool) (sizes : List ℕ) (top i : ℕ) (s : Judging rows says sizes top i) {jumps : List ℕ} {n : ℕ} → Leapt rows jumps i says top n → (n ≡ 0 → ⊥) → getD sizes (top - 1) 0 ≤ i
+  unfolding flat
+  leap-size rows says sizes top i s t nz =
+      let b = top-of (top - 1) (s .lengths) (omega (arith, t .lands nz .some)) in
+      let whole : length (flat (b .rest)) + sizeOf (b .top) ≡ i = sym (length-append (flat (b .rest)) (encode (b .top))) ∙ ap length (sym (ap flat (b .is)) ∙ s .stacked .before) ∙ length-take-le i rows (s .within) in
+      omega (arith, whole, b .value)
+
+  -- ---- an item that is left out
+
+  pub judging-leap : (rows : List ℕ) (says : List Bool) (sizes : List ℕ) (top i : ℕ) (s : Judging rows says sizes top i) → (jumps : List ℕ) (n z : ℕ) → Jumps rows jumps → Leapt rows jumps i says top n → (n ≡ 0 → ⊥) → z ≡ getD sizes (top - 1) 0
+      → Judging rows says (set sizes (top - 1) (z + n + 1)) top (i + n + 1)
+  unfolding push encode expressionSays
+  judging-leap rows says sizes top i s jumps n z js t nz h =
+      let d : Lands rows jumps i says top n = t .lands nz in
+      let q : Item rows i n = subst (λ (x : ℕ). Item rows i x) (sym (d .jump)) (js .each i (λ y. nz (d .jump ∙ y)) (omega (arith, d .within, d .jump))) in
+      let a = top-of (top - 1) (s .verdicts) (omega (arith, d .some)) in
+      let b = top-of (top - 1) (s .lengths) (omega (arith, d .some)) in
+      let same : a .top ∷ a .rest ≡ b .top ∷ b .rest = sym (a .is) ∙ b .is in
+      let heads : b .top ≡ a .top = cc in
+      let tails : b .rest ≡ a .rest = cc in
+      let f : Expression = q .expression in
+      let k : Connective = connective (d .join) in
+      let g : Expression = joining k (a .top) f in
+      let one : top - 1 + 1 ≡ top = omega (arith, d .some) in
+      let last : ℕ = cellOf (Row.Connect (isAnd k)) in
+      let cells : length (encode f) ≡ n = sym (ap length (q .cells)) ∙ part-length rows i (i + n) (omega (arith, d .within)) ∙ (omega arith) in
+      let longer : z + n + 1 ≡ sizeOf g = omega (arith, h, b .value, ap sizeOf heads, cells, length-append (encode (a .top)) (encode f ++ (last ∷ [])), length-append (encode f) (last ∷ [])) in
+      let low : top - 1 < 32 = omega (arith, s .few, d .some) in
+      record {
+        st = g ∷ a .rest;
+        stacked = stacked-next (stacked-item (s .stacked) n q) (d .within) (Row.Connect (d .join)) (sym (d .row)) (g ∷ a .rest) (ap (λ (x : List Expression). push (Row.Connect (d .join)) (f ∷ x)) (a .is));
+        verdicts = subst (λ (j : ℕ). Holds false verdict says j (g ∷ a .rest)) (sym (add-one (top - 1)) ∙ one) (holds-more (sym (d .decides (verdict f)) ∙ ap (λ (x : Bool). joined k x (verdict f)) (a .value)) (a .below));
+        lengths = subst (λ (j : ℕ). Holds 0 sizeOf (set sizes (top - 1) (z + n + 1)) j (g ∷ a .rest)) one (holds-push g (z + n + 1) (subst (λ (m : List Expression). Holds 0 sizeOf sizes (top - 1) m) tails (b .below)) (omega (arith, s .sizes-size, low)) longer);
+        says-size = s .says-size;
+        sizes-size = length-set sizes (top - 1) (z + n + 1) ∙ s .sizes-size;
+        few = s .few;
+        within = omega (arith, d .within);
+      }
+
   module _ (rows : List ℕ) (says : List Bool) (sizes : List ℕ) (top i : ℕ) (s : Judging rows says sizes top i) (l : length rows ≤ i) where
     pub judging-whole : top ≡ 1 → getD says 0 false ≡ rowsSay kinds xs (chosenOf k all) rows
     unfolding rowsSay
@@ -390,8 +523,5 @@ module _ (kinds xs : List ℕ) (k : Chosen) (all : List Entry) where
         not-one (holds-more v (holds-more y h)) z = refl
 
 -- a test without brackets has no rows in them
-pub empty-inner : (rows : List ℕ) (i : ℕ) → Inner (part rows i i)
-empty-inner rows i =
-    let zero-left : i - i ≡ 0 = omega arith in
-    let nothing : part rows i i ≡ [] = ap (λ (n : ℕ). take n (drop i rows)) zero-left in
-    record { whole = λ y. absurd (y (ap length nothing)) }
+pub empty-bracket : (rows : List ℕ) (i : ℕ) → i ≤ length rows → Bracketed rows i i
+empty-bracket rows i l = record { order = omega arith; within = l; whole = λ y. absurd (y refl) }

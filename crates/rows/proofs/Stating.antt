@@ -31,7 +31,7 @@ unfolding run
 run-row r cs st h = rw h
 
 -- running on over the cells of an expression leaves it on the stack
-run-encode : (e : Expression) (cs : List ℕ) (st : List Expression) → Writable e → run (encode e ++ cs) st ≡ run cs (e ∷ st)
+pub run-encode : (e : Expression) (cs : List ℕ) (st : List Expression) → Writable e → run (encode e ++ cs) st ≡ run cs (e ∷ st)
 unfolding encode push
 run-encode (probing p) cs st (writable-test s) = run-row (Row.Test p) cs st (row-test p s)
 run-encode (choosing e p) cs st (writable-bracket w s) =

@@ -7,3 +7,6 @@ pub mod Shapes
 pub mod Writing
 pub mod Saying
 pub mod Stated
+pub mod Opening
+pub mod Packing
+pub mod Jumping

@@ -7,6 +7,7 @@ use mathlib.Core.Option.{Option, none, some}
 use mathlib.Core.List.{List, [], _∷_}
 use lib.Dec.{eqb}
 use lib.ListN.{length, getD}
+use Rattle.base.specs.Parts.{part}
 use Rattle.card.specs.Card.{Entry}
 use Rattle.syntax.specs.Scan.{valueAt}
 use Rattle.syntax.specs.declared.FoundValue.{FoundValue}
@@ -52,9 +53,11 @@ pub record Whole (cs : List ℕ) : Type 0 where
   pub states : stated cs ≡ some expression
   pub few : testCount expression ≤ 32
 
--- the rows in brackets, if there are any
-pub record Inner (cs : List ℕ) : Type 0 where
-  pub whole : (length cs ≡ 0 → ⊥) → Whole cs
+-- the rows in brackets, from one place to another, if there are any
+pub record Bracketed (rows : List ℕ) (from to : ℕ) : Type 0 where
+  pub order : from ≤ to
+  pub within : to ≤ length rows
+  pub whole : (from ≡ to → ⊥) → Whole (part rows from to)
 
 -- ---- a test after the rows in its brackets, entry by entry; a test without brackets has none
 

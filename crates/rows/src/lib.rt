@@ -2,14 +2,19 @@
 // trusted, and judged on cards without reading the filter again.
 mod cell;
 mod fit;
+mod jump;
 mod says;
 mod stack;
+mod store;
 mod whole;
 mod write;
 
 pub use cell::row_of;
 use filter::Summary;
+pub use jump::note_jumps;
+use kind::Readings;
 pub use says::rows_say;
+pub use store::open_rows;
 pub use whole::are_good;
 pub use write::write_filter;
 
@@ -18,6 +23,17 @@ pub struct Probe {
     pub index: u8,
     pub operator: u8,
     pub position: usize,
+}
+
+// What the value of a test reads to: whether there is one and it has escapes; whether it is true, for pr; where its bytes stand in the
+// text; and what they read to.
+pub struct Opened {
+    pub found: bool,
+    pub escaped: bool,
+    pub truth: bool,
+    pub start: usize,
+    pub end: usize,
+    pub readings: Readings,
 }
 
 // What a cell says: a test, the test of a member after brackets, not, and (true) or or, or nothing.

@@ -30,7 +30,7 @@ fn larger(a: u32, b: u32) -> u32
 }
 
 // 1 for yes.
-fn bit(fits: bool) -> u32
+pub fn bit(fits: bool) -> u32
     ensures { λ r. ⌜ (r ≡ bit fits) × (r ≤ 1) ⌝ }
 {
     if fits {

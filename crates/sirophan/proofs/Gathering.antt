@@ -1,9 +1,12 @@
 -- The loop of `gather`: what the run comes to is the numbers gathered, and then what the cards to come add to them.
 -- Assumes nothing.
-use Prim.Native.Nat.{ℕ, suc, _+_, _-_, _*_, _/_, _%_, _≤_, _<_, zero-le}
+use Prim.Native.Nat.{ℕ, suc, _+_, _-_, _*_, _/_, _%_, _≤_, _<_, zero-le, _^_}
 use native.Mathlib.Nat.{sub-zero}
 use native.Mathlib.Numerals.{add-one}
 use native.Mathlib.Omega.{arith}
+use mir.Syntax.{w64}
+use mir.Val.{Fits}
+use borrow.Author.Needs.{scaled-fits}
 use mathlib.Core.Path.{_≡_, refl, sym, ap, _∙_}
 use mathlib.Core.Bool.{Bool, true, false, cond}
 use mathlib.Core.List.{List, [], _∷_, _++_, append-assoc, append-nil}
@@ -81,6 +84,12 @@ module _ (q : Question) (cards : List ℕ) where
 
     pub gathering-room : at < length cards → count < length buffer
     gathering-room h = omega (arith, g .at-index, g .size, g .few, g .room)
+
+    pub gathering-scaled : at < length cards → length buffer * 4 < 2 ^ 63 → Fits w64 (count * 4)
+    gathering-scaled h r = scaled-fits count (length buffer) 4 (gathering-room h) r
+
+    pub gathering-more : at < length cards → length buffer * 4 < 2 ^ 63 → Fits w64 (count + 1)
+    gathering-more h r = record { fits = omega (arith, gathering-room h, r) }
 
     pub gathering-well-formed : (b : List ℕ) (v : CardVerdict) → ((i : ℕ) → verdictStep v i ≡ cardVerdict q i b) → (y : Bool) → v ≡ CardVerdict.Says y → readCard b ≡ Reading.WellFormed
     gathering-well-formed b v e y s = judged-well-formed q b y (sym (e 0) ∙ ap (λ (w : CardVerdict). verdictStep w 0) s)

@@ -1,6 +1,6 @@
 -- What check's answer tells of the sheet and the filter, and the answer of match from it.
 -- Assumes nothing.
-use Prim.Native.Nat.{ℕ}
+use Prim.Native.Nat.{ℕ, _≤_}
 use native.Mathlib.Omega.{arith}
 use mathlib.Core.Path.{_≡_, refl, sym, ap, _∙_}
 use mathlib.Core.Bool.{Bool, true, false, cond, _||_}
@@ -73,6 +73,9 @@ passing b xs c n e h =
 
 pub passing-sheet : (b xs : List ℕ) (c : Checked) (n : ℕ) → checkedAnswer c ≡ checkAnswer b xs → c ≡ Checked.Tests n → readSheet b ≡ Reading.WellFormed
 passing-sheet b xs c n e h = passing b xs c n e h .sheet-well-formed
+
+pub passing-short : (b xs : List ℕ) (c : Checked) (n : ℕ) → checkedAnswer c ≡ checkAnswer b xs → c ≡ Checked.Tests n → length xs ≤ 1024
+passing-short b xs c n e h = passing b xs c n e h .short
 
 -- what a filter that check has passed asks
 pub passing-asks : (b xs : List ℕ) (p : Passing b xs) → filterQuestion b xs ≡ found (textQuestion (parametersOf b) (read xs))

@@ -24,7 +24,7 @@ use Rattle.rows.specs.Good.{Good}
 use Rattle.rows.specs.Saying.{rowsSay, Whole}
 use Rattle.rows.specs.Shapes.{good}
 use Rattle.rows.specs.Stated.{treeOf}
-use Rattle.rows.proofs.Good.{good-states, good-iff}
+use Rattle.rows.proofs.Good.{good-states, good-iff, good-few}
 use Rattle.rows.proofs.Meaning.{erase-says, good-whole, rows-mean}
 use Rattle.rows.proofs.Preparing.{prepared-good, prepared-states}
 use Rattle.search.specs.declared.Rows.{Rows}
@@ -70,6 +70,9 @@ module _ (sheet text : List ℕ) (p : Passing sheet text) where
 
   pub rows-whole : Whole cells
   rows-whole = good-whole (kindsOf ps) (parentsOf ps) text cells passes
+
+  pub rows-short : length cells ≤ 320
+  rows-short = good-few (kindsOf ps) (parentsOf ps) text cells passes
 
   says-same : (es : List Entry) → filterSays ps 0 es (p .tree) ≡ rowsSay (kindsOf ps) text es cells
   says-same es =
@@ -119,6 +122,12 @@ module _ (sheet text buffer : List ℕ) (r : Prepared) (e : Fills sheet text r b
 
     pub filled-sheet : readSheet sheet ≡ Reading.WellFormed
     filled-sheet = passed .sheet-well-formed
+
+    pub filled-short : length text ≤ 1024
+    filled-short = passed .short
+
+    pub filled-few : length (part buffer 0 n) ≤ 320
+    filled-few = subst (λ (cs : List ℕ). length cs ≤ 320) (sym filled-cells) (rows-short sheet text passed)
 
     pub filled-asks : (rows : Rows) → Asks sheet text (part buffer 0 n) rows Asked.Rows
     filled-asks rows = asks-rows (passed .short) (subst Whole (sym filled-cells) (rows-whole sheet text passed))

@@ -15,6 +15,7 @@ use Rattle.judge.specs.Verdicts.{filterSays}
 use Rattle.rows.specs.Shapes.{good}
 use Rattle.rows.specs.Saying.{rowsSay, Whole}
 use Rattle.rows.specs.Stated.{treeOf}
+use Rattle.rows.proofs.Good.{good-few}
 use Rattle.rows.proofs.Meaning.{good-whole, rows-mean}
 use Rattle.refusal.specs.declared.Reason.{Reason}
 use Rattle.refusal.specs.Answers.{yesOrNo, refused, numberOf}
@@ -62,6 +63,9 @@ module _ (b xs cs card : List ℕ) (ok : readSheet b ≡ Reading.WellFormed) (n 
   module _ (h : sound ≡ true) where
     pub judge-whole : Whole cs
     judge-whole = good-whole kinds parents xs cs (sym g ∙ h)
+
+    pub judge-few : length cs ≤ 320
+    judge-few = good-few kinds parents xs cs (sym g ∙ h)
 
     -- the tree that the rows state is judged on the card
     stated-answer : rowsAnswer ps xs cs card ≡ answer (takeCard ps 0 card >>= λ c. found (yesOrNo (filterSays ps 0 (c .entries) (treeOf ps xs (judge-whole .expression)))))

@@ -3,6 +3,8 @@ use crate::verdict::CardTaken;
 use crate::verdict::CardVerdict;
 use crate::verdict::take_card;
 use judge::Chosen;
+use rows::note_jumps;
+use rows::open_rows;
 use rows::rows_say;
 ghost use mathlib.Core.Path.{_≡_};
 ghost use mathlib.Core.List.{List};
@@ -11,14 +13,28 @@ ghost use lib.ListN.{length};
 ghost use Rattle.sheet.specs.Sheet.{Parameter};
 ghost use Rattle.sheet.specs.Find.{kindsOf};
 ghost use Rattle.rows.specs.Saying.{Whole};
+ghost use Rattle.rows.specs.Opening.{Opens};
+ghost use Rattle.rows.specs.Jumping.{Jumps};
 ghost use Rattle.sirophan.specs.Passing.{cardVerdict, verdictStep};
 ghost use Rattle.sirophan.specs.Asking.{cellsQuestion};
 
-// The verdict of rows on a card, or why the card is refused; `kinds` are those of the sheet.
-pub fn judge_by_rows(kinds: &[u8], filter: &[u8], rows: &[u32], card: &[u8]) -> CardVerdict
+// The verdict of rows that were opened on a card, or why the card is refused; `kinds` are those of the sheet.
+pub fn judge_by_rows(
+    kinds: &[u8],
+    filter: &[u8],
+    rows: &[u32],
+    jumps: &[u32],
+    spans: &[u32],
+    digits: &[u64],
+    starts: &[i64],
+    ends: &[i64],
+    card: &[u8],
+) -> CardVerdict
     requires { ⌜ length (now kinds) ≡ 32 ⌝ }
     requires { ⌜ length (now filter) ≤ 1024 ⌝ }
     requires { ⌜ Whole (now rows) ⌝ }
+    requires { ⌜ Jumps (now rows) (now jumps) ⌝ }
+    requires { ⌜ Opens (now kinds) (now filter) (now rows) (now spans) (now digits) (now starts) (now ends) (length (now rows)) ⌝ }
     ensures { λ r. ⌜ ((ps : List Parameter) → now (kinds .entry) ≡ kindsOf ps → (i : ℕ) → verdictStep r i ≡ cardVerdict (cellsQuestion ps (now (filter .entry)) (now (rows .entry))) i (now (card .entry))) ⌝ }
 {
     let taken = take_card(kinds, card);
@@ -28,8 +44,55 @@ pub fn judge_by_rows(kinds: &[u8], filter: &[u8], rows: &[u32], card: &[u8]) -> 
                 all: true,
                 occurrence: 0,
             };
-            CardVerdict::Says(rows_say(kinds, filter, rows, card, every))
+            CardVerdict::Says(rows_say(
+                kinds,
+                filter,
+                rows,
+                jumps,
+                spans,
+                digits,
+                starts,
+                ends,
+                card,
+                every,
+            ))
         }
         CardTaken::Refused(reason) => CardVerdict::Refused(reason),
     }
+}
+
+// The same of rows that are opened for this card alone; good rows are that few.
+pub fn judge_once(kinds: &[u8], filter: &[u8], rows: &[u32], card: &[u8]) -> CardVerdict
+    requires { ⌜ length (now kinds) ≡ 32 ⌝ }
+    requires { ⌜ length (now filter) ≤ 1024 ⌝ }
+    requires { ⌜ Whole (now rows) ⌝ }
+    requires { ⌜ length (now rows) ≤ 320 ⌝ }
+    ensures { λ r. ⌜ ((ps : List Parameter) → now (kinds .entry) ≡ kindsOf ps → (i : ℕ) → verdictStep r i ≡ cardVerdict (cellsQuestion ps (now (filter .entry)) (now (rows .entry))) i (now (card .entry))) ⌝ }
+{
+    let mut jumps = [0u32; 320];
+    let mut spans = [0u32; 320];
+    let mut digits = [0u64; 320];
+    let mut starts = [0i64; 320];
+    let mut ends = [0i64; 320];
+    note_jumps(rows, &mut jumps);
+    open_rows(
+        kinds,
+        filter,
+        rows,
+        &mut spans,
+        &mut digits,
+        &mut starts,
+        &mut ends,
+    );
+    judge_by_rows(
+        kinds,
+        filter,
+        rows,
+        &jumps,
+        &spans,
+        &digits,
+        &starts,
+        &ends,
+        card,
+    )
 }

@@ -1,6 +1,6 @@
 // Judge: a card under a sheet and rows that are good for a filter's text.
 use crate::Matched;
-use crate::by_rows::judge_by_rows;
+use crate::by_rows::judge_once;
 use crate::verdict::answered;
 use block::Reading;
 use refusal::Reason;
@@ -34,7 +34,7 @@ fn judge_rows(sheet: &[u8], filter: &[u8], rows: &[u32], card: &[u8]) -> Matched
     let parents = sheet::parents(sheet);
     let sound = are_good(&kinds, &parents, filter, rows);
     if sound {
-        return answered(judge_by_rows(&kinds, filter, rows, card));
+        return answered(judge_once(&kinds, filter, rows, card));
     }
     refuse(Reason::BadRows)
 }

@@ -11,6 +11,8 @@ use crate::verdict::CardVerdict;
 use block::Reading;
 use refusal::Reason;
 use refusal::Refusal;
+use rows::note_jumps;
+use rows::open_rows;
 use search::Rows;
 use search::query::no_rows;
 ghost use mathlib.Core.Path.{_≡_};
@@ -19,6 +21,8 @@ ghost use Prim.Native.Nat.{_%_, _/_, _≤_};
 ghost use lib.ListN.{length, drop};
 ghost use Rattle.sheet.specs.Sheet.{parametersOf, readSheet};
 ghost use Rattle.sheet.specs.Find.{kindsOf};
+ghost use Rattle.rows.specs.Opening.{Opens};
+ghost use Rattle.rows.specs.Jumping.{Jumps};
 ghost use Rattle.refusal.specs.Steps.{found};
 ghost use Rattle.sirophan.specs.Operations.{filterQuestion};
 ghost use Rattle.sirophan.specs.Asking.{Asks, askedQuestion};
@@ -43,6 +47,11 @@ fn gather(
     kinds: &[u8],
     text: &[u8],
     cells: &[u32],
+    jumps: &[u32],
+    spans: &[u32],
+    digits: &[u64],
+    starts: &[i64],
+    ends: &[i64],
     rows: Rows,
     cards: &[u8],
     buffer: &mut [u32],
@@ -50,6 +59,8 @@ fn gather(
     requires { ⌜ readSheet (now sheet) ≡ Reading.WellFormed ⌝ }
     requires { ⌜ length (now kinds) ≡ 32 ⌝ }
     requires { ⌜ now kinds ≡ kindsOf (parametersOf (now sheet)) ⌝ }
+    requires { ⌜ Jumps (now cells) (now jumps) ⌝ }
+    requires { ⌜ Opens (now kinds) (now text) (now cells) (now spans) (now digits) (now starts) (now ends) (length (now cells)) ⌝ }
     requires { ⌜ Asks (now sheet) (now text) (now cells) rows asked ⌝ }
     requires { ⌜ length (now cards) % 512 ≡ 0 ⌝ }
     requires { ⌜ length (now cards) / 512 ≤ length (now buffer) ⌝ }
@@ -60,7 +71,20 @@ fn gather(
     while at < cards.len() {
         let end = at + 512;
         let card = &cards[at..end];
-        match judge_asked(asked, sheet, kinds, text, cells, rows, card) {
+        match judge_asked(
+            asked,
+            sheet,
+            kinds,
+            text,
+            cells,
+            jumps,
+            spans,
+            digits,
+            starts,
+            ends,
+            rows,
+            card,
+        ) {
             CardVerdict::Says(yes) => {
                 if yes {
                     buffer[count] = card::record_number(card);
@@ -79,6 +103,57 @@ fn gather(
     Selected::Count(count)
 }
 
+// The same, with the kinds of the sheet and the rows opened once for the run.
+fn gather_run(
+    asked: Asked,
+    sheet: &[u8],
+    text: &[u8],
+    cells: &[u32],
+    rows: Rows,
+    cards: &[u8],
+    buffer: &mut [u32],
+) -> Selected
+    requires { ⌜ readSheet (now sheet) ≡ Reading.WellFormed ⌝ }
+    requires { ⌜ length (now text) ≤ 1024 ⌝ }
+    requires { ⌜ length (now cells) ≤ 320 ⌝ }
+    requires { ⌜ Asks (now sheet) (now text) (now cells) rows asked ⌝ }
+    requires { ⌜ length (now cards) % 512 ≡ 0 ⌝ }
+    requires { ⌜ length (now cards) / 512 ≤ length (now buffer) ⌝ }
+    ensures { λ r. ⌜ Gathers (askedQuestion asked (parametersOf (now (sheet .entry))) (now (text .entry)) (now (cells .entry)) rows) (now (cards .entry)) r (now (buffer .exit)) ⌝ }
+{
+    let kinds = sheet::kinds(sheet);
+    let mut jumps = [0u32; 320];
+    let mut spans = [0u32; 320];
+    let mut digits = [0u64; 320];
+    let mut starts = [0i64; 320];
+    let mut ends = [0i64; 320];
+    note_jumps(cells, &mut jumps);
+    open_rows(
+        &kinds,
+        text,
+        cells,
+        &mut spans,
+        &mut digits,
+        &mut starts,
+        &mut ends,
+    );
+    gather(
+        asked,
+        sheet,
+        &kinds,
+        text,
+        cells,
+        &jumps,
+        &spans,
+        &digits,
+        &starts,
+        &ends,
+        rows,
+        cards,
+        buffer,
+    )
+}
+
 // Selects from the cards under a sheet and a question that check has passed.
 pub fn select_cards(
     asked: Asked,
@@ -90,6 +165,8 @@ pub fn select_cards(
     list: &mut [u32],
 ) -> Selected
     requires { ⌜ readSheet (now sheet) ≡ Reading.WellFormed ⌝ }
+    requires { ⌜ length (now text) ≤ 1024 ⌝ }
+    requires { ⌜ length (now cells) ≤ 320 ⌝ }
     requires { ⌜ Asks (now sheet) (now text) (now cells) rows asked ⌝ }
     ensures { λ r. ⌜ Selects (found (askedQuestion asked (parametersOf (now (sheet .entry))) (now (text .entry)) (now (cells .entry)) rows)) (now (cards .entry)) (now (list .entry)) r (now (list .exit)) ⌝ }
 {
@@ -105,10 +182,9 @@ pub fn select_cards(
             place: 0,
         });
     }
-    let kinds = sheet::kinds(sheet);
     // a refusal writes nothing, so the numbers wait here until the last card is judged
     let mut buffer = [0u32; 128];
-    let gathered = gather(asked, sheet, &kinds, text, cells, rows, cards, &mut buffer);
+    let gathered = gather_run(asked, sheet, text, cells, rows, cards, &mut buffer);
     match gathered {
         Selected::Count(matches) => {
             if matches > list.len() {

@@ -71,7 +71,16 @@ module _ (a b : List ℕ) where
   unfolding ends
   ends-prefix r e h = e ∙ simp foldText-length at (suffix-prefix (foldText a) (foldText b) (simp foldText-length h))
 
+  -- ---- `begins_by`
+
+  pub begins-differ : (at x y : ℕ) → at + length b ≤ length a → 0 < length b → x ≡ getD (foldText a) at 0 → y ≡ getD (foldText b) 0 0 → (x ≡ y → ⊥) → false ≡ hasPrefix (drop at (foldText a)) (foldText b)
+  begins-differ at x y fits more ex ey h = compared-differ a b at 0 x y (compared-start a b at) fits more (ex ∙ ap (λ (n : ℕ). getD (foldText a) n 0) (omega arith)) ey h
+
   -- ---- `contains`
+
+  pub contains-empty : length b ≡ 0 → true ≡ contains a b
+  unfolding contains
+  contains-empty h = sym (infix-found (foldText a) (foldText b) (prefix-past (foldText a) (foldText b) 0 (omega (arith, foldText-length b, h))))
 
   pub contains-short : length a < length b → false ≡ contains a b
   unfolding contains

@@ -97,17 +97,34 @@ pub fn ends(a: &[u8], b: &[u8]) -> bool
     begins_at(a, a.len() - b.len(), b)
 }
 
-// Whether a holds b somewhere. Most positions are left at their first byte.
+// `begins_at` with the first byte of b, folded: most positions are left there.
+fn begins_by(a: &[u8], at: usize, b: &[u8], first: u8) -> bool
+    requires { ⌜ at + length (now b) ≤ length (now a) ⌝ }
+    requires { ⌜ 0 < length (now b) ⌝ }
+    requires { ⌜ first ≡ getD (foldText (now b)) 0 0 ⌝ }
+    ensures { λ r. ⌜ r ≡ hasPrefix (drop at (foldText (now (a .entry)))) (foldText (now (b .entry))) ⌝ }
+{
+    if folded_at(a, at) != first {
+        return false;
+    }
+    begins_at(a, at, b)
+}
+
+// Whether a holds b somewhere.
 pub fn contains(a: &[u8], b: &[u8]) -> bool
     ensures { λ r. ⌜ r ≡ contains (now (a .entry)) (now (b .entry)) ⌝ }
 {
+    if b.len() == 0 {
+        return true;
+    }
     if a.len() < b.len() {
         return false;
     }
+    let first = folded_at(b, 0);
     let last = a.len() - b.len();
     let mut at = 0;
     while at <= last {
-        if begins_at(a, at, b) {
+        if begins_by(a, at, b, first) {
             return true;
         }
         at += 1;

@@ -2,18 +2,24 @@
 use borrow.Author.Needs.{needs}
 use Prim.Native.Nat.{_+_, _-_}
 use Rattle.text.proofs.Invariants.{Searched}
-use Rattle.text.proofs.Compare.{contains-short, searched-start, searched-found, searched-next, searched-end}
+use Rattle.text.proofs.Compare.{contains-empty, contains-short, searched-start, searched-found, searched-next, searched-end}
 use Rattle.text.proofs.contains.Statement.{statement}
 use Rattle.text.proofs.contains.Tie as tie
 
 abbrev Inv-loop : tie.InvT-loop
-Inv-loop a b last at₀ at = Searched a b last at
+Inv-loop a b first last at₀ at = Searched a b last at
 
 abbrev μ-loop : tie.MeasureT-loop
-μ-loop a b last at₀ at = last + 1 - at
+μ-loop a b first last at₀ at = last + 1 - at
 
 returns : tie.Need-returns Inv-loop μ-loop
-returns c = search (contains-short, needs)
+returns c = search (contains-empty, needs)
+
+returns-2 : tie.Need-returns-2 Inv-loop μ-loop
+returns-2 c = search (contains-short, needs)
+
+folded-at-requires : tie.Need-folded-at-requires Inv-loop μ-loop
+folded-at-requires c κs = search needs
 
 sub-last : tie.Need-sub-last Inv-loop μ-loop
 sub-last c = search needs
@@ -21,11 +27,11 @@ sub-last c = search needs
 loop-holds : tie.Need-loop-holds Inv-loop μ-loop
 loop-holds c = search (searched-start, needs)
 
-begins-at-requires : tie.Need-begins-at-requires Inv-loop μ-loop
-begins-at-requires c κs = search needs
+begins-by-requires : tie.Need-begins-by-requires Inv-loop μ-loop
+begins-by-requires c κs = search needs
 
-returns-2 : tie.Need-returns-2 Inv-loop μ-loop
-returns-2 c = search (searched-found, needs)
+returns-3 : tie.Need-returns-3 Inv-loop μ-loop
+returns-3 c = search (searched-found, needs)
 
 add-at : tie.Need-add-at Inv-loop μ-loop
 add-at c = search needs
@@ -36,8 +42,8 @@ loop-less c = search needs
 loop-again : tie.Need-loop-again Inv-loop μ-loop
 loop-again c = search (searched-next, needs)
 
-returns-3 : tie.Need-returns-3 Inv-loop μ-loop
-returns-3 c = search (searched-end, needs)
+returns-4 : tie.Need-returns-4 Inv-loop μ-loop
+returns-4 c = search (searched-end, needs)
 
 pub contains-spec : {M : Type 1} → statement M
 contains-spec =
@@ -46,11 +52,13 @@ contains-spec =
     Inv-loop
     μ-loop
     returns
+    returns-2
+    folded-at-requires
     sub-last
     loop-holds
-    begins-at-requires
-    returns-2
+    begins-by-requires
+    returns-3
     add-at
     loop-less
     loop-again
-    returns-3)
+    returns-4)

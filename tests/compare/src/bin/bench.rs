@@ -1,13 +1,16 @@
-//! The benchmark: how many cards per second the proved library selects from, beside the second implementation, and
-//! beside a lower bound that does nothing but sum the first 508 bytes of each card.
+//! The benchmark: how many cards per second the proved library selects from, by rows and by the filter's text, beside the
+//! second implementation made to leave out decided tests, and beside a lower bound that does nothing but sum the first
+//! 508 bytes of each card; and how many a second it takes one by one, by `judge`, by `match` and by select.
 //!
 //! `bench [CARDS [ROUNDS [ROWS]]]` prints a table in Markdown, or those of its rows that begin with ROWS, such as
-//! `full | 32`. The archives are made of a fixed seed. They are measured slice by slice, the three taking turns on each,
+//! `full | 32`. The archives are made of a fixed seed. They are measured slice by slice, all taking turns on each,
 //! and for each slice the least time of the rounds counts, so that what else the machine does disturbs little.
 
+use compare::skipping;
 use second::block::{self, BUNDLE, Entry, MARKED_CARD, MARKED_SHEET, SIZE, SUMMED};
 use second::generate::Random;
 use second::operations;
+use sirophan::Engine;
 use std::hint::black_box;
 use std::process::ExitCode;
 use std::time::Instant;
@@ -216,67 +219,137 @@ struct Asked {
     filters: Vec<(&'static str, String)>,
 }
 
-/// A selection from a run, which must not refuse.
-type Select = fn(&[u8], &[u8], &[u8], &mut [u32]) -> usize;
-
-/// Selections by filters, and by search strings: the library's, and the second implementation's.
-const BY_FILTER: [Select; 2] = [
-    |sheet, filter, run, list| sirophan::select(sheet, filter, run, list).expect("a good filter"),
-    |sheet, filter, run, list| operations::select(sheet, filter, run, list).expect("a good filter"),
-];
-const BY_SEARCH: [Select; 2] = [
-    |sheet, text, run, list| sirophan::select_search(sheet, text, run, list).expect("a good string"),
-    |sheet, text, run, list| operations::select_search(sheet, text, run, list).expect("a good string"),
-];
-
-/// The search strings, by the number of their alternatives.
-fn strings() -> Vec<(&'static str, String)> {
-    vec![("4, search string", "title=ward+book+4,ward+book+3&birthdate=le1974-06&pages=ge100".into())]
+/// Takes turns at the works on each slice, for so many rounds, and tells what each answered and the seconds it took.
+fn taking_turns<const WORKS: usize>(
+    archive: &[u8],
+    rounds: usize,
+    mut measured: [Measured; WORKS],
+) -> [(usize, f64); WORKS] {
+    let mut answers = [0; WORKS];
+    for round in 0..rounds {
+        answers = [0; WORKS];
+        for (index, slice) in archive.chunks(SLICE).enumerate() {
+            for turn in 0..WORKS {
+                let which = (turn + round) % WORKS;
+                answers[which] += measured[which].measure(index, slice);
+            }
+        }
+    }
+    let mut told = measured.iter().map(Measured::seconds).zip(answers);
+    std::array::from_fn(|_| told.next().map(|(seconds, answer)| (answer, seconds)).expect("one for each"))
 }
 
-/// Prints the rows of one archive, asked by filters, that begin with the text.
-fn measure(asked: &Asked, rounds: usize, rows: &str) {
-    measure_by(BY_FILTER, asked, rounds, rows);
+/// Millions of cards per second.
+fn speed(archive: &[u8], seconds: f64) -> f64 {
+    (archive.len() / SIZE) as f64 / seconds / 1e6
 }
 
-/// The same by either selection.
-fn measure_by([ours, theirs]: [Select; 2], asked: &Asked, rounds: usize, rows: &str) {
-    let Asked { kind, sheet, archive, filters } = asked;
+/// Prints the rows of one archive that begin with the text.
+fn measure(Asked { kind, sheet, archive, filters }: &Asked, rounds: usize, rows: &str) {
     for (name, filter) in filters {
         let row = format!("{kind} | {name}");
         if !row.starts_with(rows) {
             continue;
         }
         let filter = filter.as_bytes();
-        let mut measured = [
-            Measured::new(archive, move |cards| matching(cards, |run, list| ours(sheet, filter, run, list))),
-            Measured::new(archive, move |cards| matching(cards, |run, list| theirs(sheet, filter, run, list))),
+        let selecting = |engine| {
+            move |cards: &[u8]| {
+                matching(cards, |run, list| {
+                    sirophan::select_by(engine, sheet, filter, run, list).expect("a good filter")
+                })
+            }
+        };
+        let works = [
+            Measured::new(archive, selecting(Engine::Rows)),
+            Measured::new(archive, selecting(Engine::Text)),
+            Measured::new(archive, move |cards| {
+                matching(cards, |run, list| skipping::select(sheet, filter, run, list).expect("a good filter"))
+            }),
             Measured::new(archive, summed),
         ];
-        let mut answers = [0; 3];
-        for round in 0..rounds {
-            answers = [0; 3];
-            for (index, slice) in archive.chunks(SLICE).enumerate() {
-                for turn in 0..3 {
-                    let which = (turn + round) % 3;
-                    answers[which] += measured[which].measure(index, slice);
-                }
-            }
-        }
-        let [found, also_found, sums] = answers;
-        assert_eq!(found, also_found, "the two select the same number of cards");
+        let [(found, proved), (by_text, text), (plain_found, plain), (sums, sum)] =
+            taking_turns(archive, rounds, works);
+        assert_eq!([found, found], [by_text, plain_found], "all select the same number of cards");
         assert_eq!(sums, archive.chunks(SIZE).map(|card| block::check_sum(&card[..SUMMED]) as usize).sum());
-        let [proved, plain, sum] = measured.map(|measured| measured.seconds());
-        let speed = |seconds: f64| (archive.len() / SIZE) as f64 / seconds / 1e6;
         println!(
-            "| {row} | {found} | {:.2} | {:.2} | {:.2} | {:.2} | {:.2} |",
-            speed(proved),
-            speed(plain),
-            speed(sum),
+            "| {row} | {found} | {:.2} | {:.2} | {:.2} | {:.2} | {:.2} | {:.2} |",
+            speed(archive, proved),
+            speed(archive, text),
+            speed(archive, plain),
+            speed(archive, sum),
             plain / proved,
             sum / proved,
         );
     }
+}
+
+/// Prints the rows of one archive, one card at a time, that begin with the text: judge on rows that were prepared before,
+/// match, and select from a run of one card.
+fn measure_single(Asked { kind, sheet, archive, filters }: &Asked, rounds: usize, rows: &str) {
+    for (name, filter) in filters {
+        let row = format!("{kind} | {name}");
+        if !row.starts_with(rows) {
+            continue;
+        }
+        let filter = filter.as_bytes();
+        let prepared = sirophan::prepare(sheet, filter).expect("a good filter");
+        let works = [
+            Measured::new(archive, |cards| singly(cards, |card| prepared.matches(card).expect("a good card"))),
+            Measured::new(archive, move |cards| {
+                singly(cards, |card| sirophan::matches(sheet, filter, card).expect("a good card"))
+            }),
+            Measured::new(archive, move |cards| {
+                singly(cards, |card| sirophan::select(sheet, filter, card, &mut [0]).expect("a good card") == 1)
+            }),
+        ];
+        let [(found, judged), (matched, matching), (selected, selecting)] = taking_turns(archive, rounds, works);
+        assert_eq!([found, found], [matched, selected], "all say yes of the same number of cards");
+        println!(
+            "| {row} | {:.2} | {:.2} | {:.2} | {:.2} | {:.2} |",
+            speed(archive, judged),
+            speed(archive, matching),
+            speed(archive, selecting),
+            matching / judged,
+            selecting / judged,
+        );
+    }
+}
+
+/// The search strings, by the number of their alternatives.
+fn strings() -> Vec<(&'static str, String)> {
+    vec![("4, search string", "title=ward+book+4,ward+book+3&birthdate=le1974-06&pages=ge100".into())]
+}
+
+/// Prints the rows of one archive, asked by search strings, that begin with the text.
+fn measure_search(Asked { kind, sheet, archive, filters }: &Asked, rounds: usize, rows: &str) {
+    for (name, text) in filters {
+        let row = format!("{kind} | {name}");
+        if !row.starts_with(rows) {
+            continue;
+        }
+        let text = text.as_bytes();
+        let works = [
+            Measured::new(archive, move |cards| {
+                matching(cards, |run, list| sirophan::select_search(sheet, text, run, list).expect("a good string"))
+            }),
+            Measured::new(archive, move |cards| {
+                matching(cards, |run, list| operations::select_search(sheet, text, run, list).expect("a good string"))
+            }),
+        ];
+        let [(found, proved), (plain_found, plain)] = taking_turns(archive, rounds, works);
+        assert_eq!(found, plain_found, "both select the same number of cards");
+        println!(
+            "| {row} | {found} | {:.2} | {:.2} | {:.2} |",
+            speed(archive, proved),
+            speed(archive, plain),
+            plain / proved,
+        );
+    }
+}
+
+/// How many cards say yes, asked one by one.
+fn singly(cards: &[u8], says: impl Fn(&[u8]) -> bool) -> usize {
+    cards.chunks(SIZE).filter(|card| says(black_box(card))).count()
 }
 
 fn main() -> ExitCode {
@@ -288,8 +361,8 @@ fn main() -> ExitCode {
     };
     let rows = arguments.get(2).map_or("", |text| text);
     println!("{cards} cards in runs of {RUN}; millions of cards per second, the best of {rounds} rounds.\n");
-    println!("| cards | tests | match | Sirophan | plain Rust | sum only | to plain Rust | to sum only |");
-    println!("|---|---|---:|---:|---:|---:|---:|---:|");
+    println!("| cards | tests | match | Sirophan | by text | plain Rust | sum only | to plain Rust | to sum only |");
+    println!("|---|---|---:|---:|---:|---:|---:|---:|---:|");
     for (kind, most_entries) in [("sparse", 1), ("usual", 6), ("full", 64)] {
         let asked = Asked { kind, sheet: sheet(), archive: archive(cards, most_entries), filters: filters() };
         measure(&asked, rounds, rows);
@@ -299,7 +372,19 @@ fn main() -> ExitCode {
     measure(&asked, rounds, rows);
     let asked = Asked { kind: "stays", sheet: stay_sheet(), archive: stay_archive(cards), filters: stay_filters() };
     measure(&asked, rounds, rows);
+    println!("\nBy a search string.\n");
+    println!("| cards | alternatives | match | Sirophan | plain Rust | to plain Rust |");
+    println!("|---|---|---:|---:|---:|---:|");
     let asked = Asked { kind: "usual", sheet: sheet(), archive: archive(cards, 6), filters: strings() };
-    measure_by(BY_SEARCH, &asked, rounds, rows);
+    measure_search(&asked, rounds, rows);
+    println!("\nOne card at a time.\n");
+    println!("| cards | tests | judge | match | select | judge to match | judge to select |");
+    println!("|---|---|---:|---:|---:|---:|---:|");
+    let few = cards.div_ceil(10);
+    for (kind, most_entries) in [("sparse", 1), ("usual", 6), ("full", 64)] {
+        let filters = filters().into_iter().filter(|(name, _)| ["1, number", "32, mixed"].contains(name)).collect();
+        let asked = Asked { kind, sheet: sheet(), archive: archive(few, most_entries), filters };
+        measure_single(&asked, rounds, rows);
+    }
     ExitCode::SUCCESS
 }

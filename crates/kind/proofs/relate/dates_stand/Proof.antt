@@ -1,4 +1,4 @@
--- `kind::relate::dates_stand` meets its contract: both texts are read. Assumes nothing.
+-- `kind::relate::dates_stand` meets its contract: the text is read. Assumes nothing.
 use borrow.Author.Needs.{needs}
 use Rattle.kind.proofs.Values.{dates-unreadable, date-unreadable, dates-stand}
 use Rattle.kind.proofs.relate.dates_stand.Statement.{statement}
@@ -16,11 +16,8 @@ enum-told c = search needs
 returns : tie.Need-returns
 returns c = search (dates-unreadable, needs)
 
-read-requires : tie.Need-read-requires
-read-requires c κs = search needs
-
-enum-known-f : tie.Need-enum-known-f
-enum-known-f c = search needs
+enum-known-value : tie.Need-enum-known-value
+enum-known-value c = search needs
 
 enum-told-2 : tie.Need-enum-told-2
 enum-told-2 c = search needs
@@ -42,8 +39,7 @@ dates-stand-spec =
     enum-known-i
     enum-told
     returns
-    read-requires
-    enum-known-f
+    enum-known-value
     enum-told-2
     returns-2
     date-stands-requires

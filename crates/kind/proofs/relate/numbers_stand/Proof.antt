@@ -1,4 +1,4 @@
--- `kind::relate::numbers_stand` meets its contract: both texts are read, and what is read keeps to the bounds. Assumes nothing.
+-- `kind::relate::numbers_stand` meets its contract: the text is read, and what is read keeps to the bounds. Assumes nothing.
 use borrow.Author.Needs.{needs}
 use Rattle.number.proofs.Spelling.{number-bounded}
 use Rattle.kind.proofs.Values.{numbers-unreadable, value-unreadable, numbers-stand}
@@ -17,11 +17,8 @@ enum-told c = search needs
 returns : tie.Need-returns
 returns c = search (numbers-unreadable, needs)
 
-read-requires-2 : tie.Need-read-requires-2
-read-requires-2 c κs = search needs
-
-enum-known-f : tie.Need-enum-known-f
-enum-known-f c = search needs
+enum-known-value : tie.Need-enum-known-value
+enum-known-value c = search needs
 
 enum-told-2 : tie.Need-enum-told-2
 enum-told-2 c = search needs
@@ -30,7 +27,7 @@ returns-2 : tie.Need-returns-2
 returns-2 c = search (value-unreadable, needs)
 
 number-stands-requires : tie.Need-number-stands-requires
-number-stands-requires c κs = (search (number-bounded, needs), search (number-bounded, needs))
+number-stands-requires c κs = (search (number-bounded, needs), search (c .before .before .before .before .before .before .before .before .pre .bounded, needs))
 
 returns-3 : tie.Need-returns-3
 returns-3 c = search (numbers-stand, needs)
@@ -43,8 +40,7 @@ numbers-stand-spec =
     enum-known-i
     enum-told
     returns
-    read-requires-2
-    enum-known-f
+    enum-known-value
     enum-told-2
     returns-2
     number-stands-requires

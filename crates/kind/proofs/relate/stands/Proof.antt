@@ -1,6 +1,7 @@
 -- `kind::relate::stands` meets its contract: each arm is a case of the definition. Assumes nothing.
 use borrow.Author.Needs.{needs}
 use Rattle.kind.specs.Stands.{stands}
+use Rattle.kind.proofs.Values.{number-kept}
 use Rattle.kind.proofs.relate.stands.Statement.{statement}
 use Rattle.kind.proofs.relate.stands.Tie as tie
 
@@ -13,11 +14,17 @@ string-stands-requires c κs = search needs
 enum-known-relation-2 : tie.Need-enum-known-relation-2
 enum-known-relation-2 c = search needs
 
+read-requires : tie.Need-read-requires
+read-requires c κs = search needs
+
 numbers-stand-requires : tie.Need-numbers-stand-requires
-numbers-stand-requires c κs = search needs
+numbers-stand-requires c κs = search (number-kept, needs)
 
 enum-known-relation-3 : tie.Need-enum-known-relation-3
 enum-known-relation-3 c = search needs
+
+read-requires-2 : tie.Need-read-requires-2
+read-requires-2 c κs = search needs
 
 dates-stand-requires : tie.Need-dates-stand-requires
 dates-stand-requires c κs = search needs
@@ -61,8 +68,10 @@ stands-spec =
     enum-known-relation
     string-stands-requires
     enum-known-relation-2
+    read-requires
     numbers-stand-requires
     enum-known-relation-3
+    read-requires-2
     dates-stand-requires
     enum-told
     matches-requires

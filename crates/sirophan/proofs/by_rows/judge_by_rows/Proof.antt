@@ -11,7 +11,7 @@ enum-told : tie.Need-enum-told
 enum-told c = search needs
 
 rows-say-requires : tie.Need-rows-say-requires
-rows-say-requires c κs = search (conforming-known, needs)
+rows-say-requires c κs = (search needs, (search needs, (search needs, (search needs, (search needs, search (conforming-known, needs))))))
 
 enum-known-taken : tie.Need-enum-known-taken
 enum-known-taken c = search needs

@@ -1,6 +1,6 @@
 -- `sirophan::judgement::judge_rows` meets its contract: the text, the rows, the card. Assumes nothing.
 use borrow.Author.Needs.{needs}
-use Rattle.sirophan.proofs.RowsJudged.{judge-empty, judge-long, judge-bad, judge-whole, judge-verdict}
+use Rattle.sirophan.proofs.RowsJudged.{judge-empty, judge-long, judge-bad, judge-whole, judge-few, judge-verdict}
 use Rattle.sirophan.proofs.judgement.judge_rows.Statement.{statement}
 use Rattle.sirophan.proofs.judgement.judge_rows.Tie as tie
 
@@ -31,11 +31,11 @@ slice-aggregate-are-good-2 c = search needs
 are-good-requires : tie.Need-are-good-requires
 are-good-requires c κs = search needs
 
-slice-aggregate-judge-by-rows : tie.Need-slice-aggregate-judge-by-rows
-slice-aggregate-judge-by-rows c = search needs
+slice-aggregate-judge-once : tie.Need-slice-aggregate-judge-once
+slice-aggregate-judge-once c = search needs
 
-judge-by-rows-requires : tie.Need-judge-by-rows-requires
-judge-by-rows-requires c κs = (search needs, (search needs, search (judge-whole, needs)))
+judge-once-requires : tie.Need-judge-once-requires
+judge-once-requires c κs = (search needs, (search needs, (search (judge-whole, needs), search (judge-few, needs))))
 
 answered-requires : tie.Need-answered-requires
 answered-requires c κs = search needs
@@ -62,8 +62,8 @@ judge-rows-spec =
     slice-aggregate-are-good
     slice-aggregate-are-good-2
     are-good-requires
-    slice-aggregate-judge-by-rows
-    judge-by-rows-requires
+    slice-aggregate-judge-once
+    judge-once-requires
     answered-requires
     returns-3
     refuse-requires-3

@@ -4,15 +4,15 @@ use Prim.Native.Nat.{_-_}
 use lib.ListN.{length}
 use Rattle.sheet.specs.Sheet.{parametersOf}
 use Rattle.sirophan.specs.Asking.{askedQuestion}
-use Rattle.sirophan.proofs.Gathering.{Gathering, gathering-start, gathering-part, gathering-room, gathering-well-formed, gathering-match, gathering-other, gathering-refused, gathering-end}
+use Rattle.sirophan.proofs.Gathering.{Gathering, gathering-start, gathering-part, gathering-room, gathering-scaled, gathering-more, gathering-well-formed, gathering-match, gathering-other, gathering-refused, gathering-end}
 use Rattle.sirophan.proofs.run.gather.Statement.{statement}
 use Rattle.sirophan.proofs.run.gather.Tie as tie
 
 abbrev Inv-loop : tie.InvT-loop
-Inv-loop asked sheet kinds text cells rows cards buffer₀ at₀ count₀ buffer at count = Gathering (askedQuestion asked (parametersOf sheet) text cells rows) cards buffer₀ buffer at count
+Inv-loop asked sheet kinds text cells jumps spans digits starts ends rows cards buffer₀ at₀ count₀ buffer at count = Gathering (askedQuestion asked (parametersOf sheet) text cells rows) cards buffer₀ buffer at count
 
 abbrev μ-loop : tie.MeasureT-loop
-μ-loop asked sheet kinds text cells rows cards buffer₀ at₀ count₀ buffer at count = length cards - at
+μ-loop asked sheet kinds text cells jumps spans digits starts ends rows cards buffer₀ at₀ count₀ buffer at count = length cards - at
 
 loop-holds : tie.Need-loop-holds Inv-loop μ-loop
 loop-holds c = search (gathering-start, needs)
@@ -30,7 +30,7 @@ part-card-end : tie.Need-part-card-end Inv-loop μ-loop
 part-card-end c = search (gathering-part, needs)
 
 judge-asked-requires : tie.Need-judge-asked-requires Inv-loop μ-loop
-judge-asked-requires c κs = (search needs, (search needs, (search needs, search needs)))
+judge-asked-requires c κs = (search needs, (search needs, (search needs, (search needs, (search needs, search needs)))))
 
 enum-known-yes : tie.Need-enum-known-yes Inv-loop μ-loop
 enum-known-yes c = search needs
@@ -39,13 +39,13 @@ record-number-requires : tie.Need-record-number-requires Inv-loop μ-loop
 record-number-requires c κs = search (gathering-well-formed, needs)
 
 mul-buffer : tie.Need-mul-buffer Inv-loop μ-loop
-mul-buffer c = search needs
+mul-buffer c = search (gathering-scaled, c .before .before .before .before .before .before .before .before .before .before .before .before .before .before .before .before .before .before .good .1 .1 .1 .1 .1 .1 .1 .1 .1 .1 .1 .1 .0 .1, needs)
 
 slice-write-buffer : tie.Need-slice-write-buffer Inv-loop μ-loop
 slice-write-buffer c = search (gathering-room, needs)
 
 add-count : tie.Need-add-count Inv-loop μ-loop
-add-count c = search needs
+add-count c = search (gathering-more, c .before .before .before .before .before .before .before .before .before .before .before .before .before .before .before .before .before .before .good .1 .1 .1 .1 .1 .1 .1 .1 .1 .1 .1 .1 .0 .1, needs)
 
 loop-less : tie.Need-loop-less Inv-loop μ-loop
 loop-less c = search needs

@@ -1,6 +1,6 @@
 -- `sirophan::run::select_by_rows` meets its contract: the rows first, then the cards. Assumes nothing.
 use borrow.Author.Needs.{needs}
-use Rattle.sirophan.proofs.RowsAsked.{filled-room, filled-sheet, filled-asks, filled-selects, filled-refused}
+use Rattle.sirophan.proofs.RowsAsked.{filled-room, filled-sheet, filled-short, filled-few, filled-asks, filled-selects, filled-refused}
 use Rattle.sirophan.proofs.run.select_by_rows.Statement.{statement}
 use Rattle.sirophan.proofs.run.select_by_rows.Tie as tie
 
@@ -26,7 +26,7 @@ no-rows-requires : tie.Need-no-rows-requires
 no-rows-requires c κs = search needs
 
 select-cards-requires : tie.Need-select-cards-requires
-select-cards-requires c κs = (search (filled-sheet, needs), search (filled-asks, needs))
+select-cards-requires c κs = (search (filled-sheet, needs), (search (filled-short, needs), (search (filled-few, needs), search (filled-asks, needs))))
 
 enum-known-filled-2 : tie.Need-enum-known-filled-2
 enum-known-filled-2 c = search needs

@@ -1,6 +1,6 @@
 -- `sirophan::run::select_by_text` meets its contract: check first, then the cards. Assumes nothing.
 use borrow.Author.Needs.{needs}
-use Rattle.sirophan.proofs.Passing.{passing, passing-sheet}
+use Rattle.sirophan.proofs.Passing.{passing, passing-sheet, passing-short}
 use Rattle.sirophan.proofs.Selecting.{select-refused, text-asks, text-selects}
 use Rattle.sirophan.proofs.run.select_by_text.Statement.{statement}
 use Rattle.sirophan.proofs.run.select_by_text.Tie as tie
@@ -18,7 +18,7 @@ no-rows-requires : tie.Need-no-rows-requires
 no-rows-requires c κs = search needs
 
 select-cards-requires : tie.Need-select-cards-requires
-select-cards-requires c κs = (search (passing-sheet, needs), search (text-asks, passing, needs))
+select-cards-requires c κs = (search (passing-sheet, needs), (search (passing-short, needs), (search needs, search (text-asks, passing, needs))))
 
 enum-known-checked : tie.Need-enum-known-checked
 enum-known-checked c = search needs

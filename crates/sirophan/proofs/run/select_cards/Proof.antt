@@ -10,17 +10,11 @@ returns c = search (found-parted, needs)
 returns-2 : tie.Need-returns-2
 returns-2 c = search (found-over, needs)
 
-kinds-requires : tie.Need-kinds-requires
-kinds-requires c κs = search needs
+slice-aggregate-gather-run : tie.Need-slice-aggregate-gather-run
+slice-aggregate-gather-run c = search needs
 
-slice-aggregate-gather : tie.Need-slice-aggregate-gather
-slice-aggregate-gather c = search needs
-
-slice-aggregate-gather-2 : tie.Need-slice-aggregate-gather-2
-slice-aggregate-gather-2 c = search needs
-
-gather-requires : tie.Need-gather-requires
-gather-requires c κs = (search needs, (search needs, (search needs, (search needs, (search needs, search needs)))))
+gather-run-requires : tie.Need-gather-run-requires
+gather-run-requires c κs = (search needs, (search needs, (search needs, (search needs, (search needs, search needs)))))
 
 enum-known-gathered : tie.Need-enum-known-gathered
 enum-known-gathered c = search needs
@@ -58,10 +52,8 @@ select-cards-spec =
     (tie.spec
     returns
     returns-2
-    kinds-requires
-    slice-aggregate-gather
-    slice-aggregate-gather-2
-    gather-requires
+    slice-aggregate-gather-run
+    gather-run-requires
     enum-known-gathered
     returns-3
     sub-write

@@ -20,7 +20,7 @@ slice-aggregate-select-cards-2 : tie.Need-slice-aggregate-select-cards-2
 slice-aggregate-select-cards-2 c = search needs
 
 select-cards-requires : tie.Need-select-cards-requires
-select-cards-requires c κs = (search (passed-sheet, needs), search (search-asks, needs))
+select-cards-requires c κs = (search (passed-sheet, needs), (search needs, (search needs, search (search-asks, needs))))
 
 enum-known-checked : tie.Need-enum-known-checked
 enum-known-checked c = search needs

@@ -1,0 +1,55 @@
+-- A value that is read once for many texts counts as it did.
+-- Assumes nothing.
+use Prim.Native.Nat.{ℕ}
+use mathlib.Core.Path.{_≡_, refl, ap, _∙_}
+use mathlib.Core.Bool.{Bool, true, false, not}
+use mathlib.Core.List.{List}
+use Rattle.kind.specs.Stands.{Kept, unread, standsRead}
+use Rattle.kind.specs.declared.Readings.{Readings}
+use Rattle.kind.specs.declared.Relation.{Relation}
+use Rattle.kind.specs.declared.Meaning.{Meaning}
+use Rattle.kind.proofs.Values.{stands-is, unread-kept, readings-kept}
+use Rattle.judge.specs.Verdicts.{textCounts}
+use Rattle.judge.specs.Once.{readingsFor, countsRead}
+
+pub counts-once : (m : Meaning) (v x : List ℕ) → countsRead m v (readingsFor m v) x ≡ textCounts m v x
+unfolding readingsFor countsRead textCounts
+counts-once Meaning.Present v x = refl
+counts-once (Meaning.Relates r) v x = stands-is r x v
+counts-once (Meaning.Differs r) v x = ap not (stands-is r x v)
+counts-once Meaning.Nothing v x = refl
+
+pub for-kept : (m : Meaning) (v : List ℕ) → Kept (readingsFor m v .number)
+unfolding readingsFor
+for-kept Meaning.Present v = unread-kept
+for-kept (Meaning.Relates r) v = readings-kept r v
+for-kept (Meaning.Differs r) v = readings-kept r v
+for-kept Meaning.Nothing v = unread-kept
+
+-- ---- the arms of `counts_read`
+
+module _ (m : Meaning) (v : List ℕ) (w : Readings) (x : List ℕ) where
+  pub read-present : m ≡ Meaning.Present → true ≡ countsRead m v w x
+  unfolding countsRead
+  read-present h = rw h
+
+  pub read-relates : (r : Relation) (t : Bool) → m ≡ Meaning.Relates r → t ≡ standsRead r x v w → t ≡ countsRead m v w x
+  unfolding countsRead
+  read-relates r t h e = rw h e
+
+  pub read-differs : (r : Relation) (t : Bool) → m ≡ Meaning.Differs r → t ≡ standsRead r x v w → not t ≡ countsRead m v w x
+  unfolding countsRead
+  read-differs r t h e = rw h (ap not e)
+
+  pub read-nothing : m ≡ Meaning.Nothing → false ≡ countsRead m v w x
+  unfolding countsRead
+  read-nothing h = rw h
+
+-- ---- `text_counts`: the value is read, then it counts as before
+
+module _ (m : Meaning) (v : List ℕ) (w : Readings) (e : w ≡ readingsFor m v) where
+  pub once-kept : Kept (w .number)
+  once-kept = rw e (for-kept m v)
+
+  pub once-counts : (x : List ℕ) (t : Bool) → t ≡ countsRead m v w x → t ≡ textCounts m v x
+  once-counts x t h = h ∙ ap (λ (y : Readings). countsRead m v y x) e ∙ counts-once m v x

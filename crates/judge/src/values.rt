@@ -1,0 +1,31 @@
+// A filter's value that is read once for many texts.
+use kind::Meaning;
+use kind::Readings;
+ghost use mathlib.Core.Path.{_≡_};
+ghost use Rattle.kind.specs.Stands.{Kept};
+ghost use Rattle.judge.specs.Once.{readingsFor, countsRead};
+
+// What a value reads to for a meaning.
+pub fn readings_for(meaning: Meaning, value: &[u8]) -> Readings
+    ensures { λ r. ⌜ r ≡ readingsFor meaning (now (value .entry)) ⌝ }
+{
+    match meaning {
+        Meaning::Present => kind::unread(),
+        Meaning::Relates(relation) => kind::readings_of(relation, value),
+        Meaning::Differs(relation) => kind::readings_of(relation, value),
+        Meaning::Nothing => kind::unread(),
+    }
+}
+
+// Whether a text counts for a meaning and a value that was read.
+pub fn counts_read(meaning: Meaning, value: &[u8], readings: Readings, text: &[u8]) -> bool
+    requires { ⌜ Kept (readings .number) ⌝ }
+    ensures { λ r. ⌜ r ≡ countsRead meaning (now (value .entry)) readings (now (text .entry)) ⌝ }
+{
+    match meaning {
+        Meaning::Present => true,
+        Meaning::Relates(relation) => kind::stands_read(relation, text, value, readings),
+        Meaning::Differs(relation) => !kind::stands_read(relation, text, value, readings),
+        Meaning::Nothing => false,
+    }
+}

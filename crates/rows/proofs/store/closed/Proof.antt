@@ -1,0 +1,14 @@
+-- `rows::store::closed` meets its contract. Assumes nothing.
+use borrow.Author.Needs.{needs}
+use Rattle.rows.proofs.Opening.{closed-is}
+use Rattle.rows.proofs.store.closed.Statement.{statement}
+use Rattle.rows.proofs.store.closed.Tie as tie
+
+unread-requires : tie.Need-unread-requires
+unread-requires c κs = search needs
+
+returns : tie.Need-returns
+returns c = search (closed-is, needs)
+
+pub closed-spec : {M : Type 1} → statement M
+closed-spec = tie.close (tie.spec unread-requires returns)
