@@ -3,6 +3,7 @@
 mod cell;
 mod fit;
 mod jump;
+mod once;
 mod says;
 mod stack;
 mod store;
@@ -13,6 +14,7 @@ pub use cell::row_of;
 use filter::Summary;
 pub use jump::note_jumps;
 use kind::Readings;
+pub use once::say_once;
 pub use says::rows_say;
 pub use store::open_rows;
 pub use whole::are_good;

@@ -3,9 +3,8 @@ use crate::verdict::CardTaken;
 use crate::verdict::CardVerdict;
 use crate::verdict::take_card;
 use judge::Chosen;
-use rows::note_jumps;
-use rows::open_rows;
 use rows::rows_say;
+use rows::say_once;
 ghost use mathlib.Core.Path.{_≡_};
 ghost use mathlib.Core.List.{List};
 ghost use Prim.Native.Nat.{ℕ, _≤_};
@@ -69,30 +68,15 @@ pub fn judge_once(kinds: &[u8], filter: &[u8], rows: &[u32], card: &[u8]) -> Car
     requires { ⌜ length (now rows) ≤ 320 ⌝ }
     ensures { λ r. ⌜ ((ps : List Parameter) → now (kinds .entry) ≡ kindsOf ps → (i : ℕ) → verdictStep r i ≡ cardVerdict (cellsQuestion ps (now (filter .entry)) (now (rows .entry))) i (now (card .entry))) ⌝ }
 {
-    let mut jumps = [0u32; 320];
-    let mut spans = [0u32; 320];
-    let mut digits = [0u64; 320];
-    let mut starts = [0i64; 320];
-    let mut ends = [0i64; 320];
-    note_jumps(rows, &mut jumps);
-    open_rows(
-        kinds,
-        filter,
-        rows,
-        &mut spans,
-        &mut digits,
-        &mut starts,
-        &mut ends,
-    );
-    judge_by_rows(
-        kinds,
-        filter,
-        rows,
-        &jumps,
-        &spans,
-        &digits,
-        &starts,
-        &ends,
-        card,
-    )
+    let taken = take_card(kinds, card);
+    match taken {
+        CardTaken::Conforming => {
+            let every = Chosen {
+                all: true,
+                occurrence: 0,
+            };
+            CardVerdict::Says(say_once(kinds, filter, rows, card, every))
+        }
+        CardTaken::Refused(reason) => CardVerdict::Refused(reason),
+    }
 }

@@ -1,66 +1,28 @@
 -- `sirophan::by_rows::judge_once` meets its contract. Assumes nothing.
 use borrow.Author.Needs.{needs}
-use Rattle.rows.proofs.Noting.{jumps-none}
+use Rattle.sirophan.proofs.Judging.{conforming-known, rows-says, rows-refused}
 use Rattle.sirophan.proofs.by_rows.judge_once.Statement.{statement}
 use Rattle.sirophan.proofs.by_rows.judge_once.Tie as tie
 
-slice-aggregate-note-jumps : tie.Need-slice-aggregate-note-jumps
-slice-aggregate-note-jumps c = search needs
+take-card-requires : tie.Need-take-card-requires
+take-card-requires c κs = search needs
 
-note-jumps-requires : tie.Need-note-jumps-requires
-note-jumps-requires c κs = (search needs, search (jumps-none, needs))
+enum-told : tie.Need-enum-told
+enum-told c = search needs
 
-slice-aggregate-open-rows : tie.Need-slice-aggregate-open-rows
-slice-aggregate-open-rows c = search needs
+say-once-requires : tie.Need-say-once-requires
+say-once-requires c κs = (search needs, (search needs, (search needs, (search needs, search (conforming-known, needs)))))
 
-slice-aggregate-open-rows-2 : tie.Need-slice-aggregate-open-rows-2
-slice-aggregate-open-rows-2 c = search needs
-
-slice-aggregate-open-rows-3 : tie.Need-slice-aggregate-open-rows-3
-slice-aggregate-open-rows-3 c = search needs
-
-slice-aggregate-open-rows-4 : tie.Need-slice-aggregate-open-rows-4
-slice-aggregate-open-rows-4 c = search needs
-
-open-rows-requires : tie.Need-open-rows-requires
-open-rows-requires c κs = search needs
-
-slice-aggregate-judge-by-rows : tie.Need-slice-aggregate-judge-by-rows
-slice-aggregate-judge-by-rows c = search needs
-
-slice-aggregate-judge-by-rows-2 : tie.Need-slice-aggregate-judge-by-rows-2
-slice-aggregate-judge-by-rows-2 c = search needs
-
-slice-aggregate-judge-by-rows-3 : tie.Need-slice-aggregate-judge-by-rows-3
-slice-aggregate-judge-by-rows-3 c = search needs
-
-slice-aggregate-judge-by-rows-4 : tie.Need-slice-aggregate-judge-by-rows-4
-slice-aggregate-judge-by-rows-4 c = search needs
-
-slice-aggregate-judge-by-rows-5 : tie.Need-slice-aggregate-judge-by-rows-5
-slice-aggregate-judge-by-rows-5 c = search needs
-
-judge-by-rows-requires : tie.Need-judge-by-rows-requires
-judge-by-rows-requires c κs = (search needs, (search needs, (search needs, (search needs, search needs))))
+enum-known-taken : tie.Need-enum-known-taken
+enum-known-taken c = search needs
 
 returns : tie.Need-returns
-returns c = search needs
+returns c = search (rows-says, needs)
+
+returns-2 : tie.Need-returns-2
+returns-2 c = search (rows-refused, needs)
 
 pub judge-once-spec : {M : Type 1} → statement M
 judge-once-spec =
     tie.close
-    (tie.spec
-    slice-aggregate-note-jumps
-    note-jumps-requires
-    slice-aggregate-open-rows
-    slice-aggregate-open-rows-2
-    slice-aggregate-open-rows-3
-    slice-aggregate-open-rows-4
-    open-rows-requires
-    slice-aggregate-judge-by-rows
-    slice-aggregate-judge-by-rows-2
-    slice-aggregate-judge-by-rows-3
-    slice-aggregate-judge-by-rows-4
-    slice-aggregate-judge-by-rows-5
-    judge-by-rows-requires
-    returns)
+    (tie.spec take-card-requires enum-told say-once-requires enum-known-taken returns returns-2)
