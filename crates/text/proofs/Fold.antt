@@ -10,7 +10,6 @@ use mathlib.Core.List.{List, [], _∷_}
 use lib.Dec.{eqb, leb}
 use lib.ListN.{length, getD}
 use borrow.Author.Tests.{le-leb, lt-leb, leb-true, eqb-false, not-true}
-use Rattle.base.proofs.Lists.{length-zero}
 use Rattle.base.proofs.Tests.{and-left, and-right, answered}
 use Rattle.text.specs.Fold.{isCapital, lead, isAccented, foldByte, foldFrom, foldText}
 
@@ -22,9 +21,6 @@ foldFrom-length w (x ∷ s) = ap suc (foldFrom-length x s)
 pub foldText-length : (s : List ℕ) → length (foldText s) ≡ length s
 unfolding foldText
 foldText-length s = foldFrom-length 0 s
-
-pub foldText-empty : foldText [] ≡ []
-foldText-empty = length-zero (foldText []) (foldText-length [])
 
 -- ---- `is_capital`, `is_accented`, `follows_lead`
 

@@ -3,12 +3,11 @@
 use mathlib.Core.Path.{_≡_}
 use Prim.Native.Nat.{ℕ}
 use mathlib.Core.Bool.{true}
-use mathlib.Core.List.{List, [], _++_}
+use mathlib.Core.List.{List, _++_}
 use mathlib.Core.Logic.{_↔_}
 use Rattle.base.proofs.Lists.{equal-same, equal-refl}
 use Rattle.text.specs.Fold.{foldText}
 use Rattle.text.specs.Compare.{same, starts, ends, contains}
-use Rattle.text.proofs.Fold.{foldText-empty}
 use Rattle.base.proofs.Affixes.{prefix-rest, prefix-append, suffix-rest, suffix-append, infix-rest, infix-append}
 
 module _ (a b : List ℕ) where
