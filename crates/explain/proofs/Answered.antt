@@ -4,6 +4,7 @@ use Prim.Native.Nat.{ℕ, _+_, _≤_}
 use native.Mathlib.Omega.{arith}
 use mathlib.Core.Path.{_≡_, refl, sym, ap, subst, _∙_}
 use mathlib.Core.Bool.{Bool, true, false, cond}
+use mathlib.Core.Logic.{_↔_}
 use mathlib.Core.List.{List, _∷_, _++_, map}
 use lib.Dec.{leb}
 use lib.ListN.{length, getD, drop, length-map}
@@ -27,13 +28,13 @@ use Rattle.sirophan.proofs.Cards.{conforms-taken, conforms-bytes}
 use Rattle.sirophan.proofs.Inputs.{inputs-taken, tests-outcome}
 use Rattle.sirophan.proofs.Outcomes.{TestsOutcome, all-mean, one-refused}
 use Rattle.sirophan.proofs.Verdicts.{verdict-spelled}
-use Rattle.explain.specs.Deciding.{outerTests, outerCount, verdicts, cells}
+use Rattle.explain.specs.Deciding.{outerTests, outerCount, verdicts, saysBy, cells}
 use Rattle.explain.specs.Marks.{deciding, explanation}
 use Rattle.explain.specs.Operation.{Explanation, explanationOf, takeMarks, explaining, explainAnswer, explainCells}
 use Rattle.explain.specs.Refusals.{ExplainLine}
 use Rattle.explain.specs.Explaining.{SaysEach, ExplainAnswers, AsMatch, same-answer, short-list}
 use Rattle.explain.proofs.Deciding.{explains}
-use Rattle.explain.proofs.Numbered.{cells-counted, map-append, getD-after}
+use Rattle.explain.proofs.Numbered.{cells-counted, map-append, getD-after, says-by-verdicts}
 use Rattle.explain.proofs.Explaining.{not-refused, explaining-by, match-answer-by, answer-by, cells-by}
 use Rattle.explain.proofs.Table.{explain-table}
 
@@ -85,6 +86,12 @@ module _ (sheet text card list : List ℕ) (s : SheetBlock sheet) (f : Tree) (sh
         let at = verdict-at says f before t after e in
         ((λ h. i .0 (sym at ∙ h)), (λ h. at ∙ i .1 h))
 
+    by-tests : (saysBy (verdicts says f) 0 f ≡ true) ↔ FilterSays ps 0 es f
+    by-tests =
+        let i = filter-says-iff ps (s .well-formed) 0 es f spelled in
+        let at = says-by-verdicts ps 0 es f in
+        ((λ h. i .0 (sym at ∙ h)), (λ h. at ∙ i .1 h))
+
     answers : ExplainAnswers sheet text card list ps es f
     unfolding explanation
     answers =
@@ -92,6 +99,7 @@ module _ (sheet text card list : List ℕ) (s : SheetBlock sheet) (f : Tree) (sh
           verdict = subst (λ (a : Answer). Verdict (FilterSays ps 0 es f) a) (sym (answer-by sheet text card list (found whole) found-it)) (verdict-spelled ps (s .well-formed) es f spelled);
           v = verdicts says f;
           says = says-each;
+          by-tests = by-tests;
           kept = deciding f (verdicts says f);
           explains = explains f (verdicts says f);
           writes =

@@ -27,8 +27,9 @@ use Rattle.judge.specs.Sets.{conforms}
 use Rattle.judge.specs.Verdicts.{filterSays}
 use Rattle.rows.specs.Cells.{stated}
 use Rattle.rows.specs.Good.{Fits, Good}
+use Rattle.rows.specs.Shapes.{good}
 use Rattle.rows.specs.Stated.{treeOf, erase}
-use Rattle.rows.proofs.Good.{good-states, good-iff}
+use Rattle.rows.proofs.Good.{good-few, good-states, good-iff}
 use Rattle.rows.proofs.Meaning.{good-whole}
 use Rattle.refusal.specs.declared.Reason.{Reason}
 use Rattle.refusal.specs.declared.Refusal.{Refusal}
@@ -246,6 +247,7 @@ module _ (sheet text card list : List ℕ) (bytes : Bytes sheet) (n : ℕ) (rows
   pub taken-with : (says : Bool) → answer (takeCard (y .parameters) 0 card >>= λ c. found (yesOrNo (filterSays (y .parameters) 0 (c .entries) (y .filter)))) ≡ yesOrNo says → Judged sheet text rows card says
   taken-with says h =
       let reads = sheet-reads-iff sheet (block .marked) (block .parameters) .1 (block .well-formed, block .form, block .encoded) in
+      let tested : good (kindsOf (parametersOf sheet)) (parentsOf (parametersOf sheet)) text rows ≡ true = good-iff (parametersOf sheet) (sheet-well-formed sheet (reads .reading)) text rows .1 rows-good in
       let c : CardSays (parametersOf sheet) card (y .filter) says = subst (λ (qs : List Parameter). CardSays qs card (y .filter) says) mine (card-says (y .parameters) card (y .filter) says h) in
       record {
         filter = y .filter;
@@ -254,7 +256,8 @@ module _ (sheet text card list : List ℕ) (bytes : Bytes sheet) (n : ℕ) (rows
         short = short;
         good = rows-good;
         states = subst (λ (qs : List Parameter). erase (treeOf qs text (prepared-good .rows .expression)) ≡ erase (y .filter)) sheets (prepared-good .states);
-        whole = good-whole (kindsOf (parametersOf sheet)) (parentsOf (parametersOf sheet)) text rows (good-iff (parametersOf sheet) (sheet-well-formed sheet (reads .reading)) text rows .1 rows-good);
+        whole = good-whole (kindsOf (parametersOf sheet)) (parentsOf (parametersOf sheet)) text rows tested;
+        few = good-few (kindsOf (parametersOf sheet)) (parentsOf (parametersOf sheet)) text rows tested;
         card-reads = c .reads;
         card-taken = c .is-taken;
         verdict = c .verdict;

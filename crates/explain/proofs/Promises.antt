@@ -7,18 +7,15 @@ use mathlib.Core.Logic.{_↔_}
 use mathlib.Core.List.{List}
 use lib.ListN.{length}
 use Rattle.base.specs.Bytes.{Bytes}
-use Rattle.base.specs.Lists.{All}
-use Rattle.sheet.specs.Sheet.{Parameter}
 use Rattle.sheet.specs.Encode.{SheetBlock}
 use Rattle.card.specs.Card.{Entry}
 use Rattle.syntax.specs.Tree.{Tree}
 use Rattle.syntax.specs.Grammar.{Spells}
 use Rattle.judge.specs.Rules.{Conforms}
-use Rattle.judge.specs.Verdicts.{filterSays}
 use Rattle.refusal.specs.Answers.{refused}
 use Rattle.refusal.specs.Order.{Decides}
-use Rattle.explain.specs.Deciding.{outerTests, outerCount, verdicts, saysBy, Suffices, Explains}
-use Rattle.explain.specs.Marks.{suffices, deciding, explanation}
+use Rattle.explain.specs.Deciding.{outerTests, outerCount, Suffices, Explains}
+use Rattle.explain.specs.Marks.{suffices, deciding}
 use Rattle.explain.specs.Operation.{explainAnswer, explainCells}
 use Rattle.explain.specs.Refusals.{ExplainLine}
 use Rattle.explain.specs.Explaining.{ExplainAnswers, AsMatch}
@@ -61,14 +58,6 @@ explains-unique = deciding-set.explains-unique
 pub sufficing : (f : Tree) (v kept : ℕ → Bool) → (suffices f v kept ≡ true) ↔ Suffices f v kept
 sufficing f v kept = (exact.suffices-stands f v kept, exact.stands-suffices f v kept)
 
--- by the verdicts of its tests a filter says what it says
-pub says-by-verdicts : (ps : List Parameter) (c : ℕ) (es : List Entry) (f : Tree) → saysBy (verdicts (filterSays ps c es) f) 0 f ≡ filterSays ps c es f
-says-by-verdicts = numbered.says-by-verdicts
-
 -- there is a cell for each outer test, and there is one at least
 pub tests-counted : (f : Tree) → (length (outerTests f) ≡ outerCount f) × (0 < outerCount f)
 tests-counted f = (numbered.tests-counted f, numbered.some-tests f)
-
--- the cells depend on what the outer tests say, and on nothing else
-pub explanation-same : (says other : Tree → Bool) (f : Tree) → All (λ (t : Tree). says t ≡ other t) (outerTests f) → explanation says f ≡ explanation other f
-explanation-same = numbered.explanation-same

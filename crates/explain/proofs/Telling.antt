@@ -16,6 +16,7 @@ use borrow.Author.Needs.{scaled-fits}
 use mir.Val.{Fits}
 use mir.Syntax.{w64}
 use Rattle.base.specs.Parts.{part}
+use Rattle.base.proofs.Parts.{part-length}
 use Rattle.base.proofs.All.{all-head}
 use Rattle.base.proofs.Tests.{decided}
 use Rattle.card.specs.Card.{Entry}
@@ -36,6 +37,10 @@ use Rattle.explain.proofs.Numbered.{getD-after}
 use Rattle.explain.proofs.Stack.{outers, Walk, walk-start, walk-unknown, walk-bare-bracket, walk-bare-not, walk-short, test-next, walk-full, walk-test, on-top, first-low, bracket-next, walk-bracket, walk-not, second-on, first-on, walk-connect, walk-whole, not-stated}
 
 -- ---- what rows say
+
+-- a part of rows that are few is few
+pub part-few : (rows : List ℕ) (a e : ℕ) → e ≤ length rows → length rows ≤ 320 → length (part rows a e) ≤ 320
+part-few rows a e h k = omega (arith, part-length rows a e h)
 
 module _ (kinds xs : List ℕ) (es : List Entry) (rows : List ℕ) (says : Bool) (h : says ≡ rowsSay kinds xs (chosenOf every es) rows) where
   said : says ≡ rowsSay kinds xs es rows

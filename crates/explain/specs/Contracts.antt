@@ -41,6 +41,7 @@ pub record Judged (sheet text rows card : List ℕ) (says : Bool) : Type 0 where
   pub good : Good (parametersOf sheet) text rows
   pub states : erase (treeOf (parametersOf sheet) text (good .expression)) ≡ erase filter
   pub whole : Whole rows
+  pub few : length rows ≤ 320
   pub card-reads : readCard card ≡ Reading.WellFormed
   pub card-taken : takeCard (parametersOf sheet) 0 card ≡ found (record { number = recordNumber card; entries = entriesOf card })
   pub verdict : says ≡ filterSays (parametersOf sheet) 0 (entriesOf card) filter

@@ -13,7 +13,7 @@ use Rattle.judge.specs.Rules.{FilterSays}
 use Rattle.refusal.specs.Answers.{refused}
 use Rattle.sirophan.specs.Operations.{matchAnswer}
 use Rattle.sirophan.specs.Verdicts.{Verdict}
-use Rattle.explain.specs.Deciding.{outerTests, outerCount, Explains, cells}
+use Rattle.explain.specs.Deciding.{outerTests, outerCount, saysBy, Explains, cells}
 use Rattle.explain.specs.Operation.{explainAnswer, explainCells}
 
 -- v has by number what each test of the filter says of entries
@@ -25,6 +25,8 @@ pub record ExplainAnswers (sheet text card list : List ℕ) (ps : List Parameter
   pub verdict : Verdict (FilterSays ps 0 es f) (explainAnswer sheet text card (length list))
   pub v : ℕ → Bool
   pub says : SaysEach ps es f v
+  -- by what its tests say the filter says what it says
+  pub by-tests : (saysBy v 0 f ≡ true) ↔ FilterSays ps 0 es f
   pub kept : ℕ → Bool
   pub explains : Explains f v kept
   pub writes : explainCells sheet text card list ≡ cells v kept 0 (outerCount f) ++ drop (outerCount f) list

@@ -3,7 +3,7 @@ use block::Reading;
 use judge::Chosen;
 use rows::Row;
 use rows::row_of;
-use rows::rows_say;
+use rows::say_once;
 ghost use mathlib.Core.Path.{_≡_};
 ghost use mathlib.Core.Bool.{true};
 ghost use Prim.Native.Nat.{_≤_};
@@ -18,6 +18,7 @@ fn verdict(kinds: &[u8], filter: &[u8], rows: &[u32], card: &[u8]) -> u8
     requires { ⌜ length (now kinds) ≡ 32 ⌝ }
     requires { ⌜ length (now filter) ≤ 1024 ⌝ }
     requires { ⌜ Whole (now rows) ⌝ }
+    requires { ⌜ length (now rows) ≤ 320 ⌝ }
     requires { ⌜ readCard (now card) ≡ Reading.WellFormed ⌝ }
     ensures { λ r. ⌜ r ≡ cell true (rowsSay (now (kinds .entry)) (now (filter .entry)) (entriesOf (now (card .entry))) (now (rows .entry))) ⌝ }
 {
@@ -25,7 +26,7 @@ fn verdict(kinds: &[u8], filter: &[u8], rows: &[u32], card: &[u8]) -> u8
         all: true,
         occurrence: 0,
     };
-    if rows_say(kinds, filter, rows, card, every) {
+    if say_once(kinds, filter, rows, card, every) {
         return 1;
     }
     2
@@ -43,6 +44,7 @@ pub fn take_verdicts(
     requires { ⌜ length (now kinds) ≡ 32 ⌝ }
     requires { ⌜ length (now filter) ≤ 1024 ⌝ }
     requires { ⌜ Whole (now rows) ⌝ }
+    requires { ⌜ length (now rows) ≤ 320 ⌝ }
     requires { ⌜ readCard (now card) ≡ Reading.WellFormed ⌝ }
     requires { ⌜ length (now marks) ≡ 32 ⌝ }
     ensures { λ r. ⌜ Tells (now (kinds .entry)) (now (filter .entry)) (entriesOf (now (card .entry))) (now (rows .entry)) r (now (marks .exit)) ⌝ }

@@ -8,13 +8,13 @@ use mathlib.Core.Bool.{true, false}
 use mathlib.Core.List.{List, [], _∷_, List·Memᴰ·head, List·Memᴰ·not-nil, cons≢nil}
 use Rattle.base.specs.Ascii.{ascii}
 use Rattle.base.specs.Kinds.{string, date, token, reference, bundleKind}
-use Rattle.base.specs.Lists.{All, all-empty, all-cons, equal}
+use Rattle.base.specs.Lists.{Listed, All, all-empty, all-cons, equal}
 use Rattle.base.specs.Operators.{pr}
 use Rattle.base.proofs.All.{all-head}
 use Rattle.text.specs.Fold.{isCapital, foldByte, foldFrom, foldText}
 use Rattle.sheet.specs.Sheet.{Parameter, parameter}
 use Rattle.sheet.specs.Encode.{WellFormedSheet}
-use Rattle.sheet.specs.Find.{findFrom, find, enter, Listed}
+use Rattle.sheet.specs.Find.{findFrom, find, enter}
 use Rattle.sheet.specs.Trial.{trialParameters, trialSheet, bundleParameters, bundleSheet}
 use Rattle.sheet.specs.declared.Found.{Found}
 use Rattle.sheet.proofs.Sheets.{sheet-reads-iff}

@@ -11,7 +11,8 @@ use Rattle.base.specs.Ascii.{ascii}
 use Rattle.base.specs.Digits.{isDigit}
 use Rattle.base.specs.Lists.{All, all-empty, all-cons, every, equal}
 use Rattle.base.specs.Affixes.{hasPrefix}
-use Rattle.base.specs.Names.{between, isLetter, isNameStart, isNamePart, isReserved, isName}
+use Rattle.base.specs.Between.{between}
+use Rattle.base.specs.Names.{isLetter, isNameStart, isNamePart, isReserved, isName}
 use Rattle.base.specs.Operators.{operatorWords}
 use Rattle.base.specs.Runs.{run, runEnd}
 use Rattle.base.specs.Split.{split}
@@ -23,7 +24,8 @@ use Rattle.date.specs.Texts as dates
 use Rattle.token.specs.Card as tokens
 use Rattle.block.specs.Words.{wordBytes}
 use Rattle.block.specs.Sum.{sumFrom, checkSum}
-use Rattle.block.specs.Seal.{check, padded, seal}
+use Rattle.base.specs.Parts.{padded}
+use Rattle.block.specs.Seal.{check, seal}
 use Rattle.block.specs.Items.{zeros, hasMarks, lengthAt, next, markAt, textAt, laidOut, hasLayout, hasEither, items, join}
 use Rattle.block.specs.Readings.{reading}
 use Rattle.sheet.specs.Sheet.{Parameter, kindAt}
@@ -82,7 +84,7 @@ relation-card-reads =
 
 conforming : (conforms trialParameters trialEntries ≡ true) × (conforms trialParameters dateEntries ≡ true)
     × (conforms bundleParameters bundleEntries ≡ true) × (conforms bundleParameters relationEntries ≡ true)
-unfolding trialParameters trialEntries dateEntries bundleParameters bundleEntries relationEntries conforms entryConforms kindAt cardReadable kinds ofKind numbers.readable numbers.read run isDigit dates.readable dates.isDate dates.read dates.readYear dates.fourAt dates.twoAt dates.pair dates.digitOf date-fields.between tokens.cardReadable tokens.cardToken tokens.splitToken tokens.tokenOf split dates.readMonth date-fields.validMonth dates.fieldAt numbers.readFraction
+unfolding trialParameters trialEntries dateEntries bundleParameters bundleEntries relationEntries conforms entryConforms kindAt cardReadable kinds ofKind numbers.readable numbers.read run isDigit dates.readable dates.isDate dates.read dates.readYear dates.fourAt dates.twoAt dates.pair dates.digitOf between tokens.cardReadable tokens.cardToken tokens.splitToken tokens.tokenOf split dates.readMonth date-fields.validMonth dates.fieldAt numbers.readFraction
 conforming = (refl, refl, refl, refl)
 
 -- ---- the texts under the names

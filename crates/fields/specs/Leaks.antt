@@ -4,9 +4,8 @@ use Prim.Native.Nat.{ℕ, zero, suc}
 use mathlib.Core.List.{List, [], _++_, map, List·Memᴰ}
 use lib.ListN.{length}
 use Rattle.base.specs.Kinds.{bundleKind}
-use Rattle.base.specs.Lists.{All}
+use Rattle.base.specs.Lists.{Listed, All}
 use Rattle.sheet.specs.Sheet.{Parameter, parameter}
-use Rattle.sheet.specs.Find.{Listed}
 use Rattle.card.specs.Card.{Entry, entry}
 use Rattle.syntax.specs.Tree.{Path, name, member, Tree}
 use Rattle.judge.specs.Rules.{FilterSays}

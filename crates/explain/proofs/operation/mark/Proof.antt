@@ -14,7 +14,7 @@ slice-aggregate-take-verdicts-2 : tie.Need-slice-aggregate-take-verdicts-2
 slice-aggregate-take-verdicts-2 c = search needs
 
 take-verdicts-requires : tie.Need-take-verdicts-requires
-take-verdicts-requires c κs = (search needs, (search needs, (search needs, (search needs, search needs))))
+take-verdicts-requires c κs = (search needs, (search needs, (search needs, (search needs, (search needs, search needs)))))
 
 returns : tie.Need-returns
 returns c = search (mark-short, needs)

@@ -1,7 +1,7 @@
 -- `explain::operation::write` meets its contract. Assumes nothing.
 use Prim.Native.Nat.{_-_}
 use lib.ListN.{length}
-use Rattle.spell.proofs.Writing.{Writing, writing-fits, writing-room, writing-next, writing-whole}
+use Rattle.base.proofs.Writing.{Writing, writing-fits, writing-room, writing-next, writing-whole}
 use borrow.Author.Needs.{needs}
 use Rattle.explain.proofs.operation.write.Statement.{statement}
 use Rattle.explain.proofs.operation.write.Tie as tie

@@ -2,7 +2,7 @@
 use Prim.Native.Nat.{_-_}
 use lib.ListN.{length}
 use Rattle.card.specs.Card.{entriesOf}
-use Rattle.explain.proofs.Telling.{Telling, telling-start, telling-full, telling-test-whole, telling-test, telling-bare-bracket, telling-scaled, telling-ordered, telling-bracket-whole, telling-counts, telling-marks, telling-bracket, telling-bare-not, telling-not, telling-short, telling-connect, telling-unknown, telling-end, telling-tests, telling-top}
+use Rattle.explain.proofs.Telling.{part-few, Telling, telling-start, telling-full, telling-test-whole, telling-test, telling-bare-bracket, telling-scaled, telling-ordered, telling-bracket-whole, telling-counts, telling-marks, telling-bracket, telling-bare-not, telling-not, telling-short, telling-connect, telling-unknown, telling-end, telling-tests, telling-top}
 use borrow.Author.Needs.{needs}
 use Rattle.explain.proofs.verdicts.take_verdicts.Statement.{statement}
 use Rattle.explain.proofs.verdicts.take_verdicts.Tie as tie
@@ -50,7 +50,7 @@ part-verdict-end : tie.Need-part-verdict-end Inv-loop μ-loop
 part-verdict-end c = search needs
 
 verdict-requires : tie.Need-verdict-requires Inv-loop μ-loop
-verdict-requires c κs = (search needs, (search needs, (search (telling-test-whole, needs), search needs)))
+verdict-requires c κs = (search needs, (search needs, (search (telling-test-whole, needs), (search (part-few, needs), search needs))))
 
 slice-write-marks : tie.Need-slice-write-marks Inv-loop μ-loop
 slice-write-marks c = search (telling-tests, telling-top, needs)
@@ -119,7 +119,7 @@ part-verdict-end-2 : tie.Need-part-verdict-end-2 Inv-loop μ-loop
 part-verdict-end-2 c = search needs
 
 verdict-requires-2 : tie.Need-verdict-requires-2 Inv-loop μ-loop
-verdict-requires-2 c κs = (search needs, (search needs, (search (telling-bracket-whole, needs), search needs)))
+verdict-requires-2 c κs = (search needs, (search needs, (search (telling-bracket-whole, needs), (search (part-few, needs), search needs))))
 
 slice-write-marks-2 : tie.Need-slice-write-marks-2 Inv-loop μ-loop
 slice-write-marks-2 c = search (telling-marks, needs)

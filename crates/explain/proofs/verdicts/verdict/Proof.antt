@@ -4,8 +4,8 @@ use borrow.Author.Needs.{needs}
 use Rattle.explain.proofs.verdicts.verdict.Statement.{statement}
 use Rattle.explain.proofs.verdicts.verdict.Tie as tie
 
-rows-say-requires : tie.Need-rows-say-requires
-rows-say-requires c κs = search needs
+say-once-requires : tie.Need-say-once-requires
+say-once-requires c κs = search needs
 
 returns : tie.Need-returns
 returns c = search (verdict-yes, needs)
@@ -14,4 +14,4 @@ returns-2 : tie.Need-returns-2
 returns-2 c = search (verdict-no, needs)
 
 pub verdict-spec : {M : Type 1} → statement M
-verdict-spec = tie.close (tie.spec rows-say-requires returns returns-2)
+verdict-spec = tie.close (tie.spec say-once-requires returns returns-2)
