@@ -4,7 +4,7 @@ use Prim.Native.Nat.{ℕ}
 use mathlib.Core.Path.{_≡_, refl, ap, _∙_}
 use mathlib.Core.Bool.{Bool, true, false, not}
 use mathlib.Core.List.{List}
-use Rattle.kind.specs.Stands.{Kept, unread, standsRead}
+use Rattle.kind.specs.Stands.{Kept, standsRead}
 use Rattle.kind.specs.declared.Readings.{Readings}
 use Rattle.kind.specs.declared.Relation.{Relation}
 use Rattle.kind.specs.declared.Meaning.{Meaning}

@@ -8,7 +8,6 @@ use mathlib.Core.List.{List}
 use Rattle.number.specs.Reading as numbers
 use Rattle.number.specs.declared.Decimal.{Decimal}
 use Rattle.number.specs.declared.Reading as number-readings
-use Rattle.date.specs.Texts as dates
 use Rattle.date.specs.declared.Date.{Date}
 use Rattle.date.specs.declared.Reading as date-readings
 use Rattle.period.specs.Texts as periods

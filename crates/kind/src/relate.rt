@@ -11,7 +11,6 @@ ghost use mathlib.Core.Path.{_≡_};
 ghost use Rattle.number.specs.Value.{Bounded};
 ghost use Rattle.kind.specs.Stands.{Kept, stringStands, numberStands, dateStands, stands, numbersStand, datesStand, unread, readingsOf, standsRead};
 ghost use Rattle.number.specs.Reading as numbers;
-ghost use Rattle.date.specs.Texts as dates;
 ghost use Rattle.period.specs.Texts as periods;
 
 fn string_stands(relation: StringRelation, text: &[u8], value: &[u8]) -> bool

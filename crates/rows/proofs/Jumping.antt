@@ -2,22 +2,18 @@
 -- Assumes nothing.
 use Prim.Native.Nat.{ℕ, zero, suc, _+_, _-_, _≤_, _<_}
 use native.Mathlib.Omega.{arith}
-use native.Mathlib.Nat.{add-zero}
 use mathlib.Core.Path.{_≡_, refl, sym, ap, ap₂, subst, _∙_}
-use mathlib.Core.Bool.{Bool, true, false, _&&_, _||_}
+use mathlib.Core.Bool.{Bool, true, false}
 use mathlib.Core.List.{List, [], _∷_, _++_}
 use lib.ListN.{length, getD, take, drop, take-append-drop, length-drop}
 use lib.Seq.{drop-drop, take-add, getD-take, getD-drop, length-take-le}
-use lib.IntN.{ℤ, pos}
+use lib.IntN.{ℤ}
 use Rattle.base.specs.Parts.{part}
-use Rattle.base.specs.Lists.{All, all-cons}
-use Rattle.syntax.specs.Reader.{connective}
-use Rattle.judge.specs.Verdicts.{joined}
+use Rattle.base.specs.Lists.{all-cons}
 use Rattle.rows.specs.Expression.{Expression}
-use Rattle.rows.specs.Cells.{rowOf, encode, Writable, run}
+use Rattle.rows.specs.Cells.{rowOf, encode, run}
 use Rattle.rows.specs.Opening.{Lists, Opens}
-use Rattle.rows.specs.Jumping.{Item, Jumps, Lands, Leapt}
-use Rattle.rows.specs.declared.Row.{Row}
+use Rattle.rows.specs.Jumping.{Item, Jumps, Leapt}
 use Rattle.rows.proofs.Stating.{run-encode, flat}
 use Rattle.rows.proofs.Machine.{Stacked}
 

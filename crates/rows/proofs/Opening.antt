@@ -5,9 +5,9 @@ use native.Mathlib.Omega.{arith}
 use mathlib.Core.Path.{_≡_, refl, sym, ap, ap₂, subst, _∙_}
 use mathlib.Core.Bool.{Bool, true, false, cond}
 use mathlib.Core.List.{List}
-use lib.Dec.{eqb, ltb}
+use lib.Dec.{eqb}
 use lib.IntN.{ℤ, pos}
-use lib.ListN.{length, getD, take, drop, set, length-set}
+use lib.ListN.{length, getD, take, set, length-set}
 use lib.Seq.{getD-set-same, getD-set-other}
 use borrow.Author.Tests.{lt-ltb, le-ltb, eq-eqb, ne-eqb, eqb-true, eqb-false}
 use Rattle.base.specs.Parts.{part}
@@ -204,15 +204,6 @@ module _ (kinds xs rows spans₀ digits₀ : List ℕ) (starts₀ ends₀ : List
 
     pub span-room : length rows ≤ length spans
     span-room = s .opens .span-cells .room
-
-    pub digit-room : length rows ≤ length digits
-    digit-room = s .opens .digit-cells .room
-
-    pub start-room : length rows ≤ length starts
-    start-room = s .opens .start-cells .room
-
-    pub end-room : length rows ≤ length ends
-    end-room = s .opens .end-cells .room
 
 -- ---- the functions that open a value
 

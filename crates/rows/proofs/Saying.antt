@@ -1,17 +1,17 @@
 -- Judging rows: the stack has the verdicts and the sizes of the expressions so far, and a test is judged entry by entry.
 -- Assumes nothing.
-use Prim.Native.Nat.{ℕ, suc, _+_, _-_, _≤_, _<_}
+use Prim.Native.Nat.{ℕ, _+_, _-_, _≤_, _<_}
 use native.Mathlib.Omega.{arith}
 use native.Mathlib.Numerals.{add-one}
 use mathlib.Core.Path.{_≡_, refl, sym, ap, ap₂, subst, _∙_}
 use mathlib.Core.Bool.{Bool, true, false, not, _&&_, _||_}
-use mathlib.Core.Option.{Option, none, some}
+use mathlib.Core.Option.{none, some}
 use mathlib.Core.List.{List, [], _∷_, _++_, append-assoc}
 use lib.Dec.{eqb}
 use lib.IntN.{ℤ, pos}
 use lib.ListN.{length, getD, take, drop, set, replicate, length-append, length-set, take-append-drop}
 use lib.Seq.{drop-at, take-at, length-take-le}
-use Rattle.base.specs.Lists.{All, all-cons}
+use Rattle.base.specs.Lists.{All}
 use Rattle.base.specs.Parts.{part}
 use Rattle.base.proofs.All.{all-head}
 use Rattle.base.proofs.Parts.{part-length}
@@ -38,7 +38,7 @@ use Rattle.filter.proofs.Judging.{chosen-one, occurrence-whole}
 use Rattle.rows.specs.Expression.{Expression, probing, choosing, joining, negating, testCount}
 use Rattle.rows.specs.Cells.{rowOf, cellOf, isAnd, encode, Writable, push, only, stated}
 use Rattle.rows.specs.Shapes.{valueIn}
-use Rattle.rows.specs.Saying.{probeSaysBy, probeSays, expressionSays, statedSays, rowsSay, Whole, Bracketed, innerSays, someEntry, occurrenceSays, probeSaysEachBy, probeSaysEach}
+use Rattle.rows.specs.Saying.{probeSaysBy, probeSays, expressionSays, statedSays, rowsSay, Whole, Bracketed, innerSays, anyOccurrence, someEntry, occurrenceSays, probeSaysEachBy, probeSaysEach}
 use Rattle.rows.specs.declared.Probe.{Probe}
 use Rattle.rows.specs.Opening.{openedValue, openedBy, openedFor, openedIn, openedRow, valueOf, Known, openedFrom, Opens}
 use Rattle.rows.specs.Jumping.{Item, Jumps, Lands, Leapt}
@@ -46,8 +46,8 @@ use Rattle.rows.specs.declared.Row.{Row}
 use Rattle.rows.specs.declared.Opened.{Opened}
 use Rattle.rows.proofs.Opening.{row-small, cells-back}
 use Rattle.rows.proofs.Jumping.{stacked-item}
-use Rattle.rows.proofs.Stating.{stated-encode, flat, total, height-total, some-same}
-use Rattle.rows.proofs.Machine.{Holds, holds-none, holds-more, holds-length, holds-push, Top, top-of, none-on, Stacked, stacked-start, stacked-next, stacked-fails, stacked-end, stacked-total}
+use Rattle.rows.proofs.Stating.{stated-encode, flat, total, height-total}
+use Rattle.rows.proofs.Machine.{Holds, holds-none, holds-more, holds-length, holds-push, top-of, none-on, Stacked, stacked-start, stacked-next, stacked-fails, stacked-end, stacked-total}
 
 -- ---- entry by entry is by the set of the entries that are kept
 
@@ -141,6 +141,15 @@ module _ (says : ℕ → Bool) (k : Chosen) (i : ℕ) (m : Meaning) (v : List �
   pub entry-next : r ≡ false → someEntry says k i m v (entry j o x ∷ es) ≡ someEntry says k i m v es
   entry-next h = entry-step ∙ ap (λ (y : Bool). y || someEntry says k i m v es) h
 
+-- the same without brackets
+module _ (k : Chosen) (i : ℕ) (m : Meaning) (v : List ℕ) (j o : ℕ) (x : List ℕ) (es : List Entry) (under n : Bool)
+    (a : under ≡ (counts k o && eqb j i)) (b : n ≡ (under && textCounts m v x)) where
+  pub plain-here : n ≡ true → true ≡ someEntry anyOccurrence k i m v (entry j o x ∷ es)
+  plain-here h = entry-here anyOccurrence k i m v j o x es under n n a b (sym (and-true n)) h
+
+  pub plain-next : n ≡ false → someEntry anyOccurrence k i m v (entry j o x ∷ es) ≡ someEntry anyOccurrence k i m v es
+  plain-next h = entry-next anyOccurrence k i m v j o x es under n n a b (sym (and-true n)) h
+
 pub entry-end : (says : ℕ → Bool) (k : Chosen) (i : ℕ) (m : Meaning) (v : List ℕ) → false ≡ someEntry says k i m v []
 unfolding someEntry
 entry-end says k i m v = refl
@@ -221,6 +230,13 @@ module _ (kinds xs : List ℕ) (p : Probe) (o : Opened) (e : o ≡ openedFor kin
         let is : m ≡ meaningOf (p .operator) (getD kinds (p .index) 0) = j ∙ ap (meaningOf (p .operator)) i in
         let w = told h in
         rw (w .found) (y ∙ ap₂ (λ (a b : Bool). someSays m a b) (w .truth) (q ∙ ap (λ (v : List ℕ). someEntry (occurrenceSays kinds xs all inner) k (p .index) m v all) (w .same)) ∙ ap (λ (n : Meaning). someSays n (isTrue (valueIn xs (w .value))) (someEntry (occurrenceSays kinds xs all inner) k (p .index) n (valueIn xs (w .value)) all)) is)
+
+    pub probe-plain : (rows : List ℕ) (from to : ℕ) (m : Meaning) (kind : ℕ) (s r : Bool) → inner ≡ part rows from to → from ≡ to → o .found ≡ true → kind ≡ getD kinds (p .index) 0 → m ≡ meaningOf (p .operator) kind
+        → s ≡ someEntry anyOccurrence k (p .index) m (valueOf xs o) all → r ≡ someSays m (o .truth) s → r ≡ probeSaysEach kinds xs inner p k all
+    probe-plain rows from to m kind s r c z h i j q y =
+        let none : to - from ≡ 0 = omega (arith, z) in
+        let nothing : inner ≡ [] = c ∙ ap (λ (n : ℕ). take n (drop from rows)) none in
+        probe-opened m kind s r h i j (q ∙ ap (λ (cs : List ℕ). someEntry (occurrenceSays kinds xs all cs) k (p .index) m (valueOf xs o) all) (sym nothing)) y
 
 -- ---- a value that was opened
 

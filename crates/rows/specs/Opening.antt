@@ -2,23 +2,20 @@
 -- Assumes nothing.
 use Prim.Native.Nat.{ℕ, _+_, _*_, _/_, _%_, _≤_, _<_}
 use mathlib.Core.Path.{_≡_}
-use mathlib.Core.Bool.{Bool, true, false, cond}
+use mathlib.Core.Bool.{true, false, cond}
 use mathlib.Core.List.{List}
 use lib.Dec.{eqb, ltb}
 use lib.IntN.{ℤ, pos}
 use lib.ListN.{length, getD}
 use Rattle.base.specs.Parts.{part}
 use Rattle.number.specs.declared.Reading as number-readings
-use Rattle.number.specs.declared.Decimal.{Decimal}
 use Rattle.date.specs.declared.Reading as date-readings
-use Rattle.date.specs.declared.Date.{Date}
 use Rattle.syntax.specs.Scan.{valueAt, contents}
 use Rattle.syntax.specs.declared.RawValue.{RawValue}
 use Rattle.syntax.specs.declared.FoundValue.{FoundValue}
 use Rattle.kind.specs.Table.{meaningOf}
 use Rattle.kind.specs.Readable.{isTrue}
 use Rattle.kind.specs.Stands.{unread}
-use Rattle.kind.specs.declared.Readings.{Readings}
 use Rattle.kind.specs.declared.Meaning.{Meaning}
 use Rattle.judge.specs.Once.{readingsFor}
 use Rattle.rows.specs.Cells.{rowOf}

@@ -70,6 +70,10 @@ unfoldable pub someEntry : (ℕ → Bool) → Chosen → ℕ → Meaning → Lis
 someEntry says k i m v [] = false
 someEntry says k i m v (e ∷ es) = (((counts k (e .occurrence) && eqb (e .index) i) && textCounts m v (e .text)) && says (e .occurrence)) || someEntry says k i m v es
 
+-- without brackets every occurrence says yes
+abbrev pub anyOccurrence : ℕ → Bool
+anyOccurrence o = true
+
 -- what the rows in the brackets say of an occurrence of a card with the entries all
 abbrev pub occurrenceSays : List ℕ → List ℕ → List Entry → List ℕ → ℕ → Bool
 occurrenceSays kinds xs all inner o = innerSays kinds xs (ofOccurrence o all) inner

@@ -26,7 +26,7 @@ ghost use Rattle.syntax.specs.Reader.{connective};
 ghost use Rattle.judge.specs.Sets.{chosenOf};
 ghost use Rattle.judge.specs.Verdicts.{textCounts, joined};
 ghost use Rattle.base.specs.Parts.{part};
-ghost use Rattle.rows.specs.Saying.{rowsSay, Whole, Bracketed, someEntry, occurrenceSays, probeSaysEach};
+ghost use Rattle.rows.specs.Saying.{rowsSay, Whole, Bracketed, anyOccurrence, someEntry, occurrenceSays, probeSaysEach};
 ghost use Rattle.rows.specs.Opening.{Known, valueOf, openedFor, openedFrom, Opens};
 ghost use Rattle.rows.specs.Jumping.{Jumps, Leapt};
 
@@ -126,6 +126,36 @@ fn entry_chosen(
     false
 }
 
+// Whether some entry under a parameter counts for a test without brackets.
+fn some_counts(
+    filter: &[u8],
+    card: &[u8],
+    chosen: Chosen,
+    index: u8,
+    meaning: Meaning,
+    opened: Opened,
+) -> bool
+    requires { ⌜ length (now filter) ≤ 1024 ⌝ }
+    requires { ⌜ readCard (now card) ≡ Reading.WellFormed ⌝ }
+    requires { ⌜ Known (now filter) meaning opened ⌝ }
+    ensures { λ r. ⌜ r ≡ someEntry anyOccurrence chosen index meaning (valueOf (now (filter .entry)) opened) (entriesOf (now (card .entry))) ⌝ }
+{
+    let mut at = card::FIRST_ENTRY;
+    let mut left = card::entry_count(card);
+    while left > 0 {
+        let e = card::entry_at(card, at, left);
+        let start = e.start;
+        let end = e.end;
+        let under = is_under(chosen, e.occurrence, e.index == index);
+        if entry_counts(under, filter, opened, meaning, &card[start..end]) {
+            return true;
+        }
+        at = end;
+        left -= 1;
+    }
+    false
+}
+
 // Whether some entry under a parameter counts for a test, and the rows in its brackets say yes of its occurrence.
 fn some_entry(
     kinds: &[u8],
@@ -214,6 +244,10 @@ fn probe_says(
     let index = probe.index as usize;
     if opened.found {
         let meaning = kind::meaning_of(probe.operator, kinds[index]);
+        if from == to {
+            let plain = some_counts(filter, card, chosen, probe.index, meaning, opened);
+            return some_says(meaning, opened.truth, plain);
+        }
         let some = some_entry(
             kinds,
             filter,

@@ -16,7 +16,7 @@ use syntax::value::read_value;
 ghost use mathlib.Core.Path.{_≡_};
 ghost use mathlib.Core.Bool.{false};
 ghost use Prim.Native.Nat.{_≤_, _<_};
-ghost use lib.ListN.{length, getD};
+ghost use lib.ListN.{length};
 ghost use Rattle.syntax.specs.Placed.{PlacedValue};
 ghost use Rattle.syntax.specs.Scan.{decode as decoded};
 ghost use Rattle.rows.specs.Shapes.{valueIn};

@@ -1,7 +1,7 @@
 -- Laws of the comparisons: what each turn and each answer of the code comes to.
 -- Assumes nothing.
 use mathlib.Core.Path.{_≡_, refl, sym, ap, _∙_}
-use Prim.Native.Nat.{ℕ, _+_, _-_, _≤_, _<_}
+use Prim.Native.Nat.{ℕ, _+_, _-_, _%_, _≤_, _<_}
 use native.Mathlib.Nat.{add-zero, add-assoc}
 use native.Mathlib.Omega.{arith}
 use mathlib.Core.Bool.{Bool, true, false}
@@ -12,7 +12,7 @@ use Rattle.base.proofs.Lists.{equal-not}
 use Rattle.text.specs.Fold.{foldText}
 use Rattle.base.specs.Affixes.{hasPrefix}
 use Rattle.text.specs.Compare.{same, starts, ends, contains}
-use Rattle.text.proofs.Fold.{foldText-length}
+use Rattle.text.proofs.Fold.{foldText-length, fold-low}
 use Rattle.base.proofs.Affixes.{prefix-step, prefix-differ, prefix-past, prefix-short, prefix-equal, prefix-fails, suffix-short, suffix-prefix, infix-found, infix-next, infix-short}
 use Rattle.text.proofs.Invariants.{Compared, Searched}
 
@@ -73,8 +73,10 @@ module _ (a b : List ℕ) where
 
   -- ---- `begins_by`
 
-  pub begins-differ : (at x y : ℕ) → at + length b ≤ length a → 0 < length b → x ≡ getD (foldText a) at 0 → y ≡ getD (foldText b) 0 0 → (x ≡ y → ⊥) → false ≡ hasPrefix (drop at (foldText a)) (foldText b)
-  begins-differ at x y fits more ex ey h = compared-differ a b at 0 x y (compared-start a b at) fits more (ex ∙ ap (λ (n : ℕ). getD (foldText a) n 0) (omega arith)) ey h
+  pub begins-differ : (at v y : ℕ) → at + length b ≤ length a → 0 < length b → v ≡ getD a at 0 → y ≡ getD (foldText b) 0 0 → (v % 32 ≡ y % 32 → ⊥) → false ≡ hasPrefix (drop at (foldText a)) (foldText b)
+  begins-differ at v y fits more ev ey h =
+      compared-differ a b at 0 (getD (foldText a) at 0) y (compared-start a b at) fits more (ap (λ (n : ℕ). getD (foldText a) n 0) (omega arith)) ey
+      (λ e. h (ap (λ (n : ℕ). n % 32) ev ∙ sym (fold-low a at) ∙ ap (λ (n : ℕ). n % 32) e))
 
   -- ---- `contains`
 

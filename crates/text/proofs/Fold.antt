@@ -1,11 +1,11 @@
 -- Laws of folding.
 -- Assumes nothing.
 use mathlib.Core.Path.{_≡_, refl, ap}
-use Prim.Native.Nat.{ℕ, zero, suc, _+_, _-_, _≤_, _<_}
+use Prim.Native.Nat.{ℕ, zero, suc, _+_, _-_, _%_, _≤_, _<_}
 use Prim.Native.Char.{code}
 use native.Mathlib.Numerals.{unary-clauses}
 use native.Mathlib.Omega.{arith}
-use mathlib.Core.Bool.{Bool, true, false, not, _&&_, and-false}
+use mathlib.Core.Bool.{Bool, true, false, cond, not, _&&_, _||_, and-false}
 use mathlib.Core.List.{List, [], _∷_}
 use lib.Dec.{eqb, leb}
 use lib.ListN.{length, getD}
@@ -21,6 +21,22 @@ foldFrom-length w (x ∷ s) = ap suc (foldFrom-length x s)
 pub foldText-length : (s : List ℕ) → length (foldText s) ≡ length s
 unfolding foldText
 foldText-length s = foldFrom-length 0 s
+
+-- ---- folding keeps the last five bits of a byte
+
+byte-low : (t : Bool) (x : ℕ) → cond t (x + 32) x % 32 ≡ x % 32
+byte-low true x = omega arith
+byte-low false x = refl
+
+from-low : (w : ℕ) (s : List ℕ) (i : ℕ) → getD (foldFrom w s) i 0 % 32 ≡ getD s i 0 % 32
+unfolding foldFrom foldByte
+from-low w [] i = refl
+from-low w (x ∷ s) zero = byte-low (isCapital x || (eqb w lead && isAccented x)) x
+from-low w (x ∷ s) (suc i) = from-low x s i
+
+pub fold-low : (s : List ℕ) (i : ℕ) → getD (foldText s) i 0 % 32 ≡ getD s i 0 % 32
+unfolding foldText
+fold-low s i = from-low 0 s i
 
 -- ---- `is_capital`, `is_accented`, `follows_lead`
 

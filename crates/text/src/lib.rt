@@ -97,14 +97,14 @@ pub fn ends(a: &[u8], b: &[u8]) -> bool
     begins_at(a, a.len() - b.len(), b)
 }
 
-// `begins_at` with the first byte of b, folded: most positions are left there.
+// `begins_at` with the first byte of b, folded: most positions are left there, since folding keeps a byte's last five bits.
 fn begins_by(a: &[u8], at: usize, b: &[u8], first: u8) -> bool
     requires { ⌜ at + length (now b) ≤ length (now a) ⌝ }
     requires { ⌜ 0 < length (now b) ⌝ }
     requires { ⌜ first ≡ getD (foldText (now b)) 0 0 ⌝ }
     ensures { λ r. ⌜ r ≡ hasPrefix (drop at (foldText (now (a .entry)))) (foldText (now (b .entry))) ⌝ }
 {
-    if folded_at(a, at) != first {
+    if a[at] % 32 != first % 32 {
         return false;
     }
     begins_at(a, at, b)

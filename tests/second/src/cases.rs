@@ -63,7 +63,10 @@ pub enum Operation {
 impl Operation {
     /// Whether the program `trial` runs it. The others are run by the tests of `compare`.
     pub fn is_run_by_trial(&self) -> bool {
-        !matches!(self, Operation::Report { .. } | Operation::Prepare { .. } | Operation::Judge { .. })
+        !matches!(
+            self,
+            Operation::Explain { .. } | Operation::Report { .. } | Operation::Prepare { .. } | Operation::Judge { .. }
+        )
     }
 }
 

@@ -252,16 +252,15 @@ fn measure(Asked { kind, sheet, archive, filters }: &Asked, rounds: usize, rows:
             continue;
         }
         let filter = filter.as_bytes();
-        let selecting = |engine| {
-            move |cards: &[u8]| {
-                matching(cards, |run, list| {
-                    sirophan::select_by(engine, sheet, filter, run, list).expect("a good filter")
-                })
-            }
-        };
         let works = [
-            Measured::new(archive, selecting(Engine::Rows)),
-            Measured::new(archive, selecting(Engine::Text)),
+            Measured::new(archive, move |cards| {
+                matching(cards, |run, list| sirophan::select(sheet, filter, run, list).expect("a good filter"))
+            }),
+            Measured::new(archive, move |cards| {
+                matching(cards, |run, list| {
+                    sirophan::select_by(Engine::Text, sheet, filter, run, list).expect("a good filter")
+                })
+            }),
             Measured::new(archive, move |cards| {
                 matching(cards, |run, list| skipping::select(sheet, filter, run, list).expect("a good filter"))
             }),

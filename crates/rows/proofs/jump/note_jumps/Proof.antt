@@ -7,9 +7,6 @@ use Rattle.rows.proofs.Noting.{Noting, noting-start, noting-test, notin
 use borrow.Author.Needs.{needs}
 use Rattle.rows.proofs.jump.note_jumps.Statement.{statement}
 use Rattle.rows.proofs.jump.note_jumps.Tie as tie
-use Rattle.rows.proofs.jump.note_jumps.Reads as reads
-use Rattle.rows.proofs.jump.note_jumps.Lts as lts
-use Rattle.rows.proofs.cell.row_of.Reads as row-of-reads
 
 abbrev Inv-loop : tie.InvT-loop
 Inv-loop rows jumps₀ sizes₀ top₀ i₀ jumps sizes top i = Noting rows jumps₀ jumps sizes top i

@@ -2,7 +2,7 @@
 use Prim.Native.Nat.{_+_, _*_, _-_}
 use native.Mathlib.Omega.{arith}
 use mathlib.Core.Path.{refl}
-use lib.ListN.{length, getD}
+use lib.ListN.{length}
 use Rattle.block.proofs.Invariants.{Visited}
 use Rattle.block.proofs.Items.{visited-next, visited-decides, visited-end}
 use Rattle.base.specs.Parts.{part}
@@ -13,7 +13,7 @@ use Rattle.rows.specs.Saying.{someEntry, occurrenceSays}
 use Rattle.rows.specs.Opening.{valueOf}
 use Rattle.rows.proofs.Machine.{test-index, bracket-index}
 use Rattle.rows.proofs.Jumping.{opens-part, jumps-part, leap-within, leap-top}
-use Rattle.rows.proofs.Saying.{entry-here, entry-next, entry-end, bracket-plain, bracket-inner, chosen-not, probe-known, probe-closed, probe-opened, at-test, at-bracket, Judging, judging-start, judging-unknown, judging-full, judging-test, judging-bare-bracket, judging-before, judging-inner, judging-bracket, judging-bare-not, judging-not, judging-short, judging-sizes, judging-connect, judging-leap, leap-size, judging-whole, judging-other, empty-bracket}
+use Rattle.rows.proofs.Saying.{entry-here, entry-next, entry-end, bracket-plain, bracket-inner, chosen-not, probe-known, probe-closed, probe-opened, probe-plain, at-test, at-bracket, Judging, judging-start, judging-unknown, judging-full, judging-test, judging-bare-bracket, judging-before, judging-inner, judging-bracket, judging-bare-not, judging-not, judging-short, judging-sizes, judging-connect, judging-leap, leap-size, judging-whole, judging-other, empty-bracket}
 use borrow.Author.Needs.{needs}
 use Prim.Native.Nat.{ℕ, _<_}
 use borrow.Fn.Kinds.{In}
@@ -40,6 +40,7 @@ use Rattle.rows.proofs.says.entry_counts.Reads as entry-counts-reads
 use Rattle.rows.proofs.says.join_verdicts.Reads as join-verdicts-reads
 use Rattle.rows.proofs.says.leap.Reads as leap-reads
 use Rattle.rows.proofs.says.opened_at.Reads as opened-at-reads
+use Rattle.rows.proofs.says.some_counts.Reads as some-counts-reads
 use Rattle.rows.proofs.says.+entry_chosen+probe_says+rows_say+some_entry.{statement}
 use Rattle.rows.proofs.says.+entry_chosen+probe_says+rows_say+some_entry.Tie.{close}
 
@@ -263,10 +264,12 @@ entry-chosen-returns-3 t c = search (chosen-not, needs)
 probe-says-cast-index : (t : ℕ) → probe-says-lts.Need-cast-index (
   meaning-of-reads.Asked,
   meaning-of-reads.Learnt,
-  some-entry-below t,
-  some-entry.Post,
+  some-counts-reads.Asked,
+  some-counts-reads.Learnt,
   some-says-reads.Asked,
   some-says-reads.Learnt,
+  some-entry-below t,
+  some-entry.Post,
 ) (probe-says-at t) probe-says.Post
 probe-says-cast-index t c = search needs
 
@@ -274,62 +277,110 @@ probe-says-shared-slice-read-meaning-of :
     (t : ℕ) → probe-says-lts.Need-shared-slice-read-meaning-of (
       meaning-of-reads.Asked,
       meaning-of-reads.Learnt,
-      some-entry-below t,
-      some-entry.Post,
+      some-counts-reads.Asked,
+      some-counts-reads.Learnt,
       some-says-reads.Asked,
       some-says-reads.Learnt,
+      some-entry-below t,
+      some-entry.Post,
     ) (probe-says-at t) probe-says.Post
 probe-says-shared-slice-read-meaning-of t c = search needs
 
 probe-says-meaning-of-requires : (t : ℕ) → probe-says-lts.Need-meaning-of-requires (
   meaning-of-reads.Asked,
   meaning-of-reads.Learnt,
-  some-entry-below t,
-  some-entry.Post,
+  some-counts-reads.Asked,
+  some-counts-reads.Learnt,
   some-says-reads.Asked,
   some-says-reads.Learnt,
+  some-entry-below t,
+  some-entry.Post,
 ) (probe-says-at t) probe-says.Post
 probe-says-meaning-of-requires t c κs = search needs
 
-probe-says-some-entry-requires : (t : ℕ) → probe-says-lts.Need-some-entry-requires (
+probe-says-some-counts-requires : (t : ℕ) → probe-says-lts.Need-some-counts-requires (
   meaning-of-reads.Asked,
   meaning-of-reads.Learnt,
-  some-entry-below t,
-  some-entry.Post,
+  some-counts-reads.Asked,
+  some-counts-reads.Learnt,
   some-says-reads.Asked,
   some-says-reads.Learnt,
+  some-entry-below t,
+  some-entry.Post,
 ) (probe-says-at t) probe-says.Post
-probe-says-some-entry-requires t c κs = (omega (arith, c .before .before .before .before .before .before .before .before .before .before .before .pre .0), (c .before .before .before .before .before .before .before .before .before .before .before .pre .1 .0, (c .before .before .before .before .before .before .before .before .before .before .before .pre .1 .1 .0, (c .before .before .before .before .before .before .before .before .before .before .before .pre .1 .1 .1 .0, (c .before .before .before .before .before .before .before .before .before .before .before .pre .1 .1 .1 .1 .0, (c .before .before .before .before .before .before .before .before .before .before .before .pre .1 .1 .1 .1 .1 .0, (c .before .before .before .before .before .before .before .before .before .before .before .pre .1 .1 .1 .1 .1 .1 .0, probe-known _ _ _ _ (c .before .before .before .before .before .before .before .before .before .before .before .pre .1 .1 .1 .1 .1 .1 .1 .1) _ _ (c .before .before .if1 .taken) refl (c .meaning-of .ensures))))))))
+probe-says-some-counts-requires t c κs = (c .before .before .before .before .before .before .before .before .before .before .before .before .pre .1 .1 .0, (c .before .before .before .before .before .before .before .before .before .before .before .before .pre .1 .1 .1 .1 .1 .1 .0, probe-known _ _ _ _ (c .before .before .before .before .before .before .before .before .before .before .before .before .pre .1 .1 .1 .1 .1 .1 .1 .1) _ _ (c .before .before .before .if1 .taken) refl (c .before .meaning-of .ensures)))
 
 probe-says-some-says-requires : (t : ℕ) → probe-says-lts.Need-some-says-requires (
   meaning-of-reads.Asked,
   meaning-of-reads.Learnt,
-  some-entry-below t,
-  some-entry.Post,
+  some-counts-reads.Asked,
+  some-counts-reads.Learnt,
   some-says-reads.Asked,
   some-says-reads.Learnt,
+  some-entry-below t,
+  some-entry.Post,
 ) (probe-says-at t) probe-says.Post
 probe-says-some-says-requires t c κs = search needs
 
 probe-says-returns : (t : ℕ) → probe-says-lts.Need-returns (
   meaning-of-reads.Asked,
   meaning-of-reads.Learnt,
-  some-entry-below t,
-  some-entry.Post,
+  some-counts-reads.Asked,
+  some-counts-reads.Learnt,
   some-says-reads.Asked,
   some-says-reads.Learnt,
+  some-entry-below t,
+  some-entry.Post,
 ) (probe-says-at t) probe-says.Post
-probe-says-returns t c = probe-opened _ _ _ _ (c .before .before .before .before .before .before .before .before .before .before .before .before .before .pre .1 .1 .1 .1 .1 .1 .1 .1) _ _ _ _ _ _ _ (c .before .before .before .before .if1 .taken) refl (c .before .before .meaning-of .ensures) (c .before .some-entry .ensures) (c .some-says .ensures)
+probe-says-returns t c = probe-plain _ _ _ _ (c .before .before .before .before .before .before .before .before .before .before .before .before .before .before .pre .1 .1 .1 .1 .1 .1 .1 .1) _ _ _ (c .before .before .before .before .before .before .before .before .before .before .before .before .before .before .args .rows .now) (c .before .before .before .before .before .before .before .before .before .before .before .before .before .before .args .from) (c .before .before .before .before .before .before .before .before .before .before .before .before .before .before .args .to) _ _ _ _ refl (c .before .before .if2 .taken) (c .before .before .before .before .before .if1 .taken) refl (c .before .before .before .meaning-of .ensures) (c .before .some-counts .ensures) (c .some-says .ensures)
+
+probe-says-some-entry-requires : (t : ℕ) → probe-says-lts.Need-some-entry-requires (
+  meaning-of-reads.Asked,
+  meaning-of-reads.Learnt,
+  some-counts-reads.Asked,
+  some-counts-reads.Learnt,
+  some-says-reads.Asked,
+  some-says-reads.Learnt,
+  some-entry-below t,
+  some-entry.Post,
+) (probe-says-at t) probe-says.Post
+probe-says-some-entry-requires t c κs = (omega (arith, c .before .before .before .before .before .before .before .before .before .before .before .before .pre .0), (c .before .before .before .before .before .before .before .before .before .before .before .before .pre .1 .0, (c .before .before .before .before .before .before .before .before .before .before .before .before .pre .1 .1 .0, (c .before .before .before .before .before .before .before .before .before .before .before .before .pre .1 .1 .1 .0, (c .before .before .before .before .before .before .before .before .before .before .before .before .pre .1 .1 .1 .1 .0, (c .before .before .before .before .before .before .before .before .before .before .before .before .pre .1 .1 .1 .1 .1 .0, (c .before .before .before .before .before .before .before .before .before .before .before .before .pre .1 .1 .1 .1 .1 .1 .0, probe-known _ _ _ _ (c .before .before .before .before .before .before .before .before .before .before .before .before .pre .1 .1 .1 .1 .1 .1 .1 .1) _ _ (c .before .before .before .if1 .taken) refl (c .before .meaning-of .ensures))))))))
+
+probe-says-some-says-requires-2 : (t : ℕ) → probe-says-lts.Need-some-says-requires-2 (
+  meaning-of-reads.Asked,
+  meaning-of-reads.Learnt,
+  some-counts-reads.Asked,
+  some-counts-reads.Learnt,
+  some-says-reads.Asked,
+  some-says-reads.Learnt,
+  some-entry-below t,
+  some-entry.Post,
+) (probe-says-at t) probe-says.Post
+probe-says-some-says-requires-2 t c κs = search needs
 
 probe-says-returns-2 : (t : ℕ) → probe-says-lts.Need-returns-2 (
   meaning-of-reads.Asked,
   meaning-of-reads.Learnt,
-  some-entry-below t,
-  some-entry.Post,
+  some-counts-reads.Asked,
+  some-counts-reads.Learnt,
   some-says-reads.Asked,
   some-says-reads.Learnt,
+  some-entry-below t,
+  some-entry.Post,
 ) (probe-says-at t) probe-says.Post
-probe-says-returns-2 t c = probe-closed _ _ _ _ (c .before .before .before .before .before .before .before .before .before .pre .1 .1 .1 .1 .1 .1 .1 .1) _ _ _ (c .if1 .left)
+probe-says-returns-2 t c = probe-opened _ _ _ _ (c .before .before .before .before .before .before .before .before .before .before .before .before .before .before .pre .1 .1 .1 .1 .1 .1 .1 .1) _ _ _ _ _ _ _ (c .before .before .before .before .before .if1 .taken) refl (c .before .before .before .meaning-of .ensures) (c .before .some-entry .ensures) (c .some-says2 .ensures)
+
+probe-says-returns-3 : (t : ℕ) → probe-says-lts.Need-returns-3 (
+  meaning-of-reads.Asked,
+  meaning-of-reads.Learnt,
+  some-counts-reads.Asked,
+  some-counts-reads.Learnt,
+  some-says-reads.Asked,
+  some-says-reads.Learnt,
+  some-entry-below t,
+  some-entry.Post,
+) (probe-says-at t) probe-says.Post
+probe-says-returns-3 t c = probe-closed _ _ _ _ (c .before .before .before .before .before .before .before .before .before .pre .1 .1 .1 .1 .1 .1 .1 .1) _ _ _ (c .if1 .left)
 
 abbrev rows-say-Inv-loop : rows-say-lts.InvT-loop
 rows-say-Inv-loop kinds filter rows jumps spans digits starts ends card chosen says₀ sizes₀ top₀ i₀ says sizes top i = Judging kinds filter chosen (entriesOf card) rows says sizes top i
@@ -1796,20 +1847,25 @@ pub +entry-chosen+probe-says+rows-say+some-entry-spec : {M : Type 1} → stateme
     (λ t. probe-says-lts.spec (
       meaning-of-reads.Asked,
       meaning-of-reads.Learnt,
-      some-entry-below t,
-      some-entry.Post,
+      some-counts-reads.Asked,
+      some-counts-reads.Learnt,
       some-says-reads.Asked,
       some-says-reads.Learnt,
+      some-entry-below t,
+      some-entry.Post,
     )
     (probe-says-at t)
     probe-says.Post
     (probe-says-cast-index t)
     (probe-says-shared-slice-read-meaning-of t)
     (probe-says-meaning-of-requires t)
-    (probe-says-some-entry-requires t)
+    (probe-says-some-counts-requires t)
     (probe-says-some-says-requires t)
     (probe-says-returns t)
-    (probe-says-returns-2 t))
+    (probe-says-some-entry-requires t)
+    (probe-says-some-says-requires-2 t)
+    (probe-says-returns-2 t)
+    (probe-says-returns-3 t))
     (λ t. rows-say-lts.spec (
       leap-reads.Asked,
       leap-reads.Learnt,

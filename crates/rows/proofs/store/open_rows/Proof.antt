@@ -2,7 +2,7 @@
 use borrow.Author.Needs.{needs}
 use Prim.Native.Nat.{_-_}
 use lib.ListN.{length}
-use Rattle.rows.proofs.Opening.{Opening, opening-start, opening-next, opening-end, opened-small, span-room, digit-room, start-room, end-room}
+use Rattle.rows.proofs.Opening.{Opening, opening-start, opening-next, opening-end, opened-small, span-room}
 use Rattle.rows.proofs.store.open_rows.Statement.{statement}
 use Rattle.rows.proofs.store.open_rows.Tie as tie
 

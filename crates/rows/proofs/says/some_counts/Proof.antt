@@ -1,0 +1,76 @@
+-- `rows::says::some_counts` meets its contract. Assumes nothing.
+use borrow.Author.Needs.{needs}
+use Rattle.block.proofs.Invariants.{Visited}
+use Rattle.block.proofs.Items.{visited-next, visited-decides, visited-end}
+use Rattle.card.specs.Card.{entry, entriesOf}
+use Rattle.card.proofs.Entries.{entries-start}
+use Rattle.rows.specs.Saying.{anyOccurrence, someEntry}
+use Rattle.rows.specs.Opening.{valueOf}
+use Rattle.rows.proofs.Saying.{plain-here, plain-next, entry-end}
+use Rattle.rows.proofs.says.some_counts.Statement.{statement}
+use Rattle.rows.proofs.says.some_counts.Tie as tie
+
+abbrev Inv-loop : tie.InvT-loop
+Inv-loop filter card chosen index meaning opened at₀ left₀ at left = Visited entry (someEntry anyOccurrence chosen index meaning (valueOf filter opened)) (someEntry anyOccurrence chosen index meaning (valueOf filter opened) (entriesOf card)) card at left
+
+abbrev μ-loop : tie.MeasureT-loop
+μ-loop filter card chosen index meaning opened at₀ left₀ at left = left
+
+entry-count-requires : tie.Need-entry-count-requires Inv-loop μ-loop
+entry-count-requires c κs = search needs
+
+loop-holds : tie.Need-loop-holds Inv-loop μ-loop
+loop-holds c = search (entries-start, needs)
+
+entry-at-requires : tie.Need-entry-at-requires Inv-loop μ-loop
+entry-at-requires c κs = search needs
+
+is-under-requires : tie.Need-is-under-requires Inv-loop μ-loop
+is-under-requires c κs = search needs
+
+sub-entry-counts : tie.Need-sub-entry-counts Inv-loop μ-loop
+sub-entry-counts c = search needs
+
+part-entry-counts-start : tie.Need-part-entry-counts-start Inv-loop μ-loop
+part-entry-counts-start c = search needs
+
+part-entry-counts-end : tie.Need-part-entry-counts-end Inv-loop μ-loop
+part-entry-counts-end c = search needs
+
+entry-counts-requires : tie.Need-entry-counts-requires Inv-loop μ-loop
+entry-counts-requires c κs = search needs
+
+returns : tie.Need-returns Inv-loop μ-loop
+returns c = visited-decides _ _ _ _ _ _ (c .before .before .before .before .before .before .before .loop .inv) _ _ _ _ (c .before .before .before .before .before .entry-at .ensures) _ (plain-here _ _ _ _ _ _ _ _ _ _ (c .before .before .before .is-under .ensures) (c .before .entry-counts .ensures) (c .if1 .taken))
+
+sub-left : tie.Need-sub-left Inv-loop μ-loop
+sub-left c = search needs
+
+loop-less : tie.Need-loop-less Inv-loop μ-loop
+loop-less c = search needs
+
+loop-again : tie.Need-loop-again Inv-loop μ-loop
+loop-again c = visited-next _ _ _ _ _ _ (c .before .before .before .before .before .before .before .loop .inv) _ _ _ _ (c .before .before .before .before .before .entry-at .ensures) _ (plain-next _ _ _ _ _ _ _ _ _ _ (c .before .before .before .is-under .ensures) (c .before .entry-counts .ensures) (c .if1 .left))
+
+returns-2 : tie.Need-returns-2 Inv-loop μ-loop
+returns-2 c = search (visited-end, entry-end, needs)
+
+pub some-counts-spec : {M : Type 1} → statement M
+some-counts-spec =
+    tie.close
+    (tie.spec
+    Inv-loop
+    μ-loop
+    entry-count-requires
+    loop-holds
+    entry-at-requires
+    is-under-requires
+    sub-entry-counts
+    part-entry-counts-start
+    part-entry-counts-end
+    entry-counts-requires
+    returns
+    sub-left
+    loop-less
+    loop-again
+    returns-2)
