@@ -19,7 +19,7 @@ ghost use Rattle.sheet.specs.Find.{find};
 ghost use Rattle.card.specs.Card.{entriesOf, readCard};
 ghost use Rattle.syntax.specs.Scan.{decode as decoded, testOf};
 ghost use Rattle.judge.specs.Faults.{faultAt, testFault};
-ghost use Rattle.judge.specs.Verdicts.{textCounts, someSays, saysAt, testSays};
+ghost use Rattle.judge.specs.Verdicts.{textCounts, saysAt, testSays};
 ghost use Rattle.judge.specs.Sets.{lookup, chosenOf};
 ghost use Rattle.syntax.specs.Placed.{Placed};
 ghost use Rattle.kind.specs.Readable.{isTrue};

@@ -2,10 +2,10 @@
 -- Assumes nothing.
 use Prim.Native.Nat.{ℕ, _+_, _*_, _≤_, _<_}
 use native.Mathlib.Omega.{arith}
-use mathlib.Core.Path.{_≡_, refl, sym, ap, _∙_}
-use mathlib.Core.Bool.{Bool, true, false, cond, not, _&&_}
+use mathlib.Core.Path.{_≡_, sym, ap, _∙_}
+use mathlib.Core.Bool.{Bool, true, false, not, _&&_}
 use mathlib.Core.List.{List}
-use lib.Dec.{eqb, ltb}
+use lib.Dec.{eqb}
 use lib.ListN.{length, getD, take}
 use borrow.Author.Tests.{lt-ltb, le-ltb, le-leb, lt-leb, eq-eqb, ne-eqb}
 use Rattle.base.specs.Parts.{part}
@@ -15,7 +15,7 @@ use Rattle.syntax.specs.declared.FoundValue.{FoundValue}
 use Rattle.kind.specs.Table.{hasMeaning}
 use Rattle.kind.specs.Readable.{valueReadable}
 use Rattle.rows.specs.Nesting.{larger}
-use Rattle.rows.specs.Shapes.{kindFits, valueIn, valueFits, probeFits, deeper, testShape, notShape, bracketShape, joinShape, bit, packed, unpacked, isWithin}
+use Rattle.rows.specs.Shapes.{kindFits, valueIn, probeFits, deeper, testShape, notShape, bracketShape, joinShape, bit, packed, unpacked, isWithin}
 use Rattle.rows.specs.declared.Probe.{Probe}
 use Rattle.rows.specs.declared.Shape.{Shape}
 

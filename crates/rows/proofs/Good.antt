@@ -1,40 +1,36 @@
 -- The test for good rows passes exactly where they are good.
 -- Assumes nothing.
-use Prim.Native.Nat.{ℕ, zero, suc, _+_, _≤_, _<_}
+use Prim.Native.Nat.{ℕ, zero, suc, _≤_}
 use native.Mathlib.Omega.{arith}
 use mathlib.Core.Path.{_≡_, refl, sym, ap, subst, _∙_}
-use mathlib.Core.Bool.{Bool, true, false, not, _&&_}
+use mathlib.Core.Bool.{Bool, true, not, _&&_}
 use mathlib.Core.Logic.{_↔_, ⊎-elim}
 use mathlib.Core.Option.{Option, none, some}
-use mathlib.Core.List.{List, _∷_, _++_}
+use mathlib.Core.List.{List, _∷_}
 use lib.Dec.{eqb, ltb, leb}
 use lib.ListN.{length, getD, length-append}
 use borrow.Author.Tests.{lt-ltb, ltb-true, le-leb, leb-true, eq-eqb, ne-eqb, eqb-true, eqb-false, not-true}
 use Rattle.base.specs.Lists.{Listed, All}
 use Rattle.base.specs.Kinds.{bundleKind}
 use Rattle.base.specs.Operators.{operatorWords}
-use Rattle.base.proofs.Tests.{and-left, and-right, and-both, both-ways}
+use Rattle.base.proofs.Tests.{and-left, and-right, both-ways}
 use Rattle.base.proofs.All.{all-head, all-right}
-use Rattle.sheet.specs.Sheet.{Parameter, kindAt}
+use Rattle.sheet.specs.Sheet.{Parameter}
 use Rattle.sheet.specs.Find.{kindsOf, parentsOf}
 use Rattle.sheet.specs.Encode.{WellFormedSheet, WellFormedParameter, HasParent, at-top, in-bundle}
 use Rattle.sheet.proofs.Listed.{at-listed, table-kind, table-listed}
 use Rattle.syntax.specs.Scan.{valueAt}
-use Rattle.syntax.specs.declared.RawValue.{RawValue}
 use Rattle.syntax.specs.declared.FoundValue.{FoundValue}
-use Rattle.syntax.proofs.Values.{Found}
 use Rattle.kind.specs.Table.{hasMeaning}
-use Rattle.kind.specs.Readable.{valueReadable}
 use Rattle.kind.specs.Rules.{ReadableValue}
 use Rattle.kind.proofs.Rules.{value-iff, operator-iff}
 use Rattle.rows.specs.Expression.{Expression, probing, choosing, joining, negating, testCount}
-use Rattle.rows.specs.Cells.{encode, stated, Sayable, Writable, writable-test, writable-bracket, writable-join, writable-not}
-use Rattle.rows.specs.Nesting.{depthOf}
+use Rattle.rows.specs.Cells.{stated, Sayable, Writable, writable-test, writable-bracket, writable-join, writable-not}
 use Rattle.rows.specs.Good.{ValueFrom, FitsTo, Fits, fits-test, fits-bracket, fits-join, fits-not, Good}
 use Rattle.rows.specs.Shapes.{kindFits, valueIn, valueFits, probeFits, testShape, notShape, bracketShape, joinShape, shapeOf, isWithin, goodBy, good}
 use Rattle.rows.specs.declared.Probe.{Probe}
 use Rattle.rows.specs.declared.Shape.{Shape}
-use Rattle.rows.proofs.Stating.{stated-encode, stated-cells, some-same, none-some}
+use Rattle.rows.proofs.Stating.{stated-encode, stated-cells}
 use Rattle.rows.proofs.Nesting.{chain-of, of-chain, rows-few}
 use Rattle.rows.proofs.Shapes.{shape-shallow, shallow-shape}
 use Rattle.rows.proofs.Values.{found-from, from-found}

@@ -1,9 +1,9 @@
 -- What rows say is what the tree that they state says; where the tests of a tree stand in the text makes no difference.
 -- Assumes nothing.
-use Prim.Native.Nat.{ℕ, zero, suc, _-_}
+use Prim.Native.Nat.{ℕ, suc, _-_}
 use native.Mathlib.Omega.{arith}
 use mathlib.Core.Path.{_≡_, refl, sym, ap, ap₂, subst, _∙_}
-use mathlib.Core.Bool.{Bool, true, false, cond, not}
+use mathlib.Core.Bool.{Bool, true, cond, not}
 use mathlib.Core.Option.{Option, none, some}
 use mathlib.Core.List.{List, [], _∷_, _++_, map}
 use lib.Dec.{leb}
@@ -22,17 +22,16 @@ use Rattle.sheet.proofs.Listed.{find-iff, table-listed}
 use Rattle.card.specs.Card.{Entry}
 use Rattle.syntax.specs.Tree.{Test, name, moved, under, testsOf, Tree, test, bracketed, join, negation}
 use Rattle.syntax.specs.Scan.{valueAt}
-use Rattle.syntax.specs.declared.FoundValue.{FoundValue}
 use Rattle.syntax.proofs.Values.{Found as ValueFound}
 use Rattle.judge.specs.Sets.{lookup, ofOccurrence, keep}
-use Rattle.judge.specs.Verdicts.{saysAt, testSays, joined, filterSays}
+use Rattle.judge.specs.Verdicts.{testSays, joined, filterSays}
 use Rattle.kind.specs.Rules.{TrueOrFalse, ReadableValue, value-of-pr, value-of-kind}
 use Rattle.judge.proofs.Rules.{PrSpelled, enters}
-use Rattle.rows.specs.Expression.{Expression, probing, choosing, joining, negating, testCount}
+use Rattle.rows.specs.Expression.{Expression, testCount}
 use Rattle.rows.specs.Cells.{stated}
 use Rattle.rows.specs.Good.{FitsTo, Fits, fits-test, fits-bracket, fits-join, fits-not, Good}
-use Rattle.rows.specs.Shapes.{valueIn, shapeOf, isWithin, goodBy, good}
-use Rattle.rows.specs.Saying.{probeSaysBy, probeSays, expressionSays, statedSays, rowsSay, Whole}
+use Rattle.rows.specs.Shapes.{shapeOf, isWithin, goodBy, good}
+use Rattle.rows.specs.Saying.{probeSays, expressionSays, statedSays, rowsSay, Whole}
 use Rattle.rows.specs.Stated.{nameAt, valueBy, testFor, bundleFor, treeOf, erase}
 use Rattle.rows.specs.declared.Probe.{Probe}
 use Rattle.rows.proofs.Stating.{some-same}

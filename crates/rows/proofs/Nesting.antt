@@ -4,7 +4,7 @@ use Prim.Native.Nat.{ℕ, zero, suc, _+_, _*_, _≤_, _<_}
 use native.Mathlib.Omega.{arith}
 use native.Mathlib.Nat.{mul-add, add-mul}
 use mathlib.Core.Path.{_≡_, refl, ap, _∙_}
-use mathlib.Core.List.{List, [], _∷_, _++_}
+use mathlib.Core.List.{[], _∷_, _++_}
 use lib.ListN.{length, length-append}
 use mathlib.Core.Bool.{Bool, true, false, cond}
 use lib.Dec.{ltb}
@@ -12,7 +12,7 @@ use borrow.Author.Tests.{ltb-true, ltb-false}
 use Rattle.rows.specs.Expression.{Expression, probing, choosing, joining, negating, testCount}
 use Rattle.rows.specs.Cells.{cellOf, isAnd, encode}
 use Rattle.rows.specs.declared.Row.{Row}
-use Rattle.rows.specs.Nesting.{NestsItem, Nests, nests-test, nests-bracketed, nests-bracket, nests-not, nests-item, nests-more, larger, Depth, depthOf}
+use Rattle.rows.specs.Nesting.{NestsItem, Nests, nests-test, nests-bracketed, nests-bracket, nests-not, nests-item, nests-more, larger, depthOf}
 
 larger-of : (a b : ℕ) → (a ≤ larger a b) × (b ≤ larger a b)
 unfolding larger

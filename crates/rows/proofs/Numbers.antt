@@ -2,15 +2,14 @@
 -- Assumes nothing.
 use Prim.Native.Nat.{ℕ, _+_, _*_, _-_, _≤_}
 use native.Mathlib.Omega.{arith}
-use mathlib.Core.Path.{_≡_, refl, sym, ap, _∙_}
-use mathlib.Core.Bool.{Bool, true, false, cond}
+use mathlib.Core.Path.{_≡_, refl, sym, _∙_}
+use mathlib.Core.Bool.{false, cond}
 use mathlib.Core.List.{List}
 use lib.Dec.{eqb, ltb}
 use lib.ListN.{length, getD, drop}
 use Rattle.base.specs.Ascii.{ascii}
 use Rattle.base.specs.Names.{isName}
 use Rattle.base.specs.Parts.{part}
-use Rattle.base.specs.Runs.{runEnd}
 use Rattle.base.proofs.Tests.{cond-elim}
 use Rattle.sheet.specs.Sheet.{Parameter}
 use Rattle.sheet.specs.declared.Found.{Found}
@@ -23,7 +22,6 @@ use Rattle.syntax.specs.declared.FoundOperator.{FoundOperator}
 use Rattle.syntax.specs.declared.FoundTest.{FoundTest}
 use Rattle.syntax.specs.declared.FoundChoice.{FoundChoice}
 use Rattle.syntax.specs.declared.FoundClose.{FoundClose}
-use Rattle.syntax.specs.declared.RawValue.{RawValue}
 use Rattle.syntax.specs.declared.RawTest.{RawTest}
 use Rattle.syntax.specs.declared.Head.{Head}
 use Rattle.syntax.proofs.Structure.{OpenDerived, open-derived}

@@ -1,16 +1,15 @@
 -- The rows of a filter whose tests have no fault are good, and state the filter.
 -- Assumes nothing.
-use Prim.Native.Nat.{ℕ, suc, _+_, _≤_, _<_}
+use Prim.Native.Nat.{ℕ, suc, _+_, _≤_}
 use native.Mathlib.Omega.{arith}
 use mathlib.Core.Path.{_≡_, refl, sym, ap, ap₂, subst, _∙_}
-use mathlib.Core.Bool.{Bool, true, false, cond}
-use mathlib.Core.List.{List, [], _∷_, _++_, map}
+use mathlib.Core.Bool.{true, false}
+use mathlib.Core.List.{List, [], _∷_, map}
 use lib.Dec.{eqb}
 use lib.ListN.{length, getD, length-append}
 use borrow.Author.Tests.{eqb-false}
 use Rattle.base.specs.Lists.{Listed, All, all-empty, all-cons}
 use Rattle.base.specs.Kinds.{bundleKind}
-use Rattle.base.specs.Operators.{operatorWords}
 use Rattle.base.proofs.Tests.{cond-elim}
 use Rattle.base.proofs.All.{all-head, all-left, all-right}
 use Rattle.sheet.specs.Sheet.{Parameter, parameter}
@@ -19,29 +18,26 @@ use Rattle.sheet.specs.Encode.{WellFormedSheet}
 use Rattle.sheet.specs.declared.Found.{Found}
 use Rattle.sheet.proofs.Listed.{find-iff, table-listed}
 use Rattle.syntax.specs.Strings.{isBare}
-use Rattle.syntax.specs.Tree.{Test, name, member, moved, under, Tree, test, bracketed, join, negation, testsOf}
-use Rattle.syntax.specs.Grammar.{round, square, deepest, mostTests, TestAt, a-test, Item, Filter, item-test, item-bracket, item-not, item-bracketed, one-item, one-more, Spells}
-use Rattle.syntax.specs.Scan.{valueAt, testOf}
+use Rattle.syntax.specs.Tree.{Test, name, moved, under, Tree, test, bracketed, join, negation, testsOf}
+use Rattle.syntax.specs.Grammar.{round, square, mostTests, TestAt, a-test, Item, Filter, item-test, item-bracket, item-not, item-bracketed, one-item, one-more, Spells}
+use Rattle.syntax.specs.Scan.{valueAt}
 use Rattle.syntax.specs.declared.RawValue.{RawValue}
 use Rattle.syntax.specs.declared.FoundValue.{FoundValue}
-use Rattle.syntax.proofs.Tests.{TestFound, test-found}
+use Rattle.syntax.proofs.Tests.{test-found}
 use Rattle.kind.specs.Table.{hasMeaning}
 use Rattle.kind.specs.Readable.{valueReadable}
-use Rattle.kind.specs.Rules.{ReadableValue}
 use Rattle.kind.proofs.Rules.{value-iff, operator-iff}
 use Rattle.judge.specs.Sets.{lookup}
 use Rattle.judge.specs.Faults.{unsupported, kindFault, faultAt, testFault, orElse, firstFault}
 use Rattle.judge.specs.declared.Fault.{Fault}
-use Rattle.judge.specs.declared.FirstFault.{FirstFault}
 use Rattle.judge.proofs.Rules.{entered, enters}
-use Rattle.rows.specs.Expression.{Expression, probing, choosing, joining, negating, testCount}
+use Rattle.rows.specs.Expression.{testCount}
 use Rattle.rows.specs.Cells.{encode}
 use Rattle.rows.specs.Nesting.{NestsItem, Nests, nests-test, nests-bracketed, nests-bracket, nests-not, nests-item, nests-more}
 use Rattle.rows.specs.Good.{ValueFrom, FitsTo, Fits, fits-test, fits-bracket, fits-join, fits-not, Good}
 use Rattle.rows.specs.Shapes.{valueIn}
-use Rattle.rows.specs.Writing.{valuePlace, indexOf, probeFor, prepared, Read}
+use Rattle.rows.specs.Writing.{valuePlace, indexOf, probeFor, prepared}
 use Rattle.rows.specs.Stated.{nameAt, valueBy, testFor, bundleFor, treeOf, erase}
-use Rattle.rows.specs.declared.Probe.{Probe}
 use Rattle.rows.proofs.Numbers.{found-read}
 use Rattle.rows.proofs.Values.{found-from}
 use Rattle.rows.proofs.Meaning.{name-listed, bundle-name, bundle-at-top}

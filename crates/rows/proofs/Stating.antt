@@ -1,6 +1,6 @@
 -- The cells of an expression state it, and cells that state an expression are its cells.
 -- Assumes nothing.
-use Prim.Native.Nat.{ℕ, suc, _+_, _≤_}
+use Prim.Native.Nat.{ℕ, _+_, _≤_}
 use native.Mathlib.Omega.{arith}
 use mathlib.Core.Path.{_≡_, refl, sym, ap, subst, _∙_}
 use mathlib.Core.Bool.{Bool, true, false}
@@ -10,8 +10,7 @@ use lib.ListN.{length}
 use Rattle.syntax.specs.Tree.{Connective, and, or}
 use Rattle.syntax.specs.Reader.{connective}
 use Rattle.rows.specs.Expression.{Expression, probing, choosing, joining, negating, testCount}
-use Rattle.rows.specs.Cells.{rowOf, cellOf, isAnd, encode, Sayable, Writable, writable-test, writable-bracket, writable-join, writable-not, push, andThen, run, only, stated}
-use Rattle.rows.specs.declared.Probe.{Probe}
+use Rattle.rows.specs.Cells.{rowOf, cellOf, isAnd, encode, Writable, writable-test, writable-bracket, writable-join, writable-not, push, andThen, run, only, stated}
 use Rattle.rows.specs.declared.Row.{Row}
 use Rattle.rows.proofs.Cells.{row-test, row-bracket, row-not, row-connect, cell-row}
 

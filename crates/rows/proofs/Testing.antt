@@ -1,12 +1,11 @@
 -- The loop of `are_good`: the stack has the shapes of the expressions so far.
 -- Assumes nothing.
-use Prim.Native.Nat.{ℕ, suc, _+_, _-_, _≤_, _<_}
+use Prim.Native.Nat.{ℕ, _+_, _-_, _≤_, _<_}
 use native.Mathlib.Omega.{arith}
 use mathlib.Core.Path.{_≡_, refl, sym, ap, ap₂, subst, _∙_}
-use mathlib.Core.Bool.{Bool, true, false}
+use mathlib.Core.Bool.{Bool, false}
 use mathlib.Core.Option.{Option, none, some}
 use mathlib.Core.List.{List, [], _∷_}
-use lib.Dec.{leb}
 use lib.ListN.{length, getD, set, replicate, length-set}
 use borrow.Author.Tests.{le-leb, lt-leb}
 use Rattle.syntax.specs.Reader.{connective}
@@ -16,9 +15,9 @@ use Rattle.rows.specs.Shapes.{testShape, notShape, bracketShape, joinSha
 use Rattle.rows.specs.declared.Probe.{Probe}
 use Rattle.rows.specs.declared.Row.{Row}
 use Rattle.rows.specs.declared.Shape.{Shape}
-use Rattle.rows.proofs.Stating.{total, height-total}
+use Rattle.rows.proofs.Stating.{total}
 use Rattle.rows.proofs.Shapes.{shape-small, unpacked-packed}
-use Rattle.rows.proofs.Machine.{Holds, holds-none, holds-more, holds-length, holds-push, Top, top-of, none-on, Stacked, stacked-start, stacked-next, stacked-fails, stacked-end, stacked-total}
+use Rattle.rows.proofs.Machine.{Holds, holds-none, holds-more, holds-push, Top, top-of, none-on, Stacked, stacked-start, stacked-next, stacked-fails, stacked-end, stacked-total}
 
 module _ (kinds parents xs : List ℕ) where
   abbrev gathered : Expression → ℕ

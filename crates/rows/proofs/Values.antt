@@ -1,6 +1,6 @@
 -- The value that a position names is the one that the scanner finds there.
 -- Assumes nothing.
-use Prim.Native.Nat.{ℕ, _+_}
+use Prim.Native.Nat.{ℕ}
 use native.Mathlib.Omega.{arith}
 use native.Mathlib.Nat.{add-zero}
 use mathlib.Core.Path.{_≡_, refl, sym, ap, _∙_}
@@ -11,7 +11,7 @@ use lib.ListN.{getD, drop}
 use lib.Seq.{getD-drop}
 use Rattle.base.specs.Runs.{run}
 use Rattle.base.proofs.Tests.{decided}
-use Rattle.syntax.specs.Strings.{quote, isBare}
+use Rattle.syntax.specs.Strings.{isBare}
 use Rattle.syntax.specs.Scan.{valueAt}
 use Rattle.syntax.specs.declared.RawValue.{RawValue}
 use Rattle.syntax.specs.declared.FoundValue.{FoundValue}

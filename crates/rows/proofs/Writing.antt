@@ -12,7 +12,7 @@ use Rattle.base.specs.Parts.{part}
 use Rattle.base.specs.Runs.{RunEnd}
 use Rattle.sheet.specs.Sheet.{Parameter}
 use Rattle.sheet.specs.Find.{enter}
-use Rattle.syntax.specs.Tree.{Test, moved, Tree, test, bracketed, join, negation, testsOf, and, or}
+use Rattle.syntax.specs.Tree.{Test, moved, Tree, test, bracketed, join, negation, testsOf}
 use Rattle.syntax.specs.Grammar.{round, square, Item, Filter, item-test, item-bracket, item-not, item-bracketed, one-item, one-more}
 use Rattle.syntax.specs.Scan.{isSpace, testOf, headAt, memberAfter, connectiveAt, closeAt}
 use Rattle.syntax.specs.Reader.{Parsed, parsed, unparsed, connective, negatedIf, chainOf, itemAt, filterAt}
@@ -31,7 +31,6 @@ use Rattle.filter.specs.Folds.{foldTree, joinSummaries, summaryOf, reading}
 use Rattle.judge.specs.declared.FirstFault.{FirstFault}
 use Rattle.filter.specs.declared.Summary.{Summary}
 use Rattle.filter.proofs.Reading.{fault-append, reading-is, summary-inside}
-use Rattle.rows.specs.Expression.{Expression}
 use Rattle.rows.specs.Cells.{numberOf, cellOf, isAnd, encode}
 use Rattle.rows.specs.Writing.{probeFor, prepared, cellCount, outcomeOf, writtenOf, Wrote}
 use Rattle.rows.specs.declared.Row.{Row}

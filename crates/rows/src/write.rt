@@ -28,7 +28,6 @@ ghost use Rattle.sheet.specs.Sheet.{parametersOf, readSheet};
 ghost use Rattle.syntax.specs.Placed.{Placed};
 ghost use Rattle.syntax.specs.Scan.{testOf};
 ghost use Rattle.syntax.specs.Reader.{itemAt, filterAt};
-ghost use Rattle.judge.specs.Sets.{lookup};
 ghost use Rattle.rows.specs.Cells.{numberOf, cellOf};
 ghost use Rattle.rows.specs.Writing.{valuePlace, indexOf, probeFor, Wrote, Read};
 

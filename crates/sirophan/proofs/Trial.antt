@@ -7,7 +7,6 @@ use Rattle.base.specs.Lists.{All, every, equal, member}
 use Rattle.base.specs.Affixes.{hasPrefix, hasSuffix, hasInfix}
 use Rattle.base.specs.Digits.{isDigit}
 use Rattle.base.specs.Between.{between}
-use Rattle.base.specs.Names as names
 use Rattle.base.specs.Names.{isLetter, isNameStart, isNamePart, isReserved, isName}
 use Rattle.base.specs.Operators.{operatorWords}
 use Rattle.base.specs.Runs.{run, runEnd}

@@ -1,5 +1,4 @@
 -- `rows::stack::unpack` meets its contract. Assumes nothing.
-use borrow.Author.Needs.{needs}
 use mathlib.Core.Path.{refl}
 use native.Mathlib.Omega.{arith}
 use Rattle.rows.specs.Shapes.{unpacked}

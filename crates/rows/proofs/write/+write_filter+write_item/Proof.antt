@@ -5,7 +5,7 @@ use lib.ListN.{length}
 use Rattle.sheet.specs.Sheet.{parametersOf}
 use Rattle.syntax.proofs.Places.{head-test-placed, head-open-ahead, head-choice-ahead, head-choice-order, head-choice-within, head-choice-next, member-ahead, connective-ahead}
 use Rattle.rows.proofs.Numbers.{head-read, member-read}
-use Rattle.rows.proofs.Writing.{Takes, item-takes, filter-takes, wrote-test, wrote-nothing, wrote-deep, wrote-no-filter, wrote-open, wrote-bracket, wrote-not, wrote-choice-deep, wrote-choice-no-filter, wrote-no-member, wrote-member, Chained, wrote-keeps, wrote-no-item, chain-starts, chain-ends, chain-no-item, chain-fits, chain-takes, one-test}
+use Rattle.rows.proofs.Writing.{item-takes, filter-takes, wrote-test, wrote-nothing, wrote-deep, wrote-no-filter, wrote-open, wrote-bracket, wrote-not, wrote-choice-deep, wrote-choice-no-filter, wrote-no-member, wrote-member, Chained, wrote-keeps, wrote-no-item, chain-starts, chain-ends, chain-no-item, chain-fits, chain-takes, one-test}
 use borrow.Author.Needs.{needs}
 use Prim.Native.Nat.{ℕ, _<_}
 use borrow.Fn.Kinds.{In}

@@ -1,10 +1,7 @@
 -- `rows::write::connect_cell` meets its contract. Assumes nothing.
-use borrow.Author.Needs.{needs}
 use Rattle.rows.specs.Cells.{cellOf}
 use Rattle.rows.proofs.write.connect_cell.Statement.{statement}
 use Rattle.rows.proofs.write.connect_cell.Tie as tie
-use Rattle.rows.proofs.write.connect_cell.Reads as reads
-use Rattle.rows.proofs.write.connect_cell.Lts as lts
 
 returns : tie.Need-returns
 unfolding cellOf

@@ -3,11 +3,6 @@ use borrow.Author.Needs.{needs}
 use Rattle.rows.proofs.Numbers.{number-is}
 use Rattle.rows.proofs.write.test_number.Statement.{statement}
 use Rattle.rows.proofs.write.test_number.Tie as tie
-use Rattle.rows.proofs.write.test_number.Reads as reads
-use Rattle.rows.proofs.write.test_number.Lts as lts
-use Rattle.judge.proofs.test_found.Reads as test-found-reads
-use Rattle.rows.proofs.write.index_of.Reads as index-of-reads
-use Rattle.rows.proofs.write.value_place.Reads as value-place-reads
 
 test-found-requires : tie.Need-test-found-requires
 test-found-requires c κs = search needs

@@ -3,8 +3,6 @@ use borrow.Author.Needs.{needs}
 use Rattle.rows.proofs.Numbers.{read-ends, read-quotes, read-place}
 use Rattle.rows.proofs.write.value_place.Statement.{statement}
 use Rattle.rows.proofs.write.value_place.Tie as tie
-use Rattle.rows.proofs.write.value_place.Reads as reads
-use Rattle.rows.proofs.write.value_place.Lts as lts
 
 sub-quotes : tie.Need-sub-quotes
 sub-quotes c = search (read-ends, needs)

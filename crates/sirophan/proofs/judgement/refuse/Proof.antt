@@ -1,5 +1,4 @@
 -- `sirophan::judgement::refuse` meets its contract. Assumes nothing.
-use borrow.Author.Needs.{needs}
 use mathlib.Core.Path.{refl}
 use Rattle.refusal.specs.Answers.{refusalAnswer}
 use Rattle.sirophan.specs.Answers.{matchedAnswer}

@@ -4,9 +4,6 @@ use native.Mathlib.Omega.{arith}
 use Rattle.sirophan.proofs.Contracts.{judges}
 use Rattle.sirophan.proofs.operations.judge.Statement.{statement}
 use Rattle.sirophan.proofs.operations.judge.Tie as tie
-use Rattle.sirophan.proofs.operations.judge.Reads as reads
-use Rattle.sirophan.proofs.operations.judge.Lts as lts
-use Rattle.sirophan.proofs.judgement.judge_bytes.Reads as judge-bytes-reads
 
 judge-bytes-requires : tie.Need-judge-bytes-requires
 judge-bytes-requires c κs = search needs

@@ -4,9 +4,6 @@ use native.Mathlib.Omega.{arith}
 use Rattle.sirophan.proofs.Contracts.{prepares-into}
 use Rattle.sirophan.proofs.operations.prepare.Statement.{statement}
 use Rattle.sirophan.proofs.operations.prepare.Tie as tie
-use Rattle.sirophan.proofs.operations.prepare.Reads as reads
-use Rattle.sirophan.proofs.operations.prepare.Lts as lts
-use Rattle.sirophan.proofs.preparation.prepare_bytes.Reads as prepare-bytes-reads
 
 prepare-bytes-requires : tie.Need-prepare-bytes-requires
 prepare-bytes-requires c κs = search needs
