@@ -142,13 +142,15 @@ module _ (says : ℕ → Bool) (k : Chosen) (i : ℕ) (m : Meaning) (v : List �
   entry-next h = entry-step ∙ ap (λ (y : Bool). y || someEntry says k i m v es) h
 
 -- the same without brackets
-module _ (k : Chosen) (i : ℕ) (m : Meaning) (v : List ℕ) (j o : ℕ) (x : List ℕ) (es : List Entry) (under n : Bool)
-    (a : under ≡ (counts k o && eqb j i)) (b : n ≡ (under && textCounts m v x)) where
-  pub plain-here : n ≡ true → true ≡ someEntry anyOccurrence k i m v (entry j o x ∷ es)
-  plain-here h = entry-here anyOccurrence k i m v j o x es under n n a b (sym (and-true n)) h
+module _ (k : Chosen) (i : ℕ) (m : Meaning) (v : List ℕ) (j o : ℕ) (x : List ℕ) (es : List Entry) (under : Bool) (a : under ≡ (counts k o && eqb j i)) where
+  pub plain-here : (n : Bool) → under ≡ true → n ≡ textCounts m v x → n ≡ true → true ≡ someEntry anyOccurrence k i m v (entry j o x ∷ es)
+  plain-here n u b h = entry-here anyOccurrence k i m v j o x es under n n a (b ∙ ap (λ (y : Bool). y && textCounts m v x) (sym u)) (sym (and-true n)) h
 
-  pub plain-next : n ≡ false → someEntry anyOccurrence k i m v (entry j o x ∷ es) ≡ someEntry anyOccurrence k i m v es
-  plain-next h = entry-next anyOccurrence k i m v j o x es under n n a b (sym (and-true n)) h
+  pub plain-next : (n : Bool) → under ≡ true → n ≡ textCounts m v x → n ≡ false → someEntry anyOccurrence k i m v (entry j o x ∷ es) ≡ someEntry anyOccurrence k i m v es
+  plain-next n u b h = entry-next anyOccurrence k i m v j o x es under n n a (b ∙ ap (λ (y : Bool). y && textCounts m v x) (sym u)) (sym (and-true n)) h
+
+  pub plain-other : under ≡ false → someEntry anyOccurrence k i m v (entry j o x ∷ es) ≡ someEntry anyOccurrence k i m v es
+  plain-other u = entry-next anyOccurrence k i m v j o x es under false false a (ap (λ (y : Bool). y && textCounts m v x) (sym u)) refl refl
 
 pub entry-end : (says : ℕ → Bool) (k : Chosen) (i : ℕ) (m : Meaning) (v : List ℕ) → false ≡ someEntry says k i m v []
 unfolding someEntry
@@ -230,13 +232,6 @@ module _ (kinds xs : List ℕ) (p : Probe) (o : Opened) (e : o ≡ openedFor kin
         let is : m ≡ meaningOf (p .operator) (getD kinds (p .index) 0) = j ∙ ap (meaningOf (p .operator)) i in
         let w = told h in
         rw (w .found) (y ∙ ap₂ (λ (a b : Bool). someSays m a b) (w .truth) (q ∙ ap (λ (v : List ℕ). someEntry (occurrenceSays kinds xs all inner) k (p .index) m v all) (w .same)) ∙ ap (λ (n : Meaning). someSays n (isTrue (valueIn xs (w .value))) (someEntry (occurrenceSays kinds xs all inner) k (p .index) n (valueIn xs (w .value)) all)) is)
-
-    pub probe-plain : (rows : List ℕ) (from to : ℕ) (m : Meaning) (kind : ℕ) (s r : Bool) → inner ≡ part rows from to → from ≡ to → o .found ≡ true → kind ≡ getD kinds (p .index) 0 → m ≡ meaningOf (p .operator) kind
-        → s ≡ someEntry anyOccurrence k (p .index) m (valueOf xs o) all → r ≡ someSays m (o .truth) s → r ≡ probeSaysEach kinds xs inner p k all
-    probe-plain rows from to m kind s r c z h i j q y =
-        let none : to - from ≡ 0 = omega (arith, z) in
-        let nothing : inner ≡ [] = c ∙ ap (λ (n : ℕ). take n (drop from rows)) none in
-        probe-opened m kind s r h i j (q ∙ ap (λ (cs : List ℕ). someEntry (occurrenceSays kinds xs all cs) k (p .index) m (valueOf xs o) all) (sym nothing)) y
 
 -- ---- a value that was opened
 
@@ -324,16 +319,14 @@ module _ (kinds xs : List ℕ) (k : Chosen) (all : List Entry) where
         let next : Stacked rows (i + 1) (probing p ∷ s .st) = stacked-next (s .stacked) l r e (probing p ∷ s .st) (rw u) in
         absurd (omega (arith, stacked-total next (w .expression) (w .states), height-total (s .st), holds-length (s .verdicts), z, w .few))
 
-    pub judging-test : (p : Probe) (v : Bool) → r ≡ Row.Test p → (top ≡ 32 → ⊥) → v ≡ probeSaysEach kinds xs (part rows i i) p k all → Judging rows (set says top v) (set sizes top 1) (top + 1) (i + 1)
+    pub judging-test : (p : Probe) (v : Bool) → r ≡ Row.Test p → (top ≡ 32 → ⊥) → v ≡ probeSaysEach kinds xs [] p k all → Judging rows (set says top v) (set sizes top 1) (top + 1) (i + 1)
     unfolding push encode
     judging-test p v u z w =
-        let zero-left : i - i ≡ 0 = omega arith in
-        let nothing : part rows i i ≡ [] = ap (λ (n : ℕ). take n (drop i rows)) zero-left in
         let low : top < 32 = omega (arith, s .few, z) in
         record {
           st = probing p ∷ s .st;
           stacked = stacked-next (s .stacked) l r e (probing p ∷ s .st) (rw u);
-          verdicts = holds-push (probing p) v (s .verdicts) (omega (arith, s .says-size, low)) (w ∙ ap (λ (cs : List ℕ). probeSaysEach kinds xs cs p k all) nothing ∙ plain-is kinds xs k all p);
+          verdicts = holds-push (probing p) v (s .verdicts) (omega (arith, s .says-size, low)) (w ∙ plain-is kinds xs k all p);
           lengths = holds-push (probing p) 1 (s .lengths) (omega (arith, s .sizes-size, low)) refl;
           says-size = length-set says top v ∙ s .says-size;
           sizes-size = length-set sizes top 1 ∙ s .sizes-size;
@@ -537,7 +530,3 @@ module _ (kinds xs : List ℕ) (k : Chosen) (all : List Entry) where
         not-one holds-none z = refl
         not-one (holds-more v holds-none) z = absurd (z refl)
         not-one (holds-more v (holds-more y h)) z = refl
-
--- a test without brackets has no rows in them
-pub empty-bracket : (rows : List ℕ) (i : ℕ) → i ≤ length rows → Bracketed rows i i
-empty-bracket rows i l = record { order = omega arith; within = l; whole = λ y. absurd (y refl) }

@@ -13,7 +13,7 @@ use Rattle.rows.specs.Saying.{someEntry, occurrenceSays}
 use Rattle.rows.specs.Opening.{valueOf}
 use Rattle.rows.proofs.Machine.{test-index, bracket-index}
 use Rattle.rows.proofs.Jumping.{opens-part, jumps-part, leap-within, leap-top}
-use Rattle.rows.proofs.Saying.{entry-here, entry-next, entry-end, bracket-plain, bracket-inner, chosen-not, probe-known, probe-closed, probe-opened, probe-plain, at-test, at-bracket, Judging, judging-start, judging-unknown, judging-full, judging-test, judging-bare-bracket, judging-before, judging-inner, judging-bracket, judging-bare-not, judging-not, judging-short, judging-sizes, judging-connect, judging-leap, leap-size, judging-whole, judging-other, empty-bracket}
+use Rattle.rows.proofs.Saying.{entry-here, entry-next, entry-end, bracket-plain, bracket-inner, chosen-not, probe-known, probe-closed, probe-opened, at-test, at-bracket, Judging, judging-start, judging-unknown, judging-full, judging-test, judging-bare-bracket, judging-before, judging-inner, judging-bracket, judging-bare-not, judging-not, judging-short, judging-sizes, judging-connect, judging-leap, leap-size, judging-whole, judging-other}
 use borrow.Author.Needs.{needs}
 use Prim.Native.Nat.{ℕ, _<_}
 use borrow.Fn.Kinds.{In}
@@ -40,7 +40,7 @@ use Rattle.rows.proofs.says.entry_counts.Reads as entry-counts-reads
 use Rattle.rows.proofs.says.join_verdicts.Reads as join-verdicts-reads
 use Rattle.rows.proofs.says.leap.Reads as leap-reads
 use Rattle.rows.proofs.says.opened_at.Reads as opened-at-reads
-use Rattle.rows.proofs.says.some_counts.Reads as some-counts-reads
+use Rattle.rows.proofs.says.plain_says.Reads as plain-says-reads
 use Rattle.rows.proofs.says.+entry_chosen+probe_says+rows_say+some_entry.{statement}
 use Rattle.rows.proofs.says.+entry_chosen+probe_says+rows_say+some_entry.Tie.{close}
 
@@ -264,12 +264,10 @@ entry-chosen-returns-3 t c = search (chosen-not, needs)
 probe-says-cast-index : (t : ℕ) → probe-says-lts.Need-cast-index (
   meaning-of-reads.Asked,
   meaning-of-reads.Learnt,
-  some-counts-reads.Asked,
-  some-counts-reads.Learnt,
-  some-says-reads.Asked,
-  some-says-reads.Learnt,
   some-entry-below t,
   some-entry.Post,
+  some-says-reads.Asked,
+  some-says-reads.Learnt,
 ) (probe-says-at t) probe-says.Post
 probe-says-cast-index t c = search needs
 
@@ -277,110 +275,62 @@ probe-says-shared-slice-read-meaning-of :
     (t : ℕ) → probe-says-lts.Need-shared-slice-read-meaning-of (
       meaning-of-reads.Asked,
       meaning-of-reads.Learnt,
-      some-counts-reads.Asked,
-      some-counts-reads.Learnt,
-      some-says-reads.Asked,
-      some-says-reads.Learnt,
       some-entry-below t,
       some-entry.Post,
+      some-says-reads.Asked,
+      some-says-reads.Learnt,
     ) (probe-says-at t) probe-says.Post
 probe-says-shared-slice-read-meaning-of t c = search needs
 
 probe-says-meaning-of-requires : (t : ℕ) → probe-says-lts.Need-meaning-of-requires (
   meaning-of-reads.Asked,
   meaning-of-reads.Learnt,
-  some-counts-reads.Asked,
-  some-counts-reads.Learnt,
-  some-says-reads.Asked,
-  some-says-reads.Learnt,
   some-entry-below t,
   some-entry.Post,
+  some-says-reads.Asked,
+  some-says-reads.Learnt,
 ) (probe-says-at t) probe-says.Post
 probe-says-meaning-of-requires t c κs = search needs
 
-probe-says-some-counts-requires : (t : ℕ) → probe-says-lts.Need-some-counts-requires (
+probe-says-some-entry-requires : (t : ℕ) → probe-says-lts.Need-some-entry-requires (
   meaning-of-reads.Asked,
   meaning-of-reads.Learnt,
-  some-counts-reads.Asked,
-  some-counts-reads.Learnt,
-  some-says-reads.Asked,
-  some-says-reads.Learnt,
   some-entry-below t,
   some-entry.Post,
+  some-says-reads.Asked,
+  some-says-reads.Learnt,
 ) (probe-says-at t) probe-says.Post
-probe-says-some-counts-requires t c κs = (c .before .before .before .before .before .before .before .before .before .before .before .before .pre .1 .1 .0, (c .before .before .before .before .before .before .before .before .before .before .before .before .pre .1 .1 .1 .1 .1 .1 .0, probe-known _ _ _ _ (c .before .before .before .before .before .before .before .before .before .before .before .before .pre .1 .1 .1 .1 .1 .1 .1 .1) _ _ (c .before .before .before .if1 .taken) refl (c .before .meaning-of .ensures)))
+probe-says-some-entry-requires t c κs = (omega (arith, c .before .before .before .before .before .before .before .before .before .before .before .pre .0), (c .before .before .before .before .before .before .before .before .before .before .before .pre .1 .0, (c .before .before .before .before .before .before .before .before .before .before .before .pre .1 .1 .0, (c .before .before .before .before .before .before .before .before .before .before .before .pre .1 .1 .1 .0, (c .before .before .before .before .before .before .before .before .before .before .before .pre .1 .1 .1 .1 .0, (c .before .before .before .before .before .before .before .before .before .before .before .pre .1 .1 .1 .1 .1 .0, (c .before .before .before .before .before .before .before .before .before .before .before .pre .1 .1 .1 .1 .1 .1 .0, probe-known _ _ _ _ (c .before .before .before .before .before .before .before .before .before .before .before .pre .1 .1 .1 .1 .1 .1 .1 .1) _ _ (c .before .before .if1 .taken) refl (c .meaning-of .ensures))))))))
 
 probe-says-some-says-requires : (t : ℕ) → probe-says-lts.Need-some-says-requires (
   meaning-of-reads.Asked,
   meaning-of-reads.Learnt,
-  some-counts-reads.Asked,
-  some-counts-reads.Learnt,
-  some-says-reads.Asked,
-  some-says-reads.Learnt,
   some-entry-below t,
   some-entry.Post,
+  some-says-reads.Asked,
+  some-says-reads.Learnt,
 ) (probe-says-at t) probe-says.Post
 probe-says-some-says-requires t c κs = search needs
 
 probe-says-returns : (t : ℕ) → probe-says-lts.Need-returns (
   meaning-of-reads.Asked,
   meaning-of-reads.Learnt,
-  some-counts-reads.Asked,
-  some-counts-reads.Learnt,
-  some-says-reads.Asked,
-  some-says-reads.Learnt,
   some-entry-below t,
   some-entry.Post,
-) (probe-says-at t) probe-says.Post
-probe-says-returns t c = probe-plain _ _ _ _ (c .before .before .before .before .before .before .before .before .before .before .before .before .before .before .pre .1 .1 .1 .1 .1 .1 .1 .1) _ _ _ (c .before .before .before .before .before .before .before .before .before .before .before .before .before .before .args .rows .now) (c .before .before .before .before .before .before .before .before .before .before .before .before .before .before .args .from) (c .before .before .before .before .before .before .before .before .before .before .before .before .before .before .args .to) _ _ _ _ refl (c .before .before .if2 .taken) (c .before .before .before .before .before .if1 .taken) refl (c .before .before .before .meaning-of .ensures) (c .before .some-counts .ensures) (c .some-says .ensures)
-
-probe-says-some-entry-requires : (t : ℕ) → probe-says-lts.Need-some-entry-requires (
-  meaning-of-reads.Asked,
-  meaning-of-reads.Learnt,
-  some-counts-reads.Asked,
-  some-counts-reads.Learnt,
   some-says-reads.Asked,
   some-says-reads.Learnt,
-  some-entry-below t,
-  some-entry.Post,
 ) (probe-says-at t) probe-says.Post
-probe-says-some-entry-requires t c κs = (omega (arith, c .before .before .before .before .before .before .before .before .before .before .before .before .pre .0), (c .before .before .before .before .before .before .before .before .before .before .before .before .pre .1 .0, (c .before .before .before .before .before .before .before .before .before .before .before .before .pre .1 .1 .0, (c .before .before .before .before .before .before .before .before .before .before .before .before .pre .1 .1 .1 .0, (c .before .before .before .before .before .before .before .before .before .before .before .before .pre .1 .1 .1 .1 .0, (c .before .before .before .before .before .before .before .before .before .before .before .before .pre .1 .1 .1 .1 .1 .0, (c .before .before .before .before .before .before .before .before .before .before .before .before .pre .1 .1 .1 .1 .1 .1 .0, probe-known _ _ _ _ (c .before .before .before .before .before .before .before .before .before .before .before .before .pre .1 .1 .1 .1 .1 .1 .1 .1) _ _ (c .before .before .before .if1 .taken) refl (c .before .meaning-of .ensures))))))))
-
-probe-says-some-says-requires-2 : (t : ℕ) → probe-says-lts.Need-some-says-requires-2 (
-  meaning-of-reads.Asked,
-  meaning-of-reads.Learnt,
-  some-counts-reads.Asked,
-  some-counts-reads.Learnt,
-  some-says-reads.Asked,
-  some-says-reads.Learnt,
-  some-entry-below t,
-  some-entry.Post,
-) (probe-says-at t) probe-says.Post
-probe-says-some-says-requires-2 t c κs = search needs
+probe-says-returns t c = probe-opened _ _ _ _ (c .before .before .before .before .before .before .before .before .before .before .before .before .before .pre .1 .1 .1 .1 .1 .1 .1 .1) _ _ _ _ _ _ _ (c .before .before .before .before .if1 .taken) refl (c .before .before .meaning-of .ensures) (c .before .some-entry .ensures) (c .some-says .ensures)
 
 probe-says-returns-2 : (t : ℕ) → probe-says-lts.Need-returns-2 (
   meaning-of-reads.Asked,
   meaning-of-reads.Learnt,
-  some-counts-reads.Asked,
-  some-counts-reads.Learnt,
-  some-says-reads.Asked,
-  some-says-reads.Learnt,
   some-entry-below t,
   some-entry.Post,
-) (probe-says-at t) probe-says.Post
-probe-says-returns-2 t c = probe-opened _ _ _ _ (c .before .before .before .before .before .before .before .before .before .before .before .before .before .before .pre .1 .1 .1 .1 .1 .1 .1 .1) _ _ _ _ _ _ _ (c .before .before .before .before .before .if1 .taken) refl (c .before .before .before .meaning-of .ensures) (c .before .some-entry .ensures) (c .some-says2 .ensures)
-
-probe-says-returns-3 : (t : ℕ) → probe-says-lts.Need-returns-3 (
-  meaning-of-reads.Asked,
-  meaning-of-reads.Learnt,
-  some-counts-reads.Asked,
-  some-counts-reads.Learnt,
   some-says-reads.Asked,
   some-says-reads.Learnt,
-  some-entry-below t,
-  some-entry.Post,
 ) (probe-says-at t) probe-says.Post
-probe-says-returns-3 t c = probe-closed _ _ _ _ (c .before .before .before .before .before .before .before .before .before .pre .1 .1 .1 .1 .1 .1 .1 .1) _ _ _ (c .if1 .left)
+probe-says-returns-2 t c = probe-closed _ _ _ _ (c .before .before .before .before .before .before .before .before .before .pre .1 .1 .1 .1 .1 .1 .1 .1) _ _ _ (c .if1 .left)
 
 abbrev rows-say-Inv-loop : rows-say-lts.InvT-loop
 rows-say-Inv-loop kinds filter rows jumps spans digits starts ends card chosen says₀ sizes₀ top₀ i₀ says sizes top i = Judging kinds filter chosen (entriesOf card) rows says sizes top i
@@ -395,6 +345,8 @@ rows-say-loop-holds : (t : ℕ) → rows-say-lts.Need-loop-holds (
   row-of-reads.Learnt,
   opened-at-reads.Asked,
   opened-at-reads.Learnt,
+  plain-says-reads.Asked,
+  plain-says-reads.Learnt,
   probe-says-below t,
   probe-says.Post,
   join-verdicts-reads.Asked,
@@ -409,6 +361,8 @@ rows-say-slice-aggregate-leap : (t : ℕ) → rows-say-lts.Need-slice-aggregate-
   row-of-reads.Learnt,
   opened-at-reads.Asked,
   opened-at-reads.Learnt,
+  plain-says-reads.Asked,
+  plain-says-reads.Learnt,
   probe-says-below t,
   probe-says.Post,
   join-verdicts-reads.Asked,
@@ -423,6 +377,8 @@ rows-say-leap-requires : (t : ℕ) → rows-say-lts.Need-leap-requires (
   row-of-reads.Learnt,
   opened-at-reads.Asked,
   opened-at-reads.Learnt,
+  plain-says-reads.Asked,
+  plain-says-reads.Learnt,
   probe-says-below t,
   probe-says.Post,
   join-verdicts-reads.Asked,
@@ -437,6 +393,8 @@ rows-say-sub-size : (t : ℕ) → rows-say-lts.Need-sub-size (
   row-of-reads.Learnt,
   opened-at-reads.Asked,
   opened-at-reads.Learnt,
+  plain-says-reads.Asked,
+  plain-says-reads.Learnt,
   probe-says-below t,
   probe-says.Post,
   join-verdicts-reads.Asked,
@@ -451,6 +409,8 @@ rows-say-mul-size : (t : ℕ) → rows-say-lts.Need-mul-size (
   row-of-reads.Learnt,
   opened-at-reads.Asked,
   opened-at-reads.Learnt,
+  plain-says-reads.Asked,
+  plain-says-reads.Learnt,
   probe-says-below t,
   probe-says.Post,
   join-verdicts-reads.Asked,
@@ -465,6 +425,8 @@ rows-say-array-read-size : (t : ℕ) → rows-say-lts.Need-array-read-size (
   row-of-reads.Learnt,
   opened-at-reads.Asked,
   opened-at-reads.Learnt,
+  plain-says-reads.Asked,
+  plain-says-reads.Learnt,
   probe-says-below t,
   probe-says.Post,
   join-verdicts-reads.Asked,
@@ -479,6 +441,8 @@ rows-say-add-sizes : (t : ℕ) → rows-say-lts.Need-add-sizes (
   row-of-reads.Learnt,
   opened-at-reads.Asked,
   opened-at-reads.Learnt,
+  plain-says-reads.Asked,
+  plain-says-reads.Learnt,
   probe-says-below t,
   probe-says.Post,
   join-verdicts-reads.Asked,
@@ -493,6 +457,8 @@ rows-say-add-sizes-2 : (t : ℕ) → rows-say-lts.Need-add-sizes-2 (
   row-of-reads.Learnt,
   opened-at-reads.Asked,
   opened-at-reads.Learnt,
+  plain-says-reads.Asked,
+  plain-says-reads.Learnt,
   probe-says-below t,
   probe-says.Post,
   join-verdicts-reads.Asked,
@@ -507,6 +473,8 @@ rows-say-sub-sizes : (t : ℕ) → rows-say-lts.Need-sub-sizes (
   row-of-reads.Learnt,
   opened-at-reads.Asked,
   opened-at-reads.Learnt,
+  plain-says-reads.Asked,
+  plain-says-reads.Learnt,
   probe-says-below t,
   probe-says.Post,
   join-verdicts-reads.Asked,
@@ -521,6 +489,8 @@ rows-say-mul-sizes : (t : ℕ) → rows-say-lts.Need-mul-sizes (
   row-of-reads.Learnt,
   opened-at-reads.Asked,
   opened-at-reads.Learnt,
+  plain-says-reads.Asked,
+  plain-says-reads.Learnt,
   probe-says-below t,
   probe-says.Post,
   join-verdicts-reads.Asked,
@@ -535,6 +505,8 @@ rows-say-array-write-sizes : (t : ℕ) → rows-say-lts.Need-array-write-sizes (
   row-of-reads.Learnt,
   opened-at-reads.Asked,
   opened-at-reads.Learnt,
+  plain-says-reads.Asked,
+  plain-says-reads.Learnt,
   probe-says-below t,
   probe-says.Post,
   join-verdicts-reads.Asked,
@@ -549,6 +521,8 @@ rows-say-add-i : (t : ℕ) → rows-say-lts.Need-add-i (
   row-of-reads.Learnt,
   opened-at-reads.Asked,
   opened-at-reads.Learnt,
+  plain-says-reads.Asked,
+  plain-says-reads.Learnt,
   probe-says-below t,
   probe-says.Post,
   join-verdicts-reads.Asked,
@@ -563,6 +537,8 @@ rows-say-add-i-2 : (t : ℕ) → rows-say-lts.Need-add-i-2 (
   row-of-reads.Learnt,
   opened-at-reads.Asked,
   opened-at-reads.Learnt,
+  plain-says-reads.Asked,
+  plain-says-reads.Learnt,
   probe-says-below t,
   probe-says.Post,
   join-verdicts-reads.Asked,
@@ -577,6 +553,8 @@ rows-say-loop-less : (t : ℕ) → rows-say-lts.Need-loop-less (
   row-of-reads.Learnt,
   opened-at-reads.Asked,
   opened-at-reads.Learnt,
+  plain-says-reads.Asked,
+  plain-says-reads.Learnt,
   probe-says-below t,
   probe-says.Post,
   join-verdicts-reads.Asked,
@@ -591,6 +569,8 @@ rows-say-loop-again : (t : ℕ) → rows-say-lts.Need-loop-again (
   row-of-reads.Learnt,
   opened-at-reads.Asked,
   opened-at-reads.Learnt,
+  plain-says-reads.Asked,
+  plain-says-reads.Learnt,
   probe-says-below t,
   probe-says.Post,
   join-verdicts-reads.Asked,
@@ -605,6 +585,8 @@ rows-say-mul-row-of : (t : ℕ) → rows-say-lts.Need-mul-row-of (
   row-of-reads.Learnt,
   opened-at-reads.Asked,
   opened-at-reads.Learnt,
+  plain-says-reads.Asked,
+  plain-says-reads.Learnt,
   probe-says-below t,
   probe-says.Post,
   join-verdicts-reads.Asked,
@@ -619,6 +601,8 @@ rows-say-shared-slice-read-row-of : (t : ℕ) → rows-say-lts.Need-shared-slice
   row-of-reads.Learnt,
   opened-at-reads.Asked,
   opened-at-reads.Learnt,
+  plain-says-reads.Asked,
+  plain-says-reads.Learnt,
   probe-says-below t,
   probe-says.Post,
   join-verdicts-reads.Asked,
@@ -633,6 +617,8 @@ rows-say-row-of-requires : (t : ℕ) → rows-say-lts.Need-row-of-requires (
   row-of-reads.Learnt,
   opened-at-reads.Asked,
   opened-at-reads.Learnt,
+  plain-says-reads.Asked,
+  plain-says-reads.Learnt,
   probe-says-below t,
   probe-says.Post,
   join-verdicts-reads.Asked,
@@ -647,6 +633,8 @@ rows-say-enum-known-probe : (t : ℕ) → rows-say-lts.Need-enum-known-probe (
   row-of-reads.Learnt,
   opened-at-reads.Asked,
   opened-at-reads.Learnt,
+  plain-says-reads.Asked,
+  plain-says-reads.Learnt,
   probe-says-below t,
   probe-says.Post,
   join-verdicts-reads.Asked,
@@ -661,6 +649,8 @@ rows-say-returns : (t : ℕ) → rows-say-lts.Need-returns (
   row-of-reads.Learnt,
   opened-at-reads.Asked,
   opened-at-reads.Learnt,
+  plain-says-reads.Asked,
+  plain-says-reads.Learnt,
   probe-says-below t,
   probe-says.Post,
   join-verdicts-reads.Asked,
@@ -675,6 +665,8 @@ rows-say-opened-at-requires : (t : ℕ) → rows-say-lts.Need-opened-at-requires
   row-of-reads.Learnt,
   opened-at-reads.Asked,
   opened-at-reads.Learnt,
+  plain-says-reads.Asked,
+  plain-says-reads.Learnt,
   probe-says-below t,
   probe-says.Post,
   join-verdicts-reads.Asked,
@@ -682,19 +674,21 @@ rows-say-opened-at-requires : (t : ℕ) → rows-say-lts.Need-opened-at-requires
 ) (rows-say-at t) rows-say.Post rows-say-Inv-loop rows-say-μ-loop
 rows-say-opened-at-requires t c κs = (omega (arith, c .before .before .before .before .before .before .before .before .before .loop-test .taken, c .before .before .before .before .before .before .before .before .before .before .before .before .before .before .before .before .before .before .pre .1 .1 .1 .1 .1 .0 .span-cells .room), (omega (arith, c .before .before .before .before .before .before .before .before .before .loop-test .taken, c .before .before .before .before .before .before .before .before .before .before .before .before .before .before .before .before .before .before .pre .1 .1 .1 .1 .1 .0 .digit-cells .room), (omega (arith, c .before .before .before .before .before .before .before .before .before .loop-test .taken, c .before .before .before .before .before .before .before .before .before .before .before .before .before .before .before .before .before .before .pre .1 .1 .1 .1 .1 .0 .start-cells .room), omega (arith, c .before .before .before .before .before .before .before .before .before .loop-test .taken, c .before .before .before .before .before .before .before .before .before .before .before .before .before .before .before .before .before .before .pre .1 .1 .1 .1 .1 .0 .end-cells .room))))
 
-rows-say-probe-says-requires : (t : ℕ) → rows-say-lts.Need-probe-says-requires (
+rows-say-plain-says-requires : (t : ℕ) → rows-say-lts.Need-plain-says-requires (
   leap-reads.Asked,
   leap-reads.Learnt,
   row-of-reads.Asked,
   row-of-reads.Learnt,
   opened-at-reads.Asked,
   opened-at-reads.Learnt,
+  plain-says-reads.Asked,
+  plain-says-reads.Learnt,
   probe-says-below t,
   probe-says.Post,
   join-verdicts-reads.Asked,
   join-verdicts-reads.Learnt,
 ) (rows-say-at t) rows-say.Post rows-say-Inv-loop rows-say-μ-loop
-rows-say-probe-says-requires t c κs = (omega (arith, c .before .before .before .before .before .before .before .before .before .before .before .before .before .before .before .before .before .before .before .pre .0, c .before .before .before .before .before .before .before .before .before .before .loop-test .taken), (c .before .before .before .before .before .before .before .before .before .before .before .before .before .before .before .before .before .before .before .pre .1 .0, (c .before .before .before .before .before .before .before .before .before .before .before .before .before .before .before .before .before .before .before .pre .1 .1 .0, (empty-bracket (c .before .before .before .before .before .before .before .before .before .before .before .before .before .before .before .before .before .before .before .args .rows .now) (c .before .before .before .before .before .before .before .before .before .before .before .loop .i) (c .before .before .before .before .before .before .before .before .before .before .before .loop .inv .within), (c .before .before .before .before .before .before .before .before .before .before .before .before .before .before .before .before .before .before .before .pre .1 .1 .1 .1 .0, (c .before .before .before .before .before .before .before .before .before .before .before .before .before .before .before .before .before .before .before .pre .1 .1 .1 .1 .1 .0, (c .before .before .before .before .before .before .before .before .before .before .before .before .before .before .before .before .before .before .before .pre .1 .1 .1 .1 .1 .1, (test-index _ _ _ (c .before .before .before .before .before .row-of .ensures) (c .before .before .before .probe .given .1), at-test _ _ _ _ _ _ _ (c .before .before .before .before .before .before .before .before .before .before .before .before .before .before .before .before .before .before .before .pre .1 .1 .1 .1 .1 .0) (c .before .before .before .before .before .before .before .before .before .before .before .before .before .before .before .before .before .before .before .pre .1 .1 .0) _ (c .before .before .before .before .before .before .before .before .before .before .loop-test .taken) _ (c .opened-at .ensures) _ (c .before .before .before .before .before .row-of .ensures) _ (c .before .before .before .probe .given .1)))))))))
+rows-say-plain-says-requires t c κs = (c .before .before .before .before .before .before .before .before .before .before .before .before .before .before .before .before .before .before .before .pre .1 .0, (c .before .before .before .before .before .before .before .before .before .before .before .before .before .before .before .before .before .before .before .pre .1 .1 .0, (c .before .before .before .before .before .before .before .before .before .before .before .before .before .before .before .before .before .before .before .pre .1 .1 .1 .1 .1 .1, (test-index _ _ _ (c .before .before .before .before .before .row-of .ensures) (c .before .before .before .probe .given .1), at-test _ _ _ _ _ _ _ (c .before .before .before .before .before .before .before .before .before .before .before .before .before .before .before .before .before .before .before .pre .1 .1 .1 .1 .1 .0) (c .before .before .before .before .before .before .before .before .before .before .before .before .before .before .before .before .before .before .before .pre .1 .1 .0) _ (c .before .before .before .before .before .before .before .before .before .before .loop-test .taken) _ (c .opened-at .ensures) _ (c .before .before .before .before .before .row-of .ensures) _ (c .before .before .before .probe .given .1)))))
 
 rows-say-array-write-says : (t : ℕ) → rows-say-lts.Need-array-write-says (
   leap-reads.Asked,
@@ -703,6 +697,8 @@ rows-say-array-write-says : (t : ℕ) → rows-say-lts.Need-array-write-says (
   row-of-reads.Learnt,
   opened-at-reads.Asked,
   opened-at-reads.Learnt,
+  plain-says-reads.Asked,
+  plain-says-reads.Learnt,
   probe-says-below t,
   probe-says.Post,
   join-verdicts-reads.Asked,
@@ -717,6 +713,8 @@ rows-say-mul-sizes-2 : (t : ℕ) → rows-say-lts.Need-mul-sizes-2 (
   row-of-reads.Learnt,
   opened-at-reads.Asked,
   opened-at-reads.Learnt,
+  plain-says-reads.Asked,
+  plain-says-reads.Learnt,
   probe-says-below t,
   probe-says.Post,
   join-verdicts-reads.Asked,
@@ -731,6 +729,8 @@ rows-say-array-write-sizes-2 : (t : ℕ) → rows-say-lts.Need-array-write-sizes
   row-of-reads.Learnt,
   opened-at-reads.Asked,
   opened-at-reads.Learnt,
+  plain-says-reads.Asked,
+  plain-says-reads.Learnt,
   probe-says-below t,
   probe-says.Post,
   join-verdicts-reads.Asked,
@@ -745,6 +745,8 @@ rows-say-add-top : (t : ℕ) → rows-say-lts.Need-add-top (
   row-of-reads.Learnt,
   opened-at-reads.Asked,
   opened-at-reads.Learnt,
+  plain-says-reads.Asked,
+  plain-says-reads.Learnt,
   probe-says-below t,
   probe-says.Post,
   join-verdicts-reads.Asked,
@@ -759,6 +761,8 @@ rows-say-add-i-3 : (t : ℕ) → rows-say-lts.Need-add-i-3 (
   row-of-reads.Learnt,
   opened-at-reads.Asked,
   opened-at-reads.Learnt,
+  plain-says-reads.Asked,
+  plain-says-reads.Learnt,
   probe-says-below t,
   probe-says.Post,
   join-verdicts-reads.Asked,
@@ -773,6 +777,8 @@ rows-say-loop-less-2 : (t : ℕ) → rows-say-lts.Need-loop-less-2 (
   row-of-reads.Learnt,
   opened-at-reads.Asked,
   opened-at-reads.Learnt,
+  plain-says-reads.Asked,
+  plain-says-reads.Learnt,
   probe-says-below t,
   probe-says.Post,
   join-verdicts-reads.Asked,
@@ -787,12 +793,14 @@ rows-say-loop-again-2 : (t : ℕ) → rows-say-lts.Need-loop-again-2 (
   row-of-reads.Learnt,
   opened-at-reads.Asked,
   opened-at-reads.Learnt,
+  plain-says-reads.Asked,
+  plain-says-reads.Learnt,
   probe-says-below t,
   probe-says.Post,
   join-verdicts-reads.Asked,
   join-verdicts-reads.Learnt,
 ) (rows-say-at t) rows-say.Post rows-say-Inv-loop rows-say-μ-loop
-rows-say-loop-again-2 t c = judging-test _ _ _ _ _ _ _ _ _ (c .before .before .before .before .before .before .before .before .before .before .before .before .loop .inv) (c .before .before .before .before .before .before .before .before .before .before .before .loop-test .taken) _ (c .before .before .before .before .before .before .row-of .ensures) _ _ (c .before .before .before .before .probe .given .1) (c .before .before .if2 .left) (c .probe-says .ensures)
+rows-say-loop-again-2 t c = judging-test _ _ _ _ _ _ _ _ _ (c .before .before .before .before .before .before .before .before .before .before .before .before .loop .inv) (c .before .before .before .before .before .before .before .before .before .before .before .loop-test .taken) _ (c .before .before .before .before .before .before .row-of .ensures) _ _ (c .before .before .before .before .probe .given .1) (c .before .before .if2 .left) (c .plain-says .ensures)
 
 rows-say-enum-known-probe-2 : (t : ℕ) → rows-say-lts.Need-enum-known-probe-2 (
   leap-reads.Asked,
@@ -801,6 +809,8 @@ rows-say-enum-known-probe-2 : (t : ℕ) → rows-say-lts.Need-enum-known-probe-2
   row-of-reads.Learnt,
   opened-at-reads.Asked,
   opened-at-reads.Learnt,
+  plain-says-reads.Asked,
+  plain-says-reads.Learnt,
   probe-says-below t,
   probe-says.Post,
   join-verdicts-reads.Asked,
@@ -815,6 +825,8 @@ rows-say-returns-2 : (t : ℕ) → rows-say-lts.Need-returns-2 (
   row-of-reads.Learnt,
   opened-at-reads.Asked,
   opened-at-reads.Learnt,
+  plain-says-reads.Asked,
+  plain-says-reads.Learnt,
   probe-says-below t,
   probe-says.Post,
   join-verdicts-reads.Asked,
@@ -829,6 +841,8 @@ rows-say-sub-size-2 : (t : ℕ) → rows-say-lts.Need-sub-size-2 (
   row-of-reads.Learnt,
   opened-at-reads.Asked,
   opened-at-reads.Learnt,
+  plain-says-reads.Asked,
+  plain-says-reads.Learnt,
   probe-says-below t,
   probe-says.Post,
   join-verdicts-reads.Asked,
@@ -843,6 +857,8 @@ rows-say-mul-size-2 : (t : ℕ) → rows-say-lts.Need-mul-size-2 (
   row-of-reads.Learnt,
   opened-at-reads.Asked,
   opened-at-reads.Learnt,
+  plain-says-reads.Asked,
+  plain-says-reads.Learnt,
   probe-says-below t,
   probe-says.Post,
   join-verdicts-reads.Asked,
@@ -857,6 +873,8 @@ rows-say-array-read-size-2 : (t : ℕ) → rows-say-lts.Need-array-read-size-2 (
   row-of-reads.Learnt,
   opened-at-reads.Asked,
   opened-at-reads.Learnt,
+  plain-says-reads.Asked,
+  plain-says-reads.Learnt,
   probe-says-below t,
   probe-says.Post,
   join-verdicts-reads.Asked,
@@ -871,6 +889,8 @@ rows-say-sub-start : (t : ℕ) → rows-say-lts.Need-sub-start (
   row-of-reads.Learnt,
   opened-at-reads.Asked,
   opened-at-reads.Learnt,
+  plain-says-reads.Asked,
+  plain-says-reads.Learnt,
   probe-says-below t,
   probe-says.Post,
   join-verdicts-reads.Asked,
@@ -885,6 +905,8 @@ rows-say-opened-at-requires-2 : (t : ℕ) → rows-say-lts.Need-opened-at-requir
   row-of-reads.Learnt,
   opened-at-reads.Asked,
   opened-at-reads.Learnt,
+  plain-says-reads.Asked,
+  plain-says-reads.Learnt,
   probe-says-below t,
   probe-says.Post,
   join-verdicts-reads.Asked,
@@ -892,19 +914,21 @@ rows-say-opened-at-requires-2 : (t : ℕ) → rows-say-lts.Need-opened-at-requir
 ) (rows-say-at t) rows-say.Post rows-say-Inv-loop rows-say-μ-loop
 rows-say-opened-at-requires-2 t c κs = (omega (arith, c .before .before .before .before .before .before .before .before .before .loop-test .taken, c .before .before .before .before .before .before .before .before .before .before .before .before .before .before .before .before .before .before .pre .1 .1 .1 .1 .1 .0 .span-cells .room), (omega (arith, c .before .before .before .before .before .before .before .before .before .loop-test .taken, c .before .before .before .before .before .before .before .before .before .before .before .before .before .before .before .before .before .before .pre .1 .1 .1 .1 .1 .0 .digit-cells .room), (omega (arith, c .before .before .before .before .before .before .before .before .before .loop-test .taken, c .before .before .before .before .before .before .before .before .before .before .before .before .before .before .before .before .before .before .pre .1 .1 .1 .1 .1 .0 .start-cells .room), omega (arith, c .before .before .before .before .before .before .before .before .before .loop-test .taken, c .before .before .before .before .before .before .before .before .before .before .before .before .before .before .before .before .before .before .pre .1 .1 .1 .1 .1 .0 .end-cells .room))))
 
-rows-say-probe-says-requires-2 : (t : ℕ) → rows-say-lts.Need-probe-says-requires-2 (
+rows-say-probe-says-requires : (t : ℕ) → rows-say-lts.Need-probe-says-requires (
   leap-reads.Asked,
   leap-reads.Learnt,
   row-of-reads.Asked,
   row-of-reads.Learnt,
   opened-at-reads.Asked,
   opened-at-reads.Learnt,
+  plain-says-reads.Asked,
+  plain-says-reads.Learnt,
   probe-says-below t,
   probe-says.Post,
   join-verdicts-reads.Asked,
   join-verdicts-reads.Learnt,
 ) (rows-say-at t) rows-say.Post rows-say-Inv-loop rows-say-μ-loop
-rows-say-probe-says-requires-2 t c κs = (omega (arith, c .before .before .before .before .before .before .before .before .before .before .before .before .before .before .before .before .before .before .before .pre .0, c .before .before .before .before .before .before .before .before .before .before .loop-test .taken, judging-before _ _ _ _ _ _ _ _ _ (c .before .before .before .before .before .before .before .before .before .before .before .loop .inv) (c .before .before .before .before .before .before .before .before .before .before .loop-test .taken) _ (c .before .before .before .before .before .row-of .ensures) _ (c .before .if3 .left) refl), (c .before .before .before .before .before .before .before .before .before .before .before .before .before .before .before .before .before .before .before .pre .1 .0, (c .before .before .before .before .before .before .before .before .before .before .before .before .before .before .before .before .before .before .before .pre .1 .1 .0, (judging-inner _ _ _ _ _ _ _ _ _ (c .before .before .before .before .before .before .before .before .before .before .before .loop .inv) (c .before .before .before .before .before .before .before .before .before .before .loop-test .taken) _ (c .before .before .before .before .before .row-of .ensures) _ (c .before .if3 .left) refl (c .before .before .before .before .before .before .before .before .before .before .before .before .before .before .before .before .before .before .before .pre .1 .1 .1 .0), (c .before .before .before .before .before .before .before .before .before .before .before .before .before .before .before .before .before .before .before .pre .1 .1 .1 .1 .0, (c .before .before .before .before .before .before .before .before .before .before .before .before .before .before .before .before .before .before .before .pre .1 .1 .1 .1 .1 .0, (c .before .before .before .before .before .before .before .before .before .before .before .before .before .before .before .before .before .before .before .pre .1 .1 .1 .1 .1 .1, (bracket-index _ _ _ (c .before .before .before .before .before .row-of .ensures) (c .before .before .before .probe2 .given .1), at-bracket _ _ _ _ _ _ _ (c .before .before .before .before .before .before .before .before .before .before .before .before .before .before .before .before .before .before .before .pre .1 .1 .1 .1 .1 .0) (c .before .before .before .before .before .before .before .before .before .before .before .before .before .before .before .before .before .before .before .pre .1 .1 .0) _ (c .before .before .before .before .before .before .before .before .before .before .loop-test .taken) _ (c .opened-at2 .ensures) _ (c .before .before .before .before .before .row-of .ensures) _ (c .before .before .before .probe2 .given .1)))))))))
+rows-say-probe-says-requires t c κs = (omega (arith, c .before .before .before .before .before .before .before .before .before .before .before .before .before .before .before .before .before .before .before .pre .0, c .before .before .before .before .before .before .before .before .before .before .loop-test .taken, judging-before _ _ _ _ _ _ _ _ _ (c .before .before .before .before .before .before .before .before .before .before .before .loop .inv) (c .before .before .before .before .before .before .before .before .before .before .loop-test .taken) _ (c .before .before .before .before .before .row-of .ensures) _ (c .before .if3 .left) refl), (c .before .before .before .before .before .before .before .before .before .before .before .before .before .before .before .before .before .before .before .pre .1 .0, (c .before .before .before .before .before .before .before .before .before .before .before .before .before .before .before .before .before .before .before .pre .1 .1 .0, (judging-inner _ _ _ _ _ _ _ _ _ (c .before .before .before .before .before .before .before .before .before .before .before .loop .inv) (c .before .before .before .before .before .before .before .before .before .before .loop-test .taken) _ (c .before .before .before .before .before .row-of .ensures) _ (c .before .if3 .left) refl (c .before .before .before .before .before .before .before .before .before .before .before .before .before .before .before .before .before .before .before .pre .1 .1 .1 .0), (c .before .before .before .before .before .before .before .before .before .before .before .before .before .before .before .before .before .before .before .pre .1 .1 .1 .1 .0, (c .before .before .before .before .before .before .before .before .before .before .before .before .before .before .before .before .before .before .before .pre .1 .1 .1 .1 .1 .0, (c .before .before .before .before .before .before .before .before .before .before .before .before .before .before .before .before .before .before .before .pre .1 .1 .1 .1 .1 .1, (bracket-index _ _ _ (c .before .before .before .before .before .row-of .ensures) (c .before .before .before .probe2 .given .1), at-bracket _ _ _ _ _ _ _ (c .before .before .before .before .before .before .before .before .before .before .before .before .before .before .before .before .before .before .before .pre .1 .1 .1 .1 .1 .0) (c .before .before .before .before .before .before .before .before .before .before .before .before .before .before .before .before .before .before .before .pre .1 .1 .0) _ (c .before .before .before .before .before .before .before .before .before .before .loop-test .taken) _ (c .opened-at2 .ensures) _ (c .before .before .before .before .before .row-of .ensures) _ (c .before .before .before .probe2 .given .1)))))))))
 
 rows-say-sub-says : (t : ℕ) → rows-say-lts.Need-sub-says (
   leap-reads.Asked,
@@ -913,6 +937,8 @@ rows-say-sub-says : (t : ℕ) → rows-say-lts.Need-sub-says (
   row-of-reads.Learnt,
   opened-at-reads.Asked,
   opened-at-reads.Learnt,
+  plain-says-reads.Asked,
+  plain-says-reads.Learnt,
   probe-says-below t,
   probe-says.Post,
   join-verdicts-reads.Asked,
@@ -927,6 +953,8 @@ rows-say-array-write-says-2 : (t : ℕ) → rows-say-lts.Need-array-write-says-2
   row-of-reads.Learnt,
   opened-at-reads.Asked,
   opened-at-reads.Learnt,
+  plain-says-reads.Asked,
+  plain-says-reads.Learnt,
   probe-says-below t,
   probe-says.Post,
   join-verdicts-reads.Asked,
@@ -941,6 +969,8 @@ rows-say-add-sizes-3 : (t : ℕ) → rows-say-lts.Need-add-sizes-3 (
   row-of-reads.Learnt,
   opened-at-reads.Asked,
   opened-at-reads.Learnt,
+  plain-says-reads.Asked,
+  plain-says-reads.Learnt,
   probe-says-below t,
   probe-says.Post,
   join-verdicts-reads.Asked,
@@ -955,6 +985,8 @@ rows-say-sub-sizes-2 : (t : ℕ) → rows-say-lts.Need-sub-sizes-2 (
   row-of-reads.Learnt,
   opened-at-reads.Asked,
   opened-at-reads.Learnt,
+  plain-says-reads.Asked,
+  plain-says-reads.Learnt,
   probe-says-below t,
   probe-says.Post,
   join-verdicts-reads.Asked,
@@ -969,6 +1001,8 @@ rows-say-mul-sizes-3 : (t : ℕ) → rows-say-lts.Need-mul-sizes-3 (
   row-of-reads.Learnt,
   opened-at-reads.Asked,
   opened-at-reads.Learnt,
+  plain-says-reads.Asked,
+  plain-says-reads.Learnt,
   probe-says-below t,
   probe-says.Post,
   join-verdicts-reads.Asked,
@@ -983,6 +1017,8 @@ rows-say-array-write-sizes-3 : (t : ℕ) → rows-say-lts.Need-array-write-sizes
   row-of-reads.Learnt,
   opened-at-reads.Asked,
   opened-at-reads.Learnt,
+  plain-says-reads.Asked,
+  plain-says-reads.Learnt,
   probe-says-below t,
   probe-says.Post,
   join-verdicts-reads.Asked,
@@ -997,6 +1033,8 @@ rows-say-add-i-4 : (t : ℕ) → rows-say-lts.Need-add-i-4 (
   row-of-reads.Learnt,
   opened-at-reads.Asked,
   opened-at-reads.Learnt,
+  plain-says-reads.Asked,
+  plain-says-reads.Learnt,
   probe-says-below t,
   probe-says.Post,
   join-verdicts-reads.Asked,
@@ -1011,6 +1049,8 @@ rows-say-loop-less-3 : (t : ℕ) → rows-say-lts.Need-loop-less-3 (
   row-of-reads.Learnt,
   opened-at-reads.Asked,
   opened-at-reads.Learnt,
+  plain-says-reads.Asked,
+  plain-says-reads.Learnt,
   probe-says-below t,
   probe-says.Post,
   join-verdicts-reads.Asked,
@@ -1025,12 +1065,14 @@ rows-say-loop-again-3 : (t : ℕ) → rows-say-lts.Need-loop-again-3 (
   row-of-reads.Learnt,
   opened-at-reads.Asked,
   opened-at-reads.Learnt,
+  plain-says-reads.Asked,
+  plain-says-reads.Learnt,
   probe-says-below t,
   probe-says.Post,
   join-verdicts-reads.Asked,
   join-verdicts-reads.Learnt,
 ) (rows-say-at t) rows-say.Post rows-say-Inv-loop rows-say-μ-loop
-rows-say-loop-again-3 t c = judging-bracket _ _ _ _ _ _ _ _ _ (c .before .before .before .before .before .before .before .before .before .before .before .before .loop .inv) (c .before .before .before .before .before .before .before .before .before .before .before .loop-test .taken) _ (c .before .before .before .before .before .before .row-of .ensures) _ _ _ (c .before .before .before .before .probe2 .given .1) (c .before .before .if3 .left) refl (c .probe-says2 .ensures)
+rows-say-loop-again-3 t c = judging-bracket _ _ _ _ _ _ _ _ _ (c .before .before .before .before .before .before .before .before .before .before .before .before .loop .inv) (c .before .before .before .before .before .before .before .before .before .before .before .loop-test .taken) _ (c .before .before .before .before .before .before .row-of .ensures) _ _ _ (c .before .before .before .before .probe2 .given .1) (c .before .before .if3 .left) refl (c .probe-says .ensures)
 
 rows-say-enum-told : (t : ℕ) → rows-say-lts.Need-enum-told (
   leap-reads.Asked,
@@ -1039,6 +1081,8 @@ rows-say-enum-told : (t : ℕ) → rows-say-lts.Need-enum-told (
   row-of-reads.Learnt,
   opened-at-reads.Asked,
   opened-at-reads.Learnt,
+  plain-says-reads.Asked,
+  plain-says-reads.Learnt,
   probe-says-below t,
   probe-says.Post,
   join-verdicts-reads.Asked,
@@ -1053,6 +1097,8 @@ rows-say-returns-3 : (t : ℕ) → rows-say-lts.Need-returns-3 (
   row-of-reads.Learnt,
   opened-at-reads.Asked,
   opened-at-reads.Learnt,
+  plain-says-reads.Asked,
+  plain-says-reads.Learnt,
   probe-says-below t,
   probe-says.Post,
   join-verdicts-reads.Asked,
@@ -1067,6 +1113,8 @@ rows-say-sub-inner : (t : ℕ) → rows-say-lts.Need-sub-inner (
   row-of-reads.Learnt,
   opened-at-reads.Asked,
   opened-at-reads.Learnt,
+  plain-says-reads.Asked,
+  plain-says-reads.Learnt,
   probe-says-below t,
   probe-says.Post,
   join-verdicts-reads.Asked,
@@ -1081,6 +1129,8 @@ rows-say-array-read-inner : (t : ℕ) → rows-say-lts.Need-array-read-inner (
   row-of-reads.Learnt,
   opened-at-reads.Asked,
   opened-at-reads.Learnt,
+  plain-says-reads.Asked,
+  plain-says-reads.Learnt,
   probe-says-below t,
   probe-says.Post,
   join-verdicts-reads.Asked,
@@ -1095,6 +1145,8 @@ rows-say-sub-size-3 : (t : ℕ) → rows-say-lts.Need-sub-size-3 (
   row-of-reads.Learnt,
   opened-at-reads.Asked,
   opened-at-reads.Learnt,
+  plain-says-reads.Asked,
+  plain-says-reads.Learnt,
   probe-says-below t,
   probe-says.Post,
   join-verdicts-reads.Asked,
@@ -1109,6 +1161,8 @@ rows-say-mul-size-3 : (t : ℕ) → rows-say-lts.Need-mul-size-3 (
   row-of-reads.Learnt,
   opened-at-reads.Asked,
   opened-at-reads.Learnt,
+  plain-says-reads.Asked,
+  plain-says-reads.Learnt,
   probe-says-below t,
   probe-says.Post,
   join-verdicts-reads.Asked,
@@ -1123,6 +1177,8 @@ rows-say-array-read-size-3 : (t : ℕ) → rows-say-lts.Need-array-read-size-3 (
   row-of-reads.Learnt,
   opened-at-reads.Asked,
   opened-at-reads.Learnt,
+  plain-says-reads.Asked,
+  plain-says-reads.Learnt,
   probe-says-below t,
   probe-says.Post,
   join-verdicts-reads.Asked,
@@ -1137,6 +1193,8 @@ rows-say-sub-says-2 : (t : ℕ) → rows-say-lts.Need-sub-says-2 (
   row-of-reads.Learnt,
   opened-at-reads.Asked,
   opened-at-reads.Learnt,
+  plain-says-reads.Asked,
+  plain-says-reads.Learnt,
   probe-says-below t,
   probe-says.Post,
   join-verdicts-reads.Asked,
@@ -1151,6 +1209,8 @@ rows-say-array-write-says-3 : (t : ℕ) → rows-say-lts.Need-array-write-says-3
   row-of-reads.Learnt,
   opened-at-reads.Asked,
   opened-at-reads.Learnt,
+  plain-says-reads.Asked,
+  plain-says-reads.Learnt,
   probe-says-below t,
   probe-says.Post,
   join-verdicts-reads.Asked,
@@ -1165,6 +1225,8 @@ rows-say-add-sizes-4 : (t : ℕ) → rows-say-lts.Need-add-sizes-4 (
   row-of-reads.Learnt,
   opened-at-reads.Asked,
   opened-at-reads.Learnt,
+  plain-says-reads.Asked,
+  plain-says-reads.Learnt,
   probe-says-below t,
   probe-says.Post,
   join-verdicts-reads.Asked,
@@ -1179,6 +1241,8 @@ rows-say-sub-sizes-3 : (t : ℕ) → rows-say-lts.Need-sub-sizes-3 (
   row-of-reads.Learnt,
   opened-at-reads.Asked,
   opened-at-reads.Learnt,
+  plain-says-reads.Asked,
+  plain-says-reads.Learnt,
   probe-says-below t,
   probe-says.Post,
   join-verdicts-reads.Asked,
@@ -1193,6 +1257,8 @@ rows-say-mul-sizes-4 : (t : ℕ) → rows-say-lts.Need-mul-sizes-4 (
   row-of-reads.Learnt,
   opened-at-reads.Asked,
   opened-at-reads.Learnt,
+  plain-says-reads.Asked,
+  plain-says-reads.Learnt,
   probe-says-below t,
   probe-says.Post,
   join-verdicts-reads.Asked,
@@ -1207,6 +1273,8 @@ rows-say-array-write-sizes-4 : (t : ℕ) → rows-say-lts.Need-array-write-sizes
   row-of-reads.Learnt,
   opened-at-reads.Asked,
   opened-at-reads.Learnt,
+  plain-says-reads.Asked,
+  plain-says-reads.Learnt,
   probe-says-below t,
   probe-says.Post,
   join-verdicts-reads.Asked,
@@ -1221,6 +1289,8 @@ rows-say-add-i-5 : (t : ℕ) → rows-say-lts.Need-add-i-5 (
   row-of-reads.Learnt,
   opened-at-reads.Asked,
   opened-at-reads.Learnt,
+  plain-says-reads.Asked,
+  plain-says-reads.Learnt,
   probe-says-below t,
   probe-says.Post,
   join-verdicts-reads.Asked,
@@ -1235,6 +1305,8 @@ rows-say-loop-less-4 : (t : ℕ) → rows-say-lts.Need-loop-less-4 (
   row-of-reads.Learnt,
   opened-at-reads.Asked,
   opened-at-reads.Learnt,
+  plain-says-reads.Asked,
+  plain-says-reads.Learnt,
   probe-says-below t,
   probe-says.Post,
   join-verdicts-reads.Asked,
@@ -1249,6 +1321,8 @@ rows-say-loop-again-4 : (t : ℕ) → rows-say-lts.Need-loop-again-4 (
   row-of-reads.Learnt,
   opened-at-reads.Asked,
   opened-at-reads.Learnt,
+  plain-says-reads.Asked,
+  plain-says-reads.Learnt,
   probe-says-below t,
   probe-says.Post,
   join-verdicts-reads.Asked,
@@ -1263,6 +1337,8 @@ rows-say-enum-known-and : (t : ℕ) → rows-say-lts.Need-enum-known-and (
   row-of-reads.Learnt,
   opened-at-reads.Asked,
   opened-at-reads.Learnt,
+  plain-says-reads.Asked,
+  plain-says-reads.Learnt,
   probe-says-below t,
   probe-says.Post,
   join-verdicts-reads.Asked,
@@ -1277,6 +1353,8 @@ rows-say-returns-4 : (t : ℕ) → rows-say-lts.Need-returns-4 (
   row-of-reads.Learnt,
   opened-at-reads.Asked,
   opened-at-reads.Learnt,
+  plain-says-reads.Asked,
+  plain-says-reads.Learnt,
   probe-says-below t,
   probe-says.Post,
   join-verdicts-reads.Asked,
@@ -1291,6 +1369,8 @@ rows-say-sub-second : (t : ℕ) → rows-say-lts.Need-sub-second (
   row-of-reads.Learnt,
   opened-at-reads.Asked,
   opened-at-reads.Learnt,
+  plain-says-reads.Asked,
+  plain-says-reads.Learnt,
   probe-says-below t,
   probe-says.Post,
   join-verdicts-reads.Asked,
@@ -1305,6 +1385,8 @@ rows-say-array-read-second : (t : ℕ) → rows-say-lts.Need-array-read-second (
   row-of-reads.Learnt,
   opened-at-reads.Asked,
   opened-at-reads.Learnt,
+  plain-says-reads.Asked,
+  plain-says-reads.Learnt,
   probe-says-below t,
   probe-says.Post,
   join-verdicts-reads.Asked,
@@ -1319,6 +1401,8 @@ rows-say-array-read-first : (t : ℕ) → rows-say-lts.Need-array-read-first (
   row-of-reads.Learnt,
   opened-at-reads.Asked,
   opened-at-reads.Learnt,
+  plain-says-reads.Asked,
+  plain-says-reads.Learnt,
   probe-says-below t,
   probe-says.Post,
   join-verdicts-reads.Asked,
@@ -1333,6 +1417,8 @@ rows-say-mul-size-4 : (t : ℕ) → rows-say-lts.Need-mul-size-4 (
   row-of-reads.Learnt,
   opened-at-reads.Asked,
   opened-at-reads.Learnt,
+  plain-says-reads.Asked,
+  plain-says-reads.Learnt,
   probe-says-below t,
   probe-says.Post,
   join-verdicts-reads.Asked,
@@ -1347,6 +1433,8 @@ rows-say-array-read-size-4 : (t : ℕ) → rows-say-lts.Need-array-read-size-4 (
   row-of-reads.Learnt,
   opened-at-reads.Asked,
   opened-at-reads.Learnt,
+  plain-says-reads.Asked,
+  plain-says-reads.Learnt,
   probe-says-below t,
   probe-says.Post,
   join-verdicts-reads.Asked,
@@ -1361,6 +1449,8 @@ rows-say-sub-size-4 : (t : ℕ) → rows-say-lts.Need-sub-size-4 (
   row-of-reads.Learnt,
   opened-at-reads.Asked,
   opened-at-reads.Learnt,
+  plain-says-reads.Asked,
+  plain-says-reads.Learnt,
   probe-says-below t,
   probe-says.Post,
   join-verdicts-reads.Asked,
@@ -1375,6 +1465,8 @@ rows-say-mul-size-5 : (t : ℕ) → rows-say-lts.Need-mul-size-5 (
   row-of-reads.Learnt,
   opened-at-reads.Asked,
   opened-at-reads.Learnt,
+  plain-says-reads.Asked,
+  plain-says-reads.Learnt,
   probe-says-below t,
   probe-says.Post,
   join-verdicts-reads.Asked,
@@ -1389,6 +1481,8 @@ rows-say-array-read-size-5 : (t : ℕ) → rows-say-lts.Need-array-read-size-5 (
   row-of-reads.Learnt,
   opened-at-reads.Asked,
   opened-at-reads.Learnt,
+  plain-says-reads.Asked,
+  plain-says-reads.Learnt,
   probe-says-below t,
   probe-says.Post,
   join-verdicts-reads.Asked,
@@ -1403,6 +1497,8 @@ rows-say-add-size : (t : ℕ) → rows-say-lts.Need-add-size (
   row-of-reads.Learnt,
   opened-at-reads.Asked,
   opened-at-reads.Learnt,
+  plain-says-reads.Asked,
+  plain-says-reads.Learnt,
   probe-says-below t,
   probe-says.Post,
   join-verdicts-reads.Asked,
@@ -1417,6 +1513,8 @@ rows-say-join-verdicts-requires : (t : ℕ) → rows-say-lts.Need-join-verdicts-
   row-of-reads.Learnt,
   opened-at-reads.Asked,
   opened-at-reads.Learnt,
+  plain-says-reads.Asked,
+  plain-says-reads.Learnt,
   probe-says-below t,
   probe-says.Post,
   join-verdicts-reads.Asked,
@@ -1431,6 +1529,8 @@ rows-say-array-write-says-4 : (t : ℕ) → rows-say-lts.Need-array-write-says-4
   row-of-reads.Learnt,
   opened-at-reads.Asked,
   opened-at-reads.Learnt,
+  plain-says-reads.Asked,
+  plain-says-reads.Learnt,
   probe-says-below t,
   probe-says.Post,
   join-verdicts-reads.Asked,
@@ -1445,6 +1545,8 @@ rows-say-add-sizes-5 : (t : ℕ) → rows-say-lts.Need-add-sizes-5 (
   row-of-reads.Learnt,
   opened-at-reads.Asked,
   opened-at-reads.Learnt,
+  plain-says-reads.Asked,
+  plain-says-reads.Learnt,
   probe-says-below t,
   probe-says.Post,
   join-verdicts-reads.Asked,
@@ -1459,6 +1561,8 @@ rows-say-mul-sizes-5 : (t : ℕ) → rows-say-lts.Need-mul-sizes-5 (
   row-of-reads.Learnt,
   opened-at-reads.Asked,
   opened-at-reads.Learnt,
+  plain-says-reads.Asked,
+  plain-says-reads.Learnt,
   probe-says-below t,
   probe-says.Post,
   join-verdicts-reads.Asked,
@@ -1473,6 +1577,8 @@ rows-say-array-write-sizes-5 : (t : ℕ) → rows-say-lts.Need-array-write-sizes
   row-of-reads.Learnt,
   opened-at-reads.Asked,
   opened-at-reads.Learnt,
+  plain-says-reads.Asked,
+  plain-says-reads.Learnt,
   probe-says-below t,
   probe-says.Post,
   join-verdicts-reads.Asked,
@@ -1487,6 +1593,8 @@ rows-say-sub-top : (t : ℕ) → rows-say-lts.Need-sub-top (
   row-of-reads.Learnt,
   opened-at-reads.Asked,
   opened-at-reads.Learnt,
+  plain-says-reads.Asked,
+  plain-says-reads.Learnt,
   probe-says-below t,
   probe-says.Post,
   join-verdicts-reads.Asked,
@@ -1501,6 +1609,8 @@ rows-say-add-i-6 : (t : ℕ) → rows-say-lts.Need-add-i-6 (
   row-of-reads.Learnt,
   opened-at-reads.Asked,
   opened-at-reads.Learnt,
+  plain-says-reads.Asked,
+  plain-says-reads.Learnt,
   probe-says-below t,
   probe-says.Post,
   join-verdicts-reads.Asked,
@@ -1515,6 +1625,8 @@ rows-say-loop-less-5 : (t : ℕ) → rows-say-lts.Need-loop-less-5 (
   row-of-reads.Learnt,
   opened-at-reads.Asked,
   opened-at-reads.Learnt,
+  plain-says-reads.Asked,
+  plain-says-reads.Learnt,
   probe-says-below t,
   probe-says.Post,
   join-verdicts-reads.Asked,
@@ -1529,6 +1641,8 @@ rows-say-loop-again-5 : (t : ℕ) → rows-say-lts.Need-loop-again-5 (
   row-of-reads.Learnt,
   opened-at-reads.Asked,
   opened-at-reads.Learnt,
+  plain-says-reads.Asked,
+  plain-says-reads.Learnt,
   probe-says-below t,
   probe-says.Post,
   join-verdicts-reads.Asked,
@@ -1543,6 +1657,8 @@ rows-say-enum-told-2 : (t : ℕ) → rows-say-lts.Need-enum-told-2 (
   row-of-reads.Learnt,
   opened-at-reads.Asked,
   opened-at-reads.Learnt,
+  plain-says-reads.Asked,
+  plain-says-reads.Learnt,
   probe-says-below t,
   probe-says.Post,
   join-verdicts-reads.Asked,
@@ -1557,6 +1673,8 @@ rows-say-returns-5 : (t : ℕ) → rows-say-lts.Need-returns-5 (
   row-of-reads.Learnt,
   opened-at-reads.Asked,
   opened-at-reads.Learnt,
+  plain-says-reads.Asked,
+  plain-says-reads.Learnt,
   probe-says-below t,
   probe-says.Post,
   join-verdicts-reads.Asked,
@@ -1571,6 +1689,8 @@ rows-say-array-read-result : (t : ℕ) → rows-say-lts.Need-array-read-result (
   row-of-reads.Learnt,
   opened-at-reads.Asked,
   opened-at-reads.Learnt,
+  plain-says-reads.Asked,
+  plain-says-reads.Learnt,
   probe-says-below t,
   probe-says.Post,
   join-verdicts-reads.Asked,
@@ -1585,6 +1705,8 @@ rows-say-returns-6 : (t : ℕ) → rows-say-lts.Need-returns-6 (
   row-of-reads.Learnt,
   opened-at-reads.Asked,
   opened-at-reads.Learnt,
+  plain-says-reads.Asked,
+  plain-says-reads.Learnt,
   probe-says-below t,
   probe-says.Post,
   join-verdicts-reads.Asked,
@@ -1599,6 +1721,8 @@ rows-say-returns-7 : (t : ℕ) → rows-say-lts.Need-returns-7 (
   row-of-reads.Learnt,
   opened-at-reads.Asked,
   opened-at-reads.Learnt,
+  plain-says-reads.Asked,
+  plain-says-reads.Learnt,
   probe-says-below t,
   probe-says.Post,
   join-verdicts-reads.Asked,
@@ -1847,25 +1971,20 @@ pub +entry-chosen+probe-says+rows-say+some-entry-spec : {M : Type 1} → stateme
     (λ t. probe-says-lts.spec (
       meaning-of-reads.Asked,
       meaning-of-reads.Learnt,
-      some-counts-reads.Asked,
-      some-counts-reads.Learnt,
-      some-says-reads.Asked,
-      some-says-reads.Learnt,
       some-entry-below t,
       some-entry.Post,
+      some-says-reads.Asked,
+      some-says-reads.Learnt,
     )
     (probe-says-at t)
     probe-says.Post
     (probe-says-cast-index t)
     (probe-says-shared-slice-read-meaning-of t)
     (probe-says-meaning-of-requires t)
-    (probe-says-some-counts-requires t)
+    (probe-says-some-entry-requires t)
     (probe-says-some-says-requires t)
     (probe-says-returns t)
-    (probe-says-some-entry-requires t)
-    (probe-says-some-says-requires-2 t)
-    (probe-says-returns-2 t)
-    (probe-says-returns-3 t))
+    (probe-says-returns-2 t))
     (λ t. rows-say-lts.spec (
       leap-reads.Asked,
       leap-reads.Learnt,
@@ -1873,6 +1992,8 @@ pub +entry-chosen+probe-says+rows-say+some-entry-spec : {M : Type 1} → stateme
       row-of-reads.Learnt,
       opened-at-reads.Asked,
       opened-at-reads.Learnt,
+      plain-says-reads.Asked,
+      plain-says-reads.Learnt,
       probe-says-below t,
       probe-says.Post,
       join-verdicts-reads.Asked,
@@ -1903,7 +2024,7 @@ pub +entry-chosen+probe-says+rows-say+some-entry-spec : {M : Type 1} → stateme
     (rows-say-enum-known-probe t)
     (rows-say-returns t)
     (rows-say-opened-at-requires t)
-    (rows-say-probe-says-requires t)
+    (rows-say-plain-says-requires t)
     (rows-say-array-write-says t)
     (rows-say-mul-sizes-2 t)
     (rows-say-array-write-sizes-2 t)
@@ -1918,7 +2039,7 @@ pub +entry-chosen+probe-says+rows-say+some-entry-spec : {M : Type 1} → stateme
     (rows-say-array-read-size-2 t)
     (rows-say-sub-start t)
     (rows-say-opened-at-requires-2 t)
-    (rows-say-probe-says-requires-2 t)
+    (rows-say-probe-says-requires t)
     (rows-say-sub-says t)
     (rows-say-array-write-says-2 t)
     (rows-say-add-sizes-3 t)
