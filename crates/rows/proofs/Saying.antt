@@ -46,7 +46,7 @@ use Rattle.rows.specs.declared.Row.{Row}
 use Rattle.rows.specs.declared.Opened.{Opened}
 use Rattle.rows.proofs.Opening.{row-small, cells-back}
 use Rattle.rows.proofs.Jumping.{stacked-item}
-use Rattle.rows.proofs.Stating.{stated-encode, flat, total, height-total}
+use Rattle.rows.proofs.Stating.{stated-encode, stated-cells, flat, total, height-total}
 use Rattle.rows.proofs.Machine.{Holds, holds-none, holds-more, holds-length, holds-push, top-of, none-on, Stacked, stacked-start, stacked-next, stacked-fails, stacked-end, stacked-total}
 
 -- ---- entry by entry is by the set of the entries that are kept
@@ -157,13 +157,6 @@ unfolding someEntry
 entry-end says k i m v = refl
 
 module _ (kinds xs : List ℕ) (all : List Entry) (inner : List ℕ) (o : ℕ) (u : Bool) where
-  chosen-plain : u ≡ true → length inner ≡ 0 → true ≡ (u && occurrenceSays kinds xs all inner o)
-  chosen-plain h z = rw h (by-length inner z)
-    where
-      by-length : (cs : List ℕ) → length cs ≡ 0 → true ≡ innerSays kinds xs (ofOccurrence o all) cs
-      by-length [] z = refl
-      by-length (c ∷ cs) z = absurd (omega (arith, z))
-
   chosen-inner : (r : Bool) → u ≡ true → (length inner ≡ 0 → ⊥) → r ≡ rowsSay kinds xs (chosenOf (record { all = false; occurrence = o }) all) inner → r ≡ (u && occurrenceSays kinds xs all inner o)
   chosen-inner r h z e = rw h (e ∙ ap (λ (l : List Entry). rowsSay kinds xs l inner) (chosen-one o all) ∙ by-length inner z)
     where
@@ -174,14 +167,11 @@ module _ (kinds xs : List ℕ) (all : List Entry) (inner : List ℕ) (o : ℕ) (
   pub chosen-not : u ≡ false → false ≡ (u && occurrenceSays kinds xs all inner o)
   chosen-not h = rw h
 
-module _ (kinds xs : List ℕ) (all : List Entry) (rows : List ℕ) (from to o : ℕ) (u : Bool) where
-  pub bracket-plain : u ≡ true → from ≡ to → true ≡ (u && occurrenceSays kinds xs all (part rows from to) o)
-  bracket-plain h z =
-      let none : to - from ≡ 0 = omega (arith, z) in
-      chosen-plain kinds xs all (part rows from to) o u h (ap (λ (n : ℕ). length (take n (drop from rows))) none)
-
-  pub bracket-inner : (r : Bool) → Bracketed rows from to → u ≡ true → (from ≡ to → ⊥) → r ≡ rowsSay kinds xs (chosenOf (record { all = false; occurrence = o }) all) (part rows from to) → r ≡ (u && occurrenceSays kinds xs all (part rows from to) o)
-  bracket-inner r b h z e = chosen-inner kinds xs all (part rows from to) o u r h (λ n. z (omega (arith, n, part-length rows from to (b .within), b .order))) e
+pub bracket-inner : (kinds xs : List ℕ) (all : List Entry) (rows : List ℕ) (from to o : ℕ) (u r : Bool) → Bracketed rows from to → u ≡ true
+    → r ≡ rowsSay kinds xs (chosenOf (record { all = false; occurrence = o }) all) (part rows from to) → r ≡ (u && occurrenceSays kinds xs all (part rows from to) o)
+bracket-inner kinds xs all rows from to o u r b h e =
+    let w : Whole (part rows from to) = b .whole in
+    chosen-inner kinds xs all (part rows from to) o u r h (λ n. omega (arith, n, ap length (stated-cells (part rows from to) (w .expression) (w .states)), some-cells (w .expression))) e
 
 module _ (kinds xs : List ℕ) (p : Probe) (o : Opened) (e : o ≡ openedFor kinds xs p) where
   -- what is opened of a value that there is
@@ -377,7 +367,7 @@ module _ (kinds xs : List ℕ) (k : Chosen) (all : List Entry) where
         record {
           order = omega arith;
           within = s .within;
-          whole = λ y. record {
+          whole = record {
             expression = t .0;
             states = ap stated cells ∙ stated-encode (t .0) (inner-writable (t .0) (t .1 .0) (t .1 .1 .0));
             few = omega (arith, stacked-total (s .stacked) (w .expression) (w .states), ap total (t .1 .1 .0), w .few);

@@ -79,7 +79,7 @@ fn entry_counts(under: bool, filter: &[u8], opened: Opened, meaning: Meaning, te
     false
 }
 
-// Whether an entry counts and the rows in the brackets, if there are any, say yes of its occurrence.
+// Whether an entry counts and the rows in the brackets say yes of its occurrence.
 fn entry_chosen(
     counts: bool,
     kinds: &[u8],
@@ -104,9 +104,6 @@ fn entry_chosen(
     ensures { λ r. ⌜ r ≡ (counts && occurrenceSays (now (kinds .entry)) (now (filter .entry)) (entriesOf (now (card .entry))) (part (now (rows .entry)) from to) occurrence) ⌝ }
 {
     if counts {
-        if from == to {
-            return true;
-        }
         let chosen = Chosen {
             all: false,
             occurrence,

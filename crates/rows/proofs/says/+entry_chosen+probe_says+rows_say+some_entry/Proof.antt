@@ -13,7 +13,7 @@ use Rattle.rows.specs.Saying.{someEntry, occurrenceSays}
 use Rattle.rows.specs.Opening.{valueOf}
 use Rattle.rows.proofs.Machine.{test-index, bracket-index}
 use Rattle.rows.proofs.Jumping.{opens-part, jumps-part, leap-within, leap-top}
-use Rattle.rows.proofs.Saying.{entry-here, entry-next, entry-end, bracket-plain, bracket-inner, chosen-not, probe-known, probe-closed, probe-opened, at-test, at-bracket, Judging, judging-start, judging-unknown, judging-full, judging-test, judging-bare-bracket, judging-before, judging-inner, judging-bracket, judging-bare-not, judging-not, judging-short, judging-sizes, judging-connect, judging-leap, leap-size, judging-whole, judging-other}
+use Rattle.rows.proofs.Saying.{entry-here, entry-next, entry-end, bracket-inner, chosen-not, probe-known, probe-closed, probe-opened, at-test, at-bracket, Judging, judging-start, judging-unknown, judging-full, judging-test, judging-bare-bracket, judging-before, judging-inner, judging-bracket, judging-bare-not, judging-not, judging-short, judging-sizes, judging-connect, judging-leap, leap-size, judging-whole, judging-other}
 use borrow.Author.Needs.{needs}
 use Prim.Native.Nat.{ℕ, _<_}
 use borrow.Fn.Kinds.{In}
@@ -91,14 +91,6 @@ abbrev some-entry-below : ℕ → In 9 some-entry-kinds.ps
 some-entry-below t =
     and 9 some-entry-kinds.ps (falls 9 some-entry-kinds.ps _<_ μ-some-entry t) some-entry.Pre
 
-entry-chosen-returns :
-    (t : ℕ) →
-    entry-chosen-lts.Need-returns
-    (rows-say-below t, rows-say.Post)
-    (entry-chosen-at t)
-    entry-chosen.Post
-entry-chosen-returns t c = bracket-plain _ _ _ _ _ _ _ _ (c .before .if1 .taken) (c .if2 .taken)
-
 entry-chosen-mul-rows-say : (t : ℕ) → entry-chosen-lts.Need-mul-rows-say (
   rows-say-below t,
   rows-say.Post,
@@ -109,19 +101,19 @@ entry-chosen-sub-rows-say : (t : ℕ) → entry-chosen-lts.Need-sub-rows-say (
   rows-say-below t,
   rows-say.Post,
 ) (entry-chosen-at t) entry-chosen.Post
-entry-chosen-sub-rows-say t c = c .before .before .before .before .before .before .before .before .before .pre .1 .1 .1 .0 .order
+entry-chosen-sub-rows-say t c = c .before .before .before .before .before .before .before .before .pre .1 .1 .1 .0 .order
 
 entry-chosen-part-rows-say-start : (t : ℕ) → entry-chosen-lts.Need-part-rows-say-start (
   rows-say-below t,
   rows-say.Post,
 ) (entry-chosen-at t) entry-chosen.Post
-entry-chosen-part-rows-say-start t c = omega (arith, c .before .before .before .before .before .before .before .before .before .pre .1 .1 .1 .0 .order)
+entry-chosen-part-rows-say-start t c = omega (arith, c .before .before .before .before .before .before .before .before .pre .1 .1 .1 .0 .order)
 
 entry-chosen-part-rows-say-end : (t : ℕ) → entry-chosen-lts.Need-part-rows-say-end (
   rows-say-below t,
   rows-say.Post,
 ) (entry-chosen-at t) entry-chosen.Post
-entry-chosen-part-rows-say-end t c = omega (arith, c .before .before .before .before .before .before .before .before .before .pre .1 .1 .1 .0 .within, c .before .before .before .before .before .before .before .before .before .pre .1 .1 .1 .0 .within)
+entry-chosen-part-rows-say-end t c = omega (arith, c .before .before .before .before .before .before .before .before .pre .1 .1 .1 .0 .within, c .before .before .before .before .before .before .before .before .pre .1 .1 .1 .0 .within)
 
 entry-chosen-mul-rows-say-2 : (t : ℕ) → entry-chosen-lts.Need-mul-rows-say-2 (
   rows-say-below t,
@@ -133,19 +125,19 @@ entry-chosen-sub-rows-say-2 : (t : ℕ) → entry-chosen-lts.Need-sub-rows-say-2
   rows-say-below t,
   rows-say.Post,
 ) (entry-chosen-at t) entry-chosen.Post
-entry-chosen-sub-rows-say-2 t c = c .before .before .before .before .before .before .before .before .before .before .pre .1 .1 .1 .0 .order
+entry-chosen-sub-rows-say-2 t c = c .before .before .before .before .before .before .before .before .before .pre .1 .1 .1 .0 .order
 
 entry-chosen-part-rows-say-start-2 : (t : ℕ) → entry-chosen-lts.Need-part-rows-say-start-2 (
   rows-say-below t,
   rows-say.Post,
 ) (entry-chosen-at t) entry-chosen.Post
-entry-chosen-part-rows-say-start-2 t c = omega (arith, c .before .before .before .before .before .before .before .before .before .before .pre .1 .1 .1 .0 .order)
+entry-chosen-part-rows-say-start-2 t c = omega (arith, c .before .before .before .before .before .before .before .before .before .pre .1 .1 .1 .0 .order)
 
 entry-chosen-part-rows-say-end-2 : (t : ℕ) → entry-chosen-lts.Need-part-rows-say-end-2 (
   rows-say-below t,
   rows-say.Post,
 ) (entry-chosen-at t) entry-chosen.Post
-entry-chosen-part-rows-say-end-2 t c = omega (arith, c .before .before .before .before .before .before .before .before .before .before .pre .1 .1 .1 .0 .within, c .before .before .before .before .before .before .before .before .before .before .pre .1 .1 .1 .1 .0 .room)
+entry-chosen-part-rows-say-end-2 t c = omega (arith, c .before .before .before .before .before .before .before .before .before .pre .1 .1 .1 .0 .within, c .before .before .before .before .before .before .before .before .before .pre .1 .1 .1 .1 .0 .room)
 
 entry-chosen-mul-rows-say-3 : (t : ℕ) → entry-chosen-lts.Need-mul-rows-say-3 (
   rows-say-below t,
@@ -157,19 +149,19 @@ entry-chosen-sub-rows-say-3 : (t : ℕ) → entry-chosen-lts.Need-sub-rows-say-3
   rows-say-below t,
   rows-say.Post,
 ) (entry-chosen-at t) entry-chosen.Post
-entry-chosen-sub-rows-say-3 t c = c .before .before .before .before .before .before .before .before .before .before .before .pre .1 .1 .1 .0 .order
+entry-chosen-sub-rows-say-3 t c = c .before .before .before .before .before .before .before .before .before .before .pre .1 .1 .1 .0 .order
 
 entry-chosen-part-rows-say-start-3 : (t : ℕ) → entry-chosen-lts.Need-part-rows-say-start-3 (
   rows-say-below t,
   rows-say.Post,
 ) (entry-chosen-at t) entry-chosen.Post
-entry-chosen-part-rows-say-start-3 t c = omega (arith, c .before .before .before .before .before .before .before .before .before .before .before .pre .1 .1 .1 .0 .order)
+entry-chosen-part-rows-say-start-3 t c = omega (arith, c .before .before .before .before .before .before .before .before .before .before .pre .1 .1 .1 .0 .order)
 
 entry-chosen-part-rows-say-end-3 : (t : ℕ) → entry-chosen-lts.Need-part-rows-say-end-3 (
   rows-say-below t,
   rows-say.Post,
 ) (entry-chosen-at t) entry-chosen.Post
-entry-chosen-part-rows-say-end-3 t c = omega (arith, c .before .before .before .before .before .before .before .before .before .before .before .pre .1 .1 .1 .0 .within, c .before .before .before .before .before .before .before .before .before .before .before .pre .1 .1 .1 .1 .1 .0 .span-cells .room)
+entry-chosen-part-rows-say-end-3 t c = omega (arith, c .before .before .before .before .before .before .before .before .before .before .pre .1 .1 .1 .0 .within, c .before .before .before .before .before .before .before .before .before .before .pre .1 .1 .1 .1 .1 .0 .span-cells .room)
 
 entry-chosen-mul-rows-say-4 : (t : ℕ) → entry-chosen-lts.Need-mul-rows-say-4 (
   rows-say-below t,
@@ -181,19 +173,19 @@ entry-chosen-sub-rows-say-4 : (t : ℕ) → entry-chosen-lts.Need-sub-rows-say-4
   rows-say-below t,
   rows-say.Post,
 ) (entry-chosen-at t) entry-chosen.Post
-entry-chosen-sub-rows-say-4 t c = c .before .before .before .before .before .before .before .before .before .before .before .before .pre .1 .1 .1 .0 .order
+entry-chosen-sub-rows-say-4 t c = c .before .before .before .before .before .before .before .before .before .before .before .pre .1 .1 .1 .0 .order
 
 entry-chosen-part-rows-say-start-4 : (t : ℕ) → entry-chosen-lts.Need-part-rows-say-start-4 (
   rows-say-below t,
   rows-say.Post,
 ) (entry-chosen-at t) entry-chosen.Post
-entry-chosen-part-rows-say-start-4 t c = omega (arith, c .before .before .before .before .before .before .before .before .before .before .before .before .pre .1 .1 .1 .0 .order)
+entry-chosen-part-rows-say-start-4 t c = omega (arith, c .before .before .before .before .before .before .before .before .before .before .before .pre .1 .1 .1 .0 .order)
 
 entry-chosen-part-rows-say-end-4 : (t : ℕ) → entry-chosen-lts.Need-part-rows-say-end-4 (
   rows-say-below t,
   rows-say.Post,
 ) (entry-chosen-at t) entry-chosen.Post
-entry-chosen-part-rows-say-end-4 t c = omega (arith, c .before .before .before .before .before .before .before .before .before .before .before .before .pre .1 .1 .1 .0 .within, c .before .before .before .before .before .before .before .before .before .before .before .before .pre .1 .1 .1 .1 .1 .0 .digit-cells .room)
+entry-chosen-part-rows-say-end-4 t c = omega (arith, c .before .before .before .before .before .before .before .before .before .before .before .pre .1 .1 .1 .0 .within, c .before .before .before .before .before .before .before .before .before .before .before .pre .1 .1 .1 .1 .1 .0 .digit-cells .room)
 
 entry-chosen-mul-rows-say-5 : (t : ℕ) → entry-chosen-lts.Need-mul-rows-say-5 (
   rows-say-below t,
@@ -205,19 +197,19 @@ entry-chosen-sub-rows-say-5 : (t : ℕ) → entry-chosen-lts.Need-sub-rows-say-5
   rows-say-below t,
   rows-say.Post,
 ) (entry-chosen-at t) entry-chosen.Post
-entry-chosen-sub-rows-say-5 t c = c .before .before .before .before .before .before .before .before .before .before .before .before .before .pre .1 .1 .1 .0 .order
+entry-chosen-sub-rows-say-5 t c = c .before .before .before .before .before .before .before .before .before .before .before .before .pre .1 .1 .1 .0 .order
 
 entry-chosen-part-rows-say-start-5 : (t : ℕ) → entry-chosen-lts.Need-part-rows-say-start-5 (
   rows-say-below t,
   rows-say.Post,
 ) (entry-chosen-at t) entry-chosen.Post
-entry-chosen-part-rows-say-start-5 t c = omega (arith, c .before .before .before .before .before .before .before .before .before .before .before .before .before .pre .1 .1 .1 .0 .order)
+entry-chosen-part-rows-say-start-5 t c = omega (arith, c .before .before .before .before .before .before .before .before .before .before .before .before .pre .1 .1 .1 .0 .order)
 
 entry-chosen-part-rows-say-end-5 : (t : ℕ) → entry-chosen-lts.Need-part-rows-say-end-5 (
   rows-say-below t,
   rows-say.Post,
 ) (entry-chosen-at t) entry-chosen.Post
-entry-chosen-part-rows-say-end-5 t c = omega (arith, c .before .before .before .before .before .before .before .before .before .before .before .before .before .pre .1 .1 .1 .0 .within, c .before .before .before .before .before .before .before .before .before .before .before .before .before .pre .1 .1 .1 .1 .1 .0 .start-cells .room)
+entry-chosen-part-rows-say-end-5 t c = omega (arith, c .before .before .before .before .before .before .before .before .before .before .before .before .pre .1 .1 .1 .0 .within, c .before .before .before .before .before .before .before .before .before .before .before .before .pre .1 .1 .1 .1 .1 .0 .start-cells .room)
 
 entry-chosen-mul-rows-say-6 : (t : ℕ) → entry-chosen-lts.Need-mul-rows-say-6 (
   rows-say-below t,
@@ -229,37 +221,39 @@ entry-chosen-sub-rows-say-6 : (t : ℕ) → entry-chosen-lts.Need-sub-rows-say-6
   rows-say-below t,
   rows-say.Post,
 ) (entry-chosen-at t) entry-chosen.Post
-entry-chosen-sub-rows-say-6 t c = c .before .before .before .before .before .before .before .before .before .before .before .before .before .before .pre .1 .1 .1 .0 .order
+entry-chosen-sub-rows-say-6 t c = c .before .before .before .before .before .before .before .before .before .before .before .before .before .pre .1 .1 .1 .0 .order
 
 entry-chosen-part-rows-say-start-6 : (t : ℕ) → entry-chosen-lts.Need-part-rows-say-start-6 (
   rows-say-below t,
   rows-say.Post,
 ) (entry-chosen-at t) entry-chosen.Post
-entry-chosen-part-rows-say-start-6 t c = omega (arith, c .before .before .before .before .before .before .before .before .before .before .before .before .before .before .pre .1 .1 .1 .0 .order)
+entry-chosen-part-rows-say-start-6 t c = omega (arith, c .before .before .before .before .before .before .before .before .before .before .before .before .before .pre .1 .1 .1 .0 .order)
 
 entry-chosen-part-rows-say-end-6 : (t : ℕ) → entry-chosen-lts.Need-part-rows-say-end-6 (
   rows-say-below t,
   rows-say.Post,
 ) (entry-chosen-at t) entry-chosen.Post
-entry-chosen-part-rows-say-end-6 t c = omega (arith, c .before .before .before .before .before .before .before .before .before .before .before .before .before .before .pre .1 .1 .1 .0 .within, c .before .before .before .before .before .before .before .before .before .before .before .before .before .before .pre .1 .1 .1 .1 .1 .0 .end-cells .room)
+entry-chosen-part-rows-say-end-6 t c = omega (arith, c .before .before .before .before .before .before .before .before .before .before .before .before .before .pre .1 .1 .1 .0 .within, c .before .before .before .before .before .before .before .before .before .before .before .before .before .pre .1 .1 .1 .1 .1 .0 .end-cells .room)
 
 entry-chosen-rows-say-requires : (t : ℕ) → entry-chosen-lts.Need-rows-say-requires (
   rows-say-below t,
   rows-say.Post,
 ) (entry-chosen-at t) entry-chosen.Post
-entry-chosen-rows-say-requires t c κs = (omega (arith, c .before .before .before .before .before .before .before .before .before .before .before .before .before .before .before .pre .0, part-length (c .before .before .before .before .before .before .before .before .before .before .before .before .before .before .before .args .rows .now) (c .before .before .before .before .before .before .before .before .before .before .before .before .before .before .before .args .from) (c .before .before .before .before .before .before .before .before .before .before .before .before .before .before .before .args .to) (c .before .before .before .before .before .before .before .before .before .before .before .before .before .before .before .pre .1 .1 .1 .0 .within)), (c .before .before .before .before .before .before .before .before .before .before .before .before .before .before .before .pre .1 .0, (c .before .before .before .before .before .before .before .before .before .before .before .before .before .before .before .pre .1 .1 .0, (c .before .before .before .before .before .before .before .before .before .before .before .before .before .before .before .pre .1 .1 .1 .0 .whole (c .before .before .before .before .before .before .if2 .left), (jumps-part (c .before .before .before .before .before .before .before .before .before .before .before .before .before .before .before .pre .1 .1 .1 .1 .0) (c .before .before .before .before .before .before .before .before .before .before .before .before .before .before .before .args .from) (c .before .before .before .before .before .before .before .before .before .before .before .before .before .before .before .args .to) (c .before .before .before .before .before .before .before .before .before .before .before .before .before .before .before .pre .1 .1 .1 .0 .order) (c .before .before .before .before .before .before .before .before .before .before .before .before .before .before .before .pre .1 .1 .1 .0 .within), (opens-part (c .before .before .before .before .before .before .before .before .before .before .before .before .before .before .before .pre .1 .1 .1 .1 .1 .0) (c .before .before .before .before .before .before .before .before .before .before .before .before .before .before .before .args .from) (c .before .before .before .before .before .before .before .before .before .before .before .before .before .before .before .args .to) (c .before .before .before .before .before .before .before .before .before .before .before .before .before .before .before .pre .1 .1 .1 .0 .order) (c .before .before .before .before .before .before .before .before .before .before .before .before .before .before .before .pre .1 .1 .1 .0 .within), c .before .before .before .before .before .before .before .before .before .before .before .before .before .before .before .pre .1 .1 .1 .1 .1 .1))))))
+entry-chosen-rows-say-requires t c κs = (omega (arith, c .before .before .before .before .before .before .before .before .before .before .before .before .before .before .pre .0, part-length (c .before .before .before .before .before .before .before .before .before .before .before .before .before .before .args .rows .now) (c .before .before .before .before .before .before .before .before .before .before .before .before .before .before .args .from) (c .before .before .before .before .before .before .before .before .before .before .before .before .before .before .args .to) (c .before .before .before .before .before .before .before .before .before .before .before .before .before .before .pre .1 .1 .1 .0 .within)), (c .before .before .before .before .before .before .before .before .before .before .before .before .before .before .pre .1 .0, (c .before .before .before .before .before .before .before .before .before .before .before .before .before .before .pre .1 .1 .0, (c .before .before .before .before .before .before .before .before .before .before .before .before .before .before .pre .1 .1 .1 .0 .whole, (jumps-part (c .before .before .before .before .before .before .before .before .before .before .before .before .before .before .pre .1 .1 .1 .1 .0) (c .before .before .before .before .before .before .before .before .before .before .before .before .before .before .args .from) (c .before .before .before .before .before .before .before .before .before .before .before .before .before .before .args .to) (c .before .before .before .before .before .before .before .before .before .before .before .before .before .before .pre .1 .1 .1 .0 .order) (c .before .before .before .before .before .before .before .before .before .before .before .before .before .before .pre .1 .1 .1 .0 .within), (opens-part (c .before .before .before .before .before .before .before .before .before .before .before .before .before .before .pre .1 .1 .1 .1 .1 .0) (c .before .before .before .before .before .before .before .before .before .before .before .before .before .before .args .from) (c .before .before .before .before .before .before .before .before .before .before .before .before .before .before .args .to) (c .before .before .before .before .before .before .before .before .before .before .before .before .before .before .pre .1 .1 .1 .0 .order) (c .before .before .before .before .before .before .before .before .before .before .before .before .before .before .pre .1 .1 .1 .0 .within), c .before .before .before .before .before .before .before .before .before .before .before .before .before .before .pre .1 .1 .1 .1 .1 .1))))))
+
+entry-chosen-returns :
+    (t : ℕ) →
+    entry-chosen-lts.Need-returns
+    (rows-say-below t, rows-say.Post)
+    (entry-chosen-at t)
+    entry-chosen.Post
+entry-chosen-returns t c = bracket-inner _ _ _ _ _ _ _ _ _ (c .before .before .before .before .before .before .before .before .before .before .before .before .before .before .before .pre .1 .1 .1 .0) (c .before .before .before .before .before .before .before .if1 .taken) (c .rows-say .ensures)
 
 entry-chosen-returns-2 : (t : ℕ) → entry-chosen-lts.Need-returns-2 (
   rows-say-below t,
   rows-say.Post,
 ) (entry-chosen-at t) entry-chosen.Post
-entry-chosen-returns-2 t c = bracket-inner _ _ _ _ _ _ _ _ _ (c .before .before .before .before .before .before .before .before .before .before .before .before .before .before .before .before .pre .1 .1 .1 .0) (c .before .before .before .before .before .before .before .before .if1 .taken) (c .before .before .before .before .before .before .before .if2 .left) (c .rows-say .ensures)
-
-entry-chosen-returns-3 : (t : ℕ) → entry-chosen-lts.Need-returns-3 (
-  rows-say-below t,
-  rows-say.Post,
-) (entry-chosen-at t) entry-chosen.Post
-entry-chosen-returns-3 t c = search (chosen-not, needs)
+entry-chosen-returns-2 t c = search (chosen-not, needs)
 
 probe-says-cast-index : (t : ℕ) → probe-says-lts.Need-cast-index (
   meaning-of-reads.Asked,
@@ -1940,7 +1934,6 @@ pub +entry-chosen+probe-says+rows-say+some-entry-spec : {M : Type 1} → stateme
     )
     (entry-chosen-at t)
     entry-chosen.Post
-    (entry-chosen-returns t)
     (entry-chosen-mul-rows-say t)
     (entry-chosen-sub-rows-say t)
     (entry-chosen-part-rows-say-start t)
@@ -1966,8 +1959,8 @@ pub +entry-chosen+probe-says+rows-say+some-entry-spec : {M : Type 1} → stateme
     (entry-chosen-part-rows-say-start-6 t)
     (entry-chosen-part-rows-say-end-6 t)
     (entry-chosen-rows-say-requires t)
-    (entry-chosen-returns-2 t)
-    (entry-chosen-returns-3 t))
+    (entry-chosen-returns t)
+    (entry-chosen-returns-2 t))
     (λ t. probe-says-lts.spec (
       meaning-of-reads.Asked,
       meaning-of-reads.Learnt,
