@@ -46,7 +46,7 @@ use Rattle.rows.specs.declared.Row.{Row}
 use Rattle.rows.specs.declared.Opened.{Opened}
 use Rattle.rows.proofs.Opening.{row-small, cells-back}
 use Rattle.rows.proofs.Jumping.{stacked-item}
-use Rattle.rows.proofs.Stating.{stated-encode, flat, total, height-total}
+use Rattle.rows.proofs.Stating.{stated-encode, stated-cells, flat, total, height-total}
 use Rattle.rows.proofs.Machine.{Holds, holds-none, holds-more, holds-length, holds-push, top-of, none-on, Stacked, stacked-start, stacked-next, stacked-fails, stacked-end, stacked-total}
 
 -- ---- entry by entry is by the set of the entries that are kept
@@ -142,26 +142,21 @@ module _ (says : ℕ → Bool) (k : Chosen) (i : ℕ) (m : Meaning) (v : List �
   entry-next h = entry-step ∙ ap (λ (y : Bool). y || someEntry says k i m v es) h
 
 -- the same without brackets
-module _ (k : Chosen) (i : ℕ) (m : Meaning) (v : List ℕ) (j o : ℕ) (x : List ℕ) (es : List Entry) (under n : Bool)
-    (a : under ≡ (counts k o && eqb j i)) (b : n ≡ (under && textCounts m v x)) where
-  pub plain-here : n ≡ true → true ≡ someEntry anyOccurrence k i m v (entry j o x ∷ es)
-  plain-here h = entry-here anyOccurrence k i m v j o x es under n n a b (sym (and-true n)) h
+module _ (k : Chosen) (i : ℕ) (m : Meaning) (v : List ℕ) (j o : ℕ) (x : List ℕ) (es : List Entry) (under : Bool) (a : under ≡ (counts k o && eqb j i)) where
+  pub plain-here : (n : Bool) → under ≡ true → n ≡ textCounts m v x → n ≡ true → true ≡ someEntry anyOccurrence k i m v (entry j o x ∷ es)
+  plain-here n u b h = entry-here anyOccurrence k i m v j o x es under n n a (b ∙ ap (λ (y : Bool). y && textCounts m v x) (sym u)) (sym (and-true n)) h
 
-  pub plain-next : n ≡ false → someEntry anyOccurrence k i m v (entry j o x ∷ es) ≡ someEntry anyOccurrence k i m v es
-  plain-next h = entry-next anyOccurrence k i m v j o x es under n n a b (sym (and-true n)) h
+  pub plain-next : (n : Bool) → under ≡ true → n ≡ textCounts m v x → n ≡ false → someEntry anyOccurrence k i m v (entry j o x ∷ es) ≡ someEntry anyOccurrence k i m v es
+  plain-next n u b h = entry-next anyOccurrence k i m v j o x es under n n a (b ∙ ap (λ (y : Bool). y && textCounts m v x) (sym u)) (sym (and-true n)) h
+
+  pub plain-other : under ≡ false → someEntry anyOccurrence k i m v (entry j o x ∷ es) ≡ someEntry anyOccurrence k i m v es
+  plain-other u = entry-next anyOccurrence k i m v j o x es under false false a (ap (λ (y : Bool). y && textCounts m v x) (sym u)) refl refl
 
 pub entry-end : (says : ℕ → Bool) (k : Chosen) (i : ℕ) (m : Meaning) (v : List ℕ) → false ≡ someEntry says k i m v []
 unfolding someEntry
 entry-end says k i m v = refl
 
 module _ (kinds xs : List ℕ) (all : List Entry) (inner : List ℕ) (o : ℕ) (u : Bool) where
-  chosen-plain : u ≡ true → length inner ≡ 0 → true ≡ (u && occurrenceSays kinds xs all inner o)
-  chosen-plain h z = rw h (by-length inner z)
-    where
-      by-length : (cs : List ℕ) → length cs ≡ 0 → true ≡ innerSays kinds xs (ofOccurrence o all) cs
-      by-length [] z = refl
-      by-length (c ∷ cs) z = absurd (omega (arith, z))
-
   chosen-inner : (r : Bool) → u ≡ true → (length inner ≡ 0 → ⊥) → r ≡ rowsSay kinds xs (chosenOf (record { all = false; occurrence = o }) all) inner → r ≡ (u && occurrenceSays kinds xs all inner o)
   chosen-inner r h z e = rw h (e ∙ ap (λ (l : List Entry). rowsSay kinds xs l inner) (chosen-one o all) ∙ by-length inner z)
     where
@@ -172,14 +167,11 @@ module _ (kinds xs : List ℕ) (all : List Entry) (inner : List ℕ) (o : ℕ) (
   pub chosen-not : u ≡ false → false ≡ (u && occurrenceSays kinds xs all inner o)
   chosen-not h = rw h
 
-module _ (kinds xs : List ℕ) (all : List Entry) (rows : List ℕ) (from to o : ℕ) (u : Bool) where
-  pub bracket-plain : u ≡ true → from ≡ to → true ≡ (u && occurrenceSays kinds xs all (part rows from to) o)
-  bracket-plain h z =
-      let none : to - from ≡ 0 = omega (arith, z) in
-      chosen-plain kinds xs all (part rows from to) o u h (ap (λ (n : ℕ). length (take n (drop from rows))) none)
-
-  pub bracket-inner : (r : Bool) → Bracketed rows from to → u ≡ true → (from ≡ to → ⊥) → r ≡ rowsSay kinds xs (chosenOf (record { all = false; occurrence = o }) all) (part rows from to) → r ≡ (u && occurrenceSays kinds xs all (part rows from to) o)
-  bracket-inner r b h z e = chosen-inner kinds xs all (part rows from to) o u r h (λ n. z (omega (arith, n, part-length rows from to (b .within), b .order))) e
+pub bracket-inner : (kinds xs : List ℕ) (all : List Entry) (rows : List ℕ) (from to o : ℕ) (u r : Bool) → Bracketed rows from to → u ≡ true
+    → r ≡ rowsSay kinds xs (chosenOf (record { all = false; occurrence = o }) all) (part rows from to) → r ≡ (u && occurrenceSays kinds xs all (part rows from to) o)
+bracket-inner kinds xs all rows from to o u r b h e =
+    let w : Whole (part rows from to) = b .whole in
+    chosen-inner kinds xs all (part rows from to) o u r h (λ n. omega (arith, n, ap length (stated-cells (part rows from to) (w .expression) (w .states)), some-cells (w .expression))) e
 
 module _ (kinds xs : List ℕ) (p : Probe) (o : Opened) (e : o ≡ openedFor kinds xs p) where
   -- what is opened of a value that there is
@@ -230,13 +222,6 @@ module _ (kinds xs : List ℕ) (p : Probe) (o : Opened) (e : o ≡ openedFor kin
         let is : m ≡ meaningOf (p .operator) (getD kinds (p .index) 0) = j ∙ ap (meaningOf (p .operator)) i in
         let w = told h in
         rw (w .found) (y ∙ ap₂ (λ (a b : Bool). someSays m a b) (w .truth) (q ∙ ap (λ (v : List ℕ). someEntry (occurrenceSays kinds xs all inner) k (p .index) m v all) (w .same)) ∙ ap (λ (n : Meaning). someSays n (isTrue (valueIn xs (w .value))) (someEntry (occurrenceSays kinds xs all inner) k (p .index) n (valueIn xs (w .value)) all)) is)
-
-    pub probe-plain : (rows : List ℕ) (from to : ℕ) (m : Meaning) (kind : ℕ) (s r : Bool) → inner ≡ part rows from to → from ≡ to → o .found ≡ true → kind ≡ getD kinds (p .index) 0 → m ≡ meaningOf (p .operator) kind
-        → s ≡ someEntry anyOccurrence k (p .index) m (valueOf xs o) all → r ≡ someSays m (o .truth) s → r ≡ probeSaysEach kinds xs inner p k all
-    probe-plain rows from to m kind s r c z h i j q y =
-        let none : to - from ≡ 0 = omega (arith, z) in
-        let nothing : inner ≡ [] = c ∙ ap (λ (n : ℕ). take n (drop from rows)) none in
-        probe-opened m kind s r h i j (q ∙ ap (λ (cs : List ℕ). someEntry (occurrenceSays kinds xs all cs) k (p .index) m (valueOf xs o) all) (sym nothing)) y
 
 -- ---- a value that was opened
 
@@ -324,16 +309,14 @@ module _ (kinds xs : List ℕ) (k : Chosen) (all : List Entry) where
         let next : Stacked rows (i + 1) (probing p ∷ s .st) = stacked-next (s .stacked) l r e (probing p ∷ s .st) (rw u) in
         absurd (omega (arith, stacked-total next (w .expression) (w .states), height-total (s .st), holds-length (s .verdicts), z, w .few))
 
-    pub judging-test : (p : Probe) (v : Bool) → r ≡ Row.Test p → (top ≡ 32 → ⊥) → v ≡ probeSaysEach kinds xs (part rows i i) p k all → Judging rows (set says top v) (set sizes top 1) (top + 1) (i + 1)
+    pub judging-test : (p : Probe) (v : Bool) → r ≡ Row.Test p → (top ≡ 32 → ⊥) → v ≡ probeSaysEach kinds xs [] p k all → Judging rows (set says top v) (set sizes top 1) (top + 1) (i + 1)
     unfolding push encode
     judging-test p v u z w =
-        let zero-left : i - i ≡ 0 = omega arith in
-        let nothing : part rows i i ≡ [] = ap (λ (n : ℕ). take n (drop i rows)) zero-left in
         let low : top < 32 = omega (arith, s .few, z) in
         record {
           st = probing p ∷ s .st;
           stacked = stacked-next (s .stacked) l r e (probing p ∷ s .st) (rw u);
-          verdicts = holds-push (probing p) v (s .verdicts) (omega (arith, s .says-size, low)) (w ∙ ap (λ (cs : List ℕ). probeSaysEach kinds xs cs p k all) nothing ∙ plain-is kinds xs k all p);
+          verdicts = holds-push (probing p) v (s .verdicts) (omega (arith, s .says-size, low)) (w ∙ plain-is kinds xs k all p);
           lengths = holds-push (probing p) 1 (s .lengths) (omega (arith, s .sizes-size, low)) refl;
           says-size = length-set says top v ∙ s .says-size;
           sizes-size = length-set sizes top 1 ∙ s .sizes-size;
@@ -384,7 +367,7 @@ module _ (kinds xs : List ℕ) (k : Chosen) (all : List Entry) where
         record {
           order = omega arith;
           within = s .within;
-          whole = λ y. record {
+          whole = record {
             expression = t .0;
             states = ap stated cells ∙ stated-encode (t .0) (inner-writable (t .0) (t .1 .0) (t .1 .1 .0));
             few = omega (arith, stacked-total (s .stacked) (w .expression) (w .states), ap total (t .1 .1 .0), w .few);
@@ -537,7 +520,3 @@ module _ (kinds xs : List ℕ) (k : Chosen) (all : List Entry) where
         not-one holds-none z = refl
         not-one (holds-more v holds-none) z = absurd (z refl)
         not-one (holds-more v (holds-more y h)) z = refl
-
--- a test without brackets has no rows in them
-pub empty-bracket : (rows : List ℕ) (i : ℕ) → i ≤ length rows → Bracketed rows i i
-empty-bracket rows i l = record { order = omega arith; within = l; whole = λ y. absurd (y refl) }

@@ -53,11 +53,11 @@ pub record Whole (cs : List ℕ) : Type 0 where
   pub states : stated cs ≡ some expression
   pub few : testCount expression ≤ 32
 
--- the rows in brackets, from one place to another, if there are any
+-- the rows in brackets, from one place to another
 pub record Bracketed (rows : List ℕ) (from to : ℕ) : Type 0 where
   pub order : from ≤ to
   pub within : to ≤ length rows
-  pub whole : (from ≡ to → ⊥) → Whole (part rows from to)
+  pub whole : Whole (part rows from to)
 
 -- ---- a test after the rows in its brackets, entry by entry; a test without brackets has none
 

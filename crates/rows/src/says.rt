@@ -15,6 +15,7 @@ use kind::Readings;
 use syntax::value::decode;
 ghost use mathlib.Core.Path.{_≡_};
 ghost use mathlib.Core.Bool.{false, _&&_};
+ghost use mathlib.Core.List.{[]};
 ghost use Prim.Native.Nat.{_≤_, _<_};
 ghost use lib.ListN.{length, getD};
 ghost use lib.IntN.{pos};
@@ -78,7 +79,7 @@ fn entry_counts(under: bool, filter: &[u8], opened: Opened, meaning: Meaning, te
     false
 }
 
-// Whether an entry counts and the rows in the brackets, if there are any, say yes of its occurrence.
+// Whether an entry counts and the rows in the brackets say yes of its occurrence.
 fn entry_chosen(
     counts: bool,
     kinds: &[u8],
@@ -103,9 +104,6 @@ fn entry_chosen(
     ensures { λ r. ⌜ r ≡ (counts && occurrenceSays (now (kinds .entry)) (now (filter .entry)) (entriesOf (now (card .entry))) (part (now (rows .entry)) from to) occurrence) ⌝ }
 {
     if counts {
-        if from == to {
-            return true;
-        }
         let chosen = Chosen {
             all: false,
             occurrence,
@@ -146,12 +144,41 @@ fn some_counts(
         let e = card::entry_at(card, at, left);
         let start = e.start;
         let end = e.end;
-        let under = is_under(chosen, e.occurrence, e.index == index);
-        if entry_counts(under, filter, opened, meaning, &card[start..end]) {
-            return true;
+        if is_under(chosen, e.occurrence, e.index == index) {
+            if value_counts(filter, opened, meaning, &card[start..end]) {
+                return true;
+            }
+            at = end;
+            left -= 1;
+        } else {
+            at = end;
+            left -= 1;
         }
-        at = end;
-        left -= 1;
+    }
+    false
+}
+
+// What a test without brackets says of the entries that count.
+fn plain_says(
+    kinds: &[u8],
+    filter: &[u8],
+    card: &[u8],
+    chosen: Chosen,
+    probe: Probe,
+    opened: Opened,
+) -> bool
+    requires { ⌜ length (now kinds) ≡ 32 ⌝ }
+    requires { ⌜ length (now filter) ≤ 1024 ⌝ }
+    requires { ⌜ readCard (now card) ≡ Reading.WellFormed ⌝ }
+    requires { ⌜ probe .index < 32 ⌝ }
+    requires { ⌜ opened ≡ openedFor (now kinds) (now filter) probe ⌝ }
+    ensures { λ r. ⌜ r ≡ probeSaysEach (now (kinds .entry)) (now (filter .entry)) [] probe chosen (entriesOf (now (card .entry))) ⌝ }
+{
+    let index = probe.index as usize;
+    if opened.found {
+        let meaning = kind::meaning_of(probe.operator, kinds[index]);
+        let some = some_counts(filter, card, chosen, probe.index, meaning, opened);
+        return some_says(meaning, opened.truth, some);
     }
     false
 }
@@ -244,10 +271,6 @@ fn probe_says(
     let index = probe.index as usize;
     if opened.found {
         let meaning = kind::meaning_of(probe.operator, kinds[index]);
-        if from == to {
-            let plain = some_counts(filter, card, chosen, probe.index, meaning, opened);
-            return some_says(meaning, opened.truth, plain);
-        }
         let some = some_entry(
             kinds,
             filter,
@@ -352,22 +375,7 @@ pub fn rows_say(
                         return false;
                     }
                     let opened = opened_at(spans, digits, starts, ends, i);
-                    says[top] = probe_says(
-                        kinds,
-                        filter,
-                        rows,
-                        jumps,
-                        spans,
-                        digits,
-                        starts,
-                        ends,
-                        i,
-                        i,
-                        card,
-                        chosen,
-                        probe,
-                        opened,
-                    );
+                    says[top] = plain_says(kinds, filter, card, chosen, probe, opened);
                     sizes[top] = 1;
                     top += 1;
                     i += 1;

@@ -13,7 +13,7 @@ use Rattle.rows.specs.Saying.{someEntry, occurrenceSays}
 use Rattle.rows.specs.Opening.{valueOf}
 use Rattle.rows.proofs.Machine.{test-index, bracket-index}
 use Rattle.rows.proofs.Jumping.{opens-part, jumps-part, leap-within, leap-top}
-use Rattle.rows.proofs.Saying.{entry-here, entry-next, entry-end, bracket-plain, bracket-inner, chosen-not, probe-known, probe-closed, probe-opened, probe-plain, at-test, at-bracket, Judging, judging-start, judging-unknown, judging-full, judging-test, judging-bare-bracket, judging-before, judging-inner, judging-bracket, judging-bare-not, judging-not, judging-short, judging-sizes, judging-connect, judging-leap, leap-size, judging-whole, judging-other, empty-bracket}
+use Rattle.rows.proofs.Saying.{entry-here, entry-next, entry-end, bracket-inner, chosen-not, probe-known, probe-closed, probe-opened, at-test, at-bracket, Judging, judging-start, judging-unknown, judging-full, judging-test, judging-bare-bracket, judging-before, judging-inner, judging-bracket, judging-bare-not, judging-not, judging-short, judging-sizes, judging-connect, judging-leap, leap-size, judging-whole, judging-other}
 use borrow.Author.Needs.{needs}
 use Prim.Native.Nat.{ℕ, _<_}
 use borrow.Fn.Kinds.{In}
@@ -40,7 +40,7 @@ use Rattle.rows.proofs.says.entry_counts.Reads as entry-counts-reads
 use Rattle.rows.proofs.says.join_verdicts.Reads as join-verdicts-reads
 use Rattle.rows.proofs.says.leap.Reads as leap-reads
 use Rattle.rows.proofs.says.opened_at.Reads as opened-at-reads
-use Rattle.rows.proofs.says.some_counts.Reads as some-counts-reads
+use Rattle.rows.proofs.says.plain_says.Reads as plain-says-reads
 use Rattle.rows.proofs.says.+entry_chosen+probe_says+rows_say+some_entry.{statement}
 use Rattle.rows.proofs.says.+entry_chosen+probe_says+rows_say+some_entry.Tie.{close}
 
@@ -91,14 +91,6 @@ abbrev some-entry-below : ℕ → In 9 some-entry-kinds.ps
 some-entry-below t =
     and 9 some-entry-kinds.ps (falls 9 some-entry-kinds.ps _<_ μ-some-entry t) some-entry.Pre
 
-entry-chosen-returns :
-    (t : ℕ) →
-    entry-chosen-lts.Need-returns
-    (rows-say-below t, rows-say.Post)
-    (entry-chosen-at t)
-    entry-chosen.Post
-entry-chosen-returns t c = bracket-plain _ _ _ _ _ _ _ _ (c .before .if1 .taken) (c .if2 .taken)
-
 entry-chosen-mul-rows-say : (t : ℕ) → entry-chosen-lts.Need-mul-rows-say (
   rows-say-below t,
   rows-say.Post,
@@ -109,19 +101,19 @@ entry-chosen-sub-rows-say : (t : ℕ) → entry-chosen-lts.Need-sub-rows-say (
   rows-say-below t,
   rows-say.Post,
 ) (entry-chosen-at t) entry-chosen.Post
-entry-chosen-sub-rows-say t c = c .before .before .before .before .before .before .before .before .before .pre .1 .1 .1 .0 .order
+entry-chosen-sub-rows-say t c = c .before .before .before .before .before .before .before .before .pre .1 .1 .1 .0 .order
 
 entry-chosen-part-rows-say-start : (t : ℕ) → entry-chosen-lts.Need-part-rows-say-start (
   rows-say-below t,
   rows-say.Post,
 ) (entry-chosen-at t) entry-chosen.Post
-entry-chosen-part-rows-say-start t c = omega (arith, c .before .before .before .before .before .before .before .before .before .pre .1 .1 .1 .0 .order)
+entry-chosen-part-rows-say-start t c = omega (arith, c .before .before .before .before .before .before .before .before .pre .1 .1 .1 .0 .order)
 
 entry-chosen-part-rows-say-end : (t : ℕ) → entry-chosen-lts.Need-part-rows-say-end (
   rows-say-below t,
   rows-say.Post,
 ) (entry-chosen-at t) entry-chosen.Post
-entry-chosen-part-rows-say-end t c = omega (arith, c .before .before .before .before .before .before .before .before .before .pre .1 .1 .1 .0 .within, c .before .before .before .before .before .before .before .before .before .pre .1 .1 .1 .0 .within)
+entry-chosen-part-rows-say-end t c = omega (arith, c .before .before .before .before .before .before .before .before .pre .1 .1 .1 .0 .within, c .before .before .before .before .before .before .before .before .pre .1 .1 .1 .0 .within)
 
 entry-chosen-mul-rows-say-2 : (t : ℕ) → entry-chosen-lts.Need-mul-rows-say-2 (
   rows-say-below t,
@@ -133,19 +125,19 @@ entry-chosen-sub-rows-say-2 : (t : ℕ) → entry-chosen-lts.Need-sub-rows-say-2
   rows-say-below t,
   rows-say.Post,
 ) (entry-chosen-at t) entry-chosen.Post
-entry-chosen-sub-rows-say-2 t c = c .before .before .before .before .before .before .before .before .before .before .pre .1 .1 .1 .0 .order
+entry-chosen-sub-rows-say-2 t c = c .before .before .before .before .before .before .before .before .before .pre .1 .1 .1 .0 .order
 
 entry-chosen-part-rows-say-start-2 : (t : ℕ) → entry-chosen-lts.Need-part-rows-say-start-2 (
   rows-say-below t,
   rows-say.Post,
 ) (entry-chosen-at t) entry-chosen.Post
-entry-chosen-part-rows-say-start-2 t c = omega (arith, c .before .before .before .before .before .before .before .before .before .before .pre .1 .1 .1 .0 .order)
+entry-chosen-part-rows-say-start-2 t c = omega (arith, c .before .before .before .before .before .before .before .before .before .pre .1 .1 .1 .0 .order)
 
 entry-chosen-part-rows-say-end-2 : (t : ℕ) → entry-chosen-lts.Need-part-rows-say-end-2 (
   rows-say-below t,
   rows-say.Post,
 ) (entry-chosen-at t) entry-chosen.Post
-entry-chosen-part-rows-say-end-2 t c = omega (arith, c .before .before .before .before .before .before .before .before .before .before .pre .1 .1 .1 .0 .within, c .before .before .before .before .before .before .before .before .before .before .pre .1 .1 .1 .1 .0 .room)
+entry-chosen-part-rows-say-end-2 t c = omega (arith, c .before .before .before .before .before .before .before .before .before .pre .1 .1 .1 .0 .within, c .before .before .before .before .before .before .before .before .before .pre .1 .1 .1 .1 .0 .room)
 
 entry-chosen-mul-rows-say-3 : (t : ℕ) → entry-chosen-lts.Need-mul-rows-say-3 (
   rows-say-below t,
@@ -157,19 +149,19 @@ entry-chosen-sub-rows-say-3 : (t : ℕ) → entry-chosen-lts.Need-sub-rows-say-3
   rows-say-below t,
   rows-say.Post,
 ) (entry-chosen-at t) entry-chosen.Post
-entry-chosen-sub-rows-say-3 t c = c .before .before .before .before .before .before .before .before .before .before .before .pre .1 .1 .1 .0 .order
+entry-chosen-sub-rows-say-3 t c = c .before .before .before .before .before .before .before .before .before .before .pre .1 .1 .1 .0 .order
 
 entry-chosen-part-rows-say-start-3 : (t : ℕ) → entry-chosen-lts.Need-part-rows-say-start-3 (
   rows-say-below t,
   rows-say.Post,
 ) (entry-chosen-at t) entry-chosen.Post
-entry-chosen-part-rows-say-start-3 t c = omega (arith, c .before .before .before .before .before .before .before .before .before .before .before .pre .1 .1 .1 .0 .order)
+entry-chosen-part-rows-say-start-3 t c = omega (arith, c .before .before .before .before .before .before .before .before .before .before .pre .1 .1 .1 .0 .order)
 
 entry-chosen-part-rows-say-end-3 : (t : ℕ) → entry-chosen-lts.Need-part-rows-say-end-3 (
   rows-say-below t,
   rows-say.Post,
 ) (entry-chosen-at t) entry-chosen.Post
-entry-chosen-part-rows-say-end-3 t c = omega (arith, c .before .before .before .before .before .before .before .before .before .before .before .pre .1 .1 .1 .0 .within, c .before .before .before .before .before .before .before .before .before .before .before .pre .1 .1 .1 .1 .1 .0 .span-cells .room)
+entry-chosen-part-rows-say-end-3 t c = omega (arith, c .before .before .before .before .before .before .before .before .before .before .pre .1 .1 .1 .0 .within, c .before .before .before .before .before .before .before .before .before .before .pre .1 .1 .1 .1 .1 .0 .span-cells .room)
 
 entry-chosen-mul-rows-say-4 : (t : ℕ) → entry-chosen-lts.Need-mul-rows-say-4 (
   rows-say-below t,
@@ -181,19 +173,19 @@ entry-chosen-sub-rows-say-4 : (t : ℕ) → entry-chosen-lts.Need-sub-rows-say-4
   rows-say-below t,
   rows-say.Post,
 ) (entry-chosen-at t) entry-chosen.Post
-entry-chosen-sub-rows-say-4 t c = c .before .before .before .before .before .before .before .before .before .before .before .before .pre .1 .1 .1 .0 .order
+entry-chosen-sub-rows-say-4 t c = c .before .before .before .before .before .before .before .before .before .before .before .pre .1 .1 .1 .0 .order
 
 entry-chosen-part-rows-say-start-4 : (t : ℕ) → entry-chosen-lts.Need-part-rows-say-start-4 (
   rows-say-below t,
   rows-say.Post,
 ) (entry-chosen-at t) entry-chosen.Post
-entry-chosen-part-rows-say-start-4 t c = omega (arith, c .before .before .before .before .before .before .before .before .before .before .before .before .pre .1 .1 .1 .0 .order)
+entry-chosen-part-rows-say-start-4 t c = omega (arith, c .before .before .before .before .before .before .before .before .before .before .before .pre .1 .1 .1 .0 .order)
 
 entry-chosen-part-rows-say-end-4 : (t : ℕ) → entry-chosen-lts.Need-part-rows-say-end-4 (
   rows-say-below t,
   rows-say.Post,
 ) (entry-chosen-at t) entry-chosen.Post
-entry-chosen-part-rows-say-end-4 t c = omega (arith, c .before .before .before .before .before .before .before .before .before .before .before .before .pre .1 .1 .1 .0 .within, c .before .before .before .before .before .before .before .before .before .before .before .before .pre .1 .1 .1 .1 .1 .0 .digit-cells .room)
+entry-chosen-part-rows-say-end-4 t c = omega (arith, c .before .before .before .before .before .before .before .before .before .before .before .pre .1 .1 .1 .0 .within, c .before .before .before .before .before .before .before .before .before .before .before .pre .1 .1 .1 .1 .1 .0 .digit-cells .room)
 
 entry-chosen-mul-rows-say-5 : (t : ℕ) → entry-chosen-lts.Need-mul-rows-say-5 (
   rows-say-below t,
@@ -205,19 +197,19 @@ entry-chosen-sub-rows-say-5 : (t : ℕ) → entry-chosen-lts.Need-sub-rows-say-5
   rows-say-below t,
   rows-say.Post,
 ) (entry-chosen-at t) entry-chosen.Post
-entry-chosen-sub-rows-say-5 t c = c .before .before .before .before .before .before .before .before .before .before .before .before .before .pre .1 .1 .1 .0 .order
+entry-chosen-sub-rows-say-5 t c = c .before .before .before .before .before .before .before .before .before .before .before .before .pre .1 .1 .1 .0 .order
 
 entry-chosen-part-rows-say-start-5 : (t : ℕ) → entry-chosen-lts.Need-part-rows-say-start-5 (
   rows-say-below t,
   rows-say.Post,
 ) (entry-chosen-at t) entry-chosen.Post
-entry-chosen-part-rows-say-start-5 t c = omega (arith, c .before .before .before .before .before .before .before .before .before .before .before .before .before .pre .1 .1 .1 .0 .order)
+entry-chosen-part-rows-say-start-5 t c = omega (arith, c .before .before .before .before .before .before .before .before .before .before .before .before .pre .1 .1 .1 .0 .order)
 
 entry-chosen-part-rows-say-end-5 : (t : ℕ) → entry-chosen-lts.Need-part-rows-say-end-5 (
   rows-say-below t,
   rows-say.Post,
 ) (entry-chosen-at t) entry-chosen.Post
-entry-chosen-part-rows-say-end-5 t c = omega (arith, c .before .before .before .before .before .before .before .before .before .before .before .before .before .pre .1 .1 .1 .0 .within, c .before .before .before .before .before .before .before .before .before .before .before .before .before .pre .1 .1 .1 .1 .1 .0 .start-cells .room)
+entry-chosen-part-rows-say-end-5 t c = omega (arith, c .before .before .before .before .before .before .before .before .before .before .before .before .pre .1 .1 .1 .0 .within, c .before .before .before .before .before .before .before .before .before .before .before .before .pre .1 .1 .1 .1 .1 .0 .start-cells .room)
 
 entry-chosen-mul-rows-say-6 : (t : ℕ) → entry-chosen-lts.Need-mul-rows-say-6 (
   rows-say-below t,
@@ -229,47 +221,47 @@ entry-chosen-sub-rows-say-6 : (t : ℕ) → entry-chosen-lts.Need-sub-rows-say-6
   rows-say-below t,
   rows-say.Post,
 ) (entry-chosen-at t) entry-chosen.Post
-entry-chosen-sub-rows-say-6 t c = c .before .before .before .before .before .before .before .before .before .before .before .before .before .before .pre .1 .1 .1 .0 .order
+entry-chosen-sub-rows-say-6 t c = c .before .before .before .before .before .before .before .before .before .before .before .before .before .pre .1 .1 .1 .0 .order
 
 entry-chosen-part-rows-say-start-6 : (t : ℕ) → entry-chosen-lts.Need-part-rows-say-start-6 (
   rows-say-below t,
   rows-say.Post,
 ) (entry-chosen-at t) entry-chosen.Post
-entry-chosen-part-rows-say-start-6 t c = omega (arith, c .before .before .before .before .before .before .before .before .before .before .before .before .before .before .pre .1 .1 .1 .0 .order)
+entry-chosen-part-rows-say-start-6 t c = omega (arith, c .before .before .before .before .before .before .before .before .before .before .before .before .before .pre .1 .1 .1 .0 .order)
 
 entry-chosen-part-rows-say-end-6 : (t : ℕ) → entry-chosen-lts.Need-part-rows-say-end-6 (
   rows-say-below t,
   rows-say.Post,
 ) (entry-chosen-at t) entry-chosen.Post
-entry-chosen-part-rows-say-end-6 t c = omega (arith, c .before .before .before .before .before .before .before .before .before .before .before .before .before .before .pre .1 .1 .1 .0 .within, c .before .before .before .before .before .before .before .before .before .before .before .before .before .before .pre .1 .1 .1 .1 .1 .0 .end-cells .room)
+entry-chosen-part-rows-say-end-6 t c = omega (arith, c .before .before .before .before .before .before .before .before .before .before .before .before .before .pre .1 .1 .1 .0 .within, c .before .before .before .before .before .before .before .before .before .before .before .before .before .pre .1 .1 .1 .1 .1 .0 .end-cells .room)
 
 entry-chosen-rows-say-requires : (t : ℕ) → entry-chosen-lts.Need-rows-say-requires (
   rows-say-below t,
   rows-say.Post,
 ) (entry-chosen-at t) entry-chosen.Post
-entry-chosen-rows-say-requires t c κs = (omega (arith, c .before .before .before .before .before .before .before .before .before .before .before .before .before .before .before .pre .0, part-length (c .before .before .before .before .before .before .before .before .before .before .before .before .before .before .before .args .rows .now) (c .before .before .before .before .before .before .before .before .before .before .before .before .before .before .before .args .from) (c .before .before .before .before .before .before .before .before .before .before .before .before .before .before .before .args .to) (c .before .before .before .before .before .before .before .before .before .before .before .before .before .before .before .pre .1 .1 .1 .0 .within)), (c .before .before .before .before .before .before .before .before .before .before .before .before .before .before .before .pre .1 .0, (c .before .before .before .before .before .before .before .before .before .before .before .before .before .before .before .pre .1 .1 .0, (c .before .before .before .before .before .before .before .before .before .before .before .before .before .before .before .pre .1 .1 .1 .0 .whole (c .before .before .before .before .before .before .if2 .left), (jumps-part (c .before .before .before .before .before .before .before .before .before .before .before .before .before .before .before .pre .1 .1 .1 .1 .0) (c .before .before .before .before .before .before .before .before .before .before .before .before .before .before .before .args .from) (c .before .before .before .before .before .before .before .before .before .before .before .before .before .before .before .args .to) (c .before .before .before .before .before .before .before .before .before .before .before .before .before .before .before .pre .1 .1 .1 .0 .order) (c .before .before .before .before .before .before .before .before .before .before .before .before .before .before .before .pre .1 .1 .1 .0 .within), (opens-part (c .before .before .before .before .before .before .before .before .before .before .before .before .before .before .before .pre .1 .1 .1 .1 .1 .0) (c .before .before .before .before .before .before .before .before .before .before .before .before .before .before .before .args .from) (c .before .before .before .before .before .before .before .before .before .before .before .before .before .before .before .args .to) (c .before .before .before .before .before .before .before .before .before .before .before .before .before .before .before .pre .1 .1 .1 .0 .order) (c .before .before .before .before .before .before .before .before .before .before .before .before .before .before .before .pre .1 .1 .1 .0 .within), c .before .before .before .before .before .before .before .before .before .before .before .before .before .before .before .pre .1 .1 .1 .1 .1 .1))))))
+entry-chosen-rows-say-requires t c κs = (omega (arith, c .before .before .before .before .before .before .before .before .before .before .before .before .before .before .pre .0, part-length (c .before .before .before .before .before .before .before .before .before .before .before .before .before .before .args .rows .now) (c .before .before .before .before .before .before .before .before .before .before .before .before .before .before .args .from) (c .before .before .before .before .before .before .before .before .before .before .before .before .before .before .args .to) (c .before .before .before .before .before .before .before .before .before .before .before .before .before .before .pre .1 .1 .1 .0 .within)), (c .before .before .before .before .before .before .before .before .before .before .before .before .before .before .pre .1 .0, (c .before .before .before .before .before .before .before .before .before .before .before .before .before .before .pre .1 .1 .0, (c .before .before .before .before .before .before .before .before .before .before .before .before .before .before .pre .1 .1 .1 .0 .whole, (jumps-part (c .before .before .before .before .before .before .before .before .before .before .before .before .before .before .pre .1 .1 .1 .1 .0) (c .before .before .before .before .before .before .before .before .before .before .before .before .before .before .args .from) (c .before .before .before .before .before .before .before .before .before .before .before .before .before .before .args .to) (c .before .before .before .before .before .before .before .before .before .before .before .before .before .before .pre .1 .1 .1 .0 .order) (c .before .before .before .before .before .before .before .before .before .before .before .before .before .before .pre .1 .1 .1 .0 .within), (opens-part (c .before .before .before .before .before .before .before .before .before .before .before .before .before .before .pre .1 .1 .1 .1 .1 .0) (c .before .before .before .before .before .before .before .before .before .before .before .before .before .before .args .from) (c .before .before .before .before .before .before .before .before .before .before .before .before .before .before .args .to) (c .before .before .before .before .before .before .before .before .before .before .before .before .before .before .pre .1 .1 .1 .0 .order) (c .before .before .before .before .before .before .before .before .before .before .before .before .before .before .pre .1 .1 .1 .0 .within), c .before .before .before .before .before .before .before .before .before .before .before .before .before .before .pre .1 .1 .1 .1 .1 .1))))))
+
+entry-chosen-returns :
+    (t : ℕ) →
+    entry-chosen-lts.Need-returns
+    (rows-say-below t, rows-say.Post)
+    (entry-chosen-at t)
+    entry-chosen.Post
+entry-chosen-returns t c = bracket-inner _ _ _ _ _ _ _ _ _ (c .before .before .before .before .before .before .before .before .before .before .before .before .before .before .before .pre .1 .1 .1 .0) (c .before .before .before .before .before .before .before .if1 .taken) (c .rows-say .ensures)
 
 entry-chosen-returns-2 : (t : ℕ) → entry-chosen-lts.Need-returns-2 (
   rows-say-below t,
   rows-say.Post,
 ) (entry-chosen-at t) entry-chosen.Post
-entry-chosen-returns-2 t c = bracket-inner _ _ _ _ _ _ _ _ _ (c .before .before .before .before .before .before .before .before .before .before .before .before .before .before .before .before .pre .1 .1 .1 .0) (c .before .before .before .before .before .before .before .before .if1 .taken) (c .before .before .before .before .before .before .before .if2 .left) (c .rows-say .ensures)
-
-entry-chosen-returns-3 : (t : ℕ) → entry-chosen-lts.Need-returns-3 (
-  rows-say-below t,
-  rows-say.Post,
-) (entry-chosen-at t) entry-chosen.Post
-entry-chosen-returns-3 t c = search (chosen-not, needs)
+entry-chosen-returns-2 t c = search (chosen-not, needs)
 
 probe-says-cast-index : (t : ℕ) → probe-says-lts.Need-cast-index (
   meaning-of-reads.Asked,
   meaning-of-reads.Learnt,
-  some-counts-reads.Asked,
-  some-counts-reads.Learnt,
-  some-says-reads.Asked,
-  some-says-reads.Learnt,
   some-entry-below t,
   some-entry.Post,
+  some-says-reads.Asked,
+  some-says-reads.Learnt,
 ) (probe-says-at t) probe-says.Post
 probe-says-cast-index t c = search needs
 
@@ -277,110 +269,62 @@ probe-says-shared-slice-read-meaning-of :
     (t : ℕ) → probe-says-lts.Need-shared-slice-read-meaning-of (
       meaning-of-reads.Asked,
       meaning-of-reads.Learnt,
-      some-counts-reads.Asked,
-      some-counts-reads.Learnt,
-      some-says-reads.Asked,
-      some-says-reads.Learnt,
       some-entry-below t,
       some-entry.Post,
+      some-says-reads.Asked,
+      some-says-reads.Learnt,
     ) (probe-says-at t) probe-says.Post
 probe-says-shared-slice-read-meaning-of t c = search needs
 
 probe-says-meaning-of-requires : (t : ℕ) → probe-says-lts.Need-meaning-of-requires (
   meaning-of-reads.Asked,
   meaning-of-reads.Learnt,
-  some-counts-reads.Asked,
-  some-counts-reads.Learnt,
-  some-says-reads.Asked,
-  some-says-reads.Learnt,
   some-entry-below t,
   some-entry.Post,
+  some-says-reads.Asked,
+  some-says-reads.Learnt,
 ) (probe-says-at t) probe-says.Post
 probe-says-meaning-of-requires t c κs = search needs
 
-probe-says-some-counts-requires : (t : ℕ) → probe-says-lts.Need-some-counts-requires (
+probe-says-some-entry-requires : (t : ℕ) → probe-says-lts.Need-some-entry-requires (
   meaning-of-reads.Asked,
   meaning-of-reads.Learnt,
-  some-counts-reads.Asked,
-  some-counts-reads.Learnt,
-  some-says-reads.Asked,
-  some-says-reads.Learnt,
   some-entry-below t,
   some-entry.Post,
+  some-says-reads.Asked,
+  some-says-reads.Learnt,
 ) (probe-says-at t) probe-says.Post
-probe-says-some-counts-requires t c κs = (c .before .before .before .before .before .before .before .before .before .before .before .before .pre .1 .1 .0, (c .before .before .before .before .before .before .before .before .before .before .before .before .pre .1 .1 .1 .1 .1 .1 .0, probe-known _ _ _ _ (c .before .before .before .before .before .before .before .before .before .before .before .before .pre .1 .1 .1 .1 .1 .1 .1 .1) _ _ (c .before .before .before .if1 .taken) refl (c .before .meaning-of .ensures)))
+probe-says-some-entry-requires t c κs = (omega (arith, c .before .before .before .before .before .before .before .before .before .before .before .pre .0), (c .before .before .before .before .before .before .before .before .before .before .before .pre .1 .0, (c .before .before .before .before .before .before .before .before .before .before .before .pre .1 .1 .0, (c .before .before .before .before .before .before .before .before .before .before .before .pre .1 .1 .1 .0, (c .before .before .before .before .before .before .before .before .before .before .before .pre .1 .1 .1 .1 .0, (c .before .before .before .before .before .before .before .before .before .before .before .pre .1 .1 .1 .1 .1 .0, (c .before .before .before .before .before .before .before .before .before .before .before .pre .1 .1 .1 .1 .1 .1 .0, probe-known _ _ _ _ (c .before .before .before .before .before .before .before .before .before .before .before .pre .1 .1 .1 .1 .1 .1 .1 .1) _ _ (c .before .before .if1 .taken) refl (c .meaning-of .ensures))))))))
 
 probe-says-some-says-requires : (t : ℕ) → probe-says-lts.Need-some-says-requires (
   meaning-of-reads.Asked,
   meaning-of-reads.Learnt,
-  some-counts-reads.Asked,
-  some-counts-reads.Learnt,
-  some-says-reads.Asked,
-  some-says-reads.Learnt,
   some-entry-below t,
   some-entry.Post,
+  some-says-reads.Asked,
+  some-says-reads.Learnt,
 ) (probe-says-at t) probe-says.Post
 probe-says-some-says-requires t c κs = search needs
 
 probe-says-returns : (t : ℕ) → probe-says-lts.Need-returns (
   meaning-of-reads.Asked,
   meaning-of-reads.Learnt,
-  some-counts-reads.Asked,
-  some-counts-reads.Learnt,
-  some-says-reads.Asked,
-  some-says-reads.Learnt,
   some-entry-below t,
   some-entry.Post,
-) (probe-says-at t) probe-says.Post
-probe-says-returns t c = probe-plain _ _ _ _ (c .before .before .before .before .before .before .before .before .before .before .before .before .before .before .pre .1 .1 .1 .1 .1 .1 .1 .1) _ _ _ (c .before .before .before .before .before .before .before .before .before .before .before .before .before .before .args .rows .now) (c .before .before .before .before .before .before .before .before .before .before .before .before .before .before .args .from) (c .before .before .before .before .before .before .before .before .before .before .before .before .before .before .args .to) _ _ _ _ refl (c .before .before .if2 .taken) (c .before .before .before .before .before .if1 .taken) refl (c .before .before .before .meaning-of .ensures) (c .before .some-counts .ensures) (c .some-says .ensures)
-
-probe-says-some-entry-requires : (t : ℕ) → probe-says-lts.Need-some-entry-requires (
-  meaning-of-reads.Asked,
-  meaning-of-reads.Learnt,
-  some-counts-reads.Asked,
-  some-counts-reads.Learnt,
   some-says-reads.Asked,
   some-says-reads.Learnt,
-  some-entry-below t,
-  some-entry.Post,
 ) (probe-says-at t) probe-says.Post
-probe-says-some-entry-requires t c κs = (omega (arith, c .before .before .before .before .before .before .before .before .before .before .before .before .pre .0), (c .before .before .before .before .before .before .before .before .before .before .before .before .pre .1 .0, (c .before .before .before .before .before .before .before .before .before .before .before .before .pre .1 .1 .0, (c .before .before .before .before .before .before .before .before .before .before .before .before .pre .1 .1 .1 .0, (c .before .before .before .before .before .before .before .before .before .before .before .before .pre .1 .1 .1 .1 .0, (c .before .before .before .before .before .before .before .before .before .before .before .before .pre .1 .1 .1 .1 .1 .0, (c .before .before .before .before .before .before .before .before .before .before .before .before .pre .1 .1 .1 .1 .1 .1 .0, probe-known _ _ _ _ (c .before .before .before .before .before .before .before .before .before .before .before .before .pre .1 .1 .1 .1 .1 .1 .1 .1) _ _ (c .before .before .before .if1 .taken) refl (c .before .meaning-of .ensures))))))))
-
-probe-says-some-says-requires-2 : (t : ℕ) → probe-says-lts.Need-some-says-requires-2 (
-  meaning-of-reads.Asked,
-  meaning-of-reads.Learnt,
-  some-counts-reads.Asked,
-  some-counts-reads.Learnt,
-  some-says-reads.Asked,
-  some-says-reads.Learnt,
-  some-entry-below t,
-  some-entry.Post,
-) (probe-says-at t) probe-says.Post
-probe-says-some-says-requires-2 t c κs = search needs
+probe-says-returns t c = probe-opened _ _ _ _ (c .before .before .before .before .before .before .before .before .before .before .before .before .before .pre .1 .1 .1 .1 .1 .1 .1 .1) _ _ _ _ _ _ _ (c .before .before .before .before .if1 .taken) refl (c .before .before .meaning-of .ensures) (c .before .some-entry .ensures) (c .some-says .ensures)
 
 probe-says-returns-2 : (t : ℕ) → probe-says-lts.Need-returns-2 (
   meaning-of-reads.Asked,
   meaning-of-reads.Learnt,
-  some-counts-reads.Asked,
-  some-counts-reads.Learnt,
-  some-says-reads.Asked,
-  some-says-reads.Learnt,
   some-entry-below t,
   some-entry.Post,
-) (probe-says-at t) probe-says.Post
-probe-says-returns-2 t c = probe-opened _ _ _ _ (c .before .before .before .before .before .before .before .before .before .before .before .before .before .before .pre .1 .1 .1 .1 .1 .1 .1 .1) _ _ _ _ _ _ _ (c .before .before .before .before .before .if1 .taken) refl (c .before .before .before .meaning-of .ensures) (c .before .some-entry .ensures) (c .some-says2 .ensures)
-
-probe-says-returns-3 : (t : ℕ) → probe-says-lts.Need-returns-3 (
-  meaning-of-reads.Asked,
-  meaning-of-reads.Learnt,
-  some-counts-reads.Asked,
-  some-counts-reads.Learnt,
   some-says-reads.Asked,
   some-says-reads.Learnt,
-  some-entry-below t,
-  some-entry.Post,
 ) (probe-says-at t) probe-says.Post
-probe-says-returns-3 t c = probe-closed _ _ _ _ (c .before .before .before .before .before .before .before .before .before .pre .1 .1 .1 .1 .1 .1 .1 .1) _ _ _ (c .if1 .left)
+probe-says-returns-2 t c = probe-closed _ _ _ _ (c .before .before .before .before .before .before .before .before .before .pre .1 .1 .1 .1 .1 .1 .1 .1) _ _ _ (c .if1 .left)
 
 abbrev rows-say-Inv-loop : rows-say-lts.InvT-loop
 rows-say-Inv-loop kinds filter rows jumps spans digits starts ends card chosen says₀ sizes₀ top₀ i₀ says sizes top i = Judging kinds filter chosen (entriesOf card) rows says sizes top i
@@ -395,6 +339,8 @@ rows-say-loop-holds : (t : ℕ) → rows-say-lts.Need-loop-holds (
   row-of-reads.Learnt,
   opened-at-reads.Asked,
   opened-at-reads.Learnt,
+  plain-says-reads.Asked,
+  plain-says-reads.Learnt,
   probe-says-below t,
   probe-says.Post,
   join-verdicts-reads.Asked,
@@ -409,6 +355,8 @@ rows-say-slice-aggregate-leap : (t : ℕ) → rows-say-lts.Need-slice-aggregate-
   row-of-reads.Learnt,
   opened-at-reads.Asked,
   opened-at-reads.Learnt,
+  plain-says-reads.Asked,
+  plain-says-reads.Learnt,
   probe-says-below t,
   probe-says.Post,
   join-verdicts-reads.Asked,
@@ -423,6 +371,8 @@ rows-say-leap-requires : (t : ℕ) → rows-say-lts.Need-leap-requires (
   row-of-reads.Learnt,
   opened-at-reads.Asked,
   opened-at-reads.Learnt,
+  plain-says-reads.Asked,
+  plain-says-reads.Learnt,
   probe-says-below t,
   probe-says.Post,
   join-verdicts-reads.Asked,
@@ -437,6 +387,8 @@ rows-say-sub-size : (t : ℕ) → rows-say-lts.Need-sub-size (
   row-of-reads.Learnt,
   opened-at-reads.Asked,
   opened-at-reads.Learnt,
+  plain-says-reads.Asked,
+  plain-says-reads.Learnt,
   probe-says-below t,
   probe-says.Post,
   join-verdicts-reads.Asked,
@@ -451,6 +403,8 @@ rows-say-mul-size : (t : ℕ) → rows-say-lts.Need-mul-size (
   row-of-reads.Learnt,
   opened-at-reads.Asked,
   opened-at-reads.Learnt,
+  plain-says-reads.Asked,
+  plain-says-reads.Learnt,
   probe-says-below t,
   probe-says.Post,
   join-verdicts-reads.Asked,
@@ -465,6 +419,8 @@ rows-say-array-read-size : (t : ℕ) → rows-say-lts.Need-array-read-size (
   row-of-reads.Learnt,
   opened-at-reads.Asked,
   opened-at-reads.Learnt,
+  plain-says-reads.Asked,
+  plain-says-reads.Learnt,
   probe-says-below t,
   probe-says.Post,
   join-verdicts-reads.Asked,
@@ -479,6 +435,8 @@ rows-say-add-sizes : (t : ℕ) → rows-say-lts.Need-add-sizes (
   row-of-reads.Learnt,
   opened-at-reads.Asked,
   opened-at-reads.Learnt,
+  plain-says-reads.Asked,
+  plain-says-reads.Learnt,
   probe-says-below t,
   probe-says.Post,
   join-verdicts-reads.Asked,
@@ -493,6 +451,8 @@ rows-say-add-sizes-2 : (t : ℕ) → rows-say-lts.Need-add-sizes-2 (
   row-of-reads.Learnt,
   opened-at-reads.Asked,
   opened-at-reads.Learnt,
+  plain-says-reads.Asked,
+  plain-says-reads.Learnt,
   probe-says-below t,
   probe-says.Post,
   join-verdicts-reads.Asked,
@@ -507,6 +467,8 @@ rows-say-sub-sizes : (t : ℕ) → rows-say-lts.Need-sub-sizes (
   row-of-reads.Learnt,
   opened-at-reads.Asked,
   opened-at-reads.Learnt,
+  plain-says-reads.Asked,
+  plain-says-reads.Learnt,
   probe-says-below t,
   probe-says.Post,
   join-verdicts-reads.Asked,
@@ -521,6 +483,8 @@ rows-say-mul-sizes : (t : ℕ) → rows-say-lts.Need-mul-sizes (
   row-of-reads.Learnt,
   opened-at-reads.Asked,
   opened-at-reads.Learnt,
+  plain-says-reads.Asked,
+  plain-says-reads.Learnt,
   probe-says-below t,
   probe-says.Post,
   join-verdicts-reads.Asked,
@@ -535,6 +499,8 @@ rows-say-array-write-sizes : (t : ℕ) → rows-say-lts.Need-array-write-sizes (
   row-of-reads.Learnt,
   opened-at-reads.Asked,
   opened-at-reads.Learnt,
+  plain-says-reads.Asked,
+  plain-says-reads.Learnt,
   probe-says-below t,
   probe-says.Post,
   join-verdicts-reads.Asked,
@@ -549,6 +515,8 @@ rows-say-add-i : (t : ℕ) → rows-say-lts.Need-add-i (
   row-of-reads.Learnt,
   opened-at-reads.Asked,
   opened-at-reads.Learnt,
+  plain-says-reads.Asked,
+  plain-says-reads.Learnt,
   probe-says-below t,
   probe-says.Post,
   join-verdicts-reads.Asked,
@@ -563,6 +531,8 @@ rows-say-add-i-2 : (t : ℕ) → rows-say-lts.Need-add-i-2 (
   row-of-reads.Learnt,
   opened-at-reads.Asked,
   opened-at-reads.Learnt,
+  plain-says-reads.Asked,
+  plain-says-reads.Learnt,
   probe-says-below t,
   probe-says.Post,
   join-verdicts-reads.Asked,
@@ -577,6 +547,8 @@ rows-say-loop-less : (t : ℕ) → rows-say-lts.Need-loop-less (
   row-of-reads.Learnt,
   opened-at-reads.Asked,
   opened-at-reads.Learnt,
+  plain-says-reads.Asked,
+  plain-says-reads.Learnt,
   probe-says-below t,
   probe-says.Post,
   join-verdicts-reads.Asked,
@@ -591,6 +563,8 @@ rows-say-loop-again : (t : ℕ) → rows-say-lts.Need-loop-again (
   row-of-reads.Learnt,
   opened-at-reads.Asked,
   opened-at-reads.Learnt,
+  plain-says-reads.Asked,
+  plain-says-reads.Learnt,
   probe-says-below t,
   probe-says.Post,
   join-verdicts-reads.Asked,
@@ -605,6 +579,8 @@ rows-say-mul-row-of : (t : ℕ) → rows-say-lts.Need-mul-row-of (
   row-of-reads.Learnt,
   opened-at-reads.Asked,
   opened-at-reads.Learnt,
+  plain-says-reads.Asked,
+  plain-says-reads.Learnt,
   probe-says-below t,
   probe-says.Post,
   join-verdicts-reads.Asked,
@@ -619,6 +595,8 @@ rows-say-shared-slice-read-row-of : (t : ℕ) → rows-say-lts.Need-shared-slice
   row-of-reads.Learnt,
   opened-at-reads.Asked,
   opened-at-reads.Learnt,
+  plain-says-reads.Asked,
+  plain-says-reads.Learnt,
   probe-says-below t,
   probe-says.Post,
   join-verdicts-reads.Asked,
@@ -633,6 +611,8 @@ rows-say-row-of-requires : (t : ℕ) → rows-say-lts.Need-row-of-requires (
   row-of-reads.Learnt,
   opened-at-reads.Asked,
   opened-at-reads.Learnt,
+  plain-says-reads.Asked,
+  plain-says-reads.Learnt,
   probe-says-below t,
   probe-says.Post,
   join-verdicts-reads.Asked,
@@ -647,6 +627,8 @@ rows-say-enum-known-probe : (t : ℕ) → rows-say-lts.Need-enum-known-probe (
   row-of-reads.Learnt,
   opened-at-reads.Asked,
   opened-at-reads.Learnt,
+  plain-says-reads.Asked,
+  plain-says-reads.Learnt,
   probe-says-below t,
   probe-says.Post,
   join-verdicts-reads.Asked,
@@ -661,6 +643,8 @@ rows-say-returns : (t : ℕ) → rows-say-lts.Need-returns (
   row-of-reads.Learnt,
   opened-at-reads.Asked,
   opened-at-reads.Learnt,
+  plain-says-reads.Asked,
+  plain-says-reads.Learnt,
   probe-says-below t,
   probe-says.Post,
   join-verdicts-reads.Asked,
@@ -675,6 +659,8 @@ rows-say-opened-at-requires : (t : ℕ) → rows-say-lts.Need-opened-at-requires
   row-of-reads.Learnt,
   opened-at-reads.Asked,
   opened-at-reads.Learnt,
+  plain-says-reads.Asked,
+  plain-says-reads.Learnt,
   probe-says-below t,
   probe-says.Post,
   join-verdicts-reads.Asked,
@@ -682,19 +668,21 @@ rows-say-opened-at-requires : (t : ℕ) → rows-say-lts.Need-opened-at-requires
 ) (rows-say-at t) rows-say.Post rows-say-Inv-loop rows-say-μ-loop
 rows-say-opened-at-requires t c κs = (omega (arith, c .before .before .before .before .before .before .before .before .before .loop-test .taken, c .before .before .before .before .before .before .before .before .before .before .before .before .before .before .before .before .before .before .pre .1 .1 .1 .1 .1 .0 .span-cells .room), (omega (arith, c .before .before .before .before .before .before .before .before .before .loop-test .taken, c .before .before .before .before .before .before .before .before .before .before .before .before .before .before .before .before .before .before .pre .1 .1 .1 .1 .1 .0 .digit-cells .room), (omega (arith, c .before .before .before .before .before .before .before .before .before .loop-test .taken, c .before .before .before .before .before .before .before .before .before .before .before .before .before .before .before .before .before .before .pre .1 .1 .1 .1 .1 .0 .start-cells .room), omega (arith, c .before .before .before .before .before .before .before .before .before .loop-test .taken, c .before .before .before .before .before .before .before .before .before .before .before .before .before .before .before .before .before .before .pre .1 .1 .1 .1 .1 .0 .end-cells .room))))
 
-rows-say-probe-says-requires : (t : ℕ) → rows-say-lts.Need-probe-says-requires (
+rows-say-plain-says-requires : (t : ℕ) → rows-say-lts.Need-plain-says-requires (
   leap-reads.Asked,
   leap-reads.Learnt,
   row-of-reads.Asked,
   row-of-reads.Learnt,
   opened-at-reads.Asked,
   opened-at-reads.Learnt,
+  plain-says-reads.Asked,
+  plain-says-reads.Learnt,
   probe-says-below t,
   probe-says.Post,
   join-verdicts-reads.Asked,
   join-verdicts-reads.Learnt,
 ) (rows-say-at t) rows-say.Post rows-say-Inv-loop rows-say-μ-loop
-rows-say-probe-says-requires t c κs = (omega (arith, c .before .before .before .before .before .before .before .before .before .before .before .before .before .before .before .before .before .before .before .pre .0, c .before .before .before .before .before .before .before .before .before .before .loop-test .taken), (c .before .before .before .before .before .before .before .before .before .before .before .before .before .before .before .before .before .before .before .pre .1 .0, (c .before .before .before .before .before .before .before .before .before .before .before .before .before .before .before .before .before .before .before .pre .1 .1 .0, (empty-bracket (c .before .before .before .before .before .before .before .before .before .before .before .before .before .before .before .before .before .before .before .args .rows .now) (c .before .before .before .before .before .before .before .before .before .before .before .loop .i) (c .before .before .before .before .before .before .before .before .before .before .before .loop .inv .within), (c .before .before .before .before .before .before .before .before .before .before .before .before .before .before .before .before .before .before .before .pre .1 .1 .1 .1 .0, (c .before .before .before .before .before .before .before .before .before .before .before .before .before .before .before .before .before .before .before .pre .1 .1 .1 .1 .1 .0, (c .before .before .before .before .before .before .before .before .before .before .before .before .before .before .before .before .before .before .before .pre .1 .1 .1 .1 .1 .1, (test-index _ _ _ (c .before .before .before .before .before .row-of .ensures) (c .before .before .before .probe .given .1), at-test _ _ _ _ _ _ _ (c .before .before .before .before .before .before .before .before .before .before .before .before .before .before .before .before .before .before .before .pre .1 .1 .1 .1 .1 .0) (c .before .before .before .before .before .before .before .before .before .before .before .before .before .before .before .before .before .before .before .pre .1 .1 .0) _ (c .before .before .before .before .before .before .before .before .before .before .loop-test .taken) _ (c .opened-at .ensures) _ (c .before .before .before .before .before .row-of .ensures) _ (c .before .before .before .probe .given .1)))))))))
+rows-say-plain-says-requires t c κs = (c .before .before .before .before .before .before .before .before .before .before .before .before .before .before .before .before .before .before .before .pre .1 .0, (c .before .before .before .before .before .before .before .before .before .before .before .before .before .before .before .before .before .before .before .pre .1 .1 .0, (c .before .before .before .before .before .before .before .before .before .before .before .before .before .before .before .before .before .before .before .pre .1 .1 .1 .1 .1 .1, (test-index _ _ _ (c .before .before .before .before .before .row-of .ensures) (c .before .before .before .probe .given .1), at-test _ _ _ _ _ _ _ (c .before .before .before .before .before .before .before .before .before .before .before .before .before .before .before .before .before .before .before .pre .1 .1 .1 .1 .1 .0) (c .before .before .before .before .before .before .before .before .before .before .before .before .before .before .before .before .before .before .before .pre .1 .1 .0) _ (c .before .before .before .before .before .before .before .before .before .before .loop-test .taken) _ (c .opened-at .ensures) _ (c .before .before .before .before .before .row-of .ensures) _ (c .before .before .before .probe .given .1)))))
 
 rows-say-array-write-says : (t : ℕ) → rows-say-lts.Need-array-write-says (
   leap-reads.Asked,
@@ -703,6 +691,8 @@ rows-say-array-write-says : (t : ℕ) → rows-say-lts.Need-array-write-says (
   row-of-reads.Learnt,
   opened-at-reads.Asked,
   opened-at-reads.Learnt,
+  plain-says-reads.Asked,
+  plain-says-reads.Learnt,
   probe-says-below t,
   probe-says.Post,
   join-verdicts-reads.Asked,
@@ -717,6 +707,8 @@ rows-say-mul-sizes-2 : (t : ℕ) → rows-say-lts.Need-mul-sizes-2 (
   row-of-reads.Learnt,
   opened-at-reads.Asked,
   opened-at-reads.Learnt,
+  plain-says-reads.Asked,
+  plain-says-reads.Learnt,
   probe-says-below t,
   probe-says.Post,
   join-verdicts-reads.Asked,
@@ -731,6 +723,8 @@ rows-say-array-write-sizes-2 : (t : ℕ) → rows-say-lts.Need-array-write-sizes
   row-of-reads.Learnt,
   opened-at-reads.Asked,
   opened-at-reads.Learnt,
+  plain-says-reads.Asked,
+  plain-says-reads.Learnt,
   probe-says-below t,
   probe-says.Post,
   join-verdicts-reads.Asked,
@@ -745,6 +739,8 @@ rows-say-add-top : (t : ℕ) → rows-say-lts.Need-add-top (
   row-of-reads.Learnt,
   opened-at-reads.Asked,
   opened-at-reads.Learnt,
+  plain-says-reads.Asked,
+  plain-says-reads.Learnt,
   probe-says-below t,
   probe-says.Post,
   join-verdicts-reads.Asked,
@@ -759,6 +755,8 @@ rows-say-add-i-3 : (t : ℕ) → rows-say-lts.Need-add-i-3 (
   row-of-reads.Learnt,
   opened-at-reads.Asked,
   opened-at-reads.Learnt,
+  plain-says-reads.Asked,
+  plain-says-reads.Learnt,
   probe-says-below t,
   probe-says.Post,
   join-verdicts-reads.Asked,
@@ -773,6 +771,8 @@ rows-say-loop-less-2 : (t : ℕ) → rows-say-lts.Need-loop-less-2 (
   row-of-reads.Learnt,
   opened-at-reads.Asked,
   opened-at-reads.Learnt,
+  plain-says-reads.Asked,
+  plain-says-reads.Learnt,
   probe-says-below t,
   probe-says.Post,
   join-verdicts-reads.Asked,
@@ -787,12 +787,14 @@ rows-say-loop-again-2 : (t : ℕ) → rows-say-lts.Need-loop-again-2 (
   row-of-reads.Learnt,
   opened-at-reads.Asked,
   opened-at-reads.Learnt,
+  plain-says-reads.Asked,
+  plain-says-reads.Learnt,
   probe-says-below t,
   probe-says.Post,
   join-verdicts-reads.Asked,
   join-verdicts-reads.Learnt,
 ) (rows-say-at t) rows-say.Post rows-say-Inv-loop rows-say-μ-loop
-rows-say-loop-again-2 t c = judging-test _ _ _ _ _ _ _ _ _ (c .before .before .before .before .before .before .before .before .before .before .before .before .loop .inv) (c .before .before .before .before .before .before .before .before .before .before .before .loop-test .taken) _ (c .before .before .before .before .before .before .row-of .ensures) _ _ (c .before .before .before .before .probe .given .1) (c .before .before .if2 .left) (c .probe-says .ensures)
+rows-say-loop-again-2 t c = judging-test _ _ _ _ _ _ _ _ _ (c .before .before .before .before .before .before .before .before .before .before .before .before .loop .inv) (c .before .before .before .before .before .before .before .before .before .before .before .loop-test .taken) _ (c .before .before .before .before .before .before .row-of .ensures) _ _ (c .before .before .before .before .probe .given .1) (c .before .before .if2 .left) (c .plain-says .ensures)
 
 rows-say-enum-known-probe-2 : (t : ℕ) → rows-say-lts.Need-enum-known-probe-2 (
   leap-reads.Asked,
@@ -801,6 +803,8 @@ rows-say-enum-known-probe-2 : (t : ℕ) → rows-say-lts.Need-enum-known-probe-2
   row-of-reads.Learnt,
   opened-at-reads.Asked,
   opened-at-reads.Learnt,
+  plain-says-reads.Asked,
+  plain-says-reads.Learnt,
   probe-says-below t,
   probe-says.Post,
   join-verdicts-reads.Asked,
@@ -815,6 +819,8 @@ rows-say-returns-2 : (t : ℕ) → rows-say-lts.Need-returns-2 (
   row-of-reads.Learnt,
   opened-at-reads.Asked,
   opened-at-reads.Learnt,
+  plain-says-reads.Asked,
+  plain-says-reads.Learnt,
   probe-says-below t,
   probe-says.Post,
   join-verdicts-reads.Asked,
@@ -829,6 +835,8 @@ rows-say-sub-size-2 : (t : ℕ) → rows-say-lts.Need-sub-size-2 (
   row-of-reads.Learnt,
   opened-at-reads.Asked,
   opened-at-reads.Learnt,
+  plain-says-reads.Asked,
+  plain-says-reads.Learnt,
   probe-says-below t,
   probe-says.Post,
   join-verdicts-reads.Asked,
@@ -843,6 +851,8 @@ rows-say-mul-size-2 : (t : ℕ) → rows-say-lts.Need-mul-size-2 (
   row-of-reads.Learnt,
   opened-at-reads.Asked,
   opened-at-reads.Learnt,
+  plain-says-reads.Asked,
+  plain-says-reads.Learnt,
   probe-says-below t,
   probe-says.Post,
   join-verdicts-reads.Asked,
@@ -857,6 +867,8 @@ rows-say-array-read-size-2 : (t : ℕ) → rows-say-lts.Need-array-read-size-2 (
   row-of-reads.Learnt,
   opened-at-reads.Asked,
   opened-at-reads.Learnt,
+  plain-says-reads.Asked,
+  plain-says-reads.Learnt,
   probe-says-below t,
   probe-says.Post,
   join-verdicts-reads.Asked,
@@ -871,6 +883,8 @@ rows-say-sub-start : (t : ℕ) → rows-say-lts.Need-sub-start (
   row-of-reads.Learnt,
   opened-at-reads.Asked,
   opened-at-reads.Learnt,
+  plain-says-reads.Asked,
+  plain-says-reads.Learnt,
   probe-says-below t,
   probe-says.Post,
   join-verdicts-reads.Asked,
@@ -885,6 +899,8 @@ rows-say-opened-at-requires-2 : (t : ℕ) → rows-say-lts.Need-opened-at-requir
   row-of-reads.Learnt,
   opened-at-reads.Asked,
   opened-at-reads.Learnt,
+  plain-says-reads.Asked,
+  plain-says-reads.Learnt,
   probe-says-below t,
   probe-says.Post,
   join-verdicts-reads.Asked,
@@ -892,19 +908,21 @@ rows-say-opened-at-requires-2 : (t : ℕ) → rows-say-lts.Need-opened-at-requir
 ) (rows-say-at t) rows-say.Post rows-say-Inv-loop rows-say-μ-loop
 rows-say-opened-at-requires-2 t c κs = (omega (arith, c .before .before .before .before .before .before .before .before .before .loop-test .taken, c .before .before .before .before .before .before .before .before .before .before .before .before .before .before .before .before .before .before .pre .1 .1 .1 .1 .1 .0 .span-cells .room), (omega (arith, c .before .before .before .before .before .before .before .before .before .loop-test .taken, c .before .before .before .before .before .before .before .before .before .before .before .before .before .before .before .before .before .before .pre .1 .1 .1 .1 .1 .0 .digit-cells .room), (omega (arith, c .before .before .before .before .before .before .before .before .before .loop-test .taken, c .before .before .before .before .before .before .before .before .before .before .before .before .before .before .before .before .before .before .pre .1 .1 .1 .1 .1 .0 .start-cells .room), omega (arith, c .before .before .before .before .before .before .before .before .before .loop-test .taken, c .before .before .before .before .before .before .before .before .before .before .before .before .before .before .before .before .before .before .pre .1 .1 .1 .1 .1 .0 .end-cells .room))))
 
-rows-say-probe-says-requires-2 : (t : ℕ) → rows-say-lts.Need-probe-says-requires-2 (
+rows-say-probe-says-requires : (t : ℕ) → rows-say-lts.Need-probe-says-requires (
   leap-reads.Asked,
   leap-reads.Learnt,
   row-of-reads.Asked,
   row-of-reads.Learnt,
   opened-at-reads.Asked,
   opened-at-reads.Learnt,
+  plain-says-reads.Asked,
+  plain-says-reads.Learnt,
   probe-says-below t,
   probe-says.Post,
   join-verdicts-reads.Asked,
   join-verdicts-reads.Learnt,
 ) (rows-say-at t) rows-say.Post rows-say-Inv-loop rows-say-μ-loop
-rows-say-probe-says-requires-2 t c κs = (omega (arith, c .before .before .before .before .before .before .before .before .before .before .before .before .before .before .before .before .before .before .before .pre .0, c .before .before .before .before .before .before .before .before .before .before .loop-test .taken, judging-before _ _ _ _ _ _ _ _ _ (c .before .before .before .before .before .before .before .before .before .before .before .loop .inv) (c .before .before .before .before .before .before .before .before .before .before .loop-test .taken) _ (c .before .before .before .before .before .row-of .ensures) _ (c .before .if3 .left) refl), (c .before .before .before .before .before .before .before .before .before .before .before .before .before .before .before .before .before .before .before .pre .1 .0, (c .before .before .before .before .before .before .before .before .before .before .before .before .before .before .before .before .before .before .before .pre .1 .1 .0, (judging-inner _ _ _ _ _ _ _ _ _ (c .before .before .before .before .before .before .before .before .before .before .before .loop .inv) (c .before .before .before .before .before .before .before .before .before .before .loop-test .taken) _ (c .before .before .before .before .before .row-of .ensures) _ (c .before .if3 .left) refl (c .before .before .before .before .before .before .before .before .before .before .before .before .before .before .before .before .before .before .before .pre .1 .1 .1 .0), (c .before .before .before .before .before .before .before .before .before .before .before .before .before .before .before .before .before .before .before .pre .1 .1 .1 .1 .0, (c .before .before .before .before .before .before .before .before .before .before .before .before .before .before .before .before .before .before .before .pre .1 .1 .1 .1 .1 .0, (c .before .before .before .before .before .before .before .before .before .before .before .before .before .before .before .before .before .before .before .pre .1 .1 .1 .1 .1 .1, (bracket-index _ _ _ (c .before .before .before .before .before .row-of .ensures) (c .before .before .before .probe2 .given .1), at-bracket _ _ _ _ _ _ _ (c .before .before .before .before .before .before .before .before .before .before .before .before .before .before .before .before .before .before .before .pre .1 .1 .1 .1 .1 .0) (c .before .before .before .before .before .before .before .before .before .before .before .before .before .before .before .before .before .before .before .pre .1 .1 .0) _ (c .before .before .before .before .before .before .before .before .before .before .loop-test .taken) _ (c .opened-at2 .ensures) _ (c .before .before .before .before .before .row-of .ensures) _ (c .before .before .before .probe2 .given .1)))))))))
+rows-say-probe-says-requires t c κs = (omega (arith, c .before .before .before .before .before .before .before .before .before .before .before .before .before .before .before .before .before .before .before .pre .0, c .before .before .before .before .before .before .before .before .before .before .loop-test .taken, judging-before _ _ _ _ _ _ _ _ _ (c .before .before .before .before .before .before .before .before .before .before .before .loop .inv) (c .before .before .before .before .before .before .before .before .before .before .loop-test .taken) _ (c .before .before .before .before .before .row-of .ensures) _ (c .before .if3 .left) refl), (c .before .before .before .before .before .before .before .before .before .before .before .before .before .before .before .before .before .before .before .pre .1 .0, (c .before .before .before .before .before .before .before .before .before .before .before .before .before .before .before .before .before .before .before .pre .1 .1 .0, (judging-inner _ _ _ _ _ _ _ _ _ (c .before .before .before .before .before .before .before .before .before .before .before .loop .inv) (c .before .before .before .before .before .before .before .before .before .before .loop-test .taken) _ (c .before .before .before .before .before .row-of .ensures) _ (c .before .if3 .left) refl (c .before .before .before .before .before .before .before .before .before .before .before .before .before .before .before .before .before .before .before .pre .1 .1 .1 .0), (c .before .before .before .before .before .before .before .before .before .before .before .before .before .before .before .before .before .before .before .pre .1 .1 .1 .1 .0, (c .before .before .before .before .before .before .before .before .before .before .before .before .before .before .before .before .before .before .before .pre .1 .1 .1 .1 .1 .0, (c .before .before .before .before .before .before .before .before .before .before .before .before .before .before .before .before .before .before .before .pre .1 .1 .1 .1 .1 .1, (bracket-index _ _ _ (c .before .before .before .before .before .row-of .ensures) (c .before .before .before .probe2 .given .1), at-bracket _ _ _ _ _ _ _ (c .before .before .before .before .before .before .before .before .before .before .before .before .before .before .before .before .before .before .before .pre .1 .1 .1 .1 .1 .0) (c .before .before .before .before .before .before .before .before .before .before .before .before .before .before .before .before .before .before .before .pre .1 .1 .0) _ (c .before .before .before .before .before .before .before .before .before .before .loop-test .taken) _ (c .opened-at2 .ensures) _ (c .before .before .before .before .before .row-of .ensures) _ (c .before .before .before .probe2 .given .1)))))))))
 
 rows-say-sub-says : (t : ℕ) → rows-say-lts.Need-sub-says (
   leap-reads.Asked,
@@ -913,6 +931,8 @@ rows-say-sub-says : (t : ℕ) → rows-say-lts.Need-sub-says (
   row-of-reads.Learnt,
   opened-at-reads.Asked,
   opened-at-reads.Learnt,
+  plain-says-reads.Asked,
+  plain-says-reads.Learnt,
   probe-says-below t,
   probe-says.Post,
   join-verdicts-reads.Asked,
@@ -927,6 +947,8 @@ rows-say-array-write-says-2 : (t : ℕ) → rows-say-lts.Need-array-write-says-2
   row-of-reads.Learnt,
   opened-at-reads.Asked,
   opened-at-reads.Learnt,
+  plain-says-reads.Asked,
+  plain-says-reads.Learnt,
   probe-says-below t,
   probe-says.Post,
   join-verdicts-reads.Asked,
@@ -941,6 +963,8 @@ rows-say-add-sizes-3 : (t : ℕ) → rows-say-lts.Need-add-sizes-3 (
   row-of-reads.Learnt,
   opened-at-reads.Asked,
   opened-at-reads.Learnt,
+  plain-says-reads.Asked,
+  plain-says-reads.Learnt,
   probe-says-below t,
   probe-says.Post,
   join-verdicts-reads.Asked,
@@ -955,6 +979,8 @@ rows-say-sub-sizes-2 : (t : ℕ) → rows-say-lts.Need-sub-sizes-2 (
   row-of-reads.Learnt,
   opened-at-reads.Asked,
   opened-at-reads.Learnt,
+  plain-says-reads.Asked,
+  plain-says-reads.Learnt,
   probe-says-below t,
   probe-says.Post,
   join-verdicts-reads.Asked,
@@ -969,6 +995,8 @@ rows-say-mul-sizes-3 : (t : ℕ) → rows-say-lts.Need-mul-sizes-3 (
   row-of-reads.Learnt,
   opened-at-reads.Asked,
   opened-at-reads.Learnt,
+  plain-says-reads.Asked,
+  plain-says-reads.Learnt,
   probe-says-below t,
   probe-says.Post,
   join-verdicts-reads.Asked,
@@ -983,6 +1011,8 @@ rows-say-array-write-sizes-3 : (t : ℕ) → rows-say-lts.Need-array-write-sizes
   row-of-reads.Learnt,
   opened-at-reads.Asked,
   opened-at-reads.Learnt,
+  plain-says-reads.Asked,
+  plain-says-reads.Learnt,
   probe-says-below t,
   probe-says.Post,
   join-verdicts-reads.Asked,
@@ -997,6 +1027,8 @@ rows-say-add-i-4 : (t : ℕ) → rows-say-lts.Need-add-i-4 (
   row-of-reads.Learnt,
   opened-at-reads.Asked,
   opened-at-reads.Learnt,
+  plain-says-reads.Asked,
+  plain-says-reads.Learnt,
   probe-says-below t,
   probe-says.Post,
   join-verdicts-reads.Asked,
@@ -1011,6 +1043,8 @@ rows-say-loop-less-3 : (t : ℕ) → rows-say-lts.Need-loop-less-3 (
   row-of-reads.Learnt,
   opened-at-reads.Asked,
   opened-at-reads.Learnt,
+  plain-says-reads.Asked,
+  plain-says-reads.Learnt,
   probe-says-below t,
   probe-says.Post,
   join-verdicts-reads.Asked,
@@ -1025,12 +1059,14 @@ rows-say-loop-again-3 : (t : ℕ) → rows-say-lts.Need-loop-again-3 (
   row-of-reads.Learnt,
   opened-at-reads.Asked,
   opened-at-reads.Learnt,
+  plain-says-reads.Asked,
+  plain-says-reads.Learnt,
   probe-says-below t,
   probe-says.Post,
   join-verdicts-reads.Asked,
   join-verdicts-reads.Learnt,
 ) (rows-say-at t) rows-say.Post rows-say-Inv-loop rows-say-μ-loop
-rows-say-loop-again-3 t c = judging-bracket _ _ _ _ _ _ _ _ _ (c .before .before .before .before .before .before .before .before .before .before .before .before .loop .inv) (c .before .before .before .before .before .before .before .before .before .before .before .loop-test .taken) _ (c .before .before .before .before .before .before .row-of .ensures) _ _ _ (c .before .before .before .before .probe2 .given .1) (c .before .before .if3 .left) refl (c .probe-says2 .ensures)
+rows-say-loop-again-3 t c = judging-bracket _ _ _ _ _ _ _ _ _ (c .before .before .before .before .before .before .before .before .before .before .before .before .loop .inv) (c .before .before .before .before .before .before .before .before .before .before .before .loop-test .taken) _ (c .before .before .before .before .before .before .row-of .ensures) _ _ _ (c .before .before .before .before .probe2 .given .1) (c .before .before .if3 .left) refl (c .probe-says .ensures)
 
 rows-say-enum-told : (t : ℕ) → rows-say-lts.Need-enum-told (
   leap-reads.Asked,
@@ -1039,6 +1075,8 @@ rows-say-enum-told : (t : ℕ) → rows-say-lts.Need-enum-told (
   row-of-reads.Learnt,
   opened-at-reads.Asked,
   opened-at-reads.Learnt,
+  plain-says-reads.Asked,
+  plain-says-reads.Learnt,
   probe-says-below t,
   probe-says.Post,
   join-verdicts-reads.Asked,
@@ -1053,6 +1091,8 @@ rows-say-returns-3 : (t : ℕ) → rows-say-lts.Need-returns-3 (
   row-of-reads.Learnt,
   opened-at-reads.Asked,
   opened-at-reads.Learnt,
+  plain-says-reads.Asked,
+  plain-says-reads.Learnt,
   probe-says-below t,
   probe-says.Post,
   join-verdicts-reads.Asked,
@@ -1067,6 +1107,8 @@ rows-say-sub-inner : (t : ℕ) → rows-say-lts.Need-sub-inner (
   row-of-reads.Learnt,
   opened-at-reads.Asked,
   opened-at-reads.Learnt,
+  plain-says-reads.Asked,
+  plain-says-reads.Learnt,
   probe-says-below t,
   probe-says.Post,
   join-verdicts-reads.Asked,
@@ -1081,6 +1123,8 @@ rows-say-array-read-inner : (t : ℕ) → rows-say-lts.Need-array-read-inner (
   row-of-reads.Learnt,
   opened-at-reads.Asked,
   opened-at-reads.Learnt,
+  plain-says-reads.Asked,
+  plain-says-reads.Learnt,
   probe-says-below t,
   probe-says.Post,
   join-verdicts-reads.Asked,
@@ -1095,6 +1139,8 @@ rows-say-sub-size-3 : (t : ℕ) → rows-say-lts.Need-sub-size-3 (
   row-of-reads.Learnt,
   opened-at-reads.Asked,
   opened-at-reads.Learnt,
+  plain-says-reads.Asked,
+  plain-says-reads.Learnt,
   probe-says-below t,
   probe-says.Post,
   join-verdicts-reads.Asked,
@@ -1109,6 +1155,8 @@ rows-say-mul-size-3 : (t : ℕ) → rows-say-lts.Need-mul-size-3 (
   row-of-reads.Learnt,
   opened-at-reads.Asked,
   opened-at-reads.Learnt,
+  plain-says-reads.Asked,
+  plain-says-reads.Learnt,
   probe-says-below t,
   probe-says.Post,
   join-verdicts-reads.Asked,
@@ -1123,6 +1171,8 @@ rows-say-array-read-size-3 : (t : ℕ) → rows-say-lts.Need-array-read-size-3 (
   row-of-reads.Learnt,
   opened-at-reads.Asked,
   opened-at-reads.Learnt,
+  plain-says-reads.Asked,
+  plain-says-reads.Learnt,
   probe-says-below t,
   probe-says.Post,
   join-verdicts-reads.Asked,
@@ -1137,6 +1187,8 @@ rows-say-sub-says-2 : (t : ℕ) → rows-say-lts.Need-sub-says-2 (
   row-of-reads.Learnt,
   opened-at-reads.Asked,
   opened-at-reads.Learnt,
+  plain-says-reads.Asked,
+  plain-says-reads.Learnt,
   probe-says-below t,
   probe-says.Post,
   join-verdicts-reads.Asked,
@@ -1151,6 +1203,8 @@ rows-say-array-write-says-3 : (t : ℕ) → rows-say-lts.Need-array-write-says-3
   row-of-reads.Learnt,
   opened-at-reads.Asked,
   opened-at-reads.Learnt,
+  plain-says-reads.Asked,
+  plain-says-reads.Learnt,
   probe-says-below t,
   probe-says.Post,
   join-verdicts-reads.Asked,
@@ -1165,6 +1219,8 @@ rows-say-add-sizes-4 : (t : ℕ) → rows-say-lts.Need-add-sizes-4 (
   row-of-reads.Learnt,
   opened-at-reads.Asked,
   opened-at-reads.Learnt,
+  plain-says-reads.Asked,
+  plain-says-reads.Learnt,
   probe-says-below t,
   probe-says.Post,
   join-verdicts-reads.Asked,
@@ -1179,6 +1235,8 @@ rows-say-sub-sizes-3 : (t : ℕ) → rows-say-lts.Need-sub-sizes-3 (
   row-of-reads.Learnt,
   opened-at-reads.Asked,
   opened-at-reads.Learnt,
+  plain-says-reads.Asked,
+  plain-says-reads.Learnt,
   probe-says-below t,
   probe-says.Post,
   join-verdicts-reads.Asked,
@@ -1193,6 +1251,8 @@ rows-say-mul-sizes-4 : (t : ℕ) → rows-say-lts.Need-mul-sizes-4 (
   row-of-reads.Learnt,
   opened-at-reads.Asked,
   opened-at-reads.Learnt,
+  plain-says-reads.Asked,
+  plain-says-reads.Learnt,
   probe-says-below t,
   probe-says.Post,
   join-verdicts-reads.Asked,
@@ -1207,6 +1267,8 @@ rows-say-array-write-sizes-4 : (t : ℕ) → rows-say-lts.Need-array-write-sizes
   row-of-reads.Learnt,
   opened-at-reads.Asked,
   opened-at-reads.Learnt,
+  plain-says-reads.Asked,
+  plain-says-reads.Learnt,
   probe-says-below t,
   probe-says.Post,
   join-verdicts-reads.Asked,
@@ -1221,6 +1283,8 @@ rows-say-add-i-5 : (t : ℕ) → rows-say-lts.Need-add-i-5 (
   row-of-reads.Learnt,
   opened-at-reads.Asked,
   opened-at-reads.Learnt,
+  plain-says-reads.Asked,
+  plain-says-reads.Learnt,
   probe-says-below t,
   probe-says.Post,
   join-verdicts-reads.Asked,
@@ -1235,6 +1299,8 @@ rows-say-loop-less-4 : (t : ℕ) → rows-say-lts.Need-loop-less-4 (
   row-of-reads.Learnt,
   opened-at-reads.Asked,
   opened-at-reads.Learnt,
+  plain-says-reads.Asked,
+  plain-says-reads.Learnt,
   probe-says-below t,
   probe-says.Post,
   join-verdicts-reads.Asked,
@@ -1249,6 +1315,8 @@ rows-say-loop-again-4 : (t : ℕ) → rows-say-lts.Need-loop-again-4 (
   row-of-reads.Learnt,
   opened-at-reads.Asked,
   opened-at-reads.Learnt,
+  plain-says-reads.Asked,
+  plain-says-reads.Learnt,
   probe-says-below t,
   probe-says.Post,
   join-verdicts-reads.Asked,
@@ -1263,6 +1331,8 @@ rows-say-enum-known-and : (t : ℕ) → rows-say-lts.Need-enum-known-and (
   row-of-reads.Learnt,
   opened-at-reads.Asked,
   opened-at-reads.Learnt,
+  plain-says-reads.Asked,
+  plain-says-reads.Learnt,
   probe-says-below t,
   probe-says.Post,
   join-verdicts-reads.Asked,
@@ -1277,6 +1347,8 @@ rows-say-returns-4 : (t : ℕ) → rows-say-lts.Need-returns-4 (
   row-of-reads.Learnt,
   opened-at-reads.Asked,
   opened-at-reads.Learnt,
+  plain-says-reads.Asked,
+  plain-says-reads.Learnt,
   probe-says-below t,
   probe-says.Post,
   join-verdicts-reads.Asked,
@@ -1291,6 +1363,8 @@ rows-say-sub-second : (t : ℕ) → rows-say-lts.Need-sub-second (
   row-of-reads.Learnt,
   opened-at-reads.Asked,
   opened-at-reads.Learnt,
+  plain-says-reads.Asked,
+  plain-says-reads.Learnt,
   probe-says-below t,
   probe-says.Post,
   join-verdicts-reads.Asked,
@@ -1305,6 +1379,8 @@ rows-say-array-read-second : (t : ℕ) → rows-say-lts.Need-array-read-second (
   row-of-reads.Learnt,
   opened-at-reads.Asked,
   opened-at-reads.Learnt,
+  plain-says-reads.Asked,
+  plain-says-reads.Learnt,
   probe-says-below t,
   probe-says.Post,
   join-verdicts-reads.Asked,
@@ -1319,6 +1395,8 @@ rows-say-array-read-first : (t : ℕ) → rows-say-lts.Need-array-read-first (
   row-of-reads.Learnt,
   opened-at-reads.Asked,
   opened-at-reads.Learnt,
+  plain-says-reads.Asked,
+  plain-says-reads.Learnt,
   probe-says-below t,
   probe-says.Post,
   join-verdicts-reads.Asked,
@@ -1333,6 +1411,8 @@ rows-say-mul-size-4 : (t : ℕ) → rows-say-lts.Need-mul-size-4 (
   row-of-reads.Learnt,
   opened-at-reads.Asked,
   opened-at-reads.Learnt,
+  plain-says-reads.Asked,
+  plain-says-reads.Learnt,
   probe-says-below t,
   probe-says.Post,
   join-verdicts-reads.Asked,
@@ -1347,6 +1427,8 @@ rows-say-array-read-size-4 : (t : ℕ) → rows-say-lts.Need-array-read-size-4 (
   row-of-reads.Learnt,
   opened-at-reads.Asked,
   opened-at-reads.Learnt,
+  plain-says-reads.Asked,
+  plain-says-reads.Learnt,
   probe-says-below t,
   probe-says.Post,
   join-verdicts-reads.Asked,
@@ -1361,6 +1443,8 @@ rows-say-sub-size-4 : (t : ℕ) → rows-say-lts.Need-sub-size-4 (
   row-of-reads.Learnt,
   opened-at-reads.Asked,
   opened-at-reads.Learnt,
+  plain-says-reads.Asked,
+  plain-says-reads.Learnt,
   probe-says-below t,
   probe-says.Post,
   join-verdicts-reads.Asked,
@@ -1375,6 +1459,8 @@ rows-say-mul-size-5 : (t : ℕ) → rows-say-lts.Need-mul-size-5 (
   row-of-reads.Learnt,
   opened-at-reads.Asked,
   opened-at-reads.Learnt,
+  plain-says-reads.Asked,
+  plain-says-reads.Learnt,
   probe-says-below t,
   probe-says.Post,
   join-verdicts-reads.Asked,
@@ -1389,6 +1475,8 @@ rows-say-array-read-size-5 : (t : ℕ) → rows-say-lts.Need-array-read-size-5 (
   row-of-reads.Learnt,
   opened-at-reads.Asked,
   opened-at-reads.Learnt,
+  plain-says-reads.Asked,
+  plain-says-reads.Learnt,
   probe-says-below t,
   probe-says.Post,
   join-verdicts-reads.Asked,
@@ -1403,6 +1491,8 @@ rows-say-add-size : (t : ℕ) → rows-say-lts.Need-add-size (
   row-of-reads.Learnt,
   opened-at-reads.Asked,
   opened-at-reads.Learnt,
+  plain-says-reads.Asked,
+  plain-says-reads.Learnt,
   probe-says-below t,
   probe-says.Post,
   join-verdicts-reads.Asked,
@@ -1417,6 +1507,8 @@ rows-say-join-verdicts-requires : (t : ℕ) → rows-say-lts.Need-join-verdicts-
   row-of-reads.Learnt,
   opened-at-reads.Asked,
   opened-at-reads.Learnt,
+  plain-says-reads.Asked,
+  plain-says-reads.Learnt,
   probe-says-below t,
   probe-says.Post,
   join-verdicts-reads.Asked,
@@ -1431,6 +1523,8 @@ rows-say-array-write-says-4 : (t : ℕ) → rows-say-lts.Need-array-write-says-4
   row-of-reads.Learnt,
   opened-at-reads.Asked,
   opened-at-reads.Learnt,
+  plain-says-reads.Asked,
+  plain-says-reads.Learnt,
   probe-says-below t,
   probe-says.Post,
   join-verdicts-reads.Asked,
@@ -1445,6 +1539,8 @@ rows-say-add-sizes-5 : (t : ℕ) → rows-say-lts.Need-add-sizes-5 (
   row-of-reads.Learnt,
   opened-at-reads.Asked,
   opened-at-reads.Learnt,
+  plain-says-reads.Asked,
+  plain-says-reads.Learnt,
   probe-says-below t,
   probe-says.Post,
   join-verdicts-reads.Asked,
@@ -1459,6 +1555,8 @@ rows-say-mul-sizes-5 : (t : ℕ) → rows-say-lts.Need-mul-sizes-5 (
   row-of-reads.Learnt,
   opened-at-reads.Asked,
   opened-at-reads.Learnt,
+  plain-says-reads.Asked,
+  plain-says-reads.Learnt,
   probe-says-below t,
   probe-says.Post,
   join-verdicts-reads.Asked,
@@ -1473,6 +1571,8 @@ rows-say-array-write-sizes-5 : (t : ℕ) → rows-say-lts.Need-array-write-sizes
   row-of-reads.Learnt,
   opened-at-reads.Asked,
   opened-at-reads.Learnt,
+  plain-says-reads.Asked,
+  plain-says-reads.Learnt,
   probe-says-below t,
   probe-says.Post,
   join-verdicts-reads.Asked,
@@ -1487,6 +1587,8 @@ rows-say-sub-top : (t : ℕ) → rows-say-lts.Need-sub-top (
   row-of-reads.Learnt,
   opened-at-reads.Asked,
   opened-at-reads.Learnt,
+  plain-says-reads.Asked,
+  plain-says-reads.Learnt,
   probe-says-below t,
   probe-says.Post,
   join-verdicts-reads.Asked,
@@ -1501,6 +1603,8 @@ rows-say-add-i-6 : (t : ℕ) → rows-say-lts.Need-add-i-6 (
   row-of-reads.Learnt,
   opened-at-reads.Asked,
   opened-at-reads.Learnt,
+  plain-says-reads.Asked,
+  plain-says-reads.Learnt,
   probe-says-below t,
   probe-says.Post,
   join-verdicts-reads.Asked,
@@ -1515,6 +1619,8 @@ rows-say-loop-less-5 : (t : ℕ) → rows-say-lts.Need-loop-less-5 (
   row-of-reads.Learnt,
   opened-at-reads.Asked,
   opened-at-reads.Learnt,
+  plain-says-reads.Asked,
+  plain-says-reads.Learnt,
   probe-says-below t,
   probe-says.Post,
   join-verdicts-reads.Asked,
@@ -1529,6 +1635,8 @@ rows-say-loop-again-5 : (t : ℕ) → rows-say-lts.Need-loop-again-5 (
   row-of-reads.Learnt,
   opened-at-reads.Asked,
   opened-at-reads.Learnt,
+  plain-says-reads.Asked,
+  plain-says-reads.Learnt,
   probe-says-below t,
   probe-says.Post,
   join-verdicts-reads.Asked,
@@ -1543,6 +1651,8 @@ rows-say-enum-told-2 : (t : ℕ) → rows-say-lts.Need-enum-told-2 (
   row-of-reads.Learnt,
   opened-at-reads.Asked,
   opened-at-reads.Learnt,
+  plain-says-reads.Asked,
+  plain-says-reads.Learnt,
   probe-says-below t,
   probe-says.Post,
   join-verdicts-reads.Asked,
@@ -1557,6 +1667,8 @@ rows-say-returns-5 : (t : ℕ) → rows-say-lts.Need-returns-5 (
   row-of-reads.Learnt,
   opened-at-reads.Asked,
   opened-at-reads.Learnt,
+  plain-says-reads.Asked,
+  plain-says-reads.Learnt,
   probe-says-below t,
   probe-says.Post,
   join-verdicts-reads.Asked,
@@ -1571,6 +1683,8 @@ rows-say-array-read-result : (t : ℕ) → rows-say-lts.Need-array-read-result (
   row-of-reads.Learnt,
   opened-at-reads.Asked,
   opened-at-reads.Learnt,
+  plain-says-reads.Asked,
+  plain-says-reads.Learnt,
   probe-says-below t,
   probe-says.Post,
   join-verdicts-reads.Asked,
@@ -1585,6 +1699,8 @@ rows-say-returns-6 : (t : ℕ) → rows-say-lts.Need-returns-6 (
   row-of-reads.Learnt,
   opened-at-reads.Asked,
   opened-at-reads.Learnt,
+  plain-says-reads.Asked,
+  plain-says-reads.Learnt,
   probe-says-below t,
   probe-says.Post,
   join-verdicts-reads.Asked,
@@ -1599,6 +1715,8 @@ rows-say-returns-7 : (t : ℕ) → rows-say-lts.Need-returns-7 (
   row-of-reads.Learnt,
   opened-at-reads.Asked,
   opened-at-reads.Learnt,
+  plain-says-reads.Asked,
+  plain-says-reads.Learnt,
   probe-says-below t,
   probe-says.Post,
   join-verdicts-reads.Asked,
@@ -1816,7 +1934,6 @@ pub +entry-chosen+probe-says+rows-say+some-entry-spec : {M : Type 1} → stateme
     )
     (entry-chosen-at t)
     entry-chosen.Post
-    (entry-chosen-returns t)
     (entry-chosen-mul-rows-say t)
     (entry-chosen-sub-rows-say t)
     (entry-chosen-part-rows-say-start t)
@@ -1842,30 +1959,25 @@ pub +entry-chosen+probe-says+rows-say+some-entry-spec : {M : Type 1} → stateme
     (entry-chosen-part-rows-say-start-6 t)
     (entry-chosen-part-rows-say-end-6 t)
     (entry-chosen-rows-say-requires t)
-    (entry-chosen-returns-2 t)
-    (entry-chosen-returns-3 t))
+    (entry-chosen-returns t)
+    (entry-chosen-returns-2 t))
     (λ t. probe-says-lts.spec (
       meaning-of-reads.Asked,
       meaning-of-reads.Learnt,
-      some-counts-reads.Asked,
-      some-counts-reads.Learnt,
-      some-says-reads.Asked,
-      some-says-reads.Learnt,
       some-entry-below t,
       some-entry.Post,
+      some-says-reads.Asked,
+      some-says-reads.Learnt,
     )
     (probe-says-at t)
     probe-says.Post
     (probe-says-cast-index t)
     (probe-says-shared-slice-read-meaning-of t)
     (probe-says-meaning-of-requires t)
-    (probe-says-some-counts-requires t)
+    (probe-says-some-entry-requires t)
     (probe-says-some-says-requires t)
     (probe-says-returns t)
-    (probe-says-some-entry-requires t)
-    (probe-says-some-says-requires-2 t)
-    (probe-says-returns-2 t)
-    (probe-says-returns-3 t))
+    (probe-says-returns-2 t))
     (λ t. rows-say-lts.spec (
       leap-reads.Asked,
       leap-reads.Learnt,
@@ -1873,6 +1985,8 @@ pub +entry-chosen+probe-says+rows-say+some-entry-spec : {M : Type 1} → stateme
       row-of-reads.Learnt,
       opened-at-reads.Asked,
       opened-at-reads.Learnt,
+      plain-says-reads.Asked,
+      plain-says-reads.Learnt,
       probe-says-below t,
       probe-says.Post,
       join-verdicts-reads.Asked,
@@ -1903,7 +2017,7 @@ pub +entry-chosen+probe-says+rows-say+some-entry-spec : {M : Type 1} → stateme
     (rows-say-enum-known-probe t)
     (rows-say-returns t)
     (rows-say-opened-at-requires t)
-    (rows-say-probe-says-requires t)
+    (rows-say-plain-says-requires t)
     (rows-say-array-write-says t)
     (rows-say-mul-sizes-2 t)
     (rows-say-array-write-sizes-2 t)
@@ -1918,7 +2032,7 @@ pub +entry-chosen+probe-says+rows-say+some-entry-spec : {M : Type 1} → stateme
     (rows-say-array-read-size-2 t)
     (rows-say-sub-start t)
     (rows-say-opened-at-requires-2 t)
-    (rows-say-probe-says-requires-2 t)
+    (rows-say-probe-says-requires t)
     (rows-say-sub-says t)
     (rows-say-array-write-says-2 t)
     (rows-say-add-sizes-3 t)

@@ -6,7 +6,7 @@ use Rattle.card.specs.Card.{entry, entriesOf}
 use Rattle.card.proofs.Entries.{entries-start}
 use Rattle.rows.specs.Saying.{anyOccurrence, someEntry}
 use Rattle.rows.specs.Opening.{valueOf}
-use Rattle.rows.proofs.Saying.{plain-here, plain-next, entry-end}
+use Rattle.rows.proofs.Saying.{plain-here, plain-next, plain-other, entry-end}
 use Rattle.rows.proofs.says.some_counts.Statement.{statement}
 use Rattle.rows.proofs.says.some_counts.Tie as tie
 
@@ -28,20 +28,20 @@ entry-at-requires c κs = search needs
 is-under-requires : tie.Need-is-under-requires Inv-loop μ-loop
 is-under-requires c κs = search needs
 
-sub-entry-counts : tie.Need-sub-entry-counts Inv-loop μ-loop
-sub-entry-counts c = search needs
+sub-value-counts : tie.Need-sub-value-counts Inv-loop μ-loop
+sub-value-counts c = search needs
 
-part-entry-counts-start : tie.Need-part-entry-counts-start Inv-loop μ-loop
-part-entry-counts-start c = search needs
+part-value-counts-start : tie.Need-part-value-counts-start Inv-loop μ-loop
+part-value-counts-start c = search needs
 
-part-entry-counts-end : tie.Need-part-entry-counts-end Inv-loop μ-loop
-part-entry-counts-end c = search needs
+part-value-counts-end : tie.Need-part-value-counts-end Inv-loop μ-loop
+part-value-counts-end c = search needs
 
-entry-counts-requires : tie.Need-entry-counts-requires Inv-loop μ-loop
-entry-counts-requires c κs = search needs
+value-counts-requires : tie.Need-value-counts-requires Inv-loop μ-loop
+value-counts-requires c κs = search needs
 
 returns : tie.Need-returns Inv-loop μ-loop
-returns c = visited-decides _ _ _ _ _ _ (c .before .before .before .before .before .before .before .loop .inv) _ _ _ _ (c .before .before .before .before .before .entry-at .ensures) _ (plain-here _ _ _ _ _ _ _ _ _ _ (c .before .before .before .is-under .ensures) (c .before .entry-counts .ensures) (c .if1 .taken))
+returns c = visited-decides _ _ _ _ _ _ (c .before .before .before .before .before .before .before .before .loop .inv) _ _ _ _ (c .before .before .before .before .before .before .entry-at .ensures) _ (plain-here _ _ _ _ _ _ _ _ _ (c .before .before .before .before .is-under .ensures) _ (c .before .before .before .if1 .taken) (c .before .value-counts .ensures) (c .if2 .taken))
 
 sub-left : tie.Need-sub-left Inv-loop μ-loop
 sub-left c = search needs
@@ -50,7 +50,16 @@ loop-less : tie.Need-loop-less Inv-loop μ-loop
 loop-less c = search needs
 
 loop-again : tie.Need-loop-again Inv-loop μ-loop
-loop-again c = visited-next _ _ _ _ _ _ (c .before .before .before .before .before .before .before .loop .inv) _ _ _ _ (c .before .before .before .before .before .entry-at .ensures) _ (plain-next _ _ _ _ _ _ _ _ _ _ (c .before .before .before .is-under .ensures) (c .before .entry-counts .ensures) (c .if1 .left))
+loop-again c = visited-next _ _ _ _ _ _ (c .before .before .before .before .before .before .before .before .loop .inv) _ _ _ _ (c .before .before .before .before .before .before .entry-at .ensures) _ (plain-next _ _ _ _ _ _ _ _ _ (c .before .before .before .before .is-under .ensures) _ (c .before .before .before .if1 .taken) (c .before .value-counts .ensures) (c .if2 .left))
+
+sub-left-2 : tie.Need-sub-left-2 Inv-loop μ-loop
+sub-left-2 c = search needs
+
+loop-less-2 : tie.Need-loop-less-2 Inv-loop μ-loop
+loop-less-2 c = search needs
+
+loop-again-2 : tie.Need-loop-again-2 Inv-loop μ-loop
+loop-again-2 c = visited-next _ _ _ _ _ _ (c .before .before .before .before .before .loop .inv) _ _ _ _ (c .before .before .before .entry-at .ensures) _ (plain-other _ _ _ _ _ _ _ _ _ (c .before .is-under .ensures) (c .if1 .left))
 
 returns-2 : tie.Need-returns-2 Inv-loop μ-loop
 returns-2 c = search (visited-end, entry-end, needs)
@@ -65,12 +74,15 @@ some-counts-spec =
     loop-holds
     entry-at-requires
     is-under-requires
-    sub-entry-counts
-    part-entry-counts-start
-    part-entry-counts-end
-    entry-counts-requires
+    sub-value-counts
+    part-value-counts-start
+    part-value-counts-end
+    value-counts-requires
     returns
     sub-left
     loop-less
     loop-again
+    sub-left-2
+    loop-less-2
+    loop-again-2
     returns-2)
