@@ -4,7 +4,7 @@
 //!
 //! `bench [CARDS [ROUNDS [ROWS]]]` prints a table in Markdown, or those of its rows that begin with ROWS, such as
 //! `full | 32`. The archives are made of a fixed seed. They are measured slice by slice, all taking turns on each,
-//! and for each slice the least time of the rounds counts, so that what else the machine does disturbs little.
+//! and for each slice the median time of the rounds counts, so that what else the machine does disturbs little.
 
 use compare::skipping;
 use second::block::{self, BUNDLE, Entry, MARKED_CARD, MARKED_SHEET, SIZE, SUMMED};
@@ -16,7 +16,7 @@ use std::process::ExitCode;
 use std::time::Instant;
 
 const CARDS: usize = 100_000;
-const ROUNDS: usize = 6;
+const ROUNDS: usize = 5;
 /// How many cards are selected from at a time.
 const RUN: usize = 128;
 /// How many bytes are measured at a time.
@@ -187,28 +187,35 @@ fn check_sum(card: &[u8; SIZE]) -> u32 {
 /// Work on cards, which answers a number.
 type Work<'a> = dyn Fn(&[u8]) -> usize + 'a;
 
-/// Work with the least time that each slice of the archive took so far.
+/// Work with the times that each slice of the archive took so far.
 struct Measured<'a> {
     work: Box<Work<'a>>,
-    best: Vec<f64>,
+    times: Vec<Vec<f64>>,
 }
 
 impl<'a> Measured<'a> {
     fn new(archive: &[u8], work: impl Fn(&[u8]) -> usize + 'a) -> Measured<'a> {
-        Measured { work: Box::new(work), best: vec![f64::MAX; archive.len().div_ceil(SLICE)] }
+        Measured { work: Box::new(work), times: vec![Vec::new(); archive.len().div_ceil(SLICE)] }
     }
 
     /// Does the work on one slice and answers what it answers.
     fn measure(&mut self, index: usize, slice: &[u8]) -> usize {
         let began = Instant::now();
         let answer = black_box((self.work)(slice));
-        self.best[index] = self.best[index].min(began.elapsed().as_secs_f64());
+        self.times[index].push(began.elapsed().as_secs_f64());
         answer
     }
 
+    /// The sum of the slices' median times.
     fn seconds(&self) -> f64 {
-        self.best.iter().sum()
+        self.times.iter().map(|times| median(times)).sum()
     }
+}
+
+fn median(times: &[f64]) -> f64 {
+    let mut times = times.to_vec();
+    times.sort_by(f64::total_cmp);
+    times[times.len() / 2]
 }
 
 /// Cards of one kind with their sheet, and the filters that are asked of them.
@@ -286,7 +293,7 @@ fn measure(Asked { kind, sheet, archive, filters }: &Asked, rounds: usize, rows:
 /// match, and select from a run of one card.
 fn measure_single(Asked { kind, sheet, archive, filters }: &Asked, rounds: usize, rows: &str) {
     for (name, filter) in filters {
-        let row = format!("{kind} | {name}");
+        let row = format!("{kind}, one by one | {name}");
         if !row.starts_with(rows) {
             continue;
         }
@@ -359,7 +366,7 @@ fn main() -> ExitCode {
         return ExitCode::FAILURE;
     };
     let rows = arguments.get(2).map_or("", |text| text);
-    println!("{cards} cards in runs of {RUN}; millions of cards per second, the best of {rounds} rounds.\n");
+    println!("{cards} cards in runs of {RUN}; millions of cards per second, the median of {rounds} rounds.\n");
     println!("| cards | tests | match | Sirophan | by text | plain Rust | sum only | to plain Rust | to sum only |");
     println!("|---|---|---:|---:|---:|---:|---:|---:|---:|");
     for (kind, most_entries) in [("sparse", 1), ("usual", 6), ("full", 64)] {
