@@ -1,6 +1,6 @@
 //! `sirophan explain`: why a filter says yes or no of the cards with a record number.
 
-use crate::advice::Question;
+use crate::advice::{Question, Words};
 use crate::arguments::Arguments;
 use crate::block::{self, SIZE, Sort};
 use crate::cards::AtFault;
@@ -14,7 +14,7 @@ pub fn run(arguments: &Arguments) -> Result<(), Failure> {
     let Some(record) = arguments.record else {
         return Err(Failure::Usage("explain needs --record and the number of the card's record.".into()));
     };
-    let question = Question::read(&arguments.paths[0], &arguments.paths[1])?;
+    let question = Question::read(&arguments.paths[0], Words::Filter, &arguments.paths[1])?;
     let mut cards = Input::open(&arguments.paths[2])?;
     question.check()?;
     let name = input::shown(&arguments.paths[2]);
@@ -32,11 +32,11 @@ pub fn run(arguments: &Arguments) -> Result<(), Failure> {
         if Sort::of(&card) != Sort::Card || block::record(&card) != record {
             continue;
         }
-        let explanation = sirophan::explain(&question.sheet.block, &question.filter, &card)
+        let explanation = sirophan::explain(&question.sheet.block, &question.text, &card)
             .map_err(|refusal| refused(refusal, index, &card))?;
         told.push(match arguments.json {
-            true => as_json(index, record, &explanation, &question.filter),
-            false => as_lines(index, record, &explanation, &question.filter),
+            true => as_json(index, record, &explanation, &question.text),
+            false => as_lines(index, record, &explanation, &question.text),
         });
     }
     if told.is_empty() {
