@@ -10,6 +10,7 @@ use crate::progress::Progress;
 use crate::report::{Failure, Level, Message};
 use crate::sheet::{self, Parameter, Sheet};
 use crate::text::{self, counted, grouped, printable, row, spell};
+use sirophan::Prepared;
 use std::io::{self, BufRead, BufReader, Read};
 
 /// The most faults that are told one by one.
@@ -273,6 +274,8 @@ struct Entry {
 pub struct Cards<'a> {
     pub description: Description,
     fit: Fit<'a>,
+    /// What is asked of each card, read once.
+    prepared: Option<Prepared>,
     paths: Vec<String>,
     /// The line of the next card's record number, and the number.
     next: Option<(usize, u32)>,
@@ -284,7 +287,9 @@ impl<'a> Cards<'a> {
     /// The cards of a description, by a sheet's names.
     pub fn new(description: Description, sheet: &'a Sheet) -> Cards<'a> {
         let paths = (0..sheet.parameters.len()).map(|place| sheet.path(place, 0)).collect();
-        Cards { description, fit: Fit::new(sheet), paths, next: None, count: 0, progress: Progress::new() }
+        let fit = Fit::new(sheet);
+        let prepared = sheet.some_filter().and_then(|filter| sirophan::prepare(&sheet.block, filter.as_bytes()).ok());
+        Cards { description, fit, prepared, paths, next: None, count: 0, progress: Progress::new() }
     }
 
     /// The next card. Where it has faults, they are kept, and the card is empty.
@@ -386,6 +391,14 @@ impl<'a> Cards<'a> {
         }
     }
 
+    /// Whether a card fits the sheet.
+    fn fits(&self, card: &[u8]) -> bool {
+        match &self.prepared {
+            Some(prepared) => prepared.matches(card).is_ok(),
+            None => self.fit.select(card, &mut [0; RUN]).is_ok(),
+        }
+    }
+
     /// The card of these entries; its faults are kept. The library is asked of each text only where the card does not fit.
     fn card(&mut self, (line, record): (usize, u32), entries: &[Entry]) -> Vec<u8> {
         self.count += 1;
@@ -396,7 +409,7 @@ impl<'a> Cards<'a> {
             self.description.fault(line, &format!("record {record}: {fault}"));
             Vec::new()
         });
-        if card.is_empty() || self.fit.select(&card, &mut [0; RUN]).is_err() {
+        if card.is_empty() || !self.fits(&card) {
             for Entry { line, head, place, text, .. } in entries {
                 if let Some(fault) = advice::entry_fault(self.fit.sheet, usize::from(*place), text) {
                     self.description.fault(*line, &format!("record {record}, {head}: {fault}"));

@@ -2,6 +2,7 @@
 //! library, with a sheet that has one parameter: so there are no rules here beside its own.
 
 use crate::block::{self, Item};
+use sirophan::Prepared;
 
 /// The number of the kind whose texts are periods.
 const PERIOD: u8 = 6;
@@ -112,23 +113,32 @@ pub fn word_of(number: u8) -> String {
 /// A filter for the one-parameter sheets below.
 const ASKED: &[u8] = b"x pr true";
 
+/// A sheet with one parameter of the kind with this number.
+fn sheet_of(kind: u8) -> Vec<u8> {
+    let parameter = Item { byte: kind, mark: 0, text: b"x" };
+    block::write_sheet(&[parameter], kind == BUNDLE).expect("one short name has room")
+}
+
 /// Asks the library whether texts can be read as a kind.
 pub struct Reader {
     sheet: Vec<u8>,
+    /// The filter on the sheet, read once for many texts; none for bundles, which have no texts.
+    prepared: Option<Prepared>,
 }
 
 impl Reader {
     /// A reader of texts of the kind with this number.
     pub fn new(kind: u8) -> Reader {
-        let parameter = Item { byte: kind, mark: 0, text: b"x" };
-        let sheet = block::write_sheet(&[parameter], kind == BUNDLE).expect("one short name has room");
-        Reader { sheet }
+        let sheet = sheet_of(kind);
+        let prepared = sirophan::prepare(&sheet, ASKED).ok();
+        Reader { sheet, prepared }
     }
 
     /// Whether a text can be read as the kind: whether a card fits that has this text alone.
     pub fn reads(&self, text: &[u8]) -> bool {
         let card = block::write_card(0, &[Item { byte: 0, mark: 0, text }]);
-        card.is_some_and(|card| sirophan::matches(&self.sheet, ASKED, &card).is_ok())
+        let fits = |prepared: &Prepared| card.is_some_and(|card| prepared.matches(&card).is_ok());
+        self.prepared.as_ref().is_some_and(fits)
     }
 
     /// Whether the kind has an operator: whether it is not for the operator that the library refuses a test with it.
@@ -150,7 +160,7 @@ pub fn kinds_with(operator: &str) -> Vec<&'static str> {
 
 /// Whether a card by itself is sound, or the library's refusal. A card that is sound may not fit its sheet.
 pub fn sound_card(card: &[u8]) -> Result<(), sirophan::Refusal> {
-    match sirophan::matches(&Reader::new(1).sheet, ASKED, card) {
+    match sirophan::matches(&sheet_of(1), ASKED, card) {
         Err(refusal) if refusal.number != 23 => Err(refusal),
         _ => Ok(()),
     }
