@@ -206,10 +206,10 @@ mod tests {
         let shown = "a eq 1 or b ne 2 and c lt 3\n          ^^^^^^     ^^^^^^\n          yes        no";
         assert_eq!(explanation.render(filter), shown);
 
-        let filter = format!("a eq {} or b eq 2", "x".repeat(100));
+        let filter = format!("a eq {} or b eq 2", "7".repeat(100));
         let place = outer_tests(filter.as_bytes()).remove(1);
         let explanation = Explanation { matches: true, tests: vec![Explained { place, mark: Mark::Yes }] };
-        let shown = format!("a eq {}\nxxxxx or b eq 2\n         ^^^^^^\n         yes", "x".repeat(95));
+        let shown = format!("a eq {}\n77777 or b eq 2\n         ^^^^^^\n         yes", "7".repeat(95));
         assert_eq!(explanation.render(filter.as_bytes()), shown);
     }
 }
