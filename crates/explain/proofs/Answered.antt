@@ -21,13 +21,13 @@ use Rattle.judge.specs.Verdicts.{filterSays}
 use Rattle.judge.proofs.Rules.{PrSpelled, pr-spelled, filter-says-iff}
 use Rattle.refusal.specs.Answers.{Answer, yesOrNo, refused}
 use Rattle.refusal.specs.Steps.{Step, found, stop, _>>=_, answer}
-use Rattle.sirophan.specs.Demand.{TestRules, Meaningful, filterTests}
-use Rattle.sirophan.specs.Operations.{testsStep, Inputs, takeInputs, Card, takeCard, matchAnswer, written}
-use Rattle.sirophan.specs.Verdicts.{Verdict}
-use Rattle.sirophan.proofs.Cards.{conforms-taken, conforms-bytes}
-use Rattle.sirophan.proofs.Inputs.{inputs-taken, tests-outcome}
-use Rattle.sirophan.proofs.Outcomes.{TestsOutcome, all-mean, one-refused}
-use Rattle.sirophan.proofs.Verdicts.{verdict-spelled}
+use Rattle.answer.specs.Demand.{TestRules, Meaningful, filterTests}
+use Rattle.answer.specs.Operations.{testsStep, Inputs, takeInputs, Card, takeCard, matchAnswer, written}
+use Rattle.answer.specs.Verdicts.{Verdict}
+use Rattle.answer.proofs.Cards.{conforms-taken, conforms-bytes}
+use Rattle.answer.proofs.Inputs.{inputs-taken, tests-outcome}
+use Rattle.answer.proofs.Outcomes.{TestsOutcome, all-mean, one-refused}
+use Rattle.answer.proofs.Verdicts.{verdict-spelled}
 use Rattle.explain.specs.Deciding.{outerTests, outerCount, verdicts, saysBy, cells}
 use Rattle.explain.specs.Marks.{deciding, explanation}
 use Rattle.explain.specs.Operation.{Explanation, explanationOf, takeMarks, explaining, explainAnswer, explainCells}

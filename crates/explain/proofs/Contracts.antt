@@ -4,9 +4,10 @@ use Prim.Native.Nat.{ℕ}
 use mathlib.Core.List.{List}
 use lib.ListN.{length}
 use Rattle.base.proofs.All.{bytes-of}
-use Rattle.sirophan.specs.Answers.{matchedAnswer}
-use Rattle.sirophan.specs.declared.Matched.{Matched}
-use Rattle.sirophan.proofs.Contracts.{Sliced, refused-by}
+use Rattle.answer.specs.Answers.{matchedAnswer}
+use Rattle.answer.specs.declared.Matched.{Matched}
+use Rattle.answer.proofs.Slices.{Sliced}
+use Rattle.sirophan.proofs.Contracts.{refused-by}
 use Rattle.explain.specs.Operation.{explainAnswer}
 use Rattle.explain.specs.Refusals.{ExplainLine}
 use Rattle.explain.specs.Contracts.{Marks, ExplainsInto}

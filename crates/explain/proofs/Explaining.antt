@@ -35,19 +35,20 @@ use Rattle.refusal.specs.declared.Reason.{Reason}
 use Rattle.refusal.specs.declared.Refusal.{Refusal}
 use Rattle.refusal.specs.Answers.{yesOrNo, count, refused, numberOf, refusalAnswer}
 use Rattle.refusal.specs.Steps.{Step, found, stop, _>>=_, answer}
-use Rattle.sirophan.specs.Answers.{matchedAnswer}
-use Rattle.sirophan.specs.Operations.{Inputs, takeInputs, Card, takeCard, questionOf, filterQuestion, matchAnswer, written}
-use Rattle.sirophan.specs.Preparing.{preparation, prepareAnswer, prepareCells, preparedAnswer, judgeAnswer}
-use Rattle.sirophan.specs.Refusals.{CheckLine, line-10}
-use Rattle.sirophan.specs.RowsRefusals.{PreparesInto, PreparesGood, Judges, MatchIs}
-use Rattle.sirophan.specs.declared.Matched.{Matched}
-use Rattle.sirophan.specs.declared.Prepared.{Prepared}
-use Rattle.sirophan.proofs.Contracts.{Sliced}
-use Rattle.sirophan.proofs.CheckTable.{sheet-parameters, inputs-decided}
-use Rattle.sirophan.proofs.Inputs.{question-by, match-by}
-use Rattle.sirophan.proofs.Outcomes.{cardOf}
-use Rattle.sirophan.proofs.Passing.{card-found}
-use Rattle.sirophan.proofs.RowsAnswered.{known-of, prepares-good, match-is}
+use Rattle.answer.specs.Answers.{matchedAnswer}
+use Rattle.answer.specs.Operations.{Inputs, takeInputs, Card, takeCard, questionOf, filterQuestion, matchAnswer, written}
+use Rattle.answer.specs.Preparing.{preparation, prepareAnswer, prepareCells, preparedAnswer, judgeAnswer}
+use Rattle.answer.specs.Refusals.{CheckLine, line-10}
+use Rattle.sirophan.specs.Contracts.{PreparesInto, Judges}
+use Rattle.answer.specs.RowsRefusals.{PreparesGood, MatchIs}
+use Rattle.answer.specs.declared.Matched.{Matched}
+use Rattle.answer.specs.declared.Prepared.{Prepared}
+use Rattle.answer.proofs.Slices.{Sliced}
+use Rattle.answer.proofs.CheckTable.{sheet-parameters, inputs-decided}
+use Rattle.answer.proofs.Inputs.{question-by, match-by}
+use Rattle.answer.proofs.Outcomes.{cardOf}
+use Rattle.answer.proofs.Passing.{card-found}
+use Rattle.answer.proofs.RowsAnswered.{known-of, prepares-good, match-is}
 use Rattle.explain.specs.Deciding.{outerCount, verdicts, cell, cells}
 use Rattle.explain.specs.Marks.{explanation}
 use Rattle.explain.specs.Operation.{Explanation, explanationOf, takeMarks, explaining, explainAnswer, explainCells}

@@ -20,10 +20,10 @@ use Rattle.refusal.specs.Order.{group, Before, Decides}
 use Rattle.refusal.proofs.Answers.{verdict-not-refused}
 use Rattle.refusal.proofs.Deciding.{Decided, none-holds, one-decides, decided-as, decided-then, decided-found, decided-answer}
 use Rattle.refusal.proofs.Order.{apart-at, before-itself}
-use Rattle.sirophan.specs.Operations.{Inputs, takeCard}
-use Rattle.sirophan.specs.Refusals.{CheckLine, OneCardLine, line-20-match, line-of-card}
-use Rattle.sirophan.proofs.CheckTable.{Ready, check-group, inputs-decided}
-use Rattle.sirophan.proofs.MatchTable.{card-group, one-decided}
+use Rattle.answer.specs.Operations.{Inputs, takeCard}
+use Rattle.answer.specs.Refusals.{CheckLine, OneCardLine, line-20-match, line-of-card}
+use Rattle.answer.proofs.CheckTable.{Ready, check-group, inputs-decided}
+use Rattle.answer.proofs.MatchTable.{card-group, one-decided}
 use Rattle.explain.specs.Deciding.{outerCount}
 use Rattle.explain.specs.Operation.{Explanation, explanationOf, takeMarks, explaining, explainAnswer}
 use Rattle.explain.specs.Refusals.{MarksLine, line-33, ExplainLine}

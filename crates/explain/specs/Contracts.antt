@@ -15,10 +15,10 @@ use Rattle.rows.specs.Good.{Good}
 use Rattle.rows.specs.Saying.{Whole}
 use Rattle.rows.specs.Stated.{treeOf, erase}
 use Rattle.refusal.specs.Steps.{found}
-use Rattle.sirophan.specs.Answers.{matchedAnswer}
+use Rattle.answer.specs.Answers.{matchedAnswer}
 use Rattle.sirophan.specs.Contracts.{RefusedBy}
-use Rattle.sirophan.specs.Operations.{takeInputs, takeCard}
-use Rattle.sirophan.specs.declared.Matched.{Matched}
+use Rattle.answer.specs.Operations.{takeInputs, takeCard}
+use Rattle.answer.specs.declared.Matched.{Matched}
 use Rattle.explain.specs.Operation.{explainAnswer, explainCells}
 use Rattle.explain.specs.Refusals.{ExplainLine}
 

@@ -11,8 +11,8 @@ use Rattle.card.specs.Card.{Entry}
 use Rattle.syntax.specs.Tree.{Tree}
 use Rattle.judge.specs.Rules.{FilterSays}
 use Rattle.refusal.specs.Answers.{refused}
-use Rattle.sirophan.specs.Operations.{matchAnswer}
-use Rattle.sirophan.specs.Verdicts.{Verdict}
+use Rattle.answer.specs.Operations.{matchAnswer}
+use Rattle.answer.specs.Verdicts.{Verdict}
 use Rattle.explain.specs.Deciding.{outerTests, outerCount, saysBy, Explains, cells}
 use Rattle.explain.specs.Operation.{explainAnswer, explainCells}
 

@@ -8,7 +8,7 @@ use lib.ListN.{length}
 use Rattle.judge.specs.Verdicts.{filterSays}
 use Rattle.refusal.specs.Answers.{Answer, yesOrNo}
 use Rattle.refusal.specs.Steps.{Step, found, stop, _>>=_, answer}
-use Rattle.sirophan.specs.Operations.{Inputs, takeInputs, Card, takeCard, written}
+use Rattle.answer.specs.Operations.{Inputs, takeInputs, Card, takeCard, written}
 use Rattle.explain.specs.Deciding.{outerCount}
 use Rattle.explain.specs.Marks.{explanation}
 

@@ -5,7 +5,7 @@ use mathlib.Core.Logic.{_⊎_}
 use mathlib.Core.List.{List}
 use Rattle.syntax.specs.Tree.{Tree}
 use Rattle.syntax.specs.Grammar.{Spells}
-use Rattle.sirophan.specs.Refusals.{MatchLine}
+use Rattle.answer.specs.Refusals.{MatchLine}
 use Rattle.explain.specs.Deciding.{outerCount}
 
 -- the line about the list

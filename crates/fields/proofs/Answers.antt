@@ -31,11 +31,11 @@ use Rattle.rows.proofs.Good.{good-states, good-iff}
 use Rattle.refusal.specs.Answers.{Answer, yesOrNo}
 use Rattle.refusal.specs.Steps.{Step, found, stop, _>>=_, answer}
 use Rattle.refusal.proofs.Steps.{taken, stop-not-found}
-use Rattle.sirophan.specs.Operations.{treeStep, takeFilter, testsStep, takeSheet, Inputs, takeInputs, takeCard, Question, questionOf, matchBy, filterQuestion, matchAnswer}
-use Rattle.sirophan.specs.Preparing.{takeSize, statedStep, takeRows, judgeAnswer}
-use Rattle.sirophan.specs.Searching.{alternativesStep, QueryInputs, takeQueryInputs, questionOfQuery, searchQuestion, matchSearchAnswer}
-use Rattle.sirophan.proofs.Cards.{conforms-taken}
-use Rattle.sirophan.proofs.Inputs.{sheet-taken}
+use Rattle.answer.specs.Operations.{treeStep, takeFilter, testsStep, takeSheet, Inputs, takeInputs, takeCard, Question, questionOf, matchBy, filterQuestion, matchAnswer}
+use Rattle.answer.specs.Preparing.{takeSize, statedStep, takeRows, judgeAnswer}
+use Rattle.answer.specs.Searching.{alternativesStep, QueryInputs, takeQueryInputs, questionOfQuery, searchQuestion, matchSearchAnswer}
+use Rattle.answer.proofs.Cards.{conforms-taken}
+use Rattle.answer.proofs.Inputs.{sheet-taken}
 use Rattle.fields.specs.Used.{namesOf, queryNames, Alike}
 use Rattle.fields.proofs.Verdicts.{verdict-same, query-same}
 

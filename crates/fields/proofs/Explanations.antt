@@ -17,8 +17,8 @@ use Rattle.judge.specs.Rules.{Conforms}
 use Rattle.judge.specs.Verdicts.{filterSays}
 use Rattle.refusal.specs.Answers.{yesOrNo}
 use Rattle.refusal.specs.Steps.{Step, found, stop, _>>=_, answer}
-use Rattle.sirophan.specs.Operations.{Inputs, takeInputs, takeCard, written}
-use Rattle.sirophan.proofs.Cards.{conforms-taken}
+use Rattle.answer.specs.Operations.{Inputs, takeInputs, takeCard, written}
+use Rattle.answer.proofs.Cards.{conforms-taken}
 use Rattle.explain.specs.Deciding.{outerTests, outerCount}
 use Rattle.explain.specs.Operation.{Explanation, explanationOf, takeMarks, explaining, explainAnswer, explainCells}
 use Rattle.explain.proofs.Numbered.{explanation-same}

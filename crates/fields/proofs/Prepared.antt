@@ -13,7 +13,7 @@ use Rattle.rows.specs.Good.{Good}
 use Rattle.rows.specs.Stated.{treeOf, erase}
 use Rattle.rows.proofs.Good.{good-states}
 use Rattle.refusal.specs.Answers.{count}
-use Rattle.sirophan.specs.Preparing.{prepareAnswer, prepareCells}
+use Rattle.answer.specs.Preparing.{prepareAnswer, prepareCells}
 use Rattle.sirophan.proofs.Promises.{prepare-good}
 use Rattle.fields.specs.Used.{namesOf}
 

@@ -17,9 +17,9 @@ use Rattle.search.specs.Spelling.{Query, SpellsQuery}
 use Rattle.rows.specs.Good.{Good}
 use Rattle.rows.specs.Stated.{treeOf}
 use Rattle.refusal.specs.Answers.{yes, count}
-use Rattle.sirophan.specs.Operations.{matchAnswer}
-use Rattle.sirophan.specs.Preparing.{prepareAnswer, prepareCells, judgeAnswer}
-use Rattle.sirophan.specs.Searching.{matchSearchAnswer}
+use Rattle.answer.specs.Operations.{matchAnswer}
+use Rattle.answer.specs.Preparing.{prepareAnswer, prepareCells, judgeAnswer}
+use Rattle.answer.specs.Searching.{matchSearchAnswer}
 use Rattle.explain.specs.Operation.{explainAnswer, explainCells}
 use Rattle.fields.specs.Used.{namesOf, queryNames, Alike, ByNames, UsesOnly}
 use Rattle.fields.specs.Leaks.{AllTextsSay, OccurringSay}

@@ -52,7 +52,7 @@ use Rattle.judge.specs.Verdicts.{someValue}
 use Rattle.judge.specs.Rules.{Conforms}
 use Rattle.judge.proofs.Rules.{entries-iff}
 use Rattle.refusal.specs.Answers.{yes}
-use Rattle.sirophan.specs.Operations.{matchAnswer}
+use Rattle.answer.specs.Operations.{matchAnswer}
 use Rattle.sirophan.specs.Trial.{row, trialRows, bundleRows}
 use Rattle.sirophan.proofs.Trial.{trial-rows, bundle-rows}
 use Rattle.fields.specs.Used.{namesOf, SameUnder, UsesOnly}

@@ -10,12 +10,12 @@ use lib.Seq.{take-at}
 use Rattle.base.specs.Parts.{part}
 use Rattle.base.specs.Writing.{Puts}
 use Rattle.refusal.specs.declared.Refusal.{Refusal}
-use Rattle.sirophan.specs.declared.Selected.{Selected}
+use Rattle.answer.specs.declared.Selected.{Selected}
 use Rattle.refusal.specs.Answers.{Answer, count, refused, numberOf, refusalAnswer}
 use Rattle.refusal.specs.Steps.{Step, found, stop, answer, _>>=_}
-use Rattle.sirophan.specs.Answers.{selectedAnswer}
+use Rattle.answer.specs.Answers.{selectedAnswer}
 use Rattle.sirophan.specs.Contracts.{SelectsInto}
-use Rattle.sirophan.specs.Operations.{filterQuestion, selection, selectBy, cellsBy, written, selectAnswer}
+use Rattle.answer.specs.Operations.{filterQuestion, selection, selectBy, cellsBy, written, selectAnswer}
 use Rattle.sirophan.proofs.Promises.{select-count-within, select-place-within}
 use Rattle.pick.specs.declared.runs.Totals.{Totals}
 use Rattle.pick.specs.declared.runs.Turn.{Turn}

@@ -5,7 +5,7 @@ use mathlib.Core.Path.{_≡_}
 use mathlib.Core.List.{List}
 use lib.ListN.{length}
 use Rattle.refusal.specs.Answers.{count}
-use Rattle.sirophan.specs.Operations.{selectAnswer}
+use Rattle.answer.specs.Operations.{selectAnswer}
 use Rattle.pick.specs.declared.files.Filled.{Filled}
 use Rattle.pick.specs.declared.runs.Totals.{Totals}
 use Rattle.pick.specs.declared.runs.Turn.{Turn}

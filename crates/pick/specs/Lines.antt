@@ -6,7 +6,7 @@ use mathlib.Core.List.{List, [], _∷_, _++_}
 use lib.Dec.{ltb}
 use Rattle.base.specs.Ascii.{ascii}
 use Rattle.refusal.specs.Steps.{Step, found, stop}
-use Rattle.sirophan.specs.Operations.{filterQuestion, selection}
+use Rattle.answer.specs.Operations.{filterQuestion, selection}
 use Rattle.pick.specs.Places.{placeInFile}
 
 -- a digit in ASCII

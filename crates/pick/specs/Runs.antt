@@ -5,7 +5,7 @@ use mathlib.Core.List.{List}
 use lib.ListN.{length}
 use Rattle.base.specs.Writing.{Puts}
 use Rattle.refusal.specs.Steps.{Step, found, stop}
-use Rattle.sirophan.specs.Operations.{filterQuestion, selection}
+use Rattle.answer.specs.Operations.{filterQuestion, selection}
 use Rattle.pick.specs.declared.runs.Totals.{Totals}
 use Rattle.pick.specs.declared.runs.Turn.{Turn}
 use Rattle.pick.specs.declared.runs.RunText.{RunText}

@@ -17,8 +17,8 @@ use Rattle.base.proofs.Tests.{cond-elim}
 use Rattle.block.specs.declared.Reading.the-variants.{WellFormed}
 use Rattle.card.specs.Card.{Entry, entriesOf, readCard}
 use Rattle.judge.specs.Sets.{valuesAt}
-use Rattle.sirophan.specs.Operations.{blocks}
-use Rattle.sirophan.proofs.Runs.{blocks-length}
+use Rattle.answer.specs.Operations.{blocks}
+use Rattle.answer.proofs.Runs.{blocks-length}
 use Rattle.report.specs.Tallies.{tally, cardsWith, valuesUnder, tallies}
 use Rattle.report.specs.Steps.{raise, stepIndex, stepTally, stepped, Raisable, Ready}
 use Rattle.report.specs.declared.Tally.{Tally}

@@ -20,13 +20,14 @@ use Rattle.refusal.specs.Answers.{counts, numberOf, refusalAnswer}
 use Rattle.refusal.specs.Steps.{found, stop}
 use Rattle.refusal.specs.declared.Reason.{Reason}
 use Rattle.refusal.specs.declared.Refusal.{Refusal}
-use Rattle.sirophan.specs.Answers.{selectedAnswer}
-use Rattle.sirophan.specs.Operations.{Card, blocks, selectAnswer}
+use Rattle.answer.specs.Answers.{selectedAnswer}
+use Rattle.answer.specs.Operations.{Card, blocks, selectAnswer}
 use Rattle.sirophan.specs.Contracts.{RefusedBy, SelectsInto}
-use Rattle.sirophan.specs.declared.Selected.{Selected}
-use Rattle.sirophan.proofs.Outcomes.{cardOf}
-use Rattle.sirophan.proofs.Runs.{run-size, run-blocks}
-use Rattle.sirophan.proofs.Contracts.{Sliced, refused-by}
+use Rattle.answer.specs.declared.Selected.{Selected}
+use Rattle.answer.proofs.Outcomes.{cardOf}
+use Rattle.answer.proofs.Runs.{run-size, run-blocks}
+use Rattle.answer.proofs.Slices.{Sliced}
+use Rattle.sirophan.proofs.Contracts.{refused-by}
 use Rattle.report.specs.Operation.{reportedAnswer, Survey, takeRows, says, saying, reporting, reportAnswer, entriesIn, reportRows}
 use Rattle.report.specs.Refusals.{ReportLine}
 use Rattle.report.specs.Contracts.{Plans}

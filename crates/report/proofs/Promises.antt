@@ -14,7 +14,7 @@ use Rattle.card.specs.Card.{entriesOf}
 use Rattle.judge.specs.Rules.{Conforms}
 use Rattle.refusal.specs.Answers.{refused}
 use Rattle.refusal.specs.Order.{Decides}
-use Rattle.sirophan.specs.Selection.{Run}
+use Rattle.answer.specs.Selection.{Run}
 use Rattle.report.specs.Tallies.{tally}
 use Rattle.report.specs.Operation.{reportAnswer, reportRows}
 use Rattle.report.specs.Refusals.{ReportLine}

@@ -14,13 +14,13 @@ use Rattle.sheet.specs.Encode.{SheetBlock}
 use Rattle.card.specs.Card.{entriesOf, recordNumber}
 use Rattle.refusal.specs.Answers.{counts, refused, yesOrNo}
 use Rattle.refusal.specs.Steps.{Step, found, stop, _>>=_, answer}
-use Rattle.sirophan.specs.Operations.{Inputs, takeInputs, Card, questionOf, filterQuestion, matchAnswer, selectAnswer}
-use Rattle.sirophan.specs.Selection.{Run, matchingCards, RefusesCard}
-use Rattle.sirophan.proofs.CheckTable.{sheet-parameters}
-use Rattle.sirophan.proofs.Outcomes.{cardOf, Taken}
-use Rattle.sirophan.proofs.Inputs.{question-by}
-use Rattle.sirophan.proofs.RunTable.{run-unique}
-use Rattle.sirophan.proofs.Selection.{match-taken, matching-numbers, selects-by-match, filter-number}
+use Rattle.answer.specs.Operations.{Inputs, takeInputs, Card, questionOf, filterQuestion, matchAnswer, selectAnswer}
+use Rattle.answer.specs.Selection.{Run, matchingCards, RefusesCard}
+use Rattle.answer.proofs.CheckTable.{sheet-parameters}
+use Rattle.answer.proofs.Outcomes.{cardOf, Taken}
+use Rattle.answer.proofs.Inputs.{question-by}
+use Rattle.answer.proofs.RunTable.{run-unique}
+use Rattle.answer.proofs.Selection.{match-taken, matching-numbers, selects-by-match, filter-number}
 use Rattle.report.specs.Operation.{Survey, survey, takeRows, says, saying, verdicts, reporting, reportAnswer, entriesIn, tallied, reportRows}
 use Rattle.report.specs.Refusals.{ReportLine}
 use Rattle.report.specs.Reporting.{isNo, otherCards, rowsOf, ReportAnswers, ReportsByMatch}

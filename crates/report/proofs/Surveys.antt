@@ -16,15 +16,15 @@ use Rattle.card.specs.Card.{readCard}
 use Rattle.syntax.specs.Tree.{testsOf}
 use Rattle.refusal.specs.Answers.{count, refused}
 use Rattle.refusal.specs.Steps.{Step, found, stop, _>>=_, answer}
-use Rattle.sirophan.specs.Answers.{checkedAnswer}
-use Rattle.sirophan.specs.Operations.{checkAnswer, Inputs, takeInputs, Card, questionOf, filterQuestion, takeRun, takeCards, matching, takeRoom, selection, selectBy, selectAnswer}
-use Rattle.sirophan.specs.Passing.{Passing}
-use Rattle.sirophan.specs.Selection.{Run}
-use Rattle.sirophan.specs.declared.Checked.{Checked}
-use Rattle.sirophan.proofs.Outcomes.{cardOf, Taken, CardsOutcome, all-taken, one-stopped}
-use Rattle.sirophan.proofs.Passing.{passing, card-taken}
-use Rattle.sirophan.proofs.Runs.{run-iff}
-use Rattle.sirophan.proofs.Selection.{cards-outcome}
+use Rattle.answer.specs.Answers.{checkedAnswer}
+use Rattle.answer.specs.Operations.{checkAnswer, Inputs, takeInputs, Card, questionOf, filterQuestion, takeRun, takeCards, matching, takeRoom, selection, selectBy, selectAnswer}
+use Rattle.answer.specs.Passing.{Passing}
+use Rattle.answer.specs.Selection.{Run}
+use Rattle.answer.specs.declared.Checked.{Checked}
+use Rattle.answer.proofs.Outcomes.{cardOf, Taken, CardsOutcome, all-taken, one-stopped}
+use Rattle.answer.proofs.Passing.{passing, card-taken}
+use Rattle.answer.proofs.Runs.{run-iff}
+use Rattle.answer.proofs.Selection.{cards-outcome}
 use Rattle.report.specs.Operation.{Survey, survey, says, saying}
 
 -- ---- how many cards say yes, and how many no

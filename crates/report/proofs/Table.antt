@@ -20,10 +20,10 @@ use Rattle.refusal.specs.Steps.{Step}
 use Rattle.refusal.proofs.Answers.{counts-not-refused}
 use Rattle.refusal.proofs.Deciding.{Decided, none-holds, one-decides, decided-as, decided-then, decided-found, decided-answer}
 use Rattle.refusal.proofs.Order.{apart-at, no-lower-rank}
-use Rattle.sirophan.specs.Operations.{Card, takeCards}
-use Rattle.sirophan.specs.Refusals.{CheckLine, RunLine, CardsLine}
-use Rattle.sirophan.proofs.CheckTable.{sheet-parameters, check-group, inputs-decided}
-use Rattle.sirophan.proofs.RunTable.{run-decided, run-group, cards-group, taken-decided}
+use Rattle.answer.specs.Operations.{Card, takeCards}
+use Rattle.answer.specs.Refusals.{CheckLine, RunLine, CardsLine}
+use Rattle.answer.proofs.CheckTable.{sheet-parameters, check-group, inputs-decided}
+use Rattle.answer.proofs.RunTable.{run-decided, run-group, cards-group, taken-decided}
 use Rattle.report.specs.Operation.{Survey, survey, takeRows, verdicts, reporting, reportAnswer}
 use Rattle.report.specs.Refusals.{RowsLine, line-31, ReportLine}
 

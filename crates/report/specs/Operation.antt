@@ -9,7 +9,7 @@ use Rattle.card.specs.Card.{Entry}
 use Rattle.judge.specs.Verdicts.{filterSays}
 use Rattle.refusal.specs.Answers.{Answer, counts, refusalAnswer}
 use Rattle.refusal.specs.Steps.{Step, found, stop, _>>=_, answer}
-use Rattle.sirophan.specs.Operations.{Inputs, takeInputs, Card, takeRun, takeCards}
+use Rattle.answer.specs.Operations.{Inputs, takeInputs, Card, takeRun, takeCards}
 use Rattle.report.specs.Tallies.{tallies}
 use Rattle.report.specs.declared.Tally.{Tally}
 use Rattle.report.specs.declared.Reported.{Reported}

@@ -5,7 +5,7 @@ use mathlib.Core.Logic.{_⊎_}
 use mathlib.Core.List.{List}
 use lib.ListN.{length}
 use Rattle.sheet.specs.Encode.{SheetBlock}
-use Rattle.sirophan.specs.Refusals.{CheckLine, RunLine, CardsLine}
+use Rattle.answer.specs.Refusals.{CheckLine, RunLine, CardsLine}
 
 -- the line about the rows
 pub data RowsLine (sheet : List ℕ) (room : ℕ) : ℕ → ℕ → Type 0 where

@@ -9,8 +9,8 @@ use Rattle.sheet.specs.Sheet.{Parameter}
 use Rattle.card.specs.Card.{entriesOf}
 use Rattle.judge.specs.Sets.{valuesAt}
 use Rattle.refusal.specs.Answers.{Answer, count, counts, refused}
-use Rattle.sirophan.specs.Operations.{matchAnswer}
-use Rattle.sirophan.specs.Selection.{matchingCards, RefusesCard}
+use Rattle.answer.specs.Operations.{matchAnswer}
+use Rattle.answer.specs.Selection.{matchingCards, RefusesCard}
 use Rattle.report.specs.Tallies.{tally, tallies}
 use Rattle.report.specs.Operation.{reportAnswer, reportRows}
 use Rattle.report.specs.declared.Tally.{Tally}

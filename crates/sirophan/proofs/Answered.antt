@@ -7,12 +7,12 @@ use lib.ListN.{length}
 use Rattle.base.specs.Bytes.{Bytes}
 use Rattle.refusal.specs.Answers.{count, refused}
 use Rattle.refusal.specs.Steps.{Step, found, stop, _>>=_, answer}
-use Rattle.sirophan.specs.Operations.{Question, matchBy, filterQuestion, matchAnswer, selection, selectBy, cellsBy, selectAnswer, selectCells}
-use Rattle.sirophan.specs.Selection.{Run, matchingCards, SelectAnswers}
-use Rattle.sirophan.specs.Refusals.{SelectLine}
-use Rattle.sirophan.proofs.Outcomes.{OtherNumber}
-use Rattle.sirophan.proofs.Selection.{selects-by-match, filter-number}
-use Rattle.sirophan.proofs.SelectTable.{select-table}
+use Rattle.answer.specs.Operations.{Question, matchBy, filterQuestion, matchAnswer, selection, selectBy, cellsBy, selectAnswer, selectCells}
+use Rattle.answer.specs.Selection.{Run, matchingCards, SelectAnswers}
+use Rattle.answer.specs.Refusals.{SelectLine}
+use Rattle.answer.proofs.Outcomes.{OtherNumber}
+use Rattle.answer.proofs.Selection.{selects-by-match, filter-number}
+use Rattle.answer.proofs.SelectTable.{select-table}
 
 module _ (asked : Step Question) (other : (n p : ℕ) → asked ≡ stop n p → OtherNumber n) (cards list : List ℕ) (bs : List (List ℕ)) (run : Run cards bs) where
   answer-of : (s : Step (List ℕ)) → selection asked cards (length list) ≡ s → selectBy asked cards (length list) ≡ answer (s >>= λ ns. found (count (length ns)))

@@ -11,10 +11,10 @@ use borrow.Author.Tests.{leb-true}
 use Rattle.base.proofs.Tests.{cond-elim}
 use Rattle.refusal.specs.Answers.{count, refused}
 use Rattle.refusal.specs.Steps.{Step, found, stop, _>>=_, answer}
-use Rattle.sirophan.specs.Operations.{Question, takeRun, takeCards, matching, takeRoom, selection, selectBy}
-use Rattle.sirophan.proofs.Outcomes.{OtherNumber}
-use Rattle.sirophan.proofs.Runs.{run-iff, run-or-none}
-use Rattle.sirophan.proofs.Selection.{selects-by-match}
+use Rattle.answer.specs.Operations.{Question, takeRun, takeCards, matching, takeRoom, selection, selectBy}
+use Rattle.answer.proofs.Outcomes.{OtherNumber}
+use Rattle.answer.proofs.Runs.{run-iff, run-or-none}
+use Rattle.answer.proofs.Selection.{selects-by-match}
 
 -- the place of the refusals 21 to 23 is the index of a card of the run
 record PlaceBound (number place : ℕ) : Type 0 where

@@ -1,33 +1,30 @@
 -- The code's answers are refused by the tables: a slice holds bytes, which is all that the tables ask.
 -- Assumes nothing.
-use Prim.Native.Nat.{ℕ, _<_}
+use Prim.Native.Nat.{ℕ}
 use mathlib.Core.Path.{_≡_, sym, _∙_}
 use mathlib.Core.List.{List}
-use lib.ListN.{length, getD}
+use lib.ListN.{length}
 use Rattle.base.proofs.All.{bytes-of}
 use Rattle.refusal.specs.Answers.{Answer}
-use Rattle.sirophan.specs.Answers.{checkedAnswer, matchedAnswer, selectedAnswer}
-use Rattle.sirophan.specs.Operations.{checkAnswer, filterQuestion, matchAnswer, selectAnswer}
-use Rattle.sirophan.specs.Refusals.{CheckLine, MatchLine, SelectLine}
-use Rattle.sirophan.specs.Selecting.{Selects}
-use Rattle.sirophan.specs.Searching.{checkSearchAnswer, searchQuestion, matchSearchAnswer, selectSearchAnswer}
-use Rattle.sirophan.specs.SearchRefusals.{CheckSearchLine, MatchSearchLine, SelectSearchLine}
-use Rattle.sirophan.specs.Contracts.{RefusedBy, Checks, Matches, SelectsInto, ChecksSearch, MatchesSearch, SelectsSearchInto}
-use Rattle.sirophan.specs.declared.Checked.{Checked}
-use Rattle.sirophan.specs.declared.Matched.{Matched}
-use Rattle.sirophan.specs.declared.Selected.{Selected}
-use Rattle.sirophan.specs.declared.Prepared.{Prepared}
-use Rattle.sirophan.specs.Preparing.{prepareAnswer, judgeAnswer, preparedAnswer, Prepares}
-use Rattle.sirophan.specs.RowsRefusals.{PrepareLine, JudgeLine, PreparesInto, Judges}
-use Rattle.sirophan.proofs.CheckTable.{check-table}
-use Rattle.sirophan.proofs.MatchTable.{match-table}
-use Rattle.sirophan.proofs.SelectTable.{select-table}
+use Rattle.answer.specs.Answers.{checkedAnswer, matchedAnswer, selectedAnswer}
+use Rattle.answer.specs.Operations.{checkAnswer, filterQuestion, matchAnswer, selectAnswer}
+use Rattle.answer.specs.Refusals.{CheckLine, MatchLine, SelectLine}
+use Rattle.selecting.specs.Selecting.{Selects}
+use Rattle.answer.specs.Searching.{checkSearchAnswer, searchQuestion, matchSearchAnswer, selectSearchAnswer}
+use Rattle.answer.specs.SearchRefusals.{CheckSearchLine, MatchSearchLine, SelectSearchLine}
+use Rattle.sirophan.specs.Contracts.{RefusedBy, Checks, Matches, SelectsInto, ChecksSearch, MatchesSearch, SelectsSearchInto, PreparesInto, Judges}
+use Rattle.answer.specs.declared.Checked.{Checked}
+use Rattle.answer.specs.declared.Matched.{Matched}
+use Rattle.answer.specs.declared.Selected.{Selected}
+use Rattle.answer.specs.declared.Prepared.{Prepared}
+use Rattle.answer.specs.Preparing.{prepareAnswer, judgeAnswer, preparedAnswer, Prepares}
+use Rattle.answer.specs.RowsRefusals.{PrepareLine, JudgeLine}
+use Rattle.answer.proofs.Slices.{Sliced}
+use Rattle.answer.proofs.CheckTable.{check-table}
+use Rattle.answer.proofs.MatchTable.{match-table}
+use Rattle.answer.proofs.SelectTable.{select-table}
 use Rattle.sirophan.proofs.SearchTable.{check-search-table, match-search-table, select-search-table}
-use Rattle.sirophan.proofs.RowsTable.{prepare-table, judge-table}
-
--- what a slice's type says of its elements
-abbrev pub Sliced : List ℕ → Type 0
-Sliced s = (i : ℕ) → getD s i 0 < 256
+use Rattle.answer.proofs.RowsTable.{prepare-table, judge-table}
 
 -- the table of a definition is that of an equal answer
 pub refused-by : (Line : ℕ → ℕ → Type 0) (a b : Answer) → a ≡ b → RefusedBy Line b → RefusedBy Line a

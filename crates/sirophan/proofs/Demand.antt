@@ -15,15 +15,15 @@ use Rattle.syntax.specs.Grammar.{Spells}
 use Rattle.judge.specs.Verdicts.{filterSays}
 use Rattle.refusal.specs.Answers.{Answer, yesOrNo, count}
 use Rattle.refusal.specs.Steps.{Step, found, stop, _>>=_, answer}
-use Rattle.sirophan.specs.Operations.{testsStep, Inputs, takeCard, checkAnswer, questionOf, filterQuestion, matchAnswer}
+use Rattle.answer.specs.Operations.{testsStep, Inputs, takeCard, checkAnswer, questionOf, filterQuestion, matchAnswer}
 use Rattle.judge.specs.Rules.{Conforms, FilterSays}
-use Rattle.sirophan.specs.Verdicts.{Verdict}
-use Rattle.sirophan.specs.Demand.{TestRules, Meaningful, Demand, filterTests, MeetsDemand}
-use Rattle.sirophan.proofs.Verdicts.{verdict-by}
+use Rattle.answer.specs.Verdicts.{Verdict}
+use Rattle.answer.specs.Demand.{TestRules, Meaningful, Demand, filterTests, MeetsDemand}
+use Rattle.answer.proofs.Verdicts.{verdict-by}
 use Rattle.refusal.proofs.Answers.{count-not-refused}
-use Rattle.sirophan.proofs.Cards.{conforms-size, conforms-bytes, conforms-taken}
-use Rattle.sirophan.proofs.Outcomes.{TestsOutcome, all-mean, one-refused}
-use Rattle.sirophan.proofs.Inputs.{check-by, match-by, question-by, tests-outcome, inputs-taken}
+use Rattle.answer.proofs.Cards.{conforms-size, conforms-bytes, conforms-taken}
+use Rattle.answer.proofs.Outcomes.{TestsOutcome, all-mean, one-refused}
+use Rattle.answer.proofs.Inputs.{check-by, match-by, question-by, tests-outcome, inputs-taken}
 
 -- ---- over any kind of test: a check and a match that go by what the tests come to
 

@@ -8,10 +8,10 @@ use lib.ListN.{length}
 use Rattle.base.proofs.All.{first-unique}
 use Rattle.card.specs.Card.{Entry}
 use Rattle.refusal.specs.Answers.{Answer, count, refused}
-use Rattle.sirophan.specs.Numbers.{Numbered}
+use Rattle.answer.specs.Numbers.{Numbered}
 use Rattle.refusal.proofs.Order.{rank-unique}
-use Rattle.sirophan.specs.Verdicts.{Verdict, answers-yes, answers-no}
-use Rattle.sirophan.specs.Demand.{TestRules, Meaningful, RefusesAlike, Demand, Agree}
+use Rattle.answer.specs.Verdicts.{Verdict, answers-yes, answers-no}
+use Rattle.answer.specs.Demand.{TestRules, Meaningful, RefusesAlike, Demand, Agree}
 use Rattle.refusal.proofs.Answers.{is-count}
 
 -- the table gives a test one number

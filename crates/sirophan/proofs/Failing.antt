@@ -17,8 +17,8 @@ use Rattle.place.specs.Begins.{Begins, Longest, Number}
 use Rattle.place.specs.Machine.{failure}
 use Rattle.place.proofs.Place.{text-place, text-number, longest-unique, number-unique}
 use Rattle.refusal.specs.Answers.{refused, numberOf}
-use Rattle.sirophan.specs.Operations.{takeFilter, takeInputs, checkAnswer}
-use Rattle.sirophan.proofs.Inputs.{sheet-taken}
+use Rattle.answer.specs.Operations.{takeFilter, takeInputs, checkAnswer}
+use Rattle.answer.proofs.Inputs.{sheet-taken}
 
 reads-none : (text : List ℕ) → ((f : Tree) → Spells text f → ⊥) → read text ≡ none
 reads-none text h = go (read text) refl

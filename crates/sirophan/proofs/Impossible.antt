@@ -35,14 +35,14 @@ use Rattle.refusal.specs.declared.Reason.{Reason}
 use Rattle.judge.specs.declared.Fault.{Fault}
 use Rattle.refusal.specs.Answers.{Answer, yes, no, count, refused}
 use Rattle.refusal.specs.Steps.{found, stop}
-use Rattle.sirophan.specs.Operations.{faultStep}
+use Rattle.answer.specs.Operations.{faultStep}
 use Rattle.judge.specs.Rules.{FilterSays, Says, says-present, says-absent, says-relates, says-differs}
-use Rattle.sirophan.specs.Verdicts.{Verdict, answers-yes, answers-no}
-use Rattle.sirophan.specs.Demand.{Meaningful, RefusesAlike, filterTests, FilterDemand}
+use Rattle.answer.specs.Verdicts.{Verdict, answers-yes, answers-no}
+use Rattle.answer.specs.Demand.{Meaningful, RefusesAlike, filterTests, FilterDemand}
 use Rattle.sirophan.specs.Trial.{titleTest, codeTest}
-use Rattle.sirophan.proofs.Cards.{empty-conforms}
-use Rattle.sirophan.proofs.Outcomes.{TestOutcome, test-means, test-refused}
-use Rattle.sirophan.proofs.Faults.{outcome}
+use Rattle.answer.proofs.Cards.{empty-conforms}
+use Rattle.answer.proofs.Outcomes.{TestOutcome, test-means, test-refused}
+use Rattle.answer.proofs.Faults.{outcome}
 
 -- ---- the two filters
 

@@ -52,28 +52,26 @@ use Rattle.kind.specs.declared.Relation.{Relation}
 use Rattle.refusal.proofs.Order as order
 use Rattle.refusal.specs.Answers.{Answer, yes, no, count, refused}
 use Rattle.kind.specs.declared.DateRelation.{DateRelation}
-use Rattle.sirophan.specs.Answers.{matchedAnswer, selectedAnswer}
+use Rattle.answer.specs.Answers.{matchedAnswer, selectedAnswer}
 use Rattle.sirophan.specs.Contracts.{Matches, SelectsInto}
-use Rattle.sirophan.specs.declared.Matched.{Matched}
-use Rattle.sirophan.specs.declared.Selected.{Selected}
-use Rattle.sirophan.specs.Operations.{checkAnswer, filterQuestion, matchAnswer, selectAnswer, selectCells}
-use Rattle.kind.specs.Rules.{ReadableOnCard, ReadableValue}
-use Rattle.kind.specs.Rules.{HasOperator}
+use Rattle.answer.specs.declared.Matched.{Matched}
+use Rattle.answer.specs.declared.Selected.{Selected}
+use Rattle.answer.specs.Operations.{checkAnswer, filterQuestion, matchAnswer, selectAnswer, selectCells}
+use Rattle.kind.specs.Rules.{ReadableOnCard, ReadableValue, HasOperator, DatesStand, date-inside, StandsIn}
 use Rattle.judge.specs.Rules.{Conforms, FilterSays}
-use Rattle.kind.specs.Rules.{DatesStand, date-inside, StandsIn}
-use Rattle.sirophan.specs.Verdicts.{Verdict}
-use Rattle.sirophan.specs.Demand.{TestRules, Demand, Agree, FilterDemand, MeetsDemand}
-use Rattle.sirophan.specs.Selection.{Run, matchingCards, matchingNumbers, occurrences, bearing, SelectsByMatch, SelectAnswers}
+use Rattle.answer.specs.Verdicts.{Verdict}
+use Rattle.answer.specs.Demand.{TestRules, Demand, Agree, FilterDemand, MeetsDemand}
+use Rattle.answer.specs.Selection.{Run, matchingCards, matchingNumbers, occurrences, bearing, SelectsByMatch, SelectAnswers}
 use Rattle.refusal.specs.Order.{rank, Decides}
-use Rattle.sirophan.specs.Refusals.{CheckLine, MatchLine, SelectLine, SpellLine}
+use Rattle.answer.specs.Refusals.{CheckLine, MatchLine, SelectLine, SpellLine}
 use Rattle.sirophan.specs.Spelling.{spellAnswer, spellBytes, SpellAnswers}
 use Rattle.search.specs.Spelling.{Query, SpellsQuery}
 use Rattle.search.specs.Reader.{takeQuery}
 use Rattle.search.proofs.Reading as query-reading
 use Rattle.refusal.specs.Steps.{found}
-use Rattle.sirophan.specs.Searching.{checkSearchAnswer, searchQuestion, matchSearchAnswer, selectSearchAnswer, selectSearchCells}
-use Rattle.sirophan.specs.SearchDemand.{MeetsSearchDemand}
-use Rattle.sirophan.specs.SearchRefusals.{CheckSearchLine, MatchSearchLine, SelectSearchLine}
+use Rattle.answer.specs.Searching.{checkSearchAnswer, searchQuestion, matchSearchAnswer, selectSearchAnswer, selectSearchCells}
+use Rattle.answer.specs.SearchDemand.{MeetsSearchDemand}
+use Rattle.answer.specs.SearchRefusals.{CheckSearchLine, MatchSearchLine, SelectSearchLine}
 use Rattle.sirophan.specs.SameQuestion.{SameQuestion, AnsweredAlike}
 use Rattle.sirophan.proofs.SameQuestion as same-question
 use Rattle.sirophan.proofs.SearchDemand as search-demand
@@ -86,10 +84,10 @@ use Rattle.rows.specs.Shapes.{good}
 use Rattle.rows.specs.Stated.{treeOf}
 use Rattle.rows.proofs.Good as rows
 use Rattle.rows.proofs.Stating as stating
-use Rattle.sirophan.specs.Preparing.{prepareAnswer, prepareCells, judgeAnswer}
-use Rattle.sirophan.specs.RowsRefusals.{PrepareLine, JudgeLine, PrepareAnswers, PreparesGood, MatchIs}
-use Rattle.sirophan.proofs.RowsTable as rows-table
-use Rattle.sirophan.proofs.RowsAnswered as rows-answered
+use Rattle.answer.specs.Preparing.{prepareAnswer, prepareCells, judgeAnswer}
+use Rattle.answer.specs.RowsRefusals.{PrepareLine, JudgeLine, PrepareAnswers, PreparesGood, MatchIs}
+use Rattle.answer.proofs.RowsTable as rows-table
+use Rattle.answer.proofs.RowsAnswered as rows-answered
 use Rattle.sirophan.specs.Trial.{Row, trialRows, bundleRows, stayRows, titleTest, codeTest}
 use Rattle.sirophan.specs.Edges.{edgeCard, edgeRows}
 use Rattle.kind.proofs.Rules as rules
@@ -97,11 +95,11 @@ use Rattle.sirophan.proofs.Failing as failing
 use Rattle.sirophan.proofs.Demand as demand
 use Rattle.sirophan.proofs.Determinacy as determinacy
 use Rattle.sirophan.proofs.Impossible as impossible
-use Rattle.sirophan.proofs.Selection as selection
+use Rattle.answer.proofs.Selection as selection
 use Rattle.sirophan.proofs.Bounds as bounds
-use Rattle.sirophan.proofs.CheckTable as check-table
-use Rattle.sirophan.proofs.MatchTable as match-table
-use Rattle.sirophan.proofs.SelectTable as select-table
+use Rattle.answer.proofs.CheckTable as check-table
+use Rattle.answer.proofs.MatchTable as match-table
+use Rattle.answer.proofs.SelectTable as select-table
 use Rattle.sirophan.proofs.Answered as answered
 use Rattle.sirophan.proofs.SpellTable as spell-table
 use Rattle.sirophan.proofs.Spells as spell

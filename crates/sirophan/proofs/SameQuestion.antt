@@ -48,16 +48,16 @@ use Rattle.search.specs.Rules.{ReadableAlternative, readable-form, readable-val
 use Rattle.search.proofs.Asking.{asked-is, token-asks, never-pr}
 use Rattle.refusal.specs.Answers.{count}
 use Rattle.refusal.specs.Steps.{Step, found, _>>=_}
-use Rattle.sirophan.specs.declared.Checked.{Checked}
-use Rattle.sirophan.specs.Answers.{checkedAnswer}
-use Rattle.sirophan.specs.Operations.{Question, matchBy, selectBy, cellsBy, checkAnswer, questionOf, filterQuestion}
-use Rattle.sirophan.specs.Searching.{questionOfQuery, searchQuestion}
-use Rattle.sirophan.specs.Demand.{TestRules, Meaningful, filterTests}
-use Rattle.sirophan.specs.SearchDemand.{searchTests}
+use Rattle.answer.specs.declared.Checked.{Checked}
+use Rattle.answer.specs.Answers.{checkedAnswer}
+use Rattle.answer.specs.Operations.{Question, matchBy, selectBy, cellsBy, checkAnswer, questionOf, filterQuestion}
+use Rattle.answer.specs.Searching.{questionOfQuery, searchQuestion}
+use Rattle.answer.specs.Demand.{TestRules, Meaningful, filterTests}
+use Rattle.answer.specs.SearchDemand.{searchTests}
 use Rattle.sirophan.specs.SameQuestion.{Joined, alone, joins, AsksAlike, TestsAlike, alike-end, alike-next, PairsAlike, pairs-end, pairs-next, SameQuestion, AnsweredAlike}
-use Rattle.sirophan.proofs.Outcomes.{TestsOutcome, all-mean, one-refused}
-use Rattle.sirophan.proofs.Passing.{passing}
-use Rattle.sirophan.proofs.Inputs.{inputs-taken, tests-outcome, question-by}
+use Rattle.answer.proofs.Outcomes.{TestsOutcome, all-mean, one-refused}
+use Rattle.answer.proofs.Passing.{passing}
+use Rattle.answer.proofs.Inputs.{inputs-taken, tests-outcome, question-by}
 use Rattle.sirophan.proofs.Demand.{demand-met}
 use Rattle.sirophan.proofs.SearchFaults.{alternatives-outcome}
 use Rattle.sirophan.proofs.SearchDemand.{query-question, search-demand-met}

@@ -13,12 +13,12 @@ use Rattle.search.proofs.Reading.{query-back}
 use Rattle.search.proofs.Rules.{query-says-iff}
 use Rattle.refusal.specs.Answers.{yesOrNo, count}
 use Rattle.refusal.specs.Steps.{Step, found, stop, _>>=_, answer}
-use Rattle.sirophan.specs.Operations.{takeCard}
-use Rattle.sirophan.specs.Searching.{alternativesStep, QueryInputs, takeQueryInputs, checkSearchAnswer, questionOfQuery, searchQuestion, matchSearchAnswer}
-use Rattle.sirophan.specs.SearchDemand.{searchTests, MeetsSearchDemand}
-use Rattle.sirophan.proofs.Verdicts.{verdict-of}
+use Rattle.answer.specs.Operations.{takeCard}
+use Rattle.answer.specs.Searching.{alternativesStep, QueryInputs, takeQueryInputs, checkSearchAnswer, questionOfQuery, searchQuestion, matchSearchAnswer}
+use Rattle.answer.specs.SearchDemand.{searchTests, MeetsSearchDemand}
+use Rattle.answer.proofs.Verdicts.{verdict-of}
 use Rattle.sirophan.proofs.Demand.{demand-by}
-use Rattle.sirophan.proofs.Inputs.{match-by, sheet-taken}
+use Rattle.answer.proofs.Inputs.{match-by, sheet-taken}
 use Rattle.sirophan.proofs.SearchFaults.{alternatives-outcome}
 
 module _ (sheet text : List ℕ) (s : SheetBlock sheet) (q : Query) (spells : SpellsQuery text q) where

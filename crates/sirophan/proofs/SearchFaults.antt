@@ -39,13 +39,13 @@ use Rattle.search.specs.Rules.{ReadableAlternative, readable-form, readable-val
 use Rattle.search.proofs.Asking.{asked-is, token-asks, asked-there, never-pr, asked-supported}
 use Rattle.refusal.specs.Order.{rank}
 use Rattle.refusal.specs.Steps.{_>>=_}
-use Rattle.sirophan.specs.Operations.{faultStep}
-use Rattle.sirophan.specs.Searching.{alternativesStep}
-use Rattle.sirophan.specs.Numbers.{Numbered}
-use Rattle.sirophan.specs.SearchDemand.{searchTests}
-use Rattle.sirophan.proofs.Cards.{empty-conforms, one-entry, one-entry-conforms, one-entry-value}
-use Rattle.sirophan.proofs.Outcomes.{Refused, TestOutcome, test-means, test-refused, TestsOutcome, all-mean}
-use Rattle.sirophan.proofs.Inputs.{step-or-else, outcome-next}
+use Rattle.answer.specs.Operations.{faultStep}
+use Rattle.answer.specs.Searching.{alternativesStep}
+use Rattle.answer.specs.Numbers.{Numbered}
+use Rattle.answer.specs.SearchDemand.{searchTests}
+use Rattle.answer.proofs.Cards.{empty-conforms, one-entry, one-entry-conforms, one-entry-value}
+use Rattle.answer.proofs.Outcomes.{Refused, TestOutcome, test-means, test-refused, TestsOutcome, all-mean}
+use Rattle.answer.proofs.Inputs.{step-or-else, outcome-next}
 
 token-has : HasOperator token eq
 token-has = operator-of-row token-eq

@@ -33,18 +33,18 @@ use Rattle.refusal.proofs.Steps.{stop-not-found}
 use Rattle.refusal.proofs.Answers.{count-not-refused}
 use Rattle.refusal.proofs.Deciding.{Decided, none-holds, one-decides, decided-as, decided-then, decided-found, decided-answer}
 use Rattle.refusal.proofs.Order.{apart-at, no-lower-rank}
-use Rattle.sirophan.specs.Operations.{takeSheet, faultStep}
-use Rattle.sirophan.specs.Refusals.{SheetLine}
-use Rattle.sirophan.specs.Searching.{alternativesStep, QueryInputs, takeQueryInputs, checkSearchAnswer, questionOfQuery, searchQuestion, matchSearchAnswer, selectSearchAnswer, selectSearchCells}
-use Rattle.sirophan.specs.Selection.{Run, SelectAnswers}
-use Rattle.sirophan.specs.SearchDemand.{searchTests}
-use Rattle.sirophan.specs.SearchRefusals.{FirstLine, AlternativesLine, line-of-alternative, CheckSearchLine, MatchSearchLine, SelectSearchLine}
-use Rattle.sirophan.proofs.Outcomes.{TestOutcome, test-means, test-refused, OtherNumber, AtMost, found-at-most, stop-at-most}
+use Rattle.answer.specs.Operations.{takeSheet, faultStep}
+use Rattle.answer.specs.Refusals.{SheetLine}
+use Rattle.answer.specs.Searching.{alternativesStep, QueryInputs, takeQueryInputs, checkSearchAnswer, questionOfQuery, searchQuestion, matchSearchAnswer, selectSearchAnswer, selectSearchCells}
+use Rattle.answer.specs.Selection.{Run, SelectAnswers}
+use Rattle.answer.specs.SearchDemand.{searchTests}
+use Rattle.answer.specs.SearchRefusals.{FirstLine, AlternativesLine, line-of-alternative, CheckSearchLine, MatchSearchLine, SelectSearchLine}
+use Rattle.answer.proofs.Outcomes.{TestOutcome, test-means, test-refused, OtherNumber, AtMost, found-at-most, stop-at-most}
 use Rattle.sirophan.proofs.Answered.{select-answered-by}
-use Rattle.sirophan.proofs.CheckTable.{sheet-parameters, sheet-decided, sheet-group}
-use Rattle.sirophan.proofs.MatchTable.{AskedOn, match-table-by}
-use Rattle.sirophan.proofs.SelectTable.{select-table-by}
-use Rattle.sirophan.proofs.Inputs.{at-most-then, at-most-number, sheet-at-most, kind-at-most}
+use Rattle.answer.proofs.CheckTable.{sheet-parameters, sheet-decided, sheet-group}
+use Rattle.answer.proofs.MatchTable.{AskedOn, match-table-by}
+use Rattle.answer.proofs.SelectTable.{select-table-by}
+use Rattle.answer.proofs.Inputs.{at-most-then, at-most-number, sheet-at-most, kind-at-most}
 use Rattle.sirophan.proofs.SearchFaults.{alternative-outcome, alternatives-next}
 
 -- ---- the numbers of these refusals

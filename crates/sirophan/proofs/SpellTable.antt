@@ -19,9 +19,9 @@ use Rattle.refusal.specs.Order.{group, Before, Decides}
 use Rattle.refusal.proofs.Answers.{count-not-refused}
 use Rattle.refusal.proofs.Deciding.{Decided, none-holds, one-decides, decided-then, decided-found, decided-answer}
 use Rattle.refusal.proofs.Order.{apart-at, before-itself}
-use Rattle.sirophan.specs.Refusals.{TextLine, line-10, line-11, BufferLine, line-32, SpellLine}
+use Rattle.answer.specs.Refusals.{TextLine, line-10, line-11, BufferLine, line-32, SpellLine}
 use Rattle.sirophan.specs.Spelling.{takeBuffer, spelling, spellAnswer}
-use Rattle.sirophan.proofs.CheckTable.{number-group, text-decided}
+use Rattle.answer.proofs.CheckTable.{number-group, text-decided}
 
 module _ (text : List ℕ) (from room : ℕ) where
   -- what is written: the plain spelling of the text's tree

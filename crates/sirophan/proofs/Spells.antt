@@ -22,8 +22,8 @@ use Rattle.refusal.specs.declared.Refusal.{Refusal}
 use Rattle.refusal.specs.Answers.{count, refused, refusalAnswer}
 use Rattle.refusal.specs.Steps.{Step, found, stop, _>>=_, answer}
 use Rattle.sirophan.specs.Answers.{spelledAnswer}
-use Rattle.sirophan.specs.Operations.{treeStep, takeFilter}
-use Rattle.sirophan.specs.Refusals.{SpellLine}
+use Rattle.answer.specs.Operations.{treeStep, takeFilter}
+use Rattle.answer.specs.Refusals.{SpellLine}
 use Rattle.sirophan.specs.Contracts.{SpellsInto}
 use Rattle.sirophan.specs.Spelling.{takeBuffer, spelling, spellAnswer, putInto, spellBytes, outcomeAnswer, SpellsAs, SpellAnswers}
 use Rattle.sirophan.specs.declared.Spelled.{Spelled}

@@ -48,7 +48,7 @@ use Rattle.judge.specs.Sets.{lookup, valuesAt, ofOccurrence, keep, entryConform
 use Rattle.judge.specs.Faults.{unsupported, kindFault, testFault, firstFault}
 use Rattle.judge.specs.Verdicts.{someValue, isEmpty, saysOf, testSays, filterSays}
 use Rattle.refusal.specs.Answers.{Answer}
-use Rattle.sirophan.specs.Operations.{takeSheet, takeFilter, testsStep, takeInputs, takeCard, matchBy, filterQuestion, matchAnswer}
+use Rattle.answer.specs.Operations.{takeSheet, takeFilter, testsStep, takeInputs, takeCard, matchBy, filterQuestion, matchAnswer}
 use Rattle.sirophan.specs.Edges.{edgeCard, edgeRows}
 use Rattle.sirophan.specs.Trial.{Row, trialRows, bundleRows, stayRows}
 

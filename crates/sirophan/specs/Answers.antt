@@ -1,23 +1,7 @@
--- The answer of document 01 that each case of the code's enums gives.
+-- The answer of document 01 that each case of spell's enum gives.
 -- Assumes nothing.
-use Rattle.refusal.specs.Answers.{Answer, yes, no, count, refusalAnswer}
-use Rattle.sirophan.specs.declared.Checked.{Checked}
-use Rattle.sirophan.specs.declared.Matched.{Matched}
-use Rattle.sirophan.specs.declared.Selected.{Selected}
+use Rattle.refusal.specs.Answers.{Answer, count, refusalAnswer}
 use Rattle.sirophan.specs.declared.Spelled.{Spelled}
-
-unfoldable pub checkedAnswer : Checked → Answer
-checkedAnswer (Checked.Tests n) = count n
-checkedAnswer (Checked.Refused r) = refusalAnswer r
-
-unfoldable pub matchedAnswer : Matched → Answer
-matchedAnswer Matched.Yes = yes
-matchedAnswer Matched.No = no
-matchedAnswer (Matched.Refused r) = refusalAnswer r
-
-unfoldable pub selectedAnswer : Selected → Answer
-selectedAnswer (Selected.Count n) = count n
-selectedAnswer (Selected.Refused r) = refusalAnswer r
 
 unfoldable pub spelledAnswer : Spelled → Answer
 spelledAnswer (Spelled.Length n) = count n

@@ -6,16 +6,20 @@ use mathlib.Core.Logic.{_↔_}
 use mathlib.Core.List.{List}
 use lib.ListN.{length}
 use Rattle.refusal.specs.Answers.{Answer, refused}
-use Rattle.sirophan.specs.Answers.{checkedAnswer, matchedAnswer, selectedAnswer, spelledAnswer}
-use Rattle.sirophan.specs.Operations.{checkAnswer, matchAnswer, selectAnswer, selectCells}
+use Rattle.answer.specs.Answers.{checkedAnswer, matchedAnswer, selectedAnswer}
+use Rattle.sirophan.specs.Answers.{spelledAnswer}
+use Rattle.answer.specs.Operations.{checkAnswer, matchAnswer, selectAnswer, selectCells}
 use Rattle.sirophan.specs.Spelling.{spellAnswer, spellBytes}
 use Rattle.refusal.specs.Order.{Decides}
-use Rattle.sirophan.specs.Refusals.{CheckLine, MatchLine, SelectLine, SpellLine}
-use Rattle.sirophan.specs.Searching.{checkSearchAnswer, matchSearchAnswer, selectSearchAnswer, selectSearchCells}
-use Rattle.sirophan.specs.SearchRefusals.{CheckSearchLine, MatchSearchLine, SelectSearchLine}
-use Rattle.sirophan.specs.declared.Checked.{Checked}
-use Rattle.sirophan.specs.declared.Matched.{Matched}
-use Rattle.sirophan.specs.declared.Selected.{Selected}
+use Rattle.answer.specs.Refusals.{CheckLine, MatchLine, SelectLine, SpellLine}
+use Rattle.answer.specs.Searching.{checkSearchAnswer, matchSearchAnswer, selectSearchAnswer, selectSearchCells}
+use Rattle.answer.specs.SearchRefusals.{CheckSearchLine, MatchSearchLine, SelectSearchLine}
+use Rattle.answer.specs.Preparing.{prepareAnswer, prepareCells, judgeAnswer, preparedAnswer}
+use Rattle.answer.specs.RowsRefusals.{PrepareLine, JudgeLine}
+use Rattle.answer.specs.declared.Checked.{Checked}
+use Rattle.answer.specs.declared.Matched.{Matched}
+use Rattle.answer.specs.declared.Prepared.{Prepared}
+use Rattle.answer.specs.declared.Selected.{Selected}
 use Rattle.sirophan.specs.declared.Spelled.{Spelled}
 
 -- the answer is refused with a number and a place exactly where that line of the table holds and none before it does
@@ -56,3 +60,14 @@ pub record SelectsSearchInto (sheet text cards list : List ℕ) (r : Selected) (
   pub answers : selectedAnswer r ≡ selectSearchAnswer sheet text cards (length list)
   pub cells : exit ≡ selectSearchCells sheet text cards list
   pub refuses : RefusedBy (SelectSearchLine sheet text cards (length list)) (selectedAnswer r)
+
+-- ---- by rows
+
+pub record PreparesInto (sheet text list : List ℕ) (r : Prepared) (exit : List ℕ) : Type 0 where
+  pub answers : preparedAnswer r ≡ prepareAnswer sheet text (length list)
+  pub cells : exit ≡ prepareCells sheet text list
+  pub refuses : RefusedBy (PrepareLine sheet text (length list)) (preparedAnswer r)
+
+pub record Judges (sheet text cells card : List ℕ) (r : Matched) : Type 0 where
+  pub answers : matchedAnswer r ≡ judgeAnswer sheet text cells card
+  pub refuses : RefusedBy (JudgeLine sheet text cells card) (matchedAnswer r)

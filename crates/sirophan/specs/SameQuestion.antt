@@ -13,8 +13,8 @@ use Rattle.syntax.specs.Tree.{name, Test, Connective, and, or, Tree, test, join
 use Rattle.judge.specs.Rules.{Names}
 use Rattle.search.specs.Spelling.{Alternative, Query}
 use Rattle.search.specs.Asking.{AskedBy}
-use Rattle.sirophan.specs.Operations.{checkAnswer, matchAnswer, selectAnswer, selectCells}
-use Rattle.sirophan.specs.Searching.{checkSearchAnswer, matchSearchAnswer, selectSearchAnswer, selectSearchCells}
+use Rattle.answer.specs.Operations.{checkAnswer, matchAnswer, selectAnswer, selectCells}
+use Rattle.answer.specs.Searching.{checkSearchAnswer, matchSearchAnswer, selectSearchAnswer, selectSearchCells}
 
 -- trees joined by a connective, however bracketed
 pub data Joined (c : Connective) : List Tree → Tree → Type 0 where

@@ -11,7 +11,7 @@ use Rattle.spell.specs.declared.Outcome.{Outcome}
 use Rattle.refusal.specs.Answers.{Answer, count, refusalAnswer}
 use Rattle.refusal.specs.Steps.{Step, found, stop, _>>=_, answer}
 use Rattle.sirophan.specs.Answers.{spelledAnswer}
-use Rattle.sirophan.specs.Operations.{takeFilter}
+use Rattle.answer.specs.Operations.{takeFilter}
 use Rattle.sirophan.specs.declared.Spelled.{Spelled}
 
 -- 32: "when it would run past the buffer's end, place its length"

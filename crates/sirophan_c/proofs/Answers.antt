@@ -5,18 +5,19 @@ use mathlib.Core.Path.{_≡_, sym, ap, _∙_}
 use mathlib.Core.List.{List}
 use Rattle.refusal.specs.Answers as paper
 use Rattle.refusal.specs.Answers.{numberOf, refusalAnswer}
-use Rattle.sirophan.specs.Answers.{checkedAnswer, matchedAnswer, selectedAnswer, spelledAnswer}
+use Rattle.answer.specs.Answers.{checkedAnswer, matchedAnswer, selectedAnswer}
+use Rattle.sirophan.specs.Answers.{spelledAnswer}
 use Rattle.refusal.specs.declared.Refusal.{Refusal}
-use Rattle.sirophan.specs.declared.Checked.{Checked}
-use Rattle.sirophan.specs.declared.Matched.{Matched}
-use Rattle.sirophan.specs.declared.Selected.{Selected}
+use Rattle.answer.specs.declared.Checked.{Checked}
+use Rattle.answer.specs.declared.Matched.{Matched}
+use Rattle.answer.specs.declared.Selected.{Selected}
 use Rattle.sirophan.specs.declared.Spelled.{Spelled}
 use Rattle.report.specs.Operation.{reportedAnswer}
 use Rattle.report.specs.Contracts.{Reports}
 use Rattle.report.specs.declared.Tally.{Tally}
 use Rattle.report.specs.declared.Reported.{Reported}
-use Rattle.sirophan.specs.declared.Prepared.{Prepared}
-use Rattle.sirophan.specs.Preparing.{preparedAnswer}
+use Rattle.answer.specs.declared.Prepared.{Prepared}
+use Rattle.answer.specs.Preparing.{preparedAnswer}
 use Rattle.sirophan_c.specs.declared.Answer.{Answer}
 use Rattle.sirophan_c.specs.declared.Counts.{Counts}
 use Rattle.sirophan_c.specs.Answers.{answer, told, countsOf, toldCounts}

@@ -3,7 +3,7 @@
 use Prim.Native.Nat.{ℕ}
 use mathlib.Core.Path.{_≡_}
 use borrow.Author.Tests.{eq-eqb, ne-eqb}
-use Rattle.sirophan.specs.declared.Engine.{Engine}
+use Rattle.answer.specs.declared.Engine.{Engine}
 use Rattle.sirophan_c.specs.Engines.{engineOf}
 
 module _ (n : ℕ) where

@@ -3,7 +3,7 @@
 use Prim.Native.Nat.{ℕ}
 use mathlib.Core.Bool.{cond}
 use lib.Dec.{eqb}
-use Rattle.sirophan.specs.declared.Engine.{Engine}
+use Rattle.answer.specs.declared.Engine.{Engine}
 
 -- 1 is the engine over the text, and any other number that of rows
 unfoldable pub engineOf : ℕ → Engine

@@ -5,11 +5,11 @@ use Rattle.sirophan.proofs.Contracts.{checks}
 use Rattle.sirophan.proofs.operations.check.Statement.{statement}
 use Rattle.sirophan.proofs.operations.check.Tie as tie
 
-check-bytes-requires : tie.Need-check-bytes-requires
-check-bytes-requires c κs = search needs
+check-requires : tie.Need-check-requires
+check-requires c κs = search needs
 
 returns : tie.Need-returns
-returns c = checks _ _ _ (c .check-bytes .ensures) (λ i. omega (arith, c .before .before .shared-slice-known .given i))
+returns c = checks _ _ _ (c .check .ensures) (λ i. omega (arith, c .before .before .shared-slice-known .given i))
 
 pub check-spec : {M : Type 1} → statement M
-check-spec = tie.close (tie.spec check-bytes-requires returns)
+check-spec = tie.close (tie.spec check-requires returns)

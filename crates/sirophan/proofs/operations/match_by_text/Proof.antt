@@ -5,11 +5,11 @@ use Rattle.sirophan.proofs.Contracts.{matches}
 use Rattle.sirophan.proofs.operations.match_by_text.Statement.{statement}
 use Rattle.sirophan.proofs.operations.match_by_text.Tie as tie
 
-match-by-text-bytes-requires : tie.Need-match-by-text-bytes-requires
-match-by-text-bytes-requires c κs = search needs
+match-by-text-requires : tie.Need-match-by-text-requires
+match-by-text-requires c κs = search needs
 
 returns : tie.Need-returns
-returns c = matches _ _ _ _ (c .match-by-text-bytes .ensures) (λ i. omega (arith, c .before .before .before .shared-slice-known .given i)) (λ i. omega (arith, c .before .shared-slice-known3 .given i))
+returns c = matches _ _ _ _ (c .match-by-text .ensures) (λ i. omega (arith, c .before .before .before .shared-slice-known .given i)) (λ i. omega (arith, c .before .shared-slice-known3 .given i))
 
 pub match-by-text-spec : {M : Type 1} → statement M
-match-by-text-spec = tie.close (tie.spec match-by-text-bytes-requires returns)
+match-by-text-spec = tie.close (tie.spec match-by-text-requires returns)

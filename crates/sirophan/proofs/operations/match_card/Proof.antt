@@ -5,11 +5,11 @@ use Rattle.sirophan.proofs.Contracts.{matches}
 use Rattle.sirophan.proofs.operations.match_card.Statement.{statement}
 use Rattle.sirophan.proofs.operations.match_card.Tie as tie
 
-match-bytes-requires : tie.Need-match-bytes-requires
-match-bytes-requires c κs = search needs
+match-card-requires : tie.Need-match-card-requires
+match-card-requires c κs = search needs
 
 returns : tie.Need-returns
-returns c = matches _ _ _ _ (c .match-bytes .ensures) (λ i. omega (arith, c .before .before .before .shared-slice-known .given i)) (λ i. omega (arith, c .before .shared-slice-known3 .given i))
+returns c = matches _ _ _ _ (c .match-card .ensures) (λ i. omega (arith, c .before .before .before .shared-slice-known .given i)) (λ i. omega (arith, c .before .shared-slice-known3 .given i))
 
 pub match-card-spec : {M : Type 1} → statement M
-match-card-spec = tie.close (tie.spec match-bytes-requires returns)
+match-card-spec = tie.close (tie.spec match-card-requires returns)

@@ -5,11 +5,11 @@ use Rattle.sirophan.proofs.Contracts.{matches-search}
 use Rattle.sirophan.proofs.operations.match_search.Statement.{statement}
 use Rattle.sirophan.proofs.operations.match_search.Tie as tie
 
-match-search-bytes-requires : tie.Need-match-search-bytes-requires
-match-search-bytes-requires c κs = search needs
+match-search-requires : tie.Need-match-search-requires
+match-search-requires c κs = search needs
 
 returns : tie.Need-returns
-returns c = matches-search _ _ _ _ (c .match-search-bytes .ensures) (λ i. omega (arith, c .before .before .before .shared-slice-known .given i)) (λ i. omega (arith, c .before .shared-slice-known3 .given i))
+returns c = matches-search _ _ _ _ (c .match-search .ensures) (λ i. omega (arith, c .before .before .before .shared-slice-known .given i)) (λ i. omega (arith, c .before .shared-slice-known3 .given i))
 
 pub match-search-spec : {M : Type 1} → statement M
-match-search-spec = tie.close (tie.spec match-search-bytes-requires returns)
+match-search-spec = tie.close (tie.spec match-search-requires returns)

@@ -5,14 +5,14 @@ use Rattle.sirophan.proofs.Contracts.{prepares-into}
 use Rattle.sirophan.proofs.operations.prepare.Statement.{statement}
 use Rattle.sirophan.proofs.operations.prepare.Tie as tie
 
-prepare-bytes-requires : tie.Need-prepare-bytes-requires
-prepare-bytes-requires c κs = search needs
+prepare-requires : tie.Need-prepare-requires
+prepare-requires c κs = search needs
 
 same-length : tie.Need-same-length
 same-length c = search needs
 
 returns : tie.Need-returns
-returns c = prepares-into _ _ _ _ _ (c .before .before .prepare-bytes .ensures) (λ i. omega (arith, c .before .before .before .before .before .before .shared-slice-known .given i))
+returns c = prepares-into _ _ _ _ _ (c .before .before .prepare .ensures) (λ i. omega (arith, c .before .before .before .before .before .before .shared-slice-known .given i))
 
 pub prepare-spec : {M : Type 1} → statement M
-prepare-spec = tie.close (tie.spec prepare-bytes-requires same-length returns)
+prepare-spec = tie.close (tie.spec prepare-requires same-length returns)

@@ -5,14 +5,14 @@ use Rattle.sirophan.proofs.Contracts.{selects-into}
 use Rattle.sirophan.proofs.operations.select_by.Statement.{statement}
 use Rattle.sirophan.proofs.operations.select_by.Tie as tie
 
-select-bytes-requires : tie.Need-select-bytes-requires
-select-bytes-requires c κs = search needs
+select-by-requires : tie.Need-select-by-requires
+select-by-requires c κs = search needs
 
 same-length : tie.Need-same-length
 same-length c = search needs
 
 returns : tie.Need-returns
-returns c = selects-into _ _ _ _ _ _ (c .before .before .select-bytes .ensures) (λ i. omega (arith, c .before .before .before .before .before .before .before .shared-slice-known .given i)) (λ i. omega (arith, c .before .before .before .before .before .shared-slice-known3 .given i))
+returns c = selects-into _ _ _ _ _ _ (c .before .before .select-by .ensures) (λ i. omega (arith, c .before .before .before .before .before .before .before .shared-slice-known .given i)) (λ i. omega (arith, c .before .before .before .before .before .shared-slice-known3 .given i))
 
 pub select-by-spec : {M : Type 1} → statement M
-select-by-spec = tie.close (tie.spec select-bytes-requires same-length returns)
+select-by-spec = tie.close (tie.spec select-by-requires same-length returns)

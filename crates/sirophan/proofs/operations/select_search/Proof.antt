@@ -5,14 +5,14 @@ use Rattle.sirophan.proofs.Contracts.{selects-search-into}
 use Rattle.sirophan.proofs.operations.select_search.Statement.{statement}
 use Rattle.sirophan.proofs.operations.select_search.Tie as tie
 
-select-search-bytes-requires : tie.Need-select-search-bytes-requires
-select-search-bytes-requires c κs = search needs
+select-search-requires : tie.Need-select-search-requires
+select-search-requires c κs = search needs
 
 same-length : tie.Need-same-length
 same-length c = search needs
 
 returns : tie.Need-returns
-returns c = selects-search-into _ _ _ _ _ _ (c .before .before .select-search-bytes .ensures) (λ i. omega (arith, c .before .before .before .before .before .before .before .shared-slice-known .given i)) (λ i. omega (arith, c .before .before .before .before .before .shared-slice-known3 .given i))
+returns c = selects-search-into _ _ _ _ _ _ (c .before .before .select-search .ensures) (λ i. omega (arith, c .before .before .before .before .before .before .before .shared-slice-known .given i)) (λ i. omega (arith, c .before .before .before .before .before .shared-slice-known3 .given i))
 
 pub select-search-spec : {M : Type 1} → statement M
-select-search-spec = tie.close (tie.spec select-search-bytes-requires same-length returns)
+select-search-spec = tie.close (tie.spec select-search-requires same-length returns)

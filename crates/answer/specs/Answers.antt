@@ -1,0 +1,19 @@
+-- The answer of document 01 that each case of the code's enums gives.
+-- Assumes nothing.
+use Rattle.refusal.specs.Answers.{Answer, yes, no, count, refusalAnswer}
+use Rattle.answer.specs.declared.Checked.{Checked}
+use Rattle.answer.specs.declared.Matched.{Matched}
+use Rattle.answer.specs.declared.Selected.{Selected}
+
+unfoldable pub checkedAnswer : Checked → Answer
+checkedAnswer (Checked.Tests n) = count n
+checkedAnswer (Checked.Refused r) = refusalAnswer r
+
+unfoldable pub matchedAnswer : Matched → Answer
+matchedAnswer Matched.Yes = yes
+matchedAnswer Matched.No = no
+matchedAnswer (Matched.Refused r) = refusalAnswer r
+
+unfoldable pub selectedAnswer : Selected → Answer
+selectedAnswer (Selected.Count n) = count n
+selectedAnswer (Selected.Refused r) = refusalAnswer r

@@ -1,0 +1,96 @@
+// Check: a sheet and a filter are read, and the first refusal in the order of the table decides.
+use answer::Checked;
+use block::Reading;
+use filter::Spot;
+use filter::Summary;
+use filter::Walked;
+use filter::check_filter;
+use judge::Fault;
+use place::find_failure;
+use refusal::Reason;
+use refusal::Refusal;
+use syntax::scan::skip;
+ghost use mathlib.Core.Path.{_≡_};
+ghost use Rattle.sheet.specs.Sheet.{parametersOf, readSheet};
+ghost use Rattle.syntax.specs.Grammar.{deepest, mostTests};
+ghost use Rattle.place.specs.Machine.{failure};
+ghost use Rattle.refusal.specs.Answers.{refused, numberOf, refusalAnswer};
+ghost use Rattle.answer.specs.Answers.{checkedAnswer};
+ghost use Rattle.answer.specs.Passing.{summaryAnswer};
+ghost use Rattle.answer.specs.Operations.{filterAnswer, checkAnswer};
+
+// A refusal as check's answer.
+pub fn refuse(reason: Reason, place: usize) -> Checked
+    ensures { λ r. ⌜ checkedAnswer r ≡ refused (numberOf reason) place ⌝ }
+{
+    Checked::Refused(Refusal { reason, place })
+}
+
+// The answer for a text that is a filter: the first fault, or the number of tests.
+pub fn outcome(summary: Summary) -> Checked
+    ensures { λ r. ⌜ checkedAnswer r ≡ summaryAnswer summary ⌝ }
+{
+    let first = summary.first;
+    let fault = first.fault;
+    match fault {
+        Fault::Nothing => Checked::Tests(summary.tests),
+        Fault::Because(reason) => refuse(reason, first.position),
+    }
+}
+
+// The answer for a text that is no filter.
+pub fn no_filter(filter: &[u8]) -> Checked
+    ensures { λ r. ⌜ checkedAnswer r ≡ refusalAnswer (failure deepest mostTests (now (filter .entry))) ⌝ }
+{
+    Checked::Refused(find_failure(filter))
+}
+
+// The filter on a well-formed sheet.
+fn check_text(sheet: &[u8], filter: &[u8]) -> Checked
+    requires { ⌜ readSheet (now sheet) ≡ Reading.WellFormed ⌝ }
+    ensures { λ r. ⌜ checkedAnswer r ≡ filterAnswer (parametersOf (now (sheet .entry))) (now (filter .entry)) ⌝ }
+{
+    if filter.len() == 0 {
+        return refuse(Reason::FilterSize, 0);
+    }
+    if filter.len() > 1024 {
+        return refuse(Reason::FilterSize, 0);
+    }
+    let start = skip(filter, 0);
+    let walked = check_filter(
+        sheet,
+        filter,
+        Spot {
+            at: start,
+            deep: 8,
+            close: b')',
+            bundle: 0,
+        },
+    );
+    match walked {
+        Walked::Done(end, summary) => {
+            let after = skip(filter, end);
+            if after != filter.len() {
+                return no_filter(filter);
+            }
+            if summary.tests > 32 {
+                return no_filter(filter);
+            }
+            outcome(summary)
+        }
+        Walked::Nothing => no_filter(filter),
+    }
+}
+
+// How many tests a filter has, where every test has a meaning on every card that fits the sheet; or why not, and where.
+pub fn check(sheet: &[u8], filter: &[u8]) -> Checked
+    ensures { λ r. ⌜ checkedAnswer r ≡ checkAnswer (now (sheet .entry)) (now (filter .entry)) ⌝ }
+{
+    let reading = sheet::read_sheet(sheet);
+    match reading {
+        Reading::WellFormed => check_text(sheet, filter),
+        Reading::WrongSize => refuse(Reason::SheetSize, 0),
+        Reading::WrongSum => refuse(Reason::SheetSum, 0),
+        Reading::WrongLayout => refuse(Reason::SheetLayout, 0),
+    }
+}

@@ -1,0 +1,4 @@
+-- The laws that the proofs of match and judge cite.
+pub mod Judging
+pub mod RowsJudged
+pub mod RowsMatched

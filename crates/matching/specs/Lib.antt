@@ -1,0 +1,2 @@
+-- What the parts of match answer.
+pub mod OneCard

@@ -1,0 +1,257 @@
+-- Prepare, as the code comes to its answer and its cells.
+-- Assumes nothing.
+use Prim.Native.Nat.{ℕ, _+_, _-_, _≤_, _<_}
+use native.Mathlib.Omega.{arith}
+use mathlib.Core.Path.{_≡_, refl, sym, ap, _∙_}
+use mathlib.Core.Option.{Option, none, some}
+use mathlib.Core.List.{List, _++_}
+use lib.ListN.{length, take, drop}
+use lib.Seq.{length-take-le}
+use borrow.Author.Tests.{eq-eqb, ne-eqb, lt-ltb, le-ltb, le-leb, lt-leb}
+use Rattle.base.specs.Runs.{RunEnd}
+use Rattle.base.specs.Parts.{part}
+use Rattle.block.specs.declared.Reading.{Reading}
+use Rattle.sheet.specs.Sheet.{Parameter, parametersOf, readSheet}
+use Rattle.syntax.specs.Tree.{Tree, testsOf}
+use Rattle.syntax.specs.Scan.{isSpace}
+use Rattle.syntax.specs.Grammar.{round, deepest, mostTests}
+use Rattle.syntax.specs.Reader.{parsed, filterAt, whole, read}
+use Rattle.place.specs.Machine.{failure}
+use Rattle.judge.specs.Faults.{firstFault}
+use Rattle.judge.specs.declared.Fault.{Fault}
+use Rattle.filter.specs.declared.Summary.{Summary}
+use Rattle.rows.specs.Writing.{cellCount, Wrote}
+use Rattle.rows.specs.declared.Outcome.{Outcome}
+use Rattle.rows.specs.declared.Written.{Written}
+use Rattle.rows.proofs.Writing as writing
+use Rattle.refusal.specs.declared.Reason.{Reason}
+use Rattle.refusal.specs.declared.Refusal.{Refusal}
+use Rattle.refusal.specs.Answers.{Answer, count, refused, numberOf, refusalAnswer}
+use Rattle.refusal.specs.Steps.{Step, found, stop, _>>=_, answer}
+use Rattle.answer.specs.Answers.{checkedAnswer}
+use Rattle.answer.specs.Operations.{treeStep, takeFilter, faultStep, testsStep, sheetStep, takeSheet, Inputs, takeInputs, written}
+use Rattle.answer.specs.Passing.{summaryAnswer}
+use Rattle.answer.specs.Preparing.{rowCells, takeCells, preparation, prepareAnswer, prepareCells, preparedAnswer, filledStep, textRows, FillsText, Fills, Prepares}
+use Rattle.answer.specs.declared.Checked.{Checked}
+use Rattle.answer.specs.declared.Prepared.{Prepared}
+
+-- ---- refusals
+
+pub handed-tests : (c : Checked) (n : ℕ) → c ≡ Checked.Tests n → preparedAnswer (Prepared.Cells n) ≡ checkedAnswer c
+unfolding preparedAnswer checkedAnswer
+handed-tests c n e = sym (ap checkedAnswer e)
+
+pub handed-refusal : (c : Checked) (r : Refusal) → c ≡ Checked.Refused r → preparedAnswer (Prepared.Refused r) ≡ checkedAnswer c
+unfolding preparedAnswer checkedAnswer
+handed-refusal c r e = sym (ap checkedAnswer e)
+
+refused-step : (r : Prepared) (buffer : List ℕ) (n p : ℕ) → preparedAnswer r ≡ refused n p → filledStep r buffer ≡ stop n p
+unfolding preparedAnswer refusalAnswer
+refused-step (Prepared.Cells k) buffer n p e = let z : _≡_ {A = ℕ} 0 1 = cc in absurd (omega arith)
+refused-step (Prepared.Refused r) buffer n p e =
+    let number : numberOf (r .reason) ≡ n = cc in
+    let where-at : r .place ≡ p = cc in
+    rw (number, where-at)
+
+refused-room : (r : Prepared) (n p : ℕ) → preparedAnswer r ≡ refused n p → (k : ℕ) → r ≡ Prepared.Cells k → ⊥
+unfolding preparedAnswer
+refused-room r n p e k h =
+    let c : count k ≡ refused n p = sym (ap preparedAnswer h) ∙ e in
+    let z : _≡_ {A = ℕ} 0 1 = cc in omega arith
+
+module _ (ps : List Parameter) (xs : List ℕ) (c : Checked) (r : Prepared) (buffer : List ℕ) (h : preparedAnswer r ≡ checkedAnswer c) where
+  text-refused : (n p : ℕ) → checkedAnswer c ≡ refused n p → textRows ps xs ≡ stop n p → FillsText ps xs r buffer
+  text-refused n p e s = record { rows = refused-step r buffer n p (h ∙ e) ∙ sym s; room = λ k i. absurd (refused-room r n p (h ∙ e) k i) }
+
+  pub fill-empty : length xs ≡ 0 → checkedAnswer c ≡ refused (numberOf Reason.FilterSize) 0 → FillsText ps xs r buffer
+  unfolding textRows takeFilter
+  fill-empty z e = text-refused 10 0 e (rw (eq-eqb (length xs) 0 z))
+
+  pub fill-long : 1024 < length xs → checkedAnswer c ≡ refused (numberOf Reason.FilterSize) 0 → FillsText ps xs r buffer
+  unfolding textRows takeFilter
+  fill-long l e =
+      let n : length xs ≡ 0 → ⊥ = λ z. omega arith in
+      text-refused 10 0 e (rw (ne-eqb (length xs) 0 n, lt-ltb 1024 (length xs) l))
+
+-- check's answer to a text that is a filter tells whether there is a fault
+no-fault : (s : Summary) (c : Checked) (n : ℕ) → checkedAnswer c ≡ summaryAnswer s → c ≡ Checked.Tests n → faultStep (s .first .fault) (s .first .position) ≡ found tt
+unfolding checkedAnswer summaryAnswer
+no-fault s c n e i = by-fault (s .first .fault) refl
+  where
+    counted : count n ≡ answer (faultStep (s .first .fault) (s .first .position) >>= λ u. found (count (s .tests)))
+    counted = sym (ap checkedAnswer i) ∙ e
+
+    refusal-is-none : (f : Fault) (k : ℕ) → s .first .fault ≡ f → faultStep f (s .first .position) ≡ stop k (s .first .position) → faultStep f (s .first .position) ≡ found tt
+    refusal-is-none f k h g =
+        let r : count n ≡ refused k (s .first .position) = counted ∙ ap (λ (x : Fault). answer (faultStep x (s .first .position) >>= λ u. found (count (s .tests)))) h ∙ ap (λ (q : Step (Unit {0})). answer (q >>= λ u. found (count (s .tests)))) g in
+        let z : _≡_ {A = ℕ} 0 1 = cc in absurd (omega arith)
+
+    by-fault : (f : Fault) → s .first .fault ≡ f → faultStep (s .first .fault) (s .first .position) ≡ found tt
+    by-fault Fault.Nothing h = ap (λ (f : Fault). faultStep f (s .first .position)) h
+    by-fault (Fault.Because r) h = ap (λ (f : Fault). faultStep f (s .first .position)) h ∙ refusal-is-none (Fault.Because r) (numberOf r) h refl
+
+-- an answer that is a refusal comes of a step that stopped there
+stopped-at : {A : Type 0} (q : Step A) (a : A → Answer) (n p : ℕ) → ((x : A) → a x ≡ refused n p → ⊥) → answer (q >>= λ x. found (a x)) ≡ refused n p → q ≡ stop n p
+stopped-at (found x) a n p k e = absurd (k x e)
+stopped-at (stop m o) a n p k e =
+    let number : m ≡ n = cc in
+    let where-at : o ≡ p = cc in
+    rw (number, where-at)
+
+a-fault : (s : Summary) (c : Checked) (r : Refusal) → checkedAnswer c ≡ summaryAnswer s → c ≡ Checked.Refused r → faultStep (s .first .fault) (s .first .position) ≡ stop (numberOf (r .reason)) (r .place)
+unfolding checkedAnswer summaryAnswer refusalAnswer
+a-fault s c r e i =
+    stopped-at (faultStep (s .first .fault) (s .first .position)) (λ u. count (s .tests)) (numberOf (r .reason)) (r .place) (λ x y. let z : _≡_ {A = ℕ} 0 1 = cc in omega arith) (sym e ∙ ap checkedAnswer i)
+
+-- ---- the text
+
+module _ (ps : List Parameter) (xs : List ℕ) (n : length xs ≡ 0 → ⊥) (l : length xs ≤ 1024) where
+  text-read : (o : Option Tree) → read xs ≡ o → takeFilter xs ≡ treeStep xs o
+  unfolding takeFilter
+  text-read o e = rw (ne-eqb (length xs) 0 n, le-ltb 1024 (length xs) l, e)
+
+  no-tree : (c : Checked) (r : Prepared) (buffer : List ℕ) → read xs ≡ none → checkedAnswer c ≡ refusalAnswer (failure deepest mostTests xs) → preparedAnswer r ≡ checkedAnswer c → FillsText ps xs r buffer
+  unfolding textRows refusalAnswer
+  no-tree c r buffer e h g =
+      text-refused ps xs c r buffer g (numberOf (failure deepest mostTests xs .reason)) (failure deepest mostTests xs .place) h (rw (text-read none e))
+
+  module _ (start : ℕ) (s : RunEnd isSpace xs 0 start) (v : Written) (before after : List ℕ) (w : Wrote ps 0 xs 0 (filterAt 8 xs round start) v before after) where
+    pub fill-nothing : (c : Checked) (r : Prepared) → v ≡ Written.Nothing → checkedAnswer c ≡ refusalAnswer (failure deepest mostTests xs) → preparedAnswer r ≡ checkedAnswer c → FillsText ps xs r after
+    unfolding read
+    fill-nothing c r h = no-tree c r after (rw (← s .is, writing.was-none ps 0 xs 0 w h))
+
+    read-as : (end : ℕ) (f : Tree) → filterAt 8 xs round start ≡ parsed end f → read xs ≡ whole xs (parsed end f)
+    unfolding read
+    read-as end f e = rw (← s .is, e)
+
+    module _ (end : ℕ) (a : Outcome) (h : v ≡ Written.Done end a) where
+      pub fill-within : end ≤ length xs
+      fill-within = writing.filter-takes ps 0 xs 0 round 8 start v before after end a w h .within
+
+      module _ (behind : ℕ) (t : RunEnd isSpace xs end behind) where
+        was : writing.Was ps 0 xs 0 (filterAt 8 xs round start) end a before after
+        was = writing.was ps 0 xs 0 end a w h
+
+        whole-trails : (f : Tree) → (behind ≡ length xs → ⊥) → whole xs (parsed end f) ≡ none
+        whole-trails f k = rw (← t .is, ne-eqb behind (length xs) k)
+
+        whole-many : (f : Tree) → behind ≡ length xs → 32 < length (testsOf f) → whole xs (parsed end f) ≡ none
+        whole-many f k m = rw (← t .is, eq-eqb behind (length xs) k, lt-leb (length (testsOf f)) 32 m)
+
+        whole-right : (f : Tree) → behind ≡ length xs → length (testsOf f) ≤ 32 → whole xs (parsed end f) ≡ some f
+        whole-right f k m = rw (← t .is, eq-eqb behind (length xs) k, le-leb (length (testsOf f)) 32 m)
+
+        pub fill-trails : (c : Checked) (r : Prepared) → (behind ≡ length xs → ⊥) → checkedAnswer c ≡ refusalAnswer (failure deepest mostTests xs) → preparedAnswer r ≡ checkedAnswer c → FillsText ps xs r after
+        fill-trails c r k = no-tree c r after (read-as end (was .tree) (was .read) ∙ whole-trails (was .tree) k)
+
+        tests-are : a .summary .tests ≡ length (testsOf (was .tree))
+        tests-are = ap (λ (o : Outcome). o .summary .tests) (was .value)
+
+        pub fill-many : (c : Checked) (r : Prepared) → behind ≡ length xs → 32 < a .summary .tests → checkedAnswer c ≡ refusalAnswer (failure deepest mostTests xs) → preparedAnswer r ≡ checkedAnswer c → FillsText ps xs r after
+        fill-many c r k m = no-tree c r after (read-as end (was .tree) (was .read) ∙ whole-many (was .tree) k (omega (arith, tests-are)))
+
+        -- the text is a filter: its faults decide
+        module _ (k : behind ≡ length xs) (m : a .summary .tests ≤ 32) where
+          rows-by : textRows ps xs ≡ (faultStep (a .summary .first .fault) (a .summary .first .position) >>= λ u. found (rowCells ps xs (was .tree)))
+          unfolding textRows testsStep
+          rows-by =
+              let r : takeFilter xs ≡ found (was .tree) = text-read (some (was .tree)) (read-as end (was .tree) (was .read) ∙ whole-right (was .tree) k (omega (arith, tests-are))) in
+              ap (λ (q : Step Tree). q >>= λ f. faultStep (firstFault ps 0 (testsOf f) .fault) (firstFault ps 0 (testsOf f) .position) >>= λ u. found (rowCells ps xs f)) r
+              ∙ ap (λ (o : Outcome). faultStep (o .summary .first .fault) (o .summary .first .position) >>= λ u. found (rowCells ps xs (was .tree))) (sym (was .value))
+
+          pub fill-done : (c : Checked) (n : ℕ) → checkedAnswer c ≡ summaryAnswer (a .summary) → c ≡ Checked.Tests n → length before ≡ 1024 → FillsText ps xs (Prepared.Cells (a .cells)) after
+          fill-done c n e i size =
+              let clean : faultStep (a .summary .first .fault) (a .summary .first .position) ≡ found tt = no-fault (a .summary) c n e i in
+              let same : a .cells ≡ cellCount (was .tree) = ap (λ (o : Outcome). o .cells) (was .value) in
+              let at-first : a .cells ≡ 0 + cellCount (was .tree) = omega (arith, same) in
+              let cells : take (a .cells) after ≡ rowCells ps xs (was .tree) = ap (λ (x : ℕ). take x after) at-first ∙ was .cells in
+              let t = writing.filter-takes ps 0 xs 0 round 8 start v before after end a w h in
+              record {
+                rows = ap found cells ∙ sym (rows-by ∙ ap (λ (q : Step (Unit {0})). q >>= λ u. found (rowCells ps xs (was .tree))) clean);
+                room = λ j g. let x : a .cells ≡ j = cc in omega (arith, t .cells-fit, t .within, w .size, size);
+              }
+
+          pub fill-fault : (c : Checked) (r : Refusal) → checkedAnswer c ≡ summaryAnswer (a .summary) → c ≡ Checked.Refused r → FillsText ps xs (Prepared.Refused r) after
+          fill-fault c r e i =
+              let fault : faultStep (a .summary .first .fault) (a .summary .first .position) ≡ stop (numberOf (r .reason)) (r .place) = a-fault (a .summary) c r e i in
+              record {
+                rows = sym (rows-by ∙ ap (λ (q : Step (Unit {0})). q >>= λ u. found (rowCells ps xs (was .tree))) fault);
+                room = λ j g. let z : _≡_ {A = ℕ} 0 1 = cc in absurd (omega arith);
+              }
+
+-- ---- the sheet
+
+-- rows after all is read are rows where the tests are read
+rows-tests : (ps : List Parameter) (xs : List ℕ) (f : Tree) (t : Step (Unit {0})) → (t >>= λ u. found (record { parameters = ps; filter = f })) >>= (λ (p : Inputs). found (rowCells (p .parameters) xs (p .filter))) ≡ t >>= λ u. found (rowCells ps xs f)
+rows-tests ps xs f (found u) = refl
+rows-tests ps xs f (stop n p) = refl
+
+rows-filter : (ps : List Parameter) (xs : List ℕ) (t : Step Tree)
+    → (t >>= λ f. testsStep ps (testsOf f) >>= λ u. found (record { parameters = ps; filter = f })) >>= (λ (p : Inputs). found (rowCells (p .parameters) xs (p .filter))) ≡ t >>= λ f. testsStep ps (testsOf f) >>= λ u. found (rowCells ps xs f)
+rows-filter ps xs (found f) = rows-tests ps xs f (testsStep ps (testsOf f))
+rows-filter ps xs (stop n p) = refl
+
+module _ (b xs : List ℕ) (k : Reading) (e : k ≡ readSheet b) (r : Prepared) (buffer : List ℕ) where
+  fill-sheet : (c : Checked) (j : Reading) (n : ℕ) → ((ps : List Parameter) → sheetStep j ps ≡ stop n 0) → k ≡ j → checkedAnswer c ≡ refused n 0 → preparedAnswer r ≡ checkedAnswer c → Fills b xs r buffer
+  unfolding takeInputs takeSheet
+  fill-sheet c j n t i h g =
+      record {
+        rows = refused-step r buffer n 0 (g ∙ h) ∙ sym (rw (sym e ∙ i, t (parametersOf b)));
+        room = λ m q. absurd (refused-room r n 0 (g ∙ h) m q);
+      }
+
+  module _ (c : Checked) where
+    pub fill-size : k ≡ Reading.WrongSize → checkedAnswer c ≡ refused (numberOf Reason.SheetSize) 0 → preparedAnswer r ≡ checkedAnswer c → Fills b xs r buffer
+    fill-size = fill-sheet c Reading.WrongSize 1 (λ ps. refl)
+
+    pub fill-sum : k ≡ Reading.WrongSum → checkedAnswer c ≡ refused (numberOf Reason.SheetSum) 0 → preparedAnswer r ≡ checkedAnswer c → Fills b xs r buffer
+    fill-sum = fill-sheet c Reading.WrongSum 2 (λ ps. refl)
+
+    pub fill-layout : k ≡ Reading.WrongLayout → checkedAnswer c ≡ refused (numberOf Reason.SheetLayout) 0 → preparedAnswer r ≡ checkedAnswer c → Fills b xs r buffer
+    fill-layout = fill-sheet c Reading.WrongLayout 3 (λ ps. refl)
+
+  pub fill-right : k ≡ Reading.WellFormed → FillsText (parametersOf b) xs r buffer → Fills b xs r buffer
+  unfolding takeInputs takeSheet textRows
+  fill-right i f = record { rows = f .rows ∙ sym (rw (sym e ∙ i) (rows-filter (parametersOf b) xs (takeFilter xs))); room = f .room }
+
+-- ---- the list
+
+-- the room decides after all else
+rows-room : {A : Type 0} (t : Step A) (g : A → List ℕ) (room : ℕ) → (t >>= λ p. takeCells room (g p)) ≡ (t >>= λ p. found (g p)) >>= λ cs. takeCells room cs
+rows-room (found a) g room = refl
+rows-room (stop n p) g room = refl
+
+module _ (b xs list : List ℕ) (r : Prepared) (buffer : List ℕ) (f : Fills b xs r buffer) where
+  preparation-is : preparation b xs (length list) ≡ filledStep r buffer >>= λ cs. takeCells (length list) cs
+  unfolding preparation
+  preparation-is = rows-room (takeInputs b xs) (λ p. rowCells (p .parameters) xs (p .filter)) (length list) ∙ ap (λ (q : Step (List ℕ)). q >>= λ cs. takeCells (length list) cs) (sym (f .rows))
+
+  pub prepare-refused : (q : Refusal) → r ≡ Prepared.Refused q → Prepares b xs list (Prepared.Refused q) list
+  unfolding prepareAnswer prepareCells preparedAnswer refusalAnswer
+  prepare-refused q i =
+      let s : preparation b xs (length list) ≡ stop (numberOf (q .reason)) (q .place) = preparation-is ∙ ap (λ (x : Prepared). filledStep x buffer >>= λ cs. takeCells (length list) cs) i in
+      record { answers = sym (ap (λ (x : Step (List ℕ)). answer (x >>= λ cs. found (count (length cs)))) s); cells = sym (ap (λ (x : Step (List ℕ)). written x list) s) }
+
+  module _ (n : ℕ) (i : r ≡ Prepared.Cells n) where
+    taken-length : length (take n buffer) ≡ n
+    taken-length = length-take-le n buffer (f .room n i)
+
+    filled : preparation b xs (length list) ≡ takeCells (length list) (take n buffer)
+    filled = preparation-is ∙ ap (λ (x : Prepared). filledStep x buffer >>= λ cs. takeCells (length list) cs) i
+
+    pub prepare-short : length list < n → Prepares b xs list (Prepared.Refused (record { reason = Reason.ShortCells; place = n })) list
+    unfolding prepareAnswer prepareCells preparedAnswer refusalAnswer takeCells
+    prepare-short l =
+        let s : preparation b xs (length list) ≡ stop 34 n = filled ∙ rw (taken-length, lt-leb n (length list) l) in
+        record { answers = sym (ap (λ (x : Step (List ℕ)). answer (x >>= λ cs. found (count (length cs)))) s); cells = sym (ap (λ (x : Step (List ℕ)). written x list) s) }
+
+    pub prepare-done : (exit : List ℕ) → n ≤ length list → exit ≡ part buffer 0 n ++ drop (length (part buffer 0 n)) list → Prepares b xs list (Prepared.Cells n) exit
+    unfolding prepareAnswer prepareCells preparedAnswer takeCells
+    prepare-done exit l e =
+        let all : n - 0 ≡ n = omega arith in
+        let whole-part : part buffer 0 n ≡ take n buffer = ap (λ (k : ℕ). take k buffer) all in
+        let s : preparation b xs (length list) ≡ found (take n buffer) = filled ∙ rw (taken-length, le-leb n (length list) l) in
+        record {
+          answers = sym (ap (λ (x : Step (List ℕ)). answer (x >>= λ cs. found (count (length cs)))) s ∙ ap count taken-length);
+          cells = e ∙ ap (λ (x : List ℕ). x ++ drop (length x) list) whole-part ∙ sym (ap (λ (x : Step (List ℕ)). written x list) s);
+        }

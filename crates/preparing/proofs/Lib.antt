@@ -1,0 +1,2 @@
+-- The laws that the proofs of prepare cite.
+pub mod Filled

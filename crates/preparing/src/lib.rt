@@ -1,0 +1,112 @@
+// Prepare: a sheet and a filter are read, and the rows of the filter are written; the first refusal in the order of the table decides.
+use answer::Checked;
+use answer::Prepared;
+use answer::write;
+use block::Reading;
+use checking::no_filter;
+use checking::outcome;
+use checking::refuse;
+use filter::Spot;
+use refusal::Reason;
+use refusal::Refusal;
+use rows::Outcome;
+use rows::Written;
+use rows::write_filter;
+use syntax::scan::skip;
+ghost use mathlib.Core.Path.{_≡_};
+ghost use lib.ListN.{length};
+ghost use Rattle.sheet.specs.Sheet.{parametersOf, readSheet};
+ghost use Rattle.answer.specs.Answers.{checkedAnswer};
+ghost use Rattle.answer.specs.Preparing.{preparedAnswer, FillsText, Fills, Prepares};
+
+// Check's answer as prepare's.
+fn hand_back(checked: Checked) -> Prepared
+    ensures { λ r. ⌜ preparedAnswer r ≡ checkedAnswer checked ⌝ }
+{
+    match checked {
+        Checked::Tests(tests) => Prepared::Cells(tests),
+        Checked::Refused(refusal) => Prepared::Refused(refusal),
+    }
+}
+
+// Writes the rows of a filter on a well-formed sheet into a buffer, which has a cell for each byte of the longest filter.
+fn fill_text(sheet: &[u8], filter: &[u8], buffer: &mut [u32]) -> Prepared
+    requires { ⌜ readSheet (now sheet) ≡ Reading.WellFormed ⌝ }
+    requires { ⌜ length (now buffer) ≡ 1024 ⌝ }
+    ensures { λ r. ⌜ FillsText (parametersOf (now (sheet .entry))) (now (filter .entry)) r (now (buffer .exit)) ⌝ }
+{
+    if filter.len() == 0 {
+        return hand_back(refuse(Reason::FilterSize, 0));
+    }
+    if filter.len() > 1024 {
+        return hand_back(refuse(Reason::FilterSize, 0));
+    }
+    let start = skip(filter, 0);
+    let written = write_filter(
+        sheet,
+        filter,
+        Spot {
+            at: start,
+            deep: 8,
+            close: b')',
+            bundle: 0,
+        },
+        buffer,
+        0,
+    );
+    match written {
+        Written::Done(end, gathered) => {
+            let after = skip(filter, end);
+            if after != filter.len() {
+                return hand_back(no_filter(filter));
+            }
+            let summary = gathered.summary;
+            if summary.tests > 32 {
+                return hand_back(no_filter(filter));
+            }
+            let checked = outcome(summary);
+            match checked {
+                Checked::Tests(_) => Prepared::Cells(gathered.cells),
+                Checked::Refused(refusal) => Prepared::Refused(refusal),
+            }
+        }
+        Written::Nothing => hand_back(no_filter(filter)),
+    }
+}
+
+// The same on any sheet.
+pub fn fill(sheet: &[u8], filter: &[u8], buffer: &mut [u32]) -> Prepared
+    requires { ⌜ length (now buffer) ≡ 1024 ⌝ }
+    ensures { λ r. ⌜ Fills (now (sheet .entry)) (now (filter .entry)) r (now (buffer .exit)) ⌝ }
+{
+    let reading = sheet::read_sheet(sheet);
+    match reading {
+        Reading::WellFormed => fill_text(sheet, filter, buffer),
+        Reading::WrongSize => hand_back(refuse(Reason::SheetSize, 0)),
+        Reading::WrongSum => hand_back(refuse(Reason::SheetSum, 0)),
+        Reading::WrongLayout => hand_back(refuse(Reason::SheetLayout, 0)),
+    }
+}
+
+// Writes the rows of a filter into the list, from its first cell, and answers how many cells they fill; or why there is no answer, and
+// where. Later cells stay, and on a refusal all of them.
+pub fn prepare(sheet: &[u8], filter: &[u8], list: &mut [u32]) -> Prepared
+    ensures { λ r. ⌜ Prepares (now (sheet .entry)) (now (filter .entry)) (now (list .entry)) r (now (list .exit)) ⌝ }
+{
+    // a refusal writes nothing, so the rows wait here until the last byte is read
+    let mut buffer = [0u32; 1024];
+    let filled = fill(sheet, filter, &mut buffer);
+    match filled {
+        Prepared::Cells(cells) => {
+            if cells > list.len() {
+                return Prepared::Refused(Refusal {
+                    reason: Reason::ShortCells,
+                    place: cells,
+                });
+            }
+            write(&buffer[0..cells], list);
+            Prepared::Cells(cells)
+        }
+        Prepared::Refused(refusal) => Prepared::Refused(refusal),
+    }
+}

@@ -1,0 +1,184 @@
+-- Check and match by a search string, as the code comes to their answers: the rows ask what the string asks.
+-- Assumes nothing.
+use Prim.Native.Nat.{ℕ}
+use native.Mathlib.Omega.{arith}
+use mathlib.Core.Path.{_≡_, refl, ap, sym, _∙_, fun-ext}
+use mathlib.Core.Bool.{Bool}
+use mathlib.Core.List.{List}
+use lib.ListN.{length}
+use Rattle.block.specs.declared.Reading.{Reading}
+use Rattle.sheet.specs.Sheet.{Parameter, parametersOf, readSheet}
+use Rattle.card.specs.Card.{Entry}
+use Rattle.judge.specs.declared.FirstFault.{FirstFault}
+use Rattle.search.specs.Spelling.{Query, alternativesOf}
+use Rattle.search.specs.Reader.{takeQuery}
+use Rattle.search.specs.Meaning.{firstAlternativeFault, alternativeSays, querySays}
+use Rattle.search.specs.Rows.{RowsWithin, alternativesIn, rowsSay, TakenOf, RowsOf}
+use Rattle.search.specs.declared.QueryTaken.{QueryTaken}
+use Rattle.search.specs.declared.Rows.{Rows}
+use Rattle.search.specs.declared.TextOutcome.{TextOutcome}
+use Rattle.search.proofs.Taken.{taken-rows, taken-by-size, taken-by-pair, taken-by-count}
+use Rattle.refusal.specs.Answers.{Answer, count, refused, numberOf, refusalAnswer}
+use Rattle.refusal.specs.Steps.{Step, found, stop, _>>=_, answer}
+use Rattle.refusal.specs.declared.Refusal.{Refusal}
+use Rattle.answer.specs.Answers.{checkedAnswer, matchedAnswer}
+use Rattle.answer.specs.Operations.{faultStep, sheetStep, takeSheet}
+use Rattle.answer.specs.Passing.{summaryAnswer, cardVerdict}
+use Rattle.answer.specs.Searching.{alternativesStep, QueryInputs, takeQueryInputs, checkSearchAnswer, questionOfQuery, searchQuestion, matchSearchAnswer}
+use Rattle.searching.specs.SearchPassing.{rowsAnswer, rowsQuestion, PassingRows, ReadsRows}
+use Rattle.answer.specs.declared.Checked.{Checked}
+use Rattle.answer.specs.declared.Matched.{Matched}
+use Rattle.searching.specs.declared.SearchRead.{SearchRead}
+use Rattle.answer.proofs.Passing.{match-stopped}
+use Rattle.matching.proofs.Judging.{match-answered}
+use Rattle.matching.specs.OneCard.{verdictStep, verdictAnswer}
+use Rattle.matching.specs.declared.CardVerdict.{CardVerdict}
+
+pub sheet-known : (sheet : List ℕ) (r : Reading) → r ≡ readSheet sheet → r ≡ Reading.WellFormed → readSheet sheet ≡ Reading.WellFormed
+sheet-known sheet r e h = sym e ∙ h
+
+-- ---- a string that is refused: no count, so that nothing is asked of the rows
+
+no-tests : (c : Checked) (n k p : ℕ) → checkedAnswer c ≡ refused k p → c ≡ Checked.Tests n → ⊥
+unfolding checkedAnswer
+no-tests c n k p e h = let z : count n ≡ refused k p = ap checkedAnswer (sym h) ∙ e in let y : _≡_ {A = ℕ} 0 1 = cc in omega arith
+
+module _ (sheet text bytes : List ℕ) (c : Checked) (rows : Rows) where
+  refuses : (k p : ℕ) → takeQueryInputs sheet text ≡ stop k p → checkedAnswer c ≡ refused k p → ReadsRows sheet text bytes (record { checked = c; rows = rows })
+  refuses k p e h =
+      let answered : checkedAnswer c ≡ checkSearchAnswer sheet text = h ∙ sym (unfold checkSearchAnswer in rw e) in
+      record { answers = answered; passes = λ n t. absurd (no-tests c n k p h t) }
+
+  -- the sheet is refused
+  sheet-refuses : (r k : Reading) (n : ℕ) → ((ps : List Parameter) → sheetStep k ps ≡ stop n 0) → r ≡ readSheet sheet → r ≡ k → checkedAnswer c ≡ refused n 0
+      → ReadsRows sheet text bytes (record { checked = c; rows = rows })
+  sheet-refuses r k n t e i h = refuses n 0 (unfold takeQueryInputs takeSheet in rw (sym e ∙ i, t (parametersOf sheet))) h
+
+  module _ (r : Reading) (e : r ≡ readSheet sheet) where
+    pub sheet-size : r ≡ Reading.WrongSize → checkedAnswer c ≡ refused 1 0 → ReadsRows sheet text bytes (record { checked = c; rows = rows })
+    sheet-size = sheet-refuses r Reading.WrongSize 1 (λ ps. refl) e
+
+    pub sheet-sum : r ≡ Reading.WrongSum → checkedAnswer c ≡ refused 2 0 → ReadsRows sheet text bytes (record { checked = c; rows = rows })
+    sheet-sum = sheet-refuses r Reading.WrongSum 2 (λ ps. refl) e
+
+    pub sheet-layout : r ≡ Reading.WrongLayout → checkedAnswer c ≡ refused 3 0 → ReadsRows sheet text bytes (record { checked = c; rows = rows })
+    sheet-layout = sheet-refuses r Reading.WrongLayout 3 (λ ps. refl) e
+
+  module _ (w : readSheet sheet ≡ Reading.WellFormed) where
+    text-refuses : (k p : ℕ) → takeQuery text ≡ stop k p → checkedAnswer c ≡ refused k p → ReadsRows sheet text bytes (record { checked = c; rows = rows })
+    text-refuses k p e = refuses k p (unfold takeQueryInputs takeSheet in rw (w, e))
+
+    pub size-refuses : (r : QueryTaken) → TakenOf text bytes r → r .outcome ≡ TextOutcome.Size → checkedAnswer c ≡ refused 10 0 → ReadsRows sheet text bytes (record { checked = c; rows = rows })
+    size-refuses r t o = text-refuses 10 0 (taken-by-size t o)
+
+    pub pair-refuses : (r : QueryTaken) (p : ℕ) → TakenOf text bytes r → r .outcome ≡ TextOutcome.Bad p → checkedAnswer c ≡ refused 50 p → ReadsRows sheet text bytes (record { checked = c; rows = rows })
+    pair-refuses r p t o = text-refuses 50 p (taken-by-pair p t o)
+
+    pub count-refuses : (r : QueryTaken) → TakenOf text bytes r → r .outcome ≡ TextOutcome.Many → checkedAnswer c ≡ refused 51 0 → ReadsRows sheet text bytes (record { checked = c; rows = rows })
+    count-refuses r t o = text-refuses 51 0 (taken-by-count t o)
+
+-- ---- a string that is taken
+
+pub taken-within : (text bytes : List ℕ) (r : QueryTaken) → TakenOf text bytes r → r .outcome ≡ TextOutcome.Taken → RowsWithin (length bytes) (r .rows)
+taken-within text bytes r t o = taken-rows t o .1 .within
+
+module _ (sheet text bytes : List ℕ) (w : readSheet sheet ≡ Reading.WellFormed) (rows : Rows) (q : Query) (of : RowsOf text bytes rows q) where
+  abbrev ps : List Parameter
+  ps = parametersOf sheet
+
+  abbrev inputs-as : QueryInputs
+  inputs-as = record { parameters = ps; query = q }
+
+  abbrev ready-by : Step (Unit {0}) → Step QueryInputs
+  ready-by t = t >>= λ u. found inputs-as
+
+  abbrev counted : QueryInputs → Step Answer
+  counted p = found (count (length (alternativesOf (p .query))))
+
+  ready : takeQueryInputs sheet text ≡ ready-by (alternativesStep ps (alternativesOf q))
+  unfolding takeQueryInputs takeSheet
+  ready = rw (w, of .taken)
+
+  rows-answer : checkSearchAnswer sheet text ≡ rowsAnswer ps bytes rows
+  unfolding checkSearchAnswer rowsAnswer summaryAnswer alternativesStep
+  rows-answer = rw (ready, of .alternatives, of .count) (by (faultStep (firstAlternativeFault ps (alternativesOf q) .fault) (firstAlternativeFault ps (alternativesOf q) .position)))
+    where
+      by : (t : Step (Unit {0})) → answer (ready-by t >>= counted) ≡ answer (t >>= λ u. found (count (length (alternativesOf q))))
+      by (found u) = refl
+      by (stop n p) = refl
+
+  -- what the rows say is what the query says
+  same-says : _≡_ {A = List Entry → Bool} (λ es. querySays ps es q) (λ es. rowsSay (alternativeSays ps es) bytes rows)
+  unfolding querySays
+  same-says = fun-ext (λ es. sym (of .says (alternativeSays ps es)))
+
+  passed-tests : (t : Step (Unit {0})) (c : Checked) (n : ℕ) → checkedAnswer c ≡ answer (ready-by t >>= counted) → c ≡ Checked.Tests n → ready-by t ≡ found inputs-as
+  passed-tests (found u) c n e h = refl
+  passed-tests (stop k p) c n e h = absurd (no-tests c n k p e h)
+
+  check-by : checkSearchAnswer sheet text ≡ answer (ready-by (alternativesStep ps (alternativesOf q)) >>= counted)
+  unfolding checkSearchAnswer
+  check-by = rw ready
+
+  question-by : takeQueryInputs sheet text ≡ found inputs-as → searchQuestion sheet text ≡ found (questionOfQuery inputs-as)
+  unfolding searchQuestion
+  question-by e = rw e
+
+  taken-passes : (c : Checked) → checkedAnswer c ≡ checkSearchAnswer sheet text → (n : ℕ) → c ≡ Checked.Tests n → PassingRows sheet text bytes rows
+  taken-passes c e n h =
+      let inputs-taken : takeQueryInputs sheet text ≡ found inputs-as =
+      ready ∙ passed-tests (alternativesStep ps (alternativesOf q)) c n (e ∙ check-by) h
+      in
+      record {
+        sheet-well-formed = w;
+        within = of .within;
+        asked = question-by inputs-taken ∙ ap (λ (f : List Entry → Bool). found (record { parameters = ps; says = f })) same-says;
+      }
+
+pub rows-read : (sheet text bytes : List ℕ) → readSheet sheet ≡ Reading.WellFormed → (r : QueryTaken) (c : Checked) → TakenOf text bytes r → r .outcome ≡ TextOutcome.Taken
+    → checkedAnswer c ≡ rowsAnswer (parametersOf sheet) bytes (r .rows) → ReadsRows sheet text bytes (record { checked = c; rows = r .rows })
+rows-read sheet text bytes w r c t o e =
+    let (q, of) = taken-rows t o in
+    let answered : checkedAnswer c ≡ checkSearchAnswer sheet text = e ∙ sym (rows-answer sheet text bytes w (r .rows) q of) in
+    record { answers = answered; passes = taken-passes sheet text bytes w (r .rows) q of c answered }
+
+pub rows-checked : (ps : List Parameter) (bytes : List ℕ) (rows : Rows) (first : FirstFault) (c : Checked) → first ≡ firstAlternativeFault ps (alternativesIn bytes rows)
+    → checkedAnswer c ≡ summaryAnswer (record { tests = rows .count; first = first }) → checkedAnswer c ≡ rowsAnswer ps bytes rows
+unfolding rowsAnswer
+rows-checked ps bytes rows first c e h = h ∙ ap (λ (f : FirstFault). summaryAnswer (record { tests = rows .count; first = f })) e
+
+-- ---- match
+
+module _ (sheet text bytes : List ℕ) (r : SearchRead) (read : ReadsRows sheet text bytes r) where
+  pub search-checked : checkedAnswer (r .checked) ≡ checkSearchAnswer sheet text
+  search-checked = read .answers
+
+  pub question-stopped : (f : Refusal) → r .checked ≡ Checked.Refused f → searchQuestion sheet text ≡ stop (numberOf (f .reason)) (f .place)
+  question-stopped f h = (unfold searchQuestion in rw (stopped (takeQueryInputs sheet text) refl))
+    where
+      stopped : (s : Step QueryInputs) → takeQueryInputs sheet text ≡ s → s ≡ stop (numberOf (f .reason)) (f .place)
+      stopped (found p) e = absurd (let a : checkedAnswer (Checked.Refused f) ≡ count (length (alternativesOf (p .query))) = sym (ap checkedAnswer h) ∙ read .answers ∙ (unfold checkSearchAnswer in rw e) in never a)
+        where
+          never : {n : ℕ} → checkedAnswer (Checked.Refused f) ≡ count n → ⊥
+          never a = unfold checkedAnswer refusalAnswer in (let z : _≡_ {A = ℕ} 0 1 = cc in omega arith)
+      stopped (stop n p) e = same (sym (ap checkedAnswer h) ∙ read .answers ∙ (unfold checkSearchAnswer in rw e))
+        where
+          same : checkedAnswer (Checked.Refused f) ≡ refused n p → _≡_ {A = Step QueryInputs} (stop n p) (stop (numberOf (f .reason)) (f .place))
+          same a = unfold checkedAnswer refusalAnswer in cc
+
+  pub search-refused : (card : List ℕ) (f : Refusal) → r .checked ≡ Checked.Refused f → matchedAnswer (Matched.Refused f) ≡ matchSearchAnswer sheet text card
+  search-refused card f h = match-stopped (searchQuestion sheet text) card f (question-stopped f h)
+
+  module _ (n : ℕ) (h : r .checked ≡ Checked.Tests n) where
+    pub passed-sheet : readSheet sheet ≡ Reading.WellFormed
+    passed-sheet = read .passes n h .sheet-well-formed
+
+    pub passed-within : RowsWithin (length bytes) (r .rows)
+    passed-within = read .passes n h .within
+
+    pub asks : searchQuestion sheet text ≡ found (rowsQuestion (parametersOf sheet) bytes (r .rows))
+    asks = read .passes n h .asked
+
+    pub search-answered : (card : List ℕ) (v : CardVerdict) → ((i : ℕ) → verdictStep v i ≡ cardVerdict (rowsQuestion (parametersOf sheet) bytes (r .rows)) i card) → (m : Matched) → matchedAnswer m ≡ verdictAnswer v
+        → matchedAnswer m ≡ matchSearchAnswer sheet text card
+    search-answered card = match-answered (searchQuestion sheet text) (rowsQuestion (parametersOf sheet) bytes (r .rows)) card asks

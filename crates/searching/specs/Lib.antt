@@ -1,0 +1,2 @@
+-- What the parts of check and match by a search string answer.
+pub mod SearchPassing

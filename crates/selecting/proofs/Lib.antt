@@ -1,0 +1,6 @@
+-- The laws that the proofs of select cite.
+pub mod Asks
+pub mod Gathering
+pub mod Selecting
+pub mod RowsAsked
+pub mod SearchAsked

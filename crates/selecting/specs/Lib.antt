@@ -1,0 +1,3 @@
+-- What the parts of select answer.
+pub mod Asking
+pub mod Selecting

@@ -1,0 +1,49 @@
+// What is asked of a card, whichever way: by the rows of a filter, by a filter's text, or by a search string.
+use crate::Asked;
+use block::Reading;
+use matching::CardVerdict;
+use matching::judge_by_rows;
+use matching::judge_by_text;
+use search::Rows;
+use searching::judge_by_search;
+ghost use mathlib.Core.Path.{_≡_};
+ghost use Prim.Native.Nat.{ℕ};
+ghost use lib.ListN.{length};
+ghost use Rattle.sheet.specs.Sheet.{parametersOf, readSheet};
+ghost use Rattle.sheet.specs.Find.{kindsOf};
+ghost use Rattle.rows.specs.Opening.{Opens};
+ghost use Rattle.rows.specs.Jumping.{Jumps};
+ghost use Rattle.answer.specs.Passing.{cardVerdict};
+ghost use Rattle.matching.specs.OneCard.{verdictStep};
+ghost use Rattle.selecting.specs.Asking.{Asks, askedQuestion};
+
+// The verdict on a card, or why it is refused: by the rows of the text's filter in the cells, which were opened, by the text as a filter's, or by the
+// rows of a search string over the text; `kinds` are those of the sheet.
+pub fn judge_asked(
+    asked: Asked,
+    sheet: &[u8],
+    kinds: &[u8],
+    text: &[u8],
+    cells: &[u32],
+    jumps: &[u32],
+    spans: &[u32],
+    digits: &[u64],
+    starts: &[i64],
+    ends: &[i64],
+    rows: Rows,
+    card: &[u8],
+) -> CardVerdict
+    requires { ⌜ readSheet (now sheet) ≡ Reading.WellFormed ⌝ }
+    requires { ⌜ length (now kinds) ≡ 32 ⌝ }
+    requires { ⌜ now kinds ≡ kindsOf (parametersOf (now sheet)) ⌝ }
+    requires { ⌜ Jumps (now cells) (now jumps) ⌝ }
+    requires { ⌜ Opens (now kinds) (now text) (now cells) (now spans) (now digits) (now starts) (now ends) (length (now cells)) ⌝ }
+    requires { ⌜ Asks (now sheet) (now text) (now cells) rows asked ⌝ }
+    ensures { λ r. ⌜ ((i : ℕ) → verdictStep r i ≡ cardVerdict (askedQuestion asked (parametersOf (now (sheet .entry))) (now (text .entry)) (now (cells .entry)) rows) i (now (card .entry))) ⌝ }
+{
+    match asked {
+        Asked::Rows => judge_by_rows(kinds, text, cells, jumps, spans, digits, starts, ends, card),
+        Asked::Text => judge_by_text(sheet, kinds, text, card),
+        Asked::Search => judge_by_search(sheet, kinds, text, rows, card),
+    }
+}
