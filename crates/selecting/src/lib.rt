@@ -27,6 +27,7 @@ ghost use Rattle.rows.specs.Opening.{Opens};
 ghost use Rattle.rows.specs.Jumping.{Jumps};
 ghost use Rattle.refusal.specs.Steps.{found};
 ghost use Rattle.answer.specs.Operations.{filterQuestion};
+ghost use Rattle.answer.specs.Searching.{searchQuestion};
 ghost use Rattle.selecting.specs.Asking.{Asks, askedQuestion};
 ghost use Rattle.selecting.specs.Selecting.{Gathers, Selects};
 
