@@ -13,5 +13,8 @@ pub mod CheckTable
 pub mod MatchTable
 pub mod RunTable
 pub mod SelectTable
+pub mod Answered
 pub mod RowsTable
 pub mod RowsAnswered
+pub mod SearchFaults
+pub mod SearchTable

@@ -1,4 +1,3 @@
 -- The laws that the proofs of match and judge cite.
-pub mod Judging
 pub mod RowsJudged
 pub mod RowsMatched

@@ -23,9 +23,9 @@ use Rattle.refusal.specs.Steps.{found, stop, _>>=_, answer}
 use Rattle.answer.specs.Answers.{matchedAnswer}
 use Rattle.answer.specs.Operations.{sheetStep, takeSheet, Card, takeCard}
 use Rattle.answer.specs.Passing.{cardVerdict}
-use Rattle.matching.specs.OneCard.{verdictStep, verdictAnswer, cellsQuestion}
+use Rattle.one_card.specs.OneCard.{verdictStep, verdictAnswer, cellsQuestion}
 use Rattle.answer.specs.Preparing.{takeSize, takeRows, rowsAnswer, judgeAnswer}
-use Rattle.matching.specs.declared.CardVerdict.{CardVerdict}
+use Rattle.one_card.specs.declared.CardVerdict.{CardVerdict}
 use Rattle.answer.proofs.Passing.{yes-or-no-after, same-verdicts}
 use Rattle.answer.specs.declared.Matched.{Matched}
 

@@ -20,7 +20,8 @@ use Rattle.sirophan.proofs.Promises.{select-count-within, select-place-within}
 use Rattle.pick.specs.declared.runs.Totals.{Totals}
 use Rattle.pick.specs.declared.runs.Turn.{Turn}
 use Rattle.pick.specs.declared.runs.RunText.{RunText}
-use Rattle.pick.specs.Bounds.{PlaceBound, Added, RunAdded}
+use Rattle.answer.specs.Selection.{PlaceBound}
+use Rattle.pick.specs.Bounds.{Added, RunAdded}
 use Rattle.pick.specs.Lines.{lines, refusalLine, selectionText, runText}
 use Rattle.pick.specs.Places.{placeInFile}
 use Rattle.pick.specs.Runs.{TurnAfter, RunPut}

@@ -15,10 +15,6 @@ abbrev pub Fills : Filled → ℕ → Type 0
 Fills (Filled.Bytes n) room = n ≤ room
 Fills Filled.Failed room = Unit {0}
 
--- the place of the refusals 21 to 23 is the index of a card of the run
-pub record PlaceBound (number place : ℕ) : Type 0 where
-  pub within : 21 ≤ number → number ≤ 23 → place < 128
-
 -- no file has so many cards: it would have 2 ^ 63 bytes
 abbrev pub mostCards : ℕ
 mostCards = 2 ^ 54

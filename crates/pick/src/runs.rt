@@ -14,7 +14,8 @@ ghost use Prim.Native.Nat.{_≤_, _<_};
 ghost use mathlib.Core.Path.{_≡_};
 ghost use lib.ListN.{length};
 ghost use Rattle.pick.specs.Places.{placeInFile};
-ghost use Rattle.pick.specs.Bounds.{PlaceBound, mostCards, Countable, Added, RunAdded, FullRunAdded};
+ghost use Rattle.answer.specs.Selection.{PlaceBound};
+ghost use Rattle.pick.specs.Bounds.{mostCards, Countable, Added, RunAdded, FullRunAdded};
 ghost use Rattle.pick.specs.Runs.{RunPut};
 
 // The bytes of 128 cards. A run of fewer is the last.

@@ -30,9 +30,9 @@ use Rattle.answer.specs.declared.Checked.{Checked}
 use Rattle.answer.specs.declared.Matched.{Matched}
 use Rattle.searching.specs.declared.SearchRead.{SearchRead}
 use Rattle.answer.proofs.Passing.{match-stopped}
-use Rattle.matching.proofs.Judging.{match-answered}
-use Rattle.matching.specs.OneCard.{verdictStep, verdictAnswer}
-use Rattle.matching.specs.declared.CardVerdict.{CardVerdict}
+use Rattle.one_card.proofs.Judging.{match-answered}
+use Rattle.one_card.specs.OneCard.{verdictStep, verdictAnswer}
+use Rattle.one_card.specs.declared.CardVerdict.{CardVerdict}
 
 pub sheet-known : (sheet : List ℕ) (r : Reading) → r ≡ readSheet sheet → r ≡ Reading.WellFormed → readSheet sheet ≡ Reading.WellFormed
 sheet-known sheet r e h = sym e ∙ h

@@ -12,11 +12,11 @@ use Rattle.rows.specs.Saying.{Whole}
 use Rattle.search.specs.Rows.{RowsWithin}
 use Rattle.search.specs.declared.Rows.{Rows}
 use Rattle.answer.specs.Passing.{Passing, textQuestion, cardVerdict}
-use Rattle.matching.specs.OneCard.{verdictStep, cellsQuestion}
+use Rattle.one_card.specs.OneCard.{verdictStep, cellsQuestion}
 use Rattle.searching.specs.SearchPassing.{rowsQuestion}
 use Rattle.selecting.specs.Asking.{askedSays, askedQuestion, Asks, asks-rows, asks-text, asks-search}
 use Rattle.selecting.specs.declared.Asked.{Asked}
-use Rattle.matching.specs.declared.CardVerdict.{CardVerdict}
+use Rattle.one_card.specs.declared.CardVerdict.{CardVerdict}
 
 -- ---- what the code knows
 

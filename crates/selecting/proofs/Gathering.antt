@@ -15,13 +15,13 @@ use lib.Seq.{take-suc-set, drop-drop}
 use Rattle.base.specs.Parts.{part}
 use Rattle.block.specs.declared.Reading.{Reading}
 use Rattle.card.specs.Card.{recordNumber, readCard}
-use Rattle.matching.specs.declared.CardVerdict.{CardVerdict}
+use Rattle.one_card.specs.declared.CardVerdict.{CardVerdict}
 use Rattle.refusal.specs.declared.Refusal.{Refusal}
 use Rattle.answer.specs.declared.Selected.{Selected}
 use Rattle.refusal.specs.Steps.{Step, found, stop, _>>=_}
 use Rattle.answer.specs.Operations.{Question, blocks, takeCard}
 use Rattle.answer.specs.Passing.{cardVerdict}
-use Rattle.matching.specs.OneCard.{verdictStep}
+use Rattle.one_card.specs.OneCard.{verdictStep}
 use Rattle.selecting.specs.Selecting.{runNumbers, Gathers}
 use Rattle.refusal.proofs.Steps.{taken}
 use Rattle.answer.proofs.Passing.{card-taken}

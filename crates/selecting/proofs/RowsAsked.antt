@@ -35,7 +35,7 @@ use Rattle.answer.specs.Operations.{testsStep, Inputs, takeInputs, Question, fi
 use Rattle.answer.specs.Passing.{Passing}
 use Rattle.answer.specs.Preparing.{rowCells, Fills}
 use Rattle.selecting.specs.Selecting.{Selects}
-use Rattle.matching.specs.OneCard.{cellsQuestion}
+use Rattle.one_card.specs.OneCard.{cellsQuestion}
 use Rattle.selecting.specs.Asking.{askedSays, askedQuestion, Asks, asks-rows}
 use Rattle.answer.specs.declared.Prepared.{Prepared}
 use Rattle.answer.specs.declared.Selected.{Selected}

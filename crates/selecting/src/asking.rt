@@ -1,9 +1,9 @@
 // What is asked of a card, whichever way: by the rows of a filter, by a filter's text, or by a search string.
 use crate::Asked;
 use block::Reading;
-use matching::CardVerdict;
-use matching::judge_by_rows;
-use matching::judge_by_text;
+use one_card::CardVerdict;
+use one_card::judge_by_rows;
+use one_card::judge_by_text;
 use search::Rows;
 use searching::judge_by_search;
 ghost use mathlib.Core.Path.{_≡_};
@@ -14,7 +14,7 @@ ghost use Rattle.sheet.specs.Find.{kindsOf};
 ghost use Rattle.rows.specs.Opening.{Opens};
 ghost use Rattle.rows.specs.Jumping.{Jumps};
 ghost use Rattle.answer.specs.Passing.{cardVerdict};
-ghost use Rattle.matching.specs.OneCard.{verdictStep};
+ghost use Rattle.one_card.specs.OneCard.{verdictStep};
 ghost use Rattle.selecting.specs.Asking.{Asks, askedQuestion};
 
 // The verdict on a card, or why it is refused: by the rows of the text's filter in the cells, which were opened, by the text as a filter's, or by the

@@ -9,7 +9,7 @@ use answer::write;
 use asking::judge_asked;
 use block::Reading;
 use checking::check;
-use matching::CardVerdict;
+use one_card::CardVerdict;
 use preparing::fill;
 use refusal::Reason;
 use refusal::Refusal;

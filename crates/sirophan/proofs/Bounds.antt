@@ -12,13 +12,10 @@ use Rattle.base.proofs.Tests.{cond-elim}
 use Rattle.refusal.specs.Answers.{count, refused}
 use Rattle.refusal.specs.Steps.{Step, found, stop, _>>=_, answer}
 use Rattle.answer.specs.Operations.{Question, takeRun, takeCards, matching, takeRoom, selection, selectBy}
+use Rattle.answer.specs.Selection.{PlaceBound}
 use Rattle.answer.proofs.Outcomes.{OtherNumber}
 use Rattle.answer.proofs.Runs.{run-iff, run-or-none}
 use Rattle.answer.proofs.Selection.{selects-by-match}
-
--- the place of the refusals 21 to 23 is the index of a card of the run
-record PlaceBound (number place : ℕ) : Type 0 where
-  within : 21 ≤ number → number ≤ 23 → place < 128
 
 -- what a selection for `room` cells comes to
 data Bounded (room : ℕ) : Step (List ℕ) → Type 0 where

@@ -23,7 +23,7 @@ use Rattle.answer.proofs.Slices.{Sliced}
 use Rattle.answer.proofs.CheckTable.{check-table}
 use Rattle.answer.proofs.MatchTable.{match-table}
 use Rattle.answer.proofs.SelectTable.{select-table}
-use Rattle.sirophan.proofs.SearchTable.{check-search-table, match-search-table, select-search-table}
+use Rattle.answer.proofs.SearchTable.{check-search-table, match-search-table, select-search-table}
 use Rattle.answer.proofs.RowsTable.{prepare-table, judge-table}
 
 -- the table of a definition is that of an equal answer

@@ -4,10 +4,7 @@ pub mod Demand
 pub mod Determinacy
 pub mod Impossible
 pub mod Bounds
-pub mod Answered
-pub mod SearchFaults
 pub mod SearchDemand
-pub mod SearchTable
 pub mod SameQuestion
 pub mod Contracts
 pub mod SpellTable

@@ -75,7 +75,7 @@ use Rattle.answer.specs.SearchRefusals.{CheckSearchLine, MatchSearchLine, Selec
 use Rattle.sirophan.specs.SameQuestion.{SameQuestion, AnsweredAlike}
 use Rattle.sirophan.proofs.SameQuestion as same-question
 use Rattle.sirophan.proofs.SearchDemand as search-demand
-use Rattle.sirophan.proofs.SearchTable as search-table
+use Rattle.answer.proofs.SearchTable as search-table
 use Rattle.sheet.specs.Find.{kindsOf, parentsOf}
 use Rattle.rows.specs.Expression.{Expression}
 use Rattle.rows.specs.Cells.{encode, stated}
@@ -100,7 +100,7 @@ use Rattle.sirophan.proofs.Bounds as bounds
 use Rattle.answer.proofs.CheckTable as check-table
 use Rattle.answer.proofs.MatchTable as match-table
 use Rattle.answer.proofs.SelectTable as select-table
-use Rattle.sirophan.proofs.Answered as answered
+use Rattle.answer.proofs.Answered as answered
 use Rattle.sirophan.proofs.SpellTable as spell-table
 use Rattle.sirophan.proofs.Spells as spell
 use Rattle.sirophan.proofs.Operators as words

@@ -59,7 +59,7 @@ use Rattle.answer.proofs.Outcomes.{TestsOutcome, all-mean, one-refused}
 use Rattle.answer.proofs.Passing.{passing}
 use Rattle.answer.proofs.Inputs.{inputs-taken, tests-outcome, question-by}
 use Rattle.sirophan.proofs.Demand.{demand-met}
-use Rattle.sirophan.proofs.SearchFaults.{alternatives-outcome}
+use Rattle.answer.proofs.SearchFaults.{alternatives-outcome}
 use Rattle.sirophan.proofs.SearchDemand.{query-question, search-demand-met}
 
 -- ---- joins

@@ -19,7 +19,7 @@ use Rattle.answer.specs.SearchDemand.{searchTests, MeetsSearchDemand}
 use Rattle.answer.proofs.Verdicts.{verdict-of}
 use Rattle.sirophan.proofs.Demand.{demand-by}
 use Rattle.answer.proofs.Inputs.{match-by, sheet-taken}
-use Rattle.sirophan.proofs.SearchFaults.{alternatives-outcome}
+use Rattle.answer.proofs.SearchFaults.{alternatives-outcome}
 
 module _ (sheet text : List ℕ) (s : SheetBlock sheet) (q : Query) (spells : SpellsQuery text q) where
   abbrev ps : List Parameter

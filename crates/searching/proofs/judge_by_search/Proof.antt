@@ -1,6 +1,6 @@
 -- `searching::judge_by_search` meets its contract: the card is taken, and then the rows decide. Assumes nothing.
 use borrow.Author.Needs.{needs}
-use Rattle.matching.proofs.Judging.{conforming-known, judged-says, judged-refused}
+use Rattle.one_card.proofs.Judging.{conforming-known, judged-says, judged-refused}
 use Rattle.searching.proofs.judge_by_search.Statement.{statement}
 use Rattle.searching.proofs.judge_by_search.Tie as tie
 

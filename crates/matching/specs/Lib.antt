@@ -1,2 +1,0 @@
--- What the parts of match answer.
-pub mod OneCard

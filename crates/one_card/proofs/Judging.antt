@@ -1,0 +1,161 @@
+-- Match, as the code comes to its answer.
+-- Assumes nothing.
+use Prim.Native.Nat.{ℕ}
+use native.Mathlib.Omega.{arith}
+use mathlib.Core.Path.{_≡_, refl, sym, ap, ap₂, _∙_}
+use mathlib.Core.Bool.{Bool, true, false, cond}
+use mathlib.Core.Option.{none, some}
+use mathlib.Core.List.{List}
+use lib.Dec.{eqb, leb}
+use lib.ListN.{length}
+use Rattle.base.specs.Runs.{RunEnd}
+use Rattle.block.specs.declared.Reading.{Reading}
+use Rattle.sheet.specs.Sheet.{Parameter, parametersOf}
+use Rattle.sheet.specs.Find.{kindsOf}
+use Rattle.card.specs.Card.{Entry, entriesOf, readCard, recordNumber}
+use Rattle.syntax.specs.Tree.{Tree, testsOf}
+use Rattle.syntax.specs.Grammar.{round}
+use Rattle.syntax.specs.Scan.{isSpace, skipAt}
+use Rattle.syntax.specs.Reader.{Parsed, parsed, unparsed, filterAt, whole, read}
+use Rattle.judge.specs.Sets.{chosenOf, conforms, conformsTo}
+use Rattle.judge.specs.Verdicts.{filterSays}
+use Rattle.judge.proofs.Entries.{every, chosen-every}
+use Rattle.judge.proofs.Table.{table-conforms}
+use Rattle.filter.specs.Folds.{judging}
+use Rattle.filter.specs.Walks.{answerOf}
+use Rattle.filter.specs.declared.Judged.{Judged}
+use Rattle.filter.proofs.Walk.{was-filter, was-none}
+use Rattle.filter.proofs.Judging.{judged-cases, judging-is}
+use Rattle.rows.specs.Saying.{rowsSay}
+use Rattle.refusal.specs.Answers.{numberOf, yesOrNo, refusalAnswer}
+use Rattle.refusal.specs.Steps.{found, stop, Step, _>>=_, answer}
+use Rattle.refusal.specs.declared.Reason.{Reason}
+use Rattle.answer.specs.Operations.{Card, cardStep, takeCard, Question, matchBy, filterQuestion, matchAnswer}
+use Rattle.answer.specs.Passing.{Passing, textSays, textQuestion, cardVerdict}
+use Rattle.one_card.specs.OneCard.{verdictStep, TakesCard, cellsQuestion, verdictAnswer}
+use Rattle.one_card.specs.declared.CardTaken.{CardTaken}
+use Rattle.one_card.specs.declared.CardVerdict.{CardVerdict}
+use Rattle.refusal.specs.declared.Refusal.{Refusal}
+use Rattle.answer.specs.Answers.{matchedAnswer}
+use Rattle.answer.specs.declared.Matched.{Matched}
+use Rattle.answer.proofs.Passing.{passing-asks, yes-or-no-after}
+
+-- ---- what the filter says
+
+kept-tree : (b c : Bool) (f g : Tree) → cond b (cond c (some f) none) none ≡ some g → f ≡ g
+kept-tree true true f g h = cc
+kept-tree true false f g h = cc
+kept-tree false c f g h = cc
+
+module _ (ps : List Parameter) (es : List Entry) (b xs : List ℕ) (p : Passing b xs) (start : ℕ) (s : RunEnd isSpace xs 0 start) (w : Judged) (e : w ≡ answerOf Judged.Done Judged.Nothing (judging true ps 0 (chosenOf every es)) (filterAt 8 xs round start)) where
+  read-from : (g : Parsed) → filterAt 8 xs round start ≡ g → whole xs g ≡ some (p .tree)
+  unfolding read
+  read-from g h = (rw (← h, s .is) refl) ∙ p .reads
+
+  pub says-done : (q : ℕ) (a : Bool) → w ≡ Judged.Done q a → a ≡ textSays ps es (read xs)
+  says-done q a h =
+      let was = was-filter Judged.Done Judged.Nothing judged-cases (judging true ps 0 (chosenOf every es)) xs round 8 start w q a e h in
+      let f = was .tree in
+      let same : f ≡ p .tree = kept-tree (eqb (skipAt xs q) (length xs)) (leb (length (testsOf f)) 32) f (p .tree) (read-from (parsed q f) (was .read)) in
+      was .value ∙ judging-is ps 0 (chosenOf every es) f ∙ ap (λ (l : List Entry). filterSays ps 0 l f) (chosen-every es) ∙ rw (p .reads) (ap (filterSays ps 0 es) same)
+
+  pub says-nothing : (r : Bool) → w ≡ Judged.Nothing → r ≡ textSays ps es (read xs)
+  says-nothing r h =
+      let z : none ≡ some (p .tree) = read-from unparsed (was-none Judged.Done Judged.Nothing judged-cases (judging true ps 0 (chosenOf every es)) xs round 8 start w e h) in
+      cc
+
+-- ---- one card is taken
+
+module _ (kinds b : List ℕ) (r : Reading) (e : r ≡ readCard b) where
+  taken-refused : (k : Reading) (x : Reason) → ((fits : Bool) (c : Card) (i : ℕ) → cardStep k fits c i ≡ stop (numberOf x) i) → r ≡ k → TakesCard kinds b (CardTaken.Refused x)
+  taken-refused k x t h =
+      record {
+        well-formed = λ z. absurd (let y : _≡_ {A = ℕ} 0 1 = cc in omega arith);
+        steps = λ ps l i. (unfold takeCard in rw (sym e ∙ h, t (conforms ps (entriesOf b)) (record { number = recordNumber b; entries = entriesOf b }) i));
+      }
+
+  pub takes-size : r ≡ Reading.WrongSize → TakesCard kinds b (CardTaken.Refused Reason.CardSize)
+  takes-size = taken-refused Reading.WrongSize Reason.CardSize (λ fits c i. refl)
+
+  pub takes-sum : r ≡ Reading.WrongSum → TakesCard kinds b (CardTaken.Refused Reason.CardSum)
+  takes-sum = taken-refused Reading.WrongSum Reason.CardSum (λ fits c i. refl)
+
+  pub takes-layout : r ≡ Reading.WrongLayout → TakesCard kinds b (CardTaken.Refused Reason.CardLayout)
+  takes-layout = taken-refused Reading.WrongLayout Reason.CardLayout (λ fits c i. refl)
+
+  pub card-known : r ≡ Reading.WellFormed → readCard b ≡ Reading.WellFormed
+  card-known h = sym e ∙ h
+
+  module _ (o : Bool) (g : o ≡ conformsTo kinds (entriesOf b)) (h : r ≡ Reading.WellFormed) where
+    fits : (ps : List Parameter) → kinds ≡ kindsOf ps → conforms ps (entriesOf b) ≡ o
+    fits ps l = sym (g ∙ ap (λ (k : List ℕ). conformsTo k (entriesOf b)) l ∙ table-conforms ps (entriesOf b))
+
+    pub takes-misfit : o ≡ false → TakesCard kinds b (CardTaken.Refused Reason.CardMisfit)
+    takes-misfit n =
+        record {
+          well-formed = λ z. absurd (let y : _≡_ {A = ℕ} 0 1 = cc in omega arith);
+          steps = λ ps l i. (unfold takeCard in rw (sym e ∙ h, fits ps l ∙ n));
+        }
+
+    pub takes-conforming : o ≡ true → TakesCard kinds b CardTaken.Conforming
+    takes-conforming y =
+        record {
+          well-formed = λ z. sym e ∙ h;
+          steps = λ ps l i. (unfold takeCard in rw (sym e ∙ h, fits ps l ∙ y));
+        }
+
+-- ---- and judged
+
+module _ (kinds b : List ℕ) (t : CardTaken) (e : TakesCard kinds b t) where
+  pub conforming-known : t ≡ CardTaken.Conforming → readCard b ≡ Reading.WellFormed
+  conforming-known h = e .well-formed h
+
+  module _ (q : Question) (l : kinds ≡ kindsOf (q .parameters)) where
+    pub judged-says : (v : Bool) → t ≡ CardTaken.Conforming → v ≡ q .says (entriesOf b) → (i : ℕ) → found v ≡ cardVerdict q i b
+    unfolding cardVerdict
+    judged-says v h s i = rw (sym (e .steps (q .parameters) l i), h, s)
+
+    pub judged-refused : (x : Reason) → t ≡ CardTaken.Refused x → (i : ℕ) → stop (numberOf x) i ≡ cardVerdict q i b
+    unfolding cardVerdict
+    judged-refused x h i = rw (sym (e .steps (q .parameters) l i), h)
+
+  -- by rows, whatever the parameters of these kinds
+  module _ (xs cs : List ℕ) where
+    pub rows-says : (v : Bool) → t ≡ CardTaken.Conforming → v ≡ rowsSay kinds xs (chosenOf every (entriesOf b)) cs
+        → (ps : List Parameter) → kinds ≡ kindsOf ps → (i : ℕ) → found v ≡ cardVerdict (cellsQuestion ps xs cs) i b
+    rows-says v h s ps l = judged-says (cellsQuestion ps xs cs) l v h (s ∙ ap₂ (λ (k : List ℕ) (es : List Entry). rowsSay k xs es cs) l (chosen-every (entriesOf b)))
+
+    pub rows-refused : (x : Reason) → t ≡ CardTaken.Refused x → (ps : List Parameter) → kinds ≡ kindsOf ps → (i : ℕ) → stop (numberOf x) i ≡ cardVerdict (cellsQuestion ps xs cs) i b
+    rows-refused x h ps l = judged-refused (cellsQuestion ps xs cs) l x h
+
+-- ---- match
+
+-- what is asked is known, and so is the verdict on the card
+module _ (asked : Step Question) (q : Question) (card : List ℕ) (p : asked ≡ found q) (v : CardVerdict) (e : (i : ℕ) → verdictStep v i ≡ cardVerdict q i card) where
+  match-is : matchBy asked card ≡ answer (verdictStep v 0 >>= λ y. found (yesOrNo y))
+  unfolding matchBy cardVerdict
+  match-is = rw (p, e 0) (ap answer (yes-or-no-after (takeCard (q .parameters) 0 card) (λ c. q .says (c .entries))))
+
+  pub match-answered : (m : Matched) → matchedAnswer m ≡ verdictAnswer v → matchedAnswer m ≡ matchBy asked card
+  unfolding verdictAnswer
+  match-answered m h = h ∙ sym match-is
+
+-- by a filter that check has passed
+pub filter-answered : (b xs card : List ℕ) → Passing b xs → (v : CardVerdict) → ((i : ℕ) → verdictStep v i ≡ cardVerdict (textQuestion (parametersOf b) (read xs)) i card) → (m : Matched) → matchedAnswer m ≡ verdictAnswer v
+    → matchedAnswer m ≡ matchAnswer b xs card
+filter-answered b xs card p = match-answered (filterQuestion b xs) (textQuestion (parametersOf b) (read xs)) card (passing-asks b xs p)
+
+-- ---- a verdict as match's answer
+
+module _ (v : CardVerdict) where
+  pub verdict-yes : (y : Bool) → v ≡ CardVerdict.Says y → y ≡ true → matchedAnswer Matched.Yes ≡ verdictAnswer v
+  unfolding matchedAnswer verdictAnswer
+  verdict-yes y h k = rw (h, k)
+
+  pub verdict-no : (y : Bool) → v ≡ CardVerdict.Says y → y ≡ false → matchedAnswer Matched.No ≡ verdictAnswer v
+  unfolding matchedAnswer verdictAnswer
+  verdict-no y h k = rw (h, k)
+
+  pub verdict-refused : (r : Refusal) → v ≡ CardVerdict.Refused (r .reason) → r .place ≡ 0 → matchedAnswer (Matched.Refused r) ≡ verdictAnswer v
+  unfolding matchedAnswer refusalAnswer verdictAnswer
+  verdict-refused r h z = rw (h, z)

@@ -1,0 +1,28 @@
+-- `one_card::by_rows::judge_once` meets its contract. Assumes nothing.
+use borrow.Author.Needs.{needs}
+use Rattle.one_card.proofs.Judging.{conforming-known, rows-says, rows-refused}
+use Rattle.one_card.proofs.by_rows.judge_once.Statement.{statement}
+use Rattle.one_card.proofs.by_rows.judge_once.Tie as tie
+
+take-card-requires : tie.Need-take-card-requires
+take-card-requires c κs = search needs
+
+enum-told : tie.Need-enum-told
+enum-told c = search needs
+
+say-once-requires : tie.Need-say-once-requires
+say-once-requires c κs = (search needs, (search needs, (search needs, (search needs, search (conforming-known, needs)))))
+
+enum-known-taken : tie.Need-enum-known-taken
+enum-known-taken c = search needs
+
+returns : tie.Need-returns
+returns c = search (rows-says, needs)
+
+returns-2 : tie.Need-returns-2
+returns-2 c = search (rows-refused, needs)
+
+pub judge-once-spec : {M : Type 1} → statement M
+judge-once-spec =
+    tie.close
+    (tie.spec take-card-requires enum-told say-once-requires enum-known-taken returns returns-2)

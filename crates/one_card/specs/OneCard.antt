@@ -1,0 +1,43 @@
+-- One card under a sheet: what the cases of the code's answers state of it, and what rows ask of it.
+-- Assumes nothing.
+use Prim.Native.Nat.{ℕ}
+use mathlib.Core.Path.{_≡_}
+use mathlib.Core.Bool.{Bool}
+use mathlib.Core.List.{List}
+use Rattle.block.specs.declared.Reading.{Reading}
+use Rattle.sheet.specs.Sheet.{Parameter}
+use Rattle.sheet.specs.Find.{kindsOf}
+use Rattle.card.specs.Card.{recordNumber, entriesOf, readCard}
+use Rattle.rows.specs.Saying.{rowsSay}
+use Rattle.refusal.specs.Answers.{Answer, yesOrNo, numberOf}
+use Rattle.refusal.specs.Steps.{Step, found, stop, _>>=_, answer}
+use Rattle.answer.specs.Operations.{Card, takeCard, Question}
+use Rattle.one_card.specs.declared.CardTaken.{CardTaken}
+use Rattle.one_card.specs.declared.CardVerdict.{CardVerdict}
+
+-- ---- it is taken
+
+-- what each case of the code's answer states of the card with the index i
+abbrev pub takenStep : CardTaken → List ℕ → ℕ → Step Card
+takenStep CardTaken.Conforming b i = found (record { number = recordNumber b; entries = entriesOf b })
+takenStep (CardTaken.Refused r) b i = stop (numberOf r) i
+
+-- what taking a card owes, by the kinds of the sheet
+pub record TakesCard (kinds card : List ℕ) (r : CardTaken) : Type 0 where
+  pub well-formed : r ≡ CardTaken.Conforming → readCard card ≡ Reading.WellFormed
+  pub steps : (ps : List Parameter) → kinds ≡ kindsOf ps → (i : ℕ) → takenStep r card i ≡ takeCard ps i card
+
+-- ---- and judged
+
+-- what each case of the code's verdict states of the card with the index i
+abbrev pub verdictStep : CardVerdict → ℕ → Step Bool
+verdictStep (CardVerdict.Says b) i = found b
+verdictStep (CardVerdict.Refused r) i = stop (numberOf r) i
+
+-- the answer of match that a verdict makes
+unfoldable pub verdictAnswer : CardVerdict → Answer
+verdictAnswer v = answer (verdictStep v 0 >>= λ y. found (yesOrNo y))
+
+-- what rows ask over a text
+abbrev pub cellsQuestion : List Parameter → List ℕ → List ℕ → Question
+cellsQuestion ps text cells = record { parameters = ps; says = λ es. rowsSay (kindsOf ps) text es cells }
