@@ -20,9 +20,9 @@ const fn twin(file: &'static str, name: &'static str, promises: &'static [&'stat
     Twin { file, name, promises, line: Location::caller().line() }
 }
 
-const OPERATIONS: &str = "crates/sirophan/specs/Operations.antt";
-const SEARCHING: &str = "crates/sirophan/specs/Searching.antt";
-const PREPARING: &str = "crates/sirophan/specs/Preparing.antt";
+const OPERATIONS: &str = "crates/answer/specs/Operations.antt";
+const SEARCHING: &str = "crates/answer/specs/Searching.antt";
+const PREPARING: &str = "crates/answer/specs/Preparing.antt";
 const REPORT: &str = "crates/report/specs/Operation.antt";
 const EXPLAIN: &str = "crates/explain/specs/Operation.antt";
 
