@@ -26,7 +26,7 @@ use Rattle.filter.specs.Walks.{answerOf}
 use Rattle.filter.specs.declared.Judged.{Judged}
 use Rattle.filter.proofs.Walk.{was-filter, was-none}
 use Rattle.filter.proofs.Judging.{judged-cases, judging-is}
-use Rattle.rows.specs.Saying.{rowsSay, Whole}
+use Rattle.row_judge.specs.Saying.{rowsSay, Whole}
 use Rattle.search.specs.Rows.{RowsWithin}
 use Rattle.search.specs.declared.Rows.{Rows}
 use Rattle.refusal.specs.Answers.{numberOf}

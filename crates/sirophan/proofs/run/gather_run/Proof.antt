@@ -1,6 +1,6 @@
 -- `sirophan::run::gather_run` meets its contract: the rows are opened, then the cards. Assumes nothing.
 use borrow.Author.Needs.{needs}
-use Rattle.rows.proofs.Noting.{jumps-none}
+use Rattle.row_judge.proofs.Noting.{jumps-none}
 use Rattle.sirophan.proofs.run.gather_run.Statement.{statement}
 use Rattle.sirophan.proofs.run.gather_run.Tie as tie
 
