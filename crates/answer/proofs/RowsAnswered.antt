@@ -25,8 +25,8 @@ use Rattle.judge.specs.declared.Fault.{Fault}
 use Rattle.rows.specs.Good.{Good}
 use Rattle.rows.specs.Stated.{treeOf}
 use Rattle.rows.proofs.Good.{good-states, good-iff}
-use Rattle.rows.proofs.Writing.{filter-cells, cells-counted}
-use Rattle.rows.proofs.Preparing.{prepared-good, prepared-states}
+use Rattle.row_writer.proofs.Writing.{filter-cells, cells-counted}
+use Rattle.row_writer.proofs.Preparing.{prepared-good, prepared-states}
 use Rattle.refusal.specs.Answers.{Answer, yesOrNo, count, refused}
 use Rattle.refusal.specs.Steps.{Step, found, stop, _>>=_, answer}
 use Rattle.refusal.proofs.Deciding.{Decided, none-holds, one-decides}
@@ -37,7 +37,7 @@ use Rattle.answer.specs.RowsRefusals.{PrepareLine, PrepareAnswers, Prepa
 use Rattle.answer.specs.Verdicts.{Verdict}
 use Rattle.answer.proofs.Cards.{conforms-taken}
 use Rattle.answer.proofs.Verdicts.{verdict-spelled}
-use Rattle.rows.proofs.Meaning.{erase-says, fits-spelled}
+use Rattle.row_judge.proofs.Meaning.{erase-says, fits-spelled}
 use Rattle.answer.proofs.CheckTable.{inputs-decided}
 use Rattle.answer.proofs.Inputs.{sheet-taken, inputs-taken, inputs-number, question-by, match-by}
 use Rattle.answer.proofs.Passing.{same-verdicts}

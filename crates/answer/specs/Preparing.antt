@@ -15,7 +15,7 @@ use Rattle.rows.specs.Expression.{Expression}
 use Rattle.rows.specs.Cells.{encode, stated}
 use Rattle.rows.specs.Shapes.{good}
 use Rattle.rows.specs.Stated.{treeOf}
-use Rattle.rows.specs.Writing.{prepared}
+use Rattle.row_writer.specs.Writing.{prepared}
 use Rattle.refusal.specs.Answers.{Answer, yesOrNo, count, numberOf, refusalAnswer}
 use Rattle.refusal.specs.Steps.{Step, found, stop, _>>=_, answer}
 use Rattle.answer.specs.Operations.{takeSheet, takeFilter, testsStep, takeInputs, takeCard, written}

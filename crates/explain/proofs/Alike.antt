@@ -13,7 +13,7 @@ use Rattle.judge.specs.Verdicts.{filterSays}
 use Rattle.rows.specs.Expression.{Expression, probing, choosing, joining, negating}
 use Rattle.rows.specs.Good.{Fits, fits-test, fits-bracket, fits-join, fits-not}
 use Rattle.rows.specs.Stated.{treeOf, erase}
-use Rattle.rows.proofs.Meaning.{says-is, erase-says}
+use Rattle.row_judge.proofs.Meaning.{says-is, erase-says}
 use Rattle.explain.specs.Deciding.{outerTests, outerCount, without}
 use Rattle.explain.specs.Marks.{Mark, opposite, joinedMarks, markBy, isDecided, masked, suffices, spareBelow, deciding}
 use Rattle.explain.specs.Rows.{outline, outerVerdicts}

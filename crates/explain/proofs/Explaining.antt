@@ -30,7 +30,7 @@ use Rattle.rows.specs.Good.{Fits, Good}
 use Rattle.rows.specs.Shapes.{good}
 use Rattle.rows.specs.Stated.{treeOf, erase}
 use Rattle.rows.proofs.Good.{good-few, good-states, good-iff}
-use Rattle.rows.proofs.Meaning.{good-whole}
+use Rattle.row_judge.proofs.Meaning.{good-whole}
 use Rattle.refusal.specs.declared.Reason.{Reason}
 use Rattle.refusal.specs.declared.Refusal.{Refusal}
 use Rattle.refusal.specs.Answers.{yesOrNo, count, refused, numberOf, refusalAnswer}

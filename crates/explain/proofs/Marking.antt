@@ -13,7 +13,7 @@ use mir.Syntax.{w64}
 use Rattle.syntax.specs.Reader.{connective}
 use Rattle.rows.specs.Expression.{Expression, probing, choosing, joining, negating}
 use Rattle.rows.specs.Cells.{rowOf, stated}
-use Rattle.rows.specs.Saying.{Whole}
+use Rattle.row_judge.specs.Saying.{Whole}
 use Rattle.rows.specs.Stated.{treeOf}
 use Rattle.rows.specs.declared.Probe.{Probe}
 use Rattle.rows.specs.declared.Row.{Row}

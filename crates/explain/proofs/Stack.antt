@@ -11,7 +11,7 @@ use lib.ListN.{length, getD}
 use Rattle.syntax.specs.Reader.{connective}
 use Rattle.rows.specs.Expression.{Expression, probing, choosing, joining, negating, testCount}
 use Rattle.rows.specs.Cells.{rowOf, push, only, stated}
-use Rattle.rows.specs.Saying.{Whole}
+use Rattle.row_judge.specs.Saying.{Whole}
 use Rattle.rows.specs.Stated.{treeOf}
 use Rattle.rows.specs.declared.Probe.{Probe}
 use Rattle.rows.specs.declared.Row.{Row}

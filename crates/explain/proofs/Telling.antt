@@ -25,7 +25,7 @@ use Rattle.judge.specs.Sets.{chosenOf}
 use Rattle.judge.proofs.Entries.{every, chosen-every}
 use Rattle.rows.specs.Expression.{Expression, probing, choosing, joining, negating}
 use Rattle.rows.specs.Cells.{rowOf, encode, Writable, stated}
-use Rattle.rows.specs.Saying.{expressionSays, statedSays, rowsSay, Whole}
+use Rattle.row_judge.specs.Saying.{expressionSays, statedSays, rowsSay, Whole}
 use Rattle.rows.specs.Stated.{treeOf}
 use Rattle.rows.specs.declared.Probe.{Probe}
 use Rattle.rows.specs.declared.Row.{Row}

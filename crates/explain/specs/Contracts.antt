@@ -12,7 +12,7 @@ use Rattle.card.specs.Card.{recordNumber, entriesOf, readCard}
 use Rattle.syntax.specs.Tree.{Tree}
 use Rattle.judge.specs.Verdicts.{filterSays}
 use Rattle.rows.specs.Good.{Good}
-use Rattle.rows.specs.Saying.{Whole}
+use Rattle.row_judge.specs.Saying.{Whole}
 use Rattle.rows.specs.Stated.{treeOf, erase}
 use Rattle.refusal.specs.Steps.{found}
 use Rattle.answer.specs.Answers.{matchedAnswer}

@@ -10,7 +10,7 @@ use Rattle.card.specs.Card.{Entry}
 use Rattle.syntax.specs.Tree.{Tree}
 use Rattle.rows.specs.Expression.{Expression, probing, choosing, joining, negating}
 use Rattle.rows.specs.Cells.{stated}
-use Rattle.rows.specs.Saying.{expressionSays}
+use Rattle.row_judge.specs.Saying.{expressionSays}
 use Rattle.rows.specs.Stated.{treeOf}
 use Rattle.explain.specs.Deciding.{outerCount, cell, cells}
 use Rattle.explain.specs.Marks.{Mark, markBy, markOf, deciding}

@@ -4,7 +4,7 @@ use rows::row_of;
 ghost use mathlib.Core.Path.{_≡_};
 ghost use lib.ListN.{length};
 ghost use Rattle.syntax.specs.Reader.{connective};
-ghost use Rattle.rows.specs.Saying.{Whole};
+ghost use Rattle.row_judge.specs.Saying.{Whole};
 ghost use Rattle.explain.specs.Marks.{both, opposite, joinedMarks, markOf};
 ghost use Rattle.explain.specs.Rows.{MarksWhole};
 

@@ -4,7 +4,7 @@ ghost use mathlib.Core.Path.{_≡_};
 ghost use mathlib.Core.Bool.{cond};
 ghost use Prim.Native.Nat.{_≤_};
 ghost use lib.ListN.{length};
-ghost use Rattle.rows.specs.Saying.{Whole};
+ghost use Rattle.row_judge.specs.Saying.{Whole};
 ghost use Rattle.explain.specs.Marks.{markOf, isDecided};
 ghost use Rattle.explain.specs.Rows.{Spares};
 

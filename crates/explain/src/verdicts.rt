@@ -1,15 +1,15 @@
 // What the tests that rows state say of a card.
 use block::Reading;
 use judge::Chosen;
+use row_judge::say_once;
 use rows::Row;
 use rows::row_of;
-use rows::say_once;
 ghost use mathlib.Core.Path.{_≡_};
 ghost use mathlib.Core.Bool.{true};
 ghost use Prim.Native.Nat.{_≤_};
 ghost use lib.ListN.{length};
 ghost use Rattle.card.specs.Card.{entriesOf, readCard};
-ghost use Rattle.rows.specs.Saying.{rowsSay, Whole};
+ghost use Rattle.row_judge.specs.Saying.{rowsSay, Whole};
 ghost use Rattle.explain.specs.Deciding.{cell};
 ghost use Rattle.explain.specs.Rows.{Tells};
 

@@ -13,10 +13,10 @@ use Rattle.sheet.specs.Find.{kindsOf, parentsOf}
 use Rattle.sheet.proofs.RoundTrip.{sheet-well-formed}
 use Rattle.judge.specs.Verdicts.{filterSays}
 use Rattle.rows.specs.Shapes.{good}
-use Rattle.rows.specs.Saying.{rowsSay, Whole}
+use Rattle.row_judge.specs.Saying.{rowsSay, Whole}
 use Rattle.rows.specs.Stated.{treeOf}
 use Rattle.rows.proofs.Good.{good-few}
-use Rattle.rows.proofs.Meaning.{good-whole, rows-mean}
+use Rattle.row_judge.proofs.Meaning.{good-whole, rows-mean}
 use Rattle.refusal.specs.declared.Reason.{Reason}
 use Rattle.refusal.specs.Answers.{yesOrNo, refused, numberOf}
 use Rattle.refusal.specs.Steps.{found, stop, _>>=_, answer}

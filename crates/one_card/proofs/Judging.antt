@@ -26,7 +26,7 @@ use Rattle.filter.specs.Walks.{answerOf}
 use Rattle.filter.specs.declared.Judged.{Judged}
 use Rattle.filter.proofs.Walk.{was-filter, was-none}
 use Rattle.filter.proofs.Judging.{judged-cases, judging-is}
-use Rattle.rows.specs.Saying.{rowsSay}
+use Rattle.row_judge.specs.Saying.{rowsSay}
 use Rattle.refusal.specs.Answers.{numberOf, yesOrNo, refusalAnswer}
 use Rattle.refusal.specs.Steps.{found, stop, Step, _>>=_, answer}
 use Rattle.refusal.specs.declared.Reason.{Reason}

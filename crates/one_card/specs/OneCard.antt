@@ -8,7 +8,7 @@ use Rattle.block.specs.declared.Reading.{Reading}
 use Rattle.sheet.specs.Sheet.{Parameter}
 use Rattle.sheet.specs.Find.{kindsOf}
 use Rattle.card.specs.Card.{recordNumber, entriesOf, readCard}
-use Rattle.rows.specs.Saying.{rowsSay}
+use Rattle.row_judge.specs.Saying.{rowsSay}
 use Rattle.refusal.specs.Answers.{Answer, yesOrNo, numberOf}
 use Rattle.refusal.specs.Steps.{Step, found, stop, _>>=_, answer}
 use Rattle.answer.specs.Operations.{Card, takeCard, Question}

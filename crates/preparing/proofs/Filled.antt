@@ -20,10 +20,10 @@ use Rattle.place.specs.Machine.{failure}
 use Rattle.judge.specs.Faults.{firstFault}
 use Rattle.judge.specs.declared.Fault.{Fault}
 use Rattle.filter.specs.declared.Summary.{Summary}
-use Rattle.rows.specs.Writing.{cellCount, Wrote}
-use Rattle.rows.specs.declared.Outcome.{Outcome}
-use Rattle.rows.specs.declared.Written.{Written}
-use Rattle.rows.proofs.Writing as writing
+use Rattle.row_writer.specs.Writing.{cellCount, Wrote}
+use Rattle.row_writer.specs.declared.Outcome.{Outcome}
+use Rattle.row_writer.specs.declared.Written.{Written}
+use Rattle.row_writer.proofs.Writing as writing
 use Rattle.refusal.specs.declared.Reason.{Reason}
 use Rattle.refusal.specs.declared.Refusal.{Refusal}
 use Rattle.refusal.specs.Answers.{Answer, count, refused, numberOf, refusalAnswer}

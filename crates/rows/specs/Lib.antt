@@ -4,9 +4,4 @@ pub mod Cells
 pub mod Nesting
 pub mod Good
 pub mod Shapes
-pub mod Writing
-pub mod Saying
 pub mod Stated
-pub mod Opening
-pub mod Packing
-pub mod Jumping

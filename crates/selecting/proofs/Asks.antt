@@ -8,7 +8,7 @@ use lib.ListN.{length}
 use Rattle.sheet.specs.Sheet.{Parameter}
 use Rattle.sheet.specs.Find.{kindsOf}
 use Rattle.syntax.specs.Reader.{read}
-use Rattle.rows.specs.Saying.{Whole}
+use Rattle.row_judge.specs.Saying.{Whole}
 use Rattle.search.specs.Rows.{RowsWithin}
 use Rattle.search.specs.declared.Rows.{Rows}
 use Rattle.answer.specs.Passing.{Passing, textQuestion, cardVerdict}

@@ -21,12 +21,12 @@ use Rattle.judge.specs.Faults.{firstFault}
 use Rattle.judge.specs.Verdicts.{filterSays}
 use Rattle.judge.specs.declared.Fault.{Fault}
 use Rattle.rows.specs.Good.{Good}
-use Rattle.rows.specs.Saying.{rowsSay, Whole}
+use Rattle.row_judge.specs.Saying.{rowsSay, Whole}
 use Rattle.rows.specs.Shapes.{good}
 use Rattle.rows.specs.Stated.{treeOf}
 use Rattle.rows.proofs.Good.{good-states, good-iff, good-few}
-use Rattle.rows.proofs.Meaning.{erase-says, good-whole, rows-mean}
-use Rattle.rows.proofs.Preparing.{prepared-good, prepared-states}
+use Rattle.row_judge.proofs.Meaning.{erase-says, good-whole, rows-mean}
+use Rattle.row_writer.proofs.Preparing.{prepared-good, prepared-states}
 use Rattle.search.specs.declared.Rows.{Rows}
 use Rattle.refusal.specs.Answers.{numberOf}
 use Rattle.refusal.specs.Steps.{Step, found, stop, _>>=_}

@@ -8,7 +8,7 @@ use Rattle.sheet.specs.Sheet.{Parameter}
 use Rattle.sheet.specs.Find.{kindsOf}
 use Rattle.card.specs.Card.{Entry}
 use Rattle.syntax.specs.Reader.{read}
-use Rattle.rows.specs.Saying.{rowsSay, Whole}
+use Rattle.row_judge.specs.Saying.{rowsSay, Whole}
 use Rattle.search.specs.Meaning.{alternativeSays}
 use Rattle.search.specs.Rows as search
 use Rattle.search.specs.Rows.{RowsWithin}

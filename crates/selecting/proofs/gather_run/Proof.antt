@@ -1,6 +1,6 @@
 -- `selecting::gather_run` meets its contract: the rows are opened, then the cards. Assumes nothing.
 use borrow.Author.Needs.{needs}
-use Rattle.rows.proofs.Noting.{jumps-none}
+use Rattle.row_judge.proofs.Noting.{jumps-none}
 use Rattle.selecting.proofs.gather_run.Statement.{statement}
 use Rattle.selecting.proofs.gather_run.Tie as tie
 

@@ -1,0 +1,50 @@
+-- `row_judge::says::opened_at` meets its contract. Assumes nothing.
+use borrow.Author.Needs.{needs}
+use Rattle.row_judge.proofs.Opening.{from-same}
+use Rattle.row_judge.proofs.says.opened_at.Statement.{statement}
+use Rattle.row_judge.proofs.says.opened_at.Tie as tie
+
+mul-opened-from : tie.Need-mul-opened-from
+mul-opened-from c = search needs
+
+shared-slice-read-opened-from : tie.Need-shared-slice-read-opened-from
+shared-slice-read-opened-from c = search needs
+
+mul-opened-from-2 : tie.Need-mul-opened-from-2
+mul-opened-from-2 c = search needs
+
+shared-slice-read-opened-from-2 : tie.Need-shared-slice-read-opened-from-2
+shared-slice-read-opened-from-2 c = search needs
+
+mul-opened-from-3 : tie.Need-mul-opened-from-3
+mul-opened-from-3 c = search needs
+
+shared-slice-copy-out-opened-from : tie.Need-shared-slice-copy-out-opened-from
+shared-slice-copy-out-opened-from c = search needs
+
+mul-opened-from-4 : tie.Need-mul-opened-from-4
+mul-opened-from-4 c = search needs
+
+shared-slice-copy-out-opened-from-2 : tie.Need-shared-slice-copy-out-opened-from-2
+shared-slice-copy-out-opened-from-2 c = search needs
+
+opened-from-requires : tie.Need-opened-from-requires
+opened-from-requires c κs = search needs
+
+returns : tie.Need-returns
+returns c = search (from-same, needs)
+
+pub opened-at-spec : {M : Type 1} → statement M
+opened-at-spec =
+    tie.close
+    (tie.spec
+    mul-opened-from
+    shared-slice-read-opened-from
+    mul-opened-from-2
+    shared-slice-read-opened-from-2
+    mul-opened-from-3
+    shared-slice-copy-out-opened-from
+    mul-opened-from-4
+    shared-slice-copy-out-opened-from-2
+    opened-from-requires
+    returns)

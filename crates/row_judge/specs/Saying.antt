@@ -1,0 +1,87 @@
+-- What an expression says of a card's entries, as the code goes: by index, and entry by entry. Kinds are a table by index.
+-- Assumes nothing.
+use Prim.Native.Nat.{ℕ, _≤_}
+use mathlib.Core.Path.{_≡_}
+use mathlib.Core.Bool.{Bool, true, false, not, _&&_, _||_}
+use mathlib.Core.Option.{Option, none, some}
+use mathlib.Core.List.{List, [], _∷_}
+use lib.Dec.{eqb}
+use lib.ListN.{length, getD}
+use Rattle.base.specs.Parts.{part}
+use Rattle.card.specs.Card.{Entry}
+use Rattle.syntax.specs.Scan.{valueAt}
+use Rattle.syntax.specs.declared.FoundValue.{FoundValue}
+use Rattle.kind.specs.Table.{meaningOf}
+use Rattle.kind.specs.Readable.{isTrue}
+use Rattle.kind.specs.declared.Meaning.{Meaning}
+use Rattle.judge.specs.Sets.{valuesAt, ofOccurrence, keep, counts}
+use Rattle.judge.specs.Verdicts.{textCounts, someSays, saysOf, joined}
+use Rattle.judge.specs.declared.Chosen.{Chosen}
+use Rattle.rows.specs.Expression.{Expression, probing, choosing, joining, negating, testCount}
+use Rattle.rows.specs.Cells.{stated}
+use Rattle.rows.specs.Shapes.{valueIn}
+use Rattle.rows.specs.declared.Probe.{Probe}
+
+-- ---- an expression
+
+abbrev pub probeSaysBy : FoundValue → ℕ → List ℕ → Probe → List Entry → Bool
+probeSaysBy (FoundValue.Value v) kind xs p es = saysOf (meaningOf (p .operator) kind) (valueIn xs v) (valuesAt (p .index) es)
+probeSaysBy FoundValue.Nothing kind xs p es = false
+
+unfoldable pub probeSays : List ℕ → List ℕ → Probe → List Entry → Bool
+probeSays kinds xs p es = probeSaysBy (valueAt xs (p .position)) (getD kinds (p .index) 0) xs p es
+
+unfoldable pub expressionSays : List ℕ → List ℕ → List Entry → Expression → Bool
+expressionSays kinds xs es (probing p) = probeSays kinds xs p es
+expressionSays kinds xs es (choosing e p) = probeSays kinds xs p (keep (λ n. expressionSays kinds xs (ofOccurrence (n .occurrence) es) e) es)
+expressionSays kinds xs es (joining k e f) = joined k (expressionSays kinds xs es e) (expressionSays kinds xs es f)
+expressionSays kinds xs es (negating e) = not (expressionSays kinds xs es e)
+
+-- ---- rows
+
+abbrev pub statedSays : List ℕ → List ℕ → List Entry → Option Expression → Bool
+statedSays kinds xs es none = false
+statedSays kinds xs es (some e) = expressionSays kinds xs es e
+
+-- what the rows say of entries
+unfoldable pub rowsSay : List ℕ → List ℕ → List Entry → List ℕ → Bool
+rowsSay kinds xs es cs = statedSays kinds xs es (stated cs)
+
+-- they state an expression, with few enough tests for a stack of 32
+pub record Whole (cs : List ℕ) : Type 0 where
+  pub expression : Expression
+  pub states : stated cs ≡ some expression
+  pub few : testCount expression ≤ 32
+
+-- the rows in brackets, from one place to another
+pub record Bracketed (rows : List ℕ) (from to : ℕ) : Type 0 where
+  pub order : from ≤ to
+  pub within : to ≤ length rows
+  pub whole : Whole (part rows from to)
+
+-- ---- a test after the rows in its brackets, entry by entry; a test without brackets has none
+
+abbrev pub innerSays : List ℕ → List ℕ → List Entry → List ℕ → Bool
+innerSays kinds xs es [] = true
+innerSays kinds xs es (c ∷ cs) = rowsSay kinds xs es (c ∷ cs)
+
+-- some of the entries is among those that count, stands under the parameter, has a text that counts, and has an occurrence that says yes
+unfoldable pub someEntry : (ℕ → Bool) → Chosen → ℕ → Meaning → List ℕ → List Entry → Bool
+someEntry says k i m v [] = false
+someEntry says k i m v (e ∷ es) = (((counts k (e .occurrence) && eqb (e .index) i) && textCounts m v (e .text)) && says (e .occurrence)) || someEntry says k i m v es
+
+-- without brackets every occurrence says yes
+abbrev pub anyOccurrence : ℕ → Bool
+anyOccurrence o = true
+
+-- what the rows in the brackets say of an occurrence of a card with the entries all
+abbrev pub occurrenceSays : List ℕ → List ℕ → List Entry → List ℕ → ℕ → Bool
+occurrenceSays kinds xs all inner o = innerSays kinds xs (ofOccurrence o all) inner
+
+abbrev pub probeSaysEachBy : FoundValue → ℕ → List ℕ → List ℕ → List ℕ → Probe → Chosen → List Entry → Bool
+probeSaysEachBy (FoundValue.Value v) kind kinds xs inner p k all =
+    someSays (meaningOf (p .operator) kind) (isTrue (valueIn xs v)) (someEntry (occurrenceSays kinds xs all inner) k (p .index) (meaningOf (p .operator) kind) (valueIn xs v) all)
+probeSaysEachBy FoundValue.Nothing kind kinds xs inner p k all = false
+
+unfoldable pub probeSaysEach : List ℕ → List ℕ → List ℕ → Probe → Chosen → List Entry → Bool
+probeSaysEach kinds xs inner p k all = probeSaysEachBy (valueAt xs (p .position)) (getD kinds (p .index) 0) kinds xs inner p k all

@@ -1,0 +1,4 @@
+-- The laws that the proofs cite.
+pub mod Numbers
+pub mod Writing
+pub mod Preparing

@@ -1,0 +1,2 @@
+-- The rows that reading a filter writes.
+pub mod Writing

@@ -1,0 +1,261 @@
+// Reading a filter: its rows are written, its tests are counted, and the first fault among them is kept. A filter and an item call
+// each other, and the text left and the nesting left fall.
+use crate::Outcome;
+use crate::Written;
+use block::Reading;
+use filter::Spot;
+use filter::Summary;
+use filter::join_summaries;
+use filter::test_summary;
+use judge::test_found;
+use rows::Row;
+use sheet::Found;
+use syntax::FoundClose;
+use syntax::FoundConnective;
+use syntax::FoundTest;
+use syntax::Head;
+use syntax::RawTest;
+use syntax::RawValue;
+use syntax::read_close;
+use syntax::read_connective;
+use syntax::read_head;
+use syntax::read_member;
+use syntax::scan::skip;
+ghost use mathlib.Core.Path.{_≡_};
+ghost use Prim.Native.Nat.{_≤_};
+ghost use lib.ListN.{length};
+ghost use Rattle.sheet.specs.Sheet.{parametersOf, readSheet};
+ghost use Rattle.syntax.specs.Placed.{Placed};
+ghost use Rattle.syntax.specs.Scan.{testOf};
+ghost use Rattle.syntax.specs.Reader.{itemAt, filterAt};
+ghost use Rattle.rows.specs.Cells.{numberOf, cellOf};
+ghost use Rattle.row_writer.specs.Writing.{valuePlace, indexOf, probeFor, Wrote, Read};
+
+// The index of what a test names, and 0 where it names nothing.
+fn index_of(found: Found) -> u32
+    ensures { λ r. ⌜ (r ≡ indexOf found) × (r ≤ 255) ⌝ }
+{
+    match found {
+        Found::At { index, kind: _ } => index as u32,
+        Found::Missing => 0,
+    }
+}
+
+// Where the value of a test begins: a string's at its quote.
+fn value_place(filter: &[u8], test: RawTest) -> u32
+    requires { ⌜ length (now filter) ≤ 1024 ⌝ }
+    requires { ⌜ Placed (now filter) test ⌝ }
+    requires { ⌜ Read (now filter) test ⌝ }
+    ensures { λ r. ⌜ (r ≡ valuePlace (now (filter .entry)) (test .at)) × (r ≤ 1024) ⌝ }
+{
+    let value = test.value;
+    let quotes = value.next - value.end;
+    (value.start - quotes) as u32
+}
+
+// The number of a test of the filter, looked up in a bundle.
+fn test_number(sheet: &[u8], bundle: u8, filter: &[u8], test: RawTest) -> u32
+    requires { ⌜ readSheet (now sheet) ≡ Reading.WellFormed ⌝ }
+    requires { ⌜ length (now filter) ≤ 1024 ⌝ }
+    requires { ⌜ Placed (now filter) test ⌝ }
+    requires { ⌜ Read (now filter) test ⌝ }
+    ensures { λ r. ⌜ (r ≡ numberOf (probeFor (parametersOf (now (sheet .entry))) (now (filter .entry)) bundle (testOf (now (filter .entry)) test))) × (r ≤ 2000000) ⌝ }
+{
+    let index = index_of(test_found(sheet, bundle, filter, test));
+    let place = value_place(filter, test);
+    let operator = test.operator as u32;
+    index + 32 * (operator + 32 * place)
+}
+
+// The item at a spot: "a test, a filter in round brackets, or not followed by a filter in round brackets", or the test of a member
+// after its bundle's brackets. Its cells are written from a row on.
+fn write_item(sheet: &[u8], filter: &[u8], spot: Spot, rows: &mut [u32], row: usize) -> Written
+    requires { ⌜ readSheet (now sheet) ≡ Reading.WellFormed ⌝ }
+    requires { ⌜ length (now filter) ≤ 1024 ⌝ }
+    requires { ⌜ spot .at ≤ length (now filter) ⌝ }
+    requires { ⌜ length (now rows) ≡ 1024 ⌝ }
+    requires { ⌜ row ≤ spot .at ⌝ }
+    ensures { λ r. ⌜ Wrote (parametersOf (now (sheet .entry))) (spot .bundle) (now (filter .entry)) row (itemAt (spot .deep) (now (filter .entry)) (spot .close) (spot .at)) r (now (rows .entry)) (now (rows .exit)) ⌝ }
+{
+    let at = spot.at;
+    let deep = spot.deep;
+    let close = spot.close;
+    let bundle = spot.bundle;
+    let head = read_head(filter, close, at);
+    match head {
+        Head::Test(test) => {
+            let summary = test_summary(sheet, bundle, filter, test.at, test);
+            rows[row] = 8 * test_number(sheet, bundle, filter, test);
+            let value = test.value;
+            Written::Done(value.next, Outcome { summary, cells: 1 })
+        }
+        Head::Open(next, negate) => {
+            if deep == 0 {
+                return Written::Nothing;
+            }
+            let inner = write_filter(
+                sheet,
+                filter,
+                Spot {
+                    at: next,
+                    deep: deep - 1,
+                    close: b')',
+                    bundle,
+                },
+                rows,
+                row,
+            );
+            match inner {
+                Written::Done(end, outcome) => {
+                    let closed = read_close(filter, b')', end);
+                    match closed {
+                        FoundClose::At(after) => {
+                            if negate {
+                                let summary = outcome.summary;
+                                let cells = outcome.cells;
+                                rows[row + cells] = 2;
+                                return Written::Done(
+                                    after,
+                                    Outcome {
+                                        summary,
+                                        cells: cells + 1,
+                                    },
+                                );
+                            }
+                            Written::Done(after, outcome)
+                        }
+                        FoundClose::Nothing => Written::Nothing,
+                    }
+                }
+                Written::Nothing => Written::Nothing,
+            }
+        }
+        Head::Choice(until) => {
+            if deep == 0 {
+                return Written::Nothing;
+            }
+            let inside = sheet::enter(sheet, bundle, &filter[at..until]);
+            let next = skip(filter, until + 1);
+            let inner = write_filter(
+                sheet,
+                filter,
+                Spot {
+                    at: next,
+                    deep: deep - 1,
+                    close: b']',
+                    bundle: inside,
+                },
+                rows,
+                row,
+            );
+            match inner {
+                Written::Done(end, outcome) => {
+                    let member = read_member(filter, close, end);
+                    match member {
+                        FoundTest::Test(test) => {
+                            let outer = test_summary(sheet, inside, filter, at, test);
+                            let summary = outcome.summary;
+                            let cells = outcome.cells;
+                            rows[row + cells] = 8 * test_number(sheet, inside, filter, test) + 1;
+                            let value = test.value;
+                            Written::Done(
+                                value.next,
+                                Outcome {
+                                    summary: join_summaries(outer, summary),
+                                    cells: cells + 1,
+                                },
+                            )
+                        }
+                        FoundTest::Nothing => Written::Nothing,
+                    }
+                }
+                Written::Nothing => Written::Nothing,
+            }
+        }
+        Head::Nothing => Written::Nothing,
+    }
+}
+
+// The cell of a connective.
+fn connect_cell(and: bool) -> u32
+    ensures { λ r. ⌜ r ≡ cellOf (Row.Connect and) ⌝ }
+{
+    if and {
+        return 3;
+    }
+    4
+}
+
+// The filter at a spot: "one or more items joined by and or or", from left to right. Its cells are written from a row on.
+pub fn write_filter(
+    sheet: &[u8],
+    filter: &[u8],
+    spot: Spot,
+    rows: &mut [u32],
+    row: usize,
+) -> Written
+    requires { ⌜ readSheet (now sheet) ≡ Reading.WellFormed ⌝ }
+    requires { ⌜ length (now filter) ≤ 1024 ⌝ }
+    requires { ⌜ spot .at ≤ length (now filter) ⌝ }
+    requires { ⌜ length (now rows) ≡ 1024 ⌝ }
+    requires { ⌜ row ≤ spot .at ⌝ }
+    ensures { λ r. ⌜ Wrote (parametersOf (now (sheet .entry))) (spot .bundle) (now (filter .entry)) row (filterAt (spot .deep) (now (filter .entry)) (spot .close) (spot .at)) r (now (rows .entry)) (now (rows .exit)) ⌝ }
+{
+    let at = spot.at;
+    let deep = spot.deep;
+    let close = spot.close;
+    let bundle = spot.bundle;
+    let first = write_item(
+        sheet,
+        filter,
+        Spot {
+            at,
+            deep,
+            close,
+            bundle,
+        },
+        rows,
+        row,
+    );
+    let Written::Done(first_end, first_outcome) = first else {
+        return Written::Nothing;
+    };
+    let mut end = first_end;
+    let mut summary = first_outcome.summary;
+    let mut cells = first_outcome.cells;
+    loop {
+        let connective = read_connective(filter, end);
+        match connective {
+            FoundConnective::Next(next, and) => {
+                let item = write_item(
+                    sheet,
+                    filter,
+                    Spot {
+                        at: next,
+                        deep,
+                        close,
+                        bundle,
+                    },
+                    rows,
+                    row + cells,
+                );
+                match item {
+                    Written::Done(item_end, item_outcome) => {
+                        let item_summary = item_outcome.summary;
+                        let item_cells = item_outcome.cells;
+                        rows[row + cells + item_cells] = connect_cell(and);
+                        end = item_end;
+                        summary = join_summaries(summary, item_summary);
+                        cells = cells + item_cells + 1;
+                    }
+                    Written::Nothing => {
+                        return Written::Nothing;
+                    }
+                }
+            }
+            FoundConnective::Nothing => {
+                return Written::Done(end, Outcome { summary, cells });
+            }
+        }
+    }
+}
