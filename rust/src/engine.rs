@@ -1,6 +1,7 @@
 //! The two engines, by either of which a filter is judged.
 
-use crate::{Refusal, ffi};
+use crate::Refusal;
+use crate::ffi::call;
 
 /// Which way a filter is judged. On every input both give the same answer, refusals and places included.
 #[derive(Clone, Copy, Debug, Default, PartialEq, Eq, Hash)]
@@ -24,18 +25,7 @@ impl Engine {
 
 /// Answers what [`matches`](crate::matches) does, by the filter's text.
 pub fn matches_by_text(sheet: &[u8], filter: &[u8], card: &[u8]) -> Result<bool, Refusal> {
-    // SAFETY: each pointer comes with the length of the slice that it is of, and all are only read.
-    let answer = unsafe {
-        ffi::sirophan_match_by_text(
-            sheet.as_ptr(),
-            sheet.len(),
-            filter.as_ptr(),
-            filter.len(),
-            card.as_ptr(),
-            card.len(),
-        )
-    };
-    answer.into_result().map(|value| value == 1)
+    call!(sirophan_match_by_text: read sheet, read filter, read card).into_yes()
 }
 
 /// Does what [`select`](crate::select) does, by either engine.
@@ -56,20 +46,6 @@ pub fn select_by(
     cards: &[u8],
     list: &mut [u32],
 ) -> Result<usize, Refusal> {
-    // SAFETY: each pointer comes with the length of the slice that it is of. Only the list is written, and it cannot
-    // overlap the others, since it is borrowed for writing.
-    let answer = unsafe {
-        ffi::sirophan_select_by(
-            engine.number(),
-            sheet.as_ptr(),
-            sheet.len(),
-            filter.as_ptr(),
-            filter.len(),
-            cards.as_ptr(),
-            cards.len(),
-            list.as_mut_ptr(),
-            list.len(),
-        )
-    };
-    answer.into_result()
+    let number = engine.number();
+    call!(sirophan_select_by: value number, read sheet, read filter, read cards, write list).into_result()
 }

@@ -1,7 +1,8 @@
 //! Why a filter says what it says of a card: the tests that decide.
 
+use crate::Refusal;
+use crate::ffi::call;
 use crate::refusal::printable;
-use crate::{Refusal, ffi};
 use std::ops::Range;
 
 /// A filter has at most this many tests.
@@ -64,21 +65,7 @@ pub fn explain(sheet: &[u8], filter: &[u8], card: &[u8]) -> Result<Explanation, 
 /// where it is spared, 1 where it decides by its yes, 2 where it decides by its no. Later cells stay, and a refusal leaves
 /// all of them as they are; 33 says how many are needed.
 pub fn explain_into(sheet: &[u8], filter: &[u8], card: &[u8], cells: &mut [u8]) -> Result<bool, Refusal> {
-    // SAFETY: each pointer comes with the length of the slice that it is of. Only the cells are written, and they cannot
-    // overlap the others, since they are borrowed for writing.
-    let answer = unsafe {
-        ffi::sirophan_explain(
-            sheet.as_ptr(),
-            sheet.len(),
-            filter.as_ptr(),
-            filter.len(),
-            card.as_ptr(),
-            card.len(),
-            cells.as_mut_ptr(),
-            cells.len(),
-        )
-    };
-    answer.into_result().map(|value| value == 1)
+    call!(sirophan_explain: read sheet, read filter, read card, write cells).into_yes()
 }
 
 impl Explanation {

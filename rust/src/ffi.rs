@@ -16,6 +16,11 @@ impl Answer {
             number => Err(Refusal { number, place: self.value }),
         }
     }
+
+    /// The same of a yes or no, which are 1 and 0.
+    pub fn into_yes(self) -> Result<bool, Refusal> {
+        self.into_result().map(|value| value == 1)
+    }
 }
 
 /// `sirophan_counts`: the number of a refusal, or 0 for none, its place, and how many cards say yes and how many no.
@@ -35,6 +40,27 @@ impl Reported {
         }
     }
 }
+
+/// Calls a function of the interface. A slice goes as its pointer and its length: one that is read is marked `read`, and one
+/// that is written `write`. A plain number is marked `value`.
+macro_rules! call {
+    ($function:ident: $($arguments:tt)+) => { $crate::ffi::call!(@ $function () $($arguments)+) };
+    (@ $function:ident ($($passed:tt)*) read $slice:ident $(, $($rest:tt)+)?) => {
+        $crate::ffi::call!(@ $function ($($passed)* $slice.as_ptr(), $slice.len(),) $($($rest)+)?)
+    };
+    (@ $function:ident ($($passed:tt)*) write $slice:ident $(, $($rest:tt)+)?) => {
+        $crate::ffi::call!(@ $function ($($passed)* $slice.as_mut_ptr(), $slice.len(),) $($($rest)+)?)
+    };
+    (@ $function:ident ($($passed:tt)*) value $value:ident $(, $($rest:tt)+)?) => {
+        $crate::ffi::call!(@ $function ($($passed)* $value,) $($($rest)+)?)
+    };
+    (@ $function:ident ($($passed:tt)*)) => {
+        // SAFETY: each pointer comes with the length of the slice that it is of. The library writes only into what is
+        // passed to be written, and that cannot overlap the others, since it is borrowed for writing.
+        unsafe { $crate::ffi::$function($($passed)*) }
+    };
+}
+pub(crate) use call;
 
 unsafe extern "C" {
     pub fn sirophan_check(sheet: *const u8, sheet_len: usize, filter: *const u8, filter_len: usize) -> Answer;

@@ -20,6 +20,8 @@ mod ffi;
 mod prepared;
 mod refusal;
 
+use ffi::call;
+
 pub use engine::{Engine, matches_by_text, select_by};
 pub use explained::{Explained, Explanation, Mark, explain, explain_into};
 pub use prepared::{MOST_CELLS, Prepared, judge, prepare, prepare_into};
@@ -29,84 +31,41 @@ pub use refusal::{Refusal, underline};
 ///
 /// If it passes, every test has a meaning on every card that fits the sheet.
 pub fn check(sheet: &[u8], filter: &[u8]) -> Result<usize, Refusal> {
-    // SAFETY: each pointer comes with the length of the slice that it is of, and both are only read.
-    let answer = unsafe { ffi::sirophan_check(sheet.as_ptr(), sheet.len(), filter.as_ptr(), filter.len()) };
-    answer.into_result()
+    call!(sirophan_check: read sheet, read filter).into_result()
 }
 
 /// Answers whether the card matches the filter.
 pub fn matches(sheet: &[u8], filter: &[u8], card: &[u8]) -> Result<bool, Refusal> {
-    // SAFETY: each pointer comes with the length of the slice that it is of, and all are only read.
-    let answer = unsafe {
-        ffi::sirophan_match(sheet.as_ptr(), sheet.len(), filter.as_ptr(), filter.len(), card.as_ptr(), card.len())
-    };
-    answer.into_result().map(|value| value == 1)
+    call!(sirophan_match: read sheet, read filter, read card).into_yes()
 }
 
 /// Selects from a run of 0 to 128 cards: writes the record numbers of those that match into the list, in card order
 /// from its first cell on, and answers how many they are. Later cells stay, and a refusal leaves the whole list as it is.
 pub fn select(sheet: &[u8], filter: &[u8], cards: &[u8], list: &mut [u32]) -> Result<usize, Refusal> {
-    // SAFETY: each pointer comes with the length of the slice that it is of. Only the list is written, and it cannot
-    // overlap the others, since it is borrowed for writing.
-    let answer = unsafe {
-        ffi::sirophan_select(
-            sheet.as_ptr(),
-            sheet.len(),
-            filter.as_ptr(),
-            filter.len(),
-            cards.as_ptr(),
-            cards.len(),
-            list.as_mut_ptr(),
-            list.len(),
-        )
-    };
-    answer.into_result()
+    call!(sirophan_select: read sheet, read filter, read cards, write list).into_result()
 }
 
 /// Checks a search string, such as `birthdate=ge1974&title=ward`, against a sheet and answers how many alternatives it has.
 ///
 /// If it passes, every alternative has a meaning on every card that fits the sheet.
 pub fn check_search(sheet: &[u8], text: &[u8]) -> Result<usize, Refusal> {
-    // SAFETY: each pointer comes with the length of the slice that it is of, and both are only read.
-    let answer = unsafe { ffi::sirophan_check_search(sheet.as_ptr(), sheet.len(), text.as_ptr(), text.len()) };
-    answer.into_result()
+    call!(sirophan_check_search: read sheet, read text).into_result()
 }
 
 /// Answers whether the card matches the search string.
 pub fn matches_search(sheet: &[u8], text: &[u8], card: &[u8]) -> Result<bool, Refusal> {
-    // SAFETY: each pointer comes with the length of the slice that it is of, and all are only read.
-    let answer = unsafe {
-        ffi::sirophan_match_search(sheet.as_ptr(), sheet.len(), text.as_ptr(), text.len(), card.as_ptr(), card.len())
-    };
-    answer.into_result().map(|value| value == 1)
+    call!(sirophan_match_search: read sheet, read text, read card).into_yes()
 }
 
 /// Selects from a run of 0 to 128 cards by a search string, as [`select`] does by a filter.
 pub fn select_search(sheet: &[u8], text: &[u8], cards: &[u8], list: &mut [u32]) -> Result<usize, Refusal> {
-    // SAFETY: each pointer comes with the length of the slice that it is of. Only the list is written, and it cannot
-    // overlap the others, since it is borrowed for writing.
-    let answer = unsafe {
-        ffi::sirophan_select_search(
-            sheet.as_ptr(),
-            sheet.len(),
-            text.as_ptr(),
-            text.len(),
-            cards.as_ptr(),
-            cards.len(),
-            list.as_mut_ptr(),
-            list.len(),
-        )
-    };
-    answer.into_result()
+    call!(sirophan_select_search: read sheet, read text, read cards, write list).into_result()
 }
 
 /// Puts the plain spelling of a filter into the buffer, from the byte at the index `from` on, and answers its length. All
 /// other bytes stay, and a refusal leaves the whole buffer as it is.
 pub fn spell(filter: &[u8], buffer: &mut [u8], from: usize) -> Result<usize, Refusal> {
-    // SAFETY: each pointer comes with the length of the slice that it is of. Only the buffer is written, and it cannot
-    // overlap the filter, since it is borrowed for writing.
-    let answer = unsafe { ffi::sirophan_spell(filter.as_ptr(), filter.len(), buffer.as_mut_ptr(), buffer.len(), from) };
-    answer.into_result()
+    call!(sirophan_spell: read filter, write buffer, value from).into_result()
 }
 
 /// The plain spelling of a filter: one space where one is needed, no bracket that can be spared, a bare word wherever the
@@ -145,19 +104,6 @@ pub struct Counts {
 /// of the sheet, in its order from the first row on. All cards of the run count in the rows, matching or not. Later rows
 /// stay, and a refusal leaves all rows as they are; 31 says how many rows are needed.
 pub fn report(sheet: &[u8], filter: &[u8], cards: &[u8], rows: &mut [Tally]) -> Result<Counts, Refusal> {
-    // SAFETY: each pointer comes with the length of the slice that it is of. Only the rows are written, which are two
-    // numbers each as in C, and they cannot overlap the others, since they are borrowed for writing.
-    let reported = unsafe {
-        ffi::sirophan_report(
-            sheet.as_ptr(),
-            sheet.len(),
-            filter.as_ptr(),
-            filter.len(),
-            cards.as_ptr(),
-            cards.len(),
-            rows.as_mut_ptr(),
-            rows.len(),
-        )
-    };
-    reported.into_result()
+    // a row is two numbers, as in C
+    call!(sirophan_report: read sheet, read filter, read cards, write rows).into_result()
 }

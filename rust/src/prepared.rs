@@ -1,6 +1,7 @@
 //! A filter that is read once, for many cards.
 
-use crate::{Refusal, ffi};
+use crate::Refusal;
+use crate::ffi::call;
 
 /// Rows fill at most this many cells: each takes a byte of the filter.
 pub const MOST_CELLS: usize = 1024;
@@ -48,29 +49,11 @@ pub fn prepare(sheet: &[u8], filter: &[u8]) -> Result<Prepared, Refusal> {
 /// Writes the rows of a filter into the list, from its first cell on, and answers how many cells they fill. Later cells
 /// stay, and a refusal leaves the whole list as it is.
 pub fn prepare_into(sheet: &[u8], filter: &[u8], list: &mut [u32]) -> Result<usize, Refusal> {
-    // SAFETY: each pointer comes with the length of the slice that it is of. Only the list is written, and it cannot
-    // overlap the others, since it is borrowed for writing.
-    let answer = unsafe {
-        ffi::sirophan_prepare(sheet.as_ptr(), sheet.len(), filter.as_ptr(), filter.len(), list.as_mut_ptr(), list.len())
-    };
-    answer.into_result()
+    call!(sirophan_prepare: read sheet, read filter, write list).into_result()
 }
 
 /// Answers whether the card matches what rows state on a sheet and a filter. Rows are tested like any other input: those
 /// that are not good for this sheet and this filter are refused with 40.
 pub fn judge(sheet: &[u8], filter: &[u8], rows: &[u32], card: &[u8]) -> Result<bool, Refusal> {
-    // SAFETY: each pointer comes with the length of the slice that it is of, and all are only read.
-    let answer = unsafe {
-        ffi::sirophan_judge(
-            sheet.as_ptr(),
-            sheet.len(),
-            filter.as_ptr(),
-            filter.len(),
-            rows.as_ptr(),
-            rows.len(),
-            card.as_ptr(),
-            card.len(),
-        )
-    };
-    answer.into_result().map(|value| value == 1)
+    call!(sirophan_judge: read sheet, read filter, read rows, read card).into_yes()
 }
