@@ -17,13 +17,14 @@ use Rattle.sirophan.specs.Answers.{selectedAnswer}
 use Rattle.sirophan.specs.Contracts.{SelectsInto}
 use Rattle.sirophan.specs.Operations.{filterQuestion, selection, selectBy, cellsBy, written, selectAnswer}
 use Rattle.sirophan.proofs.Promises.{select-count-within, select-place-within}
-use Rattle.pick.specs.declared.runs.Totals.{Totals}
+use Rattle.listing.specs.declared.Totals.{Totals}
+use Rattle.listing.specs.Totals.{Added}
+use Rattle.listing.specs.Lines.{lines, refusalLine, selectionText}
+use Rattle.listing.specs.Places.{placeInFile, PlaceBound}
 use Rattle.pick.specs.declared.runs.Turn.{Turn}
 use Rattle.pick.specs.declared.runs.RunText.{RunText}
-use Rattle.pick.specs.Bounds.{PlaceBound, Added, RunAdded}
-use Rattle.pick.specs.Lines.{lines, refusalLine, selectionText, runText}
-use Rattle.pick.specs.Places.{placeInFile}
-use Rattle.pick.specs.Runs.{TurnAfter, RunPut}
+use Rattle.pick.specs.Bounds.{RunAdded}
+use Rattle.pick.specs.Runs.{runText, TurnAfter, RunPut}
 
 -- the answer of a selection
 abbrev told : Step (List ℕ) → Answer
