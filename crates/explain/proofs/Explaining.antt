@@ -1,4 +1,8 @@
 -- Explain, as the code comes to its answer and its cells: it is match, by prepare and judge, and then the marks.
+-- The definition is a chain of steps, and the laws follow it. What match refuses stops explain at the same step (`stops-as-match`). Else
+-- what was taken is known (`Judged`): the sheet's parameters, the filter, good rows that state it, and a conforming card. The rows'
+-- expression has the filter's own outer tests and verdicts (`filter-verdicts`, `filter-alike`), so what the code marks and then spares by
+-- the rows are the cells of the definition (`marks-are`); `mark-yes` and `mark-no` say so of the list.
 -- Assumes nothing.
 use Prim.Native.Nat.{ℕ, _-_, _≤_, _<_}
 use native.Mathlib.Omega.{arith}
