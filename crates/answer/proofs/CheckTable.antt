@@ -1,4 +1,8 @@
 -- The table of refusals for check: sheet, text and tests are decided one after the other, each by its lines.
+-- `Decided` says of a step that it has found something and none of its lines holds, or has stopped at the line that decides. Sheet, text
+-- and tests are decided each by their own lines, and `decided-then` joins two steps: the lines of the later one are in later groups of the
+-- order (`apart-at`), so they matter only where no earlier one holds. The tests are by induction on their list (`tests-decided`): their
+-- places rise, so the first at fault has the lowest. `check-table` reads check's answer off.
 -- Assumes nothing.
 use Prim.Native.Nat.{ℕ, _≤_, _<_}
 use native.Mathlib.Nat.{le-of-eq}

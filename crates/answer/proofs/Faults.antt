@@ -1,4 +1,8 @@
 -- The fault of a test is the number that the table gives it, and it has one exactly where it lacks a meaning on some conforming card.
+-- What the path names decides: nothing, a bundle, or a parameter of some kind, and then operator and value (`judged-at`); each fault comes
+-- with its reason in the rules' words. Its number is the line of the lowest rank that holds, since those before it do not (`lowest-from`).
+-- A card that conforms shows the lack, the one with a single entry under the parameter where there is one (`refused-at`). Where there is no
+-- fault no line holds, and no card lacks a meaning.
 -- Assumes nothing.
 use Prim.Native.Nat.{ℕ, _≤_, _<_}
 use native.Mathlib.Omega.{arith}

@@ -1,4 +1,7 @@
 -- What the operations take: the parameters of a well-formed sheet, the tree that a text spells, and the first test that is refused.
+-- The definition takes sheet, text and tests one after the other, and the laws follow that chain with what each step found.
+-- `tests-outcome`, by induction on the tests: all have a meaning, or a first one is refused and those before it have one (`outcome-next`).
+-- No step is refused with a number above 18 (`at-most-then`), so that these refusals are apart from those of cards and lists.
 -- Assumes nothing.
 use Prim.Native.Nat.{ℕ, _≤_}
 use native.Mathlib.Omega.{arith}

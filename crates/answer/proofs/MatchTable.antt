@@ -1,4 +1,7 @@
 -- The table of refusals for match: after what check decides comes the card.
+-- As in CheckTable: a card of the right size is decided by its sum, its layout and its fit, in this order (`card-decided`), and the size
+-- comes before them (`one-decided`). `decided-then` puts that behind what check decides, since the card's lines are in later groups than
+-- all of check's (`one-group`). The theorem is over any question with lines of its own (`match-table-by`); that of filters is an instance.
 -- Assumes nothing.
 use Prim.Native.Nat.{ℕ, _≤_, _<_}
 use native.Mathlib.Decide.{ℕ-discrete}

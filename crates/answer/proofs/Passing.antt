@@ -1,4 +1,7 @@
 -- What check's answer tells of the sheet and the filter, and the answer of match from it.
+-- Steps are inverted: an answer that is a count comes only of steps that all have found something (`inputs-found`, `sheet-found`,
+-- `text-found`), so the sheet is well formed, the text was read, and no test is at fault (`Passing`). An answer that is a refusal comes of
+-- the step that stopped with it (`stopped`). Then the question is known, and match's answer is the verdict on the card.
 -- Assumes nothing.
 use Prim.Native.Nat.{ℕ, _≤_}
 use native.Mathlib.Omega.{arith}

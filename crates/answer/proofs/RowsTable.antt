@@ -1,5 +1,8 @@
 -- The tables of refusals for prepare and judge: after what check decides comes the list; after the sheet and the text's size come the
 -- rows, and then the card.
+-- As in CheckTable: each step is decided by its own lines, and `decided-then` joins them, since later lines are in later groups. How many
+-- cells are needed does not depend on which sheet and filter the words of a line name, since the bytes have one sheet and a text spells one
+-- tree (`needed`). Rows are good or not, and a computed test decides it (`rows-decided`).
 -- Assumes nothing.
 use Prim.Native.Nat.{ℕ, _≤_, _<_}
 use native.Mathlib.Omega.{arith}

@@ -1,4 +1,7 @@
 -- The fault of an alternative is the number that the table gives it, and it has one exactly where it lacks a meaning on some conforming card.
+-- As in Faults, for an alternative: what its name names decides, and then what its text asks of that kind (`judged-at`); a bundle is
+-- refused as an unknown name. The number is the line of the lowest rank (`lowest-from`), and the card with one entry under the parameter,
+-- or with none, shows the lack (`refused-at`, `refused-empty`). `alternatives-outcome` is the induction on the list.
 -- Assumes nothing.
 use Prim.Native.Nat.{ℕ, _≤_, _<_}
 use native.Mathlib.Omega.{arith}

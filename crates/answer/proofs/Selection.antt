@@ -1,4 +1,8 @@
 -- A selection goes by match: it writes the numbers of the cards on which match answers yes, and refuses the first card that match refuses.
+-- By induction on the cards of the run: all are taken, or a first one is refused and those before it are taken (`cards-outcome`). On a card
+-- that is taken match answers what the question says, on one that is refused its number (`match-taken`, `match-stopped`). So the numbers
+-- written are those of match's yes, and the card refused is the first that match refuses. No other step is refused with 21 to 23 or 30
+-- (`OtherNumber`), so these numbers tell of a card and of the room.
 -- Assumes nothing.
 use Prim.Native.Nat.{ℕ, suc, _≤_, _<_}
 use native.Mathlib.Decide.{ℕ-discrete}

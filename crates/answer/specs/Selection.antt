@@ -47,10 +47,6 @@ pub record RefusesCard (match : List ℕ → Answer) (bs : List (List ℕ)) (n i
   pub refuses : match card ≡ refused n 0
   pub earlier : All (λ (b : List ℕ). (m p : ℕ) → match b ≡ refused m p → ⊥) (at .before)
 
--- the place of the refusals 21 to 23 is the index of a card of the run
-pub record PlaceBound (number place : ℕ) : Type 0 where
-  pub within : 21 ≤ number → number ≤ 23 → place < 128
-
 -- where no line of the table holds, select answers the number of the matching cards, and writes their record numbers before what the
 -- list held; select is its answer, and cells are those of the list afterwards
 pub record SelectAnswers (match : List ℕ → Answer) (select : Answer) (cells list : List ℕ) (bs : List (List ℕ)) : Type 0 where

@@ -1,4 +1,7 @@
 -- Laws of items: their layout in a block, and a walk over them.
+-- The layout is tested by recursion on the number of items left, and the loops keep that what is left decides: `LaidTo` for the test of the
+-- layout, `Visited` for a loop over the items and its answer. `Walk` says that the items left are laid out from p on; `item-step` takes one
+-- off: it ends before byte 508, and the walk goes on where it ends.
 -- Assumes nothing.
 use Prim.Native.Nat.{ℕ, zero, suc, _+_, _-_, _≤_, _<_}
 use native.Mathlib.Omega.{arith}

@@ -1,4 +1,7 @@
 -- The reader is sound: a text that reads to a date is a spelling of it.
+-- No induction: a spelling has its fields at fixed places. Each law `begins-` adds one field to what the text is known to begin with: a
+-- field that reads below 100 (what is no number reads as 100) is its mark and two digits. The length of the text, by which the reader goes,
+-- then says that this is all of it (`begins-whole`), and each of the spellings has its law.
 -- Assumes nothing.
 use Prim.Native.Nat.{ℕ, _+_, _*_, _≤_, _<_}
 use mathlib.Core.Bool.{cond}

@@ -1,4 +1,8 @@
 -- Explain, as the code comes to its answer and its cells: it is match, by prepare and judge, and then the marks.
+-- The definition is a chain of steps, and the laws follow it. What match refuses stops explain at the same step (`stops-as-match`). Else
+-- what was taken is known (`Judged`): the sheet's parameters, the filter, good rows that state it, and a conforming card. The rows'
+-- expression has the filter's own outer tests and verdicts (`filter-verdicts`, `filter-alike`), so what the code marks and then spares by
+-- the rows are the cells of the definition (`marks-are`); `mark-yes` and `mark-no` say so of the list.
 -- Assumes nothing.
 use Prim.Native.Nat.{ℕ, _-_, _≤_, _<_}
 use native.Mathlib.Omega.{arith}
@@ -13,6 +17,7 @@ use lib.Seq.{length-take-le}
 use borrow.Author.Tests.{le-leb, lt-leb}
 use Rattle.base.specs.Bytes.{Bytes}
 use Rattle.base.specs.Parts.{part}
+use Rattle.base.specs.Writing.{Room, Puts}
 use Rattle.base.proofs.All.{bytes-of}
 use Rattle.block.specs.declared.Reading.{Reading}
 use Rattle.sheet.specs.Sheet.{Parameter, parametersOf}
@@ -160,10 +165,10 @@ module _ (sheet text rows card : List ℕ) (says : Bool) (j : Judged sheet text 
       pub mark-part : tests ≤ length spared
       mark-part = omega (arith, mark-few, mark-long)
 
-      pub mark-room : (list : List ℕ) → tests ≤ length list → length (part spared 0 tests) ≤ length list
+      pub mark-room : (list : List ℕ) → tests ≤ length list → Room (part spared 0 tests) list
       mark-room list l =
           let all : tests - 0 ≡ tests = omega arith in
-          omega (arith, l, ap (λ (n : ℕ). length (take n spared)) all, length-take-le tests spared mark-part)
+          record { fits = omega (arith, l, ap (λ (n : ℕ). length (take n spared)) all, length-take-le tests spared mark-part) }
 
       marks-are : part spared 0 tests ≡ explanation (filterSays ps 0 (entriesOf card)) f
       unfolding explanation
@@ -172,7 +177,7 @@ module _ (sheet text rows card : List ℕ) (says : Bool) (j : Judged sheet text 
           ap (λ (n : ℕ). take n spared) all ∙ s .decides (j .good .expression) v states-it outline-count told
           ∙ ap₂ (λ (q : ℕ → Bool) (n : ℕ). cells v q 0 n) (deciding-alike (outline (j .good .expression)) f v (filter-alike ps formed text (j .good .expression) (j .good .fits) f (j .states))) counted
 
-      module _ (list exit : List ℕ) (l : tests ≤ length list) (e : exit ≡ part spared 0 tests ++ drop (length (part spared 0 tests)) list) where
+      module _ (list exit : List ℕ) {n : ℕ} (l : tests ≤ length list) (w : Puts (part spared 0 tests) list exit n) where
         done : explaining sheet text card (length list) ≡ found (explanationOf (record { parameters = ps; filter = f }) (cardOf card))
         unfolding takeMarks
         done = found-by (length list) ∙ rw (← counted, le-leb tests (length list) l)
@@ -181,7 +186,7 @@ module _ (sheet text rows card : List ℕ) (says : Bool) (j : Judged sheet text 
         marked r h =
             record {
               answers = h ∙ ap yesOrNo (j .verdict) ∙ sym (answer-by sheet text card list (found (explanationOf (record { parameters = ps; filter = f }) (cardOf card))) done);
-              cells = e ∙ ap (λ (x : List ℕ). x ++ drop (length x) list) marks-are ∙ sym (cells-by sheet text card list (found (explanationOf (record { parameters = ps; filter = f }) (cardOf card))) done);
+              cells = w .bytes ∙ ap (λ (k : ℕ). part spared 0 tests ++ drop k list) (w .long) ∙ ap (λ (x : List ℕ). x ++ drop (length x) list) marks-are ∙ sym (cells-by sheet text card list (found (explanationOf (record { parameters = ps; filter = f }) (cardOf card))) done);
             }
 
         pub mark-yes : says ≡ true → Marks sheet text card list Matched.Yes exit

@@ -1,4 +1,8 @@
 -- The mark of rows: the stack has the marks of the expressions so far, and the number of the first test of each.
+-- The invariant `Marking` is file Stack's `Walk` with what is known of each expression: its cell has the mark that its tests' marks make,
+-- and the other array the number of its first test. There is a law for each kind of row: the code pushes, changes or joins cells as the row
+-- does expressions, and cells below stay (`marked-below`). At the end one expression is left, the one that the rows state
+-- (`marking-whole`).
 -- Assumes nothing.
 use Prim.Native.Nat.{ℕ, _+_, _-_, _≤_, _<_}
 use native.Mathlib.Omega.{arith}

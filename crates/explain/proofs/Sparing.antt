@@ -1,4 +1,7 @@
 -- Sparing: what is left to try decides with the tests that are still kept.
+-- The tests are tried from the last to the first. The invariant `Kept`: sparing what is left to try, from the tests still kept, gives the
+-- tests that decide, and the list has the cells of those kept. A turn clears a test's cell and takes the mark of the whole; it is decided
+-- exactly where the others suffice (`tested`), so leaving the cell clear or putting it back is the definition's own step (`kept-next`).
 -- Assumes nothing.
 use Prim.Native.Nat.{ℕ, zero, suc, _+_, _-_, _≤_, _<_}
 use native.Mathlib.Omega.{arith}

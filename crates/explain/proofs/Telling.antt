@@ -1,5 +1,8 @@
 -- The verdicts of the tests that rows state: the stack has where the rows and the tests of each expression begin, and the list has the marks
 -- of what the tests so far say.
+-- A test is judged at its row. After brackets the rows from the start of the expression on top are those of the member's test with its
+-- brackets (`top-rows`), so judging these gives its verdict; it takes the place of the first test inside, and the marks behind that are
+-- given up (`told-fewer`). Connectives and `not` change no mark. The walk over the rows, with these two arrays, is that of file Stack.
 -- Assumes nothing.
 use Prim.Native.Nat.{ℕ, _+_, _-_, _*_, _^_, _≤_, _<_}
 use native.Mathlib.Omega.{arith}

@@ -1,27 +1,12 @@
 // Explain, with all that is promised of it. A slice holds bytes, so that nothing is asked of the caller.
 use crate::spare::spare;
 use crate::verdicts::take_verdicts;
+use base::write_word;
 use refusal::Reason;
 use refusal::Refusal;
 use sirophan::Matched;
 use sirophan::Prepared;
-ghost use mathlib.Core.Path.{_≡_};
-ghost use mathlib.Core.List.{_++_};
-ghost use Prim.Native.Nat.{_≤_};
-ghost use lib.ListN.{length, drop};
 ghost use Rattle.explain.specs.Contracts.{Marks, ExplainsInto, Judged};
-
-// Writes the marks over the list's first cells.
-fn write(marks: &[u8], cells: &mut [u8])
-    requires { ⌜ length (now marks) ≤ length (now cells) ⌝ }
-    ensures { λ _. ⌜ now (cells .exit) ≡ now (marks .entry) ++ drop (length (now (marks .entry))) (now (cells .entry)) ⌝ }
-{
-    let mut i = 0;
-    while i < marks.len() {
-        cells[i] = marks[i];
-        i += 1;
-    }
-}
 
 // Marks the tests that decide, for rows that state the filter and a card that conforms, of which the filter says `yes`.
 fn mark(
@@ -46,7 +31,7 @@ fn mark(
         });
     }
     spare(rows, tests, &mut marks);
-    write(&marks[0..tests], cells);
+    write_word(&marks[0..tests], cells);
     if yes {
         return Matched::Yes;
     }

@@ -1,5 +1,8 @@
 -- The two meanings under which an unused field counts do not go by the names used: a card without entries and a card with one entry tell each
 -- of them from one that does.
+-- A meaning that goes by names says the same of two cards that agree under the names used. So one filter and two such cards are enough, of
+-- which the meaning says no and yes (`two-cards`): the card without entries, and one with an entry under a name that the filter does not
+-- use. There is such a filter for each of the two meanings, and what they say of it is computed or follows from the rules.
 -- Assumes nothing.
 use Prim.Native.Nat.{ℕ}
 use native.Mathlib.Omega.{arith}

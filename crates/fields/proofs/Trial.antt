@@ -1,4 +1,7 @@
 -- Two cards beside the trial cards get the same answers as they do from every filter that uses the names only under which they agree.
+-- Match goes by the texts under the names used and by nothing else of a card (`match-same`). Under the names listed, the two cards have the
+-- same texts as the trial cards, which is computed name by name (`date-alike`, `members-alike`). So a filter that uses these names only is
+-- answered on both alike (`only-same`), whatever else differs.
 -- Assumes nothing.
 use Prim.Native.Nat.{ℕ}
 use mathlib.Core.Path.{_≡_, refl, sym, _∙_, subst}

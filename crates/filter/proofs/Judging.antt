@@ -1,4 +1,8 @@
 -- Judging: what is gathered is the filter's verdict.
+-- Judging with every test needed is the definition, by induction on the tree (`judging-is`). An item that is not needed leaves the verdict
+-- as it was, and by the cases of connective and verdict that is what joining it gives (`verdict-after`). In square brackets the code goes
+-- entry by entry and asks the filter of the entry's occurrence; by induction on the entries that is the definition's set of entries kept
+-- (`chosen-is`), since an occurrence that counts has all its entries among those that count (`occurrence-whole`).
 -- Assumes nothing.
 use Prim.Native.Nat.{ℕ}
 use native.Mathlib.Omega.{arith}

@@ -1,4 +1,8 @@
 -- The fault and the verdict of a test, as the code decides them.
+-- The definitions are nested choices, and there is a law for each way through the code, which rewrites the definition by the tests made on
+-- that way; only `says-some` is by induction, on the values. A value with escapes is judged by its decoded bytes, and one without by the
+-- bytes as they stand in the text. `says-some` brings every operator into one form, whether some text of a set counts: by it members are
+-- judged.
 -- Assumes nothing.
 use Prim.Native.Nat.{ℕ, _≤_, _<_}
 use native.Mathlib.Omega.{arith}

@@ -1,4 +1,8 @@
 -- The computed faults and verdicts of tests are the rules.
+-- A rule is a data type with its cases, and its test a nested choice. `-there` goes by what the test has found, `-back` by the rule's
+-- cases, and `-iff` is both: for paths by induction on the path, for entries on their list, for filters on the tree (`filter-says-iff`).
+-- `PrSpelled` is what the computed verdict cannot tell by itself: it takes every value after pr that is not true for false. Where a test
+-- does not lack a meaning it holds (`pr-spelled`).
 -- Assumes nothing.
 use Prim.Native.Nat.{ℕ, zero, suc, _+_, _≤_}
 use native.Mathlib.Omega.{arith}

@@ -1,4 +1,8 @@
 -- The computed tests of kinds are the rules: readable texts, operators with a meaning, relations.
+-- A rule is a data type with a case for each kind or operator, and its test looks into the table of kinds. What holds of each row of the
+-- table, and of a number that is in none, holds of every number (`by-kind`, by induction on the table). `-there` and `-back` are the two
+-- directions of each `-iff`. The relations rest on those of the lower crates: a number that was read keeps to its bounds, and a period that
+-- was read has an instant, and so their computed relations are the rules' (`stands-there`, `stands-back`).
 -- Assumes nothing.
 use Prim.Native.Nat.{ℕ}
 use mathlib.Core.Path.{_≡_, refl, ap, sym, _∙_, subst}

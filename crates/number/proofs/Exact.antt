@@ -1,4 +1,8 @@
 -- The order of exact fractions is that of billionths, so that the code loses nothing by comparing those.
+-- Two fractions a over p and b over q, whose units u and v make p * u and q * v the same whole, are in the order of a * u and b * v. For
+-- both sides of the comparison, multiplied by the same number, become multiples of these, and multiplying keeps the order (`same-lt`,
+-- `same-le`). The products are laws over plain numbers (`left-cross`, `lower-left` ..); the relations of two numbers are instances, the
+-- whole being a billion.
 -- Assumes nothing.
 use mathlib.Core.Path.{_≡_, sym, ap, _∙_}
 use Prim.Native.Nat.{ℕ, _+_, _*_, _-_, _^_, _≤_, _<_}

@@ -1,4 +1,7 @@
 -- Match, as the code comes to its answer.
+-- A law for each way through the code. A card is refused by its reading, or by whether it conforms, in the order of the definition's own
+-- choice (`takes-size` .. `takes-conforming`). By the text, the walk's answer is that of the tree that check has read (`read-from`). The
+-- three ways to ask, by rows, by text and by a search string, come together in `Asks`, and each gives the verdict of its question.
 -- Assumes nothing.
 use Prim.Native.Nat.{ℕ}
 use native.Mathlib.Omega.{arith}

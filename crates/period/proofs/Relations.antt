@@ -1,5 +1,8 @@
 -- The relations by their ends are those by their instants. Each rests on two witnesses: where a period starts before an instant it has one
 -- before it, and where it ends after an instant it has one at it or behind it.
+-- The other directions are laws of the order: an instant of the period lies between its ends. `covers` has one case more: if the period
+-- ended within the date, its end would be an instant of the date and none of the period (`ends-within`). It is asked that the period has an
+-- instant, and that the date's start is one of the date's.
 -- Assumes nothing.
 use Prim.Native.Nat.{zero, suc}
 use native.Mathlib.Omega.{arith}

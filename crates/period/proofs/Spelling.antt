@@ -1,5 +1,8 @@
 -- What a reader believes of the texts: the computing definition of reading agrees with the spellings, since no date has a slash; and what
 -- is read has an instant.
+-- So a text has one cut, at its only slash. `parts-there` goes by whether the part on either side is empty, as the reader does, and the
+-- other direction by the cases of the spelling, whose parts the cut gives back. That no text is both a date and a period is the same fact
+-- (`not-plain`).
 -- Assumes nothing.
 use Prim.Native.Nat.{ℕ, _+_, _/_, _%_}
 use native.Mathlib.Omega.{arith}

@@ -4,10 +4,11 @@ use Prim.Native.Nat.{ℕ, _≤_}
 use mathlib.Core.Path.{_≡_, subst}
 use mathlib.Core.List.{List}
 use lib.ListN.{length}
+use Rattle.listing.specs.declared.Totals.{Totals}
+use Rattle.listing.specs.Totals.{Added}
 use Rattle.pick.specs.declared.files.Filled.{Filled}
-use Rattle.pick.specs.declared.runs.Totals.{Totals}
 use Rattle.pick.specs.declared.runs.Turn.{Turn}
-use Rattle.pick.specs.Bounds.{Fills, Added, RunAdded, FullRunAdded}
+use Rattle.pick.specs.Bounds.{Fills, RunAdded, FullRunAdded}
 
 -- what was read fits the buffer
 pub bytes-within : {r : Filled} {n room : ℕ} → r ≡ Filled.Bytes n → Fills r room → n ≤ room

@@ -11,20 +11,20 @@ use Rattle.base.specs.Parts.{part}
 use Rattle.base.specs.Writing.{Puts}
 use Rattle.refusal.specs.declared.Refusal.{Refusal}
 use Rattle.answer.specs.declared.Selected.{Selected}
-use Rattle.refusal.specs.Answers.{Answer, count, refused, numberOf, refusalAnswer}
+use Rattle.refusal.specs.Answers.{Answer, count, refused, numberOf, refusalAnswer, PlaceBound}
 use Rattle.refusal.specs.Steps.{Step, found, stop, answer, _>>=_}
 use Rattle.answer.specs.Answers.{selectedAnswer}
 use Rattle.sirophan.specs.Contracts.{SelectsInto}
 use Rattle.answer.specs.Operations.{filterQuestion, selection, selectBy, cellsBy, written, selectAnswer}
 use Rattle.sirophan.proofs.Promises.{select-count-within, select-place-within}
-use Rattle.pick.specs.declared.runs.Totals.{Totals}
+use Rattle.listing.specs.declared.Totals.{Totals}
+use Rattle.listing.specs.Totals.{Added}
+use Rattle.listing.specs.Lines.{lines, refusalLine, selectionText}
+use Rattle.listing.specs.Places.{placeInFile}
 use Rattle.pick.specs.declared.runs.Turn.{Turn}
 use Rattle.pick.specs.declared.runs.RunText.{RunText}
-use Rattle.answer.specs.Selection.{PlaceBound}
-use Rattle.pick.specs.Bounds.{Added, RunAdded}
-use Rattle.pick.specs.Lines.{lines, refusalLine, selectionText, runText}
-use Rattle.pick.specs.Places.{placeInFile}
-use Rattle.pick.specs.Runs.{TurnAfter, RunPut}
+use Rattle.pick.specs.Bounds.{RunAdded}
+use Rattle.pick.specs.Runs.{runText, TurnAfter, RunPut}
 
 -- the answer of a selection
 abbrev told : Step (List ℕ) → Answer

@@ -1,33 +1,20 @@
 -- How large the numbers are that the program's parts answer.
 -- Assumes nothing.
-use Prim.Native.Nat.{ℕ, _+_, _/_, _^_, _≤_, _<_}
+use Prim.Native.Nat.{ℕ, _≤_}
 use mathlib.Core.Path.{_≡_}
 use mathlib.Core.List.{List}
 use lib.ListN.{length}
 use Rattle.refusal.specs.Answers.{count}
 use Rattle.answer.specs.Operations.{selectAnswer}
+use Rattle.listing.specs.declared.Totals.{Totals}
+use Rattle.listing.specs.Totals.{Added}
 use Rattle.pick.specs.declared.files.Filled.{Filled}
-use Rattle.pick.specs.declared.runs.Totals.{Totals}
 use Rattle.pick.specs.declared.runs.Turn.{Turn}
 
 -- what fills a buffer of `room` bytes is no more than those
 abbrev pub Fills : Filled → ℕ → Type 0
 Fills (Filled.Bytes n) room = n ≤ room
 Fills Filled.Failed room = Unit {0}
-
--- no file has so many cards: it would have 2 ^ 63 bytes
-abbrev pub mostCards : ℕ
-mostCards = 2 ^ 54
-
--- totals that a run can be added to
-pub record Countable (t : Totals) : Type 0 where
-  pub matching : t .matches ≤ t .cards
-  pub few : t .cards < mostCards
-
--- the totals u are t with a run of `size` bytes, of which `count` cards match
-pub record Added (t : Totals) (count size : ℕ) (u : Totals) : Type 0 where
-  pub matches : u .matches ≡ t .matches + count
-  pub cards : u .cards ≡ t .cards + size / 512
 
 -- unless the output has ended, the cards are added to the totals t, and as many matches as select counts among them
 abbrev pub RunAdded : (sheet filter cards : List ℕ) → Totals → Turn → Type 0

@@ -6,11 +6,15 @@ use lib.ListN.{length}
 use Rattle.base.specs.Writing.{Puts}
 use Rattle.refusal.specs.Steps.{Step, found, stop}
 use Rattle.answer.specs.Operations.{filterQuestion, selection}
-use Rattle.pick.specs.declared.runs.Totals.{Totals}
+use Rattle.listing.specs.declared.Totals.{Totals}
+use Rattle.listing.specs.Totals.{Added}
+use Rattle.listing.specs.Lines.{selectionText}
 use Rattle.pick.specs.declared.runs.Turn.{Turn}
 use Rattle.pick.specs.declared.runs.RunText.{RunText}
-use Rattle.pick.specs.Bounds.{Added}
-use Rattle.pick.specs.Lines.{runText}
+
+-- what a run says
+unfoldable pub runText : (sheet filter cards : List ℕ) (before : ℕ) → List ℕ
+runText sheet filter cards before = selectionText before (selection (filterQuestion sheet filter) cards 128)
 
 -- where select lists numbers, as many matches are added to the totals t, and the run's cards; a refusal "ends the output"
 abbrev pub TurnAfter : Step (List ℕ) → (size : ℕ) → Totals → Turn → Type 0

@@ -1,19 +1,18 @@
 // pick: which cards of the archive in the current folder match its filter. It reads sheet.bin, filter.txt and cards.bin,
 // prints the record number of each matching card on a line, and last how many of the cards match, or why there is no answer.
 mod files;
-mod lines;
+mod printing;
 mod runs;
 
 use files::Filled;
 use files::fill;
-use lines::print_failure;
-use lines::print_usage;
+use listing::without_line_feed;
+use printing::print_failure;
+use printing::print_usage;
 use runs::print_matches;
 ghost use Prim.Native.Nat.{_≤_};
-ghost use mathlib.Core.Path.{_≡_};
 ghost use lib.ListN.{length};
 ghost use Rattle.pick.specs.Bounds.{Fills};
-ghost use Rattle.pick.specs.Texts.{withoutLineFeed};
 
 // Reads a file into the buffer, as much as there is room for, or prints why that cannot be done.
 fn load(file: &[u8], buffer: &mut [u8]) -> Filled
@@ -31,20 +30,6 @@ fn load(file: &[u8], buffer: &mut [u8]) -> Filled
         print_failure(file, b"read");
     }
     filled
-}
-
-// A text without its last byte, where that is a line feed.
-fn without_line_feed(text: &[u8]) -> &[u8]
-    ensures { λ r. ⌜ now r ≡ withoutLineFeed (now (text .entry)) ⌝ }
-{
-    if text.len() == 0 {
-        return text;
-    }
-    let last = text.len() - 1;
-    if text[last] != b'\n' {
-        return text;
-    }
-    &text[0..last]
 }
 
 // Prints what the filter selects from cards.bin.

@@ -1,21 +1,23 @@
 // The runs of a file of cards: up to 128 at a time are selected from, and their numbers printed.
 use crate::files::Filled;
 use crate::files::fill;
-use crate::lines::print;
-use crate::lines::print_count;
-use crate::lines::print_failure;
-use crate::lines::put_lines;
-use crate::lines::put_refusal;
-use crate::lines::wide;
+use crate::printing::print;
+use crate::printing::print_count;
+use crate::printing::print_failure;
+use listing::Totals;
+use listing::add_run;
+use listing::place_in_file;
+use listing::put_lines;
+use listing::put_refusal;
+use listing::wide;
 use refusal::number;
 use sirophan::Selected;
 use sirophan::select;
-ghost use Prim.Native.Nat.{_≤_, _<_};
+ghost use Prim.Native.Nat.{_≤_};
 ghost use mathlib.Core.Path.{_≡_};
 ghost use lib.ListN.{length};
-ghost use Rattle.pick.specs.Places.{placeInFile};
-ghost use Rattle.answer.specs.Selection.{PlaceBound};
-ghost use Rattle.pick.specs.Bounds.{mostCards, Countable, Added, RunAdded, FullRunAdded};
+ghost use Rattle.listing.specs.Totals.{Countable};
+ghost use Rattle.pick.specs.Bounds.{RunAdded, FullRunAdded};
 ghost use Rattle.pick.specs.Runs.{RunPut};
 
 // The bytes of 128 cards. A run of fewer is the last.
@@ -24,45 +26,10 @@ const FULL_RUN: usize = 65536;
 // No file has so many cards: its size would be 2^63 bytes.
 const MOST_CARDS: u64 = 1 << 54;
 
-// What the runs so far come to.
-struct Totals {
-    matches: u64,
-    cards: u64,
-}
-
 // What a run leads to: the totals with it, or the end of the output.
 enum Turn {
     More(Totals),
     Ended,
-}
-
-// The totals with a run of `size` bytes, of which `count` cards match.
-fn add_run(totals: Totals, count: usize, size: usize) -> Totals
-    requires { ⌜ Countable totals ⌝ }
-    requires { ⌜ count ≤ 128 ⌝ }
-    requires { ⌜ size ≤ 65536 ⌝ }
-    ensures { λ r. ⌜ Added totals count size r ⌝ }
-{
-    Totals {
-        matches: totals.matches + count as u64,
-        cards: totals.cards + (size / 512) as u64,
-    }
-}
-
-// A refusal's place in the file: a card's index, the place of 21 to 23, counts over the runs before as well.
-fn place_in_file(number: u32, place: usize, cards_before: u64) -> u64
-    requires { ⌜ PlaceBound number place ⌝ }
-    requires { ⌜ «cards_before» < mostCards ⌝ }
-    ensures { λ r. ⌜ r ≡ placeInFile number place «cards_before» ⌝ }
-{
-    let place = place as u64;
-    if number < 21 {
-        return place;
-    }
-    if number > 23 {
-        return place;
-    }
-    cards_before + place
 }
 
 // What a run's text takes of a buffer, and what the run leads to.

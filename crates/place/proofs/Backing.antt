@@ -1,4 +1,8 @@
 -- From what is left behind a byte to what is left before it.
+-- The converse of file Walking: what the machine has gone over can be read back as a derivation. For each phase, where a byte keeps the
+-- machine live and what is left behind it is right for the phase that follows (`Left`), what is left from the byte on is right for this
+-- phase; the cases are those of the machine's step (`back`). `walk-back` is the induction on the walk, from its end to its beginning. The
+-- tests done or due and those that are left keep their sum, so that the whole has as many as the machine has counted.
 -- Assumes nothing.
 use Prim.Native.Nat.{ℕ, suc, _+_, _-_, _≤_, _<_}
 use Prim.Native.Char.{code}

@@ -1,4 +1,6 @@
 -- The machine's step, phase by phase, where it stays live.
+-- One law for each phase and each byte that may come there: the machine's step, rewritten by what its tests say of that byte. Walks over a
+-- filter (Walking) and the completion of one (Good) are put together from these.
 -- Assumes nothing.
 use Prim.Native.Nat.{ℕ, suc, _<_}
 use Prim.Native.Char.{code}

@@ -1,6 +1,6 @@
 -- Answers as document 01 has them, and the numbers of refusal.
 -- Assumes nothing.
-use Prim.Native.Nat.{ℕ}
+use Prim.Native.Nat.{ℕ, _≤_, _<_}
 use mathlib.Core.Bool.{Bool, true, false}
 use Rattle.refusal.specs.declared.Reason.{Reason}
 use Rattle.refusal.specs.declared.Refusal.{Refusal}
@@ -45,3 +45,7 @@ numberOf Reason.ManyAlternatives = 51
 
 unfoldable pub refusalAnswer : Refusal → Answer
 refusalAnswer r = refused (numberOf (r .reason)) (r .place)
+
+-- the place of the refusals 21 to 23 is the index of a card of the run
+pub record PlaceBound (number place : ℕ) : Type 0 where
+  pub within : 21 ≤ number → number ≤ 23 → place < 128

@@ -1,5 +1,8 @@
 -- A report goes by match: it counts the cards on which match answers yes, and those on which it answers no, and refuses the first card that
 -- match refuses.
+-- A survey that was found has the cards of the run, each taken; by induction on them those that say yes are the ones on which match answers
+-- yes, and likewise for no (`yes-matches`, `no-matches`). A survey that has stopped stopped as select does (Surveys), and of select it is
+-- known that it refuses the first card that match refuses. The theorems go by the cases of what the report has found.
 -- Assumes nothing.
 use Prim.Native.Nat.{ℕ, suc, _+_, _≤_}
 use native.Mathlib.Omega.{arith}

@@ -1,4 +1,8 @@
 -- The loop of `next_alternative`: what was written and the signs that are left make the alternative.
+-- The definition cuts a list of signs, the code goes over bytes. What the code finds at a position is the first sign there, and the signs
+-- from the next position on are the others (`mark-outcome`). The invariant `Gathering`: the alternative's text is what was written and then
+-- the text of the signs left, and so for the place of its bar and for the alternatives after it. A turn takes one sign off, and the
+-- position grows.
 -- Assumes nothing.
 use Prim.Native.Nat.{ℕ, suc, _+_, _-_, _≤_, _<_}
 use native.Mathlib.Numerals.{add-one}

@@ -1,4 +1,8 @@
 -- What the code answers of an alternative, and the loops over a card's entries and over the rows of a query: what is left decides.
+-- The rows from the i-th on are the i-th and then those after it (`from-next`). `Facing`: where no row before had a fault, the first fault
+-- of the rows left is the first of all. `Saying`: the verdict is that of the rows left, with whether the pair at hand is met so far; at the
+-- last row of a pair that is not met it is no, and else the next pair begins unmet. What one alternative says is by the kind of its
+-- parameter, and there is a law for each way through the code.
 -- Assumes nothing.
 use Prim.Native.Nat.{ℕ, suc, _+_, _-_, _≤_, _<_}
 use native.Mathlib.Numerals.{add-one}

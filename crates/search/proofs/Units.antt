@@ -1,4 +1,7 @@
 -- The loop of `decode`: what was written and what is left to decode make the whole.
+-- The invariant `Decoding`: what was written and then what the bytes left decode to make the whole. `unit-outcome`: what the code finds at
+-- a position is the next decoded byte, from one byte of the text or from a percent sign and two hex digits, or that there is none. A turn
+-- is that fact and one byte more; writing stays behind reading (`written`), so that there is room.
 -- Assumes nothing.
 use Prim.Native.Nat.{ℕ, _+_, _-_, _*_, _≤_, _<_}
 use native.Mathlib.Numerals.{add-one}

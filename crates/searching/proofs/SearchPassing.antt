@@ -1,4 +1,7 @@
 -- Check and match by a search string, as the code comes to their answers: the rows ask what the string asks.
+-- A law for each way through the code: the sheet is refused, the text is refused, or it is taken. Then the rows keep the query, so that
+-- checking and judging by the rows is checking and judging by the query (`rows-answer`, `same-says`). Where a count is answered all steps
+-- have found something, so the rows' question is the string's (`asks`), and match and select follow as they do for a filter.
 -- Assumes nothing.
 use Prim.Native.Nat.{ℕ}
 use native.Mathlib.Omega.{arith}

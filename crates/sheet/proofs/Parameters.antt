@@ -1,4 +1,7 @@
 -- Laws of parameters: what the code's tests decide, for one parameter and for the next of a list, and that the tests are the rules.
+-- The first half has a law for each branch of the code: a test of a list is the test of its first parameter and then that of the rest, so
+-- what is left decides. The second half puts the tests into the rules' words, `-there` and `-back` for the two directions: `parameter-iff`
+-- by the cases of the kind, `parameters-iff`, `distinct-iff` and `parents-iff` by induction on the list.
 -- Assumes nothing.
 use Prim.Native.Nat.{ℕ, _-_, _≤_, _<_}
 use native.Mathlib.Omega.{arith}

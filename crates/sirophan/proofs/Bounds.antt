@@ -9,10 +9,9 @@ use lib.Dec.{leb}
 use lib.ListN.{length, length-append}
 use borrow.Author.Tests.{leb-true}
 use Rattle.base.proofs.Tests.{cond-elim}
-use Rattle.refusal.specs.Answers.{count, refused}
+use Rattle.refusal.specs.Answers.{count, refused, PlaceBound}
 use Rattle.refusal.specs.Steps.{Step, found, stop, _>>=_, answer}
 use Rattle.answer.specs.Operations.{Question, takeRun, takeCards, matching, takeRoom, selection, selectBy}
-use Rattle.answer.specs.Selection.{PlaceBound}
 use Rattle.answer.proofs.Outcomes.{OtherNumber}
 use Rattle.answer.proofs.Runs.{run-iff, run-or-none}
 use Rattle.answer.proofs.Selection.{selects-by-match}

@@ -1,4 +1,7 @@
 -- What the code's tests on the bytes of a value come to.
+-- A law for each test that the code makes of a byte or a value: it is the definition's own choice, so room for what is to be written and
+-- what was written carry over by equations. The loop over the bytes between the quotes keeps `Escaping`: what is written and what the bytes
+-- left come to make the whole (base's `Wrote`).
 -- Assumes nothing.
 use Prim.Native.Nat.{ℕ, _+_, _≤_, _<_, zero-le}
 use native.Mathlib.Omega.{arith}

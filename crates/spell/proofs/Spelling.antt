@@ -1,4 +1,7 @@
 -- Spelling a text: a filter is measured and then written where there is room; what is no filter is answered by its failure.
+-- The laws follow the operation: a text of the wrong size; a text that is no filter, for which crate place has the refusal; else a filter.
+-- Its plain spelling is no longer than the text, so a buffer of 1,024 bytes has room to measure it; it is then written into the caller's
+-- part where that has room. Both times the same is written (`TextSpelt`), so the length found first is that of what is written then.
 -- Assumes nothing.
 use Prim.Native.Nat.{ℕ, _+_, _-_, _≤_, _<_}
 use native.Mathlib.Omega.{arith}

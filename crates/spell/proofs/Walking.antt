@@ -1,5 +1,9 @@
 -- The walk that writes, item by item: what the text is known to be gives each callee its room, and what the callees wrote is the
 -- whole's plain spelling.
+-- `RoomFor`: the reader gives a tree at this place, and its spelling fits into the part that is lent. `Spelt`: it stands there. Each clause
+-- of the reader is inverted to the trees of its parts (`closed`, `chosen`), whose spellings are parts of the whole's, so each callee has
+-- room; and what the callees put one behind another (base's `Wrote`) is the spelling of the clause's tree. Brackets are put around a join
+-- after it is written.
 -- Assumes nothing.
 use Prim.Native.Nat.{ℕ, _+_, _-_, _≤_, _<_}
 use native.Mathlib.Omega.{arith}

@@ -1,4 +1,7 @@
 -- What the scans find lies inside the text, in order, and ahead of where they began.
+-- Each scan's answer is taken apart by the tests that the scan made: a run ends between its start and the end of the text, and what is
+-- derived ends inside the text and ahead of where it begins (`test-rise`, `closes-rise`). `-placed` says so of a scan, and the laws at the
+-- end of an answer that the code was given.
 -- Assumes nothing.
 use Prim.Native.Nat.{ℕ, _+_, _≤_, _<_}
 use native.Mathlib.Omega.{arith}

@@ -1,4 +1,8 @@
 -- What the reader gives is what the text spells.
+-- By induction on the nesting left, as the reader recurses (`item-derived`, `filter-derived`). What the scans find where an item begins is
+-- a piece of a derivation (`head-derived`, by files Tests and Structure), and each clause of the reader puts such pieces together as a rule
+-- of the grammar does. The chain of a filter is by induction on its fuel: what was read so far is derived, and a connective and an item
+-- more make the grammar's `one-more` (`chain-filter`). `read-sound` adds the spaces around it and the limit on tests.
 -- Assumes nothing.
 use Prim.Native.Nat.{ℕ, zero, suc, _+_}
 use native.Mathlib.Omega.{arith}

@@ -1,4 +1,8 @@
 -- Folding is what the rules say of each byte, it makes small letters of the letters in UTF-8, and it goes on behind a bar as at a text's start.
+-- The rule speaks of the bytes before, and the code has the last of them: `endOf` ties the two. A byte folds where the rule says so
+-- (`folds-there`, `folds-back`), and a text by induction, the bytes before growing by one (`folded-behind`, `behind-back`). That the
+-- letters of two bytes become small is computed for every code below 2,048 and looked up (`letters`). Behind a byte other than 0xC3 a text
+-- folds as by itself (`foldFrom-fresh`), and a bar is such a byte and stays.
 -- Assumes nothing.
 use mathlib.Core.Path.{_≡_, refl, ap, subst, _∙_}
 use Prim.Native.Nat.{ℕ, _+_, _≤_, _<_}

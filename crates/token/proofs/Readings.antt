@@ -1,4 +1,7 @@
 -- What readable, the forms and matching mean, by the spellings.
+-- A text is cut at its first bar or has none, and which form it spells depends on whether the parts are empty; so every direction goes by
+-- these cases. A text of a search string comes with the index of its cut, and is treated alike (`formAt-reads`). A match is a token that
+-- the card spells and a form that is asked for, which asks for it (`meets-reads`): each of the two texts is read to one or to none.
 -- Assumes nothing.
 use mathlib.Core.Path.{_≡_, refl, sym, ap, _∙_, subst}
 use Prim.Native.Nat.{ℕ, _+_, _≤_, _<_}

@@ -25,17 +25,17 @@ slice-aggregate-spare c = search needs
 spare-requires : tie.Need-spare-requires
 spare-requires c κs = (search needs, (search (mark-few, needs), search needs))
 
-sub-write : tie.Need-sub-write
-sub-write c = search needs
+sub-write-word : tie.Need-sub-write-word
+sub-write-word c = search needs
 
-part-write-start : tie.Need-part-write-start
-part-write-start c = search needs
+part-write-word-start : tie.Need-part-write-word-start
+part-write-word-start c = search needs
 
-part-write-end : tie.Need-part-write-end
-part-write-end c = search (mark-part, needs)
+part-write-word-end : tie.Need-part-write-word-end
+part-write-word-end c = search (mark-part, needs)
 
-write-requires : tie.Need-write-requires
-write-requires c κs = search (mark-room, needs)
+write-word-requires : tie.Need-write-word-requires
+write-word-requires c κs = search (mark-room, needs)
 
 same-length : tie.Need-same-length
 same-length c = search needs
@@ -60,10 +60,10 @@ mark-spec =
     returns
     slice-aggregate-spare
     spare-requires
-    sub-write
-    part-write-start
-    part-write-end
-    write-requires
+    sub-write-word
+    part-write-word-start
+    part-write-word-end
+    write-word-requires
     same-length
     returns-2
     same-length-2

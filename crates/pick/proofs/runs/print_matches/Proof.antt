@@ -5,7 +5,7 @@ use native.Mathlib.Omega.{arith}
 use mathlib.Core.Path.{_≡_}
 use lib.ListN.{length}
 use borrow.Author.Needs.{needs}
-use Rattle.pick.specs.Bounds.{mostCards}
+use Rattle.listing.specs.Totals.{mostCards}
 use Rattle.pick.proofs.Bounds.{more-added}
 use Rattle.pick.proofs.runs.print_matches.Statement.{statement}
 use Rattle.pick.proofs.runs.print_matches.Tie as tie

@@ -1,7 +1,7 @@
 -- `pick::runs::print_run` meets its contract: the text stands within its buffer, and the turn is the run's.
 -- Assumes nothing.
 use Rattle.pick.proofs.Selecting.{run-added}
-use Rattle.pick.proofs.Putting.{puts-within}
+use Rattle.listing.proofs.Putting.{puts-within}
 use borrow.Author.Needs.{needs}
 use Rattle.pick.proofs.runs.print_run.Statement.{statement}
 use Rattle.pick.proofs.runs.print_run.Tie as tie

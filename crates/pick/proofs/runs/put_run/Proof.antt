@@ -2,7 +2,7 @@
 -- Assumes nothing.
 use native.Mathlib.Omega.{arith}
 use Rattle.pick.proofs.Selecting.{selected-count, selected-place, selected-run, refused-run}
-use Rattle.pick.proofs.Putting.{refusal-room}
+use Rattle.listing.proofs.Putting.{refusal-room}
 use borrow.Author.Needs.{needs}
 use Rattle.pick.proofs.runs.put_run.Statement.{statement}
 use Rattle.pick.proofs.runs.put_run.Tie as tie
