@@ -2,6 +2,7 @@
 -- Assumes nothing.
 use Prim.Native.Nat.{ℕ, _+_, _≤_}
 use mathlib.Core.List.{List, [], _∷_, _++_, map}
+use Rattle.syntax.specs.declared.Connective.{Connective}
 
 -- what a test is asked of: a name, or a path among the members of the bundle with a name
 pub data Path : Type 0 where
@@ -22,10 +23,6 @@ moved p t = record { at = p; path = t .path; operator = t .operator; value = t .
 -- the test asked among the members of the bundle with the name b
 abbrev pub under : List ℕ → Test → Test
 under b t = record { at = t .at; path = member b (t .path); operator = t .operator; value = t .value }
-
--- 01: joining word
-pub data Connective : Type 0 where
-  and or : Connective
 
 -- a filter that was read
 pub data Tree : Type 0 where
