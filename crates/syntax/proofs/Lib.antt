@@ -10,3 +10,4 @@ pub mod Places
 pub mod Sound
 pub mod Complete
 pub mod Spelling
+pub mod Fold

@@ -39,6 +39,13 @@ testsOf (bracketed p b f t) = map (under b) (moved p t ∷ testsOf f)
 testsOf (join c f g) = testsOf f ++ testsOf g
 testsOf (negation f) = testsOf f
 
+-- the tree with every position 0: "tests, decoded values, joins, nots and grouping"
+unfoldable pub erase : Tree → Tree
+erase (test t) = test (moved 0 t)
+erase (bracketed p b f t) = bracketed 0 b (erase f) (moved 0 t)
+erase (join c f g) = join c (erase f) (erase g)
+erase (negation f) = negation (erase f)
+
 -- the tests begin one after the other, from position p on and before q
 pub data Rising : ℕ → ℕ → List Test → Type 0 where
   rising-end : {p q : ℕ} → p ≤ q → Rising p q []
