@@ -20,7 +20,7 @@ use Rattle.sheet.specs.Encode.{WellFormedSheet, HasParent, at-top, in-bundle}
 use Rattle.sheet.specs.declared.Found.{Found}
 use Rattle.sheet.proofs.Listed.{find-iff, table-listed}
 use Rattle.card.specs.Card.{Entry}
-use Rattle.syntax.specs.Tree.{Test, name, moved, under, testsOf, Tree, test, bracketed, join, negation}
+use Rattle.syntax.specs.Tree.{Test, name, moved, under, testsOf, Tree, test, bracketed, join, negation, erase}
 use Rattle.syntax.specs.Scan.{valueAt}
 use Rattle.syntax.proofs.Values.{Found as ValueFound}
 use Rattle.judge.specs.Sets.{lookup, ofOccurrence, keep}
@@ -32,7 +32,7 @@ use Rattle.rows.specs.Cells.{stated}
 use Rattle.rows.specs.Good.{FitsTo, Fits, fits-test, fits-bracket, fits-join, fits-not, Good}
 use Rattle.rows.specs.Shapes.{shapeOf, isWithin, goodBy, good}
 use Rattle.rows.specs.Saying.{probeSays, expressionSays, statedSays, rowsSay, Whole}
-use Rattle.rows.specs.Stated.{nameAt, valueBy, testFor, bundleFor, treeOf, erase}
+use Rattle.rows.specs.Stated.{nameAt, valueBy, testFor, bundleFor, treeOf}
 use Rattle.rows.specs.declared.Probe.{Probe}
 use Rattle.rows.proofs.Stating.{some-same}
 use Rattle.rows.proofs.Good.{listed-all, good-states, good-iff}

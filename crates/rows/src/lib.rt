@@ -17,6 +17,7 @@ use kind::Readings;
 pub use once::say_once;
 pub use says::rows_say;
 pub use store::open_rows;
+use syntax::Connective;
 pub use whole::are_good;
 pub use write::write_filter;
 
@@ -38,12 +39,12 @@ pub struct Opened {
     pub readings: Readings,
 }
 
-// What a cell says: a test, the test of a member after brackets, not, and (true) or or, or nothing.
+// What a cell says: a test, the test of a member after brackets, not, a connective, or nothing.
 pub enum Row {
     Test(Probe),
     Bracket(Probe),
     Not,
-    Connect(bool),
+    Connect(Connective),
     Unknown,
 }
 
