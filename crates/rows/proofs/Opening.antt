@@ -253,7 +253,7 @@ module _ (kinds xs : List ℕ) (c : ℕ) (r : Row) (e : r ≡ rowOf c) (o : Open
   unfolding openedRow
   row-not h k = rw (sym e ∙ h) k
 
-  pub row-connect : (c : Connective) → r ≡ Row.Connect c → o ≡ closed → o ≡ openedRow kinds xs c
+  pub row-connect : (a : Connective) → r ≡ Row.Connect a → o ≡ closed → o ≡ openedRow kinds xs c
   unfolding openedRow
   row-connect a h k = rw (sym e ∙ h) k
 

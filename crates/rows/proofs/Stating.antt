@@ -6,7 +6,6 @@ use mathlib.Core.Path.{_≡_, refl, sym, ap, subst, _∙_}
 use mathlib.Core.Option.{Option, none, some}
 use mathlib.Core.List.{List, [], _∷_, _++_, append-assoc, append-nil}
 use lib.ListN.{length}
-use Rattle.syntax.specs.declared.Connective.{Connective}
 use Rattle.rows.specs.Expression.{Expression, probing, choosing, joining, negating, testCount}
 use Rattle.rows.specs.Cells.{rowOf, cellOf, encode, Writable, writable-test, writable-bracket, writable-join, writable-not, push, andThen, run, only, stated}
 use Rattle.rows.specs.declared.Row.{Row}

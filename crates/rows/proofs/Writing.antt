@@ -368,7 +368,6 @@ module _ (ps : List Parameter) (c : ℕ) (xs : List ℕ) (row close d p : ℕ) (
           let low : row + k + v .cells < length list2 = omega (arith, chain-room, rise .1, short) in
           let before : take (row + k + v .cells) list2 ≡ take row l ++ (encode (prepared ps xs c (h .tree)) ++ encode (prepared ps xs c (a .tree))) = ap (λ (x : ℕ). take (row + k + x) list2) same ∙ a .cells ∙ ap (λ (b : List ℕ). b ++ encode (prepared ps xs c (a .tree))) (h .cells) ∙ append-assoc (take row l) (encode (prepared ps xs c (h .tree))) (encode (prepared ps xs c (a .tree))) in
           let place : row + (k + v .cells + 1) ≡ row + k + v .cells + 1 = omega arith in
-          let cell : y ≡ cellOf (Row.Connect o) = g in
           record {
             left = h .left - 1;
             tree = join o (h .tree) (a .tree);
@@ -380,7 +379,7 @@ module _ (ps : List Parameter) (c : ℕ) (xs : List ℕ) (row close d p : ℕ) (
             summary-is = z ∙ ap₂ joinSummaries (h .summary-is) (ap (λ (o : Outcome). o .summary) (a .value)) ∙ summary-joined ps c (testsOf (h .tree)) (testsOf (a .tree));
             cells-are = omega (arith, h .cells-are, same);
             cells = ap (λ (x : ℕ). take x (set list2 (row + k + v .cells) y)) place ∙ put-more (take row l) (encode (prepared ps xs c (h .tree)) ++ encode (prepared ps xs c (a .tree))) list2 (row + k + v .cells) y before low
-                ∙ ap (λ (b : List ℕ). take row l ++ b) (append-assoc (encode (prepared ps xs c (h .tree))) (encode (prepared ps xs c (a .tree))) (y ∷ []) ∙ ap (λ (b : ℕ). encode (prepared ps xs c (h .tree)) ++ (encode (prepared ps xs c (a .tree)) ++ (b ∷ []))) cell);
+                ∙ ap (λ (b : List ℕ). take row l ++ b) (append-assoc (encode (prepared ps xs c (h .tree))) (encode (prepared ps xs c (a .tree))) (y ∷ []) ∙ ap (λ (b : ℕ). encode (prepared ps xs c (h .tree)) ++ (encode (prepared ps xs c (a .tree)) ++ (b ∷ []))) g);
             size = length-set list2 (row + k + v .cells) y ∙ w .size ∙ h .size;
             room = omega (arith, chain-room);
           }
