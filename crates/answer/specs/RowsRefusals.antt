@@ -7,10 +7,10 @@ use mathlib.Core.List.{List, _++_}
 use lib.ListN.{length, take, drop}
 use Rattle.sheet.specs.Sheet.{Parameter}
 use Rattle.sheet.specs.Encode.{SheetBlock}
-use Rattle.syntax.specs.Tree.{Tree}
+use Rattle.syntax.specs.Tree.{Tree, erase}
 use Rattle.syntax.specs.Grammar.{Spells}
 use Rattle.rows.specs.Good.{Good}
-use Rattle.rows.specs.Stated.{treeOf, erase}
+use Rattle.rows.specs.Stated.{treeOf}
 use Rattle.refusal.specs.Answers.{count, refused}
 use Rattle.answer.specs.Operations.{matchAnswer}
 use Rattle.answer.specs.Preparing.{rowCells, prepareAnswer, prepareCells, judgeAnswer}

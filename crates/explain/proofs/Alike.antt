@@ -8,11 +8,11 @@ use Rattle.sheet.specs.Sheet.{Parameter}
 use Rattle.sheet.specs.Find.{kindsOf}
 use Rattle.sheet.specs.Encode.{WellFormedSheet}
 use Rattle.card.specs.Card.{Entry}
-use Rattle.syntax.specs.Tree.{Tree, test, bracketed, join, negation}
+use Rattle.syntax.specs.Tree.{Tree, test, bracketed, join, negation, erase}
 use Rattle.judge.specs.Verdicts.{filterSays}
 use Rattle.rows.specs.Expression.{Expression, probing, choosing, joining, negating}
 use Rattle.rows.specs.Good.{Fits, fits-test, fits-bracket, fits-join, fits-not}
-use Rattle.rows.specs.Stated.{treeOf, erase}
+use Rattle.rows.specs.Stated.{treeOf}
 use Rattle.row_judge.proofs.Meaning.{says-is, erase-says}
 use Rattle.explain.specs.Deciding.{outerTests, outerCount, without}
 use Rattle.explain.specs.Marks.{Mark, opposite, joinedMarks, markBy, isDecided, masked, suffices, spareBelow, deciding}

@@ -12,7 +12,8 @@ use mathlib.Core.Bool.{Bool, true, false, cond, not, _&&_, _||_}
 use lib.Dec.{ltb}
 use borrow.Author.Tests.{lt-ltb, le-ltb, ltb-true, ltb-false}
 use Rattle.base.proofs.Tests.{cond-elim}
-use Rattle.syntax.specs.Tree.{Connective, and, or, Tree, test, bracketed, join, negation}
+use Rattle.syntax.specs.Tree.{Tree, test, bracketed, join, negation}
+use Rattle.syntax.specs.declared.Connective.{Connective}
 use Rattle.judge.specs.Verdicts.{joined}
 use Rattle.explain.specs.Deciding.{outerCount, saysBy, Suffices}
 use Rattle.explain.specs.Marks.{Mark, spared, yes, no, mark, both, opposite, either, joinedMarks, markBy, isDecided, masked, suffices}
@@ -49,8 +50,8 @@ or-by-not false true = refl
 or-by-not false false = refl
 
 fits-joined : (c : Connective) {a b : Mark} {x y : Bool} → Fits a x → Fits b y → Fits (joinedMarks c a b) (joined c x y)
-fits-joined and h k = fits-both h k
-fits-joined or {a} {b} {x} {y} h k = subst (Fits (either a b)) (or-by-not x y) (fits-opposite (fits-both (fits-opposite h) (fits-opposite k)))
+fits-joined Connective.And h k = fits-both h k
+fits-joined Connective.Or {a} {b} {x} {y} h k = subst (Fits (either a b)) (or-by-not x y) (fits-opposite (fits-both (fits-opposite h) (fits-opposite k)))
 
 -- the two parts can say what the whole is to say
 record Parts (c : Connective) (a b : Mark) (z : Bool) : Type 0 where
@@ -60,7 +61,7 @@ record Parts (c : Connective) (a b : Mark) (z : Bool) : Type 0 where
   fits-right : Fits b right
   whole : joined c left right ≡ z
 
-both-parts : (a b : Mark) {z : Bool} → Fits (both a b) z → Parts and a b z
+both-parts : (a b : Mark) {z : Bool} → Fits (both a b) z → Parts Connective.And a b z
 both-parts spared spared (fits-spared {b = z}) = record { left = true; right = z; fits-left = fits-spared; fits-right = fits-spared; whole = refl }
 both-parts spared yes (fits-spared {b = true}) = record { left = true; right = true; fits-left = fits-spared; fits-right = fits-yes; whole = refl }
 both-parts spared yes (fits-spared {b = false}) = record { left = false; right = true; fits-left = fits-spared; fits-right = fits-yes; whole = refl }
@@ -79,9 +80,9 @@ fits-back : {a : Mark} {x : Bool} → Fits (opposite a) x → Fits a (not x)
 fits-back {a} {x} h = subst (λ (m : Mark). Fits m (not x)) (opposite-opposite a) (fits-opposite h)
 
 parts : (c : Connective) (a b : Mark) {z : Bool} → Fits (joinedMarks c a b) z → Parts c a b z
-parts and a b h = both-parts a b h
-parts or a b {z} h =
-    let p : Parts and (opposite a) (opposite b) (not z) = both-parts (opposite a) (opposite b) (fits-back h) in
+parts Connective.And a b h = both-parts a b h
+parts Connective.Or a b {z} h =
+    let p : Parts Connective.And (opposite a) (opposite b) (not z) = both-parts (opposite a) (opposite b) (fits-back h) in
     record {
       left = not (p .left);
       right = not (p .right);

@@ -26,14 +26,14 @@ use Rattle.sheet.specs.Encode.{WellFormedSheet, SheetBlock}
 use Rattle.sheet.proofs.RoundTrip.{sheet-well-formed}
 use Rattle.sheet.proofs.Sheets.{sheet-reads-iff}
 use Rattle.card.specs.Card.{entriesOf, readCard}
-use Rattle.syntax.specs.Tree.{Tree}
+use Rattle.syntax.specs.Tree.{Tree, erase}
 use Rattle.syntax.specs.Grammar.{Spells}
 use Rattle.judge.specs.Sets.{conforms}
 use Rattle.judge.specs.Verdicts.{filterSays}
 use Rattle.rows.specs.Cells.{stated}
 use Rattle.rows.specs.Good.{Fits, Good}
 use Rattle.rows.specs.Shapes.{good}
-use Rattle.rows.specs.Stated.{treeOf, erase}
+use Rattle.rows.specs.Stated.{treeOf}
 use Rattle.rows.proofs.Good.{good-few, good-states, good-iff}
 use Rattle.row_judge.proofs.Meaning.{good-whole}
 use Rattle.refusal.specs.declared.Reason.{Reason}

@@ -7,7 +7,7 @@ use mathlib.Core.Bool.{Bool, true, false, cond}
 use lib.Dec.{eqb}
 use borrow.Author.Tests.{ne-eqb, eqb-true}
 use Rattle.base.proofs.Tests.{cond-elim}
-use Rattle.syntax.specs.Reader.{connective}
+use Rattle.syntax.specs.declared.Connective.{Connective}
 use Rattle.explain.specs.Deciding.{cell}
 use Rattle.explain.specs.Marks.{Mark, spared, yes, no, mark, both, opposite, joinedMarks, markOf, isDecided}
 
@@ -86,10 +86,10 @@ module _ (whole mark : ℕ) where
   pub remains-kept : (whole ≡ 1 → ⊥) → (whole ≡ 2 → ⊥) → mark ≡ cond (isDecided (markOf whole)) 0 mark
   remains-kept n m = rw (mark-other whole n m)
 
-module _ (c : Bool) (a b r : ℕ) where
-  pub join-both : c ≡ true → markOf r ≡ both (markOf a) (markOf b) → markOf r ≡ joinedMarks (connective c) (markOf a) (markOf b)
+module _ (c : Connective) (a b r : ℕ) where
+  pub join-both : c ≡ Connective.And → markOf r ≡ both (markOf a) (markOf b) → markOf r ≡ joinedMarks c (markOf a) (markOf b)
   join-both h e = rw h e
 
-  pub join-either : (x y z : ℕ) → c ≡ false → markOf x ≡ opposite (markOf a) → markOf y ≡ opposite (markOf b) → markOf z ≡ both (markOf x) (markOf y) → markOf r ≡ opposite (markOf z)
-      → markOf r ≡ joinedMarks (connective c) (markOf a) (markOf b)
+  pub join-either : (x y z : ℕ) → c ≡ Connective.Or → markOf x ≡ opposite (markOf a) → markOf y ≡ opposite (markOf b) → markOf z ≡ both (markOf x) (markOf y) → markOf r ≡ opposite (markOf z)
+      → markOf r ≡ joinedMarks c (markOf a) (markOf b)
   join-either x y z h i j k e = rw h (e ∙ ap opposite (k ∙ ap₂ both i j))

@@ -14,7 +14,7 @@ use lib.ListN.{length, getD, set, replicate, length-set}
 use lib.Seq.{getD-set-same, getD-set-other}
 use mir.Val.{Fits}
 use mir.Syntax.{w64}
-use Rattle.syntax.specs.Reader.{connective}
+use Rattle.syntax.specs.declared.Connective.{Connective}
 use Rattle.rows.specs.Expression.{Expression, probing, choosing, joining, negating}
 use Rattle.rows.specs.Cells.{rowOf, stated}
 use Rattle.row_judge.specs.Saying.{Whole}
@@ -135,10 +135,10 @@ module _ (rows marks stack firsts : List ℕ) (top tests i : ℕ) (s : Marking r
 
     -- ---- the two on top
 
-    pub marking-short : (c : Bool) → r ≡ Row.Connect c → top < 2 → MarksWhole rows marks 0
+    pub marking-short : (c : Connective) → r ≡ Row.Connect c → top < 2 → MarksWhole rows marks 0
     marking-short c u z = nothing-marked rows marks 0 (walk-short P rows top tests i (s .st) (s .walk) l r e c u z)
 
-    pub marking-connect : (c : Bool) (a b x : ℕ) → r ≡ Row.Connect c → 2 ≤ top → b ≡ getD stack (top - 1) 0 → a ≡ getD stack (top - 2) 0 → markOf x ≡ joinedMarks (connective c) (markOf a) (markOf b)
+    pub marking-connect : (c : Connective) (a b x : ℕ) → r ≡ Row.Connect c → 2 ≤ top → b ≡ getD stack (top - 1) 0 → a ≡ getD stack (top - 2) 0 → markOf x ≡ joinedMarks c (markOf a) (markOf b)
         → Marking rows marks (set stack (top - 2) x) firsts (top - 1) tests (i + 1)
     unfolding markBy treeOf outers
     marking-connect c a b x u n h g j =
@@ -148,9 +148,9 @@ module _ (rows marks stack firsts : List ℕ) (top tests i : ℕ) (s : Marking r
         let between : outers (t2 .rest) ≡ outers (t1 .rest) + outerCount (outline (t1 .top)) = ap outers (t1 .is) in
         let second : markOf b ≡ markBy (marksIn marks) (outers (t1 .rest) + outerCount (outline (t1 .top))) (outline (t2 .top)) = ap markOf h ∙ t2 .known .mark ∙ ap (λ (k : ℕ). markBy (marksIn marks) k (outline (t2 .top))) between in
         record {
-          st = joining (connective c) (t1 .top) (t2 .top) ∷ t1 .rest;
+          st = joining c (t1 .top) (t2 .top) ∷ t1 .rest;
           walk = walk-connect P rows top tests i (s .st) (s .walk) l r e n (Marked (marksIn marks) (set stack (top - 2) x) firsts) c u (marked-below (marksIn marks) stack firsts (top - 2) x)
-              (marked-here (marksIn marks) stack firsts (top - 2) x (t1 .rest) (joining (connective c) (t1 .top) (t2 .top)) (omega (arith, s .stack-size, low)) (j ∙ ap₂ (joinedMarks (connective c)) (ap markOf g ∙ t1 .known .mark) second) (t1 .known .first));
+              (marked-here (marksIn marks) stack firsts (top - 2) x (t1 .rest) (joining c (t1 .top) (t2 .top)) (omega (arith, s .stack-size, low)) (j ∙ ap₂ (joinedMarks c) (ap markOf g ∙ t1 .known .mark) second) (t1 .known .first));
           stack-size = length-set stack (top - 2) x ∙ s .stack-size;
           firsts-size = s .firsts-size;
         }

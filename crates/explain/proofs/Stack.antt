@@ -12,7 +12,7 @@ use mathlib.Core.Bool.{Bool}
 use mathlib.Core.Option.{none, some}
 use mathlib.Core.List.{List, [], _∷_}
 use lib.ListN.{length, getD}
-use Rattle.syntax.specs.Reader.{connective}
+use Rattle.syntax.specs.declared.Connective.{Connective}
 use Rattle.rows.specs.Expression.{Expression, probing, choosing, joining, negating, testCount}
 use Rattle.rows.specs.Cells.{rowOf, push, only, stated}
 use Rattle.row_judge.specs.Saying.{Whole}
@@ -112,7 +112,7 @@ module _ (P : ℕ → List Expression → Expression → Type 0) (rows : List �
   unfolding push
   walk-bare-not u z = stacked-fails (w .stacked) l r e (ap₂ push u (none-on z))
 
-  pub walk-short : (c : Bool) → r ≡ Row.Connect c → top < 2 → stated rows ≡ none
+  pub walk-short : (c : Connective) → r ≡ Row.Connect c → top < 2 → stated rows ≡ none
   unfolding push
   walk-short c u z = stacked-fails (w .stacked) l r e (ap (λ (q : Row). push q st) u ∙ few-on (w .stack) z)
     where
@@ -196,15 +196,15 @@ module _ (P : ℕ → List Expression → Expression → Type 0) (rows : List �
     pub first-on : Top P (top - 2) (second-on .rest)
     first-on = top-of P (top - 2) (second-on .below) (omega (arith, n))
 
-    pub walk-connect : (Q : ℕ → List Expression → Expression → Type 0) (c : Bool) → r ≡ Row.Connect c → ((k : ℕ) (below : List Expression) (f : Expression) → k < top - 2 → P k below f → Q k below f)
-        → Q (top - 2) (first-on .rest) (joining (connective c) (first-on .top) (second-on .top)) → Walk Q rows (top - 1) tests (i + 1) (joining (connective c) (first-on .top) (second-on .top) ∷ first-on .rest)
+    pub walk-connect : (Q : ℕ → List Expression → Expression → Type 0) (c : Connective) → r ≡ Row.Connect c → ((k : ℕ) (below : List Expression) (f : Expression) → k < top - 2 → P k below f → Q k below f)
+        → Q (top - 2) (first-on .rest) (joining c (first-on .top) (second-on .top)) → Walk Q rows (top - 1) tests (i + 1) (joining c (first-on .top) (second-on .top) ∷ first-on .rest)
     unfolding push outers outerCount treeOf
     walk-connect Q c u keeps here =
         let both : st ≡ second-on .top ∷ first-on .top ∷ first-on .rest = second-on .is ∙ ap (λ (q : List Expression). second-on .top ∷ q) (first-on .is) in
         let one : suc (top - 2) ≡ top - 1 = omega (arith, n) in
         record {
-          stacked = stacked-next (w .stacked) l r e (joining (connective c) (first-on .top) (second-on .top) ∷ first-on .rest) (ap₂ push u both);
-          stack = subst (λ (m : ℕ). Stack Q m (joining (connective c) (first-on .top) (second-on .top) ∷ first-on .rest)) one (stack-more here (stack-as P Q keeps (first-on .below)));
+          stacked = stacked-next (w .stacked) l r e (joining c (first-on .top) (second-on .top) ∷ first-on .rest) (ap₂ push u both);
+          stack = subst (λ (m : ℕ). Stack Q m (joining c (first-on .top) (second-on .top) ∷ first-on .rest)) one (stack-more here (stack-as P Q keeps (first-on .below)));
           count = w .count ∙ ap outers both ∙ omega arith;
           high = omega (arith, w .high);
           few = w .few;

@@ -23,7 +23,7 @@ use Rattle.base.proofs.Parts.{part-length}
 use Rattle.base.proofs.All.{all-head}
 use Rattle.base.proofs.Tests.{decided}
 use Rattle.card.specs.Card.{Entry}
-use Rattle.syntax.specs.Reader.{connective}
+use Rattle.syntax.specs.declared.Connective.{Connective}
 use Rattle.judge.specs.Sets.{chosenOf}
 use Rattle.judge.proofs.Entries.{every, chosen-every}
 use Rattle.rows.specs.Expression.{Expression, probing, choosing, joining, negating}
@@ -292,7 +292,7 @@ module _ (kinds xs : List ℕ) (es : List Entry) where
 
         -- ---- the two on top
 
-        pub telling-connect : (c : Bool) → r ≡ Row.Connect c → 2 ≤ top → Telling rows marks starts firsts (top - 1) tests next
+        pub telling-connect : (c : Connective) → r ≡ Row.Connect c → 2 ≤ top → Telling rows marks starts firsts (top - 1) tests next
         unfolding verdictsOn outerVerdicts
         telling-connect c u n =
             let t2 = second-on P rows top tests i (s .st) (s .walk) l r e n in
@@ -301,7 +301,7 @@ module _ (kinds xs : List ℕ) (es : List Entry) where
             let together : (verdictsOn (t1 .rest) ++ outerVerdicts kinds xs es (t1 .top)) ++ outerVerdicts kinds xs es (t2 .top) ≡ verdictsOn (t1 .rest) ++ (outerVerdicts kinds xs es (t1 .top) ++ outerVerdicts kinds xs es (t2 .top)) = append-assoc (verdictsOn (t1 .rest)) (outerVerdicts kinds xs es (t1 .top)) (outerVerdicts kinds xs es (t2 .top)) in
             rw d
             (record {
-              st = joining (connective c) (t1 .top) (t2 .top) ∷ t1 .rest;
+              st = joining c (t1 .top) (t2 .top) ∷ t1 .rest;
               walk = walk-connect P rows top tests i (s .st) (s .walk) l r e n P c u (λ k q g w h. h) (record { start = t1 .known .start; first = t1 .known .first });
               told = subst (Told marks tests) together (subst (λ (st : List Expression). Told marks tests (verdictsOn st)) both (s .told));
               marks-size = s .marks-size;
@@ -317,7 +317,7 @@ module _ (kinds xs : List ℕ) (es : List Entry) where
       pub telling-bare-not : r ≡ Row.Not → top ≡ 0 → Tells kinds xs es rows 0 marks
       telling-bare-not u z = nothing-told (walk-bare-not P rows top tests i (s .st) (s .walk) l r e u z)
 
-      pub telling-short : (c : Bool) → r ≡ Row.Connect c → top < 2 → Tells kinds xs es rows 0 marks
+      pub telling-short : (c : Connective) → r ≡ Row.Connect c → top < 2 → Tells kinds xs es rows 0 marks
       telling-short c u z = nothing-told (walk-short P rows top tests i (s .st) (s .walk) l r e c u z)
 
     -- ---- the end

@@ -9,11 +9,11 @@ use lib.ListN.{length}
 use Rattle.block.specs.declared.Reading.{Reading}
 use Rattle.sheet.specs.Sheet.{parametersOf, readSheet}
 use Rattle.card.specs.Card.{recordNumber, entriesOf, readCard}
-use Rattle.syntax.specs.Tree.{Tree}
+use Rattle.syntax.specs.Tree.{Tree, erase}
 use Rattle.judge.specs.Verdicts.{filterSays}
 use Rattle.rows.specs.Good.{Good}
 use Rattle.row_judge.specs.Saying.{Whole}
-use Rattle.rows.specs.Stated.{treeOf, erase}
+use Rattle.rows.specs.Stated.{treeOf}
 use Rattle.refusal.specs.Steps.{found}
 use Rattle.answer.specs.Answers.{matchedAnswer}
 use Rattle.sirophan.specs.Contracts.{RefusedBy}

@@ -4,7 +4,8 @@ use Prim.Native.Nat.{ℕ, zero, suc, _+_}
 use mathlib.Core.Bool.{Bool, true, false, cond}
 use mathlib.Core.List.{List}
 use lib.Dec.{eqb}
-use Rattle.syntax.specs.Tree.{Connective, and, or, Tree, test, bracketed, join, negation}
+use Rattle.syntax.specs.Tree.{Tree, test, bracketed, join, negation}
+use Rattle.syntax.specs.declared.Connective.{Connective}
 use Rattle.explain.specs.Deciding.{outerCount, verdicts, without, cells}
 
 pub data Mark : Type 0 where
@@ -32,8 +33,8 @@ abbrev pub either : Mark → Mark → Mark
 either a b = opposite (both (opposite a) (opposite b))
 
 abbrev pub joinedMarks : Connective → Mark → Mark → Mark
-joinedMarks and a b = both a b
-joinedMarks or a b = either a b
+joinedMarks Connective.And a b = both a b
+joinedMarks Connective.Or a b = either a b
 
 -- the mark of the filter where its j-th test has the mark m (i + j)
 unfoldable pub markBy : (ℕ → Mark) → ℕ → Tree → Mark

@@ -1,9 +1,9 @@
 // Marks of tests, 0 spared, 1 yes and 2 no, and the mark that rows come to with them.
 use rows::Row;
 use rows::row_of;
+use syntax::Connective;
 ghost use mathlib.Core.Path.{_≡_};
 ghost use lib.ListN.{length};
-ghost use Rattle.syntax.specs.Reader.{connective};
 ghost use Rattle.row_judge.specs.Saying.{Whole};
 ghost use Rattle.explain.specs.Marks.{both, opposite, joinedMarks, markOf};
 ghost use Rattle.explain.specs.Rows.{MarksWhole};
@@ -38,14 +38,16 @@ fn opposite(mark: u8) -> u8
 }
 
 // The mark of two parts that are joined by and or or.
-fn join_marks(and: bool, first: u8, second: u8) -> u8
-    ensures { λ r. ⌜ markOf r ≡ joinedMarks (connective and) (markOf first) (markOf second) ⌝ }
+fn join_marks(connective: Connective, first: u8, second: u8) -> u8
+    ensures { λ r. ⌜ markOf r ≡ joinedMarks connective (markOf first) (markOf second) ⌝ }
 {
-    if and {
-        return both(first, second);
+    match connective {
+        Connective::And => both(first, second),
+        Connective::Or => {
+            let neither = both(opposite(first), opposite(second));
+            opposite(neither)
+        }
     }
-    let neither = both(opposite(first), opposite(second));
-    opposite(neither)
 }
 
 // The mark of what rows state, with these marks of its tests. A test after brackets has one mark with them, that of the first test in
@@ -89,13 +91,13 @@ pub fn mark_of(rows: &[u32], marks: &[u8]) -> u8
                 stack[top - 1] = opposite(inner);
                 i += 1;
             }
-            Row::Connect(and) => {
+            Row::Connect(connective) => {
                 if top < 2 {
                     return 0;
                 }
                 let second = stack[top - 1];
                 let first = stack[top - 2];
-                stack[top - 2] = join_marks(and, first, second);
+                stack[top - 2] = join_marks(connective, first, second);
                 top -= 1;
                 i += 1;
             }

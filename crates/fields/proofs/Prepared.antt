@@ -6,11 +6,11 @@ use mathlib.Core.Option.{some}
 use mathlib.Core.List.{List, [], _∷_, _++_, map, map-append}
 use lib.ListN.{length, take}
 use Rattle.sheet.specs.Encode.{SheetBlock}
-use Rattle.syntax.specs.Tree.{Path, member, Test, under, Tree, test, bracketed, join, negation, testsOf}
+use Rattle.syntax.specs.Tree.{Path, member, Test, under, Tree, test, bracketed, join, negation, testsOf, erase}
 use Rattle.syntax.specs.Grammar.{Spells}
 use Rattle.rows.specs.Expression.{Expression}
 use Rattle.rows.specs.Good.{Good}
-use Rattle.rows.specs.Stated.{treeOf, erase}
+use Rattle.rows.specs.Stated.{treeOf}
 use Rattle.rows.proofs.Good.{good-states}
 use Rattle.refusal.specs.Answers.{count}
 use Rattle.answer.specs.Preparing.{prepareAnswer, prepareCells}

@@ -25,9 +25,11 @@ use Rattle.filter.specs.Walks.{answerOf}
 use Rattle.filter.specs.Members.{parsedSays, judgedSays, someChosen, memberAt, memberSays}
 use Rattle.sheet.specs.Sheet.{Parameter}
 use Rattle.card.specs.Card.{Entry, entry}
-use Rattle.syntax.specs.Tree.{Test, and, or, Tree, test, bracketed, join, negation}
+use Rattle.syntax.specs.Tree.{Test, Tree, test, bracketed, join, negation}
+use Rattle.syntax.specs.Fold.{foldTree}
+use Rattle.syntax.specs.declared.Connective.{Connective}
 use Rattle.judge.specs.Verdicts.{someValue, textCounts, someSays, saysAt, testSays, filterSays}
-use Rattle.filter.specs.Folds.{foldTree, undecided, judging}
+use Rattle.filter.specs.Folds.{undecided, judging}
 use Rattle.filter.specs.declared.Judged.{Judged}
 use Rattle.filter.proofs.Walk.{Cases}
 
@@ -44,18 +46,17 @@ pub judging-is : (ps : List Parameter) (c : ℕ) (es : List Entry) (f : Tree) �
 unfolding foldTree filterSays judging
 judging-is ps c es (test t) = refl
 judging-is ps c es (bracketed p b f t) = refl
-judging-is ps c es (join and f g) = rw (judging-is ps c es f, judging-is ps c es g)
-judging-is ps c es (join or f g) = rw (judging-is ps c es f, judging-is ps c es g)
+judging-is ps c es (join k f g) = rw (judging-is ps c es f, judging-is ps c es g)
 judging-is ps c es (negation f) = rw (judging-is ps c es f)
 
 -- the verdict after an item: the item's where it is needed, and else the one before it
 module _ (ps : List Parameter) (c : ℕ) (es : List Entry) where
-  pub verdict-after : (needed o a b v r : Bool) → r ≡ (needed && undecided o a) → v ≡ cond r b a → (f : Tree) → b ≡ foldTree (judging r ps c es) f → v ≡ judging needed ps c es .both o a (foldTree (judging needed ps c es) f)
+  pub verdict-after : (needed : Bool) (o : Connective) (a b v r : Bool) → r ≡ (needed && undecided o a) → v ≡ cond r b a → (f : Tree) → b ≡ foldTree (judging r ps c es) f → v ≡ judging needed ps c es .both o a (foldTree (judging needed ps c es) f)
   unfolding judging
-  verdict-after true true true b v r e h f s = rw (h, e, s, e)
-  verdict-after true true false b v r e h f s = rw (h, e)
-  verdict-after true false true b v r e h f s = rw (h, e)
-  verdict-after true false false b v r e h f s = rw (h, e, s, e)
+  verdict-after true Connective.And true b v r e h f s = rw (h, e, s, e)
+  verdict-after true Connective.And false b v r e h f s = rw (h, e)
+  verdict-after true Connective.Or true b v r e h f s = rw (h, e)
+  verdict-after true Connective.Or false b v r e h f s = rw (h, e, s, e)
   verdict-after false o a b v r e h f s = rw (h, e)
 
 -- ---- the filter in square brackets

@@ -14,6 +14,7 @@ use Rattle.judge.specs.Sets.{lookup}
 use Rattle.syntax.specs.Scan.{testOf, connectiveAt}
 use Rattle.syntax.specs.Reader.{itemAt, filterAt}
 use Rattle.syntax.specs.declared.RawTest.{RawTest}
+use Rattle.syntax.specs.declared.Connective.{Connective}
 use Rattle.syntax.specs.declared.FoundConnective.{FoundConnective}
 use Rattle.syntax.proofs.Complete.{item-rise, filter-rise}
 use Rattle.syntax.proofs.Places.{connective-ahead}
@@ -21,7 +22,8 @@ use Rattle.syntax.proofs.Spelling.{item-count, filter-count}
 use Rattle.judge.specs.Faults.{testFault, orElse, firstFault}
 use Rattle.judge.specs.declared.Fault.{Fault}
 use Rattle.judge.specs.declared.FirstFault.{FirstFault}
-use Rattle.filter.specs.Folds.{foldTree, joinSummaries, summaryOf, reading}
+use Rattle.syntax.specs.Fold.{foldTree}
+use Rattle.filter.specs.Folds.{joinSummaries, summaryOf, reading}
 use Rattle.filter.specs.Walks.{answerOf}
 use Rattle.filter.specs.declared.Summary.{Summary}
 use Rattle.filter.specs.declared.Walked.{Walked}
@@ -89,7 +91,7 @@ summary-inside ps c b i p t o a s e h k f g =
 
 -- ---- there are no more tests than bytes, so that their sum fits
 
-pub tests-fit : (ps : List Parameter) (s : ℕ) (xs : List ℕ) (close d p m q n : ℕ) (a b : Summary) (c : FoundConnective) (o : Bool) (r : Walked)
+pub tests-fit : (ps : List Parameter) (s : ℕ) (xs : List ℕ) (close d p m q n : ℕ) (a b : Summary) (c : FoundConnective) (o : Connective) (r : Walked)
     → Chain Walked.Done Walked.Nothing walked-cases (reading ps s) xs close d p m a → c ≡ connectiveAt xs m → c ≡ FoundConnective.Next q o
     → r ≡ answerOf Walked.Done Walked.Nothing (reading ps s) (itemAt d xs close q) → r ≡ Walked.Done n b → length xs ≤ 1024 → a .tests + b .tests ≤ 1024
 tests-fit ps s xs close d p m q n a b c o r k e h f i short =

@@ -8,7 +8,7 @@
 use Prim.Native.Nat.{ℕ, _+_, _-_, _≤_}
 use native.Mathlib.Omega.{arith}
 use mathlib.Core.Path.{_≡_, refl, sym, ap, subst, _∙_}
-use mathlib.Core.Bool.{Bool, true, false, cond}
+use mathlib.Core.Bool.{Bool, cond}
 use mathlib.Core.List.{List}
 use lib.ListN.{length}
 use Rattle.syntax.specs.Tree.{Test, Tree, join}
@@ -17,28 +17,21 @@ use Rattle.syntax.specs.Scan.{isSpace, testOf, headAt, memberAfter, connectiveA
 use Rattle.base.specs.Runs.{RunEnd}
 use Rattle.base.specs.Parts.{part}
 use Rattle.syntax.specs.declared.FoundTest.{FoundTest}
-use Rattle.syntax.specs.Reader.{Parsed, parsed, unparsed, connective, negatedIf, chainOf, itemAt, filterAt}
+use Rattle.syntax.specs.Reader.{Parsed, parsed, unparsed, negatedIf, chainOf, itemAt, filterAt}
 use Rattle.syntax.specs.declared.RawTest.{RawTest}
 use Rattle.syntax.specs.declared.Head.{Head}
+use Rattle.syntax.specs.declared.Connective.{Connective}
 use Rattle.syntax.specs.declared.FoundConnective.{FoundConnective}
 use Rattle.syntax.specs.declared.FoundClose.{FoundClose}
 use Rattle.syntax.proofs.Structure.{ConnectiveDerived, connective-derived}
 use Rattle.syntax.proofs.Sound.{ItemDerived, FilterDerived, item-derived, filter-derived}
 use Rattle.syntax.proofs.Complete.{item-rise, filter-rise, test-step, opened-step, deep-step, chosen-step, deep-choice-step, nothing-step, filter-step, chain-step}
 use Rattle.syntax.proofs.Places.{connective-ahead}
-use Rattle.filter.specs.Folds.{Fold, isAnd, foldTree}
+use Rattle.syntax.specs.Fold.{Fold, foldTree}
+use Rattle.syntax.proofs.Fold.{fold-negated}
 use Rattle.filter.specs.Walks.{answerOf}
 
 -- ---- gathering
-
-fold-negated : {A : Type 0} (φ : Fold A) (b : Bool) (f : Tree) → foldTree φ (negatedIf b f) ≡ cond b (φ .negate (foldTree φ f)) (foldTree φ f)
-unfolding foldTree
-fold-negated φ true f = refl
-fold-negated φ false f = refl
-
-and-is : (o : Bool) → isAnd (connective o) ≡ o
-and-is true = refl
-and-is false = refl
 
 -- an answer's two cases are told apart, and say what was gathered
 pub record Cases {A R : Type 0} (done : ℕ → A → R) (nothing : R) : Type 0 where
@@ -198,7 +191,7 @@ module _ {A R : Type 0} (done : ℕ → A → R) (nothing : R) (cases : Cases do
   chain-ends h = rw (k .reads, chain-step (k .left) xs _ m (k .tree) (omega (arith, k .enough)), sym e ∙ h, k .value)
 
   -- the next item is walked for what ψ gathers, which may be less than φ does
-  module _ (q : ℕ) (o : Bool) (h : c ≡ FoundConnective.Next q o) (ψ : Fold A) (r : R) (f : r ≡ answerOf done nothing ψ (itemAt d xs close q)) where
+  module _ (q : ℕ) (o : Connective) (h : c ≡ FoundConnective.Next q o) (ψ : Fold A) (r : R) (f : r ≡ answerOf done nothing ψ (itemAt d xs close q)) where
     pub chain-no-item : r ≡ nothing → nothing ≡ answerOf done nothing φ (filterAt d xs close p)
     unfolding answerOf
     chain-no-item i =
@@ -213,14 +206,14 @@ module _ {A R : Type 0} (done : ℕ → A → R) (nothing : R) (cases : Cases do
         let j : ConnectiveDerived xs m (FoundConnective.Next q o) = subst (ConnectiveDerived xs m) (sym e ∙ h) (connective-derived xs m) in
         record {
           left = k .left - 1;
-          tree = join (connective o) (k .tree) (w .tree);
+          tree = join o (k .tree) (w .tree);
           reads = rw (k .reads, chain-step (k .left) xs (λ k. itemAt d xs close k) m (k .tree) (omega (arith, k .enough)), sym e ∙ h, w .read);
           enough = omega (arith, k .enough);
-          value = z (w .tree) (w .value) ∙ ap (λ (x : Bool). φ .both x a (foldTree φ (w .tree))) (sym (and-is o)) ∙ ap (λ (x : A). φ .both (isAnd (connective o)) x (foldTree φ (w .tree))) (k .value);
+          value = z (w .tree) (w .value) ∙ ap (λ (x : A). φ .both o x (foldTree φ (w .tree))) (k .value);
           derives = one-more (k .derives) j (w .derives);
           from = omega (arith, k .from);
           within = u .1;
         }
 
-  pub chain-goes-on : (q : ℕ) (o : Bool) → c ≡ FoundConnective.Next q o → (r : R) → r ≡ answerOf done nothing φ (itemAt d xs close q) → (n : ℕ) (b v : A) → r ≡ done n b → v ≡ φ .both o a b → Chain done nothing cases φ xs close d p n v
+  pub chain-goes-on : (q : ℕ) (o : Connective) → c ≡ FoundConnective.Next q o → (r : R) → r ≡ answerOf done nothing φ (itemAt d xs close q) → (n : ℕ) (b v : A) → r ≡ done n b → v ≡ φ .both o a b → Chain done nothing cases φ xs close d p n v
   chain-goes-on q o h r f n b v i z = chain-takes q o h φ r f n b v i (λ g s. z ∙ ap (φ .both o a) s)

@@ -2,7 +2,7 @@
 -- Assumes nothing.
 use Prim.Native.Nat.{ℕ}
 use Rattle.syntax.specs.Reader.{Parsed, parsed, unparsed}
-use Rattle.filter.specs.Folds.{Fold, foldTree}
+use Rattle.syntax.specs.Fold.{Fold, foldTree}
 
 -- the answer for what was parsed, from the two cases of an answer
 unfoldable pub answerOf : {A R : Type 0} → (ℕ → A → R) → R → Fold A → Parsed → R

@@ -12,6 +12,7 @@ use judge::test_found;
 use judge::test_says;
 use kind::Meaning;
 use sheet::Found;
+use syntax::Connective;
 use syntax::FoundClose;
 use syntax::FoundConnective;
 use syntax::FoundTest;
@@ -48,13 +49,13 @@ fn negated_if(negate: bool, says: bool) -> bool
 }
 
 // Whether what an item says after a connective is needed: after and where the filter says yes so far, after or where no.
-fn item_needed(needed: bool, and: bool, says: bool) -> bool
-    ensures { λ r. ⌜ r ≡ (needed && undecided and says) ⌝ }
+fn item_needed(needed: bool, connective: Connective, says: bool) -> bool
+    ensures { λ r. ⌜ r ≡ (needed && undecided connective says) ⌝ }
 {
-    if and {
-        return needed && says;
+    match connective {
+        Connective::And => needed && says,
+        Connective::Or => needed && !says,
     }
-    needed && !says
 }
 
 // What the filter says after an item: what the item says where that is needed, and else what it said before.
@@ -335,10 +336,10 @@ pub fn judge_filter(
     let mut end = first_end;
     let mut says = first_says;
     loop {
-        let connective = read_connective(filter, end);
-        match connective {
-            FoundConnective::Next(next, and) => {
-                let asked = item_needed(needed, and, says);
+        let found = read_connective(filter, end);
+        match found {
+            FoundConnective::Next(next, connective) => {
+                let asked = item_needed(needed, connective, says);
                 let item = judge_item(
                     asked,
                     sheet,

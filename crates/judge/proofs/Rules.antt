@@ -30,7 +30,8 @@ use Rattle.sheet.specs.Find.{find, nowhere, inside, enter}
 use Rattle.sheet.specs.declared.Found.{Found}
 use Rattle.sheet.proofs.Listed.{find-iff, at-listed, listed-kind}
 use Rattle.card.specs.Card.{Entry}
-use Rattle.syntax.specs.Tree.{Path, name, member, Test, under, Tree, test, bracketed, join, negation, and, or, testsOf}
+use Rattle.syntax.specs.Tree.{Path, name, member, Test, under, Tree, test, bracketed, join, negation, testsOf}
+use Rattle.syntax.specs.declared.Connective.{Connective}
 use Rattle.kind.specs.Table.{stringRow, numberRow, dateRow, tokenRow, referenceRow, kinds, ofKind, row, relationIn, asked, rowMeaning, meaningOf, isMeaning, hasMeaning}
 use Rattle.kind.specs.declared.Meaning.{Meaning}
 use Rattle.kind.specs.declared.Relation.{Relation}
@@ -368,13 +369,13 @@ module _ (ps : List Parameter) (w : WellFormedSheet ps) where
   filter-says-iff c es (bracketed p b f t) h =
       let again : (j : ℕ) (l : List Entry) → (filterSays ps (suc j) l f ≡ true) ↔ FilterSays ps (suc j) l f = λ j l. filter-says-iff (suc j) l f (spelled-under b (testsOf f) (all-tail PrSpelled h)) in
       (bracket-there c es p b f t (all-head PrSpelled h) again, bracket-back c es p b f t (all-head PrSpelled h) again)
-  filter-says-iff c es (join and f g) h =
+  filter-says-iff c es (join Connective.And f g) h =
       let x = filterSays ps c es f in
       let y = filterSays ps c es g in
       let i = filter-says-iff c es f (all-left PrSpelled (testsOf f) (testsOf g) h) in
       let j = filter-says-iff c es g (all-right PrSpelled (testsOf f) h) in
       ((λ e. (i .0 (and-left x y e), j .0 (and-right x y e))), (λ s. and-both x y (i .1 (s .0)) (j .1 (s .1))))
-  filter-says-iff c es (join or f g) h =
+  filter-says-iff c es (join Connective.Or f g) h =
       let x = filterSays ps c es f in
       let y = filterSays ps c es g in
       let i = filter-says-iff c es f (all-left PrSpelled (testsOf f) (testsOf g) h) in

@@ -12,7 +12,8 @@ use Rattle.base.specs.Kinds.{bundleKind}
 use Rattle.sheet.specs.Sheet.{Parameter, parameter}
 use Rattle.card.specs.Card.{Entry}
 use Rattle.card.specs.Encode.{encodeCard, WellFormedCard}
-use Rattle.syntax.specs.Tree.{Path, name, member, Test, Tree, test, bracketed, join, negation, and, or}
+use Rattle.syntax.specs.Tree.{Path, name, member, Test, Tree, test, bracketed, join, negation}
+use Rattle.syntax.specs.declared.Connective.{Connective}
 use Rattle.kind.specs.declared.Relation.{Relation}
 use Rattle.judge.specs.Sets.{valuesAt, ofOccurrence}
 use Rattle.kind.specs.Rules.{ReadableOnCard, TrueOrFalse, ReadableValue, Row, HasOperator, StandsIn}
@@ -92,6 +93,6 @@ FilterSays ps c es (test t) = Says ps c es t
 FilterSays ps c es (bracketed p b f t) =
     (j : ℕ) × Listed ps j (parameter bundleKind c b) × (kept : List Entry)
     × Keeps (λ e. FilterSays ps (suc j) (ofOccurrence (e .occurrence) es) f) es kept × Says ps (suc j) kept t
-FilterSays ps c es (join and f g) = FilterSays ps c es f × FilterSays ps c es g
-FilterSays ps c es (join or f g) = FilterSays ps c es f ⊎ FilterSays ps c es g
+FilterSays ps c es (join Connective.And f g) = FilterSays ps c es f × FilterSays ps c es g
+FilterSays ps c es (join Connective.Or f g) = FilterSays ps c es f ⊎ FilterSays ps c es g
 FilterSays ps c es (negation f) = FilterSays ps c es f → ⊥

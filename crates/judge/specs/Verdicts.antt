@@ -6,7 +6,8 @@ use mathlib.Core.List.{List, [], _∷_}
 use Rattle.sheet.specs.Sheet.{Parameter}
 use Rattle.sheet.specs.declared.Found.{Found}
 use Rattle.card.specs.Card.{Entry}
-use Rattle.syntax.specs.Tree.{Test, Connective, and, or, Tree, test, bracketed, join, negation}
+use Rattle.syntax.specs.Tree.{Test, Tree, test, bracketed, join, negation}
+use Rattle.syntax.specs.declared.Connective.{Connective}
 use Rattle.kind.specs.Table.{meaningOf}
 use Rattle.kind.specs.Readable.{isTrue}
 use Rattle.kind.specs.Stands.{stands}
@@ -70,8 +71,8 @@ testSays ps c es t = saysAt (lookup ps c (t .path)) (t .operator) (t .value) es
 -- ---- a filter
 
 abbrev pub joined : Connective → Bool → Bool → Bool
-joined and a b = a && b
-joined or a b = a || b
+joined Connective.And a b = a && b
+joined Connective.Or a b = a || b
 
 -- what a filter, looked up in c, says of entries: it "joins those of its items from left to right, and and or equal in rank"; "after
 -- not the opposite"; 02: square brackets hold a filter "judged for each occurrence by itself; the set is the named member's texts from

@@ -23,7 +23,8 @@ use Rattle.base.specs.Operators.{operatorWords}
 use Rattle.base.proofs.Tests.{or-either, cond-elim}
 use Rattle.base.proofs.Lists.{equal-same}
 use Rattle.base.proofs.Names.{name-iff}
-use Rattle.syntax.specs.Tree.{name, Test, test, testsOf, Connective, and, or}
+use Rattle.syntax.specs.Tree.{name, Test, test, testsOf}
+use Rattle.syntax.specs.declared.Connective.{Connective}
 use Rattle.syntax.proofs.Bytes.{stands-escape}
 use Rattle.syntax.specs.Strings.{quote, backslash, isBare, isPlain, isEscape, nothing-more, plain, escaped}
 use Rattle.syntax.specs.Grammar.{Stands, Spaces, no-space, space, gap, bare, string, Follows, the-end, a-space, a-close, a-test, connectiveWord, connects, opens, opens-not, closes, round, square, chooses, item-test}
@@ -166,8 +167,8 @@ module _ (d m : ℕ) (xs : List ℕ) (p b : ℕ) (at : At xs p b) where
   back-after-space k n l =
       cond-elim (Backs d xs p (state after-space k n)) (isSpace b)
       (λ h. (l, λ i v. (i, record { left = λ q e s. after-space-left s (moved (sym e) (v .left p refl (byte-here at 0x20 h))) }, refl)))
-      (λ s. cond-elim (Backs d xs p (state after-space k n)) (eqb b (code "a")) (λ h. back-joined k n and (ascii "nd ") l (ap (λ (x : ℕ). x ∷ ascii "nd ") (sym (eqb-true b (code "a") h))))
-      (λ a. cond-elim (Backs d xs p (state after-space k n)) (eqb b (code "o")) (λ h. back-joined k n or (ascii "r ") l (ap (λ (x : ℕ). x ∷ ascii "r ") (sym (eqb-true b (code "o") h))))
+      (λ s. cond-elim (Backs d xs p (state after-space k n)) (eqb b (code "a")) (λ h. back-joined k n Connective.And (ascii "nd ") l (ap (λ (x : ℕ). x ∷ ascii "nd ") (sym (eqb-true b (code "a") h))))
+      (λ a. cond-elim (Backs d xs p (state after-space k n)) (eqb b (code "o")) (λ h. back-joined k n Connective.Or (ascii "r ") l (ap (λ (x : ℕ). x ∷ ascii "r ") (sym (eqb-true b (code "o") h))))
       (λ o. back-spaced-closed k n l)))
 
   back-connective : (w : List ℕ) (k : List Bracket) (n : ℕ) → length k ≤ d → Backs d xs p (state (in-connective w) k n) (step d m (state (in-connective w) k n) b)

@@ -14,7 +14,8 @@ use Rattle.base.specs.Ascii.{ascii}
 use Rattle.base.specs.Lists.{All}
 use Rattle.base.specs.Names.{Name}
 use Rattle.base.specs.Operators.{operatorWords}
-use Rattle.syntax.specs.Tree.{Test, Tree, join, negation, testsOf, Connective}
+use Rattle.syntax.specs.Tree.{Test, Tree, join, negation, testsOf}
+use Rattle.syntax.specs.declared.Connective.{Connective}
 use Rattle.syntax.specs.Strings.{quote, backslash, isBare, Quoted}
 use Rattle.syntax.specs.Grammar.{Stands, Spaces, space, Value, Operator, TestAt, Connects, Opens, opens, Closes, round, square, Chooses, Item, item-bracket, item-not, item-bracketed, Filter, one-item, one-more, Within}
 use Rattle.place.specs.Machine.{Phase, at-item, in-name, after-not, after-name, in-operator, after-operator, at-value, in-bare, in-string, after-item, after-space, in-connective, after-square, at-member, in-member, Bracket, round-open, square-open, closeOf}

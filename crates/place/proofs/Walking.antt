@@ -22,7 +22,8 @@ use Rattle.base.specs.Operators.{operatorWords}
 use Rattle.base.proofs.Tests.{and-left, and-right}
 use Rattle.base.proofs.Below.{passes-at}
 use Rattle.base.proofs.Names.{name-iff}
-use Rattle.syntax.specs.Tree.{Test, moved, under, Tree, test, bracketed, join, negation, testsOf, Connective, and, or}
+use Rattle.syntax.specs.Tree.{Test, moved, under, Tree, test, bracketed, join, negation, testsOf}
+use Rattle.syntax.specs.declared.Connective.{Connective}
 use Rattle.syntax.proofs.Bytes.{escape-stands}
 use Rattle.syntax.specs.Strings.{quote, isBare, Quoted, nothing-more, plain, escaped}
 use Rattle.syntax.specs.Grammar.{Spaces, no-space, space, Value, bare, string, TestAt, a-test, connectiveWord, Connects, connects, Opens, opens, opens-not, Closes, closes, Chooses, chooses, Item, item-test, item-bracket, item-not, item-bracketed, Filter, one-item, one-more, Within}
@@ -122,8 +123,8 @@ module _ (d m : ℕ) (k : List Bracket) (n : ℕ) where
 
 module _ (d m : ℕ) (k : List Bracket) (n : ℕ) where
   connective-runs : n < m → (c : Connective) → Runs d m (state after-space k n) (connectiveWord c) (state at-item k (suc n))
-  connective-runs h and = goes (spaced-and d m k n h) (goes (connective-part d m k (suc n) _ _) (goes (connective-part d m k (suc n) _ _) (goes (connective-part d m k (suc n) _ _) rests)))
-  connective-runs h or = goes (spaced-or d m k n h) (goes (connective-part d m k (suc n) _ _) (goes (connective-part d m k (suc n) _ _) rests))
+  connective-runs h Connective.And = goes (spaced-and d m k n h) (goes (connective-part d m k (suc n) _ _) (goes (connective-part d m k (suc n) _ _) (goes (connective-part d m k (suc n) _ _) rests)))
+  connective-runs h Connective.Or = goes (spaced-or d m k n h) (goes (connective-part d m k (suc n) _ _) (goes (connective-part d m k (suc n) _ _) rests))
 
   not-runs : Runs d m (state at-item k n) (ascii "not") (state (in-name (ascii "not")) k n)
   unfolding isNamePart isNameStart isLetter between

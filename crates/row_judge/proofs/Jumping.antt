@@ -10,6 +10,7 @@ use lib.Seq.{drop-drop, take-add, getD-take, getD-drop, length-take-le}
 use lib.IntN.{ℤ}
 use Rattle.base.specs.Parts.{part}
 use Rattle.base.specs.Lists.{all-cons}
+use Rattle.syntax.specs.declared.Connective.{Connective}
 use Rattle.rows.specs.Expression.{Expression}
 use Rattle.rows.specs.Cells.{rowOf, encode, run}
 use Rattle.row_judge.specs.Opening.{Lists, Opens}
@@ -81,11 +82,11 @@ module _ (rows jumps : List ℕ) (i : ℕ) (says : List Bool) (top : ℕ) where
   module _ (n : ℕ) (t : Bool) (a : (top ≡ 0 → ⊥)) (b : n ≡ getD jumps i 0) (w : i + n < length rows) (e : t ≡ getD says (top - 1) false) where
     pub leapt-or : t ≡ true → getD rows (i + n) 0 ≡ 4 → Leapt rows jumps i says top n
     unfolding rowOf
-    leapt-or h r = record { lands = λ z. record { some = omega (arith, a); jump = b; within = w; join = false; row = ap rowOf r; decides = λ q. rw (sym e ∙ h) } }
+    leapt-or h r = record { lands = λ z. record { some = omega (arith, a); jump = b; within = w; join = Connective.Or; row = ap rowOf r; decides = λ q. rw (sym e ∙ h) } }
 
     pub leapt-and : t ≡ false → getD rows (i + n) 0 ≡ 3 → Leapt rows jumps i says top n
     unfolding rowOf
-    leapt-and h r = record { lands = λ z. record { some = omega (arith, a); jump = b; within = w; join = true; row = ap rowOf r; decides = λ q. rw (sym e ∙ h) } }
+    leapt-and h r = record { lands = λ z. record { some = omega (arith, a); jump = b; within = w; join = Connective.And; row = ap rowOf r; decides = λ q. rw (sym e ∙ h) } }
 
 -- ---- the stack after an item
 

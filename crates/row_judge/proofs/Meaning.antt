@@ -19,7 +19,7 @@ use Rattle.sheet.specs.Encode.{WellFormedSheet}
 use Rattle.sheet.specs.declared.Found.{Found}
 use Rattle.sheet.proofs.Listed.{find-iff, table-listed}
 use Rattle.card.specs.Card.{Entry}
-use Rattle.syntax.specs.Tree.{Test, name, moved, under, testsOf, Tree, test, bracketed, join, negation}
+use Rattle.syntax.specs.Tree.{Test, name, moved, under, testsOf, Tree, test, bracketed, join, negation, erase}
 use Rattle.syntax.specs.Scan.{valueAt}
 use Rattle.judge.specs.Sets.{lookup, ofOccurrence, keep}
 use Rattle.judge.specs.Verdicts.{testSays, joined, filterSays}
@@ -30,7 +30,7 @@ use Rattle.rows.specs.Cells.{stated}
 use Rattle.rows.specs.Good.{FitsTo, Fits, fits-test, fits-bracket, fits-join, fits-not, Good}
 use Rattle.rows.specs.Shapes.{shapeOf, isWithin, goodBy, good}
 use Rattle.row_judge.specs.Saying.{probeSays, expressionSays, statedSays, rowsSay, Whole}
-use Rattle.rows.specs.Stated.{nameAt, valueBy, testFor, bundleFor, treeOf, erase}
+use Rattle.rows.specs.Stated.{nameAt, valueBy, testFor, bundleFor, treeOf}
 use Rattle.rows.specs.declared.Probe.{Probe}
 use Rattle.rows.proofs.Stating.{some-same}
 use Rattle.rows.proofs.Good.{good-states, good-iff}

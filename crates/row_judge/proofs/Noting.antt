@@ -13,9 +13,9 @@ use borrow.Author.Tests.{eqb-true, eqb-false}
 use Rattle.base.specs.Lists.{All}
 use Rattle.base.specs.Parts.{part}
 use Rattle.base.proofs.All.{all-head}
-use Rattle.syntax.specs.Reader.{connective}
+use Rattle.syntax.specs.declared.Connective.{Connective}
 use Rattle.rows.specs.Expression.{Expression, probing, choosing, joining, negating}
-use Rattle.rows.specs.Cells.{rowOf, cellOf, isAnd, encode, Writable, push}
+use Rattle.rows.specs.Cells.{rowOf, cellOf, encode, Writable, push}
 use Rattle.row_judge.specs.Jumping.{Item, Jumps}
 use Rattle.rows.specs.declared.Probe.{Probe}
 use Rattle.rows.specs.declared.Row.{Row}
@@ -117,14 +117,14 @@ module _ (rows jumps₀ jumps sizes : List ℕ) (top i : ℕ) (s : Noting rows j
       let whole : length ((flat (a .rest) ++ encode (a .top)) ++ encode (b .top)) ≡ i = ap length (sym (ap flat both) ∙ s .stacked .before) ∙ length-take-le i rows (s .within) in
       omega (arith, whole, a .value, b .value, length-append (flat (a .rest) ++ encode (a .top)) (encode (b .top)), length-append (flat (a .rest)) (encode (a .top)))
 
-  pub noting-connect : (c : Bool) (y z : ℕ) → r ≡ Row.Connect c → 2 ≤ top → y ≡ getD sizes (top - 1) 0 → z ≡ getD sizes (top - 2) 0 + y → Noting rows jumps₀ (set jumps (i - y) y) (set sizes (top - 2) (z + 1)) (top - 1) (i + 1)
+  pub noting-connect : (c : Connective) (y z : ℕ) → r ≡ Row.Connect c → 2 ≤ top → y ≡ getD sizes (top - 1) 0 → z ≡ getD sizes (top - 2) 0 + y → Noting rows jumps₀ (set jumps (i - y) y) (set sizes (top - 2) (z + 1)) (top - 1) (i + 1)
   unfolding push encode flat
   noting-connect c y z u n h k =
       let b = top-of (top - 1) (s .lengths) (omega (arith, n)) in
       let a = top-of (top - 2) (b .below) (omega (arith, n)) in
       let both : s .st ≡ b .top ∷ a .top ∷ a .rest = b .is ∙ ap (λ (q : List Expression). b .top ∷ q) (a .is) in
-      let f : Expression = joining (connective c) (a .top) (b .top) in
-      let last : ℕ = cellOf (Row.Connect (isAnd (connective c))) in
+      let f : Expression = joining c (a .top) (b .top) in
+      let last : ℕ = cellOf (Row.Connect c) in
       let size : y ≡ sizeOf (b .top) = h ∙ b .value in
       let fits : y ≤ i = omega (arith, h, noting-before (λ q. omega (arith, n, q))) in
       let whole : i - y + y ≡ i = omega (arith, fits) in

@@ -19,6 +19,7 @@ use Rattle.date.specs.declared.Reading as date-readings
 use Rattle.date.specs.declared.Date.{Date}
 use Rattle.syntax.specs.Placed.{PlacedValue}
 use Rattle.syntax.specs.Scan.{valueAt, contents, decode, Decoded}
+use Rattle.syntax.specs.declared.Connective.{Connective}
 use Rattle.syntax.specs.declared.RawValue.{RawValue}
 use Rattle.syntax.specs.declared.FoundValue.{FoundValue}
 use Rattle.syntax.proofs.Places.{value-at-placed}
@@ -252,7 +253,7 @@ module _ (kinds xs : List ℕ) (c : ℕ) (r : Row) (e : r ≡ rowOf c) (o : Open
   unfolding openedRow
   row-not h k = rw (sym e ∙ h) k
 
-  pub row-connect : (a : Bool) → r ≡ Row.Connect a → o ≡ closed → o ≡ openedRow kinds xs c
+  pub row-connect : (a : Connective) → r ≡ Row.Connect a → o ≡ closed → o ≡ openedRow kinds xs c
   unfolding openedRow
   row-connect a h k = rw (sym e ∙ h) k
 

@@ -16,9 +16,8 @@ use Rattle.base.specs.Parts.{part}
 use Rattle.base.proofs.All.{all-head}
 use Rattle.base.proofs.Parts.{part-length}
 use Rattle.card.specs.Card.{Entry, entry}
-use Rattle.syntax.specs.Reader.{connective}
 use Rattle.syntax.specs.Placed.{PlacedValue}
-use Rattle.syntax.specs.Tree.{Connective}
+use Rattle.syntax.specs.declared.Connective.{Connective}
 use Rattle.syntax.specs.Scan.{valueAt, contents, decode, Decoded}
 use Rattle.syntax.specs.declared.RawValue.{RawValue}
 use Rattle.syntax.specs.declared.FoundValue.{FoundValue}
@@ -36,7 +35,7 @@ use Rattle.judge.proofs.Meaning.{says-some}
 use Rattle.judge.proofs.Once.{for-kept, once-counts}
 use Rattle.filter.proofs.Judging.{chosen-one, occurrence-whole}
 use Rattle.rows.specs.Expression.{Expression, probing, choosing, joining, negating, testCount}
-use Rattle.rows.specs.Cells.{rowOf, cellOf, isAnd, encode, Writable, push, only, stated}
+use Rattle.rows.specs.Cells.{rowOf, cellOf, encode, Writable, push, only, stated}
 use Rattle.rows.specs.Shapes.{valueIn}
 use Rattle.row_judge.specs.Saying.{probeSaysBy, probeSays, expressionSays, statedSays, rowsSay, Whole, Bracketed, innerSays, anyOccurrence, someEntry, occurrenceSays, probeSaysEachBy, probeSaysEach}
 use Rattle.rows.specs.declared.Probe.{Probe}
@@ -85,7 +84,7 @@ some-cells : (e : Expression) → 1 ≤ length (encode e)
 unfolding encode
 some-cells (probing p) = omega arith
 some-cells (choosing e p) = omega (arith, length-append (encode e) (cellOf (Row.Bracket p) ∷ []))
-some-cells (joining c e f) = omega (arith, some-cells e, length-append (encode e) (encode f ++ (cellOf (Row.Connect (isAnd c)) ∷ [])))
+some-cells (joining c e f) = omega (arith, some-cells e, length-append (encode e) (encode f ++ (cellOf (Row.Connect c) ∷ [])))
 some-cells (negating e) = omega (arith, length-append (encode e) (cellOf Row.Not ∷ []))
 
 module _ (kinds xs : List ℕ) (k : Chosen) (all : List Entry) (p : Probe) where
@@ -415,7 +414,7 @@ module _ (kinds xs : List ℕ) (k : Chosen) (all : List Entry) where
           within = omega (arith, l);
         }
 
-    pub judging-short : (c : Bool) → r ≡ Row.Connect c → top < 2 → false ≡ rowsSay kinds xs (chosenOf k all) rows
+    pub judging-short : (c : Connective) → r ≡ Row.Connect c → top < 2 → false ≡ rowsSay kinds xs (chosenOf k all) rows
     unfolding push
     judging-short c u z = says-none rows (stacked-fails (s .stacked) l r e (ap (λ (q : Row). push q (s .st)) u ∙ few-on (s .verdicts) z))
       where
@@ -434,7 +433,7 @@ module _ (kinds xs : List ℕ) (k : Chosen) (all : List Entry) where
         let whole : length ((flat (a .rest) ++ encode (a .top)) ++ encode (b .top)) ≡ i = ap length (sym (ap flat both) ∙ s .stacked .before) ∙ length-take-le i rows (s .within) in
         omega (arith, whole, a .value, b .value, length-append (flat (a .rest) ++ encode (a .top)) (encode (b .top)), length-append (flat (a .rest)) (encode (a .top)))
 
-    pub judging-connect : (c a b v : Bool) (z : ℕ) → r ≡ Row.Connect c → 2 ≤ top → b ≡ getD says (top - 1) false → a ≡ getD says (top - 2) false → z ≡ getD sizes (top - 2) 0 + getD sizes (top - 1) 0 → v ≡ joined (connective c) a b
+    pub judging-connect : (c : Connective) (a b v : Bool) (z : ℕ) → r ≡ Row.Connect c → 2 ≤ top → b ≡ getD says (top - 1) false → a ≡ getD says (top - 2) false → z ≡ getD sizes (top - 2) 0 + getD sizes (top - 1) 0 → v ≡ joined c a b
         → Judging rows (set says (top - 2) v) (set sizes (top - 2) (z + 1)) (top - 1) (i + 1)
     unfolding push encode expressionSays
     judging-connect c a b v z u n h g y w =
@@ -447,15 +446,15 @@ module _ (kinds xs : List ℕ) (k : Chosen) (all : List Entry) where
         let second : y2 .top ≡ x2 .top = cc in
         let first : y1 .top ≡ x1 .top = cc in
         let rest : y1 .rest ≡ x1 .rest = cc in
-        let f : Expression = joining (connective c) (x1 .top) (x2 .top) in
+        let f : Expression = joining c (x1 .top) (x2 .top) in
         let one : top - 2 + 1 ≡ top - 1 = omega (arith, n) in
         let low : top - 2 < 32 = omega (arith, s .few, n) in
-        let last : ℕ = cellOf (Row.Connect (isAnd (connective c))) in
+        let last : ℕ = cellOf (Row.Connect c) in
         let longer : z + 1 ≡ sizeOf f = omega (arith, y, y1 .value, y2 .value, ap sizeOf first, ap sizeOf second, length-append (encode (x1 .top)) (encode (x2 .top) ++ (last ∷ [])), length-append (encode (x2 .top)) (last ∷ [])) in
         record {
           st = f ∷ x1 .rest;
           stacked = stacked-next (s .stacked) l r e (f ∷ x1 .rest) (ap₂ push u both);
-          verdicts = subst (λ (j : ℕ). Holds false verdict (set says (top - 2) v) j (f ∷ x1 .rest)) one (holds-push f v (x1 .below) (omega (arith, s .says-size, low)) (w ∙ ap₂ (joined (connective c)) (g ∙ x1 .value) (h ∙ x2 .value)));
+          verdicts = subst (λ (j : ℕ). Holds false verdict (set says (top - 2) v) j (f ∷ x1 .rest)) one (holds-push f v (x1 .below) (omega (arith, s .says-size, low)) (w ∙ ap₂ (joined c) (g ∙ x1 .value) (h ∙ x2 .value)));
           lengths = subst (λ (j : ℕ). Holds 0 sizeOf (set sizes (top - 2) (z + 1)) j (f ∷ x1 .rest)) one (holds-push f (z + 1) (subst (λ (m : List Expression). Holds 0 sizeOf sizes (top - 2) m) rest (y1 .below)) (omega (arith, s .sizes-size, low)) longer);
           says-size = length-set says (top - 2) v ∙ s .says-size;
           sizes-size = length-set sizes (top - 2) (z + 1) ∙ s .sizes-size;
@@ -485,10 +484,10 @@ module _ (kinds xs : List ℕ) (k : Chosen) (all : List Entry) where
       let heads : b .top ≡ a .top = cc in
       let tails : b .rest ≡ a .rest = cc in
       let f : Expression = q .expression in
-      let k : Connective = connective (d .join) in
+      let k : Connective = d .join in
       let g : Expression = joining k (a .top) f in
       let one : top - 1 + 1 ≡ top = omega (arith, d .some) in
-      let last : ℕ = cellOf (Row.Connect (isAnd k)) in
+      let last : ℕ = cellOf (Row.Connect k) in
       let cells : length (encode f) ≡ n = sym (ap length (q .cells)) ∙ part-length rows i (i + n) (omega (arith, d .within)) ∙ (omega arith) in
       let longer : z + n + 1 ≡ sizeOf g = omega (arith, h, b .value, ap sizeOf heads, cells, length-append (encode (a .top)) (encode f ++ (last ∷ [])), length-append (encode f) (last ∷ [])) in
       let low : top - 1 < 32 = omega (arith, s .few, d .some) in

@@ -6,7 +6,7 @@ use mathlib.Core.Bool.{Bool, false}
 use mathlib.Core.List.{List}
 use lib.ListN.{length, getD}
 use Rattle.base.specs.Parts.{part}
-use Rattle.syntax.specs.Reader.{connective}
+use Rattle.syntax.specs.declared.Connective.{Connective}
 use Rattle.judge.specs.Verdicts.{joined}
 use Rattle.rows.specs.Expression.{Expression}
 use Rattle.rows.specs.Cells.{rowOf, encode, Writable}
@@ -28,9 +28,9 @@ pub record Lands (rows jumps : List ℕ) (i : ℕ) (says : List Bool) (top n : �
   pub some : 1 ≤ top
   pub jump : n ≡ getD jumps i 0
   pub within : i + n < length rows
-  pub join : Bool
+  pub join : Connective
   pub row : rowOf (getD rows (i + n) 0) ≡ Row.Connect join
-  pub decides : (b : Bool) → joined (connective join) (getD says (top - 1) false) b ≡ getD says (top - 1) false
+  pub decides : (b : Bool) → joined join (getD says (top - 1) false) b ≡ getD says (top - 1) false
 
 pub record Leapt (rows jumps : List ℕ) (i : ℕ) (says : List Bool) (top n : ℕ) : Type 0 where
   pub lands : (n ≡ 0 → ⊥) → Lands rows jumps i says top n

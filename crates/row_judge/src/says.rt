@@ -12,6 +12,7 @@ use kind::Readings;
 use rows::Probe;
 use rows::Row;
 use rows::row_of;
+use syntax::Connective;
 use syntax::value::decode;
 ghost use mathlib.Core.Path.{_≡_};
 ghost use mathlib.Core.Bool.{false, _&&_};
@@ -23,7 +24,6 @@ ghost use Rattle.card.specs.Card.{entriesOf, readCard};
 ghost use Rattle.syntax.specs.Scan.{decode as decoded};
 ghost use Rattle.kind.specs.Stands.{Kept};
 ghost use Rattle.judge.specs.Once.{countsRead};
-ghost use Rattle.syntax.specs.Reader.{connective};
 ghost use Rattle.judge.specs.Sets.{chosenOf};
 ghost use Rattle.judge.specs.Verdicts.{textCounts, joined};
 ghost use Rattle.base.specs.Parts.{part};
@@ -32,13 +32,13 @@ ghost use Rattle.row_judge.specs.Opening.{Known, valueOf, openedFor, ope
 ghost use Rattle.row_judge.specs.Jumping.{Jumps, Leapt};
 
 // Two verdicts joined by and or or.
-fn join_verdicts(and: bool, first: bool, second: bool) -> bool
-    ensures { λ r. ⌜ r ≡ joined (connective and) first second ⌝ }
+fn join_verdicts(connective: Connective, first: bool, second: bool) -> bool
+    ensures { λ r. ⌜ r ≡ joined connective first second ⌝ }
 {
-    if and {
-        return first && second;
+    match connective {
+        Connective::And => first && second,
+        Connective::Or => first || second,
     }
-    first || second
 }
 
 // Whether a text counts for a value that has escapes.
@@ -416,14 +416,14 @@ pub fn rows_say(
                     sizes[top - 1] = size + 1;
                     i += 1;
                 }
-                Row::Connect(and) => {
+                Row::Connect(connective) => {
                     if top < 2 {
                         return false;
                     }
                     let second = says[top - 1];
                     let first = says[top - 2];
                     let size = sizes[top - 2] + sizes[top - 1];
-                    says[top - 2] = join_verdicts(and, first, second);
+                    says[top - 2] = join_verdicts(connective, first, second);
                     sizes[top - 2] = size + 1;
                     top -= 1;
                     i += 1;

@@ -18,7 +18,7 @@ use Rattle.sheet.specs.Encode.{WellFormedSheet}
 use Rattle.sheet.specs.declared.Found.{Found}
 use Rattle.sheet.proofs.Listed.{find-iff, table-listed}
 use Rattle.syntax.specs.Strings.{isBare}
-use Rattle.syntax.specs.Tree.{Test, name, moved, under, Tree, test, bracketed, join, negation, testsOf}
+use Rattle.syntax.specs.Tree.{Test, name, moved, under, Tree, test, bracketed, join, negation, testsOf, erase}
 use Rattle.syntax.specs.Grammar.{round, square, mostTests, TestAt, a-test, Item, Filter, item-test, item-bracket, item-not, item-bracketed, one-item, one-more, Spells}
 use Rattle.syntax.specs.Scan.{valueAt}
 use Rattle.syntax.specs.declared.RawValue.{RawValue}
@@ -37,7 +37,7 @@ use Rattle.rows.specs.Nesting.{NestsItem, Nests, nests-test, nests-bracketed, n
 use Rattle.rows.specs.Good.{ValueFrom, FitsTo, Fits, fits-test, fits-bracket, fits-join, fits-not, Good}
 use Rattle.rows.specs.Shapes.{valueIn}
 use Rattle.row_writer.specs.Writing.{valuePlace, indexOf, probeFor, prepared}
-use Rattle.rows.specs.Stated.{nameAt, valueBy, testFor, bundleFor, treeOf, erase}
+use Rattle.rows.specs.Stated.{nameAt, valueBy, testFor, bundleFor, treeOf}
 use Rattle.row_writer.proofs.Numbers.{found-read}
 use Rattle.rows.proofs.Values.{found-from}
 use Rattle.rows.proofs.Naming.{name-listed, bundle-name, bundle-at-top}

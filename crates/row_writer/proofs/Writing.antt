@@ -15,10 +15,11 @@ use Rattle.sheet.specs.Find.{enter}
 use Rattle.syntax.specs.Tree.{Test, moved, Tree, test, bracketed, join, negation, testsOf}
 use Rattle.syntax.specs.Grammar.{round, square, Item, Filter, item-test, item-bracket, item-not, item-bracketed, one-item, one-more}
 use Rattle.syntax.specs.Scan.{isSpace, testOf, headAt, memberAfter, connectiveAt, closeAt}
-use Rattle.syntax.specs.Reader.{Parsed, parsed, unparsed, connective, negatedIf, chainOf, itemAt, filterAt}
+use Rattle.syntax.specs.Reader.{Parsed, parsed, unparsed, negatedIf, chainOf, itemAt, filterAt}
 use Rattle.syntax.specs.declared.RawTest.{RawTest}
 use Rattle.syntax.specs.declared.FoundTest.{FoundTest}
 use Rattle.syntax.specs.declared.Head.{Head}
+use Rattle.syntax.specs.declared.Connective.{Connective}
 use Rattle.syntax.specs.declared.FoundConnective.{FoundConnective}
 use Rattle.syntax.specs.declared.FoundClose.{FoundClose}
 use Rattle.syntax.proofs.Structure.{ConnectiveDerived, connective-derived, opens-rise, chooses-rise, closes-rise, connects-rise}
@@ -27,16 +28,16 @@ use Rattle.syntax.proofs.Complete.{item-rise, filter-rise, test-step, opened-st
 use Rattle.syntax.proofs.Places.{connective-ahead}
 use Rattle.syntax.proofs.Spelling.{item-count, filter-count}
 use Rattle.syntax.proofs.Tests.{test-rise}
-use Rattle.filter.specs.Folds.{foldTree, joinSummaries, summaryOf, reading}
+use Rattle.syntax.specs.Fold.{foldTree}
+use Rattle.filter.specs.Folds.{joinSummaries, summaryOf, reading}
 use Rattle.judge.specs.declared.FirstFault.{FirstFault}
 use Rattle.filter.specs.declared.Summary.{Summary}
 use Rattle.filter.proofs.Reading.{fault-append, reading-is, summary-inside}
-use Rattle.rows.specs.Cells.{numberOf, cellOf, isAnd, encode}
+use Rattle.rows.specs.Cells.{numberOf, cellOf, encode}
 use Rattle.row_writer.specs.Writing.{probeFor, prepared, cellCount, outcomeOf, writtenOf, Wrote}
 use Rattle.rows.specs.declared.Row.{Row}
 use Rattle.row_writer.specs.declared.Outcome.{Outcome}
 use Rattle.row_writer.specs.declared.Written.{Written}
-use Rattle.rows.proofs.Stating.{and-is}
 
 -- ---- a row takes at least a byte of the text
 
@@ -58,7 +59,7 @@ unfolding prepared encode cellCount
 cells-counted ps xs c (test t) = refl
 cells-counted ps xs c (bracketed p b f t) = omega (arith, length-append (encode (prepared ps xs (enter ps c b) f)) (cellOf (Row.Bracket (probeFor ps xs (enter ps c b) t)) ∷ []), cells-counted ps xs (enter ps c b) f)
 cells-counted ps xs c (join k f g) =
-    omega (arith, length-append (encode (prepared ps xs c f)) (encode (prepared ps xs c g) ++ (cellOf (Row.Connect (isAnd k)) ∷ [])), length-append (encode (prepared ps xs c g)) (cellOf (Row.Connect (isAnd k)) ∷ []), cells-counted ps xs c f, cells-counted ps xs c g)
+    omega (arith, length-append (encode (prepared ps xs c f)) (encode (prepared ps xs c g) ++ (cellOf (Row.Connect k) ∷ [])), length-append (encode (prepared ps xs c g)) (cellOf (Row.Connect k) ∷ []), cells-counted ps xs c f, cells-counted ps xs c g)
 cells-counted ps xs c (negation f) = omega (arith, length-append (encode (prepared ps xs c f)) (cellOf Row.Not ∷ []), cells-counted ps xs c f)
 
 -- one cell more
@@ -166,8 +167,8 @@ module _ (xs : List ℕ) (close d p : ℕ) where
   first-read : (q : ℕ) (f : Tree) → itemAt d xs close p ≡ parsed q f → filterAt d xs close p ≡ chainOf (length xs) xs (λ k. itemAt d xs close k) q f
   first-read q f r = rw (filter-step d xs close p, r)
 
-  next-read : (left m q : ℕ) (o : Bool) (n : ℕ) (f g : Tree) → filterAt d xs close p ≡ chainOf left xs (λ k. itemAt d xs close k) m f → 1 ≤ left → connectiveAt xs m ≡ FoundConnective.Next q o → itemAt d xs close q ≡ parsed n g
-      → filterAt d xs close p ≡ chainOf (left - 1) xs (λ k. itemAt d xs close k) n (join (connective o) f g)
+  next-read : (left m q : ℕ) (o : Connective) (n : ℕ) (f g : Tree) → filterAt d xs close p ≡ chainOf left xs (λ k. itemAt d xs close k) m f → 1 ≤ left → connectiveAt xs m ≡ FoundConnective.Next q o → itemAt d xs close q ≡ parsed n g
+      → filterAt d xs close p ≡ chainOf (left - 1) xs (λ k. itemAt d xs close k) n (join o f g)
   next-read left m q o n f g r l c i = rw (r, chain-step left xs (λ k. itemAt d xs close k) m f l, c, i)
 
 -- ---- an item
@@ -334,7 +335,7 @@ module _ (ps : List Parameter) (c : ℕ) (xs : List ℕ) (row close d p : ℕ) (
       (outcome-same ps c (h .tree) s k (h .summary-is) (h .cells-are))
       (ap (λ (x : ℕ). take (row + x) list) (sym (h .cells-are)) ∙ h .cells) (h .size))
 
-  module _ (q : ℕ) (o : Bool) (i : f ≡ FoundConnective.Next q o) (r : Written) (list2 : List ℕ) (w : Wrote ps c xs (row + k) (itemAt d xs close q) r list list2) where
+  module _ (q : ℕ) (o : Connective) (i : f ≡ FoundConnective.Next q o) (r : Written) (list2 : List ℕ) (w : Wrote ps c xs (row + k) (itemAt d xs close q) r list list2) where
     pub chain-no-item : (first : List ℕ) → r ≡ Written.Nothing → Kept row first l → Wrote ps c xs row (filterAt d xs close p) Written.Nothing first list2
     chain-no-item first j kept =
         rebased ps c xs row (filterAt d xs close p) Written.Nothing first l list2 kept
@@ -367,10 +368,9 @@ module _ (ps : List Parameter) (c : ℕ) (xs : List ℕ) (row close d p : ℕ) (
           let low : row + k + v .cells < length list2 = omega (arith, chain-room, rise .1, short) in
           let before : take (row + k + v .cells) list2 ≡ take row l ++ (encode (prepared ps xs c (h .tree)) ++ encode (prepared ps xs c (a .tree))) = ap (λ (x : ℕ). take (row + k + x) list2) same ∙ a .cells ∙ ap (λ (b : List ℕ). b ++ encode (prepared ps xs c (a .tree))) (h .cells) ∙ append-assoc (take row l) (encode (prepared ps xs c (h .tree))) (encode (prepared ps xs c (a .tree))) in
           let place : row + (k + v .cells + 1) ≡ row + k + v .cells + 1 = omega arith in
-          let cell : y ≡ cellOf (Row.Connect (isAnd (connective o))) = g ∙ ap (λ (b : Bool). cellOf (Row.Connect b)) (sym (and-is o)) in
           record {
             left = h .left - 1;
-            tree = join (connective o) (h .tree) (a .tree);
+            tree = join o (h .tree) (a .tree);
             reads = next-read xs close d p (h .left) m q o n (h .tree) (a .tree) (h .reads) (omega (arith, h .enough)) (sym e ∙ i) (a .read);
             enough = omega (arith, h .enough, ahead .0, rise .0);
             derives = one-more (h .derives) conn item;
@@ -379,7 +379,7 @@ module _ (ps : List Parameter) (c : ℕ) (xs : List ℕ) (row close d p : ℕ) (
             summary-is = z ∙ ap₂ joinSummaries (h .summary-is) (ap (λ (o : Outcome). o .summary) (a .value)) ∙ summary-joined ps c (testsOf (h .tree)) (testsOf (a .tree));
             cells-are = omega (arith, h .cells-are, same);
             cells = ap (λ (x : ℕ). take x (set list2 (row + k + v .cells) y)) place ∙ put-more (take row l) (encode (prepared ps xs c (h .tree)) ++ encode (prepared ps xs c (a .tree))) list2 (row + k + v .cells) y before low
-                ∙ ap (λ (b : List ℕ). take row l ++ b) (append-assoc (encode (prepared ps xs c (h .tree))) (encode (prepared ps xs c (a .tree))) (y ∷ []) ∙ ap (λ (b : ℕ). encode (prepared ps xs c (h .tree)) ++ (encode (prepared ps xs c (a .tree)) ++ (b ∷ []))) cell);
+                ∙ ap (λ (b : List ℕ). take row l ++ b) (append-assoc (encode (prepared ps xs c (h .tree))) (encode (prepared ps xs c (a .tree))) (y ∷ []) ∙ ap (λ (b : ℕ). encode (prepared ps xs c (h .tree)) ++ (encode (prepared ps xs c (a .tree)) ++ (b ∷ []))) g);
             size = length-set list2 (row + k + v .cells) y ∙ w .size ∙ h .size;
             room = omega (arith, chain-room);
           }

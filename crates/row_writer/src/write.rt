@@ -10,6 +10,7 @@ use filter::test_summary;
 use judge::test_found;
 use rows::Row;
 use sheet::Found;
+use syntax::Connective;
 use syntax::FoundClose;
 use syntax::FoundConnective;
 use syntax::FoundTest;
@@ -177,13 +178,13 @@ fn write_item(sheet: &[u8], filter: &[u8], spot: Spot, rows: &mut [u32], row: us
 }
 
 // The cell of a connective.
-fn connect_cell(and: bool) -> u32
-    ensures { λ r. ⌜ r ≡ cellOf (Row.Connect and) ⌝ }
+fn connect_cell(connective: Connective) -> u32
+    ensures { λ r. ⌜ r ≡ cellOf (Row.Connect connective) ⌝ }
 {
-    if and {
-        return 3;
+    match connective {
+        Connective::And => 3,
+        Connective::Or => 4,
     }
-    4
 }
 
 // The filter at a spot: "one or more items joined by and or or", from left to right. Its cells are written from a row on.
@@ -224,9 +225,9 @@ pub fn write_filter(
     let mut summary = first_outcome.summary;
     let mut cells = first_outcome.cells;
     loop {
-        let connective = read_connective(filter, end);
-        match connective {
-            FoundConnective::Next(next, and) => {
+        let found = read_connective(filter, end);
+        match found {
+            FoundConnective::Next(next, connective) => {
                 let item = write_item(
                     sheet,
                     filter,
@@ -243,7 +244,7 @@ pub fn write_filter(
                     Written::Done(item_end, item_outcome) => {
                         let item_summary = item_outcome.summary;
                         let item_cells = item_outcome.cells;
-                        rows[row + cells + item_cells] = connect_cell(and);
+                        rows[row + cells + item_cells] = connect_cell(connective);
                         end = item_end;
                         summary = join_summaries(summary, item_summary);
                         cells = cells + item_cells + 1;

@@ -6,6 +6,7 @@ use mathlib.Core.Path.{_≡_, refl, sym}
 use mathlib.Core.Bool.{Bool, true, false}
 use lib.Dec.{eqb}
 use borrow.Author.Tests.{eq-eqb, ne-eqb, eqb-true}
+use Rattle.syntax.specs.declared.Connective.{Connective}
 use Rattle.rows.specs.Cells.{numberOf, probeOf, rowOf, cellOf, Sayable}
 use Rattle.rows.specs.declared.Probe.{Probe}
 use Rattle.rows.specs.declared.Row.{Row}
@@ -28,12 +29,12 @@ module _ (c : ℕ) where
       cell-not h = rw (ne-eqb (c % 8) 0 a, ne-eqb (c % 8) 1 b, eq-eqb c 2 h)
 
       module _ (d : c ≡ 2 → ⊥) where
-        pub cell-and : c ≡ 3 → Row.Connect true ≡ rowOf c
+        pub cell-and : c ≡ 3 → Row.Connect Connective.And ≡ rowOf c
         unfolding rowOf
         cell-and h = rw (ne-eqb (c % 8) 0 a, ne-eqb (c % 8) 1 b, ne-eqb c 2 d, eq-eqb c 3 h)
 
         module _ (e : c ≡ 3 → ⊥) where
-          pub cell-or : c ≡ 4 → Row.Connect false ≡ rowOf c
+          pub cell-or : c ≡ 4 → Row.Connect Connective.Or ≡ rowOf c
           unfolding rowOf
           cell-or h = rw (ne-eqb (c % 8) 0 a, ne-eqb (c % 8) 1 b, ne-eqb c 2 d, ne-eqb c 3 e, eq-eqb c 4 h)
 
@@ -72,10 +73,10 @@ pub row-not : rowOf (cellOf Row.Not) ≡ Row.Not
 unfolding rowOf cellOf
 row-not = refl
 
-pub row-connect : (a : Bool) → rowOf (cellOf (Row.Connect a)) ≡ Row.Connect a
+pub row-connect : (c : Connective) → rowOf (cellOf (Row.Connect c)) ≡ Row.Connect c
 unfolding rowOf cellOf
-row-connect true = refl
-row-connect false = refl
+row-connect Connective.And = refl
+row-connect Connective.Or = refl
 
 -- ---- what a cell says
 

@@ -10,7 +10,7 @@ use mathlib.Core.Bool.{Bool, true, false, cond}
 use lib.Dec.{ltb}
 use borrow.Author.Tests.{ltb-true, ltb-false}
 use Rattle.rows.specs.Expression.{Expression, probing, choosing, joining, negating, testCount}
-use Rattle.rows.specs.Cells.{cellOf, isAnd, encode}
+use Rattle.rows.specs.Cells.{cellOf, encode}
 use Rattle.rows.specs.declared.Row.{Row}
 use Rattle.rows.specs.Nesting.{NestsItem, Nests, nests-test, nests-bracketed, nests-bracket, nests-not, nests-item, nests-more, larger, depthOf}
 
@@ -112,6 +112,6 @@ rows-few (joining c e f) d h =
       rows-few e d (omega (arith, h, l .0)),
       rows-few f d (omega (arith, h, l .1, chain-item f)),
       both-wide (testCount e) (testCount f) (2 + d),
-      length-append (encode e) (encode f ++ (cellOf (Row.Connect (isAnd c)) ∷ [])),
-      length-append (encode f) (cellOf (Row.Connect (isAnd c)) ∷ []),
+      length-append (encode e) (encode f ++ (cellOf (Row.Connect c) ∷ [])),
+      length-append (encode f) (cellOf (Row.Connect c) ∷ []),
     )

@@ -3,26 +3,15 @@
 use Prim.Native.Nat.{ℕ, _+_, _≤_}
 use native.Mathlib.Omega.{arith}
 use mathlib.Core.Path.{_≡_, refl, sym, ap, subst, _∙_}
-use mathlib.Core.Bool.{Bool, true, false}
 use mathlib.Core.Option.{Option, none, some}
 use mathlib.Core.List.{List, [], _∷_, _++_, append-assoc, append-nil}
 use lib.ListN.{length}
-use Rattle.syntax.specs.Tree.{Connective, and, or}
-use Rattle.syntax.specs.Reader.{connective}
 use Rattle.rows.specs.Expression.{Expression, probing, choosing, joining, negating, testCount}
-use Rattle.rows.specs.Cells.{rowOf, cellOf, isAnd, encode, Writable, writable-test, writable-bracket, writable-join, writable-not, push, andThen, run, only, stated}
+use Rattle.rows.specs.Cells.{rowOf, cellOf, encode, Writable, writable-test, writable-bracket, writable-join, writable-not, push, andThen, run, only, stated}
 use Rattle.rows.specs.declared.Row.{Row}
 use Rattle.rows.proofs.Cells.{row-test, row-bracket, row-not, row-connect, cell-row}
 
 -- ---- the cells of an expression state it
-
-connective-is : (c : Connective) → connective (isAnd c) ≡ c
-connective-is and = refl
-connective-is or = refl
-
-pub and-is : (a : Bool) → isAnd (connective a) ≡ a
-and-is true = refl
-and-is false = refl
 
 -- running on over the cell of a row
 run-row : (r : Row) (cs : List ℕ) (st : List Expression) → rowOf (cellOf r) ≡ r → run (cellOf r ∷ cs) st ≡ andThen (λ s. run cs s) (push r st)
@@ -42,12 +31,11 @@ run-encode (negating e) cs st (writable-not w) =
     ∙ run-encode e (cellOf Row.Not ∷ cs) st w
     ∙ run-row Row.Not cs (e ∷ st) row-not
 run-encode (joining c e f) cs st (writable-join w v) =
-    let last : ℕ = cellOf (Row.Connect (isAnd c)) in
+    let last : ℕ = cellOf (Row.Connect c) in
     ap (λ (l : List ℕ). run l st) (append-assoc (encode e) (encode f ++ (last ∷ [])) cs ∙ ap (λ (l : List ℕ). encode e ++ l) (append-assoc (encode f) (last ∷ []) cs))
     ∙ run-encode e (encode f ++ (last ∷ cs)) st w
     ∙ run-encode f (last ∷ cs) (e ∷ st) v
-    ∙ run-row (Row.Connect (isAnd c)) cs (f ∷ e ∷ st) (row-connect (isAnd c))
-    ∙ ap (λ (k : Connective). run cs (joining k e f ∷ st)) (connective-is c)
+    ∙ run-row (Row.Connect c) cs (f ∷ e ∷ st) (row-connect c)
 
 pub stated-encode : (e : Expression) → Writable e → stated (encode e) ≡ some e
 unfolding stated run
@@ -90,7 +78,7 @@ push-flat c st s e = by-row (rowOf c) refl st e
     by-row (Row.Connect b) i (g ∷ []) e = none-some e
     by-row (Row.Connect b) i (g ∷ f ∷ st) e =
         let k : cellOf (Row.Connect b) ≡ c = said c (Row.Connect b) i (λ (h : Row.Connect b ≡ Row.Unknown). let z : _≡_ {A = ℕ} 0 1 = cc in omega arith) in
-        rw (← some-same e, and-is b, k, append-assoc, append-assoc)
+        rw (← some-same e, k, append-assoc, append-assoc)
     by-row Row.Unknown i st e = none-some e
 
 run-flat : (cs : List ℕ) (st s : List Expression) → run cs st ≡ some s → flat s ≡ flat st ++ cs

@@ -8,7 +8,7 @@ use mathlib.Core.Option.{Option, none, some}
 use mathlib.Core.List.{List, [], _∷_}
 use lib.ListN.{length, getD, set, replicate, length-set}
 use borrow.Author.Tests.{le-leb, lt-leb}
-use Rattle.syntax.specs.Reader.{connective}
+use Rattle.syntax.specs.declared.Connective.{Connective}
 use Rattle.rows.specs.Expression.{Expression, probing, choosing, joining, negating, testCount}
 use Rattle.rows.specs.Cells.{rowOf, push, only, stated}
 use Rattle.rows.specs.Shapes.{testShape, notShape, bracketShape, joinShape, shapeOf, packed, unpacked, isWithin, goodBy, good}
@@ -136,7 +136,7 @@ module _ (kinds parents xs : List ℕ) where
 
     -- ---- and, or
 
-    pub shaping-short : (c : Bool) → r ≡ Row.Connect c → top < 2 → false ≡ good kinds parents xs rows
+    pub shaping-short : (c : Connective) → r ≡ Row.Connect c → top < 2 → false ≡ good kinds parents xs rows
     unfolding push
     shaping-short c u z = good-none rows (stacked-fails (s .stacked) l r e (ap (λ (q : Row). push q (s .st)) u ∙ few-on (s .holds) z))
       where
@@ -145,13 +145,13 @@ module _ (kinds parents xs : List ℕ) where
         few-on (holds-more v holds-none) z = refl
         few-on (holds-more v (holds-more y h)) z = absurd (omega (arith, z))
 
-    pub shaping-connect : (c : Bool) (v : ℕ) → r ≡ Row.Connect c → 2 ≤ top → v ≡ packed (joinShape (unpacked (getD stack (top - 2) 0)) (unpacked (getD stack (top - 1) 0))) → Shaping rows (set stack (top - 2) v) (top - 1) tests (i + 1)
+    pub shaping-connect : (c : Connective) (v : ℕ) → r ≡ Row.Connect c → 2 ≤ top → v ≡ packed (joinShape (unpacked (getD stack (top - 2) 0)) (unpacked (getD stack (top - 1) 0))) → Shaping rows (set stack (top - 2) v) (top - 1) tests (i + 1)
     unfolding push total testCount shapeOf
     shaping-connect c v u z w =
         let b = top-of (top - 1) (s .holds) (omega (arith, z)) in
         let a = top-of (top - 2) (b .below) (omega (arith, z)) in
         let both : s .st ≡ b .top ∷ a .top ∷ a .rest = b .is ∙ ap (λ (q : List Expression). b .top ∷ q) (a .is) in
-        let f : Expression = joining (connective c) (a .top) (b .top) in
+        let f : Expression = joining c (a .top) (b .top) in
         let same : v ≡ gathered f = w ∙ ap₂ (λ (x y : Shape). packed (joinShape x y)) (opened (a .top) (getD stack (top - 2) 0) (a .value)) (opened (b .top) (getD stack (top - 1) 0) (b .value)) in
         let one : top - 2 + 1 ≡ top - 1 = omega (arith, z) in
         record {

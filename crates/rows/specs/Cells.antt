@@ -1,12 +1,11 @@
 -- Rows are in postfix order, a cell each: what each cell says, the cells of an expression, and the expression that cells state.
 -- Assumes nothing.
 use Prim.Native.Nat.{ℕ, _+_, _*_, _/_, _%_, _<_}
-use mathlib.Core.Bool.{Bool, true, false, cond}
+use mathlib.Core.Bool.{cond}
 use mathlib.Core.Option.{Option, none, some}
 use mathlib.Core.List.{List, [], _∷_, _++_}
 use lib.Dec.{eqb}
-use Rattle.syntax.specs.Tree.{Connective, and, or}
-use Rattle.syntax.specs.Reader.{connective}
+use Rattle.syntax.specs.declared.Connective.{Connective}
 use Rattle.rows.specs.Expression.{Expression, probing, choosing, joining, negating}
 use Rattle.rows.specs.declared.Probe.{Probe}
 use Rattle.rows.specs.declared.Row.{Row}
@@ -26,20 +25,15 @@ unfoldable pub rowOf : ℕ → Row
 rowOf c =
     cond (eqb (c % 8) 0) (Row.Test (probeOf (c / 8)))
     (cond (eqb (c % 8) 1) (Row.Bracket (probeOf (c / 8)))
-    (cond (eqb c 2) Row.Not (cond (eqb c 3) (Row.Connect true) (cond (eqb c 4) (Row.Connect false) Row.Unknown))))
-
--- the code knows a connective by whether it is and
-abbrev pub isAnd : Connective → Bool
-isAnd and = true
-isAnd or = false
+    (cond (eqb c 2) Row.Not (cond (eqb c 3) (Row.Connect Connective.And) (cond (eqb c 4) (Row.Connect Connective.Or) Row.Unknown))))
 
 -- the cell of a row; a row that is none has one too, which says nothing
 unfoldable pub cellOf : Row → ℕ
 cellOf (Row.Test p) = 8 * numberOf p
 cellOf (Row.Bracket p) = 8 * numberOf p + 1
 cellOf Row.Not = 2
-cellOf (Row.Connect true) = 3
-cellOf (Row.Connect false) = 4
+cellOf (Row.Connect Connective.And) = 3
+cellOf (Row.Connect Connective.Or) = 4
 cellOf Row.Unknown = 5
 
 -- ---- the cells of an expression
@@ -48,7 +42,7 @@ cellOf Row.Unknown = 5
 unfoldable pub encode : Expression → List ℕ
 encode (probing p) = cellOf (Row.Test p) ∷ []
 encode (choosing e p) = encode e ++ (cellOf (Row.Bracket p) ∷ [])
-encode (joining c e f) = encode e ++ (encode f ++ (cellOf (Row.Connect (isAnd c)) ∷ []))
+encode (joining c e f) = encode e ++ (encode f ++ (cellOf (Row.Connect c) ∷ []))
 encode (negating e) = encode e ++ (cellOf Row.Not ∷ [])
 
 -- a test that a cell can say
@@ -72,9 +66,9 @@ push (Row.Bracket p) [] = none
 push (Row.Bracket p) (e ∷ st) = some (choosing e p ∷ st)
 push Row.Not [] = none
 push Row.Not (e ∷ st) = some (negating e ∷ st)
-push (Row.Connect a) [] = none
-push (Row.Connect a) (f ∷ []) = none
-push (Row.Connect a) (f ∷ e ∷ st) = some (joining (connective a) e f ∷ st)
+push (Row.Connect c) [] = none
+push (Row.Connect c) (f ∷ []) = none
+push (Row.Connect c) (f ∷ e ∷ st) = some (joining c e f ∷ st)
 push Row.Unknown st = none
 
 -- goes on with the stack, where there is one

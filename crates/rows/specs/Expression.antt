@@ -1,7 +1,7 @@
 -- The expression that rows state: tests by the index of their parameter, their operator and the position of their value.
 -- Assumes nothing.
 use Prim.Native.Nat.{ℕ, suc, _+_}
-use Rattle.syntax.specs.Tree.{Connective}
+use Rattle.syntax.specs.declared.Connective.{Connective}
 use Rattle.rows.specs.declared.Probe.{Probe}
 
 -- what rows state: tests, each by its parameter, operator and value's position, joined and negated

@@ -9,7 +9,7 @@ use Rattle.base.specs.Kinds.{bundleKind}
 use Rattle.base.specs.Operators.{operatorWords}
 use Rattle.sheet.specs.Sheet.{Parameter}
 use Rattle.base.specs.Lists.{Listed}
-use Rattle.syntax.specs.Tree.{Connective}
+use Rattle.syntax.specs.declared.Connective.{Connective}
 use Rattle.syntax.specs.Strings.{quote, isBare}
 use Rattle.syntax.specs.Grammar.{Value, deepest, mostTests}
 use Rattle.kind.specs.Rules.{ReadableValue, HasOperator}

@@ -6,7 +6,7 @@ use mathlib.Core.List.{List, [], _∷_}
 use lib.ListN.{getD}
 use Rattle.sheet.specs.Sheet.{Parameter}
 use Rattle.sheet.specs.Find.{parentsOf}
-use Rattle.syntax.specs.Tree.{Test, name, moved, Tree, test, bracketed, join, negation}
+use Rattle.syntax.specs.Tree.{Test, name, Tree, test, bracketed, join, negation}
 use Rattle.syntax.specs.Scan.{valueAt}
 use Rattle.syntax.specs.declared.FoundValue.{FoundValue}
 use Rattle.rows.specs.Expression.{Expression, probing, choosing, joining, negating}
@@ -38,10 +38,3 @@ treeOf ps xs (probing p) = test (testFor ps xs p)
 treeOf ps xs (choosing e p) = bracketed (p .position) (bundleFor ps p) (treeOf ps xs e) (testFor ps xs p)
 treeOf ps xs (joining k e f) = join k (treeOf ps xs e) (treeOf ps xs f)
 treeOf ps xs (negating e) = negation (treeOf ps xs e)
-
--- the tree with every position 0: what remains is the tests, their joins, negations and brackets
-unfoldable pub erase : Tree → Tree
-erase (test t) = test (moved 0 t)
-erase (bracketed p b f t) = bracketed 0 b (erase f) (moved 0 t)
-erase (join k f g) = join k (erase f) (erase g)
-erase (negation f) = negation (erase f)

@@ -1,6 +1,7 @@
 // Cells: what each says.
 use crate::Probe;
 use crate::Row;
+use syntax::Connective;
 ghost use mathlib.Core.Path.{_≡_};
 ghost use Rattle.rows.specs.Cells.{probeOf, rowOf};
 
@@ -29,10 +30,10 @@ pub fn row_of(cell: u32) -> Row
         return Row::Not;
     }
     if cell == 3 {
-        return Row::Connect(true);
+        return Row::Connect(Connective::And);
     }
     if cell == 4 {
-        return Row::Connect(false);
+        return Row::Connect(Connective::Or);
     }
     Row::Unknown
 }

@@ -7,6 +7,7 @@ mod whole;
 
 pub use cell::row_of;
 pub use stack::bit;
+use syntax::Connective;
 pub use whole::are_good;
 
 // A test by the index of its parameter, its operator's number, and the position of its value's first byte in the text.
@@ -16,12 +17,12 @@ pub struct Probe {
     pub position: usize,
 }
 
-// What a cell says: a test, the test of a member after brackets, not, and (true) or or, or nothing.
+// What a cell says: a test, the test of a member after brackets, not, a connective, or nothing.
 pub enum Row {
     Test(Probe),
     Bracket(Probe),
     Not,
-    Connect(bool),
+    Connect(Connective),
     Unknown,
 }
 

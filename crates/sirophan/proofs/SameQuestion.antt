@@ -35,7 +35,8 @@ use Rattle.sheet.specs.Sheet.{Parameter}
 use Rattle.sheet.specs.Encode.{SheetBlock, WellFormedSheet}
 use Rattle.sheet.specs.declared.Found.{Found}
 use Rattle.card.specs.Card.{Entry}
-use Rattle.syntax.specs.Tree.{Path, name, Test, Connective, and, or, Tree, testsOf}
+use Rattle.syntax.specs.Tree.{Path, name, Test, Tree, testsOf}
+use Rattle.syntax.specs.declared.Connective.{Connective}
 use Rattle.syntax.specs.Grammar.{Spells}
 use Rattle.kind.specs.Table.{meaningOf, rowMeaning, row, ofKind, kinds, tokenRow, relationIn}
 use Rattle.kind.specs.Rules.{readable-token, ReadableInFilter, ReadableValue, value-of-pr, value-of-kind, HasOperator}
@@ -107,12 +108,12 @@ module _ (ps : List Parameter) (es : List Entry) where
   abbrev says : Tree → Bool
   says f = filterSays ps 0 es f
 
-  or-joined : {fs : List Tree} {f : Tree} → Joined or fs f → says f ≡ or-all says fs
+  or-joined : {fs : List Tree} {f : Tree} → Joined Connective.Or fs f → says f ≡ or-all says fs
   unfolding or-all filterSays
   or-joined (alone {f = f}) = sym (or-nothing (says f))
   or-joined (joins {fs = fs} {gs = gs} {g = g} a b) = ap (λ (x : Bool). x || says g) (or-joined a) ∙ ap (λ (x : Bool). or-all says fs || x) (or-joined b) ∙ sym (or-append says fs gs)
 
-  and-joined : {fs : List Tree} {f : Tree} → Joined and fs f → says f ≡ and-all says fs
+  and-joined : {fs : List Tree} {f : Tree} → Joined Connective.And fs f → says f ≡ and-all says fs
   unfolding and-all filterSays
   and-joined (alone {f = f}) = sym (and-nothing (says f))
   and-joined (joins {fs = fs} {gs = gs} {g = g} a b) = ap (λ (x : Bool). x && says g) (and-joined a) ∙ ap (λ (x : Bool). and-all says fs && x) (and-joined b) ∙ sym (and-append says fs gs)

@@ -9,7 +9,8 @@ use Rattle.base.specs.Split.{firstOf}
 use Rattle.text.specs.Bar.{bar}
 use Rattle.token.specs.Rules.{StandsFor}
 use Rattle.sheet.specs.Sheet.{Parameter}
-use Rattle.syntax.specs.Tree.{name, Test, Connective, and, or, Tree, test, join}
+use Rattle.syntax.specs.Tree.{name, Test, Tree, test, join}
+use Rattle.syntax.specs.declared.Connective.{Connective}
 use Rattle.judge.specs.Rules.{Names}
 use Rattle.search.specs.Spelling.{Alternative, Query}
 use Rattle.search.specs.Asking.{AskedBy}
@@ -41,13 +42,13 @@ pub data TestsAlike (ps : List Parameter) : List Alternative → List Tree → T
 -- "alternatives joined by or in brackets"
 pub data PairsAlike (ps : List Parameter) : Query → List Tree → Type 0 where
   pairs-end : PairsAlike ps [] []
-  pairs-next : {p : List Alternative} {q : Query} {ts fs : List Tree} {f : Tree} → TestsAlike ps p ts → Joined or ts f → PairsAlike ps q fs → PairsAlike ps (p ∷ q) (f ∷ fs)
+  pairs-next : {p : List Alternative} {q : Query} {ts fs : List Tree} {f : Tree} → TestsAlike ps p ts → Joined Connective.Or ts f → PairsAlike ps q fs → PairsAlike ps (p ∷ q) (f ∷ fs)
 
 -- "and pairs by and"
 pub record SameQuestion (ps : List Parameter) (q : Query) (f : Tree) : Type 0 where
   pub pairs : List Tree
   pub alike : PairsAlike ps q pairs
-  pub joined : Joined and pairs f
+  pub joined : Joined Connective.And pairs f
 
 -- the search string is answered as the filter is
 pub record AnsweredAlike (sheet query text : List ℕ) : Type 0 where

@@ -7,13 +7,14 @@
 use Prim.Native.Nat.{ℕ, zero, suc, _+_, _-_, _≤_}
 use native.Mathlib.Omega.{arith}
 use mathlib.Core.Path.{_≡_, refl, sym, ap, _∙_}
-use mathlib.Core.Bool.{Bool, true}
+use mathlib.Core.Bool.{true}
 use mathlib.Core.List.{List, [], _++_, append-nil}
 use lib.ListN.{length, length-append}
 use Rattle.syntax.specs.Tree.{Tree, join}
 use Rattle.syntax.specs.Scan.{connectiveAt}
+use Rattle.syntax.specs.declared.Connective.{Connective}
 use Rattle.syntax.specs.declared.FoundConnective.{FoundConnective}
-use Rattle.syntax.specs.Reader.{Parsed, parsed, unparsed, connective, andThen, chainBy, chainOf, itemAt, filterAt}
+use Rattle.syntax.specs.Reader.{Parsed, parsed, unparsed, andThen, chainBy, chainOf, itemAt, filterAt}
 use Rattle.syntax.proofs.Complete.{filter-step, chain-step}
 use Rattle.syntax.proofs.Places.{connective-ahead}
 use Rattle.spell.specs.Plain.{connectiveText, isJoin, plain, operand}
@@ -27,22 +28,22 @@ use Rattle.spell.proofs.Walking.{never, same-tree, item-within}
 -- ---- what a chain that was read to its end tells
 
 -- one item more
-record Joins (xs : List ℕ) (item : ℕ → Parsed) (k m : ℕ) (a : Bool) (f : Tree) (q : ℕ) (all : Tree) : Type 0 where
+record Joins (xs : List ℕ) (item : ℕ → Parsed) (k m : ℕ) (a : Connective) (f : Tree) (q : ℕ) (all : Tree) : Type 0 where
   end : ℕ
   tree : Tree
   reads : item m ≡ parsed end tree
-  rest : chainOf k xs item end (join (connective a) f tree) ≡ parsed q all
+  rest : chainOf k xs item end (join a f tree) ≡ parsed q all
 
-then-item : (xs : List ℕ) (item : ℕ → Parsed) (k m : ℕ) (a : Bool) (f : Tree) (q : ℕ) (all : Tree) → andThen (λ e u. chainOf k xs item e u) (join (connective a) f) (item m) ≡ parsed q all → Joins xs item k m a f q all
+then-item : (xs : List ℕ) (item : ℕ → Parsed) (k m : ℕ) (a : Connective) (f : Tree) (q : ℕ) (all : Tree) → andThen (λ e u. chainOf k xs item e u) (join a f) (item m) ≡ parsed q all → Joins xs item k m a f q all
 then-item xs item k m a f q all e = go (item m) refl e
   where
-    go : (g : Parsed) → item m ≡ g → andThen (λ e u. chainOf k xs item e u) (join (connective a) f) g ≡ parsed q all → Joins xs item k m a f q all
+    go : (g : Parsed) → item m ≡ g → andThen (λ e u. chainOf k xs item e u) (join a f) g ≡ parsed q all → Joins xs item k m a f q all
     go (parsed n g) r h = record { end = n; tree = g; reads = r; rest = h }
     go unparsed r h = never h
 
-join-longer : (a : Bool) (f g : Tree) → length (plain f) + length (joined a g) ≤ length (plain (join (connective a) f g))
+join-longer : (a : Connective) (f g : Tree) → length (plain f) + length (joined a g) ≤ length (plain (join a f g))
 unfolding plain joined
-join-longer a f g = omega (arith, join-length (connective a) (plain f) (operand g), length-append (connectiveText (connective a)) (operand g))
+join-longer a f g = omega (arith, join-length a (plain f) (operand g), length-append (connectiveText a) (operand g))
 
 chain-longer : (k : ℕ) (xs : List ℕ) (item : ℕ → Parsed) (p q : ℕ) (f all : Tree) → chainOf k xs item p f ≡ parsed q all → length (plain f) ≤ length (plain all)
 unfolding chainOf
@@ -52,7 +53,7 @@ chain-longer (suc k) xs item p q f all e = go (λ n u. chain-longer k xs item n 
     go : ((n : ℕ) (u : Tree) → chainOf k xs item n u ≡ parsed q all → length (plain u) ≤ length (plain all)) → (c : FoundConnective) → chainBy p f item (λ e u. chainOf k xs item e u) c ≡ parsed q all → length (plain f) ≤ length (plain all)
     go on (FoundConnective.Next m a) h =
         let j = then-item xs item k m a f q all h in
-        let i = on (j .end) (join (connective a) f (j .tree)) (j .rest) in
+        let i = on (j .end) (join a f (j .tree)) (j .rest) in
         omega (arith, join-longer a f (j .tree))
     go on FoundConnective.Nothing h = let s : f ≡ all = same-tree h in omega (arith, ap (λ (x : Tree). length (plain x)) s)
 
@@ -152,7 +153,7 @@ module _ (d : ℕ) (xs : List ℕ) (close p : ℕ) where
             join = h .join;
           }
 
-      module _ (q : ℕ) (a : Bool) (n : c ≡ FoundConnective.Next q a) where
+      module _ (q : ℕ) (a : Connective) (n : c ≡ FoundConnective.Next q a) where
         next : Joins xs item (h .left - 1) q a (h .tree) (h .room .end) (h .room .tree)
         next =
             then-item xs item (h .left - 1) q a (h .tree) (h .room .end) (h .room .tree)
@@ -164,7 +165,7 @@ module _ (d : ℕ) (xs : List ℕ) (close p : ℕ) where
               arith,
               join-longer a (h .tree) (next .tree),
               h .room .room .fits,
-              chain-longer (h .left - 1) xs item (next .end) (h .room .end) (join (connective a) (h .tree) (next .tree)) (h .room .tree) (next .rest),
+              chain-longer (h .left - 1) xs item (next .end) (h .room .end) (join a (h .tree) (next .tree)) (h .room .tree) (next .rest),
             )
 
         wrote : Wrote (plain (h .tree) ++ joined a (next .tree)) (joined a (next .tree)) entry out (w .length)
@@ -192,8 +193,8 @@ module _ (d : ℕ) (xs : List ℕ) (close p : ℕ) where
               record {
                 room = h .room;
                 left = h .left - 1;
-                tree = join (connective a) (h .tree) (s .tree);
-                reads = h .reads ∙ step ∙ ap (chainBy (w .end) (h .tree) item (λ n u. chainOf (h .left - 1) xs item n u)) (sym e ∙ n) ∙ ap (andThen (λ n u. chainOf (h .left - 1) xs item n u) (join (connective a) (h .tree))) (s .reads);
+                tree = join a (h .tree) (s .tree);
+                reads = h .reads ∙ step ∙ ap (chainBy (w .end) (h .tree) item (λ n u. chainOf (h .left - 1) xs item n u)) (sym e ∙ n) ∙ ap (andThen (λ n u. chainOf (h .left - 1) xs item n u) (join a (h .tree))) (s .reads);
                 enough = omega (arith, h .enough, chained-ahead);
                 from = omega (arith, h .from, chained-ahead);
                 within = chained-ahead .1;

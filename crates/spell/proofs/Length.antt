@@ -9,10 +9,11 @@ use lib.ListN.{length, length-append}
 use Rattle.base.specs.Ascii.{ascii}
 use Rattle.base.specs.Operators.{operatorWords}
 use Rattle.base.proofs.Below.{passes-same}
-use Rattle.syntax.specs.Tree.{Test, Connective, and, or, Tree, test, bracketed, join, negation}
+use Rattle.syntax.specs.Tree.{Test, Tree, test, bracketed, join, negation, erase}
+use Rattle.syntax.specs.declared.Connective.{Connective}
 use Rattle.syntax.specs.Grammar.{TestAt, a-test, Connects, connects, opens, opens-not, closes, chooses, Item, item-test, item-bracket, item-not, item-bracketed, Filter, one-item, one-more, Spells}
 use Rattle.syntax.proofs.Words.{spaces-rise, gap-rise}
-use Rattle.spell.specs.Plain.{operatorWord, plainValue, plainTest, connectiveText, isJoin, inRoundIf, inRound, plain, operand, erase}
+use Rattle.spell.specs.Plain.{operatorWord, plainValue, plainTest, connectiveText, isJoin, inRoundIf, inRound, plain, operand}
 use Rattle.spell.specs.Laws.{Determined}
 use Rattle.spell.proofs.Values.{value-short}
 
@@ -74,8 +75,8 @@ operand-short (negation f) = omega arith
 -- ---- no source is shorter
 
 pub connects-long : {xs : List ℕ} {p q : ℕ} {c : Connective} → Connects xs p q c → p + length (connectiveText c) ≤ q
-connects-long {xs} {p} {q} (connects {c = and} g s w) = omega (arith, gap-rise g, spaces-rise w)
-connects-long {xs} {p} {q} (connects {c = or} g s w) = omega (arith, gap-rise g, spaces-rise w)
+connects-long {xs} {p} {q} (connects {c = Connective.And} g s w) = omega (arith, gap-rise g, spaces-rise w)
+connects-long {xs} {p} {q} (connects {c = Connective.Or} g s w) = omega (arith, gap-rise g, spaces-rise w)
 
 pub test-short : {xs : List ℕ} {close p q : ℕ} {t : Test} → TestAt xs close p q t → p + length (plainTest t) ≤ q
 unfolding plainTest

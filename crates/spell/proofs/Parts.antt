@@ -3,11 +3,10 @@
 use Prim.Native.Nat.{ℕ, _+_, _≤_}
 use native.Mathlib.Omega.{arith}
 use mathlib.Core.Path.{_≡_, refl}
-use mathlib.Core.Bool.{Bool, true, false}
 use mathlib.Core.List.{List, [], _++_}
 use lib.ListN.{length}
 use Rattle.base.specs.Ascii.{ascii}
-use Rattle.syntax.specs.Reader.{connective}
+use Rattle.syntax.specs.declared.Connective.{Connective}
 use Rattle.syntax.specs.declared.RawTest.{RawTest}
 use Rattle.spell.specs.Plain.{connectiveText}
 use Rattle.base.specs.Writing.{Room, Puts}
@@ -76,17 +75,17 @@ module _ (xs : List ℕ) (t : RawTest) (out : List ℕ) (h : Room (memberText xs
 
 -- ---- a connective
 
-module _ (a : Bool) where
-  module _ (e : a ≡ true) where
-    pub and-room : {out : List ℕ} → Room (connectiveText (connective a)) out → Room (ascii " and ") out
+module _ (a : Connective) where
+  module _ (e : a ≡ Connective.And) where
+    pub and-room : {out : List ℕ} → Room (connectiveText a) out → Room (ascii " and ") out
     and-room h = rw e at h
 
-    pub and-puts : {out exit : List ℕ} {n : ℕ} → Puts (ascii " and ") out exit n → Puts (connectiveText (connective a)) out exit n
+    pub and-puts : {out exit : List ℕ} {n : ℕ} → Puts (ascii " and ") out exit n → Puts (connectiveText a) out exit n
     and-puts p = rw e p
 
-  module _ (e : a ≡ false) where
-    pub or-room : {out : List ℕ} → Room (connectiveText (connective a)) out → Room (ascii " or ") out
+  module _ (e : a ≡ Connective.Or) where
+    pub or-room : {out : List ℕ} → Room (connectiveText a) out → Room (ascii " or ") out
     or-room h = rw e at h
 
-    pub or-puts : {out exit : List ℕ} {n : ℕ} → Puts (ascii " or ") out exit n → Puts (connectiveText (connective a)) out exit n
+    pub or-puts : {out exit : List ℕ} {n : ℕ} → Puts (ascii " or ") out exit n → Puts (connectiveText a) out exit n
     or-puts p = rw e p

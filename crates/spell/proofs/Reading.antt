@@ -16,11 +16,12 @@ use lib.ListN.{length, drop, length-append, length-map}
 use Rattle.base.specs.Ascii.{ascii}
 use Rattle.base.specs.Names.{Name}
 use Rattle.base.specs.Operators.{operatorWords}
-use Rattle.syntax.specs.Tree.{name, Test, moved, under, Connective, and, or, Tree, test, bracketed, join, negation, testsOf}
+use Rattle.syntax.specs.Tree.{name, Test, moved, under, Tree, test, bracketed, join, negation, testsOf, erase}
+use Rattle.syntax.specs.declared.Connective.{Connective}
 use Rattle.syntax.specs.Grammar.{no-space, gap, Follows, the-end, a-space, a-close, TestAt, a-test, Connects, connects, opens, opens-not, closes, chooses, round, square, Item, item-test, item-bracket, item-not, item-bracketed, Filter, one-item, one-more, Spells, deepest, mostTests}
 use Rattle.syntax.proofs.Words.{stands-after}
 use Rattle.syntax.proofs.Spelling.{spells-unique}
-use Rattle.spell.specs.Plain.{operatorWord, plainValue, plainTest, connectiveText, isJoin, inRoundIf, inRound, plain, operand, erase}
+use Rattle.spell.specs.Plain.{operatorWord, plainValue, plainTest, connectiveText, isJoin, inRoundIf, inRound, plain, operand}
 use Rattle.spell.proofs.Values.{SpellableValue, value-spellable, value-written}
 use Rattle.spell.proofs.Length.{plain-erase, word-length, test-length, choice-length, join-length, round-length}
 
@@ -78,8 +79,8 @@ mutual
 -- ---- small facts
 
 connective-follows : (close : ℕ) (c : Connective) (w rest : List ℕ) → Follows close ((connectiveText c ++ w) ++ rest)
-connective-follows close and w rest = a-space
-connective-follows close or w rest = a-space
+connective-follows close Connective.And w rest = a-space
+connective-follows close Connective.Or w rest = a-space
 
 join-erased : (c : Connective) (f f′ g g′ : Tree) → erase f ≡ erase f′ → erase g ≡ erase g′ → erase (join c f g) ≡ erase (join c f′ g′)
 unfolding erase
@@ -134,14 +135,14 @@ module _ (xs : List ℕ) where
       record { test = u; here = subst (λ (x : ℕ). TestAt xs close p x u) z i; same = refl }
 
   connects-written : (m : ℕ) (c : Connective) (rest : List ℕ) → drop m xs ≡ connectiveText c ++ rest → Connects xs m (m + length (connectiveText c)) c
-  connects-written m and rest h =
+  connects-written m Connective.And rest h =
       let h1 : drop (m + 1) xs ≡ ascii "and " ++ rest = after m (0x20 ∷ []) (ascii "and " ++ rest) h in
       let z : m + 1 + 4 ≡ m + 5 = omega arith in
-      subst (λ (x : ℕ). Connects xs m x and) z (connects (gap (ascii "and " ++ rest, h) no-space) (rest, h1) no-space)
-  connects-written m or rest h =
+      subst (λ (x : ℕ). Connects xs m x Connective.And) z (connects (gap (ascii "and " ++ rest, h) no-space) (rest, h1) no-space)
+  connects-written m Connective.Or rest h =
       let h1 : drop (m + 1) xs ≡ ascii "or " ++ rest = after m (0x20 ∷ []) (ascii "or " ++ rest) h in
       let z : m + 1 + 3 ≡ m + 4 = omega arith in
-      subst (λ (x : ℕ). Connects xs m x or) z (connects (gap (ascii "or " ++ rest, h) no-space) (rest, h1) no-space)
+      subst (λ (x : ℕ). Connects xs m x Connective.Or) z (connects (gap (ascii "or " ++ rest, h) no-space) (rest, h1) no-space)
 
   mutual
     unfolding plain erase

@@ -11,7 +11,8 @@ use mathlib.Core.List.{List, [], _∷_, _++_, append-assoc, append-nil}
 use lib.ListN.{length, drop}
 use lib.Seq.{drop-length}
 use Rattle.base.specs.Ascii.{ascii}
-use Rattle.syntax.specs.Tree.{Test, Connective, and, or, Tree, test, bracketed, join, negation}
+use Rattle.syntax.specs.Tree.{Test, Tree, test, bracketed, join, negation}
+use Rattle.syntax.specs.declared.Connective.{Connective}
 use Rattle.syntax.specs.Grammar.{Gap, gap, TestAt, a-test, Connects, connects, Opens, opens, opens-not, Closes, closes, chooses, round, Item, item-test, item-bracket, item-not, item-bracketed, Filter, one-item, one-more, Spells}
 use Rattle.syntax.proofs.Words.{spaces-rise, gap-rise}
 use Rattle.spell.specs.Plain.{operatorWord, plainValue, plainTest, connectiveText, plain, operand}
@@ -26,11 +27,11 @@ gap-tight : {xs : List ℕ} {p q : ℕ} → Gap xs p q → q ≡ p + 1 → drop 
 gap-tight {xs} {p} {q} (gap s w) e = stands-tight xs p q (0x20 ∷ []) s e
 
 connects-tight : {xs : List ℕ} {p q : ℕ} {c : Connective} → Connects xs p q c → q ≡ p + length (connectiveText c) → drop p xs ≡ connectiveText c ++ drop q xs
-connects-tight {xs} (connects {p = p} {a = a} {q = q} {c = and} g s w) e =
+connects-tight {xs} (connects {p = p} {a = a} {q = q} {c = Connective.And} g s w) e =
     let i : a ≡ p + 1 = omega (arith, gap-rise g, spaces-rise w) in
     let j : q ≡ a + 4 = omega arith in
     gap-tight g i ∙ ap (λ (t : List ℕ). 0x20 ∷ t) (stands-tight xs a q (ascii "and ") s j)
-connects-tight {xs} (connects {p = p} {a = a} {q = q} {c = or} g s w) e =
+connects-tight {xs} (connects {p = p} {a = a} {q = q} {c = Connective.Or} g s w) e =
     let i : a ≡ p + 1 = omega (arith, gap-rise g, spaces-rise w) in
     let j : q ≡ a + 3 = omega arith in
     gap-tight g i ∙ ap (λ (t : List ℕ). 0x20 ∷ t) (stands-tight xs a q (ascii "or ") s j)

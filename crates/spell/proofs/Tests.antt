@@ -3,7 +3,7 @@
 use Prim.Native.Nat.{ℕ, _+_, _*_, _≤_, _<_}
 use native.Mathlib.Omega.{arith}
 use mathlib.Core.Path.{_≡_, refl, sym, ap}
-use mathlib.Core.List.{List, [], _∷_, _++_, append-assoc}
+use mathlib.Core.List.{List, [], _∷_, _++_, append-assoc, flatten}
 use lib.ListN.{length, getD}
 use Rattle.base.specs.Ascii.{ascii}
 use Rattle.base.specs.Lists.{equal}
@@ -24,7 +24,7 @@ abbrev pub spaced : List ℕ → ℕ → List ℕ
 spaced words k = 0x20 ∷ getD words (2 * k) 0 ∷ getD words (2 * k + 1) 0 ∷ 0x20 ∷ []
 
 operator-spelt : (k : ℕ) → k < 19 → spaced operatorLetters k ≡ operatorText k
-unfolding operatorLetters operatorText operatorWords equal
+unfolding operatorLetters flatten operatorText operatorWords equal
 operator-spelt k h = equal-same (spaced operatorLetters k) (operatorText k) (passes-at (λ (i : ℕ). equal (spaced operatorLetters i) (operatorText i)) 19 refl k h)
 
 module _ (words : List ℕ) (k : ℕ) (e : words ≡ operatorLetters) (h : k < 19) where

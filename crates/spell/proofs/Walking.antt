@@ -20,12 +20,13 @@ use Rattle.base.proofs.Tests.{cond-elim, cond-first}
 use Rattle.syntax.specs.Tree.{Test, Tree, test, bracketed, join, negation}
 use Rattle.syntax.specs.Grammar.{TestAt, a-test, round, square}
 use Rattle.syntax.specs.Scan.{isSpace, skipAt, has, testOf, testAt, testOr, choiceOr, choiceAt, openAt, headAt, memberAt, memberAfter, afterClose, closeAt}
+use Rattle.syntax.specs.declared.Connective.{Connective}
 use Rattle.syntax.specs.declared.RawTest.{RawTest}
 use Rattle.syntax.specs.declared.FoundTest.{FoundTest}
 use Rattle.syntax.specs.declared.FoundChoice.{FoundChoice}
 use Rattle.syntax.specs.declared.FoundClose.{FoundClose}
 use Rattle.syntax.specs.declared.Head.{Head}
-use Rattle.syntax.specs.Reader.{Parsed, parsed, unparsed, negatedIf, inBracket, inChoice, connective, itemAt, filterAt}
+use Rattle.syntax.specs.Reader.{Parsed, parsed, unparsed, negatedIf, inBracket, inChoice, itemAt, filterAt}
 use Rattle.syntax.proofs.Structure.{OpenDerived, open-derived}
 use Rattle.syntax.proofs.Sound.{ItemDerived, FilterDerived, item-derived, filter-derived}
 use Rattle.syntax.proofs.Complete.{item-rise, filter-rise, test-step, opened-step, deep-step, chosen-step, deep-choice-step, nothing-step}
@@ -199,27 +200,27 @@ module _ {g : Parsed} {out : List ℕ} (r : RoomFor operand g out) where
 
 -- ---- a connective and the item after it
 
-module _ (a : Bool) {g : Parsed} {out : List ℕ} (r : RoomFor (joined a) g out) where
-  joined-parts : Room (connectiveText (connective a) ++ operand (r .tree)) out
+module _ (a : Connective) {g : Parsed} {out : List ℕ} (r : RoomFor (joined a) g out) where
+  joined-parts : Room (connectiveText a ++ operand (r .tree)) out
   unfolding joined
   joined-parts = r .room
 
-  pub connective-room : Room (connectiveText (connective a)) out
-  connective-room = first-room (connectiveText (connective a)) (operand (r .tree)) out joined-parts
+  pub connective-room : Room (connectiveText a) out
+  connective-room = first-room (connectiveText a) (operand (r .tree)) out joined-parts
 
-  module _ {out₁ : List ℕ} {n : ℕ} (c : Puts (connectiveText (connective a)) out out₁ n) where
+  module _ {out₁ : List ℕ} {n : ℕ} (c : Puts (connectiveText a) out out₁ n) where
     pub connective-within : n ≤ length out₁
-    connective-within = first-within (connectiveText (connective a)) (operand (r .tree)) out joined-parts c
+    connective-within = first-within (connectiveText a) (operand (r .tree)) out joined-parts c
 
     pub operand-room : RoomFor operand g (lent out₁ n)
-    operand-room = record { end = r .end; tree = r .tree; reads = r .reads; room = last-room (connectiveText (connective a)) (operand (r .tree)) out joined-parts c }
+    operand-room = record { end = r .end; tree = r .tree; reads = r .reads; room = last-room (connectiveText a) (operand (r .tree)) out joined-parts c }
 
     module _ {exit : List ℕ} {w : Written} (s : Spelt operand g (lent out₁ n) exit w) where
       joined-same : operand (s .tree) ≡ operand (r .tree)
       joined-same = ap (λ (x : Tree). operand x) (same-tree (sym (s .reads) ∙ r .reads))
 
-      joined-wrote : Wrote (connectiveText (connective a) ++ operand (r .tree)) [] out (back out₁ n exit) (n + w .length)
-      joined-wrote = last-wrote (connectiveText (connective a)) (operand (r .tree)) out joined-parts c (puts-same joined-same (s .puts))
+      joined-wrote : Wrote (connectiveText a ++ operand (r .tree)) [] out (back out₁ n exit) (n + w .length)
+      joined-wrote = last-wrote (connectiveText a) (operand (r .tree)) out joined-parts c (puts-same joined-same (s .puts))
 
       pub joined-fits : n + w .length ≤ length out
       joined-fits = omega (arith, joined-wrote .within, joined-wrote .long)
@@ -229,7 +230,7 @@ module _ (a : Bool) {g : Parsed} {out : List ℕ} (r : RoomFor (joined a) g out)
 
       pub joined-spelt : Spelt (joined a) g out (back out₁ n exit) (record { end = w .end; length = n + w .length; join = w .join })
       unfolding joined
-      joined-spelt = record { tree = s .tree; reads = s .reads; puts = puts-same (ap (λ (x : List ℕ). connectiveText (connective a) ++ x) (sym joined-same)) (wrote-end joined-wrote refl); join = s .join }
+      joined-spelt = record { tree = s .tree; reads = s .reads; puts = puts-same (ap (λ (x : List ℕ). connectiveText a ++ x) (sym joined-same)) (wrote-end joined-wrote refl); join = s .join }
 
 -- ---- a test that was found has one of the operators
 

@@ -5,9 +5,8 @@ use mathlib.Core.Path.{_≡_}
 use mathlib.Core.Logic.{_↔_}
 use mathlib.Core.List.{List}
 use lib.ListN.{length}
-use Rattle.syntax.specs.Tree.{Tree}
+use Rattle.syntax.specs.Tree.{Tree, erase}
 use Rattle.syntax.specs.Grammar.{Spells}
-use Rattle.spell.specs.Plain.{erase}
 
 -- what 02 asks of the plain spelling; no other function meets it
 pub record PlainSpelling (plain : Tree → List ℕ) : Type 0 where

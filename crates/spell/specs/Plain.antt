@@ -9,7 +9,8 @@ use lib.ListN.{getD}
 use Rattle.base.specs.Ascii.{ascii}
 use Rattle.base.specs.Lists.{every}
 use Rattle.base.specs.Operators.{operatorWords}
-use Rattle.syntax.specs.Tree.{Path, name, member, Test, moved, Connective, and, or, Tree, test, bracketed, join, negation}
+use Rattle.syntax.specs.Tree.{Path, name, member, Test, Tree, test, bracketed, join, negation}
+use Rattle.syntax.specs.declared.Connective.{Connective}
 use Rattle.syntax.specs.Strings.{quote, backslash, isBare, isPlain}
 
 -- ---- values
@@ -51,8 +52,8 @@ plainTest t = firstName (t .path) ++ (ascii " " ++ (operatorWord (t .operator) +
 -- ---- filters
 
 abbrev pub connectiveText : Connective → List ℕ
-connectiveText and = ascii " and "
-connectiveText or = ascii " or "
+connectiveText Connective.And = ascii " and "
+connectiveText Connective.Or = ascii " or "
 
 abbrev pub isJoin : Tree → Bool
 isJoin (test t) = false
@@ -77,10 +78,3 @@ plain (negation f) = ascii "not" ++ inRound (plain f)
 -- what stands after a connective
 abbrev pub operand : Tree → List ℕ
 operand f = inRoundIf (isJoin f) (plain f)
-
--- the tree with every position 0: "tests, decoded values, joins, nots and grouping"
-unfoldable pub erase : Tree → Tree
-erase (test t) = test (moved 0 t)
-erase (bracketed p b f t) = bracketed 0 b (erase f) (moved 0 t)
-erase (join c f g) = join c (erase f) (erase g)
-erase (negation f) = negation (erase f)

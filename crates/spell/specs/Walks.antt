@@ -9,7 +9,8 @@ use Rattle.base.specs.Parts.{part}
 use Rattle.syntax.specs.Tree.{Tree}
 use Rattle.syntax.specs.Grammar.{round, square}
 use Rattle.syntax.specs.Scan.{skipAt}
-use Rattle.syntax.specs.Reader.{Parsed, parsed, connective, inBracket, inChoice, filterAt}
+use Rattle.syntax.specs.Reader.{Parsed, parsed, inBracket, inChoice, filterAt}
+use Rattle.syntax.specs.declared.Connective.{Connective}
 use Rattle.syntax.specs.declared.RawTest.{RawTest}
 use Rattle.spell.specs.Plain.{connectiveText, isJoin, operand}
 use Rattle.base.specs.Writing.{Room, Puts}
@@ -31,8 +32,8 @@ pub record Spelt (text : Tree → List ℕ) (g : Parsed) (part exit : List ℕ) 
   pub join : w .join ≡ isJoin tree
 
 -- a connective and what stands after it
-unfoldable pub joined : Bool → Tree → List ℕ
-joined a f = connectiveText (connective a) ++ operand f
+unfoldable pub joined : Connective → Tree → List ℕ
+joined c f = connectiveText c ++ operand f
 
 -- a name and the bracket after it; and what stands after a filter in square brackets
 unfoldable pub choiceText : List ℕ → List ℕ

@@ -5,6 +5,7 @@ use crate::Written;
 use crate::bracket::bracket_join;
 use crate::test::write_test;
 use base::write_word;
+use syntax::Connective;
 use syntax::FoundConnective;
 use syntax::FoundTest;
 use syntax::Head;
@@ -17,20 +18,20 @@ ghost use mathlib.Core.Bool.{true, false};
 ghost use Prim.Native.Nat.{_≤_, _<_};
 ghost use lib.ListN.{length};
 ghost use Rattle.syntax.specs.Placed.{Placed};
-ghost use Rattle.syntax.specs.Reader.{connective, itemAt, filterAt};
+ghost use Rattle.syntax.specs.Reader.{itemAt, filterAt};
 ghost use Rattle.spell.specs.Plain.{connectiveText, plain, operand};
 ghost use Rattle.base.specs.Writing.{Room, Puts};
 ghost use Rattle.spell.specs.Walks.{RoomFor, Spelt, joined, choiceText, memberText, bracketAt, chosenAt};
 
 // Writes a connective with a space on either side, and answers its length.
-fn write_connective(and: bool, out: &mut [u8]) -> usize
-    requires { ⌜ Room (connectiveText (connective and)) (now out) ⌝ }
-    ensures { λ r. ⌜ Puts (connectiveText (connective and)) (now (out .entry)) (now (out .exit)) r ⌝ }
+fn write_connective(connective: Connective, out: &mut [u8]) -> usize
+    requires { ⌜ Room (connectiveText connective) (now out) ⌝ }
+    ensures { λ r. ⌜ Puts (connectiveText connective) (now (out .entry)) (now (out .exit)) r ⌝ }
 {
-    if and {
-        return write_word(b" and ", out);
+    match connective {
+        Connective::And => write_word(b" and ", out),
+        Connective::Or => write_word(b" or ", out),
     }
-    write_word(b" or ", out)
 }
 
 // Writes a name and the square bracket after it, and answers the length of both.
@@ -203,13 +204,13 @@ fn write_operand(filter: &[u8], spot: Spot, out: &mut [u8]) -> Written
 }
 
 // Writes a connective and the item at a spot after it.
-fn write_joined(filter: &[u8], and: bool, spot: Spot, out: &mut [u8]) -> Written
+fn write_joined(filter: &[u8], connective: Connective, spot: Spot, out: &mut [u8]) -> Written
     requires { ⌜ length (now filter) ≤ 1024 ⌝ }
     requires { ⌜ spot .at ≤ length (now filter) ⌝ }
-    requires { ⌜ RoomFor (joined and) (itemAt (spot .deep) (now filter) (spot .close) (spot .at)) (now out) ⌝ }
-    ensures { λ r. ⌜ Spelt (joined and) (itemAt (spot .deep) (now (filter .entry)) (spot .close) (spot .at)) (now (out .entry)) (now (out .exit)) r ⌝ }
+    requires { ⌜ RoomFor (joined connective) (itemAt (spot .deep) (now filter) (spot .close) (spot .at)) (now out) ⌝ }
+    ensures { λ r. ⌜ Spelt (joined connective) (itemAt (spot .deep) (now (filter .entry)) (spot .close) (spot .at)) (now (out .entry)) (now (out .exit)) r ⌝ }
 {
-    let start = write_connective(and, out);
+    let start = write_connective(connective, out);
     let item = write_operand(filter, spot, &mut out[start..]);
     Written {
         end: item.end,
@@ -232,12 +233,12 @@ pub fn write_filter(filter: &[u8], spot: Spot, out: &mut [u8]) -> Written
     loop {
         let end = written.end;
         let length = written.length;
-        let connective = read_connective(filter, end);
-        match connective {
-            FoundConnective::Next(next, and) => {
+        let found = read_connective(filter, end);
+        match found {
+            FoundConnective::Next(next, connective) => {
                 let more = write_joined(
                     filter,
-                    and,
+                    connective,
                     Spot {
                         at: next,
                         deep,

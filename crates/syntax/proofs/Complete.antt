@@ -19,15 +19,15 @@ use Rattle.base.specs.Parts.{part}
 use Rattle.syntax.specs.declared.FoundTest.{FoundTest}
 use borrow.Author.Tests.{eq-eqb, le-leb}
 use Rattle.syntax.specs.Strings.{isBare}
-use Rattle.syntax.specs.Tree.{Test, Tree, test, Connective, and, or, testsOf}
+use Rattle.syntax.specs.Tree.{Test, Tree, test, testsOf}
 use Rattle.syntax.specs.Grammar.{Stands, Opens, opens, opens-not, Closes, chooses, round, square, Item, item-test, item-bracket, item-not, item-bracketed, Filter, one-item, one-more, mostTests, Spells}
 use Rattle.syntax.specs.Scan.{skipAt, testOf, headAt, memberAt, memberAfter, connectiveAt}
-use Rattle.syntax.specs.Reader.{Parsed, parsed, unparsed, connective, inBracket, inChoice, andThen, chainBy, chainOf, filterOf, itemAt, filterAt, read}
+use Rattle.syntax.specs.Reader.{Parsed, parsed, unparsed, inBracket, inChoice, andThen, chainBy, chainOf, filterOf, itemAt, filterAt, read}
 use Rattle.syntax.specs.declared.RawTest.{RawTest}
 use Rattle.syntax.specs.declared.Head.{Head}
 use Rattle.syntax.proofs.Words.{NoSpaceAt, stands-has, stands-no-space, end-no-space, spaces-skip}
 use Rattle.syntax.proofs.Tests.{TestFound, test-found, name-no-space, test-no-space, test-rise}
-use Rattle.syntax.proofs.Structure.{open-found, open-no-test, open-no-choice, ChoiceFound, choice-found, chooses-rise, close-found, isAnd, connective-found, close-no-connective, end-no-connective, connects-rise, opens-rise, closes-rise}
+use Rattle.syntax.proofs.Structure.{open-found, open-no-test, open-no-choice, ChoiceFound, choice-found, chooses-rise, close-found, connective-found, close-no-connective, end-no-connective, connects-rise, opens-rise, closes-rise}
 
 -- ---- positions rise, inside the text
 
@@ -133,10 +133,6 @@ unfolding chainOf
 chain-step zero xs item p f h = absurd (omega arith)
 chain-step (suc k) xs item p f h = rw (sub-one (suc k))
 
-connective-is : (c : Connective) → connective (isAnd c) ≡ c
-connective-is and = refl
-connective-is or = refl
-
 -- ---- a filter is read up to its end, and the rest of the text is read on from there
 
 mutual
@@ -162,12 +158,12 @@ mutual
       let u = item-rise i in
       let e = item-complete h i in
       (length xs, omega arith, rw (filter-step d xs close p, e))
-  filter-complete {xs} {close} h (one-more {d = d} {m = m} {c = c} {f = f} l j i) =
+  filter-complete {xs} {close} h (one-more {d = d} {m = m} {f = f} l j i) =
       let k = filter-complete h l in
       let u = connects-rise j in
       let v = item-rise i in
       let e = item-complete h i in
-      (k .0 - 1, omega arith, k .2 ∙ rw (chain-step (k .0) xs (λ m. itemAt d xs close m) m f (omega arith), connective-found j (item-no-space i), connective-is c, e))
+      (k .0 - 1, omega arith, k .2 ∙ rw (chain-step (k .0) xs (λ m. itemAt d xs close m) m f (omega arith), connective-found j (item-no-space i), e))
 
 pub read-complete : (xs : List ℕ) (f : Tree) → Spells xs f → read xs ≡ some f
 unfolding read

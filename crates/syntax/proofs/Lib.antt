@@ -8,5 +8,7 @@ pub mod Tests
 pub mod Structure
 pub mod Places
 pub mod Sound
+pub mod Chains
 pub mod Complete
 pub mod Spelling
+pub mod Fold

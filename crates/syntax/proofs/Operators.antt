@@ -9,12 +9,11 @@ use native.Mathlib.Omega.{arith}
 use native.Mathlib.Numerals.{add-one}
 use mathlib.Core.Path.{_≡_, refl, sym, ap, subst, _∙_}
 use mathlib.Core.Bool.{Bool, true, false, cond, not, _&&_, and-true, false≢true, true≢false}
-use mathlib.Core.List.{List, [], _∷_}
+use mathlib.Core.List.{List, [], _∷_, flatten}
 use lib.Dec.{eqb}
 use lib.ListN.{length, getD, take, drop, length-drop, length-append, drop-of-length-le}
 use lib.Seq.{drop-cons, take-at}
 use borrow.Author.Tests.{eqb-true, eqb-false, eq-eqb, ne-eqb, not-true}
-use Rattle.base.specs.Ascii.{ascii}
 use Rattle.base.specs.Lists.{equal}
 use Rattle.base.proofs.Below.{passes-at, passes-same}
 use Rattle.base.proofs.Lists.{equal-same}
@@ -98,7 +97,7 @@ operator-rise {xs} {p} {k} o = omega (arith, ap length (o .stands .1), length-dr
 
 -- the letters of all words, one word after the other
 unfoldable pub operatorLetters : List ℕ
-operatorLetters = ascii "eqnecoswewgtltgeleapsaebprposssbinnire"
+operatorLetters = flatten operatorWords
 
 pub record Trying (words : List ℕ) (first second k : ℕ) : Type 0 where
   pub letters : words ≡ operatorLetters
@@ -130,7 +129,7 @@ abbrev lettersOf : List ℕ → ℕ → List ℕ
 lettersOf words k = getD words (2 * k) 0 ∷ getD words (2 * k + 1) 0 ∷ []
 
 each-spelt : (k : ℕ) → k < 19 → equal (lettersOf operatorLetters k) (getD operatorWords k []) ≡ true
-unfolding operatorLetters operatorWords equal
+unfolding operatorLetters flatten operatorWords equal
 each-spelt k h = passes-at (λ (k : ℕ). equal (lettersOf operatorLetters k) (getD operatorWords k [])) 19 refl k h
 
 letters-decide : (words : List ℕ) → words ≡ operatorLetters → (k : ℕ) → k < 19 → (a b : ℕ)

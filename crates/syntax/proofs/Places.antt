@@ -27,6 +27,7 @@ use Rattle.syntax.specs.declared.FoundOperator.{FoundOperator}
 use Rattle.syntax.specs.declared.RawTest.{RawTest}
 use Rattle.syntax.specs.declared.FoundTest.{FoundTest}
 use Rattle.syntax.specs.declared.Head.{Head}
+use Rattle.syntax.specs.declared.Connective.{Connective}
 use Rattle.syntax.specs.declared.FoundConnective.{FoundConnective}
 use Rattle.syntax.specs.declared.FoundClose.{FoundClose}
 use Rattle.syntax.proofs.Values.{string-within, string-ahead}
@@ -188,8 +189,8 @@ after-placed xs close p = after-by xs close p (closeAt xs square p) (close-deriv
 pub member-ahead : (xs : List ℕ) (close p : ℕ) (f : FoundTest) → f ≡ memberAfter xs close p → (r : RawTest) → f ≡ FoundTest.Test r → Placed xs r × (p + 1 ≤ r .value .next) × (r .value .next ≤ length xs)
 member-ahead xs close p f e r h = rw (sym e ∙ h) at (after-placed xs close p)
 
-pub connective-ahead : (xs : List ℕ) (p q : ℕ) (a : Bool) (f : FoundConnective) → f ≡ connectiveAt xs p → f ≡ FoundConnective.Next q a → (p + 1 ≤ q) × (q ≤ length xs)
-connective-ahead xs p q a f e h = connects-rise (rw (sym e ∙ h) at (connective-derived xs p))
+pub connective-ahead : (xs : List ℕ) (p q : ℕ) (c : Connective) (f : FoundConnective) → f ≡ connectiveAt xs p → f ≡ FoundConnective.Next q c → (p + 1 ≤ q) × (q ≤ length xs)
+connective-ahead xs p q c f e h = connects-rise (rw (sym e ∙ h) at (connective-derived xs p))
 
 pub close-ahead : (xs : List ℕ) (close p q : ℕ) (f : FoundClose) → f ≡ closeAt xs close p → f ≡ FoundClose.At q → (p + 1 ≤ q) × (q ≤ length xs)
 close-ahead xs close p q f e h = closes-rise (rw (sym e ∙ h) at (close-derived xs close p))

@@ -19,7 +19,7 @@ use Rattle.base.proofs.Tests.{cond-first, cond-elim}
 use Rattle.syntax.specs.Tree.{Test, Tree, join, testsOf}
 use Rattle.syntax.specs.Grammar.{Stands, Spaces, TestAt, Opens, Closes, Chooses, round, square, Item, item-test, item-bracket, item-not, item-bracketed, Filter, one-item, one-more, deepest, mostTests, Spells}
 use Rattle.syntax.specs.Scan.{skipAt, has, testOf, testAt, openAt, choiceAt, choiceOr, testOr, headAt, memberAt, afterClose, memberAfter, connectiveAt, closeAt}
-use Rattle.syntax.specs.Reader.{Parsed, parsed, unparsed, connective, closeBracket, inBracket, memberBy, inChoice, itemBy, andThen, chainBy, chainOf, filterOf, itemAt, filterAt, whole, read}
+use Rattle.syntax.specs.Reader.{Parsed, parsed, unparsed, closeBracket, inBracket, memberBy, inChoice, itemBy, andThen, chainBy, chainOf, filterOf, itemAt, filterAt, whole, read}
 use Rattle.syntax.specs.declared.FoundTest.{FoundTest}
 use Rattle.syntax.specs.declared.FoundChoice.{FoundChoice}
 use Rattle.syntax.specs.declared.Head.{Head}
@@ -126,8 +126,8 @@ module _ (xs : List ℕ) (close d : ℕ) (item : ℕ → Parsed) (item-ok : (q :
 
   chain-by : (s p : ℕ) (f : Tree) (next : ℕ → Tree → Parsed) → Filter xs close d s p f → ((q : ℕ) (u : Tree) → Filter xs close d s q u → FilterDerived xs close d s (next q u))
       → (c : FoundConnective) → ConnectiveDerived xs p c → FilterDerived xs close d s (chainBy p f item next c)
-  chain-by s p f next l ok (FoundConnective.Next q a) c =
-      then-filter s q next (join (connective a) f) (λ m u i. ok m (join (connective a) f u) (one-more l c i)) (item q) (item-ok q)
+  chain-by s p f next l ok (FoundConnective.Next q o) c =
+      then-filter s q next (join o f) (λ m u i. ok m (join o f u) (one-more l c i)) (item q) (item-ok q)
   chain-by s p f next l ok FoundConnective.Nothing c = l
 
   chain-filter : (k s p : ℕ) (f : Tree) → Filter xs close d s p f → FilterDerived xs close d s (chainOf k xs item p f)

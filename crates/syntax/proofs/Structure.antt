@@ -21,14 +21,13 @@ use Rattle.base.specs.Between.{between}
 use Rattle.base.specs.Names.{isLetter, isNameStart, isNamePart, isReserved, isName}
 use Rattle.base.specs.Affixes.{hasPrefix}
 use Rattle.base.specs.Runs.{run, runEnd, RunEnd}
-use Rattle.syntax.specs.Tree.{Connective, and, or}
 use Rattle.syntax.specs.Grammar.{Stands, Spaces, no-space, space, connectiveWord, Connects, connects, Opens, opens, opens-not, Closes, closes, Chooses, chooses, square}
 use Rattle.syntax.specs.Scan.{isSpace, skipAt, has, nameEnd, testOperator, testAt, openAt, testOr, choiceAt, choiceOr, headAt, testIn, memberAt, memberAfter, connectiveAt, closeAt}
-use Rattle.syntax.specs.Reader.{connective}
 use Rattle.syntax.specs.declared.RawTest.{RawTest}
 use Rattle.syntax.specs.declared.Head.{Head}
 use Rattle.syntax.specs.declared.FoundTest.{FoundTest}
 use Rattle.syntax.specs.declared.FoundChoice.{FoundChoice}
+use Rattle.syntax.specs.declared.Connective.{Connective}
 use Rattle.syntax.specs.declared.FoundConnective.{FoundConnective}
 use Rattle.syntax.specs.declared.FoundClose.{FoundClose}
 use Rattle.syntax.proofs.Words.{taken-stands, has-stands, stands-has, stands-within, stands-after, NoSpaceAt, stands-no-space, end-no-space, skip-spaces, skip-gap, spaces-skip, gap-skip, spaces-rise, gap-rise}
@@ -73,7 +72,7 @@ choice-derived xs p =
     (λ _. tt)
 
 abbrev pub ConnectiveDerived : List ℕ → ℕ → FoundConnective → Type 0
-ConnectiveDerived xs p (FoundConnective.Next q a) = Connects xs p q (connective a)
+ConnectiveDerived xs p (FoundConnective.Next q c) = Connects xs p q c
 ConnectiveDerived xs p FoundConnective.Nothing = Unit {0}
 
 pub connective-derived : (xs : List ℕ) (p : ℕ) → ConnectiveDerived xs p (connectiveAt xs p)
@@ -82,9 +81,9 @@ connective-derived xs p =
     let a : ℕ = skipAt xs p in
     cond-elim (ConnectiveDerived xs p) (eqb a p) (λ e. tt)
     (λ n. cond-elim (ConnectiveDerived xs p) (has xs a (ascii "and "))
-    (λ e. connects {c = and} (skip-gap xs p n) (has-stands xs a (ascii "and ") e) (skip-spaces xs (a + 4)))
+    (λ e. connects {c = Connective.And} (skip-gap xs p n) (has-stands xs a (ascii "and ") e) (skip-spaces xs (a + 4)))
     (λ m. cond-elim (ConnectiveDerived xs p) (has xs a (ascii "or "))
-    (λ e. connects {c = or} (skip-gap xs p n) (has-stands xs a (ascii "or ") e) (skip-spaces xs (a + 3)))
+    (λ e. connects {c = Connective.Or} (skip-gap xs p n) (has-stands xs a (ascii "or ") e) (skip-spaces xs (a + 3)))
     (λ e. tt)))
 
 abbrev pub CloseDerived : List ℕ → ℕ → ℕ → FoundClose → Type 0
@@ -168,20 +167,16 @@ close-found {xs} {close} (closes {a = a} r s) n =
     rw (spaces-skip r (stands-no-space xs a close [] s n), stands-has xs a (close ∷ []) s)
 
 connective-no-space : (xs : List ℕ) (a : ℕ) (c : Connective) → Stands xs a (connectiveWord c) → NoSpaceAt xs a
-connective-no-space xs a and s = stands-no-space xs a (code "a") (ascii "nd ") s refl
-connective-no-space xs a or s = stands-no-space xs a (code "o") (ascii "r ") s refl
+connective-no-space xs a Connective.And s = stands-no-space xs a (code "a") (ascii "nd ") s refl
+connective-no-space xs a Connective.Or s = stands-no-space xs a (code "o") (ascii "r ") s refl
 
-abbrev pub isAnd : Connective → Bool
-isAnd and = true
-isAnd or = false
-
-pub connective-found : {xs : List ℕ} {p q : ℕ} {c : Connective} → Connects xs p q c → NoSpaceAt xs q → connectiveAt xs p ≡ FoundConnective.Next q (isAnd c)
+pub connective-found : {xs : List ℕ} {p q : ℕ} {c : Connective} → Connects xs p q c → NoSpaceAt xs q → connectiveAt xs p ≡ FoundConnective.Next q c
 unfolding connectiveAt hasPrefix
 connective-found {xs} (connects {p = p} {a = a} {q = q} {c = c} g s m) n = go c s m
   where
-    go : (c : Connective) → Stands xs a (connectiveWord c) → Spaces xs (a + length (connectiveWord c)) q → connectiveAt xs p ≡ FoundConnective.Next q (isAnd c)
-    go and s m = rw (gap-skip g (connective-no-space xs a and s), gap-moves g, s .1, spaces-skip m n)
-    go or s m = rw (gap-skip g (connective-no-space xs a or s), gap-moves g, s .1, spaces-skip m n)
+    go : (c : Connective) → Stands xs a (connectiveWord c) → Spaces xs (a + length (connectiveWord c)) q → connectiveAt xs p ≡ FoundConnective.Next q c
+    go Connective.And s m = rw (gap-skip g (connective-no-space xs a Connective.And s), gap-moves g, s .1, spaces-skip m n)
+    go Connective.Or s m = rw (gap-skip g (connective-no-space xs a Connective.Or s), gap-moves g, s .1, spaces-skip m n)
 
 -- ---- no connective before a closing byte or the end
 
@@ -204,8 +199,8 @@ end-no-connective {xs} r = no-connective r (end-no-space xs) (rw (drop-length xs
 -- ---- positions rise, inside the text
 
 connective-within : (xs : List ℕ) (a : ℕ) (c : Connective) → Stands xs a (connectiveWord c) → a + length (connectiveWord c) ≤ length xs
-connective-within xs a and h = stands-within xs a (code "a") (ascii "nd ") h
-connective-within xs a or h = stands-within xs a (code "o") (ascii "r ") h
+connective-within xs a Connective.And h = stands-within xs a (code "a") (ascii "nd ") h
+connective-within xs a Connective.Or h = stands-within xs a (code "o") (ascii "r ") h
 
 pub connects-rise : {xs : List ℕ} {p q : ℕ} {c : Connective} → Connects xs p q c → (p + 1 ≤ q) × (q ≤ length xs)
 connects-rise {xs} (connects {a = a} {c = c} g k m) =
@@ -327,12 +322,12 @@ module _ (xs : List ℕ) (p a : ℕ) (s : RunEnd isSpace xs p a) where
   connective-no-gap h = rw (← s .is, eq-eqb a p h)
 
   module _ (n : a ≡ p → ⊥) (r : Bool) (e : r ≡ has xs a (ascii "and ")) where
-    pub connective-and : (q : ℕ) → r ≡ true → RunEnd isSpace xs (a + 4) q → FoundConnective.Next q true ≡ connectiveAt xs p
+    pub connective-and : (q : ℕ) → r ≡ true → RunEnd isSpace xs (a + 4) q → FoundConnective.Next q Connective.And ≡ connectiveAt xs p
     unfolding connectiveAt
     connective-and q h k = rw (← s .is, ne-eqb a p n, sym e ∙ h, k .is)
 
     module _ (h : r ≡ false) (t : Bool) (f : t ≡ has xs a (ascii "or ")) where
-      pub connective-or : (q : ℕ) → t ≡ true → RunEnd isSpace xs (a + 3) q → FoundConnective.Next q false ≡ connectiveAt xs p
+      pub connective-or : (q : ℕ) → t ≡ true → RunEnd isSpace xs (a + 3) q → FoundConnective.Next q Connective.Or ≡ connectiveAt xs p
       unfolding connectiveAt
       connective-or q i k = rw (← s .is, ne-eqb a p n, sym e ∙ h, sym f ∙ i, k .is)
 

@@ -10,8 +10,9 @@ use Rattle.base.specs.Ascii.{ascii}
 use Rattle.base.specs.Lists.{All}
 use Rattle.base.specs.Names.{Name}
 use Rattle.base.specs.Operators.{operatorWords}
-use Rattle.syntax.specs.Tree.{name, Test, Tree, test, bracketed, join, negation, Connective, and, or, testsOf}
+use Rattle.syntax.specs.Tree.{name, Test, Tree, test, bracketed, join, negation, testsOf}
 use Rattle.syntax.specs.Strings.{quote, isBare, Quoted}
+use Rattle.syntax.specs.declared.Connective.{Connective}
 
 -- ---- words and spaces
 
@@ -57,8 +58,8 @@ pub data TestAt (xs : List ℕ) (close : ℕ) : ℕ → ℕ → Test → Type 0 
 
 -- the connective's bytes with the space that it wants after it
 abbrev pub connectiveWord : Connective → List ℕ
-connectiveWord and = ascii "and "
-connectiveWord or = ascii "or "
+connectiveWord Connective.And = ascii "and "
+connectiveWord Connective.Or = ascii "or "
 
 -- "with at least one space on both sides of the joining word"
 pub data Connects (xs : List ℕ) : ℕ → ℕ → Connective → Type 0 where

@@ -1,5 +1,6 @@
--- The filter's text: its tree, its grammar, and the reader that the code follows.
+-- The filter's text: its tree, the fold over it, its grammar, and the reader that the code follows.
 pub mod Tree
+pub mod Fold
 pub mod Strings
 pub mod Grammar
 pub mod Scan

@@ -6,7 +6,7 @@ use mathlib.Core.Option.{Option, none, some}
 use mathlib.Core.List.{List}
 use lib.Dec.{eqb, leb}
 use lib.ListN.{length}
-use Rattle.syntax.specs.Tree.{Tree, test, bracketed, join, negation, Connective, and, or, testsOf}
+use Rattle.syntax.specs.Tree.{Tree, test, bracketed, join, negation, testsOf}
 use Rattle.syntax.specs.Grammar.{round, square, deepest, mostTests}
 use Rattle.base.specs.Parts.{part}
 use Rattle.syntax.specs.Scan.{skipAt, testOf, headAt, memberAfter, connectiveAt, closeAt}
@@ -19,11 +19,6 @@ use Rattle.syntax.specs.declared.FoundClose.{FoundClose}
 pub data Parsed : Type 0 where
   parsed : ℕ → Tree → Parsed
   unparsed : Parsed
-
--- the code knows a connective by whether it is and
-abbrev pub connective : Bool → Connective
-connective true = and
-connective false = or
 
 abbrev pub negatedIf : Bool → Tree → Tree
 negatedIf true f = negation f
@@ -59,7 +54,7 @@ andThen next put (parsed q u) = next q (put u)
 andThen next put unparsed = unparsed
 
 abbrev pub chainBy : ℕ → Tree → (ℕ → Parsed) → (ℕ → Tree → Parsed) → FoundConnective → Parsed
-chainBy p f item next (FoundConnective.Next q a) = andThen next (join (connective a) f) (item q)
+chainBy p f item next (FoundConnective.Next q c) = andThen next (join c f) (item q)
 chainBy p f item next FoundConnective.Nothing = parsed p f
 
 -- connectives and items from p on, after the tree f; the first number bounds how many

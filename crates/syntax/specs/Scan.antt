@@ -26,6 +26,7 @@ use Rattle.syntax.specs.declared.RawTest.{RawTest}
 use Rattle.syntax.specs.declared.FoundTest.{FoundTest}
 use Rattle.syntax.specs.declared.Head.{Head}
 use Rattle.syntax.specs.declared.FoundChoice.{FoundChoice}
+use Rattle.syntax.specs.declared.Connective.{Connective}
 use Rattle.syntax.specs.declared.FoundConnective.{FoundConnective}
 use Rattle.syntax.specs.declared.FoundClose.{FoundClose}
 
@@ -201,8 +202,8 @@ memberAt xs close p = cond (has xs p (ascii ".")) (testAt xs close (p + 1)) Foun
 unfoldable pub connectiveAt : List ℕ → ℕ → FoundConnective
 connectiveAt xs p =
     cond (eqb (skipAt xs p) p) FoundConnective.Nothing
-    (cond (has xs (skipAt xs p) (ascii "and ")) (FoundConnective.Next (skipAt xs (skipAt xs p + 4)) true)
-    (cond (has xs (skipAt xs p) (ascii "or ")) (FoundConnective.Next (skipAt xs (skipAt xs p + 3)) false)
+    (cond (has xs (skipAt xs p) (ascii "and ")) (FoundConnective.Next (skipAt xs (skipAt xs p + 4)) Connective.And)
+    (cond (has xs (skipAt xs p) (ascii "or ")) (FoundConnective.Next (skipAt xs (skipAt xs p + 3)) Connective.Or)
     FoundConnective.Nothing))
 
 unfoldable pub closeAt : List ℕ → ℕ → ℕ → FoundClose

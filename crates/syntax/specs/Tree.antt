@@ -2,6 +2,7 @@
 -- Assumes nothing.
 use Prim.Native.Nat.{ℕ, _+_, _≤_}
 use mathlib.Core.List.{List, [], _∷_, _++_, map}
+use Rattle.syntax.specs.declared.Connective.{Connective}
 
 -- what a test is asked of: a name, or a path among the members of the bundle with a name
 pub data Path : Type 0 where
@@ -23,10 +24,6 @@ moved p t = record { at = p; path = t .path; operator = t .operator; value = t .
 abbrev pub under : List ℕ → Test → Test
 under b t = record { at = t .at; path = member b (t .path); operator = t .operator; value = t .value }
 
--- 01: joining word
-pub data Connective : Type 0 where
-  and or : Connective
-
 -- a filter that was read
 pub data Tree : Type 0 where
   test : Test → Tree
@@ -41,6 +38,13 @@ testsOf (test t) = t ∷ []
 testsOf (bracketed p b f t) = map (under b) (moved p t ∷ testsOf f)
 testsOf (join c f g) = testsOf f ++ testsOf g
 testsOf (negation f) = testsOf f
+
+-- the tree with every position 0: "tests, decoded values, joins, nots and grouping"
+unfoldable pub erase : Tree → Tree
+erase (test t) = test (moved 0 t)
+erase (bracketed p b f t) = bracketed 0 b (erase f) (moved 0 t)
+erase (join c f g) = join c (erase f) (erase g)
+erase (negation f) = negation (erase f)
 
 -- the tests begin one after the other, from position p on and before q
 pub data Rising : ℕ → ℕ → List Test → Type 0 where

@@ -82,9 +82,15 @@ pub enum FoundChoice {
     Nothing,
 }
 
-// Where the item after a connective begins, and whether the connective is and.
+// 01: a joining word.
+pub enum Connective {
+    And,
+    Or,
+}
+
+// Where the item after a connective begins, and the connective.
 pub enum FoundConnective {
-    Next(usize, bool),
+    Next(usize, Connective),
     Nothing,
 }
 
@@ -194,10 +200,10 @@ pub fn read_connective(s: &[u8], at: usize) -> FoundConnective
         return FoundConnective::Nothing;
     }
     if has(s, word, b"and ") {
-        return FoundConnective::Next(skip(s, word + 4), true);
+        return FoundConnective::Next(skip(s, word + 4), Connective::And);
     }
     if has(s, word, b"or ") {
-        return FoundConnective::Next(skip(s, word + 3), false);
+        return FoundConnective::Next(skip(s, word + 3), Connective::Or);
     }
     FoundConnective::Nothing
 }

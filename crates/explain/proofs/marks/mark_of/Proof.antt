@@ -123,8 +123,8 @@ loop-less-3 c = search needs
 loop-again-3 : tie.Need-loop-again-3 Inv-loop μ-loop
 loop-again-3 c = search (marking-not, needs)
 
-enum-known-and : tie.Need-enum-known-and Inv-loop μ-loop
-enum-known-and c = search needs
+enum-known-connective : tie.Need-enum-known-connective Inv-loop μ-loop
+enum-known-connective c = search needs
 
 returns-4 : tie.Need-returns-4 Inv-loop μ-loop
 returns-4 c = search (marking-short, needs)
@@ -214,7 +214,7 @@ mark-of-spec =
     add-i-3
     loop-less-3
     loop-again-3
-    enum-known-and
+    enum-known-connective
     returns-4
     sub-second
     array-read-second

@@ -243,7 +243,7 @@ judge-filter-read-connective-requires : (t : ℕ) → judge-filter-lts.Need-read
 ) (judge-filter-at t) judge-filter.Post judge-filter-Inv-loop judge-filter-μ-loop
 judge-filter-read-connective-requires t c κs = search needs
 
-judge-filter-enum-known-connective : (t : ℕ) → judge-filter-lts.Need-enum-known-connective (
+judge-filter-enum-known-found : (t : ℕ) → judge-filter-lts.Need-enum-known-found (
   judge-item-below t,
   judge-item.Post,
   read-connective-reads.Asked,
@@ -253,7 +253,7 @@ judge-filter-enum-known-connective : (t : ℕ) → judge-filter-lts.Need-enum-kn
   after-item-reads.Asked,
   after-item-reads.Learnt,
 ) (judge-filter-at t) judge-filter.Post judge-filter-Inv-loop judge-filter-μ-loop
-judge-filter-enum-known-connective t c = search needs
+judge-filter-enum-known-found t c = search needs
 
 judge-filter-item-needed-requires : (t : ℕ) → judge-filter-lts.Need-item-needed-requires (
   judge-item-below t,
@@ -277,7 +277,7 @@ judge-filter-judge-item-requires-2 : (t : ℕ) → judge-filter-lts.Need-judge-i
   after-item-reads.Asked,
   after-item-reads.Learnt,
 ) (judge-filter-at t) judge-filter.Post judge-filter-Inv-loop judge-filter-μ-loop
-judge-filter-judge-item-requires-2 t c κs = let a = connective-ahead _ _ _ _ _ (c .before .before .before .before .read-connective .ensures) (c .before .before .connective .given .1) in (omega arith, (search needs, (search needs, (search needs, a .1))))
+judge-filter-judge-item-requires-2 t c κs = let a = connective-ahead _ _ _ _ _ (c .before .before .before .before .read-connective .ensures) (c .before .before .found .given .1) in (omega arith, (search needs, (search needs, (search needs, a .1))))
 
 judge-filter-enum-known-item : (t : ℕ) → judge-filter-lts.Need-enum-known-item (
   judge-item-below t,
@@ -313,7 +313,7 @@ judge-filter-loop-less : (t : ℕ) → judge-filter-lts.Need-loop-less (
   after-item-reads.Asked,
   after-item-reads.Learnt,
 ) (judge-filter-at t) judge-filter.Post judge-filter-Inv-loop judge-filter-μ-loop
-judge-filter-loop-less t c = let j = connective-ahead _ _ _ _ _ (c .before .before .before .before .before .before .before .before .before .read-connective .ensures) (c .before .before .before .before .before .before .before .connective .given .1) in let a = item-ahead Judged.Done Judged.Nothing judged-cases _ _ _ _ _ _ _ _ (c .before .before .before .before .judge-item2 .ensures) (c .before .before .item .given .1) in omega arith
+judge-filter-loop-less t c = let j = connective-ahead _ _ _ _ _ (c .before .before .before .before .before .before .before .before .before .read-connective .ensures) (c .before .before .before .before .before .before .before .found .given .1) in let a = item-ahead Judged.Done Judged.Nothing judged-cases _ _ _ _ _ _ _ _ (c .before .before .before .before .judge-item2 .ensures) (c .before .before .item .given .1) in omega arith
 
 judge-filter-loop-again : (t : ℕ) → judge-filter-lts.Need-loop-again (
   judge-item-below t,
@@ -325,7 +325,7 @@ judge-filter-loop-again : (t : ℕ) → judge-filter-lts.Need-loop-again (
   after-item-reads.Asked,
   after-item-reads.Learnt,
 ) (judge-filter-at t) judge-filter.Post judge-filter-Inv-loop judge-filter-μ-loop
-judge-filter-loop-again t c = chain-takes Judged.Done Judged.Nothing judged-cases (judging _ _ _ _) _ _ _ _ _ _ (c .before .before .before .before .before .before .before .before .before .before .loop .inv) _ (c .before .before .before .before .before .before .before .before .before .read-connective .ensures) _ _ (c .before .before .before .before .before .before .before .connective .given .1) (judging _ _ _ _) _ (c .before .before .before .before .judge-item2 .ensures) _ _ _ (c .before .before .item .given .1) (verdict-after _ _ _ _ _ _ _ _ _ (c .before .before .before .before .before .item-needed .ensures) (c .after-item .ensures))
+judge-filter-loop-again t c = chain-takes Judged.Done Judged.Nothing judged-cases (judging _ _ _ _) _ _ _ _ _ _ (c .before .before .before .before .before .before .before .before .before .before .loop .inv) _ (c .before .before .before .before .before .before .before .before .before .read-connective .ensures) _ _ (c .before .before .before .before .before .before .before .found .given .1) (judging _ _ _ _) _ (c .before .before .before .before .judge-item2 .ensures) _ _ _ (c .before .before .item .given .1) (verdict-after _ _ _ _ _ _ _ _ _ (c .before .before .before .before .before .item-needed .ensures) (c .after-item .ensures))
 
 judge-filter-enum-told-2 : (t : ℕ) → judge-filter-lts.Need-enum-told-2 (
   judge-item-below t,
@@ -1594,7 +1594,7 @@ pub +entry-chosen+judge-filter+judge-item+member-verdict+some-chosen-spec :
     (judge-filter-returns t)
     (judge-filter-loop-holds t)
     (judge-filter-read-connective-requires t)
-    (judge-filter-enum-known-connective t)
+    (judge-filter-enum-known-found t)
     (judge-filter-item-needed-requires t)
     (judge-filter-judge-item-requires-2 t)
     (judge-filter-enum-known-item t)

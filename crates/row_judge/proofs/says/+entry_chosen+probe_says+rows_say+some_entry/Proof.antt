@@ -1324,7 +1324,7 @@ rows-say-loop-again-4 : (t : ℕ) → rows-say-lts.Need-loop-again-4 (
 ) (rows-say-at t) rows-say.Post rows-say-Inv-loop rows-say-μ-loop
 rows-say-loop-again-4 t c = judging-not _ _ _ _ _ _ _ _ _ (c .before .before .before .before .before .before .before .before .before .loop .inv) (c .before .before .before .before .before .before .before .before .loop-test .taken) _ (c .before .before .before .row-of .ensures) _ _ _ (c .before .enum-told .given .1) (c .if4 .left) refl refl refl
 
-rows-say-enum-known-and : (t : ℕ) → rows-say-lts.Need-enum-known-and (
+rows-say-enum-known-connective : (t : ℕ) → rows-say-lts.Need-enum-known-connective (
   leap-reads.Asked,
   leap-reads.Learnt,
   row-of-reads.Asked,
@@ -1338,7 +1338,7 @@ rows-say-enum-known-and : (t : ℕ) → rows-say-lts.Need-enum-known-and (
   join-verdicts-reads.Asked,
   join-verdicts-reads.Learnt,
 ) (rows-say-at t) rows-say.Post rows-say-Inv-loop rows-say-μ-loop
-rows-say-enum-known-and t c = search needs
+rows-say-enum-known-connective t c = search needs
 
 rows-say-returns-4 : (t : ℕ) → rows-say-lts.Need-returns-4 (
   leap-reads.Asked,
@@ -1354,7 +1354,7 @@ rows-say-returns-4 : (t : ℕ) → rows-say-lts.Need-returns-4 (
   join-verdicts-reads.Asked,
   join-verdicts-reads.Learnt,
 ) (rows-say-at t) rows-say.Post rows-say-Inv-loop rows-say-μ-loop
-rows-say-returns-4 t c = judging-short _ _ _ _ _ _ _ _ _ (c .before .before .before .before .before .before .before .before .before .before .loop .inv) (c .before .before .before .before .before .before .before .before .before .loop-test .taken) _ (c .before .before .before .before .row-of .ensures) _ (c .before .before .and .given .1) (c .if5 .taken)
+rows-say-returns-4 t c = judging-short _ _ _ _ _ _ _ _ _ (c .before .before .before .before .before .before .before .before .before .before .loop .inv) (c .before .before .before .before .before .before .before .before .before .loop-test .taken) _ (c .before .before .before .before .row-of .ensures) _ (c .before .before .connective .given .1) (c .if5 .taken)
 
 rows-say-sub-second : (t : ℕ) → rows-say-lts.Need-sub-second (
   leap-reads.Asked,
@@ -1642,7 +1642,7 @@ rows-say-loop-again-5 : (t : ℕ) → rows-say-lts.Need-loop-again-5 (
   join-verdicts-reads.Asked,
   join-verdicts-reads.Learnt,
 ) (rows-say-at t) rows-say.Post rows-say-Inv-loop rows-say-μ-loop
-rows-say-loop-again-5 t c = judging-connect _ _ _ _ _ _ _ _ _ (c .before .before .before .before .before .before .before .before .before .before .before .loop .inv) (c .before .before .before .before .before .before .before .before .before .before .loop-test .taken) _ (c .before .before .before .before .before .row-of .ensures) _ _ _ _ _ (c .before .before .before .and .given .1) (c .before .if5 .left) refl refl refl (c .join-verdicts .ensures)
+rows-say-loop-again-5 t c = judging-connect _ _ _ _ _ _ _ _ _ (c .before .before .before .before .before .before .before .before .before .before .before .loop .inv) (c .before .before .before .before .before .before .before .before .before .before .loop-test .taken) _ (c .before .before .before .before .before .row-of .ensures) _ _ _ _ _ (c .before .before .before .connective .given .1) (c .before .if5 .left) refl refl refl (c .join-verdicts .ensures)
 
 rows-say-enum-told-2 : (t : ℕ) → rows-say-lts.Need-enum-told-2 (
   leap-reads.Asked,
@@ -2058,7 +2058,7 @@ pub +entry-chosen+probe-says+rows-say+some-entry-spec : {M : Type 1} → stateme
     (rows-say-add-i-5 t)
     (rows-say-loop-less-4 t)
     (rows-say-loop-again-4 t)
-    (rows-say-enum-known-and t)
+    (rows-say-enum-known-connective t)
     (rows-say-returns-4 t)
     (rows-say-sub-second t)
     (rows-say-array-read-second t)

@@ -145,7 +145,7 @@ write-filter-read-connective-requires : (t : ℕ) → write-filter-lts.Need-read
 ) (write-filter-at t) write-filter.Post write-filter-Inv-loop write-filter-μ-loop
 write-filter-read-connective-requires t c κs = search needs
 
-write-filter-enum-known-connective : (t : ℕ) → write-filter-lts.Need-enum-known-connective (
+write-filter-enum-known-found : (t : ℕ) → write-filter-lts.Need-enum-known-found (
   write-item-below t,
   write-item.Post,
   read-connective-reads.Asked,
@@ -155,7 +155,7 @@ write-filter-enum-known-connective : (t : ℕ) → write-filter-lts.Need-enum-kn
   join-summaries-reads.Asked,
   join-summaries-reads.Learnt,
 ) (write-filter-at t) write-filter.Post write-filter-Inv-loop write-filter-μ-loop
-write-filter-enum-known-connective t c = search needs
+write-filter-enum-known-found t c = search needs
 
 write-filter-add-write-item : (t : ℕ) → write-filter-lts.Need-add-write-item (
   write-item-below t,
@@ -179,7 +179,7 @@ write-filter-write-item-requires-2 : (t : ℕ) → write-filter-lts.Need-write-i
   join-summaries-reads.Asked,
   join-summaries-reads.Learnt,
 ) (write-filter-at t) write-filter.Post write-filter-Inv-loop write-filter-μ-loop
-write-filter-write-item-requires-2 t c κs = let a = connective-ahead _ _ _ _ _ (c .before .before .before .before .read-connective .ensures) (c .before .before .connective .given .1) in (omega (arith, a .0, a .1, c .before .before .before .before .before .loop .inv .from, c .before .before .before .before .before .before .before .before .before .before .before .before .before .before .before .before .before .pre .0), (c .before .before .before .before .before .before .before .before .before .before .before .before .before .before .before .before .before .pre .1 .0, (c .before .before .before .before .before .before .before .before .before .before .before .before .before .before .before .before .before .pre .1 .1 .0, (a .1, (omega (arith, c .before .before .before .before .before .loop .inv .size, c .before .before .before .before .before .before .before .before .before .before .before .before .write-item .ensures .size, c .before .before .before .before .before .before .before .before .before .before .before .before .before .before .before .before .before .pre .1 .1 .1 .1 .0), omega (arith, a .0, c .before .before .before .before .before .loop .inv .room))))))
+write-filter-write-item-requires-2 t c κs = let a = connective-ahead _ _ _ _ _ (c .before .before .before .before .read-connective .ensures) (c .before .before .found .given .1) in (omega (arith, a .0, a .1, c .before .before .before .before .before .loop .inv .from, c .before .before .before .before .before .before .before .before .before .before .before .before .before .before .before .before .before .pre .0), (c .before .before .before .before .before .before .before .before .before .before .before .before .before .before .before .before .before .pre .1 .0, (c .before .before .before .before .before .before .before .before .before .before .before .before .before .before .before .before .before .pre .1 .1 .0, (a .1, (omega (arith, c .before .before .before .before .before .loop .inv .size, c .before .before .before .before .before .before .before .before .before .before .before .before .write-item .ensures .size, c .before .before .before .before .before .before .before .before .before .before .before .before .before .before .before .before .before .pre .1 .1 .1 .1 .0), omega (arith, a .0, c .before .before .before .before .before .loop .inv .room))))))
 
 write-filter-enum-known-item : (t : ℕ) → write-filter-lts.Need-enum-known-item (
   write-item-below t,
@@ -215,7 +215,7 @@ write-filter-add-rows : (t : ℕ) → write-filter-lts.Need-add-rows (
   join-summaries-reads.Asked,
   join-summaries-reads.Learnt,
 ) (write-filter-at t) write-filter.Post write-filter-Inv-loop write-filter-μ-loop
-write-filter-add-rows t c = let a = connective-ahead _ _ _ _ _ (c .before .before .before .before .before .before .before .before .before .before .before .before .read-connective .ensures) (c .before .before .before .before .before .before .before .before .before .before .connective .given .1) in let t = item-takes _ _ _ _ _ _ _ _ _ _ _ _ (c .before .before .before .before .before .before .before .write-item2 .ensures) (c .before .before .before .item .given .1) in omega (arith, a .0, t .ahead, t .cells-fit, t .within, c .before .before .before .before .before .before .before .before .before .before .before .before .before .loop .inv .room, c .before .before .before .before .before .before .before .before .before .before .before .before .before .before .before .before .before .before .before .before .before .before .before .before .before .pre .1 .1 .0, c .before .before .before .before .before .before .before .before .before .before .before .before .before .loop .inv .size, c .before .before .before .before .before .before .before .before .before .before .before .before .before .before .before .before .before .before .before .before .write-item .ensures .size, c .before .before .before .before .before .before .before .before .before .before .before .before .before .before .before .before .before .before .before .before .before .before .before .before .before .pre .1 .1 .1 .1 .0, c .before .before .before .before .before .before .before .write-item2 .ensures .size)
+write-filter-add-rows t c = let a = connective-ahead _ _ _ _ _ (c .before .before .before .before .before .before .before .before .before .before .before .before .read-connective .ensures) (c .before .before .before .before .before .before .before .before .before .before .found .given .1) in let t = item-takes _ _ _ _ _ _ _ _ _ _ _ _ (c .before .before .before .before .before .before .before .write-item2 .ensures) (c .before .before .before .item .given .1) in omega (arith, a .0, t .ahead, t .cells-fit, t .within, c .before .before .before .before .before .before .before .before .before .before .before .before .before .loop .inv .room, c .before .before .before .before .before .before .before .before .before .before .before .before .before .before .before .before .before .before .before .before .before .before .before .before .before .pre .1 .1 .0, c .before .before .before .before .before .before .before .before .before .before .before .before .before .loop .inv .size, c .before .before .before .before .before .before .before .before .before .before .before .before .before .before .before .before .before .before .before .before .write-item .ensures .size, c .before .before .before .before .before .before .before .before .before .before .before .before .before .before .before .before .before .before .before .before .before .before .before .before .before .pre .1 .1 .1 .1 .0, c .before .before .before .before .before .before .before .write-item2 .ensures .size)
 
 write-filter-add-rows-2 : (t : ℕ) → write-filter-lts.Need-add-rows-2 (
   write-item-below t,
@@ -227,7 +227,7 @@ write-filter-add-rows-2 : (t : ℕ) → write-filter-lts.Need-add-rows-2 (
   join-summaries-reads.Asked,
   join-summaries-reads.Learnt,
 ) (write-filter-at t) write-filter.Post write-filter-Inv-loop write-filter-μ-loop
-write-filter-add-rows-2 t c = let a = connective-ahead _ _ _ _ _ (c .before .before .before .before .before .before .before .before .before .before .before .before .read-connective .ensures) (c .before .before .before .before .before .before .before .before .before .before .connective .given .1) in let t = item-takes _ _ _ _ _ _ _ _ _ _ _ _ (c .before .before .before .before .before .before .before .write-item2 .ensures) (c .before .before .before .item .given .1) in omega (arith, a .0, t .ahead, t .cells-fit, t .within, c .before .before .before .before .before .before .before .before .before .before .before .before .before .loop .inv .room, c .before .before .before .before .before .before .before .before .before .before .before .before .before .before .before .before .before .before .before .before .before .before .before .before .before .pre .1 .1 .0, c .before .before .before .before .before .before .before .before .before .before .before .before .before .loop .inv .size, c .before .before .before .before .before .before .before .before .before .before .before .before .before .before .before .before .before .before .before .before .write-item .ensures .size, c .before .before .before .before .before .before .before .before .before .before .before .before .before .before .before .before .before .before .before .before .before .before .before .before .before .pre .1 .1 .1 .1 .0, c .before .before .before .before .before .before .before .write-item2 .ensures .size)
+write-filter-add-rows-2 t c = let a = connective-ahead _ _ _ _ _ (c .before .before .before .before .before .before .before .before .before .before .before .before .read-connective .ensures) (c .before .before .before .before .before .before .before .before .before .before .found .given .1) in let t = item-takes _ _ _ _ _ _ _ _ _ _ _ _ (c .before .before .before .before .before .before .before .write-item2 .ensures) (c .before .before .before .item .given .1) in omega (arith, a .0, t .ahead, t .cells-fit, t .within, c .before .before .before .before .before .before .before .before .before .before .before .before .before .loop .inv .room, c .before .before .before .before .before .before .before .before .before .before .before .before .before .before .before .before .before .before .before .before .before .before .before .before .before .pre .1 .1 .0, c .before .before .before .before .before .before .before .before .before .before .before .before .before .loop .inv .size, c .before .before .before .before .before .before .before .before .before .before .before .before .before .before .before .before .before .before .before .before .write-item .ensures .size, c .before .before .before .before .before .before .before .before .before .before .before .before .before .before .before .before .before .before .before .before .before .before .before .before .before .pre .1 .1 .1 .1 .0, c .before .before .before .before .before .before .before .write-item2 .ensures .size)
 
 write-filter-mul-rows : (t : ℕ) → write-filter-lts.Need-mul-rows (
   write-item-below t,
@@ -239,7 +239,7 @@ write-filter-mul-rows : (t : ℕ) → write-filter-lts.Need-mul-rows (
   join-summaries-reads.Asked,
   join-summaries-reads.Learnt,
 ) (write-filter-at t) write-filter.Post write-filter-Inv-loop write-filter-μ-loop
-write-filter-mul-rows t c = let a = connective-ahead _ _ _ _ _ (c .before .before .before .before .before .before .before .before .before .before .before .before .read-connective .ensures) (c .before .before .before .before .before .before .before .before .before .before .connective .given .1) in let t = item-takes _ _ _ _ _ _ _ _ _ _ _ _ (c .before .before .before .before .before .before .before .write-item2 .ensures) (c .before .before .before .item .given .1) in omega (arith, a .0, t .ahead, t .cells-fit, t .within, c .before .before .before .before .before .before .before .before .before .before .before .before .before .loop .inv .room, c .before .before .before .before .before .before .before .before .before .before .before .before .before .before .before .before .before .before .before .before .before .before .before .before .before .pre .1 .1 .0, c .before .before .before .before .before .before .before .before .before .before .before .before .before .loop .inv .size, c .before .before .before .before .before .before .before .before .before .before .before .before .before .before .before .before .before .before .before .before .write-item .ensures .size, c .before .before .before .before .before .before .before .before .before .before .before .before .before .before .before .before .before .before .before .before .before .before .before .before .before .pre .1 .1 .1 .1 .0, c .before .before .before .before .before .before .before .write-item2 .ensures .size)
+write-filter-mul-rows t c = let a = connective-ahead _ _ _ _ _ (c .before .before .before .before .before .before .before .before .before .before .before .before .read-connective .ensures) (c .before .before .before .before .before .before .before .before .before .before .found .given .1) in let t = item-takes _ _ _ _ _ _ _ _ _ _ _ _ (c .before .before .before .before .before .before .before .write-item2 .ensures) (c .before .before .before .item .given .1) in omega (arith, a .0, t .ahead, t .cells-fit, t .within, c .before .before .before .before .before .before .before .before .before .before .before .before .before .loop .inv .room, c .before .before .before .before .before .before .before .before .before .before .before .before .before .before .before .before .before .before .before .before .before .before .before .before .before .pre .1 .1 .0, c .before .before .before .before .before .before .before .before .before .before .before .before .before .loop .inv .size, c .before .before .before .before .before .before .before .before .before .before .before .before .before .before .before .before .before .before .before .before .write-item .ensures .size, c .before .before .before .before .before .before .before .before .before .before .before .before .before .before .before .before .before .before .before .before .before .before .before .before .before .pre .1 .1 .1 .1 .0, c .before .before .before .before .before .before .before .write-item2 .ensures .size)
 
 write-filter-slice-write-rows : (t : ℕ) → write-filter-lts.Need-slice-write-rows (
   write-item-below t,
@@ -251,7 +251,7 @@ write-filter-slice-write-rows : (t : ℕ) → write-filter-lts.Need-slice-write-
   join-summaries-reads.Asked,
   join-summaries-reads.Learnt,
 ) (write-filter-at t) write-filter.Post write-filter-Inv-loop write-filter-μ-loop
-write-filter-slice-write-rows t c = let a = connective-ahead _ _ _ _ _ (c .before .before .before .before .before .before .before .before .before .before .before .before .read-connective .ensures) (c .before .before .before .before .before .before .before .before .before .before .connective .given .1) in let t = item-takes _ _ _ _ _ _ _ _ _ _ _ _ (c .before .before .before .before .before .before .before .write-item2 .ensures) (c .before .before .before .item .given .1) in omega (arith, a .0, t .ahead, t .cells-fit, t .within, c .before .before .before .before .before .before .before .before .before .before .before .before .before .loop .inv .room, c .before .before .before .before .before .before .before .before .before .before .before .before .before .before .before .before .before .before .before .before .before .before .before .before .before .pre .1 .1 .0, c .before .before .before .before .before .before .before .before .before .before .before .before .before .loop .inv .size, c .before .before .before .before .before .before .before .before .before .before .before .before .before .before .before .before .before .before .before .before .write-item .ensures .size, c .before .before .before .before .before .before .before .before .before .before .before .before .before .before .before .before .before .before .before .before .before .before .before .before .before .pre .1 .1 .1 .1 .0, c .before .before .before .before .before .before .before .write-item2 .ensures .size)
+write-filter-slice-write-rows t c = let a = connective-ahead _ _ _ _ _ (c .before .before .before .before .before .before .before .before .before .before .before .before .read-connective .ensures) (c .before .before .before .before .before .before .before .before .before .before .found .given .1) in let t = item-takes _ _ _ _ _ _ _ _ _ _ _ _ (c .before .before .before .before .before .before .before .write-item2 .ensures) (c .before .before .before .item .given .1) in omega (arith, a .0, t .ahead, t .cells-fit, t .within, c .before .before .before .before .before .before .before .before .before .before .before .before .before .loop .inv .room, c .before .before .before .before .before .before .before .before .before .before .before .before .before .before .before .before .before .before .before .before .before .before .before .before .before .pre .1 .1 .0, c .before .before .before .before .before .before .before .before .before .before .before .before .before .loop .inv .size, c .before .before .before .before .before .before .before .before .before .before .before .before .before .before .before .before .before .before .before .before .write-item .ensures .size, c .before .before .before .before .before .before .before .before .before .before .before .before .before .before .before .before .before .before .before .before .before .before .before .before .before .pre .1 .1 .1 .1 .0, c .before .before .before .before .before .before .before .write-item2 .ensures .size)
 
 write-filter-join-summaries-requires : (t : ℕ) → write-filter-lts.Need-join-summaries-requires (
   write-item-below t,
@@ -263,7 +263,7 @@ write-filter-join-summaries-requires : (t : ℕ) → write-filter-lts.Need-join-
   join-summaries-reads.Asked,
   join-summaries-reads.Learnt,
 ) (write-filter-at t) write-filter.Post write-filter-Inv-loop write-filter-μ-loop
-write-filter-join-summaries-requires t c κs = chain-fits _ _ _ _ _ _ _ _ _ _ _ _ (c .before .before .before .before .before .before .before .before .before .before .before .before .before .loop .inv) _ (c .before .before .before .before .before .before .before .before .before .before .before .before .read-connective .ensures) _ _ (c .before .before .before .before .before .before .before .before .before .before .connective .given .1) _ _ (c .before .before .before .before .before .before .before .write-item2 .ensures) _ _ (c .before .before .before .item .given .1) (c .before .before .before .before .before .before .before .before .before .before .before .before .before .before .before .before .before .before .before .before .before .before .before .before .before .pre .1 .1 .0)
+write-filter-join-summaries-requires t c κs = chain-fits _ _ _ _ _ _ _ _ _ _ _ _ (c .before .before .before .before .before .before .before .before .before .before .before .before .before .loop .inv) _ (c .before .before .before .before .before .before .before .before .before .before .before .before .read-connective .ensures) _ _ (c .before .before .before .before .before .before .before .before .before .before .found .given .1) _ _ (c .before .before .before .before .before .before .before .write-item2 .ensures) _ _ (c .before .before .before .item .given .1) (c .before .before .before .before .before .before .before .before .before .before .before .before .before .before .before .before .before .before .before .before .before .before .before .before .before .pre .1 .1 .0)
 
 write-filter-add-cells : (t : ℕ) → write-filter-lts.Need-add-cells (
   write-item-below t,
@@ -275,7 +275,7 @@ write-filter-add-cells : (t : ℕ) → write-filter-lts.Need-add-cells (
   join-summaries-reads.Asked,
   join-summaries-reads.Learnt,
 ) (write-filter-at t) write-filter.Post write-filter-Inv-loop write-filter-μ-loop
-write-filter-add-cells t c = let a = connective-ahead _ _ _ _ _ (c .before .before .before .before .before .before .before .before .before .before .before .before .before .read-connective .ensures) (c .before .before .before .before .before .before .before .before .before .before .before .connective .given .1) in let t = item-takes _ _ _ _ _ _ _ _ _ _ _ _ (c .before .before .before .before .before .before .before .before .write-item2 .ensures) (c .before .before .before .before .item .given .1) in omega (arith, a .0, t .ahead, t .cells-fit, t .within, c .before .before .before .before .before .before .before .before .before .before .before .before .before .before .loop .inv .room, c .before .before .before .before .before .before .before .before .before .before .before .before .before .before .before .before .before .before .before .before .before .before .before .before .before .before .pre .1 .1 .0, c .before .before .before .before .before .before .before .before .before .before .before .before .before .before .loop .inv .size, c .before .before .before .before .before .before .before .before .before .before .before .before .before .before .before .before .before .before .before .before .before .write-item .ensures .size, c .before .before .before .before .before .before .before .before .before .before .before .before .before .before .before .before .before .before .before .before .before .before .before .before .before .before .pre .1 .1 .1 .1 .0, c .before .before .before .before .before .before .before .before .write-item2 .ensures .size)
+write-filter-add-cells t c = let a = connective-ahead _ _ _ _ _ (c .before .before .before .before .before .before .before .before .before .before .before .before .before .read-connective .ensures) (c .before .before .before .before .before .before .before .before .before .before .before .found .given .1) in let t = item-takes _ _ _ _ _ _ _ _ _ _ _ _ (c .before .before .before .before .before .before .before .before .write-item2 .ensures) (c .before .before .before .before .item .given .1) in omega (arith, a .0, t .ahead, t .cells-fit, t .within, c .before .before .before .before .before .before .before .before .before .before .before .before .before .before .loop .inv .room, c .before .before .before .before .before .before .before .before .before .before .before .before .before .before .before .before .before .before .before .before .before .before .before .before .before .before .pre .1 .1 .0, c .before .before .before .before .before .before .before .before .before .before .before .before .before .before .loop .inv .size, c .before .before .before .before .before .before .before .before .before .before .before .before .before .before .before .before .before .before .before .before .before .write-item .ensures .size, c .before .before .before .before .before .before .before .before .before .before .before .before .before .before .before .before .before .before .before .before .before .before .before .before .before .before .pre .1 .1 .1 .1 .0, c .before .before .before .before .before .before .before .before .write-item2 .ensures .size)
 
 write-filter-add-cells-2 : (t : ℕ) → write-filter-lts.Need-add-cells-2 (
   write-item-below t,
@@ -287,7 +287,7 @@ write-filter-add-cells-2 : (t : ℕ) → write-filter-lts.Need-add-cells-2 (
   join-summaries-reads.Asked,
   join-summaries-reads.Learnt,
 ) (write-filter-at t) write-filter.Post write-filter-Inv-loop write-filter-μ-loop
-write-filter-add-cells-2 t c = let a = connective-ahead _ _ _ _ _ (c .before .before .before .before .before .before .before .before .before .before .before .before .before .read-connective .ensures) (c .before .before .before .before .before .before .before .before .before .before .before .connective .given .1) in let t = item-takes _ _ _ _ _ _ _ _ _ _ _ _ (c .before .before .before .before .before .before .before .before .write-item2 .ensures) (c .before .before .before .before .item .given .1) in omega (arith, a .0, t .ahead, t .cells-fit, t .within, c .before .before .before .before .before .before .before .before .before .before .before .before .before .before .loop .inv .room, c .before .before .before .before .before .before .before .before .before .before .before .before .before .before .before .before .before .before .before .before .before .before .before .before .before .before .pre .1 .1 .0, c .before .before .before .before .before .before .before .before .before .before .before .before .before .before .loop .inv .size, c .before .before .before .before .before .before .before .before .before .before .before .before .before .before .before .before .before .before .before .before .before .write-item .ensures .size, c .before .before .before .before .before .before .before .before .before .before .before .before .before .before .before .before .before .before .before .before .before .before .before .before .before .before .pre .1 .1 .1 .1 .0, c .before .before .before .before .before .before .before .before .write-item2 .ensures .size)
+write-filter-add-cells-2 t c = let a = connective-ahead _ _ _ _ _ (c .before .before .before .before .before .before .before .before .before .before .before .before .before .read-connective .ensures) (c .before .before .before .before .before .before .before .before .before .before .before .found .given .1) in let t = item-takes _ _ _ _ _ _ _ _ _ _ _ _ (c .before .before .before .before .before .before .before .before .write-item2 .ensures) (c .before .before .before .before .item .given .1) in omega (arith, a .0, t .ahead, t .cells-fit, t .within, c .before .before .before .before .before .before .before .before .before .before .before .before .before .before .loop .inv .room, c .before .before .before .before .before .before .before .before .before .before .before .before .before .before .before .before .before .before .before .before .before .before .before .before .before .before .pre .1 .1 .0, c .before .before .before .before .before .before .before .before .before .before .before .before .before .before .loop .inv .size, c .before .before .before .before .before .before .before .before .before .before .before .before .before .before .before .before .before .before .before .before .before .write-item .ensures .size, c .before .before .before .before .before .before .before .before .before .before .before .before .before .before .before .before .before .before .before .before .before .before .before .before .before .before .pre .1 .1 .1 .1 .0, c .before .before .before .before .before .before .before .before .write-item2 .ensures .size)
 
 write-filter-loop-less : (t : ℕ) → write-filter-lts.Need-loop-less (
   write-item-below t,
@@ -299,7 +299,7 @@ write-filter-loop-less : (t : ℕ) → write-filter-lts.Need-loop-less (
   join-summaries-reads.Asked,
   join-summaries-reads.Learnt,
 ) (write-filter-at t) write-filter.Post write-filter-Inv-loop write-filter-μ-loop
-write-filter-loop-less t c = let a = connective-ahead _ _ _ _ _ (c .before .before .before .before .before .before .before .before .before .before .before .before .before .read-connective .ensures) (c .before .before .before .before .before .before .before .before .before .before .before .connective .given .1) in let t = item-takes _ _ _ _ _ _ _ _ _ _ _ _ (c .before .before .before .before .before .before .before .before .write-item2 .ensures) (c .before .before .before .before .item .given .1) in omega (arith, a .0, t .ahead, t .cells-fit, t .within, c .before .before .before .before .before .before .before .before .before .before .before .before .before .before .loop .inv .room, c .before .before .before .before .before .before .before .before .before .before .before .before .before .before .before .before .before .before .before .before .before .before .before .before .before .before .pre .1 .1 .0, c .before .before .before .before .before .before .before .before .before .before .before .before .before .before .loop .inv .size, c .before .before .before .before .before .before .before .before .before .before .before .before .before .before .before .before .before .before .before .before .before .write-item .ensures .size, c .before .before .before .before .before .before .before .before .before .before .before .before .before .before .before .before .before .before .before .before .before .before .before .before .before .before .pre .1 .1 .1 .1 .0, c .before .before .before .before .before .before .before .before .write-item2 .ensures .size)
+write-filter-loop-less t c = let a = connective-ahead _ _ _ _ _ (c .before .before .before .before .before .before .before .before .before .before .before .before .before .read-connective .ensures) (c .before .before .before .before .before .before .before .before .before .before .before .found .given .1) in let t = item-takes _ _ _ _ _ _ _ _ _ _ _ _ (c .before .before .before .before .before .before .before .before .write-item2 .ensures) (c .before .before .before .before .item .given .1) in omega (arith, a .0, t .ahead, t .cells-fit, t .within, c .before .before .before .before .before .before .before .before .before .before .before .before .before .before .loop .inv .room, c .before .before .before .before .before .before .before .before .before .before .before .before .before .before .before .before .before .before .before .before .before .before .before .before .before .before .pre .1 .1 .0, c .before .before .before .before .before .before .before .before .before .before .before .before .before .before .loop .inv .size, c .before .before .before .before .before .before .before .before .before .before .before .before .before .before .before .before .before .before .before .before .before .write-item .ensures .size, c .before .before .before .before .before .before .before .before .before .before .before .before .before .before .before .before .before .before .before .before .before .before .before .before .before .before .pre .1 .1 .1 .1 .0, c .before .before .before .before .before .before .before .before .write-item2 .ensures .size)
 
 write-filter-loop-again : (t : ℕ) → write-filter-lts.Need-loop-again (
   write-item-below t,
@@ -311,7 +311,7 @@ write-filter-loop-again : (t : ℕ) → write-filter-lts.Need-loop-again (
   join-summaries-reads.Asked,
   join-summaries-reads.Learnt,
 ) (write-filter-at t) write-filter.Post write-filter-Inv-loop write-filter-μ-loop
-write-filter-loop-again t c = chain-takes _ _ _ _ _ _ _ _ _ _ _ _ (c .before .before .before .before .before .before .before .before .before .before .before .before .before .before .loop .inv) _ (c .before .before .before .before .before .before .before .before .before .before .before .before .before .read-connective .ensures) _ _ (c .before .before .before .before .before .before .before .before .before .before .before .connective .given .1) _ _ (c .before .before .before .before .before .before .before .before .write-item2 .ensures) _ _ (c .before .before .before .before .item .given .1) _ _ (c .join-summaries .ensures) (c .before .connect-cell .ensures) (omega (arith, c .before .before .before .before .before .before .before .before .before .before .before .before .before .before .before .before .before .before .before .before .before .before .before .before .before .before .pre .1 .1 .0, c .before .before .before .before .before .before .before .before .before .before .before .before .before .before .loop .inv .size, c .before .before .before .before .before .before .before .before .before .before .before .before .before .before .before .before .before .before .before .before .before .write-item .ensures .size, c .before .before .before .before .before .before .before .before .before .before .before .before .before .before .before .before .before .before .before .before .before .before .before .before .before .before .pre .1 .1 .1 .1 .0, c .before .before .before .before .before .before .before .before .write-item2 .ensures .size))
+write-filter-loop-again t c = chain-takes _ _ _ _ _ _ _ _ _ _ _ _ (c .before .before .before .before .before .before .before .before .before .before .before .before .before .before .loop .inv) _ (c .before .before .before .before .before .before .before .before .before .before .before .before .before .read-connective .ensures) _ _ (c .before .before .before .before .before .before .before .before .before .before .before .found .given .1) _ _ (c .before .before .before .before .before .before .before .before .write-item2 .ensures) _ _ (c .before .before .before .before .item .given .1) _ _ (c .join-summaries .ensures) (c .before .connect-cell .ensures) (omega (arith, c .before .before .before .before .before .before .before .before .before .before .before .before .before .before .before .before .before .before .before .before .before .before .before .before .before .before .pre .1 .1 .0, c .before .before .before .before .before .before .before .before .before .before .before .before .before .before .loop .inv .size, c .before .before .before .before .before .before .before .before .before .before .before .before .before .before .before .before .before .before .before .before .before .write-item .ensures .size, c .before .before .before .before .before .before .before .before .before .before .before .before .before .before .before .before .before .before .before .before .before .before .before .before .before .before .pre .1 .1 .1 .1 .0, c .before .before .before .before .before .before .before .before .write-item2 .ensures .size))
 
 write-filter-enum-told-2 : (t : ℕ) → write-filter-lts.Need-enum-told-2 (
   write-item-below t,
@@ -347,7 +347,7 @@ write-filter-returns-2 : (t : ℕ) → write-filter-lts.Need-returns-2 (
   join-summaries-reads.Asked,
   join-summaries-reads.Learnt,
 ) (write-filter-at t) write-filter.Post write-filter-Inv-loop write-filter-μ-loop
-write-filter-returns-2 t c = chain-no-item _ _ _ _ _ _ _ _ _ _ _ _ (c .before .before .before .before .before .before .before .before .before .before .loop .inv) _ (c .before .before .before .before .before .before .before .before .before .read-connective .ensures) _ _ (c .before .before .before .before .before .before .before .connective .given .1) _ _ (c .before .before .before .before .write-item2 .ensures) _ (c .enum-told2 .given .1) (wrote-keeps _ _ _ _ _ _ _ _ _ _ (c .before .before .before .before .before .before .before .before .before .before .before .before .before .before .before .before .before .write-item .ensures) (c .before .before .before .before .before .before .before .before .before .before .before .before .before .first .given .1) (omega (arith, c .before .before .before .before .before .before .before .before .before .before .before .before .before .before .before .before .before .before .before .before .before .before .pre .1 .1 .1 .1 .1, c .before .before .before .before .before .before .before .before .before .before .before .before .before .before .before .before .before .before .before .before .before .before .pre .1 .1 .1 .0, c .before .before .before .before .before .before .before .before .before .before .before .before .before .before .before .before .before .before .before .before .before .before .pre .1 .1 .0, c .before .before .before .before .before .before .before .before .before .before .before .before .before .before .before .before .before .before .before .before .before .before .pre .1 .1 .1 .1 .0)))
+write-filter-returns-2 t c = chain-no-item _ _ _ _ _ _ _ _ _ _ _ _ (c .before .before .before .before .before .before .before .before .before .before .loop .inv) _ (c .before .before .before .before .before .before .before .before .before .read-connective .ensures) _ _ (c .before .before .before .before .before .before .before .found .given .1) _ _ (c .before .before .before .before .write-item2 .ensures) _ (c .enum-told2 .given .1) (wrote-keeps _ _ _ _ _ _ _ _ _ _ (c .before .before .before .before .before .before .before .before .before .before .before .before .before .before .before .before .before .write-item .ensures) (c .before .before .before .before .before .before .before .before .before .before .before .before .before .first .given .1) (omega (arith, c .before .before .before .before .before .before .before .before .before .before .before .before .before .before .before .before .before .before .before .before .before .before .pre .1 .1 .1 .1 .1, c .before .before .before .before .before .before .before .before .before .before .before .before .before .before .before .before .before .before .before .before .before .before .pre .1 .1 .1 .0, c .before .before .before .before .before .before .before .before .before .before .before .before .before .before .before .before .before .before .before .before .before .before .pre .1 .1 .0, c .before .before .before .before .before .before .before .before .before .before .before .before .before .before .before .before .before .before .before .before .before .before .pre .1 .1 .1 .1 .0)))
 
 write-filter-enum-told-3 : (t : ℕ) → write-filter-lts.Need-enum-told-3 (
   write-item-below t,
@@ -1771,7 +1771,7 @@ pub +write-filter+write-item-spec : {M : Type 1} → statement M
     (write-filter-returns t)
     (write-filter-loop-holds t)
     (write-filter-read-connective-requires t)
-    (write-filter-enum-known-connective t)
+    (write-filter-enum-known-found t)
     (write-filter-add-write-item t)
     (write-filter-write-item-requires-2 t)
     (write-filter-enum-known-item t)

@@ -1,5 +1,7 @@
 -- `spell::test::write_operator` meets its contract: the letters are those of the word with its number. Assumes nothing.
 use mathlib.Core.Path.{refl}
+use mathlib.Core.List.{flatten}
+use Rattle.base.specs.Operators.{operatorWords}
 use Rattle.syntax.proofs.Operators.{operatorLetters}
 use Rattle.spell.proofs.Tests.{operator-room, operator-puts}
 use borrow.Author.Needs.{needs}
@@ -22,14 +24,14 @@ slice-aggregate-write-word : tie.Need-slice-aggregate-write-word
 slice-aggregate-write-word c = search needs
 
 write-word-requires : tie.Need-write-word-requires
-unfolding operatorLetters
+unfolding operatorLetters flatten operatorWords
 write-word-requires c κs = operator-room _ (c .before .before .before .before .before .before .args .operator) refl (search needs) (search needs)
 
 same-length : tie.Need-same-length
 same-length c = search needs
 
 returns : tie.Need-returns
-unfolding operatorLetters
+unfolding operatorLetters flatten operatorWords
 returns c = operator-puts _ (c .before .before .before .before .before .before .before .before .before .args .operator) refl (search needs) (c .before .before .write-word .ensures)
 
 pub write-operator-spec : {M : Type 1} → statement M

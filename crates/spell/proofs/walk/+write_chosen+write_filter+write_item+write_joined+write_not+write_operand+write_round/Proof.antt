@@ -498,7 +498,7 @@ write-filter-read-connective-requires : (t : ℕ) → write-filter-lts.Need-read
 ) (write-filter-at t) write-filter.Post write-filter-Inv-loop write-filter-μ-loop
 write-filter-read-connective-requires t c κs = search needs
 
-write-filter-enum-known-connective : (t : ℕ) → write-filter-lts.Need-enum-known-connective (
+write-filter-enum-known-found : (t : ℕ) → write-filter-lts.Need-enum-known-found (
   write-item-below t,
   write-item.Post,
   read-connective-reads.Asked,
@@ -506,7 +506,7 @@ write-filter-enum-known-connective : (t : ℕ) → write-filter-lts.Need-enum-kn
   write-joined-below t,
   write-joined.Post,
 ) (write-filter-at t) write-filter.Post write-filter-Inv-loop write-filter-μ-loop
-write-filter-enum-known-connective t c = search needs
+write-filter-enum-known-found t c = search needs
 
 write-filter-sub-write-joined : (t : ℕ) → write-filter-lts.Need-sub-write-joined (
   write-item-below t,
@@ -546,7 +546,7 @@ write-filter-write-joined-requires : (t : ℕ) → write-filter-lts.Need-write-j
   write-joined-below t,
   write-joined.Post,
 ) (write-filter-at t) write-filter.Post write-filter-Inv-loop write-filter-μ-loop
-write-filter-write-joined-requires t c κs = let a = connective-ahead _ _ _ _ _ (c .before .before .before .before .read-connective .ensures) (c .before .before .connective .given .1) in (omega arith, (search needs, (a .1, search (chained-room, needs))))
+write-filter-write-joined-requires t c κs = let a = connective-ahead _ _ _ _ _ (c .before .before .before .before .read-connective .ensures) (c .before .before .found .given .1) in (omega arith, (search needs, (a .1, search (chained-room, needs))))
 
 write-filter-add-t19 : (t : ℕ) → write-filter-lts.Need-add-t19 (
   write-item-below t,
@@ -556,7 +556,7 @@ write-filter-add-t19 : (t : ℕ) → write-filter-lts.Need-add-t19 (
   write-joined-below t,
   write-joined.Post,
 ) (write-filter-at t) write-filter.Post write-filter-Inv-loop write-filter-μ-loop
-write-filter-add-t19 t c = record { fits = omega (arith, chained-fits _ _ _ _ (c .before .before .before .before .before .before .before .before .before .loop .inv) _ (c .before .before .before .before .before .before .before .before .read-connective .ensures) _ _ (c .before .before .before .before .before .before .connective .given .1) (c .before .before .before .write-joined .ensures)) }
+write-filter-add-t19 t c = record { fits = omega (arith, chained-fits _ _ _ _ (c .before .before .before .before .before .before .before .before .before .loop .inv) _ (c .before .before .before .before .before .before .before .before .read-connective .ensures) _ _ (c .before .before .before .before .before .before .found .given .1) (c .before .before .before .write-joined .ensures)) }
 
 write-filter-loop-less : (t : ℕ) → write-filter-lts.Need-loop-less (
   write-item-below t,
@@ -566,7 +566,7 @@ write-filter-loop-less : (t : ℕ) → write-filter-lts.Need-loop-less (
   write-joined-below t,
   write-joined.Post,
 ) (write-filter-at t) write-filter.Post write-filter-Inv-loop write-filter-μ-loop
-write-filter-loop-less t c = let a = chained-ahead _ _ _ _ (c .before .before .before .before .before .before .before .before .before .loop .inv) _ (c .before .before .before .before .before .before .before .before .read-connective .ensures) _ _ (c .before .before .before .before .before .before .connective .given .1) (c .before .before .before .write-joined .ensures) in omega arith
+write-filter-loop-less t c = let a = chained-ahead _ _ _ _ (c .before .before .before .before .before .before .before .before .before .loop .inv) _ (c .before .before .before .before .before .before .before .before .read-connective .ensures) _ _ (c .before .before .before .before .before .before .found .given .1) (c .before .before .before .write-joined .ensures) in omega arith
 
 write-filter-loop-again : (t : ℕ) → write-filter-lts.Need-loop-again (
   write-item-below t,
@@ -948,7 +948,7 @@ write-joined-add-t10 : (t : ℕ) → write-joined-lts.Need-add-t10 (
   write-operand-below t,
   write-operand.Post,
 ) (write-joined-at t) write-joined.Post
-write-joined-add-t10 t c = record { fits = omega (arith, joined-fits (c .before .before .before .before .before .before .before .before .before .before .before .args .and) (search needs) (c .before .before .before .before .before .before .before .write-connective .ensures) (c .before .before .before .write-operand .ensures)) }
+write-joined-add-t10 t c = record { fits = omega (arith, joined-fits (c .before .before .before .before .before .before .before .before .before .before .before .args .connective) (search needs) (c .before .before .before .before .before .before .before .write-connective .ensures) (c .before .before .before .write-operand .ensures)) }
 
 write-joined-same-length : (t : ℕ) → write-joined-lts.Need-same-length (
   write-connective-reads.Asked,
@@ -1271,7 +1271,7 @@ pub +write-chosen+write-filter+write-item+write-joined+write-not+write-operand+w
     (write-filter-write-item-requires t)
     (write-filter-loop-holds t)
     (write-filter-read-connective-requires t)
-    (write-filter-enum-known-connective t)
+    (write-filter-enum-known-found t)
     (write-filter-sub-write-joined t)
     (write-filter-part-write-joined-start t)
     (write-filter-part-write-joined-end t)

@@ -2,6 +2,8 @@
 use borrow.Author.Needs.{needs}
 use Prim.Native.Nat.{_-_}
 use mathlib.Core.Path.{refl}
+use mathlib.Core.List.{flatten}
+use Rattle.base.specs.Operators.{operatorWords}
 use Rattle.syntax.proofs.Operators.{operatorLetters, Trying, trying-starts, operator-short, trying-found, trying-next, trying-ends}
 use Rattle.syntax.proofs.test.read_operator.Statement.{statement}
 use Rattle.syntax.proofs.test.read_operator.Tie as tie
@@ -28,7 +30,7 @@ shared-slice-read-second : tie.Need-shared-slice-read-second Inv-loop μ-loop
 shared-slice-read-second c = search needs
 
 loop-holds : tie.Need-loop-holds Inv-loop μ-loop
-unfolding operatorLetters
+unfolding operatorLetters flatten operatorWords
 loop-holds c = trying-starts _ _ _ refl
 
 cast-i : tie.Need-cast-i Inv-loop μ-loop
