@@ -7,7 +7,8 @@ use Rattle.sheet.specs.Sheet.{Parameter}
 use Rattle.card.specs.Card.{Entry}
 use Rattle.syntax.specs.Tree.{Test, Connective, and, or, Tree, test, bracketed, join, negation, testsOf}
 use lib.ListN.{length}
-use Rattle.judge.specs.Faults.{orElse, firstFault}
+use Rattle.refusal.specs.Decisions.{orElse}
+use Rattle.judge.specs.Faults.{firstFault}
 use Rattle.judge.specs.Verdicts.{testSays, filterSays}
 use Rattle.filter.specs.declared.Summary.{Summary}
 
@@ -29,7 +30,7 @@ foldTree φ (bracketed p b f t) = φ .inside p b f t
 foldTree φ (join c f g) = φ .both (isAnd c) (foldTree φ f) (foldTree φ g)
 foldTree φ (negation f) = φ .negate (foldTree φ f)
 
--- reading: the number of tests and the first fault
+-- reading: the number of tests and the first refusal
 abbrev pub joinSummaries : Summary → Summary → Summary
 joinSummaries a b = record { tests = a .tests + b .tests; first = orElse (a .first) (b .first) }
 
