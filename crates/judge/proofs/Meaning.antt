@@ -18,7 +18,7 @@ use Rattle.sheet.specs.Find.{find}
 use Rattle.sheet.specs.declared.Found.{Found}
 use Rattle.card.specs.Card.{Entry}
 use Rattle.syntax.specs.Tree.{moved}
-use Rattle.syntax.specs.Scan.{Decoded, testOf}
+use Rattle.syntax.specs.Scan.{contents, Decoded, testOf}
 use Rattle.syntax.specs.declared.RawTest.{RawTest}
 use Rattle.kind.specs.Table.{meaningOf, isMeaning, hasMeaning}
 use Rattle.kind.specs.Readable.{isTrue, valueReadable}
@@ -154,32 +154,28 @@ says-nothing m v set e = rw e
 
 -- ---- tests as they stand in the text
 
-module _ (xs : List ℕ) (t : RawTest) where
-  abbrev raw-value : List ℕ
-  raw-value = part xs (t .value .start) (t .value .end)
+-- a value is the text's part, or what its escapes stand for
+pub value-escaped : (b : Bool) (raw out : List ℕ) (n : ℕ) → Decoded raw out n → b ≡ true → take n out ≡ contents b raw
+value-escaped b raw out n d e = rw e (d .is)
 
-  -- the value is the text's part, or what its escapes stand for
-  pub value-escaped : (out : List ℕ) (n : ℕ) → Decoded raw-value out n → t .value .escaped ≡ true → take n out ≡ testOf xs t .value
-  value-escaped out n d e = rw e (d .is)
+pub value-plain : (b : Bool) (raw : List ℕ) → b ≡ false → raw ≡ contents b raw
+value-plain b raw e = rw e
 
-  pub value-plain : t .value .escaped ≡ false → raw-value ≡ testOf xs t .value
-  value-plain e = rw e
+module _ (xs : List ℕ) (t : RawTest) (v : List ℕ) where
+  pub fault-placed : (ps : List Parameter) (c p : ℕ) (f : Found) (d : Decision) → d ≡ faultAt f (t .operator) v p → f ≡ lookup ps c (testOf xs t .path) → v ≡ testOf xs t .value → d ≡ testFault ps c (moved p (testOf xs t))
+  unfolding testFault
+  fault-placed ps c p f d e g h = e ∙ rw (g, h)
 
-  module _ (v : List ℕ) where
-    pub fault-placed : (ps : List Parameter) (c p : ℕ) (f : Found) (d : Decision) → d ≡ faultAt f (t .operator) v p → f ≡ lookup ps c (testOf xs t .path) → v ≡ testOf xs t .value → d ≡ testFault ps c (moved p (testOf xs t))
-    unfolding testFault
-    fault-placed ps c p f d e g h = e ∙ rw (g, h)
+  module _ (r : Bool) where
+    pub says-placed : (ps : List Parameter) (c : ℕ) (es : List Entry) (f : Found) → r ≡ saysAt f (t .operator) v es → f ≡ lookup ps c (testOf xs t .path) → v ≡ testOf xs t .value → r ≡ testSays ps c es (testOf xs t)
+    unfolding testSays
+    says-placed ps c es f e g h = e ∙ rw (g, h)
 
-    module _ (r : Bool) where
-      pub says-placed : (ps : List Parameter) (c : ℕ) (es : List Entry) (f : Found) → r ≡ saysAt f (t .operator) v es → f ≡ lookup ps c (testOf xs t .path) → v ≡ testOf xs t .value → r ≡ testSays ps c es (testOf xs t)
-      unfolding testSays
-      says-placed ps c es f e g h = e ∙ rw (g, h)
+    pub counts-placed : (m : Meaning) (x : List ℕ) → r ≡ textCounts m v x → v ≡ testOf xs t .value → r ≡ textCounts m (testOf xs t .value) x
+    counts-placed m x e h = e ∙ rw h
 
-      pub counts-placed : (m : Meaning) (x : List ℕ) → r ≡ textCounts m v x → v ≡ testOf xs t .value → r ≡ textCounts m (testOf xs t .value) x
-      counts-placed m x e h = e ∙ rw h
-
-      pub truth-placed : r ≡ isTrue v → v ≡ testOf xs t .value → r ≡ isTrue (testOf xs t .value)
-      truth-placed e h = e ∙ rw h
+    pub truth-placed : r ≡ isTrue v → v ≡ testOf xs t .value → r ≡ isTrue (testOf xs t .value)
+    truth-placed e h = e ∙ rw h
 
 -- ---- the test of a member
 

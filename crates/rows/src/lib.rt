@@ -56,7 +56,7 @@ pub struct Shape {
     pub fits: bool,
 }
 
-// What reading gathers: the tests and the first fault among them, and how many cells it has written.
+// What reading gathers: the tests and the first refusal among them, and how many cells it has written.
 pub struct Outcome {
     pub summary: Summary,
     pub cells: usize,
