@@ -1,4 +1,4 @@
--- Reading: what is gathered is the number of tests and the first fault, and it fits.
+-- Reading: what is gathered is the number of tests and the first refusal, and it fits.
 -- Assumes nothing.
 use Prim.Native.Nat.{ℕ, suc, _+_, _≤_}
 use native.Mathlib.Omega.{arith}
@@ -11,17 +11,17 @@ use Rattle.syntax.specs.Tree.{Test, moved, under, Tree, test, bracketed, join, 
 use Rattle.syntax.specs.Grammar.{square}
 use Rattle.sheet.specs.Find.{enter}
 use Rattle.judge.specs.Sets.{lookup}
-use Rattle.syntax.specs.Scan.{testOf, connectiveAt}
+use Rattle.syntax.specs.Scan.{connectiveAt}
 use Rattle.syntax.specs.Reader.{itemAt, filterAt}
-use Rattle.syntax.specs.declared.RawTest.{RawTest}
 use Rattle.syntax.specs.declared.Connective.{Connective}
 use Rattle.syntax.specs.declared.FoundConnective.{FoundConnective}
 use Rattle.syntax.proofs.Complete.{item-rise, filter-rise}
 use Rattle.syntax.proofs.Places.{connective-ahead}
 use Rattle.syntax.proofs.Spelling.{item-count, filter-count}
-use Rattle.judge.specs.Faults.{testFault, orElse, firstFault}
-use Rattle.judge.specs.declared.Fault.{Fault}
-use Rattle.judge.specs.declared.FirstFault.{FirstFault}
+use Rattle.refusal.specs.declared.Decision.{Decision}
+use Rattle.refusal.specs.Decisions.{orElse}
+use Rattle.refusal.proofs.Decisions.{or-else-passed, or-else-assoc}
+use Rattle.judge.specs.Faults.{testFault, firstFault}
 use Rattle.syntax.specs.Fold.{foldTree}
 use Rattle.filter.specs.Folds.{joinSummaries, summaryOf, reading}
 use Rattle.filter.specs.Walks.{answerOf}
@@ -31,14 +31,12 @@ use Rattle.filter.proofs.Walk.{Cases, was-item, was-filter, Chain}
 
 -- ---- as the code gathers
 
-pub summary-joined : (a b : Summary) (f : FirstFault) → f ≡ orElse (a .first) (b .first) → record { tests = a .tests + b .tests; first = f } ≡ joinSummaries a b
-summary-joined a b f e = ap (λ (x : FirstFault). record { tests = a .tests + b .tests; first = x }) e
+pub summary-joined : (a b : Summary) (f : Decision) → f ≡ orElse (a .first) (b .first) → record { tests = a .tests + b .tests; first = f } ≡ joinSummaries a b
+summary-joined a b f e = ap (λ (x : Decision). record { tests = a .tests + b .tests; first = x }) e
 
-pub summary-test : (ps : List Parameter) (c : ℕ) (xs : List ℕ) (p : ℕ) (t : RawTest) (f : Fault) (r : FirstFault) → f ≡ testFault ps c (testOf xs t)
-    → r ≡ orElse (record { fault = f; position = p }) (record { fault = Fault.Nothing; position = 0 }) → record { tests = 1; first = r } ≡ reading ps c .one (moved p (testOf xs t))
-unfolding firstFault testFault
-summary-test ps c xs p t f r e h =
-    ap (λ (x : FirstFault). record { tests = 1; first = x }) (h ∙ ap (λ (x : Fault). orElse (record { fault = x; position = p }) (record { fault = Fault.Nothing; position = 0 })) e)
+pub summary-test : (ps : List Parameter) (c : ℕ) (t : Test) (f : Decision) → f ≡ testFault ps c t → record { tests = 1; first = f } ≡ reading ps c .one t
+unfolding firstFault
+summary-test ps c t f e = ap (λ (x : Decision). record { tests = 1; first = x }) (e ∙ sym (or-else-passed (testFault ps c t)))
 
 -- the two cases of an answer
 pub walked-cases : Cases Walked.Done Walked.Nothing
@@ -49,21 +47,16 @@ walked-cases =
       value = λ q p a b h. cc;
     }
 
--- ---- the number of tests and the first fault
+-- ---- the number of tests and the first refusal
 
 length-map : {A B : Type 0} (f : A → B) (xs : List A) → length (map f xs) ≡ length xs
 length-map f [] = refl
 length-map f (x ∷ xs) = ap suc (length-map f xs)
 
-else-assoc : (f : Fault) (p : ℕ) (b c : FirstFault)
-    → orElse (orElse (record { fault = f; position = p }) b) c ≡ orElse (record { fault = f; position = p }) (orElse b c)
-else-assoc Fault.Nothing p b c = refl
-else-assoc (Fault.Because r) p b c = refl
-
 pub fault-append : (ps : List Parameter) (c : ℕ) (ts us : List Test) → firstFault ps c (ts ++ us) ≡ orElse (firstFault ps c ts) (firstFault ps c us)
 unfolding firstFault
 fault-append ps c [] us = refl
-fault-append ps c (t ∷ ts) us = rw (fault-append ps c ts us) (sym (else-assoc (testFault ps c t) (t .at) (firstFault ps c ts) (firstFault ps c us)))
+fault-append ps c (t ∷ ts) us = rw (fault-append ps c ts us) (sym (or-else-assoc (testFault ps c t) (firstFault ps c ts) (firstFault ps c us)))
 
 -- a path among a bundle's members is looked up inside the bundle
 pub fault-under : (ps : List Parameter) (c : ℕ) (b : List ℕ) (ts : List Test) → firstFault ps c (map (under b) ts) ≡ firstFault ps (enter ps c b) ts
@@ -87,7 +80,7 @@ summary-inside ps c b i p t o a s e h k f g =
     let inner : a ≡ summaryOf ps i ts = g ∙ reading-is ps i f in
     let count : length (map (under b) (moved p t ∷ ts)) ≡ suc (length ts) = ap suc (length-map (under b) ts) in
     let faults : firstFault ps c (map (under b) (moved p t ∷ ts)) ≡ orElse (firstFault ps i (moved p t ∷ [])) (firstFault ps i ts) = fault-under ps c b (moved p t ∷ ts) ∙ ap (λ (x : ℕ). firstFault ps x (moved p t ∷ ts)) (sym e) ∙ fault-append ps i (moved p t ∷ []) ts in
-    k ∙ rw (h, inner) (sym (ap₂ (λ (n : ℕ) (x : FirstFault). record { tests = n; first = x }) (count ∙ omega arith) faults))
+    k ∙ rw (h, inner) (sym (ap₂ (λ (n : ℕ) (x : Decision). record { tests = n; first = x }) (count ∙ omega arith) faults))
 
 -- ---- there are no more tests than bytes, so that their sum fits
 

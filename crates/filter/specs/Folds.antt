@@ -9,11 +9,12 @@ use Rattle.syntax.specs.Tree.{Test, bracketed, testsOf}
 use Rattle.syntax.specs.Fold.{Fold}
 use Rattle.syntax.specs.declared.Connective.{Connective}
 use lib.ListN.{length}
-use Rattle.judge.specs.Faults.{orElse, firstFault}
+use Rattle.refusal.specs.Decisions.{orElse}
+use Rattle.judge.specs.Faults.{firstFault}
 use Rattle.judge.specs.Verdicts.{testSays, joined, filterSays}
 use Rattle.filter.specs.declared.Summary.{Summary}
 
--- reading: the number of tests and the first fault
+-- reading: the number of tests and the first refusal
 abbrev pub joinSummaries : Summary → Summary → Summary
 joinSummaries a b = record { tests = a .tests + b .tests; first = orElse (a .first) (b .first) }
 

@@ -1,11 +1,10 @@
-// Reading a filter: its tests are counted, and the first fault among them is kept.
+// Reading a filter: its tests are counted, and the first refusal among them is kept.
 use crate::Spot;
 use crate::Summary;
 use crate::Walked;
 use block::Reading;
-use judge::Fault;
-use judge::FirstFault;
 use judge::test_fault;
+use refusal::or_else;
 use syntax::FoundClose;
 use syntax::FoundConnective;
 use syntax::FoundTest;
@@ -24,22 +23,10 @@ ghost use Rattle.syntax.specs.Placed.{Placed};
 ghost use Rattle.syntax.specs.Scan.{testOf};
 ghost use Rattle.syntax.specs.Tree.{moved};
 ghost use Rattle.syntax.specs.Reader.{itemAt, filterAt};
-ghost use Rattle.judge.specs.Faults.{orElse};
 ghost use Rattle.filter.specs.Folds.{joinSummaries, reading};
 ghost use Rattle.filter.specs.Walks.{answerOf};
 
-// The first of two, where it is a fault, and else the second.
-fn first_of(a: FirstFault, b: FirstFault) -> FirstFault
-    ensures { λ r. ⌜ r ≡ orElse a b ⌝ }
-{
-    let fault = a.fault;
-    match fault {
-        Fault::Nothing => b,
-        Fault::Because(_) => a,
-    }
-}
-
-// One test, with its first byte at a position: its fault, if it has one, there.
+// One test, with its first byte at a position, where it may be refused.
 pub fn test_summary(
     sheet: &[u8],
     bundle: u8,
@@ -52,21 +39,13 @@ pub fn test_summary(
     requires { ⌜ Placed (now filter) test ⌝ }
     ensures { λ r. ⌜ r ≡ reading (parametersOf (now (sheet .entry))) bundle .one (moved position (testOf (now (filter .entry)) test)) ⌝ }
 {
-    let here = FirstFault {
-        fault: test_fault(sheet, bundle, filter, test),
-        position,
-    };
-    let none = FirstFault {
-        fault: Fault::Nothing,
-        position: 0,
-    };
     Summary {
         tests: 1,
-        first: first_of(here, none),
+        first: test_fault(sheet, bundle, filter, position, test),
     }
 }
 
-// What two parts gather together, the first part's fault before the second's.
+// What two parts gather together, the first part's refusal before the second's.
 pub fn join_summaries(a: Summary, b: Summary) -> Summary
     requires { ⌜ a .tests + b .tests ≤ 1024 ⌝ }
     ensures { λ r. ⌜ r ≡ joinSummaries a b ⌝ }
@@ -75,7 +54,7 @@ pub fn join_summaries(a: Summary, b: Summary) -> Summary
     let two = b.first;
     Summary {
         tests: a.tests + b.tests,
-        first: first_of(one, two),
+        first: or_else(one, two),
     }
 }
 

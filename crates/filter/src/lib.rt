@@ -5,7 +5,7 @@ mod verdict;
 pub use check::check_filter;
 pub use check::join_summaries;
 pub use check::test_summary;
-use judge::FirstFault;
+use refusal::Decision;
 pub use verdict::judge_filter;
 
 // A position in the filter's text, how many brackets may still open around it, the byte that closes the one around it, and where
@@ -17,10 +17,10 @@ pub struct Spot {
     pub bundle: u8,
 }
 
-// What reading gathers: the number of tests, and the first fault among them.
+// What reading gathers: the number of tests, and the first refusal among them.
 pub struct Summary {
     pub tests: usize,
-    pub first: FirstFault,
+    pub first: Decision,
 }
 
 // Where a filter or an item that was read ends, and what was gathered; or that there is none.

@@ -21,7 +21,8 @@ use Rattle.sheet.specs.Sheet.{Parameter}
 use Rattle.sheet.specs.Find.{find}
 use Rattle.sheet.specs.declared.Found.{Found}
 use Rattle.card.specs.Card.{Entry}
-use Rattle.syntax.specs.Scan.{decode, Decoded, testOf}
+use Rattle.syntax.specs.Tree.{moved}
+use Rattle.syntax.specs.Scan.{contents, Decoded, testOf}
 use Rattle.syntax.specs.declared.RawTest.{RawTest}
 use Rattle.kind.specs.Table.{meaningOf, isMeaning, hasMeaning}
 use Rattle.kind.specs.Readable.{isTrue, valueReadable}
@@ -32,7 +33,8 @@ use Rattle.judge.specs.Sets.{lookup, valuesAt, chosenOf}
 use Rattle.judge.specs.declared.Chosen.{Chosen}
 use Rattle.judge.specs.Verdicts.{isEmpty, someValue, related, textCounts, someSays, saysOf, saysAt, testSays}
 use Rattle.refusal.specs.declared.Reason.{Reason}
-use Rattle.judge.specs.declared.Fault.{Fault}
+use Rattle.refusal.specs.declared.Decision.{Decision}
+use Rattle.refusal.specs.Decisions.{refuse}
 use Rattle.judge.proofs.Entries.{hasValue}
 
 -- ---- operators that are not supported
@@ -88,45 +90,46 @@ module _ (k kind : ℕ) (m : Meaning) (e : m ≡ meaningOf k kind) where
 
 -- ---- faults
 
-module _ (k kind : ℕ) (v : List ℕ) (u : Bool) (e : u ≡ unsupported k) where
-  pub fault-unsupported : u ≡ true → Fault.Because Reason.Unsupported ≡ kindFault k kind v
+module _ (k kind : ℕ) (v : List ℕ) (p : ℕ) (u : Bool) (e : u ≡ unsupported k) where
+  pub fault-unsupported : (d : Decision) → u ≡ true → d ≡ refuse Reason.Unsupported p → d ≡ kindFault k kind v p
   unfolding kindFault
-  fault-unsupported h = rw (sym e ∙ h)
+  fault-unsupported d h q = rw (sym e ∙ h) q
 
   module _ (h : u ≡ false) (m : Bool) (f : m ≡ hasMeaning k kind) where
-    pub fault-meaning : m ≡ false → Fault.Because Reason.NoMeaning ≡ kindFault k kind v
+    pub fault-meaning : (d : Decision) → m ≡ false → d ≡ refuse Reason.NoMeaning p → d ≡ kindFault k kind v p
     unfolding kindFault
-    fault-meaning i = rw (sym e ∙ h, sym f ∙ i)
+    fault-meaning d i q = rw (sym e ∙ h, sym f ∙ i) q
 
     module _ (i : m ≡ true) (r : Bool) (g : r ≡ valueReadable k kind v) where
-      pub fault-nothing : r ≡ true → Fault.Nothing ≡ kindFault k kind v
+      pub fault-passed : r ≡ true → Decision.Passed ≡ kindFault k kind v p
       unfolding kindFault
-      fault-nothing j = rw (sym e ∙ h, sym f ∙ i, sym g ∙ j)
+      fault-passed j = rw (sym e ∙ h, sym f ∙ i, sym g ∙ j)
 
-      pub fault-unreadable : r ≡ false → Fault.Because Reason.Unreadable ≡ kindFault k kind v
+      pub fault-unreadable : (d : Decision) → r ≡ false → d ≡ refuse Reason.Unreadable p → d ≡ kindFault k kind v p
       unfolding kindFault
-      fault-unreadable j = rw (sym e ∙ h, sym f ∙ i, sym g ∙ j)
+      fault-unreadable d j q = rw (sym e ∙ h, sym f ∙ i, sym g ∙ j) q
 
-pub fault-bundle : (k kind : ℕ) (v : List ℕ) → kind ≡ 7 → Fault.Because Reason.BareBundle ≡ cond (eqb kind bundleKind) (Fault.Because Reason.BareBundle) (kindFault k kind v)
-fault-bundle k kind v e = rw e
+module _ (k kind : ℕ) (v : List ℕ) (p : ℕ) (d : Decision) where
+  pub fault-bundle : kind ≡ 7 → d ≡ refuse Reason.BareBundle p → d ≡ cond (eqb kind bundleKind) (refuse Reason.BareBundle p) (kindFault k kind v p)
+  fault-bundle e q = rw e q
 
-pub fault-kind : (k kind : ℕ) (v : List ℕ) (r : Fault) → (kind ≡ 7 → ⊥) → r ≡ kindFault k kind v → r ≡ cond (eqb kind bundleKind) (Fault.Because Reason.BareBundle) (kindFault k kind v)
-fault-kind k kind v r n e = rw (ne-eqb kind 7 n) e
+  pub fault-kind : (kind ≡ 7 → ⊥) → d ≡ kindFault k kind v p → d ≡ cond (eqb kind bundleKind) (refuse Reason.BareBundle p) (kindFault k kind v p)
+  fault-kind n q = rw (ne-eqb kind 7 n) q
 
-module _ (f found : Found) (k : ℕ) (v : List ℕ) (e : f ≡ found) where
-  pub fault-found : (i kind : ℕ) (r : Fault) → f ≡ Found.At i kind → r ≡ cond (eqb kind bundleKind) (Fault.Because Reason.BareBundle) (kindFault k kind v) → r ≡ faultAt found k v
-  fault-found i kind r h g = rw (sym e ∙ h) g
+module _ (found : Found) (k : ℕ) (v : List ℕ) where
+  pub fault-found : (p i kind : ℕ) (d : Decision) → found ≡ Found.At i kind → d ≡ cond (eqb kind bundleKind) (refuse Reason.BareBundle p) (kindFault k kind v p) → d ≡ faultAt found k v p
+  fault-found p i kind d h q = rw h q
 
-  pub fault-missing : f ≡ Found.Missing → Fault.Because Reason.UnknownName ≡ faultAt found k v
-  fault-missing h = rw (sym e ∙ h)
+  pub fault-missing : (p : ℕ) (d : Decision) → found ≡ Found.Missing → d ≡ refuse Reason.UnknownName p → d ≡ faultAt found k v p
+  fault-missing p d h q = rw h q
 
   -- ---- verdicts
 
-  pub says-found : (es : List Entry) (i kind : ℕ) (m : Meaning) (r : Bool) → f ≡ Found.At i kind → m ≡ meaningOf k kind → r ≡ saysOf m v (valuesAt i es) → r ≡ saysAt found k v es
-  says-found es i kind m r h g s = rw (sym e ∙ h, ← g) s
+  pub says-found : (es : List Entry) (i kind : ℕ) (m : Meaning) (r : Bool) → found ≡ Found.At i kind → m ≡ meaningOf k kind → r ≡ saysOf m v (valuesAt i es) → r ≡ saysAt found k v es
+  says-found es i kind m r h g s = rw (h, ← g) s
 
-  pub says-missing : (es : List Entry) → f ≡ Found.Missing → false ≡ saysAt found k v es
-  says-missing es h = rw (sym e ∙ h)
+  pub says-missing : (es : List Entry) → found ≡ Found.Missing → false ≡ saysAt found k v es
+  says-missing es h = rw h
 
 not-not : (b : Bool) → not (not b) ≡ b
 not-not true = refl
@@ -155,36 +158,28 @@ says-nothing m v set e = rw e
 
 -- ---- tests as they stand in the text
 
-module _ (raw out : List ℕ) (n : ℕ) (d : Decoded raw out n) where
-  pub decoded-fault : (f : Found) (k : ℕ) (r : Fault) → r ≡ faultAt f k (take n out) → r ≡ faultAt f k (decode false raw)
-  decoded-fault f k r e = rw (← d .is) e
+-- a value is the text's part, or what its escapes stand for
+pub value-escaped : (b : Bool) (raw out : List ℕ) (n : ℕ) → Decoded raw out n → b ≡ true → take n out ≡ contents b raw
+value-escaped b raw out n d e = rw e (d .is)
 
-  pub decoded-says : (f : Found) (k : ℕ) (es : List Entry) (r : Bool) → r ≡ saysAt f k (take n out) es → r ≡ saysAt f k (decode false raw) es
-  decoded-says f k es r e = rw (← d .is) e
+pub value-plain : (b : Bool) (raw : List ℕ) → b ≡ false → raw ≡ contents b raw
+value-plain b raw e = rw e
 
-module _ (ps : List Parameter) (c : ℕ) (xs : List ℕ) (t : RawTest) where
-  abbrev found-at : Found
-  found-at = find c (part xs (t .at) (t .until)) ps
+module _ (xs : List ℕ) (t : RawTest) (v : List ℕ) where
+  pub fault-placed : (ps : List Parameter) (c p : ℕ) (f : Found) (d : Decision) → d ≡ faultAt f (t .operator) v p → f ≡ lookup ps c (testOf xs t .path) → v ≡ testOf xs t .value → d ≡ testFault ps c (moved p (testOf xs t))
+  unfolding testFault
+  fault-placed ps c p f d e g h = e ∙ rw (g, h)
 
-  abbrev raw-value : List ℕ
-  raw-value = part xs (t .value .start) (t .value .end)
+  module _ (r : Bool) where
+    pub says-placed : (ps : List Parameter) (c : ℕ) (es : List Entry) (f : Found) → r ≡ saysAt f (t .operator) v es → f ≡ lookup ps c (testOf xs t .path) → v ≡ testOf xs t .value → r ≡ testSays ps c es (testOf xs t)
+    unfolding testSays
+    says-placed ps c es f e g h = e ∙ rw (g, h)
 
-  pub fault-escaped : (r : Fault) → t .value .escaped ≡ true → r ≡ faultAt found-at (t .operator) (decode false raw-value) → r ≡ testFault ps c (testOf xs t)
-  unfolding testFault lookup
-  fault-escaped r e h = rw e h
+    pub counts-placed : (m : Meaning) (x : List ℕ) → r ≡ textCounts m v x → v ≡ testOf xs t .value → r ≡ textCounts m (testOf xs t .value) x
+    counts-placed m x e h = e ∙ rw h
 
-  pub fault-plain : (r : Fault) → t .value .escaped ≡ false → r ≡ faultAt found-at (t .operator) raw-value → r ≡ testFault ps c (testOf xs t)
-  unfolding testFault lookup
-  fault-plain r e h = rw e h
-
-  module _ (es : List Entry) (r : Bool) where
-    pub says-escaped : t .value .escaped ≡ true → r ≡ saysAt found-at (t .operator) (decode false raw-value) es → r ≡ testSays ps c es (testOf xs t)
-    unfolding testSays lookup
-    says-escaped e h = rw e h
-
-    pub says-plain : t .value .escaped ≡ false → r ≡ saysAt found-at (t .operator) raw-value es → r ≡ testSays ps c es (testOf xs t)
-    unfolding testSays lookup
-    says-plain e h = rw e h
+    pub truth-placed : r ≡ isTrue v → v ≡ testOf xs t .value → r ≡ isTrue (testOf xs t .value)
+    truth-placed e h = e ∙ rw h
 
 -- ---- the test of a member
 
@@ -213,16 +208,6 @@ module _ (m : Meaning) (truth some : Bool) where
   unfolding someSays
   some-nothing e = rw e
 
-pub decoded-counts : (raw out : List ℕ) (n : ℕ) → Decoded raw out n → (m : Meaning) (x : List ℕ) (r : Bool) → r ≡ textCounts m (take n out) x → r ≡ textCounts m (decode false raw) x
-decoded-counts raw out n d m x r e = rw (← d .is) e
-
-module _ (xs : List ℕ) (t : RawTest) (m : Meaning) (x : List ℕ) (r : Bool) where
-  pub counts-escaped : t .value .escaped ≡ true → r ≡ textCounts m (decode false (part xs (t .value .start) (t .value .end))) x → r ≡ textCounts m (testOf xs t .value) x
-  counts-escaped e h = rw e h
-
-  pub counts-plain : t .value .escaped ≡ false → r ≡ textCounts m (part xs (t .value .start) (t .value .end)) x → r ≡ textCounts m (testOf xs t .value) x
-  counts-plain e h = rw e h
-
 -- what a test says is told by whether some text counts
 pub says-some : (m : Meaning) (v : List ℕ) (set : List (List ℕ)) → saysOf m v set ≡ someSays m (isTrue v) (someValue (textCounts m v) set)
 unfolding saysOf someSays textCounts someValue isEmpty
@@ -241,13 +226,3 @@ says-some Meaning.Nothing v set = sym (never set)
     never : (xs : List (List ℕ)) → someValue (textCounts Meaning.Nothing v) xs ≡ false
     never [] = refl
     never (x ∷ xs) = never xs
-
-pub decoded-truth : (raw out : List ℕ) (n : ℕ) → Decoded raw out n → (r : Bool) → r ≡ isTrue (take n out) → r ≡ isTrue (decode false raw)
-decoded-truth raw out n d r e = rw (← d .is) e
-
-module _ (xs : List ℕ) (t : RawTest) (r : Bool) where
-  pub truth-escaped : t .value .escaped ≡ true → r ≡ isTrue (decode false (part xs (t .value .start) (t .value .end))) → r ≡ isTrue (testOf xs t .value)
-  truth-escaped e h = rw e h
-
-  pub truth-plain : t .value .escaped ≡ false → r ≡ isTrue (part xs (t .value .start) (t .value .end)) → r ≡ isTrue (testOf xs t .value)
-  truth-plain e h = rw e h

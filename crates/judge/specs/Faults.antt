@@ -13,41 +13,33 @@ use Rattle.syntax.specs.Tree.{Test}
 use Rattle.kind.specs.Table.{hasMeaning}
 use Rattle.kind.specs.Readable.{valueReadable}
 use Rattle.refusal.specs.declared.Reason.{Reason}
+use Rattle.refusal.specs.declared.Decision.{Decision}
+use Rattle.refusal.specs.Decisions.{refuse, orElse}
 use Rattle.judge.specs.Sets.{lookup}
-use Rattle.judge.specs.declared.Fault.{Fault}
-use Rattle.judge.specs.declared.FirstFault.{FirstFault}
 
 -- "word is ap, ss, sb, in or ni"
 unfoldable pub unsupported : ℕ → Bool
 unsupported k = member k (ap ∷ ss ∷ sb ∷ «in» ∷ ni ∷ [])
 
--- the fault of an operator and a value for a kind: the line with the lowest number
-unfoldable pub kindFault : ℕ → ℕ → List ℕ → Fault
-kindFault k kind v =
-    cond (unsupported k) (Fault.Because Reason.Unsupported)
+-- what is decided of an operator and a value for a kind, with the place of their test: the line with the lowest number
+unfoldable pub kindFault : (operator kind : ℕ) → List ℕ → (place : ℕ) → Decision
+kindFault k kind v p =
+    cond (unsupported k) (refuse Reason.Unsupported p)
     (cond (hasMeaning k kind)
-    (cond (valueReadable k kind v) Fault.Nothing (Fault.Because Reason.Unreadable))
-    (Fault.Because Reason.NoMeaning))
+    (cond (valueReadable k kind v) Decision.Passed (refuse Reason.Unreadable p))
+    (refuse Reason.NoMeaning p))
 
 -- the same at what the path names
 -- 02: 18 "for a bundle's name with no bracket"
-abbrev pub faultAt : Found → ℕ → List ℕ → Fault
-faultAt Found.Missing k v = Fault.Because Reason.UnknownName
-faultAt (Found.At i kind) k v = cond (eqb kind bundleKind) (Fault.Because Reason.BareBundle) (kindFault k kind v)
+abbrev pub faultAt : Found → (operator : ℕ) → List ℕ → (place : ℕ) → Decision
+faultAt Found.Missing k v p = refuse Reason.UnknownName p
+faultAt (Found.At i kind) k v p = cond (eqb kind bundleKind) (refuse Reason.BareBundle p) (kindFault k kind v p)
 
--- of a test whose path is looked up in c
-unfoldable pub testFault : List Parameter → ℕ → Test → Fault
-testFault ps c t = faultAt (lookup ps c (t .path)) (t .operator) (t .value)
+-- of a test whose path is looked up in c: its place is its first byte
+unfoldable pub testFault : List Parameter → ℕ → Test → Decision
+testFault ps c t = faultAt (lookup ps c (t .path)) (t .operator) (t .value) (t .at)
 
--- the first of two, where it is a fault, and else the second
-abbrev pub orElse : FirstFault → FirstFault → FirstFault
-orElse a b = byFault (a .fault)
-  where
-    byFault : Fault → FirstFault
-    byFault Fault.Nothing = b
-    byFault (Fault.Because r) = a
-
--- "the first test in the text decides": its fault, and the position of its first byte
-unfoldable pub firstFault : List Parameter → ℕ → List Test → FirstFault
-firstFault ps c [] = record { fault = Fault.Nothing; position = 0 }
-firstFault ps c (t ∷ ts) = orElse (record { fault = testFault ps c t; position = t .at }) (firstFault ps c ts)
+-- "the first test in the text decides"
+unfoldable pub firstFault : List Parameter → ℕ → List Test → Decision
+firstFault ps c [] = Decision.Passed
+firstFault ps c (t ∷ ts) = orElse (testFault ps c t) (firstFault ps c ts)

@@ -1,22 +1,21 @@
 // The fault of a test on a sheet, whatever the card.
-use crate::Fault;
 use base::kind::BUNDLE;
 use base::operator::AP;
 use base::operator::IN;
 use base::operator::NI;
 use base::operator::SB;
 use base::operator::SS;
-use block::Reading;
 use kind::Meaning;
+use refusal::Decision;
 use refusal::Reason;
+use refusal::refuse;
 use sheet::Found;
 ghost use mathlib.Core.Path.{_≡_};
 ghost use mathlib.Core.Bool.{cond};
 ghost use lib.Dec.{eqb};
 ghost use Rattle.base.specs.Kinds.{bundleKind};
-ghost use Rattle.sheet.specs.Sheet.{parametersOf, readSheet};
-ghost use Rattle.sheet.specs.Find.{find};
 ghost use Rattle.kind.specs.Table.{hasMeaning};
+ghost use Rattle.refusal.specs.Decisions.{refuse};
 ghost use Rattle.judge.specs.Faults.{unsupported, kindFault, faultAt};
 
 // "word is ap, ss, sb, in or ni".
@@ -41,39 +40,38 @@ pub fn has_meaning(operator: u8, kind: u8) -> bool
     }
 }
 
-// The fault of an operator and a value for a kind, the lowest in number.
-pub fn kind_fault(operator: u8, kind: u8, value: &[u8]) -> Fault
-    ensures { λ r. ⌜ r ≡ kindFault operator kind (now (value .entry)) ⌝ }
+// What is decided of an operator and a value for a kind, at the place of their test: the lowest number.
+pub fn kind_fault(operator: u8, kind: u8, value: &[u8], place: usize) -> Decision
+    ensures { λ r. ⌜ r ≡ kindFault operator kind (now (value .entry)) place ⌝ }
 {
     if unsupported(operator) {
-        return Fault::Because(Reason::Unsupported);
+        return refuse(Reason::Unsupported, place);
     }
     if has_meaning(operator, kind) {
         if kind::value_readable(operator, kind, value) {
-            return Fault::Nothing;
+            return Decision::Passed;
         }
-        return Fault::Because(Reason::Unreadable);
+        return refuse(Reason::Unreadable, place);
     }
-    Fault::Because(Reason::NoMeaning)
+    refuse(Reason::NoMeaning, place)
 }
 
-// The fault of an operator and a value at a parameter of a kind: at a bundle's, that it is one.
-fn parameter_fault(operator: u8, kind: u8, value: &[u8]) -> Fault
-    ensures { λ r. ⌜ r ≡ cond (eqb kind bundleKind) (Fault.Because Reason.BareBundle) (kindFault operator kind (now (value .entry))) ⌝ }
+// The same at a parameter: a bundle's is refused.
+fn parameter_fault(operator: u8, kind: u8, value: &[u8], place: usize) -> Decision
+    ensures { λ r. ⌜ r ≡ cond (eqb kind bundleKind) (refuse Reason.BareBundle place) (kindFault operator kind (now (value .entry)) place) ⌝ }
 {
     if kind == BUNDLE {
-        return Fault::Because(Reason::BareBundle);
+        return refuse(Reason::BareBundle, place);
     }
-    kind_fault(operator, kind, value)
+    kind_fault(operator, kind, value, place)
 }
 
-// The fault of a test with this name, operator and value on a well-formed sheet, the name looked up in a bundle.
-pub fn fault_at(sheet: &[u8], bundle: u8, name: &[u8], operator: u8, value: &[u8]) -> Fault
-    requires { ⌜ readSheet (now sheet) ≡ Reading.WellFormed ⌝ }
-    ensures { λ r. ⌜ r ≡ faultAt (find bundle (now (name .entry)) (parametersOf (now (sheet .entry)))) operator (now (value .entry)) ⌝ }
+// The same at what the test's name is on the sheet.
+pub fn fault_at(found: Found, operator: u8, value: &[u8], place: usize) -> Decision
+    ensures { λ r. ⌜ r ≡ faultAt found operator (now (value .entry)) place ⌝ }
 {
-    match sheet::find(sheet, bundle, name) {
-        Found::At { index: _, kind } => parameter_fault(operator, kind, value),
-        Found::Missing => Fault::Because(Reason::UnknownName),
+    match found {
+        Found::At { index: _, kind } => parameter_fault(operator, kind, value, place),
+        Found::Missing => refuse(Reason::UnknownName, place),
     }
 }

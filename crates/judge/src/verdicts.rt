@@ -6,8 +6,6 @@ use block::Reading;
 use kind::Meaning;
 use sheet::Found;
 ghost use mathlib.Core.Path.{_≡_};
-ghost use Rattle.sheet.specs.Sheet.{parametersOf, readSheet};
-ghost use Rattle.sheet.specs.Find.{find};
 ghost use Rattle.card.specs.Card.{entriesOf, readCard};
 ghost use Rattle.judge.specs.Sets.{valuesAt, chosenOf};
 ghost use Rattle.judge.specs.Verdicts.{someSays, saysOf, saysAt};
@@ -30,21 +28,12 @@ pub fn says_of(card: &[u8], chosen: Chosen, index: u8, meaning: Meaning, value: 
     }
 }
 
-// What a test with this name, operator and value says of a well-formed card.
-pub fn says_at(
-    sheet: &[u8],
-    bundle: u8,
-    card: &[u8],
-    chosen: Chosen,
-    name: &[u8],
-    operator: u8,
-    value: &[u8],
-) -> bool
-    requires { ⌜ readSheet (now sheet) ≡ Reading.WellFormed ⌝ }
+// What a test with this operator and value says of a well-formed card, at what its name is on the sheet.
+pub fn says_at(found: Found, card: &[u8], chosen: Chosen, operator: u8, value: &[u8]) -> bool
     requires { ⌜ readCard (now card) ≡ Reading.WellFormed ⌝ }
-    ensures { λ r. ⌜ r ≡ saysAt (find bundle (now (name .entry)) (parametersOf (now (sheet .entry)))) operator (now (value .entry)) (chosenOf chosen (entriesOf (now (card .entry)))) ⌝ }
+    ensures { λ r. ⌜ r ≡ saysAt found operator (now (value .entry)) (chosenOf chosen (entriesOf (now (card .entry)))) ⌝ }
 {
-    match sheet::find(sheet, bundle, name) {
+    match found {
         Found::At { index, kind } => says_of(
             card,
             chosen,

@@ -1,6 +1,9 @@
 // Refusals: why an operation gives no answer, and where, with the numbers of document 01's table.
+mod decide;
 mod numbers;
 
+pub use decide::or_else;
+pub use decide::refuse;
 pub use numbers::number;
 
 // Why an operation refuses, in the order of the numbers of refusal.
@@ -58,4 +61,10 @@ pub enum Reason {
 pub struct Refusal {
     pub reason: Reason,
     pub place: usize,
+}
+
+// What is decided of a test, a filter or a search string: it passes, or it is refused.
+pub enum Decision {
+    Passed,
+    Refused(Refusal),
 }

@@ -7,10 +7,9 @@ use mathlib.Core.Bool.{Bool, true, false, cond}
 use mathlib.Core.List.{List}
 use lib.Dec.{eqb}
 use lib.IntN.{ℤ, pos}
-use lib.ListN.{length, getD, take, set, length-set}
+use lib.ListN.{length, getD, set, length-set}
 use lib.Seq.{getD-set-same, getD-set-other}
 use borrow.Author.Tests.{lt-ltb, le-ltb, eq-eqb, ne-eqb, eqb-true, eqb-false}
-use Rattle.base.specs.Parts.{part}
 use Rattle.number.specs.Reading as numbers
 use Rattle.number.specs.declared.Reading as number-readings
 use Rattle.number.specs.declared.Decimal.{Decimal}
@@ -18,7 +17,7 @@ use Rattle.number.proofs.Spelling.{number-bounded}
 use Rattle.date.specs.declared.Reading as date-readings
 use Rattle.date.specs.declared.Date.{Date}
 use Rattle.syntax.specs.Placed.{PlacedValue}
-use Rattle.syntax.specs.Scan.{valueAt, contents, decode, Decoded}
+use Rattle.syntax.specs.Scan.{valueAt}
 use Rattle.syntax.specs.declared.Connective.{Connective}
 use Rattle.syntax.specs.declared.RawValue.{RawValue}
 use Rattle.syntax.specs.declared.FoundValue.{FoundValue}
@@ -216,15 +215,8 @@ pub value-is : (m : Meaning) (v : RawValue) (w : List ℕ) (t : Bool) (r : Readi
 unfolding openedValue
 value-is m v w t r e h = rw (e, h)
 
-pub decoded-opened : (raw out : List ℕ) (n : ℕ) → Decoded raw out n → (m : Meaning) (v : RawValue) (o : Opened) → o ≡ openedValue m v (take n out) → o ≡ openedValue m v (decode false raw)
-decoded-opened raw out n d m v o e = e ∙ ap (openedValue m v) (d .is)
-
-module _ (m : Meaning) (xs : List ℕ) (v : RawValue) (o : Opened) where
-  pub text-escaped : v .escaped ≡ true → o ≡ openedValue m v (decode false (part xs (v .start) (v .end))) → o ≡ openedValue m v (valueIn xs v)
-  text-escaped h e = e ∙ ap (λ (b : Bool). openedValue m v (contents b (part xs (v .start) (v .end)))) (sym h)
-
-  pub text-plain : v .escaped ≡ false → o ≡ openedValue m v (part xs (v .start) (v .end)) → o ≡ openedValue m v (valueIn xs v)
-  text-plain h e = e ∙ ap (λ (b : Bool). openedValue m v (contents b (part xs (v .start) (v .end)))) (sym h)
+pub text-placed : (m : Meaning) (xs : List ℕ) (v : RawValue) (o : Opened) (w : List ℕ) → o ≡ openedValue m v w → w ≡ valueIn xs v → o ≡ openedValue m v (valueIn xs v)
+text-placed m xs v o w e h = e ∙ ap (openedValue m v) h
 
 module _ (kinds xs : List ℕ) (p : Probe) (o : Opened) where
   pub for-outside : length xs < p .position → o ≡ closed → o ≡ openedFor kinds xs p

@@ -14,11 +14,9 @@ use syntax::RawValue;
 use syntax::value::decode;
 use syntax::value::read_value;
 ghost use mathlib.Core.Path.{_≡_};
-ghost use mathlib.Core.Bool.{false};
 ghost use Prim.Native.Nat.{_≤_, _<_};
 ghost use lib.ListN.{length};
 ghost use Rattle.syntax.specs.Placed.{PlacedValue};
-ghost use Rattle.syntax.specs.Scan.{decode as decoded};
 ghost use Rattle.rows.specs.Shapes.{valueIn};
 ghost use Rattle.row_judge.specs.Opening.{closed, openedValue, openedFor, openedRow, dateMark, markOf, digitsOf, startOf, endOf, spanOf, numberFrom, dateFrom, openedFrom, Opens};
 ghost use Rattle.row_judge.specs.Packing.{Sane, Small};
@@ -53,16 +51,6 @@ fn opened_value(meaning: Meaning, value: RawValue, bytes: &[u8]) -> Opened
     }
 }
 
-// Of a string that has escapes.
-fn opened_escaped(meaning: Meaning, value: RawValue, raw: &[u8]) -> Opened
-    requires { ⌜ length (now raw) ≤ 1024 ⌝ }
-    ensures { λ r. ⌜ r ≡ openedValue meaning value (decoded false (now (raw .entry))) ⌝ }
-{
-    let mut bytes = [0u8; 1024];
-    let n = decode(raw, &mut bytes);
-    opened_value(meaning, value, &bytes[..n])
-}
-
 // Of a value of the filter.
 fn opened_text(meaning: Meaning, filter: &[u8], value: RawValue) -> Opened
     requires { ⌜ length (now filter) ≤ 1024 ⌝ }
@@ -72,7 +60,9 @@ fn opened_text(meaning: Meaning, filter: &[u8], value: RawValue) -> Opened
     let start = value.start;
     let end = value.end;
     if value.escaped {
-        return opened_escaped(meaning, value, &filter[start..end]);
+        let mut bytes = [0u8; 1024];
+        let n = decode(&filter[start..end], &mut bytes);
+        return opened_value(meaning, value, &bytes[..n]);
     }
     opened_value(meaning, value, &filter[start..end])
 }

@@ -28,8 +28,9 @@ use Rattle.kind.specs.Table.{hasMeaning}
 use Rattle.kind.specs.Readable.{valueReadable}
 use Rattle.kind.proofs.Rules.{value-iff, operator-iff}
 use Rattle.judge.specs.Sets.{lookup}
-use Rattle.judge.specs.Faults.{unsupported, kindFault, faultAt, testFault, orElse, firstFault}
-use Rattle.judge.specs.declared.Fault.{Fault}
+use Rattle.refusal.specs.declared.Decision.{Decision}
+use Rattle.refusal.specs.Decisions.{orElse}
+use Rattle.judge.specs.Faults.{unsupported, kindFault, faultAt, testFault, firstFault}
 use Rattle.judge.proofs.Rules.{entered, enters}
 use Rattle.rows.specs.Expression.{testCount}
 use Rattle.rows.specs.Cells.{encode}
@@ -53,42 +54,45 @@ record Clean (ps : List Parameter) (c : ℕ) (t : Test) : Type 0 where
   means : hasMeaning (t .operator) kind ≡ true
   readable : valueReadable (t .operator) kind (t .value) ≡ true
 
-kind-clean : (k kind : ℕ) (v : List ℕ) → kindFault k kind v ≡ Fault.Nothing → (hasMeaning k kind ≡ true) × (valueReadable k kind v ≡ true)
+kind-clean : (k kind : ℕ) (v : List ℕ) (p : ℕ) → kindFault k kind v p ≡ Decision.Passed → (hasMeaning k kind ≡ true) × (valueReadable k kind v ≡ true)
 unfolding kindFault
-kind-clean k kind v =
-    cond-elim (λ f. f ≡ Fault.Nothing → (hasMeaning k kind ≡ true) × (valueReadable k kind v ≡ true)) (unsupported k)
+kind-clean k kind v p =
+    cond-elim (λ f. f ≡ Decision.Passed → (hasMeaning k kind ≡ true) × (valueReadable k kind v ≡ true)) (unsupported k)
     (λ a e. let z : _≡_ {A = ℕ} 0 1 = cc in absurd (omega arith))
-    (λ a. cond-elim (λ f. f ≡ Fault.Nothing → (hasMeaning k kind ≡ true) × (valueReadable k kind v ≡ true)) (hasMeaning k kind)
-    (λ b. cond-elim (λ f. f ≡ Fault.Nothing → (hasMeaning k kind ≡ true) × (valueReadable k kind v ≡ true)) (valueReadable k kind v) (λ c e. (b, c)) (λ c e. let z : _≡_ {A = ℕ} 0 1 = cc in absurd (omega arith)))
+    (λ a. cond-elim (λ f. f ≡ Decision.Passed → (hasMeaning k kind ≡ true) × (valueReadable k kind v ≡ true)) (hasMeaning k kind)
+    (λ b. cond-elim (λ f. f ≡ Decision.Passed → (hasMeaning k kind ≡ true) × (valueReadable k kind v ≡ true)) (valueReadable k kind v) (λ c e. (b, c)) (λ c e. let z : _≡_ {A = ℕ} 0 1 = cc in absurd (omega arith)))
     (λ b e. let z : _≡_ {A = ℕ} 0 1 = cc in absurd (omega arith)))
 
-clean-of : (ps : List Parameter) (c : ℕ) (t : Test) → testFault ps c t ≡ Fault.Nothing → Clean ps c t
+clean-of : (ps : List Parameter) (c : ℕ) (t : Test) → testFault ps c t ≡ Decision.Passed → Clean ps c t
 unfolding testFault
 clean-of ps c t h = by-found (lookup ps c (t .path)) refl h
   where
-    by-found : (o : Found) → lookup ps c (t .path) ≡ o → faultAt o (t .operator) (t .value) ≡ Fault.Nothing → Clean ps c t
+    by-found : (o : Found) → lookup ps c (t .path) ≡ o → faultAt o (t .operator) (t .value) (t .at) ≡ Decision.Passed → Clean ps c t
     by-found Found.Missing e g = let z : _≡_ {A = ℕ} 0 1 = cc in absurd (omega arith)
     by-found (Found.At i kind) e g =
-        cond-elim (λ f. f ≡ Fault.Nothing → Clean ps c t) (eqb kind bundleKind) (λ b y. let z : _≡_ {A = ℕ} 0 1 = cc in absurd (omega arith))
-        (λ b y. let k = kind-clean (t .operator) kind (t .value) y in
+        cond-elim (λ f. f ≡ Decision.Passed → Clean ps c t) (eqb kind bundleKind) (λ b y. let z : _≡_ {A = ℕ} 0 1 = cc in absurd (omega arith))
+        (λ b y. let k = kind-clean (t .operator) kind (t .value) (t .at) y in
         record { index = i; kind = kind; found = e; no-bundle = eqb-false kind bundleKind b; means = k .0; readable = k .1 }) g
 
--- where no fault is found, no test has one
-pub clean-all : (ps : List Parameter) (c : ℕ) (ts : List Test) → firstFault ps c ts .fault ≡ Fault.Nothing → All (λ (t : Test). testFault ps c t ≡ Fault.Nothing) ts
+-- where none is refused, each is clean
+clean-all : (ps : List Parameter) (c : ℕ) (ts : List Test) → firstFault ps c ts ≡ Decision.Passed → All (Clean ps c) ts
 unfolding firstFault
 clean-all ps c [] h = all-empty
 clean-all ps c (t ∷ ts) h = by-fault (testFault ps c t) refl h (clean-all ps c ts)
   where
-    by-fault : (f : Fault) → testFault ps c t ≡ f → orElse (record { fault = f; position = t .at }) (firstFault ps c ts) .fault ≡ Fault.Nothing
-        → (firstFault ps c ts .fault ≡ Fault.Nothing → All (λ (u : Test). testFault ps c u ≡ Fault.Nothing) ts) → All (λ (u : Test). testFault ps c u ≡ Fault.Nothing) (t ∷ ts)
-    by-fault Fault.Nothing e g again = all-cons e (again g)
-    by-fault (Fault.Because r) e g again = let z : _≡_ {A = ℕ} 0 1 = cc in absurd (omega arith)
+    by-fault : (f : Decision) → testFault ps c t ≡ f → orElse f (firstFault ps c ts) ≡ Decision.Passed → (firstFault ps c ts ≡ Decision.Passed → All (Clean ps c) ts) → All (Clean ps c) (t ∷ ts)
+    by-fault Decision.Passed e g again = all-cons (clean-of ps c t e) (again g)
+    by-fault (Decision.Refused r) e g again = let z : _≡_ {A = ℕ} 0 1 = cc in absurd (omega arith)
 
--- inside brackets names are looked up in the bundle
-clean-under : (ps : List Parameter) (c : ℕ) (b : List ℕ) (ts : List Test) → All (λ (t : Test). testFault ps c t ≡ Fault.Nothing) (map (under b) ts) → All (λ (t : Test). testFault ps (enter ps c b) t ≡ Fault.Nothing) ts
-unfolding testFault lookup
+-- wherever it stands, and inside brackets, where names are looked up in the bundle
+clean-moved : {ps : List Parameter} {c p : ℕ} {t : Test} → Clean ps c (moved p t) → Clean ps c t
+clean-moved a = record { index = a .index; kind = a .kind; found = a .found; no-bundle = a .no-bundle; means = a .means; readable = a .readable }
+
+clean-under : (ps : List Parameter) (c : ℕ) (b : List ℕ) (ts : List Test) → All (Clean ps c) (map (under b) ts) → All (Clean ps (enter ps c b)) ts
+unfolding lookup
 clean-under ps c b [] h = all-empty
-clean-under ps c b (t ∷ ts) (all-cons a h) = all-cons a (clean-under ps c b ts h)
+clean-under ps c b (t ∷ ts) (all-cons a h) =
+    all-cons (record { index = a .index; kind = a .kind; found = a .found; no-bundle = a .no-bundle; means = a .means; readable = a .readable }) (clean-under ps c b ts h)
 
 length-map : {A B : Type 0} (f : A → B) (xs : List A) → length (map f xs) ≡ length xs
 length-map f [] = refl
@@ -130,10 +134,9 @@ module _ (ps : List Parameter) (w : WellFormedSheet ps) (xs : List ℕ) where
     fits : FitsTo xs named (probeFor ps xs c t)
     same : moved 0 (testFor ps xs (probeFor ps xs c t)) ≡ moved 0 t
 
-  placed : {close p q c : ℕ} {t : Test} → TestAt xs close p q t → isBare close ≡ false → testFault ps c t ≡ Fault.Nothing → Placed-test c t
+  placed : {close p q c : ℕ} {t : Test} → TestAt xs close p q t → isBare close ≡ false → Clean ps c t → Placed-test c t
   unfolding probeFor testFor lookup
-  placed {c = c} {t = t} (a-test {p = p} {k = k} {n = n} {v = v} s h g o i u f) b e =
-      let a = clean-of ps c t e in
+  placed {c = c} {t = t} (a-test {p = p} {k = k} {n = n} {v = v} s h g o i u f) b a =
       let d = valued (a-test s h g o i u f) b in
       let l : Listed ps (a .index) (parameter (a .kind) c n) = find-iff c n ps (w .names) (a .index) (a .kind) .0 (a .found) in
       let at : indexOf (find c n ps) ≡ a .index = ap indexOf (a .found) in
@@ -158,11 +161,10 @@ module _ (ps : List Parameter) (w : WellFormedSheet ps) (xs : List ℕ) where
     fits : Fits ps xs c (prepared ps xs c f)
     same : erase (treeOf ps xs (prepared ps xs c f)) ≡ erase f
 
-  bracketed-tree : (c p : ℕ) (n : List ℕ) (f : Tree) (t : Test) → testFault ps (enter ps c n) t ≡ Fault.Nothing → Placed-test (enter ps c n) t → Prepared-tree (enter ps c n) f → Prepared-tree c (bracketed p n f t)
+  bracketed-tree : (c p : ℕ) (n : List ℕ) (f : Tree) (t : Test) → Clean ps (enter ps c n) t → Placed-test (enter ps c n) t → Prepared-tree (enter ps c n) f → Prepared-tree c (bracketed p n f t)
   unfolding prepared treeOf erase
-  bracketed-tree c p n f t e a inner =
+  bracketed-tree c p n f t clean a inner =
       let z : ℕ = enter ps c n in
-      let clean = clean-of ps z t e in
       let b = entered ps w c n (t .path) (clean .index) (clean .kind) (clean .found) in
       let inside : z ≡ suc (b .0) = enters ps w c n (b .0) (b .1) in
       let zero : c ≡ 0 = bundle-at-top ps w (b .1) refl in
@@ -175,22 +177,22 @@ module _ (ps : List Parameter) (w : WellFormedSheet ps) (xs : List ℕ) where
       }
 
   mutual
-    unfolding prepared treeOf erase testsOf testFault
+    unfolding prepared treeOf erase testsOf
 
-    prepared-item : {close d p q c : ℕ} {f : Tree} → Item xs close d p q f → isBare close ≡ false → All (λ (t : Test). testFault ps c t ≡ Fault.Nothing) (testsOf f) → Prepared-tree c f
+    prepared-item : {close d p q c : ℕ} {f : Tree} → Item xs close d p q f → isBare close ≡ false → All (Clean ps c) (testsOf f) → Prepared-tree c f
     prepared-item (item-test t) b (all-cons e n) = let a = placed t b e in record { fits = fits-test (a .there) (a .within) (a .fits); same = ap test (a .same) }
     prepared-item (item-bracket o f k) b h = prepared-filter f round-not-bare h
     prepared-item (item-not o f k) b h = let a = prepared-filter f round-not-bare h in record { fits = fits-not (a .fits); same = ap negation (a .same) }
     prepared-item {c = c} (item-bracketed {p = p} {n = n} {f = g} {t = t} o f k s u) b h =
         let l = clean-under ps c n (moved p t ∷ testsOf g) h in
-        let e : testFault ps (enter ps c n) t ≡ Fault.Nothing = all-head (λ (t : Test). testFault ps (enter ps c n) t ≡ Fault.Nothing) l in
-        bracketed-tree c p n g t e (placed u b e) (prepared-filter f square-not-bare (all-right (λ (t : Test). testFault ps (enter ps c n) t ≡ Fault.Nothing) (moved p t ∷ []) l))
+        let e : Clean ps (enter ps c n) t = clean-moved (all-head (Clean ps (enter ps c n)) l) in
+        bracketed-tree c p n g t e (placed u b e) (prepared-filter f square-not-bare (all-right (Clean ps (enter ps c n)) (moved p t ∷ []) l))
 
-    prepared-filter : {close d p q c : ℕ} {f : Tree} → Filter xs close d p q f → isBare close ≡ false → All (λ (t : Test). testFault ps c t ≡ Fault.Nothing) (testsOf f) → Prepared-tree c f
+    prepared-filter : {close d p q c : ℕ} {f : Tree} → Filter xs close d p q f → isBare close ≡ false → All (Clean ps c) (testsOf f) → Prepared-tree c f
     prepared-filter (one-item i) b h = prepared-item i b h
     prepared-filter {c = c} (one-more {c = k} {f = f} {g = g} d j i) b h =
-        let x = prepared-filter d b (all-left (λ (t : Test). testFault ps c t ≡ Fault.Nothing) (testsOf f) (testsOf g) h) in
-        let y = prepared-item i b (all-right (λ (t : Test). testFault ps c t ≡ Fault.Nothing) (testsOf f) h) in
+        let x = prepared-filter d b (all-left (Clean ps c) (testsOf f) (testsOf g) h) in
+        let y = prepared-item i b (all-right (Clean ps c) (testsOf f) h) in
         record { fits = fits-join (x .fits) (y .fits); same = ap₂ (join k) (x .same) (y .same) }
 
   -- brackets nest as in the text, or less
@@ -214,7 +216,7 @@ module _ (ps : List Parameter) (w : WellFormedSheet ps) (xs : List ℕ) where
   tests-counted c (join k f g) = ap₂ _+_ (tests-counted c f) (tests-counted c g) ∙ sym (length-append (testsOf f) (testsOf g))
   tests-counted c (negation f) = tests-counted c f
 
-  module _ (f : Tree) (s : Spells xs f) (n : firstFault ps 0 (testsOf f) .fault ≡ Fault.Nothing) where
+  module _ (f : Tree) (s : Spells xs f) (n : firstFault ps 0 (testsOf f) ≡ Decision.Passed) where
     whole : Prepared-tree 0 f
     whole = prepared-filter (s .filter) round-not-bare (clean-all ps 0 (testsOf f) n)
 

@@ -30,7 +30,7 @@ use Rattle.syntax.proofs.Spelling.{item-count, filter-count}
 use Rattle.syntax.proofs.Tests.{test-rise}
 use Rattle.syntax.specs.Fold.{foldTree}
 use Rattle.filter.specs.Folds.{joinSummaries, summaryOf, reading}
-use Rattle.judge.specs.declared.FirstFault.{FirstFault}
+use Rattle.refusal.specs.declared.Decision.{Decision}
 use Rattle.filter.specs.declared.Summary.{Summary}
 use Rattle.filter.proofs.Reading.{fault-append, reading-is, summary-inside}
 use Rattle.rows.specs.Cells.{numberOf, cellOf, encode}
@@ -174,7 +174,7 @@ module _ (xs : List ℕ) (close d p : ℕ) where
 -- ---- an item
 
 summary-joined : (ps : List Parameter) (c : ℕ) (ts us : List Test) → joinSummaries (summaryOf ps c ts) (summaryOf ps c us) ≡ summaryOf ps c (ts ++ us)
-summary-joined ps c ts us = sym (ap₂ (λ (n : ℕ) (f : FirstFault). record { tests = n; first = f }) (length-append ts us) (fault-append ps c ts us))
+summary-joined ps c ts us = sym (ap₂ (λ (n : ℕ) (f : Decision). record { tests = n; first = f }) (length-append ts us) (fault-append ps c ts us))
 
 outcome-same : (ps : List Parameter) (c : ℕ) (f : Tree) (s : Summary) (k : ℕ) → s ≡ summaryOf ps c (testsOf f) → k ≡ cellCount f → record { summary = s; cells = k } ≡ outcomeOf ps c f
 outcome-same ps c f s k e h = rw (e, h)

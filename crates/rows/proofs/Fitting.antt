@@ -6,10 +6,9 @@ use mathlib.Core.Path.{_≡_, sym, ap, _∙_}
 use mathlib.Core.Bool.{Bool, true, false, not, _&&_}
 use mathlib.Core.List.{List}
 use lib.Dec.{eqb}
-use lib.ListN.{length, getD, take}
+use lib.ListN.{length, getD}
 use borrow.Author.Tests.{lt-ltb, le-ltb, le-leb, lt-leb, eq-eqb, ne-eqb}
-use Rattle.base.specs.Parts.{part}
-use Rattle.syntax.specs.Scan.{valueAt, decode, Decoded}
+use Rattle.syntax.specs.Scan.{valueAt}
 use Rattle.syntax.specs.declared.RawValue.{RawValue}
 use Rattle.syntax.specs.declared.FoundValue.{FoundValue}
 use Rattle.kind.specs.Table.{hasMeaning}
@@ -102,15 +101,8 @@ module _ (k kind : ℕ) where
       unfolding kindFits
       kind-operator r h e = rw (ne-eqb kind 0 a, ne-eqb kind 7 b, lt-ltb k 19 h) e
 
-pub decoded-readable : (raw out : List ℕ) (n : ℕ) → Decoded raw out n → (k kind : ℕ) (r : Bool) → r ≡ valueReadable k kind (take n out) → r ≡ valueReadable k kind (decode false raw)
-decoded-readable raw out n d k kind r e = e ∙ ap (valueReadable k kind) (d .is)
-
-module _ (k kind : ℕ) (xs : List ℕ) (v : RawValue) (r : Bool) where
-  pub readable-escaped : v .escaped ≡ true → r ≡ valueReadable k kind (decode false (part xs (v .start) (v .end))) → r ≡ valueReadable k kind (valueIn xs v)
-  readable-escaped h e = rw h e
-
-  pub readable-plain : v .escaped ≡ false → r ≡ valueReadable k kind (part xs (v .start) (v .end)) → r ≡ valueReadable k kind (valueIn xs v)
-  readable-plain h e = rw h e
+pub readable-placed : (k kind : ℕ) (xs : List ℕ) (v : RawValue) (r : Bool) (w : List ℕ) → r ≡ valueReadable k kind w → w ≡ valueIn xs v → r ≡ valueReadable k kind (valueIn xs v)
+readable-placed k kind xs v r w e h = e ∙ ap (valueReadable k kind) h
 
 module _ (kinds xs : List ℕ) (p : Probe) (f : Bool) (kind : ℕ) (e : f ≡ kindFits (p .operator) kind) (same : kind ≡ getD kinds (p .index) 0) where
   pub probe-no-kind : f ≡ false → false ≡ probeFits kinds xs p

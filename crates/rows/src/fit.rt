@@ -8,11 +8,9 @@ use syntax::RawValue;
 use syntax::value::decode;
 use syntax::value::read_value;
 ghost use mathlib.Core.Path.{_≡_};
-ghost use mathlib.Core.Bool.{false};
 ghost use Prim.Native.Nat.{_≤_, _<_};
 ghost use lib.ListN.{length};
 ghost use Rattle.syntax.specs.Placed.{PlacedValue};
-ghost use Rattle.syntax.specs.Scan.{decode as decoded};
 ghost use Rattle.kind.specs.Readable.{valueReadable};
 ghost use Rattle.rows.specs.Shapes.{kindFits, valueIn, probeFits, testShape};
 
@@ -32,16 +30,6 @@ fn kind_fits(operator: u8, kind: u8) -> bool
     has_meaning(operator, kind)
 }
 
-// Whether the bytes of a string that has escapes are readable.
-fn escaped_fits(operator: u8, kind: u8, raw: &[u8]) -> bool
-    requires { ⌜ length (now raw) ≤ 1024 ⌝ }
-    ensures { λ r. ⌜ r ≡ valueReadable operator kind (decoded false (now (raw .entry))) ⌝ }
-{
-    let mut value = [0u8; 1024];
-    let n = decode(raw, &mut value);
-    kind::value_readable(operator, kind, &value[..n])
-}
-
 // Whether a value of the filter is readable for an operator and a kind.
 fn value_fits(operator: u8, kind: u8, filter: &[u8], value: RawValue) -> bool
     requires { ⌜ length (now filter) ≤ 1024 ⌝ }
@@ -51,7 +39,9 @@ fn value_fits(operator: u8, kind: u8, filter: &[u8], value: RawValue) -> bool
     let start = value.start;
     let end = value.end;
     if value.escaped {
-        return escaped_fits(operator, kind, &filter[start..end]);
+        let mut bytes = [0u8; 1024];
+        let n = decode(&filter[start..end], &mut bytes);
+        return kind::value_readable(operator, kind, &bytes[..n]);
     }
     kind::value_readable(operator, kind, &filter[start..end])
 }

@@ -28,16 +28,17 @@ use Rattle.card.specs.Card.{Entry, entry}
 use Rattle.kind.specs.Table.{meaningOf}
 use Rattle.kind.specs.declared.Meaning.{Meaning}
 use Rattle.judge.specs.Sets.{lookup, valuesAt, chosenOf}
-use Rattle.judge.specs.Faults.{kindFault, orElse}
+use Rattle.judge.specs.Faults.{kindFault}
 use Rattle.judge.specs.Verdicts.{someValue, saysOf}
 use Rattle.refusal.specs.declared.Reason.{Reason}
-use Rattle.judge.specs.declared.Fault.{Fault}
-use Rattle.judge.specs.declared.FirstFault.{FirstFault}
+use Rattle.refusal.specs.declared.Decision.{Decision}
+use Rattle.refusal.specs.declared.Refusal.{Refusal}
+use Rattle.refusal.specs.Decisions.{refuse, orElse}
 use Rattle.judge.proofs.Entries.{every, chosen-every}
 use Rattle.search.specs.Spelling.{Alternative}
 use Rattle.search.specs.Asking.{askedOf, PrefixOf}
 use Rattle.search.specs.Meaning.{textFault, faultAt, alternativeFault, firstAlternativeFault, textSays, saysAt, alternativeSays}
-use Rattle.search.specs.Rows.{keptIn, keptSays, alternativeIn, alternativesIn, rowsSay, isFault, RowWithin, RowsWithin}
+use Rattle.search.specs.Rows.{keptIn, keptSays, alternativeIn, alternativesIn, rowsSay, RowWithin, RowsWithin}
 use Rattle.search.specs.declared.Prefixed.{Prefixed}
 use Rattle.search.specs.declared.Row.{Row}
 use Rattle.search.specs.declared.Rows.{Rows}
@@ -52,9 +53,9 @@ module _ (kind : ℕ) (text : List ℕ) (r : Prefixed) (p : PrefixOf (askedOf ki
   value-is = rest text (r .skip) ∙ p .value
 
   module _ (split : ℕ) (other : kind ≡ 4 → ⊥) where
-    pub fault-asked : (f : Fault) → f ≡ kindFault (r .operator) kind (take (length text - r .skip) (drop (r .skip) text)) → f ≡ textFault kind split text
+    pub fault-asked : (at : ℕ) (f : Decision) → f ≡ kindFault (r .operator) kind (take (length text - r .skip) (drop (r .skip) text)) at → f ≡ textFault kind split text at
     unfolding textFault
-    fault-asked f e = e ∙ rw (ne-eqb kind token other, value-is, p .operator)
+    fault-asked at f e = e ∙ rw (ne-eqb kind token other, value-is, p .operator)
 
     pub says-asked : (i : ℕ) (es : List Entry) (m : Meaning) (b : Bool) → m ≡ meaningOf (r .operator) kind
         → b ≡ saysOf m (take (length text - r .skip) (drop (r .skip) text)) (valuesAt i (chosenOf every es)) → b ≡ textSays kind split text (valuesAt i es)
@@ -63,27 +64,28 @@ module _ (kind : ℕ) (text : List ℕ) (r : Prefixed) (p : PrefixOf (askedOf ki
 
 -- ---- the fault of an alternative
 
-module _ (kind split : ℕ) (text : List ℕ) where
-  pub token-readable : (t : Bool) → kind ≡ 4 → t ≡ readableAt split text → t ≡ true → Fault.Nothing ≡ textFault kind split text
+module _ (kind split : ℕ) (text : List ℕ) (p : ℕ) where
+  pub token-readable : (t : Bool) → kind ≡ 4 → t ≡ readableAt split text → t ≡ true → Decision.Passed ≡ textFault kind split text p
   unfolding textFault
   token-readable t k e h = rw (eq-eqb kind token k, sym e ∙ h)
 
-  pub token-unreadable : (t : Bool) → kind ≡ 4 → t ≡ readableAt split text → t ≡ false → Fault.Because Reason.Unreadable ≡ textFault kind split text
-  unfolding textFault
-  token-unreadable t k e h = rw (eq-eqb kind token k, sym e ∙ h)
+  module _ (f : Decision) where
+    pub token-unreadable : (t : Bool) → kind ≡ 4 → t ≡ readableAt split text → t ≡ false → f ≡ refuse Reason.Unreadable p → f ≡ textFault kind split text p
+    unfolding textFault
+    token-unreadable t k e h g = g ∙ rw (eq-eqb kind token k, sym e ∙ h)
 
-  pub at-bundle : kind ≡ 7 → Fault.Because Reason.UnknownName ≡ cond (eqb kind bundleKind) (Fault.Because Reason.UnknownName) (textFault kind split text)
-  at-bundle k = rw (eq-eqb kind bundleKind k)
+    pub at-bundle : kind ≡ 7 → f ≡ refuse Reason.UnknownName p → f ≡ cond (eqb kind bundleKind) (refuse Reason.UnknownName p) (textFault kind split text p)
+    at-bundle k g = g ∙ rw (eq-eqb kind bundleKind k)
 
-  pub at-kind : (f : Fault) → (kind ≡ 7 → ⊥) → f ≡ textFault kind split text → f ≡ cond (eqb kind bundleKind) (Fault.Because Reason.UnknownName) (textFault kind split text)
-  at-kind f k e = e ∙ rw (ne-eqb kind bundleKind k)
+    pub at-kind : (kind ≡ 7 → ⊥) → f ≡ textFault kind split text p → f ≡ cond (eqb kind bundleKind) (refuse Reason.UnknownName p) (textFault kind split text p)
+    at-kind k e = e ∙ rw (ne-eqb kind bundleKind k)
 
 module _ (split : ℕ) (text : List ℕ) (o : Found) (there : Found) (e : o ≡ there) where
-  pub fault-found : (i kind : ℕ) (f : Fault) → o ≡ Found.At i kind → f ≡ cond (eqb kind bundleKind) (Fault.Because Reason.UnknownName) (textFault kind split text) → f ≡ faultAt there split text
-  fault-found i kind f h g = g ∙ rw (sym e ∙ h)
+  pub fault-found : (p i kind : ℕ) (f : Decision) → o ≡ Found.At i kind → f ≡ cond (eqb kind bundleKind) (refuse Reason.UnknownName p) (textFault kind split text p) → f ≡ faultAt there split text p
+  fault-found p i kind f h g = g ∙ rw (sym e ∙ h)
 
-  pub fault-missing : o ≡ Found.Missing → Fault.Because Reason.UnknownName ≡ faultAt there split text
-  fault-missing h = rw (sym e ∙ h)
+  pub fault-missing : (p : ℕ) (f : Decision) → o ≡ Found.Missing → f ≡ refuse Reason.UnknownName p → f ≡ faultAt there split text p
+  fault-missing p f h g = g ∙ rw (sym e ∙ h)
 
   pub says-found : (es : List Entry) (i kind : ℕ) (b : Bool) → o ≡ Found.At i kind → b ≡ textSays kind split text (valuesAt i es) → b ≡ saysAt there split text es
   says-found es i kind b h g = g ∙ rw (sym e ∙ h)
@@ -92,7 +94,7 @@ module _ (split : ℕ) (text : List ℕ) (o : Found) (there : Found) (e : o ≡ 
   says-missing es h = rw (sym e ∙ h)
 
 module _ (ps : List Parameter) (bytes : List ℕ) (row : Row) where
-  pub row-faulted : (f : Fault) → f ≡ faultAt (find 0 (part bytes (row .name) (row .until)) ps) (row .split) (part bytes (row .text) (row .end)) → f ≡ alternativeFault ps (alternativeIn bytes row)
+  pub row-faulted : (f : Decision) → f ≡ faultAt (find 0 (part bytes (row .name) (row .until)) ps) (row .split) (part bytes (row .text) (row .end)) (row .at) → f ≡ alternativeFault ps (alternativeIn bytes row)
   unfolding alternativeFault keptIn lookup
   row-faulted f e = e
 
@@ -180,14 +182,6 @@ pub record Facing (n : ℕ) (ps : List Parameter) (bytes : List ℕ) (rows : Row
   pub within : RowsWithin n rows
   pub left : firstAlternativeFault ps (alternativesIn bytes rows) ≡ firstAlternativeFault ps (map (alternativeIn bytes) (rowsFrom rows i))
 
-or-else-first : (f : Fault) (p : ℕ) (rest : FirstFault) → isFault f ≡ true → orElse (record { fault = f; position = p }) rest ≡ record { fault = f; position = p }
-or-else-first Fault.Nothing p rest h = let z : false ≡ true = h in cc
-or-else-first (Fault.Because r) p rest h = refl
-
-or-else-rest : (f : Fault) (p : ℕ) (rest : FirstFault) → isFault f ≡ false → orElse (record { fault = f; position = p }) rest ≡ rest
-or-else-rest Fault.Nothing p rest h = refl
-or-else-rest (Fault.Because r) p rest h = let z : true ≡ false = h in cc
-
 pub facing-starts : {n : ℕ} {ps : List Parameter} {bytes : List ℕ} {rows : Rows} → RowsWithin n rows → Facing n ps bytes rows 0
 unfolding alternativesIn
 facing-starts w = record { within = w; left = refl }
@@ -199,21 +193,23 @@ module _ {n : ℕ} {ps : List Parameter} {bytes : List ℕ} {rows : Rows} {i : �
   pub facing-few : i < rows .count → i < 32
   facing-few h = row-few (g .within) i h
 
-  module _ (h : i < rows .count) (f : Fault) (e : f ≡ alternativeFault ps (alternativeIn bytes (rowAt rows i))) (t : Bool) (k : t ≡ isFault f) where
-    split-left : firstAlternativeFault ps (alternativesIn bytes rows) ≡ orElse (record { fault = f; position = rowAt rows i .at }) (firstAlternativeFault ps (map (alternativeIn bytes) (rowsFrom rows (i + 1))))
-    unfolding firstAlternativeFault keptIn
+  module _ (h : i < rows .count) (f : Decision) (e : f ≡ alternativeFault ps (alternativeIn bytes (rowAt rows i))) where
+    abbrev later-fault : Decision
+    later-fault = firstAlternativeFault ps (map (alternativeIn bytes) (rowsFrom rows (i + 1)))
+
+    split-left : firstAlternativeFault ps (alternativesIn bytes rows) ≡ orElse f later-fault
+    unfolding firstAlternativeFault
     split-left =
         g .left ∙ ap (λ (l : List Row). firstAlternativeFault ps (map (alternativeIn bytes) l)) (from-next (g .within) i h)
-        ∙ ap (λ (x : Fault). orElse (record { fault = x; position = rowAt rows i .at }) (firstAlternativeFault ps (map (alternativeIn bytes) (rowsFrom rows (i + 1))))) (sym e)
+        ∙ ap (λ (x : Decision). orElse x later-fault) (sym e)
 
-    pub facing-fault : t ≡ true → record { fault = f; position = rowAt rows i .at } ≡ firstAlternativeFault ps (alternativesIn bytes rows)
-    facing-fault y = sym (split-left ∙ or-else-first f (rowAt rows i .at) (firstAlternativeFault ps (map (alternativeIn bytes) (rowsFrom rows (i + 1)))) (sym k ∙ y))
+    pub facing-fault : (r : Refusal) → f ≡ Decision.Refused r → f ≡ firstAlternativeFault ps (alternativesIn bytes rows)
+    facing-fault r k = sym (split-left ∙ ap (λ (x : Decision). orElse x later-fault) k ∙ sym k)
 
-    pub facing-next : t ≡ false → Facing n ps bytes rows (i + 1)
-    facing-next y =
-        record { within = g .within; left = split-left ∙ or-else-rest f (rowAt rows i .at) (firstAlternativeFault ps (map (alternativeIn bytes) (rowsFrom rows (i + 1)))) (sym k ∙ y) }
+    pub facing-next : f ≡ Decision.Passed → Facing n ps bytes rows (i + 1)
+    facing-next k = record { within = g .within; left = split-left ∙ ap (λ (x : Decision). orElse x later-fault) k }
 
-  pub facing-ends : rows .count ≤ i → record { fault = Fault.Nothing; position = 0 } ≡ firstAlternativeFault ps (alternativesIn bytes rows)
+  pub facing-ends : rows .count ≤ i → Decision.Passed ≡ firstAlternativeFault ps (alternativesIn bytes rows)
   unfolding firstAlternativeFault
   facing-ends h = sym (g .left ∙ ap (λ (l : List Row). firstAlternativeFault ps (map (alternativeIn bytes) l)) (from-end (g .within) i h))
 

@@ -18,13 +18,15 @@ use Rattle.base.specs.Lists.{all-empty}
 use Rattle.base.specs.Parts.{part}
 use Rattle.base.specs.Runs.{run, runEnd, differs, RunEnd}
 use Rattle.base.proofs.Parts.{part-length}
+use Rattle.refusal.specs.declared.Decision.{Decision}
+use Rattle.refusal.specs.declared.Reason.{Reason}
+use Rattle.refusal.specs.Decisions.{refuse}
 use Rattle.refusal.specs.Steps.{Step, found, stop, _>>=_}
 use Rattle.search.specs.Spelling.{Alternative, Query, cutSigns, alternative}
 use Rattle.search.specs.Reader.{signsOf, readPair, readPairs}
 use Rattle.search.specs.Scan.{PairOf, pair-of, pair-of-none}
 use Rattle.search.specs.Rows.{Kept, keepPair, keepAll, Keeps, PairHeld, QueryOf, query-of, query-of-none}
 use Rattle.search.specs.declared.PairRead.{PairRead}
-use Rattle.search.specs.declared.QueryOutcome.{QueryOutcome}
 use Rattle.search.specs.declared.Row.{Row}
 use Rattle.search.specs.declared.Rows.{Rows}
 use Rattle.search.specs.declared.Held.{Held}
@@ -113,7 +115,7 @@ pass-starts text bytes rows h s r =
     }
 
 module _ {text bytes₀ bytes : List ℕ} {rows : Rows} {used at : ℕ} {more : Bool} (h : Pass text bytes₀ bytes rows used at more) where
-  pub pass-ends : more ≡ false → length bytes ≡ length bytes₀ → QueryOf text bytes (record { rows = rows; outcome = QueryOutcome.Read })
+  pub pass-ends : more ≡ false → length bytes ≡ length bytes₀ → QueryOf text bytes (record { rows = rows; decision = Decision.Passed })
   pass-ends m long = query-of used (omega (arith, h .inside, h .room)) (h .all m) (h .keeps)
 
   module _ (m : more ≡ true) where
@@ -142,14 +144,14 @@ module _ {text bytes₀ bytes : List ℕ} {rows : Rows} {used at : ℕ} {more : 
         pair-in-bytes = omega (arith, size, e .within, h .behind, h .room, long, length-take-le (length bytes - used) (drop used bytes) (omega (arith, length-drop used bytes)))
 
       -- the part is no pair
-      pub pass-bad : (out value : List ℕ) (r : PairRead) → PairOf (part text at end) out value r → r ≡ PairRead.Bad → (bytes′ : List ℕ) → QueryOf text bytes′ (record { rows = rows; outcome = QueryOutcome.Bad at })
-      pass-bad out value r p k bytes′ = by-case (subst (PairOf (part text at end) out value) k p)
+      pub pass-bad : (out value : List ℕ) (r : PairRead) → PairOf (part text at end) out value r → r ≡ PairRead.Bad → (bytes′ : List ℕ) (d : Decision) → d ≡ refuse Reason.NoPair at → QueryOf text bytes′ (record { rows = rows; decision = d })
+      pass-bad out value r p k bytes′ d g = rw g (by-case (subst (PairOf (part text at end) out value) k p))
         where
           by-fuel : (n : ℕ) → length text < at + n → readPair at (part text at end) ≡ stop 50 at → readPairs n at (drop at text) ≡ stop 50 at
           by-fuel zero l z = absurd (let w : at ≤ length text = h .within m in omega arith)
           by-fuel (suc n) l z = read-next text at end e n ∙ rw z
 
-          by-case : PairOf (part text at end) out value PairRead.Bad → QueryOf text bytes′ (record { rows = rows; outcome = QueryOutcome.Bad at })
+          by-case : PairOf (part text at end) out value PairRead.Bad → QueryOf text bytes′ (record { rows = rows; decision = refuse Reason.NoPair at })
           by-case (pair-of-none z) = query-of-none (h .left m ∙ ap (after (h .done)) (by-fuel (h .fuel) (h .enough m) (z at)))
 
       pub pass-until : (out value : List ℕ) (n k : ℕ) (r : PairRead) → PairOf (part text at end) out value r → r ≡ PairRead.Lengths n k → used + n < 18446744073709551616

@@ -7,13 +7,14 @@ use mathlib.Core.Bool.{false}
 use mathlib.Core.List.{List, [], _∷_, _++_, map, flatten}
 use lib.ListN.{take}
 use Rattle.base.proofs.All.{all-map}
-use Rattle.refusal.specs.Steps.{stop}
+use Rattle.refusal.specs.declared.Decision.{Decision}
+use Rattle.refusal.specs.declared.Refusal.{Refusal}
+use Rattle.refusal.specs.Steps.{refusalStep}
 use Rattle.search.specs.Spelling.{Alternative, Query, alternativesOf}
 use Rattle.search.specs.Reader.{takeQuery}
-use Rattle.search.specs.Rows.{Kept, keepPair, keepAll, keptIn, keptSays, RowWithin, alternativeIn, alternativesIn, rowsSay, TakenOf, taken-query, taken-size, taken-bad, taken-many, RowsOf}
-use Rattle.search.specs.declared.QueryTaken.{QueryTaken}
+use Rattle.search.specs.Rows.{Kept, keepPair, keepAll, keptIn, keptSays, RowWithin, alternativeIn, alternativesIn, rowsSay, TakenOf, taken-query, taken-none, RowsOf}
+use Rattle.search.specs.declared.QueryRead.{QueryRead}
 use Rattle.search.specs.declared.Row.{Row}
-use Rattle.search.specs.declared.TextOutcome.{TextOutcome}
 use Rattle.search.proofs.Keeping.{kept-says, map-append}
 use Rattle.search.proofs.Reading.{query-there}
 use Rattle.search.proofs.Taking.{keep-length}
@@ -40,7 +41,7 @@ kept-alternatives bytes [] = refl
 kept-alternatives bytes (r ∷ rs) = ap (λ (l : List Alternative). alternativeIn bytes r ∷ l) (kept-alternatives bytes rs)
 
 module _ {text bytes : List ℕ} where
-  pub taken-rows : {r : QueryTaken} → TakenOf text bytes r → r .outcome ≡ TextOutcome.Taken → (q : Query) × RowsOf text bytes (r .rows) q
+  pub taken-rows : {r : QueryRead} → TakenOf text bytes r → r .decision ≡ Decision.Passed → (q : Query) × RowsOf text bytes (r .rows) q
   unfolding alternativesIn rowsSay
   taken-rows (taken-query {q = q} {rows = rows} used u e few k) o = (
     q,
@@ -56,24 +57,9 @@ module _ {text bytes : List ℕ} where
       says = λ says. ap (keptSays says false) (k .kept few) ∙ kept-says says (query-there text q e .pairs);
     },
   )
-  taken-rows (taken-size e) o = absurd (let z : _≡_ {A = ℕ} 0 1 = cc in omega arith)
-  taken-rows (taken-bad e) o = absurd (let z : _≡_ {A = ℕ} 0 1 = cc in omega arith)
-  taken-rows (taken-many e) o = absurd (let z : _≡_ {A = ℕ} 0 1 = cc in omega arith)
+  taken-rows (taken-none e) o = absurd (let z : _≡_ {A = ℕ} 0 1 = cc in omega arith)
 
-  pub taken-by-size : {r : QueryTaken} → TakenOf text bytes r → r .outcome ≡ TextOutcome.Size → takeQuery text ≡ stop 10 0
-  taken-by-size (taken-size e) o = e
-  taken-by-size (taken-query used u e few k) o = absurd (let z : _≡_ {A = ℕ} 0 1 = cc in omega arith)
-  taken-by-size (taken-bad e) o = absurd (let z : _≡_ {A = ℕ} 0 1 = cc in omega arith)
-  taken-by-size (taken-many e) o = absurd (let z : _≡_ {A = ℕ} 0 1 = cc in omega arith)
-
-  pub taken-by-pair : {r : QueryTaken} (p : ℕ) → TakenOf text bytes r → r .outcome ≡ TextOutcome.Bad p → takeQuery text ≡ stop 50 p
-  taken-by-pair p (taken-bad {at = q} e) o = let z : q ≡ p = cc in e ∙ ap (λ (i : ℕ). stop 50 i) z
-  taken-by-pair p (taken-size e) o = absurd (let z : _≡_ {A = ℕ} 0 1 = cc in omega arith)
-  taken-by-pair p (taken-query used u e few k) o = absurd (let z : _≡_ {A = ℕ} 0 1 = cc in omega arith)
-  taken-by-pair p (taken-many e) o = absurd (let z : _≡_ {A = ℕ} 0 1 = cc in omega arith)
-
-  pub taken-by-count : {r : QueryTaken} → TakenOf text bytes r → r .outcome ≡ TextOutcome.Many → takeQuery text ≡ stop 51 0
-  taken-by-count (taken-many e) o = e
-  taken-by-count (taken-size e) o = absurd (let z : _≡_ {A = ℕ} 0 1 = cc in omega arith)
-  taken-by-count (taken-query used u e few k) o = absurd (let z : _≡_ {A = ℕ} 0 1 = cc in omega arith)
-  taken-by-count (taken-bad e) o = absurd (let z : _≡_ {A = ℕ} 0 1 = cc in omega arith)
+  -- why one was not taken
+  pub taken-refused : {r : QueryRead} (x : Refusal) → TakenOf text bytes r → r .decision ≡ Decision.Refused x → takeQuery text ≡ refusalStep x
+  taken-refused x (taken-none {r = y} e) o = let z : y ≡ x = cc in e ∙ ap (λ (w : Refusal). refusalStep w) z
+  taken-refused x (taken-query used u e few k) o = absurd (let z : _≡_ {A = ℕ} 0 1 = cc in omega arith)

@@ -13,34 +13,36 @@ use Rattle.card.specs.Card.{Entry}
 use Rattle.syntax.specs.Tree.{name}
 use Rattle.kind.specs.Table.{meaningOf}
 use Rattle.judge.specs.Sets.{lookup, valuesAt}
-use Rattle.judge.specs.Faults.{kindFault, orElse}
+use Rattle.judge.specs.Faults.{kindFault}
 use Rattle.judge.specs.Verdicts.{someValue, saysOf}
 use Rattle.refusal.specs.declared.Reason.{Reason}
-use Rattle.judge.specs.declared.Fault.{Fault}
-use Rattle.judge.specs.declared.FirstFault.{FirstFault}
+use Rattle.refusal.specs.declared.Decision.{Decision}
+use Rattle.refusal.specs.Decisions.{refuse, orElse}
 use Rattle.search.specs.Spelling.{Alternative, Query}
 use Rattle.search.specs.Asking.{askedOf}
 
 -- ---- faults
 
--- 16 and 17 of a text under a kind: a token by its own split, any other by the operator and the value that are asked
-unfoldable pub textFault : (kind split : ℕ) → List ℕ → Fault
-textFault kind split text =
-    cond (eqb kind token) (cond (readableAt split text) Fault.Nothing (Fault.Because Reason.Unreadable))
-    (kindFault (askedOf kind text .operator) kind (askedOf kind text .value))
+-- 16 and 17 of a text under a kind, with the place of its pair: a token by its own split, any other by the operator and the value that
+-- are asked
+unfoldable pub textFault : (kind split : ℕ) → List ℕ → (place : ℕ) → Decision
+textFault kind split text p =
+    cond (eqb kind token) (cond (readableAt split text) Decision.Passed (refuse Reason.Unreadable p))
+    (kindFault (askedOf kind text .operator) kind (askedOf kind text .value) p)
 
 -- "14 (bundles and members too)": a member's name is not found at the top
-abbrev pub faultAt : Found → (split : ℕ) → List ℕ → Fault
-faultAt Found.Missing split text = Fault.Because Reason.UnknownName
-faultAt (Found.At i kind) split text = cond (eqb kind bundleKind) (Fault.Because Reason.UnknownName) (textFault kind split text)
+abbrev pub faultAt : Found → (split : ℕ) → List ℕ → (place : ℕ) → Decision
+faultAt Found.Missing split text p = refuse Reason.UnknownName p
+faultAt (Found.At i kind) split text p = cond (eqb kind bundleKind) (refuse Reason.UnknownName p) (textFault kind split text p)
 
-unfoldable pub alternativeFault : List Parameter → Alternative → Fault
-alternativeFault ps a = faultAt (lookup ps 0 (name (a .name))) (a .split) (a .text)
+-- of an alternative: its place is the first byte of its pair
+unfoldable pub alternativeFault : List Parameter → Alternative → Decision
+alternativeFault ps a = faultAt (lookup ps 0 (name (a .name))) (a .split) (a .text) (a .at)
 
--- "per alternative, the first deciding": its fault, and the first byte of its pair
-unfoldable pub firstAlternativeFault : List Parameter → List Alternative → FirstFault
-firstAlternativeFault ps [] = record { fault = Fault.Nothing; position = 0 }
-firstAlternativeFault ps (a ∷ rest) = orElse (record { fault = alternativeFault ps a; position = a .at }) (firstAlternativeFault ps rest)
+-- "per alternative, the first deciding"
+unfoldable pub firstAlternativeFault : List Parameter → List Alternative → Decision
+firstAlternativeFault ps [] = Decision.Passed
+firstAlternativeFault ps (a ∷ rest) = orElse (alternativeFault ps a) (firstAlternativeFault ps rest)
 
 -- ---- verdicts
 

@@ -8,15 +8,15 @@ use lib.Dec.{ltb}
 use lib.ListN.{length, take, set}
 use Rattle.base.specs.Lists.{All}
 use Rattle.base.specs.Parts.{part}
-use Rattle.judge.specs.declared.Fault.{Fault}
 use Rattle.search.specs.Spelling.{Alternative, alternative, Query, alternativesOf, cutSigns}
-use Rattle.refusal.specs.Steps.{found, stop}
+use Rattle.refusal.specs.declared.Decision.{Decision}
+use Rattle.refusal.specs.declared.Reason.{Reason}
+use Rattle.refusal.specs.declared.Refusal.{Refusal}
+use Rattle.refusal.specs.Decisions.{refuse}
+use Rattle.refusal.specs.Steps.{found, stop, refusalStep}
 use Rattle.search.specs.Meaning.{queryMet}
 use Rattle.search.specs.Reader.{signsOf, readPairs, takeQuery}
-use Rattle.search.specs.declared.QueryOutcome.{QueryOutcome}
 use Rattle.search.specs.declared.QueryRead.{QueryRead}
-use Rattle.search.specs.declared.QueryTaken.{QueryTaken}
-use Rattle.search.specs.declared.TextOutcome.{TextOutcome}
 use Rattle.search.specs.declared.Held.{Held}
 use Rattle.search.specs.declared.Row.{Row}
 use Rattle.search.specs.declared.Rows.{Rows}
@@ -73,15 +73,13 @@ pub record PairHeld (value : List ℕ) (at name until start : ℕ) (bytes₀ : L
 
 -- what `read_query` leaves: rows that keep the query, or the place of 50
 pub data QueryOf (text bytes : List ℕ) : QueryRead → Type 0 where
-  query-of : {q : Query} {rows : Rows} (used : ℕ) → used ≤ length bytes → readPairs (suc (length text)) 0 text ≡ found q → Keeps rows bytes used (keepAll q) → QueryOf text bytes (record { rows = rows; outcome = QueryOutcome.Read })
-  query-of-none : {at : ℕ} {rows : Rows} → readPairs (suc (length text)) 0 text ≡ stop 50 at → QueryOf text bytes (record { rows = rows; outcome = QueryOutcome.Bad at })
+  query-of : {q : Query} {rows : Rows} (used : ℕ) → used ≤ length bytes → readPairs (suc (length text)) 0 text ≡ found q → Keeps rows bytes used (keepAll q) → QueryOf text bytes (record { rows = rows; decision = Decision.Passed })
+  query-of-none : {at : ℕ} {rows : Rows} → readPairs (suc (length text)) 0 text ≡ stop 50 at → QueryOf text bytes (record { rows = rows; decision = refuse Reason.NoPair at })
 
 -- what `take_query` leaves: the definition's query, kept in at most 32 rows, or its refusal
-pub data TakenOf (text bytes : List ℕ) : QueryTaken → Type 0 where
-  taken-query : {q : Query} {rows : Rows} (used : ℕ) → used ≤ length bytes → takeQuery text ≡ found q → rows .count ≤ 32 → Keeps rows bytes used (keepAll q) → TakenOf text bytes (record { rows = rows; outcome = TextOutcome.Taken })
-  taken-size : {rows : Rows} → takeQuery text ≡ stop 10 0 → TakenOf text bytes (record { rows = rows; outcome = TextOutcome.Size })
-  taken-bad : {rows : Rows} {at : ℕ} → takeQuery text ≡ stop 50 at → TakenOf text bytes (record { rows = rows; outcome = TextOutcome.Bad at })
-  taken-many : {rows : Rows} → takeQuery text ≡ stop 51 0 → TakenOf text bytes (record { rows = rows; outcome = TextOutcome.Many })
+pub data TakenOf (text bytes : List ℕ) : QueryRead → Type 0 where
+  taken-query : {q : Query} {rows : Rows} (used : ℕ) → used ≤ length bytes → takeQuery text ≡ found q → rows .count ≤ 32 → Keeps rows bytes used (keepAll q) → TakenOf text bytes (record { rows = rows; decision = Decision.Passed })
+  taken-none : {rows : Rows} {r : Refusal} → takeQuery text ≡ refusalStep r → TakenOf text bytes (record { rows = rows; decision = Decision.Refused r })
 
 -- ---- rows that are kept, as they are judged
 
@@ -101,10 +99,6 @@ alternativesIn bytes rows = map (alternativeIn bytes) (take (rows .count) (rows 
 -- what they say, where Says is what an alternative says
 unfoldable pub rowsSay : (Alternative → Bool) → List ℕ → Rows → Bool
 rowsSay says bytes rows = keptSays says false (map (keptIn bytes) (take (rows .count) (rows .rows)))
-
-abbrev pub isFault : Fault → Bool
-isFault Fault.Nothing = false
-isFault (Fault.Because r) = true
 
 -- a search string was taken, and the rows keep its query
 pub record RowsOf (text bytes : List ℕ) (rows : Rows) (q : Query) : Type 0 where

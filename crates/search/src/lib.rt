@@ -7,6 +7,8 @@ pub mod pieces;
 pub mod query;
 pub mod says;
 
+use refusal::Decision;
+
 // A byte that a name or a value stands for, and where the text goes on; or a bad %.
 pub enum Read {
     Byte(u8, usize),
@@ -69,28 +71,9 @@ pub struct Held {
     pub used: usize,
 }
 
-// Whether all pairs were read, or where the first begins that is none.
-pub enum QueryOutcome {
-    Read,
-    Bad(usize),
-}
-
-// The alternatives that were read.
+// The alternatives that were read, or why a search string is refused: 10 for its size, 50 with the place of the pair, 51 for too many
+// alternatives.
 pub struct QueryRead {
     pub rows: Rows,
-    pub outcome: QueryOutcome,
-}
-
-// Whether a search string was taken; or why it is refused: 10 for its size, 50 with the place of the pair, 51 for too many alternatives.
-pub enum TextOutcome {
-    Taken,
-    Size,
-    Bad(usize),
-    Many,
-}
-
-// The alternatives of a search string that was taken.
-pub struct QueryTaken {
-    pub rows: Rows,
-    pub outcome: TextOutcome,
+    pub decision: Decision,
 }

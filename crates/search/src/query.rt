@@ -1,14 +1,14 @@
 // A query as it is kept: a row for each alternative, up to 32, over one buffer of decoded bytes.
 use crate::Held;
 use crate::PairRead;
-use crate::QueryOutcome;
 use crate::QueryRead;
-use crate::QueryTaken;
 use crate::Row;
 use crate::Rows;
-use crate::TextOutcome;
 use crate::pair::read_pair;
 use crate::pieces::next_alternative;
+use refusal::Decision;
+use refusal::Reason;
+use refusal::refuse;
 ghost use mathlib.Core.Path.{_≡_};
 ghost use Prim.Native.Nat.{_+_, _≤_, _<_};
 ghost use lib.ListN.{length};
@@ -101,7 +101,7 @@ pub fn read_query(text: &[u8], bytes: &mut [u8]) -> QueryRead
         let PairRead::Lengths(name_len, value_len) = read else {
             return QueryRead {
                 rows,
-                outcome: QueryOutcome::Bad(at),
+                decision: refuse(Reason::NoPair, at),
             };
         };
         let until = used + name_len;
@@ -113,7 +113,7 @@ pub fn read_query(text: &[u8], bytes: &mut [u8]) -> QueryRead
     }
     QueryRead {
         rows,
-        outcome: QueryOutcome::Read,
+        decision: Decision::Passed,
     }
 }
 
@@ -134,39 +134,33 @@ pub fn no_rows() -> Rows {
 }
 
 // Reads a search string: 10, 50 and 51 in this order, or its alternatives.
-pub fn take_query(text: &[u8], bytes: &mut [u8]) -> QueryTaken
+pub fn take_query(text: &[u8], bytes: &mut [u8]) -> QueryRead
     requires { ⌜ 1024 ≤ length (now bytes) ⌝ }
     ensures { λ r. ⌜ TakenOf (now (text .entry)) (now (bytes .exit)) r ⌝ }
 {
     if text.len() == 0 {
-        return QueryTaken {
+        return QueryRead {
             rows: no_rows(),
-            outcome: TextOutcome::Size,
+            decision: refuse(Reason::FilterSize, 0),
         };
     }
     if text.len() > 1024 {
-        return QueryTaken {
+        return QueryRead {
             rows: no_rows(),
-            outcome: TextOutcome::Size,
+            decision: refuse(Reason::FilterSize, 0),
         };
     }
     let read = read_query(text, bytes);
     let rows = read.rows;
-    let outcome = read.outcome;
-    if let QueryOutcome::Bad(at) = outcome {
-        return QueryTaken {
-            rows,
-            outcome: TextOutcome::Bad(at),
-        };
+    let decision = read.decision;
+    if let Decision::Refused(_) = decision {
+        return read;
     }
     if rows.count > 32 {
-        return QueryTaken {
+        return QueryRead {
             rows,
-            outcome: TextOutcome::Many,
+            decision: refuse(Reason::ManyAlternatives, 0),
         };
     }
-    QueryTaken {
-        rows,
-        outcome: TextOutcome::Taken,
-    }
+    read
 }

@@ -29,7 +29,7 @@ use Rattle.spell.specs.Plain.{plain}
 use Rattle.spell.specs.Walks.{RoomFor, Spelt}
 use Rattle.spell.specs.Spelling.{wrongSize, placed, outcome, put, bytes, SpellsInto, IsFilter, TextRoom, TextSpelt, TextLength, PlacedInto}
 use Rattle.spell.specs.declared.Written.{Written}
-use Rattle.spell.specs.declared.Outcome.{Outcome}
+use Rattle.spell.specs.declared.Spelled.{Spelled}
 use Rattle.spell.proofs.Length.{never-longer}
 use Rattle.base.proofs.Writing.{lent, back}
 use Rattle.spell.proofs.Walking.{same-tree}
@@ -90,13 +90,13 @@ pub room-left : (size from n : ℕ) → from ≤ size → leb n (size - from) �
 room-left size from n h = same-test (leb n (size - from)) (leb (from + n) size) (λ k. le-leb (from + n) size (omega (arith, leb-true n (size - from) k))) (λ k. le-leb n (size - from) (omega (arith, leb-true (from + n) size k)))
 
 module _ (xs buffer : List ℕ) (from n : ℕ) (t : TextLength xs n) where
-  too-long : length buffer < from + n → PlacedInto xs buffer from (Outcome.Refused (record { reason = Reason.ShortBuffer; place = n })) buffer
+  too-long : length buffer < from + n → PlacedInto xs buffer from (Spelled.Refused (record { reason = Reason.ShortBuffer; place = n })) buffer
   unfolding placed put
   too-long h =
       let z : leb (from + length (plain (t .tree))) (length buffer) ≡ false = lt-leb (from + length (plain (t .tree))) (length buffer) (omega (arith, t .long)) in
       record { tree = t .tree; reads = t .reads; answers = rw (z, t .long); bytes-are = rw z }
 
-  pub place-past : (r : Bool) → r ≡ leb (from + n) (length buffer) → r ≡ false → PlacedInto xs buffer from (Outcome.Refused (record { reason = Reason.ShortBuffer; place = n })) buffer
+  pub place-past : (r : Bool) → r ≡ leb (from + n) (length buffer) → r ≡ false → PlacedInto xs buffer from (Spelled.Refused (record { reason = Reason.ShortBuffer; place = n })) buffer
   place-past r e h = too-long (leb-false (from + n) (length buffer) (sym e ∙ h))
 
   module _ (r : Bool) (e : r ≡ leb (from + n) (length buffer)) (g : r ≡ true) where
@@ -112,7 +112,7 @@ module _ (xs buffer : List ℕ) (from n : ℕ) (t : TextLength xs n) where
     pub place-room : TextRoom xs (lent buffer from)
     place-room = record { tree = t .tree; reads = t .reads; room = record { fits = omega (arith, lent-long, room, t .long) } }
 
-    pub place-text : {exit : List ℕ} {m : ℕ} → TextSpelt xs (lent buffer from) exit m → PlacedInto xs buffer from (Outcome.Length m) (back buffer from exit)
+    pub place-text : {exit : List ℕ} {m : ℕ} → TextSpelt xs (lent buffer from) exit m → PlacedInto xs buffer from (Spelled.Length m) (back buffer from exit)
     unfolding placed put
     place-text {exit} {m} s =
         let same : t .tree ≡ s .tree = same-some (sym (t .reads) ∙ s .reads) in
@@ -148,18 +148,18 @@ module _ (text buffer : List ℕ) (from : ℕ) where
       right-size = rw (ne-eqb (length text) 0 n, le-ltb 1024 (length text) l)
 
       module _ (r : Found) (e : r ≡ found deepest mostTests text) where
-        pub spell-failed : (p : Refusal) → r ≡ Found.Failed p → SpellsInto text buffer from (Outcome.Refused p) buffer
+        pub spell-failed : (p : Refusal) → r ≡ Found.Failed p → SpellsInto text buffer from (Spelled.Refused p) buffer
         unfolding outcome bytes
         spell-failed p h =
             let w = found-failed text r e p h in
             let m : read text ≡ none = not-read (read text) refl (w .0) in
-            record { answers = rw (right-size, m) (ap (λ (x : Refusal). Outcome.Refused x) (w .1)); bytes-are = rw (right-size, m) }
+            record { answers = rw (right-size, m) (ap (λ (x : Refusal). Spelled.Refused x) (w .1)); bytes-are = rw (right-size, m) }
           where
             not-read : (o : Option Tree) → read text ≡ o → ((f : Tree) → Spells text f → ⊥) → read text ≡ none
             not-read (some f) k z = absurd (z f (read-spells text f .0 k))
             not-read none k z = k
 
-      pub spell-placed : {o : Outcome} {exit : List ℕ} → PlacedInto text buffer from o exit → SpellsInto text buffer from o exit
+      pub spell-placed : {o : Spelled} {exit : List ℕ} → PlacedInto text buffer from o exit → SpellsInto text buffer from o exit
       unfolding outcome bytes
       spell-placed p = record { answers = p .answers ∙ rw (right-size, p .reads); bytes-are = p .bytes-are ∙ rw (right-size, p .reads) }
 

@@ -14,20 +14,20 @@ use Rattle.refusal.specs.declared.Reason.{Reason}
 use Rattle.place.specs.Machine.{failure}
 use Rattle.spell.specs.Plain.{plain}
 use Rattle.base.specs.Writing.{Room, Puts}
-use Rattle.spell.specs.declared.Outcome.{Outcome}
+use Rattle.spell.specs.declared.Spelled.{Spelled}
 
 -- the text's length is the answer, unless it "would run past the buffer's end"
-unfoldable pub placed : List ℕ → (from room : ℕ) → Outcome
-placed w from room = cond (leb (from + length w) room) (Outcome.Length (length w)) (Outcome.Refused (record { reason = Reason.ShortBuffer; place = length w }))
+unfoldable pub placed : List ℕ → (from room : ℕ) → Spelled
+placed w from room = cond (leb (from + length w) room) (Spelled.Length (length w)) (Spelled.Refused (record { reason = Reason.ShortBuffer; place = length w }))
 
-abbrev pub wrongSize : Outcome
-wrongSize = Outcome.Refused (record { reason = Reason.FilterSize; place = 0 })
+abbrev pub wrongSize : Spelled
+wrongSize = Spelled.Refused (record { reason = Reason.FilterSize; place = 0 })
 
-abbrev pub treeOutcome : List ℕ → (from room : ℕ) → Option Tree → Outcome
+abbrev pub treeOutcome : List ℕ → (from room : ℕ) → Option Tree → Spelled
 treeOutcome text from room (some f) = placed (plain f) from room
-treeOutcome text from room none = Outcome.Refused (failure deepest mostTests text)
+treeOutcome text from room none = Spelled.Refused (failure deepest mostTests text)
 
-unfoldable pub outcome : List ℕ → (from room : ℕ) → Outcome
+unfoldable pub outcome : List ℕ → (from room : ℕ) → Spelled
 outcome text from room = cond (eqb (length text) 0 || ltb 1024 (length text)) wrongSize (treeOutcome text from room (read text))
 
 -- "the text is put into the buffer from the place the caller names, .. and all other bytes stay"; "buffer as given" where it has no room
@@ -42,7 +42,7 @@ unfoldable pub bytes : List ℕ → ℕ → List ℕ → List ℕ
 bytes text from buffer = cond (eqb (length text) 0 || ltb 1024 (length text)) buffer (treeBytes from buffer (read text))
 
 -- what spelling owes on every input
-pub record SpellsInto (text buffer : List ℕ) (from : ℕ) (r : Outcome) (exit : List ℕ) : Type 0 where
+pub record SpellsInto (text buffer : List ℕ) (from : ℕ) (r : Spelled) (exit : List ℕ) : Type 0 where
   pub answers : r ≡ outcome text from (length buffer)
   pub bytes-are : exit ≡ bytes text from buffer
 
@@ -68,7 +68,7 @@ pub record TextLength (text : List ℕ) (count : ℕ) : Type 0 where
   pub long : count ≡ length (plain tree)
 
 -- placed into the buffer
-pub record PlacedInto (text buffer : List ℕ) (from : ℕ) (r : Outcome) (exit : List ℕ) : Type 0 where
+pub record PlacedInto (text buffer : List ℕ) (from : ℕ) (r : Spelled) (exit : List ℕ) : Type 0 where
   pub tree : Tree
   pub reads : read text ≡ some tree
   pub answers : r ≡ placed (plain tree) from (length buffer)

@@ -30,8 +30,8 @@ pub struct Written {
     pub join: bool,
 }
 
-// What spelling a text comes to: the length of the plain spelling, which is written, or why none is.
-pub enum Outcome {
+// What spell answers: the length of the plain spelling that it has written into the buffer, or a refusal.
+pub enum Spelled {
     Length(usize),
     Refused(Refusal),
 }
@@ -76,7 +76,7 @@ fn has_room(size: usize, from: usize, length: usize) -> bool
 }
 
 // Writes the plain spelling of a filter into the buffer from a place on, if there is room.
-fn place_text(filter: &[u8], buffer: &mut [u8], from: usize) -> Outcome
+fn place_text(filter: &[u8], buffer: &mut [u8], from: usize) -> Spelled
     requires { ⌜ length (now filter) ≤ 1024 ⌝ }
     requires { ⌜ IsFilter (now filter) ⌝ }
     ensures { λ r. ⌜ PlacedInto (now (filter .entry)) (now (buffer .entry)) from r (now (buffer .exit)) ⌝ }
@@ -84,9 +84,9 @@ fn place_text(filter: &[u8], buffer: &mut [u8], from: usize) -> Outcome
     let length = measure(filter);
     if has_room(buffer.len(), from, length) {
         let written = write_text(filter, &mut buffer[from..]);
-        return Outcome::Length(written);
+        return Spelled::Length(written);
     }
-    Outcome::Refused(Refusal {
+    Spelled::Refused(Refusal {
         reason: Reason::ShortBuffer,
         place: length,
     })
@@ -94,17 +94,17 @@ fn place_text(filter: &[u8], buffer: &mut [u8], from: usize) -> Outcome
 
 // Writes the plain spelling of a filter into the buffer from a place on, and answers its length; or why not, and then the buffer is as
 // it was.
-pub fn spell(filter: &[u8], buffer: &mut [u8], from: usize) -> Outcome
+pub fn spell(filter: &[u8], buffer: &mut [u8], from: usize) -> Spelled
     ensures { λ r. ⌜ SpellsInto (now (filter .entry)) (now (buffer .entry)) from r (now (buffer .exit)) ⌝ }
 {
     if filter.len() == 0 {
-        return Outcome::Refused(Refusal {
+        return Spelled::Refused(Refusal {
             reason: Reason::FilterSize,
             place: 0,
         });
     }
     if filter.len() > 1024 {
-        return Outcome::Refused(Refusal {
+        return Spelled::Refused(Refusal {
             reason: Reason::FilterSize,
             place: 0,
         });
@@ -112,6 +112,6 @@ pub fn spell(filter: &[u8], buffer: &mut [u8], from: usize) -> Outcome
     let found = find(filter);
     match found {
         Found::Filter => place_text(filter, buffer, from),
-        Found::Failed(failure) => Outcome::Refused(failure),
+        Found::Failed(failure) => Spelled::Refused(failure),
     }
 }

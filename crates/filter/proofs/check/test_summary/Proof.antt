@@ -1,4 +1,4 @@
--- `filter::check::test_summary` meets its contract: a test's fault stands at its first byte. Assumes nothing.
+-- `filter::check::test_summary` meets its contract: one test, and what is decided of it. Assumes nothing.
 use borrow.Author.Needs.{needs}
 use Rattle.filter.proofs.Reading.{summary-test}
 use Rattle.filter.proofs.check.test_summary.Statement.{statement}
@@ -7,11 +7,8 @@ use Rattle.filter.proofs.check.test_summary.Tie as tie
 test-fault-requires : tie.Need-test-fault-requires
 test-fault-requires c κs = search needs
 
-first-of-requires : tie.Need-first-of-requires
-first-of-requires c κs = search needs
-
 returns : tie.Need-returns
 returns c = search (summary-test, needs)
 
 pub test-summary-spec : {M : Type 1} → statement M
-test-summary-spec = tie.close (tie.spec test-fault-requires first-of-requires returns)
+test-summary-spec = tie.close (tie.spec test-fault-requires returns)

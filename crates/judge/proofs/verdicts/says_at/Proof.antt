@@ -4,11 +4,8 @@ use Rattle.judge.proofs.Meaning.{says-found, says-missing}
 use Rattle.judge.proofs.verdicts.says_at.Statement.{statement}
 use Rattle.judge.proofs.verdicts.says_at.Tie as tie
 
-find-requires : tie.Need-find-requires
-find-requires c κs = search needs
-
-enum-known-index : tie.Need-enum-known-index
-enum-known-index c = search needs
+enum-known-found : tie.Need-enum-known-found
+enum-known-found c = search needs
 
 meaning-of-requires : tie.Need-meaning-of-requires
 meaning-of-requires c κs = search needs
@@ -28,11 +25,4 @@ returns-2 c = search (says-missing, needs)
 pub says-at-spec : {M : Type 1} → statement M
 says-at-spec =
     tie.close
-    (tie.spec
-    find-requires
-    enum-known-index
-    meaning-of-requires
-    says-of-requires
-    enum-told
-    returns
-    returns-2)
+    (tie.spec enum-known-found meaning-of-requires says-of-requires enum-told returns returns-2)

@@ -16,6 +16,9 @@ parameter-fault-requires c κs = search needs
 enum-told : tie.Need-enum-told
 enum-told c = search needs
 
+refuse-requires : tie.Need-refuse-requires
+refuse-requires c κs = search needs
+
 returns : tie.Need-returns
 returns c = search (fault-found, needs)
 
@@ -25,4 +28,11 @@ returns-2 c = search (fault-missing, needs)
 pub fault-at-spec : {M : Type 1} → statement M
 fault-at-spec =
     tie.close
-    (tie.spec find-requires enum-known-kind parameter-fault-requires enum-told returns returns-2)
+    (tie.spec
+    find-requires
+    enum-known-kind
+    parameter-fault-requires
+    enum-told
+    refuse-requires
+    returns
+    returns-2)

@@ -25,11 +25,14 @@ element-copy-out-row c = search (facing-few, needs)
 row-fault-requires : tie.Need-row-fault-requires Inv-loop μ-loop
 row-fault-requires c κs = search (facing-row, needs)
 
-is-fault-requires : tie.Need-is-fault-requires Inv-loop μ-loop
-is-fault-requires c κs = search needs
+enum-told : tie.Need-enum-told Inv-loop μ-loop
+enum-told c = search needs
 
 returns : tie.Need-returns Inv-loop μ-loop
 returns c = search (facing-fault, needs)
+
+enum-told-2 : tie.Need-enum-told-2 Inv-loop μ-loop
+enum-told-2 c = search needs
 
 add-i : tie.Need-add-i Inv-loop μ-loop
 add-i c = search (facing-few, needs)
@@ -53,8 +56,9 @@ first-fault-spec =
     mul-row
     element-copy-out-row
     row-fault-requires
-    is-fault-requires
+    enum-told
     returns
+    enum-told-2
     add-i
     loop-less
     loop-again

@@ -10,6 +10,9 @@ readable-at-requires c κs = search needs
 returns : tie.Need-returns
 returns c = search (token-readable, needs)
 
+refuse-requires : tie.Need-refuse-requires
+refuse-requires c κs = search needs
+
 returns-2 : tie.Need-returns-2
 returns-2 c = search (token-unreadable, needs)
 
@@ -37,6 +40,7 @@ text-fault-spec =
     (tie.spec
     readable-at-requires
     returns
+    refuse-requires
     returns-2
     asked-of-requires
     sub-kind-fault

@@ -50,6 +50,9 @@ enum-known-read c = search needs
 enum-told : tie.Need-enum-told Inv-loop μ-loop
 enum-told c = search needs
 
+refuse-requires : tie.Need-refuse-requires Inv-loop μ-loop
+refuse-requires c κs = search needs
+
 same-length : tie.Need-same-length Inv-loop μ-loop
 same-length c = search needs
 
@@ -101,6 +104,7 @@ read-query-spec =
     read-pair-requires
     enum-known-read
     enum-told
+    refuse-requires
     same-length
     returns
     add-until

@@ -7,11 +7,17 @@ use Rattle.search.proofs.query.take_query.Tie as tie
 no-rows-requires : tie.Need-no-rows-requires
 no-rows-requires c κs = search needs
 
+refuse-requires : tie.Need-refuse-requires
+refuse-requires c κs = search needs
+
 returns : tie.Need-returns
 returns c = search (take-empty, needs)
 
 no-rows-requires-2 : tie.Need-no-rows-requires-2
 no-rows-requires-2 c κs = search needs
+
+refuse-requires-2 : tie.Need-refuse-requires-2
+refuse-requires-2 c κs = search needs
 
 returns-2 : tie.Need-returns-2
 returns-2 c = search (take-long, needs)
@@ -19,8 +25,8 @@ returns-2 c = search (take-long, needs)
 read-query-requires : tie.Need-read-query-requires
 read-query-requires c κs = search needs
 
-enum-known-outcome : tie.Need-enum-known-outcome
-enum-known-outcome c = search needs
+enum-told : tie.Need-enum-told
+enum-told c = search needs
 
 same-length : tie.Need-same-length
 same-length c = search needs
@@ -28,8 +34,11 @@ same-length c = search needs
 returns-3 : tie.Need-returns-3
 returns-3 c = search (take-bad, needs)
 
-enum-told : tie.Need-enum-told
-enum-told c = search needs
+enum-told-2 : tie.Need-enum-told-2
+enum-told-2 c = search needs
+
+refuse-requires-3 : tie.Need-refuse-requires-3
+refuse-requires-3 c κs = search needs
 
 same-length-2 : tie.Need-same-length-2
 same-length-2 c = search needs
@@ -48,14 +57,17 @@ take-query-spec =
     tie.close
     (tie.spec
     no-rows-requires
+    refuse-requires
     returns
     no-rows-requires-2
+    refuse-requires-2
     returns-2
     read-query-requires
-    enum-known-outcome
+    enum-told
     same-length
     returns-3
-    enum-told
+    enum-told-2
+    refuse-requires-3
     same-length-2
     returns-4
     same-length-3

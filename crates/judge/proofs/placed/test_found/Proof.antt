@@ -1,8 +1,8 @@
--- `judge::tests::test_found` meets its contract. Assumes nothing.
+-- `judge::placed::test_found` meets its contract. Assumes nothing.
 use borrow.Author.Needs.{needs}
 use Rattle.judge.proofs.Meaning.{found-name}
-use Rattle.judge.proofs.tests.test_found.Statement.{statement}
-use Rattle.judge.proofs.tests.test_found.Tie as tie
+use Rattle.judge.proofs.placed.test_found.Statement.{statement}
+use Rattle.judge.proofs.placed.test_found.Tie as tie
 
 sub-find : tie.Need-sub-find
 sub-find c = search needs
