@@ -4,11 +4,14 @@ use borrow.Author.Needs.{needs}
 use Rattle.explain.proofs.marks.join_marks.Statement.{statement}
 use Rattle.explain.proofs.marks.join_marks.Tie as tie
 
+enum-told : tie.Need-enum-told
+enum-told c = search needs
+
 both-requires : tie.Need-both-requires
 both-requires c κs = search needs
 
-returns : tie.Need-returns
-returns c = search (join-both, needs)
+enum-told-2 : tie.Need-enum-told-2
+enum-told-2 c = search needs
 
 opposite-requires : tie.Need-opposite-requires
 opposite-requires c κs = search needs
@@ -22,6 +25,9 @@ both-requires-2 c κs = search needs
 opposite-requires-3 : tie.Need-opposite-requires-3
 opposite-requires-3 c κs = search needs
 
+returns : tie.Need-returns
+returns c = search (join-both, needs)
+
 returns-2 : tie.Need-returns-2
 returns-2 c = search (join-either, needs)
 
@@ -29,10 +35,12 @@ pub join-marks-spec : {M : Type 1} → statement M
 join-marks-spec =
     tie.close
     (tie.spec
+    enum-told
     both-requires
-    returns
+    enum-told-2
     opposite-requires
     opposite-requires-2
     both-requires-2
     opposite-requires-3
+    returns
     returns-2)
