@@ -12,7 +12,7 @@ ghost use lib.ListN.{length};
 ghost use Rattle.sheet.specs.Sheet.{Parameter};
 ghost use Rattle.sheet.specs.Find.{kindsOf};
 ghost use Rattle.row_judge.specs.Saying.{Whole};
-ghost use Rattle.row_judge.specs.Opening.{Opens};
+ghost use Rattle.row_opener.specs.Opening.{Opens};
 ghost use Rattle.row_judge.specs.Jumping.{Jumps};
 ghost use Rattle.answer.specs.Passing.{cardVerdict};
 ghost use Rattle.one_card.specs.OneCard.{verdictStep};

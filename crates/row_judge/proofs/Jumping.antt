@@ -13,7 +13,7 @@ use Rattle.base.specs.Lists.{all-cons}
 use Rattle.syntax.specs.declared.Connective.{Connective}
 use Rattle.rows.specs.Expression.{Expression}
 use Rattle.rows.specs.Cells.{rowOf, encode, run}
-use Rattle.row_judge.specs.Opening.{Lists, Opens}
+use Rattle.row_opener.specs.Opening.{Lists, Opens}
 use Rattle.row_judge.specs.Jumping.{Item, Jumps, Leapt}
 use Rattle.rows.proofs.Stating.{run-encode, flat}
 use Rattle.rows.proofs.Machine.{Stacked}

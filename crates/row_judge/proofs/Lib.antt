@@ -1,6 +1,5 @@
 -- The laws that the proofs cite.
 pub mod Saying
 pub mod Meaning
-pub mod Opening
 pub mod Jumping
 pub mod Noting

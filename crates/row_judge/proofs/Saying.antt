@@ -39,11 +39,11 @@ use Rattle.rows.specs.Cells.{rowOf, cellOf, encode, Writable, push, only, state
 use Rattle.rows.specs.Shapes.{valueIn}
 use Rattle.row_judge.specs.Saying.{probeSaysBy, probeSays, expressionSays, statedSays, rowsSay, Whole, Bracketed, innerSays, anyOccurrence, someEntry, occurrenceSays, probeSaysEachBy, probeSaysEach}
 use Rattle.rows.specs.declared.Probe.{Probe}
-use Rattle.row_judge.specs.Opening.{openedValue, openedBy, openedFor, openedIn, openedRow, valueOf, Known, openedFrom, Opens}
+use Rattle.row_opener.specs.Opening.{openedValue, openedBy, openedFor, openedIn, openedRow, valueOf, Known, openedFrom, Opens}
 use Rattle.row_judge.specs.Jumping.{Item, Jumps, Lands, Leapt}
 use Rattle.rows.specs.declared.Row.{Row}
-use Rattle.row_judge.specs.declared.Opened.{Opened}
-use Rattle.row_judge.proofs.Opening.{row-small, cells-back}
+use Rattle.row_opener.specs.declared.Opened.{Opened}
+use Rattle.row_opener.proofs.Opening.{row-small, cells-back}
 use Rattle.row_judge.proofs.Jumping.{stacked-item}
 use Rattle.rows.proofs.Stating.{stated-encode, stated-cells, flat, total, height-total}
 use Rattle.rows.proofs.Machine.{Holds, holds-none, holds-more, holds-length, holds-push, top-of, none-on, Stacked, stacked-start, stacked-next, stacked-fails, stacked-end, stacked-total}

@@ -1,9 +1,9 @@
 // Rows that are opened for one card alone.
 use crate::jump::note_jumps;
 use crate::says::rows_say;
-use crate::store::open_rows;
 use block::Reading;
 use judge::Chosen;
+use row_opener::open_rows;
 ghost use mathlib.Core.Path.{_≡_};
 ghost use Prim.Native.Nat.{_≤_};
 ghost use lib.ListN.{length};

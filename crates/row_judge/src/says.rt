@@ -1,7 +1,5 @@
 // What rows that were opened say of a card: each row changes a stack of verdicts, and the rows of an item whose join is decided are left
 // out. The rows in a test's brackets are judged for each occurrence by itself.
-use crate::Opened;
-use crate::store::opened_from;
 use block::Reading;
 use judge::Chosen;
 use judge::counts_read;
@@ -9,6 +7,8 @@ use judge::is_under;
 use judge::some_says;
 use kind::Meaning;
 use kind::Readings;
+use row_opener::Opened;
+use row_opener::opened_from;
 use rows::Probe;
 use rows::Row;
 use rows::row_of;
@@ -28,7 +28,7 @@ ghost use Rattle.judge.specs.Sets.{chosenOf};
 ghost use Rattle.judge.specs.Verdicts.{textCounts, joined};
 ghost use Rattle.base.specs.Parts.{part};
 ghost use Rattle.row_judge.specs.Saying.{rowsSay, Whole, Bracketed, anyOccurrence, someEntry, occurrenceSays, probeSaysEach};
-ghost use Rattle.row_judge.specs.Opening.{Known, valueOf, openedFor, openedFrom, Opens};
+ghost use Rattle.row_opener.specs.Opening.{Known, valueOf, openedFor, openedFrom, Opens};
 ghost use Rattle.row_judge.specs.Jumping.{Jumps, Leapt};
 
 // Two verdicts joined by and or or.

@@ -11,7 +11,7 @@ ghost use Prim.Native.Nat.{ℕ};
 ghost use lib.ListN.{length};
 ghost use Rattle.sheet.specs.Sheet.{parametersOf, readSheet};
 ghost use Rattle.sheet.specs.Find.{kindsOf};
-ghost use Rattle.row_judge.specs.Opening.{Opens};
+ghost use Rattle.row_opener.specs.Opening.{Opens};
 ghost use Rattle.row_judge.specs.Jumping.{Jumps};
 ghost use Rattle.answer.specs.Passing.{cardVerdict};
 ghost use Rattle.one_card.specs.OneCard.{verdictStep};

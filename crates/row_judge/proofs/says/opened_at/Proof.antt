@@ -1,6 +1,6 @@
 -- `row_judge::says::opened_at` meets its contract. Assumes nothing.
 use borrow.Author.Needs.{needs}
-use Rattle.row_judge.proofs.Opening.{from-same}
+use Rattle.row_opener.proofs.Opening.{from-same}
 use Rattle.row_judge.proofs.says.opened_at.Statement.{statement}
 use Rattle.row_judge.proofs.says.opened_at.Tie as tie
 

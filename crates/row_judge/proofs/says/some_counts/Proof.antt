@@ -5,7 +5,7 @@ use Rattle.block.proofs.Items.{visited-next, visited-decides, visited-end}
 use Rattle.card.specs.Card.{entry, entriesOf}
 use Rattle.card.proofs.Entries.{entries-start}
 use Rattle.row_judge.specs.Saying.{anyOccurrence, someEntry}
-use Rattle.row_judge.specs.Opening.{valueOf}
+use Rattle.row_opener.specs.Opening.{valueOf}
 use Rattle.row_judge.proofs.Saying.{plain-here, plain-next, plain-other, entry-end}
 use Rattle.row_judge.proofs.says.some_counts.Statement.{statement}
 use Rattle.row_judge.proofs.says.some_counts.Tie as tie

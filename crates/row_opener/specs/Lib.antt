@@ -1,0 +1,3 @@
+-- What the values of rows read to, and the cells that have it.
+pub mod Opening
+pub mod Packing

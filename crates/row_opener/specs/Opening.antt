@@ -1,0 +1,119 @@
+-- What the value of a test reads to, opened once for many cards, and the cells that have it, one of each list for a row.
+-- Assumes nothing.
+use Prim.Native.Nat.{ℕ, _+_, _*_, _/_, _%_, _≤_, _<_}
+use mathlib.Core.Path.{_≡_}
+use mathlib.Core.Bool.{true, false, cond}
+use mathlib.Core.List.{List}
+use lib.Dec.{eqb, ltb}
+use lib.IntN.{ℤ, pos}
+use lib.ListN.{length, getD}
+use Rattle.base.specs.Parts.{part}
+use Rattle.number.specs.declared.Reading as number-readings
+use Rattle.date.specs.declared.Reading as date-readings
+use Rattle.syntax.specs.Scan.{valueAt, contents}
+use Rattle.syntax.specs.declared.RawValue.{RawValue}
+use Rattle.syntax.specs.declared.FoundValue.{FoundValue}
+use Rattle.kind.specs.Table.{meaningOf}
+use Rattle.kind.specs.Readable.{isTrue}
+use Rattle.kind.specs.Stands.{unread}
+use Rattle.kind.specs.declared.Meaning.{Meaning}
+use Rattle.judge.specs.Once.{readingsFor}
+use Rattle.rows.specs.Cells.{rowOf}
+use Rattle.rows.specs.Shapes.{bit, valueIn}
+use Rattle.rows.specs.declared.Probe.{Probe}
+use Rattle.rows.specs.declared.Row.{Row}
+use Rattle.row_opener.specs.declared.Opened.{Opened}
+
+-- ---- the value of a test
+
+-- of a row that has no value
+abbrev pub closed : Opened
+closed = record { found = false; escaped = false; truth = false; start = 0; end = 0; readings = unread }
+
+-- of a value of the text with these bytes
+unfoldable pub openedValue : Meaning → RawValue → List ℕ → Opened
+openedValue m v w = record { found = true; escaped = v .escaped; truth = isTrue w; start = v .start; end = v .end; readings = readingsFor m w }
+
+abbrev pub openedBy : List ℕ → Meaning → FoundValue → Opened
+openedBy xs m (FoundValue.Value v) = openedValue m v (valueIn xs v)
+openedBy xs m FoundValue.Nothing = closed
+
+unfoldable pub openedFor : List ℕ → List ℕ → Probe → Opened
+openedFor kinds xs p = openedBy xs (meaningOf (p .operator) (getD kinds (p .index) 0)) (valueAt xs (p .position))
+
+abbrev pub openedIn : List ℕ → List ℕ → Row → Opened
+openedIn kinds xs (Row.Test p) = openedFor kinds xs p
+openedIn kinds xs (Row.Bracket p) = openedFor kinds xs p
+openedIn kinds xs Row.Not = closed
+openedIn kinds xs (Row.Connect a) = closed
+openedIn kinds xs Row.Unknown = closed
+
+unfoldable pub openedRow : List ℕ → List ℕ → ℕ → Opened
+openedRow kinds xs c = openedIn kinds xs (rowOf c)
+
+-- the bytes of a value that was opened
+unfoldable pub valueOf : List ℕ → Opened → List ℕ
+valueOf xs o = contents (o .escaped) (part xs (o .start) (o .end))
+
+-- a value of the text that was opened for a meaning
+pub record Known (xs : List ℕ) (m : Meaning) (o : Opened) : Type 0 where
+  pub order : o .start ≤ o .end
+  pub within : o .end ≤ length xs
+  pub read : o .readings ≡ readingsFor m (valueOf xs o)
+
+-- ---- its cells: flags, a mark for what it reads to, and where it stands; a number's digits; a date's ends
+
+-- a number's count of decimals; 10 for a date, 11 for neither
+abbrev pub dateMark : date-readings.Reading → ℕ
+dateMark (date-readings.Reading.Readable d) = 10
+dateMark date-readings.Reading.Unreadable = 11
+
+abbrev pub markOf : number-readings.Reading → date-readings.Reading → ℕ
+markOf (number-readings.Reading.Number n) d = n .decimals
+markOf number-readings.Reading.Unreadable d = dateMark d
+
+abbrev pub digitsOf : number-readings.Reading → ℕ
+digitsOf (number-readings.Reading.Number n) = n .digits
+digitsOf number-readings.Reading.Unreadable = 0
+
+abbrev pub startOf : date-readings.Reading → ℤ
+startOf (date-readings.Reading.Readable d) = d .start
+startOf date-readings.Reading.Unreadable = pos 0
+
+abbrev pub endOf : date-readings.Reading → ℤ
+endOf (date-readings.Reading.Readable d) = d .end
+endOf date-readings.Reading.Unreadable = pos 0
+
+unfoldable pub spanOf : Opened → ℕ
+spanOf o = bit (o .found) + 2 * (bit (o .escaped) + 2 * (bit (o .truth) + 2 * (markOf (o .readings .number) (o .readings .date) + 16 * (o .start + 2048 * o .end))))
+
+-- what cells stand for
+unfoldable pub numberFrom : ℕ → ℕ → number-readings.Reading
+numberFrom mark digits = cond (ltb mark 10) (number-readings.Reading.Number (record { digits = digits; decimals = mark })) number-readings.Reading.Unreadable
+
+unfoldable pub dateFrom : ℕ → ℤ → ℤ → date-readings.Reading
+dateFrom mark start end = cond (eqb mark 10) (date-readings.Reading.Readable (record { start = start; end = end })) date-readings.Reading.Unreadable
+
+unfoldable pub openedFrom : ℕ → ℕ → ℤ → ℤ → Opened
+openedFrom n digits start end =
+    record {
+      found = eqb (n % 2) 1;
+      escaped = eqb (n / 2 % 2) 1;
+      truth = eqb (n / 4 % 2) 1;
+      start = n / 128 % 2048;
+      end = n / 128 / 2048;
+      readings = record { number = numberFrom (n / 8 % 16) digits; date = dateFrom (n / 8 % 16) start end };
+    }
+
+-- ---- the lists of cells: each has at a row's place what it opens to
+
+pub record Lists {A : Type 0} (rest : A) (f : ℕ → A) (rows : List ℕ) (cells : List A) (n : ℕ) : Type 0 where
+  pub room : length rows ≤ length cells
+  pub each : (j : ℕ) → j < n → getD cells j rest ≡ f (getD rows j 0)
+
+-- of the first n rows
+pub record Opens (kinds xs rows spans digits : List ℕ) (starts ends : List ℤ) (n : ℕ) : Type 0 where
+  pub span-cells : Lists 0 (λ c. spanOf (openedRow kinds xs c)) rows spans n
+  pub digit-cells : Lists 0 (λ c. digitsOf (openedRow kinds xs c .readings .number)) rows digits n
+  pub start-cells : Lists (pos 0) (λ c. startOf (openedRow kinds xs c .readings .date)) rows starts n
+  pub end-cells : Lists (pos 0) (λ c. endOf (openedRow kinds xs c .readings .date)) rows ends n

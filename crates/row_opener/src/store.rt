@@ -1,0 +1,247 @@
+// Values opened once for many cards: what each reads to, and the cells that have it.
+use crate::Opened;
+use date::Date;
+use judge::readings_for;
+use kind::Meaning;
+use kind::Readings;
+use number::Decimal;
+use rows::Probe;
+use rows::Row;
+use rows::bit;
+use rows::row_of;
+use syntax::FoundValue;
+use syntax::RawValue;
+use syntax::value::decode;
+use syntax::value::read_value;
+ghost use mathlib.Core.Path.{_≡_};
+ghost use Prim.Native.Nat.{_≤_, _<_};
+ghost use lib.ListN.{length};
+ghost use Rattle.syntax.specs.Placed.{PlacedValue};
+ghost use Rattle.rows.specs.Shapes.{valueIn};
+ghost use Rattle.row_opener.specs.Opening.{closed, openedValue, openedFor, openedRow, dateMark, markOf, digitsOf, startOf, endOf, spanOf, numberFrom, dateFrom, openedFrom, Opens};
+ghost use Rattle.row_opener.specs.Packing.{Sane, Small};
+
+// ---- the value of a test
+
+// Of a row that has no value.
+fn closed() -> Opened
+    ensures { λ r. ⌜ r ≡ closed ⌝ }
+{
+    Opened {
+        found: false,
+        escaped: false,
+        truth: false,
+        start: 0,
+        end: 0,
+        readings: kind::unread(),
+    }
+}
+
+// Of a value of the text with these bytes.
+fn opened_value(meaning: Meaning, value: RawValue, bytes: &[u8]) -> Opened
+    ensures { λ r. ⌜ r ≡ openedValue meaning value (now (bytes .entry)) ⌝ }
+{
+    Opened {
+        found: true,
+        escaped: value.escaped,
+        truth: kind::is_true(bytes),
+        start: value.start,
+        end: value.end,
+        readings: readings_for(meaning, bytes),
+    }
+}
+
+// Of a value of the filter.
+fn opened_text(meaning: Meaning, filter: &[u8], value: RawValue) -> Opened
+    requires { ⌜ length (now filter) ≤ 1024 ⌝ }
+    requires { ⌜ PlacedValue (now filter) value ⌝ }
+    ensures { λ r. ⌜ r ≡ openedValue meaning value (valueIn (now (filter .entry)) value) ⌝ }
+{
+    let start = value.start;
+    let end = value.end;
+    if value.escaped {
+        let mut bytes = [0u8; 1024];
+        let n = decode(&filter[start..end], &mut bytes);
+        return opened_value(meaning, value, &bytes[..n]);
+    }
+    opened_value(meaning, value, &filter[start..end])
+}
+
+// Of a test.
+fn opened_probe(kinds: &[u8], filter: &[u8], probe: Probe) -> Opened
+    requires { ⌜ length (now kinds) ≡ 32 ⌝ }
+    requires { ⌜ length (now filter) ≤ 1024 ⌝ }
+    requires { ⌜ probe .index < 32 ⌝ }
+    ensures { λ r. ⌜ r ≡ openedFor (now (kinds .entry)) (now (filter .entry)) probe ⌝ }
+{
+    let index = probe.index as usize;
+    let kind = kinds[index];
+    if probe.position > filter.len() {
+        return closed();
+    }
+    match read_value(filter, probe.position) {
+        FoundValue::Value(value) => {
+            let meaning = kind::meaning_of(probe.operator, kind);
+            opened_text(meaning, filter, value)
+        }
+        FoundValue::Nothing => closed(),
+    }
+}
+
+// Of a row.
+fn opened_row(kinds: &[u8], filter: &[u8], cell: u32) -> Opened
+    requires { ⌜ length (now kinds) ≡ 32 ⌝ }
+    requires { ⌜ length (now filter) ≤ 1024 ⌝ }
+    ensures { λ r. ⌜ r ≡ openedRow (now (kinds .entry)) (now (filter .entry)) cell ⌝ }
+{
+    match row_of(cell) {
+        Row::Test(probe) => opened_probe(kinds, filter, probe),
+        Row::Bracket(probe) => opened_probe(kinds, filter, probe),
+        Row::Not => closed(),
+        Row::Connect(_) => closed(),
+        Row::Unknown => closed(),
+    }
+}
+
+// ---- its cells
+
+fn date_mark(date: date::Reading) -> u32
+    ensures { λ r. ⌜ (r ≡ dateMark date) × (r ≤ 11) ⌝ }
+{
+    match date {
+        date::Reading::Readable(_) => 10,
+        date::Reading::Unreadable => 11,
+    }
+}
+
+fn decimal_mark(decimals: usize) -> u32
+    requires { ⌜ decimals ≤ 9 ⌝ }
+    ensures { λ r. ⌜ (r ≡ decimals) × (r ≤ 11) ⌝ }
+{
+    decimals as u32
+}
+
+fn mark_of(number: number::Reading, date: date::Reading) -> u32
+    requires { ⌜ Sane number date ⌝ }
+    ensures { λ r. ⌜ (r ≡ markOf number date) × (r ≤ 11) ⌝ }
+{
+    match number {
+        number::Reading::Number(n) => decimal_mark(n.decimals),
+        number::Reading::Unreadable => date_mark(date),
+    }
+}
+
+fn digits_of(number: number::Reading) -> u64
+    ensures { λ r. ⌜ r ≡ digitsOf number ⌝ }
+{
+    match number {
+        number::Reading::Number(n) => n.digits,
+        number::Reading::Unreadable => 0,
+    }
+}
+
+fn start_of(date: date::Reading) -> i64
+    ensures { λ r. ⌜ r ≡ startOf date ⌝ }
+{
+    match date {
+        date::Reading::Readable(d) => d.start,
+        date::Reading::Unreadable => 0,
+    }
+}
+
+fn end_of(date: date::Reading) -> i64
+    ensures { λ r. ⌜ r ≡ endOf date ⌝ }
+{
+    match date {
+        date::Reading::Readable(d) => d.end,
+        date::Reading::Unreadable => 0,
+    }
+}
+
+// Flags, the mark and where the value stands, in one cell.
+fn span_of(opened: Opened) -> u32
+    requires { ⌜ Small opened ⌝ }
+    ensures { λ r. ⌜ r ≡ spanOf opened ⌝ }
+{
+    let readings = opened.readings;
+    let number = readings.number;
+    let date = readings.date;
+    let mark = mark_of(number, date);
+    let start = opened.start as u32;
+    let end = opened.end as u32;
+    let place = mark + 16 * (start + 2048 * end);
+    let found = bit(opened.found);
+    let escaped = bit(opened.escaped);
+    found + 2 * (escaped + 2 * (bit(opened.truth) + 2 * place))
+}
+
+fn number_from(mark: u32, digits: u64) -> number::Reading
+    ensures { λ r. ⌜ r ≡ numberFrom mark digits ⌝ }
+{
+    if mark < 10 {
+        return number::Reading::Number(Decimal {
+            digits,
+            decimals: mark as usize,
+        });
+    }
+    number::Reading::Unreadable
+}
+
+fn date_from(mark: u32, start: i64, end: i64) -> date::Reading
+    ensures { λ r. ⌜ r ≡ dateFrom mark start end ⌝ }
+{
+    if mark == 10 {
+        return date::Reading::Readable(Date { start, end });
+    }
+    date::Reading::Unreadable
+}
+
+// What cells stand for.
+pub fn opened_from(span: u32, digits: u64, start: i64, end: i64) -> Opened
+    ensures { λ r. ⌜ r ≡ openedFrom span digits start end ⌝ }
+{
+    let mark = span / 8 % 16;
+    Opened {
+        found: span % 2 == 1,
+        escaped: span / 2 % 2 == 1,
+        truth: span / 4 % 2 == 1,
+        start: (span / 128 % 2048) as usize,
+        end: (span / 128 / 2048) as usize,
+        readings: Readings {
+            number: number_from(mark, digits),
+            date: date_from(mark, start, end),
+        },
+    }
+}
+
+// Opens rows: writes the cells of each.
+pub fn open_rows(
+    kinds: &[u8],
+    filter: &[u8],
+    rows: &[u32],
+    spans: &mut [u32],
+    digits: &mut [u64],
+    starts: &mut [i64],
+    ends: &mut [i64],
+)
+    requires { ⌜ length (now kinds) ≡ 32 ⌝ }
+    requires { ⌜ length (now filter) ≤ 1024 ⌝ }
+    requires { ⌜ length (now rows) ≤ length (now spans) ⌝ }
+    requires { ⌜ length (now rows) ≤ length (now digits) ⌝ }
+    requires { ⌜ length (now rows) ≤ length (now starts) ⌝ }
+    requires { ⌜ length (now rows) ≤ length (now ends) ⌝ }
+    ensures { λ _. ⌜ Opens (now (kinds .entry)) (now (filter .entry)) (now (rows .entry)) (now (spans .exit)) (now (digits .exit)) (now (starts .exit)) (now (ends .exit)) (length (now (rows .entry))) ⌝ }
+{
+    let mut i = 0;
+    while i < rows.len() {
+        let opened = opened_row(kinds, filter, rows[i]);
+        let readings = opened.readings;
+        let number = readings.number;
+        let date = readings.date;
+        spans[i] = span_of(opened);
+        digits[i] = digits_of(number);
+        starts[i] = start_of(date);
+        ends[i] = end_of(date);
+        i += 1;
+    }
+}
