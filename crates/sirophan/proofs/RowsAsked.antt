@@ -19,7 +19,7 @@ use Rattle.syntax.specs.Grammar.{Spells}
 use Rattle.syntax.proofs.Spelling.{read-spells}
 use Rattle.judge.specs.Faults.{firstFault}
 use Rattle.judge.specs.Verdicts.{filterSays}
-use Rattle.judge.specs.declared.Fault.{Fault}
+use Rattle.refusal.specs.declared.Decision.{Decision}
 use Rattle.rows.specs.Good.{Good}
 use Rattle.rows.specs.Saying.{rowsSay, Whole}
 use Rattle.rows.specs.Shapes.{good}
@@ -40,7 +40,7 @@ use Rattle.sirophan.specs.declared.Prepared.{Prepared}
 use Rattle.sirophan.specs.declared.Selected.{Selected}
 use Rattle.sirophan.specs.declared.asking.Asked.{Asked}
 use Rattle.sirophan.proofs.Passing.{passing-inputs}
-use Rattle.sirophan.proofs.RowsAnswered.{no-fault}
+use Rattle.sirophan.proofs.RowsAnswered.{step-passed}
 use Rattle.sirophan.proofs.Selecting.{select-stopped}
 
 -- ---- the rows of a filter that check has passed
@@ -58,9 +58,9 @@ module _ (sheet text : List ℕ) (p : Passing sheet text) where
   spells : Spells text (p .tree)
   spells = read-spells text (p .tree) .0 (p .reads)
 
-  clean : firstFault ps 0 (testsOf (p .tree)) .fault ≡ Fault.Nothing
+  clean : firstFault ps 0 (testsOf (p .tree)) ≡ Decision.Passed
   unfolding testsStep
-  clean = no-fault (firstFault ps 0 (testsOf (p .tree)) .fault) (firstFault ps 0 (testsOf (p .tree)) .position) (p .meant)
+  clean = step-passed (firstFault ps 0 (testsOf (p .tree))) (p .meant)
 
   abbrev rows-good : Good ps text cells
   rows-good = prepared-good ps well text (p .tree) spells clean

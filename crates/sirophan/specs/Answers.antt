@@ -4,7 +4,7 @@ use Rattle.refusal.specs.Answers.{Answer, yes, no, count, refusalAnswer}
 use Rattle.sirophan.specs.declared.Checked.{Checked}
 use Rattle.sirophan.specs.declared.Matched.{Matched}
 use Rattle.sirophan.specs.declared.Selected.{Selected}
-use Rattle.sirophan.specs.declared.Spelled.{Spelled}
+use Rattle.spell.specs.declared.Spelled.{Spelled}
 
 unfoldable pub checkedAnswer : Checked → Answer
 checkedAnswer (Checked.Tests n) = count n

@@ -16,7 +16,7 @@ use Rattle.sirophan.specs.SearchRefusals.{CheckSearchLine, MatchSearchLi
 use Rattle.sirophan.specs.declared.Checked.{Checked}
 use Rattle.sirophan.specs.declared.Matched.{Matched}
 use Rattle.sirophan.specs.declared.Selected.{Selected}
-use Rattle.sirophan.specs.declared.Spelled.{Spelled}
+use Rattle.spell.specs.declared.Spelled.{Spelled}
 
 -- the answer is refused with a number and a place exactly where that line of the table holds and none before it does
 abbrev pub RefusedBy : (ℕ → ℕ → Type 0) → Answer → Type 0

@@ -10,7 +10,6 @@ mod preparation;
 mod reading;
 mod run;
 mod searching;
-mod spelling;
 mod verdict;
 
 pub use operations::check;
@@ -42,12 +41,6 @@ pub enum Matched {
 // What select answers: how many record numbers it has written into the list, or a refusal.
 pub enum Selected {
     Count(usize),
-    Refused(Refusal),
-}
-
-// What spell answers: the length of the plain spelling that it has written into the buffer, or a refusal.
-pub enum Spelled {
-    Length(usize),
     Refused(Refusal),
 }
 

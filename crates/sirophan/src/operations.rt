@@ -5,7 +5,6 @@ use crate::Engine;
 use crate::Matched;
 use crate::Prepared;
 use crate::Selected;
-use crate::Spelled;
 use crate::by_text::match_by_text_bytes;
 use crate::judgement::judge_bytes;
 use crate::matching::match_bytes;
@@ -15,7 +14,7 @@ use crate::run::select_bytes;
 use crate::searching::check_search_bytes;
 use crate::searching::match_search_bytes;
 use crate::searching::select_search_bytes;
-use crate::spelling::spell_bytes;
+use spell::Spelled;
 ghost use Rattle.sirophan.specs.Contracts.{Checks, Matches, SelectsInto, SpellsInto, ChecksSearch, MatchesSearch, SelectsSearchInto};
 ghost use Rattle.sirophan.specs.RowsRefusals.{PreparesInto, Judges};
 
@@ -64,7 +63,7 @@ pub fn select(sheet: &[u8], filter: &[u8], cards: &[u8], list: &mut [u32]) -> Se
 pub fn spell(filter: &[u8], buffer: &mut [u8], from: usize) -> Spelled
     ensures { λ r. ⌜ SpellsInto (now (filter .entry)) from (now (buffer .entry)) r (now (buffer .exit)) ⌝ }
 {
-    spell_bytes(filter, buffer, from)
+    spell::spell(filter, buffer, from)
 }
 
 // How many alternatives a search string has, where each has a meaning on every card that fits the sheet.

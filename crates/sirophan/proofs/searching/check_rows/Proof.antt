@@ -1,4 +1,4 @@
--- `sirophan::searching::check_rows` meets its contract: the first fault and the number of rows are those of the alternatives. Assumes nothing.
+-- `sirophan::searching::check_rows` meets its contract: the first refusal and the number of rows are those of the alternatives. Assumes nothing.
 use borrow.Author.Needs.{needs}
 use Rattle.sirophan.proofs.SearchPassing.{rows-checked}
 use Rattle.sirophan.proofs.searching.check_rows.Statement.{statement}
