@@ -10,7 +10,7 @@ use Rattle.refusal.specs.declared.Refusal.{Refusal}
 use Rattle.sirophan.specs.declared.Checked.{Checked}
 use Rattle.sirophan.specs.declared.Matched.{Matched}
 use Rattle.sirophan.specs.declared.Selected.{Selected}
-use Rattle.sirophan.specs.declared.Spelled.{Spelled}
+use Rattle.spell.specs.declared.Spelled.{Spelled}
 use Rattle.report.specs.Operation.{reportedAnswer}
 use Rattle.report.specs.Contracts.{Reports}
 use Rattle.report.specs.declared.Tally.{Tally}
