@@ -24,8 +24,8 @@ use Rattle.kind.specs.Table.{hasMeaning}
 use Rattle.kind.specs.Readable.{valueReadable}
 use Rattle.judge.specs.Sets.{lookup, valuesAt}
 use Rattle.judge.specs.Faults.{unsupported, kindFault, faultAt, testFault}
-use Rattle.judge.specs.declared.Fault.{Fault}
-use Rattle.answer.specs.Operations.{faultStep}
+use Rattle.refusal.specs.declared.Decision.{Decision}
+use Rattle.answer.specs.Operations.{decisionStep}
 use Rattle.kind.specs.Rules.{TrueOrFalse, ReadableValue, value-of-pr, value-of-kind, HasOperator}
 use Rattle.judge.specs.Rules.{Names, NotOnSheet, LacksMeaning, not-on-sheet, bare-bundle, neither, lacks-operator, unreadable}
 use Rattle.refusal.specs.Order.{rank}
@@ -44,7 +44,7 @@ pr-readable (value-of-kind m h) e n = m e
 module _ (ps : List Parameter) (w : WellFormedSheet ps) (t : Test) where
   -- ---- the fault
 
-  judged-at : (o : Found) → lookup ps 0 (t .path) ≡ o → Judged ps t (faultAt o (t .operator) (t .value))
+  judged-at : (o : Found) → lookup ps 0 (t .path) ≡ o → Judged ps t (faultAt o (t .operator) (t .value) (t .at))
   unfolding kindFault
   judged-at Found.Missing e = judged-unknown (missing-iff ps w (t .path) .0 e)
   judged-at (Found.At i k) e =
@@ -97,7 +97,7 @@ module _ (ps : List Parameter) (w : WellFormedSheet ps) (t : Test) where
         lacks = lacks es (one-entry-value ps w i p l);
       }
 
-  outcome-by : {fault : Fault} → Judged ps t fault → TestOutcome (filterTests ps) t (faultStep fault (t .at))
+  outcome-by : {d : Decision} → Judged ps t d → TestOutcome (filterTests ps) t (decisionStep d)
   unfolding rank
   outcome-by (judged-unknown u) =
       test-refused
@@ -155,5 +155,5 @@ module _ (ps : List Parameter) (w : WellFormedSheet ps) (t : Test) where
       no-line n (line-16 j′ u m) = m (has j′)
       no-line n (line-17 j′ m) = m (reads j′)
 
-  pub outcome : TestOutcome (filterTests ps) t (faultStep (testFault ps 0 t) (t .at))
+  pub outcome : TestOutcome (filterTests ps) t (decisionStep (testFault ps 0 t))
   outcome = outcome-by judged

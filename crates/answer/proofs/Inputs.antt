@@ -29,24 +29,22 @@ use Rattle.place.proofs.Place.{text-number, number-bound}
 use Rattle.kind.specs.Table.{hasMeaning}
 use Rattle.kind.specs.Readable.{valueReadable}
 use Rattle.judge.specs.Sets.{lookup}
-use Rattle.judge.specs.Faults.{unsupported, kindFault, faultAt, testFault, orElse, firstFault}
-use Rattle.judge.specs.declared.Fault.{Fault}
-use Rattle.judge.specs.declared.FirstFault.{FirstFault}
+use Rattle.judge.specs.Faults.{unsupported, kindFault, faultAt, testFault, firstFault}
+use Rattle.refusal.specs.declared.Decision.{Decision}
+use Rattle.refusal.specs.Decisions.{orElse}
 use Rattle.refusal.specs.Answers.{yesOrNo, count, numberOf}
 use Rattle.refusal.specs.Steps.{Step, found, stop, _>>=_, answer}
-use Rattle.answer.specs.Operations.{sheetStep, takeSheet, treeStep, takeFilter, faultStep, testsStep, Inputs, takeInputs, takeCard, checkAnswer, Question, questionOf, matchBy, filterQuestion}
+use Rattle.answer.specs.Operations.{sheetStep, takeSheet, treeStep, takeFilter, decisionStep, testsStep, Inputs, takeInputs, takeCard, checkAnswer, Question, questionOf, matchBy, filterQuestion}
 use Rattle.answer.specs.Demand.{TestRules, filterTests}
 use Rattle.answer.proofs.Outcomes.{TestOutcome, test-means, test-refused, TestsOutcome, all-mean, one-refused, AtMost, found-at-most, stop-at-most}
 use Rattle.answer.proofs.Faults.{outcome}
 
 -- ---- tests
 
--- the first of two faults, as a step
-pub step-or-else : (fault : Fault) (p : ℕ) (rest : FirstFault)
-    → faultStep (orElse (record { fault = fault; position = p }) rest .fault) (orElse (record { fault = fault; position = p }) rest .position)
-    ≡ (faultStep fault p >>= λ u. faultStep (rest .fault) (rest .position))
-step-or-else Fault.Nothing p rest = refl
-step-or-else (Fault.Because r) p rest = refl
+-- the first of two decisions, as a step
+pub step-or-else : (first rest : Decision) → decisionStep (orElse first rest) ≡ (decisionStep first >>= λ u. decisionStep rest)
+step-or-else Decision.Passed rest = refl
+step-or-else (Decision.Refused r) rest = refl
 
 -- what one test comes to, and then those after it
 pub outcome-next : {T : Type 0} (rules : TestRules T) {t : T} {ts : List T} {first rest : Step (Unit {0})} → TestOutcome rules t first → TestsOutcome rules ts rest
@@ -56,9 +54,9 @@ outcome-next rules (test-means m _) (all-mean ms) = all-mean (all-cons m ms)
 outcome-next {T} rules {t = t} (test-means m _) (one-refused before u after n e ms r) = one-refused (t ∷ before) u after n (ap (λ (l : List T). t ∷ l) e) (all-cons m ms) r
 
 module _ (ps : List Parameter) where
-  pub tests-next : (t : Test) (ts : List Test) → testsStep ps (t ∷ ts) ≡ (faultStep (testFault ps 0 t) (t .at) >>= λ u. testsStep ps ts)
+  pub tests-next : (t : Test) (ts : List Test) → testsStep ps (t ∷ ts) ≡ (decisionStep (testFault ps 0 t) >>= λ u. testsStep ps ts)
   unfolding testsStep firstFault
-  tests-next t ts = step-or-else (testFault ps 0 t) (t .at) (firstFault ps 0 ts)
+  tests-next t ts = step-or-else (testFault ps 0 t) (firstFault ps 0 ts)
 
   pub tests-outcome : WellFormedSheet ps → (ts : List Test) → TestsOutcome (filterTests ps) ts (testsStep ps ts)
   tests-outcome w [] = unfold testsStep firstFault in all-mean all-empty
@@ -123,18 +121,18 @@ tree-at-most text (some f) = found-at-most
 tree-at-most text none =
     stop-at-most (numberOf (failure deepest mostTests text .reason)) (failure deepest mostTests text .place) (omega (arith, number-bound (text-number text)))
 
-pub kind-at-most : (k kind : ℕ) (v : List ℕ) (p : ℕ) → AtMost 18 (faultStep (kindFault k kind v) p)
+pub kind-at-most : (k kind : ℕ) (v : List ℕ) (p : ℕ) → AtMost 18 (decisionStep (kindFault k kind v p))
 unfolding kindFault
 kind-at-most k kind v p =
-    cond-elim (λ f. AtMost 18 (faultStep f p)) (unsupported k) (λ _. stop-at-most 15 p (omega arith))
-    (λ _. cond-elim (λ f. AtMost 18 (faultStep f p)) (hasMeaning k kind)
-    (λ _. cond-elim (λ f. AtMost 18 (faultStep f p)) (valueReadable k kind v) (λ _. found-at-most) (λ _. stop-at-most 17 p (omega arith)))
+    cond-elim (λ f. AtMost 18 (decisionStep f)) (unsupported k) (λ _. stop-at-most 15 p (omega arith))
+    (λ _. cond-elim (λ f. AtMost 18 (decisionStep f)) (hasMeaning k kind)
+    (λ _. cond-elim (λ f. AtMost 18 (decisionStep f)) (valueReadable k kind v) (λ _. found-at-most) (λ _. stop-at-most 17 p (omega arith)))
     (λ _. stop-at-most 16 p (omega arith)))
 
-fault-at-most : (o : Found) (k : ℕ) (v : List ℕ) (p : ℕ) → AtMost 18 (faultStep (faultAt o k v) p)
+fault-at-most : (o : Found) (k : ℕ) (v : List ℕ) (p : ℕ) → AtMost 18 (decisionStep (faultAt o k v p))
 fault-at-most Found.Missing k v p = stop-at-most 14 p (omega arith)
 fault-at-most (Found.At i kind) k v p =
-    cond-elim (λ f. AtMost 18 (faultStep f p)) (eqb kind bundleKind) (λ _. stop-at-most 18 p (omega arith)) (λ _. kind-at-most k kind v p)
+    cond-elim (λ f. AtMost 18 (decisionStep f)) (eqb kind bundleKind) (λ _. stop-at-most 18 p (omega arith)) (λ _. kind-at-most k kind v p)
 
 tests-at-most : (ps : List Parameter) (ts : List Test) → AtMost 18 (testsStep ps ts)
 unfolding testFault

@@ -15,7 +15,8 @@ use Rattle.card.specs.Card.{Entry, recordNumber, entriesOf}
 use Rattle.syntax.specs.Tree.{Test}
 use Rattle.judge.specs.Faults.{unsupported}
 use Rattle.refusal.specs.declared.Reason.{Reason}
-use Rattle.judge.specs.declared.Fault.{Fault}
+use Rattle.refusal.specs.declared.Decision.{Decision}
+use Rattle.refusal.specs.Decisions.{refuse}
 use Rattle.refusal.specs.Answers.{Answer}
 use Rattle.refusal.specs.Steps.{Step, found, stop}
 use Rattle.answer.specs.Operations.{Card, takeCard}
@@ -36,15 +37,15 @@ pub data ReadsTo (b : List ℕ) (IsBlock : Type 0) : Reading → Type 0 where
 
 -- ---- tests
 
--- the fault of a test
-pub data Judged (ps : List Parameter) (t : Test) : Fault → Type 0 where
-  judged-unknown : NotOnSheet ps (t .path) → Judged ps t (Fault.Because Reason.UnknownName)
-  judged-bundle : {i : ℕ} → Names ps (t .path) i bundleKind → Judged ps t (Fault.Because Reason.BareBundle)
-  judged-unsupported : {i k : ℕ} → (k ≡ bundleKind → ⊥) → Names ps (t .path) i k → unsupported (t .operator) ≡ true → Judged ps t (Fault.Because Reason.Unsupported)
-  judged-meaningless : {i k : ℕ} → (k ≡ bundleKind → ⊥) → Names ps (t .path) i k → unsupported (t .operator) ≡ false → (HasOperator k (t .operator) → ⊥) → Judged ps t (Fault.Because Reason.NoMeaning)
+-- what is decided of a test
+pub data Judged (ps : List Parameter) (t : Test) : Decision → Type 0 where
+  judged-unknown : NotOnSheet ps (t .path) → Judged ps t (refuse Reason.UnknownName (t .at))
+  judged-bundle : {i : ℕ} → Names ps (t .path) i bundleKind → Judged ps t (refuse Reason.BareBundle (t .at))
+  judged-unsupported : {i k : ℕ} → (k ≡ bundleKind → ⊥) → Names ps (t .path) i k → unsupported (t .operator) ≡ true → Judged ps t (refuse Reason.Unsupported (t .at))
+  judged-meaningless : {i k : ℕ} → (k ≡ bundleKind → ⊥) → Names ps (t .path) i k → unsupported (t .operator) ≡ false → (HasOperator k (t .operator) → ⊥) → Judged ps t (refuse Reason.NoMeaning (t .at))
   judged-unreadable : {i k : ℕ} → (k ≡ bundleKind → ⊥) → Names ps (t .path) i k → unsupported (t .operator) ≡ false → HasOperator k (t .operator)
-      → (ReadableValue k (t .value) (t .operator) → ⊥) → Judged ps t (Fault.Because Reason.Unreadable)
-  judged-right : {i k : ℕ} → (k ≡ bundleKind → ⊥) → Names ps (t .path) i k → HasOperator k (t .operator) → ReadableValue k (t .value) (t .operator) → Judged ps t Fault.Nothing
+      → (ReadableValue k (t .value) (t .operator) → ⊥) → Judged ps t (refuse Reason.Unreadable (t .at))
+  judged-right : {i k : ℕ} → (k ≡ bundleKind → ⊥) → Names ps (t .path) i k → HasOperator k (t .operator) → ReadableValue k (t .value) (t .operator) → Judged ps t Decision.Passed
 
 -- the table gives the test the number n, and there is a conforming card on which it lacks a meaning
 pub record Refused {T : Type 0} (rules : TestRules T) (t : T) (n : ℕ) : Type 0 where

@@ -25,7 +25,7 @@ use Rattle.syntax.proofs.Complete.{filter-rise}
 use Rattle.judge.specs.Faults.{firstFault}
 use Rattle.judge.specs.Rules.{Conforms, FilterSays}
 use Rattle.judge.specs.Verdicts.{filterSays}
-use Rattle.judge.specs.declared.Fault.{Fault}
+use Rattle.refusal.specs.declared.Decision.{Decision}
 use Rattle.rows.specs.Good.{Good}
 use Rattle.rows.specs.Stated.{treeOf}
 use Rattle.rows.proofs.Good.{good-states, good-iff}
@@ -34,7 +34,7 @@ use Rattle.row_writer.proofs.Preparing.{prepared-good, prepared-states}
 use Rattle.refusal.specs.Answers.{Answer, yesOrNo, count, refused}
 use Rattle.refusal.specs.Steps.{Step, found, stop, _>>=_, answer}
 use Rattle.refusal.proofs.Deciding.{Decided, none-holds, one-decides}
-use Rattle.answer.specs.Operations.{faultStep, testsStep, Inputs, takeInputs, Card, takeCard, questionOf, filterQuestion, written}
+use Rattle.answer.specs.Operations.{decisionStep, testsStep, Inputs, takeInputs, Card, takeCard, questionOf, filterQuestion, written}
 use Rattle.answer.specs.Preparing.{rowCells, takeCells, preparation, prepareAnswer, prepareCells, takeSize, takeRows, judgeAnswer}
 use Rattle.answer.specs.Refusals.{CheckLine, line-10}
 use Rattle.answer.specs.RowsRefusals.{PrepareLine, PrepareAnswers, PreparesGood, MatchIs}
@@ -54,9 +54,9 @@ pub known-of : {A : Type 0} {Known : A → Type 0} {Line : ℕ → ℕ → Type 
 known-of {Known = Known} (none-holds {x = y} k h) x e = let same : y ≡ x = cc in (subst Known same k, h)
 known-of (one-decides d) x e = let z : _≡_ {A = ℕ} 0 1 = cc in absurd (omega arith)
 
-pub no-fault : (f : Fault) (p : ℕ) → faultStep f p ≡ found tt → f ≡ Fault.Nothing
-no-fault Fault.Nothing p e = refl
-no-fault (Fault.Because r) p e = let z : _≡_ {A = ℕ} 0 1 = cc in absurd (omega arith)
+pub step-passed : (d : Decision) → decisionStep d ≡ found tt → d ≡ Decision.Passed
+step-passed Decision.Passed e = refl
+step-passed (Decision.Refused r) e = let z : _≡_ {A = ℕ} 0 1 = cc in absurd (omega arith)
 
 -- what is found where the room is enough
 found-cells : (room : ℕ) (cs ds : List ℕ) → takeCells room cs ≡ found ds → ds ≡ cs
@@ -80,9 +80,9 @@ module _ (sheet text : List ℕ) (s : SheetBlock sheet) (f : Tree) (short : leng
   taken-by : (t : Step (Unit {0})) → testsStep ps (testsOf f) ≡ t → takeInputs sheet text ≡ (t >>= λ u. found both)
   taken-by t e = inputs-taken sheet text s f short spells ∙ ap (λ (q : Step (Unit {0})). q >>= λ u. found both) e
 
-  clean : testsStep ps (testsOf f) ≡ found tt → firstFault ps 0 (testsOf f) .fault ≡ Fault.Nothing
+  clean : testsStep ps (testsOf f) ≡ found tt → firstFault ps 0 (testsOf f) ≡ Decision.Passed
   unfolding testsStep
-  clean e = no-fault (firstFault ps 0 (testsOf f) .fault) (firstFault ps 0 (testsOf f) .position) e
+  clean e = step-passed (firstFault ps 0 (testsOf f)) e
 
   prepared-by : (room : ℕ) (t : Step (Unit {0})) → testsStep ps (testsOf f) ≡ t → preparation sheet text room ≡ (t >>= λ u. takeCells room cells)
   unfolding preparation

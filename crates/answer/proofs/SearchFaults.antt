@@ -33,7 +33,8 @@ use Rattle.judge.specs.Sets.{lookup, valuesAt}
 use Rattle.judge.specs.Faults.{kindFault}
 use Rattle.judge.specs.Rules.{Names, NotOnSheet}
 use Rattle.refusal.specs.declared.Reason.{Reason}
-use Rattle.judge.specs.declared.Fault.{Fault}
+use Rattle.refusal.specs.declared.Decision.{Decision}
+use Rattle.refusal.specs.Decisions.{refuse}
 use Rattle.judge.proofs.Rules.{names-iff, names-kind, names-listed, missing-iff}
 use Rattle.search.specs.Spelling.{Alternative}
 use Rattle.search.specs.Asking.{AskedBy, Asked, askedOf}
@@ -42,7 +43,7 @@ use Rattle.search.specs.Rules.{ReadableAlternative, readable-form, readable-val
 use Rattle.search.proofs.Asking.{asked-is, token-asks, asked-there, never-pr, asked-supported}
 use Rattle.refusal.specs.Order.{rank}
 use Rattle.refusal.specs.Steps.{_>>=_}
-use Rattle.answer.specs.Operations.{faultStep}
+use Rattle.answer.specs.Operations.{decisionStep}
 use Rattle.answer.specs.Searching.{alternativesStep}
 use Rattle.answer.specs.Numbers.{Numbered}
 use Rattle.answer.specs.SearchDemand.{searchTests}
@@ -57,14 +58,14 @@ token-has = operator-of-row token-eq
 abbrev Has : ℕ → Alternative → Type 0
 Has k a = (o : ℕ) (v : List ℕ) → AskedBy k (a .text) o v → HasOperator k o
 
--- the fault of an alternative
-data Judged (ps : List Parameter) (a : Alternative) : Fault → Type 0 where
-  judged-unknown : NotOnSheet ps (name (a .name)) → Judged ps a (Fault.Because Reason.UnknownName)
-  judged-bundle : {i : ℕ} → Names ps (name (a .name)) i bundleKind → Judged ps a (Fault.Because Reason.UnknownName)
+-- what is decided of an alternative
+data Judged (ps : List Parameter) (a : Alternative) : Decision → Type 0 where
+  judged-unknown : NotOnSheet ps (name (a .name)) → Judged ps a (refuse Reason.UnknownName (a .at))
+  judged-bundle : {i : ℕ} → Names ps (name (a .name)) i bundleKind → Judged ps a (refuse Reason.UnknownName (a .at))
   judged-meaningless : {i k o : ℕ} {v : List ℕ} → (k ≡ bundleKind → ⊥) → Names ps (name (a .name)) i k → AskedBy k (a .text) o v → (HasOperator k o → ⊥)
-      → Judged ps a (Fault.Because Reason.NoMeaning)
-  judged-unreadable : {i k : ℕ} → (k ≡ bundleKind → ⊥) → Names ps (name (a .name)) i k → Has k a → (ReadableAlternative k a → ⊥) → Judged ps a (Fault.Because Reason.Unreadable)
-  judged-right : {i k : ℕ} → (k ≡ bundleKind → ⊥) → Names ps (name (a .name)) i k → Has k a → ReadableAlternative k a → Judged ps a Fault.Nothing
+      → Judged ps a (refuse Reason.NoMeaning (a .at))
+  judged-unreadable : {i k : ℕ} → (k ≡ bundleKind → ⊥) → Names ps (name (a .name)) i k → Has k a → (ReadableAlternative k a → ⊥) → Judged ps a (refuse Reason.Unreadable (a .at))
+  judged-right : {i k : ℕ} → (k ≡ bundleKind → ⊥) → Names ps (name (a .name)) i k → Has k a → ReadableAlternative k a → Judged ps a Decision.Passed
 
 module _ (ps : List Parameter) (w : WellFormedSheet ps) (a : Alternative) where
   -- ---- the fault
@@ -84,7 +85,7 @@ module _ (ps : List Parameter) (w : WellFormedSheet ps) (a : Alternative) where
       form-of (readable-form {f = f} e h) = (f, h)
       form-of (readable-value n h r) = absurd (n is)
 
-      judged-token : Judged ps a (cond (readableAt (a .split) (a .text)) Fault.Nothing (Fault.Because Reason.Unreadable))
+      judged-token : Judged ps a (cond (readableAt (a .split) (a .text)) Decision.Passed (refuse Reason.Unreadable (a .at)))
       judged-token =
           cond-elim (Judged ps a) (readableAt (a .split) (a .text))
           (λ h. judged-right z j form-has (readable-form is (reads .0 h .1)))
@@ -111,7 +112,7 @@ module _ (ps : List Parameter) (w : WellFormedSheet ps) (a : Alternative) where
       value-of (readable-form e h) = absurd (other e)
       value-of (readable-value {v = v} n h r) = value-iff k value operator .1 (value-of-kind (never-pr asked) (subst (ReadableInFilter k) (sym (same-value h)) r))
 
-      judged-value : Judged ps a (kindFault operator k value)
+      judged-value : Judged ps a (kindFault operator k value (a .at))
       unfolding kindFault
       judged-value =
           rw (asked-supported asked)
@@ -123,12 +124,12 @@ module _ (ps : List Parameter) (w : WellFormedSheet ps) (a : Alternative) where
           (λ n. judged-unreadable z j has (λ r. both-ways (value-of r) n)))
           (λ n. judged-meaningless z j asked (λ h. both-ways (operator-iff k operator .1 h) n)))
 
-    judged-kind : ValueKind k → Judged ps a (textFault k (a .split) (a .text))
+    judged-kind : ValueKind k → Judged ps a (textFault k (a .split) (a .text) (a .at))
     unfolding textFault
     judged-kind v =
         cond-elim (Judged ps a) (eqb k token) (λ e. judged-token (eqb-true k token e)) (λ e. judged-value (eqb-false k token e) (asked-there k (a .text) v))
 
-  judged-at : (o : Found) → lookup ps 0 (name (a .name)) ≡ o → Judged ps a (faultAt o (a .split) (a .text))
+  judged-at : (o : Found) → lookup ps 0 (name (a .name)) ≡ o → Judged ps a (faultAt o (a .split) (a .text) (a .at))
   judged-at Found.Missing e = judged-unknown (missing-iff ps w (name (a .name)) .0 e)
   judged-at (Found.At i k) e =
       let there = names-iff ps w (name (a .name)) i k .0 e in
@@ -177,7 +178,7 @@ module _ (ps : List Parameter) (w : WellFormedSheet ps) (a : Alternative) where
   refused-empty : (n : ℕ) → Numbered (AlternativeLine ps a) n → LacksMeaning ps [] a → Refused (searchTests ps) a n
   refused-empty n table lacks = record { table = table; card = encodeCard false 0 []; entries = []; conforms = empty-conforms ps; lacks = lacks }
 
-  outcome-by : {fault : Fault} → Judged ps a fault → TestOutcome (searchTests ps) a (faultStep fault (a .at))
+  outcome-by : {d : Decision} → Judged ps a d → TestOutcome (searchTests ps) a (decisionStep d)
   unfolding rank
   outcome-by (judged-unknown u) =
       test-refused (refused-empty 14
@@ -215,15 +216,15 @@ module _ (ps : List Parameter) (w : WellFormedSheet ps) (a : Alternative) where
       no-line n (line-16 {o = o} {v = v} j′ q m) = m (has-there j′ o v q)
       no-line n (line-17 j′ m) = m (reads-there j′)
 
-  pub alternative-outcome : TestOutcome (searchTests ps) a (faultStep (alternativeFault ps a) (a .at))
+  pub alternative-outcome : TestOutcome (searchTests ps) a (decisionStep (alternativeFault ps a))
   alternative-outcome = outcome-by judged
 
 -- ---- the alternatives, in their order
 
 module _ (ps : List Parameter) where
-  pub alternatives-next : (a : Alternative) (list : List Alternative) → alternativesStep ps (a ∷ list) ≡ (faultStep (alternativeFault ps a) (a .at) >>= λ u. alternativesStep ps list)
+  pub alternatives-next : (a : Alternative) (list : List Alternative) → alternativesStep ps (a ∷ list) ≡ (decisionStep (alternativeFault ps a) >>= λ u. alternativesStep ps list)
   unfolding alternativesStep firstAlternativeFault
-  alternatives-next a list = step-or-else (alternativeFault ps a) (a .at) (firstAlternativeFault ps list)
+  alternatives-next a list = step-or-else (alternativeFault ps a) (firstAlternativeFault ps list)
 
   pub alternatives-outcome : WellFormedSheet ps → (list : List Alternative) → TestsOutcome (searchTests ps) list (alternativesStep ps list)
   alternatives-outcome w [] = unfold alternativesStep firstAlternativeFault in all-mean all-empty

@@ -37,7 +37,7 @@ use Rattle.refusal.proofs.Steps.{stop-not-found}
 use Rattle.refusal.proofs.Answers.{count-not-refused}
 use Rattle.refusal.proofs.Deciding.{Decided, none-holds, one-decides, decided-as, decided-then, decided-found, decided-answer}
 use Rattle.refusal.proofs.Order.{apart-at, no-lower-rank}
-use Rattle.answer.specs.Operations.{takeSheet, faultStep}
+use Rattle.answer.specs.Operations.{takeSheet, decisionStep}
 use Rattle.answer.specs.Refusals.{SheetLine}
 use Rattle.answer.specs.Searching.{alternativesStep, QueryInputs, takeQueryInputs, checkSearchAnswer, questionOfQuery, searchQuestion, matchSearchAnswer, selectSearchAnswer, selectSearchCells}
 use Rattle.answer.specs.Selection.{Run, SelectAnswers}
@@ -71,17 +71,17 @@ query-other text n p e = by-decided (takeQuery text) (query-decided text) e
     by-decided (found q) (none-holds k h) e = absurd (let z : _≡_ {A = ℕ} 0 1 = cc in omega arith)
     by-decided (stop m q) (one-decides d) e = let same : m ≡ n = cc in subst OtherNumber same (by-line (d .holds))
 
-text-at-most : (kind split : ℕ) (text : List ℕ) (p : ℕ) → AtMost 18 (faultStep (textFault kind split text) p)
+text-at-most : (kind split : ℕ) (text : List ℕ) (p : ℕ) → AtMost 18 (decisionStep (textFault kind split text p))
 unfolding textFault
 text-at-most kind split text p =
-    cond-elim (λ f. AtMost 18 (faultStep f p)) (eqb kind token)
-    (λ _. cond-elim (λ f. AtMost 18 (faultStep f p)) (readableAt split text) (λ _. found-at-most) (λ _. stop-at-most 17 p (omega arith)))
+    cond-elim (λ f. AtMost 18 (decisionStep f)) (eqb kind token)
+    (λ _. cond-elim (λ f. AtMost 18 (decisionStep f)) (readableAt split text) (λ _. found-at-most) (λ _. stop-at-most 17 p (omega arith)))
     (λ _. kind-at-most (askedOf kind text .operator) kind (askedOf kind text .value) p)
 
-fault-at-most : (o : Found) (split : ℕ) (text : List ℕ) (p : ℕ) → AtMost 18 (faultStep (faultAt o split text) p)
+fault-at-most : (o : Found) (split : ℕ) (text : List ℕ) (p : ℕ) → AtMost 18 (decisionStep (faultAt o split text p))
 fault-at-most Found.Missing split text p = stop-at-most 14 p (omega arith)
 fault-at-most (Found.At i kind) split text p =
-    cond-elim (λ f. AtMost 18 (faultStep f p)) (eqb kind bundleKind) (λ _. stop-at-most 14 p (omega arith)) (λ _. text-at-most kind split text p)
+    cond-elim (λ f. AtMost 18 (decisionStep f)) (eqb kind bundleKind) (λ _. stop-at-most 14 p (omega arith)) (λ _. text-at-most kind split text p)
 
 alternatives-at-most : (ps : List Parameter) (list : List Alternative) → AtMost 18 (alternativesStep ps list)
 unfolding alternativeFault

@@ -1,5 +1,6 @@
 -- The answer of document 01 that each case of the code's enums gives.
 -- Assumes nothing.
+use Rattle.spell.specs.declared.Spelled.{Spelled}
 use Rattle.refusal.specs.Answers.{Answer, yes, no, count, refusalAnswer}
 use Rattle.answer.specs.declared.Checked.{Checked}
 use Rattle.answer.specs.declared.Matched.{Matched}
@@ -17,3 +18,7 @@ matchedAnswer (Matched.Refused r) = refusalAnswer r
 unfoldable pub selectedAnswer : Selected → Answer
 selectedAnswer (Selected.Count n) = count n
 selectedAnswer (Selected.Refused r) = refusalAnswer r
+
+unfoldable pub spelledAnswer : Spelled → Answer
+spelledAnswer (Spelled.Length n) = count n
+spelledAnswer (Spelled.Refused r) = refusalAnswer r

@@ -16,10 +16,9 @@ use Rattle.place.specs.Machine.{failure}
 use Rattle.judge.specs.Sets.{conforms}
 use Rattle.judge.specs.Faults.{firstFault}
 use Rattle.judge.specs.Verdicts.{filterSays}
-use Rattle.judge.specs.declared.Fault.{Fault}
-use Rattle.refusal.specs.declared.Refusal.{Refusal}
-use Rattle.refusal.specs.Answers.{Answer, yesOrNo, count, numberOf}
-use Rattle.refusal.specs.Steps.{Step, found, stop, _>>=_, answer}
+use Rattle.refusal.specs.declared.Decision.{Decision}
+use Rattle.refusal.specs.Answers.{Answer, yesOrNo, count}
+use Rattle.refusal.specs.Steps.{Step, found, stop, refusalStep, _>>=_, answer}
 
 -- ---- the sheet: 1, 2, 3
 
@@ -34,22 +33,19 @@ takeSheet sheet = sheetStep (readSheet sheet) (parametersOf sheet)
 
 -- ---- the filter: 10, 11 to 13, and 14 to 18 for the first test at fault; names are looked up at the top
 
-abbrev pub failureStep : Refusal → Step Tree
-failureStep r = stop (numberOf (r .reason)) (r .place)
-
 abbrev pub treeStep : List ℕ → Option Tree → Step Tree
 treeStep text (some f) = found f
-treeStep text none = failureStep (failure deepest mostTests text)
+treeStep text none = refusalStep (failure deepest mostTests text)
 
 unfoldable pub takeFilter : List ℕ → Step Tree
 takeFilter text = cond (eqb (length text) 0 || ltb 1024 (length text)) (stop 10 0) (treeStep text (read text))
 
-abbrev pub faultStep : Fault → ℕ → Step (Unit {0})
-faultStep Fault.Nothing p = found tt
-faultStep (Fault.Because r) p = stop (numberOf r) p
+abbrev pub decisionStep : Decision → Step (Unit {0})
+decisionStep Decision.Passed = found tt
+decisionStep (Decision.Refused r) = refusalStep r
 
 unfoldable pub testsStep : List Parameter → List Test → Step (Unit {0})
-testsStep ps ts = faultStep (firstFault ps 0 ts .fault) (firstFault ps 0 ts .position)
+testsStep ps ts = decisionStep (firstFault ps 0 ts)
 
 -- the parameters of the sheet and the tree of the filter
 pub record Inputs : Type 0 where

@@ -15,11 +15,11 @@ use Rattle.judge.specs.Verdicts.{filterSays}
 use Rattle.filter.specs.declared.Summary.{Summary}
 use Rattle.refusal.specs.Answers.{Answer, count}
 use Rattle.refusal.specs.Steps.{Step, found, _>>=_, answer}
-use Rattle.answer.specs.Operations.{faultStep, testsStep, takeInputs, takeCard, Question}
+use Rattle.answer.specs.Operations.{decisionStep, testsStep, takeInputs, takeCard, Question}
 
 -- the answer of check for a text that is a filter, from what was gathered reading it
 unfoldable pub summaryAnswer : Summary → Answer
-summaryAnswer s = answer (faultStep (s .first .fault) (s .first .position) >>= λ u. found (count (s .tests)))
+summaryAnswer s = answer (decisionStep (s .first) >>= λ u. found (count (s .tests)))
 
 -- check has passed the sheet and the text, which spells the tree
 pub record Passing (sheet text : List ℕ) : Type 0 where

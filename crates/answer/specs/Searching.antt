@@ -9,11 +9,11 @@ use Rattle.search.specs.Reader.{takeQuery}
 use Rattle.search.specs.Meaning.{firstAlternativeFault, querySays}
 use Rattle.refusal.specs.Answers.{Answer, count}
 use Rattle.refusal.specs.Steps.{Step, found, _>>=_, answer}
-use Rattle.answer.specs.Operations.{faultStep, takeSheet, Question, matchBy, selectBy, cellsBy}
+use Rattle.answer.specs.Operations.{decisionStep, takeSheet, Question, matchBy, selectBy, cellsBy}
 
 -- 14, 16 and 17 for the first alternative at fault
 unfoldable pub alternativesStep : List Parameter → List Alternative → Step (Unit {0})
-alternativesStep ps list = faultStep (firstAlternativeFault ps list .fault) (firstAlternativeFault ps list .position)
+alternativesStep ps list = decisionStep (firstAlternativeFault ps list)
 
 -- the parameters of the sheet and the pairs of the search string
 pub record QueryInputs : Type 0 where

@@ -16,7 +16,7 @@ use Rattle.syntax.specs.Grammar.{round, deepest, mostTests}
 use Rattle.syntax.specs.Reader.{parsed, filterAt, whole, read}
 use Rattle.place.specs.Machine.{failure}
 use Rattle.judge.specs.Faults.{firstFault}
-use Rattle.judge.specs.declared.Fault.{Fault}
+use Rattle.refusal.specs.declared.Decision.{Decision}
 use Rattle.filter.specs.Folds.{reading}
 use Rattle.filter.specs.Walks.{answerOf}
 use Rattle.filter.specs.declared.Summary.{Summary}
@@ -29,16 +29,16 @@ use Rattle.answer.specs.declared.Checked.{Checked}
 use Rattle.refusal.specs.Answers.{Answer, count, refused, numberOf, refusalAnswer}
 use Rattle.answer.specs.Answers.{checkedAnswer}
 use Rattle.refusal.specs.Steps.{Step, found, stop, _>>=_, answer}
-use Rattle.answer.specs.Operations.{treeStep, takeFilter, faultStep, testsStep, sheetStep, takeSheet, filterAnswer, Inputs, takeInputs, checkAnswer}
+use Rattle.answer.specs.Operations.{treeStep, takeFilter, decisionStep, testsStep, sheetStep, takeSheet, filterAnswer, Inputs, takeInputs, checkAnswer}
 use Rattle.answer.specs.Passing.{summaryAnswer}
 
 -- ---- the answer for a text that is a filter
 
-pub outcome-fault : (s : Summary) (c : Checked) (r : Reason) → s .first .fault ≡ Fault.Because r → checkedAnswer c ≡ refused (numberOf r) (s .first .position) → checkedAnswer c ≡ summaryAnswer s
-unfolding summaryAnswer
-outcome-fault s c r e h = rw e h
+pub outcome-refused : (s : Summary) (r : Refusal) → s .first ≡ Decision.Refused r → checkedAnswer (Checked.Refused r) ≡ summaryAnswer s
+unfolding summaryAnswer checkedAnswer refusalAnswer
+outcome-refused s r e = rw e
 
-pub outcome-tests : (s : Summary) → s .first .fault ≡ Fault.Nothing → checkedAnswer (Checked.Tests (s .tests)) ≡ summaryAnswer s
+pub outcome-tests : (s : Summary) → s .first ≡ Decision.Passed → checkedAnswer (Checked.Tests (s .tests)) ≡ summaryAnswer s
 unfolding summaryAnswer checkedAnswer
 outcome-tests s e = rw e
 
@@ -103,7 +103,7 @@ module _ (ps : List Parameter) (xs : List ℕ) (n : length xs ≡ 0 → ⊥) (l 
         text-answered c m g =
             let j : length (testsOf (was .tree)) ≤ 32 = rw tests-are at m in
             let r : read xs ≡ some (was .tree) = read-whole ∙ rw (← t .is, eq-eqb after (length xs) k, le-leb (length (testsOf (was .tree))) 32 j) in
-            g ∙ rw (text-read (some (was .tree)) r) (ap (λ (x : Summary). answer (faultStep (x .first .fault) (x .first .position) >>= λ u. found (count (x .tests)))) gathered)
+            g ∙ rw (text-read (some (was .tree)) r) (ap (λ (x : Summary). answer (decisionStep (x .first) >>= λ u. found (count (x .tests)))) gathered)
 
 -- a walk that has come to its end stands inside the text
 pub walk-within : (ps : List Parameter) (xs : List ℕ) (start : ℕ) (w : Walked) (end : ℕ) (a : Summary) → w ≡ answerOf Walked.Done Walked.Nothing (reading ps 0) (filterAt 8 xs round start) → w ≡ Walked.Done end a → end ≤ length xs

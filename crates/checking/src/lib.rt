@@ -5,8 +5,8 @@ use filter::Spot;
 use filter::Summary;
 use filter::Walked;
 use filter::check_filter;
-use judge::Fault;
 use place::find_failure;
+use refusal::Decision;
 use refusal::Reason;
 use refusal::Refusal;
 use syntax::scan::skip;
@@ -26,15 +26,14 @@ pub fn refuse(reason: Reason, place: usize) -> Checked
     Checked::Refused(Refusal { reason, place })
 }
 
-// The answer for a text that is a filter: the first fault, or the number of tests.
+// The answer for a text that is a filter: the first refusal among its tests, or their number.
 pub fn outcome(summary: Summary) -> Checked
     ensures { λ r. ⌜ checkedAnswer r ≡ summaryAnswer summary ⌝ }
 {
     let first = summary.first;
-    let fault = first.fault;
-    match fault {
-        Fault::Nothing => Checked::Tests(summary.tests),
-        Fault::Because(reason) => refuse(reason, first.position),
+    match first {
+        Decision::Passed => Checked::Tests(summary.tests),
+        Decision::Refused(refusal) => Checked::Refused(refusal),
     }
 }
 

@@ -22,7 +22,7 @@ use Rattle.syntax.specs.Grammar.{round, deepest, mostTests}
 use Rattle.syntax.specs.Reader.{parsed, filterAt, whole, read}
 use Rattle.place.specs.Machine.{failure}
 use Rattle.judge.specs.Faults.{firstFault}
-use Rattle.judge.specs.declared.Fault.{Fault}
+use Rattle.refusal.specs.declared.Decision.{Decision}
 use Rattle.filter.specs.declared.Summary.{Summary}
 use Rattle.row_writer.specs.Writing.{cellCount, Wrote}
 use Rattle.row_writer.specs.declared.Outcome.{Outcome}
@@ -31,9 +31,9 @@ use Rattle.row_writer.proofs.Writing as writing
 use Rattle.refusal.specs.declared.Reason.{Reason}
 use Rattle.refusal.specs.declared.Refusal.{Refusal}
 use Rattle.refusal.specs.Answers.{Answer, count, refused, numberOf, refusalAnswer}
-use Rattle.refusal.specs.Steps.{Step, found, stop, _>>=_, answer}
+use Rattle.refusal.specs.Steps.{Step, found, stop, refusalStep, _>>=_, answer}
 use Rattle.answer.specs.Answers.{checkedAnswer}
-use Rattle.answer.specs.Operations.{treeStep, takeFilter, faultStep, testsStep, sheetStep, takeSheet, Inputs, takeInputs, written}
+use Rattle.answer.specs.Operations.{treeStep, takeFilter, decisionStep, testsStep, sheetStep, takeSheet, Inputs, takeInputs, written}
 use Rattle.answer.specs.Passing.{summaryAnswer}
 use Rattle.answer.specs.Preparing.{rowCells, takeCells, preparation, prepareAnswer, prepareCells, preparedAnswer, filledStep, textRows, FillsText, Fills, Prepares}
 use Rattle.answer.specs.declared.Checked.{Checked}
@@ -77,22 +77,14 @@ module _ (ps : List Parameter) (xs : List ℕ) (c : Checked) (r : Prepared) (buf
       let n : length xs ≡ 0 → ⊥ = λ z. omega arith in
       text-refused 10 0 e (rw (ne-eqb (length xs) 0 n, lt-ltb 1024 (length xs) l))
 
--- check's answer to a text that is a filter tells whether there is a fault
-no-fault : (s : Summary) (c : Checked) (n : ℕ) → checkedAnswer c ≡ summaryAnswer s → c ≡ Checked.Tests n → faultStep (s .first .fault) (s .first .position) ≡ found tt
+-- check's answer to a text that is a filter tells whether one of its tests is refused
+none-refused : (s : Summary) (c : Checked) (n : ℕ) → checkedAnswer c ≡ summaryAnswer s → c ≡ Checked.Tests n → decisionStep (s .first) ≡ found tt
 unfolding checkedAnswer summaryAnswer
-no-fault s c n e i = by-fault (s .first .fault) refl
+none-refused s c n e i = by-first (s .first) (sym (ap checkedAnswer i) ∙ e)
   where
-    counted : count n ≡ answer (faultStep (s .first .fault) (s .first .position) >>= λ u. found (count (s .tests)))
-    counted = sym (ap checkedAnswer i) ∙ e
-
-    refusal-is-none : (f : Fault) (k : ℕ) → s .first .fault ≡ f → faultStep f (s .first .position) ≡ stop k (s .first .position) → faultStep f (s .first .position) ≡ found tt
-    refusal-is-none f k h g =
-        let r : count n ≡ refused k (s .first .position) = counted ∙ ap (λ (x : Fault). answer (faultStep x (s .first .position) >>= λ u. found (count (s .tests)))) h ∙ ap (λ (q : Step (Unit {0})). answer (q >>= λ u. found (count (s .tests)))) g in
-        let z : _≡_ {A = ℕ} 0 1 = cc in absurd (omega arith)
-
-    by-fault : (f : Fault) → s .first .fault ≡ f → faultStep (s .first .fault) (s .first .position) ≡ found tt
-    by-fault Fault.Nothing h = ap (λ (f : Fault). faultStep f (s .first .position)) h
-    by-fault (Fault.Because r) h = ap (λ (f : Fault). faultStep f (s .first .position)) h ∙ refusal-is-none (Fault.Because r) (numberOf r) h refl
+    by-first : (d : Decision) → count n ≡ answer (decisionStep d >>= λ u. found (count (s .tests))) → decisionStep d ≡ found tt
+    by-first Decision.Passed h = refl
+    by-first (Decision.Refused r) h = let z : _≡_ {A = ℕ} 0 1 = cc in absurd (omega arith)
 
 -- an answer that is a refusal comes of a step that stopped there
 stopped-at : {A : Type 0} (q : Step A) (a : A → Answer) (n p : ℕ) → ((x : A) → a x ≡ refused n p → ⊥) → answer (q >>= λ x. found (a x)) ≡ refused n p → q ≡ stop n p
@@ -102,10 +94,10 @@ stopped-at (stop m o) a n p k e =
     let where-at : o ≡ p = cc in
     rw (number, where-at)
 
-a-fault : (s : Summary) (c : Checked) (r : Refusal) → checkedAnswer c ≡ summaryAnswer s → c ≡ Checked.Refused r → faultStep (s .first .fault) (s .first .position) ≡ stop (numberOf (r .reason)) (r .place)
+one-refused : (s : Summary) (c : Checked) (r : Refusal) → checkedAnswer c ≡ summaryAnswer s → c ≡ Checked.Refused r → decisionStep (s .first) ≡ refusalStep r
 unfolding checkedAnswer summaryAnswer refusalAnswer
-a-fault s c r e i =
-    stopped-at (faultStep (s .first .fault) (s .first .position)) (λ u. count (s .tests)) (numberOf (r .reason)) (r .place) (λ x y. let z : _≡_ {A = ℕ} 0 1 = cc in omega arith) (sym e ∙ ap checkedAnswer i)
+one-refused s c r e i =
+    stopped-at (decisionStep (s .first)) (λ u. count (s .tests)) (numberOf (r .reason)) (r .place) (λ x y. let z : _≡_ {A = ℕ} 0 1 = cc in omega arith) (sym e ∙ ap checkedAnswer i)
 
 -- ---- the text
 
@@ -154,18 +146,18 @@ module _ (ps : List Parameter) (xs : List ℕ) (n : length xs ≡ 0 → ⊥) (l 
         pub fill-many : (c : Checked) (r : Prepared) → behind ≡ length xs → 32 < a .summary .tests → checkedAnswer c ≡ refusalAnswer (failure deepest mostTests xs) → preparedAnswer r ≡ checkedAnswer c → FillsText ps xs r after
         fill-many c r k m = no-tree c r after (read-as end (was .tree) (was .read) ∙ whole-many (was .tree) k (omega (arith, tests-are)))
 
-        -- the text is a filter: its faults decide
+        -- the text is a filter: its tests decide
         module _ (k : behind ≡ length xs) (m : a .summary .tests ≤ 32) where
-          rows-by : textRows ps xs ≡ (faultStep (a .summary .first .fault) (a .summary .first .position) >>= λ u. found (rowCells ps xs (was .tree)))
+          rows-by : textRows ps xs ≡ (decisionStep (a .summary .first) >>= λ u. found (rowCells ps xs (was .tree)))
           unfolding textRows testsStep
           rows-by =
               let r : takeFilter xs ≡ found (was .tree) = text-read (some (was .tree)) (read-as end (was .tree) (was .read) ∙ whole-right (was .tree) k (omega (arith, tests-are))) in
-              ap (λ (q : Step Tree). q >>= λ f. faultStep (firstFault ps 0 (testsOf f) .fault) (firstFault ps 0 (testsOf f) .position) >>= λ u. found (rowCells ps xs f)) r
-              ∙ ap (λ (o : Outcome). faultStep (o .summary .first .fault) (o .summary .first .position) >>= λ u. found (rowCells ps xs (was .tree))) (sym (was .value))
+              ap (λ (q : Step Tree). q >>= λ f. decisionStep (firstFault ps 0 (testsOf f)) >>= λ u. found (rowCells ps xs f)) r
+              ∙ ap (λ (o : Outcome). decisionStep (o .summary .first) >>= λ u. found (rowCells ps xs (was .tree))) (sym (was .value))
 
           pub fill-done : (c : Checked) (n : ℕ) → checkedAnswer c ≡ summaryAnswer (a .summary) → c ≡ Checked.Tests n → length before ≡ 1024 → FillsText ps xs (Prepared.Cells (a .cells)) after
           fill-done c n e i size =
-              let clean : faultStep (a .summary .first .fault) (a .summary .first .position) ≡ found tt = no-fault (a .summary) c n e i in
+              let clean : decisionStep (a .summary .first) ≡ found tt = none-refused (a .summary) c n e i in
               let same : a .cells ≡ cellCount (was .tree) = ap (λ (o : Outcome). o .cells) (was .value) in
               let at-first : a .cells ≡ 0 + cellCount (was .tree) = omega (arith, same) in
               let cells : take (a .cells) after ≡ rowCells ps xs (was .tree) = ap (λ (x : ℕ). take x after) at-first ∙ was .cells in
@@ -177,7 +169,7 @@ module _ (ps : List Parameter) (xs : List ℕ) (n : length xs ≡ 0 → ⊥) (l 
 
           pub fill-fault : (c : Checked) (r : Refusal) → checkedAnswer c ≡ summaryAnswer (a .summary) → c ≡ Checked.Refused r → FillsText ps xs (Prepared.Refused r) after
           fill-fault c r e i =
-              let fault : faultStep (a .summary .first .fault) (a .summary .first .position) ≡ stop (numberOf (r .reason)) (r .place) = a-fault (a .summary) c r e i in
+              let fault : decisionStep (a .summary .first) ≡ refusalStep r = one-refused (a .summary) c r e i in
               record {
                 rows = sym (rows-by ∙ ap (λ (q : Step (Unit {0})). q >>= λ u. found (rowCells ps xs (was .tree))) fault);
                 room = λ j g. let z : _≡_ {A = ℕ} 0 1 = cc in absurd (omega arith);

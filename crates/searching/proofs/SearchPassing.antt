@@ -12,20 +12,18 @@ use lib.ListN.{length}
 use Rattle.block.specs.declared.Reading.{Reading}
 use Rattle.sheet.specs.Sheet.{Parameter, parametersOf, readSheet}
 use Rattle.card.specs.Card.{Entry}
-use Rattle.judge.specs.declared.FirstFault.{FirstFault}
+use Rattle.refusal.specs.declared.Decision.{Decision}
 use Rattle.search.specs.Spelling.{Query, alternativesOf}
-use Rattle.search.specs.Reader.{takeQuery}
 use Rattle.search.specs.Meaning.{firstAlternativeFault, alternativeSays, querySays}
 use Rattle.search.specs.Rows.{RowsWithin, alternativesIn, rowsSay, TakenOf, RowsOf}
-use Rattle.search.specs.declared.QueryTaken.{QueryTaken}
+use Rattle.search.specs.declared.QueryRead.{QueryRead}
 use Rattle.search.specs.declared.Rows.{Rows}
-use Rattle.search.specs.declared.TextOutcome.{TextOutcome}
-use Rattle.search.proofs.Taken.{taken-rows, taken-by-size, taken-by-pair, taken-by-count}
+use Rattle.search.proofs.Taken.{taken-rows, taken-refused}
 use Rattle.refusal.specs.Answers.{Answer, count, refused, numberOf, refusalAnswer}
 use Rattle.refusal.specs.Steps.{Step, found, stop, _>>=_, answer}
 use Rattle.refusal.specs.declared.Refusal.{Refusal}
 use Rattle.answer.specs.Answers.{checkedAnswer, matchedAnswer}
-use Rattle.answer.specs.Operations.{faultStep, sheetStep, takeSheet}
+use Rattle.answer.specs.Operations.{decisionStep, sheetStep, takeSheet}
 use Rattle.answer.specs.Passing.{summaryAnswer, cardVerdict}
 use Rattle.answer.specs.Searching.{alternativesStep, QueryInputs, takeQueryInputs, checkSearchAnswer, questionOfQuery, searchQuestion, matchSearchAnswer}
 use Rattle.searching.specs.SearchPassing.{rowsAnswer, rowsQuestion, PassingRows, ReadsRows}
@@ -67,22 +65,15 @@ module _ (sheet text bytes : List ℕ) (c : Checked) (rows : Rows) where
     pub sheet-layout : r ≡ Reading.WrongLayout → checkedAnswer c ≡ refused 3 0 → ReadsRows sheet text bytes (record { checked = c; rows = rows })
     sheet-layout = sheet-refuses r Reading.WrongLayout 3 (λ ps. refl) e
 
-  module _ (w : readSheet sheet ≡ Reading.WellFormed) where
-    text-refuses : (k p : ℕ) → takeQuery text ≡ stop k p → checkedAnswer c ≡ refused k p → ReadsRows sheet text bytes (record { checked = c; rows = rows })
-    text-refuses k p e = refuses k p (unfold takeQueryInputs takeSheet in rw (w, e))
-
-    pub size-refuses : (r : QueryTaken) → TakenOf text bytes r → r .outcome ≡ TextOutcome.Size → checkedAnswer c ≡ refused 10 0 → ReadsRows sheet text bytes (record { checked = c; rows = rows })
-    size-refuses r t o = text-refuses 10 0 (taken-by-size t o)
-
-    pub pair-refuses : (r : QueryTaken) (p : ℕ) → TakenOf text bytes r → r .outcome ≡ TextOutcome.Bad p → checkedAnswer c ≡ refused 50 p → ReadsRows sheet text bytes (record { checked = c; rows = rows })
-    pair-refuses r p t o = text-refuses 50 p (taken-by-pair p t o)
-
-    pub count-refuses : (r : QueryTaken) → TakenOf text bytes r → r .outcome ≡ TextOutcome.Many → checkedAnswer c ≡ refused 51 0 → ReadsRows sheet text bytes (record { checked = c; rows = rows })
-    count-refuses r t o = text-refuses 51 0 (taken-by-count t o)
+-- the string is refused as its taking is
+pub text-refuses : (sheet text bytes : List ℕ) (rows : Rows) → readSheet sheet ≡ Reading.WellFormed → (r : QueryRead) (x : Refusal) → TakenOf text bytes r → r .decision ≡ Decision.Refused x
+    → ReadsRows sheet text bytes (record { checked = Checked.Refused x; rows = rows })
+unfolding takeQueryInputs takeSheet checkedAnswer refusalAnswer
+text-refuses sheet text bytes rows w r x t o = refuses sheet text bytes (Checked.Refused x) rows (numberOf (x .reason)) (x .place) (rw (w, taken-refused x t o)) refl
 
 -- ---- a string that is taken
 
-pub taken-within : (text bytes : List ℕ) (r : QueryTaken) → TakenOf text bytes r → r .outcome ≡ TextOutcome.Taken → RowsWithin (length bytes) (r .rows)
+pub taken-within : (text bytes : List ℕ) (r : QueryRead) → TakenOf text bytes r → r .decision ≡ Decision.Passed → RowsWithin (length bytes) (r .rows)
 taken-within text bytes r t o = taken-rows t o .1 .within
 
 module _ (sheet text bytes : List ℕ) (w : readSheet sheet ≡ Reading.WellFormed) (rows : Rows) (q : Query) (of : RowsOf text bytes rows q) where
@@ -104,7 +95,7 @@ module _ (sheet text bytes : List ℕ) (w : readSheet sheet ≡ Reading.WellForm
 
   rows-answer : checkSearchAnswer sheet text ≡ rowsAnswer ps bytes rows
   unfolding checkSearchAnswer rowsAnswer summaryAnswer alternativesStep
-  rows-answer = rw (ready, of .alternatives, of .count) (by (faultStep (firstAlternativeFault ps (alternativesOf q) .fault) (firstAlternativeFault ps (alternativesOf q) .position)))
+  rows-answer = rw (ready, of .alternatives, of .count) (by (decisionStep (firstAlternativeFault ps (alternativesOf q))))
     where
       by : (t : Step (Unit {0})) → answer (ready-by t >>= counted) ≡ answer (t >>= λ u. found (count (length (alternativesOf q))))
       by (found u) = refl
@@ -138,17 +129,17 @@ module _ (sheet text bytes : List ℕ) (w : readSheet sheet ≡ Reading.WellForm
         asked = question-by inputs-taken ∙ ap (λ (f : List Entry → Bool). found (record { parameters = ps; says = f })) same-says;
       }
 
-pub rows-read : (sheet text bytes : List ℕ) → readSheet sheet ≡ Reading.WellFormed → (r : QueryTaken) (c : Checked) → TakenOf text bytes r → r .outcome ≡ TextOutcome.Taken
+pub rows-read : (sheet text bytes : List ℕ) → readSheet sheet ≡ Reading.WellFormed → (r : QueryRead) (c : Checked) → TakenOf text bytes r → r .decision ≡ Decision.Passed
     → checkedAnswer c ≡ rowsAnswer (parametersOf sheet) bytes (r .rows) → ReadsRows sheet text bytes (record { checked = c; rows = r .rows })
 rows-read sheet text bytes w r c t o e =
     let (q, of) = taken-rows t o in
     let answered : checkedAnswer c ≡ checkSearchAnswer sheet text = e ∙ sym (rows-answer sheet text bytes w (r .rows) q of) in
     record { answers = answered; passes = taken-passes sheet text bytes w (r .rows) q of c answered }
 
-pub rows-checked : (ps : List Parameter) (bytes : List ℕ) (rows : Rows) (first : FirstFault) (c : Checked) → first ≡ firstAlternativeFault ps (alternativesIn bytes rows)
+pub rows-checked : (ps : List Parameter) (bytes : List ℕ) (rows : Rows) (first : Decision) (c : Checked) → first ≡ firstAlternativeFault ps (alternativesIn bytes rows)
     → checkedAnswer c ≡ summaryAnswer (record { tests = rows .count; first = first }) → checkedAnswer c ≡ rowsAnswer ps bytes rows
 unfolding rowsAnswer
-rows-checked ps bytes rows first c e h = h ∙ ap (λ (f : FirstFault). summaryAnswer (record { tests = rows .count; first = f })) e
+rows-checked ps bytes rows first c e h = h ∙ ap (λ (f : Decision). summaryAnswer (record { tests = rows .count; first = f })) e
 
 -- ---- match
 

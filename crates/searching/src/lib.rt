@@ -9,9 +9,9 @@ use one_card::CardTaken;
 use one_card::CardVerdict;
 use one_card::answered;
 use one_card::take_card;
+use refusal::Decision;
 use refusal::Reason;
 use search::Rows;
-use search::TextOutcome;
 use search::faults::first_fault;
 use search::query::no_rows;
 use search::query::take_query;
@@ -34,7 +34,7 @@ pub struct SearchRead {
     pub rows: Rows,
 }
 
-// The first fault among the alternatives that rows keep, or their number.
+// The first refusal among the alternatives that rows keep, or their number.
 fn check_rows(sheet: &[u8], bytes: &[u8], rows: Rows) -> Checked
     requires { ⌜ readSheet (now sheet) ≡ Reading.WellFormed ⌝ }
     requires { ⌜ RowsWithin (length (now bytes)) rows ⌝ }
@@ -55,22 +55,14 @@ fn read_text(sheet: &[u8], text: &[u8], bytes: &mut [u8]) -> SearchRead
 {
     let taken = take_query(text, bytes);
     let rows = taken.rows;
-    let outcome = taken.outcome;
-    match outcome {
-        TextOutcome::Taken => SearchRead {
+    let decision = taken.decision;
+    match decision {
+        Decision::Passed => SearchRead {
             checked: check_rows(sheet, bytes, rows),
             rows,
         },
-        TextOutcome::Size => SearchRead {
-            checked: refuse(Reason::FilterSize, 0),
-            rows,
-        },
-        TextOutcome::Bad(at) => SearchRead {
-            checked: refuse(Reason::NoPair, at),
-            rows,
-        },
-        TextOutcome::Many => SearchRead {
-            checked: refuse(Reason::ManyAlternatives, 0),
+        Decision::Refused(refusal) => SearchRead {
+            checked: Checked::Refused(refusal),
             rows,
         },
     }

@@ -19,7 +19,7 @@ use Rattle.syntax.specs.Grammar.{Spells}
 use Rattle.syntax.proofs.Spelling.{read-spells}
 use Rattle.judge.specs.Faults.{firstFault}
 use Rattle.judge.specs.Verdicts.{filterSays}
-use Rattle.judge.specs.declared.Fault.{Fault}
+use Rattle.refusal.specs.declared.Decision.{Decision}
 use Rattle.rows.specs.Good.{Good}
 use Rattle.row_judge.specs.Saying.{rowsSay, Whole}
 use Rattle.rows.specs.Shapes.{good}
@@ -41,7 +41,7 @@ use Rattle.answer.specs.declared.Prepared.{Prepared}
 use Rattle.answer.specs.declared.Selected.{Selected}
 use Rattle.selecting.specs.declared.Asked.{Asked}
 use Rattle.answer.proofs.Passing.{passing-inputs}
-use Rattle.answer.proofs.RowsAnswered.{no-fault}
+use Rattle.answer.proofs.RowsAnswered.{step-passed}
 use Rattle.selecting.proofs.Selecting.{select-stopped}
 
 -- ---- the rows of a filter that check has passed
@@ -59,9 +59,9 @@ module _ (sheet text : List ℕ) (p : Passing sheet text) where
   spells : Spells text (p .tree)
   spells = read-spells text (p .tree) .0 (p .reads)
 
-  clean : firstFault ps 0 (testsOf (p .tree)) .fault ≡ Fault.Nothing
+  clean : firstFault ps 0 (testsOf (p .tree)) ≡ Decision.Passed
   unfolding testsStep
-  clean = no-fault (firstFault ps 0 (testsOf (p .tree)) .fault) (firstFault ps 0 (testsOf (p .tree)) .position) (p .meant)
+  clean = step-passed (firstFault ps 0 (testsOf (p .tree))) (p .meant)
 
   abbrev rows-good : Good ps text cells
   rows-good = prepared-good ps well text (p .tree) spells clean

@@ -32,10 +32,11 @@ use Rattle.kind.specs.Readable.{filterReadable, valueReadable}
 use Rattle.judge.specs.Sets.{lookup, valuesAt}
 use Rattle.judge.specs.Faults.{unsupported, kindFault, testFault}
 use Rattle.refusal.specs.declared.Reason.{Reason}
-use Rattle.judge.specs.declared.Fault.{Fault}
+use Rattle.refusal.specs.declared.Decision.{Decision}
+use Rattle.refusal.specs.Decisions.{refuse}
 use Rattle.refusal.specs.Answers.{Answer, yes, no, count, refused}
 use Rattle.refusal.specs.Steps.{found, stop}
-use Rattle.answer.specs.Operations.{faultStep}
+use Rattle.answer.specs.Operations.{decisionStep}
 use Rattle.judge.specs.Rules.{FilterSays, Says, says-present, says-absent, says-relates, says-differs}
 use Rattle.answer.specs.Verdicts.{Verdict, answers-yes, answers-no}
 use Rattle.answer.specs.Demand.{Meaningful, RefusesAlike, filterTests, FilterDemand}
@@ -56,24 +57,24 @@ title-spelled = read-spells (ascii "title co \"BOOK\"") (test titleTest) .0 (tre
 pub code-spelled : Spells (ascii "code gt 5") (test codeTest)
 code-spelled = read-spells (ascii "code gt 5") (test codeTest) .0 (trees-read .1)
 
-faults-found : (testFault trialParameters 0 titleTest ≡ Fault.Nothing) × (testFault trialParameters 0 codeTest ≡ (Fault.Because Reason.NoMeaning))
+faults-found : (testFault trialParameters 0 titleTest ≡ Decision.Passed) × (testFault trialParameters 0 codeTest ≡ (refuse Reason.NoMeaning (codeTest .at)))
 unfolding titleTest codeTest trialParameters testFault kindFault lookup find findFrom equal unsupported member hasMeaning meaningOf rowMeaning relationIn row kinds ofKind stringRow tokenRow valueReadable filterReadable
 faults-found = (refl, refl)
 
 trial-well-formed : WellFormedSheet trialParameters
 trial-well-formed = sheet-reads-iff trialSheet false trialParameters .0 trial-sheet-reads .0
 
-outcome-as : (t : Test) (fault : Fault) → testFault trialParameters 0 t ≡ fault → TestOutcome (filterTests trialParameters) t (faultStep fault (t .at))
-outcome-as t fault e = subst (λ (k : Fault). TestOutcome (filterTests trialParameters) t (faultStep k (t .at))) e (outcome trialParameters trial-well-formed t)
+outcome-as : (t : Test) (d : Decision) → testFault trialParameters 0 t ≡ d → TestOutcome (filterTests trialParameters) t (decisionStep d)
+outcome-as t d e = subst (λ (k : Decision). TestOutcome (filterTests trialParameters) t (decisionStep k)) e (outcome trialParameters trial-well-formed t)
 
 title-means : Meaningful (filterTests trialParameters) titleTest
-title-means = meaning (outcome-as titleTest Fault.Nothing (faults-found .0))
+title-means = meaning (outcome-as titleTest Decision.Passed (faults-found .0))
   where
     meaning : TestOutcome (filterTests trialParameters) titleTest (found tt) → Meaningful (filterTests trialParameters) titleTest
     meaning (test-means m _) = m
 
 code-lacks : Meaningful (filterTests trialParameters) codeTest → ⊥
-code-lacks m = shown (outcome-as codeTest (Fault.Because Reason.NoMeaning) (faults-found .1))
+code-lacks m = shown (outcome-as codeTest (refuse Reason.NoMeaning (codeTest .at)) (faults-found .1))
   where
     shown : TestOutcome (filterTests trialParameters) codeTest (stop 16 (codeTest .at)) → ⊥
     shown (test-refused r) = m (r .card) (r .entries) (r .conforms) (r .lacks)

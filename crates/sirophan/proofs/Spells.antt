@@ -16,28 +16,26 @@ use Rattle.syntax.specs.Reader.{read}
 use Rattle.syntax.proofs.Spelling.{read-spells, spells-not-empty}
 use Rattle.spell.specs.Plain.{plain}
 use Rattle.spell.specs.Spelling as spell
-use Rattle.spell.specs.declared.Outcome.{Outcome}
+use Rattle.spell.specs.declared.Spelled.{Spelled}
 use Rattle.refusal.specs.declared.Reason.{Reason}
-use Rattle.refusal.specs.declared.Refusal.{Refusal}
 use Rattle.refusal.specs.Answers.{count, refused, refusalAnswer}
 use Rattle.refusal.specs.Steps.{Step, found, stop, _>>=_, answer}
-use Rattle.sirophan.specs.Answers.{spelledAnswer}
+use Rattle.answer.specs.Answers.{spelledAnswer}
 use Rattle.answer.specs.Operations.{treeStep, takeFilter}
 use Rattle.answer.specs.Refusals.{SpellLine}
 use Rattle.sirophan.specs.Contracts.{SpellsInto}
-use Rattle.sirophan.specs.Spelling.{takeBuffer, spelling, spellAnswer, putInto, spellBytes, outcomeAnswer, SpellsAs, SpellAnswers}
-use Rattle.sirophan.specs.declared.Spelled.{Spelled}
+use Rattle.sirophan.specs.Spelling.{takeBuffer, spelling, spellAnswer, putInto, spellBytes, SpellAnswers}
 use Rattle.sirophan.proofs.Contracts.{refused-by}
 use Rattle.sirophan.proofs.SpellTable.{spell-table}
 
 -- ---- the definition by steps, and the one that the code meets
 
 module _ (text : List ℕ) (from : ℕ) (buffer : List ℕ) where
-  room-answer : (w : List ℕ) → outcomeAnswer (spell.placed w from (length buffer)) ≡ answer (takeBuffer from (length buffer) w >>= λ s. found (count (length s)))
-  unfolding spell.placed takeBuffer outcomeAnswer refusalAnswer
+  room-answer : (w : List ℕ) → spelledAnswer (spell.placed w from (length buffer)) ≡ answer (takeBuffer from (length buffer) w >>= λ s. found (count (length s)))
+  unfolding spell.placed takeBuffer spelledAnswer refusalAnswer
   room-answer w = go (leb (from + length w) (length buffer))
     where
-      go : (t : Bool) → outcomeAnswer (cond t (Outcome.Length (length w)) (Outcome.Refused (record { reason = Reason.ShortBuffer; place = length w }))) ≡ answer (cond t (found w) (stop 32 (length w)) >>= λ s. found (count (length s)))
+      go : (t : Bool) → spelledAnswer (cond t (Spelled.Length (length w)) (Spelled.Refused (record { reason = Reason.ShortBuffer; place = length w }))) ≡ answer (cond t (found w) (stop 32 (length w)) >>= λ s. found (count (length s)))
       go true = refl
       go false = refl
 
@@ -49,19 +47,19 @@ module _ (text : List ℕ) (from : ℕ) (buffer : List ℕ) where
       go true = refl
       go false = refl
 
-  tree-answer : (o : Option Tree) → outcomeAnswer (spell.treeOutcome text from (length buffer) o) ≡ answer (treeStep text o >>= λ f. takeBuffer from (length buffer) (plain f) >>= λ w. found (count (length w)))
+  tree-answer : (o : Option Tree) → spelledAnswer (spell.treeOutcome text from (length buffer) o) ≡ answer (treeStep text o >>= λ f. takeBuffer from (length buffer) (plain f) >>= λ w. found (count (length w)))
   tree-answer (some f) = room-answer (plain f)
-  tree-answer none = unfold outcomeAnswer refusalAnswer in refl
+  tree-answer none = unfold spelledAnswer refusalAnswer in refl
 
   tree-bytes : (o : Option Tree) → spell.treeBytes from buffer o ≡ putInto from buffer (treeStep text o >>= λ f. takeBuffer from (length buffer) (plain f))
   tree-bytes (some f) = room-bytes (plain f)
   tree-bytes none = refl
 
-  answer-is : outcomeAnswer (spell.outcome text from (length buffer)) ≡ spellAnswer text from (length buffer)
-  unfolding spell.outcome spellAnswer spelling takeFilter outcomeAnswer refusalAnswer
+  answer-is : spelledAnswer (spell.outcome text from (length buffer)) ≡ spellAnswer text from (length buffer)
+  unfolding spell.outcome spellAnswer spelling takeFilter spelledAnswer refusalAnswer
   answer-is = go (eqb (length text) 0 || ltb 1024 (length text)) (read text)
     where
-      go : (t : Bool) (o : Option Tree) → outcomeAnswer (cond t spell.wrongSize (spell.treeOutcome text from (length buffer) o))
+      go : (t : Bool) (o : Option Tree) → spelledAnswer (cond t spell.wrongSize (spell.treeOutcome text from (length buffer) o))
           ≡ answer (cond t (stop 10 0) (treeStep text o) >>= (λ f. takeBuffer from (length buffer) (plain f)) >>= λ w. found (count (length w)))
       go true o = refl
       go false (some f) = room-answer (plain f)
@@ -75,15 +73,13 @@ module _ (text : List ℕ) (from : ℕ) (buffer : List ℕ) where
       go true o = refl
       go false o = tree-bytes o
 
-  pub spells-as : (o : Outcome) (r : Spelled) (exit : List ℕ) → spell.SpellsInto text buffer from o exit → spelledAnswer r ≡ outcomeAnswer o → SpellsAs text from buffer r exit
-  spells-as o r exit s e = record { answers = e ∙ ap outcomeAnswer (s .answers) ∙ answer-is; bytes = s .bytes-are ∙ bytes-are }
-
-  pub spells-into : (r : Spelled) (exit : List ℕ) → SpellsAs text from buffer r exit → SpellsInto text from buffer r exit
+  pub spells-into : (r : Spelled) (exit : List ℕ) → spell.SpellsInto text buffer from r exit → SpellsInto text from buffer r exit
   spells-into r exit s =
+      let answered : spelledAnswer r ≡ spellAnswer text from (length buffer) = ap spelledAnswer (s .answers) ∙ answer-is in
       record {
-        answers = s .answers;
-        bytes = s .bytes;
-        refuses = refused-by (SpellLine text from (length buffer)) (spelledAnswer r) (spellAnswer text from (length buffer)) (s .answers) (spell-table text from (length buffer));
+        answers = answered;
+        bytes = s .bytes-are ∙ bytes-are;
+        refuses = refused-by (SpellLine text from (length buffer)) (spelledAnswer r) (spellAnswer text from (length buffer)) answered (spell-table text from (length buffer));
       }
 
   -- ---- it answers, and a refusal keeps the buffer
@@ -105,14 +101,3 @@ module _ (text : List ℕ) (from : ℕ) (buffer : List ℕ) where
       go : (s : Step (List ℕ)) → answer (s >>= λ w. found (count (length w))) ≡ refused n p → putInto from buffer s ≡ buffer
       go (found w) e = absurd (let z : _≡_ {A = ℕ} 0 1 = cc in omega arith)
       go (stop k q) e = refl
-
--- ---- each case of what spelling came to
-
-module _ (o : Outcome) where
-  pub length-spelled : (n : ℕ) → o ≡ Outcome.Length n → spelledAnswer (Spelled.Length n) ≡ outcomeAnswer o
-  unfolding spelledAnswer outcomeAnswer
-  length-spelled n e = rw e
-
-  pub refusal-spelled : (r : Refusal) → o ≡ Outcome.Refused r → spelledAnswer (Spelled.Refused r) ≡ outcomeAnswer o
-  unfolding spelledAnswer outcomeAnswer
-  refusal-spelled r e = rw e

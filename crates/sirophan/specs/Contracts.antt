@@ -6,8 +6,7 @@ use mathlib.Core.Logic.{_↔_}
 use mathlib.Core.List.{List}
 use lib.ListN.{length}
 use Rattle.refusal.specs.Answers.{Answer, refused}
-use Rattle.answer.specs.Answers.{checkedAnswer, matchedAnswer, selectedAnswer}
-use Rattle.sirophan.specs.Answers.{spelledAnswer}
+use Rattle.answer.specs.Answers.{checkedAnswer, matchedAnswer, selectedAnswer, spelledAnswer}
 use Rattle.answer.specs.Operations.{checkAnswer, matchAnswer, selectAnswer, selectCells}
 use Rattle.sirophan.specs.Spelling.{spellAnswer, spellBytes}
 use Rattle.refusal.specs.Order.{Decides}
@@ -20,7 +19,7 @@ use Rattle.answer.specs.declared.Checked.{Checked}
 use Rattle.answer.specs.declared.Matched.{Matched}
 use Rattle.answer.specs.declared.Prepared.{Prepared}
 use Rattle.answer.specs.declared.Selected.{Selected}
-use Rattle.sirophan.specs.declared.Spelled.{Spelled}
+use Rattle.spell.specs.declared.Spelled.{Spelled}
 
 -- the answer is refused with a number and a place exactly where that line of the table holds and none before it does
 abbrev pub RefusedBy : (ℕ → ℕ → Type 0) → Answer → Type 0

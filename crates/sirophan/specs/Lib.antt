@@ -1,5 +1,4 @@
 -- What spell answers; then what the operations owe on every input, and what the promises about them say.
-pub mod Answers
 pub mod Spelling
 pub mod SameQuestion
 pub mod Contracts

@@ -7,12 +7,9 @@ use mathlib.Core.List.{List, _++_}
 use lib.Dec.{leb}
 use lib.ListN.{length, take, drop}
 use Rattle.spell.specs.Plain.{plain}
-use Rattle.spell.specs.declared.Outcome.{Outcome}
-use Rattle.refusal.specs.Answers.{Answer, count, refusalAnswer}
+use Rattle.refusal.specs.Answers.{Answer, count}
 use Rattle.refusal.specs.Steps.{Step, found, stop, _>>=_, answer}
-use Rattle.sirophan.specs.Answers.{spelledAnswer}
 use Rattle.answer.specs.Operations.{takeFilter}
-use Rattle.sirophan.specs.declared.Spelled.{Spelled}
 
 -- 32: "when it would run past the buffer's end, place its length"
 unfoldable pub takeBuffer : (from room : ℕ) → List ℕ → Step (List ℕ)
@@ -37,17 +34,6 @@ putInto from buffer (stop n p) = buffer
 
 unfoldable pub spellBytes : List ℕ → ℕ → List ℕ → List ℕ
 spellBytes text from buffer = putInto from buffer (spelling text from (length buffer))
-
--- ---- the code's answer
-
--- the answer for what spelling came to
-unfoldable pub outcomeAnswer : Outcome → Answer
-outcomeAnswer (Outcome.Length n) = count n
-outcomeAnswer (Outcome.Refused r) = refusalAnswer r
-
-pub record SpellsAs (text : List ℕ) (from : ℕ) (buffer : List ℕ) (r : Spelled) (exit : List ℕ) : Type 0 where
-  pub answers : spelledAnswer r ≡ spellAnswer text from (length buffer)
-  pub bytes : exit ≡ spellBytes text from buffer
 
 -- what spell answers where there is room
 pub record SpellAnswers (w : List ℕ) (text : List ℕ) (from : ℕ) (buffer : List ℕ) : Type 0 where

@@ -1,7 +1,6 @@
 // Sirophan: which cards of an archive match a filter or a search string. It either has a meaning on every card that fits the sheet,
 // and is answered exactly, or is refused with a number and a place.
 mod operations;
-mod spelling;
 
 pub use answer::Checked;
 pub use answer::Engine;
@@ -19,10 +18,4 @@ pub use operations::select;
 pub use operations::select_by;
 pub use operations::select_search;
 pub use operations::spell;
-use refusal::Refusal;
-
-// What spell answers: the length of the plain spelling that it has written into the buffer, or a refusal.
-pub enum Spelled {
-    Length(usize),
-    Refused(Refusal),
-}
+pub use spell::Spelled;

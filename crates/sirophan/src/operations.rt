@@ -1,12 +1,11 @@
 // The operations, with all that is promised of each: the answer of its definition, refused exactly where a line of the table of
 // refusals decides. A slice holds bytes, so that nothing is asked of the caller.
-use crate::Spelled;
-use crate::spelling::spell_bytes;
 use answer::Checked;
 use answer::Engine;
 use answer::Matched;
 use answer::Prepared;
 use answer::Selected;
+use spell::Spelled;
 ghost use Rattle.sirophan.specs.Contracts.{Checks, Matches, SelectsInto, SpellsInto, ChecksSearch, MatchesSearch, SelectsSearchInto, PreparesInto, Judges};
 
 // How many tests a filter has, where each has a meaning on every card that fits the sheet.
@@ -54,7 +53,7 @@ pub fn select(sheet: &[u8], filter: &[u8], cards: &[u8], list: &mut [u32]) -> Se
 pub fn spell(filter: &[u8], buffer: &mut [u8], from: usize) -> Spelled
     ensures { λ r. ⌜ SpellsInto (now (filter .entry)) from (now (buffer .entry)) r (now (buffer .exit)) ⌝ }
 {
-    spell_bytes(filter, buffer, from)
+    spell::spell(filter, buffer, from)
 }
 
 // How many alternatives a search string has, where each has a meaning on every card that fits the sheet.

@@ -5,13 +5,12 @@ use mathlib.Core.Path.{_≡_, sym, ap, _∙_}
 use mathlib.Core.List.{List}
 use Rattle.refusal.specs.Answers as paper
 use Rattle.refusal.specs.Answers.{numberOf, refusalAnswer}
-use Rattle.answer.specs.Answers.{checkedAnswer, matchedAnswer, selectedAnswer}
-use Rattle.sirophan.specs.Answers.{spelledAnswer}
+use Rattle.answer.specs.Answers.{checkedAnswer, matchedAnswer, selectedAnswer, spelledAnswer}
 use Rattle.refusal.specs.declared.Refusal.{Refusal}
 use Rattle.answer.specs.declared.Checked.{Checked}
 use Rattle.answer.specs.declared.Matched.{Matched}
 use Rattle.answer.specs.declared.Selected.{Selected}
-use Rattle.sirophan.specs.declared.Spelled.{Spelled}
+use Rattle.spell.specs.declared.Spelled.{Spelled}
 use Rattle.report.specs.Operation.{reportedAnswer}
 use Rattle.report.specs.Contracts.{Reports}
 use Rattle.report.specs.declared.Tally.{Tally}

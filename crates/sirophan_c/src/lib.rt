@@ -8,7 +8,7 @@ use sirophan::Engine;
 use sirophan::Matched;
 use sirophan::Prepared;
 use sirophan::Selected;
-use sirophan::Spelled;
+use spell::Spelled;
 ghost use mathlib.Core.Path.{_≡_};
 ghost use lib.ListN.{length};
 ghost use Rattle.refusal.specs.Answers.{refusalAnswer};

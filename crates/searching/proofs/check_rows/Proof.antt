@@ -1,4 +1,4 @@
--- `searching::check_rows` meets its contract: the first fault and the number of rows are those of the alternatives. Assumes nothing.
+-- `searching::check_rows` meets its contract: the first refusal and the number of rows are those of the alternatives. Assumes nothing.
 use borrow.Author.Needs.{needs}
 use Rattle.searching.proofs.SearchPassing.{rows-checked}
 use Rattle.searching.proofs.check_rows.Statement.{statement}

@@ -4,8 +4,8 @@ use borrow.Author.Needs.{needs}
 use Rattle.sirophan.proofs.operations.spell.Statement.{statement}
 use Rattle.sirophan.proofs.operations.spell.Tie as tie
 
-spell-bytes-requires : tie.Need-spell-bytes-requires
-spell-bytes-requires c κs = search needs
+spell-requires : tie.Need-spell-requires
+spell-requires c κs = search needs
 
 same-length : tie.Need-same-length
 same-length c = search needs
@@ -14,4 +14,4 @@ returns : tie.Need-returns
 returns c = search (spells-into, needs)
 
 pub spell-spec : {M : Type 1} → statement M
-spell-spec = tie.close (tie.spec spell-bytes-requires same-length returns)
+spell-spec = tie.close (tie.spec spell-requires same-length returns)
