@@ -1,4 +1,7 @@
--- Noting where the second items of joins begin.
+-- Noting where the second items of joins begin. The walk keeps a stack of the lengths of the expressions so far (`Noting`, over `Stacked`): at a
+-- join the expression on top is its second item, whose rows are the last ones before the join (`noting-connect`), so that its length, noted
+-- at its first row, leads to the join. A note that is not 0 and ends inside the rows is an item's (`Jumps`); where the walk stops early, the
+-- notes so far still are.
 -- Assumes nothing.
 use Prim.Native.Nat.{ℕ, _+_, _-_, _≤_, _<_}
 use native.Mathlib.Omega.{arith}

@@ -1,4 +1,9 @@
 -- Judging rows: the stack has the verdicts and the sizes of the expressions so far, and a test is judged entry by entry.
+-- Two things are shown. A test's verdict by the set of the entries that are kept is found by looking at each entry (`each-is`): it counts, and
+-- the rows in the brackets say yes of its occurrence. And the walk over the rows keeps `Judging`: `Stacked` says that the expressions on the
+-- stack are those of the rows before i and decide with the rows that are left, and `Holds` that the arrays have their verdicts and lengths.
+-- Each row has a law that takes `Judging` from i to i + 1; an item that is left out takes it to behind its join, which the verdict on top
+-- decides already. At the end the one verdict on the stack is what the rows say.
 -- Assumes nothing.
 use Prim.Native.Nat.{ℕ, _+_, _-_, _≤_, _<_}
 use native.Mathlib.Omega.{arith}

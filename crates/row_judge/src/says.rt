@@ -293,6 +293,7 @@ fn probe_says(
     false
 }
 
+// A number of 32 bits as an index.
 fn wide(n: u32) -> usize
     ensures { λ r. ⌜ (r ≡ n) × (r < 4294967296) ⌝ }
 {

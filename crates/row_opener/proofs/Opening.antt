@@ -1,4 +1,7 @@
 -- Values opened once: the cells of one stand for it, and lists of cells have each at its row's place.
+-- What a value reads to is small (`Small`): its places are within 1,024, a number has at most nine decimals, and what reads to a number is not
+-- read as a date. So flags, mark and places go into one number and come out again by division (`cells-back`), and the loop over the rows
+-- keeps `Opens` of the rows so far in four lists.
 -- Assumes nothing.
 use Prim.Native.Nat.{ℕ, _+_, _*_, _/_, _%_, _≤_, _<_}
 use native.Mathlib.Omega.{arith}

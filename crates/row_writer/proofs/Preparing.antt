@@ -1,4 +1,6 @@
--- The rows of a filter whose tests have no fault are good, and state the filter.
+-- The rows of a filter whose tests have no fault are good, and state the filter. By the derivation of the filter's text: each test without a
+-- fault names a parameter that has its operator and reads its value, so its row fits; brackets nest as the grammar lets them; and the tree
+-- that the expression states is the filter's, with the tests' positions left out (`erase`).
 -- Assumes nothing.
 use Prim.Native.Nat.{ℕ, suc, _+_, _≤_}
 use native.Mathlib.Omega.{arith}

@@ -1,4 +1,6 @@
--- The test for good rows passes exactly where they are good.
+-- The test for good rows passes exactly where they are good. The computed shape of an expression has its nesting, its scope and whether each
+-- test fits; by induction over the expression it agrees with `Nests` and `Fits`, which are grammar and sheet, and cells that state an
+-- expression are its cells, so that the expression of `Good` is the one that the test finds.
 -- Assumes nothing.
 use Prim.Native.Nat.{ℕ, zero, suc, _≤_}
 use native.Mathlib.Omega.{arith}

@@ -1,4 +1,7 @@
 -- The loops over rows: a stack of expressions, of which an array has what is gathered of each. What is left of the rows decides.
+-- Every walk over rows has the same stack and gathers something else of it: shapes, verdicts, lengths, marks. `Holds` says that an array has what
+-- a function gathers of the expressions on the stack; `Stacked` that these are the expressions of the rows before i, and that they and the
+-- rows that are left state what all rows state. `holds-push`, `top-of` and `stacked-next` take both over one row.
 -- Assumes nothing.
 use Prim.Native.Nat.{ℕ, suc, _+_, _/_, _%_, _≤_, _<_}
 use native.Mathlib.Omega.{arith}

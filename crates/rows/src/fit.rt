@@ -67,12 +67,6 @@ fn probe_fits(kinds: &[u8], filter: &[u8], probe: Probe) -> bool
     }
 }
 
-fn wide(b: u8) -> u32
-    ensures { λ r. ⌜ (r ≡ b) × (r ≤ 255) ⌝ }
-{
-    b as u32
-}
-
 // The shape of a test.
 pub fn test_shape(kinds: &[u8], parents: &[u8], filter: &[u8], probe: Probe) -> Shape
     requires { ⌜ length (now kinds) ≡ 32 ⌝ }
@@ -82,7 +76,7 @@ pub fn test_shape(kinds: &[u8], parents: &[u8], filter: &[u8], probe: Probe) -> 
     ensures { λ r. ⌜ (r ≡ testShape (now (kinds .entry)) (now (parents .entry)) (now (filter .entry)) probe) × ((r .chain ≤ 15) × ((r .item ≤ 15) × (r .scope ≤ 255))) ⌝ }
 {
     let index = probe.index as usize;
-    let scope = wide(parents[index]);
+    let scope = base::wide(parents[index]) as u32;
     Shape {
         chain: 0,
         item: 0,

@@ -1,4 +1,8 @@
--- `row_judge::says::rows_say`, `probe_says`, `some_entry` and `entry_chosen` meet their contracts. Assumes nothing.
+-- `row_judge::says::rows_say`, `probe_says`, `some_entry` and `entry_chosen` meet their contracts: rows are judged by a stack, a test after
+-- brackets looks at the entries one by one, and each entry judges the rows in the brackets, a shorter part. The measure is that part's
+-- length, four for each row, and one less at each call in between. The loop over the rows keeps `Judging`, by one law for each kind of row
+-- and one for an item that is left out; the loop over the entries keeps `Visited`. Below the measures, each member has its callees, its
+-- invariants and the answers to its needs in the order of its code, each with the need's name. Assumes nothing.
 use Prim.Native.Nat.{_+_, _*_, _-_}
 use native.Mathlib.Omega.{arith}
 use mathlib.Core.Path.{refl}
@@ -133,7 +137,7 @@ pub +entry-chosen+probe-says+rows-say+some-entry-spec : {M : Type 1} → stateme
     (λ c. c .before .before .before .before .before .before .before .before .before .before .before .before .before .pre .1 .1 .1 .0 .order)  -- sub-rows-say-6
     (λ c. omega (arith, c .before .before .before .before .before .before .before .before .before .before .before .before .before .pre .1 .1 .1 .0 .order))  -- part-rows-say-start-6
     (λ c. omega (arith, c .before .before .before .before .before .before .before .before .before .before .before .before .before .pre .1 .1 .1 .0 .within, c .before .before .before .before .before .before .before .before .before .before .before .before .before .pre .1 .1 .1 .1 .1 .0 .end-cells .room))  -- part-rows-say-end-6
-    (λ c κs. (omega (arith, c .before .before .before .before .before .before .before .before .before .before .before .before .before .before .pre .0, part-length (c .before .before .before .before .before .before .before .before .before .before .before .before .before .before .args .rows .now) (c .before .before .before .before .before .before .before .before .before .before .before .before .before .before .args .from) (c .before .before .before .before .before .before .before .before .before .before .before .before .before .before .args .to) (c .before .before .before .before .before .before .before .before .before .before .before .before .before .before .pre .1 .1 .1 .0 .within)), (c .before .before .before .before .before .before .before .before .before .before .before .before .before .before .pre .1 .0, (c .before .before .before .before .before .before .before .before .before .before .before .before .before .before .pre .1 .1 .0, (c .before .before .before .before .before .before .before .before .before .before .before .before .before .before .pre .1 .1 .1 .0 .whole, (jumps-part (c .before .before .before .before .before .before .before .before .before .before .before .before .before .before .pre .1 .1 .1 .1 .0) (c .before .before .before .before .before .before .before .before .before .before .before .before .before .before .args .from) (c .before .before .before .before .before .before .before .before .before .before .before .before .before .before .args .to) (c .before .before .before .before .before .before .before .before .before .before .before .before .before .before .pre .1 .1 .1 .0 .order) (c .before .before .before .before .before .before .before .before .before .before .before .before .before .before .pre .1 .1 .1 .0 .within), (opens-part (c .before .before .before .before .before .before .before .before .before .before .before .before .before .before .pre .1 .1 .1 .1 .1 .0) (c .before .before .before .before .before .before .before .before .before .before .before .before .before .before .args .from) (c .before .before .before .before .before .before .before .before .before .before .before .before .before .before .args .to) (c .before .before .before .before .before .before .before .before .before .before .before .before .before .before .pre .1 .1 .1 .0 .order) (c .before .before .before .before .before .before .before .before .before .before .before .before .before .before .pre .1 .1 .1 .0 .within), c .before .before .before .before .before .before .before .before .before .before .before .before .before .before .pre .1 .1 .1 .1 .1 .1)))))))  -- rows-say-requires
+    (λ c κs. let start = c .before .before .before .before .before .before .before .before .before .before .before .before .before .before in (omega (arith, start .pre .0, part-length (start .args .rows .now) (start .args .from) (start .args .to) (start .pre .1 .1 .1 .0 .within)), (start .pre .1 .0, (start .pre .1 .1 .0, (start .pre .1 .1 .1 .0 .whole, (jumps-part (start .pre .1 .1 .1 .1 .0) (start .args .from) (start .args .to) (start .pre .1 .1 .1 .0 .order) (start .pre .1 .1 .1 .0 .within), (opens-part (start .pre .1 .1 .1 .1 .1 .0) (start .args .from) (start .args .to) (start .pre .1 .1 .1 .0 .order) (start .pre .1 .1 .1 .0 .within), start .pre .1 .1 .1 .1 .1 .1)))))))  -- rows-say-requires
     (λ c. bracket-inner _ _ _ _ _ _ _ _ _ (c .before .before .before .before .before .before .before .before .before .before .before .before .before .before .before .pre .1 .1 .1 .0) (c .before .before .before .before .before .before .before .if1 .taken) (c .rows-say .ensures))  -- returns
     (λ c. search (chosen-not, needs)))  -- returns-2
     (λ t. probe-says-lts.spec
@@ -142,7 +146,7 @@ pub +entry-chosen+probe-says+rows-say+some-entry-spec : {M : Type 1} → stateme
     (λ c. search needs)  -- cast-index
     (λ c. search needs)  -- shared-slice-read-meaning-of
     (λ c κs. search needs)  -- meaning-of-requires
-    (λ c κs. (omega (arith, c .before .before .before .before .before .before .before .before .before .before .before .pre .0), (c .before .before .before .before .before .before .before .before .before .before .before .pre .1 .0, (c .before .before .before .before .before .before .before .before .before .before .before .pre .1 .1 .0, (c .before .before .before .before .before .before .before .before .before .before .before .pre .1 .1 .1 .0, (c .before .before .before .before .before .before .before .before .before .before .before .pre .1 .1 .1 .1 .0, (c .before .before .before .before .before .before .before .before .before .before .before .pre .1 .1 .1 .1 .1 .0, (c .before .before .before .before .before .before .before .before .before .before .before .pre .1 .1 .1 .1 .1 .1 .0, probe-known _ _ _ _ (c .before .before .before .before .before .before .before .before .before .before .before .pre .1 .1 .1 .1 .1 .1 .1 .1) _ _ (c .before .before .if1 .taken) refl (c .meaning-of .ensures)))))))))  -- some-entry-requires
+    (λ c κs. let start = c .before .before .before .before .before .before .before .before .before .before .before in (omega (arith, start .pre .0), (start .pre .1 .0, (start .pre .1 .1 .0, (start .pre .1 .1 .1 .0, (start .pre .1 .1 .1 .1 .0, (start .pre .1 .1 .1 .1 .1 .0, (start .pre .1 .1 .1 .1 .1 .1 .0, probe-known _ _ _ _ (start .pre .1 .1 .1 .1 .1 .1 .1 .1) _ _ (c .before .before .if1 .taken) refl (c .meaning-of .ensures)))))))))  -- some-entry-requires
     (λ c κs. search needs)  -- some-says-requires
     (λ c. probe-opened _ _ _ _ (c .before .before .before .before .before .before .before .before .before .before .before .before .before .pre .1 .1 .1 .1 .1 .1 .1 .1) _ _ _ _ _ _ _ (c .before .before .before .before .if1 .taken) refl (c .before .before .meaning-of .ensures) (c .before .some-entry .ensures) (c .some-says .ensures))  -- returns
     (λ c. probe-closed _ _ _ _ (c .before .before .before .before .before .before .before .before .before .pre .1 .1 .1 .1 .1 .1 .1 .1) _ _ _ (c .if1 .left)))  -- returns-2
@@ -169,12 +173,12 @@ pub +entry-chosen+probe-says+rows-say+some-entry-spec : {M : Type 1} → stateme
     (λ c κs. search needs)  -- row-of-requires
     (λ c. search needs)  -- enum-known-probe
     (λ c. judging-full _ _ _ _ _ _ _ _ _ (c .before .before .before .before .before .before .before .before .before .before .loop .inv) (c .before .before .before .before .before .before .before .before .before .loop-test .taken) _ (c .before .before .before .before .row-of .ensures) _ (c .before .before .probe .given .1) (c .if2 .taken) (c .before .before .before .before .before .before .before .before .before .before .before .before .before .before .before .before .before .before .pre .1 .1 .1 .0))  -- returns
-    (λ c κs. (omega (arith, c .before .before .before .before .before .before .before .before .before .loop-test .taken, c .before .before .before .before .before .before .before .before .before .before .before .before .before .before .before .before .before .before .pre .1 .1 .1 .1 .1 .0 .span-cells .room), (omega (arith, c .before .before .before .before .before .before .before .before .before .loop-test .taken, c .before .before .before .before .before .before .before .before .before .before .before .before .before .before .before .before .before .before .pre .1 .1 .1 .1 .1 .0 .digit-cells .room), (omega (arith, c .before .before .before .before .before .before .before .before .before .loop-test .taken, c .before .before .before .before .before .before .before .before .before .before .before .before .before .before .before .before .before .before .pre .1 .1 .1 .1 .1 .0 .start-cells .room), omega (arith, c .before .before .before .before .before .before .before .before .before .loop-test .taken, c .before .before .before .before .before .before .before .before .before .before .before .before .before .before .before .before .before .before .pre .1 .1 .1 .1 .1 .0 .end-cells .room)))))  -- opened-at-requires
-    (λ c κs. (c .before .before .before .before .before .before .before .before .before .before .before .before .before .before .before .before .before .before .before .pre .1 .0, (c .before .before .before .before .before .before .before .before .before .before .before .before .before .before .before .before .before .before .before .pre .1 .1 .0, (c .before .before .before .before .before .before .before .before .before .before .before .before .before .before .before .before .before .before .before .pre .1 .1 .1 .1 .1 .1, (test-index _ _ _ (c .before .before .before .before .before .row-of .ensures) (c .before .before .before .probe .given .1), at-test _ _ _ _ _ _ _ (c .before .before .before .before .before .before .before .before .before .before .before .before .before .before .before .before .before .before .before .pre .1 .1 .1 .1 .1 .0) (c .before .before .before .before .before .before .before .before .before .before .before .before .before .before .before .before .before .before .before .pre .1 .1 .0) _ (c .before .before .before .before .before .before .before .before .before .before .loop-test .taken) _ (c .opened-at .ensures) _ (c .before .before .before .before .before .row-of .ensures) _ (c .before .before .before .probe .given .1))))))  -- plain-says-requires
-    (λ c. omega (arith, c .before .before .before .before .before .before .before .before .before .before .before .before .loop .inv .few, c .before .before .before .before .before .before .before .before .before .before .before .before .loop .inv .says-size, c .before .before .before .before .before .before .before .before .before .before .before .before .loop .inv .sizes-size, c .before .before .if2 .left))  -- array-write-says
-    (λ c. omega (arith, c .before .before .before .before .before .before .before .before .before .before .before .before .loop .inv .few, c .before .before .before .before .before .before .before .before .before .before .before .before .loop .inv .says-size, c .before .before .before .before .before .before .before .before .before .before .before .before .loop .inv .sizes-size))  -- mul-sizes-2
-    (λ c. omega (arith, c .before .before .before .before .before .before .before .before .before .before .before .before .loop .inv .few, c .before .before .before .before .before .before .before .before .before .before .before .before .loop .inv .says-size, c .before .before .before .before .before .before .before .before .before .before .before .before .loop .inv .sizes-size, c .before .before .if2 .left))  -- array-write-sizes-2
-    (λ c. omega (arith, c .before .before .before .before .before .before .before .before .before .before .before .before .loop .inv .few, c .before .before .before .before .before .before .before .before .before .before .before .before .loop .inv .says-size, c .before .before .before .before .before .before .before .before .before .before .before .before .loop .inv .sizes-size))  -- add-top
+    (λ c κs. let start = c .before .before .before .before .before .before .before .before .before .before .before .before .before .before .before .before .before .before in let turn = c .before .before .before .before .before .before .before .before .before in (omega (arith, turn .loop-test .taken, start .pre .1 .1 .1 .1 .1 .0 .span-cells .room), (omega (arith, turn .loop-test .taken, start .pre .1 .1 .1 .1 .1 .0 .digit-cells .room), (omega (arith, turn .loop-test .taken, start .pre .1 .1 .1 .1 .1 .0 .start-cells .room), omega (arith, turn .loop-test .taken, start .pre .1 .1 .1 .1 .1 .0 .end-cells .room)))))  -- opened-at-requires
+    (λ c κs. let start = c .before .before .before .before .before .before .before .before .before .before .before .before .before .before .before .before .before .before .before in (start .pre .1 .0, (start .pre .1 .1 .0, (start .pre .1 .1 .1 .1 .1 .1, (test-index _ _ _ (c .before .before .before .before .before .row-of .ensures) (c .before .before .before .probe .given .1), at-test _ _ _ _ _ _ _ (start .pre .1 .1 .1 .1 .1 .0) (start .pre .1 .1 .0) _ (c .before .before .before .before .before .before .before .before .before .before .loop-test .taken) _ (c .opened-at .ensures) _ (c .before .before .before .before .before .row-of .ensures) _ (c .before .before .before .probe .given .1))))))  -- plain-says-requires
+    (λ c. let turn = c .before .before .before .before .before .before .before .before .before .before .before .before in omega (arith, turn .loop .inv .few, turn .loop .inv .says-size, turn .loop .inv .sizes-size, c .before .before .if2 .left))  -- array-write-says
+    (λ c. let turn = c .before .before .before .before .before .before .before .before .before .before .before .before in omega (arith, turn .loop .inv .few, turn .loop .inv .says-size, turn .loop .inv .sizes-size))  -- mul-sizes-2
+    (λ c. let turn = c .before .before .before .before .before .before .before .before .before .before .before .before in omega (arith, turn .loop .inv .few, turn .loop .inv .says-size, turn .loop .inv .sizes-size, c .before .before .if2 .left))  -- array-write-sizes-2
+    (λ c. let turn = c .before .before .before .before .before .before .before .before .before .before .before .before in omega (arith, turn .loop .inv .few, turn .loop .inv .says-size, turn .loop .inv .sizes-size))  -- add-top
     (λ c. omega (arith, c .before .before .before .before .before .before .before .before .before .before .before .loop-test .taken, c .before .before .before .before .before .before .before .before .before .before .before .before .before .before .before .before .before .before .before .before .good .1 .1 .0 .1))  -- add-i-3
     (λ c. search needs)  -- loop-less-2
     (λ c. judging-test _ _ _ _ _ _ _ _ _ (c .before .before .before .before .before .before .before .before .before .before .before .before .loop .inv) (c .before .before .before .before .before .before .before .before .before .before .before .loop-test .taken) _ (c .before .before .before .before .before .before .row-of .ensures) _ _ (c .before .before .before .before .probe .given .1) (c .before .before .if2 .left) (c .plain-says .ensures))  -- loop-again-2
@@ -184,14 +188,14 @@ pub +entry-chosen+probe-says+rows-say+some-entry-spec : {M : Type 1} → stateme
     (λ c. search needs)  -- mul-size-2
     (λ c. search needs)  -- array-read-size-2
     (λ c. judging-before _ _ _ _ _ _ _ _ _ (c .before .before .before .before .before .before .before .before .before .before .loop .inv) (c .before .before .before .before .before .before .before .before .before .loop-test .taken) _ (c .before .before .before .before .row-of .ensures) _ (c .if3 .left) refl)  -- sub-start
-    (λ c κs. (omega (arith, c .before .before .before .before .before .before .before .before .before .loop-test .taken, c .before .before .before .before .before .before .before .before .before .before .before .before .before .before .before .before .before .before .pre .1 .1 .1 .1 .1 .0 .span-cells .room), (omega (arith, c .before .before .before .before .before .before .before .before .before .loop-test .taken, c .before .before .before .before .before .before .before .before .before .before .before .before .before .before .before .before .before .before .pre .1 .1 .1 .1 .1 .0 .digit-cells .room), (omega (arith, c .before .before .before .before .before .before .before .before .before .loop-test .taken, c .before .before .before .before .before .before .before .before .before .before .before .before .before .before .before .before .before .before .pre .1 .1 .1 .1 .1 .0 .start-cells .room), omega (arith, c .before .before .before .before .before .before .before .before .before .loop-test .taken, c .before .before .before .before .before .before .before .before .before .before .before .before .before .before .before .before .before .before .pre .1 .1 .1 .1 .1 .0 .end-cells .room)))))  -- opened-at-requires-2
-    (λ c κs. (omega (arith, c .before .before .before .before .before .before .before .before .before .before .before .before .before .before .before .before .before .before .before .pre .0, c .before .before .before .before .before .before .before .before .before .before .loop-test .taken, judging-before _ _ _ _ _ _ _ _ _ (c .before .before .before .before .before .before .before .before .before .before .before .loop .inv) (c .before .before .before .before .before .before .before .before .before .before .loop-test .taken) _ (c .before .before .before .before .before .row-of .ensures) _ (c .before .if3 .left) refl), (c .before .before .before .before .before .before .before .before .before .before .before .before .before .before .before .before .before .before .before .pre .1 .0, (c .before .before .before .before .before .before .before .before .before .before .before .before .before .before .before .before .before .before .before .pre .1 .1 .0, (judging-inner _ _ _ _ _ _ _ _ _ (c .before .before .before .before .before .before .before .before .before .before .before .loop .inv) (c .before .before .before .before .before .before .before .before .before .before .loop-test .taken) _ (c .before .before .before .before .before .row-of .ensures) _ (c .before .if3 .left) refl (c .before .before .before .before .before .before .before .before .before .before .before .before .before .before .before .before .before .before .before .pre .1 .1 .1 .0), (c .before .before .before .before .before .before .before .before .before .before .before .before .before .before .before .before .before .before .before .pre .1 .1 .1 .1 .0, (c .before .before .before .before .before .before .before .before .before .before .before .before .before .before .before .before .before .before .before .pre .1 .1 .1 .1 .1 .0, (c .before .before .before .before .before .before .before .before .before .before .before .before .before .before .before .before .before .before .before .pre .1 .1 .1 .1 .1 .1, (bracket-index _ _ _ (c .before .before .before .before .before .row-of .ensures) (c .before .before .before .probe2 .given .1), at-bracket _ _ _ _ _ _ _ (c .before .before .before .before .before .before .before .before .before .before .before .before .before .before .before .before .before .before .before .pre .1 .1 .1 .1 .1 .0) (c .before .before .before .before .before .before .before .before .before .before .before .before .before .before .before .before .before .before .before .pre .1 .1 .0) _ (c .before .before .before .before .before .before .before .before .before .before .loop-test .taken) _ (c .opened-at2 .ensures) _ (c .before .before .before .before .before .row-of .ensures) _ (c .before .before .before .probe2 .given .1))))))))))  -- probe-says-requires
+    (λ c κs. let start = c .before .before .before .before .before .before .before .before .before .before .before .before .before .before .before .before .before .before in let turn = c .before .before .before .before .before .before .before .before .before in (omega (arith, turn .loop-test .taken, start .pre .1 .1 .1 .1 .1 .0 .span-cells .room), (omega (arith, turn .loop-test .taken, start .pre .1 .1 .1 .1 .1 .0 .digit-cells .room), (omega (arith, turn .loop-test .taken, start .pre .1 .1 .1 .1 .1 .0 .start-cells .room), omega (arith, turn .loop-test .taken, start .pre .1 .1 .1 .1 .1 .0 .end-cells .room)))))  -- opened-at-requires-2
+    (λ c κs. let start = c .before .before .before .before .before .before .before .before .before .before .before .before .before .before .before .before .before .before .before in (omega (arith, start .pre .0, c .before .before .before .before .before .before .before .before .before .before .loop-test .taken, judging-before _ _ _ _ _ _ _ _ _ (c .before .before .before .before .before .before .before .before .before .before .before .loop .inv) (c .before .before .before .before .before .before .before .before .before .before .loop-test .taken) _ (c .before .before .before .before .before .row-of .ensures) _ (c .before .if3 .left) refl), (start .pre .1 .0, (start .pre .1 .1 .0, (judging-inner _ _ _ _ _ _ _ _ _ (c .before .before .before .before .before .before .before .before .before .before .before .loop .inv) (c .before .before .before .before .before .before .before .before .before .before .loop-test .taken) _ (c .before .before .before .before .before .row-of .ensures) _ (c .before .if3 .left) refl (start .pre .1 .1 .1 .0), (start .pre .1 .1 .1 .1 .0, (start .pre .1 .1 .1 .1 .1 .0, (start .pre .1 .1 .1 .1 .1 .1, (bracket-index _ _ _ (c .before .before .before .before .before .row-of .ensures) (c .before .before .before .probe2 .given .1), at-bracket _ _ _ _ _ _ _ (start .pre .1 .1 .1 .1 .1 .0) (start .pre .1 .1 .0) _ (c .before .before .before .before .before .before .before .before .before .before .loop-test .taken) _ (c .opened-at2 .ensures) _ (c .before .before .before .before .before .row-of .ensures) _ (c .before .before .before .probe2 .given .1))))))))))  -- probe-says-requires
     (λ c. search needs)  -- sub-says
-    (λ c. omega (arith, c .before .before .before .before .before .before .before .before .before .before .before .before .loop .inv .few, c .before .before .before .before .before .before .before .before .before .before .before .before .loop .inv .says-size, c .before .before .before .before .before .before .before .before .before .before .before .before .loop .inv .sizes-size, c .before .before .if3 .left))  -- array-write-says-2
+    (λ c. let turn = c .before .before .before .before .before .before .before .before .before .before .before .before in omega (arith, turn .loop .inv .few, turn .loop .inv .says-size, turn .loop .inv .sizes-size, c .before .before .if3 .left))  -- array-write-says-2
     (λ c. omega (arith, judging-before _ _ _ _ _ _ _ _ _ (c .before .before .before .before .before .before .before .before .before .before .before .before .loop .inv) (c .before .before .before .before .before .before .before .before .before .before .before .loop-test .taken) _ (c .before .before .before .before .before .before .row-of .ensures) _ (c .before .before .if3 .left) refl, c .before .before .before .before .before .before .before .before .before .before .before .loop-test .taken, c .before .before .before .before .before .before .before .before .before .before .before .before .before .before .before .before .before .before .before .before .good .1 .1 .0))  -- add-sizes-3
     (λ c. search needs)  -- sub-sizes-2
-    (λ c. omega (arith, c .before .before .before .before .before .before .before .before .before .before .before .before .loop .inv .few, c .before .before .before .before .before .before .before .before .before .before .before .before .loop .inv .says-size, c .before .before .before .before .before .before .before .before .before .before .before .before .loop .inv .sizes-size))  -- mul-sizes-3
-    (λ c. omega (arith, c .before .before .before .before .before .before .before .before .before .before .before .before .loop .inv .few, c .before .before .before .before .before .before .before .before .before .before .before .before .loop .inv .says-size, c .before .before .before .before .before .before .before .before .before .before .before .before .loop .inv .sizes-size, c .before .before .if3 .left))  -- array-write-sizes-3
+    (λ c. let turn = c .before .before .before .before .before .before .before .before .before .before .before .before in omega (arith, turn .loop .inv .few, turn .loop .inv .says-size, turn .loop .inv .sizes-size))  -- mul-sizes-3
+    (λ c. let turn = c .before .before .before .before .before .before .before .before .before .before .before .before in omega (arith, turn .loop .inv .few, turn .loop .inv .says-size, turn .loop .inv .sizes-size, c .before .before .if3 .left))  -- array-write-sizes-3
     (λ c. omega (arith, c .before .before .before .before .before .before .before .before .before .before .before .loop-test .taken, c .before .before .before .before .before .before .before .before .before .before .before .before .before .before .before .before .before .before .before .before .good .1 .1 .0 .1))  -- add-i-4
     (λ c. search needs)  -- loop-less-3
     (λ c. judging-bracket _ _ _ _ _ _ _ _ _ (c .before .before .before .before .before .before .before .before .before .before .before .before .loop .inv) (c .before .before .before .before .before .before .before .before .before .before .before .loop-test .taken) _ (c .before .before .before .before .before .before .row-of .ensures) _ _ _ (c .before .before .before .before .probe2 .given .1) (c .before .before .if3 .left) refl (c .probe-says .ensures))  -- loop-again-3
@@ -247,7 +251,7 @@ pub +entry-chosen+probe-says+rows-say+some-entry-spec : {M : Type 1} → stateme
     (λ c. search needs)  -- part-entry-counts-start
     (λ c. search needs)  -- part-entry-counts-end
     (λ c κs. (c .before .before .before .before .before .before .before .before .before .before .before .before .before .before .pre .1 .1 .0, c .before .before .before .before .before .before .before .before .before .before .before .before .before .before .pre .1 .1 .1 .1 .1 .1 .1))  -- entry-counts-requires
-    (λ c κs. (omega (arith, c .before .before .before .before .before .before .before .before .before .before .before .before .before .before .before .pre .0), (c .before .before .before .before .before .before .before .before .before .before .before .before .before .before .before .pre .1 .0, (c .before .before .before .before .before .before .before .before .before .before .before .before .before .before .before .pre .1 .1 .0, (c .before .before .before .before .before .before .before .before .before .before .before .before .before .before .before .pre .1 .1 .1 .0, (c .before .before .before .before .before .before .before .before .before .before .before .before .before .before .before .pre .1 .1 .1 .1 .0, (c .before .before .before .before .before .before .before .before .before .before .before .before .before .before .before .pre .1 .1 .1 .1 .1 .0, c .before .before .before .before .before .before .before .before .before .before .before .before .before .before .before .pre .1 .1 .1 .1 .1 .1 .0)))))))  -- entry-chosen-requires
+    (λ c κs. let start = c .before .before .before .before .before .before .before .before .before .before .before .before .before .before .before in (omega (arith, start .pre .0), (start .pre .1 .0, (start .pre .1 .1 .0, (start .pre .1 .1 .1 .0, (start .pre .1 .1 .1 .1 .0, (start .pre .1 .1 .1 .1 .1 .0, start .pre .1 .1 .1 .1 .1 .1 .0)))))))  -- entry-chosen-requires
     (λ c. visited-decides _ _ _ _ _ _ (c .before .before .before .before .before .before .before .before .loop .inv) _ _ _ _ (c .before .before .before .before .before .before .entry-at .ensures) _ (entry-here _ _ _ _ _ _ _ _ _ _ _ _ (c .before .before .before .before .is-under .ensures) (c .before .before .entry-counts .ensures) (c .before .entry-chosen .ensures) (c .if1 .taken)))  -- returns
     (λ c. search needs)  -- sub-left
     (λ c. search needs)  -- loop-less

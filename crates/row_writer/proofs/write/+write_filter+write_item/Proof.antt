@@ -1,4 +1,8 @@
--- `row_writer::write::write_filter` and `write_item` meet their contracts. Assumes nothing.
+-- `row_writer::write::write_filter` and `write_item` meet their contracts: the text is read as the definition reads it, and each answer
+-- writes the cells of what was read behind those that stand. The measure is twice the bytes that are left, and one more for a filter. The
+-- loop over a filter's items keeps `Chained`: what was read so far is a filter, its cells are written, and the chain from here on decides.
+-- A row takes a byte of the text at least, so that rows never end behind the place, and the list of 1,024 cells has room. Below the measures,
+-- each member has its callees, its invariant and the answers to its needs in the order of its code, each with the need's name. Assumes nothing.
 use Prim.Native.Nat.{_+_, _*_, _-_}
 use native.Mathlib.Omega.{arith}
 use lib.ListN.{length}
@@ -72,11 +76,11 @@ pub +write-filter+write-item-spec : {M : Type 1} → statement M
     (λ c. search needs)  -- enum-told
     (λ c. search needs)  -- same-length
     (λ c. wrote-no-item _ _ _ _ _ _ _ _ _ _ (c .before .before .before .before .write-item .ensures) (c .enum-told .given .1))  -- returns
-    (λ c. chain-starts _ _ _ _ _ _ _ _ _ _ (c .before .before .before .before .before .before .write-item .ensures) _ _ (c .before .before .first .given .1) (c .before .before .before .before .before .before .before .before .before .before .before .pre .1 .1 .1 .1 .1) (omega (arith, c .before .before .before .before .before .before .before .before .before .before .before .pre .1 .1 .1 .1 .1, c .before .before .before .before .before .before .before .before .before .before .before .pre .1 .1 .1 .0, c .before .before .before .before .before .before .before .before .before .before .before .pre .1 .1 .0, c .before .before .before .before .before .before .before .before .before .before .before .pre .1 .1 .1 .1 .0)))  -- loop-holds
+    (λ c. let start = c .before .before .before .before .before .before .before .before .before .before .before in chain-starts _ _ _ _ _ _ _ _ _ _ (c .before .before .before .before .before .before .write-item .ensures) _ _ (c .before .before .first .given .1) (start .pre .1 .1 .1 .1 .1) (omega (arith, start .pre .1 .1 .1 .1 .1, start .pre .1 .1 .1 .0, start .pre .1 .1 .0, start .pre .1 .1 .1 .1 .0)))  -- loop-holds
     (λ c κs. search needs)  -- read-connective-requires
     (λ c. search needs)  -- enum-known-found
     (λ c. search needs)  -- add-write-item
-    (λ c κs. let a = connective-ahead _ _ _ _ _ (c .before .before .before .before .read-connective .ensures) (c .before .before .found .given .1) in (omega (arith, a .0, a .1, c .before .before .before .before .before .loop .inv .from, c .before .before .before .before .before .before .before .before .before .before .before .before .before .before .before .before .before .pre .0), (c .before .before .before .before .before .before .before .before .before .before .before .before .before .before .before .before .before .pre .1 .0, (c .before .before .before .before .before .before .before .before .before .before .before .before .before .before .before .before .before .pre .1 .1 .0, (a .1, (omega (arith, c .before .before .before .before .before .loop .inv .size, c .before .before .before .before .before .before .before .before .before .before .before .before .write-item .ensures .size, c .before .before .before .before .before .before .before .before .before .before .before .before .before .before .before .before .before .pre .1 .1 .1 .1 .0), omega (arith, a .0, c .before .before .before .before .before .loop .inv .room)))))))  -- write-item-requires-2
+    (λ c κs. let start = c .before .before .before .before .before .before .before .before .before .before .before .before .before .before .before .before .before in let turn = c .before .before .before .before .before in let a = connective-ahead _ _ _ _ _ (c .before .before .before .before .read-connective .ensures) (c .before .before .found .given .1) in (omega (arith, a .0, a .1, turn .loop .inv .from, start .pre .0), (start .pre .1 .0, (start .pre .1 .1 .0, (a .1, (omega (arith, turn .loop .inv .size, c .before .before .before .before .before .before .before .before .before .before .before .before .write-item .ensures .size, start .pre .1 .1 .1 .1 .0), omega (arith, a .0, turn .loop .inv .room)))))))  -- write-item-requires-2
     (λ c. search needs)  -- enum-known-item
     (λ c κs. search needs)  -- connect-cell-requires
     (λ c. let a = connective-ahead _ _ _ _ _ (c .before .before .before .before .before .before .before .before .before .before .before .before .read-connective .ensures) (c .before .before .before .before .before .before .before .before .before .before .found .given .1) in let t = item-takes _ _ _ _ _ _ _ _ _ _ _ _ (c .before .before .before .before .before .before .before .write-item2 .ensures) (c .before .before .before .item .given .1) in omega (arith, a .0, t .ahead, t .cells-fit, t .within, c .before .before .before .before .before .before .before .before .before .before .before .before .before .loop .inv .room, c .before .before .before .before .before .before .before .before .before .before .before .before .before .before .before .before .before .before .before .before .before .before .before .before .before .pre .1 .1 .0, c .before .before .before .before .before .before .before .before .before .before .before .before .before .loop .inv .size, c .before .before .before .before .before .before .before .before .before .before .before .before .before .before .before .before .before .before .before .before .write-item .ensures .size, c .before .before .before .before .before .before .before .before .before .before .before .before .before .before .before .before .before .before .before .before .before .before .before .before .before .pre .1 .1 .1 .1 .0, c .before .before .before .before .before .before .before .write-item2 .ensures .size))  -- add-rows
@@ -90,33 +94,33 @@ pub +write-filter+write-item-spec : {M : Type 1} → statement M
     (λ c. chain-takes _ _ _ _ _ _ _ _ _ _ _ _ (c .before .before .before .before .before .before .before .before .before .before .before .before .before .before .loop .inv) _ (c .before .before .before .before .before .before .before .before .before .before .before .before .before .read-connective .ensures) _ _ (c .before .before .before .before .before .before .before .before .before .before .before .found .given .1) _ _ (c .before .before .before .before .before .before .before .before .write-item2 .ensures) _ _ (c .before .before .before .before .item .given .1) _ _ (c .join-summaries .ensures) (c .before .connect-cell .ensures) (omega (arith, c .before .before .before .before .before .before .before .before .before .before .before .before .before .before .before .before .before .before .before .before .before .before .before .before .before .before .pre .1 .1 .0, c .before .before .before .before .before .before .before .before .before .before .before .before .before .before .loop .inv .size, c .before .before .before .before .before .before .before .before .before .before .before .before .before .before .before .before .before .before .before .before .before .write-item .ensures .size, c .before .before .before .before .before .before .before .before .before .before .before .before .before .before .before .before .before .before .before .before .before .before .before .before .before .before .pre .1 .1 .1 .1 .0, c .before .before .before .before .before .before .before .before .write-item2 .ensures .size)))  -- loop-again
     (λ c. search needs)  -- enum-told-2
     (λ c. search needs)  -- same-length-2
-    (λ c. chain-no-item _ _ _ _ _ _ _ _ _ _ _ _ (c .before .before .before .before .before .before .before .before .before .before .loop .inv) _ (c .before .before .before .before .before .before .before .before .before .read-connective .ensures) _ _ (c .before .before .before .before .before .before .before .found .given .1) _ _ (c .before .before .before .before .write-item2 .ensures) _ (c .enum-told2 .given .1) (wrote-keeps _ _ _ _ _ _ _ _ _ _ (c .before .before .before .before .before .before .before .before .before .before .before .before .before .before .before .before .before .write-item .ensures) (c .before .before .before .before .before .before .before .before .before .before .before .before .before .first .given .1) (omega (arith, c .before .before .before .before .before .before .before .before .before .before .before .before .before .before .before .before .before .before .before .before .before .before .pre .1 .1 .1 .1 .1, c .before .before .before .before .before .before .before .before .before .before .before .before .before .before .before .before .before .before .before .before .before .before .pre .1 .1 .1 .0, c .before .before .before .before .before .before .before .before .before .before .before .before .before .before .before .before .before .before .before .before .before .before .pre .1 .1 .0, c .before .before .before .before .before .before .before .before .before .before .before .before .before .before .before .before .before .before .before .before .before .before .pre .1 .1 .1 .1 .0))))  -- returns-2
+    (λ c. let start = c .before .before .before .before .before .before .before .before .before .before .before .before .before .before .before .before .before .before .before .before .before .before in chain-no-item _ _ _ _ _ _ _ _ _ _ _ _ (c .before .before .before .before .before .before .before .before .before .before .loop .inv) _ (c .before .before .before .before .before .before .before .before .before .read-connective .ensures) _ _ (c .before .before .before .before .before .before .before .found .given .1) _ _ (c .before .before .before .before .write-item2 .ensures) _ (c .enum-told2 .given .1) (wrote-keeps _ _ _ _ _ _ _ _ _ _ (c .before .before .before .before .before .before .before .before .before .before .before .before .before .before .before .before .before .write-item .ensures) (c .before .before .before .before .before .before .before .before .before .before .before .before .before .first .given .1) (omega (arith, start .pre .1 .1 .1 .1 .1, start .pre .1 .1 .1 .0, start .pre .1 .1 .0, start .pre .1 .1 .1 .1 .0))))  -- returns-2
     (λ c. search needs)  -- enum-told-3
     (λ c. search needs)  -- same-length-3
-    (λ c. chain-ends _ _ _ _ _ _ _ _ _ _ _ _ (c .before .before .before .loop .inv) _ (c .before .before .read-connective .ensures) _ (c .enum-told3 .given .1) (wrote-keeps _ _ _ _ _ _ _ _ _ _ (c .before .before .before .before .before .before .before .before .before .before .write-item .ensures) (c .before .before .before .before .before .before .first .given .1) (omega (arith, c .before .before .before .before .before .before .before .before .before .before .before .before .before .before .before .pre .1 .1 .1 .1 .1, c .before .before .before .before .before .before .before .before .before .before .before .before .before .before .before .pre .1 .1 .1 .0, c .before .before .before .before .before .before .before .before .before .before .before .before .before .before .before .pre .1 .1 .0, c .before .before .before .before .before .before .before .before .before .before .before .before .before .before .before .pre .1 .1 .1 .1 .0)))))  -- returns-3
+    (λ c. let start = c .before .before .before .before .before .before .before .before .before .before .before .before .before .before .before in chain-ends _ _ _ _ _ _ _ _ _ _ _ _ (c .before .before .before .loop .inv) _ (c .before .before .read-connective .ensures) _ (c .enum-told3 .given .1) (wrote-keeps _ _ _ _ _ _ _ _ _ _ (c .before .before .before .before .before .before .before .before .before .before .write-item .ensures) (c .before .before .before .before .before .before .first .given .1) (omega (arith, start .pre .1 .1 .1 .1 .1, start .pre .1 .1 .1 .0, start .pre .1 .1 .0, start .pre .1 .1 .1 .1 .0)))))  -- returns-3
     (λ t. write-item-lts.spec
     (read-head-reads.Asked, read-head-reads.Learnt, test-summary-reads.Asked, test-summary-reads.Learnt, test-number-reads.Asked, test-number-reads.Learnt, write-filter-below t, write-filter.Post, read-close-reads.Asked, read-close-reads.Learnt, enter-reads.Asked, enter-reads.Learnt, skip-reads.Asked, skip-reads.Learnt, read-member-reads.Asked, read-member-reads.Learnt, join-summaries-reads.Asked, join-summaries-reads.Learnt)
     (write-item-at t) write-item.Post
     (λ c κs. search needs)  -- read-head-requires
     (λ c. search needs)  -- enum-known-head
-    (λ c κs. (c .before .before .before .before .before .before .before .pre .1 .0, (c .before .before .before .before .before .before .before .pre .1 .1 .0, head-test-placed _ _ _ _ (c .before .before .before .read-head .ensures) (c .before .before .before .before .before .before .before .pre .1 .1 .1 .0) _ (c .before .head .given .1) .0)))  -- test-summary-requires
-    (λ c κs. (c .before .before .before .before .before .before .before .before .pre .1 .0, (c .before .before .before .before .before .before .before .before .pre .1 .1 .0, (head-test-placed _ _ _ _ (c .before .before .before .before .read-head .ensures) (c .before .before .before .before .before .before .before .before .pre .1 .1 .1 .0) _ (c .before .before .head .given .1) .0, head-read _ _ _ _ _ (c .before .before .before .before .read-head .ensures) (c .before .before .head .given .1)))))  -- test-number-requires
+    (λ c κs. let start = c .before .before .before .before .before .before .before in (start .pre .1 .0, (start .pre .1 .1 .0, head-test-placed _ _ _ _ (c .before .before .before .read-head .ensures) (start .pre .1 .1 .1 .0) _ (c .before .head .given .1) .0)))  -- test-summary-requires
+    (λ c κs. let start = c .before .before .before .before .before .before .before .before in (start .pre .1 .0, (start .pre .1 .1 .0, (head-test-placed _ _ _ _ (c .before .before .before .before .read-head .ensures) (start .pre .1 .1 .1 .0) _ (c .before .before .head .given .1) .0, head-read _ _ _ _ _ (c .before .before .before .before .read-head .ensures) (c .before .before .head .given .1)))))  -- test-number-requires
     (λ c. search needs)  -- mul-rows
     (λ c. search needs)  -- mul-rows-2
-    (λ c. let a = head-test-placed _ _ _ _ (c .before .before .before .before .before .read-head .ensures) (c .before .before .before .before .before .before .before .before .before .pre .1 .1 .1 .0) _ (c .before .before .before .head .given .1) in omega (arith, a .1, a .2, c .before .before .before .before .before .before .before .before .before .pre .1 .1 .0, c .before .before .before .before .before .before .before .before .before .pre .1 .1 .1 .1 .0, c .before .before .before .before .before .before .before .before .before .pre .1 .1 .1 .1 .1))  -- slice-write-rows
+    (λ c. let start = c .before .before .before .before .before .before .before .before .before in let a = head-test-placed _ _ _ _ (c .before .before .before .before .before .read-head .ensures) (start .pre .1 .1 .1 .0) _ (c .before .before .before .head .given .1) in omega (arith, a .1, a .2, start .pre .1 .1 .0, start .pre .1 .1 .1 .1 .0, start .pre .1 .1 .1 .1 .1))  -- slice-write-rows
     (λ c. search needs)  -- enum-known-head-2
     (λ c. wrote-deep _ _ _ _ _ _ _ _ (c .before .before .before .before .read-head .ensures) _ _ (c .before .before .head2 .given .1) _ (c .if1 .taken))  -- returns
     (λ c. search needs)  -- sub-t42
-    (λ c κs. let a = head-open-ahead _ _ _ _ (c .before .before .before .before .before .read-head .ensures) (c .before .before .before .before .before .before .before .before .before .pre .1 .1 .1 .0) _ _ (c .before .before .before .head2 .given .1) in (omega (arith, a .0, a .1, c .before .before .before .before .before .before .before .before .before .pre .0), (c .before .before .before .before .before .before .before .before .before .pre .1 .0, (c .before .before .before .before .before .before .before .before .before .pre .1 .1 .0, (a .1, (c .before .before .before .before .before .before .before .before .before .pre .1 .1 .1 .1 .0, omega (arith, a .0, c .before .before .before .before .before .before .before .before .before .pre .1 .1 .1 .1 .1)))))))  -- write-filter-requires
+    (λ c κs. let start = c .before .before .before .before .before .before .before .before .before in let a = head-open-ahead _ _ _ _ (c .before .before .before .before .before .read-head .ensures) (start .pre .1 .1 .1 .0) _ _ (c .before .before .before .head2 .given .1) in (omega (arith, a .0, a .1, start .pre .0), (start .pre .1 .0, (start .pre .1 .1 .0, (a .1, (start .pre .1 .1 .1 .1 .0, omega (arith, a .0, start .pre .1 .1 .1 .1 .1)))))))  -- write-filter-requires
     (λ c. search needs)  -- enum-known-inner
     (λ c κs. filter-takes _ _ _ _ _ _ _ _ _ _ _ _ (c .before .before .before .before .before .write-filter .ensures) (c .before .inner .given .1) .within)  -- read-close-requires
     (λ c. search needs)  -- enum-known-closed
-    (λ c. let a = head-open-ahead _ _ _ _ (c .before .before .before .before .before .before .before .before .before .before .before .before .before .before .before .before .before .read-head .ensures) (c .before .before .before .before .before .before .before .before .before .before .before .before .before .before .before .before .before .before .before .before .before .pre .1 .1 .1 .0) _ _ (c .before .before .before .before .before .before .before .before .before .before .before .before .before .before .before .head2 .given .1) in let t = filter-takes _ _ _ _ _ _ _ _ _ _ _ _ (c .before .before .before .before .before .before .before .before .before .before .before .write-filter .ensures) (c .before .before .before .before .before .before .before .inner .given .1) in omega (arith, a .0, t .cells-fit, t .within, c .before .before .before .before .before .before .before .before .before .before .before .before .before .before .before .before .before .before .before .before .before .pre .1 .1 .0, c .before .before .before .before .before .before .before .before .before .before .before .before .before .before .before .before .before .before .before .before .before .pre .1 .1 .1 .1 .1))  -- add-rows
-    (λ c. let a = head-open-ahead _ _ _ _ (c .before .before .before .before .before .before .before .before .before .before .before .before .before .before .before .before .before .read-head .ensures) (c .before .before .before .before .before .before .before .before .before .before .before .before .before .before .before .before .before .before .before .before .before .pre .1 .1 .1 .0) _ _ (c .before .before .before .before .before .before .before .before .before .before .before .before .before .before .before .head2 .given .1) in let t = filter-takes _ _ _ _ _ _ _ _ _ _ _ _ (c .before .before .before .before .before .before .before .before .before .before .before .write-filter .ensures) (c .before .before .before .before .before .before .before .inner .given .1) in omega (arith, a .0, t .cells-fit, t .within, c .before .before .before .before .before .before .before .before .before .before .before .before .before .before .before .before .before .before .before .before .before .pre .1 .1 .0, c .before .before .before .before .before .before .before .before .before .before .before .before .before .before .before .before .before .before .before .before .before .pre .1 .1 .1 .1 .1))  -- mul-rows-3
-    (λ c. let a = head-open-ahead _ _ _ _ (c .before .before .before .before .before .before .before .before .before .before .before .before .before .before .before .before .before .read-head .ensures) (c .before .before .before .before .before .before .before .before .before .before .before .before .before .before .before .before .before .before .before .before .before .pre .1 .1 .1 .0) _ _ (c .before .before .before .before .before .before .before .before .before .before .before .before .before .before .before .head2 .given .1) in let t = filter-takes _ _ _ _ _ _ _ _ _ _ _ _ (c .before .before .before .before .before .before .before .before .before .before .before .write-filter .ensures) (c .before .before .before .before .before .before .before .inner .given .1) in omega (arith, a .0, t .cells-fit, t .within, c .before .before .before .before .before .before .before .before .before .before .before .before .before .before .before .before .before .before .before .before .before .pre .1 .1 .0, c .before .before .before .before .before .before .before .before .before .before .before .before .before .before .before .before .before .before .before .before .before .pre .1 .1 .1 .1 .1, c .before .before .before .before .before .before .before .before .before .before .before .before .before .before .before .before .before .before .before .before .before .pre .1 .1 .1 .1 .0, c .before .before .before .before .before .before .before .before .before .before .before .write-filter .ensures .size))  -- slice-write-rows-2
-    (λ c. let a = head-open-ahead _ _ _ _ (c .before .before .before .before .before .before .before .before .before .before .before .before .before .before .before .before .before .read-head .ensures) (c .before .before .before .before .before .before .before .before .before .before .before .before .before .before .before .before .before .before .before .before .before .pre .1 .1 .1 .0) _ _ (c .before .before .before .before .before .before .before .before .before .before .before .before .before .before .before .head2 .given .1) in let t = filter-takes _ _ _ _ _ _ _ _ _ _ _ _ (c .before .before .before .before .before .before .before .before .before .before .before .write-filter .ensures) (c .before .before .before .before .before .before .before .inner .given .1) in omega (arith, a .0, t .cells-fit, t .within, c .before .before .before .before .before .before .before .before .before .before .before .before .before .before .before .before .before .before .before .before .before .pre .1 .1 .0, c .before .before .before .before .before .before .before .before .before .before .before .before .before .before .before .before .before .before .before .before .before .pre .1 .1 .1 .1 .1))  -- add-t49
+    (λ c. let start = c .before .before .before .before .before .before .before .before .before .before .before .before .before .before .before .before .before .before .before .before .before in let a = head-open-ahead _ _ _ _ (c .before .before .before .before .before .before .before .before .before .before .before .before .before .before .before .before .before .read-head .ensures) (start .pre .1 .1 .1 .0) _ _ (c .before .before .before .before .before .before .before .before .before .before .before .before .before .before .before .head2 .given .1) in let t = filter-takes _ _ _ _ _ _ _ _ _ _ _ _ (c .before .before .before .before .before .before .before .before .before .before .before .write-filter .ensures) (c .before .before .before .before .before .before .before .inner .given .1) in omega (arith, a .0, t .cells-fit, t .within, start .pre .1 .1 .0, start .pre .1 .1 .1 .1 .1))  -- add-rows
+    (λ c. let start = c .before .before .before .before .before .before .before .before .before .before .before .before .before .before .before .before .before .before .before .before .before in let a = head-open-ahead _ _ _ _ (c .before .before .before .before .before .before .before .before .before .before .before .before .before .before .before .before .before .read-head .ensures) (start .pre .1 .1 .1 .0) _ _ (c .before .before .before .before .before .before .before .before .before .before .before .before .before .before .before .head2 .given .1) in let t = filter-takes _ _ _ _ _ _ _ _ _ _ _ _ (c .before .before .before .before .before .before .before .before .before .before .before .write-filter .ensures) (c .before .before .before .before .before .before .before .inner .given .1) in omega (arith, a .0, t .cells-fit, t .within, start .pre .1 .1 .0, start .pre .1 .1 .1 .1 .1))  -- mul-rows-3
+    (λ c. let start = c .before .before .before .before .before .before .before .before .before .before .before .before .before .before .before .before .before .before .before .before .before in let a = head-open-ahead _ _ _ _ (c .before .before .before .before .before .before .before .before .before .before .before .before .before .before .before .before .before .read-head .ensures) (start .pre .1 .1 .1 .0) _ _ (c .before .before .before .before .before .before .before .before .before .before .before .before .before .before .before .head2 .given .1) in let t = filter-takes _ _ _ _ _ _ _ _ _ _ _ _ (c .before .before .before .before .before .before .before .before .before .before .before .write-filter .ensures) (c .before .before .before .before .before .before .before .inner .given .1) in omega (arith, a .0, t .cells-fit, t .within, start .pre .1 .1 .0, start .pre .1 .1 .1 .1 .1, start .pre .1 .1 .1 .1 .0, c .before .before .before .before .before .before .before .before .before .before .before .write-filter .ensures .size))  -- slice-write-rows-2
+    (λ c. let start = c .before .before .before .before .before .before .before .before .before .before .before .before .before .before .before .before .before .before .before .before .before in let a = head-open-ahead _ _ _ _ (c .before .before .before .before .before .before .before .before .before .before .before .before .before .before .before .before .before .read-head .ensures) (start .pre .1 .1 .1 .0) _ _ (c .before .before .before .before .before .before .before .before .before .before .before .before .before .before .before .head2 .given .1) in let t = filter-takes _ _ _ _ _ _ _ _ _ _ _ _ (c .before .before .before .before .before .before .before .before .before .before .before .write-filter .ensures) (c .before .before .before .before .before .before .before .inner .given .1) in omega (arith, a .0, t .cells-fit, t .within, start .pre .1 .1 .0, start .pre .1 .1 .1 .1 .1))  -- add-t49
     (λ c. search needs)  -- same-length
-    (λ c. wrote-not _ _ _ _ _ _ _ _ (c .before .before .before .before .before .before .before .before .before .before .before .before .before .before .before .before .before .read-head .ensures) _ _ (c .before .before .before .before .before .before .before .before .before .before .before .before .before .before .before .head2 .given .1) (c .before .before .before .before .before .before .before .before .before .before .before .before .before .if1 .left) _ _ _ (c .before .before .before .before .before .before .before .before .before .before .before .write-filter .ensures) _ _ (c .before .before .before .before .before .before .before .inner .given .1) _ (c .before .before .before .before .before .read-close .ensures) _ (c .before .before .before .closed .given .1) (c .before .if2 .taken) (let a = head-open-ahead _ _ _ _ (c .before .before .before .before .before .before .before .before .before .before .before .before .before .before .before .before .before .read-head .ensures) (c .before .before .before .before .before .before .before .before .before .before .before .before .before .before .before .before .before .before .before .before .before .pre .1 .1 .1 .0) _ _ (c .before .before .before .before .before .before .before .before .before .before .before .before .before .before .before .head2 .given .1) in let t = filter-takes _ _ _ _ _ _ _ _ _ _ _ _ (c .before .before .before .before .before .before .before .before .before .before .before .write-filter .ensures) (c .before .before .before .before .before .before .before .inner .given .1) in omega (arith, a .0, t .cells-fit, t .within, c .before .before .before .before .before .before .before .before .before .before .before .before .before .before .before .before .before .before .before .before .before .pre .1 .1 .0, c .before .before .before .before .before .before .before .before .before .before .before .before .before .before .before .before .before .before .before .before .before .pre .1 .1 .1 .1 .1, c .before .before .before .before .before .before .before .before .before .before .before .before .before .before .before .before .before .before .before .before .before .pre .1 .1 .1 .1 .0, c .before .before .before .before .before .before .before .before .before .before .before .write-filter .ensures .size)))  -- returns-2
+    (λ c. let start = c .before .before .before .before .before .before .before .before .before .before .before .before .before .before .before .before .before .before .before .before .before in wrote-not _ _ _ _ _ _ _ _ (c .before .before .before .before .before .before .before .before .before .before .before .before .before .before .before .before .before .read-head .ensures) _ _ (c .before .before .before .before .before .before .before .before .before .before .before .before .before .before .before .head2 .given .1) (c .before .before .before .before .before .before .before .before .before .before .before .before .before .if1 .left) _ _ _ (c .before .before .before .before .before .before .before .before .before .before .before .write-filter .ensures) _ _ (c .before .before .before .before .before .before .before .inner .given .1) _ (c .before .before .before .before .before .read-close .ensures) _ (c .before .before .before .closed .given .1) (c .before .if2 .taken) (let a = head-open-ahead _ _ _ _ (c .before .before .before .before .before .before .before .before .before .before .before .before .before .before .before .before .before .read-head .ensures) (start .pre .1 .1 .1 .0) _ _ (c .before .before .before .before .before .before .before .before .before .before .before .before .before .before .before .head2 .given .1) in let t = filter-takes _ _ _ _ _ _ _ _ _ _ _ _ (c .before .before .before .before .before .before .before .before .before .before .before .write-filter .ensures) (c .before .before .before .before .before .before .before .inner .given .1) in omega (arith, a .0, t .cells-fit, t .within, start .pre .1 .1 .0, start .pre .1 .1 .1 .1 .1, start .pre .1 .1 .1 .1 .0, c .before .before .before .before .before .before .before .before .before .before .before .write-filter .ensures .size)))  -- returns-2
     (λ c. search needs)  -- enum-told
     (λ c. search needs)  -- enum-told-2
     (λ c. search needs)  -- enum-known-head-3
@@ -128,7 +132,7 @@ pub +write-filter+write-item-spec : {M : Type 1} → statement M
     (λ c. let a = head-choice-ahead _ _ _ _ (c .before .before .before .before .before .before .read-head .ensures) (c .before .before .before .before .before .before .before .before .before .before .pre .1 .1 .1 .0) _ (c .before .before .before .before .head3 .given .1) in omega (arith, a .1))  -- add-skip
     (λ c κs. head-choice-next _ _ _ _ (c .before .before .before .before .before .before .read-head .ensures) (c .before .before .before .before .before .before .before .before .before .before .pre .1 .1 .1 .0) _ (c .before .before .before .before .head3 .given .1))  -- skip-requires
     (λ c. search needs)  -- sub-t55
-    (λ c κs. let a = head-choice-ahead _ _ _ _ (c .before .before .before .before .before .before .before .before .read-head .ensures) (c .before .before .before .before .before .before .before .before .before .before .before .before .pre .1 .1 .1 .0) _ (c .before .before .before .before .before .before .head3 .given .1) in let s = c .before .skip .ensures in (omega (arith, a .0, a .1, s .from, s .within, c .before .before .before .before .before .before .before .before .before .before .before .before .pre .0), (c .before .before .before .before .before .before .before .before .before .before .before .before .pre .1 .0, (c .before .before .before .before .before .before .before .before .before .before .before .before .pre .1 .1 .0, (s .within, (c .before .before .before .before .before .before .before .before .before .before .before .before .pre .1 .1 .1 .1 .0, omega (arith, a .0, s .from, c .before .before .before .before .before .before .before .before .before .before .before .before .pre .1 .1 .1 .1 .1)))))))  -- write-filter-requires-2
+    (λ c κs. let start = c .before .before .before .before .before .before .before .before .before .before .before .before in let a = head-choice-ahead _ _ _ _ (c .before .before .before .before .before .before .before .before .read-head .ensures) (start .pre .1 .1 .1 .0) _ (c .before .before .before .before .before .before .head3 .given .1) in let s = c .before .skip .ensures in (omega (arith, a .0, a .1, s .from, s .within, start .pre .0), (start .pre .1 .0, (start .pre .1 .1 .0, (s .within, (start .pre .1 .1 .1 .1 .0, omega (arith, a .0, s .from, start .pre .1 .1 .1 .1 .1)))))))  -- write-filter-requires-2
     (λ c. search needs)  -- enum-known-inner-2
     (λ c κs. filter-takes _ _ _ _ _ _ _ _ _ _ _ _ (c .before .before .before .before .before .write-filter2 .ensures) (c .before .inner2 .given .1) .within)  -- read-member-requires
     (λ c. search needs)  -- enum-known-member
@@ -136,16 +140,16 @@ pub +write-filter+write-item-spec : {M : Type 1} → statement M
     (λ c κs. (c .before .before .before .before .before .before .before .before .before .before .before .before .before .before .before .before .before .before .before .before .before .before .before .before .pre .1 .0, (c .before .before .before .before .before .before .before .before .before .before .before .before .before .before .before .before .before .before .before .before .before .before .before .before .pre .1 .1 .0, (member-ahead _ _ _ _ (c .before .before .before .before .before .read-member .ensures) _ (c .before .before .before .member .given .1) .0, member-read _ _ _ _ _ (c .before .before .before .before .before .read-member .ensures) (c .before .before .before .member .given .1)))))  -- test-number-requires-2
     (λ c. search needs)  -- mul-rows-4
     (λ c. search needs)  -- add-rows-2
-    (λ c. let a = head-choice-ahead _ _ _ _ (c .before .before .before .before .before .before .before .before .before .before .before .before .before .before .before .before .before .before .before .before .before .read-head .ensures) (c .before .before .before .before .before .before .before .before .before .before .before .before .before .before .before .before .before .before .before .before .before .before .before .before .before .pre .1 .1 .1 .0) _ (c .before .before .before .before .before .before .before .before .before .before .before .before .before .before .before .before .before .before .before .head3 .given .1) in let s = c .before .before .before .before .before .before .before .before .before .before .before .before .before .before .skip .ensures in let t = filter-takes _ _ _ _ _ _ _ _ _ _ _ _ (c .before .before .before .before .before .before .before .before .before .before .before .before .write-filter2 .ensures) (c .before .before .before .before .before .before .before .before .inner2 .given .1) in omega (arith, a .0, s .from, t .cells-fit, t .within, c .before .before .before .before .before .before .before .before .before .before .before .before .before .before .before .before .before .before .before .before .before .before .before .before .before .pre .1 .1 .0, c .before .before .before .before .before .before .before .before .before .before .before .before .before .before .before .before .before .before .before .before .before .before .before .before .before .pre .1 .1 .1 .1 .1, c .before .before .before .before .before .before .before .before .before .before .before .before .before .before .before .before .before .before .before .before .before .before .before .before .before .pre .1 .1 .1 .1 .0, c .before .before .before .before .before .before .before .before .before .before .before .before .write-filter2 .ensures .size))  -- add-rows-3
-    (λ c. let a = head-choice-ahead _ _ _ _ (c .before .before .before .before .before .before .before .before .before .before .before .before .before .before .before .before .before .before .before .before .before .read-head .ensures) (c .before .before .before .before .before .before .before .before .before .before .before .before .before .before .before .before .before .before .before .before .before .before .before .before .before .pre .1 .1 .1 .0) _ (c .before .before .before .before .before .before .before .before .before .before .before .before .before .before .before .before .before .before .before .head3 .given .1) in let s = c .before .before .before .before .before .before .before .before .before .before .before .before .before .before .skip .ensures in let t = filter-takes _ _ _ _ _ _ _ _ _ _ _ _ (c .before .before .before .before .before .before .before .before .before .before .before .before .write-filter2 .ensures) (c .before .before .before .before .before .before .before .before .inner2 .given .1) in omega (arith, a .0, s .from, t .cells-fit, t .within, c .before .before .before .before .before .before .before .before .before .before .before .before .before .before .before .before .before .before .before .before .before .before .before .before .before .pre .1 .1 .0, c .before .before .before .before .before .before .before .before .before .before .before .before .before .before .before .before .before .before .before .before .before .before .before .before .before .pre .1 .1 .1 .1 .1, c .before .before .before .before .before .before .before .before .before .before .before .before .before .before .before .before .before .before .before .before .before .before .before .before .before .pre .1 .1 .1 .1 .0, c .before .before .before .before .before .before .before .before .before .before .before .before .write-filter2 .ensures .size))  -- mul-rows-5
-    (λ c. let a = head-choice-ahead _ _ _ _ (c .before .before .before .before .before .before .before .before .before .before .before .before .before .before .before .before .before .before .before .before .before .read-head .ensures) (c .before .before .before .before .before .before .before .before .before .before .before .before .before .before .before .before .before .before .before .before .before .before .before .before .before .pre .1 .1 .1 .0) _ (c .before .before .before .before .before .before .before .before .before .before .before .before .before .before .before .before .before .before .before .head3 .given .1) in let s = c .before .before .before .before .before .before .before .before .before .before .before .before .before .before .skip .ensures in let t = filter-takes _ _ _ _ _ _ _ _ _ _ _ _ (c .before .before .before .before .before .before .before .before .before .before .before .before .write-filter2 .ensures) (c .before .before .before .before .before .before .before .before .inner2 .given .1) in omega (arith, a .0, s .from, t .cells-fit, t .within, c .before .before .before .before .before .before .before .before .before .before .before .before .before .before .before .before .before .before .before .before .before .before .before .before .before .pre .1 .1 .0, c .before .before .before .before .before .before .before .before .before .before .before .before .before .before .before .before .before .before .before .before .before .before .before .before .before .pre .1 .1 .1 .1 .1, c .before .before .before .before .before .before .before .before .before .before .before .before .before .before .before .before .before .before .before .before .before .before .before .before .before .pre .1 .1 .1 .1 .0, c .before .before .before .before .before .before .before .before .before .before .before .before .write-filter2 .ensures .size))  -- slice-write-rows-3
+    (λ c. let start = c .before .before .before .before .before .before .before .before .before .before .before .before .before .before .before .before .before .before .before .before .before .before .before .before .before in let a = head-choice-ahead _ _ _ _ (c .before .before .before .before .before .before .before .before .before .before .before .before .before .before .before .before .before .before .before .before .before .read-head .ensures) (start .pre .1 .1 .1 .0) _ (c .before .before .before .before .before .before .before .before .before .before .before .before .before .before .before .before .before .before .before .head3 .given .1) in let s = c .before .before .before .before .before .before .before .before .before .before .before .before .before .before .skip .ensures in let t = filter-takes _ _ _ _ _ _ _ _ _ _ _ _ (c .before .before .before .before .before .before .before .before .before .before .before .before .write-filter2 .ensures) (c .before .before .before .before .before .before .before .before .inner2 .given .1) in omega (arith, a .0, s .from, t .cells-fit, t .within, start .pre .1 .1 .0, start .pre .1 .1 .1 .1 .1, start .pre .1 .1 .1 .1 .0, c .before .before .before .before .before .before .before .before .before .before .before .before .write-filter2 .ensures .size))  -- add-rows-3
+    (λ c. let start = c .before .before .before .before .before .before .before .before .before .before .before .before .before .before .before .before .before .before .before .before .before .before .before .before .before in let a = head-choice-ahead _ _ _ _ (c .before .before .before .before .before .before .before .before .before .before .before .before .before .before .before .before .before .before .before .before .before .read-head .ensures) (start .pre .1 .1 .1 .0) _ (c .before .before .before .before .before .before .before .before .before .before .before .before .before .before .before .before .before .before .before .head3 .given .1) in let s = c .before .before .before .before .before .before .before .before .before .before .before .before .before .before .skip .ensures in let t = filter-takes _ _ _ _ _ _ _ _ _ _ _ _ (c .before .before .before .before .before .before .before .before .before .before .before .before .write-filter2 .ensures) (c .before .before .before .before .before .before .before .before .inner2 .given .1) in omega (arith, a .0, s .from, t .cells-fit, t .within, start .pre .1 .1 .0, start .pre .1 .1 .1 .1 .1, start .pre .1 .1 .1 .1 .0, c .before .before .before .before .before .before .before .before .before .before .before .before .write-filter2 .ensures .size))  -- mul-rows-5
+    (λ c. let start = c .before .before .before .before .before .before .before .before .before .before .before .before .before .before .before .before .before .before .before .before .before .before .before .before .before in let a = head-choice-ahead _ _ _ _ (c .before .before .before .before .before .before .before .before .before .before .before .before .before .before .before .before .before .before .before .before .before .read-head .ensures) (start .pre .1 .1 .1 .0) _ (c .before .before .before .before .before .before .before .before .before .before .before .before .before .before .before .before .before .before .before .head3 .given .1) in let s = c .before .before .before .before .before .before .before .before .before .before .before .before .before .before .skip .ensures in let t = filter-takes _ _ _ _ _ _ _ _ _ _ _ _ (c .before .before .before .before .before .before .before .before .before .before .before .before .write-filter2 .ensures) (c .before .before .before .before .before .before .before .before .inner2 .given .1) in omega (arith, a .0, s .from, t .cells-fit, t .within, start .pre .1 .1 .0, start .pre .1 .1 .1 .1 .1, start .pre .1 .1 .1 .1 .0, c .before .before .before .before .before .before .before .before .before .before .before .before .write-filter2 .ensures .size))  -- slice-write-rows-3
     (λ c κs. let s = c .before .before .before .before .before .before .before .before .before .before .before .before .before .before .before .skip .ensures in let t = filter-takes _ _ _ _ _ _ _ _ _ _ _ _ (c .before .before .before .before .before .before .before .before .before .before .before .before .before .write-filter2 .ensures) (c .before .before .before .before .before .before .before .before .before .inner2 .given .1) in omega (arith, one-test _ _ _ _ (c .before .before .before .test-summary2 .ensures), t .tests-fit, t .within, s .from, c .before .before .before .before .before .before .before .before .before .before .before .before .before .before .before .before .before .before .before .before .before .before .before .before .before .before .pre .1 .1 .0))  -- join-summaries-requires
-    (λ c. let a = head-choice-ahead _ _ _ _ (c .before .before .before .before .before .before .before .before .before .before .before .before .before .before .before .before .before .before .before .before .before .before .before .read-head .ensures) (c .before .before .before .before .before .before .before .before .before .before .before .before .before .before .before .before .before .before .before .before .before .before .before .before .before .before .before .pre .1 .1 .1 .0) _ (c .before .before .before .before .before .before .before .before .before .before .before .before .before .before .before .before .before .before .before .before .before .head3 .given .1) in let s = c .before .before .before .before .before .before .before .before .before .before .before .before .before .before .before .before .skip .ensures in let t = filter-takes _ _ _ _ _ _ _ _ _ _ _ _ (c .before .before .before .before .before .before .before .before .before .before .before .before .before .before .write-filter2 .ensures) (c .before .before .before .before .before .before .before .before .before .before .inner2 .given .1) in omega (arith, a .0, s .from, t .cells-fit, t .within, c .before .before .before .before .before .before .before .before .before .before .before .before .before .before .before .before .before .before .before .before .before .before .before .before .before .before .before .pre .1 .1 .0, c .before .before .before .before .before .before .before .before .before .before .before .before .before .before .before .before .before .before .before .before .before .before .before .before .before .before .before .pre .1 .1 .1 .1 .1, c .before .before .before .before .before .before .before .before .before .before .before .before .before .before .before .before .before .before .before .before .before .before .before .before .before .before .before .pre .1 .1 .1 .1 .0, c .before .before .before .before .before .before .before .before .before .before .before .before .before .before .write-filter2 .ensures .size))  -- add-t66
+    (λ c. let start = c .before .before .before .before .before .before .before .before .before .before .before .before .before .before .before .before .before .before .before .before .before .before .before .before .before .before .before in let a = head-choice-ahead _ _ _ _ (c .before .before .before .before .before .before .before .before .before .before .before .before .before .before .before .before .before .before .before .before .before .before .before .read-head .ensures) (start .pre .1 .1 .1 .0) _ (c .before .before .before .before .before .before .before .before .before .before .before .before .before .before .before .before .before .before .before .before .before .head3 .given .1) in let s = c .before .before .before .before .before .before .before .before .before .before .before .before .before .before .before .before .skip .ensures in let t = filter-takes _ _ _ _ _ _ _ _ _ _ _ _ (c .before .before .before .before .before .before .before .before .before .before .before .before .before .before .write-filter2 .ensures) (c .before .before .before .before .before .before .before .before .before .before .inner2 .given .1) in omega (arith, a .0, s .from, t .cells-fit, t .within, start .pre .1 .1 .0, start .pre .1 .1 .1 .1 .1, start .pre .1 .1 .1 .1 .0, c .before .before .before .before .before .before .before .before .before .before .before .before .before .before .write-filter2 .ensures .size))  -- add-t66
     (λ c. search needs)  -- enum-told-3
     (λ c. search needs)  -- enum-told-4
     (λ c. search needs)  -- enum-told-5
     (λ c. search needs)  -- same-length-2
-    (λ c. wrote-test _ _ _ _ _ _ _ _ (c .before .before .before .before .before .before .read-head .ensures) _ _ _ _ (c .before .before .before .before .head .given .1) (c .before .before .test-summary .ensures) (c .before .test-number .ensures .0) (let a = head-test-placed _ _ _ _ (c .before .before .before .before .before .before .read-head .ensures) (c .before .before .before .before .before .before .before .before .before .before .pre .1 .1 .1 .0) _ (c .before .before .before .before .head .given .1) in omega (arith, a .1, a .2, c .before .before .before .before .before .before .before .before .before .before .pre .1 .1 .0, c .before .before .before .before .before .before .before .before .before .before .pre .1 .1 .1 .1 .0, c .before .before .before .before .before .before .before .before .before .before .pre .1 .1 .1 .1 .1)))  -- returns-4
+    (λ c. let start = c .before .before .before .before .before .before .before .before .before .before in wrote-test _ _ _ _ _ _ _ _ (c .before .before .before .before .before .before .read-head .ensures) _ _ _ _ (c .before .before .before .before .head .given .1) (c .before .before .test-summary .ensures) (c .before .test-number .ensures .0) (let a = head-test-placed _ _ _ _ (c .before .before .before .before .before .before .read-head .ensures) (start .pre .1 .1 .1 .0) _ (c .before .before .before .before .head .given .1) in omega (arith, a .1, a .2, start .pre .1 .1 .0, start .pre .1 .1 .1 .1 .0, start .pre .1 .1 .1 .1 .1)))  -- returns-4
     (λ c. search needs)  -- same-length-3
     (λ c. wrote-bracket _ _ _ _ _ _ _ _ (c .before .before .before .before .before .before .before .before .before .before .before .before .before .before .before .before .read-head .ensures) _ _ (c .before .before .before .before .before .before .before .before .before .before .before .before .before .before .head2 .given .1) (c .before .before .before .before .before .before .before .before .before .before .before .before .if1 .left) _ _ _ (c .before .before .before .before .before .before .before .before .before .before .write-filter .ensures) _ _ (c .before .before .before .before .before .before .inner .given .1) _ (c .before .before .before .before .read-close .ensures) _ (c .before .before .closed .given .1) (c .if2 .left))  -- returns-5
     (λ c. search needs)  -- same-length-4
@@ -153,7 +157,7 @@ pub +write-filter+write-item-spec : {M : Type 1} → statement M
     (λ c. search needs)  -- same-length-5
     (λ c. wrote-no-filter _ _ _ _ _ _ _ _ (c .before .before .before .before .before .before .before .before .before .before .read-head .ensures) _ _ (c .before .before .before .before .before .before .before .before .head2 .given .1) (c .before .before .before .before .before .before .if1 .left) _ _ _ (c .before .before .before .before .write-filter .ensures) (c .enum-told2 .given .1))  -- returns-7
     (λ c. search needs)  -- same-length-6
-    (λ c. wrote-member _ _ _ _ _ _ _ _ (c .before .before .before .before .before .before .before .before .before .before .before .before .before .before .before .before .before .before .before .before .before .before .before .read-head .ensures) _ (c .before .before .before .before .before .before .before .before .before .before .before .before .before .before .before .before .before .before .before .before .before .head3 .given .1) (c .before .before .before .before .before .before .before .before .before .before .before .before .before .before .before .before .before .before .before .if3 .left) _ (c .before .before .before .before .before .before .before .before .before .before .before .before .before .before .before .before .before .enter .ensures) _ (c .before .before .before .before .before .before .before .before .before .before .before .before .before .before .before .before .skip .ensures) _ _ _ (c .before .before .before .before .before .before .before .before .before .before .before .before .before .before .write-filter2 .ensures) _ _ (c .before .before .before .before .before .before .before .before .before .before .inner2 .given .1) _ (c .before .before .before .before .before .before .before .before .read-member .ensures) _ _ _ _ (c .before .before .before .before .before .before .member .given .1) (c .before .before .before .before .test-summary2 .ensures) (c .join-summaries .ensures) (c .before .before .test-number2 .ensures .0) (let a = head-choice-ahead _ _ _ _ (c .before .before .before .before .before .before .before .before .before .before .before .before .before .before .before .before .before .before .before .before .before .before .before .read-head .ensures) (c .before .before .before .before .before .before .before .before .before .before .before .before .before .before .before .before .before .before .before .before .before .before .before .before .before .before .before .pre .1 .1 .1 .0) _ (c .before .before .before .before .before .before .before .before .before .before .before .before .before .before .before .before .before .before .before .before .before .head3 .given .1) in let s = c .before .before .before .before .before .before .before .before .before .before .before .before .before .before .before .before .skip .ensures in let t = filter-takes _ _ _ _ _ _ _ _ _ _ _ _ (c .before .before .before .before .before .before .before .before .before .before .before .before .before .before .write-filter2 .ensures) (c .before .before .before .before .before .before .before .before .before .before .inner2 .given .1) in omega (arith, a .0, s .from, t .cells-fit, t .within, c .before .before .before .before .before .before .before .before .before .before .before .before .before .before .before .before .before .before .before .before .before .before .before .before .before .before .before .pre .1 .1 .0, c .before .before .before .before .before .before .before .before .before .before .before .before .before .before .before .before .before .before .before .before .before .before .before .before .before .before .before .pre .1 .1 .1 .1 .1, c .before .before .before .before .before .before .before .before .before .before .before .before .before .before .before .before .before .before .before .before .before .before .before .before .before .before .before .pre .1 .1 .1 .1 .0, c .before .before .before .before .before .before .before .before .before .before .before .before .before .before .write-filter2 .ensures .size)))  -- returns-8
+    (λ c. let start = c .before .before .before .before .before .before .before .before .before .before .before .before .before .before .before .before .before .before .before .before .before .before .before .before .before .before .before in wrote-member _ _ _ _ _ _ _ _ (c .before .before .before .before .before .before .before .before .before .before .before .before .before .before .before .before .before .before .before .before .before .before .before .read-head .ensures) _ (c .before .before .before .before .before .before .before .before .before .before .before .before .before .before .before .before .before .before .before .before .before .head3 .given .1) (c .before .before .before .before .before .before .before .before .before .before .before .before .before .before .before .before .before .before .before .if3 .left) _ (c .before .before .before .before .before .before .before .before .before .before .before .before .before .before .before .before .before .enter .ensures) _ (c .before .before .before .before .before .before .before .before .before .before .before .before .before .before .before .before .skip .ensures) _ _ _ (c .before .before .before .before .before .before .before .before .before .before .before .before .before .before .write-filter2 .ensures) _ _ (c .before .before .before .before .before .before .before .before .before .before .inner2 .given .1) _ (c .before .before .before .before .before .before .before .before .read-member .ensures) _ _ _ _ (c .before .before .before .before .before .before .member .given .1) (c .before .before .before .before .test-summary2 .ensures) (c .join-summaries .ensures) (c .before .before .test-number2 .ensures .0) (let a = head-choice-ahead _ _ _ _ (c .before .before .before .before .before .before .before .before .before .before .before .before .before .before .before .before .before .before .before .before .before .before .before .read-head .ensures) (start .pre .1 .1 .1 .0) _ (c .before .before .before .before .before .before .before .before .before .before .before .before .before .before .before .before .before .before .before .before .before .head3 .given .1) in let s = c .before .before .before .before .before .before .before .before .before .before .before .before .before .before .before .before .skip .ensures in let t = filter-takes _ _ _ _ _ _ _ _ _ _ _ _ (c .before .before .before .before .before .before .before .before .before .before .before .before .before .before .write-filter2 .ensures) (c .before .before .before .before .before .before .before .before .before .before .inner2 .given .1) in omega (arith, a .0, s .from, t .cells-fit, t .within, start .pre .1 .1 .0, start .pre .1 .1 .1 .1 .1, start .pre .1 .1 .1 .1 .0, c .before .before .before .before .before .before .before .before .before .before .before .before .before .before .write-filter2 .ensures .size)))  -- returns-8
     (λ c. search needs)  -- same-length-7
     (λ c. wrote-no-member _ _ _ _ _ _ _ _ (c .before .before .before .before .before .before .before .before .before .before .before .before .before .before .before .before .before .read-head .ensures) _ (c .before .before .before .before .before .before .before .before .before .before .before .before .before .before .before .head3 .given .1) (c .before .before .before .before .before .before .before .before .before .before .before .before .before .if3 .left) _ (c .before .before .before .before .before .before .before .before .before .before .before .enter .ensures) _ (c .before .before .before .before .before .before .before .before .before .before .skip .ensures) _ _ _ (c .before .before .before .before .before .before .before .before .write-filter2 .ensures) _ _ (c .before .before .before .before .inner2 .given .1) _ (c .before .before .read-member .ensures) (c .enum-told3 .given .1))  -- returns-9
     (λ c. search needs)  -- same-length-8

@@ -13,6 +13,9 @@ shared-slice-read-wide c = search needs
 wide-requires : tie.Need-wide-requires
 wide-requires c κs = search needs
 
+cast-scope : tie.Need-cast-scope
+cast-scope c = search needs
+
 probe-fits-requires : tie.Need-probe-fits-requires
 probe-fits-requires c κs = search needs
 
@@ -22,4 +25,4 @@ returns c = (search (test-shape, needs), (search needs, (search needs, search ne
 pub test-shape-spec : {M : Type 1} → statement M
 test-shape-spec =
     tie.close
-    (tie.spec cast-index shared-slice-read-wide wide-requires probe-fits-requires returns)
+    (tie.spec cast-index shared-slice-read-wide wide-requires cast-scope probe-fits-requires returns)
