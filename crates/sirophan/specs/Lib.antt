@@ -18,6 +18,5 @@ pub mod Asking
 pub mod SameQuestion
 pub mod Contracts
 pub mod RowsRefusals
-pub mod Witness
 pub mod Trial
 pub mod Edges
