@@ -6,10 +6,9 @@ use mathlib.Core.Path.{_≡_, refl, ap, sym, _∙_, subst}
 use mathlib.Core.Bool.{true, false}
 use mathlib.Core.Logic.{⊎-elim}
 use mathlib.Core.List.{List, [], _∷_, cons≢nil}
-use lib.Dec.{eqb, ltb}
+use lib.Dec.{leb, ltb}
 use lib.ListN.{length, length-append}
-use borrow.Author.Tests.{eq-eqb, ltb-true}
-use Rattle.base.specs.Ascii.{ascii}
+use borrow.Author.Tests.{eq-eqb, leb-true, ltb-true}
 use Rattle.base.specs.Bytes.{Bytes}
 use Rattle.base.specs.Digits.{isDigit}
 use Rattle.base.specs.Lists.{Listed, All, all-empty, all-cons, every}
@@ -18,7 +17,6 @@ use Rattle.base.specs.Below.{passes}
 use Rattle.base.proofs.All.{all-head, all-right, all-map}
 use Rattle.base.proofs.Lists.{every-all}
 use Rattle.base.proofs.Below.{passes-at}
-use Rattle.base.proofs.Tests.{cond-elim}
 use Rattle.base.specs.Split.{split}
 use Rattle.number.specs.Reading as numbers
 use Rattle.base.specs.Between.{between}
@@ -26,22 +24,21 @@ use Rattle.date.specs.Texts as dates
 use Rattle.period.specs.Texts as periods
 use Rattle.token.specs.Card as tokens
 use Rattle.block.specs.declared.Reading.the-variants.{WellFormed}
-use Rattle.base.specs.Kinds.{bundleKind, date, period}
+use Rattle.base.specs.Kinds.{bundleKind, period}
 use Rattle.sheet.specs.Sheet.{Parameter}
 use Rattle.sheet.specs.Encode.{ValueKind, WellFormedParameter, WellFormedSheet}
 use Rattle.card.specs.Card.{Entry, entry, entriesOf, readCard}
 use Rattle.card.specs.Encode.{encodeCard, ReadsAsCard}
 use Rattle.card.proofs.Read.{card-length}
 use Rattle.card.proofs.Cards.{card-reads-iff, card-of, empty-card, one-entry-card}
-use Rattle.kind.specs.Table.{kinds, ofKind}
-use Rattle.kind.specs.Readable.{cardReadable}
+use Rattle.kind.specs.Table.{Kind, kinds, ofKind}
+use Rattle.kind.specs.Readable.{cardReadable, witnessText}
 use Rattle.judge.specs.Sets.{valuesAt, conforms}
 use Rattle.refusal.specs.Steps.{found}
 use Rattle.answer.specs.Operations.{Card, takeCard}
 use Rattle.kind.specs.Rules.{ReadableOnCard}
 use Rattle.judge.specs.Rules.{Conforms}
-use Rattle.answer.specs.Witness.{witnessText}
-use Rattle.kind.proofs.Rules.{card-iff}
+use Rattle.kind.proofs.Rules.{eachRow, by-column, card-iff}
 use Rattle.judge.proofs.Rules.{entries-iff}
 
 -- ---- reading
@@ -83,20 +80,13 @@ witness-readable kind v =
     let reads = passes-at (λ k. cardReadable (k + 1) (witnessText (k + 1))) period witness-reads (kind - 1) (omega arith) in
     card-iff kind (witnessText kind) .0 (subst (λ (k : ℕ). cardReadable k (witnessText k) ≡ true) e reads)
 
--- what holds of the three texts
-by-text : (P : List ℕ → Type 0) → P (ascii "1974") → P (ascii "1974/") → P (ascii "1") → (kind : ℕ) → P (witnessText kind)
-unfolding witnessText
-by-text P d p o kind = cond-elim P (eqb kind date) (λ _. d) (λ _. cond-elim P (eqb kind period) (λ _. p) (λ _. o))
-
 witness-short : (kind : ℕ) → length (witnessText kind) ≤ 20
-witness-short = by-text (λ t. length t ≤ 20) (omega arith) (omega arith) (omega arith)
-
-bytes-by-test : (t : List ℕ) → every (λ (x : ℕ). ltb x 256) t ≡ true → Bytes t
-bytes-by-test t e = all-map (λ (x : ℕ). ltb-true x 256) (every-all (λ (x : ℕ). ltb x 256) t e)
+unfolding witnessText eachRow kinds
+witness-short kind = leb-true (length (witnessText kind)) 20 (by-column [] (λ (x : Kind). x .witness) (λ t. leb (length t) 20) refl refl kind)
 
 witness-bytes : (kind : ℕ) → Bytes (witnessText kind)
-unfolding every
-witness-bytes = by-text Bytes (bytes-by-test (ascii "1974") refl) (bytes-by-test (ascii "1974/") refl) (bytes-by-test (ascii "1") refl)
+unfolding witnessText eachRow kinds every
+witness-bytes kind = all-map (λ (x : ℕ). ltb-true x 256) (every-all (λ (x : ℕ). ltb x 256) (witnessText kind) (by-column [] (λ (x : Kind). x .witness) (every (λ (x : ℕ). ltb x 256)) refl refl kind))
 
 -- ---- two cards
 

@@ -12,4 +12,3 @@ pub mod Refusals
 pub mod SearchDemand
 pub mod SearchRefusals
 pub mod RowsRefusals
-pub mod Witness

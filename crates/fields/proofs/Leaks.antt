@@ -28,7 +28,7 @@ use Rattle.kind.specs.Rules.{TrueOrFalse, spells-true, spells-false}
 use Rattle.judge.specs.Sets.{lookup, valuesAt, keep, ofOccurrence}
 use Rattle.judge.specs.Rules.{LacksMeaning, not-on-sheet, bare-bundle, neither, lacks-operator, unreadable, Says, says-present, says-absent, says-relates, says-differs, keeps, keeps-none}
 use Rattle.judge.proofs.Rules.{names-in-iff, names-iff}
-use Rattle.answer.specs.Witness.{witnessText}
+use Rattle.kind.specs.Readable.{witnessText}
 use Rattle.answer.proofs.Cards.{one-entry, empty-conforms, one-entry-conforms}
 use Rattle.fields.specs.Used.{namesOf, Alike, ByNames}
 use Rattle.fields.specs.Leaks.{spread, AllTextsSay, Occurs, Occurring, occurring, OccurringSay}

@@ -157,20 +157,24 @@ module _ (kind : ℕ) (v : List ℕ) where
 
 -- ---- the rows of the table
 
--- a test passes on the row of each kind
-unfoldable pub eachRow : (List Use → Bool) → List Kind → Bool
+-- a test passes on each row
+unfoldable pub eachRow : (Kind → Bool) → List Kind → Bool
 eachRow p [] = true
-eachRow p (x ∷ xs) = p (x .operators) && eachRow p xs
+eachRow p (x ∷ xs) = p x && eachRow p xs
 
-each-all : (p : List Use → Bool) (xs : List Kind) → eachRow p xs ≡ true → All (λ (x : Kind). p (x .operators) ≡ true) xs
+each-all : (p : Kind → Bool) (xs : List Kind) → eachRow p xs ≡ true → All (λ (x : Kind). p x ≡ true) xs
 unfolding eachRow
 each-all p [] h = all-empty
-each-all p (x ∷ xs) h = all-cons (and-left (p (x .operators)) (eachRow p xs) h) (each-all p xs (and-right (p (x .operators)) (eachRow p xs) h))
+each-all p (x ∷ xs) h = all-cons (and-left (p x) (eachRow p xs) h) (each-all p xs (and-right (p x) (eachRow p xs) h))
 
--- a test that passes on each row of the table, and on none, passes on the row of every kind
-pub by-row : (p : List Use → Bool) → p [] ≡ true → eachRow p kinds ≡ true → (kind : ℕ) → p (row kind) ≡ true
+-- a test that passes on a column of each row, and on what there is for a number that is not in the table, passes on what every number has
+pub by-column : {A : Type 0} (other : A) (f : Kind → A) (p : A → Bool) → p other ≡ true → eachRow (λ (x : Kind). p (f x)) kinds ≡ true → (kind : ℕ) → p (ofKind other f kinds kind) ≡ true
+by-column other f p e h = by-kind (λ k a. p a ≡ true) other f (λ k. e) kinds (each-all (λ (x : Kind). p (f x)) kinds h)
+
+-- of the column of operators
+pub by-row : (p : List Use → Bool) → p [] ≡ true → eachRow (λ (x : Kind). p (x .operators)) kinds ≡ true → (kind : ℕ) → p (row kind) ≡ true
 unfolding row
-by-row p empty h = by-kind (λ k us. p us ≡ true) [] (λ x. x .operators) (λ k. empty) kinds (each-all p kinds h)
+by-row p = by-column [] (λ (x : Kind). x .operators) p
 
 -- an operator that a row has stands in the table, where each of the row does
 in-row : (n : ℕ) (us : List Use) → All (λ (u : Use). Row n (u .operator) (u .relation)) us → (k : ℕ) (r : Relation) → relationIn us k ≡ some r → Row n k r

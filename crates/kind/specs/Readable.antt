@@ -2,7 +2,7 @@
 -- Assumes nothing.
 use Prim.Native.Nat.{ℕ}
 use mathlib.Core.Bool.{Bool, false, cond, _||_}
-use mathlib.Core.List.{List}
+use mathlib.Core.List.{List, []}
 use lib.Dec.{eqb}
 use Rattle.base.specs.Ascii.{ascii}
 use Rattle.base.specs.Operators.{pr}
@@ -16,6 +16,10 @@ cardReadable kind t = ofKind false (λ (x : Kind). x .onCard t) kinds kind
 -- a filter's value of the kind
 unfoldable pub filterReadable : ℕ → List ℕ → Bool
 filterReadable kind t = ofKind false (λ (x : Kind). x .inFilter t) kinds kind
+
+-- a text of the kind that is readable on a card: what an entry can hold that shows a parameter with a value
+unfoldable pub witnessText : ℕ → List ℕ
+witnessText = ofKind [] (λ (x : Kind). x .witness) kinds
 
 -- "for pr the filter's text is true or false, case ignored, and nothing else"
 unfoldable pub isTrue : List ℕ → Bool

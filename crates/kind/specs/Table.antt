@@ -6,6 +6,7 @@ use mathlib.Core.List.{List, [], _∷_}
 use mathlib.Core.Option.{Option, none, some}
 use lib.Dec.{eqb}
 use lib.ListN.{length}
+use Rattle.base.specs.Ascii.{ascii}
 use Rattle.base.specs.Operators.{eq, ne, co, sw, ew, gt, lt, ge, le, sa, eb, pr, po, re}
 use Rattle.base.specs.Kinds.{string, number, date, token, reference, period}
 use Rattle.number.specs.Reading as number-texts
@@ -55,15 +56,16 @@ tokenRow = means eq Tokens ∷ []
 unfoldable pub referenceRow : List Use
 referenceRow = means re References ∷ []
 
--- a kind: its number, which texts are readable on a card, which values in a filter, and its operators
+-- a kind: its number, which texts are readable on a card, which values in a filter, its operators, and a text that is readable on a card
 pub record Kind : Type 0 where
   pub number : ℕ
   pub onCard : List ℕ → Bool
   pub inFilter : List ℕ → Bool
   pub operators : List Use
+  pub witness : List ℕ
 
-abbrev kindOf : ℕ → (List ℕ → Bool) → (List ℕ → Bool) → List Use → Kind
-kindOf n card filter us = record { number = n; onCard = card; inFilter = filter; operators = us }
+abbrev kindOf : ℕ → (List ℕ → Bool) → (List ℕ → Bool) → List Use → List ℕ → Kind
+kindOf n card filter us t = record { number = n; onCard = card; inFilter = filter; operators = us; witness = t }
 
 -- "string: every text"; "reference: not empty"
 abbrev pub anyText : List ℕ → Bool
@@ -75,12 +77,12 @@ notEmpty t = not (eqb (length t) 0)
 -- only tokens and periods differ in a filter: 02: "the filter's value stays a date"
 unfoldable pub kinds : List Kind
 kinds =
-    kindOf string anyText anyText stringRow
-    ∷ kindOf number number-texts.readable number-texts.readable numberRow
-    ∷ kindOf date date-texts.readable date-texts.readable dateRow
-    ∷ kindOf token tokens.cardReadable forms.filterReadable tokenRow
-    ∷ kindOf reference notEmpty notEmpty referenceRow
-    ∷ kindOf period period-texts.readable date-texts.readable dateRow
+    kindOf string anyText anyText stringRow (ascii "1")
+    ∷ kindOf number number-texts.readable number-texts.readable numberRow (ascii "1")
+    ∷ kindOf date date-texts.readable date-texts.readable dateRow (ascii "1974")
+    ∷ kindOf token tokens.cardReadable forms.filterReadable tokenRow (ascii "1")
+    ∷ kindOf reference notEmpty notEmpty referenceRow (ascii "1")
+    ∷ kindOf period period-texts.readable date-texts.readable dateRow (ascii "1974/")
     ∷ []
 
 -- what the table has for a number, and what there is for a number that is not in it
