@@ -15,7 +15,7 @@ use Rattle.block.specs.Seal.{check, IsSealed}
 use Rattle.block.specs.Items.{hasEither}
 use Rattle.block.specs.Readings.{reading}
 use Rattle.block.specs.declared.Checked.{Checked}
-use Rattle.block.specs.declared.Reading.{Reading}
+use Rattle.block.specs.declared.Validity.{Validity}
 use Rattle.block.proofs.Readings.{reading-iff}
 use Rattle.sheet.specs.Sheet.{sheetLayout, readSheet}
 use Rattle.sheet.specs.Encode.{SheetBlock}
@@ -25,7 +25,7 @@ use Rattle.card.specs.Encode.{CardBlock}
 use Rattle.card.proofs.Cards as cards
 use Rattle.answer.proofs.Outcomes.{ReadsTo, size-wrong, sum-wrong, layout-wrong, all-right}
 
-reads-to : (b : List ℕ) (IsBlock : Type 0) (layout : Bool) → (reading (check b) layout ≡ Reading.WellFormed → IsBlock) → (IsBlock → reading (check b) layout ≡ Reading.WellFormed)
+reads-to : (b : List ℕ) (IsBlock : Type 0) (layout : Bool) → (reading (check b) layout ≡ Validity.WellFormed → IsBlock) → (IsBlock → reading (check b) layout ≡ Validity.WellFormed)
     → ReadsTo b IsBlock (reading (check b) layout)
 reads-to b IsBlock layout there back =
     let by-layout : IsSealed b → ReadsTo b IsBlock (reading Checked.Sealed layout) =

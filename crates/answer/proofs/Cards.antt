@@ -23,7 +23,7 @@ use Rattle.base.specs.Between.{between}
 use Rattle.date.specs.Texts as dates
 use Rattle.period.specs.Texts as periods
 use Rattle.token.specs.Card as tokens
-use Rattle.block.specs.declared.Reading.the-variants.{WellFormed}
+use Rattle.block.specs.declared.Validity.the-variants.{WellFormed}
 use Rattle.base.specs.Kinds.{bundleKind, period}
 use Rattle.sheet.specs.Sheet.{Parameter}
 use Rattle.sheet.specs.Encode.{ValueKind, WellFormedParameter, WellFormedSheet}

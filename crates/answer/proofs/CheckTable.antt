@@ -20,7 +20,7 @@ use Rattle.base.specs.Bytes.{Bytes}
 use Rattle.base.proofs.Tests.{or-either, or-left, or-right, both-ways, cond-elim}
 use Rattle.block.specs.Words.{word}
 use Rattle.block.specs.Sum.{checkSum}
-use Rattle.block.specs.declared.Reading.{Reading}
+use Rattle.block.specs.declared.Validity.{Validity}
 use Rattle.sheet.specs.Sheet.{Parameter, parametersOf}
 use Rattle.sheet.specs.Encode.{WellFormedSheet, SheetBlock}
 use Rattle.sheet.proofs.Sheets.{sheet-reads-iff}
@@ -69,7 +69,7 @@ module _ (sheet : List ℕ) where
   sheet-none a b s m q (line-2 u) = u b
   sheet-none a b s m q (line-3 u) = u s
 
-  sheet-step : {r : Reading} → ReadsTo sheet (SheetBlock sheet) r → Decided (OfSheet sheet) (SheetLine sheet) (sheetStep r (parametersOf sheet))
+  sheet-step : {r : Validity} → ReadsTo sheet (SheetBlock sheet) r → Decided (OfSheet sheet) (SheetLine sheet) (sheetStep r (parametersOf sheet))
   unfolding rank
   sheet-step (size-wrong u) =
       one-decides (record { holds = line-1 u; first = sheet-first 1 (omega arith) (λ l. absurd (omega arith)) (λ l. absurd (omega arith)) })

@@ -15,7 +15,7 @@ use borrow.Author.Tests.{ne-eqb, le-ltb}
 use Rattle.base.specs.Lists.{all-empty, all-cons}
 use Rattle.base.specs.Kinds.{bundleKind}
 use Rattle.base.proofs.Tests.{cond-elim}
-use Rattle.block.specs.declared.Reading.{Reading}
+use Rattle.block.specs.declared.Validity.{Validity}
 use Rattle.sheet.specs.Sheet.{Parameter, parametersOf, readSheet}
 use Rattle.sheet.specs.Encode.{WellFormedSheet, SheetBlock}
 use Rattle.sheet.specs.declared.Found.{Found}
@@ -110,11 +110,11 @@ pub at-most-number : {A : Type 0} {most : ℕ} {s : Step A} → AtMost most s �
 at-most-number found-at-most n p e = absurd (let z : _≡_ {A = ℕ} 0 1 = cc in omega arith)
 at-most-number (stop-at-most m q l) n p e = let z : m ≡ n = cc in omega arith
 
-pub sheet-at-most : (r : Reading) (ps : List Parameter) → AtMost 18 (sheetStep r ps)
-sheet-at-most Reading.WellFormed ps = found-at-most
-sheet-at-most Reading.WrongSize ps = stop-at-most 1 0 (omega arith)
-sheet-at-most Reading.WrongSum ps = stop-at-most 2 0 (omega arith)
-sheet-at-most Reading.WrongLayout ps = stop-at-most 3 0 (omega arith)
+pub sheet-at-most : (r : Validity) (ps : List Parameter) → AtMost 18 (sheetStep r ps)
+sheet-at-most Validity.WellFormed ps = found-at-most
+sheet-at-most Validity.WrongSize ps = stop-at-most 1 0 (omega arith)
+sheet-at-most Validity.WrongSum ps = stop-at-most 2 0 (omega arith)
+sheet-at-most Validity.WrongLayout ps = stop-at-most 3 0 (omega arith)
 
 tree-at-most : (text : List ℕ) (o : Option Tree) → AtMost 18 (treeStep text o)
 tree-at-most text (some f) = found-at-most

@@ -17,7 +17,7 @@ use Rattle.base.specs.Bytes.{Bytes}
 use Rattle.base.proofs.Tests.{both-ways}
 use Rattle.block.specs.Words.{word}
 use Rattle.block.specs.Sum.{checkSum}
-use Rattle.block.specs.declared.Reading.{Reading}
+use Rattle.block.specs.declared.Validity.{Validity}
 use Rattle.sheet.specs.Sheet.{Parameter}
 use Rattle.sheet.specs.Encode.{SheetBlock}
 use Rattle.card.specs.Card.{Entry, entriesOf, readCard}
@@ -80,7 +80,7 @@ module _ (sheet : List ℕ) where
         one-decides (record { holds = (l, refl); first = λ m q k. no-lower-rank (card-group (k .0) ∙ sym (card-group l)) (le-of-eq (sym (k .1))) (lowest m (k .0)) })
 
     module _ (bytes : Bytes b) (size : length b ≡ 512) (i : ℕ) where
-      card-step : (r : Reading) → readCard b ≡ r → ReadsTo b (CardBlock b) r → (fits : Bool) → conforms ps (entriesOf b) ≡ fits
+      card-step : (r : Validity) → readCard b ≡ r → ReadsTo b (CardBlock b) r → (fits : Bool) → conforms ps (entriesOf b) ≡ fits
           → Decided TakenAs (LineAt i) (cardStep r fits (cardOf b) i)
       unfolding rank
       card-step r e (size-wrong u) fits h = absurd (u size)
@@ -108,7 +108,7 @@ abbrev pub AskedOn : List ℕ → Question → Type 0
 AskedOn sheet q = (s : SheetBlock sheet) × (s .parameters ≡ q .parameters)
 
 module _ (sheet card : List ℕ) where
-  wrong-size : {r : Reading} → ReadsTo card (CardBlock card) r → (length card ≡ 512 → ⊥) → r ≡ Reading.WrongSize
+  wrong-size : {r : Validity} → ReadsTo card (CardBlock card) r → (length card ≡ 512 → ⊥) → r ≡ Validity.WrongSize
   wrong-size (size-wrong u) n = refl
   wrong-size (sum-wrong a u) n = absurd (n a)
   wrong-size (layout-wrong a b u) n = absurd (n a)

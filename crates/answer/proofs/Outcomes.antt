@@ -8,7 +8,7 @@ use lib.ListN.{length}
 use Rattle.base.specs.Lists.{All}
 use Rattle.block.specs.Words.{word}
 use Rattle.block.specs.Sum.{checkSum}
-use Rattle.block.specs.declared.Reading.{Reading}
+use Rattle.block.specs.declared.Validity.{Validity}
 use Rattle.base.specs.Kinds.{bundleKind}
 use Rattle.sheet.specs.Sheet.{Parameter}
 use Rattle.card.specs.Card.{Entry, recordNumber, entriesOf}
@@ -29,11 +29,11 @@ use Rattle.answer.specs.Selection.{matchingCards, matchingNumbers, Refus
 -- ---- blocks
 
 -- what reading says of a block's bytes, where IsBlock says that they are a block that can be written
-pub data ReadsTo (b : List ℕ) (IsBlock : Type 0) : Reading → Type 0 where
-  size-wrong : (length b ≡ 512 → ⊥) → ReadsTo b IsBlock Reading.WrongSize
-  sum-wrong : length b ≡ 512 → (checkSum b ≡ word b 508 → ⊥) → ReadsTo b IsBlock Reading.WrongSum
-  layout-wrong : length b ≡ 512 → checkSum b ≡ word b 508 → (IsBlock → ⊥) → ReadsTo b IsBlock Reading.WrongLayout
-  all-right : length b ≡ 512 → checkSum b ≡ word b 508 → IsBlock → ReadsTo b IsBlock Reading.WellFormed
+pub data ReadsTo (b : List ℕ) (IsBlock : Type 0) : Validity → Type 0 where
+  size-wrong : (length b ≡ 512 → ⊥) → ReadsTo b IsBlock Validity.WrongSize
+  sum-wrong : length b ≡ 512 → (checkSum b ≡ word b 508 → ⊥) → ReadsTo b IsBlock Validity.WrongSum
+  layout-wrong : length b ≡ 512 → checkSum b ≡ word b 508 → (IsBlock → ⊥) → ReadsTo b IsBlock Validity.WrongLayout
+  all-right : length b ≡ 512 → checkSum b ≡ word b 508 → IsBlock → ReadsTo b IsBlock Validity.WellFormed
 
 -- ---- tests
 

@@ -12,7 +12,7 @@ use mathlib.Core.List.{List}
 use lib.Dec.{eqb, ltb}
 use lib.ListN.{length}
 use borrow.Author.Tests.{ltb-false}
-use Rattle.block.specs.declared.Reading.{Reading}
+use Rattle.block.specs.declared.Validity.{Validity}
 use Rattle.sheet.specs.Sheet.{Parameter, parametersOf, readSheet}
 use Rattle.card.specs.Card.{recordNumber, entriesOf, readCard}
 use Rattle.syntax.specs.Tree.{Tree, testsOf}
@@ -34,11 +34,11 @@ inputs-found : (s : Step Inputs) (n : ℕ) → answer (s >>= λ p. found (count 
 inputs-found (found p) n h = (p, refl)
 inputs-found (stop m p) n h = absurd (let z : _≡_ {A = ℕ} 0 1 = cc in omega arith)
 
-sheet-found : (r : Reading) (ps qs : List Parameter) → sheetStep r ps ≡ found qs → (r ≡ Reading.WellFormed) × (ps ≡ qs)
-sheet-found Reading.WellFormed ps qs h = (refl, cc)
-sheet-found Reading.WrongSize ps qs h = (cc, cc)
-sheet-found Reading.WrongSum ps qs h = (cc, cc)
-sheet-found Reading.WrongLayout ps qs h = (cc, cc)
+sheet-found : (r : Validity) (ps qs : List Parameter) → sheetStep r ps ≡ found qs → (r ≡ Validity.WellFormed) × (ps ≡ qs)
+sheet-found Validity.WellFormed ps qs h = (refl, cc)
+sheet-found Validity.WrongSize ps qs h = (cc, cc)
+sheet-found Validity.WrongSum ps qs h = (cc, cc)
+sheet-found Validity.WrongLayout ps qs h = (cc, cc)
 
 tree-found : (text : List ℕ) (o : Option Tree) (f : Tree) → treeStep text o ≡ found f → o ≡ some f
 tree-found text (some g) f h = cc
@@ -72,7 +72,7 @@ passing b xs c n e h =
     let (p, is) = inputs-found (takeInputs b xs) n (sym e ∙ ap checkedAnswer h) in
     passing-inputs b xs p is
 
-pub passing-sheet : (b xs : List ℕ) (c : Checked) (n : ℕ) → checkedAnswer c ≡ checkAnswer b xs → c ≡ Checked.Tests n → readSheet b ≡ Reading.WellFormed
+pub passing-sheet : (b xs : List ℕ) (c : Checked) (n : ℕ) → checkedAnswer c ≡ checkAnswer b xs → c ≡ Checked.Tests n → readSheet b ≡ Validity.WellFormed
 passing-sheet b xs c n e h = passing b xs c n e h .sheet-well-formed
 
 pub passing-short : (b xs : List ℕ) (c : Checked) (n : ℕ) → checkedAnswer c ≡ checkAnswer b xs → c ≡ Checked.Tests n → length xs ≤ 1024
@@ -85,15 +85,15 @@ passing-asks b xs p = rw (p .inputs-taken, p .reads)
 
 -- ---- a card
 
-pub card-found : (r : Reading) (fits : Bool) (c : Card) (i : ℕ) (d : Card) → cardStep r fits c i ≡ found d → (r ≡ Reading.WellFormed) × (d ≡ c)
-card-found Reading.WellFormed true c i d h = (refl, cc)
-card-found Reading.WellFormed false c i d h = (cc, cc)
-card-found Reading.WrongSize fits c i d h = (cc, cc)
-card-found Reading.WrongSum fits c i d h = (cc, cc)
-card-found Reading.WrongLayout fits c i d h = (cc, cc)
+pub card-found : (r : Validity) (fits : Bool) (c : Card) (i : ℕ) (d : Card) → cardStep r fits c i ≡ found d → (r ≡ Validity.WellFormed) × (d ≡ c)
+card-found Validity.WellFormed true c i d h = (refl, cc)
+card-found Validity.WellFormed false c i d h = (cc, cc)
+card-found Validity.WrongSize fits c i d h = (cc, cc)
+card-found Validity.WrongSum fits c i d h = (cc, cc)
+card-found Validity.WrongLayout fits c i d h = (cc, cc)
 
 -- a card that is taken is well formed, and has its record number
-pub card-taken : (ps : List Parameter) (i : ℕ) (b : List ℕ) (d : Card) → takeCard ps i b ≡ found d → (readCard b ≡ Reading.WellFormed) × (d .number ≡ recordNumber b)
+pub card-taken : (ps : List Parameter) (i : ℕ) (b : List ℕ) (d : Card) → takeCard ps i b ≡ found d → (readCard b ≡ Validity.WellFormed) × (d .number ≡ recordNumber b)
 unfolding takeCard
 card-taken ps i b d h =
     let (well, same) = card-found (readCard b) (conforms ps (entriesOf b)) (record { number = recordNumber b; entries = entriesOf b }) i d h in

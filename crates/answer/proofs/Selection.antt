@@ -18,7 +18,7 @@ use Rattle.base.specs.Lists.{All, all-empty, all-cons}
 use Rattle.base.proofs.All.{all-map}
 use Rattle.base.proofs.Lists.{filter-map}
 use Rattle.base.proofs.Tests.{cond-elim}
-use Rattle.block.specs.declared.Reading.{Reading}
+use Rattle.block.specs.declared.Validity.{Validity}
 use Rattle.sheet.specs.Sheet.{Parameter}
 use Rattle.card.specs.Card.{recordNumber, entriesOf, readCard}
 use Rattle.judge.specs.Sets.{conforms}
@@ -34,12 +34,12 @@ use Rattle.answer.proofs.Runs.{run-iff}
 -- ---- a card, at whatever index
 
 module _ (ps : List Parameter) where
-  card-steps : (r : Reading) (fits : Bool) (c : Card) → ((i : ℕ) → cardStep r fits c i ≡ found c) ⊎ ((n : ℕ) × (n ≤ 23) × ((i : ℕ) → cardStep r fits c i ≡ stop n i))
-  card-steps Reading.WrongSize fits c = inr (20, omega arith, λ i. refl)
-  card-steps Reading.WrongSum fits c = inr (21, omega arith, λ i. refl)
-  card-steps Reading.WrongLayout fits c = inr (22, omega arith, λ i. refl)
-  card-steps Reading.WellFormed true c = inl (λ i. refl)
-  card-steps Reading.WellFormed false c = inr (23, omega arith, λ i. refl)
+  card-steps : (r : Validity) (fits : Bool) (c : Card) → ((i : ℕ) → cardStep r fits c i ≡ found c) ⊎ ((n : ℕ) × (n ≤ 23) × ((i : ℕ) → cardStep r fits c i ≡ stop n i))
+  card-steps Validity.WrongSize fits c = inr (20, omega arith, λ i. refl)
+  card-steps Validity.WrongSum fits c = inr (21, omega arith, λ i. refl)
+  card-steps Validity.WrongLayout fits c = inr (22, omega arith, λ i. refl)
+  card-steps Validity.WellFormed true c = inl (λ i. refl)
+  card-steps Validity.WellFormed false c = inr (23, omega arith, λ i. refl)
 
   -- a card is taken, or refused with one number
   taken-or-stopped : (b : List ℕ) → Taken ps b ⊎ ((n : ℕ) × (n ≤ 23) × Stopped ps n b)

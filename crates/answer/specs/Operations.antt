@@ -6,7 +6,7 @@ use mathlib.Core.Option.{Option, none, some}
 use mathlib.Core.List.{List, [], _∷_, _++_}
 use lib.Dec.{leb, eqb, ltb}
 use lib.ListN.{length, take, drop}
-use Rattle.block.specs.declared.Reading.{Reading}
+use Rattle.block.specs.declared.Validity.{Validity}
 use Rattle.sheet.specs.Sheet.{Parameter, parametersOf, readSheet}
 use Rattle.card.specs.Card.{Entry, recordNumber, entriesOf, readCard}
 use Rattle.syntax.specs.Tree.{Test, Tree, testsOf}
@@ -22,11 +22,11 @@ use Rattle.refusal.specs.Steps.{Step, found, stop, refusalStep, _>>=_, answer}
 
 -- ---- the sheet: 1, 2, 3
 
-abbrev pub sheetStep : Reading → List Parameter → Step (List Parameter)
-sheetStep Reading.WellFormed ps = found ps
-sheetStep Reading.WrongSize ps = stop 1 0
-sheetStep Reading.WrongSum ps = stop 2 0
-sheetStep Reading.WrongLayout ps = stop 3 0
+abbrev pub sheetStep : Validity → List Parameter → Step (List Parameter)
+sheetStep Validity.WellFormed ps = found ps
+sheetStep Validity.WrongSize ps = stop 1 0
+sheetStep Validity.WrongSum ps = stop 2 0
+sheetStep Validity.WrongLayout ps = stop 3 0
 
 unfoldable pub takeSheet : List ℕ → Step (List Parameter)
 takeSheet sheet = sheetStep (readSheet sheet) (parametersOf sheet)
@@ -66,12 +66,12 @@ pub record Card : Type 0 where
   pub number : ℕ
   pub entries : List Entry
 
-abbrev pub cardStep : Reading → Bool → Card → ℕ → Step Card
-cardStep Reading.WrongSize fits c i = stop 20 i
-cardStep Reading.WrongSum fits c i = stop 21 i
-cardStep Reading.WrongLayout fits c i = stop 22 i
-cardStep Reading.WellFormed true c i = found c
-cardStep Reading.WellFormed false c i = stop 23 i
+abbrev pub cardStep : Validity → Bool → Card → ℕ → Step Card
+cardStep Validity.WrongSize fits c i = stop 20 i
+cardStep Validity.WrongSum fits c i = stop 21 i
+cardStep Validity.WrongLayout fits c i = stop 22 i
+cardStep Validity.WellFormed true c i = found c
+cardStep Validity.WellFormed false c i = stop 23 i
 
 -- the card with the index i in its run
 unfoldable pub takeCard : List Parameter → ℕ → List ℕ → Step Card

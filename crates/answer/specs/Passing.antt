@@ -6,7 +6,7 @@ use mathlib.Core.Bool.{Bool, false}
 use mathlib.Core.Option.{Option, none, some}
 use mathlib.Core.List.{List}
 use lib.ListN.{length}
-use Rattle.block.specs.declared.Reading.{Reading}
+use Rattle.block.specs.declared.Validity.{Validity}
 use Rattle.sheet.specs.Sheet.{Parameter, parametersOf, readSheet}
 use Rattle.card.specs.Card.{Entry}
 use Rattle.syntax.specs.Tree.{Tree, testsOf}
@@ -24,7 +24,7 @@ summaryAnswer s = answer (decisionStep (s .first) >>= λ u. found (count (s .tes
 -- check has passed the sheet and the text, which spells the tree
 pub record Passing (sheet text : List ℕ) : Type 0 where
   pub tree : Tree
-  pub sheet-well-formed : readSheet sheet ≡ Reading.WellFormed
+  pub sheet-well-formed : readSheet sheet ≡ Validity.WellFormed
   pub short : length text ≤ 1024
   pub reads : read text ≡ some tree
   pub meant : testsStep (parametersOf sheet) (testsOf tree) ≡ found tt

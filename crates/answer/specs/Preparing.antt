@@ -101,7 +101,7 @@ pub record Fills (sheet text : List ℕ) (r : Prepared) (buffer : List ℕ) : Ty
   pub rows : filledStep r buffer ≡ (takeInputs sheet text >>= λ p. found (rowCells (p .parameters) text (p .filter)))
   pub room : (n : ℕ) → r ≡ Prepared.Cells n → n ≤ length buffer
 
--- what prepare owes: the answer, and every cell of the list at exit
+-- what prepare does: the answer, and every cell of the list at exit
 pub record Prepares (sheet text list : List ℕ) (r : Prepared) (exit : List ℕ) : Type 0 where
   pub answers : preparedAnswer r ≡ prepareAnswer sheet text (length list)
   pub cells : exit ≡ prepareCells sheet text list

@@ -1,4 +1,4 @@
--- What writing into a buffer owes: a text over the first bytes of the part that is lent, and all others as they were.
+-- What writing into a buffer does: a text over the first bytes of the part that is lent, and all others as they were.
 -- Assumes nothing.
 use Prim.Native.Nat.{ℕ, _≤_}
 use mathlib.Core.Path.{_≡_}

@@ -45,7 +45,7 @@ pub fn equal(a: &[u8], b: &[u8]) -> bool
 }
 
 // The first position from `from` on where the byte stands, or the end.
-pub fn place_of(s: &[u8], from: usize, byte: u8) -> usize
+pub fn first_from(s: &[u8], from: usize, byte: u8) -> usize
     requires { ⌜ from ≤ length (now s) ⌝ }
     ensures { λ r. ⌜ RunEnd (differs byte) (now (s .entry)) from r ⌝ }
 {
@@ -63,7 +63,7 @@ pub fn place_of(s: &[u8], from: usize, byte: u8) -> usize
 pub fn first_of(s: &[u8], byte: u8) -> usize
     ensures { λ r. ⌜ (r ≡ firstOf byte (now (s .entry))) × (r ≤ length (now (s .entry))) ⌝ }
 {
-    place_of(s, 0, byte)
+    first_from(s, 0, byte)
 }
 
 // Writes the word over the first bytes of a part, and answers its length.

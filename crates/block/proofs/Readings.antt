@@ -8,14 +8,14 @@ use mathlib.Core.Logic.{_↔_}
 use mathlib.Core.List.{List}
 use Rattle.block.specs.Seal.{check, IsSealed}
 use Rattle.block.specs.Readings.{reading}
-use Rattle.block.specs.declared.Checked.{Checked}
-use Rattle.block.specs.declared.Checked.the-variants.{Sealed, WrongSize, WrongSum}
-use Rattle.block.specs.declared.Reading.the-variants as answers
+use Rattle.block.specs.declared.Integrity.{Integrity}
+use Rattle.block.specs.declared.Integrity.the-variants.{Sealed, WrongSize, WrongSum}
+use Rattle.block.specs.declared.Validity.the-variants as answers
 use Rattle.block.proofs.Seal.{check-iff}
 
 -- ---- what a reader answers after the check, and after the layout
 
-module _ (r c : Checked) (e : r ≡ c) (layout : Bool) where
+module _ (r c : Integrity) (e : r ≡ c) (layout : Bool) where
   pub reading-size : r ≡ WrongSize → answers.WrongSize ≡ reading c layout
   unfolding reading
   reading-size k = rw (sym e ∙ k)
@@ -35,7 +35,7 @@ module _ (r c : Checked) (e : r ≡ c) (layout : Bool) where
 
 -- ---- a block reads as well formed exactly where it is sealed and its layout is right
 
-reading-sealed : (c : Checked) (layout : Bool) → reading c layout ≡ answers.WellFormed → (c ≡ Sealed) × (layout ≡ true)
+reading-sealed : (c : Integrity) (layout : Bool) → reading c layout ≡ answers.WellFormed → (c ≡ Sealed) × (layout ≡ true)
 unfolding reading
 reading-sealed WrongSize layout h = absurd (let z : _≡_ {A = ℕ} 0 1 = cc in omega arith)
 reading-sealed WrongSum layout h = absurd (let z : _≡_ {A = ℕ} 0 1 = cc in omega arith)

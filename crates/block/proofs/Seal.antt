@@ -17,8 +17,8 @@ use Rattle.base.specs.Parts.{padded}
 use Rattle.block.specs.Words.{word, wordBytes}
 use Rattle.block.specs.Sum.{sumFrom, checkSum}
 use Rattle.block.specs.Seal.{check, IsSealed, seal}
-use Rattle.block.specs.declared.Checked.{Checked}
-use Rattle.block.specs.declared.Checked.the-variants.{Sealed, WrongSize, WrongSum}
+use Rattle.block.specs.declared.Integrity.{Integrity}
+use Rattle.block.specs.declared.Integrity.the-variants.{Sealed, WrongSize, WrongSum}
 use Rattle.block.proofs.Words.{word-bytes, word-length, word-written, word-read}
 use Rattle.block.proofs.Sum.{sum-largest}
 
@@ -55,7 +55,7 @@ pub check-iff : (b : List ℕ) → (check b ≡ Sealed) ↔ IsSealed b
 check-iff b = (check-sealed b, (λ s. sym (check-right b (s .size) (checkSum b) (word b 508) refl refl (s .sum))))
 
 -- the size of a block that was checked
-pub check-length : (b : List ℕ) (r : Checked) → r ≡ check b → r ≡ Sealed → length b ≡ 512
+pub check-length : (b : List ℕ) (r : Integrity) → r ≡ check b → r ≡ Sealed → length b ≡ 512
 check-length b r e k = check-sealed b (sym e ∙ k) .size
 
 -- ---- the seal of a body

@@ -9,15 +9,15 @@ use lib.ListN.{length}
 use Rattle.base.specs.Parts.{padded}
 use Rattle.block.specs.Words.{word, wordBytes}
 use Rattle.block.specs.Sum.{checkSum, sumFrom}
-use Rattle.block.specs.declared.Checked.{Checked}
-use Rattle.block.specs.declared.Checked.the-variants.{Sealed, WrongSize, WrongSum}
+use Rattle.block.specs.declared.Integrity.{Integrity}
+use Rattle.block.specs.declared.Integrity.the-variants.{Sealed, WrongSize, WrongSum}
 
 -- the bytes are as many as a block's
 abbrev pub HasSize : List ℕ → Type 0
 HasSize b = length b ≡ 512
 
 -- "both are 512 bytes, each with its own check: bytes 508 to 511, low byte first, hold the sum"
-unfoldable pub check : List ℕ → Checked
+unfoldable pub check : List ℕ → Integrity
 check b = cond (eqb (length b) 512) (cond (eqb (checkSum b) (word b 508)) Sealed WrongSum) WrongSize
 
 -- the same, part by part

@@ -12,14 +12,14 @@ ghost use Rattle.block.specs.Seal.{HasSize, check};
 ghost use Rattle.block.specs.Items.{zeros, hasMarks, laidOut, hasLayout, hasEither, ItemAt};
 
 // What the size and the check sum of a block are: both right, or which is wrong.
-pub enum Checked {
+pub enum Integrity {
     Sealed,
     WrongSize,
     WrongSum,
 }
 
 // What reading a sheet or a card answers.
-pub enum Reading {
+pub enum Validity {
     // 01: sound.
     WellFormed,
     // Not 512 bytes: refusal 1 of a sheet, 20 of a card.
@@ -59,16 +59,16 @@ pub fn word(block: &[u8], at: usize) -> u32
 }
 
 // Whether a block has its size, and its bytes 508 to 511 its check sum.
-pub fn check(block: &[u8]) -> Checked
+pub fn check(block: &[u8]) -> Integrity
     ensures { λ r. ⌜ r ≡ check (now (block .entry)) ⌝ }
 {
     if block.len() != 512 {
-        return Checked::WrongSize;
+        return Integrity::WrongSize;
     }
     if check_sum(block) != word(block, 508) {
-        return Checked::WrongSum;
+        return Integrity::WrongSum;
     }
-    Checked::Sealed
+    Integrity::Sealed
 }
 
 // Whether `all` holds and the byte is zero.

@@ -11,7 +11,7 @@ use Rattle.base.specs.Bytes.{Bytes}
 use Rattle.base.specs.Lists.{all-empty, all-cons}
 use Rattle.block.specs.Words.{wordBytes}
 use Rattle.block.specs.Items.{join}
-use Rattle.block.specs.declared.Reading.the-variants.{WellFormed}
+use Rattle.block.specs.declared.Validity.the-variants.{WellFormed}
 use Rattle.card.specs.Card.{Entry, entry, recordNumber, entriesOf, readCard}
 use Rattle.card.specs.Encode.{entryBytes, cardBody, encodeCard, WellFormedEntry, WellFormedCard, CardBlock, ReadsAsCard}
 use Rattle.card.proofs.Read.{card-form}

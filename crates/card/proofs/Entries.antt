@@ -6,7 +6,7 @@ use mathlib.Core.Path.{_≡_, ap, sym, _∙_, subst}
 use mathlib.Core.List.{List}
 use lib.ListN.{getD}
 use Rattle.block.specs.Items.{items, Walk}
-use Rattle.block.specs.declared.Reading.the-variants.{WellFormed}
+use Rattle.block.specs.declared.Validity.the-variants.{WellFormed}
 use Rattle.block.proofs.Invariants.{Visited}
 use Rattle.block.proofs.Items.{walk-start, visited-start}
 use Rattle.card.specs.Card.{Entry, entry, entryCount, entriesOf, readCard}

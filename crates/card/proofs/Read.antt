@@ -7,7 +7,7 @@ use mathlib.Core.List.{List}
 use lib.ListN.{length, getD}
 use Rattle.base.specs.Bytes.{Bytes}
 use Rattle.block.specs.Items.{hasLayout, hasEither}
-use Rattle.block.specs.declared.Reading.the-variants.{WellFormed}
+use Rattle.block.specs.declared.Validity.the-variants.{WellFormed}
 use Rattle.block.proofs.Contents.{Held}
 use Rattle.block.proofs.Items.{either-own, either-form}
 use Rattle.block.proofs.Readings.{reading-iff}

@@ -13,7 +13,7 @@ use Rattle.base.proofs.All.{all-map, all-every, all-both}
 use Rattle.block.specs.Words.{wordBytes}
 use Rattle.block.specs.Seal.{seal}
 use Rattle.block.specs.Items.{hasMarks, hasEither, marks, join}
-use Rattle.block.specs.declared.Reading.the-variants.{WellFormed}
+use Rattle.block.specs.declared.Validity.the-variants.{WellFormed}
 use Rattle.block.proofs.Contents.{Held, Written}
 use Rattle.block.proofs.Words.{word-bytes, word-written, word-read, word-small}
 use Rattle.block.proofs.Seal.{after, seal-body}

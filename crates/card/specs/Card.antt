@@ -7,7 +7,7 @@ use Rattle.block.specs.Words.{word}
 use Rattle.block.specs.Seal.{check}
 use Rattle.block.specs.Items.{hasEither, items, Step}
 use Rattle.block.specs.Readings.{reading}
-use Rattle.block.specs.declared.Reading.{Reading}
+use Rattle.block.specs.declared.Validity.{Validity}
 use Rattle.card.specs.declared.Entry.{Entry as Span}
 
 -- an entry: the index of its parameter on the sheet (01: place), the number of its occurrence, and the text
@@ -34,7 +34,7 @@ unfoldable pub entriesOf : List ℕ → List Entry
 entriesOf b = items entry (entryCount b) b 6
 
 -- what the bytes are, as a card: "byte 0 is 0x43" or 0x44, and byte 5 says that 0 to 64 entries follow it
-unfoldable pub readCard : List ℕ → Reading
+unfoldable pub readCard : List ℕ → Validity
 readCard b = reading (check b) (hasEither 0x43 0x44 5 64 b)
 
 -- r says where the entry at `at` stands, with `left` entries to come

@@ -10,7 +10,7 @@ use Rattle.base.specs.Lists.{All}
 use Rattle.block.specs.Words.{wordBytes}
 use Rattle.block.specs.Seal.{seal}
 use Rattle.block.specs.Items.{marks, join}
-use Rattle.block.specs.declared.Reading.the-variants.{WellFormed}
+use Rattle.block.specs.declared.Validity.the-variants.{WellFormed}
 use Rattle.card.specs.Card.{Entry, recordNumber, entriesOf, readCard}
 
 -- the first byte of a card without occurrences, and of one with them (02)

@@ -1,8 +1,8 @@
 // Cards: blocks of 512 bytes with a record number and entries, each a text under a parameter of the sheet. A reader asks
 // `read_card` first; the record number and the entries of a well-formed card are then at hand, the entries by a walk from
 // `FIRST_ENTRY` on with `entry_at`.
-use block::Checked;
-use block::Reading;
+use block::Integrity;
+use block::Validity;
 ghost use mathlib.Core.Path.{_≡_};
 ghost use Prim.Native.Nat.{_<_};
 ghost use Rattle.block.specs.Items.{Walk};
@@ -22,17 +22,17 @@ pub struct Entry {
 
 // What any bytes are, as a card: well formed (01: sound), or one of the refusals 20, 21 and 22. "Byte 0 is 0x43" or, with
 // occurrences, 0x44; "bytes 1 to 4 the record number, low byte first; byte 5 the number of entries, 0 to 64".
-pub fn read_card(card: &[u8]) -> Reading
+pub fn read_card(card: &[u8]) -> Validity
     ensures { λ r. ⌜ r ≡ readCard (now (card .entry)) ⌝ }
 {
     match block::check(card) {
-        Checked::WrongSize => Reading::WrongSize,
-        Checked::WrongSum => Reading::WrongSum,
-        Checked::Sealed => {
+        Integrity::WrongSize => Validity::WrongSize,
+        Integrity::WrongSum => Validity::WrongSum,
+        Integrity::Sealed => {
             if block::has_either(card, 0x43, 0x44, 5, 64) {
-                Reading::WellFormed
+                Validity::WellFormed
             } else {
-                Reading::WrongLayout
+                Validity::WrongLayout
             }
         }
     }
@@ -40,7 +40,7 @@ pub fn read_card(card: &[u8]) -> Reading
 
 // The record number of a well-formed card.
 pub fn record_number(card: &[u8]) -> u32
-    requires { ⌜ readCard (now card) ≡ Reading.WellFormed ⌝ }
+    requires { ⌜ readCard (now card) ≡ Validity.WellFormed ⌝ }
     ensures { λ r. ⌜ r ≡ recordNumber (now (card .entry)) ⌝ }
 {
     block::word(card, 1)
@@ -48,7 +48,7 @@ pub fn record_number(card: &[u8]) -> u32
 
 // The number of entries of a well-formed card.
 pub fn entry_count(card: &[u8]) -> u8
-    requires { ⌜ readCard (now card) ≡ Reading.WellFormed ⌝ }
+    requires { ⌜ readCard (now card) ≡ Validity.WellFormed ⌝ }
     ensures { λ r. ⌜ r ≡ entryCount (now (card .entry)) ⌝ }
 {
     card[5]

@@ -8,7 +8,7 @@ use mathlib.Core.List.{List}
 use lib.ListN.{length}
 use borrow.Author.Tests.{eq-eqb, ne-eqb, lt-ltb, le-ltb, le-leb, lt-leb}
 use Rattle.base.specs.Runs.{RunEnd}
-use Rattle.block.specs.declared.Reading.{Reading}
+use Rattle.block.specs.declared.Validity.{Validity}
 use Rattle.sheet.specs.Sheet.{Parameter, parametersOf, readSheet}
 use Rattle.syntax.specs.Tree.{Tree, testsOf}
 use Rattle.syntax.specs.Scan.{isSpace}
@@ -126,11 +126,11 @@ count-filter : (ps : List Parameter) (t : Step Tree) → (t >>= λ f. testsStep 
 count-filter ps (found f) = count-tests ps f (testsStep ps (testsOf f))
 count-filter ps (stop n p) = refl
 
-module _ (b xs : List ℕ) (r : Reading) (e : r ≡ readSheet b) (c : Checked) where
-  pub check-sheet : (k : Reading) (n : ℕ) → ((ps : List Parameter) → sheetStep k ps ≡ stop n 0) → r ≡ k → checkedAnswer c ≡ refused n 0 → checkedAnswer c ≡ checkAnswer b xs
+module _ (b xs : List ℕ) (r : Validity) (e : r ≡ readSheet b) (c : Checked) where
+  pub check-sheet : (k : Validity) (n : ℕ) → ((ps : List Parameter) → sheetStep k ps ≡ stop n 0) → r ≡ k → checkedAnswer c ≡ refused n 0 → checkedAnswer c ≡ checkAnswer b xs
   unfolding checkAnswer takeInputs takeSheet
   check-sheet k n t i h = h ∙ rw (sym e ∙ i, t (parametersOf b))
 
-  pub check-filter : r ≡ Reading.WellFormed → checkedAnswer c ≡ filterAnswer (parametersOf b) xs → checkedAnswer c ≡ checkAnswer b xs
+  pub check-filter : r ≡ Validity.WellFormed → checkedAnswer c ≡ filterAnswer (parametersOf b) xs → checkedAnswer c ≡ checkAnswer b xs
   unfolding checkAnswer takeInputs takeSheet filterAnswer
   check-filter h g = g ∙ rw (sym e ∙ h) (sym (ap answer (count-filter (parametersOf b) (takeFilter xs))))

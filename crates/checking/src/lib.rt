@@ -1,6 +1,6 @@
 // Check: a sheet and a filter are read, and the first refusal in the order of the table decides.
 use answer::Checked;
-use block::Reading;
+use block::Validity;
 use filter::Spot;
 use filter::Summary;
 use filter::Walked;
@@ -46,7 +46,7 @@ pub fn no_filter(filter: &[u8]) -> Checked
 
 // The filter on a well-formed sheet.
 fn check_text(sheet: &[u8], filter: &[u8]) -> Checked
-    requires { ⌜ readSheet (now sheet) ≡ Reading.WellFormed ⌝ }
+    requires { ⌜ readSheet (now sheet) ≡ Validity.WellFormed ⌝ }
     ensures { λ r. ⌜ checkedAnswer r ≡ filterAnswer (parametersOf (now (sheet .entry))) (now (filter .entry)) ⌝ }
 {
     if filter.len() == 0 {
@@ -61,7 +61,7 @@ fn check_text(sheet: &[u8], filter: &[u8]) -> Checked
         filter,
         Spot {
             at: start,
-            deep: 8,
+            levels: 8,
             close: b')',
             bundle: 0,
         },
@@ -87,9 +87,9 @@ pub fn check(sheet: &[u8], filter: &[u8]) -> Checked
 {
     let reading = sheet::read_sheet(sheet);
     match reading {
-        Reading::WellFormed => check_text(sheet, filter),
-        Reading::WrongSize => refuse(Reason::SheetSize, 0),
-        Reading::WrongSum => refuse(Reason::SheetSum, 0),
-        Reading::WrongLayout => refuse(Reason::SheetLayout, 0),
+        Validity::WellFormed => check_text(sheet, filter),
+        Validity::WrongSize => refuse(Reason::SheetSize, 0),
+        Validity::WrongSum => refuse(Reason::SheetSum, 0),
+        Validity::WrongLayout => refuse(Reason::SheetLayout, 0),
     }
 }

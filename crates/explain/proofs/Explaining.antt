@@ -19,7 +19,7 @@ use Rattle.base.specs.Bytes.{Bytes}
 use Rattle.base.specs.Parts.{part}
 use Rattle.base.specs.Writing.{Room, Puts}
 use Rattle.base.proofs.All.{bytes-of}
-use Rattle.block.specs.declared.Reading.{Reading}
+use Rattle.block.specs.declared.Validity.{Validity}
 use Rattle.sheet.specs.Sheet.{Parameter, parametersOf}
 use Rattle.sheet.specs.Find.{kindsOf, parentsOf}
 use Rattle.sheet.specs.Encode.{WellFormedSheet, SheetBlock}
@@ -207,7 +207,7 @@ same-verdict false true e = let z : _≡_ {A = ℕ} 0 1 = cc in absurd (omega ar
 
 -- the card, from what is said of it
 record CardSays (ps : List Parameter) (card : List ℕ) (f : Tree) (says : Bool) : Type 0 where
-  reads : readCard card ≡ Reading.WellFormed
+  reads : readCard card ≡ Validity.WellFormed
   is-taken : takeCard ps 0 card ≡ found (cardOf card)
   verdict : says ≡ filterSays ps 0 (entriesOf card) f
 

@@ -1,4 +1,4 @@
--- What the code of explain owes on every input: the answer of its definition, refused where a line of the table decides, and every cell; and
+-- What the code of explain does on every input: the answer of its definition, refused where a line of the table decides, and every cell; and
 -- what its parts are handed.
 -- Assumes nothing.
 use Prim.Native.Nat.{ℕ, _≤_}
@@ -6,7 +6,7 @@ use mathlib.Core.Path.{_≡_}
 use mathlib.Core.Bool.{Bool}
 use mathlib.Core.List.{List}
 use lib.ListN.{length}
-use Rattle.block.specs.declared.Reading.{Reading}
+use Rattle.block.specs.declared.Validity.{Validity}
 use Rattle.sheet.specs.Sheet.{parametersOf, readSheet}
 use Rattle.card.specs.Card.{recordNumber, entriesOf, readCard}
 use Rattle.syntax.specs.Tree.{Tree, erase}
@@ -36,12 +36,12 @@ pub record ExplainsInto (sheet text card list : List ℕ) (r : Matched) (exit : 
 pub record Judged (sheet text rows card : List ℕ) (says : Bool) : Type 0 where
   pub filter : Tree
   pub inputs-taken : takeInputs sheet text ≡ found (record { parameters = parametersOf sheet; filter = filter })
-  pub sheet-reads : readSheet sheet ≡ Reading.WellFormed
+  pub sheet-reads : readSheet sheet ≡ Validity.WellFormed
   pub short : length text ≤ 1024
   pub good : Good (parametersOf sheet) text rows
   pub states : erase (treeOf (parametersOf sheet) text (good .expression)) ≡ erase filter
   pub whole : Whole rows
   pub few : length rows ≤ 320
-  pub card-reads : readCard card ≡ Reading.WellFormed
+  pub card-reads : readCard card ≡ Validity.WellFormed
   pub card-taken : takeCard (parametersOf sheet) 0 card ≡ found (record { number = recordNumber card; entries = entriesOf card })
   pub verdict : says ≡ filterSays (parametersOf sheet) 0 (entriesOf card) filter

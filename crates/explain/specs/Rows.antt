@@ -1,4 +1,4 @@
--- What the code owes over rows: the verdicts of the tests that they state, the mark of the whole, and the tests that are spared.
+-- What the code does over rows: the verdicts of the tests that they state, the mark of the whole, and the tests that are spared.
 -- Assumes nothing.
 use Prim.Native.Nat.{ℕ, _<_}
 use mathlib.Core.Path.{_≡_}

@@ -1,5 +1,5 @@
 // What the tests that rows state say of a card.
-use block::Reading;
+use block::Validity;
 use judge::Chosen;
 use row_judge::say_once;
 use rows::Row;
@@ -19,7 +19,7 @@ fn verdict(kinds: &[u8], filter: &[u8], rows: &[u32], card: &[u8]) -> u8
     requires { ⌜ length (now filter) ≤ 1024 ⌝ }
     requires { ⌜ Whole (now rows) ⌝ }
     requires { ⌜ length (now rows) ≤ 320 ⌝ }
-    requires { ⌜ readCard (now card) ≡ Reading.WellFormed ⌝ }
+    requires { ⌜ readCard (now card) ≡ Validity.WellFormed ⌝ }
     ensures { λ r. ⌜ r ≡ cell true (rowsSay (now (kinds .entry)) (now (filter .entry)) (entriesOf (now (card .entry))) (now (rows .entry))) ⌝ }
 {
     let every = Chosen {
@@ -45,7 +45,7 @@ pub fn take_verdicts(
     requires { ⌜ length (now filter) ≤ 1024 ⌝ }
     requires { ⌜ Whole (now rows) ⌝ }
     requires { ⌜ length (now rows) ≤ 320 ⌝ }
-    requires { ⌜ readCard (now card) ≡ Reading.WellFormed ⌝ }
+    requires { ⌜ readCard (now card) ≡ Validity.WellFormed ⌝ }
     requires { ⌜ length (now marks) ≡ 32 ⌝ }
     ensures { λ r. ⌜ Tells (now (kinds .entry)) (now (filter .entry)) (entriesOf (now (card .entry))) (now (rows .entry)) r (now (marks .exit)) ⌝ }
 {

@@ -2,7 +2,7 @@
 use crate::Spot;
 use crate::Summary;
 use crate::Walked;
-use block::Reading;
+use block::Validity;
 use judge::test_fault;
 use refusal::or_else;
 use syntax::FoundClose;
@@ -34,7 +34,7 @@ pub fn test_summary(
     position: usize,
     test: RawTest,
 ) -> Summary
-    requires { ⌜ readSheet (now sheet) ≡ Reading.WellFormed ⌝ }
+    requires { ⌜ readSheet (now sheet) ≡ Validity.WellFormed ⌝ }
     requires { ⌜ length (now filter) ≤ 1024 ⌝ }
     requires { ⌜ Placed (now filter) test ⌝ }
     ensures { λ r. ⌜ r ≡ reading (parametersOf (now (sheet .entry))) bundle .one (moved position (testOf (now (filter .entry)) test)) ⌝ }
@@ -61,13 +61,13 @@ pub fn join_summaries(a: Summary, b: Summary) -> Summary
 // The item at a spot: "a test, a filter in round brackets, or not followed by a filter in round brackets", or the test of a member
 // after its bundle's brackets.
 fn check_item(sheet: &[u8], filter: &[u8], spot: Spot) -> Walked
-    requires { ⌜ readSheet (now sheet) ≡ Reading.WellFormed ⌝ }
+    requires { ⌜ readSheet (now sheet) ≡ Validity.WellFormed ⌝ }
     requires { ⌜ length (now filter) ≤ 1024 ⌝ }
     requires { ⌜ spot .at ≤ length (now filter) ⌝ }
-    ensures { λ r. ⌜ r ≡ answerOf Walked.Done Walked.Nothing (reading (parametersOf (now (sheet .entry))) (spot .bundle)) (itemAt (spot .deep) (now (filter .entry)) (spot .close) (spot .at)) ⌝ }
+    ensures { λ r. ⌜ r ≡ answerOf Walked.Done Walked.Nothing (reading (parametersOf (now (sheet .entry))) (spot .bundle)) (itemAt (spot .levels) (now (filter .entry)) (spot .close) (spot .at)) ⌝ }
 {
     let at = spot.at;
-    let deep = spot.deep;
+    let levels = spot.levels;
     let close = spot.close;
     let bundle = spot.bundle;
     let head = read_head(filter, close, at);
@@ -78,7 +78,7 @@ fn check_item(sheet: &[u8], filter: &[u8], spot: Spot) -> Walked
             Walked::Done(value.next, summary)
         }
         Head::Open(next, _) => {
-            if deep == 0 {
+            if levels == 0 {
                 return Walked::Nothing;
             }
             let inner = check_filter(
@@ -86,7 +86,7 @@ fn check_item(sheet: &[u8], filter: &[u8], spot: Spot) -> Walked
                 filter,
                 Spot {
                     at: next,
-                    deep: deep - 1,
+                    levels: levels - 1,
                     close: b')',
                     bundle,
                 },
@@ -103,7 +103,7 @@ fn check_item(sheet: &[u8], filter: &[u8], spot: Spot) -> Walked
             }
         }
         Head::Choice(until) => {
-            if deep == 0 {
+            if levels == 0 {
                 return Walked::Nothing;
             }
             let inside = sheet::enter(sheet, bundle, &filter[at..until]);
@@ -113,7 +113,7 @@ fn check_item(sheet: &[u8], filter: &[u8], spot: Spot) -> Walked
                 filter,
                 Spot {
                     at: next,
-                    deep: deep - 1,
+                    levels: levels - 1,
                     close: b']',
                     bundle: inside,
                 },
@@ -139,13 +139,13 @@ fn check_item(sheet: &[u8], filter: &[u8], spot: Spot) -> Walked
 
 // The filter at a spot: "one or more items joined by and or or", from left to right.
 pub fn check_filter(sheet: &[u8], filter: &[u8], spot: Spot) -> Walked
-    requires { ⌜ readSheet (now sheet) ≡ Reading.WellFormed ⌝ }
+    requires { ⌜ readSheet (now sheet) ≡ Validity.WellFormed ⌝ }
     requires { ⌜ length (now filter) ≤ 1024 ⌝ }
     requires { ⌜ spot .at ≤ length (now filter) ⌝ }
-    ensures { λ r. ⌜ r ≡ answerOf Walked.Done Walked.Nothing (reading (parametersOf (now (sheet .entry))) (spot .bundle)) (filterAt (spot .deep) (now (filter .entry)) (spot .close) (spot .at)) ⌝ }
+    ensures { λ r. ⌜ r ≡ answerOf Walked.Done Walked.Nothing (reading (parametersOf (now (sheet .entry))) (spot .bundle)) (filterAt (spot .levels) (now (filter .entry)) (spot .close) (spot .at)) ⌝ }
 {
     let at = spot.at;
-    let deep = spot.deep;
+    let levels = spot.levels;
     let close = spot.close;
     let bundle = spot.bundle;
     let first = check_item(
@@ -153,7 +153,7 @@ pub fn check_filter(sheet: &[u8], filter: &[u8], spot: Spot) -> Walked
         filter,
         Spot {
             at,
-            deep,
+            levels,
             close,
             bundle,
         },
@@ -172,7 +172,7 @@ pub fn check_filter(sheet: &[u8], filter: &[u8], spot: Spot) -> Walked
                     filter,
                     Spot {
                         at: next,
-                        deep,
+                        levels,
                         close,
                         bundle,
                     },

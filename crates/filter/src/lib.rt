@@ -12,7 +12,7 @@ pub use verdict::judge_filter;
 // names are looked up: 0 at the top of the sheet, or a bundle's index plus 1.
 pub struct Spot {
     pub at: usize,
-    pub deep: usize,
+    pub levels: usize,
     pub close: u8,
     pub bundle: u8,
 }

@@ -2,7 +2,7 @@
 // that the test has a meaning was for check to say, before any card.
 use crate::Judged;
 use crate::Spot;
-use block::Reading;
+use block::Validity;
 use judge::Chosen;
 use judge::is_under;
 use judge::member_counts;
@@ -75,8 +75,8 @@ fn test_verdict(
     filter: &[u8],
     test: RawTest,
 ) -> bool
-    requires { ⌜ readSheet (now sheet) ≡ Reading.WellFormed ⌝ }
-    requires { ⌜ readCard (now card) ≡ Reading.WellFormed ⌝ }
+    requires { ⌜ readSheet (now sheet) ≡ Validity.WellFormed ⌝ }
+    requires { ⌜ readCard (now card) ≡ Validity.WellFormed ⌝ }
     requires { ⌜ length (now filter) ≤ 1024 ⌝ }
     requires { ⌜ Placed (now filter) test ⌝ }
     ensures { λ r. ⌜ r ≡ judging needed (parametersOf (now (sheet .entry))) bundle (chosenOf chosen (entriesOf (now (card .entry)))) .one (testOf (now (filter .entry)) test) ⌝ }
@@ -118,11 +118,11 @@ fn entry_chosen(
     occurrence: u8,
     spot: Spot,
 ) -> bool
-    requires { ⌜ readSheet (now sheet) ≡ Reading.WellFormed ⌝ }
-    requires { ⌜ readCard (now card) ≡ Reading.WellFormed ⌝ }
+    requires { ⌜ readSheet (now sheet) ≡ Validity.WellFormed ⌝ }
+    requires { ⌜ readCard (now card) ≡ Validity.WellFormed ⌝ }
     requires { ⌜ length (now filter) ≤ 1024 ⌝ }
     requires { ⌜ spot .at ≤ length (now filter) ⌝ }
-    ensures { λ r. ⌜ r ≡ (counts && parsedSays (parametersOf (now (sheet .entry))) (spot .bundle) (ofOccurrence occurrence (entriesOf (now (card .entry)))) (filterAt (spot .deep) (now (filter .entry)) (spot .close) (spot .at))) ⌝ }
+    ensures { λ r. ⌜ r ≡ (counts && parsedSays (parametersOf (now (sheet .entry))) (spot .bundle) (ofOccurrence occurrence (entriesOf (now (card .entry)))) (filterAt (spot .levels) (now (filter .entry)) (spot .close) (spot .at))) ⌝ }
 {
     if counts {
         let chosen = Chosen {
@@ -146,12 +146,12 @@ fn some_chosen(
     meaning: Meaning,
     test: RawTest,
 ) -> bool
-    requires { ⌜ readSheet (now sheet) ≡ Reading.WellFormed ⌝ }
-    requires { ⌜ readCard (now card) ≡ Reading.WellFormed ⌝ }
+    requires { ⌜ readSheet (now sheet) ≡ Validity.WellFormed ⌝ }
+    requires { ⌜ readCard (now card) ≡ Validity.WellFormed ⌝ }
     requires { ⌜ length (now filter) ≤ 1024 ⌝ }
     requires { ⌜ spot .at ≤ length (now filter) ⌝ }
     requires { ⌜ Placed (now filter) test ⌝ }
-    ensures { λ r. ⌜ r ≡ someChosen (parametersOf (now (sheet .entry))) (spot .bundle) (entriesOf (now (card .entry))) chosen (filterAt (spot .deep) (now (filter .entry)) (spot .close) (spot .at)) index meaning (testOf (now (filter .entry)) test .value) (entriesOf (now (card .entry))) ⌝ }
+    ensures { λ r. ⌜ r ≡ someChosen (parametersOf (now (sheet .entry))) (spot .bundle) (entriesOf (now (card .entry))) chosen (filterAt (spot .levels) (now (filter .entry)) (spot .close) (spot .at)) index meaning (testOf (now (filter .entry)) test .value) (entriesOf (now (card .entry))) ⌝ }
 {
     let mut at = card::FIRST_ENTRY;
     let mut left = card::entry_count(card);
@@ -180,12 +180,12 @@ fn member_verdict(
     spot: Spot,
     test: RawTest,
 ) -> bool
-    requires { ⌜ readSheet (now sheet) ≡ Reading.WellFormed ⌝ }
-    requires { ⌜ readCard (now card) ≡ Reading.WellFormed ⌝ }
+    requires { ⌜ readSheet (now sheet) ≡ Validity.WellFormed ⌝ }
+    requires { ⌜ readCard (now card) ≡ Validity.WellFormed ⌝ }
     requires { ⌜ length (now filter) ≤ 1024 ⌝ }
     requires { ⌜ spot .at ≤ length (now filter) ⌝ }
     requires { ⌜ Placed (now filter) test ⌝ }
-    ensures { λ r. ⌜ r ≡ (needed && memberSays (parametersOf (now (sheet .entry))) (spot .bundle) (entriesOf (now (card .entry))) chosen (filterAt (spot .deep) (now (filter .entry)) (spot .close) (spot .at)) (testOf (now (filter .entry)) test)) ⌝ }
+    ensures { λ r. ⌜ r ≡ (needed && memberSays (parametersOf (now (sheet .entry))) (spot .bundle) (entriesOf (now (card .entry))) chosen (filterAt (spot .levels) (now (filter .entry)) (spot .close) (spot .at)) (testOf (now (filter .entry)) test)) ⌝ }
 {
     if needed {
         match test_found(sheet, spot.bundle, filter, test) {
@@ -211,14 +211,14 @@ fn judge_item(
     filter: &[u8],
     spot: Spot,
 ) -> Judged
-    requires { ⌜ readSheet (now sheet) ≡ Reading.WellFormed ⌝ }
-    requires { ⌜ readCard (now card) ≡ Reading.WellFormed ⌝ }
+    requires { ⌜ readSheet (now sheet) ≡ Validity.WellFormed ⌝ }
+    requires { ⌜ readCard (now card) ≡ Validity.WellFormed ⌝ }
     requires { ⌜ length (now filter) ≤ 1024 ⌝ }
     requires { ⌜ spot .at ≤ length (now filter) ⌝ }
-    ensures { λ r. ⌜ r ≡ answerOf Judged.Done Judged.Nothing (judging needed (parametersOf (now (sheet .entry))) (spot .bundle) (chosenOf chosen (entriesOf (now (card .entry))))) (itemAt (spot .deep) (now (filter .entry)) (spot .close) (spot .at)) ⌝ }
+    ensures { λ r. ⌜ r ≡ answerOf Judged.Done Judged.Nothing (judging needed (parametersOf (now (sheet .entry))) (spot .bundle) (chosenOf chosen (entriesOf (now (card .entry))))) (itemAt (spot .levels) (now (filter .entry)) (spot .close) (spot .at)) ⌝ }
 {
     let at = spot.at;
-    let deep = spot.deep;
+    let levels = spot.levels;
     let close = spot.close;
     let bundle = spot.bundle;
     let head = read_head(filter, close, at);
@@ -229,7 +229,7 @@ fn judge_item(
             Judged::Done(value.next, says)
         }
         Head::Open(next, negate) => {
-            if deep == 0 {
+            if levels == 0 {
                 return Judged::Nothing;
             }
             let inner = judge_filter(
@@ -240,7 +240,7 @@ fn judge_item(
                 filter,
                 Spot {
                     at: next,
-                    deep: deep - 1,
+                    levels: levels - 1,
                     close: b')',
                     bundle,
                 },
@@ -257,14 +257,14 @@ fn judge_item(
             }
         }
         Head::Choice(until) => {
-            if deep == 0 {
+            if levels == 0 {
                 return Judged::Nothing;
             }
             let inside = sheet::enter(sheet, bundle, &filter[at..until]);
             let next = skip(filter, until + 1);
             let inner_spot = Spot {
                 at: next,
-                deep: deep - 1,
+                levels: levels - 1,
                 close: b']',
                 bundle: inside,
             };
@@ -307,14 +307,14 @@ pub fn judge_filter(
     filter: &[u8],
     spot: Spot,
 ) -> Judged
-    requires { ⌜ readSheet (now sheet) ≡ Reading.WellFormed ⌝ }
-    requires { ⌜ readCard (now card) ≡ Reading.WellFormed ⌝ }
+    requires { ⌜ readSheet (now sheet) ≡ Validity.WellFormed ⌝ }
+    requires { ⌜ readCard (now card) ≡ Validity.WellFormed ⌝ }
     requires { ⌜ length (now filter) ≤ 1024 ⌝ }
     requires { ⌜ spot .at ≤ length (now filter) ⌝ }
-    ensures { λ r. ⌜ r ≡ answerOf Judged.Done Judged.Nothing (judging needed (parametersOf (now (sheet .entry))) (spot .bundle) (chosenOf chosen (entriesOf (now (card .entry))))) (filterAt (spot .deep) (now (filter .entry)) (spot .close) (spot .at)) ⌝ }
+    ensures { λ r. ⌜ r ≡ answerOf Judged.Done Judged.Nothing (judging needed (parametersOf (now (sheet .entry))) (spot .bundle) (chosenOf chosen (entriesOf (now (card .entry))))) (filterAt (spot .levels) (now (filter .entry)) (spot .close) (spot .at)) ⌝ }
 {
     let at = spot.at;
-    let deep = spot.deep;
+    let levels = spot.levels;
     let close = spot.close;
     let bundle = spot.bundle;
     let first = judge_item(
@@ -325,7 +325,7 @@ pub fn judge_filter(
         filter,
         Spot {
             at,
-            deep,
+            levels,
             close,
             bundle,
         },
@@ -348,7 +348,7 @@ pub fn judge_filter(
                     filter,
                     Spot {
                         at: next,
-                        deep,
+                        levels,
                         close,
                         bundle,
                     },

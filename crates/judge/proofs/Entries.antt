@@ -11,7 +11,7 @@ use Rattle.base.proofs.Tests.{both-ways, and-left, and-right}
 use Rattle.card.specs.Card.{Entry, entry}
 use Rattle.kind.specs.Readable.{cardReadable}
 use Rattle.kind.specs.Table as table
-use Rattle.kind.specs.Stands.{stands}
+use Rattle.kind.specs.Relations.{relatesTo}
 use Rattle.kind.specs.declared.Relation.{Relation}
 use Rattle.judge.specs.Sets.{valuesAt, counts, chosenOf, conformsTo, keep}
 use Rattle.judge.specs.declared.Chosen.{Chosen}
@@ -87,10 +87,10 @@ value-end c i = refl
 
 -- ---- whether some text is related
 
-pub related-differs : (differs : Bool) (r : Relation) (v x : List ℕ) (b : Bool) → differs ≡ true → b ≡ stands r x v → not b ≡ related differs r v x
+pub related-differs : (differs : Bool) (r : Relation) (v x : List ℕ) (b : Bool) → differs ≡ true → b ≡ relatesTo r x v → not b ≡ related differs r v x
 related-differs differs r v x b d e = rw (d, e)
 
-pub related-plain : (differs : Bool) (r : Relation) (v x : List ℕ) (b : Bool) → differs ≡ false → b ≡ stands r x v → b ≡ related differs r v x
+pub related-plain : (differs : Bool) (r : Relation) (v x : List ℕ) (b : Bool) → differs ≡ false → b ≡ relatesTo r x v → b ≡ related differs r v x
 related-plain differs r v x b d e = rw d e
 
 pub entry-under : (under differs : Bool) (r : Relation) (v x : List ℕ) (b : Bool) → under ≡ true → b ≡ related differs r v x → b ≡ entryRelated under differs r v x

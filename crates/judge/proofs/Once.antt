@@ -4,19 +4,19 @@ use Prim.Native.Nat.{ℕ}
 use mathlib.Core.Path.{_≡_, refl, ap, _∙_}
 use mathlib.Core.Bool.{Bool, true, false, not}
 use mathlib.Core.List.{List}
-use Rattle.kind.specs.Stands.{Kept, standsRead}
+use Rattle.kind.specs.Relations.{Kept, relatesRead}
 use Rattle.kind.specs.declared.Readings.{Readings}
 use Rattle.kind.specs.declared.Relation.{Relation}
 use Rattle.kind.specs.declared.Meaning.{Meaning}
-use Rattle.kind.proofs.Values.{stands-is, unread-kept, readings-kept}
+use Rattle.kind.proofs.Values.{relates-is, unread-kept, readings-kept}
 use Rattle.judge.specs.Verdicts.{textCounts}
 use Rattle.judge.specs.Once.{readingsFor, countsRead}
 
 pub counts-once : (m : Meaning) (v x : List ℕ) → countsRead m v (readingsFor m v) x ≡ textCounts m v x
 unfolding readingsFor countsRead textCounts
 counts-once Meaning.Present v x = refl
-counts-once (Meaning.Relates r) v x = stands-is r x v
-counts-once (Meaning.Differs r) v x = ap not (stands-is r x v)
+counts-once (Meaning.Relates r) v x = relates-is r x v
+counts-once (Meaning.Differs r) v x = ap not (relates-is r x v)
 counts-once Meaning.Nothing v x = refl
 
 pub for-kept : (m : Meaning) (v : List ℕ) → Kept (readingsFor m v .number)
@@ -33,11 +33,11 @@ module _ (m : Meaning) (v : List ℕ) (w : Readings) (x : List ℕ) where
   unfolding countsRead
   read-present h = rw h
 
-  pub read-relates : (r : Relation) (t : Bool) → m ≡ Meaning.Relates r → t ≡ standsRead r x v w → t ≡ countsRead m v w x
+  pub read-relates : (r : Relation) (t : Bool) → m ≡ Meaning.Relates r → t ≡ relatesRead r x v w → t ≡ countsRead m v w x
   unfolding countsRead
   read-relates r t h e = rw h e
 
-  pub read-differs : (r : Relation) (t : Bool) → m ≡ Meaning.Differs r → t ≡ standsRead r x v w → not t ≡ countsRead m v w x
+  pub read-differs : (r : Relation) (t : Bool) → m ≡ Meaning.Differs r → t ≡ relatesRead r x v w → not t ≡ countsRead m v w x
   unfolding countsRead
   read-differs r t h e = rw h (ap not e)
 

@@ -3,7 +3,7 @@
 use Prim.Native.Nat.{ℕ}
 use mathlib.Core.Bool.{Bool, true, false, not}
 use mathlib.Core.List.{List}
-use Rattle.kind.specs.Stands.{unread, readingsOf, standsRead}
+use Rattle.kind.specs.Relations.{unread, readingsOf, relatesRead}
 use Rattle.kind.specs.declared.Readings.{Readings}
 use Rattle.kind.specs.declared.Meaning.{Meaning}
 
@@ -17,6 +17,6 @@ readingsFor Meaning.Nothing v = unread
 -- whether a text counts for a meaning and a value that was read
 unfoldable pub countsRead : Meaning → List ℕ → Readings → List ℕ → Bool
 countsRead Meaning.Present v w x = true
-countsRead (Meaning.Relates r) v w x = standsRead r x v w
-countsRead (Meaning.Differs r) v w x = not (standsRead r x v w)
+countsRead (Meaning.Relates r) v w x = relatesRead r x v w
+countsRead (Meaning.Differs r) v w x = not (relatesRead r x v w)
 countsRead Meaning.Nothing v w x = false

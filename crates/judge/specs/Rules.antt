@@ -16,7 +16,7 @@ use Rattle.syntax.specs.Tree.{Path, name, member, Test, Tree, test, bracketed, 
 use Rattle.syntax.specs.declared.Connective.{Connective}
 use Rattle.kind.specs.declared.Relation.{Relation}
 use Rattle.judge.specs.Sets.{valuesAt, ofOccurrence}
-use Rattle.kind.specs.Rules.{ReadableOnCard, TrueOrFalse, ReadableValue, Row, HasOperator, StandsIn}
+use Rattle.kind.specs.Rules.{ReadableOnCard, TrueOrFalse, ReadableValue, Row, HasOperator, RelatesTo}
 use mathlib.Core.Logic.{_⊎_}
 
 -- ---- cards
@@ -74,10 +74,10 @@ pub data Says (ps : List Parameter) (c : ℕ) (es : List Entry) (t : Test) : Typ
   says-absent : {i k : ℕ} → NamesIn ps c (t .path) i k → t .operator ≡ pr → foldText (t .value) ≡ ascii "false" → valuesAt i es ≡ [] → Says ps c es t
   -- "some text in the set stands in the relation"
   says-relates : {i k : ℕ} {r : Relation} {x : List ℕ} → NamesIn ps c (t .path) i k → Row k (t .operator) r → List·Memᴰ x (valuesAt i es)
-      → StandsIn r x (t .value) → Says ps c es t
+      → RelatesTo r x (t .value) → Says ps c es t
   -- "ne: some text in the set is not eq"
   says-differs : {i k : ℕ} {r : Relation} {x : List ℕ} → NamesIn ps c (t .path) i k → t .operator ≡ ne → Row k eq r → List·Memᴰ x (valuesAt i es)
-      → (StandsIn r x (t .value) → ⊥) → Says ps c es t
+      → (RelatesTo r x (t .value) → ⊥) → Says ps c es t
 
 -- of the entries, those are kept of which P holds, in their order
 pub data Keeps (P : Entry → Type 0) : List Entry → List Entry → Type 0 where

@@ -10,7 +10,7 @@ use Rattle.syntax.specs.Tree.{Test, Tree, test, bracketed, join, negation}
 use Rattle.syntax.specs.declared.Connective.{Connective}
 use Rattle.kind.specs.Table.{meaningOf}
 use Rattle.kind.specs.Readable.{isTrue}
-use Rattle.kind.specs.Stands.{stands}
+use Rattle.kind.specs.Relations.{relatesTo}
 use Rattle.kind.specs.declared.Relation.{Relation}
 use Rattle.kind.specs.declared.Meaning.{Meaning}
 use Rattle.judge.specs.Sets.{lookup, valuesAt, ofOccurrence, keep}
@@ -30,8 +30,8 @@ isEmpty (x ∷ xs) = false
 
 -- the text stands in the relation to the value, or, where differs, does not
 abbrev pub related : Bool → Relation → List ℕ → List ℕ → Bool
-related false r v x = stands r x v
-related true r v x = not (stands r x v)
+related false r v x = relatesTo r x v
+related true r v x = not (relatesTo r x v)
 
 -- the same of an entry's text, where under says that it belongs to the set
 abbrev pub entryRelated : Bool → Bool → Relation → List ℕ → List ℕ → Bool

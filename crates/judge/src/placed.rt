@@ -4,7 +4,7 @@ use crate::faults::fault_at;
 use crate::values::counts_read;
 use crate::values::readings_for;
 use crate::verdicts::says_at;
-use block::Reading;
+use block::Validity;
 use kind::Meaning;
 use refusal::Decision;
 use sheet::Found;
@@ -25,7 +25,7 @@ ghost use Rattle.kind.specs.Readable.{isTrue};
 
 // The parameter that a test of the filter names, on a well-formed sheet, looked up in a bundle.
 pub fn test_found(sheet: &[u8], bundle: u8, filter: &[u8], test: RawTest) -> Found
-    requires { ⌜ readSheet (now sheet) ≡ Reading.WellFormed ⌝ }
+    requires { ⌜ readSheet (now sheet) ≡ Validity.WellFormed ⌝ }
     requires { ⌜ Placed (now filter) test ⌝ }
     ensures { λ r. ⌜ r ≡ lookup (parametersOf (now (sheet .entry))) bundle (testOf (now (filter .entry)) test .path) ⌝ }
 {
@@ -36,7 +36,7 @@ pub fn test_found(sheet: &[u8], bundle: u8, filter: &[u8], test: RawTest) -> Fou
 
 // What is decided of a test of the filter on a well-formed sheet; its place is given.
 pub fn test_fault(sheet: &[u8], bundle: u8, filter: &[u8], place: usize, test: RawTest) -> Decision
-    requires { ⌜ readSheet (now sheet) ≡ Reading.WellFormed ⌝ }
+    requires { ⌜ readSheet (now sheet) ≡ Validity.WellFormed ⌝ }
     requires { ⌜ length (now filter) ≤ 1024 ⌝ }
     requires { ⌜ Placed (now filter) test ⌝ }
     ensures { λ r. ⌜ r ≡ testFault (parametersOf (now (sheet .entry))) bundle (moved place (testOf (now (filter .entry)) test)) ⌝ }
@@ -62,8 +62,8 @@ pub fn test_says(
     filter: &[u8],
     test: RawTest,
 ) -> bool
-    requires { ⌜ readSheet (now sheet) ≡ Reading.WellFormed ⌝ }
-    requires { ⌜ readCard (now card) ≡ Reading.WellFormed ⌝ }
+    requires { ⌜ readSheet (now sheet) ≡ Validity.WellFormed ⌝ }
+    requires { ⌜ readCard (now card) ≡ Validity.WellFormed ⌝ }
     requires { ⌜ length (now filter) ≤ 1024 ⌝ }
     requires { ⌜ Placed (now filter) test ⌝ }
     ensures { λ r. ⌜ r ≡ testSays (parametersOf (now (sheet .entry))) bundle (chosenOf chosen (entriesOf (now (card .entry)))) (testOf (now (filter .entry)) test) ⌝ }

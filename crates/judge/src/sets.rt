@@ -1,6 +1,6 @@
 // The texts of a card: whether they conform to a sheet, and those under one parameter.
 use crate::Chosen;
-use block::Reading;
+use block::Validity;
 use kind::Relation;
 ghost use mathlib.Core.Path.{_≡_};
 ghost use mathlib.Core.Bool.{not, _&&_};
@@ -23,7 +23,7 @@ fn entry_conforms(kinds: &[u8], index: u8, text: &[u8]) -> bool
 
 // Whether a well-formed card conforms to a sheet with these kinds (01: fits).
 pub fn conforms(kinds: &[u8], card: &[u8]) -> bool
-    requires { ⌜ readCard (now card) ≡ Reading.WellFormed ⌝ }
+    requires { ⌜ readCard (now card) ≡ Validity.WellFormed ⌝ }
     ensures { λ r. ⌜ r ≡ conformsTo (now (kinds .entry)) (entriesOf (now (card .entry))) ⌝ }
 {
     let mut at = card::FIRST_ENTRY;
@@ -56,7 +56,7 @@ pub fn is_under(chosen: Chosen, occurrence: u8, same: bool) -> bool
 
 // Whether a well-formed card has a text under a parameter, among the entries that count.
 pub fn has_value(card: &[u8], chosen: Chosen, index: u8) -> bool
-    requires { ⌜ readCard (now card) ≡ Reading.WellFormed ⌝ }
+    requires { ⌜ readCard (now card) ≡ Validity.WellFormed ⌝ }
     ensures { λ r. ⌜ r ≡ not (isEmpty (valuesAt index (chosenOf chosen (entriesOf (now (card .entry)))))) ⌝ }
 {
     let mut at = card::FIRST_ENTRY;
@@ -77,9 +77,9 @@ pub fn text_related(differs: bool, relation: Relation, value: &[u8], text: &[u8]
     ensures { λ r. ⌜ r ≡ related differs relation (now (value .entry)) (now (text .entry)) ⌝ }
 {
     if differs {
-        return !kind::stands(relation, text, value);
+        return !kind::relates_to(relation, text, value);
     }
-    kind::stands(relation, text, value)
+    kind::relates_to(relation, text, value)
 }
 
 // Whether an entry's text belongs to a parameter and is related to a value.
@@ -101,7 +101,7 @@ pub fn some_value(
     relation: Relation,
     value: &[u8],
 ) -> bool
-    requires { ⌜ readCard (now card) ≡ Reading.WellFormed ⌝ }
+    requires { ⌜ readCard (now card) ≡ Validity.WellFormed ⌝ }
     ensures { λ r. ⌜ r ≡ someValue (related differs relation (now (value .entry))) (valuesAt index (chosenOf chosen (entriesOf (now (card .entry))))) ⌝ }
 {
     let mut at = card::FIRST_ENTRY;

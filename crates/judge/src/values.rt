@@ -2,7 +2,7 @@
 use kind::Meaning;
 use kind::Readings;
 ghost use mathlib.Core.Path.{_≡_};
-ghost use Rattle.kind.specs.Stands.{Kept};
+ghost use Rattle.kind.specs.Relations.{Kept};
 ghost use Rattle.judge.specs.Once.{readingsFor, countsRead};
 
 // What a value reads to for a meaning.
@@ -24,8 +24,8 @@ pub fn counts_read(meaning: Meaning, value: &[u8], readings: Readings, text: &[u
 {
     match meaning {
         Meaning::Present => true,
-        Meaning::Relates(relation) => kind::stands_read(relation, text, value, readings),
-        Meaning::Differs(relation) => !kind::stands_read(relation, text, value, readings),
+        Meaning::Relates(relation) => kind::relates_read(relation, text, value, readings),
+        Meaning::Differs(relation) => !kind::relates_read(relation, text, value, readings),
         Meaning::Nothing => false,
     }
 }

@@ -2,7 +2,7 @@
 use crate::Chosen;
 use crate::sets::has_value;
 use crate::sets::some_value;
-use block::Reading;
+use block::Validity;
 use kind::Meaning;
 use sheet::Found;
 ghost use mathlib.Core.Path.{_≡_};
@@ -12,7 +12,7 @@ ghost use Rattle.judge.specs.Verdicts.{someSays, saysOf, saysAt};
 
 // What a test with this meaning and value says of the texts under a parameter.
 pub fn says_of(card: &[u8], chosen: Chosen, index: u8, meaning: Meaning, value: &[u8]) -> bool
-    requires { ⌜ readCard (now card) ≡ Reading.WellFormed ⌝ }
+    requires { ⌜ readCard (now card) ≡ Validity.WellFormed ⌝ }
     ensures { λ r. ⌜ r ≡ saysOf meaning (now (value .entry)) (valuesAt index (chosenOf chosen (entriesOf (now (card .entry))))) ⌝ }
 {
     match meaning {
@@ -30,7 +30,7 @@ pub fn says_of(card: &[u8], chosen: Chosen, index: u8, meaning: Meaning, value: 
 
 // What a test with this operator and value says of a well-formed card, at what its name is on the sheet.
 pub fn says_at(found: Found, card: &[u8], chosen: Chosen, operator: u8, value: &[u8]) -> bool
-    requires { ⌜ readCard (now card) ≡ Reading.WellFormed ⌝ }
+    requires { ⌜ readCard (now card) ≡ Validity.WellFormed ⌝ }
     ensures { λ r. ⌜ r ≡ saysAt found operator (now (value .entry)) (chosenOf chosen (entriesOf (now (card .entry)))) ⌝ }
 {
     match found {

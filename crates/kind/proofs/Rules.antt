@@ -2,7 +2,7 @@
 -- A rule is a data type with a case for each kind or operator, and its test looks into the table of kinds. What holds of each row of the
 -- table, and of a number that is in none, holds of every number (`by-kind`, by induction on the table). `-there` and `-back` are the two
 -- directions of each `-iff`. The relations rest on those of the lower crates: a number that was read keeps to its bounds, and a period that
--- was read has an instant, and so their computed relations are the rules' (`stands-there`, `stands-back`).
+-- was read has an instant, and so their computed relations are the rules' (`relates-there`, `relates-back`).
 -- Assumes nothing.
 use Prim.Native.Nat.{ℕ}
 use mathlib.Core.Path.{_≡_, refl, ap, sym, _∙_, subst}
@@ -22,14 +22,14 @@ use Rattle.text.specs.Fold.{isCapital, isAccented, foldByte, foldFrom, foldText
 use Rattle.text.specs.Compare.{same}
 use Rattle.text.proofs.Readings.{same-reads, starts-reads, ends-reads, contains-reads}
 use Rattle.kind.specs.Readable.{cardReadable, filterReadable, isTrue, isFalse, valueReadable}
-use Rattle.kind.specs.Rules.{readable-string, readable-number, readable-date, readable-token, readable-reference, readable-period, ReadableOnCard, ReadableInFilter, TrueOrFalse, spells-true, spells-false, ReadableValue, value-of-pr, value-of-kind, HasDates, dates-of-date, dates-of-period, Row, string-eq, string-co, string-sw, string-ew, number-eq, number-gt, number-lt, number-ge, number-le, number-co, date-eq, date-gt, date-lt, date-ge, date-le, date-sa, date-eb, date-po, date-co, token-eq, reference-re, HasOperator, operator-of-row, operator-pr, operator-ne, StandsIn, string-same, string-contains, string-starts, string-ends, NumbersStand, number-inside, number-greater, number-less, number-at-least, number-at-most, number-covers, DatesStand, date-inside, date-later, date-earlier, date-later-or-inside, date-earlier-or-inside, date-starts-after, date-ends-before, date-overlaps, date-covers, numbers-stand, dates-stand, tokens-stand, references-same}
+use Rattle.kind.specs.Rules.{readable-string, readable-number, readable-date, readable-token, readable-reference, readable-period, ReadableOnCard, ReadableInFilter, TrueOrFalse, spells-true, spells-false, ReadableValue, value-of-pr, value-of-kind, HasDates, dates-of-date, dates-of-period, Row, string-eq, string-co, string-sw, string-ew, number-eq, number-gt, number-lt, number-ge, number-le, number-co, date-eq, date-gt, date-lt, date-ge, date-le, date-sa, date-eb, date-po, date-co, token-eq, reference-re, HasOperator, operator-of-row, operator-pr, operator-ne, RelatesTo, string-same, string-contains, string-starts, string-ends, NumbersRelate, number-inside, number-greater, number-less, number-at-least, number-at-most, number-covers, DatesRelate, date-inside, date-later, date-earlier, date-later-or-inside, date-earlier-or-inside, date-starts-after, date-ends-before, date-overlaps, date-covers, numbers-relate, dates-relate, tokens-relate, references-same}
 use mathlib.Core.Option.{Option, none, some, Option·some-injective, Option·none-ne-some}
 use Rattle.base.specs.Options.{isSome}
-use Rattle.kind.specs.Table.{Use, stringRow, numberRow, dateRow, tokenRow, referenceRow, Kind, kinds, ofKind, row, relationIn, asked, rowMeaning, meaningOf, isMeaning, hasMeaning}
+use Rattle.kind.specs.Table.{RowEntry, stringRow, numberRow, dateRow, tokenRow, referenceRow, Kind, kinds, ofKind, row, relationIn, asked, rowMeaning, meaningOf, isMeaning, hasMeaning}
 use Rattle.kind.specs.declared.Meaning.{Meaning}
 use Rattle.kind.specs.declared.Relation.{Relation}
 use Rattle.token.proofs.Readings.{matches-reads}
-use Rattle.kind.specs.Stands.{stringStands, numberStands, numbersStand, dateStands, datesStand, stands}
+use Rattle.kind.specs.Relations.{stringsRelate, numbersRelate, numberReadingsRelate, datesRelate, dateReadingsRelate, relatesTo}
 use Rattle.kind.specs.declared.StringRelation.{StringRelation}
 use Rattle.kind.specs.declared.NumberRelation.{NumberRelation}
 use Rattle.kind.specs.declared.DateRelation.{DateRelation}
@@ -172,12 +172,12 @@ pub by-column : {A : Type 0} (other : A) (f : Kind → A) (p : A → Bool) → p
 by-column other f p e h = by-kind (λ k a. p a ≡ true) other f (λ k. e) kinds (each-all (λ (x : Kind). p (f x)) kinds h)
 
 -- of the column of operators
-pub by-row : (p : List Use → Bool) → p [] ≡ true → eachRow (λ (x : Kind). p (x .operators)) kinds ≡ true → (kind : ℕ) → p (row kind) ≡ true
+pub by-row : (p : List RowEntry → Bool) → p [] ≡ true → eachRow (λ (x : Kind). p (x .operators)) kinds ≡ true → (kind : ℕ) → p (row kind) ≡ true
 unfolding row
 by-row p = by-column [] (λ (x : Kind). x .operators) p
 
 -- an operator that a row has stands in the table, where each of the row does
-in-row : (n : ℕ) (us : List Use) → All (λ (u : Use). Row n (u .operator) (u .relation)) us → (k : ℕ) (r : Relation) → relationIn us k ≡ some r → Row n k r
+in-row : (n : ℕ) (us : List RowEntry) → All (λ (u : RowEntry). Row n (u .operator) (u .relation)) us → (k : ℕ) (r : Relation) → relationIn us k ≡ some r → Row n k r
 unfolding relationIn
 in-row n [] all-empty k r e = absurd (Option·none-ne-some r e)
 in-row n (u ∷ us) (all-cons h all) k r e =
@@ -187,7 +187,7 @@ in-row n (u ∷ us) (all-cons h all) k r e =
     (cond-either (eqb k (u .operator)) (some (u .relation)) (relationIn us k) e)
 
 -- the row of dates, for either kind that has it
-dates-in-row : {n : ℕ} → HasDates n → All (λ (u : Use). Row n (u .operator) (u .relation)) dateRow
+dates-in-row : {n : ℕ} → HasDates n → All (λ (u : RowEntry). Row n (u .operator) (u .relation)) dateRow
 unfolding dateRow
 dates-in-row d =
     all-cons (date-eq d) (all-cons (date-gt d) (all-cons (date-lt d) (all-cons (date-ge d) (all-cons (date-le d) (all-cons (date-sa d)
@@ -294,8 +294,8 @@ module _ (kind : ℕ) where
 -- ---- a relation of two numbers
 
 module _ (i f : Decimal) (bi : Bounded i) (bf : Bounded f) where
-  number-there : (r : NumberRelation) → numberStands r i f ≡ true → NumbersStand i f r
-  unfolding numberStands greater less atLeast atMost covers isLess isAtMost
+  number-there : (r : NumberRelation) → numbersRelate r i f ≡ true → NumbersRelate i f r
+  unfolding numbersRelate greater less atLeast atMost covers isLess isAtMost
   number-there NumberRelation.Inside h = number-inside (ranges.inside-iff i f bi bf .0 h)
   number-there NumberRelation.Greater h = number-greater (ltb-true _ _ h)
   number-there NumberRelation.Less h = number-less (ltb-true _ _ h)
@@ -306,8 +306,8 @@ module _ (i f : Decimal) (bi : Bounded i) (bf : Bounded f) where
       let high : Bool = isLess (exactValue f) (plus (exactValue i) (halfUnit i)) in
       number-covers (leb-true _ _ (and-left low high h), ltb-true _ _ (and-right low high h))
 
-  number-back : {r : NumberRelation} → NumbersStand i f r → numberStands r i f ≡ true
-  unfolding numberStands greater less atLeast atMost covers isLess isAtMost
+  number-back : {r : NumberRelation} → NumbersRelate i f r → numbersRelate r i f ≡ true
+  unfolding numbersRelate greater less atLeast atMost covers isLess isAtMost
   number-back (number-inside h) = ranges.inside-iff i f bi bf .1 h
   number-back (number-greater h) = lt-ltb _ _ h
   number-back (number-less h) = lt-ltb _ _ h
@@ -333,8 +333,8 @@ module _ (i : Period) (has : Inhabited i) (f : Date) (first : InRange f (f .star
   unfolding earlierOrInside
   earlier-or-inside-iff = either-iff (earlier i f) (inside i f) (relations.earlier-iff i has f first) (relations.inside-iff i has f first)
 
-  date-there : (r : DateRelation) → dateStands r i f ≡ true → DatesStand i f r
-  unfolding dateStands
+  date-there : (r : DateRelation) → datesRelate r i f ≡ true → DatesRelate i f r
+  unfolding datesRelate
   date-there DateRelation.Inside h = date-inside (relations.inside-iff i has f first .0 h)
   date-there DateRelation.Later h = date-later (relations.later-iff i has f first .0 h)
   date-there DateRelation.Earlier h = date-earlier (relations.earlier-iff i has f first .0 h)
@@ -345,8 +345,8 @@ module _ (i : Period) (has : Inhabited i) (f : Date) (first : InRange f (f .star
   date-there DateRelation.Overlaps h = date-overlaps (relations.overlaps-iff i has f first .0 h)
   date-there DateRelation.Covers h = date-covers (relations.covers-iff i has f first .0 h)
 
-  date-back : {r : DateRelation} → DatesStand i f r → dateStands r i f ≡ true
-  unfolding dateStands
+  date-back : {r : DateRelation} → DatesRelate i f r → datesRelate r i f ≡ true
+  unfolding datesRelate
   date-back (date-inside h) = relations.inside-iff i has f first .1 h
   date-back (date-later h) = relations.later-iff i has f first .1 h
   date-back (date-earlier h) = relations.earlier-iff i has f first .1 h
@@ -357,53 +357,53 @@ module _ (i : Period) (has : Inhabited i) (f : Date) (first : InRange f (f .star
   date-back (date-overlaps h) = relations.overlaps-iff i has f first .1 h
   date-back (date-covers h) = relations.covers-iff i has f first .1 h
 
-  pub date-iff : (r : DateRelation) → (dateStands r i f ≡ true) ↔ DatesStand i f r
+  pub date-iff : (r : DateRelation) → (datesRelate r i f ≡ true) ↔ DatesRelate i f r
   date-iff r = (date-there r, date-back)
 
 -- ---- a relation of two texts
 
-numbers-there : (r : NumberRelation) (x v : List ℕ) (a b : number-readings.Reading) → numbers.read x ≡ a → numbers.read v ≡ b → numbersStand r a b ≡ true → StandsIn (Relation.Numbers r) x v
+numbers-there : (r : NumberRelation) (x v : List ℕ) (a b : number-readings.Reading) → numbers.read x ≡ a → numbers.read v ≡ b → numberReadingsRelate r a b ≡ true → RelatesTo (Relation.Numbers r) x v
 numbers-there r x v (number-readings.Reading.Number i) (number-readings.Reading.Number f) d e h =
-    numbers-stand (number-spelling.read-spells x i .0 d) (number-spelling.read-spells v f .0 e)
+    numbers-relate (number-spelling.read-spells x i .0 d) (number-spelling.read-spells v f .0 e)
     (number-there i f (number-spelling.read-bounded x i d) (number-spelling.read-bounded v f e) r h)
 numbers-there r x v (number-readings.Reading.Number i) number-readings.Reading.Unreadable d e h = absurd (false≢true h)
 numbers-there r x v number-readings.Reading.Unreadable b d e h = absurd (false≢true h)
 
-dates-there : (r : DateRelation) (x v : List ℕ) (a : period-readings.Reading) (b : date-readings.Reading) → periods.readSpan x ≡ a → dates.read v ≡ b → datesStand r a b ≡ true → StandsIn (Relation.Dates r) x v
+dates-there : (r : DateRelation) (x v : List ℕ) (a : period-readings.Reading) (b : date-readings.Reading) → periods.readSpan x ≡ a → dates.read v ≡ b → dateReadingsRelate r a b ≡ true → RelatesTo (Relation.Dates r) x v
 dates-there r x v (period-readings.Reading.Readable i) (date-readings.Reading.Readable f) d e h =
     let s = period-spelling.span-spells x i .0 d in
-    dates-stand s (date-spelling.read-spells v f .0 e) (date-there i (period-spelling.span-inhabited s) f (read-first v e) r h)
+    dates-relate s (date-spelling.read-spells v f .0 e) (date-there i (period-spelling.span-inhabited s) f (read-first v e) r h)
 dates-there r x v (period-readings.Reading.Readable i) date-readings.Reading.Unreadable d e h = absurd (false≢true h)
 dates-there r x v period-readings.Reading.Unreadable b d e h = absurd (false≢true h)
 
 module _ (x v : List ℕ) where
-  stands-there : (r : Relation) → stands r x v ≡ true → StandsIn r x v
-  unfolding stands stringStands
-  stands-there (Relation.Strings StringRelation.Same) h = string-same (same-reads x v .0 h)
-  stands-there (Relation.Strings StringRelation.Contains) h = let w = contains-reads x v .0 h in string-contains (w .0) (w .1) (w .2)
-  stands-there (Relation.Strings StringRelation.Starts) h = let w = starts-reads x v .0 h in string-starts (w .0) (w .1)
-  stands-there (Relation.Strings StringRelation.Ends) h = let w = ends-reads x v .0 h in string-ends (w .0) (w .1)
-  stands-there (Relation.Numbers r) h = numbers-there r x v (numbers.read x) (numbers.read v) refl refl h
-  stands-there (Relation.Dates r) h = dates-there r x v (periods.readSpan x) (dates.read v) refl refl h
-  stands-there Relation.Tokens h = let w = matches-reads x v .0 h in tokens-stand (w .2) (w .3) (w .4)
-  stands-there Relation.References h = references-same (same-reads x v .0 h)
+  relates-there : (r : Relation) → relatesTo r x v ≡ true → RelatesTo r x v
+  unfolding relatesTo stringsRelate
+  relates-there (Relation.Strings StringRelation.Same) h = string-same (same-reads x v .0 h)
+  relates-there (Relation.Strings StringRelation.Contains) h = let w = contains-reads x v .0 h in string-contains (w .0) (w .1) (w .2)
+  relates-there (Relation.Strings StringRelation.Starts) h = let w = starts-reads x v .0 h in string-starts (w .0) (w .1)
+  relates-there (Relation.Strings StringRelation.Ends) h = let w = ends-reads x v .0 h in string-ends (w .0) (w .1)
+  relates-there (Relation.Numbers r) h = numbers-there r x v (numbers.read x) (numbers.read v) refl refl h
+  relates-there (Relation.Dates r) h = dates-there r x v (periods.readSpan x) (dates.read v) refl refl h
+  relates-there Relation.Tokens h = let w = matches-reads x v .0 h in tokens-relate (w .2) (w .3) (w .4)
+  relates-there Relation.References h = references-same (same-reads x v .0 h)
 
-stands-back : {r : Relation} {x v : List ℕ} → StandsIn r x v → stands r x v ≡ true
-unfolding stands stringStands
-stands-back (string-same {x = x} {v = v} e) = same-reads x v .1 e
-stands-back (string-contains {x = x} {v = v} p q e) = contains-reads x v .1 (p, q, e)
-stands-back (string-starts {x = x} {v = v} q e) = starts-reads x v .1 (q, e)
-stands-back (string-ends {x = x} {v = v} p e) = ends-reads x v .1 (p, e)
-stands-back (numbers-stand {x = x} {v = v} {i = i} {f = f} a b h) =
+relates-back : {r : Relation} {x v : List ℕ} → RelatesTo r x v → relatesTo r x v ≡ true
+unfolding relatesTo stringsRelate
+relates-back (string-same {x = x} {v = v} e) = same-reads x v .1 e
+relates-back (string-contains {x = x} {v = v} p q e) = contains-reads x v .1 (p, q, e)
+relates-back (string-starts {x = x} {v = v} q e) = starts-reads x v .1 (q, e)
+relates-back (string-ends {x = x} {v = v} p e) = ends-reads x v .1 (p, e)
+relates-back (numbers-relate {x = x} {v = v} {i = i} {f = f} a b h) =
     let d : numbers.read x ≡ number-readings.Reading.Number i = number-spelling.read-spells x i .1 a in
     let e : numbers.read v ≡ number-readings.Reading.Number f = number-spelling.read-spells v f .1 b in
     rw (d, e) (number-back i f (number-spelling.read-bounded x i d) (number-spelling.read-bounded v f e) h)
-stands-back (dates-stand {x = x} {v = v} {i = i} {f = f} a b h) =
+relates-back (dates-relate {x = x} {v = v} {i = i} {f = f} a b h) =
     let d : periods.readSpan x ≡ period-readings.Reading.Readable i = period-spelling.span-spells x i .1 a in
     let e : dates.read v ≡ date-readings.Reading.Readable f = date-spelling.read-spells v f .1 b in
     rw (d, e) (date-back i (period-spelling.span-inhabited a) f (read-first v e) h)
-stands-back (tokens-stand {x = x} {v = v} {i = i} {f = f} a b h) = matches-reads x v .1 (i, f, a, b, h)
-stands-back (references-same {x = x} {v = v} e) = same-reads x v .1 e
+relates-back (tokens-relate {x = x} {v = v} {i = i} {f = f} a b h) = matches-reads x v .1 (i, f, a, b, h)
+relates-back (references-same {x = x} {v = v} e) = same-reads x v .1 e
 
-pub stands-iff : (r : Relation) (x v : List ℕ) → (stands r x v ≡ true) ↔ StandsIn r x v
-stands-iff r x v = (stands-there x v r, stands-back)
+pub relates-iff : (r : Relation) (x v : List ℕ) → (relatesTo r x v ≡ true) ↔ RelatesTo r x v
+relates-iff r x v = (relates-there x v r, relates-back)

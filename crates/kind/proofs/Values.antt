@@ -18,43 +18,43 @@ use Rattle.kind.specs.declared.DateRelation.{DateRelation}
 use Rattle.number.proofs.Spelling.{number-bounded}
 use Rattle.kind.specs.declared.Relation.{Relation}
 use Rattle.kind.specs.declared.Readings.{Readings}
-use Rattle.kind.specs.Stands.{Kept, numberStands, numbersStand, dateStands, datesStand, stands, unread, readingsOf, standsRead}
+use Rattle.kind.specs.Relations.{Kept, numbersRelate, numberReadingsRelate, datesRelate, dateReadingsRelate, relatesTo, unread, readingsOf, relatesRead}
 
 -- ---- numbers
 
 module _ (relation : NumberRelation) (i : List ℕ) (v : number-readings.Reading) (r : number-readings.Reading) (e : r ≡ numbers.read i) where
-  pub numbers-unreadable : r ≡ number-readings.Reading.Unreadable → false ≡ numbersStand relation (numbers.read i) v
+  pub numbers-unreadable : r ≡ number-readings.Reading.Unreadable → false ≡ numberReadingsRelate relation (numbers.read i) v
   numbers-unreadable h = rw (sym e ∙ h)
 
   module _ (a : Decimal) (h : r ≡ number-readings.Reading.Number a) where
-    pub value-unreadable : v ≡ number-readings.Reading.Unreadable → false ≡ numbersStand relation (numbers.read i) v
+    pub value-unreadable : v ≡ number-readings.Reading.Unreadable → false ≡ numberReadingsRelate relation (numbers.read i) v
     value-unreadable j = rw (sym e ∙ h, j)
 
-    pub numbers-stand : (b : Decimal) (t : Bool) → v ≡ number-readings.Reading.Number b → t ≡ numberStands relation a b → t ≡ numbersStand relation (numbers.read i) v
-    numbers-stand b t j l = rw (sym e ∙ h, j) l
+    pub numbers-relate : (b : Decimal) (t : Bool) → v ≡ number-readings.Reading.Number b → t ≡ numbersRelate relation a b → t ≡ numberReadingsRelate relation (numbers.read i) v
+    numbers-relate b t j l = rw (sym e ∙ h, j) l
 
 -- ---- dates
 
 module _ (relation : DateRelation) (i : List ℕ) (v : date-readings.Reading) (r : period-readings.Reading) (e : r ≡ periods.readSpan i) where
-  pub dates-unreadable : r ≡ period-readings.Reading.Unreadable → false ≡ datesStand relation (periods.readSpan i) v
+  pub dates-unreadable : r ≡ period-readings.Reading.Unreadable → false ≡ dateReadingsRelate relation (periods.readSpan i) v
   dates-unreadable h = rw (sym e ∙ h)
 
   module _ (a : Period) (h : r ≡ period-readings.Reading.Readable a) where
-    pub date-unreadable : v ≡ date-readings.Reading.Unreadable → false ≡ datesStand relation (periods.readSpan i) v
+    pub date-unreadable : v ≡ date-readings.Reading.Unreadable → false ≡ dateReadingsRelate relation (periods.readSpan i) v
     date-unreadable j = rw (sym e ∙ h, j)
 
-    pub dates-stand : (b : Date) (t : Bool) → v ≡ date-readings.Reading.Readable b → t ≡ dateStands relation a b → t ≡ datesStand relation (periods.readSpan i) v
-    dates-stand b t j l = rw (sym e ∙ h, j) l
+    pub dates-relate : (b : Date) (t : Bool) → v ≡ date-readings.Reading.Readable b → t ≡ datesRelate relation a b → t ≡ dateReadingsRelate relation (periods.readSpan i) v
+    dates-relate b t j l = rw (sym e ∙ h, j) l
 
 -- ---- a value that was read already
 
-pub stands-is : (relation : Relation) (i f : List ℕ) → standsRead relation i f (readingsOf relation f) ≡ stands relation i f
-unfolding stands standsRead readingsOf
-stands-is (Relation.Strings r) i f = refl
-stands-is (Relation.Numbers r) i f = refl
-stands-is (Relation.Dates r) i f = refl
-stands-is Relation.Tokens i f = refl
-stands-is Relation.References i f = refl
+pub relates-is : (relation : Relation) (i f : List ℕ) → relatesRead relation i f (readingsOf relation f) ≡ relatesTo relation i f
+unfolding relatesTo relatesRead readingsOf
+relates-is (Relation.Strings r) i f = refl
+relates-is (Relation.Numbers r) i f = refl
+relates-is (Relation.Dates r) i f = refl
+relates-is Relation.Tokens i f = refl
+relates-is Relation.References i f = refl
 
 pub number-kept : (f : List ℕ) (v : number-readings.Reading) → v ≡ numbers.read f → Kept v
 number-kept f v e = record { bounded = λ d h. number-bounded f v d e h }
@@ -73,6 +73,6 @@ readings-kept (Relation.Dates r) f = unread-kept
 readings-kept Relation.Tokens f = unread-kept
 readings-kept Relation.References f = unread-kept
 
-pub dates-read : (relation : Relation) (i f : List ℕ) (v : Readings) (r : DateRelation) (t : Bool) → relation ≡ Relation.Dates r → t ≡ datesStand r (periods.readSpan i) (v .date) → t ≡ standsRead relation i f v
-unfolding standsRead
+pub dates-read : (relation : Relation) (i f : List ℕ) (v : Readings) (r : DateRelation) (t : Bool) → relation ≡ Relation.Dates r → t ≡ dateReadingsRelate r (periods.readSpan i) (v .date) → t ≡ relatesRead relation i f v
+unfolding relatesRead
 dates-read relation i f v r t h e = rw h e

@@ -1,5 +1,5 @@
 -- Kinds: the table of operators with a meaning, readable texts, and the relations of a card's text and a filter's value.
 pub mod Table
 pub mod Readable
-pub mod Stands
+pub mod Relations
 pub mod Rules

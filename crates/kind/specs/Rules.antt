@@ -116,48 +116,48 @@ pub data HasOperator (kind : ℕ) : ℕ → Type 0 where
 -- ---- relations
 
 -- the card's number i stands in the relation to the filter's f
-pub data NumbersStand (i f : Decimal) : NumberRelation → Type 0 where
+pub data NumbersRelate (i f : Decimal) : NumberRelation → Type 0 where
   -- 02: eq "means that the filter's range holds the card's range whole": every point of it
-  number-inside : ranges.Held i f → NumbersStand i f NumberRelation.Inside
+  number-inside : ranges.Held i f → NumbersRelate i f NumberRelation.Inside
   -- "gt lt ge le by exact value, card against filter"
-  number-greater : ranges.Less (exactValue f) (exactValue i) → NumbersStand i f NumberRelation.Greater
-  number-less : ranges.Less (exactValue i) (exactValue f) → NumbersStand i f NumberRelation.Less
-  number-at-least : ranges.AtMost (exactValue f) (exactValue i) → NumbersStand i f NumberRelation.AtLeast
-  number-at-most : ranges.AtMost (exactValue i) (exactValue f) → NumbersStand i f NumberRelation.AtMost
+  number-greater : ranges.Less (exactValue f) (exactValue i) → NumbersRelate i f NumberRelation.Greater
+  number-less : ranges.Less (exactValue i) (exactValue f) → NumbersRelate i f NumberRelation.Less
+  number-at-least : ranges.AtMost (exactValue f) (exactValue i) → NumbersRelate i f NumberRelation.AtLeast
+  number-at-most : ranges.AtMost (exactValue i) (exactValue f) → NumbersRelate i f NumberRelation.AtMost
   -- "co: F lies in I's range"
-  number-covers : ranges.InRange i (ranges.above (exactValue f)) → NumbersStand i f NumberRelation.Covers
+  number-covers : ranges.InRange i (ranges.above (exactValue f)) → NumbersRelate i f NumberRelation.Covers
 
 -- the card's period i, from i0 to i1, stands in the relation to the filter's date f, from f0 to f1, by their instants; a card's date is
 -- the period with both ends known. So the R4 prefixes have it: gt where the range above the filter's meets the card's
-pub data DatesStand (i : Period) (f : Date) : DateRelation → Type 0 where
+pub data DatesRelate (i : Period) (f : Date) : DateRelation → Type 0 where
   -- 02: eq "means that the filter's range holds the card's range whole": every instant of I lies in F, so "a stay open at an end is never eq"
-  date-inside : instants.Held i f → DatesStand i f DateRelation.Inside
+  date-inside : instants.Held i f → DatesRelate i f DateRelation.Inside
   -- "gt i1>f1; lt i0<f0": some instant of I comes after all of F, or before
-  date-later : instants.SomeAfter i f → DatesStand i f DateRelation.Later
-  date-earlier : instants.SomeBefore i f → DatesStand i f DateRelation.Earlier
+  date-later : instants.SomeAfter i f → DatesRelate i f DateRelation.Later
+  date-earlier : instants.SomeBefore i f → DatesRelate i f DateRelation.Earlier
   -- "ge gt or I inside F; le lt or I inside F"
-  date-later-or-inside : instants.SomeAfter i f ⊎ instants.Held i f → DatesStand i f DateRelation.LaterOrInside
-  date-earlier-or-inside : instants.SomeBefore i f ⊎ instants.Held i f → DatesStand i f DateRelation.EarlierOrInside
+  date-later-or-inside : instants.SomeAfter i f ⊎ instants.Held i f → DatesRelate i f DateRelation.LaterOrInside
+  date-earlier-or-inside : instants.SomeBefore i f ⊎ instants.Held i f → DatesRelate i f DateRelation.EarlierOrInside
   -- "sa i0>=f1; eb i1<=f0": every instant of I comes after all of F, or before
-  date-starts-after : instants.EveryAfter i f → DatesStand i f DateRelation.StartsAfter
-  date-ends-before : instants.EveryBefore i f → DatesStand i f DateRelation.EndsBefore
+  date-starts-after : instants.EveryAfter i f → DatesRelate i f DateRelation.StartsAfter
+  date-ends-before : instants.EveryBefore i f → DatesRelate i f DateRelation.EndsBefore
   -- "po i0<f1 and f0<i1": some instant lies in both
-  date-overlaps : instants.Meets i f → DatesStand i f DateRelation.Overlaps
+  date-overlaps : instants.Meets i f → DatesRelate i f DateRelation.Overlaps
   -- "co F inside I": every instant of F lies in I
-  date-covers : instants.Holds i f → DatesStand i f DateRelation.Covers
+  date-covers : instants.Holds i f → DatesRelate i f DateRelation.Covers
 
 -- the card's text x stands in the relation to the filter's value v; "text comparisons ignore the case of A to Z", and that of the letters
 -- U+00C0 to U+00DE without U+00D7: "each text is folded whole before it is compared"
-pub data StandsIn : Relation → List ℕ → List ℕ → Type 0 where
+pub data RelatesTo : Relation → List ℕ → List ℕ → Type 0 where
   -- "eq same; co holds it somewhere; sw, ew at the start, at the end"
-  string-same : {x v : List ℕ} → foldText x ≡ foldText v → StandsIn (Relation.Strings StringRelation.Same) x v
-  string-contains : {x v : List ℕ} (p q : List ℕ) → foldText x ≡ p ++ (foldText v ++ q) → StandsIn (Relation.Strings StringRelation.Contains) x v
-  string-starts : {x v : List ℕ} (q : List ℕ) → foldText x ≡ foldText v ++ q → StandsIn (Relation.Strings StringRelation.Starts) x v
-  string-ends : {x v : List ℕ} (p : List ℕ) → foldText x ≡ p ++ foldText v → StandsIn (Relation.Strings StringRelation.Ends) x v
+  string-same : {x v : List ℕ} → foldText x ≡ foldText v → RelatesTo (Relation.Strings StringRelation.Same) x v
+  string-contains : {x v : List ℕ} (p q : List ℕ) → foldText x ≡ p ++ (foldText v ++ q) → RelatesTo (Relation.Strings StringRelation.Contains) x v
+  string-starts : {x v : List ℕ} (q : List ℕ) → foldText x ≡ foldText v ++ q → RelatesTo (Relation.Strings StringRelation.Starts) x v
+  string-ends : {x v : List ℕ} (p : List ℕ) → foldText x ≡ p ++ foldText v → RelatesTo (Relation.Strings StringRelation.Ends) x v
   -- two numbers; a card's date or period and a filter's date
-  numbers-stand : {r : NumberRelation} {x v : List ℕ} {i f : Decimal} → numbers.Spells x i → numbers.Spells v f → NumbersStand i f r → StandsIn (Relation.Numbers r) x v
-  dates-stand : {r : DateRelation} {x v : List ℕ} {i : Period} {f : Date} → periods.SpellsSpan x i → dates.Spells v f → DatesStand i f r → StandsIn (Relation.Dates r) x v
+  numbers-relate : {r : NumberRelation} {x v : List ℕ} {i f : Decimal} → numbers.Spells x i → numbers.Spells v f → NumbersRelate i f r → RelatesTo (Relation.Numbers r) x v
+  dates-relate : {r : DateRelation} {x v : List ℕ} {i : Period} {f : Date} → periods.SpellsSpan x i → dates.Spells v f → DatesRelate i f r → RelatesTo (Relation.Dates r) x v
   -- "eq by the four forms"
-  tokens-stand : {x v : List ℕ} {i : Token} {f : Form} → CardSpells x i → FilterSpells v f → Asks f i → StandsIn Relation.Tokens x v
+  tokens-relate : {x v : List ℕ} {i : Token} {f : Form} → CardSpells x i → FilterSpells v f → Asks f i → RelatesTo Relation.Tokens x v
   -- "re same"
-  references-same : {x v : List ℕ} → foldText x ≡ foldText v → StandsIn Relation.References x v
+  references-same : {x v : List ℕ} → foldText x ≡ foldText v → RelatesTo Relation.References x v

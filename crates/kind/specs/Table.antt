@@ -23,37 +23,37 @@ use Rattle.kind.specs.declared.Meaning.{Meaning}
 use Rattle.kind.specs.declared.Meaning.the-variants.{Present, Relates, Differs, Nothing}
 
 -- an operator of a row, and its relation
-pub record Use : Type 0 where
+pub record RowEntry : Type 0 where
   pub operator : ℕ
   pub relation : Relation
 
-abbrev pub means : ℕ → Relation → Use
+abbrev pub means : ℕ → Relation → RowEntry
 means k r = record { operator = k; relation = r }
 
 -- "string: eq same; co holds it somewhere; sw, ew at the start, at the end"
-unfoldable pub stringRow : List Use
+unfoldable pub stringRow : List RowEntry
 stringRow =
     means eq (Strings strings.Same) ∷ means co (Strings strings.Contains) ∷ means sw (Strings strings.Starts) ∷ means ew (Strings strings.Ends) ∷ []
 
 -- 02: "eq on dates and numbers means that the filter's range holds the card's range whole"; "number: gt lt ge le by exact value; co: F lies in I's range"
-unfoldable pub numberRow : List Use
+unfoldable pub numberRow : List RowEntry
 numberRow =
     means eq (Numbers numbers.Inside) ∷ means gt (Numbers numbers.Greater) ∷ means lt (Numbers numbers.Less)
     ∷ means ge (Numbers numbers.AtLeast) ∷ means le (Numbers numbers.AtMost) ∷ means co (Numbers numbers.Covers) ∷ []
 
 -- the same eq; "date: gt; lt; ge; le; sa; eb; po; co F inside I"; 02: of periods "the operations are those of dates"
-unfoldable pub dateRow : List Use
+unfoldable pub dateRow : List RowEntry
 dateRow =
     means eq (Dates dates.Inside) ∷ means gt (Dates dates.Later) ∷ means lt (Dates dates.Earlier)
     ∷ means ge (Dates dates.LaterOrInside) ∷ means le (Dates dates.EarlierOrInside) ∷ means sa (Dates dates.StartsAfter)
     ∷ means eb (Dates dates.EndsBefore) ∷ means po (Dates dates.Overlaps) ∷ means co (Dates dates.Covers) ∷ []
 
 -- "token: eq by the four forms"
-unfoldable pub tokenRow : List Use
+unfoldable pub tokenRow : List RowEntry
 tokenRow = means eq Tokens ∷ []
 
 -- "reference: re same"
-unfoldable pub referenceRow : List Use
+unfoldable pub referenceRow : List RowEntry
 referenceRow = means re References ∷ []
 
 -- a kind: its number, which texts are readable on a card, which values in a filter, its operators, and a text that is readable on a card
@@ -61,10 +61,10 @@ pub record Kind : Type 0 where
   pub number : ℕ
   pub onCard : List ℕ → Bool
   pub inFilter : List ℕ → Bool
-  pub operators : List Use
+  pub operators : List RowEntry
   pub witness : List ℕ
 
-abbrev kindOf : ℕ → (List ℕ → Bool) → (List ℕ → Bool) → List Use → List ℕ → Kind
+abbrev kindOf : ℕ → (List ℕ → Bool) → (List ℕ → Bool) → List RowEntry → List ℕ → Kind
 kindOf n card filter us t = record { number = n; onCard = card; inFilter = filter; operators = us; witness = t }
 
 -- "string: every text"; "reference: not empty"
@@ -91,11 +91,11 @@ ofKind other f [] k = other
 ofKind other f (x ∷ xs) k = cond (eqb k (x .number)) (f x) (ofKind other f xs k)
 
 -- the row of a kind
-unfoldable pub row : ℕ → List Use
+unfoldable pub row : ℕ → List RowEntry
 row = ofKind [] (λ (x : Kind). x .operators) kinds
 
 -- the relation of an operator in a row, if it stands there
-unfoldable pub relationIn : List Use → ℕ → Option Relation
+unfoldable pub relationIn : List RowEntry → ℕ → Option Relation
 relationIn [] k = none
 relationIn (u ∷ us) k = cond (eqb k (u .operator)) (some (u .relation)) (relationIn us k)
 
@@ -104,7 +104,7 @@ asked how (some r) = how r
 asked how none = Nothing
 
 -- a row has its operators, "and ne if the row has eq": "some text in the set is not eq"
-unfoldable pub rowMeaning : List Use → ℕ → Meaning
+unfoldable pub rowMeaning : List RowEntry → ℕ → Meaning
 rowMeaning us k = cond (eqb k ne) (asked Differs (relationIn us eq)) (asked Relates (relationIn us k))
 
 -- the one decision over operator and kind: pr, or what the kind's row has

@@ -9,12 +9,12 @@ use number::Decimal;
 use period::Period;
 ghost use mathlib.Core.Path.{_≡_};
 ghost use Rattle.number.specs.Value.{Bounded};
-ghost use Rattle.kind.specs.Stands.{Kept, stringStands, numberStands, dateStands, stands, numbersStand, datesStand, unread, readingsOf, standsRead};
+ghost use Rattle.kind.specs.Relations.{Kept, stringsRelate, numbersRelate, datesRelate, relatesTo, numberReadingsRelate, dateReadingsRelate, unread, readingsOf, relatesRead};
 ghost use Rattle.number.specs.Reading as numbers;
 ghost use Rattle.period.specs.Texts as periods;
 
-fn string_stands(relation: StringRelation, text: &[u8], value: &[u8]) -> bool
-    ensures { λ r. ⌜ r ≡ stringStands relation (now (text .entry)) (now (value .entry)) ⌝ }
+fn strings_relate(relation: StringRelation, text: &[u8], value: &[u8]) -> bool
+    ensures { λ r. ⌜ r ≡ stringsRelate relation (now (text .entry)) (now (value .entry)) ⌝ }
 {
     match relation {
         StringRelation::Same => text::same(text, value),
@@ -24,10 +24,10 @@ fn string_stands(relation: StringRelation, text: &[u8], value: &[u8]) -> bool
     }
 }
 
-fn number_stands(relation: NumberRelation, i: Decimal, f: Decimal) -> bool
+fn numbers_relate(relation: NumberRelation, i: Decimal, f: Decimal) -> bool
     requires { ⌜ Bounded i ⌝ }
     requires { ⌜ Bounded f ⌝ }
-    ensures { λ r. ⌜ r ≡ numberStands relation i f ⌝ }
+    ensures { λ r. ⌜ r ≡ numbersRelate relation i f ⌝ }
 {
     match relation {
         NumberRelation::Inside => number::inside(i, f),
@@ -40,9 +40,9 @@ fn number_stands(relation: NumberRelation, i: Decimal, f: Decimal) -> bool
 }
 
 // A card's text and a filter's number that was read.
-fn numbers_stand(relation: NumberRelation, text: &[u8], value: number::Reading) -> bool
+fn number_readings_relate(relation: NumberRelation, text: &[u8], value: number::Reading) -> bool
     requires { ⌜ Kept value ⌝ }
-    ensures { λ r. ⌜ r ≡ numbersStand relation (numbers.read (now (text .entry))) value ⌝ }
+    ensures { λ r. ⌜ r ≡ numberReadingsRelate relation (numbers.read (now (text .entry))) value ⌝ }
 {
     let number::Reading::Number(i) = number::read(text) else {
         return false;
@@ -50,11 +50,11 @@ fn numbers_stand(relation: NumberRelation, text: &[u8], value: number::Reading) 
     let number::Reading::Number(f) = value else {
         return false;
     };
-    number_stands(relation, i, f)
+    numbers_relate(relation, i, f)
 }
 
-fn date_stands(relation: DateRelation, i: Period, f: Date) -> bool
-    ensures { λ r. ⌜ r ≡ dateStands relation i f ⌝ }
+fn dates_relate(relation: DateRelation, i: Period, f: Date) -> bool
+    ensures { λ r. ⌜ r ≡ datesRelate relation i f ⌝ }
 {
     match relation {
         DateRelation::Inside => period::inside(i, f),
@@ -70,8 +70,8 @@ fn date_stands(relation: DateRelation, i: Period, f: Date) -> bool
 }
 
 // A card's text and a filter's date that was read.
-fn dates_stand(relation: DateRelation, text: &[u8], value: date::Reading) -> bool
-    ensures { λ r. ⌜ r ≡ datesStand relation (periods.readSpan (now (text .entry))) value ⌝ }
+fn date_readings_relate(relation: DateRelation, text: &[u8], value: date::Reading) -> bool
+    ensures { λ r. ⌜ r ≡ dateReadingsRelate relation (periods.readSpan (now (text .entry))) value ⌝ }
 {
     let period::Reading::Readable(i) = period::read_span(text) else {
         return false;
@@ -79,17 +79,17 @@ fn dates_stand(relation: DateRelation, text: &[u8], value: date::Reading) -> boo
     let date::Reading::Readable(f) = value else {
         return false;
     };
-    date_stands(relation, i, f)
+    dates_relate(relation, i, f)
 }
 
 // Whether the card's text stands in the relation to the filter's value.
-pub fn stands(relation: Relation, text: &[u8], value: &[u8]) -> bool
-    ensures { λ r. ⌜ r ≡ stands relation (now (text .entry)) (now (value .entry)) ⌝ }
+pub fn relates_to(relation: Relation, text: &[u8], value: &[u8]) -> bool
+    ensures { λ r. ⌜ r ≡ relatesTo relation (now (text .entry)) (now (value .entry)) ⌝ }
 {
     match relation {
-        Relation::Strings(r) => string_stands(r, text, value),
-        Relation::Numbers(r) => numbers_stand(r, text, number::read(value)),
-        Relation::Dates(r) => dates_stand(r, text, date::read(value)),
+        Relation::Strings(r) => strings_relate(r, text, value),
+        Relation::Numbers(r) => number_readings_relate(r, text, number::read(value)),
+        Relation::Dates(r) => date_readings_relate(r, text, date::read(value)),
         Relation::Tokens => token::matches(text, value),
         Relation::References => text::same(text, value),
     }
@@ -125,16 +125,16 @@ pub fn readings_of(relation: Relation, value: &[u8]) -> Readings
 }
 
 // `stands` with a value that was read already.
-pub fn stands_read(relation: Relation, text: &[u8], value: &[u8], readings: Readings) -> bool
+pub fn relates_read(relation: Relation, text: &[u8], value: &[u8], readings: Readings) -> bool
     requires { ⌜ Kept (readings .number) ⌝ }
-    ensures { λ r. ⌜ r ≡ standsRead relation (now (text .entry)) (now (value .entry)) readings ⌝ }
+    ensures { λ r. ⌜ r ≡ relatesRead relation (now (text .entry)) (now (value .entry)) readings ⌝ }
 {
     let number = readings.number;
     let date = readings.date;
     match relation {
-        Relation::Strings(r) => string_stands(r, text, value),
-        Relation::Numbers(r) => numbers_stand(r, text, number),
-        Relation::Dates(r) => dates_stand(r, text, date),
+        Relation::Strings(r) => strings_relate(r, text, value),
+        Relation::Numbers(r) => number_readings_relate(r, text, number),
+        Relation::Dates(r) => date_readings_relate(r, text, date),
         Relation::Tokens => token::matches(text, value),
         Relation::References => text::same(text, value),
     }

@@ -7,7 +7,7 @@ use mathlib.Core.Bool.{Bool, true, false}
 use mathlib.Core.List.{List}
 use lib.ListN.{length}
 use borrow.Author.Tests.{eq-eqb, ne-eqb, lt-ltb, le-ltb}
-use Rattle.block.specs.declared.Reading.{Reading}
+use Rattle.block.specs.declared.Validity.{Validity}
 use Rattle.sheet.specs.Sheet.{Parameter, parametersOf, readSheet}
 use Rattle.sheet.specs.Find.{kindsOf, parentsOf}
 use Rattle.sheet.proofs.RoundTrip.{sheet-well-formed}
@@ -44,7 +44,7 @@ module _ (ps : List Parameter) (xs cs card : List ℕ) (r : Matched) where
 
 -- ---- the rows
 
-module _ (b xs cs card : List ℕ) (ok : readSheet b ≡ Reading.WellFormed) (n : length xs ≡ 0 → ⊥) (l : length xs ≤ 1024) (kinds parents : List ℕ) (ek : kinds ≡ kindsOf (parametersOf b)) (ep : parents ≡ parentsOf (parametersOf b))
+module _ (b xs cs card : List ℕ) (ok : readSheet b ≡ Validity.WellFormed) (n : length xs ≡ 0 → ⊥) (l : length xs ≤ 1024) (kinds parents : List ℕ) (ek : kinds ≡ kindsOf (parametersOf b)) (ep : parents ≡ parentsOf (parametersOf b))
     (sound : Bool) (g : sound ≡ good kinds parents xs cs) where
   abbrev ps : List Parameter
   ps = parametersOf b
@@ -86,20 +86,20 @@ module _ (b xs cs card : List ℕ) (ok : readSheet b ≡ Reading.WellFormed) (n 
 
 -- ---- the sheet
 
-module _ (b xs cs card : List ℕ) (k : Reading) (e : k ≡ readSheet b) (r : Matched) where
-  judge-sheet : (j : Reading) (n : ℕ) → ((ps : List Parameter) → sheetStep j ps ≡ stop n 0) → k ≡ j → matchedAnswer r ≡ refused n 0 → matchedAnswer r ≡ judgeAnswer b xs cs card
+module _ (b xs cs card : List ℕ) (k : Validity) (e : k ≡ readSheet b) (r : Matched) where
+  judge-sheet : (j : Validity) (n : ℕ) → ((ps : List Parameter) → sheetStep j ps ≡ stop n 0) → k ≡ j → matchedAnswer r ≡ refused n 0 → matchedAnswer r ≡ judgeAnswer b xs cs card
   unfolding judgeAnswer takeSheet
   judge-sheet j n t i h = h ∙ rw (sym e ∙ i, t (parametersOf b))
 
-  pub judge-size : k ≡ Reading.WrongSize → matchedAnswer r ≡ refused (numberOf Reason.SheetSize) 0 → matchedAnswer r ≡ judgeAnswer b xs cs card
-  judge-size = judge-sheet Reading.WrongSize 1 (λ ps. refl)
+  pub judge-size : k ≡ Validity.WrongSize → matchedAnswer r ≡ refused (numberOf Reason.SheetSize) 0 → matchedAnswer r ≡ judgeAnswer b xs cs card
+  judge-size = judge-sheet Validity.WrongSize 1 (λ ps. refl)
 
-  pub judge-sum : k ≡ Reading.WrongSum → matchedAnswer r ≡ refused (numberOf Reason.SheetSum) 0 → matchedAnswer r ≡ judgeAnswer b xs cs card
-  judge-sum = judge-sheet Reading.WrongSum 2 (λ ps. refl)
+  pub judge-sum : k ≡ Validity.WrongSum → matchedAnswer r ≡ refused (numberOf Reason.SheetSum) 0 → matchedAnswer r ≡ judgeAnswer b xs cs card
+  judge-sum = judge-sheet Validity.WrongSum 2 (λ ps. refl)
 
-  pub judge-layout : k ≡ Reading.WrongLayout → matchedAnswer r ≡ refused (numberOf Reason.SheetLayout) 0 → matchedAnswer r ≡ judgeAnswer b xs cs card
-  judge-layout = judge-sheet Reading.WrongLayout 3 (λ ps. refl)
+  pub judge-layout : k ≡ Validity.WrongLayout → matchedAnswer r ≡ refused (numberOf Reason.SheetLayout) 0 → matchedAnswer r ≡ judgeAnswer b xs cs card
+  judge-layout = judge-sheet Validity.WrongLayout 3 (λ ps. refl)
 
-  pub judge-right : k ≡ Reading.WellFormed → matchedAnswer r ≡ rowsAnswer (parametersOf b) xs cs card → matchedAnswer r ≡ judgeAnswer b xs cs card
+  pub judge-right : k ≡ Validity.WellFormed → matchedAnswer r ≡ rowsAnswer (parametersOf b) xs cs card → matchedAnswer r ≡ judgeAnswer b xs cs card
   unfolding judgeAnswer takeSheet rowsAnswer
   judge-right i h = h ∙ sym (rw (sym e ∙ i))

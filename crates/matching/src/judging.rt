@@ -1,6 +1,6 @@
 // Judge: a card under a sheet and rows that are good for a filter's text.
 use answer::Matched;
-use block::Reading;
+use block::Validity;
 use one_card::answered;
 use one_card::judge_once;
 use refusal::Reason;
@@ -21,7 +21,7 @@ fn refuse(reason: Reason) -> Matched
 
 // The verdict of rows on a card, under a well-formed sheet.
 fn judge_rows(sheet: &[u8], filter: &[u8], rows: &[u32], card: &[u8]) -> Matched
-    requires { ⌜ readSheet (now sheet) ≡ Reading.WellFormed ⌝ }
+    requires { ⌜ readSheet (now sheet) ≡ Validity.WellFormed ⌝ }
     ensures { λ r. ⌜ matchedAnswer r ≡ rowsAnswer (parametersOf (now (sheet .entry))) (now (filter .entry)) (now (rows .entry)) (now (card .entry)) ⌝ }
 {
     if filter.len() == 0 {
@@ -45,9 +45,9 @@ pub fn judge(sheet: &[u8], filter: &[u8], rows: &[u32], card: &[u8]) -> Matched
 {
     let reading = sheet::read_sheet(sheet);
     match reading {
-        Reading::WellFormed => judge_rows(sheet, filter, rows, card),
-        Reading::WrongSize => refuse(Reason::SheetSize),
-        Reading::WrongSum => refuse(Reason::SheetSum),
-        Reading::WrongLayout => refuse(Reason::SheetLayout),
+        Validity::WellFormed => judge_rows(sheet, filter, rows, card),
+        Validity::WrongSize => refuse(Reason::SheetSize),
+        Validity::WrongSum => refuse(Reason::SheetSum),
+        Validity::WrongLayout => refuse(Reason::SheetLayout),
     }
 }

@@ -12,7 +12,7 @@ use mathlib.Core.List.{List}
 use lib.Dec.{eqb, leb}
 use lib.ListN.{length}
 use Rattle.base.specs.Runs.{RunEnd}
-use Rattle.block.specs.declared.Reading.{Reading}
+use Rattle.block.specs.declared.Validity.{Validity}
 use Rattle.sheet.specs.Sheet.{Parameter, parametersOf}
 use Rattle.sheet.specs.Find.{kindsOf}
 use Rattle.card.specs.Card.{Entry, entriesOf, readCard, recordNumber}
@@ -69,27 +69,27 @@ module _ (ps : List Parameter) (es : List Entry) (b xs : List ℕ) (p : Passing 
 
 -- ---- one card is taken
 
-module _ (kinds b : List ℕ) (r : Reading) (e : r ≡ readCard b) where
-  taken-refused : (k : Reading) (x : Reason) → ((fits : Bool) (c : Card) (i : ℕ) → cardStep k fits c i ≡ stop (numberOf x) i) → r ≡ k → TakesCard kinds b (CardTaken.Refused x)
+module _ (kinds b : List ℕ) (r : Validity) (e : r ≡ readCard b) where
+  taken-refused : (k : Validity) (x : Reason) → ((fits : Bool) (c : Card) (i : ℕ) → cardStep k fits c i ≡ stop (numberOf x) i) → r ≡ k → TakesCard kinds b (CardTaken.Refused x)
   taken-refused k x t h =
       record {
         well-formed = λ z. absurd (let y : _≡_ {A = ℕ} 0 1 = cc in omega arith);
         steps = λ ps l i. (unfold takeCard in rw (sym e ∙ h, t (conforms ps (entriesOf b)) (record { number = recordNumber b; entries = entriesOf b }) i));
       }
 
-  pub takes-size : r ≡ Reading.WrongSize → TakesCard kinds b (CardTaken.Refused Reason.CardSize)
-  takes-size = taken-refused Reading.WrongSize Reason.CardSize (λ fits c i. refl)
+  pub takes-size : r ≡ Validity.WrongSize → TakesCard kinds b (CardTaken.Refused Reason.CardSize)
+  takes-size = taken-refused Validity.WrongSize Reason.CardSize (λ fits c i. refl)
 
-  pub takes-sum : r ≡ Reading.WrongSum → TakesCard kinds b (CardTaken.Refused Reason.CardSum)
-  takes-sum = taken-refused Reading.WrongSum Reason.CardSum (λ fits c i. refl)
+  pub takes-sum : r ≡ Validity.WrongSum → TakesCard kinds b (CardTaken.Refused Reason.CardSum)
+  takes-sum = taken-refused Validity.WrongSum Reason.CardSum (λ fits c i. refl)
 
-  pub takes-layout : r ≡ Reading.WrongLayout → TakesCard kinds b (CardTaken.Refused Reason.CardLayout)
-  takes-layout = taken-refused Reading.WrongLayout Reason.CardLayout (λ fits c i. refl)
+  pub takes-layout : r ≡ Validity.WrongLayout → TakesCard kinds b (CardTaken.Refused Reason.CardLayout)
+  takes-layout = taken-refused Validity.WrongLayout Reason.CardLayout (λ fits c i. refl)
 
-  pub card-known : r ≡ Reading.WellFormed → readCard b ≡ Reading.WellFormed
+  pub card-known : r ≡ Validity.WellFormed → readCard b ≡ Validity.WellFormed
   card-known h = sym e ∙ h
 
-  module _ (o : Bool) (g : o ≡ conformsTo kinds (entriesOf b)) (h : r ≡ Reading.WellFormed) where
+  module _ (o : Bool) (g : o ≡ conformsTo kinds (entriesOf b)) (h : r ≡ Validity.WellFormed) where
     fits : (ps : List Parameter) → kinds ≡ kindsOf ps → conforms ps (entriesOf b) ≡ o
     fits ps l = sym (g ∙ ap (λ (k : List ℕ). conformsTo k (entriesOf b)) l ∙ table-conforms ps (entriesOf b))
 
@@ -110,7 +110,7 @@ module _ (kinds b : List ℕ) (r : Reading) (e : r ≡ readCard b) where
 -- ---- and judged
 
 module _ (kinds b : List ℕ) (t : CardTaken) (e : TakesCard kinds b t) where
-  pub conforming-known : t ≡ CardTaken.Conforming → readCard b ≡ Reading.WellFormed
+  pub conforming-known : t ≡ CardTaken.Conforming → readCard b ≡ Validity.WellFormed
   conforming-known h = e .well-formed h
 
   module _ (q : Question) (l : kinds ≡ kindsOf (q .parameters)) where

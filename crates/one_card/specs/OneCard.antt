@@ -4,7 +4,7 @@ use Prim.Native.Nat.{ℕ}
 use mathlib.Core.Path.{_≡_}
 use mathlib.Core.Bool.{Bool}
 use mathlib.Core.List.{List}
-use Rattle.block.specs.declared.Reading.{Reading}
+use Rattle.block.specs.declared.Validity.{Validity}
 use Rattle.sheet.specs.Sheet.{Parameter}
 use Rattle.sheet.specs.Find.{kindsOf}
 use Rattle.card.specs.Card.{recordNumber, entriesOf, readCard}
@@ -22,9 +22,9 @@ abbrev pub takenStep : CardTaken → List ℕ → ℕ → Step Card
 takenStep CardTaken.Conforming b i = found (record { number = recordNumber b; entries = entriesOf b })
 takenStep (CardTaken.Refused r) b i = stop (numberOf r) i
 
--- what taking a card owes, by the kinds of the sheet
+-- what taking a card does, by the kinds of the sheet
 pub record TakesCard (kinds card : List ℕ) (r : CardTaken) : Type 0 where
-  pub well-formed : r ≡ CardTaken.Conforming → readCard card ≡ Reading.WellFormed
+  pub well-formed : r ≡ CardTaken.Conforming → readCard card ≡ Validity.WellFormed
   pub steps : (ps : List Parameter) → kinds ≡ kindsOf ps → (i : ℕ) → takenStep r card i ≡ takeCard ps i card
 
 -- ---- and judged

@@ -2,7 +2,7 @@
 use crate::CardTaken;
 use crate::CardVerdict;
 use crate::take_card;
-use block::Reading;
+use block::Validity;
 use filter::Judged;
 use filter::Spot;
 use filter::judge_filter;
@@ -20,7 +20,7 @@ ghost use Rattle.one_card.specs.OneCard.{verdictStep};
 // What a filter that check has passed says of a well-formed card.
 fn text_says(sheet: &[u8], filter: &[u8], card: &[u8]) -> bool
     requires { ⌜ Passing (now sheet) (now filter) ⌝ }
-    requires { ⌜ readCard (now card) ≡ Reading.WellFormed ⌝ }
+    requires { ⌜ readCard (now card) ≡ Validity.WellFormed ⌝ }
     ensures { λ r. ⌜ r ≡ textSays (parametersOf (now (sheet .entry))) (entriesOf (now (card .entry))) (read (now (filter .entry))) ⌝ }
 {
     let start = skip(filter, 0);
@@ -30,7 +30,7 @@ fn text_says(sheet: &[u8], filter: &[u8], card: &[u8]) -> bool
     };
     let spot = Spot {
         at: start,
-        deep: 8,
+        levels: 8,
         close: b')',
         bundle: 0,
     };

@@ -3,7 +3,7 @@ mod by_rows;
 mod by_text;
 
 use answer::Matched;
-use block::Reading;
+use block::Validity;
 pub use by_rows::judge_by_rows;
 pub use by_rows::judge_once;
 pub use by_text::judge_by_text;
@@ -32,15 +32,15 @@ pub fn take_card(kinds: &[u8], card: &[u8]) -> CardTaken
 {
     let reading = card::read_card(card);
     match reading {
-        Reading::WellFormed => {
+        Validity::WellFormed => {
             if conforms(kinds, card) {
                 return CardTaken::Conforming;
             }
             CardTaken::Refused(Reason::CardMisfit)
         }
-        Reading::WrongSize => CardTaken::Refused(Reason::CardSize),
-        Reading::WrongSum => CardTaken::Refused(Reason::CardSum),
-        Reading::WrongLayout => CardTaken::Refused(Reason::CardLayout),
+        Validity::WrongSize => CardTaken::Refused(Reason::CardSize),
+        Validity::WrongSum => CardTaken::Refused(Reason::CardSum),
+        Validity::WrongLayout => CardTaken::Refused(Reason::CardLayout),
     }
 }
 

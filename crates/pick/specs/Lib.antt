@@ -1,3 +1,3 @@
--- What the parts of the program owe each other.
+-- What the parts of the program do each other.
 pub mod Bounds
 pub mod Runs

@@ -14,7 +14,7 @@ use lib.Seq.{length-take-le}
 use borrow.Author.Tests.{eq-eqb, ne-eqb, lt-ltb, le-ltb, le-leb, lt-leb}
 use Rattle.base.specs.Runs.{RunEnd}
 use Rattle.base.specs.Parts.{part}
-use Rattle.block.specs.declared.Reading.{Reading}
+use Rattle.block.specs.declared.Validity.{Validity}
 use Rattle.sheet.specs.Sheet.{Parameter, parametersOf, readSheet}
 use Rattle.syntax.specs.Tree.{Tree, testsOf}
 use Rattle.syntax.specs.Scan.{isSpace}
@@ -187,8 +187,8 @@ rows-filter : (ps : List Parameter) (xs : List ℕ) (t : Step Tree)
 rows-filter ps xs (found f) = rows-tests ps xs f (testsStep ps (testsOf f))
 rows-filter ps xs (stop n p) = refl
 
-module _ (b xs : List ℕ) (k : Reading) (e : k ≡ readSheet b) (r : Prepared) (buffer : List ℕ) where
-  fill-sheet : (c : Checked) (j : Reading) (n : ℕ) → ((ps : List Parameter) → sheetStep j ps ≡ stop n 0) → k ≡ j → checkedAnswer c ≡ refused n 0 → preparedAnswer r ≡ checkedAnswer c → Fills b xs r buffer
+module _ (b xs : List ℕ) (k : Validity) (e : k ≡ readSheet b) (r : Prepared) (buffer : List ℕ) where
+  fill-sheet : (c : Checked) (j : Validity) (n : ℕ) → ((ps : List Parameter) → sheetStep j ps ≡ stop n 0) → k ≡ j → checkedAnswer c ≡ refused n 0 → preparedAnswer r ≡ checkedAnswer c → Fills b xs r buffer
   unfolding takeInputs takeSheet
   fill-sheet c j n t i h g =
       record {
@@ -197,16 +197,16 @@ module _ (b xs : List ℕ) (k : Reading) (e : k ≡ readSheet b) (r : Prepared) 
       }
 
   module _ (c : Checked) where
-    pub fill-size : k ≡ Reading.WrongSize → checkedAnswer c ≡ refused (numberOf Reason.SheetSize) 0 → preparedAnswer r ≡ checkedAnswer c → Fills b xs r buffer
-    fill-size = fill-sheet c Reading.WrongSize 1 (λ ps. refl)
+    pub fill-size : k ≡ Validity.WrongSize → checkedAnswer c ≡ refused (numberOf Reason.SheetSize) 0 → preparedAnswer r ≡ checkedAnswer c → Fills b xs r buffer
+    fill-size = fill-sheet c Validity.WrongSize 1 (λ ps. refl)
 
-    pub fill-sum : k ≡ Reading.WrongSum → checkedAnswer c ≡ refused (numberOf Reason.SheetSum) 0 → preparedAnswer r ≡ checkedAnswer c → Fills b xs r buffer
-    fill-sum = fill-sheet c Reading.WrongSum 2 (λ ps. refl)
+    pub fill-sum : k ≡ Validity.WrongSum → checkedAnswer c ≡ refused (numberOf Reason.SheetSum) 0 → preparedAnswer r ≡ checkedAnswer c → Fills b xs r buffer
+    fill-sum = fill-sheet c Validity.WrongSum 2 (λ ps. refl)
 
-    pub fill-layout : k ≡ Reading.WrongLayout → checkedAnswer c ≡ refused (numberOf Reason.SheetLayout) 0 → preparedAnswer r ≡ checkedAnswer c → Fills b xs r buffer
-    fill-layout = fill-sheet c Reading.WrongLayout 3 (λ ps. refl)
+    pub fill-layout : k ≡ Validity.WrongLayout → checkedAnswer c ≡ refused (numberOf Reason.SheetLayout) 0 → preparedAnswer r ≡ checkedAnswer c → Fills b xs r buffer
+    fill-layout = fill-sheet c Validity.WrongLayout 3 (λ ps. refl)
 
-  pub fill-right : k ≡ Reading.WellFormed → FillsText (parametersOf b) xs r buffer → Fills b xs r buffer
+  pub fill-right : k ≡ Validity.WellFormed → FillsText (parametersOf b) xs r buffer → Fills b xs r buffer
   unfolding takeInputs takeSheet textRows
   fill-right i f = record { rows = f .rows ∙ sym (rw (sym e ∙ i) (rows-filter (parametersOf b) xs (takeFilter xs))); room = f .room }
 

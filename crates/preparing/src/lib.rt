@@ -2,7 +2,7 @@
 use answer::Checked;
 use answer::Prepared;
 use answer::write;
-use block::Reading;
+use block::Validity;
 use checking::no_filter;
 use checking::outcome;
 use checking::refuse;
@@ -31,7 +31,7 @@ fn hand_back(checked: Checked) -> Prepared
 
 // Writes the rows of a filter on a well-formed sheet into a buffer, which has a cell for each byte of the longest filter.
 fn fill_text(sheet: &[u8], filter: &[u8], buffer: &mut [u32]) -> Prepared
-    requires { ⌜ readSheet (now sheet) ≡ Reading.WellFormed ⌝ }
+    requires { ⌜ readSheet (now sheet) ≡ Validity.WellFormed ⌝ }
     requires { ⌜ length (now buffer) ≡ 1024 ⌝ }
     ensures { λ r. ⌜ FillsText (parametersOf (now (sheet .entry))) (now (filter .entry)) r (now (buffer .exit)) ⌝ }
 {
@@ -47,7 +47,7 @@ fn fill_text(sheet: &[u8], filter: &[u8], buffer: &mut [u32]) -> Prepared
         filter,
         Spot {
             at: start,
-            deep: 8,
+            levels: 8,
             close: b')',
             bundle: 0,
         },
@@ -81,10 +81,10 @@ pub fn fill(sheet: &[u8], filter: &[u8], buffer: &mut [u32]) -> Prepared
 {
     let reading = sheet::read_sheet(sheet);
     match reading {
-        Reading::WellFormed => fill_text(sheet, filter, buffer),
-        Reading::WrongSize => hand_back(refuse(Reason::SheetSize, 0)),
-        Reading::WrongSum => hand_back(refuse(Reason::SheetSum, 0)),
-        Reading::WrongLayout => hand_back(refuse(Reason::SheetLayout, 0)),
+        Validity::WellFormed => fill_text(sheet, filter, buffer),
+        Validity::WrongSize => hand_back(refuse(Reason::SheetSize, 0)),
+        Validity::WrongSum => hand_back(refuse(Reason::SheetSum, 0)),
+        Validity::WrongLayout => hand_back(refuse(Reason::SheetLayout, 0)),
     }
 }
 

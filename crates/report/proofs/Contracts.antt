@@ -1,4 +1,4 @@
--- What the report owes, from its plan and what its steps have made of the rows.
+-- What the report does, from its plan and what its steps have made of the rows.
 -- Assumes nothing.
 use Prim.Native.Nat.{ℕ, _<_}
 use mathlib.Core.Path.{_≡_, refl, _∙_}

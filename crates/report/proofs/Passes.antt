@@ -18,7 +18,7 @@ use Rattle.base.specs.Parts.{part}
 use Rattle.base.specs.Lists.{All, all-empty, all-cons}
 use Rattle.base.proofs.All.{all-head, all-right}
 use Rattle.base.proofs.Tests.{cond-elim}
-use Rattle.block.specs.declared.Reading.the-variants.{WellFormed}
+use Rattle.block.specs.declared.Validity.the-variants.{WellFormed}
 use Rattle.card.specs.Card.{Entry, entriesOf, readCard}
 use Rattle.judge.specs.Sets.{valuesAt}
 use Rattle.answer.specs.Operations.{blocks}

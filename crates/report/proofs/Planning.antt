@@ -14,7 +14,7 @@ use lib.ListN.{length, length-map}
 use borrow.Author.Tests.{le-leb, lt-leb}
 use Rattle.base.specs.Lists.{All}
 use Rattle.base.proofs.All.{bytes-of}
-use Rattle.block.specs.declared.Reading.the-variants.{WellFormed}
+use Rattle.block.specs.declared.Validity.the-variants.{WellFormed}
 use Rattle.block.proofs.Items.{items-length}
 use Rattle.sheet.specs.Sheet.{parameter, parameterCount, parametersOf, readSheet}
 use Rattle.sheet.proofs.Read.{sheet-count}

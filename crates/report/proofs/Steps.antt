@@ -7,7 +7,7 @@ use mathlib.Core.Path.{_≡_, refl, ap, sym, _∙_}
 use mathlib.Core.List.{List}
 use lib.ListN.{length, set, getD, length-set}
 use borrow.Author.Tests.{lt-ltb, le-ltb}
-use Rattle.block.specs.declared.Reading.the-variants.{WellFormed}
+use Rattle.block.specs.declared.Validity.the-variants.{WellFormed}
 use Rattle.card.specs.Card.{readCard}
 use Rattle.report.specs.Tallies.{tally}
 use Rattle.report.specs.Steps.{raise, stepIndex, stepCard, stepTally, stepped, ValuesOf, Small, Raisable}

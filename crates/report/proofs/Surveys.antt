@@ -14,7 +14,7 @@ use lib.ListN.{length, length-map}
 use borrow.Author.Tests.{le-leb}
 use Rattle.base.specs.Lists.{All}
 use Rattle.base.proofs.All.{all-map}
-use Rattle.block.specs.declared.Reading.the-variants.{WellFormed}
+use Rattle.block.specs.declared.Validity.the-variants.{WellFormed}
 use Rattle.sheet.specs.Sheet.{parametersOf, readSheet}
 use Rattle.card.specs.Card.{readCard}
 use Rattle.syntax.specs.Tree.{testsOf}

@@ -11,7 +11,7 @@ use borrow.Author.Tests.{eq-eqb, ne-eqb}
 use Rattle.base.specs.Parts.{part}
 use Rattle.base.proofs.Tests.{cond-elim}
 use Rattle.block.specs.Items.{items, Step, Walk}
-use Rattle.block.specs.declared.Reading.the-variants.{WellFormed}
+use Rattle.block.specs.declared.Validity.the-variants.{WellFormed}
 use Rattle.block.proofs.Items.{items-length, layout-count}
 use Rattle.card.specs.Card.{Entry, entry, entryCount, entriesOf, readCard}
 use Rattle.card.proofs.Entries.{entries-walk}

@@ -1,4 +1,4 @@
--- What the code of the report owes on every input: the answer of its definition, refused where a line of the table decides, and every row.
+-- What the code of the report does on every input: the answer of its definition, refused where a line of the table decides, and every row.
 -- Assumes nothing.
 use Prim.Native.Nat.{ℕ, _<_}
 use mathlib.Core.Path.{_≡_}

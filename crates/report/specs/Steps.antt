@@ -8,7 +8,7 @@ use mathlib.Core.List.{List}
 use lib.Dec.{ltb, eqb}
 use lib.ListN.{length, set, getD}
 use Rattle.base.specs.Parts.{part}
-use Rattle.block.specs.declared.Reading.{Reading}
+use Rattle.block.specs.declared.Validity.{Validity}
 use Rattle.card.specs.Card.{entriesOf, readCard}
 use Rattle.judge.specs.Sets.{valuesAt}
 use Rattle.report.specs.Tallies.{tally}
@@ -54,7 +54,7 @@ pub record Raisable (cards : List ℕ) (n j : ℕ) (r : Tally) : Type 0 where
   pub some : 0 < n
   pub short : length cards ≤ 65536
   pub inside : n ≤ j → 512 * (j / n) ≤ length cards
-  pub well-formed : n ≤ j → readCard (stepCard cards n j) ≡ Reading.WellFormed
+  pub well-formed : n ≤ j → readCard (stepCard cards n j) ≡ Validity.WellFormed
   pub few-cards : n ≤ j → r .cards < 128
   pub few-values : n ≤ j → r .values ≤ 8192
 

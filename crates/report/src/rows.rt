@@ -1,6 +1,6 @@
 // The rows are raised in steps, one row at each: the first pass over them clears them, and then there is one pass for each card.
 use crate::Tally;
-use block::Reading;
+use block::Validity;
 ghost use mathlib.Core.Path.{_≡_};
 ghost use Prim.Native.Nat.{ℕ, _<_, _≤_, _%_};
 ghost use Rattle.card.specs.Card.{readCard};
@@ -19,7 +19,7 @@ fn count_value(values: u32, same: bool) -> u32
 
 // How many values a well-formed card has under a parameter.
 fn values_of(card: &[u8], index: usize) -> u32
-    requires { ⌜ readCard (now card) ≡ Reading.WellFormed ⌝ }
+    requires { ⌜ readCard (now card) ≡ Validity.WellFormed ⌝ }
     ensures { λ r. ⌜ ValuesOf (now (card .entry)) index r ⌝ }
 {
     let mut at = card::FIRST_ENTRY;

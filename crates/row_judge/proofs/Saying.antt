@@ -29,7 +29,7 @@ use Rattle.syntax.specs.declared.FoundValue.{FoundValue}
 use Rattle.syntax.proofs.Places.{value-at-placed}
 use Rattle.kind.specs.Table.{meaningOf}
 use Rattle.kind.specs.Readable.{isTrue}
-use Rattle.kind.specs.Stands.{Kept}
+use Rattle.kind.specs.Relations.{Kept}
 use Rattle.kind.specs.declared.Readings.{Readings}
 use Rattle.kind.specs.declared.Meaning.{Meaning}
 use Rattle.judge.specs.Sets.{valuesAt, counts, chosenOf, ofOccurrence, keep}

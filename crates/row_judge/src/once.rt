@@ -1,7 +1,7 @@
 // Rows that are opened for one card alone.
 use crate::jump::note_jumps;
 use crate::says::rows_say;
-use block::Reading;
+use block::Validity;
 use judge::Chosen;
 use row_opener::open_rows;
 ghost use mathlib.Core.Path.{_≡_};
@@ -17,7 +17,7 @@ pub fn say_once(kinds: &[u8], filter: &[u8], rows: &[u32], card: &[u8], chosen: 
     requires { ⌜ length (now filter) ≤ 1024 ⌝ }
     requires { ⌜ Whole (now rows) ⌝ }
     requires { ⌜ length (now rows) ≤ 320 ⌝ }
-    requires { ⌜ readCard (now card) ≡ Reading.WellFormed ⌝ }
+    requires { ⌜ readCard (now card) ≡ Validity.WellFormed ⌝ }
     ensures { λ r. ⌜ r ≡ rowsSay (now (kinds .entry)) (now (filter .entry)) (chosenOf chosen (entriesOf (now (card .entry)))) (now (rows .entry)) ⌝ }
 {
     let mut jumps = [0u32; 320];

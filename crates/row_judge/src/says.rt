@@ -1,6 +1,6 @@
 // What rows that were opened say of a card: each row changes a stack of verdicts, and the rows of an item whose join is decided are left
 // out. The rows in a test's brackets are judged for each occurrence by itself.
-use block::Reading;
+use block::Validity;
 use judge::Chosen;
 use judge::counts_read;
 use judge::is_under;
@@ -22,7 +22,7 @@ ghost use lib.ListN.{length, getD};
 ghost use lib.IntN.{pos};
 ghost use Rattle.card.specs.Card.{entriesOf, readCard};
 ghost use Rattle.syntax.specs.Scan.{decode as decoded};
-ghost use Rattle.kind.specs.Stands.{Kept};
+ghost use Rattle.kind.specs.Relations.{Kept};
 ghost use Rattle.judge.specs.Once.{countsRead};
 ghost use Rattle.judge.specs.Sets.{chosenOf};
 ghost use Rattle.judge.specs.Verdicts.{textCounts, joined};
@@ -100,7 +100,7 @@ fn entry_chosen(
     requires { ⌜ Bracketed (now rows) from to ⌝ }
     requires { ⌜ Jumps (now rows) (now jumps) ⌝ }
     requires { ⌜ Opens (now kinds) (now filter) (now rows) (now spans) (now digits) (now starts) (now ends) (length (now rows)) ⌝ }
-    requires { ⌜ readCard (now card) ≡ Reading.WellFormed ⌝ }
+    requires { ⌜ readCard (now card) ≡ Validity.WellFormed ⌝ }
     ensures { λ r. ⌜ r ≡ (counts && occurrenceSays (now (kinds .entry)) (now (filter .entry)) (entriesOf (now (card .entry))) (part (now (rows .entry)) from to) occurrence) ⌝ }
 {
     if counts {
@@ -134,7 +134,7 @@ fn some_counts(
     opened: Opened,
 ) -> bool
     requires { ⌜ length (now filter) ≤ 1024 ⌝ }
-    requires { ⌜ readCard (now card) ≡ Reading.WellFormed ⌝ }
+    requires { ⌜ readCard (now card) ≡ Validity.WellFormed ⌝ }
     requires { ⌜ Known (now filter) meaning opened ⌝ }
     ensures { λ r. ⌜ r ≡ someEntry anyOccurrence chosen index meaning (valueOf (now (filter .entry)) opened) (entriesOf (now (card .entry))) ⌝ }
 {
@@ -169,7 +169,7 @@ fn plain_says(
 ) -> bool
     requires { ⌜ length (now kinds) ≡ 32 ⌝ }
     requires { ⌜ length (now filter) ≤ 1024 ⌝ }
-    requires { ⌜ readCard (now card) ≡ Reading.WellFormed ⌝ }
+    requires { ⌜ readCard (now card) ≡ Validity.WellFormed ⌝ }
     requires { ⌜ probe .index < 32 ⌝ }
     requires { ⌜ opened ≡ openedFor (now kinds) (now filter) probe ⌝ }
     ensures { λ r. ⌜ r ≡ probeSaysEach (now (kinds .entry)) (now (filter .entry)) [] probe chosen (entriesOf (now (card .entry))) ⌝ }
@@ -206,7 +206,7 @@ fn some_entry(
     requires { ⌜ Bracketed (now rows) from to ⌝ }
     requires { ⌜ Jumps (now rows) (now jumps) ⌝ }
     requires { ⌜ Opens (now kinds) (now filter) (now rows) (now spans) (now digits) (now starts) (now ends) (length (now rows)) ⌝ }
-    requires { ⌜ readCard (now card) ≡ Reading.WellFormed ⌝ }
+    requires { ⌜ readCard (now card) ≡ Validity.WellFormed ⌝ }
     requires { ⌜ Known (now filter) meaning opened ⌝ }
     ensures { λ r. ⌜ r ≡ someEntry (occurrenceSays (now (kinds .entry)) (now (filter .entry)) (entriesOf (now (card .entry))) (part (now (rows .entry)) from to)) chosen index meaning (valueOf (now (filter .entry)) opened) (entriesOf (now (card .entry))) ⌝ }
 {
@@ -263,7 +263,7 @@ fn probe_says(
     requires { ⌜ Bracketed (now rows) from to ⌝ }
     requires { ⌜ Jumps (now rows) (now jumps) ⌝ }
     requires { ⌜ Opens (now kinds) (now filter) (now rows) (now spans) (now digits) (now starts) (now ends) (length (now rows)) ⌝ }
-    requires { ⌜ readCard (now card) ≡ Reading.WellFormed ⌝ }
+    requires { ⌜ readCard (now card) ≡ Validity.WellFormed ⌝ }
     requires { ⌜ probe .index < 32 ⌝ }
     requires { ⌜ opened ≡ openedFor (now kinds) (now filter) probe ⌝ }
     ensures { λ r. ⌜ r ≡ probeSaysEach (now (kinds .entry)) (now (filter .entry)) (part (now (rows .entry)) from to) probe chosen (entriesOf (now (card .entry))) ⌝ }
@@ -356,7 +356,7 @@ pub fn rows_say(
     requires { ⌜ Whole (now rows) ⌝ }
     requires { ⌜ Jumps (now rows) (now jumps) ⌝ }
     requires { ⌜ Opens (now kinds) (now filter) (now rows) (now spans) (now digits) (now starts) (now ends) (length (now rows)) ⌝ }
-    requires { ⌜ readCard (now card) ≡ Reading.WellFormed ⌝ }
+    requires { ⌜ readCard (now card) ≡ Validity.WellFormed ⌝ }
     ensures { λ r. ⌜ r ≡ rowsSay (now (kinds .entry)) (now (filter .entry)) (chosenOf chosen (entriesOf (now (card .entry)))) (now (rows .entry)) ⌝ }
 {
     let mut says = [false; 32];

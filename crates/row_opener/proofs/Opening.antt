@@ -27,7 +27,7 @@ use Rattle.syntax.specs.declared.FoundValue.{FoundValue}
 use Rattle.syntax.proofs.Places.{value-at-placed}
 use Rattle.kind.specs.Table.{meaningOf}
 use Rattle.kind.specs.Readable.{isTrue}
-use Rattle.kind.specs.Stands.{unread, readingsOf}
+use Rattle.kind.specs.Relations.{unread, readingsOf}
 use Rattle.kind.specs.declared.Readings.{Readings}
 use Rattle.kind.specs.declared.Relation.{Relation}
 use Rattle.kind.specs.declared.Meaning.{Meaning}

@@ -15,7 +15,7 @@ use Rattle.syntax.specs.declared.RawValue.{RawValue}
 use Rattle.syntax.specs.declared.FoundValue.{FoundValue}
 use Rattle.kind.specs.Table.{meaningOf}
 use Rattle.kind.specs.Readable.{isTrue}
-use Rattle.kind.specs.Stands.{unread}
+use Rattle.kind.specs.Relations.{unread}
 use Rattle.kind.specs.declared.Meaning.{Meaning}
 use Rattle.judge.specs.Once.{readingsFor}
 use Rattle.rows.specs.Cells.{rowOf}

@@ -2,7 +2,7 @@
 // each other, and the text left and the nesting left fall.
 use crate::Outcome;
 use crate::Written;
-use block::Reading;
+use block::Validity;
 use filter::Spot;
 use filter::Summary;
 use filter::join_summaries;
@@ -56,7 +56,7 @@ fn value_place(filter: &[u8], test: RawTest) -> u32
 
 // The number of a test of the filter, looked up in a bundle.
 fn test_number(sheet: &[u8], bundle: u8, filter: &[u8], test: RawTest) -> u32
-    requires { ⌜ readSheet (now sheet) ≡ Reading.WellFormed ⌝ }
+    requires { ⌜ readSheet (now sheet) ≡ Validity.WellFormed ⌝ }
     requires { ⌜ length (now filter) ≤ 1024 ⌝ }
     requires { ⌜ Placed (now filter) test ⌝ }
     requires { ⌜ Read (now filter) test ⌝ }
@@ -71,15 +71,15 @@ fn test_number(sheet: &[u8], bundle: u8, filter: &[u8], test: RawTest) -> u32
 // The item at a spot: "a test, a filter in round brackets, or not followed by a filter in round brackets", or the test of a member
 // after its bundle's brackets. Its cells are written from a row on.
 fn write_item(sheet: &[u8], filter: &[u8], spot: Spot, rows: &mut [u32], row: usize) -> Written
-    requires { ⌜ readSheet (now sheet) ≡ Reading.WellFormed ⌝ }
+    requires { ⌜ readSheet (now sheet) ≡ Validity.WellFormed ⌝ }
     requires { ⌜ length (now filter) ≤ 1024 ⌝ }
     requires { ⌜ spot .at ≤ length (now filter) ⌝ }
     requires { ⌜ length (now rows) ≡ 1024 ⌝ }
     requires { ⌜ row ≤ spot .at ⌝ }
-    ensures { λ r. ⌜ Wrote (parametersOf (now (sheet .entry))) (spot .bundle) (now (filter .entry)) row (itemAt (spot .deep) (now (filter .entry)) (spot .close) (spot .at)) r (now (rows .entry)) (now (rows .exit)) ⌝ }
+    ensures { λ r. ⌜ Wrote (parametersOf (now (sheet .entry))) (spot .bundle) (now (filter .entry)) row (itemAt (spot .levels) (now (filter .entry)) (spot .close) (spot .at)) r (now (rows .entry)) (now (rows .exit)) ⌝ }
 {
     let at = spot.at;
-    let deep = spot.deep;
+    let levels = spot.levels;
     let close = spot.close;
     let bundle = spot.bundle;
     let head = read_head(filter, close, at);
@@ -91,7 +91,7 @@ fn write_item(sheet: &[u8], filter: &[u8], spot: Spot, rows: &mut [u32], row: us
             Written::Done(value.next, Outcome { summary, cells: 1 })
         }
         Head::Open(next, negate) => {
-            if deep == 0 {
+            if levels == 0 {
                 return Written::Nothing;
             }
             let inner = write_filter(
@@ -99,7 +99,7 @@ fn write_item(sheet: &[u8], filter: &[u8], spot: Spot, rows: &mut [u32], row: us
                 filter,
                 Spot {
                     at: next,
-                    deep: deep - 1,
+                    levels: levels - 1,
                     close: b')',
                     bundle,
                 },
@@ -132,7 +132,7 @@ fn write_item(sheet: &[u8], filter: &[u8], spot: Spot, rows: &mut [u32], row: us
             }
         }
         Head::Choice(until) => {
-            if deep == 0 {
+            if levels == 0 {
                 return Written::Nothing;
             }
             let inside = sheet::enter(sheet, bundle, &filter[at..until]);
@@ -142,7 +142,7 @@ fn write_item(sheet: &[u8], filter: &[u8], spot: Spot, rows: &mut [u32], row: us
                 filter,
                 Spot {
                     at: next,
-                    deep: deep - 1,
+                    levels: levels - 1,
                     close: b']',
                     bundle: inside,
                 },
@@ -195,15 +195,15 @@ pub fn write_filter(
     rows: &mut [u32],
     row: usize,
 ) -> Written
-    requires { ⌜ readSheet (now sheet) ≡ Reading.WellFormed ⌝ }
+    requires { ⌜ readSheet (now sheet) ≡ Validity.WellFormed ⌝ }
     requires { ⌜ length (now filter) ≤ 1024 ⌝ }
     requires { ⌜ spot .at ≤ length (now filter) ⌝ }
     requires { ⌜ length (now rows) ≡ 1024 ⌝ }
     requires { ⌜ row ≤ spot .at ⌝ }
-    ensures { λ r. ⌜ Wrote (parametersOf (now (sheet .entry))) (spot .bundle) (now (filter .entry)) row (filterAt (spot .deep) (now (filter .entry)) (spot .close) (spot .at)) r (now (rows .entry)) (now (rows .exit)) ⌝ }
+    ensures { λ r. ⌜ Wrote (parametersOf (now (sheet .entry))) (spot .bundle) (now (filter .entry)) row (filterAt (spot .levels) (now (filter .entry)) (spot .close) (spot .at)) r (now (rows .entry)) (now (rows .exit)) ⌝ }
 {
     let at = spot.at;
-    let deep = spot.deep;
+    let levels = spot.levels;
     let close = spot.close;
     let bundle = spot.bundle;
     let first = write_item(
@@ -211,7 +211,7 @@ pub fn write_filter(
         filter,
         Spot {
             at,
-            deep,
+            levels,
             close,
             bundle,
         },
@@ -233,7 +233,7 @@ pub fn write_filter(
                     filter,
                     Spot {
                         at: next,
-                        deep,
+                        levels,
                         close,
                         bundle,
                     },

@@ -4,7 +4,7 @@ use crate::Rows;
 use crate::asked::asked_of;
 use base::kind::BUNDLE;
 use base::kind::TOKEN;
-use block::Reading;
+use block::Validity;
 use refusal::Decision;
 use refusal::Reason;
 use refusal::refuse;
@@ -47,7 +47,7 @@ fn parameter_fault(kind: u8, split: usize, text: &[u8], place: usize) -> Decisio
 
 // The same under a name, on a well-formed sheet.
 fn fault_at(sheet: &[u8], name: &[u8], split: usize, text: &[u8], place: usize) -> Decision
-    requires { ⌜ readSheet (now sheet) ≡ Reading.WellFormed ⌝ }
+    requires { ⌜ readSheet (now sheet) ≡ Validity.WellFormed ⌝ }
     ensures { λ r. ⌜ r ≡ faultAt (find 0 (now (name .entry)) (parametersOf (now (sheet .entry)))) split (now (text .entry)) place ⌝ }
 {
     match sheet::find(sheet, 0, name) {
@@ -58,7 +58,7 @@ fn fault_at(sheet: &[u8], name: &[u8], split: usize, text: &[u8], place: usize) 
 
 // What is decided of the alternative that a row keeps.
 fn row_fault(sheet: &[u8], bytes: &[u8], row: Row) -> Decision
-    requires { ⌜ readSheet (now sheet) ≡ Reading.WellFormed ⌝ }
+    requires { ⌜ readSheet (now sheet) ≡ Validity.WellFormed ⌝ }
     requires { ⌜ RowWithin (length (now bytes)) row ⌝ }
     ensures { λ r. ⌜ r ≡ alternativeFault (parametersOf (now (sheet .entry))) (alternativeIn (now (bytes .entry)) row) ⌝ }
 {
@@ -77,7 +77,7 @@ fn row_fault(sheet: &[u8], bytes: &[u8], row: Row) -> Decision
 
 // What the first alternative of a query that is refused comes to: the first byte of its pair is its place.
 pub fn first_fault(sheet: &[u8], bytes: &[u8], rows: Rows) -> Decision
-    requires { ⌜ readSheet (now sheet) ≡ Reading.WellFormed ⌝ }
+    requires { ⌜ readSheet (now sheet) ≡ Validity.WellFormed ⌝ }
     requires { ⌜ RowsWithin (length (now bytes)) rows ⌝ }
     ensures { λ r. ⌜ r ≡ firstAlternativeFault (parametersOf (now (sheet .entry))) (alternativesIn (now (bytes .entry)) rows) ⌝ }
 {

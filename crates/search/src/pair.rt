@@ -12,7 +12,7 @@ pub fn read_pair(pair: &[u8], name: &mut [u8], value: &mut [u8]) -> PairRead
     requires { ⌜ length (now pair) ≤ length (now value) ⌝ }
     ensures { λ r. ⌜ PairOf (now (pair .entry)) (now (name .exit)) (now (value .exit)) r ⌝ }
 {
-    let cut = base::place_of(pair, 0, b'=');
+    let cut = base::first_from(pair, 0, b'=');
     if cut >= pair.len() {
         return PairRead::Bad;
     }

@@ -96,7 +96,7 @@ pub fn read_query(text: &[u8], bytes: &mut [u8]) -> QueryRead
     let mut more = true;
     let mut value = [0u8; 1024];
     while more {
-        let end = base::place_of(text, at, b'&');
+        let end = base::first_from(text, at, b'&');
         let read = read_pair(&text[at..end], &mut bytes[used..], &mut value);
         let PairRead::Lengths(name_len, value_len) = read else {
             return QueryRead {

@@ -3,7 +3,7 @@ use crate::Row;
 use crate::Rows;
 use crate::asked::asked_of;
 use base::kind::TOKEN;
-use block::Reading;
+use block::Validity;
 use judge::Chosen;
 use sheet::Found;
 ghost use mathlib.Core.Path.{_≡_};
@@ -30,7 +30,7 @@ fn entry_asked(under: bool, split: usize, asked: &[u8], text: &[u8]) -> bool
 
 // Whether some text under a parameter is a token that is asked for.
 fn some_token(card: &[u8], index: u8, split: usize, asked: &[u8]) -> bool
-    requires { ⌜ readCard (now card) ≡ Reading.WellFormed ⌝ }
+    requires { ⌜ readCard (now card) ≡ Validity.WellFormed ⌝ }
     ensures { λ r. ⌜ r ≡ someValue (λ x. matchesAt x split (now (asked .entry))) (valuesAt index (entriesOf (now (card .entry)))) ⌝ }
 {
     let mut at = card::FIRST_ENTRY;
@@ -50,7 +50,7 @@ fn some_token(card: &[u8], index: u8, split: usize, asked: &[u8]) -> bool
 
 // What a text says of the texts under a parameter of a kind.
 fn text_says(card: &[u8], index: u8, kind: u8, split: usize, text: &[u8]) -> bool
-    requires { ⌜ readCard (now card) ≡ Reading.WellFormed ⌝ }
+    requires { ⌜ readCard (now card) ≡ Validity.WellFormed ⌝ }
     ensures { λ r. ⌜ r ≡ textSays kind split (now (text .entry)) (valuesAt index (entriesOf (now (card .entry)))) ⌝ }
 {
     if kind == TOKEN {
@@ -73,8 +73,8 @@ fn text_says(card: &[u8], index: u8, kind: u8, split: usize, text: &[u8]) -> boo
 
 // What a text under a name says of a well-formed card.
 fn says_at(sheet: &[u8], card: &[u8], name: &[u8], split: usize, text: &[u8]) -> bool
-    requires { ⌜ readSheet (now sheet) ≡ Reading.WellFormed ⌝ }
-    requires { ⌜ readCard (now card) ≡ Reading.WellFormed ⌝ }
+    requires { ⌜ readSheet (now sheet) ≡ Validity.WellFormed ⌝ }
+    requires { ⌜ readCard (now card) ≡ Validity.WellFormed ⌝ }
     ensures { λ r. ⌜ r ≡ saysAt (find 0 (now (name .entry)) (parametersOf (now (sheet .entry)))) split (now (text .entry)) (entriesOf (now (card .entry))) ⌝ }
 {
     match sheet::find(sheet, 0, name) {
@@ -85,8 +85,8 @@ fn says_at(sheet: &[u8], card: &[u8], name: &[u8], split: usize, text: &[u8]) ->
 
 // What the alternative that a row keeps says, or true where its pair is met already.
 fn row_says(met: bool, sheet: &[u8], card: &[u8], bytes: &[u8], row: Row) -> bool
-    requires { ⌜ readSheet (now sheet) ≡ Reading.WellFormed ⌝ }
-    requires { ⌜ readCard (now card) ≡ Reading.WellFormed ⌝ }
+    requires { ⌜ readSheet (now sheet) ≡ Validity.WellFormed ⌝ }
+    requires { ⌜ readCard (now card) ≡ Validity.WellFormed ⌝ }
     requires { ⌜ RowWithin (length (now bytes)) row ⌝ }
     ensures { λ r. ⌜ r ≡ (met || alternativeSays (parametersOf (now (sheet .entry))) (entriesOf (now (card .entry))) (alternativeIn (now (bytes .entry)) row)) ⌝ }
 {
@@ -128,8 +128,8 @@ fn carried(last: bool, said: bool) -> bool
 
 // What the query that rows keep says of a well-formed card.
 pub fn rows_say(sheet: &[u8], card: &[u8], bytes: &[u8], rows: Rows) -> bool
-    requires { ⌜ readSheet (now sheet) ≡ Reading.WellFormed ⌝ }
-    requires { ⌜ readCard (now card) ≡ Reading.WellFormed ⌝ }
+    requires { ⌜ readSheet (now sheet) ≡ Validity.WellFormed ⌝ }
+    requires { ⌜ readCard (now card) ≡ Validity.WellFormed ⌝ }
     requires { ⌜ RowsWithin (length (now bytes)) rows ⌝ }
     ensures { λ r. ⌜ r ≡ rowsSay (alternativeSays (parametersOf (now (sheet .entry))) (entriesOf (now (card .entry)))) (now (bytes .entry)) rows ⌝ }
 {

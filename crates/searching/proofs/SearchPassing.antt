@@ -9,7 +9,7 @@ use mathlib.Core.Path.{_≡_, refl, ap, sym, _∙_, fun-ext}
 use mathlib.Core.Bool.{Bool}
 use mathlib.Core.List.{List}
 use lib.ListN.{length}
-use Rattle.block.specs.declared.Reading.{Reading}
+use Rattle.block.specs.declared.Validity.{Validity}
 use Rattle.sheet.specs.Sheet.{Parameter, parametersOf, readSheet}
 use Rattle.card.specs.Card.{Entry}
 use Rattle.refusal.specs.declared.Decision.{Decision}
@@ -35,7 +35,7 @@ use Rattle.one_card.proofs.Judging.{match-answered}
 use Rattle.one_card.specs.OneCard.{verdictStep, verdictAnswer}
 use Rattle.one_card.specs.declared.CardVerdict.{CardVerdict}
 
-pub sheet-known : (sheet : List ℕ) (r : Reading) → r ≡ readSheet sheet → r ≡ Reading.WellFormed → readSheet sheet ≡ Reading.WellFormed
+pub sheet-known : (sheet : List ℕ) (r : Validity) → r ≡ readSheet sheet → r ≡ Validity.WellFormed → readSheet sheet ≡ Validity.WellFormed
 sheet-known sheet r e h = sym e ∙ h
 
 -- ---- a string that is refused: no count, so that nothing is asked of the rows
@@ -51,22 +51,22 @@ module _ (sheet text bytes : List ℕ) (c : Checked) (rows : Rows) where
       record { answers = answered; passes = λ n t. absurd (no-tests c n k p h t) }
 
   -- the sheet is refused
-  sheet-refuses : (r k : Reading) (n : ℕ) → ((ps : List Parameter) → sheetStep k ps ≡ stop n 0) → r ≡ readSheet sheet → r ≡ k → checkedAnswer c ≡ refused n 0
+  sheet-refuses : (r k : Validity) (n : ℕ) → ((ps : List Parameter) → sheetStep k ps ≡ stop n 0) → r ≡ readSheet sheet → r ≡ k → checkedAnswer c ≡ refused n 0
       → ReadsRows sheet text bytes (record { checked = c; rows = rows })
   sheet-refuses r k n t e i h = refuses n 0 (unfold takeQueryInputs takeSheet in rw (sym e ∙ i, t (parametersOf sheet))) h
 
-  module _ (r : Reading) (e : r ≡ readSheet sheet) where
-    pub sheet-size : r ≡ Reading.WrongSize → checkedAnswer c ≡ refused 1 0 → ReadsRows sheet text bytes (record { checked = c; rows = rows })
-    sheet-size = sheet-refuses r Reading.WrongSize 1 (λ ps. refl) e
+  module _ (r : Validity) (e : r ≡ readSheet sheet) where
+    pub sheet-size : r ≡ Validity.WrongSize → checkedAnswer c ≡ refused 1 0 → ReadsRows sheet text bytes (record { checked = c; rows = rows })
+    sheet-size = sheet-refuses r Validity.WrongSize 1 (λ ps. refl) e
 
-    pub sheet-sum : r ≡ Reading.WrongSum → checkedAnswer c ≡ refused 2 0 → ReadsRows sheet text bytes (record { checked = c; rows = rows })
-    sheet-sum = sheet-refuses r Reading.WrongSum 2 (λ ps. refl) e
+    pub sheet-sum : r ≡ Validity.WrongSum → checkedAnswer c ≡ refused 2 0 → ReadsRows sheet text bytes (record { checked = c; rows = rows })
+    sheet-sum = sheet-refuses r Validity.WrongSum 2 (λ ps. refl) e
 
-    pub sheet-layout : r ≡ Reading.WrongLayout → checkedAnswer c ≡ refused 3 0 → ReadsRows sheet text bytes (record { checked = c; rows = rows })
-    sheet-layout = sheet-refuses r Reading.WrongLayout 3 (λ ps. refl) e
+    pub sheet-layout : r ≡ Validity.WrongLayout → checkedAnswer c ≡ refused 3 0 → ReadsRows sheet text bytes (record { checked = c; rows = rows })
+    sheet-layout = sheet-refuses r Validity.WrongLayout 3 (λ ps. refl) e
 
 -- the string is refused as its taking is
-pub text-refuses : (sheet text bytes : List ℕ) (rows : Rows) → readSheet sheet ≡ Reading.WellFormed → (r : QueryRead) (x : Refusal) → TakenOf text bytes r → r .decision ≡ Decision.Refused x
+pub text-refuses : (sheet text bytes : List ℕ) (rows : Rows) → readSheet sheet ≡ Validity.WellFormed → (r : QueryRead) (x : Refusal) → TakenOf text bytes r → r .decision ≡ Decision.Refused x
     → ReadsRows sheet text bytes (record { checked = Checked.Refused x; rows = rows })
 unfolding takeQueryInputs takeSheet checkedAnswer refusalAnswer
 text-refuses sheet text bytes rows w r x t o = refuses sheet text bytes (Checked.Refused x) rows (numberOf (x .reason)) (x .place) (rw (w, taken-refused x t o)) refl
@@ -76,7 +76,7 @@ text-refuses sheet text bytes rows w r x t o = refuses sheet text bytes (Checked
 pub taken-within : (text bytes : List ℕ) (r : QueryRead) → TakenOf text bytes r → r .decision ≡ Decision.Passed → RowsWithin (length bytes) (r .rows)
 taken-within text bytes r t o = taken-rows t o .1 .within
 
-module _ (sheet text bytes : List ℕ) (w : readSheet sheet ≡ Reading.WellFormed) (rows : Rows) (q : Query) (of : RowsOf text bytes rows q) where
+module _ (sheet text bytes : List ℕ) (w : readSheet sheet ≡ Validity.WellFormed) (rows : Rows) (q : Query) (of : RowsOf text bytes rows q) where
   abbrev ps : List Parameter
   ps = parametersOf sheet
 
@@ -129,7 +129,7 @@ module _ (sheet text bytes : List ℕ) (w : readSheet sheet ≡ Reading.WellForm
         asked = question-by inputs-taken ∙ ap (λ (f : List Entry → Bool). found (record { parameters = ps; says = f })) same-says;
       }
 
-pub rows-read : (sheet text bytes : List ℕ) → readSheet sheet ≡ Reading.WellFormed → (r : QueryRead) (c : Checked) → TakenOf text bytes r → r .decision ≡ Decision.Passed
+pub rows-read : (sheet text bytes : List ℕ) → readSheet sheet ≡ Validity.WellFormed → (r : QueryRead) (c : Checked) → TakenOf text bytes r → r .decision ≡ Decision.Passed
     → checkedAnswer c ≡ rowsAnswer (parametersOf sheet) bytes (r .rows) → ReadsRows sheet text bytes (record { checked = c; rows = r .rows })
 rows-read sheet text bytes w r c t o e =
     let (q, of) = taken-rows t o in
@@ -164,7 +164,7 @@ module _ (sheet text bytes : List ℕ) (r : SearchRead) (read : ReadsRows sheet 
   search-refused card f h = match-stopped (searchQuestion sheet text) card f (question-stopped f h)
 
   module _ (n : ℕ) (h : r .checked ≡ Checked.Tests n) where
-    pub passed-sheet : readSheet sheet ≡ Reading.WellFormed
+    pub passed-sheet : readSheet sheet ≡ Validity.WellFormed
     passed-sheet = read .passes n h .sheet-well-formed
 
     pub passed-within : RowsWithin (length bytes) (r .rows)

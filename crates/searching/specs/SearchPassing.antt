@@ -4,7 +4,7 @@ use Prim.Native.Nat.{ℕ}
 use mathlib.Core.Path.{_≡_}
 use mathlib.Core.List.{List}
 use lib.ListN.{length}
-use Rattle.block.specs.declared.Reading.{Reading}
+use Rattle.block.specs.declared.Validity.{Validity}
 use Rattle.sheet.specs.Sheet.{Parameter, parametersOf, readSheet}
 use Rattle.search.specs.Meaning.{firstAlternativeFault, alternativeSays}
 use Rattle.search.specs.Rows.{RowsWithin, alternativesIn, rowsSay}
@@ -28,11 +28,11 @@ rowsQuestion ps bytes rows = record { parameters = ps; says = λ es. rowsSay (al
 
 -- check has passed the sheet and the text, whose query the rows keep
 pub record PassingRows (sheet text bytes : List ℕ) (rows : Rows) : Type 0 where
-  pub sheet-well-formed : readSheet sheet ≡ Reading.WellFormed
+  pub sheet-well-formed : readSheet sheet ≡ Validity.WellFormed
   pub within : RowsWithin (length bytes) rows
   pub asked : searchQuestion sheet text ≡ found (rowsQuestion (parametersOf sheet) bytes rows)
 
--- what reading a string owes: the answer of check and, where it passes, the rows
+-- what reading a string does: the answer of check and, where it passes, the rows
 pub record ReadsRows (sheet text bytes : List ℕ) (r : SearchRead) : Type 0 where
   pub answers : checkedAnswer (r .checked) ≡ checkSearchAnswer sheet text
   pub passes : (n : ℕ) → r .checked ≡ Checked.Tests n → PassingRows sheet text bytes (r .rows)

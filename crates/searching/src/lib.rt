@@ -1,7 +1,7 @@
 // Check and match by a search string. Its alternatives are kept in rows over a buffer of decoded bytes, once for all cards.
 use answer::Checked;
 use answer::Matched;
-use block::Reading;
+use block::Validity;
 use checking::outcome;
 use checking::refuse;
 use filter::Summary;
@@ -36,7 +36,7 @@ pub struct SearchRead {
 
 // The first refusal among the alternatives that rows keep, or their number.
 fn check_rows(sheet: &[u8], bytes: &[u8], rows: Rows) -> Checked
-    requires { ⌜ readSheet (now sheet) ≡ Reading.WellFormed ⌝ }
+    requires { ⌜ readSheet (now sheet) ≡ Validity.WellFormed ⌝ }
     requires { ⌜ RowsWithin (length (now bytes)) rows ⌝ }
     ensures { λ r. ⌜ checkedAnswer r ≡ rowsAnswer (parametersOf (now (sheet .entry))) (now (bytes .entry)) rows ⌝ }
 {
@@ -49,7 +49,7 @@ fn check_rows(sheet: &[u8], bytes: &[u8], rows: Rows) -> Checked
 
 // A search string on a well-formed sheet.
 fn read_text(sheet: &[u8], text: &[u8], bytes: &mut [u8]) -> SearchRead
-    requires { ⌜ readSheet (now sheet) ≡ Reading.WellFormed ⌝ }
+    requires { ⌜ readSheet (now sheet) ≡ Validity.WellFormed ⌝ }
     requires { ⌜ 1024 ≤ length (now bytes) ⌝ }
     ensures { λ r. ⌜ ReadsRows (now (sheet .entry)) (now (text .entry)) (now (bytes .exit)) r ⌝ }
 {
@@ -75,16 +75,16 @@ pub fn read_search(sheet: &[u8], text: &[u8], bytes: &mut [u8]) -> SearchRead
 {
     let reading = sheet::read_sheet(sheet);
     match reading {
-        Reading::WellFormed => read_text(sheet, text, bytes),
-        Reading::WrongSize => SearchRead {
+        Validity::WellFormed => read_text(sheet, text, bytes),
+        Validity::WrongSize => SearchRead {
             checked: refuse(Reason::SheetSize, 0),
             rows: no_rows(),
         },
-        Reading::WrongSum => SearchRead {
+        Validity::WrongSum => SearchRead {
             checked: refuse(Reason::SheetSum, 0),
             rows: no_rows(),
         },
-        Reading::WrongLayout => SearchRead {
+        Validity::WrongLayout => SearchRead {
             checked: refuse(Reason::SheetLayout, 0),
             rows: no_rows(),
         },
@@ -108,7 +108,7 @@ pub fn judge_by_search(
     rows: Rows,
     card: &[u8],
 ) -> CardVerdict
-    requires { ⌜ readSheet (now sheet) ≡ Reading.WellFormed ⌝ }
+    requires { ⌜ readSheet (now sheet) ≡ Validity.WellFormed ⌝ }
     requires { ⌜ now kinds ≡ kindsOf (parametersOf (now sheet)) ⌝ }
     requires { ⌜ RowsWithin (length (now bytes)) rows ⌝ }
     ensures { λ r. ⌜ ((i : ℕ) → verdictStep r i ≡ cardVerdict (rowsQuestion (parametersOf (now (sheet .entry))) (now (bytes .entry)) rows) i (now (card .entry))) ⌝ }

@@ -16,7 +16,7 @@ use mathlib.Core.List.{List, [], _∷_, _++_, append-assoc, append-nil}
 use lib.ListN.{length, take, drop, set, length-set}
 use lib.Seq.{take-suc-set, drop-drop}
 use Rattle.base.specs.Parts.{part}
-use Rattle.block.specs.declared.Reading.{Reading}
+use Rattle.block.specs.declared.Validity.{Validity}
 use Rattle.card.specs.Card.{recordNumber, readCard}
 use Rattle.one_card.specs.declared.CardVerdict.{CardVerdict}
 use Rattle.refusal.specs.declared.Refusal.{Refusal}
@@ -31,7 +31,7 @@ use Rattle.answer.proofs.Passing.{card-taken}
 
 -- ---- a card that has a verdict is well formed
 
-judged-well-formed : (q : Question) (b : List ℕ) (y : Bool) → cardVerdict q 0 b ≡ found y → readCard b ≡ Reading.WellFormed
+judged-well-formed : (q : Question) (b : List ℕ) (y : Bool) → cardVerdict q 0 b ≡ found y → readCard b ≡ Validity.WellFormed
 unfolding cardVerdict
 judged-well-formed q b y h =
     let (c, t, says) = taken (takeCard (q .parameters) 0 b) (λ c. found (q .says (c .entries))) y h in
@@ -95,7 +95,7 @@ module _ (q : Question) (cards : List ℕ) where
     pub gathering-more : at < length cards → length buffer * 4 < 2 ^ 63 → Fits w64 (count + 1)
     gathering-more h r = record { fits = omega (arith, gathering-room h, r) }
 
-    pub gathering-well-formed : (b : List ℕ) (v : CardVerdict) → ((i : ℕ) → verdictStep v i ≡ cardVerdict q i b) → (y : Bool) → v ≡ CardVerdict.Says y → readCard b ≡ Reading.WellFormed
+    pub gathering-well-formed : (b : List ℕ) (v : CardVerdict) → ((i : ℕ) → verdictStep v i ≡ cardVerdict q i b) → (y : Bool) → v ≡ CardVerdict.Says y → readCard b ≡ Validity.WellFormed
     gathering-well-formed b v e y s = judged-well-formed q b y (sym (e 0) ∙ ap (λ (w : CardVerdict). verdictStep w 0) s)
 
     module _ (h : at < length cards) (v : CardVerdict) (e : (i : ℕ) → verdictStep v i ≡ cardVerdict q i (part cards at (at + 512))) where

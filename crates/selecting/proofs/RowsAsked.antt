@@ -8,7 +8,7 @@ use mathlib.Core.Bool.{Bool, true}
 use mathlib.Core.List.{List}
 use lib.ListN.{length, take}
 use Rattle.base.specs.Parts.{part}
-use Rattle.block.specs.declared.Reading.{Reading}
+use Rattle.block.specs.declared.Validity.{Validity}
 use Rattle.sheet.specs.Sheet.{Parameter, parametersOf, readSheet}
 use Rattle.sheet.specs.Find.{kindsOf, parentsOf}
 use Rattle.sheet.specs.Encode.{WellFormedSheet}
@@ -121,7 +121,7 @@ module _ (sheet text buffer : List ℕ) (r : Prepared) (e : Fills sheet text r b
     pub filled-room : n ≤ length buffer
     filled-room = e .room n h
 
-    pub filled-sheet : readSheet sheet ≡ Reading.WellFormed
+    pub filled-sheet : readSheet sheet ≡ Validity.WellFormed
     filled-sheet = passed .sheet-well-formed
 
     pub filled-short : length text ≤ 1024

@@ -54,7 +54,7 @@ after (stop n p) g h e = refl
 pub gathered-room : {q : Question} {cards buffer : List ℕ} {r : Selected} (n : ℕ) → Gathers q cards r buffer → r ≡ Selected.Count n → n ≤ length buffer
 gathered-room n g h = g .room n h
 
--- ---- what select owes, by the selection
+-- ---- what select does, by the selection
 
 module _ (asked : Step Question) (cards list : List ℕ) where
   selects-stop : (r : Refusal) → selection asked cards (length list) ≡ stop (numberOf (r .reason)) (r .place) → Selects asked cards list (Selected.Refused r) list

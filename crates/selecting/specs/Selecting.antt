@@ -26,12 +26,12 @@ abbrev pub gatheredStep : Selected → List ℕ → Step (List ℕ)
 gatheredStep (Selected.Count n) buffer = found (take n buffer)
 gatheredStep (Selected.Refused r) buffer = stop (numberOf (r .reason)) (r .place)
 
--- what gathering owes: the numbers of the cards stand in the buffer from its first cell on
+-- what gathering does: the numbers of the cards stand in the buffer from its first cell on
 pub record Gathers (q : Question) (cards : List ℕ) (r : Selected) (buffer : List ℕ) : Type 0 where
   pub numbers : gatheredStep r buffer ≡ runNumbers q 0 (blocks (length cards / 512) cards)
   pub room : (n : ℕ) → r ≡ Selected.Count n → n ≤ length buffer
 
--- what select owes: the answer, and every cell of the list at exit
+-- what select does: the answer, and every cell of the list at exit
 pub record Selects (asked : Step Question) (cards list : List ℕ) (r : Selected) (exit : List ℕ) : Type 0 where
   pub answers : selectedAnswer r ≡ selectBy asked cards (length list)
   pub cells : exit ≡ cellsBy asked cards list

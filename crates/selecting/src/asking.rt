@@ -1,6 +1,6 @@
 // What is asked of a card, whichever way: by the rows of a filter, by a filter's text, or by a search string.
 use crate::Asked;
-use block::Reading;
+use block::Validity;
 use one_card::CardVerdict;
 use one_card::judge_by_rows;
 use one_card::judge_by_text;
@@ -33,7 +33,7 @@ pub fn judge_asked(
     rows: Rows,
     card: &[u8],
 ) -> CardVerdict
-    requires { ⌜ readSheet (now sheet) ≡ Reading.WellFormed ⌝ }
+    requires { ⌜ readSheet (now sheet) ≡ Validity.WellFormed ⌝ }
     requires { ⌜ length (now kinds) ≡ 32 ⌝ }
     requires { ⌜ now kinds ≡ kindsOf (parametersOf (now sheet)) ⌝ }
     requires { ⌜ Jumps (now cells) (now jumps) ⌝ }

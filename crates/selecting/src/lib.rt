@@ -7,7 +7,7 @@ use answer::Prepared;
 use answer::Selected;
 use answer::write;
 use asking::judge_asked;
-use block::Reading;
+use block::Validity;
 use checking::check;
 use one_card::CardVerdict;
 use preparing::fill;
@@ -54,7 +54,7 @@ fn gather(
     cards: &[u8],
     buffer: &mut [u32],
 ) -> Selected
-    requires { ⌜ readSheet (now sheet) ≡ Reading.WellFormed ⌝ }
+    requires { ⌜ readSheet (now sheet) ≡ Validity.WellFormed ⌝ }
     requires { ⌜ length (now kinds) ≡ 32 ⌝ }
     requires { ⌜ now kinds ≡ kindsOf (parametersOf (now sheet)) ⌝ }
     requires { ⌜ Jumps (now cells) (now jumps) ⌝ }
@@ -111,7 +111,7 @@ fn gather_run(
     cards: &[u8],
     buffer: &mut [u32],
 ) -> Selected
-    requires { ⌜ readSheet (now sheet) ≡ Reading.WellFormed ⌝ }
+    requires { ⌜ readSheet (now sheet) ≡ Validity.WellFormed ⌝ }
     requires { ⌜ length (now text) ≤ 1024 ⌝ }
     requires { ⌜ length (now cells) ≤ 320 ⌝ }
     requires { ⌜ Asks (now sheet) (now text) (now cells) rows asked ⌝ }
@@ -162,7 +162,7 @@ pub fn select_cards(
     cards: &[u8],
     list: &mut [u32],
 ) -> Selected
-    requires { ⌜ readSheet (now sheet) ≡ Reading.WellFormed ⌝ }
+    requires { ⌜ readSheet (now sheet) ≡ Validity.WellFormed ⌝ }
     requires { ⌜ length (now text) ≤ 1024 ⌝ }
     requires { ⌜ length (now cells) ≤ 320 ⌝ }
     requires { ⌜ Asks (now sheet) (now text) (now cells) rows asked ⌝ }

@@ -9,7 +9,7 @@ use lib.ListN.{length, take, drop, set, replicate, length-set, take-append-drop}
 use lib.Seq.{take-suc-set, drop-set-lt, drop-drop}
 use Rattle.base.specs.Parts.{part}
 use Rattle.block.specs.Items.{items, Step}
-use Rattle.block.specs.declared.Reading.the-variants.{WellFormed}
+use Rattle.block.specs.declared.Validity.the-variants.{WellFormed}
 use Rattle.block.proofs.Invariants.{Visited}
 use Rattle.block.proofs.Items.{visited-next, visited-end, items-length}
 use Rattle.sheet.specs.Sheet.{Parameter, parameter, parameterCount, parametersOf, readSheet}

@@ -17,7 +17,7 @@ use Rattle.base.specs.Lists.{Listed, All, all-empty, all-cons, equal}
 use Rattle.base.proofs.Tests.{and-left, and-right}
 use Rattle.base.proofs.All.{all-head, all-right}
 use Rattle.base.proofs.Lists.{equal-same, equal-refl}
-use Rattle.block.specs.declared.Reading.the-variants.{WellFormed}
+use Rattle.block.specs.declared.Validity.the-variants.{WellFormed}
 use Rattle.base.specs.Parts.{padded}
 use Rattle.base.proofs.Lists.{listed-first, listed-later}
 use Rattle.sheet.specs.Sheet.{Parameter, parameter, kindAt, parametersOf, readSheet}

@@ -9,7 +9,7 @@ use lib.ListN.{length, getD}
 use Rattle.base.specs.Bytes.{Bytes}
 use Rattle.base.proofs.Tests.{and-left, and-right}
 use Rattle.block.specs.Items.{hasMarks, hasLayout, hasEither, items, Walk}
-use Rattle.block.specs.declared.Reading.the-variants.{WellFormed}
+use Rattle.block.specs.declared.Validity.the-variants.{WellFormed}
 use Rattle.block.proofs.Contents.{Held}
 use Rattle.block.proofs.Invariants.{Visited}
 use Rattle.block.proofs.Items.{either-own, either-form, layout-count, items-length, walk-start, visited-start}

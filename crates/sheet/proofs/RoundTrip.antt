@@ -11,7 +11,7 @@ use Rattle.base.specs.Bytes.{Byte, Bytes}
 use Rattle.base.specs.Lists.{All, all-empty, all-cons}
 use Rattle.base.proofs.All.{all-map, all-every, all-both}
 use Rattle.base.proofs.Names.{name-bytes}
-use Rattle.block.specs.declared.Reading.the-variants.{WellFormed}
+use Rattle.block.specs.declared.Validity.the-variants.{WellFormed}
 use Rattle.block.proofs.Contents.{Held, Written}
 use Rattle.block.proofs.Readings.{reading-iff}
 use Rattle.block.proofs.RoundTrip.{held, unmarked, written}

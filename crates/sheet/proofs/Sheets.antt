@@ -6,7 +6,7 @@ use mathlib.Core.Bool.{Bool}
 use mathlib.Core.Logic.{_↔_}
 use mathlib.Core.List.{List}
 use Rattle.base.specs.Bytes.{Bytes}
-use Rattle.block.specs.declared.Reading.the-variants.{WellFormed}
+use Rattle.block.specs.declared.Validity.the-variants.{WellFormed}
 use Rattle.sheet.specs.Sheet.{Parameter, parametersOf, readSheet}
 use Rattle.sheet.specs.Encode.{encodeSheet, WellFormedSheet, SheetForm, SheetBlock, ReadsAsSheet}
 use Rattle.sheet.proofs.RoundTrip.{encoded-sheet-reads, sheet-well-formed, sheet-formed, sheet-encoded}

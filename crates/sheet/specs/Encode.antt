@@ -11,7 +11,7 @@ use Rattle.base.specs.Lists.{Listed, All}
 use Rattle.base.specs.Names.{Name}
 use Rattle.block.specs.Seal.{seal}
 use Rattle.block.specs.Items.{marks, join}
-use Rattle.block.specs.declared.Reading.the-variants.{WellFormed}
+use Rattle.block.specs.declared.Validity.the-variants.{WellFormed}
 use Rattle.base.specs.Kinds.{string, period, bundleKind}
 use Rattle.sheet.specs.Sheet.{Parameter, parametersOf, readSheet}
 

@@ -12,7 +12,7 @@ use Rattle.base.specs.Names.{isName}
 use Rattle.block.specs.Seal.{check}
 use Rattle.block.specs.Items.{hasMarks, hasEither, items, Step}
 use Rattle.block.specs.Readings.{reading}
-use Rattle.block.specs.declared.Reading.{Reading}
+use Rattle.block.specs.declared.Validity.{Validity}
 use Rattle.sheet.specs.declared.Parameter.{Parameter as Span}
 
 -- a parameter: its kind (1 string, 2 number, 3 date, 4 token, 5 reference, 6 period, 7 bundle), its bundle and its name; 02: the bundle is
@@ -85,7 +85,7 @@ unfoldable pub sheetLayout : List ℕ → Bool
 sheetLayout b = hasEither 0x50 0x51 1 32 b && areRight (hasMarks (getD b 0 0)) (parametersOf b)
 
 -- what the bytes are, as a sheet
-unfoldable pub readSheet : List ℕ → Reading
+unfoldable pub readSheet : List ℕ → Validity
 readSheet b = reading (check b) (sheetLayout b)
 
 -- r says where the parameter at `at` stands, with `left` parameters to come

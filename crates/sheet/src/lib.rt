@@ -6,8 +6,8 @@ use base::kind::BUNDLE;
 use base::kind::PERIOD;
 use base::kind::STRING;
 use base::name::is_name;
-use block::Checked;
-use block::Reading;
+use block::Integrity;
+use block::Validity;
 ghost use mathlib.Core.Path.{_≡_};
 ghost use mathlib.Core.Bool.{_&&_};
 ghost use Prim.Native.Nat.{_<_};
@@ -234,17 +234,17 @@ fn sheet_layout(sheet: &[u8]) -> bool
 
 // What any bytes are, as a sheet: well formed (01: sound), or one of the refusals 1, 2 and 3. "Byte 0 is 0x50" or, with bundles,
 // 0x51; "byte 1 the number of parameters, 0 to 32".
-pub fn read_sheet(sheet: &[u8]) -> Reading
+pub fn read_sheet(sheet: &[u8]) -> Validity
     ensures { λ r. ⌜ r ≡ readSheet (now (sheet .entry)) ⌝ }
 {
     match block::check(sheet) {
-        Checked::WrongSize => Reading::WrongSize,
-        Checked::WrongSum => Reading::WrongSum,
-        Checked::Sealed => {
+        Integrity::WrongSize => Validity::WrongSize,
+        Integrity::WrongSum => Validity::WrongSum,
+        Integrity::Sealed => {
             if sheet_layout(sheet) {
-                Reading::WellFormed
+                Validity::WellFormed
             } else {
-                Reading::WrongLayout
+                Validity::WrongLayout
             }
         }
     }
@@ -252,7 +252,7 @@ pub fn read_sheet(sheet: &[u8]) -> Reading
 
 // The number of parameters of a well-formed sheet.
 pub fn parameter_count(sheet: &[u8]) -> u8
-    requires { ⌜ readSheet (now sheet) ≡ Reading.WellFormed ⌝ }
+    requires { ⌜ readSheet (now sheet) ≡ Validity.WellFormed ⌝ }
     ensures { λ r. ⌜ r ≡ parameterCount (now (sheet .entry)) ⌝ }
 {
     sheet[1]
@@ -271,7 +271,7 @@ fn is_named(a: u8, c: u8, same: bool) -> bool
 // Index and kind of the parameter that has the name in a bundle (0 at the top, else the bundle's index plus 1), on a well-formed
 // sheet.
 pub fn find(sheet: &[u8], bundle: u8, name: &[u8]) -> Found
-    requires { ⌜ readSheet (now sheet) ≡ Reading.WellFormed ⌝ }
+    requires { ⌜ readSheet (now sheet) ≡ Validity.WellFormed ⌝ }
     ensures { λ r. ⌜ r ≡ find bundle (now (name .entry)) (parametersOf (now (sheet .entry))) ⌝ }
 {
     let mut at = 2;
@@ -297,7 +297,7 @@ pub fn find(sheet: &[u8], bundle: u8, name: &[u8]) -> Found
 
 // Where names are looked up inside what a name names: a bundle's index plus 1, or 255 where it names none.
 pub fn enter(sheet: &[u8], bundle: u8, name: &[u8]) -> u8
-    requires { ⌜ readSheet (now sheet) ≡ Reading.WellFormed ⌝ }
+    requires { ⌜ readSheet (now sheet) ≡ Validity.WellFormed ⌝ }
     ensures { λ r. ⌜ r ≡ enter (parametersOf (now (sheet .entry))) bundle (now (name .entry)) ⌝ }
 {
     match find(sheet, bundle, name) {
@@ -313,7 +313,7 @@ pub fn enter(sheet: &[u8], bundle: u8, name: &[u8]) -> u8
 
 // The kinds of a well-formed sheet's parameters by their index, and 0 past the last.
 pub fn kinds(sheet: &[u8]) -> [u8; 32]
-    requires { ⌜ readSheet (now sheet) ≡ Reading.WellFormed ⌝ }
+    requires { ⌜ readSheet (now sheet) ≡ Validity.WellFormed ⌝ }
     ensures { λ r. ⌜ r ≡ kindsOf (parametersOf (now (sheet .entry))) ⌝ }
 {
     let mut kinds = [0u8; 32];
@@ -332,7 +332,7 @@ pub fn kinds(sheet: &[u8]) -> [u8; 32]
 
 // The bundles of a well-formed sheet's parameters by their index, each the bundle's index plus 1, and 0 at the top and past the last.
 pub fn parents(sheet: &[u8]) -> [u8; 32]
-    requires { ⌜ readSheet (now sheet) ≡ Reading.WellFormed ⌝ }
+    requires { ⌜ readSheet (now sheet) ≡ Validity.WellFormed ⌝ }
     ensures { λ r. ⌜ r ≡ parentsOf (parametersOf (now (sheet .entry))) ⌝ }
 {
     let mut parents = [0u8; 32];

@@ -12,7 +12,7 @@ use Rattle.base.specs.Ascii.{ascii}
 use Rattle.base.specs.Bytes.{Bytes}
 use Rattle.base.specs.Lists.{All}
 use Rattle.base.specs.Operators.{operatorWords, eq, ne, co, sw, ew, gt, lt, ge, le, ap, sa, eb, pr, po, ss, sb, «in», ni, re}
-use Rattle.block.specs.declared.Reading.the-variants.{WellFormed}
+use Rattle.block.specs.declared.Validity.the-variants.{WellFormed}
 use Rattle.sheet.specs.Sheet.{Parameter, readSheet}
 use Rattle.sheet.specs.Encode.{encodeSheet, WellFormedSheet, SheetForm, SheetBlock, ReadsAsSheet}
 use Rattle.sheet.specs.Trial.{trialParameters, trialSheet, bundleSheet, staySheet}
@@ -46,7 +46,7 @@ use Rattle.number.specs.Range as ranges
 use Rattle.number.specs.declared.Decimal.{Decimal}
 use Rattle.number.proofs.Range as number-ranges
 use Rattle.kind.specs.Readable.{cardReadable, valueReadable}
-use Rattle.kind.specs.Stands.{dateStands, stands}
+use Rattle.kind.specs.Relations.{datesRelate, relatesTo}
 use Rattle.kind.specs.Table.{hasMeaning}
 use Rattle.kind.specs.declared.Relation.{Relation}
 use Rattle.refusal.proofs.Order as order
@@ -57,7 +57,7 @@ use Rattle.sirophan.specs.Contracts.{Matches, SelectsInto}
 use Rattle.answer.specs.declared.Matched.{Matched}
 use Rattle.answer.specs.declared.Selected.{Selected}
 use Rattle.answer.specs.Operations.{checkAnswer, filterQuestion, matchAnswer, selectAnswer, selectCells}
-use Rattle.kind.specs.Rules.{ReadableOnCard, ReadableValue, HasOperator, DatesStand, date-inside, StandsIn}
+use Rattle.kind.specs.Rules.{ReadableOnCard, ReadableValue, HasOperator, DatesRelate, date-inside, RelatesTo}
 use Rattle.judge.specs.Rules.{Conforms, FilterSays}
 use Rattle.answer.specs.Verdicts.{Verdict}
 use Rattle.answer.specs.Demand.{TestRules, Demand, Agree, FilterDemand, MeetsDemand}
@@ -186,16 +186,16 @@ value-readable = rules.value-iff
 pub operator-has-meaning : (kind operator : ℕ) → (hasMeaning operator kind ≡ true) ↔ HasOperator kind operator
 operator-has-meaning = rules.operator-iff
 
-pub text-stands : (r : Relation) (x v : List ℕ) → (stands r x v ≡ true) ↔ StandsIn r x v
-text-stands = rules.stands-iff
+pub text-relates : (r : Relation) (x v : List ℕ) → (relatesTo r x v ≡ true) ↔ RelatesTo r x v
+text-relates = rules.relates-iff
 
 -- a card's period, its date among them, and a filter's date: the test by their ends passes exactly where the relation holds by their
 -- instants; what is read has an instant, a date its start
-pub dates-stand : (i : Period) → Inhabited i → (f : Date) → InRange f (f .start) → (r : DateRelation) → (dateStands r i f ≡ true) ↔ DatesStand i f r
-dates-stand = rules.date-iff
+pub dates-relate : (i : Period) → Inhabited i → (f : Date) → InRange f (f .start) → (r : DateRelation) → (datesRelate r i f ≡ true) ↔ DatesRelate i f r
+dates-relate = rules.date-iff
 
 -- 02: "a stay open at an end is never eq"
-pub open-never-eq : (i : Period) → Inhabited i → (f : Date) → InRange f (f .start) → (i .start ≡ End.Open) ⊎ (i .end ≡ End.Open) → DatesStand i f DateRelation.Inside → ⊥
+pub open-never-eq : (i : Period) → Inhabited i → (f : Date) → InRange f (f .start) → (i .start ≡ End.Open) ⊎ (i .end ≡ End.Open) → DatesRelate i f DateRelation.Inside → ⊥
 open-never-eq i has f first h (date-inside held) = periods.open-never-held i has f first h held
 
 -- eq: the test of a card's number against a filter's passes exactly where every point of the card's range lies in the filter's; what is

@@ -40,7 +40,7 @@ use Rattle.syntax.specs.declared.Connective.{Connective}
 use Rattle.syntax.specs.Grammar.{Spells}
 use Rattle.kind.specs.Table.{meaningOf, rowMeaning, row, ofKind, kinds, tokenRow, relationIn}
 use Rattle.kind.specs.Rules.{readable-token, ReadableInFilter, ReadableValue, value-of-pr, value-of-kind, HasOperator}
-use Rattle.kind.specs.Stands.{stands}
+use Rattle.kind.specs.Relations.{relatesTo}
 use Rattle.judge.specs.Sets.{lookup, valuesAt}
 use Rattle.judge.specs.Verdicts.{someValue, saysOf, saysAt, testSays, filterSays}
 use Rattle.judge.specs.Rules.{Names}
@@ -159,7 +159,7 @@ module _ (i : ℕ) (t : List ℕ) (first : i ≡ firstOf bar t) where
   token-same h x = literal-asks (splitAt i t) (cardToken x) (split-literal i t h) ∙ ap (meets true (cardToken x)) form-same
 
   token-set : (i < length t → namespaceOf (take i t) ≡ take i t) → (set : List (List ℕ)) → someValue (λ x. matchesAt x i t) set ≡ saysOf (meaningOf eq token) t set
-  unfolding meaningOf rowMeaning row ofKind kinds tokenRow relationIn saysOf stands
+  unfolding meaningOf rowMeaning row ofKind kinds tokenRow relationIn saysOf relatesTo
   token-set h set = some-same (λ x. matchesAt x i t) (λ x. matches x t) set (token-same h)
 
 -- ---- an alternative says what its test says

@@ -43,7 +43,7 @@ use Rattle.syntax.specs.Reader.{chainOf, filterOf, itemAt, filterAt, read}
 use Rattle.place.specs.Machine as machine
 use Rattle.kind.specs.Table as table
 use Rattle.kind.specs.Readable as kind
-use Rattle.kind.specs.Stands.{stringStands, numberStands, dateStands, stands}
+use Rattle.kind.specs.Relations.{stringsRelate, numbersRelate, datesRelate, relatesTo}
 use Rattle.judge.specs.Sets.{lookup, valuesAt, ofOccurrence, keep, entryConforms, conforms}
 use Rattle.judge.specs.Faults.{unsupported, kindFault, testFault, firstFault}
 use Rattle.judge.specs.Verdicts.{someValue, isEmpty, saysOf, testSays, filterSays}
@@ -60,7 +60,7 @@ abbrev stated : List Row → List Answer
 stated = map (λ (r : Row). r .gives)
 
 computed : (given trialSheet trialCard trialRows ≡ stated trialRows) × (given bundleSheet bundleCard bundleRows ≡ stated bundleRows) × (given staySheet stayCard stayRows ≡ stated stayRows) × (given trialSheet edgeCard edgeRows ≡ stated edgeRows)
-unfolding trialRows trialSheet trialCard matchBy filterQuestion takeCard takeInputs machine.failure machine.failureFrom machine.step machine.beginsOperator machine.isOperator machine.someWord testsStep takeFilter takeSheet filterSays testSays saysOf isEmpty someValue firstFault testFault kindFault unsupported conforms entryConforms valuesAt lookup stands dateStands numberStands stringStands kind.valueReadable kind.isTrue kind.filterReadable kind.cardReadable table.hasMeaning table.meaningOf table.rowMeaning table.relationIn table.row table.tokenRow table.dateRow table.numberRow table.stringRow read filterAt itemAt filterOf chainOf closeAt connectiveAt headAt choiceAt memberAfter memberAt openAt testAt testOperator testValue operatorAt findOperator follows valueAt stringAt stringFrom stepOf isBare testsOf readCard entriesOf entryCount find findFrom readSheet sheetLayout areRight haveParents hasParent kindAt distinct absent clashes areParameters isParameter isKind parametersOf parameterCount reading items hasEither hasLayout laidOut textAt markAt next lengthAt hasMarks zeros block.check checkSum sumFrom token.matches token.meets token.asks systemOf namespaceOf standsFor forms.filterReadable forms.filterForm forms.splitForm tokens.cardReadable tokens.cardToken tokens.splitToken tokens.tokenOf split dates.readable dates.isDate dates.read dates.readYear dates.readMonth dates.fieldAt dates.fourAt dates.twoAt dates.pair dates.digitOf spans.monthDate spans.yearDate spans.daysFrom spans.dateOf spans.instant spans.epoch calendar.dayNumber calendar.daysOfYears calendar.daysBeforeMonth calendar.monthLength calendar.yearLength calendar.leapYear fields.validMonth billionths.inside billionths.billionths billionths.unit number.greater number.atLeast number.covers number.halfUnit number.exactValue number.plus number.isAtMost number.isLess numbers.readable numbers.read numbers.readFraction numbers.valueFrom texts.same texts.contains foldText foldByte runEnd run operatorWords isName isReserved isNamePart isNameStart isLetter between isDigit hasInfix hasPrefix member equal every bundleRows bundleSheet bundleCard ofOccurrence keep enter kind.isFalse table.referenceRow table.kinds table.ofKind period.startsBefore period.startsNoLater period.endsAfter period.endsNoEarlier period.inside period.laterOrInside period.earlierOrInside period.overlaps period.covers periods.readable periods.isPeriod periods.readSpan periods.spanOr periods.read periods.readParts periods.openStart periods.openEnd periods.bothEnds periods.fromTo periods.known stayRows staySheet stayCard foldFrom isCapital isAccented edgeRows edgeCard decode unescaped isEscape texts.starts texts.ends hasSuffix number.less number.atMost
+unfolding trialRows trialSheet trialCard matchBy filterQuestion takeCard takeInputs machine.failure machine.failureFrom machine.step machine.beginsOperator machine.isOperator machine.someWord testsStep takeFilter takeSheet filterSays testSays saysOf isEmpty someValue firstFault testFault kindFault unsupported conforms entryConforms valuesAt lookup relatesTo datesRelate numbersRelate stringsRelate kind.valueReadable kind.isTrue kind.filterReadable kind.cardReadable table.hasMeaning table.meaningOf table.rowMeaning table.relationIn table.row table.tokenRow table.dateRow table.numberRow table.stringRow read filterAt itemAt filterOf chainOf closeAt connectiveAt headAt choiceAt memberAfter memberAt openAt testAt testOperator testValue operatorAt findOperator follows valueAt stringAt stringFrom stepOf isBare testsOf readCard entriesOf entryCount find findFrom readSheet sheetLayout areRight haveParents hasParent kindAt distinct absent clashes areParameters isParameter isKind parametersOf parameterCount reading items hasEither hasLayout laidOut textAt markAt next lengthAt hasMarks zeros block.check checkSum sumFrom token.matches token.meets token.asks systemOf namespaceOf standsFor forms.filterReadable forms.filterForm forms.splitForm tokens.cardReadable tokens.cardToken tokens.splitToken tokens.tokenOf split dates.readable dates.isDate dates.read dates.readYear dates.readMonth dates.fieldAt dates.fourAt dates.twoAt dates.pair dates.digitOf spans.monthDate spans.yearDate spans.daysFrom spans.dateOf spans.instant spans.epoch calendar.dayNumber calendar.daysOfYears calendar.daysBeforeMonth calendar.monthLength calendar.yearLength calendar.leapYear fields.validMonth billionths.inside billionths.billionths billionths.unit number.greater number.atLeast number.covers number.halfUnit number.exactValue number.plus number.isAtMost number.isLess numbers.readable numbers.read numbers.readFraction numbers.valueFrom texts.same texts.contains foldText foldByte runEnd run operatorWords isName isReserved isNamePart isNameStart isLetter between isDigit hasInfix hasPrefix member equal every bundleRows bundleSheet bundleCard ofOccurrence keep enter kind.isFalse table.referenceRow table.kinds table.ofKind period.startsBefore period.startsNoLater period.endsAfter period.endsNoEarlier period.inside period.laterOrInside period.earlierOrInside period.overlaps period.covers periods.readable periods.isPeriod periods.readSpan periods.spanOr periods.read periods.readParts periods.openStart periods.openEnd periods.bothEnds periods.fromTo periods.known stayRows staySheet stayCard foldFrom isCapital isAccented edgeRows edgeCard decode unescaped isEscape texts.starts texts.ends hasSuffix number.less number.atMost
 computed = (refl, refl, refl, refl)
 
 -- each row of a table that is computed so gives what it says

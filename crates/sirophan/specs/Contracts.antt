@@ -1,4 +1,4 @@
--- What the code of the operations owes on every input: the answer of its definition, and of a refusal that a line of the table decides.
+-- What the code of the operations does on every input: the answer of its definition, and of a refusal that a line of the table decides.
 -- Assumes nothing.
 use Prim.Native.Nat.{ℕ}
 use mathlib.Core.Path.{_≡_}

@@ -1,4 +1,4 @@
--- What spell answers; then what the operations owe on every input, and what the promises about them say.
+-- What spell answers; then what the operations do on every input, and what the promises about them say.
 pub mod Spelling
 pub mod SameQuestion
 pub mod Contracts

@@ -19,87 +19,87 @@ use Rattle.answer.specs.declared.Prepared.{Prepared}
 use Rattle.answer.specs.Preparing.{preparedAnswer}
 use Rattle.sirophan_c.specs.declared.Answer.{Answer}
 use Rattle.sirophan_c.specs.declared.Counts.{Counts}
-use Rattle.sirophan_c.specs.Answers.{answer, told, countsOf, toldCounts}
+use Rattle.sirophan_c.specs.Answers.{answer, cAnswer, countsOf, cCounts}
 use Rattle.sirophan_c.specs.Contracts.{TellsReport}
 
-pub refusal-told : (r : Refusal) (n : ℕ) → n ≡ numberOf (r .reason) → answer n (r .place) ≡ told (refusalAnswer r)
-unfolding told refusalAnswer
+pub refusal-told : (r : Refusal) (n : ℕ) → n ≡ numberOf (r .reason) → answer n (r .place) ≡ cAnswer (refusalAnswer r)
+unfolding cAnswer refusalAnswer
 refusal-told r n e = ap (λ (m : ℕ). answer m (r .place)) e
 
 -- what an operation gave, r, is the case c of its enum
-case-told : {R : Type 0} (of : R → paper.Answer) {a : paper.Answer} {r c : R} → of r ≡ a → r ≡ c → told (of c) ≡ told a
-case-told of e h = ap told (ap of (sym h) ∙ e)
+case-told : {R : Type 0} (of : R → paper.Answer) {a : paper.Answer} {r c : R} → of r ≡ a → r ≡ c → cAnswer (of c) ≡ cAnswer a
+case-told of e h = ap cAnswer (ap of (sym h) ∙ e)
 
 module _ (c : Checked) where
-  pub tests-told : (n : ℕ) → c ≡ Checked.Tests n → answer 0 n ≡ told (checkedAnswer c)
-  unfolding told checkedAnswer
+  pub tests-told : (n : ℕ) → c ≡ Checked.Tests n → answer 0 n ≡ cAnswer (checkedAnswer c)
+  unfolding cAnswer checkedAnswer
   tests-told n h = rw h
 
-  pub check-refusal-told : (r : Refusal) (t : Answer) → c ≡ Checked.Refused r → t ≡ told (refusalAnswer r) → t ≡ told (checkedAnswer c)
+  pub check-refusal-told : (r : Refusal) (t : Answer) → c ≡ Checked.Refused r → t ≡ cAnswer (refusalAnswer r) → t ≡ cAnswer (checkedAnswer c)
   unfolding checkedAnswer
   check-refusal-told r t h o = rw h o
 
 module _ (m : Matched) where
-  pub yes-told : m ≡ Matched.Yes → answer 0 1 ≡ told (matchedAnswer m)
-  unfolding told matchedAnswer
+  pub yes-told : m ≡ Matched.Yes → answer 0 1 ≡ cAnswer (matchedAnswer m)
+  unfolding cAnswer matchedAnswer
   yes-told h = rw h
 
-  pub no-told : m ≡ Matched.No → answer 0 0 ≡ told (matchedAnswer m)
-  unfolding told matchedAnswer
+  pub no-told : m ≡ Matched.No → answer 0 0 ≡ cAnswer (matchedAnswer m)
+  unfolding cAnswer matchedAnswer
   no-told h = rw h
 
-  pub match-refusal-told : (r : Refusal) (t : Answer) → m ≡ Matched.Refused r → t ≡ told (refusalAnswer r) → t ≡ told (matchedAnswer m)
+  pub match-refusal-told : (r : Refusal) (t : Answer) → m ≡ Matched.Refused r → t ≡ cAnswer (refusalAnswer r) → t ≡ cAnswer (matchedAnswer m)
   unfolding matchedAnswer
   match-refusal-told r t h o = rw h o
 
 module _ (s : Selected) where
-  pub count-told : (n : ℕ) → s ≡ Selected.Count n → answer 0 n ≡ told (selectedAnswer s)
-  unfolding told selectedAnswer
+  pub count-told : (n : ℕ) → s ≡ Selected.Count n → answer 0 n ≡ cAnswer (selectedAnswer s)
+  unfolding cAnswer selectedAnswer
   count-told n h = rw h
 
-  pub select-refusal-told : (r : Refusal) (t : Answer) → s ≡ Selected.Refused r → t ≡ told (refusalAnswer r) → t ≡ told (selectedAnswer s)
+  pub select-refusal-told : (r : Refusal) (t : Answer) → s ≡ Selected.Refused r → t ≡ cAnswer (refusalAnswer r) → t ≡ cAnswer (selectedAnswer s)
   unfolding selectedAnswer
   select-refusal-told r t h o = rw h o
 
 module _ (a : paper.Answer) where
   -- what an operation gave, told by its numbers
-  pub check-told : (c : Checked) (t : Answer) → checkedAnswer c ≡ a → t ≡ told (checkedAnswer c) → t ≡ told a
-  check-told c t e o = o ∙ ap told e
+  pub check-told : (c : Checked) (t : Answer) → checkedAnswer c ≡ a → t ≡ cAnswer (checkedAnswer c) → t ≡ cAnswer a
+  check-told c t e o = o ∙ ap cAnswer e
 
-  pub match-told : (m : Matched) (t : Answer) → matchedAnswer m ≡ a → t ≡ told (matchedAnswer m) → t ≡ told a
-  match-told m t e o = o ∙ ap told e
+  pub match-told : (m : Matched) (t : Answer) → matchedAnswer m ≡ a → t ≡ cAnswer (matchedAnswer m) → t ≡ cAnswer a
+  match-told m t e o = o ∙ ap cAnswer e
 
-  pub select-told : (s : Selected) (t : Answer) → selectedAnswer s ≡ a → t ≡ told (selectedAnswer s) → t ≡ told a
-  select-told s t e o = o ∙ ap told e
+  pub select-told : (s : Selected) (t : Answer) → selectedAnswer s ≡ a → t ≡ cAnswer (selectedAnswer s) → t ≡ cAnswer a
+  select-told s t e o = o ∙ ap cAnswer e
 
   module _ (s : Spelled) (e : spelledAnswer s ≡ a) where
-    pub length-told : (n : ℕ) → s ≡ Spelled.Length n → answer 0 n ≡ told a
-    unfolding told spelledAnswer
+    pub length-told : (n : ℕ) → s ≡ Spelled.Length n → answer 0 n ≡ cAnswer a
+    unfolding cAnswer spelledAnswer
     length-told n = case-told spelledAnswer e
 
-    pub spell-refusal-told : (r : Refusal) (t : Answer) → s ≡ Spelled.Refused r → t ≡ told (refusalAnswer r) → t ≡ told a
+    pub spell-refusal-told : (r : Refusal) (t : Answer) → s ≡ Spelled.Refused r → t ≡ cAnswer (refusalAnswer r) → t ≡ cAnswer a
     unfolding spelledAnswer
     spell-refusal-told r t h o = o ∙ case-told spelledAnswer e h
 
   module _ (p : Prepared) (e : preparedAnswer p ≡ a) where
-    pub cells-told : (n : ℕ) → p ≡ Prepared.Cells n → answer 0 n ≡ told a
-    unfolding told preparedAnswer
+    pub cells-told : (n : ℕ) → p ≡ Prepared.Cells n → answer 0 n ≡ cAnswer a
+    unfolding cAnswer preparedAnswer
     cells-told n = case-told preparedAnswer e
 
-    pub prepare-refusal-told : (r : Refusal) (t : Answer) → p ≡ Prepared.Refused r → t ≡ told (refusalAnswer r) → t ≡ told a
+    pub prepare-refusal-told : (r : Refusal) (t : Answer) → p ≡ Prepared.Refused r → t ≡ cAnswer (refusalAnswer r) → t ≡ cAnswer a
     unfolding preparedAnswer
     prepare-refusal-told r t h o = o ∙ case-told preparedAnswer e h
 
 module _ (r : Reported) where
-  pub counts-told : (y n : ℕ) → r ≡ Reported.Counts y n → countsOf 0 0 y n ≡ toldCounts (reportedAnswer r)
-  unfolding toldCounts reportedAnswer
+  pub counts-told : (y n : ℕ) → r ≡ Reported.Counts y n → countsOf 0 0 y n ≡ cCounts (reportedAnswer r)
+  unfolding cCounts reportedAnswer
   counts-told y n h = rw h
 
-  pub report-refusal-told : (f : Refusal) (n : ℕ) → r ≡ Reported.Refused f → n ≡ numberOf (f .reason) → countsOf n (f .place) 0 0 ≡ toldCounts (reportedAnswer r)
-  unfolding toldCounts reportedAnswer refusalAnswer
+  pub report-refusal-told : (f : Refusal) (n : ℕ) → r ≡ Reported.Refused f → n ≡ numberOf (f .reason) → countsOf n (f .place) 0 0 ≡ cCounts (reportedAnswer r)
+  unfolding cCounts reportedAnswer refusalAnswer
   report-refusal-told f n h e = rw (h, e)
 
--- what the report for C owes, from what the report does
-pub tells-report : (sheet text cards : List ℕ) (rows : List Tally) (r : Reported) (exit : List Tally) (c : Counts) → Reports sheet text cards rows r exit → c ≡ toldCounts (reportedAnswer r)
+-- what the report for C does, from what the report does
+pub tells-report : (sheet text cards : List ℕ) (rows : List Tally) (r : Reported) (exit : List Tally) (c : Counts) → Reports sheet text cards rows r exit → c ≡ cCounts (reportedAnswer r)
     → TellsReport sheet text cards rows c exit
-tells-report sheet text cards rows r exit c h e = record { tells = e ∙ ap toldCounts (h .answers); tallies = h .tallies }
+tells-report sheet text cards rows r exit c h e = record { tells = e ∙ ap cCounts (h .answers); tallies = h .tallies }

@@ -10,22 +10,22 @@ abbrev pub answer : ℕ → ℕ → Answer
 answer refusal value = record { refusal = refusal; value = value }
 
 -- the number of the refusal, 0 where there is none; and the count, 1 for yes and 0 for no, or the refusal's place
-unfoldable pub told : paper.Answer → Answer
-told yes = answer 0 1
-told no = answer 0 0
-told (count n) = answer 0 n
+unfoldable pub cAnswer : paper.Answer → Answer
+cAnswer yes = answer 0 1
+cAnswer no = answer 0 0
+cAnswer (count n) = answer 0 n
 -- a report's answer, which has a struct of its own
-told (counts y n) = answer 0 y
-told (refused n p) = answer n p
+cAnswer (counts y n) = answer 0 y
+cAnswer (refused n p) = answer n p
 
 abbrev pub countsOf : (refusal place yes no : ℕ) → Counts
 countsOf refusal place y n = record { refusal = refusal; place = place; yes = y; no = n }
 
 -- the number of the refusal, 0 where there is none, and its place; and how many cards say yes, and how many no
-unfoldable pub toldCounts : paper.Answer → Counts
-toldCounts (counts y n) = countsOf 0 0 y n
-toldCounts (refused n p) = countsOf n p 0 0
+unfoldable pub cCounts : paper.Answer → Counts
+cCounts (counts y n) = countsOf 0 0 y n
+cCounts (refused n p) = countsOf n p 0 0
 -- the answers of the other operations
-toldCounts yes = countsOf 0 0 1 0
-toldCounts no = countsOf 0 0 0 1
-toldCounts (count n) = countsOf 0 0 n 0
+cCounts yes = countsOf 0 0 1 0
+cCounts no = countsOf 0 0 0 1
+cCounts (count n) = countsOf 0 0 n 0

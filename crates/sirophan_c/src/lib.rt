@@ -19,7 +19,7 @@ ghost use Rattle.answer.specs.Searching.{checkSearchAnswer, matchSearchAnswer, 
 ghost use Rattle.answer.specs.Preparing.{prepareAnswer, prepareCells, judgeAnswer};
 ghost use Rattle.explain.specs.Operation.{explainAnswer, explainCells};
 ghost use Rattle.report.specs.Operation.{reportedAnswer};
-ghost use Rattle.sirophan_c.specs.Answers.{told, toldCounts};
+ghost use Rattle.sirophan_c.specs.Answers.{cAnswer, cCounts};
 ghost use Rattle.sirophan_c.specs.Contracts.{TellsReport};
 ghost use Rattle.sirophan_c.specs.Engines.{engineOf};
 
@@ -41,7 +41,7 @@ pub struct Counts {
 
 // A refusal by its number and its place.
 fn refused(refusal: Refusal) -> Answer
-    ensures { λ r. ⌜ r ≡ told (refusalAnswer refusal) ⌝ }
+    ensures { λ r. ⌜ r ≡ cAnswer (refusalAnswer refusal) ⌝ }
 {
     let reason = refusal.reason;
     Answer {
@@ -52,7 +52,7 @@ fn refused(refusal: Refusal) -> Answer
 
 // Check's answer in numbers.
 fn told_check(checked: Checked) -> Answer
-    ensures { λ r. ⌜ r ≡ told (checkedAnswer checked) ⌝ }
+    ensures { λ r. ⌜ r ≡ cAnswer (checkedAnswer checked) ⌝ }
 {
     match checked {
         Checked::Tests(tests) => Answer {
@@ -65,7 +65,7 @@ fn told_check(checked: Checked) -> Answer
 
 // Match's answer in numbers.
 fn told_match(matched: Matched) -> Answer
-    ensures { λ r. ⌜ r ≡ told (matchedAnswer matched) ⌝ }
+    ensures { λ r. ⌜ r ≡ cAnswer (matchedAnswer matched) ⌝ }
 {
     match matched {
         Matched::Yes => Answer {
@@ -82,7 +82,7 @@ fn told_match(matched: Matched) -> Answer
 
 // Select's answer in numbers.
 fn told_select(selected: Selected) -> Answer
-    ensures { λ r. ⌜ r ≡ told (selectedAnswer selected) ⌝ }
+    ensures { λ r. ⌜ r ≡ cAnswer (selectedAnswer selected) ⌝ }
 {
     match selected {
         Selected::Count(count) => Answer {
@@ -96,7 +96,7 @@ fn told_select(selected: Selected) -> Answer
 // How many tests the filter has, or a refusal.
 #[no_mangle]
 pub extern "C" fn sirophan_check(sheet: &[u8], filter: &[u8]) -> Answer
-    ensures { λ r. ⌜ r ≡ told (checkAnswer (now (sheet .entry)) (now (filter .entry))) ⌝ }
+    ensures { λ r. ⌜ r ≡ cAnswer (checkAnswer (now (sheet .entry)) (now (filter .entry))) ⌝ }
 {
     let checked = sirophan::check(sheet, filter);
     told_check(checked)
@@ -105,7 +105,7 @@ pub extern "C" fn sirophan_check(sheet: &[u8], filter: &[u8]) -> Answer
 // Whether the card matches the filter, or a refusal.
 #[no_mangle]
 pub extern "C" fn sirophan_match(sheet: &[u8], filter: &[u8], card: &[u8]) -> Answer
-    ensures { λ r. ⌜ r ≡ told (matchAnswer (now (sheet .entry)) (now (filter .entry)) (now (card .entry))) ⌝ }
+    ensures { λ r. ⌜ r ≡ cAnswer (matchAnswer (now (sheet .entry)) (now (filter .entry)) (now (card .entry))) ⌝ }
 {
     let matched = sirophan::match_card(sheet, filter, card);
     told_match(matched)
@@ -114,7 +114,7 @@ pub extern "C" fn sirophan_match(sheet: &[u8], filter: &[u8], card: &[u8]) -> An
 // The same by the filter's text, without rows.
 #[no_mangle]
 pub extern "C" fn sirophan_match_by_text(sheet: &[u8], filter: &[u8], card: &[u8]) -> Answer
-    ensures { λ r. ⌜ r ≡ told (matchAnswer (now (sheet .entry)) (now (filter .entry)) (now (card .entry))) ⌝ }
+    ensures { λ r. ⌜ r ≡ cAnswer (matchAnswer (now (sheet .entry)) (now (filter .entry)) (now (card .entry))) ⌝ }
 {
     let matched = sirophan::match_by_text(sheet, filter, card);
     told_match(matched)
@@ -128,7 +128,7 @@ pub extern "C" fn sirophan_select(
     cards: &[u8],
     list: &mut [u32],
 ) -> Answer
-    ensures { λ r. ⌜ r ≡ told (selectAnswer (now (sheet .entry)) (now (filter .entry)) (now (cards .entry)) (length (now (list .entry)))) ⌝ }
+    ensures { λ r. ⌜ r ≡ cAnswer (selectAnswer (now (sheet .entry)) (now (filter .entry)) (now (cards .entry)) (length (now (list .entry)))) ⌝ }
     ensures { λ _. ⌜ now (list .exit) ≡ selectCells (now (sheet .entry)) (now (filter .entry)) (now (cards .entry)) (now (list .entry)) ⌝ }
 {
     let selected = sirophan::select(sheet, filter, cards, list);
@@ -154,7 +154,7 @@ pub extern "C" fn sirophan_select_by(
     cards: &[u8],
     list: &mut [u32],
 ) -> Answer
-    ensures { λ r. ⌜ r ≡ told (selectAnswer (now (sheet .entry)) (now (filter .entry)) (now (cards .entry)) (length (now (list .entry)))) ⌝ }
+    ensures { λ r. ⌜ r ≡ cAnswer (selectAnswer (now (sheet .entry)) (now (filter .entry)) (now (cards .entry)) (length (now (list .entry)))) ⌝ }
     ensures { λ _. ⌜ now (list .exit) ≡ selectCells (now (sheet .entry)) (now (filter .entry)) (now (cards .entry)) (now (list .entry)) ⌝ }
 {
     let by = engine_of(engine);
@@ -165,7 +165,7 @@ pub extern "C" fn sirophan_select_by(
 // How many alternatives the search string has, or a refusal.
 #[no_mangle]
 pub extern "C" fn sirophan_check_search(sheet: &[u8], text: &[u8]) -> Answer
-    ensures { λ r. ⌜ r ≡ told (checkSearchAnswer (now (sheet .entry)) (now (text .entry))) ⌝ }
+    ensures { λ r. ⌜ r ≡ cAnswer (checkSearchAnswer (now (sheet .entry)) (now (text .entry))) ⌝ }
 {
     let checked = sirophan::check_search(sheet, text);
     told_check(checked)
@@ -174,7 +174,7 @@ pub extern "C" fn sirophan_check_search(sheet: &[u8], text: &[u8]) -> Answer
 // Whether the card matches the search string, or a refusal.
 #[no_mangle]
 pub extern "C" fn sirophan_match_search(sheet: &[u8], text: &[u8], card: &[u8]) -> Answer
-    ensures { λ r. ⌜ r ≡ told (matchSearchAnswer (now (sheet .entry)) (now (text .entry)) (now (card .entry))) ⌝ }
+    ensures { λ r. ⌜ r ≡ cAnswer (matchSearchAnswer (now (sheet .entry)) (now (text .entry)) (now (card .entry))) ⌝ }
 {
     let matched = sirophan::match_search(sheet, text, card);
     told_match(matched)
@@ -188,7 +188,7 @@ pub extern "C" fn sirophan_select_search(
     cards: &[u8],
     list: &mut [u32],
 ) -> Answer
-    ensures { λ r. ⌜ r ≡ told (selectSearchAnswer (now (sheet .entry)) (now (text .entry)) (now (cards .entry)) (length (now (list .entry)))) ⌝ }
+    ensures { λ r. ⌜ r ≡ cAnswer (selectSearchAnswer (now (sheet .entry)) (now (text .entry)) (now (cards .entry)) (length (now (list .entry)))) ⌝ }
     ensures { λ _. ⌜ now (list .exit) ≡ selectSearchCells (now (sheet .entry)) (now (text .entry)) (now (cards .entry)) (now (list .entry)) ⌝ }
 {
     let selected = sirophan::select_search(sheet, text, cards, list);
@@ -198,7 +198,7 @@ pub extern "C" fn sirophan_select_search(
 // The length of the filter's plain spelling, which stands in the buffer from the place on, or a refusal.
 #[no_mangle]
 pub extern "C" fn sirophan_spell(filter: &[u8], buffer: &mut [u8], from: usize) -> Answer
-    ensures { λ r. ⌜ r ≡ told (spellAnswer (now (filter .entry)) from (length (now (buffer .entry)))) ⌝ }
+    ensures { λ r. ⌜ r ≡ cAnswer (spellAnswer (now (filter .entry)) from (length (now (buffer .entry)))) ⌝ }
     ensures { λ _. ⌜ now (buffer .exit) ≡ spellBytes (now (filter .entry)) from (now (buffer .entry)) ⌝ }
 {
     let spelled = sirophan::spell(filter, buffer, from);
@@ -214,7 +214,7 @@ pub extern "C" fn sirophan_spell(filter: &[u8], buffer: &mut [u8], from: usize) 
 // How many cells the rows of the filter fill, with the rows in the list from its first cell on, or a refusal.
 #[no_mangle]
 pub extern "C" fn sirophan_prepare(sheet: &[u8], filter: &[u8], list: &mut [u32]) -> Answer
-    ensures { λ r. ⌜ r ≡ told (prepareAnswer (now (sheet .entry)) (now (filter .entry)) (length (now (list .entry)))) ⌝ }
+    ensures { λ r. ⌜ r ≡ cAnswer (prepareAnswer (now (sheet .entry)) (now (filter .entry)) (length (now (list .entry)))) ⌝ }
     ensures { λ _. ⌜ now (list .exit) ≡ prepareCells (now (sheet .entry)) (now (filter .entry)) (now (list .entry)) ⌝ }
 {
     let prepared = sirophan::prepare(sheet, filter, list);
@@ -230,7 +230,7 @@ pub extern "C" fn sirophan_prepare(sheet: &[u8], filter: &[u8], list: &mut [u32]
 // Whether the card matches what the rows state, or a refusal.
 #[no_mangle]
 pub extern "C" fn sirophan_judge(sheet: &[u8], filter: &[u8], rows: &[u32], card: &[u8]) -> Answer
-    ensures { λ r. ⌜ r ≡ told (judgeAnswer (now (sheet .entry)) (now (filter .entry)) (now (rows .entry)) (now (card .entry))) ⌝ }
+    ensures { λ r. ⌜ r ≡ cAnswer (judgeAnswer (now (sheet .entry)) (now (filter .entry)) (now (rows .entry)) (now (card .entry))) ⌝ }
 {
     let judged = sirophan::judge(sheet, filter, rows, card);
     told_match(judged)
@@ -244,7 +244,7 @@ pub extern "C" fn sirophan_explain(
     card: &[u8],
     cells: &mut [u8],
 ) -> Answer
-    ensures { λ r. ⌜ r ≡ told (explainAnswer (now (sheet .entry)) (now (filter .entry)) (now (card .entry)) (length (now (cells .entry)))) ⌝ }
+    ensures { λ r. ⌜ r ≡ cAnswer (explainAnswer (now (sheet .entry)) (now (filter .entry)) (now (card .entry)) (length (now (cells .entry)))) ⌝ }
     ensures { λ _. ⌜ now (cells .exit) ≡ explainCells (now (sheet .entry)) (now (filter .entry)) (now (card .entry)) (now (cells .entry)) ⌝ }
 {
     let explained = explain::explain(sheet, filter, card, cells);
@@ -253,7 +253,7 @@ pub extern "C" fn sirophan_explain(
 
 // A report's answer in numbers.
 fn told_report(reported: Reported) -> Counts
-    ensures { λ r. ⌜ r ≡ toldCounts (reportedAnswer reported) ⌝ }
+    ensures { λ r. ⌜ r ≡ cCounts (reportedAnswer reported) ⌝ }
 {
     match reported {
         Reported::Counts(yes, no) => Counts {

@@ -41,7 +41,7 @@ treeBytes from buffer none = buffer
 unfoldable pub bytes : List ℕ → ℕ → List ℕ → List ℕ
 bytes text from buffer = cond (eqb (length text) 0 || ltb 1024 (length text)) buffer (treeBytes from buffer (read text))
 
--- what spelling owes on every input
+-- what spelling does on every input
 pub record SpellsInto (text buffer : List ℕ) (from : ℕ) (r : Spelled) (exit : List ℕ) : Type 0 where
   pub answers : r ≡ outcome text from (length buffer)
   pub bytes-are : exit ≡ bytes text from buffer

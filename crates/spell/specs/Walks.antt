@@ -1,4 +1,4 @@
--- What the walk over a filter's text owes, which writes as it reads: of a part of the text that is known to be an item or a filter.
+-- What the walk over a filter's text does, which writes as it reads: of a part of the text that is known to be an item or a filter.
 -- Assumes nothing.
 use Prim.Native.Nat.{ℕ, _+_}
 use mathlib.Core.Path.{_≡_}

@@ -19,7 +19,7 @@ ghost use Rattle.spell.specs.Spelling.{SpellsInto, IsFilter, TextRoom, T
 // A position in the filter's text, how many brackets may still open around it, and the byte that closes the one around it.
 pub struct Spot {
     pub at: usize,
-    pub deep: usize,
+    pub levels: usize,
     pub close: u8,
 }
 
@@ -47,7 +47,7 @@ fn write_text(filter: &[u8], out: &mut [u8]) -> usize
         filter,
         Spot {
             at: start,
-            deep: 8,
+            levels: 8,
             close: b')',
         },
         out,

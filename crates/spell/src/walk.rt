@@ -56,18 +56,18 @@ fn write_member(filter: &[u8], test: RawTest, out: &mut [u8]) -> usize
 }
 
 // Writes the filter in round brackets after not, which begins at a position inside them: "not(", the filter, ")".
-fn write_not(filter: &[u8], at: usize, deep: usize, out: &mut [u8]) -> Written
+fn write_not(filter: &[u8], at: usize, levels: usize, out: &mut [u8]) -> Written
     requires { ⌜ length (now filter) ≤ 1024 ⌝ }
     requires { ⌜ at ≤ length (now filter) ⌝ }
-    requires { ⌜ RoomFor plain (bracketAt deep (now filter) true at) (now out) ⌝ }
-    ensures { λ r. ⌜ Spelt plain (bracketAt deep (now (filter .entry)) true at) (now (out .entry)) (now (out .exit)) r ⌝ }
+    requires { ⌜ RoomFor plain (bracketAt levels (now filter) true at) (now out) ⌝ }
+    ensures { λ r. ⌜ Spelt plain (bracketAt levels (now (filter .entry)) true at) (now (out .entry)) (now (out .exit)) r ⌝ }
 {
     let start = write_word(b"not(", out);
     let inner = write_filter(
         filter,
         Spot {
             at,
-            deep,
+            levels,
             close: b')',
         },
         &mut out[start..],
@@ -82,17 +82,17 @@ fn write_not(filter: &[u8], at: usize, deep: usize, out: &mut [u8]) -> Written
 }
 
 // Writes the filter in round brackets, which begins at a position inside them; the brackets are left out.
-fn write_round(filter: &[u8], at: usize, deep: usize, out: &mut [u8]) -> Written
+fn write_round(filter: &[u8], at: usize, levels: usize, out: &mut [u8]) -> Written
     requires { ⌜ length (now filter) ≤ 1024 ⌝ }
     requires { ⌜ at ≤ length (now filter) ⌝ }
-    requires { ⌜ RoomFor plain (bracketAt deep (now filter) false at) (now out) ⌝ }
-    ensures { λ r. ⌜ Spelt plain (bracketAt deep (now (filter .entry)) false at) (now (out .entry)) (now (out .exit)) r ⌝ }
+    requires { ⌜ RoomFor plain (bracketAt levels (now filter) false at) (now out) ⌝ }
+    ensures { λ r. ⌜ Spelt plain (bracketAt levels (now (filter .entry)) false at) (now (out .entry)) (now (out .exit)) r ⌝ }
 {
     let inner = write_filter(
         filter,
         Spot {
             at,
-            deep,
+            levels,
             close: b')',
         },
         out,
@@ -109,11 +109,11 @@ fn write_chosen(filter: &[u8], spot: Spot, until: usize, out: &mut [u8]) -> Writ
     requires { ⌜ length (now filter) ≤ 1024 ⌝ }
     requires { ⌜ spot .at ≤ until ⌝ }
     requires { ⌜ until < length (now filter) ⌝ }
-    requires { ⌜ RoomFor plain (chosenAt (spot .deep) (now filter) (spot .close) (spot .at) until) (now out) ⌝ }
-    ensures { λ r. ⌜ Spelt plain (chosenAt (spot .deep) (now (filter .entry)) (spot .close) (spot .at) until) (now (out .entry)) (now (out .exit)) r ⌝ }
+    requires { ⌜ RoomFor plain (chosenAt (spot .levels) (now filter) (spot .close) (spot .at) until) (now out) ⌝ }
+    ensures { λ r. ⌜ Spelt plain (chosenAt (spot .levels) (now (filter .entry)) (spot .close) (spot .at) until) (now (out .entry)) (now (out .exit)) r ⌝ }
 {
     let at = spot.at;
-    let deep = spot.deep;
+    let levels = spot.levels;
     let close = spot.close;
     let start = write_choice(&filter[at..until], out);
     let next = skip(filter, until + 1);
@@ -121,7 +121,7 @@ fn write_chosen(filter: &[u8], spot: Spot, until: usize, out: &mut [u8]) -> Writ
         filter,
         Spot {
             at: next,
-            deep,
+            levels,
             close: b']',
         },
         &mut out[start..],
@@ -147,11 +147,11 @@ fn write_chosen(filter: &[u8], spot: Spot, until: usize, out: &mut [u8]) -> Writ
 fn write_item(filter: &[u8], spot: Spot, out: &mut [u8]) -> Written
     requires { ⌜ length (now filter) ≤ 1024 ⌝ }
     requires { ⌜ spot .at ≤ length (now filter) ⌝ }
-    requires { ⌜ RoomFor plain (itemAt (spot .deep) (now filter) (spot .close) (spot .at)) (now out) ⌝ }
-    ensures { λ r. ⌜ Spelt plain (itemAt (spot .deep) (now (filter .entry)) (spot .close) (spot .at)) (now (out .entry)) (now (out .exit)) r ⌝ }
+    requires { ⌜ RoomFor plain (itemAt (spot .levels) (now filter) (spot .close) (spot .at)) (now out) ⌝ }
+    ensures { λ r. ⌜ Spelt plain (itemAt (spot .levels) (now (filter .entry)) (spot .close) (spot .at)) (now (out .entry)) (now (out .exit)) r ⌝ }
 {
     let at = spot.at;
-    let deep = spot.deep;
+    let levels = spot.levels;
     let close = spot.close;
     let head = read_head(filter, close, at);
     match head {
@@ -166,15 +166,15 @@ fn write_item(filter: &[u8], spot: Spot, out: &mut [u8]) -> Written
         }
         Head::Open(next, negated) => {
             if negated {
-                return write_not(filter, next, deep - 1, out);
+                return write_not(filter, next, levels - 1, out);
             }
-            write_round(filter, next, deep - 1, out)
+            write_round(filter, next, levels - 1, out)
         }
         Head::Choice(until) => write_chosen(
             filter,
             Spot {
                 at,
-                deep: deep - 1,
+                levels: levels - 1,
                 close,
             },
             until,
@@ -192,8 +192,8 @@ fn write_item(filter: &[u8], spot: Spot, out: &mut [u8]) -> Written
 fn write_operand(filter: &[u8], spot: Spot, out: &mut [u8]) -> Written
     requires { ⌜ length (now filter) ≤ 1024 ⌝ }
     requires { ⌜ spot .at ≤ length (now filter) ⌝ }
-    requires { ⌜ RoomFor operand (itemAt (spot .deep) (now filter) (spot .close) (spot .at)) (now out) ⌝ }
-    ensures { λ r. ⌜ Spelt operand (itemAt (spot .deep) (now (filter .entry)) (spot .close) (spot .at)) (now (out .entry)) (now (out .exit)) r ⌝ }
+    requires { ⌜ RoomFor operand (itemAt (spot .levels) (now filter) (spot .close) (spot .at)) (now out) ⌝ }
+    ensures { λ r. ⌜ Spelt operand (itemAt (spot .levels) (now (filter .entry)) (spot .close) (spot .at)) (now (out .entry)) (now (out .exit)) r ⌝ }
 {
     let item = write_item(filter, spot, out);
     Written {
@@ -207,8 +207,8 @@ fn write_operand(filter: &[u8], spot: Spot, out: &mut [u8]) -> Written
 fn write_joined(filter: &[u8], connective: Connective, spot: Spot, out: &mut [u8]) -> Written
     requires { ⌜ length (now filter) ≤ 1024 ⌝ }
     requires { ⌜ spot .at ≤ length (now filter) ⌝ }
-    requires { ⌜ RoomFor (joined connective) (itemAt (spot .deep) (now filter) (spot .close) (spot .at)) (now out) ⌝ }
-    ensures { λ r. ⌜ Spelt (joined connective) (itemAt (spot .deep) (now (filter .entry)) (spot .close) (spot .at)) (now (out .entry)) (now (out .exit)) r ⌝ }
+    requires { ⌜ RoomFor (joined connective) (itemAt (spot .levels) (now filter) (spot .close) (spot .at)) (now out) ⌝ }
+    ensures { λ r. ⌜ Spelt (joined connective) (itemAt (spot .levels) (now (filter .entry)) (spot .close) (spot .at)) (now (out .entry)) (now (out .exit)) r ⌝ }
 {
     let start = write_connective(connective, out);
     let item = write_operand(filter, spot, &mut out[start..]);
@@ -223,13 +223,13 @@ fn write_joined(filter: &[u8], connective: Connective, spot: Spot, out: &mut [u8
 pub fn write_filter(filter: &[u8], spot: Spot, out: &mut [u8]) -> Written
     requires { ⌜ length (now filter) ≤ 1024 ⌝ }
     requires { ⌜ spot .at ≤ length (now filter) ⌝ }
-    requires { ⌜ RoomFor plain (filterAt (spot .deep) (now filter) (spot .close) (spot .at)) (now out) ⌝ }
-    ensures { λ r. ⌜ Spelt plain (filterAt (spot .deep) (now (filter .entry)) (spot .close) (spot .at)) (now (out .entry)) (now (out .exit)) r ⌝ }
+    requires { ⌜ RoomFor plain (filterAt (spot .levels) (now filter) (spot .close) (spot .at)) (now out) ⌝ }
+    ensures { λ r. ⌜ Spelt plain (filterAt (spot .levels) (now (filter .entry)) (spot .close) (spot .at)) (now (out .entry)) (now (out .exit)) r ⌝ }
 {
     let at = spot.at;
-    let deep = spot.deep;
+    let levels = spot.levels;
     let close = spot.close;
-    let mut written = write_item(filter, Spot { at, deep, close }, out);
+    let mut written = write_item(filter, Spot { at, levels, close }, out);
     loop {
         let end = written.end;
         let length = written.length;
@@ -241,7 +241,7 @@ pub fn write_filter(filter: &[u8], spot: Spot, out: &mut [u8]) -> Written
                     connective,
                     Spot {
                         at: next,
-                        deep,
+                        levels,
                         close,
                     },
                     &mut out[length..],

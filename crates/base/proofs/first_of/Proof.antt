@@ -4,11 +4,11 @@ use Rattle.base.proofs.Split.{first-place}
 use Rattle.base.proofs.first_of.Statement.{statement}
 use Rattle.base.proofs.first_of.Tie as tie
 
-place-of-requires : tie.Need-place-of-requires
-place-of-requires c κs = search needs
+first-from-requires : tie.Need-first-from-requires
+first-from-requires c κs = search needs
 
 returns : tie.Need-returns
-returns c = first-place _ _ _ (c .place-of .ensures)
+returns c = first-place _ _ _ (c .first-from .ensures)
 
 pub first-of-spec : {M : Type 1} → statement M
-first-of-spec = tie.close (tie.spec place-of-requires returns)
+first-of-spec = tie.close (tie.spec first-from-requires returns)

@@ -1,7 +1,7 @@
 -- `checking::check` meets its contract: the sheet first, then the filter. Assumes nothing.
 use borrow.Author.Needs.{needs}
 use mathlib.Core.Path.{refl, sym, _∙_}
-use Rattle.block.specs.declared.Reading.{Reading}
+use Rattle.block.specs.declared.Validity.{Validity}
 use Rattle.checking.proofs.Checking.{check-sheet, check-filter}
 use Rattle.checking.proofs.check.Statement.{statement}
 use Rattle.checking.proofs.check.Tie as tie
@@ -37,13 +37,13 @@ returns : tie.Need-returns
 returns c = search (check-filter, needs)
 
 returns-2 : tie.Need-returns-2
-returns-2 c = check-sheet _ _ _ (c .before .before .before .read-sheet .ensures) _ Reading.WrongSize 1 (λ ps. refl) (c .before .enum-told2 .given .1) (c .refuse .ensures)
+returns-2 c = check-sheet _ _ _ (c .before .before .before .read-sheet .ensures) _ Validity.WrongSize 1 (λ ps. refl) (c .before .enum-told2 .given .1) (c .refuse .ensures)
 
 returns-3 : tie.Need-returns-3
-returns-3 c = check-sheet _ _ _ (c .before .before .before .read-sheet .ensures) _ Reading.WrongSum 2 (λ ps. refl) (c .before .enum-told3 .given .1) (c .refuse2 .ensures)
+returns-3 c = check-sheet _ _ _ (c .before .before .before .read-sheet .ensures) _ Validity.WrongSum 2 (λ ps. refl) (c .before .enum-told3 .given .1) (c .refuse2 .ensures)
 
 returns-4 : tie.Need-returns-4
-returns-4 c = check-sheet _ _ _ (c .before .before .before .read-sheet .ensures) _ Reading.WrongLayout 3 (λ ps. refl) (c .before .enum-told4 .given .1) (c .refuse3 .ensures)
+returns-4 c = check-sheet _ _ _ (c .before .before .before .read-sheet .ensures) _ Validity.WrongLayout 3 (λ ps. refl) (c .before .enum-told4 .given .1) (c .refuse3 .ensures)
 
 pub check-spec : {M : Type 1} → statement M
 check-spec =

@@ -49,7 +49,7 @@ use Rattle.report.proofs.report.Symbol as report-def
 use Rattle.report.proofs.report.Symbol.{name as #report}
 use Rattle.report.proofs.report.Met as report-thm
 use Rattle.sirophan_c.specs.declared.Counts.{Counts}
-use Rattle.sirophan_c.specs.Answers.{toldCounts}
+use Rattle.sirophan_c.specs.Answers.{cCounts}
 use Rattle.sirophan_c.specs.Contracts.{TellsReport}
 use Rattle.sirophan_c.proofs.Answers.{tells-report}
 use Rattle.sirophan_c.proofs.Counts as N
@@ -73,8 +73,8 @@ module _ {M : Type 1} (𝓤 : URA M) (H : Heap 𝓤) (A : Atoms 𝓤) (mem : Mem
   abbrev Told : Contract 𝓤
   Told = tripleOf 𝓤 H A told.signature (told.spec 𝓤 H A mem run)
 
-  told-said : (r : Reported) (c : Counts) → ent 𝓤 (ensured 𝓤 H A told.ended (told.clauses 𝓤 H A mem run) tt (r, tt) tt c) (fact 𝓤 (c ≡ toldCounts (reportedAnswer r)))
-  told-said r c = exE 𝓤 _ (λ ws. snd∗ 𝓤 (sem 𝓤 H A (lasts told.ended tt (r, tt) ws)) (fact 𝓤 (c ≡ toldCounts (reportedAnswer r))))
+  told-said : (r : Reported) (c : Counts) → ent 𝓤 (ensured 𝓤 H A told.ended (told.clauses 𝓤 H A mem run) tt (r, tt) tt c) (fact 𝓤 (c ≡ cCounts (reportedAnswer r)))
+  told-said r c = exE 𝓤 _ (λ ws. snd∗ 𝓤 (sem 𝓤 H A (lasts told.ended tt (r, tt) ws)) (fact 𝓤 (c ≡ cCounts (reportedAnswer r))))
 
 module _ {M : Type 1} (𝓤 : URA M) (H : Heap 𝓤) (A : Atoms 𝓤) (W : Given 𝓤 H A) (mem : Memory → SProp 𝓤) (run : Routine → Fun 𝓤) (κ₀ κ₁ κ₂ κ₃ : Lft) (q₀ q₁ q₂ q₃ : Share) (x₀ x₁ x₂ : RefT (List ℕ)) (x : RefT (List Tally)) where
   abbrev ys : List Tally
@@ -173,7 +173,7 @@ module _ {M : Type 1} (𝓤 : URA M) (H : Heap 𝓤) (A : Atoms 𝓤) (W : Given
         use1 W (raw (Told 𝓤 H A mem run .pre (to-told r v))) (goes-told r v) $
         calls-at ! fm (Told 𝓤 H A mem run) known-told (to-told r v) (and-then ! (load ! (from ! (stop !)) (look ! 14 refl)) (no-more !)) (λ w.
         use1 W (later (some (λ (c : Counts). (‵ ftrue ⊛ ‵ (N.the-row .own c (w ∷ []))) ⊛ raw (ensured 𝓤 H A told.ended (told.clauses 𝓤 H A mem run) tt (r, tt) tt c)))) (id⊢ 𝓤 _) $ await ! tt $ pick ! (λ c.
-        split ! $ move ! (1 ∷ []) $ use1 W (raw (fact 𝓤 (c ≡ toldCounts (reportedAnswer r)))) (told-said 𝓤 H A mem run r c) $ heard ! (c ≡ toldCounts (reportedAnswer r)) (λ e₂. split ! $ drop ! $
+        split ! $ move ! (1 ∷ []) $ use1 W (raw (fact 𝓤 (c ≡ cCounts (reportedAnswer r)))) (told-said 𝓤 H A mem run r c) $ heard ! (c ≡ cCounts (reportedAnswer r)) (λ e₂. split ! $ drop ! $
         peeks ! N.the-row (Is N.the-row) (shows 𝓤 H A N.the-row) c (w ∷ []) (λ is-c. land ! (from ! (stop !)) (init ! 24 refl (LL.lawful N.the-type N′.the-laws 𝓤 H A W .typed c _ is-c .0)) $
         returns ! (look ! 24 refl) $ forget ! 10 refl $ forget ! 12 refl $ forget ! 14 refl $ forget ! 16 refl $ forget ! 18 refl $ forget ! 20 refl $ forget ! 22 refl $ forget ! 24 refl $
         move ! (24 ∷ 25 ∷ []) $ free1 ! $ move ! (22 ∷ 23 ∷ []) $ free1 ! $ move ! (20 ∷ 21 ∷ []) $ free1 ! $ move ! (18 ∷ 19 ∷ []) $ free1 ! $ move ! (16 ∷ 17 ∷ []) $ free1 ! $ move ! (14 ∷ 15 ∷ []) $ free1 ! $ move ! (12 ∷ 13 ∷ []) $ free1 ! $ move ! (10 ∷ 11 ∷ []) $ free1 ! $ free0 ! $

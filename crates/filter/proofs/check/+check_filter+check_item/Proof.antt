@@ -56,10 +56,10 @@ check-item-below t =
     and 2 check-item-kinds.ps (falls 2 check-item-kinds.ps _<_ μ-check-item t) check-item.Pre
 
 abbrev check-filter-Inv-loop : check-filter-lts.InvT-loop
-check-filter-Inv-loop sheet filter at deep close bundle first-end end₀ summary₀ end summary = Chain Walked.Done Walked.Nothing walked-cases (reading (parametersOf sheet) bundle) filter close deep at end summary
+check-filter-Inv-loop sheet filter at levels close bundle first-end end₀ summary₀ end summary = Chain Walked.Done Walked.Nothing walked-cases (reading (parametersOf sheet) bundle) filter close levels at end summary
 
 abbrev check-filter-μ-loop : check-filter-lts.MeasureT-loop
-check-filter-μ-loop sheet filter at deep close bundle first-end end₀ summary₀ end summary = length filter - end
+check-filter-μ-loop sheet filter at levels close bundle first-end end₀ summary₀ end summary = length filter - end
 
 pub +check-filter+check-item-spec : {M : Type 1} → statement M
 +check-filter+check-item-spec =

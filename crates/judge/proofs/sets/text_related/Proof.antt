@@ -4,17 +4,17 @@ use Rattle.judge.proofs.Entries.{related-differs, related-plain}
 use Rattle.judge.proofs.sets.text_related.Statement.{statement}
 use Rattle.judge.proofs.sets.text_related.Tie as tie
 
-stands-requires : tie.Need-stands-requires
-stands-requires c κs = search needs
+relates-to-requires : tie.Need-relates-to-requires
+relates-to-requires c κs = search needs
 
 returns : tie.Need-returns
 returns c = search (related-differs, needs)
 
-stands-requires-2 : tie.Need-stands-requires-2
-stands-requires-2 c κs = search needs
+relates-to-requires-2 : tie.Need-relates-to-requires-2
+relates-to-requires-2 c κs = search needs
 
 returns-2 : tie.Need-returns-2
 returns-2 c = search (related-plain, needs)
 
 pub text-related-spec : {M : Type 1} → statement M
-text-related-spec = tie.close (tie.spec stands-requires returns stands-requires-2 returns-2)
+text-related-spec = tie.close (tie.spec relates-to-requires returns relates-to-requires-2 returns-2)

@@ -10,14 +10,14 @@ enum-told c = search needs
 enum-known-meaning : tie.Need-enum-known-meaning
 enum-known-meaning c = search needs
 
-stands-read-requires : tie.Need-stands-read-requires
-stands-read-requires c κs = search needs
+relates-read-requires : tie.Need-relates-read-requires
+relates-read-requires c κs = search needs
 
 enum-known-meaning-2 : tie.Need-enum-known-meaning-2
 enum-known-meaning-2 c = search needs
 
-stands-read-requires-2 : tie.Need-stands-read-requires-2
-stands-read-requires-2 c κs = search needs
+relates-read-requires-2 : tie.Need-relates-read-requires-2
+relates-read-requires-2 c κs = search needs
 
 enum-told-2 : tie.Need-enum-told-2
 enum-told-2 c = search needs
@@ -40,9 +40,9 @@ counts-read-spec =
     (tie.spec
     enum-told
     enum-known-meaning
-    stands-read-requires
+    relates-read-requires
     enum-known-meaning-2
-    stands-read-requires-2
+    relates-read-requires-2
     enum-told-2
     returns
     returns-2

@@ -1,6 +1,6 @@
 -- `kind::relate::readings_of` meets its contract: each arm is a case of the definition. Assumes nothing.
 use borrow.Author.Needs.{needs}
-use Rattle.kind.specs.Stands.{readingsOf}
+use Rattle.kind.specs.Relations.{readingsOf}
 use Rattle.kind.proofs.relate.readings_of.Statement.{statement}
 use Rattle.kind.proofs.relate.readings_of.Tie as tie
 

@@ -60,10 +60,10 @@ write-item-below t =
     and 3 write-item-kinds.ps (falls 3 write-item-kinds.ps _<_ μ-write-item t) write-item.Pre
 
 abbrev write-filter-Inv-loop : write-filter-lts.InvT-loop
-write-filter-Inv-loop sheet filter rows₀ row at deep close bundle first-end end₀ summary₀ cells₀ rows end summary cells = Chained (parametersOf sheet) bundle filter row close deep at rows₀ end summary cells rows
+write-filter-Inv-loop sheet filter rows₀ row at levels close bundle first-end end₀ summary₀ cells₀ rows end summary cells = Chained (parametersOf sheet) bundle filter row close levels at rows₀ end summary cells rows
 
 abbrev write-filter-μ-loop : write-filter-lts.MeasureT-loop
-write-filter-μ-loop sheet filter rows₀ row at deep close bundle first-end end₀ summary₀ cells₀ rows end summary cells = length filter - end
+write-filter-μ-loop sheet filter rows₀ row at levels close bundle first-end end₀ summary₀ cells₀ rows end summary cells = length filter - end
 
 pub +write-filter+write-item-spec : {M : Type 1} → statement M
 +write-filter+write-item-spec =

@@ -6,8 +6,8 @@ use Rattle.search.proofs.Pairs.{front-fits, pair-uncut, pair-name-bad, 
 use Rattle.search.proofs.pair.read_pair.Statement.{statement}
 use Rattle.search.proofs.pair.read_pair.Tie as tie
 
-place-of-requires : tie.Need-place-of-requires
-place-of-requires c κs = search needs
+first-from-requires : tie.Need-first-from-requires
+first-from-requires c κs = search needs
 
 returns : tie.Need-returns
 returns c = search (pair-uncut, needs)
@@ -73,7 +73,7 @@ pub read-pair-spec : {M : Type 1} → statement M
 read-pair-spec =
     tie.close
     (tie.spec
-    place-of-requires
+    first-from-requires
     returns
     slice-aggregate-decode
     decode-requires

@@ -17,8 +17,8 @@ abbrev μ-loop : tie.MeasureT-loop
 loop-holds : tie.Need-loop-holds Inv-loop μ-loop
 loop-holds c = (search (pass-starts, needs), (refl, search needs))
 
-place-of-requires : tie.Need-place-of-requires Inv-loop μ-loop
-place-of-requires c κs = search (pass-within, needs)
+first-from-requires : tie.Need-first-from-requires Inv-loop μ-loop
+first-from-requires c κs = search (pass-within, needs)
 
 sub-read-pair : tie.Need-sub-read-pair Inv-loop μ-loop
 sub-read-pair c = search needs
@@ -93,7 +93,7 @@ read-query-spec =
     Inv-loop
     μ-loop
     loop-holds
-    place-of-requires
+    first-from-requires
     sub-read-pair
     part-read-pair-start
     part-read-pair-end

@@ -292,7 +292,7 @@ write-chosen-add-end : (t : ℕ) → write-chosen-lts.Need-add-end (
   write-member-reads.Asked,
   write-member-reads.Learnt,
 ) (write-chosen-at t) write-chosen.Post
-write-chosen-add-end t c = record { fits = omega (arith, chosen-inner-within (c .before .before .before .before .before .before .before .before .before .before .before .before .before .args .spot .deep) (c .before .before .before .before .before .before .before .before .before .before .before .before .before .args .filter .now) (c .before .before .before .before .before .before .before .before .before .before .before .before .before .args .spot .close) (c .before .before .before .before .before .before .before .before .before .before .before .before .before .args .spot .at) (c .before .before .before .before .before .before .before .before .before .before .before .before .before .args .until) _ (search needs) (c .before .before .before .before .before .before .before .before .write-choice .ensures) _ (c .before .before .before .before .before .skip .ensures) (c .before .before .before .write-filter .ensures)) }
+write-chosen-add-end t c = record { fits = omega (arith, chosen-inner-within (c .before .before .before .before .before .before .before .before .before .before .before .before .before .args .spot .levels) (c .before .before .before .before .before .before .before .before .before .before .before .before .before .args .filter .now) (c .before .before .before .before .before .before .before .before .before .before .before .before .before .args .spot .close) (c .before .before .before .before .before .before .before .before .before .before .before .before .before .args .spot .at) (c .before .before .before .before .before .before .before .before .before .before .before .before .before .args .until) _ (search needs) (c .before .before .before .before .before .before .before .before .write-choice .ensures) _ (c .before .before .before .before .before .skip .ensures) (c .before .before .before .write-filter .ensures)) }
 
 write-chosen-read-member-requires : (t : ℕ) → write-chosen-lts.Need-read-member-requires (
   write-choice-reads.Asked,
@@ -334,7 +334,7 @@ write-chosen-sub-write-member : (t : ℕ) → write-chosen-lts.Need-sub-write-me
   write-member-reads.Asked,
   write-member-reads.Learnt,
 ) (write-chosen-at t) write-chosen.Post
-write-chosen-sub-write-member t c = chosen-inner-within (c .before .before .before .before .before .before .before .before .before .before .before .before .before .before .before .before .before .args .spot .deep) (c .before .before .before .before .before .before .before .before .before .before .before .before .before .before .before .before .before .args .filter .now) (c .before .before .before .before .before .before .before .before .before .before .before .before .before .before .before .before .before .args .spot .close) (c .before .before .before .before .before .before .before .before .before .before .before .before .before .before .before .before .before .args .spot .at) (c .before .before .before .before .before .before .before .before .before .before .before .before .before .before .before .before .before .args .until) _ (c .before .before .before .before .before .before .before .before .before .before .before .before .before .before .before .before .before .pre .1 .1 .1 .1) (c .before .before .before .before .before .before .before .before .before .before .before .before .write-choice .ensures) _ (c .before .before .before .before .before .before .before .before .before .skip .ensures) (c .before .before .before .before .before .before .before .write-filter .ensures)
+write-chosen-sub-write-member t c = chosen-inner-within (c .before .before .before .before .before .before .before .before .before .before .before .before .before .before .before .before .before .args .spot .levels) (c .before .before .before .before .before .before .before .before .before .before .before .before .before .before .before .before .before .args .filter .now) (c .before .before .before .before .before .before .before .before .before .before .before .before .before .before .before .before .before .args .spot .close) (c .before .before .before .before .before .before .before .before .before .before .before .before .before .before .before .before .before .args .spot .at) (c .before .before .before .before .before .before .before .before .before .before .before .before .before .before .before .before .before .args .until) _ (c .before .before .before .before .before .before .before .before .before .before .before .before .before .before .before .before .before .pre .1 .1 .1 .1) (c .before .before .before .before .before .before .before .before .before .before .before .before .write-choice .ensures) _ (c .before .before .before .before .before .before .before .before .before .skip .ensures) (c .before .before .before .before .before .before .before .write-filter .ensures)
 
 write-chosen-part-write-member-start : (t : ℕ) → write-chosen-lts.Need-part-write-member-start (
   write-choice-reads.Asked,
@@ -348,7 +348,7 @@ write-chosen-part-write-member-start : (t : ℕ) → write-chosen-lts.Need-part-
   write-member-reads.Asked,
   write-member-reads.Learnt,
 ) (write-chosen-at t) write-chosen.Post
-write-chosen-part-write-member-start t c = chosen-inner-within (c .before .before .before .before .before .before .before .before .before .before .before .before .before .before .before .before .before .args .spot .deep) (c .before .before .before .before .before .before .before .before .before .before .before .before .before .before .before .before .before .args .filter .now) (c .before .before .before .before .before .before .before .before .before .before .before .before .before .before .before .before .before .args .spot .close) (c .before .before .before .before .before .before .before .before .before .before .before .before .before .before .before .before .before .args .spot .at) (c .before .before .before .before .before .before .before .before .before .before .before .before .before .before .before .before .before .args .until) _ (c .before .before .before .before .before .before .before .before .before .before .before .before .before .before .before .before .before .pre .1 .1 .1 .1) (c .before .before .before .before .before .before .before .before .before .before .before .before .write-choice .ensures) _ (c .before .before .before .before .before .before .before .before .before .skip .ensures) (c .before .before .before .before .before .before .before .write-filter .ensures)
+write-chosen-part-write-member-start t c = chosen-inner-within (c .before .before .before .before .before .before .before .before .before .before .before .before .before .before .before .before .before .args .spot .levels) (c .before .before .before .before .before .before .before .before .before .before .before .before .before .before .before .before .before .args .filter .now) (c .before .before .before .before .before .before .before .before .before .before .before .before .before .before .before .before .before .args .spot .close) (c .before .before .before .before .before .before .before .before .before .before .before .before .before .before .before .before .before .args .spot .at) (c .before .before .before .before .before .before .before .before .before .before .before .before .before .before .before .before .before .args .until) _ (c .before .before .before .before .before .before .before .before .before .before .before .before .before .before .before .before .before .pre .1 .1 .1 .1) (c .before .before .before .before .before .before .before .before .before .before .before .before .write-choice .ensures) _ (c .before .before .before .before .before .before .before .before .before .skip .ensures) (c .before .before .before .before .before .before .before .write-filter .ensures)
 
 write-chosen-part-write-member-end : (t : ℕ) → write-chosen-lts.Need-part-write-member-end (
   write-choice-reads.Asked,
@@ -376,7 +376,7 @@ write-chosen-write-member-requires : (t : ℕ) → write-chosen-lts.Need-write-m
   write-member-reads.Asked,
   write-member-reads.Learnt,
 ) (write-chosen-at t) write-chosen.Post
-write-chosen-write-member-requires t c κs = ((c .before .before .before .before .before .before .before .before .before .before .before .before .before .before .before .before .before .before .pre .1 .0), (member-ahead _ _ _ _ (c .before .before .before .before .read-member .ensures) _ (c .before .before .member .given .1) .0, (member-operator _ _ _ _ (c .before .before .before .before .read-member .ensures) _ (c .before .before .member .given .1), chosen-member-room (c .before .before .before .before .before .before .before .before .before .before .before .before .before .before .before .before .before .before .args .spot .deep) (c .before .before .before .before .before .before .before .before .before .before .before .before .before .before .before .before .before .before .args .filter .now) (c .before .before .before .before .before .before .before .before .before .before .before .before .before .before .before .before .before .before .args .spot .close) (c .before .before .before .before .before .before .before .before .before .before .before .before .before .before .before .before .before .before .args .spot .at) (c .before .before .before .before .before .before .before .before .before .before .before .before .before .before .before .before .before .before .args .until) _ (c .before .before .before .before .before .before .before .before .before .before .before .before .before .before .before .before .before .before .pre .1 .1 .1 .1) (c .before .before .before .before .before .before .before .before .before .before .before .before .before .write-choice .ensures) _ (c .before .before .before .before .before .before .before .before .before .before .skip .ensures) (c .before .before .before .before .before .before .before .before .write-filter .ensures) _ (c .before .before .before .before .read-member .ensures) _ (c .before .before .member .given .1))))
+write-chosen-write-member-requires t c κs = ((c .before .before .before .before .before .before .before .before .before .before .before .before .before .before .before .before .before .before .pre .1 .0), (member-ahead _ _ _ _ (c .before .before .before .before .read-member .ensures) _ (c .before .before .member .given .1) .0, (member-operator _ _ _ _ (c .before .before .before .before .read-member .ensures) _ (c .before .before .member .given .1), chosen-member-room (c .before .before .before .before .before .before .before .before .before .before .before .before .before .before .before .before .before .before .args .spot .levels) (c .before .before .before .before .before .before .before .before .before .before .before .before .before .before .before .before .before .before .args .filter .now) (c .before .before .before .before .before .before .before .before .before .before .before .before .before .before .before .before .before .before .args .spot .close) (c .before .before .before .before .before .before .before .before .before .before .before .before .before .before .before .before .before .before .args .spot .at) (c .before .before .before .before .before .before .before .before .before .before .before .before .before .before .before .before .before .before .args .until) _ (c .before .before .before .before .before .before .before .before .before .before .before .before .before .before .before .before .before .before .pre .1 .1 .1 .1) (c .before .before .before .before .before .before .before .before .before .before .before .before .before .write-choice .ensures) _ (c .before .before .before .before .before .before .before .before .before .before .skip .ensures) (c .before .before .before .before .before .before .before .before .write-filter .ensures) _ (c .before .before .before .before .read-member .ensures) _ (c .before .before .member .given .1))))
 
 write-chosen-add-t28 : (t : ℕ) → write-chosen-lts.Need-add-t28 (
   write-choice-reads.Asked,
@@ -390,7 +390,7 @@ write-chosen-add-t28 : (t : ℕ) → write-chosen-lts.Need-add-t28 (
   write-member-reads.Asked,
   write-member-reads.Learnt,
 ) (write-chosen-at t) write-chosen.Post
-write-chosen-add-t28 t c = record { fits = omega (arith, chosen-fits (c .before .before .before .before .before .before .before .before .before .before .before .before .before .before .before .before .before .before .before .before .before .before .args .spot .deep) (c .before .before .before .before .before .before .before .before .before .before .before .before .before .before .before .before .before .before .before .before .before .before .args .filter .now) (c .before .before .before .before .before .before .before .before .before .before .before .before .before .before .before .before .before .before .before .before .before .before .args .spot .close) (c .before .before .before .before .before .before .before .before .before .before .before .before .before .before .before .before .before .before .before .before .before .before .args .spot .at) (c .before .before .before .before .before .before .before .before .before .before .before .before .before .before .before .before .before .before .before .before .before .before .args .until) _ (c .before .before .before .before .before .before .before .before .before .before .before .before .before .before .before .before .before .before .before .before .before .before .pre .1 .1 .1 .1) (c .before .before .before .before .before .before .before .before .before .before .before .before .before .before .before .before .before .write-choice .ensures) _ (c .before .before .before .before .before .before .before .before .before .before .before .before .before .before .skip .ensures) (c .before .before .before .before .before .before .before .before .before .before .before .before .write-filter .ensures) _ (c .before .before .before .before .before .before .before .before .read-member .ensures) _ (c .before .before .before .before .before .before .member .given .1) (c .before .before .before .write-member .ensures), c .before .before .before .before .before .before .before .before .before .before .before .before .before .before .before .before .before .before .before .before .before .before .good) }
+write-chosen-add-t28 t c = record { fits = omega (arith, chosen-fits (c .before .before .before .before .before .before .before .before .before .before .before .before .before .before .before .before .before .before .before .before .before .before .args .spot .levels) (c .before .before .before .before .before .before .before .before .before .before .before .before .before .before .before .before .before .before .before .before .before .before .args .filter .now) (c .before .before .before .before .before .before .before .before .before .before .before .before .before .before .before .before .before .before .before .before .before .before .args .spot .close) (c .before .before .before .before .before .before .before .before .before .before .before .before .before .before .before .before .before .before .before .before .before .before .args .spot .at) (c .before .before .before .before .before .before .before .before .before .before .before .before .before .before .before .before .before .before .before .before .before .before .args .until) _ (c .before .before .before .before .before .before .before .before .before .before .before .before .before .before .before .before .before .before .before .before .before .before .pre .1 .1 .1 .1) (c .before .before .before .before .before .before .before .before .before .before .before .before .before .before .before .before .before .write-choice .ensures) _ (c .before .before .before .before .before .before .before .before .before .before .before .before .before .before .skip .ensures) (c .before .before .before .before .before .before .before .before .before .before .before .before .write-filter .ensures) _ (c .before .before .before .before .before .before .before .before .read-member .ensures) _ (c .before .before .before .before .before .before .member .given .1) (c .before .before .before .write-member .ensures), c .before .before .before .before .before .before .before .before .before .before .before .before .before .before .before .before .before .before .before .before .before .before .good) }
 
 write-chosen-enum-told : (t : ℕ) → write-chosen-lts.Need-enum-told (
   write-choice-reads.Asked,
@@ -418,7 +418,7 @@ write-chosen-same-length : (t : ℕ) → write-chosen-lts.Need-same-length (
   write-member-reads.Asked,
   write-member-reads.Learnt,
 ) (write-chosen-at t) write-chosen.Post
-write-chosen-same-length t c = chosen-long (c .before .before .before .before .before .before .before .before .before .before .before .before .before .before .before .before .before .before .before .before .before .before .args .spot .deep) (c .before .before .before .before .before .before .before .before .before .before .before .before .before .before .before .before .before .before .before .before .before .before .args .filter .now) (c .before .before .before .before .before .before .before .before .before .before .before .before .before .before .before .before .before .before .before .before .before .before .args .spot .close) (c .before .before .before .before .before .before .before .before .before .before .before .before .before .before .before .before .before .before .before .before .before .before .args .spot .at) (c .before .before .before .before .before .before .before .before .before .before .before .before .before .before .before .before .before .before .before .before .before .before .args .until) _ (c .before .before .before .before .before .before .before .before .before .before .before .before .before .before .before .before .before .before .before .before .before .before .pre .1 .1 .1 .1) (c .before .before .before .before .before .before .before .before .before .before .before .before .before .before .before .before .before .write-choice .ensures) _ (c .before .before .before .before .before .before .before .before .before .before .before .before .before .before .skip .ensures) (c .before .before .before .before .before .before .before .before .before .before .before .before .write-filter .ensures) _ (c .before .before .before .before .before .before .before .before .read-member .ensures) _ (c .before .before .before .before .before .before .member .given .1) (c .before .before .before .write-member .ensures)
+write-chosen-same-length t c = chosen-long (c .before .before .before .before .before .before .before .before .before .before .before .before .before .before .before .before .before .before .before .before .before .before .args .spot .levels) (c .before .before .before .before .before .before .before .before .before .before .before .before .before .before .before .before .before .before .before .before .before .before .args .filter .now) (c .before .before .before .before .before .before .before .before .before .before .before .before .before .before .before .before .before .before .before .before .before .before .args .spot .close) (c .before .before .before .before .before .before .before .before .before .before .before .before .before .before .before .before .before .before .before .before .before .before .args .spot .at) (c .before .before .before .before .before .before .before .before .before .before .before .before .before .before .before .before .before .before .before .before .before .before .args .until) _ (c .before .before .before .before .before .before .before .before .before .before .before .before .before .before .before .before .before .before .before .before .before .before .pre .1 .1 .1 .1) (c .before .before .before .before .before .before .before .before .before .before .before .before .before .before .before .before .before .write-choice .ensures) _ (c .before .before .before .before .before .before .before .before .before .before .before .before .before .before .skip .ensures) (c .before .before .before .before .before .before .before .before .before .before .before .before .write-filter .ensures) _ (c .before .before .before .before .before .before .before .before .read-member .ensures) _ (c .before .before .before .before .before .before .member .given .1) (c .before .before .before .write-member .ensures)
 
 write-chosen-returns : (t : ℕ) → write-chosen-lts.Need-returns (
   write-choice-reads.Asked,
@@ -432,7 +432,7 @@ write-chosen-returns : (t : ℕ) → write-chosen-lts.Need-returns (
   write-member-reads.Asked,
   write-member-reads.Learnt,
 ) (write-chosen-at t) write-chosen.Post
-write-chosen-returns t c = chosen-spelt (c .before .before .before .before .before .before .before .before .before .before .before .before .before .before .before .before .before .before .before .before .before .before .args .spot .deep) (c .before .before .before .before .before .before .before .before .before .before .before .before .before .before .before .before .before .before .before .before .before .before .args .filter .now) (c .before .before .before .before .before .before .before .before .before .before .before .before .before .before .before .before .before .before .before .before .before .before .args .spot .close) (c .before .before .before .before .before .before .before .before .before .before .before .before .before .before .before .before .before .before .before .before .before .before .args .spot .at) (c .before .before .before .before .before .before .before .before .before .before .before .before .before .before .before .before .before .before .before .before .before .before .args .until) _ (c .before .before .before .before .before .before .before .before .before .before .before .before .before .before .before .before .before .before .before .before .before .before .pre .1 .1 .1 .1) (c .before .before .before .before .before .before .before .before .before .before .before .before .before .before .before .before .before .write-choice .ensures) _ (c .before .before .before .before .before .before .before .before .before .before .before .before .before .before .skip .ensures) (c .before .before .before .before .before .before .before .before .before .before .before .before .write-filter .ensures) _ (c .before .before .before .before .before .before .before .before .read-member .ensures) _ (c .before .before .before .before .before .before .member .given .1) (c .before .before .before .write-member .ensures)
+write-chosen-returns t c = chosen-spelt (c .before .before .before .before .before .before .before .before .before .before .before .before .before .before .before .before .before .before .before .before .before .before .args .spot .levels) (c .before .before .before .before .before .before .before .before .before .before .before .before .before .before .before .before .before .before .before .before .before .before .args .filter .now) (c .before .before .before .before .before .before .before .before .before .before .before .before .before .before .before .before .before .before .before .before .before .before .args .spot .close) (c .before .before .before .before .before .before .before .before .before .before .before .before .before .before .before .before .before .before .before .before .before .before .args .spot .at) (c .before .before .before .before .before .before .before .before .before .before .before .before .before .before .before .before .before .before .before .before .before .before .args .until) _ (c .before .before .before .before .before .before .before .before .before .before .before .before .before .before .before .before .before .before .before .before .before .before .pre .1 .1 .1 .1) (c .before .before .before .before .before .before .before .before .before .before .before .before .before .before .before .before .before .write-choice .ensures) _ (c .before .before .before .before .before .before .before .before .before .before .before .before .before .before .skip .ensures) (c .before .before .before .before .before .before .before .before .before .before .before .before .write-filter .ensures) _ (c .before .before .before .before .before .before .before .before .read-member .ensures) _ (c .before .before .before .before .before .before .member .given .1) (c .before .before .before .write-member .ensures)
 
 write-chosen-same-length-2 : (t : ℕ) → write-chosen-lts.Need-same-length-2 (
   write-choice-reads.Asked,
@@ -446,7 +446,7 @@ write-chosen-same-length-2 : (t : ℕ) → write-chosen-lts.Need-same-length-2 (
   write-member-reads.Asked,
   write-member-reads.Learnt,
 ) (write-chosen-at t) write-chosen.Post
-write-chosen-same-length-2 t c = chosen-nothing (c .before .before .before .before .before .before .before .before .before .before .before .before .before .before .before .before .args .spot .deep) (c .before .before .before .before .before .before .before .before .before .before .before .before .before .before .before .before .args .filter .now) (c .before .before .before .before .before .before .before .before .before .before .before .before .before .before .before .before .args .spot .close) (c .before .before .before .before .before .before .before .before .before .before .before .before .before .before .before .before .args .spot .at) (c .before .before .before .before .before .before .before .before .before .before .before .before .before .before .before .before .args .until) _ (c .before .before .before .before .before .before .before .before .before .before .before .before .before .before .before .before .pre .1 .1 .1 .1) (c .before .before .before .before .before .before .before .before .before .before .before .write-choice .ensures) _ (c .before .before .before .before .before .before .before .before .skip .ensures) (c .before .before .before .before .before .before .write-filter .ensures) _ (c .before .before .read-member .ensures) (c .enum-told .given .1)
+write-chosen-same-length-2 t c = chosen-nothing (c .before .before .before .before .before .before .before .before .before .before .before .before .before .before .before .before .args .spot .levels) (c .before .before .before .before .before .before .before .before .before .before .before .before .before .before .before .before .args .filter .now) (c .before .before .before .before .before .before .before .before .before .before .before .before .before .before .before .before .args .spot .close) (c .before .before .before .before .before .before .before .before .before .before .before .before .before .before .before .before .args .spot .at) (c .before .before .before .before .before .before .before .before .before .before .before .before .before .before .before .before .args .until) _ (c .before .before .before .before .before .before .before .before .before .before .before .before .before .before .before .before .pre .1 .1 .1 .1) (c .before .before .before .before .before .before .before .before .before .before .before .write-choice .ensures) _ (c .before .before .before .before .before .before .before .before .skip .ensures) (c .before .before .before .before .before .before .write-filter .ensures) _ (c .before .before .read-member .ensures) (c .enum-told .given .1)
 
 write-chosen-returns-2 : (t : ℕ) → write-chosen-lts.Need-returns-2 (
   write-choice-reads.Asked,
@@ -460,13 +460,13 @@ write-chosen-returns-2 : (t : ℕ) → write-chosen-lts.Need-returns-2 (
   write-member-reads.Asked,
   write-member-reads.Learnt,
 ) (write-chosen-at t) write-chosen.Post
-write-chosen-returns-2 t c = chosen-nothing (c .before .before .before .before .before .before .before .before .before .before .before .before .before .before .before .before .args .spot .deep) (c .before .before .before .before .before .before .before .before .before .before .before .before .before .before .before .before .args .filter .now) (c .before .before .before .before .before .before .before .before .before .before .before .before .before .before .before .before .args .spot .close) (c .before .before .before .before .before .before .before .before .before .before .before .before .before .before .before .before .args .spot .at) (c .before .before .before .before .before .before .before .before .before .before .before .before .before .before .before .before .args .until) _ (c .before .before .before .before .before .before .before .before .before .before .before .before .before .before .before .before .pre .1 .1 .1 .1) (c .before .before .before .before .before .before .before .before .before .before .before .write-choice .ensures) _ (c .before .before .before .before .before .before .before .before .skip .ensures) (c .before .before .before .before .before .before .write-filter .ensures) _ (c .before .before .read-member .ensures) (c .enum-told .given .1)
+write-chosen-returns-2 t c = chosen-nothing (c .before .before .before .before .before .before .before .before .before .before .before .before .before .before .before .before .args .spot .levels) (c .before .before .before .before .before .before .before .before .before .before .before .before .before .before .before .before .args .filter .now) (c .before .before .before .before .before .before .before .before .before .before .before .before .before .before .before .before .args .spot .close) (c .before .before .before .before .before .before .before .before .before .before .before .before .before .before .before .before .args .spot .at) (c .before .before .before .before .before .before .before .before .before .before .before .before .before .before .before .before .args .until) _ (c .before .before .before .before .before .before .before .before .before .before .before .before .before .before .before .before .pre .1 .1 .1 .1) (c .before .before .before .before .before .before .before .before .before .before .before .write-choice .ensures) _ (c .before .before .before .before .before .before .before .before .skip .ensures) (c .before .before .before .before .before .before .write-filter .ensures) _ (c .before .before .read-member .ensures) (c .enum-told .given .1)
 
 abbrev write-filter-Inv-loop : write-filter-lts.InvT-loop
-write-filter-Inv-loop filter out₀ at deep close written₀ out written = Chained deep filter close at out₀ out written
+write-filter-Inv-loop filter out₀ at levels close written₀ out written = Chained levels filter close at out₀ out written
 
 abbrev write-filter-μ-loop : write-filter-lts.MeasureT-loop
-write-filter-μ-loop filter out₀ at deep close written₀ out written = length filter - written .end
+write-filter-μ-loop filter out₀ at levels close written₀ out written = length filter - written .end
 
 write-filter-write-item-requires : (t : ℕ) → write-filter-lts.Need-write-item-requires (
   write-item-below t,
@@ -676,7 +676,7 @@ write-item-sub-write-not : (t : ℕ) → write-item-lts.Need-sub-write-not (
   write-chosen-below t,
   write-chosen.Post,
 ) (write-item-at t) write-item.Post
-write-item-sub-write-not t c = let z = item-open-deep (c .before .before .before .before .before .before .before .args .spot .deep) (c .before .before .before .before .before .before .before .args .filter .now) (c .before .before .before .before .before .before .before .args .spot .close) (c .before .before .before .before .before .before .before .args .spot .at) _ (c .before .before .before .before .before .before .before .pre .1 .1 .1) _ (c .before .before .before .before .read-head .ensures) _ _ (c .before .before .head2 .given .1) in omega arith
+write-item-sub-write-not t c = let z = item-open-deep (c .before .before .before .before .before .before .before .args .spot .levels) (c .before .before .before .before .before .before .before .args .filter .now) (c .before .before .before .before .before .before .before .args .spot .close) (c .before .before .before .before .before .before .before .args .spot .at) _ (c .before .before .before .before .before .before .before .pre .1 .1 .1) _ (c .before .before .before .before .read-head .ensures) _ _ (c .before .before .head2 .given .1) in omega arith
 
 write-item-write-not-requires : (t : ℕ) → write-item-lts.Need-write-not-requires (
   read-head-reads.Asked,
@@ -732,7 +732,7 @@ write-item-sub-write-round : (t : ℕ) → write-item-lts.Need-sub-write-round (
   write-chosen-below t,
   write-chosen.Post,
 ) (write-item-at t) write-item.Post
-write-item-sub-write-round t c = let z = item-open-deep (c .before .before .before .before .before .before .before .args .spot .deep) (c .before .before .before .before .before .before .before .args .filter .now) (c .before .before .before .before .before .before .before .args .spot .close) (c .before .before .before .before .before .before .before .args .spot .at) _ (c .before .before .before .before .before .before .before .pre .1 .1 .1) _ (c .before .before .before .before .read-head .ensures) _ _ (c .before .before .head2 .given .1) in omega arith
+write-item-sub-write-round t c = let z = item-open-deep (c .before .before .before .before .before .before .before .args .spot .levels) (c .before .before .before .before .before .before .before .args .filter .now) (c .before .before .before .before .before .before .before .args .spot .close) (c .before .before .before .before .before .before .before .args .spot .at) _ (c .before .before .before .before .before .before .before .pre .1 .1 .1) _ (c .before .before .before .before .read-head .ensures) _ _ (c .before .before .head2 .given .1) in omega arith
 
 write-item-write-round-requires : (t : ℕ) → write-item-lts.Need-write-round-requires (
   read-head-reads.Asked,
@@ -774,7 +774,7 @@ write-item-sub-t24 : (t : ℕ) → write-item-lts.Need-sub-t24 (
   write-chosen-below t,
   write-chosen.Post,
 ) (write-item-at t) write-item.Post
-write-item-sub-t24 t c = let z = item-choice-deep (c .before .before .before .before .before .before .args .spot .deep) (c .before .before .before .before .before .before .args .filter .now) (c .before .before .before .before .before .before .args .spot .close) (c .before .before .before .before .before .before .args .spot .at) _ (c .before .before .before .before .before .before .pre .1 .1 .1) _ (c .before .before .before .read-head .ensures) _ (c .before .head3 .given .1) in omega arith
+write-item-sub-t24 t c = let z = item-choice-deep (c .before .before .before .before .before .before .args .spot .levels) (c .before .before .before .before .before .before .args .filter .now) (c .before .before .before .before .before .before .args .spot .close) (c .before .before .before .before .before .before .args .spot .at) _ (c .before .before .before .before .before .before .pre .1 .1 .1) _ (c .before .before .before .read-head .ensures) _ (c .before .head3 .given .1) in omega arith
 
 write-item-write-chosen-requires : (t : ℕ) → write-item-lts.Need-write-chosen-requires (
   read-head-reads.Asked,
@@ -900,7 +900,7 @@ write-item-returns-5 : (t : ℕ) → write-item-lts.Need-returns-5 (
   write-chosen-below t,
   write-chosen.Post,
 ) (write-item-at t) write-item.Post
-write-item-returns-5 t c = item-nothing (c .before .before .before .before .before .args .spot .deep) (c .before .before .before .before .before .args .filter .now) (c .before .before .before .before .before .args .spot .close) (c .before .before .before .before .before .args .spot .at) _ (c .before .before .before .before .before .pre .1 .1 .1) _ (c .before .before .read-head .ensures) (c .enum-told .given .1)
+write-item-returns-5 t c = item-nothing (c .before .before .before .before .before .args .spot .levels) (c .before .before .before .before .before .args .filter .now) (c .before .before .before .before .before .args .spot .close) (c .before .before .before .before .before .args .spot .at) _ (c .before .before .before .before .before .pre .1 .1 .1) _ (c .before .before .read-head .ensures) (c .enum-told .given .1)
 
 write-joined-write-connective-requires : (t : ℕ) → write-joined-lts.Need-write-connective-requires (
   write-connective-reads.Asked,
@@ -1034,7 +1034,7 @@ write-not-add-end : (t : ℕ) → write-not-lts.Need-add-end (
   skip-reads.Asked,
   skip-reads.Learnt,
 ) (write-not-at t) write-not.Post
-write-not-add-end t c = record { fits = omega (arith, not-inner-within (c .before .before .before .before .before .before .before .before .before .before .before .before .args .deep) (c .before .before .before .before .before .before .before .before .before .before .before .before .args .filter .now) (c .before .before .before .before .before .before .before .before .before .before .before .before .args .at) _ (search needs) (c .before .before .before .before .before .before .before .write-word .ensures) (c .before .before .before .write-filter .ensures)) }
+write-not-add-end t c = record { fits = omega (arith, not-inner-within (c .before .before .before .before .before .before .before .before .before .before .before .before .args .levels) (c .before .before .before .before .before .before .before .before .before .before .before .before .args .filter .now) (c .before .before .before .before .before .before .before .before .before .before .before .before .args .at) _ (search needs) (c .before .before .before .before .before .before .before .write-word .ensures) (c .before .before .before .write-filter .ensures)) }
 
 write-not-slice-aggregate-write-word-2 : (t : ℕ) → write-not-lts.Need-slice-aggregate-write-word-2 (
   write-word-reads.Asked,
@@ -1114,7 +1114,7 @@ write-not-add-t26 : (t : ℕ) → write-not-lts.Need-add-t26 (
   skip-reads.Asked,
   skip-reads.Learnt,
 ) (write-not-at t) write-not.Post
-write-not-add-t26 t c = record { fits = omega (arith, not-fits (c .before .before .before .before .before .before .before .before .before .before .before .before .before .before .before .before .before .before .args .deep) (c .before .before .before .before .before .before .before .before .before .before .before .before .before .before .before .before .before .before .args .filter .now) (c .before .before .before .before .before .before .before .before .before .before .before .before .before .before .before .before .before .before .args .at) _ (search needs) (c .before .before .before .before .before .before .before .before .before .before .before .before .before .write-word .ensures) (c .before .before .before .before .before .before .before .before .before .write-filter .ensures) (c .before .before .before .write-word2 .ensures)) }
+write-not-add-t26 t c = record { fits = omega (arith, not-fits (c .before .before .before .before .before .before .before .before .before .before .before .before .before .before .before .before .before .before .args .levels) (c .before .before .before .before .before .before .before .before .before .before .before .before .before .before .before .before .before .before .args .filter .now) (c .before .before .before .before .before .before .before .before .before .before .before .before .before .before .before .before .before .before .args .at) _ (search needs) (c .before .before .before .before .before .before .before .before .before .before .before .before .before .write-word .ensures) (c .before .before .before .before .before .before .before .before .before .write-filter .ensures) (c .before .before .before .write-word2 .ensures)) }
 
 write-not-same-length : (t : ℕ) → write-not-lts.Need-same-length (
   write-word-reads.Asked,

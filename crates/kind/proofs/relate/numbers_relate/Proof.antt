@@ -1,8 +1,8 @@
--- `kind::relate::number_stands` meets its contract: each arm is a case of the definition. Assumes nothing.
+-- `kind::relate::numbers_relate` meets its contract: each arm is a case of the definition. Assumes nothing.
 use borrow.Author.Needs.{needs}
-use Rattle.kind.specs.Stands.{numberStands}
-use Rattle.kind.proofs.relate.number_stands.Statement.{statement}
-use Rattle.kind.proofs.relate.number_stands.Tie as tie
+use Rattle.kind.specs.Relations.{numbersRelate}
+use Rattle.kind.proofs.relate.numbers_relate.Statement.{statement}
+use Rattle.kind.proofs.relate.numbers_relate.Tie as tie
 
 enum-told : tie.Need-enum-told
 enum-told c = search needs
@@ -41,31 +41,31 @@ covers-requires : tie.Need-covers-requires
 covers-requires c κs = search needs
 
 returns : tie.Need-returns
-unfolding numberStands
+unfolding numbersRelate
 returns c = cc
 
 returns-2 : tie.Need-returns-2
-unfolding numberStands
+unfolding numbersRelate
 returns-2 c = cc
 
 returns-3 : tie.Need-returns-3
-unfolding numberStands
+unfolding numbersRelate
 returns-3 c = cc
 
 returns-4 : tie.Need-returns-4
-unfolding numberStands
+unfolding numbersRelate
 returns-4 c = cc
 
 returns-5 : tie.Need-returns-5
-unfolding numberStands
+unfolding numbersRelate
 returns-5 c = cc
 
 returns-6 : tie.Need-returns-6
-unfolding numberStands
+unfolding numbersRelate
 returns-6 c = cc
 
-pub number-stands-spec : {M : Type 1} → statement M
-number-stands-spec =
+pub numbers-relate-spec : {M : Type 1} → statement M
+numbers-relate-spec =
     tie.close
     (tie.spec
     enum-told

@@ -1,8 +1,8 @@
--- `kind::relate::date_stands` meets its contract: each arm is a case of the definition. Assumes nothing.
+-- `kind::relate::dates_relate` meets its contract: each arm is a case of the definition. Assumes nothing.
 use borrow.Author.Needs.{needs}
-use Rattle.kind.specs.Stands.{dateStands}
-use Rattle.kind.proofs.relate.date_stands.Statement.{statement}
-use Rattle.kind.proofs.relate.date_stands.Tie as tie
+use Rattle.kind.specs.Relations.{datesRelate}
+use Rattle.kind.proofs.relate.dates_relate.Statement.{statement}
+use Rattle.kind.proofs.relate.dates_relate.Tie as tie
 
 enum-told : tie.Need-enum-told
 enum-told c = search needs
@@ -59,43 +59,43 @@ covers-requires : tie.Need-covers-requires
 covers-requires c κs = search needs
 
 returns : tie.Need-returns
-unfolding dateStands
+unfolding datesRelate
 returns c = cc
 
 returns-2 : tie.Need-returns-2
-unfolding dateStands
+unfolding datesRelate
 returns-2 c = cc
 
 returns-3 : tie.Need-returns-3
-unfolding dateStands
+unfolding datesRelate
 returns-3 c = cc
 
 returns-4 : tie.Need-returns-4
-unfolding dateStands
+unfolding datesRelate
 returns-4 c = cc
 
 returns-5 : tie.Need-returns-5
-unfolding dateStands
+unfolding datesRelate
 returns-5 c = cc
 
 returns-6 : tie.Need-returns-6
-unfolding dateStands
+unfolding datesRelate
 returns-6 c = cc
 
 returns-7 : tie.Need-returns-7
-unfolding dateStands
+unfolding datesRelate
 returns-7 c = cc
 
 returns-8 : tie.Need-returns-8
-unfolding dateStands
+unfolding datesRelate
 returns-8 c = cc
 
 returns-9 : tie.Need-returns-9
-unfolding dateStands
+unfolding datesRelate
 returns-9 c = cc
 
-pub date-stands-spec : {M : Type 1} → statement M
-date-stands-spec =
+pub dates-relate-spec : {M : Type 1} → statement M
+dates-relate-spec =
     tie.close
     (tie.spec
     enum-told

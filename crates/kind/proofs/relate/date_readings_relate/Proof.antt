@@ -1,8 +1,8 @@
--- `kind::relate::dates_stand` meets its contract: the text is read. Assumes nothing.
+-- `kind::relate::date_readings_relate` meets its contract: the text is read. Assumes nothing.
 use borrow.Author.Needs.{needs}
-use Rattle.kind.proofs.Values.{dates-unreadable, date-unreadable, dates-stand}
-use Rattle.kind.proofs.relate.dates_stand.Statement.{statement}
-use Rattle.kind.proofs.relate.dates_stand.Tie as tie
+use Rattle.kind.proofs.Values.{dates-unreadable, date-unreadable, dates-relate}
+use Rattle.kind.proofs.relate.date_readings_relate.Statement.{statement}
+use Rattle.kind.proofs.relate.date_readings_relate.Tie as tie
 
 read-span-requires : tie.Need-read-span-requires
 read-span-requires c κs = search needs
@@ -25,14 +25,14 @@ enum-told-2 c = search needs
 returns-2 : tie.Need-returns-2
 returns-2 c = search (date-unreadable, needs)
 
-date-stands-requires : tie.Need-date-stands-requires
-date-stands-requires c κs = search needs
+dates-relate-requires : tie.Need-dates-relate-requires
+dates-relate-requires c κs = search needs
 
 returns-3 : tie.Need-returns-3
-returns-3 c = search (dates-stand, needs)
+returns-3 c = search (dates-relate, needs)
 
-pub dates-stand-spec : {M : Type 1} → statement M
-dates-stand-spec =
+pub date-readings-relate-spec : {M : Type 1} → statement M
+date-readings-relate-spec =
     tie.close
     (tie.spec
     read-span-requires
@@ -42,5 +42,5 @@ dates-stand-spec =
     enum-known-value
     enum-told-2
     returns-2
-    date-stands-requires
+    dates-relate-requires
     returns-3)

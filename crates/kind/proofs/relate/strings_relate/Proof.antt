@@ -1,8 +1,8 @@
--- `kind::relate::string_stands` meets its contract: each arm is a case of the definition. Assumes nothing.
+-- `kind::relate::strings_relate` meets its contract: each arm is a case of the definition. Assumes nothing.
 use borrow.Author.Needs.{needs}
-use Rattle.kind.specs.Stands.{stringStands}
-use Rattle.kind.proofs.relate.string_stands.Statement.{statement}
-use Rattle.kind.proofs.relate.string_stands.Tie as tie
+use Rattle.kind.specs.Relations.{stringsRelate}
+use Rattle.kind.proofs.relate.strings_relate.Statement.{statement}
+use Rattle.kind.proofs.relate.strings_relate.Tie as tie
 
 enum-told : tie.Need-enum-told
 enum-told c = search needs
@@ -29,23 +29,23 @@ ends-requires : tie.Need-ends-requires
 ends-requires c κs = search needs
 
 returns : tie.Need-returns
-unfolding stringStands
+unfolding stringsRelate
 returns c = cc
 
 returns-2 : tie.Need-returns-2
-unfolding stringStands
+unfolding stringsRelate
 returns-2 c = cc
 
 returns-3 : tie.Need-returns-3
-unfolding stringStands
+unfolding stringsRelate
 returns-3 c = cc
 
 returns-4 : tie.Need-returns-4
-unfolding stringStands
+unfolding stringsRelate
 returns-4 c = cc
 
-pub string-stands-spec : {M : Type 1} → statement M
-string-stands-spec =
+pub strings-relate-spec : {M : Type 1} → statement M
+strings-relate-spec =
     tie.close
     (tie.spec
     enum-told

@@ -1,9 +1,9 @@
--- `kind::relate::numbers_stand` meets its contract: the text is read, and what is read keeps to the bounds. Assumes nothing.
+-- `kind::relate::number_readings_relate` meets its contract: the text is read, and what is read keeps to the bounds. Assumes nothing.
 use borrow.Author.Needs.{needs}
 use Rattle.number.proofs.Spelling.{number-bounded}
-use Rattle.kind.proofs.Values.{numbers-unreadable, value-unreadable, numbers-stand}
-use Rattle.kind.proofs.relate.numbers_stand.Statement.{statement}
-use Rattle.kind.proofs.relate.numbers_stand.Tie as tie
+use Rattle.kind.proofs.Values.{numbers-unreadable, value-unreadable, numbers-relate}
+use Rattle.kind.proofs.relate.number_readings_relate.Statement.{statement}
+use Rattle.kind.proofs.relate.number_readings_relate.Tie as tie
 
 read-requires : tie.Need-read-requires
 read-requires c κs = search needs
@@ -26,14 +26,14 @@ enum-told-2 c = search needs
 returns-2 : tie.Need-returns-2
 returns-2 c = search (value-unreadable, needs)
 
-number-stands-requires : tie.Need-number-stands-requires
-number-stands-requires c κs = (search (number-bounded, needs), search (c .before .before .before .before .before .before .before .before .pre .bounded, needs))
+numbers-relate-requires : tie.Need-numbers-relate-requires
+numbers-relate-requires c κs = (search (number-bounded, needs), search (c .before .before .before .before .before .before .before .before .pre .bounded, needs))
 
 returns-3 : tie.Need-returns-3
-returns-3 c = search (numbers-stand, needs)
+returns-3 c = search (numbers-relate, needs)
 
-pub numbers-stand-spec : {M : Type 1} → statement M
-numbers-stand-spec =
+pub number-readings-relate-spec : {M : Type 1} → statement M
+number-readings-relate-spec =
     tie.close
     (tie.spec
     read-requires
@@ -43,5 +43,5 @@ numbers-stand-spec =
     enum-known-value
     enum-told-2
     returns-2
-    number-stands-requires
+    numbers-relate-requires
     returns-3)

@@ -1,15 +1,15 @@
--- `kind::relate::stands` meets its contract: each arm is a case of the definition. Assumes nothing.
+-- `kind::relate::relates_to` meets its contract: each arm is a case of the definition. Assumes nothing.
 use borrow.Author.Needs.{needs}
-use Rattle.kind.specs.Stands.{stands}
+use Rattle.kind.specs.Relations.{relatesTo}
 use Rattle.kind.proofs.Values.{number-kept}
-use Rattle.kind.proofs.relate.stands.Statement.{statement}
-use Rattle.kind.proofs.relate.stands.Tie as tie
+use Rattle.kind.proofs.relate.relates_to.Statement.{statement}
+use Rattle.kind.proofs.relate.relates_to.Tie as tie
 
 enum-known-relation : tie.Need-enum-known-relation
 enum-known-relation c = search needs
 
-string-stands-requires : tie.Need-string-stands-requires
-string-stands-requires c κs = search needs
+strings-relate-requires : tie.Need-strings-relate-requires
+strings-relate-requires c κs = search needs
 
 enum-known-relation-2 : tie.Need-enum-known-relation-2
 enum-known-relation-2 c = search needs
@@ -17,8 +17,8 @@ enum-known-relation-2 c = search needs
 read-requires : tie.Need-read-requires
 read-requires c κs = search needs
 
-numbers-stand-requires : tie.Need-numbers-stand-requires
-numbers-stand-requires c κs = search (number-kept, needs)
+number-readings-relate-requires : tie.Need-number-readings-relate-requires
+number-readings-relate-requires c κs = search (number-kept, needs)
 
 enum-known-relation-3 : tie.Need-enum-known-relation-3
 enum-known-relation-3 c = search needs
@@ -26,8 +26,8 @@ enum-known-relation-3 c = search needs
 read-requires-2 : tie.Need-read-requires-2
 read-requires-2 c κs = search needs
 
-dates-stand-requires : tie.Need-dates-stand-requires
-dates-stand-requires c κs = search needs
+date-readings-relate-requires : tie.Need-date-readings-relate-requires
+date-readings-relate-requires c κs = search needs
 
 enum-told : tie.Need-enum-told
 enum-told c = search needs
@@ -42,37 +42,37 @@ same-requires : tie.Need-same-requires
 same-requires c κs = search needs
 
 returns : tie.Need-returns
-unfolding stands
+unfolding relatesTo
 returns c = cc
 
 returns-2 : tie.Need-returns-2
-unfolding stands
+unfolding relatesTo
 returns-2 c = cc
 
 returns-3 : tie.Need-returns-3
-unfolding stands
+unfolding relatesTo
 returns-3 c = cc
 
 returns-4 : tie.Need-returns-4
-unfolding stands
+unfolding relatesTo
 returns-4 c = cc
 
 returns-5 : tie.Need-returns-5
-unfolding stands
+unfolding relatesTo
 returns-5 c = cc
 
-pub stands-spec : {M : Type 1} → statement M
-stands-spec =
+pub relates-to-spec : {M : Type 1} → statement M
+relates-to-spec =
     tie.close
     (tie.spec
     enum-known-relation
-    string-stands-requires
+    strings-relate-requires
     enum-known-relation-2
     read-requires
-    numbers-stand-requires
+    number-readings-relate-requires
     enum-known-relation-3
     read-requires-2
-    dates-stand-requires
+    date-readings-relate-requires
     enum-told
     matches-requires
     enum-told-2

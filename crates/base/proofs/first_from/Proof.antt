@@ -1,11 +1,11 @@
--- `base::place_of` meets its contract. The loop's invariant: what is left decides where the run ends. Assumes nothing.
+-- `base::first_from` meets its contract. The loop's invariant: what is left decides where the run ends. Assumes nothing.
 use borrow.Author.Needs.{needs}
 use Prim.Native.Nat.{_-_}
 use lib.ListN.{length}
 use Rattle.base.specs.Runs.{differs}
 use Rattle.base.proofs.Runs.{Scanned, scan-starts, scan-finds, scan-passes, scan-ends}
-use Rattle.base.proofs.place_of.Statement.{statement}
-use Rattle.base.proofs.place_of.Tie as tie
+use Rattle.base.proofs.first_from.Statement.{statement}
+use Rattle.base.proofs.first_from.Tie as tie
 
 abbrev Inv-loop : tie.InvT-loop
 Inv-loop s from byte i₀ i = Scanned (differs byte) s from i
@@ -34,8 +34,8 @@ loop-again c = search (scan-passes, needs)
 returns-2 : tie.Need-returns-2 Inv-loop μ-loop
 returns-2 c = search (scan-ends, needs)
 
-pub place-of-spec : {M : Type 1} → statement M
-place-of-spec =
+pub first-from-spec : {M : Type 1} → statement M
+first-from-spec =
     tie.close
     (tie.spec
     Inv-loop
