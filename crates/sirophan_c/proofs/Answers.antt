@@ -1,4 +1,4 @@
--- Each case of an operation's answer, told by its two numbers, and of a report's by its four.
+-- What an operation gave, told by its two numbers, and each case of a report's answer by its four.
 -- Assumes nothing.
 use Prim.Native.Nat.{ℕ}
 use mathlib.Core.Path.{_≡_, sym, ap, _∙_}
@@ -17,49 +17,15 @@ use Rattle.report.specs.declared.Tally.{Tally}
 use Rattle.report.specs.declared.Reported.{Reported}
 use Rattle.sirophan.specs.declared.Prepared.{Prepared}
 use Rattle.sirophan.specs.Preparing.{preparedAnswer}
-use Rattle.sirophan_c.specs.declared.Answer.{Answer}
+use Rattle.answers_c.specs.declared.Answer.{Answer}
+use Rattle.answers_c.specs.Answers.{answer, told}
 use Rattle.sirophan_c.specs.declared.Counts.{Counts}
-use Rattle.sirophan_c.specs.Answers.{answer, told, countsOf, toldCounts}
+use Rattle.sirophan_c.specs.Answers.{countsOf, toldCounts}
 use Rattle.sirophan_c.specs.Contracts.{TellsReport}
-
-pub refusal-told : (r : Refusal) (n : ℕ) → n ≡ numberOf (r .reason) → answer n (r .place) ≡ told (refusalAnswer r)
-unfolding told refusalAnswer
-refusal-told r n e = ap (λ (m : ℕ). answer m (r .place)) e
 
 -- what an operation gave, r, is the case c of its enum
 case-told : {R : Type 0} (of : R → paper.Answer) {a : paper.Answer} {r c : R} → of r ≡ a → r ≡ c → told (of c) ≡ told a
 case-told of e h = ap told (ap of (sym h) ∙ e)
-
-module _ (c : Checked) where
-  pub tests-told : (n : ℕ) → c ≡ Checked.Tests n → answer 0 n ≡ told (checkedAnswer c)
-  unfolding told checkedAnswer
-  tests-told n h = rw h
-
-  pub check-refusal-told : (r : Refusal) (t : Answer) → c ≡ Checked.Refused r → t ≡ told (refusalAnswer r) → t ≡ told (checkedAnswer c)
-  unfolding checkedAnswer
-  check-refusal-told r t h o = rw h o
-
-module _ (m : Matched) where
-  pub yes-told : m ≡ Matched.Yes → answer 0 1 ≡ told (matchedAnswer m)
-  unfolding told matchedAnswer
-  yes-told h = rw h
-
-  pub no-told : m ≡ Matched.No → answer 0 0 ≡ told (matchedAnswer m)
-  unfolding told matchedAnswer
-  no-told h = rw h
-
-  pub match-refusal-told : (r : Refusal) (t : Answer) → m ≡ Matched.Refused r → t ≡ told (refusalAnswer r) → t ≡ told (matchedAnswer m)
-  unfolding matchedAnswer
-  match-refusal-told r t h o = rw h o
-
-module _ (s : Selected) where
-  pub count-told : (n : ℕ) → s ≡ Selected.Count n → answer 0 n ≡ told (selectedAnswer s)
-  unfolding told selectedAnswer
-  count-told n h = rw h
-
-  pub select-refusal-told : (r : Refusal) (t : Answer) → s ≡ Selected.Refused r → t ≡ told (refusalAnswer r) → t ≡ told (selectedAnswer s)
-  unfolding selectedAnswer
-  select-refusal-told r t h o = rw h o
 
 module _ (a : paper.Answer) where
   -- what an operation gave, told by its numbers
