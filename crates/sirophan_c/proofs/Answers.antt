@@ -1,4 +1,4 @@
--- Each case of an operation's answer, told by its two numbers, and of a report's by its four.
+-- What an operation gave, told by its two numbers, and each case of a report's answer by its four.
 -- Assumes nothing.
 use Prim.Native.Nat.{ℕ}
 use mathlib.Core.Path.{_≡_, sym, ap, _∙_}
@@ -17,49 +17,15 @@ use Rattle.report.specs.declared.Tally.{Tally}
 use Rattle.report.specs.declared.Reported.{Reported}
 use Rattle.answer.specs.declared.Prepared.{Prepared}
 use Rattle.answer.specs.Preparing.{preparedAnswer}
-use Rattle.sirophan_c.specs.declared.Answer.{Answer}
+use Rattle.answers_c.specs.declared.Answer.{Answer}
+use Rattle.answers_c.specs.Answers.{answer, cAnswer}
 use Rattle.sirophan_c.specs.declared.Counts.{Counts}
-use Rattle.sirophan_c.specs.Answers.{answer, cAnswer, countsOf, cCounts}
+use Rattle.sirophan_c.specs.Answers.{countsOf, cCounts}
 use Rattle.sirophan_c.specs.Contracts.{TellsReport}
-
-pub refusal-told : (r : Refusal) (n : ℕ) → n ≡ numberOf (r .reason) → answer n (r .place) ≡ cAnswer (refusalAnswer r)
-unfolding cAnswer refusalAnswer
-refusal-told r n e = ap (λ (m : ℕ). answer m (r .place)) e
 
 -- what an operation gave, r, is the case c of its enum
 case-told : {R : Type 0} (of : R → paper.Answer) {a : paper.Answer} {r c : R} → of r ≡ a → r ≡ c → cAnswer (of c) ≡ cAnswer a
 case-told of e h = ap cAnswer (ap of (sym h) ∙ e)
-
-module _ (c : Checked) where
-  pub tests-told : (n : ℕ) → c ≡ Checked.Tests n → answer 0 n ≡ cAnswer (checkedAnswer c)
-  unfolding cAnswer checkedAnswer
-  tests-told n h = rw h
-
-  pub check-refusal-told : (r : Refusal) (t : Answer) → c ≡ Checked.Refused r → t ≡ cAnswer (refusalAnswer r) → t ≡ cAnswer (checkedAnswer c)
-  unfolding checkedAnswer
-  check-refusal-told r t h o = rw h o
-
-module _ (m : Matched) where
-  pub yes-told : m ≡ Matched.Yes → answer 0 1 ≡ cAnswer (matchedAnswer m)
-  unfolding cAnswer matchedAnswer
-  yes-told h = rw h
-
-  pub no-told : m ≡ Matched.No → answer 0 0 ≡ cAnswer (matchedAnswer m)
-  unfolding cAnswer matchedAnswer
-  no-told h = rw h
-
-  pub match-refusal-told : (r : Refusal) (t : Answer) → m ≡ Matched.Refused r → t ≡ cAnswer (refusalAnswer r) → t ≡ cAnswer (matchedAnswer m)
-  unfolding matchedAnswer
-  match-refusal-told r t h o = rw h o
-
-module _ (s : Selected) where
-  pub count-told : (n : ℕ) → s ≡ Selected.Count n → answer 0 n ≡ cAnswer (selectedAnswer s)
-  unfolding cAnswer selectedAnswer
-  count-told n h = rw h
-
-  pub select-refusal-told : (r : Refusal) (t : Answer) → s ≡ Selected.Refused r → t ≡ cAnswer (refusalAnswer r) → t ≡ cAnswer (selectedAnswer s)
-  unfolding selectedAnswer
-  select-refusal-told r t h o = rw h o
 
 module _ (a : paper.Answer) where
   -- what an operation gave, told by its numbers

@@ -1,34 +1,27 @@
 // The operations for C: include/sirophan.h declares them. No enum crosses to C, so a struct of numbers stands for an answer.
-use refusal::Refusal;
+use answers_c::Answer;
+use answers_c::refused;
+use answers_c::told_check;
+use answers_c::told_match;
+use answers_c::told_select;
 use refusal::number;
 use report::Reported;
 use report::Tally;
-use sirophan::Checked;
 use sirophan::Engine;
-use sirophan::Matched;
 use sirophan::Prepared;
-use sirophan::Selected;
 use spell::Spelled;
 ghost use mathlib.Core.Path.{_≡_};
 ghost use lib.ListN.{length};
-ghost use Rattle.refusal.specs.Answers.{refusalAnswer};
-ghost use Rattle.answer.specs.Answers.{checkedAnswer, matchedAnswer, selectedAnswer};
 ghost use Rattle.answer.specs.Operations.{checkAnswer, matchAnswer, selectAnswer, selectCells};
 ghost use Rattle.sirophan.specs.Spelling.{spellAnswer, spellBytes};
 ghost use Rattle.answer.specs.Searching.{checkSearchAnswer, matchSearchAnswer, selectSearchAnswer, selectSearchCells};
 ghost use Rattle.answer.specs.Preparing.{prepareAnswer, prepareCells, judgeAnswer};
 ghost use Rattle.explain.specs.Operation.{explainAnswer, explainCells};
 ghost use Rattle.report.specs.Operation.{reportedAnswer};
-ghost use Rattle.sirophan_c.specs.Answers.{cAnswer, cCounts};
+ghost use Rattle.answers_c.specs.Answers.{cAnswer};
+ghost use Rattle.sirophan_c.specs.Answers.{cCounts};
 ghost use Rattle.sirophan_c.specs.Contracts.{TellsReport};
 ghost use Rattle.sirophan_c.specs.Engines.{engineOf};
-
-// The number of the refusal, 0 where there is none; and the count, 1 for yes and 0 for no, or the refusal's place.
-#[repr(C)]
-pub struct Answer {
-    pub refusal: u32,
-    pub value: usize,
-}
 
 // What a report answers: the number of the refusal, 0 where there is none, and its place; and how many cards say yes, and how many no.
 #[repr(C)]
@@ -37,60 +30,6 @@ pub struct Counts {
     pub place: usize,
     pub yes: usize,
     pub no: usize,
-}
-
-// A refusal by its number and its place.
-fn refused(refusal: Refusal) -> Answer
-    ensures { λ r. ⌜ r ≡ cAnswer (refusalAnswer refusal) ⌝ }
-{
-    let reason = refusal.reason;
-    Answer {
-        refusal: number(reason),
-        value: refusal.place,
-    }
-}
-
-// Check's answer in numbers.
-fn told_check(checked: Checked) -> Answer
-    ensures { λ r. ⌜ r ≡ cAnswer (checkedAnswer checked) ⌝ }
-{
-    match checked {
-        Checked::Tests(tests) => Answer {
-            refusal: 0,
-            value: tests,
-        },
-        Checked::Refused(refusal) => refused(refusal),
-    }
-}
-
-// Match's answer in numbers.
-fn told_match(matched: Matched) -> Answer
-    ensures { λ r. ⌜ r ≡ cAnswer (matchedAnswer matched) ⌝ }
-{
-    match matched {
-        Matched::Yes => Answer {
-            refusal: 0,
-            value: 1,
-        },
-        Matched::No => Answer {
-            refusal: 0,
-            value: 0,
-        },
-        Matched::Refused(refusal) => refused(refusal),
-    }
-}
-
-// Select's answer in numbers.
-fn told_select(selected: Selected) -> Answer
-    ensures { λ r. ⌜ r ≡ cAnswer (selectedAnswer selected) ⌝ }
-{
-    match selected {
-        Selected::Count(count) => Answer {
-            refusal: 0,
-            value: count,
-        },
-        Selected::Refused(refusal) => refused(refusal),
-    }
 }
 
 // How many tests the filter has, or a refusal.

@@ -4,14 +4,15 @@ mod ask;
 mod record;
 mod write;
 
+use libc::STDOUT_FILENO;
 use record::cases;
 use record::load;
-use write::write;
 
 // Room for the parts of a case. The largest has 129 cards, one more than a run may have.
 const LARGEST: usize = 70000;
 
-// Runs a file of cases: their number, the cases, and nothing after them. Answers whether that is what the file held.
+// Runs a file of cases: their number, the cases, and nothing after them. Answers whether that is what the file held, and all
+// lines were written.
 fn run(fd: i32) -> bool {
     let mut count = [0u8; 4];
     if !load(fd, &mut count) {
@@ -32,8 +33,12 @@ fn main() {
         os::fail(path);
         return;
     }
+    // after a write that failed, which was told, this one fails too
     if !run(fd) {
-        write(b"cases.bin is damaged, cut short or cannot be read\n");
+        io::write_all(
+            STDOUT_FILENO,
+            b"cases.bin is damaged, cut short or cannot be read\n",
+        );
     }
     libc::close(fd);
 }

@@ -56,7 +56,7 @@ fn answer(h: Head, bytes: &[u8]) -> bool
     )
 }
 
-// Reads a case and prints its line; whether there was one, no larger than the space.
+// Reads a case and prints its line; whether there was one, no larger than the space, and the line was written.
 fn case(fd: i32, space: &mut [u8]) -> bool {
     let mut numbers = [0u8; 24];
     if !load(fd, &mut numbers) {
@@ -73,11 +73,10 @@ fn case(fd: i32, space: &mut [u8]) -> bool {
     if !answer(h, space) {
         return false;
     }
-    write(b"\n");
-    true
+    write(b"\n")
 }
 
-// Reads `count` cases and prints their lines; whether they were there.
+// Reads `count` cases and prints their lines; whether they were there and their lines written.
 pub fn cases(fd: i32, count: u32, space: &mut [u8]) -> bool {
     let mut left = count;
     while left > 0 {

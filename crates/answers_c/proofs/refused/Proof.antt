@@ -1,8 +1,8 @@
--- `sirophan_c::refused` meets its contract: the number is that of the reason. Assumes nothing.
+-- `answers_c::refused` meets its contract: the number is that of the reason. Assumes nothing.
 use borrow.Author.Needs.{needs}
-use Rattle.sirophan_c.proofs.Answers.{refusal-told}
-use Rattle.sirophan_c.proofs.refused.Statement.{statement}
-use Rattle.sirophan_c.proofs.refused.Tie as tie
+use Rattle.answers_c.proofs.Answers.{refusal-told}
+use Rattle.answers_c.proofs.refused.Statement.{statement}
+use Rattle.answers_c.proofs.refused.Tie as tie
 
 number-requires : tie.Need-number-requires
 number-requires c κs = search needs

@@ -1,8 +1,8 @@
--- `sirophan_c::told_check` meets its contract: each case by its two numbers. Assumes nothing.
+-- `answers_c::told_check` meets its contract: each case by its two numbers. Assumes nothing.
 use borrow.Author.Needs.{needs}
-use Rattle.sirophan_c.proofs.Answers.{tests-told, check-refusal-told}
-use Rattle.sirophan_c.proofs.told_check.Statement.{statement}
-use Rattle.sirophan_c.proofs.told_check.Tie as tie
+use Rattle.answers_c.proofs.Answers.{tests-told, check-refusal-told}
+use Rattle.answers_c.proofs.told_check.Statement.{statement}
+use Rattle.answers_c.proofs.told_check.Tie as tie
 
 enum-known-checked : tie.Need-enum-known-checked
 enum-known-checked c = search needs

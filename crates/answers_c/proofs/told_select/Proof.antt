@@ -1,8 +1,8 @@
--- `sirophan_c::told_select` meets its contract: each case by its two numbers. Assumes nothing.
+-- `answers_c::told_select` meets its contract: each case by its two numbers. Assumes nothing.
 use borrow.Author.Needs.{needs}
-use Rattle.sirophan_c.proofs.Answers.{count-told, select-refusal-told}
-use Rattle.sirophan_c.proofs.told_select.Statement.{statement}
-use Rattle.sirophan_c.proofs.told_select.Tie as tie
+use Rattle.answers_c.proofs.Answers.{count-told, select-refusal-told}
+use Rattle.answers_c.proofs.told_select.Statement.{statement}
+use Rattle.answers_c.proofs.told_select.Tie as tie
 
 enum-known-selected : tie.Need-enum-known-selected
 enum-known-selected c = search needs

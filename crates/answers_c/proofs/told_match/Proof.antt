@@ -1,8 +1,8 @@
--- `sirophan_c::told_match` meets its contract: each case by its two numbers. Assumes nothing.
+-- `answers_c::told_match` meets its contract: each case by its two numbers. Assumes nothing.
 use borrow.Author.Needs.{needs}
-use Rattle.sirophan_c.proofs.Answers.{yes-told, no-told, match-refusal-told}
-use Rattle.sirophan_c.proofs.told_match.Statement.{statement}
-use Rattle.sirophan_c.proofs.told_match.Tie as tie
+use Rattle.answers_c.proofs.Answers.{yes-told, no-told, match-refusal-told}
+use Rattle.answers_c.proofs.told_match.Statement.{statement}
+use Rattle.answers_c.proofs.told_match.Tie as tie
 
 enum-told : tie.Need-enum-told
 enum-told c = search needs
