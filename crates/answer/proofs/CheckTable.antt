@@ -27,7 +27,7 @@ use Rattle.sheet.proofs.Sheets.{sheet-reads-iff}
 use Rattle.syntax.specs.Tree.{Test, Tree, testsOf, Rising, rising-end, rising-next}
 use Rattle.syntax.specs.Grammar.{deepest, mostTests, Spells}
 use Rattle.syntax.specs.Reader.{read}
-use Rattle.syntax.proofs.Spelling.{read-spells, spells-unique, tests-rise, rising-member}
+use Rattle.syntax.proofs.Spelling.{read-iff, spells-unique, tests-rise, rising-member}
 use Rattle.place.specs.Begins.{Begins, Longest, Number, number-11, number-12, number-13}
 use Rattle.place.proofs.Place.{text-place, text-number, longest-unique, number-unique}
 use Rattle.judge.specs.Faults.{firstFault}
@@ -121,11 +121,11 @@ module _ (text : List ℕ) where
   text-none a f s m q (line-11 u l w) = u f s
 
   tree-step : (SizeWrong → ⊥) → (o : Option Tree) → read text ≡ o → Decided (Spells text) (TextLine text) (treeStep text o)
-  tree-step a (some f) e = let s = read-spells text f .0 e in none-holds s (text-none a f s)
+  tree-step a (some f) e = let s = read-iff text f .0 e in none-holds s (text-none a f s)
   tree-step a none e =
       one-decides
       (record {
-        holds = line-11 (λ f s. let r = read-spells text f .1 s in let z : _≡_ {A = ℕ} 0 1 = cc in omega arith) (text-place text) (text-number text);
+        holds = line-11 (λ f s. let r = read-iff text f .1 s in let z : _≡_ {A = ℕ} 0 1 = cc in omega arith) (text-place text) (text-number text);
         first = text-first a (text-place text) (text-number text);
       })
 

@@ -23,7 +23,7 @@ use Rattle.sheet.proofs.Sheets.{sheet-reads-iff}
 use Rattle.syntax.specs.Tree.{Test, Tree, testsOf}
 use Rattle.syntax.specs.Grammar.{deepest, mostTests, Spells}
 use Rattle.syntax.specs.Reader.{read}
-use Rattle.syntax.proofs.Spelling.{read-spells, spells-not-empty}
+use Rattle.syntax.proofs.Spelling.{read-iff, spells-not-empty}
 use Rattle.place.specs.Machine.{failure}
 use Rattle.place.proofs.Place.{text-number, number-bound}
 use Rattle.kind.specs.Table.{hasMeaning}
@@ -93,7 +93,7 @@ spells-length (x ∷ xs) f s e = omega arith
 filter-taken : (text : List ℕ) (f : Tree) → length text ≤ 1024 → Spells text f → takeFilter text ≡ found f
 unfolding takeFilter
 filter-taken text f short s =
-    rw (ne-eqb (length text) 0 (spells-length text f s), le-ltb 1024 (length text) short, read-spells text f .1 s)
+    rw (ne-eqb (length text) 0 (spells-length text f s), le-ltb 1024 (length text) short, read-iff text f .1 s)
 
 pub inputs-taken : (sheet text : List ℕ) (s : SheetBlock sheet) (f : Tree) → length text ≤ 1024 → Spells text f
     → takeInputs sheet text ≡ (testsStep (s .parameters) (testsOf f) >>= λ u. found (record { parameters = s .parameters; filter = f }))

@@ -14,7 +14,7 @@ use borrow.Author.Tests.{eqb-true, eqb-false}
 use Rattle.base.specs.Kinds.{token, bundleKind}
 use Rattle.base.specs.Lists.{all-empty}
 use Rattle.base.specs.Operators.{eq, pr}
-use Rattle.base.proofs.Options.{isSome-reads}
+use Rattle.base.proofs.Options.{isSome-iff}
 use Rattle.base.proofs.Tests.{both-ways, cond-elim}
 use Rattle.sheet.specs.Sheet.{Parameter, parameter}
 use Rattle.sheet.specs.Encode.{ValueKind, WellFormedSheet}
@@ -24,7 +24,7 @@ use Rattle.card.specs.Encode.{encodeCard}
 use Rattle.syntax.specs.Tree.{name}
 use Rattle.token.specs.Filter.{Form, formAt, readableAt}
 use Rattle.token.specs.Spelling.{SplitSpells}
-use Rattle.token.proofs.Readings.{formAt-reads}
+use Rattle.token.proofs.Readings.{formAt-iff}
 use Rattle.kind.specs.Table.{hasMeaning}
 use Rattle.kind.specs.Readable.{valueReadable}
 use Rattle.kind.specs.Rules.{ReadableInFilter, ReadableValue, value-of-pr, value-of-kind, HasOperator, token-eq, operator-of-row}
@@ -79,7 +79,7 @@ module _ (ps : List Parameter) (w : WellFormedSheet ps) (a : Alternative) where
 
       reads : (readableAt (a .split) (a .text) ≡ true) ↔ ((f : Form) × SplitSpells (a .text) (a .split) f)
       unfolding readableAt
-      reads = isSome-reads (SplitSpells (a .text) (a .split)) (formAt (a .split) (a .text)) (formAt-reads (a .text) (a .split))
+      reads = isSome-iff (SplitSpells (a .text) (a .split)) (formAt (a .split) (a .text)) (formAt-iff (a .text) (a .split))
 
       form-of : ReadableAlternative k a → (f : Form) × SplitSpells (a .text) (a .split) f
       form-of (readable-form {f = f} e h) = (f, h)

@@ -7,6 +7,6 @@ use mathlib.Core.Option.{Option, none, some}
 use Rattle.base.specs.Options.{isSome}
 
 -- there is a value exactly when something has the property that says which value it is
-pub isSome-reads : {A : Type 0} (P : A → Type 0) (o : Option A) → ((x : A) → (o ≡ some x) ↔ P x) → (isSome o ≡ true) ↔ ((x : A) × P x)
-isSome-reads P none f = (λ h. absurd (false≢true h), λ w. ap isSome (f (w .0) .1 (w .1)))
-isSome-reads P (some x) f = (λ h. (x, f x .0 refl), λ w. refl)
+pub isSome-iff : {A : Type 0} (P : A → Type 0) (o : Option A) → ((x : A) → (o ≡ some x) ↔ P x) → (isSome o ≡ true) ↔ ((x : A) × P x)
+isSome-iff P none f = (λ h. absurd (false≢true h), λ w. ap isSome (f (w .0) .1 (w .1)))
+isSome-iff P (some x) f = (λ h. (x, f x .0 refl), λ w. refl)

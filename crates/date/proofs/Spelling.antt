@@ -14,8 +14,8 @@ use Rattle.date.proofs.Complete.{spells-reads}
 use Rattle.date.proofs.Sound.{date-same, reads-spells}
 
 -- the theorem: a text reads to a date exactly where it is a spelling of it
-pub read-spells : (s : List ℕ) (d : Date) → (read s ≡ Readable d) ↔ Spells s d
-read-spells s d = (reads-spells s, spells-reads)
+pub read-iff : (s : List ℕ) (d : Date) → (read s ≡ Readable d) ↔ Spells s d
+read-iff s d = (reads-spells s, spells-reads)
 
 -- so a text spells one date at most
 pub spells-unique : {s : List ℕ} {d e : Date} → Spells s d → Spells s e → d ≡ e
@@ -31,6 +31,6 @@ spells-readable : (s : List ℕ) → (d : Date) × Spells s d → readable s ≡
 unfolding readable isDate
 spells-readable s h = rw (spells-reads (h .1))
 
-pub readable-spells : (s : List ℕ) → (readable s ≡ true) ↔ ((d : Date) × Spells s d)
+pub readable-iff : (s : List ℕ) → (readable s ≡ true) ↔ ((d : Date) × Spells s d)
 unfolding readable
-readable-spells s = (readable-date s (read s) refl, spells-readable s)
+readable-iff s = (readable-date s (read s) refl, spells-readable s)

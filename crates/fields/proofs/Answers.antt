@@ -17,7 +17,7 @@ use Rattle.card.specs.Card.{Entry}
 use Rattle.syntax.specs.Tree.{Tree, testsOf}
 use Rattle.syntax.specs.Grammar.{Spells}
 use Rattle.syntax.specs.Reader.{read}
-use Rattle.syntax.proofs.Spelling.{read-spells}
+use Rattle.syntax.proofs.Spelling.{read-iff}
 use Rattle.judge.specs.Rules.{Conforms}
 use Rattle.judge.specs.Verdicts.{filterSays}
 use Rattle.search.specs.Spelling.{Query, alternativesOf, SpellsQuery}
@@ -57,7 +57,7 @@ tree-found text none f e = cc
 filter-found : (text : List ℕ) (f : Tree) → takeFilter text ≡ found f → Spells text f
 unfolding takeFilter
 filter-found text f e =
-    read-spells text f .0 (⊎-elim (λ w. stop-not-found (w .1)) (λ w. tree-found text (read text) f (w .1)) (cond-either (eqb (length text) 0 || ltb 1024 (length text)) (stop 10 0) (treeStep text (read text)) e))
+    read-iff text f .0 (⊎-elim (λ w. stop-not-found (w .1)) (λ w. tree-found text (read text) f (w .1)) (cond-either (eqb (length text) 0 || ltb 1024 (length text)) (stop 10 0) (treeStep text (read text)) e))
 
 -- what was taken of a sheet and a text, by a reader of texts and a test of what it reads
 module _ (sheet : List ℕ) (s : SheetBlock sheet) where

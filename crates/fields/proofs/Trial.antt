@@ -47,7 +47,7 @@ use Rattle.syntax.specs.Tree.{Path, name, member, Tree, testsOf}
 use Rattle.syntax.specs.Strings.{isBare}
 use Rattle.syntax.specs.Scan.{stepOf, stringFrom, stringAt, valueAt, follows, findOperator, operatorAt, testValue, testOperator, testAt, openAt, choiceAt, headAt, memberAt, memberAfter, connectiveAt, closeAt}
 use Rattle.syntax.specs.Reader.{chainOf, filterOf, itemAt, filterAt, read}
-use Rattle.syntax.proofs.Spelling.{read-spells}
+use Rattle.syntax.proofs.Spelling.{read-iff}
 use Rattle.kind.specs.Table.{kinds, ofKind}
 use Rattle.kind.specs.Readable.{cardReadable}
 use Rattle.judge.specs.Sets.{lookup, valuesAt, keep, entryConforms, conforms}
@@ -147,7 +147,7 @@ namesRead none = []
 namesRead (some f) = namesOf f
 
 reads-only : (text : List ℕ) (paths : List Path) → All (λ path. List·Memᴰ path paths) (namesRead (read text)) → UsesOnly paths text
-reads-only text paths h f spells = rw (read-spells text f .1 spells) at h
+reads-only text paths h f spells = rw (read-iff text f .1 spells) at h
 
 names-read : (namesRead (read (ascii "birthdate le 1974-06")) ≡ dateNames)
     × (namesRead (read (ascii "related[type eq \"has-component\"].target re Observation/4")) ≡ member (ascii "related") (name (ascii "target")) ∷ member (ascii "related") (name (ascii "type")) ∷ [])

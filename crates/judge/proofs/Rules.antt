@@ -38,7 +38,7 @@ use Rattle.kind.specs.declared.Relation.{Relation}
 use Rattle.judge.specs.Sets.{lookup, entryConforms, conforms, valuesAt, ofOccurrence, keep}
 use Rattle.judge.specs.Faults.{unsupported}
 use Rattle.judge.specs.Rules.{EntryConforms, NamesIn, Names, names, names-member, NotOnSheet, LacksMeaning, neither, Says, says-present, says-absent, says-relates, says-differs, Keeps, keeps-none, keeps, leaves, FilterSays}
-use Rattle.kind.proofs.Rules.{row-reads, card-iff, true-iff, false-iff, ne-not-in-row, pr-not-in-row, eachRow, by-row, relates-iff}
+use Rattle.kind.proofs.Rules.{row-iff, card-iff, true-iff, false-iff, ne-not-in-row, pr-not-in-row, eachRow, by-row, relates-iff}
 use Rattle.kind.specs.Relations.{relatesTo}
 use Rattle.judge.specs.Verdicts.{someValue, isEmpty, saysOf, saysAt, testSays, filterSays}
 
@@ -266,10 +266,10 @@ module _ (ps : List Parameter) (w : WellFormedSheet ps) (c : ℕ) (es : List Ent
   says-by j (means-present e) meaning h = says-present-or-absent j e meaning h
   says-by {i = i} {k = k} j (means-relation {r = r} e) meaning h =
       let x = some-there (λ x. relatesTo r x (t .value)) (valuesAt i es) h in
-      says-relates j (row-reads k (t .operator) r .0 e) (x .1) (relates-iff r (x .0) (t .value) .0 (x .2))
+      says-relates j (row-iff k (t .operator) r .0 e) (x .1) (relates-iff r (x .0) (t .value) .0 (x .2))
   says-by {i = i} {k = k} j (means-other {r = r} n e) meaning h =
       let x = some-there (λ x. not (relatesTo r x (t .value))) (valuesAt i es) h in
-      says-differs j n (row-reads k eq r .0 e) (x .1) (λ s. both-ways (relates-iff r (x .0) (t .value) .1 s) (not-true (relatesTo r (x .0) (t .value)) (x .2)))
+      says-differs j n (row-iff k eq r .0 e) (x .1) (λ s. both-ways (relates-iff r (x .0) (t .value) .1 s) (not-true (relatesTo r (x .0) (t .value)) (x .2)))
   says-by j means-nothing meaning h = absurd (false≢true h)
 
   says-there : PrSpelled t → (o : Found) → lookup ps c (t .path) ≡ o → saysAt o (t .operator) (t .value) es ≡ true → Says ps c es t
@@ -290,10 +290,10 @@ module _ (ps : List Parameter) (w : WellFormedSheet ps) (c : ℕ) (es : List Ent
   says-back (says-absent {i = i} {k = k} j e v z) =
       at-parameter Meaning.Present j (rw e (present k)) (rw (false-not-true (t .value) v) (empty-iff (valuesAt i es) .1 z))
   says-back (says-relates {i = i} {k = k} {r = r} {x = x} j e m s) =
-      at-parameter (Meaning.Relates r) j (relation-means (t .operator) k r (row-reads k (t .operator) r .1 e)) (some-back (λ x. relatesTo r x (t .value)) m (relates-iff r x (t .value) .1 s))
+      at-parameter (Meaning.Relates r) j (relation-means (t .operator) k r (row-iff k (t .operator) r .1 e)) (some-back (λ x. relatesTo r x (t .value)) m (relates-iff r x (t .value) .1 s))
   says-back (says-differs {i = i} {k = k} {r = r} {x = x} j n e m s) =
       let differs : not (relatesTo r x (t .value)) ≡ true = ⊎-elim (λ h. absurd (s (relates-iff r x (t .value) .0 h))) (λ h. ap not h) (decided (relatesTo r x (t .value))) in
-      at-parameter (Meaning.Differs r) j (rw n (other-means k r (row-reads k eq r .1 e))) (some-back (λ x. not (relatesTo r x (t .value))) m differs)
+      at-parameter (Meaning.Differs r) j (rw n (other-means k r (row-iff k eq r .1 e))) (some-back (λ x. not (relatesTo r x (t .value))) m differs)
 
   -- a test with a meaning says yes exactly where the rules do
   pub says-iff : PrSpelled t → (testSays ps c es t ≡ true) ↔ Says ps c es t

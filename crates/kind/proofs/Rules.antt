@@ -20,7 +20,7 @@ use Rattle.base.specs.Lists.{All, all-empty, all-cons}
 use Rattle.base.proofs.Tests.{and-left, and-right, and-both, or-either, or-left, or-right, cond-either, cond-elim}
 use Rattle.text.specs.Fold.{isCapital, isAccented, foldByte, foldFrom, foldText}
 use Rattle.text.specs.Compare.{same}
-use Rattle.text.proofs.Readings.{same-reads, starts-reads, ends-reads, contains-reads}
+use Rattle.text.proofs.Readings.{same-iff, starts-iff, ends-iff, contains-iff}
 use Rattle.kind.specs.Readable.{cardReadable, filterReadable, isTrue, isFalse, valueReadable}
 use Rattle.kind.specs.Rules.{readable-string, readable-number, readable-date, readable-token, readable-reference, readable-period, ReadableOnCard, ReadableInFilter, TrueOrFalse, spells-true, spells-false, ReadableValue, value-of-pr, value-of-kind, HasDates, dates-of-date, dates-of-period, Row, string-eq, string-co, string-sw, string-ew, number-eq, number-gt, number-lt, number-ge, number-le, number-co, date-eq, date-gt, date-lt, date-ge, date-le, date-sa, date-eb, date-po, date-co, token-eq, reference-re, HasOperator, operator-of-row, operator-pr, operator-ne, RelatesTo, string-same, string-contains, string-starts, string-ends, NumbersRelate, number-inside, number-greater, number-less, number-at-least, number-at-most, number-covers, DatesRelate, date-inside, date-later, date-earlier, date-later-or-inside, date-earlier-or-inside, date-starts-after, date-ends-before, date-overlaps, date-covers, numbers-relate, dates-relate, tokens-relate, references-same}
 use mathlib.Core.Option.{Option, none, some, Option·some-injective, Option·none-ne-some}
@@ -28,7 +28,7 @@ use Rattle.base.specs.Options.{isSome}
 use Rattle.kind.specs.Table.{RowEntry, stringRow, numberRow, dateRow, tokenRow, referenceRow, Kind, kinds, ofKind, row, relationIn, asked, rowMeaning, meaningOf, isMeaning, hasMeaning}
 use Rattle.kind.specs.declared.Meaning.{Meaning}
 use Rattle.kind.specs.declared.Relation.{Relation}
-use Rattle.token.proofs.Readings.{matches-reads}
+use Rattle.token.proofs.Readings.{matches-iff}
 use Rattle.kind.specs.Relations.{stringsRelate, numbersRelate, numberReadingsRelate, datesRelate, dateReadingsRelate, relatesTo}
 use Rattle.kind.specs.declared.StringRelation.{StringRelation}
 use Rattle.kind.specs.declared.NumberRelation.{NumberRelation}
@@ -76,40 +76,40 @@ module _ (t : List ℕ) where
   card-there =
       by-kind (λ k b. b ≡ true → ReadableOnCard k t) false (λ x. x .onCard t) (λ k h. absurd (false≢true h)) kinds
       (all-cons (λ h. readable-string)
-      (all-cons (λ h. readable-number (number-spelling.readable-spells t .0 h .1))
-      (all-cons (λ h. readable-date (date-spelling.readable-spells t .0 h .1))
-      (all-cons (λ h. readable-token (token-spelling.cardReadable-reads t .0 h))
+      (all-cons (λ h. readable-number (number-spelling.readable-iff t .0 h .1))
+      (all-cons (λ h. readable-date (date-spelling.readable-iff t .0 h .1))
+      (all-cons (λ h. readable-token (token-spelling.cardReadable-iff t .0 h))
       (all-cons (λ h. readable-reference (not-empty t .0 h))
-      (all-cons (λ h. readable-period (period-spelling.readable-spells t .0 h)) all-empty))))))
+      (all-cons (λ h. readable-period (period-spelling.readable-iff t .0 h)) all-empty))))))
 
   filter-there : (kind : ℕ) → filterReadable kind t ≡ true → ReadableInFilter kind t
   unfolding filterReadable kinds
   filter-there =
       by-kind (λ k b. b ≡ true → ReadableInFilter k t) false (λ x. x .inFilter t) (λ k h. absurd (false≢true h)) kinds
       (all-cons (λ h. readable-string)
-      (all-cons (λ h. readable-number (number-spelling.readable-spells t .0 h .1))
-      (all-cons (λ h. readable-date (date-spelling.readable-spells t .0 h .1))
-      (all-cons (λ h. readable-token (token-spelling.filterReadable-reads t .0 h))
+      (all-cons (λ h. readable-number (number-spelling.readable-iff t .0 h .1))
+      (all-cons (λ h. readable-date (date-spelling.readable-iff t .0 h .1))
+      (all-cons (λ h. readable-token (token-spelling.filterReadable-iff t .0 h))
       (all-cons (λ h. readable-reference (not-empty t .0 h))
-      (all-cons (λ h. readable-period (date-spelling.readable-spells t .0 h)) all-empty))))))
+      (all-cons (λ h. readable-period (date-spelling.readable-iff t .0 h)) all-empty))))))
 
   card-back : {kind : ℕ} → ReadableOnCard kind t → cardReadable kind t ≡ true
   unfolding cardReadable ofKind kinds
   card-back readable-string = refl
-  card-back (readable-number {d = d} s) = number-spelling.readable-spells t .1 (d, s)
-  card-back (readable-date {d = d} s) = date-spelling.readable-spells t .1 (d, s)
-  card-back (readable-token k) = token-spelling.cardReadable-reads t .1 k
+  card-back (readable-number {d = d} s) = number-spelling.readable-iff t .1 (d, s)
+  card-back (readable-date {d = d} s) = date-spelling.readable-iff t .1 (d, s)
+  card-back (readable-token k) = token-spelling.cardReadable-iff t .1 k
   card-back (readable-reference n) = not-empty t .1 n
-  card-back (readable-period p) = period-spelling.readable-spells t .1 p
+  card-back (readable-period p) = period-spelling.readable-iff t .1 p
 
   filter-back : {kind : ℕ} → ReadableInFilter kind t → filterReadable kind t ≡ true
   unfolding filterReadable ofKind kinds
   filter-back readable-string = refl
-  filter-back (readable-number {d = d} s) = number-spelling.readable-spells t .1 (d, s)
-  filter-back (readable-date {d = d} s) = date-spelling.readable-spells t .1 (d, s)
-  filter-back (readable-token k) = token-spelling.filterReadable-reads t .1 k
+  filter-back (readable-number {d = d} s) = number-spelling.readable-iff t .1 (d, s)
+  filter-back (readable-date {d = d} s) = date-spelling.readable-iff t .1 (d, s)
+  filter-back (readable-token k) = token-spelling.filterReadable-iff t .1 k
   filter-back (readable-reference n) = not-empty t .1 n
-  filter-back (readable-period p) = date-spelling.readable-spells t .1 p
+  filter-back (readable-period p) = date-spelling.readable-iff t .1 p
 
 pub card-iff : (kind : ℕ) (t : List ℕ) → (cardReadable kind t ≡ true) ↔ ReadableOnCard kind t
 card-iff kind t = (card-there t kind, card-back t)
@@ -120,7 +120,7 @@ filter-iff kind t = (filter-there t kind, filter-back t)
 -- ---- by operator
 
 word-iff : (w v : List ℕ) → foldText w ≡ w → (same v w ≡ true) ↔ (foldText v ≡ w)
-word-iff w v e = ((λ h. same-reads v w .0 h ∙ e), (λ h. same-reads v w .1 (h ∙ sym e)))
+word-iff w v e = ((λ h. same-iff v w .0 h ∙ e), (λ h. same-iff v w .1 (h ∙ sym e)))
 
 module _ (v : List ℕ) where
   pub true-iff : (isTrue v ≡ true) ↔ (foldText v ≡ ascii "true")
@@ -235,8 +235,8 @@ row-back token-eq = refl
 row-back reference-re = refl
 
 -- the relation that a row gives an operator is that of the table
-pub row-reads : (kind k : ℕ) (r : Relation) → (relationIn (row kind) k ≡ some r) ↔ Row kind k r
-row-reads kind k r = (row-there kind k r, row-back)
+pub row-iff : (kind k : ℕ) (r : Relation) → (relationIn (row kind) k ≡ some r) ↔ Row kind k r
+row-iff kind k r = (row-there kind k r, row-back)
 
 -- ---- operators
 
@@ -364,46 +364,46 @@ module _ (i : Period) (has : Inhabited i) (f : Date) (first : InRange f (f .star
 
 numbers-there : (r : NumberRelation) (x v : List ℕ) (a b : number-readings.Reading) → numbers.read x ≡ a → numbers.read v ≡ b → numberReadingsRelate r a b ≡ true → RelatesTo (Relation.Numbers r) x v
 numbers-there r x v (number-readings.Reading.Number i) (number-readings.Reading.Number f) d e h =
-    numbers-relate (number-spelling.read-spells x i .0 d) (number-spelling.read-spells v f .0 e)
+    numbers-relate (number-spelling.read-iff x i .0 d) (number-spelling.read-iff v f .0 e)
     (number-there i f (number-spelling.read-bounded x i d) (number-spelling.read-bounded v f e) r h)
 numbers-there r x v (number-readings.Reading.Number i) number-readings.Reading.Unreadable d e h = absurd (false≢true h)
 numbers-there r x v number-readings.Reading.Unreadable b d e h = absurd (false≢true h)
 
 dates-there : (r : DateRelation) (x v : List ℕ) (a : period-readings.Reading) (b : date-readings.Reading) → periods.readSpan x ≡ a → dates.read v ≡ b → dateReadingsRelate r a b ≡ true → RelatesTo (Relation.Dates r) x v
 dates-there r x v (period-readings.Reading.Readable i) (date-readings.Reading.Readable f) d e h =
-    let s = period-spelling.span-spells x i .0 d in
-    dates-relate s (date-spelling.read-spells v f .0 e) (date-there i (period-spelling.span-inhabited s) f (read-first v e) r h)
+    let s = period-spelling.span-iff x i .0 d in
+    dates-relate s (date-spelling.read-iff v f .0 e) (date-there i (period-spelling.span-inhabited s) f (read-first v e) r h)
 dates-there r x v (period-readings.Reading.Readable i) date-readings.Reading.Unreadable d e h = absurd (false≢true h)
 dates-there r x v period-readings.Reading.Unreadable b d e h = absurd (false≢true h)
 
 module _ (x v : List ℕ) where
   relates-there : (r : Relation) → relatesTo r x v ≡ true → RelatesTo r x v
   unfolding relatesTo stringsRelate
-  relates-there (Relation.Strings StringRelation.Same) h = string-same (same-reads x v .0 h)
-  relates-there (Relation.Strings StringRelation.Contains) h = let w = contains-reads x v .0 h in string-contains (w .0) (w .1) (w .2)
-  relates-there (Relation.Strings StringRelation.Starts) h = let w = starts-reads x v .0 h in string-starts (w .0) (w .1)
-  relates-there (Relation.Strings StringRelation.Ends) h = let w = ends-reads x v .0 h in string-ends (w .0) (w .1)
+  relates-there (Relation.Strings StringRelation.Same) h = string-same (same-iff x v .0 h)
+  relates-there (Relation.Strings StringRelation.Contains) h = let w = contains-iff x v .0 h in string-contains (w .0) (w .1) (w .2)
+  relates-there (Relation.Strings StringRelation.Starts) h = let w = starts-iff x v .0 h in string-starts (w .0) (w .1)
+  relates-there (Relation.Strings StringRelation.Ends) h = let w = ends-iff x v .0 h in string-ends (w .0) (w .1)
   relates-there (Relation.Numbers r) h = numbers-there r x v (numbers.read x) (numbers.read v) refl refl h
   relates-there (Relation.Dates r) h = dates-there r x v (periods.readSpan x) (dates.read v) refl refl h
-  relates-there Relation.Tokens h = let w = matches-reads x v .0 h in tokens-relate (w .2) (w .3) (w .4)
-  relates-there Relation.References h = references-same (same-reads x v .0 h)
+  relates-there Relation.Tokens h = let w = matches-iff x v .0 h in tokens-relate (w .2) (w .3) (w .4)
+  relates-there Relation.References h = references-same (same-iff x v .0 h)
 
 relates-back : {r : Relation} {x v : List ℕ} → RelatesTo r x v → relatesTo r x v ≡ true
 unfolding relatesTo stringsRelate
-relates-back (string-same {x = x} {v = v} e) = same-reads x v .1 e
-relates-back (string-contains {x = x} {v = v} p q e) = contains-reads x v .1 (p, q, e)
-relates-back (string-starts {x = x} {v = v} q e) = starts-reads x v .1 (q, e)
-relates-back (string-ends {x = x} {v = v} p e) = ends-reads x v .1 (p, e)
+relates-back (string-same {x = x} {v = v} e) = same-iff x v .1 e
+relates-back (string-contains {x = x} {v = v} p q e) = contains-iff x v .1 (p, q, e)
+relates-back (string-starts {x = x} {v = v} q e) = starts-iff x v .1 (q, e)
+relates-back (string-ends {x = x} {v = v} p e) = ends-iff x v .1 (p, e)
 relates-back (numbers-relate {x = x} {v = v} {i = i} {f = f} a b h) =
-    let d : numbers.read x ≡ number-readings.Reading.Number i = number-spelling.read-spells x i .1 a in
-    let e : numbers.read v ≡ number-readings.Reading.Number f = number-spelling.read-spells v f .1 b in
+    let d : numbers.read x ≡ number-readings.Reading.Number i = number-spelling.read-iff x i .1 a in
+    let e : numbers.read v ≡ number-readings.Reading.Number f = number-spelling.read-iff v f .1 b in
     rw (d, e) (number-back i f (number-spelling.read-bounded x i d) (number-spelling.read-bounded v f e) h)
 relates-back (dates-relate {x = x} {v = v} {i = i} {f = f} a b h) =
-    let d : periods.readSpan x ≡ period-readings.Reading.Readable i = period-spelling.span-spells x i .1 a in
-    let e : dates.read v ≡ date-readings.Reading.Readable f = date-spelling.read-spells v f .1 b in
+    let d : periods.readSpan x ≡ period-readings.Reading.Readable i = period-spelling.span-iff x i .1 a in
+    let e : dates.read v ≡ date-readings.Reading.Readable f = date-spelling.read-iff v f .1 b in
     rw (d, e) (date-back i (period-spelling.span-inhabited a) f (read-first v e) h)
-relates-back (tokens-relate {x = x} {v = v} {i = i} {f = f} a b h) = matches-reads x v .1 (i, f, a, b, h)
-relates-back (references-same {x = x} {v = v} e) = same-reads x v .1 e
+relates-back (tokens-relate {x = x} {v = v} {i = i} {f = f} a b h) = matches-iff x v .1 (i, f, a, b, h)
+relates-back (references-same {x = x} {v = v} e) = same-iff x v .1 e
 
 pub relates-iff : (r : Relation) (x v : List ℕ) → (relatesTo r x v ≡ true) ↔ RelatesTo r x v
 relates-iff r x v = (relates-there x v r, relates-back)

@@ -124,8 +124,8 @@ spelled-read s d (whole g v) =
 spelled-read s d (fraction w f e g h v) = rw (e, v, value-append 0 w f) (sym (point-read w f g h))
 
 -- a text is readable exactly when it is w, or w ++ "." ++ f, of digits, 1 to 8 and 1 to 9 of them; and it reads to what they write
-pub read-spells : (s : List ℕ) (d : Decimal) → (read s ≡ Number d) ↔ Spells s d
-read-spells s d = (read-spelled s d, spelled-read s d)
+pub read-iff : (s : List ℕ) (d : Decimal) → (read s ≡ Number d) ↔ Spells s d
+read-iff s d = (read-spelled s d, spelled-read s d)
 
 spelled-bounded : (s : List ℕ) (d : Decimal) → Spells s d → Bounded d
 spelled-bounded s d (whole g v) =
@@ -154,6 +154,6 @@ spells-readable : (s : List ℕ) → (d : Decimal) × Spells s d → readable s 
 unfolding readable
 spells-readable s h = rw (spelled-read s (h .0) (h .1))
 
-pub readable-spells : (s : List ℕ) → (readable s ≡ true) ↔ ((d : Decimal) × Spells s d)
+pub readable-iff : (s : List ℕ) → (readable s ≡ true) ↔ ((d : Decimal) × Spells s d)
 unfolding readable
-readable-spells s = (readable-number s (read s) refl, spells-readable s)
+readable-iff s = (readable-number s (read s) refl, spells-readable s)

@@ -87,14 +87,14 @@ second-there : (b : List ℕ) (p : Period) (r : dates.Reading) → texts.read b 
 unfolding openStart
 second-there b p (dates.Reading.Readable e) h k =
     let z : period End.Open (End.At (e .end)) ≡ p = cc in
-    subst (Spells (slash ∷ b)) z (spells-second (date-reading.read-spells b e .0 h))
+    subst (Spells (slash ∷ b)) z (spells-second (date-reading.read-iff b e .0 h))
 second-there b p dates.Reading.Unreadable h k = let z : _≡_ {A = ℕ} 0 1 = cc in absurd (omega arith)
 
 first-there : (a : List ℕ) (p : Period) (r : dates.Reading) → texts.read a ≡ r → openEnd r ≡ Reading.Readable p → Spells (a ++ (slash ∷ [])) p
 unfolding openEnd
 first-there a p (dates.Reading.Readable d) h k =
     let z : period (End.At (d .start)) End.Open ≡ p = cc in
-    subst (Spells (a ++ (slash ∷ []))) z (spells-first (date-reading.read-spells a d .0 h))
+    subst (Spells (a ++ (slash ∷ []))) z (spells-first (date-reading.read-iff a d .0 h))
 first-there a p dates.Reading.Unreadable h k = let z : _≡_ {A = ℕ} 0 1 = cc in absurd (omega arith)
 
 not-readable : (p : Period) → Reading.Unreadable ≡ Reading.Readable p → ⊥
@@ -106,7 +106,7 @@ both-there a b p (dates.Reading.Readable d) (dates.Reading.Readable e) h g k =
     let w = cond-first (ltZ (d .start) (e .end)) (Reading.Readable (period (End.At (d .start)) (End.At (e .end)))) Reading.Unreadable (not-readable p) k in
     let same = w .1 in
     let z : period (End.At (d .start)) (End.At (e .end)) ≡ p = cc in
-    subst (Spells (a ++ (slash ∷ b))) z (spells-both (date-reading.read-spells a d .0 h) (date-reading.read-spells b e .0 g) (ltZ-iff (d .start) (e .end) .0 (w .0)))
+    subst (Spells (a ++ (slash ∷ b))) z (spells-both (date-reading.read-iff a d .0 h) (date-reading.read-iff b e .0 g) (ltZ-iff (d .start) (e .end) .0 (w .0)))
 both-there a b p (dates.Reading.Readable d) dates.Reading.Unreadable h g k = absurd (not-readable p k)
 both-there a b p dates.Reading.Unreadable s h g k = absurd (not-readable p k)
 
@@ -146,15 +146,15 @@ first-back (x ∷ a) h = sym (parts-first (x ∷ a) [] _ (λ e. omega arith) ref
 spells-reads : {t : List ℕ} {p : Period} → Spells t p → read t ≡ Reading.Readable p
 unfolding read fromTo readParts openStart
 spells-reads (spells-both {a = a} {b = b} {d = d} {e = e} s r l) =
-    rw (split-at slash a b (date-plain s), both-back a b (date-reading.read-spells a d .1 s) (date-reading.read-spells b e .1 r), ltZ-iff (d .start) (e .end) .1 l)
+    rw (split-at slash a b (date-plain s), both-back a b (date-reading.read-iff a d .1 s) (date-reading.read-iff b e .1 r), ltZ-iff (d .start) (e .end) .1 l)
 spells-reads (spells-first {a = a} {d = d} s) =
-    rw (split-at slash a [] (date-plain s)) (first-back a (date-reading.read-spells a d .1 s))
+    rw (split-at slash a [] (date-plain s)) (first-back a (date-reading.read-iff a d .1 s))
 spells-reads (spells-second {b = b} {e = e} s) =
-    rw (split-at slash [] b all-empty, date-reading.read-spells b e .1 s)
+    rw (split-at slash [] b all-empty, date-reading.read-iff b e .1 s)
 
 -- the theorem: a text reads to a period exactly where it is a spelling of it
-pub read-spells : (t : List ℕ) (p : Period) → (read t ≡ Reading.Readable p) ↔ Spells t p
-read-spells t p = (reads-spells p t, spells-reads)
+pub read-iff : (t : List ℕ) (p : Period) → (read t ≡ Reading.Readable p) ↔ Spells t p
+read-iff t p = (reads-spells p t, spells-reads)
 
 -- so a text spells one period at most
 pub spells-unique : {t : List ℕ} {p q : Period} → Spells t p → Spells t q → p ≡ q
@@ -167,9 +167,9 @@ unfolding isPeriod
 readable-there t (Reading.Readable p) e h = (p, reads-spells p t e)
 readable-there t Reading.Unreadable e h = absurd (false≢true h)
 
-pub readable-spells : (t : List ℕ) → (readable t ≡ true) ↔ ((p : Period) × Spells t p)
+pub readable-iff : (t : List ℕ) → (readable t ≡ true) ↔ ((p : Period) × Spells t p)
 unfolding readable isPeriod
-readable-spells t = (readable-there t (read t) refl, λ w. rw (spells-reads (w .1)))
+readable-iff t = (readable-there t (read t) refl, λ w. rw (spells-reads (w .1)))
 
 -- ---- a date or a period
 
@@ -180,24 +180,24 @@ not-plain (spells-second s) h = all-head _ h refl
 
 -- no period is a date
 period-no-date : (t : List ℕ) {p : Period} → Spells t p → (r : dates.Reading) → texts.read t ≡ r → r ≡ dates.Reading.Unreadable
-period-no-date t s (dates.Reading.Readable d) e = absurd (not-plain s (date-plain (date-reading.read-spells t d .0 e)))
+period-no-date t s (dates.Reading.Readable d) e = absurd (not-plain s (date-plain (date-reading.read-iff t d .0 e)))
 period-no-date t s dates.Reading.Unreadable e = refl
 
 span-there : (t : List ℕ) (p : Period) (r : dates.Reading) → texts.read t ≡ r → spanOr r (read t) ≡ Reading.Readable p → SpellsSpan t p
 unfolding spanOr
 span-there t p (dates.Reading.Readable d) e h =
     let z : known d ≡ p = cc in
-    subst (SpellsSpan t) z (span-of-date (date-reading.read-spells t d .0 e))
+    subst (SpellsSpan t) z (span-of-date (date-reading.read-iff t d .0 e))
 span-there t p dates.Reading.Unreadable e h = span-of-period (reads-spells p t h)
 
 span-back : {t : List ℕ} {p : Period} → SpellsSpan t p → readSpan t ≡ Reading.Readable p
 unfolding readSpan spanOr
-span-back (span-of-date {t = t} {d = d} s) = rw (date-reading.read-spells t d .1 s)
+span-back (span-of-date {t = t} {d = d} s) = rw (date-reading.read-iff t d .1 s)
 span-back (span-of-period {t = t} s) = rw (period-no-date t s (texts.read t) refl) (spells-reads s)
 
-pub span-spells : (t : List ℕ) (p : Period) → (readSpan t ≡ Reading.Readable p) ↔ SpellsSpan t p
+pub span-iff : (t : List ℕ) (p : Period) → (readSpan t ≡ Reading.Readable p) ↔ SpellsSpan t p
 unfolding readSpan
-span-spells t p = (span-there t p (texts.read t) refl, span-back)
+span-iff t p = (span-there t p (texts.read t) refl, span-back)
 
 -- ---- what is read has an instant
 
@@ -209,6 +209,6 @@ spells-inhabited (spells-second {e = e} s) = let y = less (e .end) in (y .0, rec
 pub span-inhabited : {t : List ℕ} {p : Period} → SpellsSpan t p → Inhabited p
 unfolding known
 span-inhabited (span-of-date {t = t} {d = d} s) =
-    let first = read-first t (date-reading.read-spells t d .1 s) in
+    let first = read-first t (date-reading.read-iff t d .1 s) in
     (d .start, record { from = from-known (first .from); before = until-known (first .before) })
 span-inhabited (span-of-period s) = spells-inhabited s

@@ -11,7 +11,7 @@ use Rattle.base.specs.Kinds.{token, bundleKind}
 use Rattle.base.specs.Lists.{All, all-empty, all-cons}
 use Rattle.base.proofs.Tests.{and-left, and-right, and-both, or-either, or-left, or-right, both-ways, decided}
 use Rattle.token.specs.Match.{matchesAt}
-use Rattle.token.proofs.Readings.{matchesAt-reads}
+use Rattle.token.proofs.Readings.{matchesAt-iff}
 use Rattle.sheet.specs.Sheet.{Parameter}
 use Rattle.sheet.specs.Encode.{ValueKind, WellFormedSheet}
 use Rattle.sheet.specs.declared.Found.{Found}
@@ -43,7 +43,7 @@ module _ (ps : List Parameter) (w : WellFormedSheet ps) (es : List Entry) (a : A
   token-there : (i : ℕ) → Names ps (name (a .name)) i token → someValue (λ x. matchesAt x (a .split) (a .text)) (valuesAt i es) ≡ true → AlternativeSays ps es a
   token-there i j h =
       let x = some-there (λ x. matchesAt x (a .split) (a .text)) (valuesAt i es) h in
-      let r = matchesAt-reads (x .0) (a .split) (a .text) .0 (x .2) in
+      let r = matchesAt-iff (x .0) (a .split) (a .text) .0 (x .2) in
       says-token j (x .1) (r .2) (r .3) (r .4)
 
   -- the test that is asked, at the parameter that is named
@@ -76,7 +76,7 @@ module _ (ps : List Parameter) (w : WellFormedSheet ps) (es : List Entry) (a : A
   unfolding alternativeSays textSays
   says-back (says-token {i = i} {x = x} {t = t} {f = f} j m c s q) =
       let e = names-iff ps w (name (a .name)) i token .1 j in
-      rw e (some-back (λ x. matchesAt x (a .split) (a .text)) m (matchesAt-reads x (a .split) (a .text) .1 (t, f, c, s, q)))
+      rw e (some-back (λ x. matchesAt x (a .split) (a .text)) m (matchesAt-iff x (a .split) (a .text) .1 (t, f, c, s, q)))
   says-back (says-test {i = i} {k = k} {o = o} {v = v} other j asked s) =
       let e = names-iff ps w (name (a .name)) i k .1 j in
       let q : askedOf k (a .text) ≡ asks-for o v = asked-is asked other in

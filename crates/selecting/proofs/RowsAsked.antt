@@ -16,7 +16,7 @@ use Rattle.sheet.proofs.RoundTrip.{sheet-well-formed}
 use Rattle.card.specs.Card.{Entry}
 use Rattle.syntax.specs.Tree.{testsOf}
 use Rattle.syntax.specs.Grammar.{Spells}
-use Rattle.syntax.proofs.Spelling.{read-spells}
+use Rattle.syntax.proofs.Spelling.{read-iff}
 use Rattle.judge.specs.Faults.{firstFault}
 use Rattle.judge.specs.Verdicts.{filterSays}
 use Rattle.refusal.specs.declared.Decision.{Decision}
@@ -57,7 +57,7 @@ module _ (sheet text : List ℕ) (p : Passing sheet text) where
   well = sheet-well-formed sheet (p .sheet-well-formed)
 
   spells : Spells text (p .tree)
-  spells = read-spells text (p .tree) .0 (p .reads)
+  spells = read-iff text (p .tree) .0 (p .reads)
 
   clean : firstFault ps 0 (testsOf (p .tree)) ≡ Decision.Passed
   unfolding testsStep

@@ -12,7 +12,7 @@ use Rattle.sheet.specs.Encode.{SheetBlock}
 use Rattle.syntax.specs.Tree.{Tree}
 use Rattle.syntax.specs.Grammar.{deepest, mostTests, Spells}
 use Rattle.syntax.specs.Reader.{read}
-use Rattle.syntax.proofs.Spelling.{read-spells}
+use Rattle.syntax.proofs.Spelling.{read-iff}
 use Rattle.place.specs.Begins.{Begins, Longest, Number}
 use Rattle.place.specs.Machine.{failure}
 use Rattle.place.proofs.Place.{text-place, text-number, longest-unique, number-unique}
@@ -25,7 +25,7 @@ reads-none text h = go (read text) refl
   where
     go : (o : Option Tree) → read text ≡ o → o ≡ none
     go none e = refl
-    go (some f) e = absurd (h f (read-spells text f .0 e))
+    go (some f) e = absurd (h f (read-iff text f .0 e))
 
 module _ (sheet text : List ℕ) (s : SheetBlock sheet) (some-bytes : 1 ≤ length text) (short : length text ≤ 1024) (no-filter : (f : Tree) → Spells text f → ⊥) where
   failed : checkAnswer sheet text ≡ refused (numberOf (failure deepest mostTests text .reason)) (failure deepest mostTests text .place)

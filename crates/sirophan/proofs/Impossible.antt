@@ -26,7 +26,7 @@ use Rattle.syntax.specs.Grammar.{Spells}
 use Rattle.syntax.specs.Strings.{isBare}
 use Rattle.syntax.specs.Scan.{stepOf, stringFrom, stringAt, valueAt, follows, findOperator, operatorAt, testValue, testOperator, testAt, openAt, headAt, connectiveAt, closeAt}
 use Rattle.syntax.specs.Reader.{chainOf, filterOf, itemAt, filterAt, read}
-use Rattle.syntax.proofs.Spelling.{read-spells}
+use Rattle.syntax.proofs.Spelling.{read-iff}
 use Rattle.kind.specs.Table.{stringRow, tokenRow, row, relationIn, rowMeaning, meaningOf, hasMeaning, kinds, ofKind}
 use Rattle.kind.specs.Readable.{filterReadable, valueReadable}
 use Rattle.judge.specs.Sets.{lookup, valuesAt}
@@ -52,10 +52,10 @@ unfolding titleTest codeTest testsOf read filterAt itemAt filterOf chainOf close
 trees-read = (refl, refl)
 
 pub title-spelled : Spells (ascii "title co \"BOOK\"") (test titleTest)
-title-spelled = read-spells (ascii "title co \"BOOK\"") (test titleTest) .0 (trees-read .0)
+title-spelled = read-iff (ascii "title co \"BOOK\"") (test titleTest) .0 (trees-read .0)
 
 pub code-spelled : Spells (ascii "code gt 5") (test codeTest)
-code-spelled = read-spells (ascii "code gt 5") (test codeTest) .0 (trees-read .1)
+code-spelled = read-iff (ascii "code gt 5") (test codeTest) .0 (trees-read .1)
 
 faults-found : (testFault trialParameters 0 titleTest ≡ Decision.Passed) × (testFault trialParameters 0 codeTest ≡ (refuse Reason.NoMeaning (codeTest .at)))
 unfolding titleTest codeTest trialParameters testFault kindFault lookup find findFrom equal unsupported member hasMeaning meaningOf rowMeaning relationIn row kinds ofKind stringRow tokenRow valueReadable filterReadable

@@ -167,7 +167,7 @@ pub operator-words : map (λ (k : ℕ). getD operatorWords k []) (eq ∷ ne ∷ 
 operator-words = words.operator-words
 
 pub filter-read : (text : List ℕ) (f : Tree) → (read text ≡ some f) ↔ Spells text f
-filter-read = spelling.read-spells
+filter-read = spelling.read-iff
 
 pub filter-unique : (text : List ℕ) (f g : Tree) → Spells text f → Spells text g → f ≡ g
 filter-unique = spelling.spells-unique

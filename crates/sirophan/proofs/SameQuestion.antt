@@ -30,7 +30,7 @@ use Rattle.base.specs.Split.{firstOf}
 use Rattle.token.specs.Split.{splitAt}
 use Rattle.token.proofs.Split.{splitAt-first}
 use Rattle.token.proofs.Rules.{stands-namespace}
-use Rattle.token.proofs.Readings.{filterForm-reads, formAt-reads}
+use Rattle.token.proofs.Readings.{filterForm-iff, formAt-iff}
 use Rattle.sheet.specs.Sheet.{Parameter}
 use Rattle.sheet.specs.Encode.{SheetBlock, WellFormedSheet}
 use Rattle.sheet.specs.declared.Found.{Found}
@@ -219,7 +219,7 @@ module _ (ps : List Parameter) (w : WellFormedSheet ps) (a : Alternative) (t : T
   form-read : h .kind ≡ token → ReadableInFilter token (t .value) → ReadableAlternative (h .kind) a
   form-read is (readable-token (f, s)) =
       let v : t .value ≡ a .text = token-asks (of-token is) .1 in
-      readable-form is (formAt-reads (a .text) (a .split) f .0 (form-same (a .split) (a .text) (h .bars is) ∙ ap filterForm (sym v) ∙ filterForm-reads (t .value) f .1 s))
+      readable-form is (formAt-iff (a .text) (a .split) f .0 (form-same (a .split) (a .text) (h .bars is) ∙ ap filterForm (sym v) ∙ filterForm-iff (t .value) f .1 s))
 
   reads : ReadableValue (h .kind) (t .value) (t .operator) → ReadableAlternative (h .kind) a
   reads r = by-value r refl

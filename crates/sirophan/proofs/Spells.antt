@@ -13,7 +13,7 @@ use Rattle.base.proofs.Lists.{length-zero}
 use Rattle.syntax.specs.Tree.{Tree}
 use Rattle.syntax.specs.Grammar.{Spells}
 use Rattle.syntax.specs.Reader.{read}
-use Rattle.syntax.proofs.Spelling.{read-spells, spells-not-empty}
+use Rattle.syntax.proofs.Spelling.{read-iff, spells-not-empty}
 use Rattle.spell.specs.Plain.{plain}
 use Rattle.spell.specs.Spelling as spell
 use Rattle.spell.specs.declared.Spelled.{Spelled}
@@ -90,8 +90,8 @@ module _ (text : List ℕ) (from : ℕ) (buffer : List ℕ) where
       let some-bytes : length text ≡ 0 → ⊥ = (λ z. spells-not-empty f (rw (length-zero text z) at s)) in
       let fits : leb (from + length (plain f)) (length buffer) ≡ true = le-leb (from + length (plain f)) (length buffer) h in
       record {
-        counts = rw (ne-eqb (length text) 0 some-bytes, le-ltb 1024 (length text) short, read-spells text f .1 s, fits);
-        writes = rw (ne-eqb (length text) 0 some-bytes, le-ltb 1024 (length text) short, read-spells text f .1 s, fits);
+        counts = rw (ne-eqb (length text) 0 some-bytes, le-ltb 1024 (length text) short, read-iff text f .1 s, fits);
+        writes = rw (ne-eqb (length text) 0 some-bytes, le-ltb 1024 (length text) short, read-iff text f .1 s, fits);
       }
 
   pub refusal-keeps-buffer : (n p : ℕ) → spellAnswer text from (length buffer) ≡ refused n p → spellBytes text from buffer ≡ buffer

@@ -19,7 +19,7 @@ use Rattle.syntax.specs.Tree.{Tree, testsOf}
 use Rattle.syntax.specs.Grammar.{Spells, round, deepest, mostTests}
 use Rattle.syntax.specs.Scan.{isSpace, skipAt}
 use Rattle.syntax.specs.Reader.{Parsed, parsed, unparsed, filterAt, whole, read}
-use Rattle.syntax.proofs.Spelling.{read-spells}
+use Rattle.syntax.proofs.Spelling.{read-iff}
 use Rattle.place.specs.Machine.{found}
 use Rattle.refusal.specs.declared.Reason.{Reason}
 use Rattle.refusal.specs.declared.Refusal.{Refusal}
@@ -76,7 +76,7 @@ module _ (xs : List ℕ) (p : ℕ) (s : RunEnd isSpace xs 0 p) where
 
 module _ (xs out : List ℕ) (l : length xs ≤ 1024) (f : IsFilter xs) (n : length out ≡ 1024) where
   pub measure-room : TextRoom xs out
-  measure-room = record { tree = f .tree; reads = f .reads; room = record { fits = omega (arith, never-longer xs (f .tree) (read-spells xs (f .tree) .0 (f .reads))) } }
+  measure-room = record { tree = f .tree; reads = f .reads; room = record { fits = omega (arith, never-longer xs (f .tree) (read-iff xs (f .tree) .0 (f .reads))) } }
 
 pub measure-long : (xs out exit : List ℕ) (n : ℕ) → TextSpelt xs out exit n → TextLength xs n
 measure-long xs out exit n s = record { tree = s .tree; reads = s .reads; long = s .puts .long }
@@ -156,7 +156,7 @@ module _ (text buffer : List ℕ) (from : ℕ) where
             record { answers = rw (right-size, m) (ap (λ (x : Refusal). Spelled.Refused x) (w .1)); bytes-are = rw (right-size, m) }
           where
             not-read : (o : Option Tree) → read text ≡ o → ((f : Tree) → Spells text f → ⊥) → read text ≡ none
-            not-read (some f) k z = absurd (z f (read-spells text f .0 k))
+            not-read (some f) k z = absurd (z f (read-iff text f .0 k))
             not-read none k z = k
 
       pub spell-placed : {o : Spelled} {exit : List ℕ} → PlacedInto text buffer from o exit → SpellsInto text buffer from o exit
@@ -164,4 +164,4 @@ module _ (text buffer : List ℕ) (from : ℕ) where
       spell-placed p = record { answers = p .answers ∙ rw (right-size, p .reads); bytes-are = p .bytes-are ∙ rw (right-size, p .reads) }
 
 pub found-is : (text : List ℕ) (r : Found) → r ≡ found deepest mostTests text → r ≡ Found.Filter → IsFilter text
-found-is text r e h = let s = found-filter text r e h in record { tree = s .0; reads = read-spells text (s .0) .1 (s .1) }
+found-is text r e h = let s = found-filter text r e h in record { tree = s .0; reads = read-iff text (s .0) .1 (s .1) }

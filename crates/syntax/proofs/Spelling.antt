@@ -17,8 +17,8 @@ use Rattle.syntax.proofs.Sound.{read-sound}
 use Rattle.syntax.proofs.Complete.{read-complete, filter-rise}
 
 -- the reader reads a tree exactly where the text spells it
-pub read-spells : (xs : List ℕ) (f : Tree) → (read xs ≡ some f) ↔ Spells xs f
-read-spells xs f = (read-sound xs f, read-complete xs f)
+pub read-iff : (xs : List ℕ) (f : Tree) → (read xs ≡ some f) ↔ Spells xs f
+read-iff xs f = (read-sound xs f, read-complete xs f)
 
 pub spells-unique : (xs : List ℕ) (f g : Tree) → Spells xs f → Spells xs g → f ≡ g
 spells-unique xs f g a b = let p = read-complete xs f a in let q = read-complete xs g b in cc

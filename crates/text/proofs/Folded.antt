@@ -104,9 +104,9 @@ behind-back folded-end = refl
 behind-back (folded-byte {p = p} {s = s} {t = t} {x = x} b r) =
     cons-same (becomes-back x b) (subst (λ (w : ℕ). foldFrom w s ≡ t) (endOf-last 0 x p) (behind-back r))
 
-pub foldText-reads : (s t : List ℕ) → (foldText s ≡ t) ↔ Folded s t
+pub foldText-iff : (s t : List ℕ) → (foldText s ≡ t) ↔ Folded s t
 unfolding foldText
-foldText-reads s t = ((λ e. subst (Folded s) e (folded-behind [] s)), behind-back)
+foldText-iff s t = ((λ e. subst (Folded s) e (folded-behind [] s)), behind-back)
 
 -- ---- the letters
 

@@ -11,18 +11,18 @@ use Rattle.text.specs.Compare.{same, starts, ends, contains}
 use Rattle.base.proofs.Affixes.{prefix-rest, prefix-append, suffix-rest, suffix-append, infix-rest, infix-append}
 
 module _ (a b : List ℕ) where
-  pub same-reads : (same a b ≡ true) ↔ (foldText a ≡ foldText b)
+  pub same-iff : (same a b ≡ true) ↔ (foldText a ≡ foldText b)
   unfolding same
-  same-reads = (equal-same (foldText a) (foldText b), λ e. rw e (equal-refl (foldText b)))
+  same-iff = (equal-same (foldText a) (foldText b), λ e. rw e (equal-refl (foldText b)))
 
-  pub starts-reads : (starts a b ≡ true) ↔ ((q : List ℕ) × (foldText a ≡ foldText b ++ q))
+  pub starts-iff : (starts a b ≡ true) ↔ ((q : List ℕ) × (foldText a ≡ foldText b ++ q))
   unfolding starts
-  starts-reads = (prefix-rest (foldText a) (foldText b), λ w. rw (w .1) (prefix-append (foldText b) (w .0)))
+  starts-iff = (prefix-rest (foldText a) (foldText b), λ w. rw (w .1) (prefix-append (foldText b) (w .0)))
 
-  pub ends-reads : (ends a b ≡ true) ↔ ((p : List ℕ) × (foldText a ≡ p ++ foldText b))
+  pub ends-iff : (ends a b ≡ true) ↔ ((p : List ℕ) × (foldText a ≡ p ++ foldText b))
   unfolding ends
-  ends-reads = (suffix-rest (foldText a) (foldText b), λ w. rw (w .1) (suffix-append (w .0) (foldText b)))
+  ends-iff = (suffix-rest (foldText a) (foldText b), λ w. rw (w .1) (suffix-append (w .0) (foldText b)))
 
-  pub contains-reads : (contains a b ≡ true) ↔ ((p : List ℕ) × (q : List ℕ) × (foldText a ≡ p ++ (foldText b ++ q)))
+  pub contains-iff : (contains a b ≡ true) ↔ ((p : List ℕ) × (q : List ℕ) × (foldText a ≡ p ++ (foldText b ++ q)))
   unfolding contains
-  contains-reads = (infix-rest (foldText a) (foldText b), λ w. rw (w .2) (infix-append (w .0) (foldText b) (w .1)))
+  contains-iff = (infix-rest (foldText a) (foldText b), λ w. rw (w .2) (infix-append (w .0) (foldText b) (w .1)))

@@ -19,7 +19,7 @@ use Rattle.base.proofs.Split.{split-none, split-parts}
 use Rattle.token.specs.Card.{tokenOf, splitToken, cardToken, cardReadable}
 use Rattle.token.specs.Filter.{splitForm, formAt, readableAt, filterReadable}
 use Rattle.token.proofs.Split.{splitAt-none, splitAt-parts}
-use Rattle.token.proofs.Readings.{filterUnreadable-reads}
+use Rattle.token.proofs.Readings.{filterUnreadable-iff}
 
 -- ---- cards
 
@@ -48,10 +48,10 @@ module _ (t : List ℕ) (i : ℕ) (e : i ≡ firstOf bar t) where
 
 readable-otherwise : (t : List ℕ) → (t ≡ [] → ⊥) → (t ≡ bar ∷ [] → ⊥) → true ≡ filterReadable t
 readable-otherwise t a b =
-    ⊎-elim (λ h. sym h) (λ h. absurd (⊎-elim a b (filterUnreadable-reads t .0 h))) (decided (filterReadable t))
+    ⊎-elim (λ h. sym h) (λ h. absurd (⊎-elim a b (filterUnreadable-iff t .0 h))) (decided (filterReadable t))
 
 pub filter-readable-empty : (t : List ℕ) → length t ≡ 0 → false ≡ filterReadable t
-filter-readable-empty [] h = sym (filterUnreadable-reads [] .1 (inl refl))
+filter-readable-empty [] h = sym (filterUnreadable-iff [] .1 (inl refl))
 filter-readable-empty (x ∷ t) h = absurd (omega arith)
 
 pub filter-readable-long : (t : List ℕ) → 1 < length t → true ≡ filterReadable t
@@ -60,7 +60,7 @@ filter-readable-long t h = readable-otherwise t (λ e. omega (arith, ap length e
 filter-readable-byte : (x : ℕ) → not (eqb x bar) ≡ filterReadable (x ∷ [])
 filter-readable-byte x =
     ⊎-elim
-    (λ h. rw h (sym (filterUnreadable-reads (x ∷ []) .1 (inr (rw (eqb-true x bar h))))))
+    (λ h. rw h (sym (filterUnreadable-iff (x ∷ []) .1 (inr (rw (eqb-true x bar h))))))
     (λ h. rw h (readable-otherwise (x ∷ []) (λ e. omega (arith, ap length e)) (λ e. eqb-false x bar h (ap (λ (l : List ℕ). getD l 0 0) e))))
     (decided (eqb x bar))
 

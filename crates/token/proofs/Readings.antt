@@ -1,6 +1,6 @@
 -- What readable, the forms and matching mean, by the spellings.
 -- A text is cut at its first bar or has none, and which form it spells depends on whether the parts are empty; so every direction goes by
--- these cases. A text of a search string comes with the index of its cut, and is treated alike (`formAt-reads`). A match is a token that
+-- these cases. A text of a search string comes with the index of its cut, and is treated alike (`formAt-iff`). A match is a token that
 -- the card spells and a form that is asked for, which asks for it (`meets-reads`): each of the two texts is read to one or to none.
 -- Assumes nothing.
 use mathlib.Core.Path.{_≡_, refl, sym, ap, _∙_, subst}
@@ -17,7 +17,7 @@ use lib.Seq.{split-at as seam, length-take-le}
 use borrow.Author.Tests.{ltb-true, ltb-false}
 use Rattle.base.specs.Lists.{all-empty}
 use Rattle.base.specs.Options.{isSome}
-use Rattle.base.proofs.Options.{isSome-reads}
+use Rattle.base.proofs.Options.{isSome-iff}
 use Rattle.base.proofs.Tests.{cond-elim}
 use Rattle.text.specs.Bar.{bar, NoBar}
 use Rattle.base.specs.Split.{Split, whole, parts}
@@ -29,7 +29,7 @@ use Rattle.token.specs.Match.{asks, meets, matches, matchesAt}
 use Rattle.token.specs.Rules.{StandsFor, Itself, AsksBy, Asks}
 use Rattle.token.specs.Spelling.{NotEmpty, CardSpells, spells-code, spells-token, FilterSpells, spells-any-system, spells-system-code, spells-no-system, spells-any-code, SplitSpells, split-any-system, split-system-code, split-no-system, split-any-code}
 use Rattle.token.proofs.Split.{splitAt-none, splitAt-there}
-use Rattle.token.proofs.Rules.{asks-reads, asks-itself}
+use Rattle.token.proofs.Rules.{asks-iff, asks-itself}
 use Rattle.token.proofs.Forms.{tokenOf-some, splitForm-any-system, splitForm-system-code, splitForm-no-system, splitForm-any-code}
 
 -- ---- cards
@@ -51,12 +51,12 @@ unfolding cardToken splitToken
 spells-cardToken (spells-code {c = c} h n) = rw (split-whole bar c h) (tokenOf-some [] c n)
 spells-cardToken (spells-token {s = s} {c = c} h n) = rw (split-at bar s c h) (tokenOf-some s c n)
 
-pub cardToken-reads : (t : List ℕ) (k : Token) → (cardToken t ≡ some k) ↔ CardSpells t k
-cardToken-reads t k = (cardToken-spells k t, spells-cardToken)
+pub cardToken-iff : (t : List ℕ) (k : Token) → (cardToken t ≡ some k) ↔ CardSpells t k
+cardToken-iff t k = (cardToken-spells k t, spells-cardToken)
 
-pub cardReadable-reads : (t : List ℕ) → (cardReadable t ≡ true) ↔ ((k : Token) × CardSpells t k)
+pub cardReadable-iff : (t : List ℕ) → (cardReadable t ≡ true) ↔ ((k : Token) × CardSpells t k)
 unfolding cardReadable
-cardReadable-reads t = isSome-reads (CardSpells t) (cardToken t) (cardToken-reads t)
+cardReadable-iff t = isSome-iff (CardSpells t) (cardToken t) (cardToken-iff t)
 
 -- ---- filters
 
@@ -86,12 +86,12 @@ spells-filterForm (spells-system-code {s = s} {c = c} h m n) = rw (split-at bar 
 spells-filterForm (spells-no-system {c = c} n) = rw (split-at bar [] c all-empty) (splitForm-no-system c n)
 spells-filterForm (spells-any-code {s = s} h m) = rw (split-at bar s [] h) (splitForm-any-code s m)
 
-pub filterForm-reads : (t : List ℕ) (f : Form) → (filterForm t ≡ some f) ↔ FilterSpells t f
-filterForm-reads t f = (filterForm-spells f t, spells-filterForm)
+pub filterForm-iff : (t : List ℕ) (f : Form) → (filterForm t ≡ some f) ↔ FilterSpells t f
+filterForm-iff t f = (filterForm-spells f t, spells-filterForm)
 
-pub filterReadable-reads : (t : List ℕ) → (filterReadable t ≡ true) ↔ ((f : Form) × FilterSpells t f)
+pub filterReadable-iff : (t : List ℕ) → (filterReadable t ≡ true) ↔ ((f : Form) × FilterSpells t f)
 unfolding filterReadable
-filterReadable-reads t = isSome-reads (FilterSpells t) (filterForm t) (filterForm-reads t)
+filterReadable-iff t = isSome-iff (FilterSpells t) (filterForm t) (filterForm-iff t)
 
 -- ---- a text that is split at an index of its own
 
@@ -127,8 +127,8 @@ spells-formAt (split-system-code {s = s} {c = c} b m n) = rw (splitAt-there s c 
 spells-formAt (split-no-system {c = c} b n) = rw (splitAt-there [] c b) (splitForm-no-system c n)
 spells-formAt (split-any-code {s = s} b m) = rw (splitAt-there s [] b) (splitForm-any-code s m)
 
-pub formAt-reads : (t : List ℕ) (i : ℕ) (f : Form) → (formAt i t ≡ some f) ↔ SplitSpells t i f
-formAt-reads t i f = (formAt-spells t i f, spells-formAt)
+pub formAt-iff : (t : List ℕ) (i : ℕ) (f : Form) → (formAt i t ≡ some f) ↔ SplitSpells t i f
+formAt-iff t i f = (formAt-spells t i f, spells-formAt)
 
 -- ---- unreadable in a filter: an empty text and a lone bar, and nothing else
 
@@ -152,9 +152,9 @@ lone-unreadable : filterReadable (bar ∷ []) ≡ false
 unfolding filterReadable filterForm splitForm
 lone-unreadable = rw (split-at bar [] [] all-empty)
 
-pub filterUnreadable-reads : (t : List ℕ) → (filterReadable t ≡ false) ↔ ((t ≡ []) ⊎ (t ≡ bar ∷ []))
+pub filterUnreadable-iff : (t : List ℕ) → (filterReadable t ≡ false) ↔ ((t ≡ []) ⊎ (t ≡ bar ∷ []))
 unfolding filterReadable filterForm
-filterUnreadable-reads t = (
+filterUnreadable-iff t = (
   split-cases bar (λ (u : List ℕ). filterReadable u ≡ false → (u ≡ []) ⊎ (u ≡ bar ∷ []))
       (λ c h e. no-bar-unreadable c (rw (split-whole bar c h) at e))
       (λ s c h e. at-bar-unreadable s c (rw (split-at bar s c h) at e))
@@ -176,11 +176,11 @@ module _ (short : Bool) (Stands : List ℕ → List ℕ → Type 0) (asks-are : 
       read (some k) none e d h = absurd (false≢true h)
       read (some k) (some f) e d h = (k, f, cardToken-spells k card e, spelled f .0 d, asks-are f k .0 h)
 
-pub matches-reads : (card filter : List ℕ) → (matches card filter ≡ true) ↔ ((k : Token) × (f : Form) × CardSpells card k × FilterSpells filter f × Asks f k)
+pub matches-iff : (card filter : List ℕ) → (matches card filter ≡ true) ↔ ((k : Token) × (f : Form) × CardSpells card k × FilterSpells filter f × Asks f k)
 unfolding matches
-matches-reads card filter = meets-reads true StandsFor asks-reads card (filterForm filter) (FilterSpells filter) (filterForm-reads filter)
+matches-iff card filter = meets-reads true StandsFor asks-iff card (filterForm filter) (FilterSpells filter) (filterForm-iff filter)
 
 -- and without the short names, of a text that is split at the index i
-pub matchesAt-reads : (card : List ℕ) (i : ℕ) (text : List ℕ) → (matchesAt card i text ≡ true) ↔ ((k : Token) × (f : Form) × CardSpells card k × SplitSpells text i f × AsksBy Itself f k)
+pub matchesAt-iff : (card : List ℕ) (i : ℕ) (text : List ℕ) → (matchesAt card i text ≡ true) ↔ ((k : Token) × (f : Form) × CardSpells card k × SplitSpells text i f × AsksBy Itself f k)
 unfolding matchesAt
-matchesAt-reads card i text = meets-reads false Itself asks-itself card (formAt i text) (SplitSpells text i) (formAt-reads text i)
+matchesAt-iff card i text = meets-reads false Itself asks-itself card (formAt i text) (SplitSpells text i) (formAt-iff text i)

@@ -11,7 +11,7 @@ use Rattle.base.proofs.Lists.{equal-same, equal-refl}
 use Rattle.base.proofs.Tests.{and-left, and-right, and-both, both-ways, cond-elim}
 use Rattle.text.specs.Fold.{isCapital, isAccented, foldByte, foldFrom, foldText}
 use Rattle.text.specs.Compare.{same}
-use Rattle.text.proofs.Readings.{same-reads}
+use Rattle.text.proofs.Readings.{same-iff}
 use Rattle.token.specs.Card.{Token}
 use Rattle.token.specs.Filter.{Form, any-system, system-code, no-system, any-code}
 use Rattle.token.specs.Namespace.{standsFor, namespaceOf, systemOf}
@@ -28,10 +28,10 @@ short-folded = (refl, refl, refl, refl)
 module _ (s : List ℕ) where
   -- the test for a short name
   is-short : (name : List ℕ) → foldText name ≡ name → same s name ≡ true → foldText s ≡ name
-  is-short name folded h = same-reads s name .0 h ∙ folded
+  is-short name folded h = same-iff s name .0 h ∙ folded
 
   not-short : (name : List ℕ) → foldText name ≡ name → same s name ≡ false → foldText s ≡ name → ⊥
-  not-short name folded h e = both-ways (same-reads s name .1 (e ∙ sym folded)) h
+  not-short name folded h e = both-ways (same-iff s name .1 (e ∙ sym folded)) h
 
   -- what is found is what the system stands for
   pub namespace-stands : StandsFor s (namespaceOf s)
@@ -71,35 +71,35 @@ module _ (s : List ℕ) where
 module _ (short : Bool) (Stands : List ℕ → List ℕ → Type 0) (stands : (s : List ℕ) → Stands s (systemOf short s)) (one : (s n : List ℕ) → Stands s n → systemOf short s ≡ n) where
   -- the test of a system against what the one that is asked for stands for
   system-there : (x s : List ℕ) → same x (systemOf short s) ≡ true → foldText x ≡ foldText (systemOf short s)
-  system-there x s = same-reads x (systemOf short s) .0
+  system-there x s = same-iff x (systemOf short s) .0
 
   system-back : (x s : List ℕ) {n : List ℕ} → Stands s n → foldText x ≡ foldText n → same x (systemOf short s) ≡ true
-  system-back x s {n} f e = same-reads x (systemOf short s) .1 (e ∙ ap foldText (sym (one s n f)))
+  system-back x s {n} f e = same-iff x (systemOf short s) .1 (e ∙ ap foldText (sym (one s n f)))
 
   there : (f : Form) (t : Token) → asks short f t ≡ true → AsksBy Stands f t
   unfolding asks
-  there (any-system c) t h = asks-any-system (same-reads (t .code) c .0 h)
+  there (any-system c) t h = asks-any-system (same-iff (t .code) c .0 h)
   there (system-code s c) t h =
       asks-system-code (stands s) (system-there (t .system) s (and-left (same (t .system) (systemOf short s)) (same (t .code) c) h))
-      (same-reads (t .code) c .0 (and-right (same (t .system) (systemOf short s)) (same (t .code) c) h))
+      (same-iff (t .code) c .0 (and-right (same (t .system) (systemOf short s)) (same (t .code) c) h))
   there (no-system c) t h =
-      asks-no-system (equal-same (t .system) [] (and-left (equal (t .system) []) (same (t .code) c) h)) (same-reads (t .code) c .0 (and-right (equal (t .system) []) (same (t .code) c) h))
+      asks-no-system (equal-same (t .system) [] (and-left (equal (t .system) []) (same (t .code) c) h)) (same-iff (t .code) c .0 (and-right (equal (t .system) []) (same (t .code) c) h))
   there (any-code s) t h = asks-any-code (stands s) (system-there (t .system) s h)
 
   back : {f : Form} {t : Token} → AsksBy Stands f t → asks short f t ≡ true
   unfolding asks
-  back (asks-any-system {c = c} {t = t} e) = same-reads (t .code) c .1 e
-  back (asks-system-code {s = s} {c = c} {t = t} f e d) = and-both (same (t .system) (systemOf short s)) (same (t .code) c) (system-back (t .system) s f e) (same-reads (t .code) c .1 d)
-  back (asks-no-system {c = c} {t = t} e d) = and-both (equal (t .system) []) (same (t .code) c) (rw e (equal-refl [])) (same-reads (t .code) c .1 d)
+  back (asks-any-system {c = c} {t = t} e) = same-iff (t .code) c .1 e
+  back (asks-system-code {s = s} {c = c} {t = t} f e d) = and-both (same (t .system) (systemOf short s)) (same (t .code) c) (system-back (t .system) s f e) (same-iff (t .code) c .1 d)
+  back (asks-no-system {c = c} {t = t} e d) = and-both (equal (t .system) []) (same (t .code) c) (rw e (equal-refl [])) (same-iff (t .code) c .1 d)
   back (asks-any-code {s = s} {t = t} f e) = system-back (t .system) s f e
 
   forms-read : (f : Form) (t : Token) → (asks short f t ≡ true) ↔ AsksBy Stands f t
   forms-read f t = (there f t, back)
 
 -- a form asks for a token exactly where the test says so
-pub asks-reads : (f : Form) (t : Token) → (asks true f t ≡ true) ↔ Asks f t
+pub asks-iff : (f : Form) (t : Token) → (asks true f t ≡ true) ↔ Asks f t
 unfolding systemOf
-asks-reads = forms-read true StandsFor namespace-stands (λ s n. stands-namespace s)
+asks-iff = forms-read true StandsFor namespace-stands (λ s n. stands-namespace s)
 
 -- and without the short names
 pub asks-itself : (f : Form) (t : Token) → (asks false f t ≡ true) ↔ AsksBy Itself f t
