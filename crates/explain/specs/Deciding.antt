@@ -52,6 +52,7 @@ without i kept j = cond (eqb j i) false (kept j)
 abbrev pub losing : ℕ → (ℕ → Bool) → ℕ → Bool
 losing i kept j = cond (ltb j i) true (without i kept j)
 
+-- kept are the tests that decide, by the three sentences of 02
 pub record Explains (f : Tree) (v kept : ℕ → Bool) : Type 0 where
   pub stands : Suffices f v kept
   -- "none of them can be spared"

@@ -18,6 +18,7 @@ unfoldable pub spread : ℕ → List Entry → List Entry
 spread zero es = []
 spread (suc i) es = map (λ (e : Entry). entry i (e .occurrence) (e .text)) es ++ spread i es
 
+-- the filter says yes where the set of every name is all texts of the card
 abbrev pub AllTextsSay : List Parameter → List Entry → Tree → Type 0
 AllTextsSay ps es f = FilterSays ps 0 (spread (length ps) es) f
 
@@ -35,9 +36,11 @@ pub record Occurs (ps : List Parameter) (es : List Entry) (b : List ℕ) : Type 
   pub name : List ℕ
   pub is-member : Listed ps index (parameter kind (suc bundle) name)
 
+-- every bundle on the path occurs on the card
 pub data Occurring (ps : List Parameter) (es : List Entry) : Path → Type 0 where
   no-bundle : {n : List ℕ} → Occurring ps es (name n)
   occurring : {b : List ℕ} {path : Path} → Occurs ps es b → Occurring ps es (member b path)
 
+-- the filter says yes, and every bundle that it names occurs
 abbrev pub OccurringSay : List Parameter → List Entry → Tree → Type 0
 OccurringSay ps es f = All (Occurring ps es) (namesOf f) × FilterSays ps 0 es f

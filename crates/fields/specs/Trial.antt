@@ -17,6 +17,7 @@ dateEntries =
     ∷ entry 1 0 (ascii "1980")
     ∷ []
 
+-- their card, with another record number, and the names under which it has the same texts
 unfoldable pub dateCard : List ℕ
 dateCard = encodeCard true 300 dateEntries
 
@@ -39,6 +40,7 @@ relationEntries =
     ∷ entry 5 2 (ascii "Holm")
     ∷ []
 
+-- their card, with another record number, and the names under which it has the same texts
 unfoldable pub relationCard : List ℕ
 relationCard = encodeCard true 301 relationEntries
 

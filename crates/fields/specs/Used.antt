@@ -22,6 +22,7 @@ namesOf f = map (λ (t : Test). t .path) (testsOf f)
 abbrev pub alternativeNames : List Alternative → List Path
 alternativeNames list = map (λ (a : Alternative). name (a .name)) list
 
+-- the names that a search string uses: those of all its alternatives
 abbrev pub queryNames : Query → List Path
 queryNames q = alternativeNames (alternativesOf q)
 

@@ -70,6 +70,7 @@ testSays ps c es t = saysAt (lookup ps c (t .path)) (t .operator) (t .value) es
 
 -- ---- a filter
 
+-- two verdicts with a connective between them
 abbrev pub joined : Connective → Bool → Bool → Bool
 joined Connective.And a b = a && b
 joined Connective.Or a b = a || b

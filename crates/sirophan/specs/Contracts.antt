@@ -25,10 +25,12 @@ use Rattle.spell.specs.declared.Spelled.{Spelled}
 abbrev pub RefusedBy : (ℕ → ℕ → Type 0) → Answer → Type 0
 RefusedBy Line a = (n p : ℕ) → (a ≡ refused n p) ↔ Decides Line n p
 
+-- the answer of check, and of a refusal the line that decides
 pub record Checks (sheet text : List ℕ) (r : Checked) : Type 0 where
   pub answers : checkedAnswer r ≡ checkAnswer sheet text
   pub refuses : RefusedBy (CheckLine sheet text) (checkedAnswer r)
 
+-- the same of match, for either engine
 pub record Matches (sheet text card : List ℕ) (r : Matched) : Type 0 where
   pub answers : matchedAnswer r ≡ matchAnswer sheet text card
   pub refuses : RefusedBy (MatchLine sheet text card) (matchedAnswer r)
