@@ -117,13 +117,13 @@ module _ (text : List ℕ) where
   pub prefix-is : (f : FoundOperator) (t : Bool) (k : ℕ) → f ≡ operatorAt text 0 → f ≡ FoundOperator.Is k → t ≡ member k prefixes → t ≡ true → PrefixOf (prefixed prefixes text) text (with-prefix k 2)
   prefix-is f t k e h m u =
       let o = operator-derives text 0 k (sym e ∙ h) in
-      let is : text ≡ wordOf k ++ o .relates-to .0 = o .relates-to .1 in
+      let is : text ≡ wordOf k ++ o .stands .0 = o .stands .1 in
       let two : length (wordOf k) ≡ 2 = at-one (λ (j : ℕ). length (wordOf j) ≡ 2) prefixes k two-bytes (sym m ∙ u) in
-      let rest : drop 2 text ≡ o .relates-to .0 =
-      ap (drop 2) is ∙ ap (λ (n : ℕ). drop n (wordOf k ++ o .relates-to .0)) (sym two ∙ plus-zero (length (wordOf k))) ∙ drop-append-add (wordOf k) (o .relates-to .0) 0
+      let rest : drop 2 text ≡ o .stands .0 =
+      ap (drop 2) is ∙ ap (λ (n : ℕ). drop n (wordOf k ++ o .stands .0)) (sym two ∙ plus-zero (length (wordOf k))) ∙ drop-append-add (wordOf k) (o .stands .0) 0
       in
-      as-asked k 2 (o .relates-to .0) (prefixed prefixes text) (ap (prefixed prefixes) is ∙ prefixed-word k (o .relates-to .0) (sym m ∙ u)) rest
-      (omega (arith, ap length is, length-append (wordOf k) (o .relates-to .0), two))
+      as-asked k 2 (o .stands .0) (prefixed prefixes text) (ap (prefixed prefixes) is ∙ prefixed-word k (o .stands .0) (sym m ∙ u)) rest
+      (omega (arith, ap length is, length-append (wordOf k) (o .stands .0), two))
     where
       plus-zero : (n : ℕ) → n ≡ n + 0
       plus-zero n = omega arith
