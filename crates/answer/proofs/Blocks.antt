@@ -14,7 +14,7 @@ use Rattle.block.specs.Sum.{checkSum}
 use Rattle.block.specs.Seal.{check, IsSealed}
 use Rattle.block.specs.Items.{hasEither}
 use Rattle.block.specs.Readings.{reading}
-use Rattle.block.specs.declared.Checked.{Checked}
+use Rattle.block.specs.declared.Integrity.{Integrity}
 use Rattle.block.specs.declared.Validity.{Validity}
 use Rattle.block.proofs.Readings.{reading-iff}
 use Rattle.sheet.specs.Sheet.{sheetLayout, readSheet}
@@ -28,13 +28,13 @@ use Rattle.answer.proofs.Outcomes.{ReadsTo, size-wrong, sum-wrong, layo
 reads-to : (b : List ℕ) (IsBlock : Type 0) (layout : Bool) → (reading (check b) layout ≡ Validity.WellFormed → IsBlock) → (IsBlock → reading (check b) layout ≡ Validity.WellFormed)
     → ReadsTo b IsBlock (reading (check b) layout)
 reads-to b IsBlock layout there back =
-    let by-layout : IsSealed b → ReadsTo b IsBlock (reading Checked.Sealed layout) =
+    let by-layout : IsSealed b → ReadsTo b IsBlock (reading Integrity.Sealed layout) =
     λ s. unfold reading in cond-elim (ReadsTo b IsBlock) layout
     (λ l. all-right (s .size) (s .sum) (there (reading-iff b layout .1 (s, l))))
     (λ n. layout-wrong (s .size) (s .sum) (λ h. both-ways (reading-iff b layout .0 (back h) .1) n))
     in
-    unfold check reading in cond-elim (λ (c : Checked). ReadsTo b IsBlock (reading c layout)) (eqb (length b) 512)
-    (λ e. cond-elim (λ (c : Checked). ReadsTo b IsBlock (reading c layout)) (eqb (checkSum b) (word b 508))
+    unfold check reading in cond-elim (λ (c : Integrity). ReadsTo b IsBlock (reading c layout)) (eqb (length b) 512)
+    (λ e. cond-elim (λ (c : Integrity). ReadsTo b IsBlock (reading c layout)) (eqb (checkSum b) (word b 508))
     (λ g. by-layout (record { size = eqb-true (length b) 512 e; sum = eqb-true (checkSum b) (word b 508) g }))
     (λ g. sum-wrong (eqb-true (length b) 512 e) (eqb-false (checkSum b) (word b 508) g)))
     (λ e. size-wrong (eqb-false (length b) 512 e))
