@@ -4,7 +4,7 @@ mod write;
 use filter::Summary;
 pub use write::write_filter;
 
-// What reading gathers: the tests and the first fault among them, and how many cells it has written.
+// What reading gathers: the tests and the first refusal among them, and how many cells it has written.
 pub struct Outcome {
     pub summary: Summary,
     pub cells: usize,

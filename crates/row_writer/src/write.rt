@@ -1,4 +1,4 @@
-// Reading a filter: its rows are written, its tests are counted, and the first fault among them is kept. A filter and an item call
+// Reading a filter: its rows are written, its tests are counted, and the first refusal among them is kept. A filter and an item call
 // each other, and the text left and the nesting left fall.
 use crate::Outcome;
 use crate::Written;
