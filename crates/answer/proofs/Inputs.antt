@@ -90,10 +90,13 @@ spells-length : (text : List ℕ) (f : Tree) → Spells text f → length text �
 spells-length [] f s e = spells-not-empty f s
 spells-length (x ∷ xs) f s e = omega arith
 
-filter-taken : (text : List ℕ) (f : Tree) → length text ≤ 1024 → Spells text f → takeFilter text ≡ found f
+-- a text that is neither empty nor too long is taken as what it reads to
+pub text-read : (xs : List ℕ) → (length xs ≡ 0 → ⊥) → length xs ≤ 1024 → (o : Option Tree) → read xs ≡ o → takeFilter xs ≡ treeStep xs o
 unfolding takeFilter
-filter-taken text f short s =
-    rw (ne-eqb (length text) 0 (spells-length text f s), le-ltb 1024 (length text) short, read-iff text f .1 s)
+text-read xs n l o e = rw (ne-eqb (length xs) 0 n, le-ltb 1024 (length xs) l, e)
+
+filter-taken : (text : List ℕ) (f : Tree) → length text ≤ 1024 → Spells text f → takeFilter text ≡ found f
+filter-taken text f short s = text-read text (spells-length text f s) short (some f) (read-iff text f .1 s)
 
 pub inputs-taken : (sheet text : List ℕ) (s : SheetBlock sheet) (f : Tree) → length text ≤ 1024 → Spells text f
     → takeInputs sheet text ≡ (testsStep (s .parameters) (testsOf f) >>= λ u. found (record { parameters = s .parameters; filter = f }))

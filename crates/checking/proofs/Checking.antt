@@ -3,10 +3,10 @@
 use Prim.Native.Nat.{ℕ, _≤_, _<_}
 use native.Mathlib.Omega.{arith}
 use mathlib.Core.Path.{_≡_, refl, sym, ap, _∙_}
-use mathlib.Core.Option.{Option, none, some}
+use mathlib.Core.Option.{none, some}
 use mathlib.Core.List.{List}
 use lib.ListN.{length}
-use borrow.Author.Tests.{eq-eqb, ne-eqb, lt-ltb, le-ltb, le-leb, lt-leb}
+use borrow.Author.Tests.{eq-eqb, ne-eqb, lt-ltb, le-leb, lt-leb}
 use Rattle.base.specs.Runs.{RunEnd}
 use Rattle.block.specs.declared.Validity.{Validity}
 use Rattle.sheet.specs.Sheet.{Parameter, parametersOf, readSheet}
@@ -31,6 +31,7 @@ use Rattle.answer.specs.Answers.{checkedAnswer}
 use Rattle.refusal.specs.Steps.{Step, found, stop, _>>=_, answer}
 use Rattle.answer.specs.Operations.{treeStep, takeFilter, decisionStep, testsStep, sheetStep, takeSheet, filterAnswer, Inputs, takeInputs, checkAnswer}
 use Rattle.answer.specs.Passing.{summaryAnswer}
+use Rattle.answer.proofs.Inputs.{text-read}
 
 -- ---- the answer for a text that is a filter
 
@@ -62,13 +63,9 @@ module _ (ps : List Parameter) (xs : List ℕ) (c : Checked) where
       e ∙ rw (ne-eqb (length xs) 0 n, lt-ltb 1024 (length xs) h)
 
 module _ (ps : List Parameter) (xs : List ℕ) (n : length xs ≡ 0 → ⊥) (l : length xs ≤ 1024) where
-  text-read : (o : Option Tree) → read xs ≡ o → takeFilter xs ≡ treeStep xs o
-  unfolding takeFilter
-  text-read o e = rw (ne-eqb (length xs) 0 n, le-ltb 1024 (length xs) l, e)
-
   text-none : (c : Checked) → read xs ≡ none → checkedAnswer c ≡ refusalAnswer (failure deepest mostTests xs) → checkedAnswer c ≡ filterAnswer ps xs
   unfolding filterAnswer refusalAnswer
-  text-none c e h = h ∙ rw (text-read none e)
+  text-none c e h = h ∙ rw (text-read xs n l none e)
 
   module _ (start : ℕ) (s : RunEnd isSpace xs 0 start) (w : Walked) (e : w ≡ answerOf Walked.Done Walked.Nothing (reading ps 0) (filterAt 8 xs round start)) where
     pub text-nothing : (c : Checked) → w ≡ Walked.Nothing → checkedAnswer c ≡ refusalAnswer (failure deepest mostTests xs) → checkedAnswer c ≡ filterAnswer ps xs
@@ -103,7 +100,7 @@ module _ (ps : List Parameter) (xs : List ℕ) (n : length xs ≡ 0 → ⊥) (l 
         text-answered c m g =
             let j : length (testsOf (was .tree)) ≤ 32 = rw tests-are at m in
             let r : read xs ≡ some (was .tree) = read-whole ∙ rw (← t .is, eq-eqb after (length xs) k, le-leb (length (testsOf (was .tree))) 32 j) in
-            g ∙ rw (text-read (some (was .tree)) r) (ap (λ (x : Summary). answer (decisionStep (x .first) >>= λ u. found (count (x .tests)))) gathered)
+            g ∙ rw (text-read xs n l (some (was .tree)) r) (ap (λ (x : Summary). answer (decisionStep (x .first) >>= λ u. found (count (x .tests)))) gathered)
 
 -- a walk that has come to its end stands inside the text
 pub walk-within : (ps : List Parameter) (xs : List ℕ) (start : ℕ) (w : Walked) (end : ℕ) (a : Summary) → w ≡ answerOf Walked.Done Walked.Nothing (reading ps 0) (filterAt 8 xs round start) → w ≡ Walked.Done end a → end ≤ length xs

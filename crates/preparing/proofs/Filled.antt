@@ -7,11 +7,11 @@
 use Prim.Native.Nat.{ℕ, _+_, _-_, _≤_, _<_}
 use native.Mathlib.Omega.{arith}
 use mathlib.Core.Path.{_≡_, refl, sym, ap, _∙_}
-use mathlib.Core.Option.{Option, none, some}
+use mathlib.Core.Option.{none, some}
 use mathlib.Core.List.{List, _++_}
 use lib.ListN.{length, take, drop}
 use lib.Seq.{length-take-le}
-use borrow.Author.Tests.{eq-eqb, ne-eqb, lt-ltb, le-ltb, le-leb, lt-leb}
+use borrow.Author.Tests.{eq-eqb, ne-eqb, lt-ltb, le-leb, lt-leb}
 use Rattle.base.specs.Runs.{RunEnd}
 use Rattle.base.specs.Parts.{part}
 use Rattle.block.specs.declared.Validity.{Validity}
@@ -38,6 +38,7 @@ use Rattle.answer.specs.Passing.{summaryAnswer}
 use Rattle.answer.specs.Preparing.{rowCells, takeCells, preparation, prepareAnswer, prepareCells, preparedAnswer, filledStep, textRows, FillsText, Fills, Prepares}
 use Rattle.answer.specs.declared.Checked.{Checked}
 use Rattle.answer.specs.declared.Prepared.{Prepared}
+use Rattle.answer.proofs.Inputs.{text-read}
 
 -- ---- refusals
 
@@ -102,14 +103,10 @@ one-refused s c r e i =
 -- ---- the text
 
 module _ (ps : List Parameter) (xs : List ℕ) (n : length xs ≡ 0 → ⊥) (l : length xs ≤ 1024) where
-  text-read : (o : Option Tree) → read xs ≡ o → takeFilter xs ≡ treeStep xs o
-  unfolding takeFilter
-  text-read o e = rw (ne-eqb (length xs) 0 n, le-ltb 1024 (length xs) l, e)
-
   no-tree : (c : Checked) (r : Prepared) (buffer : List ℕ) → read xs ≡ none → checkedAnswer c ≡ refusalAnswer (failure deepest mostTests xs) → preparedAnswer r ≡ checkedAnswer c → FillsText ps xs r buffer
   unfolding textRows refusalAnswer
   no-tree c r buffer e h g =
-      text-refused ps xs c r buffer g (numberOf (failure deepest mostTests xs .reason)) (failure deepest mostTests xs .place) h (rw (text-read none e))
+      text-refused ps xs c r buffer g (numberOf (failure deepest mostTests xs .reason)) (failure deepest mostTests xs .place) h (rw (text-read xs n l none e))
 
   module _ (start : ℕ) (s : RunEnd isSpace xs 0 start) (v : Written) (before after : List ℕ) (w : Wrote ps 0 xs 0 (filterAt 8 xs round start) v before after) where
     pub fill-nothing : (c : Checked) (r : Prepared) → v ≡ Written.Nothing → checkedAnswer c ≡ refusalAnswer (failure deepest mostTests xs) → preparedAnswer r ≡ checkedAnswer c → FillsText ps xs r after
@@ -151,7 +148,7 @@ module _ (ps : List Parameter) (xs : List ℕ) (n : length xs ≡ 0 → ⊥) (l 
           rows-by : textRows ps xs ≡ (decisionStep (a .summary .first) >>= λ u. found (rowCells ps xs (was .tree)))
           unfolding textRows testsStep
           rows-by =
-              let r : takeFilter xs ≡ found (was .tree) = text-read (some (was .tree)) (read-as end (was .tree) (was .read) ∙ whole-right (was .tree) k (omega (arith, tests-are))) in
+              let r : takeFilter xs ≡ found (was .tree) = text-read xs n l (some (was .tree)) (read-as end (was .tree) (was .read) ∙ whole-right (was .tree) k (omega (arith, tests-are))) in
               ap (λ (q : Step Tree). q >>= λ f. decisionStep (firstFault ps 0 (testsOf f)) >>= λ u. found (rowCells ps xs f)) r
               ∙ ap (λ (o : Outcome). decisionStep (o .summary .first) >>= λ u. found (rowCells ps xs (was .tree))) (sym (was .value))
 

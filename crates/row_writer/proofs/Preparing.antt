@@ -8,7 +8,7 @@ use mathlib.Core.Path.{_≡_, refl, sym, ap, ap₂, subst, _∙_}
 use mathlib.Core.Bool.{true, false}
 use mathlib.Core.List.{List, [], _∷_, map}
 use lib.Dec.{eqb}
-use lib.ListN.{length, getD, length-append}
+use lib.ListN.{length, getD, length-append, length-map}
 use borrow.Author.Tests.{eqb-false}
 use Rattle.base.specs.Lists.{Listed, All, all-empty, all-cons}
 use Rattle.base.specs.Kinds.{bundleKind}
@@ -95,10 +95,6 @@ unfolding lookup
 clean-under ps c b [] h = all-empty
 clean-under ps c b (t ∷ ts) (all-cons a h) =
     all-cons (record { index = a .index; kind = a .kind; found = a .found; no-bundle = a .no-bundle; means = a .means; readable = a .readable }) (clean-under ps c b ts h)
-
-length-map : {A B : Type 0} (f : A → B) (xs : List A) → length (map f xs) ≡ length xs
-length-map f [] = refl
-length-map f (x ∷ xs) = ap suc (length-map f xs)
 
 -- ---- a test's value stands where it is looked for
 
@@ -214,7 +210,7 @@ module _ (ps : List Parameter) (w : WellFormedSheet ps) (xs : List ℕ) where
   tests-counted : (c : ℕ) (f : Tree) → testCount (prepared ps xs c f) ≡ length (testsOf f)
   unfolding prepared testCount testsOf
   tests-counted c (test t) = refl
-  tests-counted c (bracketed p b f t) = ap suc (tests-counted (enter ps c b) f ∙ sym (length-map (under b) (testsOf f)))
+  tests-counted c (bracketed p b f t) = ap suc (tests-counted (enter ps c b) f ∙ sym (length-map (testsOf f) (under b)))
   tests-counted c (join k f g) = ap₂ _+_ (tests-counted c f) (tests-counted c g) ∙ sym (length-append (testsOf f) (testsOf g))
   tests-counted c (negation f) = tests-counted c f
 
