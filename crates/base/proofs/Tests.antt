@@ -20,6 +20,20 @@ and-right false b h = absurd (false≢true h)
 pub and-both : (a b : Bool) → a ≡ true → b ≡ true → (a && b) ≡ true
 and-both a b p q = rw (p, q)
 
+pub and-true : (b : Bool) → (b && true) ≡ b
+and-true true = refl
+and-true false = refl
+
+pub and-false : (b : Bool) → (b && false) ≡ false
+and-false true = refl
+and-false false = refl
+
+pub and-holds : (a b r : Bool) → a ≡ true → r ≡ b → r ≡ (a && b)
+and-holds a b r h e = rw h e
+
+pub and-fails : (a b : Bool) → a ≡ false → false ≡ (a && b)
+and-fails a b h = rw h
+
 -- ---- disjunction
 
 pub or-either : (a b : Bool) → (a || b) ≡ true → (a ≡ true) ⊎ (b ≡ true)

@@ -8,7 +8,7 @@ use Prim.Native.Nat.{ℕ, _+_, _≤_, _<_}
 use native.Mathlib.Omega.{arith}
 use native.Mathlib.Nat.{le-refl}
 use mathlib.Core.Path.{_≡_, refl, ap, sym, _∙_, subst}
-use mathlib.Core.Bool.{Bool, true, false, cond, not, _&&_, _||_}
+use mathlib.Core.Bool.{Bool, true, false, cond, not, _&&_, _||_, Bool·not-not}
 use lib.Dec.{ltb}
 use borrow.Author.Tests.{lt-ltb, le-ltb, ltb-true, ltb-false}
 use Rattle.base.proofs.Tests.{cond-elim}
@@ -39,10 +39,6 @@ fits-opposite : {a : Mark} {x : Bool} → Fits a x → Fits (opposite a) (not x)
 fits-opposite (fits-spared {b = b}) = fits-spared {b = not b}
 fits-opposite fits-yes = fits-no
 fits-opposite fits-no = fits-yes
-
-not-not : (b : Bool) → not (not b) ≡ b
-not-not true = refl
-not-not false = refl
 
 or-by-not : (x y : Bool) → not (not x && not y) ≡ (x || y)
 or-by-not true y = refl
@@ -88,7 +84,7 @@ parts Connective.Or a b {z} h =
       right = not (p .right);
       fits-left = fits-back (p .fits-left);
       fits-right = fits-back (p .fits-right);
-      whole = sym (or-by-not (not (p .left)) (not (p .right))) ∙ ap (λ (b : Bool). not b) (ap (λ (b : Bool). b && not (not (p .right))) (not-not (p .left)) ∙ ap (λ (b : Bool). p .left && b) (not-not (p .right)) ∙ p .whole) ∙ not-not z;
+      whole = sym (or-by-not (not (p .left)) (not (p .right))) ∙ ap (λ (b : Bool). not b) (ap (λ (b : Bool). b && not (not (p .right))) (Bool·not-not (p .left)) ∙ ap (λ (b : Bool). p .left && b) (Bool·not-not (p .right)) ∙ p .whole) ∙ Bool·not-not z;
     }
 
 -- ---- three values are exact
@@ -142,7 +138,7 @@ comes (join c f g) m i {z} h =
     }
 comes (negation f) m i {z} h =
     let a = comes f m i (fits-back h) in
-    record { u = a .u; lies = a .lies; says = ap (λ (b : Bool). not b) (a .says) ∙ not-not z }
+    record { u = a .u; lies = a .lies; says = ap (λ (b : Bool). not b) (a .says) ∙ Bool·not-not z }
 
 -- ---- the test of sufficiency is that of the definition
 

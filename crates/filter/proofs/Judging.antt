@@ -10,8 +10,7 @@ use mathlib.Core.Path.{_≡_, refl, ap, sym, _∙_}
 use mathlib.Core.Bool.{Bool, true, false, cond, not, _&&_, _||_}
 use mathlib.Core.List.{List, [], _∷_}
 use lib.Dec.{eqb}
-use borrow.Author.Tests.{eqb-true}
-use Rattle.base.proofs.Tests.{both-ways}
+use Rattle.base.proofs.Tests.{and-true, and-false}
 use Rattle.sheet.specs.Find.{enter}
 use Rattle.sheet.specs.declared.Found.{Found}
 use Rattle.syntax.specs.Reader.{Parsed, parsed, unparsed}
@@ -21,6 +20,7 @@ use Rattle.kind.specs.declared.Meaning.{Meaning}
 use Rattle.judge.specs.Sets.{lookup, valuesAt, counts, chosenOf, ofOccurrence, keep}
 use Rattle.judge.specs.declared.Chosen.{Chosen}
 use Rattle.judge.proofs.Meaning.{says-some}
+use Rattle.judge.proofs.Occurrences.{chosen-one, occurrence-whole}
 use Rattle.filter.specs.Walks.{answerOf}
 use Rattle.filter.specs.Members.{parsedSays, judgedSays, someChosen, memberAt, memberSays}
 use Rattle.sheet.specs.Sheet.{Parameter}
@@ -61,38 +61,12 @@ module _ (ps : List Parameter) (c : ℕ) (es : List Entry) where
 
 -- ---- the filter in square brackets
 
--- the entries that count, where they are one occurrence's
-pub chosen-one : (o : ℕ) (es : List Entry) → chosenOf (record { all = false; occurrence = o }) es ≡ ofOccurrence o es
-unfolding chosenOf ofOccurrence keep
-chosen-one o [] = refl
-chosen-one o (e ∷ es) = rw (chosen-one o es)
-
--- an occurrence that counts has all its entries among those that count
-pub occurrence-whole : (k : Chosen) (o : ℕ) (es : List Entry) → counts k o ≡ true → ofOccurrence o (chosenOf k es) ≡ ofOccurrence o es
-unfolding chosenOf ofOccurrence keep
-occurrence-whole k o [] h = refl
-occurrence-whole k o (e ∷ es) h = go (eqb (e .occurrence) o) (counts k (e .occurrence)) refl refl (occurrence-whole k o es h)
-  where
-    go : (t u : Bool) → eqb (e .occurrence) o ≡ t → counts k (e .occurrence) ≡ u → ofOccurrence o (chosenOf k es) ≡ ofOccurrence o es → ofOccurrence o (chosenOf k (e ∷ es)) ≡ ofOccurrence o (e ∷ es)
-    go true true p q r = rw (q, p, r)
-    go true false p q r = both-ways (ap (counts k) (eqb-true (e .occurrence) o p) ∙ h) q
-    go false true p q r = rw (q, p, r)
-    go false false p q r = rw (q, p, r)
-
 -- judging what is in the brackets for one occurrence
 pub judged-occurrence : (ps : List Parameter) (c o : ℕ) (es : List Entry) (g : Parsed) (j : Judged) → j ≡ answerOf Judged.Done Judged.Nothing (judging true ps c (chosenOf (record { all = false; occurrence = o }) es)) g
     → judgedSays j ≡ parsedSays ps c (ofOccurrence o es) g
 unfolding answerOf
 judged-occurrence ps c o es (parsed q f) j e = ap judgedSays e ∙ judging-is ps c (chosenOf (record { all = false; occurrence = o }) es) f ∙ ap (λ (l : List Entry). filterSays ps c l f) (chosen-one o es)
 judged-occurrence ps c o es unparsed j e = ap judgedSays e
-
-and-true : (b : Bool) → (b && true) ≡ b
-and-true true = refl
-and-true false = refl
-
-and-false : (b : Bool) → (b && false) ≡ false
-and-false true = refl
-and-false false = refl
 
 -- entry by entry is by the set of the entries that the filter chooses
 module _ (ps : List Parameter) (c : ℕ) (all : List Entry) (k : Chosen) (q : ℕ) (f : Tree) (i : ℕ) (m : Meaning) (v : List ℕ) where
@@ -129,13 +103,6 @@ member-is ps c es k p b q f t = go (lookup ps (enter ps c b) (t .path))
     go : (o : Found) → memberAt o ps (enter ps c b) es k (parsed q f) t ≡ saysAt o (t .operator) (t .value) (keep yes (chosenOf k es))
     go (Found.At i kind) = ap (someSays (meaningOf (t .operator) kind) (isTrue (t .value))) (chosen-is ps (enter ps c b) es k q f i (meaningOf (t .operator) kind) (t .value) es) ∙ sym (says-some (meaningOf (t .operator) kind) (t .value) (valuesAt i (keep yes (chosenOf k es))))
     go Found.Missing = refl
-
--- a test after another that holds, and after one that does not
-pub and-holds : (u x r : Bool) → u ≡ true → r ≡ x → r ≡ (u && x)
-and-holds u x r h e = rw h e
-
-pub and-fails : (u x : Bool) → u ≡ false → false ≡ (u && x)
-and-fails u x h = rw h
 
 -- as the code judges one occurrence
 pub chosen-judged : (ps : List Parameter) (c o : ℕ) (es : List Entry) (g : Parsed) (j : Judged) (u r : Bool) → j ≡ answerOf Judged.Done Judged.Nothing (judging true ps c (chosenOf (record { all = false; occurrence = o }) es)) g

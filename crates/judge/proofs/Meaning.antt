@@ -7,7 +7,7 @@
 use Prim.Native.Nat.{ℕ, _≤_, _<_}
 use native.Mathlib.Omega.{arith}
 use mathlib.Core.Path.{_≡_, refl, sym, ap, _∙_}
-use mathlib.Core.Bool.{Bool, true, false, cond, not, _||_}
+use mathlib.Core.Bool.{Bool, true, false, cond, not, _||_, Bool·not-not}
 use mathlib.Core.List.{List, [], _∷_}
 use lib.Dec.{eqb, leb}
 use lib.ListN.{take}
@@ -131,10 +131,6 @@ module _ (found : Found) (k : ℕ) (v : List ℕ) where
   pub says-missing : (es : List Entry) → found ≡ Found.Missing → false ≡ saysAt found k v es
   says-missing es h = rw h
 
-not-not : (b : Bool) → not (not b) ≡ b
-not-not true = refl
-not-not false = refl
-
 module _ (m : Meaning) (v : List ℕ) (c : Chosen) (i : ℕ) (es : List Entry) (r : Bool) where
   pub says-present : (t : Bool) → m ≡ Meaning.Present → t ≡ isTrue v → t ≡ true → r ≡ hasValue c i es → r ≡ saysOf m v (valuesAt i (chosenOf c es))
   unfolding saysOf
@@ -142,7 +138,7 @@ module _ (m : Meaning) (v : List ℕ) (c : Chosen) (i : ℕ) (es : List Entry) (
 
   pub says-absent : (t : Bool) → m ≡ Meaning.Present → t ≡ isTrue v → t ≡ false → r ≡ hasValue c i es → not r ≡ saysOf m v (valuesAt i (chosenOf c es))
   unfolding saysOf
-  says-absent t e f h g = rw (e, sym f ∙ h, g) (not-not (isEmpty (valuesAt i (chosenOf c es))))
+  says-absent t e f h g = rw (e, sym f ∙ h, g) (Bool·not-not (isEmpty (valuesAt i (chosenOf c es))))
 
   pub says-relates : (s : Relation) → m ≡ Meaning.Relates s → r ≡ someValue (related false s v) (valuesAt i (chosenOf c es)) → r ≡ saysOf m v (valuesAt i (chosenOf c es))
   unfolding saysOf
@@ -218,7 +214,7 @@ says-some Meaning.Present v set = go set
     any-text (x ∷ xs) = refl
 
     go : (set : List (List ℕ)) → cond (isTrue v) (not (isEmpty set)) (isEmpty set) ≡ cond (isTrue v) (someValue (textCounts Meaning.Present v) set) (not (someValue (textCounts Meaning.Present v) set))
-    go set = rw (any-text set, not-not (isEmpty set))
+    go set = rw (any-text set, Bool·not-not (isEmpty set))
 says-some (Meaning.Relates r) v set = refl
 says-some (Meaning.Differs r) v set = refl
 says-some Meaning.Nothing v set = sym (never set)

@@ -20,6 +20,7 @@ use Rattle.base.specs.Lists.{All}
 use Rattle.base.specs.Parts.{part}
 use Rattle.base.proofs.All.{all-head}
 use Rattle.base.proofs.Parts.{part-length}
+use Rattle.base.proofs.Tests.{and-true, and-false}
 use Rattle.card.specs.Card.{Entry, entry}
 use Rattle.syntax.specs.Placed.{PlacedValue}
 use Rattle.syntax.specs.declared.Connective.{Connective}
@@ -38,7 +39,7 @@ use Rattle.judge.specs.declared.Chosen.{Chosen}
 use Rattle.judge.specs.Once.{countsRead}
 use Rattle.judge.proofs.Meaning.{says-some}
 use Rattle.judge.proofs.Once.{for-kept, once-counts}
-use Rattle.filter.proofs.Judging.{chosen-one, occurrence-whole}
+use Rattle.judge.proofs.Occurrences.{chosen-one, occurrence-whole}
 use Rattle.rows.specs.Expression.{Expression, probing, choosing, joining, negating, testCount}
 use Rattle.rows.specs.Cells.{rowOf, cellOf, encode, Writable, push, only, stated}
 use Rattle.rows.specs.Shapes.{valueIn}
@@ -54,14 +55,6 @@ use Rattle.rows.proofs.Stating.{stated-encode, stated-cells, flat, total, heigh
 use Rattle.rows.proofs.Machine.{Holds, holds-none, holds-more, holds-length, holds-push, top-of, none-on, Stacked, stacked-start, stacked-next, stacked-fails, stacked-end, stacked-total}
 
 -- ---- entry by entry is by the set of the entries that are kept
-
-and-true : (b : Bool) → (b && true) ≡ b
-and-true true = refl
-and-true false = refl
-
-and-false : (b : Bool) → (b && false) ≡ false
-and-false true = refl
-and-false false = refl
 
 module _ (says kept : ℕ → Bool) (k : Chosen) (same : (o : ℕ) → counts k o ≡ true → says o ≡ kept o) (i : ℕ) (m : Meaning) (v : List ℕ) where
   entry-is : (es : List Entry) → someEntry says k i m v es ≡ someValue (textCounts m v) (valuesAt i (keep (λ e. kept (e .occurrence)) (chosenOf k es)))

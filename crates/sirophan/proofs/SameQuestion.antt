@@ -7,7 +7,7 @@
 -- Assumes nothing.
 use Prim.Native.Nat.{ℕ, suc, _+_, _≤_, _<_}
 use mathlib.Core.Path.{_≡_, refl, ap, sym, _∙_, subst, fun-ext}
-use mathlib.Core.Bool.{Bool, true, false, cond, _&&_, _||_}
+use mathlib.Core.Bool.{Bool, true, false, cond, _&&_, _||_, or-false}
 use mathlib.Core.Logic.{⊎-elim}
 use mathlib.Core.Option.{Option, none, some}
 use mathlib.Core.List.{List, [], _∷_, _++_, flatten, append-assoc, append-nil}
@@ -18,7 +18,7 @@ use Rattle.base.specs.Kinds.{token, bundleKind}
 use Rattle.base.specs.Lists.{All, all-empty, all-cons}
 use Rattle.base.specs.Operators.{eq}
 use Rattle.base.proofs.All.{all-append, all-left, all-right}
-use Rattle.base.proofs.Tests.{cond-elim, decided}
+use Rattle.base.proofs.Tests.{cond-elim, decided, and-true}
 use Rattle.text.specs.Bar.{bar}
 use Rattle.text.specs.Compare.{same}
 use Rattle.token.specs.Card.{Token, cardToken}
@@ -86,14 +86,6 @@ and-assoc : (a b c : Bool) → ((a && b) && c) ≡ (a && (b && c))
 and-assoc true b c = refl
 and-assoc false b c = refl
 
-or-nothing : (a : Bool) → (a || false) ≡ a
-or-nothing true = refl
-or-nothing false = refl
-
-and-nothing : (a : Bool) → (a && true) ≡ a
-and-nothing true = refl
-and-nothing false = refl
-
 or-append : (p : Tree → Bool) (fs gs : List Tree) → or-all p (fs ++ gs) ≡ (or-all p fs || or-all p gs)
 unfolding or-all
 or-append p [] gs = refl
@@ -110,12 +102,12 @@ module _ (ps : List Parameter) (es : List Entry) where
 
   or-joined : {fs : List Tree} {f : Tree} → Joined Connective.Or fs f → says f ≡ or-all says fs
   unfolding or-all filterSays
-  or-joined (alone {f = f}) = sym (or-nothing (says f))
+  or-joined (alone {f = f}) = sym (or-false (says f))
   or-joined (joins {fs = fs} {gs = gs} {g = g} a b) = ap (λ (x : Bool). x || says g) (or-joined a) ∙ ap (λ (x : Bool). or-all says fs || x) (or-joined b) ∙ sym (or-append says fs gs)
 
   and-joined : {fs : List Tree} {f : Tree} → Joined Connective.And fs f → says f ≡ and-all says fs
   unfolding and-all filterSays
-  and-joined (alone {f = f}) = sym (and-nothing (says f))
+  and-joined (alone {f = f}) = sym (and-true (says f))
   and-joined (joins {fs = fs} {gs = gs} {g = g} a b) = ap (λ (x : Bool). x && says g) (and-joined a) ∙ ap (λ (x : Bool). and-all says fs && x) (and-joined b) ∙ sym (and-append says fs gs)
 
 -- ---- tokens

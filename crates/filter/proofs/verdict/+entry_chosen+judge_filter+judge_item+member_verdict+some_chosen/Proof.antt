@@ -3,13 +3,14 @@
 use Prim.Native.Nat.{_+_, _*_, _-_}
 use native.Mathlib.Omega.{arith}
 use lib.ListN.{length}
+use Rattle.base.proofs.Tests.{and-fails}
 use Rattle.sheet.specs.Sheet.{parametersOf}
 use Rattle.card.specs.Card.{entry, entriesOf}
 use Rattle.syntax.proofs.Places.{head-test-placed, head-open-ahead, head-choice-ahead, head-choice-order, head-choice-within, head-choice-next, member-ahead, connective-ahead}
 use Rattle.filter.specs.Folds.{judging}
 use Rattle.filter.specs.declared.Judged.{Judged}
 use Rattle.filter.proofs.Walk.{Chain, item-test, item-nothing, item-deep, item-no-filter, item-open, item-closed, choice-deep, choice-no-filter, choice-no-member, choice-member, item-ahead, filter-ahead, filter-no-item, chain-starts, chain-ends, chain-no-item, chain-takes}
-use Rattle.filter.proofs.Judging.{judged-cases, verdict-after, verdict-negated, verdict-inside, and-fails, chosen-judged, chosen-here, chosen-next, chosen-end, member-found, member-missing}
+use Rattle.filter.proofs.Judging.{judged-cases, verdict-after, verdict-negated, verdict-inside, chosen-judged, chosen-here, chosen-next, chosen-end, member-found, member-missing}
 use Rattle.block.proofs.Invariants.{Visited}
 use Rattle.block.proofs.Items.{visited-next, visited-decides, visited-end}
 use Rattle.card.proofs.Entries.{entries-start}

@@ -1,6 +1,6 @@
 -- `filter::verdict::entry_counts` meets its contract. Assumes nothing.
 use borrow.Author.Needs.{needs}
-use Rattle.filter.proofs.Judging.{and-holds, and-fails}
+use Rattle.base.proofs.Tests.{and-holds, and-fails}
 use Rattle.filter.proofs.verdict.entry_counts.Statement.{statement}
 use Rattle.filter.proofs.verdict.entry_counts.Tie as tie
 

@@ -1,6 +1,6 @@
 -- `row_judge::says::entry_counts` meets its contract. Assumes nothing.
 use borrow.Author.Needs.{needs}
-use Rattle.filter.proofs.Judging.{and-holds, and-fails}
+use Rattle.base.proofs.Tests.{and-holds, and-fails}
 use Rattle.row_judge.proofs.says.entry_counts.Statement.{statement}
 use Rattle.row_judge.proofs.says.entry_counts.Tie as tie
 
