@@ -1,8 +1,9 @@
 -- The table of refusals for check: sheet, text and tests are decided one after the other, each by its lines.
--- `Decided` says of a step that it has found something and none of its lines holds, or has stopped at the line that decides. Sheet, text
--- and tests are decided each by their own lines, and `decided-then` joins two steps: the lines of the later one are in later groups of the
--- order (`apart-at`), so they matter only where no earlier one holds. The tests are by induction on their list (`tests-decided`): their
--- places rise, so the first at fault has the lowest. `check-table` reads check's answer off.
+-- `Decided` says of a step: it has found something and none of its lines holds, or it has stopped at the line that decides. Sheet, text and
+-- tests are each decided by their own lines. `decided-then` joins two steps where no line of the later one comes before a line of the
+-- earlier one. The text's lines are in later groups than the sheet's, and the tests' in later groups than the text's (`apart-at`). The
+-- tests share one group, so `tests-decided` is by induction on their list: the places rise, so a line of a later test has a later place
+-- (`later-place`). `check-table` reads check's answer off.
 -- Assumes nothing.
 use Prim.Native.Nat.{ℕ, _≤_, _<_}
 use native.Mathlib.Nat.{le-of-eq}

@@ -1,8 +1,9 @@
--- The fault of a test is the number that the table gives it, and it has one exactly where it lacks a meaning on some conforming card.
--- What the path names decides: nothing, a bundle, or a parameter of some kind, and then operator and value (`judged-at`); each fault comes
--- with its reason in the rules' words. Its number is the line of the lowest rank that holds, since those before it do not (`lowest-from`).
--- A card that conforms shows the lack, the one with a single entry under the parameter where there is one (`refused-at`). Where there is no
--- fault no line holds, and no card lacks a meaning.
+-- The fault of a test is the number that the table gives it; a test has one exactly where it lacks a meaning on some conforming card.
+-- No induction: the cases are what the path names (nothing, a bundle, or a parameter of some kind), and then operator and value
+-- (`judged-at`). Each fault comes with its reason in the rules' words. Its number is that of the line of the lowest rank that holds, since
+-- the lines before it do not (`lowest-from`). A conforming card shows the lack: the card with one entry under the parameter (`refused-at`),
+-- or the card without entries where the path names nothing or a bundle. Where there is no fault, no line holds, and the test has a meaning
+-- on every card (`outcome-by`).
 -- Assumes nothing.
 use Prim.Native.Nat.{ℕ, _≤_, _<_}
 use native.Mathlib.Omega.{arith}

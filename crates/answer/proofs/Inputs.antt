@@ -1,7 +1,8 @@
--- What the operations take: the parameters of a well-formed sheet, the tree that a text spells, and the first test that is refused.
--- The definition takes sheet, text and tests one after the other, and the laws follow that chain with what each step found.
--- `tests-outcome`, by induction on the tests: all have a meaning, or a first one is refused and those before it have one (`outcome-next`).
--- No step is refused with a number above 18 (`at-most-then`), so that these refusals are apart from those of cards and lists.
+-- What the operations take, which is the parameters of a well-formed sheet and the tree that a text spells, and which test is refused.
+-- The definition takes sheet, text and tests one after the other. For a sheet block, and a text of at most 1,024 bytes that spells a tree,
+-- the first two steps are known, so that the tests' step is what is left (`inputs-taken`). `tests-outcome` is by induction on the tests:
+-- all have a meaning, or a first one is refused and those before it have one (`outcome-next`). No step is refused with a number above 18,
+-- and so neither is one step after another (`at-most-then`). So these refusals are apart from those of cards and lists (`question-number`).
 -- Assumes nothing.
 use Prim.Native.Nat.{ℕ, _≤_}
 use native.Mathlib.Omega.{arith}

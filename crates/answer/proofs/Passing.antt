@@ -1,7 +1,9 @@
--- What check's answer tells of the sheet and the filter, and the answer of match from it.
--- Steps are inverted: an answer that is a count comes only of steps that all have found something (`inputs-found`, `sheet-found`,
--- `text-found`), so the sheet is well formed, the text was read, and no test is at fault (`Passing`). An answer that is a refusal comes of
--- the step that stopped with it (`stopped`). Then the question is known, and match's answer is the verdict on the card.
+-- What check's answer tells of the sheet, the filter and the question, and that match is refused where check is.
+-- Steps are inverted. A count comes only of steps that have all found something (`inputs-found`, `sheet-found`, `text-found`), so the sheet
+-- is well formed, the text is short and was read, and no test is at fault (`Passing`). Then the question is the one that the text asks
+-- (`passing-asks`). A refusal comes only of inputs that stopped with it (`stopped`), so match is refused alike (`match-refused`). The other
+-- laws are about cards: one that is taken is well formed (`card-taken`), and verdicts that agree on every card give one answer
+-- (`same-verdicts`).
 -- Assumes nothing.
 use Prim.Native.Nat.{ℕ, _≤_}
 use native.Mathlib.Omega.{arith}

@@ -1,9 +1,10 @@
 -- Prepare and judge: what they answer where no line holds, that prepared rows are good and state the filter, and that match is the two after
 -- each other.
--- Where no line holds `preparation` has not stopped (`refusing`), so it has found the cells of the filter's rows; that these are good and
--- state the filter is a law of crate rows. `match-is` goes by what was taken: where sheet, text or tests are refused, prepare and match are
--- refused alike. Else the rows are no more than the text has bytes (`cells-within`), so that they fit a list of 1,024 cells, and judging
--- them is judging the filter.
+-- Where no line holds `preparation` has not stopped (`refusing`), so it has found the cells of the filter's rows. That these are good and
+-- state the filter are laws of crate row_writer (`prepared-good`, `prepared-states`). `match-is` is for a list of at least 1,024 cells, and
+-- goes by what was taken. Where sheet, text or tests are refused, prepare and match are refused alike. Else there are no more cells than
+-- the text has bytes (`cells-within`), so they fit the list. The rows state the filter but for its positions, on which no verdict depends
+-- (`erase-says`), so judging them is judging the filter.
 -- Assumes nothing.
 use Prim.Native.Nat.{ℕ, _+_, _≤_, _<_}
 use native.Mathlib.Omega.{arith}

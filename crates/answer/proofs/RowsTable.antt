@@ -1,8 +1,9 @@
--- The tables of refusals for prepare and judge: after what check decides comes the list; after the sheet and the text's size come the
--- rows, and then the card.
--- As in CheckTable: each step is decided by its own lines, and `decided-then` joins them, since later lines are in later groups. How many
--- cells are needed does not depend on which sheet and filter the words of a line name, since the bytes have one sheet and a text spells one
--- tree (`needed`). Rows are good or not, and a computed test decides it (`rows-decided`).
+-- The tables of refusals for prepare and judge: for prepare, what check decides and then the list; for judge, the sheet, the text's size,
+-- the rows and then the card.
+-- As in CheckTable: each step is decided by its own lines, and `decided-then` joins them, since later lines are in later groups. The line
+-- about the list names some sheet and some filter. The bytes have one sheet and a text spells one tree, so the number of cells needed is
+-- the same for all of them (`needed`). Rows are good exactly where a computed test says so (`good-iff`), and by that test they are decided
+-- (`rows-decided`).
 -- Assumes nothing.
 use Prim.Native.Nat.{ℕ, _≤_, _<_}
 use native.Mathlib.Omega.{arith}

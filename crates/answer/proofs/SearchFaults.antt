@@ -1,7 +1,10 @@
--- The fault of an alternative is the number that the table gives it, and it has one exactly where it lacks a meaning on some conforming card.
--- As in Faults, for an alternative: what its name names decides, and then what its text asks of that kind (`judged-at`); a bundle is
--- refused as an unknown name. The number is the line of the lowest rank (`lowest-from`), and the card with one entry under the parameter,
--- or with none, shows the lack (`refused-at`, `refused-empty`). `alternatives-outcome` is the induction on the list.
+-- The fault of an alternative is the number that the table gives it; an alternative has one exactly where it lacks a meaning on some
+-- conforming card.
+-- As in Faults: the cases are what the name names, and then what the text asks of that kind (`judged-at`). A bundle is refused as an
+-- unknown name. A token is judged by its form (`judged-token`), every other kind by the operator and the value that the text asks
+-- (`judged-value`). The number is that of the line of the lowest rank that holds (`lowest-from`). The card with one entry under the
+-- parameter shows the lack (`refused-at`), or the one without entries where the name is unknown or a bundle's (`refused-empty`).
+-- `alternatives-outcome` is by induction on the list.
 -- Assumes nothing.
 use Prim.Native.Nat.{ℕ, _≤_, _<_}
 use native.Mathlib.Omega.{arith}

@@ -1,8 +1,10 @@
--- The tables of refusals for search strings: sheet, text and alternatives are decided one after the other; the first alternative at fault
--- decides by its index.
--- As in CheckTable, but for the alternatives: those of a pair share one place, so that the index decides, and a line is one of the first
--- alternative that has any (`FirstLine`). By induction on the list: a line of the first, or of the rest where the first has none
--- (`first-cases`, `alternatives-decided`). The tables of match and select are instances of those over any question.
+-- The tables of refusals for search strings: sheet, text and alternatives are decided one after the other, and the alternatives by the
+-- first at fault.
+-- As in CheckTable, but for the alternatives: those of a pair share one place, so that places do not order them. So a line counts only
+-- where it is one of the first alternative that has any (`FirstLine`). `alternatives-decided` is by induction on the list, with
+-- `next-decided` for one more: a line is one of the first, or of the rest where the first has none (`first-cases`). The tables of match and
+-- select are instances of those over any question. A search string is refused with none of the numbers of cards and lists
+-- (`search-number`).
 -- Assumes nothing.
 use Prim.Native.Nat.{ℕ, _≤_, _<_}
 use native.Mathlib.Nat.{le-of-eq}

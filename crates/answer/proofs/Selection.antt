@@ -1,8 +1,9 @@
 -- A selection goes by match: it writes the numbers of the cards on which match answers yes, and refuses the first card that match refuses.
 -- By induction on the cards of the run: all are taken, or a first one is refused and those before it are taken (`cards-outcome`). On a card
--- that is taken match answers what the question says, on one that is refused its number (`match-taken`, `match-stopped`). So the numbers
--- written are those of match's yes, and the card refused is the first that match refuses. No other step is refused with 21 to 23 or 30
--- (`OtherNumber`), so these numbers tell of a card and of the room.
+-- that is taken match answers what the question says (`match-taken`); one that is refused match refuses with the same number
+-- (`match-stopped`). So the numbers written are those of the cards of match's yes (`matching-numbers`, by induction on the cards), and the
+-- card refused is the first that match refuses. The question is refused with no number from 21 to 30 (`OtherNumber`), so 21 to 23 tell of a
+-- card and 30 of the room.
 -- Assumes nothing.
 use Prim.Native.Nat.{ℕ, suc, _≤_, _<_}
 use native.Mathlib.Decide.{ℕ-discrete}

@@ -1,8 +1,8 @@
 -- Writing into a part of a buffer: a word, byte by byte, and one text after another.
--- Two invariants carry it. `Writing`: after i bytes of a word the buffer has the word's first i bytes and its own from i on, and a store at
--- i keeps that. `Wrote`: of a text that is put piece by piece, what stands and what is to come make the whole; so a piece has room because
--- the whole had (`wrote-room`), and putting it leaves the rest to come (`wrote-next`). The laws of two and of three texts are instances of
--- it.
+-- Two invariants carry it. `Writing`: after i bytes of a word the buffer has the word's first i bytes, and from i on what it had before; a
+-- store at i keeps that (`writing-next`). `Wrote`: of a text that is put piece by piece, what stands and what is to come make the whole. So
+-- a piece has room because the whole had (`wrote-room`), and putting it leaves the rest to come (`wrote-next`, by `puts-append`). The laws
+-- of two and of three texts are instances of it.
 -- Assumes nothing.
 use Prim.Native.Nat.{ℕ, _+_, _-_, _≤_, _<_, zero-le}
 use native.Mathlib.Numerals.{add-one}

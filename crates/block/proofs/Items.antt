@@ -1,7 +1,8 @@
 -- Laws of items: their layout in a block, and a walk over them.
--- The layout is tested by recursion on the number of items left, and the loops keep that what is left decides: `LaidTo` for the test of the
--- layout, `Visited` for a loop over the items and its answer. `Walk` says that the items left are laid out from p on; `item-step` takes one
--- off: it ends before byte 508, and the walk goes on where it ends.
+-- `laidOut` tests the layout by recursion on the number of items left, and a turn takes one item off (`laid-first`, `items-first`). A loop
+-- keeps that what is left gives the answer of the whole: `LaidTo` for the test of the layout, `Visited` for a loop over the items that
+-- answers something. `Walk` says that the items left are laid out from p on. The item at p then ends before byte 508 (`walk-within`), and
+-- the walk goes on behind it (`item-step`).
 -- Assumes nothing.
 use Prim.Native.Nat.{ℕ, zero, suc, _+_, _-_, _≤_, _<_}
 use native.Mathlib.Omega.{arith}

@@ -1,8 +1,9 @@
 -- A block is written and read back, and read and written back: a first byte, a head, the number of items, the items, zeros and the check sum.
--- Both directions are by induction on the items. Written and read back (`items-written`): where the first item stands, the block has its
--- bytes and then those of the others, so its tag, mark and text are found and the reader goes on behind them. Read and written back
--- (`items-read`): the part up to byte 508 is the bytes of the items that are read there, and then zeros, since the layout has each end
--- within it. `held` and `written` put the first byte, the head, the number of items and the check sum around that.
+-- Written and read back is by induction on the list of items (`items-written`): where the first item stands, the block has its bytes and
+-- then those of the others, so its tag, mark and text are found and the reader goes on behind them. Read and written back is by induction
+-- on the number of items (`items-read`): the part up to byte 508 is the bytes of the items that are read there and then zeros, since the
+-- layout has each item end before byte 508 and zeros behind the last. `held` and `written` put the first byte, the head, the number of
+-- items and the check sum around that.
 -- Assumes nothing.
 use Prim.Native.Nat.{ℕ, zero, suc, _+_, _-_, _≤_, _<_}
 use native.Mathlib.Omega.{arith}

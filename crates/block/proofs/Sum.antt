@@ -1,8 +1,9 @@
 -- Laws of the check sum: the largest, and what the loops that sum a column, all columns, and the block keep.
--- The code sums by 32 columns: the sum of a column's bytes, and the same weighted by rows, give each byte times its place with one product
--- a column (`byte-above`). `column-split`, by induction on the rows, takes column j out of the sum over the columns from j on, and
--- `columns-all` says that all columns make the sum in the order of the bytes. The invariant `Summed`: the total and the columns to come
--- make that sum. The last four bytes stand in the columns and not in the check sum, so they are taken off at the end (`summed-end`).
+-- The code sums by 32 columns of 16 rows. The byte in row r of column j counts 32 r + j + 1 times, so the column adds 32 times its sum
+-- weighted by rows, and j + 1 times its plain sum. `column-split`, by induction on the rows (`byte-above` is one row more), takes column j
+-- out of the sum over the columns from j on. `columns-all`, by induction on the rows too, says that all columns make the sum in the order
+-- of the bytes. The invariant `Summed`: the total and the columns to come make that sum. The last four bytes stand in the columns and not
+-- in the check sum, so they are taken off at the end (`summed-end`).
 -- Assumes nothing.
 use Prim.Native.Nat.{ℕ, zero, suc, _+_, _*_, _-_, _≤_, _<_}
 use native.Mathlib.Nat.{zero-add, add-zero, add-mul, mul-add, mul-comm, mul-le-mul, mul-le-mul-right, eq-or-lt-of-le}

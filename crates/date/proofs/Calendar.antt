@@ -1,8 +1,9 @@
 -- Laws of the calendar: the arithmetic of months is the sum of their lengths, that of years the sum of theirs.
--- Months are few: their rules are computed for all twelve, in either kind of year, and looked up (`passes-same`). Years are by induction
--- (`days-of-years`): one year more adds 365 days, and one exactly where it is a leap year. For each of the quotients by 4, 100 and 400
--- grows by one exactly where its divisor divides the number (`quotient-next`), and what divides by 400 divides by 100, and so by 4; the
--- eight cases of the three tests make the rule of leap years (`leap-rule`).
+-- Months are few: their rules are computed for each number up to 12, in either kind of year, and looked up (`passes-same`, `passes-at`).
+-- Years are by induction (`days-of-years`): one year more adds 365 days, and one day more exactly where it is a leap year
+-- (`leap-years-next`). The quotients by 4, 100 and 400 each grow by one exactly where the divisor divides the new number (`quotient-next`).
+-- What is divisible by 400 is divisible by 100, and what is divisible by 100 is divisible by 4 (`multiple`), so the cases of the three
+-- tests make the rule of leap years (`leap-rule`).
 -- Assumes nothing.
 use Prim.Native.Nat.{ℕ, zero, suc, _+_, _*_, _-_, _/_, _%_, _≤_, _<_}
 use mathlib.Core.Bool.{Bool, true, false, not, _&&_, _||_}

@@ -1,7 +1,9 @@
 -- The reader is sound: a text that reads to a date is a spelling of it.
--- No induction: a spelling has its fields at fixed places. Each law `begins-` adds one field to what the text is known to begin with: a
--- field that reads below 100 (what is no number reads as 100) is its mark and two digits. The length of the text, by which the reader goes,
--- then says that this is all of it (`begins-whole`), and each of the spellings has its law.
+-- No induction: a spelling has its fields at fixed places. A field reads as 100 where its mark or a digit is missing, so one that reads
+-- below 100 is its mark and two digits (`begins-field`). The laws `begins-` add field after field to what the text is known to begin with,
+-- the four digits of the year first. For a year, a month and a day the length says that this is all of the text (`begins-whole`). A second
+-- has a zone behind its 19 bytes, which is Z or a sign with hours and minutes (`zone-spelled`). `reads-spells` goes by the length, as the
+-- reader does.
 -- Assumes nothing.
 use Prim.Native.Nat.{ℕ, _+_, _*_, _≤_, _<_}
 use mathlib.Core.Bool.{cond}

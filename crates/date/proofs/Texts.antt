@@ -1,7 +1,8 @@
 -- Laws of reading: each way through the code gives what the definition says.
 -- One law for each way through the code, over plain variables: it takes the facts that the code has found there (a digit or none, a length,
--- a mark) and rewrites the definition by them. Beside it stand the bounds that machine words ask for: two digits read to at most 100, and
--- an offset that was read is at most 840 minutes either way (`zone-within`, by the cases of the reading).
+-- a mark) and rewrites the definition by them; there is no induction. Beside these laws stand the bounds that machine words ask for: two
+-- digits read to at most 100 (`two-most`), and an offset that was read is at most 840 minutes either way (`zone-within`, by the cases of
+-- the reading).
 -- Assumes nothing.
 use Prim.Native.Nat.{ℕ, _+_, _*_, _-_, _≤_, _<_}
 use mathlib.Core.Bool.{Bool, true, false}

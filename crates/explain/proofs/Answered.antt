@@ -1,8 +1,8 @@
 -- Explain answers: where no line of the table holds it gives the filter's yes or no, and the cells of the tests that decide.
--- Where no line holds `explaining` has not stopped (`refusing`), so it has found its explanation. That is put into the rules' words: check
--- has passed every test, so each has a meaning (`all-meant`) and its computed verdict is what the rules say (`says-each`); the filter's
--- answer is made of these (`by-tests`). That explain goes by match is read off the steps that both take, inputs and card, after which
--- explain has the room.
+-- Where no line holds `explaining` has not stopped (`refusing`), so it has found its explanation. That is put into the rules' words. No
+-- test was refused, so each has a meaning (`all-meant`); so what is computed of each outer test is what the rules say (`says-each`), and
+-- the filter's answer is made of these verdicts (`by-tests`). That the tests kept are those that decide is a law of file Deciding
+-- (`explains`). Explain and match take the same inputs and the same card, and only then does explain need room in the list (`as-match`).
 -- Assumes nothing.
 use Prim.Native.Nat.{ℕ, _+_, _≤_}
 use native.Mathlib.Omega.{arith}

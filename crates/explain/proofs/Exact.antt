@@ -1,8 +1,9 @@
 -- Three values are exact, since each test stands once in the tree: the mark of the whole is a yes or a no exactly where the answer stands.
--- By induction on the tree, whose tests are numbered from i on. One way (`mark-fits`): verdicts that the marks of the tests leave open make
--- the whole say what its mark leaves open. The other way (`comes`): whatever the mark of the whole leaves open comes about for some such
--- verdicts. For the two parts of a join have no test in common, so verdicts can be chosen for each and put together (`says-local`). So the
--- mark is decided exactly where no other verdicts of the spared tests change the answer (`suffices-stands`, `stands-suffices`).
+-- By induction on the tree, whose outer tests are numbered from i on. One way (`mark-fits`): verdicts that the marks of the tests leave
+-- open make the whole say what its mark leaves open. The other way (`comes`): whatever the mark of the whole leaves open comes about for
+-- some such verdicts. For a join `parts` finds what each part is to say. The parts have no test in common, so verdicts can be chosen for
+-- each and put together (`says-local`). So the mark is decided exactly where no other verdicts of the spared tests change the answer
+-- (`suffices-stands`, `stands-suffices`).
 -- Assumes nothing.
 use Prim.Native.Nat.{ℕ, _+_, _≤_, _<_}
 use native.Mathlib.Omega.{arith}

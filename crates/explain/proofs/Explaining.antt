@@ -1,8 +1,9 @@
 -- Explain, as the code comes to its answer and its cells: it is match, by prepare and judge, and then the marks.
--- The definition is a chain of steps, and the laws follow it. What match refuses stops explain at the same step (`stops-as-match`). Else
--- what was taken is known (`Judged`): the sheet's parameters, the filter, good rows that state it, and a conforming card. The rows'
--- expression has the filter's own outer tests and verdicts (`filter-verdicts`, `filter-alike`), so what the code marks and then spares by
--- the rows are the cells of the definition (`marks-are`); `mark-yes` and `mark-no` say so of the list.
+-- The definition is a chain of steps, and the laws follow it. What match refuses stops explain with the same number and place
+-- (`stops-as-match`). Else it is known what was taken (`Judged`, by `taken-with`): the sheet's parameters, the filter, good rows that state
+-- it, and the card. The rows' expression has the verdicts of the filter's outer tests (`filter-verdicts`) and is marked as the filter is
+-- (`filter-alike`). So what the code marks and then spares by the rows are the cells of the definition (`marks-are`). `mark-yes` and
+-- `mark-no` say so of the list, and `mark-short` is for a list that is too short.
 -- Assumes nothing.
 use Prim.Native.Nat.{ℕ, _-_, _≤_, _<_}
 use native.Mathlib.Omega.{arith}

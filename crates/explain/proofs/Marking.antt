@@ -1,7 +1,8 @@
 -- The mark of rows: the stack has the marks of the expressions so far, and the number of the first test of each.
--- The invariant `Marking` is file Stack's `Walk` with what is known of each expression: its cell has the mark that its tests' marks make,
--- and the other array the number of its first test. There is a law for each kind of row: the code pushes, changes or joins cells as the row
--- does expressions, and cells below stay (`marked-below`). At the end one expression is left, the one that the rows state
+-- The invariant `Marking` is file Stack's `Walk` with what is known of each expression (`Marked`): its cell has the mark that its tests'
+-- marks make, and the other array has the number of its first test. There is a law for each kind of row: the code pushes, changes or joins
+-- cells as the row does expressions, and the cells below stay (`marked-below`). A row of brackets makes one test of the expression on top,
+-- which has the number of the first test in it (`marking-bracket`). At the end the one expression left is the one that the rows state
 -- (`marking-whole`).
 -- Assumes nothing.
 use Prim.Native.Nat.{ℕ, _+_, _-_, _≤_, _<_}

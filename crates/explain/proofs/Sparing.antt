@@ -1,7 +1,8 @@
--- Sparing: what is left to try decides with the tests that are still kept.
+-- Sparing: the tests still kept and those left to try give the tests that decide.
 -- The tests are tried from the last to the first. The invariant `Kept`: sparing what is left to try, from the tests still kept, gives the
--- tests that decide, and the list has the cells of those kept. A turn clears a test's cell and takes the mark of the whole; it is decided
--- exactly where the others suffice (`tested`), so leaving the cell clear or putting it back is the definition's own step (`kept-next`).
+-- tests that decide, and the list has the cells of those kept. The loop keeps it for whatever expression the rows state (`Sparing`). A turn
+-- clears a test's cell and takes the mark of the whole. That mark is decided exactly where the other tests kept suffice (`tested`), so
+-- leaving the cell clear or putting it back is the definition's own step (`kept-next`).
 -- Assumes nothing.
 use Prim.Native.Nat.{ℕ, zero, suc, _+_, _-_, _≤_, _<_}
 use native.Mathlib.Omega.{arith}

@@ -1,8 +1,8 @@
--- The walks over rows: a stack of expressions, of which arrays have what is known of each, by what stands below it.
--- The rows read so far state a stack of expressions (`Stacked`), and `Stack P` says that P holds of each, at its cell and over those below
--- it; so a turn that changes the top keeps what is known below (`stack-as`). There is a law for each kind of row, whatever P is: what it
--- makes of the stack, or that rows which take more than there is state nothing. At the end the stack is the one expression that is stated
--- (`walk-whole`).
+-- The walks over rows: the rows read so far state a stack of expressions, and arrays have what is known of each, by what stands below it.
+-- `Stacked` says which stack of expressions the rows read so far state, and `Stack P` that P holds of each, at its cell and over those
+-- below it. `Walk` has both, and counts the outer tests on the stack, at most 32. A turn that changes the top keeps what is known below
+-- (`stack-as`). There is a law for each kind of row, whatever P is: what it makes of the stack, or that the rows state nothing, where the
+-- row is unknown or takes more than there is. At the end the stack is the one expression that is stated (`walk-whole`).
 -- Assumes nothing.
 use Prim.Native.Nat.{ℕ, suc, _+_, _-_, _≤_, _<_}
 use native.Mathlib.Omega.{arith}

@@ -1,8 +1,9 @@
 -- The verdicts of the tests that rows state: the stack has where the rows and the tests of each expression begin, and the list has the marks
 -- of what the tests so far say.
--- A test is judged at its row. After brackets the rows from the start of the expression on top are those of the member's test with its
--- brackets (`top-rows`), so judging these gives its verdict; it takes the place of the first test inside, and the marks behind that are
--- given up (`told-fewer`). Connectives and `not` change no mark. The walk over the rows, with these two arrays, is that of file Stack.
+-- The invariant `Telling` is file Stack's `Walk` with where each expression begins (`Begun`), and with the marks so far (`Told`). A test is
+-- judged at its row, and its mark comes last (`told-more`). At a row of brackets the rows from the start of the expression on top are those
+-- of the member's test with its brackets (`top-rows`), so judging these gives its verdict. It takes the place of the first test inside, and
+-- the marks behind that are given up (`told-fewer`). Connectives and `not` change no mark.
 -- Assumes nothing.
 use Prim.Native.Nat.{ℕ, _+_, _-_, _*_, _^_, _≤_, _<_}
 use native.Mathlib.Omega.{arith}

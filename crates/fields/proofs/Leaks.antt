@@ -2,7 +2,9 @@
 -- of them from one that does.
 -- A meaning that goes by names says the same of two cards that agree under the names used. So one filter and two such cards are enough, of
 -- which the meaning says no and yes (`two-cards`): the card without entries, and one with an entry under a name that the filter does not
--- use. There is such a filter for each of the two meanings, and what they say of it is computed or follows from the rules.
+-- use. In `all-texts-leak` the filter asks whether there is a birthdate, and the entry is a title. In `occurrence-leak` it asks for
+-- relations without a target, and the entry is a relation's type. That the cards agree is computed, and what the meaning says follows from
+-- the rules.
 -- Assumes nothing.
 use Prim.Native.Nat.{ℕ}
 use native.Mathlib.Omega.{arith}

@@ -1,7 +1,8 @@
--- Two cards beside the trial cards get the same answers as they do from every filter that uses the names only under which they agree.
--- Match goes by the texts under the names used and by nothing else of a card (`match-same`). Under the names listed, the two cards have the
--- same texts as the trial cards, which is computed name by name (`date-alike`, `members-alike`). So a filter that uses these names only is
--- answered on both alike (`only-same`), whatever else differs.
+-- Two cards beside the trial cards get the same answers as they do from every filter that uses only names under which they agree.
+-- Match goes by the texts under the names used, for members with their occurrences, and by nothing else of a card (`match-same`). Under the
+-- names listed each of the two cards has the same texts as its trial card, which is computed name by name (`date-alike`, `members-alike`).
+-- So a filter that uses only these names is answered alike on both (`only-same`), whatever else differs. From a row of each trial table
+-- follows the answer on the card beside (`date-row`, `relation-row`).
 -- Assumes nothing.
 use Prim.Native.Nat.{ℕ}
 use mathlib.Core.Path.{_≡_, refl, sym, _∙_, subst}

@@ -1,8 +1,9 @@
 -- Judging: what is gathered is the filter's verdict.
 -- Judging with every test needed is the definition, by induction on the tree (`judging-is`). An item that is not needed leaves the verdict
--- as it was, and by the cases of connective and verdict that is what joining it gives (`verdict-after`). In square brackets the code goes
--- entry by entry and asks the filter of the entry's occurrence; by induction on the entries that is the definition's set of entries kept
--- (`chosen-is`), since an occurrence that counts has all its entries among those that count (`occurrence-whole`).
+-- as it was, and by the cases of connective and verdict that is what joining it gives (`verdict-after`). For the test of a member the code
+-- goes entry by entry, and asks the filter in square brackets of the entry's occurrence. The definition keeps the entries that this filter
+-- chooses, and then asks their texts. By induction on the entries both give the same (`chosen-is`), since an occurrence that counts has all
+-- its entries among those that count (`occurrence-whole`). So the test says what the definition says (`member-is`).
 -- Assumes nothing.
 use Prim.Native.Nat.{ℕ}
 use native.Mathlib.Omega.{arith}

@@ -1,9 +1,9 @@
 -- The walks over a filter's text, whatever they gather: one law for each answer of an item and of a filter, and for each turn.
 -- The code goes through the text as the reader of crate syntax does, and gathers a fold of the tree in place of the tree; `answerOf`
--- translates what the reader gives. The laws hold for any fold and any answer with two cases. Each takes what the code has found at its
--- place, rewrites the reader's clause there (`test-step`, `opened-step` ..), and finds the code's answer to be its translation. The loop of
--- a filter keeps `Chain`: the reader goes on from the position reached with some tree, and the value so far is that tree's. Where a value
--- is not needed the part is walked for a fold ψ that gathers less.
+-- translates what the reader gives. The laws hold for any fold and any answer with two cases (`Cases`). Each takes what the code has found
+-- at its place, rewrites the reader's clause there (`test-step`, `opened-step` ..), and finds the code's answer to be its translation. The
+-- loop of a filter keeps `Chain`: the reader goes on from the position reached with some tree, and the value so far is that tree's. The
+-- filter in square brackets and the next item of a filter may be walked for another fold ψ, which may gather less.
 -- Assumes nothing.
 use Prim.Native.Nat.{ℕ, _+_, _-_, _≤_}
 use native.Mathlib.Omega.{arith}

@@ -1,8 +1,9 @@
 -- The fault and the verdict of a test, as the code decides them.
 -- The definitions are nested choices, and there is a law for each way through the code, which rewrites the definition by the tests made on
--- that way; only `says-some` is by induction, on the values. A value with escapes is judged by its decoded bytes, and one without by the
--- bytes as they stand in the text. `says-some` brings every operator into one form, whether some text of a set counts: by it members are
--- judged.
+-- that way. Which operators below 18 are not supported is computed (`low-rule`, `range-rule`). A value with escapes is judged by its
+-- decoded bytes (`value-escaped`), and one without by the bytes as they stand in the text (`value-plain`). `says-some` brings every
+-- operator into one form, whether some text of a set counts: by it members are judged. It is by the cases of the meaning, and by induction
+-- on the set only where there is no meaning.
 -- Assumes nothing.
 use Prim.Native.Nat.{ℕ, _≤_, _<_}
 use native.Mathlib.Omega.{arith}

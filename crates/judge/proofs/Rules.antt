@@ -1,8 +1,9 @@
--- The computed faults and verdicts of tests are the rules.
--- A rule is a data type with its cases, and its test a nested choice. `-there` goes by what the test has found, `-back` by the rule's
--- cases, and `-iff` is both: for paths by induction on the path, for entries on their list, for filters on the tree (`filter-says-iff`).
--- `PrSpelled` is what the computed verdict cannot tell by itself: it takes every value after pr that is not true for false. Where a test
--- does not lack a meaning it holds (`pr-spelled`).
+-- The computed tests are the rules: what a path names, whether entries conform, and what a test and a filter say.
+-- A rule is a data type with its cases, and its test a nested choice. `-there` leads from the test to the rule, by what the test has found,
+-- and `-back` from the rule to the test, by the rule's cases; `-iff` is both. Paths are by induction on the path one way and on the rule
+-- the other (`names-in-iff`), entries on their list (`entries-iff`), filters on the tree (`filter-says-iff`). `PrSpelled` says that the
+-- value of pr is true or false. The computed verdict does not test that: it takes every value that is not true for false. `PrSpelled` holds
+-- of a test that does not lack a meaning (`pr-spelled`).
 -- Assumes nothing.
 use Prim.Native.Nat.{ℕ, zero, suc, _+_, _≤_}
 use native.Mathlib.Omega.{arith}
