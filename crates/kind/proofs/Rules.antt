@@ -1,8 +1,9 @@
 -- The computed tests of kinds are the rules: readable texts, operators with a meaning, relations.
--- A rule is a data type with a case for each kind or operator, and its test looks into the table of kinds. What holds of each row of the
--- table, and of a number that is in none, holds of every number (`by-kind`, by induction on the table). `-there` and `-back` are the two
--- directions of each `-iff`. The relations rest on those of the lower crates: a number that was read keeps to its bounds, and a period that
--- was read has an instant, and so their computed relations are the rules' (`relates-there`, `relates-back`).
+-- A rule is a data type, and its test computes. A law `-there` goes from the test to the rule, and `-back` from the rule to the test. Where
+-- the test looks into the table of kinds, `-there` is by `by-kind`: what holds of each row of the table, and of a number that is in no row,
+-- holds of every number (by induction on the table). `-back` is by the cases of the rule. The relations of numbers and dates rest on those of
+-- the lower crates, which ask that a number keeps to its bounds, that a period has an instant, and that a date's start is an instant of the
+-- date; what was read from a text is so (`relates-there`, `relates-back`).
 -- Assumes nothing.
 use Prim.Native.Nat.{ℕ}
 use mathlib.Core.Path.{_≡_, refl, ap, sym, _∙_, subst}

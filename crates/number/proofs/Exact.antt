@@ -1,8 +1,9 @@
 -- The order of exact fractions is that of billionths, so that the code loses nothing by comparing those.
--- Two fractions a over p and b over q, whose units u and v make p * u and q * v the same whole, are in the order of a * u and b * v. For
--- both sides of the comparison, multiplied by the same number, become multiples of these, and multiplying keeps the order (`same-lt`,
--- `same-le`). The products are laws over plain numbers (`left-cross`, `lower-left` ..); the relations of two numbers are instances, the
--- whole being a billion.
+-- Two fractions a over p and b over q, whose units u and v make p * u and q * v the same whole, are in the order of a * u and b * v. They are
+-- compared by a * q and b * p. These, multiplied by u * v, are a * u and b * v multiplied by the whole (`left-cross`, `right-cross`), and
+-- multiplying by a number above zero keeps the order both ways (`same-lt`, `same-le`). The ends of a range, half a unit off, are compared in
+-- the same way (`lower-cross`, `upper-cross`). These are laws over plain numbers; the relations of two numbers are instances, with a billion
+-- as the whole.
 -- Assumes nothing.
 use mathlib.Core.Path.{_≡_, sym, ap, _∙_}
 use Prim.Native.Nat.{ℕ, _+_, _*_, _-_, _^_, _≤_, _<_}

@@ -1,8 +1,9 @@
--- A number lies inside another exactly where each point of its range lies in the other's. Both are brought to billionths, twice over.
--- `Within` is two inequalities between the ends. They take each point of the one range into the other, after multiplying by the point's
--- denominator (`above-within`, `below-within`). For the converse two points are enough: the lower end of the first range, which is a point
--- of it (`meets-above`, `meets-below`); and the upper end of the second, which is no point of the second, but would be one of the first if
--- that ended later (`ends-within`). Points above zero and below it are kept apart.
+-- A number lies inside another exactly where each point of its range lies in the other's.
+-- Numbers are brought to billionths and doubled, since the ends of a range lie half a unit off. `Within` is two inequalities between the
+-- ends. They take each point of the one range into the other, after multiplying by the point's denominator (`above-within`, `below-within`).
+-- For the converse two points are enough: the lower end of the first range, which is a point of it (`meets-above`, `meets-below`); and the
+-- upper end of the second, which is no point of the second, but would be one of the first if that ended later (`ends-within`). Points above
+-- zero and below it are kept apart.
 -- Assumes nothing.
 use Prim.Native.Nat.{ℕ, _+_, _*_, _-_, _^_, _≤_, _<_}
 use mathlib.Core.Path.{_≡_, sym, _∙_}

@@ -1,8 +1,8 @@
 -- A text reads to a number exactly when it is a spelling of it, and what is read keeps to the bounds.
--- The reader tests how long the first run of digits is, whether the text ends there or a point comes, and the digits behind it. A reading
--- that is a number has passed these tests (`fraction-inverse`), and what passed them are the parts of a spelling. The other way round the
--- run of a spelling's first digits ends at its point, which is no digit, so that the reader cuts the text where the spelling does
--- (`point-read`).
+-- The reader tests how long the first run of digits is, whether the text ends there or a point comes, and the digits behind it. A text that
+-- reads to a number has passed these tests, and what passed them are the parts of a spelling (`read-spelled`; `fraction-inverse` for the
+-- digits behind the point). The other way round the run of a spelling's first digits ends at its point, which is no digit, so that the reader
+-- cuts the text where the spelling does (`point-read`). The bounds are by how many digits a spelling may have (`spelled-bounded`).
 -- Assumes nothing.
 use mathlib.Core.Path.{_≡_, refl, sym, ap, _∙_}
 use Prim.Native.Nat.{ℕ, _+_, _-_, _≤_, _<_}

@@ -1,7 +1,9 @@
 -- Match, as the code comes to its answer.
--- A law for each way through the code. A card is refused by its reading, or by whether it conforms, in the order of the definition's own
--- choice (`takes-size` .. `takes-conforming`). By the text, the walk's answer is that of the tree that check has read (`read-from`). The
--- three ways to ask, by rows, by text and by a search string, come together in `Asks`, and each gives the verdict of its question.
+-- A law for each way through the code, and no induction. A card is refused for its size, its sum, its layout or as a misfit, or it conforms,
+-- in the order of the definition's own choice (`takes-size` .. `takes-conforming`). The verdict on a card that conforms is what the question
+-- says of its entries, and on any other the refusal (`judged-says`, `judged-refused`); by rows for all parameters of these kinds
+-- (`rows-says`). By the text, the tree that the walk reads is the one that check has read (`read-from`), so that the walk's answer is what
+-- the text says (`says-done`). The verdict gives match's answer (`match-answered`).
 -- Assumes nothing.
 use Prim.Native.Nat.{ℕ}
 use native.Mathlib.Omega.{arith}

@@ -1,6 +1,7 @@
--- The relations by their ends are those by their instants. Each rests on two witnesses: where a period starts before an instant it has one
--- before it, and where it ends after an instant it has one at it or behind it.
--- The other directions are laws of the order: an instant of the period lies between its ends. `covers` has one case more: if the period
+-- The relations by their ends are those by their instants.
+-- Most rest on a witness: a period that starts before an instant has an instant before it (`start-witness`), and one that ends after an
+-- instant has an instant at it or behind it (`end-witness`). For `overlaps` the witness has to lie in the date as well (`common`). The other
+-- directions are laws of the order: an instant of the period lies between its ends. `covers` takes no witness in the period: if the period
 -- ended within the date, its end would be an instant of the date and none of the period (`ends-within`). It is asked that the period has an
 -- instant, and that the date's start is one of the date's.
 -- Assumes nothing.

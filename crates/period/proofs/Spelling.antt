@@ -1,8 +1,8 @@
--- What a reader believes of the texts: the computing definition of reading agrees with the spellings, since no date has a slash; and what
--- is read has an instant.
--- So a text has one cut, at its only slash. `parts-there` goes by whether the part on either side is empty, as the reader does, and the
--- other direction by the cases of the spelling, whose parts the cut gives back. That no text is both a date and a period is the same fact
--- (`not-plain`).
+-- A text reads to a period exactly where it is a spelling of it, since no date has a slash; and what is read has an instant.
+-- The reader cuts the text at its first slash. From the reading to the spelling `parts-there` goes by whether the part on either side is
+-- empty, as the reader does. The other direction goes by the cases of the spelling (`spells-reads`): what stands before its slash is a date
+-- or nothing, and has no slash (`date-plain`), so that the cut gives back its parts. A period has a slash (`not-plain`), so that no text is
+-- both a date and a period. The instant is the start, or one before the end where the start is open (`spells-inhabited`).
 -- Assumes nothing.
 use Prim.Native.Nat.{ℕ, _+_, _/_, _%_}
 use native.Mathlib.Omega.{arith}

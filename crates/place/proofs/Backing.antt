@@ -1,4 +1,4 @@
--- From what is left behind a byte to what is left before it.
+-- From what is left behind a byte to what is left from the byte on.
 -- The converse of file Walking: what the machine has gone over can be read back as a derivation. For each phase, where a byte keeps the
 -- machine live and what is left behind it is right for the phase that follows (`Left`), what is left from the byte on is right for this
 -- phase; the cases are those of the machine's step (`back`). `walk-back` is the induction on the walk, from its end to its beginning. The

@@ -1,8 +1,9 @@
 -- What holds of every state that the machine comes to, and how a filter is completed from it.
--- That states stay good is by cases of the phase (`good-step`), and then by induction on the run. To complete a filter, each phase writes
--- on to the end of its item with bytes that fit it, as `x`, ` eq 1` or a closing quote, and then closes each open bracket (`closes-all`, by
--- induction on the brackets; a square one wants the member's test besides). Nothing more is asked of the limits: the tests to be written
--- are counted as due already, and after `not` there is room for its bracket, which `Good` says.
+-- That states stay good is by the cases of the phase (`good-step`), and then by induction on the run (`runs-good`). To complete a filter,
+-- bytes that fit the phase, as `x`, `eq 1` or a closing quote, are written up to the end of the item (`completes`, by the cases of the
+-- phase), and then each open bracket is closed (`closes-all`, by induction on the brackets; after a square one the member's test is written,
+-- too). No more room is asked of the limits: the tests to be written are counted as due already, and after `not` there is room for its
+-- bracket, which `Good` says.
 -- Assumes nothing.
 use Prim.Native.Nat.{ℕ, suc, _+_, _≤_, _<_}
 use Prim.Native.Char.{code}

@@ -1,8 +1,8 @@
 -- The machine's step under two pairs of limits.
--- A byte asks for one bracket more, for one test more, for both or for neither, and its answer is by whether there is room for what it asks
--- (`needs`). Room that there is stays under wider limits, and room that is lacking is there under a limit that is one larger or more
--- (`Room`, `one-more`). `Lifts` has what follows for the answer under other limits; `step-lifts` shows it phase by phase, and `runs-lift`
--- for a whole run, by induction.
+-- A byte asks for one bracket more, for one test more, for both or for neither, and the answer depends on whether there is room for what it
+-- asks (`needs`). Room that there is stays under a wider limit. Room that is lacking is there under any larger limit, since no good state has
+-- more brackets or tests than its limit (`Room`, `one-more`). `Lifts` has what follows for the answer under other limits, and `step-lifts`
+-- shows it phase by phase. Of a whole run `runs-lift` shows that it stays one under wider limits, by induction on the run.
 -- Assumes nothing.
 use Prim.Native.Nat.{ℕ, suc, _≤_, _<_}
 use Prim.Native.Char.{code}

@@ -1,8 +1,8 @@
--- Where the machine fails is the end of the longest beginning, and the reason is the one that the limits make it.
--- The machine goes over the bytes up to where it fails (`fails`, by induction on them). These begin a filter: the state reached is good, so
--- it can be completed (Good), and what the machine goes over to such an end is a filter (Backing). Nothing longer does: the machine goes
--- over every beginning of a filter (Walking), through the same states, and here it goes no further (`none-longer`). The reason is told by
--- whether the byte would pass under a wider limit on nesting, or on tests (Limits).
+-- The machine fails at the end of the longest beginning of the text that begins a filter, and its reason is the right one for that place.
+-- The machine goes over the bytes up to where it fails (`fails`, by induction on the text). These begin a filter (`runs-begin`): the state
+-- reached is good, so it can be completed (Good), and what the machine goes over to such an end is a filter (Backing, Rests). Nothing longer
+-- does: the machine goes over every beginning of a filter (Walking), through the same states, and here it goes no further (`none-longer`).
+-- The reason is told by whether the byte would pass under a wider limit on nesting, or on tests (`number-of`, by Limits).
 -- Assumes nothing.
 use Prim.Native.Nat.{ℕ, suc, _+_, _-_, _≤_, _<_}
 use native.Mathlib.Omega.{arith}

@@ -1,8 +1,9 @@
 -- What is left of a filter from a position on, for each phase of the machine.
--- `Left` says for each phase what may stand from a position on: the rest of what was begun, and then what comes after an item
--- (`AfterLeft`), with the brackets that are open and the number of tests to come. An opening bracket before such a rest makes an item of
--- it: the filter inside is gathered from the items that follow, up to the closing byte (`in-bracket`, by recursion on what is left), and is
--- one of the grammar's. So what is left from the first item on is a whole filter within the limits (`left-within`).
+-- `Left` says for each phase what may stand from a position on: the rest of what was begun, and then what comes after an item (`AfterLeft`),
+-- with the brackets that are open and the number of tests to come. An opening bracket before such a rest makes an item of it (`left-opens`,
+-- `left-chooses`): the filter inside is gathered from the items that follow, up to the closing byte (`in-bracket`, by induction on what is
+-- left). With no bracket open the items are gathered in the same way up to the end of the text (`in-text`), so that what is left from the
+-- first item on is a whole filter within the limits (`left-within`).
 -- Assumes nothing.
 use Prim.Native.Nat.{ℕ, suc, _+_, _<_}
 use native.Mathlib.Omega.{arith}

@@ -1,8 +1,8 @@
 -- The code's machine is the machine.
--- The code keeps the open brackets as binary digits behind a leading 1, and a name as the position where it begins; `To` says which answer
--- of the machine an answer of the code stands for. Mode by mode both make the same tests, and `both` carries `To` through each choice
--- (`advances`). That fewer than j brackets are open is that the number is below 2 to the j (`fewer`, by induction). The loop keeps that
--- what is left decides (`Reaching`).
+-- The code keeps the open brackets as binary digits behind a leading 1, and a name as the position where it begins; `To` says which answer of
+-- the machine an answer of the code stands for. Mode by mode both make the same tests, and `both` carries `To` through each choice
+-- (`advances`). That fewer than j brackets are open is that the number is below 2 to the j (`fewer`, by induction on j). The loop keeps
+-- `Reaching`: what the machine answers from the state reached over the bytes that are left is its answer to the whole text.
 -- Assumes nothing.
 use Prim.Native.Nat.{ℕ, zero, suc, _+_, _-_, _*_, _/_, _%_, _≤_, _<_}
 use Prim.Native.Char.{code}

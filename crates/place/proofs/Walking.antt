@@ -1,8 +1,8 @@
 -- The machine goes over every filter within the limits.
 -- By induction on the derivation of an item or a filter (`item-walks`, `filter-walks`), for any brackets k that are open and any number of
--- tests done: the machine goes from its first byte to its end, where an item has ended, and has then counted the tree's tests. A terminal
--- of the grammar is a run over its bytes (`name-runs`, `string-runs` ..). The nesting left and the brackets open make up the limit, so
--- where the grammar opens a bracket the machine may.
+-- tests done: the machine goes from the first byte of the item or filter to its end, where an item has ended, and has then counted the tree's
+-- tests. A terminal of the grammar is a run over its bytes (`name-runs`, `string-runs` ..). The nesting left and the brackets open make up
+-- the limit, so where the grammar opens a bracket the machine may.
 -- Assumes nothing.
 use Prim.Native.Nat.{ℕ, suc, _+_, _≤_, _<_}
 use Prim.Native.Char.{code}

@@ -1,8 +1,9 @@
 -- Prepare, as the code comes to its answer and its cells.
--- It is put together from the inside out, and `Fills` says what the buffer has whatever the room of the list: first the text, with a law
--- for each way in which the code leaves it (size, no filter, bytes behind it, too many tests, a fault, done), then the sheet. At each of
--- these check's answer to the same bytes is at hand, and is the refusal. The room is tested last of all (`preparation-is`), which leaves
--- the two laws of the list (`prepare-short`, `prepare-done`).
+-- It is put together from the inside out, and no law takes an induction. `FillsText` says what the buffer has after the text, with a law for
+-- each way in which the code leaves it (size, no filter, bytes behind it, too many tests, a fault, done); `Fills` says it after sheet and
+-- text, whatever the room of the list. Where the code refuses sheet or text, it hands on check's answer to the same bytes, and that is the
+-- refusal (`text-refused`, `fill-sheet`). The room is tested last of all (`preparation-is`), which leaves the laws of the list: refused
+-- before, too short, or filled (`prepare-refused`, `prepare-short`, `prepare-done`).
 -- Assumes nothing.
 use Prim.Native.Nat.{ℕ, _+_, _-_, _≤_, _<_}
 use native.Mathlib.Omega.{arith}

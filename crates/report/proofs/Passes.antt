@@ -1,8 +1,9 @@
 -- The steps are passes over the rows, each of one step a row: the first clears them, and each other adds a card to what they hold.
 -- Step k changes row k mod n in pass k / n. Within a pass the rows before the current one are changed and the others are not (`pass-steps`,
--- by induction on the row). `stepped-cards` is by induction on the cards: the first pass leaves the tallies of no cards, and each other
--- those of one card more, which is last in the list (`cards-snoc`, `values-snoc`). A card counts at most once under a parameter and has few
--- values, so what the rows hold stays small, and each step can raise its row (`steps-ready`).
+-- by induction on the row). `stepped-cards` is by induction on the number of cards: the first pass leaves the tallies of no cards
+-- (`pass-clears`), and each other those of one card more, which is last in the list (`pass-adds`, from `cards-snoc` and `values-snoc`). A
+-- card counts at most once under a parameter and has few values, so what the rows hold stays small, and each step can raise its row
+-- (`steps-ready`).
 -- Assumes nothing.
 use Prim.Native.Nat.{ℕ, zero, suc, _+_, _*_, _-_, _/_, _%_, _≤_, _<_}
 use native.Mathlib.Nat.{add-mul-div-left, add-mul-mod-self-left, div-eq-of-lt, mod-eq-of-lt, mod-lt, mod-add-div, div-lt-iff-lt-mul, mul-zero, zero-mul, mul-suc, mul-comm}

@@ -1,7 +1,8 @@
--- The plan, by what select answers: a refusal is select's own, or 31; else the rows are the sheet's parameters, and the steps those of the run.
+-- The plan, by what select answers: a refusal is select's own, or 31; else it has a row for each parameter, and the steps of each pass.
 -- No induction: the plan is made from select's answer, and what a count says of sheet and run is known from the survey (`survey-counted`).
 -- From it come the plan's numbers: the parameters, the cards, and that yes and no make up the cards (`counted-whole`). A plan that refuses
--- takes no step, so that the rows stay; any other takes the steps of file Passes, which leave the tallies of the run.
+-- takes no step, so that the rows stay (`refused-plan`); any other takes the steps of file Passes, which leave the tallies of the run
+-- (`plan-counts`).
 -- Assumes nothing.
 use Prim.Native.Nat.{ℕ, _+_, _*_, _-_, _/_, _≤_, _<_, _^_}
 use native.Mathlib.Nat.{mul-le-mul}

@@ -1,8 +1,9 @@
 -- A report goes by match: it counts the cards on which match answers yes, and those on which it answers no, and refuses the first card that
 -- match refuses.
--- A survey that was found has the cards of the run, each taken; by induction on them those that say yes are the ones on which match answers
--- yes, and likewise for no (`yes-matches`, `no-matches`). A survey that has stopped stopped as select does (Surveys), and of select it is
--- known that it refuses the first card that match refuses. The theorems go by the cases of what the report has found.
+-- A survey that was found has the cards of the run, each taken. As many of them say yes as match answers yes on (`yes-matches`, from what is
+-- known of select), and as many no as it answers no on (`no-matches`, by induction on the cards). A survey that has stopped stopped as select
+-- does (Surveys), and of select it is known that, with a number from 21 to 23, it refuses the first card that match refuses (`card-refused`).
+-- The theorems go by whether the report has found a survey or has stopped.
 -- Assumes nothing.
 use Prim.Native.Nat.{ℕ, suc, _+_, _≤_}
 use native.Mathlib.Omega.{arith}

@@ -1,9 +1,9 @@
--- A survey comes out as a selection does whose list has room for a whole run: it is refused alike, and what select counts are the cards
--- that say yes.
--- Both take the same steps, inputs, run and cards, and differ in what they make of the cards. `Outcome` relates them: both have stopped
--- with one number and place, or both have found. The list's room does not stop the selection, since a run has at most 128 cards
--- (`room-enough`). What select counts is what says yes, and yes and no make up the run, both by induction on the cards (`saying-matches`,
--- `saying-whole`).
+-- A survey comes out as a selection does whose list has room for a whole run: it is refused alike, and what select counts are the cards that
+-- say yes.
+-- Both take the same steps: inputs, run and cards. They differ in what they make of the cards. `Outcome` relates them: both have stopped with
+-- one number and place, or both have found (`outcome`, by whether each step stops). The list's room does not stop the selection, since a run
+-- has at most 128 cards (`room-enough`). What select counts is what says yes, and yes and no make up the run, both by induction on the cards
+-- (`saying-matches`, `saying-whole`).
 -- Assumes nothing.
 use Prim.Native.Nat.{ℕ, suc, _+_, _-_, _≤_}
 use native.Mathlib.Omega.{arith}

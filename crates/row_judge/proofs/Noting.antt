@@ -1,7 +1,8 @@
--- Noting where the second items of joins begin. The walk keeps a stack of the lengths of the expressions so far (`Noting`, over `Stacked`): at a
--- join the expression on top is its second item, whose rows are the last ones before the join (`noting-connect`), so that its length, noted
--- at its first row, leads to the join. A note that is not 0 and ends inside the rows is an item's (`Jumps`); where the walk stops early, the
--- notes so far still are.
+-- Noting where the second items of joins begin.
+-- The walk keeps a stack of the lengths of the expressions so far (`Noting`, over `Stacked`), with a law for each kind of row. At a join the
+-- expression on top is its second item, whose rows are the last ones before the join (`noting-connect`), so that its length, noted at its
+-- first row, leads to the join. A note that is not 0 and ends inside the rows is an item's (`Jumps`). The walk keeps this at each row, so
+-- that it holds of the notes so far where the walk stops early, too.
 -- Assumes nothing.
 use Prim.Native.Nat.{ℕ, _+_, _-_, _≤_, _<_}
 use native.Mathlib.Omega.{arith}

@@ -1,9 +1,10 @@
 -- Judging rows: the stack has the verdicts and the sizes of the expressions so far, and a test is judged entry by entry.
--- Two things are shown. A test's verdict by the set of the entries that are kept is found by looking at each entry (`each-is`): it counts, and
--- the rows in the brackets say yes of its occurrence. And the walk over the rows keeps `Judging`: `Stacked` says that the expressions on the
--- stack are those of the rows before i and decide with the rows that are left, and `Holds` that the arrays have their verdicts and lengths.
--- Each row has a law that takes `Judging` from i to i + 1; an item that is left out takes it to behind its join, which the verdict on top
--- decides already. At the end the one verdict on the stack is what the rows say.
+-- Two things are shown. A test's verdict by the set of the entries that are kept is found from whether there is an entry that counts and of
+-- whose occurrence the rows in the brackets say yes (`each-is`, from `entry-is`, by induction on the entries). And the walk over the rows
+-- keeps `Judging`: `Stacked` says that the expressions on the stack are those of the rows before i and decide with the rows that are left,
+-- and `Holds` that the arrays have their verdicts and lengths. Each kind of row has a law that takes `Judging` from i to i + 1, or says no
+-- where the row does not fit; an item that is left out takes it to behind its join, which the verdict on top decides already
+-- (`judging-leap`). At the end the one verdict on the stack is what the rows say (`judging-whole`).
 -- Assumes nothing.
 use Prim.Native.Nat.{ℕ, _+_, _-_, _≤_, _<_}
 use native.Mathlib.Omega.{arith}

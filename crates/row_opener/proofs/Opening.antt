@@ -1,7 +1,8 @@
 -- Values opened once: the cells of one stand for it, and lists of cells have each at its row's place.
--- What a value reads to is small (`Small`): its places are within 1,024, a number has at most nine decimals, and what reads to a number is not
--- read as a date. So flags, mark and places go into one number and come out again by division (`cells-back`), and the loop over the rows
--- keeps `Opens` of the rows so far in four lists.
+-- What a value reads to is small (`Small`): its places are within 1,024, a number has at most nine decimals, and what reads to a number is
+-- not read as a date. So one mark below 16 is enough: a number's decimals, 10 for a date, 11 for neither (`mark-most`). Flags, mark and
+-- places go into one number and come out again by division (`cells-back`). The loop over the rows keeps `Opening`: four lists have the cells
+-- of the rows so far (`Opens`), one row more at each turn (`opening-next`).
 -- Assumes nothing.
 use Prim.Native.Nat.{ℕ, _+_, _*_, _/_, _%_, _≤_, _<_}
 use native.Mathlib.Omega.{arith}

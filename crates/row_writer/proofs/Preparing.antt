@@ -1,6 +1,7 @@
--- The rows of a filter whose tests have no fault are good, and state the filter. By the derivation of the filter's text: each test without a
--- fault names a parameter that has its operator and reads its value, so its row fits; brackets nest as the grammar lets them; and the tree
--- that the expression states is the filter's, with the tests' positions left out (`erase`).
+-- The rows of a filter whose tests have no fault are good, and state the filter.
+-- By induction on the derivation of the filter's text. Each test without a fault (`Clean`) names a parameter whose kind has its operator and
+-- reads its value, so its row fits (`placed`). The rows of a filter fit, and the tree that they state is the filter's, with all positions set
+-- to 0 by `erase` (`prepared-filter`). Brackets nest as the grammar lets them (`nests-of`).
 -- Assumes nothing.
 use Prim.Native.Nat.{ℕ, suc, _+_, _≤_}
 use native.Mathlib.Omega.{arith}

@@ -1,8 +1,9 @@
 -- Reading a filter and writing its rows: one law for each answer of an item and of a filter, and for each turn.
--- `Wrote` says of a call that it answers what the definition reads, and that the cells of the expression stand behind those before its row.
--- A law takes the `Wrote` of the call inside and what the leaves found around it, and gives the `Wrote` of the whole, with one cell more
--- (`put-more`). The items of a filter are a chain: `Chained` has the tree so far, its cells, and that the rest of the chain decides; a turn
--- adds an item and its connective (`chain-takes`). That an item ends at least as many bytes on as it has cells bounds every sum.
+-- `Wrote` says of a call that it answers what the definition reads, and that the cells of the expression stand behind those before its row. A
+-- law takes the `Wrote` of the call inside, if there is one, and what the leaves found around it, and gives the `Wrote` of the whole. A row
+-- that is written is one cell more (`put-more`). The items of a filter are a chain: `Chained` has the tree so far, its cells, and that the
+-- rest of the chain decides; a turn adds an item and its connective (`chain-takes`). An item takes at least as many bytes as it has cells
+-- (`item-cells`, by induction on its derivation), and this bounds every sum.
 -- Assumes nothing.
 use Prim.Native.Nat.{ℕ, suc, _+_, _*_, _-_, _≤_, _<_}
 use native.Mathlib.Omega.{arith}

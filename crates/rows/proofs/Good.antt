@@ -1,6 +1,8 @@
--- The test for good rows passes exactly where they are good. The computed shape of an expression has its nesting, its scope and whether each
--- test fits; by induction over the expression it agrees with `Nests` and `Fits`, which are grammar and sheet, and cells that state an
--- expression are its cells, so that the expression of `Good` is the one that the test finds.
+-- The test for good rows passes exactly where they are good.
+-- The computed shape of an expression has its nesting, its scope and whether each test fits. The way from the shape to `Fits` is by induction
+-- on the expression (`shape-fits`), and the way back by induction on `Fits` (`fits-shape`); for one test these are `probe-there` and
+-- `probe-fits`. That the nesting agrees with the grammar's is known from files Shapes and Nesting. Cells that state an expression are its
+-- cells, and an expression that fits can be written, so that the expression of `Good` is the one that the test finds (`good-states`).
 -- Assumes nothing.
 use Prim.Native.Nat.{ℕ, zero, suc, _≤_}
 use native.Mathlib.Omega.{arith}

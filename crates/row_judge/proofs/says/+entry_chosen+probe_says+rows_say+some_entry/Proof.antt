@@ -1,8 +1,9 @@
 -- `row_judge::says::rows_say`, `probe_says`, `some_entry` and `entry_chosen` meet their contracts: rows are judged by a stack, a test after
--- brackets looks at the entries one by one, and each entry judges the rows in the brackets, a shorter part. The measure is that part's
--- length, four for each row, and one less at each call in between. The loop over the rows keeps `Judging`, by one law for each kind of row
--- and one for an item that is left out; the loop over the entries keeps `Visited`. Below the measures, each member has its callees, its
--- invariants and the answers to its needs in the order of its code, each with the need's name. Assumes nothing.
+-- brackets looks at the entries one by one, and each entry judges the rows in the brackets, a shorter part. The measure is four for each row:
+-- of all the rows in `rows_say`, and of the part in the other three, with 3, 2 and 1 more in the order of the calls. Each of their calls
+-- falls by one, and the call from `rows_say` falls since the part is shorter by a row at least. The loop over the rows keeps `Judging`, by
+-- one law for each kind of row and one for an item that is left out; the loop over the entries keeps `Visited`. Below the measures, each
+-- member has its callees, its invariants and the answers to its needs in the order of its code, each with the need's name. Assumes nothing.
 use Prim.Native.Nat.{_+_, _*_, _-_}
 use native.Mathlib.Omega.{arith}
 use mathlib.Core.Path.{refl}

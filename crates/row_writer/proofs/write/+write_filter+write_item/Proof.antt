@@ -1,8 +1,9 @@
 -- `row_writer::write::write_filter` and `write_item` meet their contracts: the text is read as the definition reads it, and each answer
--- writes the cells of what was read behind those that stand. The measure is twice the bytes that are left, and one more for a filter. The
--- loop over a filter's items keeps `Chained`: what was read so far is a filter, its cells are written, and the chain from here on decides.
--- A row takes a byte of the text at least, so that rows never end behind the place, and the list of 1,024 cells has room. Below the measures,
--- each member has its callees, its invariant and the answers to its needs in the order of its code, each with the need's name. Assumes nothing.
+-- writes the cells of what was read behind those that stand. The measure is twice the bytes that are left, and one more for a filter: a
+-- filter reads its first item at its own place, and an item reads a filter behind an opening bracket. The loop over a filter's items keeps
+-- `Chained`: what was read so far is a filter, its cells are written, and the chain from here on decides. A row takes a byte of the text at
+-- least, so that there are never more rows than bytes read, and the list of 1,024 cells has room. Below the measures, each member has its
+-- callees, its invariant and the answers to its needs in the order of its code, each with the need's name. Assumes nothing.
 use Prim.Native.Nat.{_+_, _*_, _-_}
 use native.Mathlib.Omega.{arith}
 use lib.ListN.{length}
