@@ -1,7 +1,9 @@
 -- The loops over rows: a stack of expressions, of which an array has what is gathered of each. What is left of the rows decides.
--- Every walk over rows has the same stack and gathers something else of it: shapes, verdicts, lengths, marks. `Holds` says that an array has what
--- a function gathers of the expressions on the stack; `Stacked` that these are the expressions of the rows before i, and that they and the
--- rows that are left state what all rows state. `holds-push`, `top-of` and `stacked-next` take both over one row.
+-- The walks over rows keep the same stack, and arrays with something of each expression on it: its shape, its verdict or its length.
+-- `Holds` says that the first n cells of an array have what a function gathers of the expressions on the stack, the top last. `Stacked`
+-- says of the stack after i rows that running the rows left on it is running all rows from the start, that the rows before i are those of
+-- its expressions, and that each of these can be written. `holds-push` and `top-of` take `Holds` over a row, and `stacked-next` takes
+-- `Stacked` over one. Where a row cannot be pushed the rows state nothing (`stacked-fails`).
 -- Assumes nothing.
 use Prim.Native.Nat.{ℕ, suc, _+_, _/_, _%_, _≤_, _<_}
 use native.Mathlib.Omega.{arith}

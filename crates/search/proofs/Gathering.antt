@@ -1,8 +1,10 @@
 -- The loop of `next_alternative`: what was written and the signs that are left make the alternative.
 -- The definition cuts a list of signs, the code goes over bytes. What the code finds at a position is the first sign there, and the signs
--- from the next position on are the others (`mark-outcome`). The invariant `Gathering`: the alternative's text is what was written and then
--- the text of the signs left, and so for the place of its bar and for the alternatives after it. A turn takes one sign off, and the
--- position grows.
+-- from the next position on are the others (`mark-outcome`, by the cases of the bytes there). The invariant `Gathering`: the alternative's
+-- text is what was written and then the text of the first alternative of the signs left; the place of its bar is that of the bar already
+-- met, or else its place in the signs left, counted behind what was written; the alternatives after it are those after the first of the
+-- signs left. A turn takes one sign off, and the position grows. A comma or the end of the bytes ends the alternative (`gathering-cut`,
+-- `gathering-ends`).
 -- Assumes nothing.
 use Prim.Native.Nat.{ℕ, suc, _+_, _-_, _≤_, _<_}
 use native.Mathlib.Numerals.{add-one}

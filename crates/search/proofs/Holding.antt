@@ -1,8 +1,9 @@
 -- The loop of `keep_pair`: the rows keep the alternatives so far, and those that are left make the pair.
 -- The invariant `Holding`: the rows keep the alternatives so far, and these with the alternatives of the bytes left make the pair
--- (`whole`). A turn takes the next alternative, writes its text behind the bytes in use and adds its row. What earlier rows keep stays,
--- since their texts lie in the bytes below `used`, which are not touched (`keeps-on`, `part-front`). Each alternative but the last takes a
--- byte of the value at least, its comma, which bounds the rows.
+-- (`whole`). A turn takes the next alternative, writes its text behind the bytes in use and adds its row (`holding-next`). What earlier
+-- rows keep stays, since their names and texts lie in the bytes below `used`, which are not touched (`keeps-on`, by `part-front`). Each
+-- alternative but the last takes a byte of the value at least, its comma, so at most one row more is added than the value has bytes
+-- (`count`).
 -- Assumes nothing.
 use Prim.Native.Nat.{ℕ, zero, suc, _+_, _-_, _≤_, _<_}
 use native.Mathlib.Omega.{arith}

@@ -1,8 +1,9 @@
 -- What the code answers of an alternative, and the loops over a card's entries and over the rows of a query: what is left decides.
--- The rows from the i-th on are the i-th and then those after it (`from-next`). `Facing`: where no row before had a fault, the first fault
--- of the rows left is the first of all. `Saying`: the verdict is that of the rows left, with whether the pair at hand is met so far; at the
--- last row of a pair that is not met it is no, and else the next pair begins unmet. What one alternative says is by the kind of its
--- parameter, and there is a law for each way through the code.
+-- What one alternative says, and what fault it has, goes by the kind of its parameter, with a law for each way through the code. Over a
+-- card's entries, a token is met by the entry at hand, where that is under the parameter and matches, or else by the entries after it
+-- (`asked-here`, `asked-next`). The rows from the i-th on are the i-th and then those after it (`from-next`). `Facing`: no row before the
+-- i-th had a fault, so the first fault of the rows left is the first of all. `Saying`: the verdict is that of the rows left, with whether
+-- the pair at hand is met so far; at the last row of a pair it is no where the pair is not met, and else the next pair begins unmet.
 -- Assumes nothing.
 use Prim.Native.Nat.{ℕ, suc, _+_, _-_, _≤_, _<_}
 use native.Mathlib.Numerals.{add-one}

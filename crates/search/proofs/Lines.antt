@@ -1,8 +1,9 @@
 -- A search string is refused with 10, 50 or 51 exactly where that line decides.
 -- `pairs-outcome`, by induction on the fuel, which is more than the bytes left: all parts of the text are pairs, or reading stopped at the
 -- first that is none. For the text is cut at its first ampersand in one way, so that a part of it is the one cut off or a part of the rest
--- (`part-cases`). That line comes first in the table: 10 before 50, of the lines 50 the one with the lowest place, and 51 only where all
--- parts are pairs (`query-decided`).
+-- (`part-cases`). `query-decided` shows that the line with which the reader stops is the first in the table. Where the size is wrong that
+-- is 10, since 50 and 51 are of a later group. Else 10 does not hold. Where a part is no pair 51 does not hold, and of the lines 50 the one
+-- with the lowest place is first. Where all parts are pairs only 51 can hold.
 -- Assumes nothing.
 use Prim.Native.Nat.{ℕ, zero, suc, _+_, _≤_, _<_}
 use native.Mathlib.Nat.{le-of-eq}

@@ -1,8 +1,8 @@
 -- The loop of `read_query`: the rows keep the pairs so far, and those that are left make the query.
 -- The invariant `Pass`: the rows keep the pairs so far, and the definition, from the start of the text, comes to these pairs and then to
--- what it reads from the position reached on (`left`). A turn takes the part up to the next ampersand, which is the definition's own cut
--- (`read-next`). Either it is no pair, and the definition stops there with 50, or its alternatives are kept (file Holding) and one pair
--- more is done.
+-- what it reads from the position reached on (`left`), or to these pairs alone where nothing is left (`all`). A turn takes the part up to
+-- the next ampersand, which is the definition's own cut (`read-next`). Either it is no pair, and the definition stops there with 50
+-- (`pass-bad`), or its alternatives are kept (file Holding) and one pair more is done (`pass-next`).
 -- Assumes nothing.
 use Prim.Native.Nat.{ℕ, zero, suc, _+_, _-_, _≤_, _<_}
 use native.Mathlib.Nat.{zero-add}

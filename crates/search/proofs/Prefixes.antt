@@ -1,8 +1,9 @@
 -- What a text asks, from the operator that is read at its beginning.
 -- The numbers of the operators that are prefixes make ranges, so that comparing numbers decides whether one is a prefix (`prefix-first` ..
--- `prefix-last`). Where a kind takes prefixes and the text begins with the word of one, the value stands behind its two letters; else the
--- whole text is the value, and the operator is eq, or where no prefixes are taken the kind's own. The scan of crate syntax finds the word
--- by these letters, and no other has them.
+-- `prefix-last`). Where a kind takes prefixes and the text begins with the word of one, the value stands behind its two letters
+-- (`prefix-is`). Else the whole text is the value, and the operator is eq, or where the kind takes no prefixes its own: sw, eq or re. The
+-- scan of crate syntax finds an operator exactly where its word stands; so where it finds none, or one that is no prefix, the text begins
+-- with no prefix (`without`).
 -- Assumes nothing.
 use Prim.Native.Nat.{ℕ, zero, suc, _+_, _≤_, _<_}
 use native.Mathlib.Omega.{arith}

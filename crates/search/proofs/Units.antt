@@ -1,7 +1,9 @@
 -- The loop of `decode`: what was written and what is left to decode make the whole.
--- The invariant `Decoding`: what was written and then what the bytes left decode to make the whole. `unit-outcome`: what the code finds at
--- a position is the next decoded byte, from one byte of the text or from a percent sign and two hex digits, or that there is none. A turn
--- is that fact and one byte more; writing stays behind reading (`written`), so that there is room.
+-- The invariant `Decoding`: the whole decodes to what was written and then to what the bytes left decode to, and where these do not decode
+-- the whole does not. `unit-outcome`, by the cases of the bytes at a position: what the code finds there is the next decoded byte, from one
+-- byte of the text or from a percent sign and two hex digits, and what is left to decode begins behind it; or the bytes from there on do
+-- not decode. A turn is that fact and one byte more; no more is written than was read (`written`), so that there is room. The laws at the
+-- end follow the code that finds the next byte, branch by branch.
 -- Assumes nothing.
 use Prim.Native.Nat.{ℕ, _+_, _-_, _*_, _≤_, _<_}
 use native.Mathlib.Numerals.{add-one}

@@ -1,7 +1,9 @@
 -- Check and match by a search string, as the code comes to their answers: the rows ask what the string asks.
--- A law for each way through the code: the sheet is refused, the text is refused, or it is taken. Then the rows keep the query, so that
--- checking and judging by the rows is checking and judging by the query (`rows-answer`, `same-says`). Where a count is answered all steps
--- have found something, so the rows' question is the string's (`asks`), and match and select follow as they do for a filter.
+-- A law for each way through the code: the sheet is refused, the text is refused, or it is taken. Where it is taken the rows keep the
+-- query, so that checking and judging by the rows is checking and judging by the query (`rows-answer`, `same-says`). Where a count is
+-- answered no step has stopped (`passed-tests`), so the string's question is that of the rows (`asks`), and match follows as it does for a
+-- filter (`search-answered`). Where check refuses, the question stops with the same refusal (`question-stopped`). Select uses `asks` and
+-- `question-stopped` in crate selecting.
 -- Assumes nothing.
 use Prim.Native.Nat.{ℕ}
 use native.Mathlib.Omega.{arith}

@@ -1,7 +1,8 @@
 -- The loop of `gather`: what the run comes to is the numbers gathered, and then what the cards to come add to them.
--- The invariant is the field `rest`: the numbers of the run are those in the buffer and then those of the cards from the index on. A turn
--- takes the card at the position off the run (`split`): where it matches its number is added, else nothing changes, and a refusal stops
--- both at its index. A position is its card's index times 512.
+-- The invariant is the field `rest`: the numbers of the run are the first `count` in the buffer and then those of the cards from the index
+-- on. A turn takes the card at the position off the run (`split`): where it matches its number is added, where it does not the buffer
+-- stays, and where it is refused the loop and the run both stop at its index. A position is its card's index times 512. There are no more
+-- numbers than cards seen (`few`), so the buffer has room. A card with a verdict is well formed (`judged-well-formed`).
 -- Assumes nothing.
 use Prim.Native.Nat.{ℕ, suc, _+_, _-_, _*_, _/_, _%_, _≤_, _<_, zero-le, _^_}
 use native.Mathlib.Nat.{sub-zero}

@@ -1,7 +1,9 @@
 -- Where a parameter that is found stands: by its name, and by its index.
--- By induction on the list: what the search by name finds stands there (`found-listed`), and the first parameter with a name is found
--- (`listed-found`). On a well-formed sheet none before it has its name in its bundle (`distinct-before`), so it is the first, and both
--- directions of `find-iff` follow. By index the same, and a table of 32 cells is the list with zeros behind it (`table-kind`).
+-- By induction on the list: what the search by name finds stands there (`found-listed`), and the first parameter with a name in a bundle is
+-- found (`listed-found`). Where the names are distinct none before a parameter has its name in its bundle (`distinct-before`), so it is the
+-- first. These give the two directions of `find-iff`. By index: a kind other than 0 is that of the parameter there (`at-listed`), and a
+-- parameter's kind is found at its index (`listed-kind`). A table of 32 cells is the list with zeros behind it, so its cells give the same
+-- (`table-kind`, `table-listed`).
 -- Assumes nothing.
 use Prim.Native.Nat.{ℕ, zero, suc, _+_, _-_, _<_}
 use native.Mathlib.Nat.{add-zero}

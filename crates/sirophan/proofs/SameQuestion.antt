@@ -1,9 +1,11 @@
 -- A filter that asks the same as a search string, and that check passes, is answered the same: both ask one question.
--- An alternative and the test that it is alike to say the same of every card (`same-says`); of tokens it is asked that the system stands
--- for itself (`Literal`), since a filter takes short names for systems. By induction on how the filter is joined, a pair is the or of its
--- tests and the query the and of its pairs, both associative (`or-joined`, `and-joined`, `query-says`). Where the tests have a meaning the
--- alternatives have one (`lacks-alike`, turned round), so the string passes where check passes the filter. Then both ask one question
--- (`one-question`), and all answers are functions of it.
+-- An alternative and the test that asks the same say the same of every card (`same-says`). Of a token `AsksAlike` demands that its system
+-- stands for itself (`Literal`), since a filter takes short names for systems, and that it is split at its first bar (`form-same`). By
+-- induction on how trees are joined, a join by or says the or of its tests and a join by and the and of its parts, whatever the brackets,
+-- as both are associative (`or-joined`, `and-joined`); so the query says what the filter says (`query-says`). Where an alternative lacks a
+-- meaning its test lacks one (`lacks-alike`), so the string passes where check passes the filter, and the counts are equal, as there are as
+-- many alternatives as tests (`pairs-alike`). Then both ask one question (`one-question`), and what match and select answer is a function
+-- of it.
 -- Assumes nothing.
 use Prim.Native.Nat.{ℕ, suc, _+_, _≤_, _<_}
 use mathlib.Core.Path.{_≡_, refl, ap, sym, _∙_, subst, fun-ext}

@@ -1,7 +1,8 @@
 -- What the code's tests on the bytes of a value come to.
--- A law for each test that the code makes of a byte or a value: it is the definition's own choice, so room for what is to be written and
--- what was written carry over by equations. The loop over the bytes between the quotes keeps `Escaping`: what is written and what the bytes
--- left come to make the whole (base's `Wrote`).
+-- A law for each test that the code makes of a byte or a value: the test is that of the definition, so what the code writes in a branch
+-- equals what the definition has there, and room and what was written carry over by that equation. The loop over the bytes between the
+-- quotes keeps `Escaping`: what is written and then the escaped form of the bytes left make the whole (base's `Wrote`). A string is a
+-- quote, what the loop writes, and a quote, one behind another (`string-puts`).
 -- Assumes nothing.
 use Prim.Native.Nat.{ℕ, _+_, _≤_, _<_, zero-le}
 use native.Mathlib.Omega.{arith}

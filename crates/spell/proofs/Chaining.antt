@@ -1,8 +1,8 @@
 -- A filter's loop: the items up to an end are written, and what is left of the chain is joined to them.
 -- The invariant `Chained`: the reader goes on from the position reached with the tree so far (`reads`), and that tree's plain spelling is
--- what stands in the buffer. There is room for one item more, since the spelling of what was read so far is never longer than that of the
--- whole (`chain-longer`, by induction on the fuel). A turn writes the connective and the item behind what stands, and that is the spelling
--- of the join.
+-- what was written (`puts`). There is room for one item more, since the spelling of the tree with that item joined is never longer than
+-- that of the whole (`chain-longer`, by induction on the fuel). A turn writes the connective and the item behind what was written, and that
+-- is the spelling of the join (`chained-next`).
 -- Assumes nothing.
 use Prim.Native.Nat.{ℕ, zero, suc, _+_, _-_, _≤_}
 use native.Mathlib.Omega.{arith}

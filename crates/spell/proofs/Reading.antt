@@ -1,9 +1,9 @@
--- The plain spelling is read back as the same tests, joined, negated and grouped the same: it is spelled from what every source
--- of the tree shows to be spellable within the nesting left.
+-- The plain spelling is read back as the same tests, joined, negated and grouped the same.
 -- `Spellable d f` is what the derivation of any text shows of its tree (`filter-spellable`): names, operators, values with a spelling, and
 -- brackets nested at most d deep. By induction on it, where the plain spelling stands in a text before something that may follow, the
 -- grammar derives it there, with a tree that differs in positions only (`item-written`, `written`). The brackets that the plain spelling
--- has around a join stood in the source too, so the nesting left is enough.
+-- has around a join stood in the source too, so the nesting left is enough. As a text spells one tree, two trees have one plain spelling
+-- exactly where they differ in positions only (`same-bytes`), and spelling again gives the same bytes (`again`).
 -- Assumes nothing.
 use Prim.Native.Nat.{ℕ, suc, _+_, _≤_, _<_}
 use Prim.Native.Char.{code}

@@ -1,7 +1,8 @@
 -- A text as short as the plain spelling of its tree is that spelling: each of its parts is, since none can be shorter.
--- By induction on the derivation (`item-tight`, `filter-tight`). No part is shorter than its plain form, so where the whole is as short,
--- each part is: one space for a gap and none elsewhere, no idle bracket (`bracket-tight`), and the plain value of each test. A part as
--- short as its plain form is that form.
+-- By induction on the derivation (`item-tight`, `filter-tight`). No part is shorter than its plain form (file Length), so where the whole
+-- is as short, each part is: one space for a gap and none elsewhere, no round brackets but those of not and those around a join behind a
+-- connective (`bracket-tight`, `operand-tight`), and the plain value of each test. A part as short as its plain form is that form.
+-- `plain-spelling` has all laws of the plain spelling together.
 -- Assumes nothing.
 use Prim.Native.Nat.{ℕ, _+_, _≤_}
 use native.Mathlib.Omega.{arith}

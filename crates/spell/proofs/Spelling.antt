@@ -1,7 +1,8 @@
 -- Spelling a text: a filter is measured and then written where there is room; what is no filter is answered by its failure.
 -- The laws follow the operation: a text of the wrong size; a text that is no filter, for which crate place has the refusal; else a filter.
--- Its plain spelling is no longer than the text, so a buffer of 1,024 bytes has room to measure it; it is then written into the caller's
--- part where that has room. Both times the same is written (`TextSpelt`), so the length found first is that of what is written then.
+-- Its plain spelling is no longer than the text (`never-longer`), so a buffer of 1,024 bytes has room to measure it. It is then written
+-- into the caller's part where that has room (`place-text`), and else it is refused, with the length as the place (`too-long`). Both times
+-- the spelling of the one tree that the reader gives is written (`TextSpelt`), so the length measured is that of what is written then.
 -- Assumes nothing.
 use Prim.Native.Nat.{ℕ, _+_, _-_, _≤_, _<_}
 use native.Mathlib.Omega.{arith}

@@ -1,7 +1,8 @@
 -- Plain values: each spells its value, is never longer than another spelling of it, and is the only one as short.
 -- By induction on how a string spells its value (`Quoted`): the plain form escapes a byte only where it must, and an escape takes two bytes
--- in any spelling (`escaped-short`); where the lengths are equal so are the bytes (`quoted-tight`). A value that can stand as a word is
--- shorter so, by its two quotes. That a value has a spelling at all is known from the text that it came from (`value-spellable`).
+-- in any spelling (`escaped-short`). A byte that must be escaped has one escape (`escape-same`), so where the lengths are equal so are the
+-- bytes (`quoted-tight`). A value that can stand as a word is shorter so, as the two quotes are saved. That a value has a spelling at all
+-- is known from the text that it came from (`value-spellable`).
 -- Assumes nothing.
 use Prim.Native.Nat.{ℕ, _+_, _≤_}
 use native.Mathlib.Omega.{arith}

@@ -2,8 +2,8 @@
 -- whole's plain spelling.
 -- `RoomFor`: the reader gives a tree at this place, and its spelling fits into the part that is lent. `Spelt`: it stands there. Each clause
 -- of the reader is inverted to the trees of its parts (`closed`, `chosen`), whose spellings are parts of the whole's, so each callee has
--- room; and what the callees put one behind another (base's `Wrote`) is the spelling of the clause's tree. Brackets are put around a join
--- after it is written.
+-- room; and what the callees put one behind another (base's `Wrote`) is the spelling of the clause's tree. Behind a connective a join is
+-- written first and brackets are then put around it (`operand-spelt`).
 -- Assumes nothing.
 use Prim.Native.Nat.{ℕ, _+_, _-_, _≤_, _<_}
 use native.Mathlib.Omega.{arith}

@@ -1,8 +1,8 @@
--- What a text spells is what the reader gives; so a text spells one tree at most.
+-- What a text spells is what the reader gives.
 -- By induction on the derivation. An item is read to its tree and its end (`item-complete`). Of a filter it is shown that reading it is
--- reading on from its end, with its tree and fuel to spare (`filter-complete`), so nothing need be known of what follows it; the chain ends
--- there because no connective is found before a closing byte or the end of the text. The fuel is enough since every item takes a byte at
--- least (`item-rise`). The reader is a function, so a text spells one tree.
+-- reading on from its end, with its tree and fuel to spare (`filter-complete`), so nothing need be known of what follows it. The chain ends
+-- there because no connective is found before a closing byte or the end of the text (file Structure). The fuel is enough since every item
+-- takes a byte at least (`item-rise`). The reader is a function, so a text spells one tree at most, as file Spelling concludes.
 -- Assumes nothing.
 use Prim.Native.Nat.{ℕ, zero, suc, _+_, _-_, _≤_}
 use Prim.Native.Char.{code}

@@ -1,8 +1,9 @@
 -- Operators: the scan finds what the grammar asks for, and all of it.
--- The words are a table: that each has two letters, that none stands twice and that none begins with a space is computed for all of them
--- and looked up (`passes-at`). What the search finds is a word of the list, by induction (`find-derives`), and as no word stands twice each
--- is found at its own number (`each-found`). The code's loop keeps that the words from the k-th on decide (`Trying`), and compares two
--- letters as one number.
+-- The words are a table: that each has two letters, that each is found at its own number (`each-found`), so none stands twice, and that
+-- none begins with a space is computed for all of them and looked up (`passes-at`, `passes-same`). What the search finds is a word of the
+-- list, by induction on the list (`find-derives`). A word that stands at a position is the two bytes there, and so is found
+-- (`operator-found`). The code's loop keeps that the words from the k-th on decide (`Trying`), and compares two letters as one number
+-- (`letters-same`).
 -- Assumes nothing.
 use Prim.Native.Nat.{ℕ, suc, _+_, _*_, _-_, _≤_, _<_}
 use native.Mathlib.Omega.{arith}

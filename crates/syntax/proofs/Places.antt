@@ -1,7 +1,8 @@
 -- What the scans find lies inside the text, in order, and ahead of where they began.
--- Each scan's answer is taken apart by the tests that the scan made: a run ends between its start and the end of the text, and what is
--- derived ends inside the text and ahead of where it begins (`test-rise`, `closes-rise`). `-placed` says so of a scan, and the laws at the
--- end of an answer that the code was given.
+-- Each scan's answer is taken apart by the tests that the scan made: a run ends between its start and the end of the text
+-- (`run-end-within`), and what is derived ends inside the text and ahead of where it begins (`test-rise`, `opens-rise`, `connects-rise`,
+-- `closes-rise`). The private laws `-placed` say so of what a scan answers; the public ones say so of an answer that the code was given
+-- (`value-at-placed`, `head-test-placed` and the laws `-ahead`).
 -- Assumes nothing.
 use Prim.Native.Nat.{ℕ, _+_, _≤_, _<_}
 use native.Mathlib.Omega.{arith}

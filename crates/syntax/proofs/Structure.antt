@@ -1,8 +1,9 @@
 -- Connectives and brackets: the scans find what the grammar asks for, and all of it.
 -- Of each part: what the scan finds is derived (`-derived`, by the tests that the scan made); what is derived is found (`-found`, by the
--- cases of the derivation), where no space stands at its end, so that skipping spaces stops just there; and the code, branch by branch, is
--- the scan. What keeps the readings apart is here: where a bracket opens no test and no name with a square bracket begins (`open-no-test`,
--- `open-no-choice`), and no connective comes before a closing byte or the end of the text.
+-- cases of the derivation), where no space stands at its end, or the closing byte is no space, so that skipping spaces stops just there;
+-- and the code, branch by branch, is the scan. What keeps the readings apart is here: where a bracket opens, no test and no name with a
+-- square bracket begins (`open-no-test`, `open-no-choice`), where such a name begins, no test does (`choice-found`), and no connective
+-- comes before a closing byte or the end of the text (`close-no-connective`, `end-no-connective`).
 -- Assumes nothing.
 use Prim.Native.Nat.{ℕ, _+_, _-_, _≤_}
 use Prim.Native.Char.{code}

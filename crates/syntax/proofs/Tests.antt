@@ -1,8 +1,8 @@
 -- Tests: the scans find what the grammar asks for, and all of it.
 -- Both directions go through the parts of a test: name, gap, operator, gap, value, and what follows. Where a test is derived each scan
--- stops where the part ends: a space ends the run of a name (`name-end`), and what follows a value is no part of a bare word
--- (`test-found`). Where a test is found, each scan has given its part of the derivation (`test-derived`). Then a law for each way through
--- the code.
+-- stops where the part ends (`test-found`): a space ends the run of a name (`gap-name-end`, `name-end`), the operator and the value begin
+-- with no space, so skipping spaces stops there, and what follows a value is no part of a bare word (`value-found` of file Values). Where a
+-- test is found, each scan has given its part of the derivation (`test-derived`). Then a law for each way through the code.
 -- Assumes nothing.
 use Prim.Native.Nat.{ℕ, _+_, _-_, _≤_, _<_}
 use native.Mathlib.Omega.{arith}

@@ -1,8 +1,9 @@
 -- Values: the scans find what the grammar asks for, and all of it.
--- The scan of a string is a machine with one bit, whether a backslash came last, and `Step` has its cases. Sound, by induction on the
--- bytes: a scan that came to the closing quote has gone over a body that the grammar quotes, and one without escapes stands for itself
--- (`string-ended`). Complete, by induction on the quoting (`string-found`). A bare word is a run of bytes, which is found whole where none
--- goes on behind it (`value-named`). The code's loop keeps that what is left decides (`Reading`).
+-- The scan of a string keeps two bits: whether a backslash came last, which decides what the next byte does (`Step` has the cases), and
+-- whether an escape was met. Sound, by induction on the bytes: a scan that came to the closing quote has gone over a body that the grammar
+-- quotes, and one without escapes stands for itself (`string-ended`). Complete, by induction on the quoting (`string-found`). A bare word
+-- is a run of bytes, which is found whole where none goes on behind it (`value-named`). The code's loop keeps that what is left decides
+-- (`Reading`).
 -- Assumes nothing.
 use Prim.Native.Nat.{ℕ, suc, _+_, _-_, _≤_, _<_}
 use native.Mathlib.Omega.{arith}

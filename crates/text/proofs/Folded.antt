@@ -1,8 +1,9 @@
--- Folding is what the rules say of each byte, it makes small letters of the letters in UTF-8, and it goes on behind a bar as at a text's start.
--- The rule speaks of the bytes before, and the code has the last of them: `endOf` ties the two. A byte folds where the rule says so
--- (`folds-there`, `folds-back`), and a text by induction, the bytes before growing by one (`folded-behind`, `behind-back`). That the
--- letters of two bytes become small is computed for every code below 2,048 and looked up (`letters`). Behind a byte other than 0xC3 a text
--- folds as by itself (`foldFrom-fresh`), and a bar is such a byte and stays.
+-- Folding is what the rules say of each byte, it takes a letter of two bytes to its small letter, and behind a bar it goes on as at a text's start.
+-- The rule speaks of all the bytes before, and folding has the last of them: `endOf` ties the two. A byte folds exactly where the rule says
+-- so (`folds-there`, `folds-back`). Of a text that is shown by induction, the bytes before growing by one: on the text (`folded-behind`),
+-- and back on the derivation (`behind-back`). That the two bytes of a letter become those of its small letter (`smallLetter`, which leaves
+-- most letters as they are) is computed for every code below 2,048 and looked up (`letters`). Behind a byte other than 0xC3 a text folds as
+-- by itself (`foldFrom-fresh`). A bar is such a byte and stays, and no other byte becomes a bar (`no-new-bar`).
 -- Assumes nothing.
 use mathlib.Core.Path.{_≡_, refl, ap, subst, _∙_}
 use Prim.Native.Nat.{ℕ, _+_, _≤_, _<_}

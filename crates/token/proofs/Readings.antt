@@ -1,7 +1,9 @@
--- What readable, the forms and matching mean, by the spellings.
--- A text is cut at its first bar or has none, and which form it spells depends on whether the parts are empty; so every direction goes by
--- these cases. A text of a search string comes with the index of its cut, and is treated alike (`formAt-iff`). A match is a token that
--- the card spells and a form that is asked for, which asks for it (`meets-reads`): each of the two texts is read to one or to none.
+-- What being readable, the forms and matching mean, by the spellings.
+-- A text is cut at its first bar or has none (`split-cases`), and which form it spells depends on whether the parts are empty; so every
+-- direction goes by these cases. A text of a search string comes with the index of its cut, and goes by whether that lies inside it
+-- (`formAt-iff`). Unreadable in a filter are the empty text and a lone bar only (`filterUnreadable-iff`). A match means that the card
+-- spells a token, that the other text spells a form, and that the form asks for the token (`meets-reads`): each of the two texts is read to
+-- one or to none.
 -- Assumes nothing.
 use mathlib.Core.Path.{_≡_, refl, sym, ap, _∙_, subst}
 use Prim.Native.Nat.{ℕ, _+_, _≤_, _<_}
