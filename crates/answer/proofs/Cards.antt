@@ -35,7 +35,7 @@ use Rattle.kind.specs.Table.{Kind, kinds, ofKind}
 use Rattle.kind.specs.Readable.{cardReadable, witnessText}
 use Rattle.judge.specs.Sets.{valuesAt, conforms}
 use Rattle.refusal.specs.Steps.{found}
-use Rattle.answer.specs.Operations.{Card, takeCard}
+use Rattle.answer.specs.Operations.{Card, acceptCard}
 use Rattle.kind.specs.Rules.{ReadableOnCard}
 use Rattle.judge.specs.Rules.{Conforms}
 use Rattle.kind.proofs.Rules.{eachRow, by-column, card-iff}
@@ -56,10 +56,10 @@ module _ {ps : List Parameter} {b : List ℕ} {es : List Entry} (c : Conforms ps
   abbrev card : Card
   card = record { number = c .number; entries = es }
 
-  -- it is taken with its record number and its entries
-  pub conforms-taken : (i : ℕ) → takeCard ps i b ≡ found card
-  unfolding takeCard
-  conforms-taken i = rw (conforms-reads .reading, conforms-reads .number, conforms-reads .entries, entries-iff ps es .1 (c .entries))
+  -- it is accepted with its record number and its entries
+  pub conforms-accepted : (i : ℕ) → acceptCard ps i b ≡ found card
+  unfolding acceptCard
+  conforms-accepted i = rw (conforms-reads .reading, conforms-reads .number, conforms-reads .entries, entries-iff ps es .1 (c .entries))
 
 -- a card that reads as well formed, and whose entries conform, conforms
 pub reads-conforms : (ps : List Parameter) (b : List ℕ) → Bytes b → readCard b ≡ WellFormed → conforms ps (entriesOf b) ≡ true → Conforms ps b (entriesOf b)

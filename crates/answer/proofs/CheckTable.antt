@@ -34,7 +34,7 @@ use Rattle.place.proofs.Place.{text-place, text-number, longest-unique, number-
 use Rattle.judge.specs.Faults.{firstFault}
 use Rattle.refusal.specs.Answers.{count, refused}
 use Rattle.refusal.specs.Steps.{Step, found, _>>=_}
-use Rattle.answer.specs.Operations.{sheetStep, takeSheet, treeStep, takeFilter, testsStep, Inputs, takeInputs, checkAnswer}
+use Rattle.answer.specs.Operations.{sheetStep, acceptSheet, treeStep, acceptFilter, testsStep, Inputs, acceptInputs, checkAnswer}
 use Rattle.answer.specs.Demand.{filterTests}
 use Rattle.answer.specs.Numbers.{TestLine, line-14, line-18, line-15, line-16, line-17}
 use Rattle.refusal.specs.Order.{group, rank, Before, Decides}
@@ -80,8 +80,8 @@ module _ (sheet : List ℕ) where
       one-decides (record { holds = line-3 u; first = sheet-first 3 (omega arith) (λ l. a) (λ l. b) })
   sheet-step (all-right a b s) = none-holds (s, sym (sheet-parameters s)) (sheet-none a b s)
 
-  pub sheet-decided : Bytes sheet → Decided (OfSheet sheet) (SheetLine sheet) (takeSheet sheet)
-  unfolding takeSheet
+  pub sheet-decided : Bytes sheet → Decided (OfSheet sheet) (SheetLine sheet) (acceptSheet sheet)
+  unfolding acceptSheet
   sheet-decided bytes = sheet-step (sheet-reads-to sheet bytes)
 
 pub sheet-group : {sheet : List ℕ} (n p : ℕ) → SheetLine sheet n p → group n ≤ group 3
@@ -139,8 +139,8 @@ module _ (text : List ℕ) where
       (λ e. or-left (eqb (length text) 0) (ltb 1024 (length text)) (eq-eqb (length text) 0 e))
       (λ e. or-right (eqb (length text) 0) (ltb 1024 (length text)) (lt-ltb 1024 (length text) e))
 
-  pub text-decided : Decided (Spells text) (TextLine text) (takeFilter text)
-  unfolding takeFilter
+  pub text-decided : Decided (Spells text) (TextLine text) (acceptFilter text)
+  unfolding acceptFilter
   text-decided =
       cond-elim (Decided (Spells text) (TextLine text)) (eqb (length text) 0 || ltb 1024 (length text))
       (λ h. one-decides (record { holds = line-10 (size-there h); first = size-first }))
@@ -191,7 +191,7 @@ module _ (ps : List Parameter) where
 -- ---- check
 
 module _ (sheet text : List ℕ) where
-  -- what is taken: the sheet's parameters and the text's tree
+  -- what is accepted: the sheet's parameters and the text's tree
   abbrev pub Ready : Inputs → Type 0
   Ready r = (s : SheetBlock sheet) × (s .parameters ≡ r .parameters) × Spells text (r .filter)
 
@@ -233,14 +233,14 @@ module _ (sheet text : List ℕ) where
   -- what follows the sheet
   text-step : (s : SheetBlock sheet)
       → Decided Ready (λ n p. TextLine text n p ⊎ TestsLine sheet text n p)
-      (takeFilter text >>= λ f. testsStep (s .parameters) (testsOf f) >>= λ u. found (record { parameters = s .parameters; filter = f }))
+      (acceptFilter text >>= λ f. testsStep (s .parameters) (testsOf f) >>= λ u. found (record { parameters = s .parameters; filter = f }))
   text-step s =
       decided-then (TextLine text) (TestsLine sheet text)
       (apart-at (TextLine text) (TestsLine sheet text) (group 11) (λ n p l. text-group n p l .1) (λ n p l. tests-group n p l .0))
       (text-decided text) (λ f _ spells. filter-decided s f spells)
 
-  pub inputs-decided : Bytes sheet → Decided Ready (CheckLine sheet text) (takeInputs sheet text)
-  unfolding takeInputs
+  pub inputs-decided : Bytes sheet → Decided Ready (CheckLine sheet text) (acceptInputs sheet text)
+  unfolding acceptInputs
   inputs-decided bytes =
       decided-then (SheetLine sheet) (λ n p. TextLine text n p ⊎ TestsLine sheet text n p)
       (apart-at (SheetLine sheet) (λ n p. TextLine text n p ⊎ TestsLine sheet text n p) (group 3) sheet-group (λ n p l. later-groups n p l .0))

@@ -1,6 +1,6 @@
 -- What the operations take, which is the parameters of a well-formed sheet and the tree that a text spells, and which test is refused.
 -- The definition takes sheet, text and tests one after the other. For a sheet block, and a text of at most 1,024 bytes that spells a tree,
--- the first two steps are known, so that the tests' step is what is left (`inputs-taken`). `tests-outcome` is by induction on the tests:
+-- the first two steps are known, so that the tests' step is what is left (`inputs-accepted`). `tests-outcome` is by induction on the tests:
 -- all have a meaning, or a first one is refused and those before it have one (`outcome-next`). No step is refused with a number above 18,
 -- and so neither is one step after another (`at-most-then`). So these refusals are apart from those of cards and lists (`question-number`).
 -- Assumes nothing.
@@ -35,7 +35,7 @@ use Rattle.refusal.specs.declared.Decision.{Decision}
 use Rattle.refusal.specs.Decisions.{orElse}
 use Rattle.refusal.specs.Answers.{yesOrNo, count, numberOf}
 use Rattle.refusal.specs.Steps.{Step, found, stop, _>>=_, answer}
-use Rattle.answer.specs.Operations.{sheetStep, takeSheet, treeStep, takeFilter, decisionStep, testsStep, Inputs, takeInputs, takeCard, checkAnswer, Question, questionOf, matchBy, filterQuestion}
+use Rattle.answer.specs.Operations.{sheetStep, acceptSheet, treeStep, acceptFilter, decisionStep, testsStep, Inputs, acceptInputs, acceptCard, checkAnswer, Question, questionOf, matchBy, filterQuestion}
 use Rattle.answer.specs.Demand.{TestRules, filterTests}
 use Rattle.answer.proofs.Outcomes.{TestOutcome, test-means, test-refused, TestsOutcome, all-mean, one-refused, AtMost, found-at-most, stop-at-most}
 use Rattle.answer.proofs.Faults.{outcome}
@@ -63,14 +63,14 @@ module _ (ps : List Parameter) where
   tests-outcome w [] = unfold testsStep firstFault in all-mean all-empty
   tests-outcome w (t ∷ ts) = rw (tests-next t ts) (outcome-next (filterTests ps) (outcome ps w t) (tests-outcome w ts))
 
--- ---- check and match, by what is taken
+-- ---- check and match, by what is accepted
 
 pub match-by : (asked : Step Question) (r : Step Question) → asked ≡ r → (card : List ℕ)
-    → matchBy asked card ≡ answer (r >>= λ q. takeCard (q .parameters) 0 card >>= λ c. found (yesOrNo (q .says (c .entries))))
+    → matchBy asked card ≡ answer (r >>= λ q. acceptCard (q .parameters) 0 card >>= λ c. found (yesOrNo (q .says (c .entries))))
 unfolding matchBy
 match-by asked r e card = rw e
 
-module _ (sheet text : List ℕ) (r : Step Inputs) (e : takeInputs sheet text ≡ r) where
+module _ (sheet text : List ℕ) (r : Step Inputs) (e : acceptInputs sheet text ≡ r) where
   pub check-by : checkAnswer sheet text ≡ answer (r >>= λ p. found (count (length (testsOf (p .filter)))))
   unfolding checkAnswer
   check-by = rw e
@@ -81,9 +81,9 @@ module _ (sheet text : List ℕ) (r : Step Inputs) (e : takeInputs sheet text �
 
 -- ---- sheet and text
 
-pub sheet-taken : (sheet : List ℕ) (s : SheetBlock sheet) → takeSheet sheet ≡ found (s .parameters)
-unfolding takeSheet
-sheet-taken sheet s =
+pub sheet-accepted : (sheet : List ℕ) (s : SheetBlock sheet) → acceptSheet sheet ≡ found (s .parameters)
+unfolding acceptSheet
+sheet-accepted sheet s =
     let r = sheet-reads-iff sheet (s .marked) (s .parameters) .1 (s .well-formed, s .form, s .encoded) in
     rw (r .reading, r .parameters)
 
@@ -91,18 +91,18 @@ spells-length : (text : List ℕ) (f : Tree) → Spells text f → length text �
 spells-length [] f s e = spells-not-empty f s
 spells-length (x ∷ xs) f s e = omega arith
 
--- a text that is neither empty nor too long is taken as what it reads to
-pub text-read : (xs : List ℕ) → (length xs ≡ 0 → ⊥) → length xs ≤ 1024 → (o : Option Tree) → read xs ≡ o → takeFilter xs ≡ treeStep xs o
-unfolding takeFilter
+-- a text that is neither empty nor too long is accepted as what it reads to
+pub text-read : (xs : List ℕ) → (length xs ≡ 0 → ⊥) → length xs ≤ 1024 → (o : Option Tree) → read xs ≡ o → acceptFilter xs ≡ treeStep xs o
+unfolding acceptFilter
 text-read xs n l o e = rw (ne-eqb (length xs) 0 n, le-ltb 1024 (length xs) l, e)
 
-filter-taken : (text : List ℕ) (f : Tree) → length text ≤ 1024 → Spells text f → takeFilter text ≡ found f
-filter-taken text f short s = text-read text (spells-length text f s) short (some f) (read-iff text f .1 s)
+filter-accepted : (text : List ℕ) (f : Tree) → length text ≤ 1024 → Spells text f → acceptFilter text ≡ found f
+filter-accepted text f short s = text-read text (spells-length text f s) short (some f) (read-iff text f .1 s)
 
-pub inputs-taken : (sheet text : List ℕ) (s : SheetBlock sheet) (f : Tree) → length text ≤ 1024 → Spells text f
-    → takeInputs sheet text ≡ (testsStep (s .parameters) (testsOf f) >>= λ u. found (record { parameters = s .parameters; filter = f }))
-unfolding takeInputs
-inputs-taken sheet text s f short spells = rw (sheet-taken sheet s, filter-taken text f short spells)
+pub inputs-accepted : (sheet text : List ℕ) (s : SheetBlock sheet) (f : Tree) → length text ≤ 1024 → Spells text f
+    → acceptInputs sheet text ≡ (testsStep (s .parameters) (testsOf f) >>= λ u. found (record { parameters = s .parameters; filter = f }))
+unfolding acceptInputs
+inputs-accepted sheet text s f short spells = rw (sheet-accepted sheet s, filter-accepted text f short spells)
 
 -- ---- the numbers of these refusals
 
@@ -143,8 +143,8 @@ unfolding testFault
 tests-at-most ps [] = unfold testsStep firstFault in found-at-most
 tests-at-most ps (t ∷ ts) = rw (tests-next ps t ts) (at-most-then (fault-at-most (lookup ps 0 (t .path)) (t .operator) (t .value) (t .at)) (λ u. tests-at-most ps ts))
 
-pub inputs-number : (sheet text : List ℕ) (n p : ℕ) → takeInputs sheet text ≡ stop n p → n ≤ 18
-unfolding takeInputs takeSheet takeFilter
+pub inputs-number : (sheet text : List ℕ) (n p : ℕ) → acceptInputs sheet text ≡ stop n p → n ≤ 18
+unfolding acceptInputs acceptSheet acceptFilter
 inputs-number sheet text =
     at-most-number
     (at-most-then (sheet-at-most (readSheet sheet) (parametersOf sheet))
@@ -155,8 +155,8 @@ inputs-number sheet text =
 -- a filter is refused with none of the numbers that cards and lists are refused with
 pub question-number : (sheet text : List ℕ) (n p : ℕ) → filterQuestion sheet text ≡ stop n p → n ≤ 18
 unfolding filterQuestion
-question-number sheet text n p e = by (takeInputs sheet text) refl e
+question-number sheet text n p e = by (acceptInputs sheet text) refl e
   where
-    by : (r : Step Inputs) → takeInputs sheet text ≡ r → (r >>= λ p. found (questionOf p)) ≡ stop n p → n ≤ 18
+    by : (r : Step Inputs) → acceptInputs sheet text ≡ r → (r >>= λ p. found (questionOf p)) ≡ stop n p → n ≤ 18
     by (found q) f g = absurd (let z : _≡_ {A = ℕ} 0 1 = cc in omega arith)
     by (stop m q) f g = let same : m ≡ n = cc in omega (arith, inputs-number sheet text m q f)

@@ -25,7 +25,7 @@ use Rattle.card.specs.Encode.{CardBlock}
 use Rattle.judge.specs.Sets.{conforms}
 use Rattle.refusal.specs.Answers.{yesOrNo, refused}
 use Rattle.refusal.specs.Steps.{Step, found, stop, _>>=_}
-use Rattle.answer.specs.Operations.{Card, cardStep, takeCard, Question, questionOf, matchBy, filterQuestion, matchAnswer}
+use Rattle.answer.specs.Operations.{Card, cardStep, acceptCard, Question, questionOf, matchBy, filterQuestion, matchAnswer}
 use Rattle.judge.specs.Rules.{Conforms}
 use Rattle.refusal.specs.Order.{rank, group, Before, Decides}
 use Rattle.answer.specs.Refusals.{CheckLine, CardLine, line-21, line-22, line-23, OneCardLine, line-20-match, line-of-card, MatchLine}
@@ -33,7 +33,7 @@ use Rattle.refusal.proofs.Answers.{verdict-not-refused}
 use Rattle.judge.proofs.Rules.{entries-iff}
 use Rattle.answer.proofs.Cards.{conforms-reads, reads-conforms}
 use Rattle.refusal.proofs.Deciding.{Decided, none-holds, one-decides, NotRefused, decided-as, decided-then, decided-found, decided-answer}
-use Rattle.answer.proofs.Outcomes.{ReadsTo, size-wrong, sum-wrong, layout-wrong, all-right, cardOf, Taken}
+use Rattle.answer.proofs.Outcomes.{ReadsTo, size-wrong, sum-wrong, layout-wrong, all-right, cardOf, Accepted}
 use Rattle.answer.proofs.Blocks.{card-reads-to}
 use Rattle.refusal.proofs.Order.{apart-at, later-group, no-lower-rank}
 use Rattle.answer.proofs.CheckTable.{sheet-parameters, check-group, inputs-decided}
@@ -71,17 +71,17 @@ module _ (sheet : List ℕ) where
     LineAt i n p = CardLine sheet b n × (p ≡ i)
 
     -- and what is found where none holds
-    abbrev pub TakenAs : Card → Type 0
-    TakenAs c = Taken ps b × (c ≡ cardOf b)
+    abbrev pub AcceptedAs : Card → Type 0
+    AcceptedAs c = Accepted ps b × (c ≡ cardOf b)
 
     -- the line that ranks lowest decides
-    card-decides : (i n : ℕ) → CardLine sheet b n → ((m : ℕ) → CardLine sheet b m → rank n ≤ rank m) → Decided TakenAs (LineAt i) (stop n i)
+    card-decides : (i n : ℕ) → CardLine sheet b n → ((m : ℕ) → CardLine sheet b m → rank n ≤ rank m) → Decided AcceptedAs (LineAt i) (stop n i)
     card-decides i n l lowest =
         one-decides (record { holds = (l, refl); first = λ m q k. no-lower-rank (card-group (k .0) ∙ sym (card-group l)) (le-of-eq (sym (k .1))) (lowest m (k .0)) })
 
     module _ (bytes : Bytes b) (size : length b ≡ 512) (i : ℕ) where
       card-step : (r : Validity) → readCard b ≡ r → ReadsTo b (CardBlock b) r → (fits : Bool) → conforms ps (entriesOf b) ≡ fits
-          → Decided TakenAs (LineAt i) (cardStep r fits (cardOf b) i)
+          → Decided AcceptedAs (LineAt i) (cardStep r fits (cardOf b) i)
       unfolding rank
       card-step r e (size-wrong u) fits h = absurd (u size)
       card-step r e (sum-wrong a u) fits h =
@@ -89,16 +89,16 @@ module _ (sheet : List ℕ) where
       card-step r e (layout-wrong a c u) fits h =
           card-decides i 22 (line-22 u) (card-lowest 22 (omega arith) (λ l. c) (λ l. absurd (omega arith)))
       card-step r e (all-right a c k) true h =
-          let taken : Taken ps b = λ j. unfold takeCard in rw (e, h) in
-          none-holds (taken, refl) (λ m p l. card-none c k (entriesOf b) (reads-conforms ps b bytes e h) m (l .0))
+          let accepted : Accepted ps b = λ j. unfold acceptCard in rw (e, h) in
+          none-holds (accepted, refl) (λ m p l. card-none c k (entriesOf b) (reads-conforms ps b bytes e h) m (l .0))
       card-step r e (all-right a c k) false h =
           let not-conforming : (es : List Entry) → Conforms ps b es → ⊥ =
           λ es g. both-ways (ap (conforms ps) (conforms-reads g .entries) ∙ entries-iff ps es .1 (g .entries)) h
           in
           card-decides i 23 (line-23 s k not-conforming) (card-lowest 23 (omega arith) (λ l. c) (λ l. k))
 
-      pub card-decided : Decided TakenAs (LineAt i) (takeCard ps i b)
-      unfolding takeCard
+      pub card-decided : Decided AcceptedAs (LineAt i) (acceptCard ps i b)
+      unfolding acceptCard
       card-decided = card-step (readCard b) refl (card-reads-to b bytes) (conforms ps (entriesOf b)) refl
 
 -- ---- match
@@ -127,11 +127,11 @@ module _ (sheet card : List ℕ) where
   one-back e (line-20-match u) = absurd (u e)
   one-back e (line-of-card l) = (l, refl)
 
-  pub one-decided : (s : SheetBlock sheet) → Bytes card → Decided (TakenAs sheet s card) (OneCardLine sheet card) (takeCard (s .parameters) 0 card)
-  unfolding takeCard
+  pub one-decided : (s : SheetBlock sheet) → Bytes card → Decided (AcceptedAs sheet s card) (OneCardLine sheet card) (acceptCard (s .parameters) 0 card)
+  unfolding acceptCard
   one-decided s bytes = by-size (ℕ-discrete (length card) 512)
     where
-      by-size : Dec (length card ≡ 512) → Decided (TakenAs sheet s card) (OneCardLine sheet card) (takeCard (s .parameters) 0 card)
+      by-size : Dec (length card ≡ 512) → Decided (AcceptedAs sheet s card) (OneCardLine sheet card) (acceptCard (s .parameters) 0 card)
       by-size (yes e) = decided-as (λ n p. (one-there n p, one-back e)) (card-decided sheet s card bytes e 0)
       by-size (no n) = rw (wrong-size (card-reads-to card bytes) n) (one-decides (record { holds = line-20-match n; first = size-first }))
 
@@ -141,7 +141,7 @@ module _ (sheet card : List ℕ) where
   one-group n p (line-of-card l) = let g = card-group sheet l in omega arith
 
   verdict-decided : Bytes card → (q : Question) → AskedOn sheet q
-      → Decided NotRefused (OneCardLine sheet card) (takeCard (q .parameters) 0 card >>= λ c. found (yesOrNo (q .says (c .entries))))
+      → Decided NotRefused (OneCardLine sheet card) (acceptCard (q .parameters) 0 card >>= λ c. found (yesOrNo (q .says (c .entries))))
   verdict-decided bytes q on =
       rw (← on .1)
       (decided-found (λ (c : Card). yesOrNo (q .says (c .entries))) (λ c _. verdict-not-refused (q .says (c .entries))) (one-decided (on .0) bytes))

@@ -19,7 +19,7 @@ use Rattle.refusal.specs.declared.Decision.{Decision}
 use Rattle.refusal.specs.Decisions.{refuse}
 use Rattle.refusal.specs.Answers.{Answer}
 use Rattle.refusal.specs.Steps.{Step, found, stop}
-use Rattle.answer.specs.Operations.{Card, takeCard}
+use Rattle.answer.specs.Operations.{Card, acceptCard}
 use Rattle.kind.specs.Rules.{ReadableValue, HasOperator}
 use Rattle.judge.specs.Rules.{Conforms, Names, NotOnSheet}
 use Rattle.answer.specs.Numbers.{Numbered}
@@ -72,18 +72,18 @@ pub data TestsOutcome {T : Type 0} (rules : TestRules T) (ts : List T) : Step (U
 abbrev pub cardOf : List ℕ → Card
 cardOf b = record { number = recordNumber b; entries = entriesOf b }
 
--- at whatever index, the card is taken, or refused with the number n
-abbrev pub Taken : List Parameter → List ℕ → Type 0
-Taken ps b = (i : ℕ) → takeCard ps i b ≡ found (cardOf b)
+-- at whatever index, the card is accepted, or refused with the number n
+abbrev pub Accepted : List Parameter → List ℕ → Type 0
+Accepted ps b = (i : ℕ) → acceptCard ps i b ≡ found (cardOf b)
 
 abbrev pub Stopped : List Parameter → ℕ → List ℕ → Type 0
-Stopped ps n b = (i : ℕ) → takeCard ps i b ≡ stop n i
+Stopped ps n b = (i : ℕ) → acceptCard ps i b ≡ stop n i
 
--- each of the cards from the index i on is taken, or one is the first that is refused
+-- each of the cards from the index i on is accepted, or one is the first that is refused
 pub data CardsOutcome (ps : List Parameter) (i : ℕ) (bs : List (List ℕ)) : Step (List Card) → Type 0 where
-  all-taken : All (Taken ps) bs → CardsOutcome ps i bs (found (map cardOf bs))
+  all-accepted : All (Accepted ps) bs → CardsOutcome ps i bs (found (map cardOf bs))
   one-stopped : (before : List (List ℕ)) (b : List ℕ) (after : List (List ℕ)) (n j : ℕ) → bs ≡ before ++ (b ∷ after) → j ≡ i + length before
-      → All (Taken ps) before → n ≤ 23 → Stopped ps n b → CardsOutcome ps i bs (stop n j)
+      → All (Accepted ps) before → n ≤ 23 → Stopped ps n b → CardsOutcome ps i bs (stop n j)
 
 -- a number that neither a card nor a list is refused with
 abbrev pub OtherNumber : ℕ → Type 0

@@ -2,7 +2,7 @@
 -- Steps are inverted. A count comes only of steps that have all found something (`inputs-found`, `sheet-found`, `text-found`), so the sheet
 -- is well formed, the text is short and was read, and no test is at fault (`Passing`). Then the question is the one that the text asks
 -- (`passing-asks`). A refusal comes only of inputs that stopped with it (`stopped`), so match is refused alike (`match-refused`). The other
--- laws are about cards: one that is taken is well formed (`card-taken`), and verdicts that agree on every card give one answer
+-- laws are about cards: one that is accepted is well formed (`card-accepted`), and verdicts that agree on every card give one answer
 -- (`same-verdicts`).
 -- Assumes nothing.
 use Prim.Native.Nat.{ℕ, _≤_}
@@ -25,9 +25,9 @@ use Rattle.answer.specs.declared.Matched.{Matched}
 use Rattle.refusal.specs.declared.Refusal.{Refusal}
 use Rattle.refusal.specs.Answers.{count, refused, yesOrNo, numberOf, refusalAnswer}
 use Rattle.answer.specs.Answers.{checkedAnswer, matchedAnswer}
-use Rattle.refusal.proofs.Steps.{taken}
+use Rattle.refusal.proofs.Steps.{bind-found}
 use Rattle.refusal.specs.Steps.{Step, found, stop, _>>=_, answer}
-use Rattle.answer.specs.Operations.{treeStep, takeFilter, testsStep, takeSheet, sheetStep, Inputs, takeInputs, Card, cardStep, takeCard, checkAnswer, Question, matchBy, filterQuestion, matchAnswer}
+use Rattle.answer.specs.Operations.{treeStep, acceptFilter, testsStep, acceptSheet, sheetStep, Inputs, acceptInputs, Card, cardStep, acceptCard, checkAnswer, Question, matchBy, filterQuestion, matchAnswer}
 use Rattle.answer.specs.Passing.{Passing, textQuestion}
 
 -- ---- check has passed them
@@ -51,12 +51,12 @@ text-found text true b o f h = (cc, cc)
 text-found text false true o f h = (cc, cc)
 text-found text false false o f h = (refl, tree-found text o f h)
 
-pub passing-inputs : (b xs : List ℕ) (p : Inputs) → takeInputs b xs ≡ found p → Passing b xs
-unfolding takeInputs takeSheet takeFilter
+pub passing-inputs : (b xs : List ℕ) (p : Inputs) → acceptInputs b xs ≡ found p → Passing b xs
+unfolding acceptInputs acceptSheet acceptFilter
 passing-inputs b xs p is =
-    let (ps, s, rest) = taken (takeSheet b) (λ qs. takeFilter xs >>= λ f. testsStep qs (testsOf f) >>= λ u. found (record { parameters = qs; filter = f })) p is in
-    let (f, t, last) = taken (takeFilter xs) (λ f. testsStep ps (testsOf f) >>= λ u. found (record { parameters = ps; filter = f })) p rest in
-    let (u, v, made) = taken (testsStep ps (testsOf f)) (λ u. found (record { parameters = ps; filter = f })) p last in
+    let (ps, s, rest) = bind-found (acceptSheet b) (λ qs. acceptFilter xs >>= λ f. testsStep qs (testsOf f) >>= λ u. found (record { parameters = qs; filter = f })) p is in
+    let (f, t, last) = bind-found (acceptFilter xs) (λ f. testsStep ps (testsOf f) >>= λ u. found (record { parameters = ps; filter = f })) p rest in
+    let (u, v, made) = bind-found (testsStep ps (testsOf f)) (λ u. found (record { parameters = ps; filter = f })) p last in
     let (well, same) = sheet-found (readSheet b) (parametersOf b) ps s in
     let (short, reads) = text-found xs (eqb (length xs) 0) (ltb 1024 (length xs)) (read xs) f t in
     record {
@@ -65,13 +65,13 @@ passing-inputs b xs p is =
       short = ltb-false 1024 (length xs) short;
       reads = reads;
       meant = ap (λ (qs : List Parameter). testsStep qs (testsOf f)) same ∙ v;
-      inputs-taken = is ∙ sym made ∙ ap (λ (qs : List Parameter). found (record { parameters = qs; filter = f })) (sym same);
+      inputs-accepted = is ∙ sym made ∙ ap (λ (qs : List Parameter). found (record { parameters = qs; filter = f })) (sym same);
     }
 
 pub passing : (b xs : List ℕ) (c : Checked) (n : ℕ) → checkedAnswer c ≡ checkAnswer b xs → c ≡ Checked.Tests n → Passing b xs
 unfolding checkedAnswer checkAnswer
 passing b xs c n e h =
-    let (p, is) = inputs-found (takeInputs b xs) n (sym e ∙ ap checkedAnswer h) in
+    let (p, is) = inputs-found (acceptInputs b xs) n (sym e ∙ ap checkedAnswer h) in
     passing-inputs b xs p is
 
 pub passing-sheet : (b xs : List ℕ) (c : Checked) (n : ℕ) → checkedAnswer c ≡ checkAnswer b xs → c ≡ Checked.Tests n → readSheet b ≡ Validity.WellFormed
@@ -83,7 +83,7 @@ passing-short b xs c n e h = passing b xs c n e h .short
 -- what a filter that check has passed asks
 pub passing-asks : (b xs : List ℕ) (p : Passing b xs) → filterQuestion b xs ≡ found (textQuestion (parametersOf b) (read xs))
 unfolding filterQuestion
-passing-asks b xs p = rw (p .inputs-taken, p .reads)
+passing-asks b xs p = rw (p .inputs-accepted, p .reads)
 
 -- ---- a card
 
@@ -94,10 +94,10 @@ card-found Validity.WrongSize fits c i d h = (cc, cc)
 card-found Validity.WrongSum fits c i d h = (cc, cc)
 card-found Validity.WrongLayout fits c i d h = (cc, cc)
 
--- a card that is taken is well formed, and has its record number
-pub card-taken : (ps : List Parameter) (i : ℕ) (b : List ℕ) (d : Card) → takeCard ps i b ≡ found d → (readCard b ≡ Validity.WellFormed) × (d .number ≡ recordNumber b)
-unfolding takeCard
-card-taken ps i b d h =
+-- a card that is accepted is well formed, and has its record number
+pub card-accepted : (ps : List Parameter) (i : ℕ) (b : List ℕ) (d : Card) → acceptCard ps i b ≡ found d → (readCard b ≡ Validity.WellFormed) × (d .number ≡ recordNumber b)
+unfolding acceptCard
+card-accepted ps i b d h =
     let (well, same) = card-found (readCard b) (conforms ps (entriesOf b)) (record { number = recordNumber b; entries = entriesOf b }) i d h in
     (well, ap (λ (c : Card). c .number) same)
 
@@ -107,9 +107,9 @@ stopped : (s : Step Inputs) (n p : ℕ) → answer (s >>= λ q. found (count (le
 stopped (found q) n p h = cc
 stopped (stop m q) n p h = cc
 
-inputs-stopped : (b xs : List ℕ) (c : Checked) (r : Refusal) → checkedAnswer c ≡ checkAnswer b xs → c ≡ Checked.Refused r → takeInputs b xs ≡ stop (numberOf (r .reason)) (r .place)
+inputs-stopped : (b xs : List ℕ) (c : Checked) (r : Refusal) → checkedAnswer c ≡ checkAnswer b xs → c ≡ Checked.Refused r → acceptInputs b xs ≡ stop (numberOf (r .reason)) (r .place)
 unfolding checkedAnswer refusalAnswer checkAnswer
-inputs-stopped b xs c r e h = stopped (takeInputs b xs) (numberOf (r .reason)) (r .place) (sym e ∙ ap checkedAnswer h)
+inputs-stopped b xs c r e h = stopped (acceptInputs b xs) (numberOf (r .reason)) (r .place) (sym e ∙ ap checkedAnswer h)
 
 pub question-stopped : (b xs : List ℕ) (c : Checked) (r : Refusal) → checkedAnswer c ≡ checkAnswer b xs → c ≡ Checked.Refused r
     → filterQuestion b xs ≡ stop (numberOf (r .reason)) (r .place)

@@ -34,8 +34,8 @@ use Rattle.refusal.specs.Order.{group, Before, Decides}
 use Rattle.refusal.proofs.Answers.{count-not-refused, verdict-not-refused}
 use Rattle.refusal.proofs.Deciding.{Decided, none-holds, one-decides, NotRefused, decided-then, decided-found, decided-answer}
 use Rattle.refusal.proofs.Order.{apart-at, before-itself}
-use Rattle.answer.specs.Operations.{Inputs, Card, takeCard}
-use Rattle.answer.specs.Preparing.{rowCells, takeCells, preparation, prepareAnswer, takeSize, statedStep, takeRows, judgeAnswer}
+use Rattle.answer.specs.Operations.{Inputs, Card, acceptCard}
+use Rattle.answer.specs.Preparing.{rowCells, acceptCells, preparation, prepareAnswer, acceptSize, statedStep, acceptRows, judgeAnswer}
 use Rattle.answer.specs.Refusals.{SheetLine, CheckLine, OneCardLine, line-20-match, line-of-card}
 use Rattle.answer.specs.RowsRefusals.{CellsLine, line-34, PrepareLine, SizeLine, line-10-judge, RowsLine, line-40, JudgeLine}
 use Rattle.answer.proofs.CheckTable.{sheet-parameters, sheet-group, sheet-decided, size-there, size-back, check-group, Ready, inputs-decided}
@@ -53,8 +53,8 @@ module _ (sheet text : List ℕ) (room : ℕ) where
       let same : length (rowCells (s .parameters) text f) ≡ length (rowCells (r .parameters) text (r .filter)) = ap (λ (qs : List Parameter). length (rowCells qs text f)) ps ∙ ap (λ (g : Tree). length (rowCells (r .parameters) text g)) tree in
       (refl, (same, subst (λ (k : ℕ). room < k) same l))
 
-  cells-decided : (r : Inputs) → Ready sheet text r → Decided (λ cs. Unit {0}) (CellsLine sheet text room) (takeCells room (rowCells (r .parameters) text (r .filter)))
-  unfolding takeCells
+  cells-decided : (r : Inputs) → Ready sheet text r → Decided (λ cs. Unit {0}) (CellsLine sheet text room) (acceptCells room (rowCells (r .parameters) text (r .filter)))
+  unfolding acceptCells
   cells-decided r ready =
       let cs : List ℕ = rowCells (r .parameters) text (r .filter) in
       cond-elim (Decided (λ cs. Unit {0}) (CellsLine sheet text room)) (leb (length cs) room)
@@ -86,8 +86,8 @@ module _ (sheet text : List ℕ) (room : ℕ) where
 -- ---- judge
 
 module _ (sheet text cells card : List ℕ) where
-  size-decided : Decided (λ u. Unit {0}) (SizeLine text) (takeSize text)
-  unfolding takeSize
+  size-decided : Decided (λ u. Unit {0}) (SizeLine text) (acceptSize text)
+  unfolding acceptSize
   size-decided =
       cond-elim (Decided (λ u. Unit {0}) (SizeLine text)) (eqb (length text) 0 || ltb 1024 (length text))
       (λ h. one-decides (record { holds = line-10-judge (size-there text h); first = λ m q l k. size-first m q l k }))
@@ -115,8 +115,8 @@ module _ (sheet text cells card : List ℕ) where
     abbrev Stated : Tree → Type 0
     Stated f = (g : Good ps text cells) × (f ≡ treeOf ps text (g .expression))
 
-    rows-decided : Decided Stated (RowsLine sheet text cells) (takeRows ps text cells)
-    unfolding takeRows
+    rows-decided : Decided Stated (RowsLine sheet text cells) (acceptRows ps text cells)
+    unfolding acceptRows
     rows-decided =
         cond-elim (Decided Stated (RowsLine sheet text cells)) (good (kindsOf ps) (parentsOf ps) text cells)
         (λ h. let g = good-iff ps (s .well-formed) text cells .0 h in
@@ -147,18 +147,18 @@ module _ (sheet text cells card : List ℕ) where
   after-sheet n p (inr l) = let g = after-size n p l in omega arith
 
   module _ (bytes : Bytes card) (s : SheetBlock sheet) where
-    verdict-decided : (f : Tree) → Decided NotRefused (OneCardLine sheet card) (takeCard (s .parameters) 0 card >>= λ c. found (yesOrNo (filterSays (s .parameters) 0 (c .entries) f)))
+    verdict-decided : (f : Tree) → Decided NotRefused (OneCardLine sheet card) (acceptCard (s .parameters) 0 card >>= λ c. found (yesOrNo (filterSays (s .parameters) 0 (c .entries) f)))
     verdict-decided f =
         decided-found (λ (c : Card). yesOrNo (filterSays (s .parameters) 0 (c .entries) f)) (λ c _. verdict-not-refused (filterSays (s .parameters) 0 (c .entries) f)) (one-decided sheet card s bytes)
 
-    rows-then : Decided NotRefused (λ n p. RowsLine sheet text cells n p ⊎ OneCardLine sheet card n p) (takeRows (s .parameters) text cells >>= λ f. takeCard (s .parameters) 0 card >>= λ c. found (yesOrNo (filterSays (s .parameters) 0 (c .entries) f)))
+    rows-then : Decided NotRefused (λ n p. RowsLine sheet text cells n p ⊎ OneCardLine sheet card n p) (acceptRows (s .parameters) text cells >>= λ f. acceptCard (s .parameters) 0 card >>= λ c. found (yesOrNo (filterSays (s .parameters) 0 (c .entries) f)))
     rows-then =
         decided-then (RowsLine sheet text cells) (OneCardLine sheet card)
         (apart-at (RowsLine sheet text cells) (OneCardLine sheet card) (group 40) (λ n p l. rows-group n p l .1) card-groups)
         (rows-decided s) (λ f _ _. verdict-decided f)
 
     size-then : Decided NotRefused (λ n p. SizeLine text n p ⊎ (RowsLine sheet text cells n p ⊎ OneCardLine sheet card n p))
-        (takeSize text >>= λ u. takeRows (s .parameters) text cells >>= λ f. takeCard (s .parameters) 0 card >>= λ c. found (yesOrNo (filterSays (s .parameters) 0 (c .entries) f)))
+        (acceptSize text >>= λ u. acceptRows (s .parameters) text cells >>= λ f. acceptCard (s .parameters) 0 card >>= λ c. found (yesOrNo (filterSays (s .parameters) 0 (c .entries) f)))
     size-then =
         decided-then (SizeLine text) (λ n p. RowsLine sheet text cells n p ⊎ OneCardLine sheet card n p)
         (apart-at (SizeLine text) (λ n p. RowsLine sheet text cells n p ⊎ OneCardLine sheet card n p) (group 10) (λ n p l. size-group n p l .1) after-size)

@@ -13,12 +13,12 @@ use Rattle.base.proofs.Lists.{listed-nil, listed-first, listed-later, listed-ca
 use Rattle.base.proofs.All.{all-left, all-right}
 use Rattle.sheet.specs.Encode.{SheetBlock}
 use Rattle.refusal.specs.Steps.{found, stop}
-use Rattle.answer.specs.Operations.{Card, takeRun, takeCards}
+use Rattle.answer.specs.Operations.{Card, acceptRun, acceptCards}
 use Rattle.refusal.specs.Order.{rank, group, Before}
 use Rattle.answer.specs.Selection.{Run}
 use Rattle.answer.specs.Refusals.{CardLine, RunLine, line-20-select, CardsLine, line-of-card-at}
 use Rattle.refusal.proofs.Deciding.{Decided, none-holds, one-decides, decided-as, decided-then, decided-found}
-use Rattle.answer.proofs.Outcomes.{cardOf, Taken}
+use Rattle.answer.proofs.Outcomes.{cardOf, Accepted}
 use Rattle.answer.proofs.Runs.{run-iff, run-or-none}
 use Rattle.refusal.proofs.Order.{later-place, no-lower-rank}
 use Rattle.answer.proofs.MatchTable.{card-group, LineAt, card-decided}
@@ -38,14 +38,14 @@ module _ (cards : List ℕ) where
   run-first : (m q : ℕ) → RunLine cards m q → Before m q 20 0 → ⊥
   run-first m q (line-20-select u) = no-lower-rank refl (le-refl 0) (le-refl (rank 20))
 
-  pub run-decided : Decided (Run cards) (RunLine cards) (takeRun cards)
+  pub run-decided : Decided (Run cards) (RunLine cards) (acceptRun cards)
   run-decided =
       ⊎-elim
       (λ w. let r = run-iff cards (w .0) .0 (w .1) in rw (w .1) (none-holds r (run-none (w .0) r)))
       (λ e. rw e (one-decides (record { holds = line-20-select (λ bs r. not-both bs (run-iff cards bs .1 r) e); first = run-first })))
       (run-or-none cards)
     where
-      not-both : (bs : List (List ℕ)) → takeRun cards ≡ found bs → takeRun cards ≡ stop 20 0 → ⊥
+      not-both : (bs : List (List ℕ)) → acceptRun cards ≡ found bs → acceptRun cards ≡ stop 20 0 → ⊥
       not-both bs a b = let z : _≡_ {A = ℕ} 0 1 = cc in omega arith
 
 -- ---- its cards
@@ -64,21 +64,21 @@ module _ (sheet : List ℕ) (s : SheetBlock sheet) where
         (listed-cases b bs (l .0) (l .1) (l .2))),
   )
 
-  -- each card is taken
-  abbrev pub AllTaken : List (List ℕ) → List Card → Type 0
-  AllTaken bs cs = All (Taken (s .parameters)) bs × (cs ≡ map cardOf bs)
+  -- each card is accepted
+  abbrev pub AllAccepted : List (List ℕ) → List Card → Type 0
+  AllAccepted bs cs = All (Accepted (s .parameters)) bs × (cs ≡ map cardOf bs)
 
   cards-decided : {bs : List (List ℕ)} → All (λ (b : List ℕ). length b ≡ 512) bs → All Bytes bs → (i : ℕ)
-      → Decided (AllTaken bs) (LineFrom i bs) (takeCards (s .parameters) i bs)
-  unfolding takeCards
+      → Decided (AllAccepted bs) (LineFrom i bs) (acceptCards (s .parameters) i bs)
+  unfolding acceptCards
   cards-decided all-empty all-empty i = none-holds (all-empty, refl) (λ n p l. listed-nil (l .2))
   cards-decided (all-cons {x = b} {xs = bs} size sizes) (all-cons bytes all-bytes) i =
       decided-as (from-cons i b bs)
       (decided-then (LineAt sheet s b i) (LineFrom (suc i) bs)
       (λ m q n p l k. later-place (card-group sheet (l .3) ∙ sym (card-group sheet (k .0))) (omega (arith, l .4, k .1)))
       (card-decided sheet s b bytes size i)
-      (λ c _ taken. decided-found (λ (cs : List Card). c ∷ cs)
-      (λ cs k. (all-cons (taken .0) (k .0), ap₂ (λ (x : Card) (xs : List Card). x ∷ xs) (taken .1) (k .1)))
+      (λ c _ accepted. decided-found (λ (cs : List Card). c ∷ cs)
+      (λ cs k. (all-cons (accepted .0) (k .0), ap₂ (λ (x : Card) (xs : List Card). x ∷ xs) (accepted .1) (k .1)))
       (cards-decided sizes all-bytes (suc i))))
 
   module _ (cards : List ℕ) (bs : List (List ℕ)) (run : Run cards bs) where
@@ -105,8 +105,8 @@ module _ (sheet cards : List ℕ) where
   pub cards-group : (n p : ℕ) → CardsLine sheet cards n p → group n ≡ group 21
   cards-group n p (line-of-card-at run a l) = card-group sheet l
 
-  -- the cards of a run are all taken, or the first that is refused decides
-  pub taken-decided : Bytes cards → (s : SheetBlock sheet) (bs : List (List ℕ)) → Run cards bs → Decided (AllTaken sheet s bs) (CardsLine sheet cards) (takeCards (s .parameters) 0 bs)
-  taken-decided bytes s bs run =
+  -- the cards of a run are all accepted, or the first that is refused decides
+  pub accepted-decided : Bytes cards → (s : SheetBlock sheet) (bs : List (List ℕ)) → Run cards bs → Decided (AllAccepted sheet s bs) (CardsLine sheet cards) (acceptCards (s .parameters) 0 bs)
+  accepted-decided bytes s bs run =
       decided-as (λ n p. (from-there sheet s cards bs run n p, from-back sheet s cards bs run))
       (cards-decided sheet s (run .sizes) (flatten-bytes bs (subst Bytes (run .whole) bytes)) 0)

@@ -14,7 +14,7 @@ use Rattle.base.specs.Lists.{All, all-empty, all-cons}
 use Rattle.base.proofs.Lists.{length-zero}
 use Rattle.base.proofs.Tests.{and-left, and-right, cond-first, cond-elim}
 use Rattle.refusal.specs.Steps.{Step, found, stop}
-use Rattle.answer.specs.Operations.{blocks, takeRun}
+use Rattle.answer.specs.Operations.{blocks, acceptRun}
 use Rattle.answer.specs.Selection.{Run}
 
 -- ---- written and read back
@@ -62,8 +62,8 @@ run-blocks {bs = bs} r = ap (blocks (length bs)) (r .whole) ∙ flatten-blocks (
 found-same : {A : Type 0} {x y : A} → found x ≡ found y → x ≡ y
 found-same e = cc
 
-run-there : (cards : List ℕ) (bs : List (List ℕ)) → takeRun cards ≡ found bs → Run cards bs
-unfolding takeRun
+run-there : (cards : List ℕ) (bs : List (List ℕ)) → acceptRun cards ≡ found bs → Run cards bs
+unfolding acceptRun
 run-there cards bs h =
     let n = length cards / 512 in
     let c = cond-first (eqb (length cards % 512) 0 && leb (length cards) 65536) (found (blocks n cards)) (stop 20 0) (λ e. absurd (let z : _≡_ {A = ℕ} 0 1 = cc in omega arith)) h in
@@ -72,8 +72,8 @@ run-there cards bs h =
     subst (Run cards) (found-same (c .1))
     (record { few = omega (arith, blocks-length n cards); sizes = blocks-sizes n cards whole; whole = blocks-flatten n cards whole })
 
-run-back : (cards : List ℕ) (bs : List (List ℕ)) → Run cards bs → takeRun cards ≡ found bs
-unfolding takeRun
+run-back : (cards : List ℕ) (bs : List (List ℕ)) → Run cards bs → acceptRun cards ≡ found bs
+unfolding acceptRun
 run-back cards bs r =
     let size = run-size r in
     let few = r .few in
@@ -81,13 +81,13 @@ run-back cards bs r =
     rw (eq-eqb (length cards % 512) 0 (omega arith), le-leb (length cards) 65536 (omega arith), count)
     (ap (λ (l : List ℕ). found (blocks (length bs) l)) (r .whole) ∙ ap found (flatten-blocks (r .sizes)))
 
--- a list is taken as a run of blocks exactly where it is one
-pub run-iff : (cards : List ℕ) (bs : List (List ℕ)) → (takeRun cards ≡ found bs) ↔ Run cards bs
+-- a list is accepted as a run of blocks exactly where it is one
+pub run-iff : (cards : List ℕ) (bs : List (List ℕ)) → (acceptRun cards ≡ found bs) ↔ Run cards bs
 run-iff cards bs = (run-there cards bs, run-back cards bs)
 
 -- and refused with 20 where it is none
-pub run-or-none : (cards : List ℕ) → ((bs : List (List ℕ)) × (takeRun cards ≡ found bs)) ⊎ (takeRun cards ≡ stop 20 0)
-unfolding takeRun
+pub run-or-none : (cards : List ℕ) → ((bs : List (List ℕ)) × (acceptRun cards ≡ found bs)) ⊎ (acceptRun cards ≡ stop 20 0)
+unfolding acceptRun
 run-or-none cards =
     cond-elim (λ (s : Step (List (List ℕ))). ((bs : List (List ℕ)) × (s ≡ found bs)) ⊎ (s ≡ stop 20 0)) (eqb (length cards % 512) 0 && leb (length cards) 65536)
     (λ _. inl (blocks (length cards / 512) cards, refl)) (λ _. inr refl)

@@ -24,7 +24,7 @@ use Rattle.sheet.specs.Encode.{SheetBlock, WellFormedSheet}
 use Rattle.sheet.specs.declared.Found.{Found}
 use Rattle.syntax.specs.Tree.{name}
 use Rattle.search.specs.Spelling.{Alternative, Query, alternativesOf, SpellsQuery}
-use Rattle.search.specs.Reader.{takeQuery}
+use Rattle.search.specs.Reader.{acceptQuery}
 use Rattle.judge.specs.Sets.{lookup}
 use Rattle.search.specs.Asking.{askedOf}
 use Rattle.search.specs.Meaning.{textFault, faultAt, alternativeFault, firstAlternativeFault}
@@ -39,9 +39,9 @@ use Rattle.refusal.proofs.Steps.{stop-not-found}
 use Rattle.refusal.proofs.Answers.{count-not-refused}
 use Rattle.refusal.proofs.Deciding.{Decided, none-holds, one-decides, decided-as, decided-then, decided-found, decided-answer}
 use Rattle.refusal.proofs.Order.{apart-at, no-lower-rank}
-use Rattle.answer.specs.Operations.{takeSheet, decisionStep}
+use Rattle.answer.specs.Operations.{acceptSheet, decisionStep}
 use Rattle.answer.specs.Refusals.{SheetLine}
-use Rattle.answer.specs.Searching.{alternativesStep, QueryInputs, takeQueryInputs, checkSearchAnswer, questionOfQuery, searchQuestion, matchSearchAnswer, selectSearchAnswer, selectSearchCells}
+use Rattle.answer.specs.Searching.{alternativesStep, QueryInputs, acceptQueryInputs, checkSearchAnswer, questionOfQuery, searchQuestion, matchSearchAnswer, selectSearchAnswer, selectSearchCells}
 use Rattle.answer.specs.Selection.{Run, SelectAnswers}
 use Rattle.answer.specs.SearchDemand.{searchTests}
 use Rattle.answer.specs.SearchRefusals.{FirstLine, AlternativesLine, line-of-alternative, CheckSearchLine, MatchSearchLine, SelectSearchLine}
@@ -61,8 +61,8 @@ stops : {A B : Type 0} (P : ℕ → Type 0) (s : Step A) (next : A → Step B) �
 stops P (found a) next f g n p e = g a n p e
 stops P (stop m q) next f g n p e = let same : m ≡ n = cc in subst P same (f m q refl)
 
-query-other : (text : List ℕ) (n p : ℕ) → takeQuery text ≡ stop n p → OtherNumber n
-query-other text n p e = by-decided (takeQuery text) (query-decided text) e
+query-other : (text : List ℕ) (n p : ℕ) → acceptQuery text ≡ stop n p → OtherNumber n
+query-other text n p e = by-decided (acceptQuery text) (query-decided text) e
   where
     by-line : {m q : ℕ} → QueryLine text m q → OtherNumber m
     by-line (line-10 u) low high = omega arith
@@ -93,12 +93,12 @@ alternatives-at-most ps (a ∷ list) =
 
 -- a search string is refused with none of the numbers that cards and lists are refused with
 pub search-number : (sheet text : List ℕ) (n p : ℕ) → searchQuestion sheet text ≡ stop n p → OtherNumber n
-unfolding searchQuestion takeQueryInputs takeSheet
+unfolding searchQuestion acceptQueryInputs acceptSheet
 search-number sheet text =
-    stops OtherNumber (takeQueryInputs sheet text) (λ p. found (questionOfQuery p))
-    (stops OtherNumber (takeSheet sheet) (λ ps. takeQuery text >>= λ q. alternativesStep ps (alternativesOf q) >>= λ u. found (record { parameters = ps; query = q }))
+    stops OtherNumber (acceptQueryInputs sheet text) (λ p. found (questionOfQuery p))
+    (stops OtherNumber (acceptSheet sheet) (λ ps. acceptQuery text >>= λ q. alternativesStep ps (alternativesOf q) >>= λ u. found (record { parameters = ps; query = q }))
     (λ n p e low high. omega (arith, at-most-number (sheet-at-most (readSheet sheet) (parametersOf sheet)) n p e))
-    (λ ps. stops OtherNumber (takeQuery text) (λ q. alternativesStep ps (alternativesOf q) >>= λ u. found (record { parameters = ps; query = q })) (query-other text)
+    (λ ps. stops OtherNumber (acceptQuery text) (λ q. alternativesStep ps (alternativesOf q) >>= λ u. found (record { parameters = ps; query = q })) (query-other text)
     (λ q. stops OtherNumber (alternativesStep ps (alternativesOf q)) (λ u. found (record { parameters = ps; query = q }))
     (λ n p e low high. omega (arith, at-most-number (alternatives-at-most ps (alternativesOf q)) n p e))
     (λ u n p e. stop-not-found (sym e)))))
@@ -170,7 +170,7 @@ module _ (ps : List Parameter) where
 -- ---- check
 
 module _ (sheet text : List ℕ) where
-  -- what is taken: the sheet's parameters and the string's query
+  -- what is accepted: the sheet's parameters and the string's query
   abbrev Ready : QueryInputs → Type 0
   Ready r = (s : SheetBlock sheet) × (s .parameters ≡ r .parameters) × SpellsQuery text (r .query)
 
@@ -212,14 +212,14 @@ module _ (sheet text : List ℕ) where
 
   -- what follows the sheet
   text-step : (s : SheetBlock sheet)
-      → Decided Ready (λ n p. QueryLine text n p ⊎ AlternativesLine sheet text n p) (takeQuery text >>= λ q. alternativesStep (s .parameters) (alternativesOf q) >>= λ u. found (ready s q))
+      → Decided Ready (λ n p. QueryLine text n p ⊎ AlternativesLine sheet text n p) (acceptQuery text >>= λ q. alternativesStep (s .parameters) (alternativesOf q) >>= λ u. found (ready s q))
   text-step s =
       decided-then (QueryLine text) (AlternativesLine sheet text)
       (apart-at (QueryLine text) (AlternativesLine sheet text) (group 51) (λ n p l. query-group n p l .1) (λ n p l. alternatives-group n p l .0))
       (query-decided text) (λ q _ spells. query-step s q spells)
 
-  query-inputs : Bytes sheet → Decided Ready (CheckSearchLine sheet text) (takeQueryInputs sheet text)
-  unfolding takeQueryInputs
+  query-inputs : Bytes sheet → Decided Ready (CheckSearchLine sheet text) (acceptQueryInputs sheet text)
+  unfolding acceptQueryInputs
   query-inputs bytes =
       decided-then (SheetLine sheet) (λ n p. QueryLine text n p ⊎ AlternativesLine sheet text n p)
       (apart-at (SheetLine sheet) (λ n p. QueryLine text n p ⊎ AlternativesLine sheet text n p) (group 3) sheet-group (λ n p l. later-groups n p l .0))

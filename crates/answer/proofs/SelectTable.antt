@@ -17,18 +17,18 @@ use Rattle.sheet.specs.Encode.{SheetBlock}
 use Rattle.card.specs.Card.{recordNumber}
 use Rattle.refusal.specs.Answers.{count, refused}
 use Rattle.refusal.specs.Steps.{Step, found, _>>=_}
-use Rattle.answer.specs.Operations.{Card, Question, matchBy, filterQuestion, takeRun, takeCards, matching, takeRoom, selection, selectBy, selectAnswer}
+use Rattle.answer.specs.Operations.{Card, Question, matchBy, filterQuestion, acceptRun, acceptCards, matching, acceptRoom, selection, selectBy, selectAnswer}
 use Rattle.refusal.specs.Order.{rank, group, Before, Decides}
 use Rattle.answer.specs.Selection.{Run, matchingCards}
 use Rattle.answer.specs.Refusals.{CheckLine, RunLine, CardsLine, RoomLine, line-30, SelectLine}
 use Rattle.refusal.proofs.Answers.{count-not-refused}
 use Rattle.refusal.proofs.Deciding.{Decided, none-holds, one-decides, decided-then, decided-found, decided-answer}
-use Rattle.answer.proofs.Outcomes.{Taken}
+use Rattle.answer.proofs.Outcomes.{Accepted}
 use Rattle.answer.proofs.Selection.{matching-numbers}
 use Rattle.refusal.proofs.Order.{apart-at, no-lower-rank}
 use Rattle.answer.proofs.CheckTable.{check-group}
 use Rattle.answer.proofs.MatchTable.{AskedOn, question-decided}
-use Rattle.answer.proofs.RunTable.{run-unique, run-decided, AllTaken, run-group, cards-group, taken-decided}
+use Rattle.answer.proofs.RunTable.{run-unique, run-decided, AllAccepted, run-group, cards-group, accepted-decided}
 
 -- ---- the room, and the theorem
 
@@ -51,18 +51,18 @@ module _ (sheet : List ℕ) (asked : Step Question) (cards : List ℕ) (room : �
     room-first : (m q : ℕ) → RoomLine (matchBy asked) cards room m q → Before m q 30 matches → ⊥
     room-first m q (line-30 run′ h) = no-lower-rank refl (le-of-eq (sym (same-matches run′))) (le-refl (rank 30))
 
-    room-decided : (ns : List ℕ) → length ns ≡ matches → Decided (λ (ms : List ℕ). Unit {0}) (RoomLine (matchBy asked) cards room) (takeRoom room ns)
-    unfolding takeRoom
+    room-decided : (ns : List ℕ) → length ns ≡ matches → Decided (λ (ms : List ℕ). Unit {0}) (RoomLine (matchBy asked) cards room) (acceptRoom room ns)
+    unfolding acceptRoom
     room-decided ns size =
         cond-elim (Decided (λ (ms : List ℕ). Unit {0}) (RoomLine (matchBy asked) cards room)) (leb (length ns) room)
         (λ h. none-holds tt (room-none (omega (arith, leb-true (length ns) room h))))
         (λ h. rw size (one-decides (record { holds = line-30 run (omega (arith, leb-false (length ns) room h)); first = room-first })))
 
-    matched : (s : SheetBlock sheet) → s .parameters ≡ r .parameters → (cs : List Card) → AllTaken sheet s bs cs
+    matched : (s : SheetBlock sheet) → s .parameters ≡ r .parameters → (cs : List Card) → AllAccepted sheet s bs cs
         → length (matching (r .says) cs) ≡ matches
-    matched s same cs taken =
-        let all : All (Taken (r .parameters)) bs = subst (λ (ps : List Parameter). All (Taken ps) bs) same (taken .0) in
-        ap (λ (ds : List Card). length (matching (r .says) ds)) (taken .1)
+    matched s same cs accepted =
+        let all : All (Accepted (r .parameters)) bs = subst (λ (ps : List Parameter). All (Accepted ps) bs) same (accepted .0) in
+        ap (λ (ds : List Card). length (matching (r .says) ds)) (accepted .1)
         ∙ ap length (matching-numbers asked r e all)
         ∙ length-map (matchingCards (matchBy asked) bs) recordNumber
 
@@ -83,18 +83,18 @@ module _ (sheet : List ℕ) (asked : Step Question) (cards : List ℕ) (room : �
   module _ (bytes : Bytes cards) (r : Question) (e : asked ≡ found r) (s : SheetBlock sheet) (same : s .parameters ≡ r .parameters) where
     run-step : (bs : List (List ℕ)) → Run cards bs
         → Decided (λ (ns : List ℕ). Unit {0}) (λ n p. CardsLine sheet cards n p ⊎ RoomLine (matchBy asked) cards room n p)
-        (takeCards (r .parameters) 0 bs >>= λ cs. takeRoom room (matching (r .says) cs))
+        (acceptCards (r .parameters) 0 bs >>= λ cs. acceptRoom room (matching (r .says) cs))
     run-step bs run =
-        let taken : Decided (AllTaken sheet s bs) (CardsLine sheet cards) (takeCards (r .parameters) 0 bs) =
-        rw (← same) (taken-decided sheet cards bytes s bs run)
+        let accepted : Decided (AllAccepted sheet s bs) (CardsLine sheet cards) (acceptCards (r .parameters) 0 bs) =
+        rw (← same) (accepted-decided sheet cards bytes s bs run)
         in
         decided-then (CardsLine sheet cards) (RoomLine (matchBy asked) cards room)
         (apart-at (CardsLine sheet cards) (RoomLine (matchBy asked) cards room) (group 21) (λ n p l. le-of-eq (cards-group sheet cards n p l)) room-group)
-        taken
+        accepted
         (λ cs _ k. room-decided r e bs run (matching (r .says) cs) (matched r e bs run s same cs k))
 
     rest-decided : Decided (λ (ns : List ℕ). Unit {0}) RestLine
-        (takeRun cards >>= λ bs. takeCards (r .parameters) 0 bs >>= λ cs. takeRoom room (matching (r .says) cs))
+        (acceptRun cards >>= λ bs. acceptCards (r .parameters) 0 bs >>= λ cs. acceptRoom room (matching (r .says) cs))
     rest-decided =
         decided-then (RunLine cards) (λ n p. CardsLine sheet cards n p ⊎ RoomLine (matchBy asked) cards room n p)
         (apart-at (RunLine cards) (λ n p. CardsLine sheet cards n p ⊎ RoomLine (matchBy asked) cards room n p) (group 20) (λ n p l. le-of-eq (run-group sheet cards n p l)) cards-or-room)

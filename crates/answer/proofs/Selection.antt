@@ -1,6 +1,6 @@
 -- A selection goes by match: it writes the numbers of the cards on which match answers yes, and refuses the first card that match refuses.
--- By induction on the cards of the run: all are taken, or a first one is refused and those before it are taken (`cards-outcome`). On a card
--- that is taken match answers what the question says (`match-taken`); one that is refused match refuses with the same number
+-- By induction on the cards of the run: all are accepted, or a first one is refused and those before it are accepted (`cards-outcome`). On a card
+-- that is accepted match answers what the question says (`match-accepted`); one that is refused match refuses with the same number
 -- (`match-stopped`). So the numbers written are those of the cards of match's yes (`matching-numbers`, by induction on the cards), and the
 -- card refused is the first that match refuses. The question is refused with no number from 21 to 30 (`OtherNumber`), so 21 to 23 tell of a
 -- card and 30 of the room.
@@ -25,10 +25,10 @@ use Rattle.card.specs.Card.{recordNumber, entriesOf, readCard}
 use Rattle.judge.specs.Sets.{conforms}
 use Rattle.refusal.specs.Answers.{Answer, yesOrNo, count, refused}
 use Rattle.refusal.specs.Steps.{Step, found, stop, _>>=_, answer}
-use Rattle.answer.specs.Operations.{Card, cardStep, takeCard, Question, matchBy, filterQuestion, takeRun, takeCards, matching, takeRoom, selection, selectBy, written, cellsBy}
+use Rattle.answer.specs.Operations.{Card, cardStep, acceptCard, Question, matchBy, filterQuestion, acceptRun, acceptCards, matching, acceptRoom, selection, selectBy, written, cellsBy}
 use Rattle.answer.specs.Selection.{Run, isYes, matchingCards, matchingNumbers, occurrences, bearing, RefusesCard, SelectsByMatch}
 use Rattle.refusal.proofs.Answers.{verdict-not-refused}
-use Rattle.answer.proofs.Outcomes.{cardOf, Taken, Stopped, CardsOutcome, all-taken, one-stopped, OtherNumber, SelectionOutcome, not-asked, card-refused, no-room, numbers-found}
+use Rattle.answer.proofs.Outcomes.{cardOf, Accepted, Stopped, CardsOutcome, all-accepted, one-stopped, OtherNumber, SelectionOutcome, not-asked, card-refused, no-room, numbers-found}
 use Rattle.answer.proofs.Inputs.{match-by, question-number}
 use Rattle.answer.proofs.Runs.{run-iff}
 
@@ -42,28 +42,28 @@ module _ (ps : List Parameter) where
   card-steps Validity.WellFormed true c = inl (λ i. refl)
   card-steps Validity.WellFormed false c = inr (23, omega arith, λ i. refl)
 
-  -- a card is taken, or refused with one number
-  taken-or-stopped : (b : List ℕ) → Taken ps b ⊎ ((n : ℕ) × (n ≤ 23) × Stopped ps n b)
-  unfolding takeCard
-  taken-or-stopped b = card-steps (readCard b) (conforms ps (entriesOf b)) (cardOf b)
+  -- a card is accepted, or refused with one number
+  accepted-or-stopped : (b : List ℕ) → Accepted ps b ⊎ ((n : ℕ) × (n ≤ 23) × Stopped ps n b)
+  unfolding acceptCard
+  accepted-or-stopped b = card-steps (readCard b) (conforms ps (entriesOf b)) (cardOf b)
 
   -- ---- the cards of a run
 
-  cards-next : {i : ℕ} {b : List ℕ} {bs : List (List ℕ)} {rest : Step (List Card)} → Taken ps b → CardsOutcome ps (suc i) bs rest
+  cards-next : {i : ℕ} {b : List ℕ} {bs : List (List ℕ)} {rest : Step (List Card)} → Accepted ps b → CardsOutcome ps (suc i) bs rest
       → CardsOutcome ps i (b ∷ bs) (rest >>= λ cs. found (cardOf b ∷ cs))
-  cards-next t (all-taken ts) = all-taken (all-cons t ts)
+  cards-next t (all-accepted ts) = all-accepted (all-cons t ts)
   cards-next {i = i} {b = b} t (one-stopped before c after n j e k ts m s) =
       one-stopped (b ∷ before) c after n j (ap (λ (l : List (List ℕ)). b ∷ l) e) (omega arith) (all-cons t ts) m s
 
-  pub cards-outcome : (i : ℕ) (bs : List (List ℕ)) → CardsOutcome ps i bs (takeCards ps i bs)
-  unfolding takeCards
-  cards-outcome i [] = all-taken all-empty
+  pub cards-outcome : (i : ℕ) (bs : List (List ℕ)) → CardsOutcome ps i bs (acceptCards ps i bs)
+  unfolding acceptCards
+  cards-outcome i [] = all-accepted all-empty
   cards-outcome i (b ∷ bs) =
       let rest = cards-outcome (suc i) bs in
       ⊎-elim
       (λ t. rw (t i) (cards-next t rest))
       (λ s. rw (s .2 i) (one-stopped [] b bs (s .0) i refl (omega arith) all-empty (s .1) (s .2)))
-      (taken-or-stopped b)
+      (accepted-or-stopped b)
 
 -- ---- match on each card of a run
 
@@ -71,14 +71,14 @@ module _ (asked : Step Question) (q : Question) (e : asked ≡ found q) where
   abbrev ps : List Parameter
   ps = q .parameters
 
-  pub match-taken : (b : List ℕ) → Taken ps b → matchBy asked b ≡ yesOrNo (q .says (entriesOf b))
-  match-taken b t = match-by asked (found q) e b ∙ rw (t 0)
+  pub match-accepted : (b : List ℕ) → Accepted ps b → matchBy asked b ≡ yesOrNo (q .says (entriesOf b))
+  match-accepted b t = match-by asked (found q) e b ∙ rw (t 0)
 
   match-stopped : (n : ℕ) (b : List ℕ) → Stopped ps n b → matchBy asked b ≡ refused n 0
   match-stopped n b s = match-by asked (found q) e b ∙ rw (s 0)
 
-  taken-not-refused : (b : List ℕ) → Taken ps b → (n i : ℕ) → matchBy asked b ≡ refused n i → ⊥
-  taken-not-refused b t n i h = verdict-not-refused (q .says (entriesOf b)) n i (sym (match-taken b t) ∙ h)
+  accepted-not-refused : (b : List ℕ) → Accepted ps b → (n i : ℕ) → matchBy asked b ≡ refused n i → ⊥
+  accepted-not-refused b t n i h = verdict-not-refused (q .says (entriesOf b)) n i (sym (match-accepted b t) ∙ h)
 
   -- the numbers of the cards of which yes is said are those on which match answers yes
   numbers-next : (b : List ℕ) (bs : List (List ℕ)) (v : Bool) → matchBy asked b ≡ yesOrNo v
@@ -87,19 +87,19 @@ module _ (asked : Step Question) (q : Question) (e : asked ≡ found q) where
   numbers-next b bs true h = rw h
   numbers-next b bs false h = rw h
 
-  pub matching-numbers : {bs : List (List ℕ)} → All (Taken ps) bs → matching (q .says) (map cardOf bs) ≡ matchingNumbers (matchBy asked) bs
+  pub matching-numbers : {bs : List (List ℕ)} → All (Accepted ps) bs → matching (q .says) (map cardOf bs) ≡ matchingNumbers (matchBy asked) bs
   unfolding matching
   matching-numbers all-empty = refl
   matching-numbers (all-cons {x = b} {xs = bs} t ts) =
-      rw (matching-numbers ts) (numbers-next b bs (q .says (entriesOf b)) (match-taken b t))
+      rw (matching-numbers ts) (numbers-next b bs (q .says (entriesOf b)) (match-accepted b t))
 
 -- ---- a selection from a run
 
 module _ (asked : Step Question) (other : (n p : ℕ) → asked ≡ stop n p → OtherNumber n) where
   module _ (bs : List (List ℕ)) (room : ℕ) where
     -- the matches fit into the list, or they do not
-    selected-room : (numbers : List ℕ) → numbers ≡ matchingNumbers (matchBy asked) bs → SelectionOutcome (matchBy asked) bs room (takeRoom room numbers)
-    unfolding takeRoom
+    selected-room : (numbers : List ℕ) → numbers ≡ matchingNumbers (matchBy asked) bs → SelectionOutcome (matchBy asked) bs room (acceptRoom room numbers)
+    unfolding acceptRoom
     selected-room numbers e =
         let few : length numbers ≡ length (matchingCards (matchBy asked) bs) = ap length e ∙ length-map (matchingCards (matchBy asked) bs) recordNumber in
         cond-elim (SelectionOutcome (matchBy asked) bs room) (leb (length numbers) room)
@@ -107,15 +107,15 @@ module _ (asked : Step Question) (other : (n p : ℕ) → asked ≡ stop n p →
         (λ h. no-room (length numbers) few (leb-false (length numbers) room h))
 
     module _ (q : Question) (e : asked ≡ found q) where
-      selected-cards : {cards : Step (List Card)} → CardsOutcome (q .parameters) 0 bs cards → SelectionOutcome (matchBy asked) bs room (cards >>= λ cs. takeRoom room (matching (q .says) cs))
-      selected-cards (all-taken ts) = selected-room (matching (q .says) (map cardOf bs)) (matching-numbers asked q e ts)
+      selected-cards : {cards : Step (List Card)} → CardsOutcome (q .parameters) 0 bs cards → SelectionOutcome (matchBy asked) bs room (cards >>= λ cs. acceptRoom room (matching (q .says) cs))
+      selected-cards (all-accepted ts) = selected-room (matching (q .says) (map cardOf bs)) (matching-numbers asked q e ts)
       selected-cards (one-stopped before b after n j split k ts m s) =
           card-refused n j m
           (record {
             card = b;
             at = record { before = before; after = after; split = split; index = omega arith };
             refuses = match-stopped asked q e n b s;
-            earlier = all-map (taken-not-refused asked q e) ts;
+            earlier = all-map (accepted-not-refused asked q e) ts;
           })
 
     selected : (cards : List ℕ) → Run cards bs → SelectionOutcome (matchBy asked) bs room (selection asked cards room)
@@ -123,7 +123,7 @@ module _ (asked : Step Question) (other : (n p : ℕ) → asked ≡ stop n p →
     selected cards run = by asked refl
       where
         by : (r : Step Question) → asked ≡ r
-            → SelectionOutcome (matchBy asked) bs room (r >>= λ q. takeRun cards >>= λ cs. takeCards (q .parameters) 0 cs >>= λ ds. takeRoom room (matching (q .says) ds))
+            → SelectionOutcome (matchBy asked) bs room (r >>= λ q. acceptRun cards >>= λ cs. acceptCards (q .parameters) 0 cs >>= λ ds. acceptRoom room (matching (q .says) ds))
         by (stop n i) e = not-asked n i (other n i e)
         by (found q) e = rw (run-iff cards bs .1 run) (selected-cards q e (cards-outcome (q .parameters) 0 bs))
 

@@ -28,8 +28,8 @@ sheetStep Validity.WrongSize ps = stop 1 0
 sheetStep Validity.WrongSum ps = stop 2 0
 sheetStep Validity.WrongLayout ps = stop 3 0
 
-unfoldable pub takeSheet : List ℕ → Step (List Parameter)
-takeSheet sheet = sheetStep (readSheet sheet) (parametersOf sheet)
+unfoldable pub acceptSheet : List ℕ → Step (List Parameter)
+acceptSheet sheet = sheetStep (readSheet sheet) (parametersOf sheet)
 
 -- ---- the filter: 10, 11 to 13, and 14 to 18 for the first test at fault; names are looked up at the top
 
@@ -37,8 +37,8 @@ abbrev pub treeStep : List ℕ → Option Tree → Step Tree
 treeStep text (some f) = found f
 treeStep text none = refusalStep (failure deepest mostTests text)
 
-unfoldable pub takeFilter : List ℕ → Step Tree
-takeFilter text = cond (eqb (length text) 0 || ltb 1024 (length text)) (stop 10 0) (treeStep text (read text))
+unfoldable pub acceptFilter : List ℕ → Step Tree
+acceptFilter text = cond (eqb (length text) 0 || ltb 1024 (length text)) (stop 10 0) (treeStep text (read text))
 
 abbrev pub decisionStep : Decision → Step (Unit {0})
 decisionStep Decision.Passed = found tt
@@ -52,10 +52,10 @@ pub record Inputs : Type 0 where
   pub parameters : List Parameter
   pub filter : Tree
 
-unfoldable pub takeInputs : List ℕ → List ℕ → Step Inputs
-takeInputs sheet text = do
-  ps ← takeSheet sheet
-  f ← takeFilter text
+unfoldable pub acceptInputs : List ℕ → List ℕ → Step Inputs
+acceptInputs sheet text = do
+  ps ← acceptSheet sheet
+  f ← acceptFilter text
   u ← testsStep ps (testsOf f)
   found (record { parameters = ps; filter = f })
 
@@ -74,21 +74,21 @@ cardStep Validity.WellFormed true c i = found c
 cardStep Validity.WellFormed false c i = stop 23 i
 
 -- the card with the index i in its run
-unfoldable pub takeCard : List Parameter → ℕ → List ℕ → Step Card
-takeCard ps i b = cardStep (readCard b) (conforms ps (entriesOf b)) (record { number = recordNumber b; entries = entriesOf b }) i
+unfoldable pub acceptCard : List Parameter → ℕ → List ℕ → Step Card
+acceptCard ps i b = cardStep (readCard b) (conforms ps (entriesOf b)) (record { number = recordNumber b; entries = entriesOf b }) i
 
 -- ---- check and match
 
 -- the answer of check for a filter on a well-formed sheet
 unfoldable pub filterAnswer : List Parameter → List ℕ → Answer
 filterAnswer ps text = answer (do
-  f ← takeFilter text
+  f ← acceptFilter text
   u ← testsStep ps (testsOf f)
   found (count (length (testsOf f))))
 
 unfoldable pub checkAnswer : List ℕ → List ℕ → Answer
 checkAnswer sheet text = answer (do
-  p ← takeInputs sheet text
+  p ← acceptInputs sheet text
   found (count (length (testsOf (p .filter)))))
 
 -- what is asked of cards: the parameters of the sheet, and what is said of a card's entries
@@ -100,7 +100,7 @@ pub record Question : Type 0 where
 unfoldable pub matchBy : Step Question → List ℕ → Answer
 matchBy asked card = answer (do
   q ← asked
-  c ← takeCard (q .parameters) 0 card
+  c ← acceptCard (q .parameters) 0 card
   found (yesOrNo (q .says (c .entries))))
 
 -- what a filter asks
@@ -109,7 +109,7 @@ questionOf p = record { parameters = p .parameters; says = λ es. filterSays (p 
 
 unfoldable pub filterQuestion : List ℕ → List ℕ → Step Question
 filterQuestion sheet text = do
-  p ← takeInputs sheet text
+  p ← acceptInputs sheet text
   found (questionOf p)
 
 abbrev pub matchAnswer : List ℕ → List ℕ → List ℕ → Answer
@@ -123,16 +123,16 @@ blocks zero bytes = []
 blocks (suc n) bytes = take 512 bytes ∷ blocks n (drop 512 bytes)
 
 -- "no whole number of blocks, or over 128": 20
-unfoldable pub takeRun : List ℕ → Step (List (List ℕ))
-takeRun cards =
+unfoldable pub acceptRun : List ℕ → Step (List (List ℕ))
+acceptRun cards =
     cond (eqb (length cards % 512) 0 && leb (length cards) 65536) (found (blocks (length cards / 512) cards)) (stop 20 0)
 
 -- "for 21 to 23 the first faulty card decides, and on it the lower number"; i is the index of the first
-unfoldable pub takeCards : List Parameter → ℕ → List (List ℕ) → Step (List Card)
-takeCards ps i [] = found []
-takeCards ps i (b ∷ bs) = do
-  c ← takeCard ps i b
-  cs ← takeCards ps (suc i) bs
+unfoldable pub acceptCards : List Parameter → ℕ → List (List ℕ) → Step (List Card)
+acceptCards ps i [] = found []
+acceptCards ps i (b ∷ bs) = do
+  c ← acceptCard ps i b
+  cs ← acceptCards ps (suc i) bs
   found (c ∷ cs)
 
 -- the record numbers of the cards of which yes is said, in card order and repeats kept
@@ -141,16 +141,16 @@ matching says [] = []
 matching says (c ∷ cs) = cond (says (c .entries)) (c .number ∷ matching says cs) (matching says cs)
 
 -- 30: "list shorter than the matches", place the number of matches
-unfoldable pub takeRoom : ℕ → List ℕ → Step (List ℕ)
-takeRoom room numbers = cond (leb (length numbers) room) (found numbers) (stop 30 (length numbers))
+unfoldable pub acceptRoom : ℕ → List ℕ → Step (List ℕ)
+acceptRoom room numbers = cond (leb (length numbers) room) (found numbers) (stop 30 (length numbers))
 
 -- the numbers that a selection writes, for a list of `room` cells
 unfoldable pub selection : Step Question → List ℕ → ℕ → Step (List ℕ)
 selection asked cards room = do
   q ← asked
-  bs ← takeRun cards
-  cs ← takeCards (q .parameters) 0 bs
-  takeRoom room (matching (q .says) cs)
+  bs ← acceptRun cards
+  cs ← acceptCards (q .parameters) 0 bs
+  acceptRoom room (matching (q .says) cs)
 
 -- the answer of select to a question, or why there is none
 unfoldable pub selectBy : Step Question → List ℕ → ℕ → Answer

@@ -15,7 +15,7 @@ use Rattle.judge.specs.Verdicts.{filterSays}
 use Rattle.filter.specs.declared.Summary.{Summary}
 use Rattle.refusal.specs.Answers.{Answer, count}
 use Rattle.refusal.specs.Steps.{Step, found, _>>=_, answer}
-use Rattle.answer.specs.Operations.{decisionStep, testsStep, takeInputs, takeCard, Question}
+use Rattle.answer.specs.Operations.{decisionStep, testsStep, acceptInputs, acceptCard, Question}
 
 -- the answer of check for a text that is a filter, from what was gathered reading it
 unfoldable pub summaryAnswer : Summary → Answer
@@ -28,7 +28,7 @@ pub record Passing (sheet text : List ℕ) : Type 0 where
   pub short : length text ≤ 1024
   pub reads : read text ≡ some tree
   pub meant : testsStep (parametersOf sheet) (testsOf tree) ≡ found tt
-  pub inputs-taken : takeInputs sheet text ≡ found (record { parameters = parametersOf sheet; filter = tree })
+  pub inputs-accepted : acceptInputs sheet text ≡ found (record { parameters = parametersOf sheet; filter = tree })
 
 -- what the text's filter says of entries
 abbrev pub textSays : List Parameter → List Entry → Option Tree → Bool
@@ -37,7 +37,7 @@ textSays ps es none = false
 
 -- the verdict of the card with the index i, or its refusal
 unfoldable pub cardVerdict : Question → ℕ → List ℕ → Step Bool
-cardVerdict q i b = takeCard (q .parameters) i b >>= λ c. found (q .says (c .entries))
+cardVerdict q i b = acceptCard (q .parameters) i b >>= λ c. found (q .says (c .entries))
 
 -- what the text asks, as the code judges by it
 abbrev pub textQuestion : List Parameter → Option Tree → Question

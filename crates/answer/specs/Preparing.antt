@@ -18,7 +18,7 @@ use Rattle.rows.specs.Stated.{treeOf}
 use Rattle.row_writer.specs.Writing.{prepared}
 use Rattle.refusal.specs.Answers.{Answer, yesOrNo, count, numberOf, refusalAnswer}
 use Rattle.refusal.specs.Steps.{Step, found, stop, _>>=_, answer}
-use Rattle.answer.specs.Operations.{takeSheet, takeFilter, testsStep, takeInputs, takeCard, written}
+use Rattle.answer.specs.Operations.{acceptSheet, acceptFilter, testsStep, acceptInputs, acceptCard, written}
 use Rattle.answer.specs.declared.Prepared.{Prepared}
 
 -- ---- prepare, into a list of `room` cells
@@ -28,13 +28,13 @@ abbrev pub rowCells : List Parameter → List ℕ → Tree → List ℕ
 rowCells ps text f = encode (prepared ps text 0 f)
 
 -- 34: "when the list is too short, place the cells needed"
-unfoldable pub takeCells : ℕ → List ℕ → Step (List ℕ)
-takeCells room cs = cond (leb (length cs) room) (found cs) (stop 34 (length cs))
+unfoldable pub acceptCells : ℕ → List ℕ → Step (List ℕ)
+acceptCells room cs = cond (leb (length cs) room) (found cs) (stop 34 (length cs))
 
 unfoldable pub preparation : List ℕ → List ℕ → ℕ → Step (List ℕ)
 preparation sheet text room = do
-  p ← takeInputs sheet text
-  takeCells room (rowCells (p .parameters) text (p .filter))
+  p ← acceptInputs sheet text
+  acceptCells room (rowCells (p .parameters) text (p .filter))
 
 unfoldable pub prepareAnswer : List ℕ → List ℕ → ℕ → Answer
 prepareAnswer sheet text room = answer (do
@@ -48,31 +48,31 @@ prepareCells sheet text list = written (preparation sheet text (length list)) li
 -- ---- judge
 
 -- 10, whatever the text is
-unfoldable pub takeSize : List ℕ → Step (Unit {0})
-takeSize text = cond (eqb (length text) 0 || ltb 1024 (length text)) (stop 10 0) (found tt)
+unfoldable pub acceptSize : List ℕ → Step (Unit {0})
+acceptSize text = cond (eqb (length text) 0 || ltb 1024 (length text)) (stop 10 0) (found tt)
 
 abbrev pub statedStep : List Parameter → List ℕ → Option Expression → Step Tree
 statedStep ps text (some e) = found (treeOf ps text e)
 statedStep ps text none = stop 40 0
 
 -- 40 "exactly when the rows are not good", else the tree that they state
-unfoldable pub takeRows : List Parameter → List ℕ → List ℕ → Step Tree
-takeRows ps text cs = cond (good (kindsOf ps) (parentsOf ps) text cs) (statedStep ps text (stated cs)) (stop 40 0)
+unfoldable pub acceptRows : List Parameter → List ℕ → List ℕ → Step Tree
+acceptRows ps text cs = cond (good (kindsOf ps) (parentsOf ps) text cs) (statedStep ps text (stated cs)) (stop 40 0)
 
 -- after the sheet
 unfoldable pub rowsAnswer : List Parameter → List ℕ → List ℕ → List ℕ → Answer
 rowsAnswer ps text cs card = answer (do
-  u ← takeSize text
-  f ← takeRows ps text cs
-  c ← takeCard ps 0 card
+  u ← acceptSize text
+  f ← acceptRows ps text cs
+  c ← acceptCard ps 0 card
   found (yesOrNo (filterSays ps 0 (c .entries) f)))
 
 unfoldable pub judgeAnswer : List ℕ → List ℕ → List ℕ → List ℕ → Answer
 judgeAnswer sheet text cs card = answer (do
-  ps ← takeSheet sheet
-  u ← takeSize text
-  f ← takeRows ps text cs
-  c ← takeCard ps 0 card
+  ps ← acceptSheet sheet
+  u ← acceptSize text
+  f ← acceptRows ps text cs
+  c ← acceptCard ps 0 card
   found (yesOrNo (filterSays ps 0 (c .entries) f)))
 
 -- ---- what the parts of the code answer
@@ -89,7 +89,7 @@ filledStep (Prepared.Refused r) buffer = stop (numberOf (r .reason)) (r .place)
 -- the rows of a filter on a sheet with these parameters, or the first refusal
 unfoldable pub textRows : List Parameter → List ℕ → Step (List ℕ)
 textRows ps text = do
-  f ← takeFilter text
+  f ← acceptFilter text
   u ← testsStep ps (testsOf f)
   found (rowCells ps text f)
 
@@ -98,7 +98,7 @@ pub record FillsText (ps : List Parameter) (text : List ℕ) (r : Prepared) (buf
   pub room : (n : ℕ) → r ≡ Prepared.Cells n → n ≤ length buffer
 
 pub record Fills (sheet text : List ℕ) (r : Prepared) (buffer : List ℕ) : Type 0 where
-  pub rows : filledStep r buffer ≡ (takeInputs sheet text >>= λ p. found (rowCells (p .parameters) text (p .filter)))
+  pub rows : filledStep r buffer ≡ (acceptInputs sheet text >>= λ p. found (rowCells (p .parameters) text (p .filter)))
   pub room : (n : ℕ) → r ≡ Prepared.Cells n → n ≤ length buffer
 
 -- what prepare does: the answer, and every cell of the list at exit

@@ -5,11 +5,11 @@ use mathlib.Core.List.{List}
 use lib.ListN.{length}
 use Rattle.sheet.specs.Sheet.{Parameter}
 use Rattle.search.specs.Spelling.{Alternative, Query, alternativesOf}
-use Rattle.search.specs.Reader.{takeQuery}
+use Rattle.search.specs.Reader.{acceptQuery}
 use Rattle.search.specs.Meaning.{firstAlternativeFault, querySays}
 use Rattle.refusal.specs.Answers.{Answer, count}
 use Rattle.refusal.specs.Steps.{Step, found, _>>=_, answer}
-use Rattle.answer.specs.Operations.{decisionStep, takeSheet, Question, matchBy, selectBy, cellsBy}
+use Rattle.answer.specs.Operations.{decisionStep, acceptSheet, Question, matchBy, selectBy, cellsBy}
 
 -- 14, 16 and 17 for the first alternative at fault
 unfoldable pub alternativesStep : List Parameter → List Alternative → Step (Unit {0})
@@ -20,17 +20,17 @@ pub record QueryInputs : Type 0 where
   pub parameters : List Parameter
   pub query : Query
 
-unfoldable pub takeQueryInputs : List ℕ → List ℕ → Step QueryInputs
-takeQueryInputs sheet text = do
-  ps ← takeSheet sheet
-  q ← takeQuery text
+unfoldable pub acceptQueryInputs : List ℕ → List ℕ → Step QueryInputs
+acceptQueryInputs sheet text = do
+  ps ← acceptSheet sheet
+  q ← acceptQuery text
   u ← alternativesStep ps (alternativesOf q)
   found (record { parameters = ps; query = q })
 
 -- "check's count take alternatives for tests"
 unfoldable pub checkSearchAnswer : List ℕ → List ℕ → Answer
 checkSearchAnswer sheet text = answer (do
-  p ← takeQueryInputs sheet text
+  p ← acceptQueryInputs sheet text
   found (count (length (alternativesOf (p .query)))))
 
 -- what a search string asks
@@ -39,7 +39,7 @@ questionOfQuery p = record { parameters = p .parameters; says = λ es. querySays
 
 unfoldable pub searchQuestion : List ℕ → List ℕ → Step Question
 searchQuestion sheet text = do
-  p ← takeQueryInputs sheet text
+  p ← acceptQueryInputs sheet text
   found (questionOfQuery p)
 
 abbrev pub matchSearchAnswer : List ℕ → List ℕ → List ℕ → Answer

@@ -28,7 +28,7 @@ pub fn refused(refusal: Refusal) -> Answer
 }
 
 // Check's answer in numbers.
-pub fn told_check(checked: Checked) -> Answer
+pub fn c_checked(checked: Checked) -> Answer
     ensures { λ r. ⌜ r ≡ cAnswer (checkedAnswer checked) ⌝ }
 {
     match checked {
@@ -41,7 +41,7 @@ pub fn told_check(checked: Checked) -> Answer
 }
 
 // Match's answer in numbers.
-pub fn told_match(matched: Matched) -> Answer
+pub fn c_matched(matched: Matched) -> Answer
     ensures { λ r. ⌜ r ≡ cAnswer (matchedAnswer matched) ⌝ }
 {
     match matched {
@@ -58,7 +58,7 @@ pub fn told_match(matched: Matched) -> Answer
 }
 
 // Select's answer in numbers.
-pub fn told_select(selected: Selected) -> Answer
+pub fn c_selected(selected: Selected) -> Answer
     ensures { λ r. ⌜ r ≡ cAnswer (selectedAnswer selected) ⌝ }
 {
     match selected {

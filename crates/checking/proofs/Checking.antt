@@ -29,7 +29,7 @@ use Rattle.answer.specs.declared.Checked.{Checked}
 use Rattle.refusal.specs.Answers.{Answer, count, refused, numberOf, refusalAnswer}
 use Rattle.answer.specs.Answers.{checkedAnswer}
 use Rattle.refusal.specs.Steps.{Step, found, stop, _>>=_, answer}
-use Rattle.answer.specs.Operations.{treeStep, takeFilter, decisionStep, testsStep, sheetStep, takeSheet, filterAnswer, Inputs, takeInputs, checkAnswer}
+use Rattle.answer.specs.Operations.{treeStep, acceptFilter, decisionStep, testsStep, sheetStep, acceptSheet, filterAnswer, Inputs, acceptInputs, checkAnswer}
 use Rattle.answer.specs.Passing.{summaryAnswer}
 use Rattle.answer.proofs.Inputs.{text-read}
 
@@ -53,11 +53,11 @@ failure-answered r f e = rw e
 
 module _ (ps : List Parameter) (xs : List ℕ) (c : Checked) where
   pub text-empty : length xs ≡ 0 → checkedAnswer c ≡ refused (numberOf Reason.FilterSize) 0 → checkedAnswer c ≡ filterAnswer ps xs
-  unfolding filterAnswer takeFilter
+  unfolding filterAnswer acceptFilter
   text-empty h e = e ∙ rw (eq-eqb (length xs) 0 h)
 
   pub text-long : 1024 < length xs → checkedAnswer c ≡ refused (numberOf Reason.FilterSize) 0 → checkedAnswer c ≡ filterAnswer ps xs
-  unfolding filterAnswer takeFilter
+  unfolding filterAnswer acceptFilter
   text-long h e =
       let n : length xs ≡ 0 → ⊥ = λ z. omega arith in
       e ∙ rw (ne-eqb (length xs) 0 n, lt-ltb 1024 (length xs) h)
@@ -125,9 +125,9 @@ count-filter ps (stop n p) = refl
 
 module _ (b xs : List ℕ) (r : Validity) (e : r ≡ readSheet b) (c : Checked) where
   pub check-sheet : (k : Validity) (n : ℕ) → ((ps : List Parameter) → sheetStep k ps ≡ stop n 0) → r ≡ k → checkedAnswer c ≡ refused n 0 → checkedAnswer c ≡ checkAnswer b xs
-  unfolding checkAnswer takeInputs takeSheet
+  unfolding checkAnswer acceptInputs acceptSheet
   check-sheet k n t i h = h ∙ rw (sym e ∙ i, t (parametersOf b))
 
   pub check-filter : r ≡ Validity.WellFormed → checkedAnswer c ≡ filterAnswer (parametersOf b) xs → checkedAnswer c ≡ checkAnswer b xs
-  unfolding checkAnswer takeInputs takeSheet filterAnswer
-  check-filter h g = g ∙ rw (sym e ∙ h) (sym (ap answer (count-filter (parametersOf b) (takeFilter xs))))
+  unfolding checkAnswer acceptInputs acceptSheet filterAnswer
+  check-filter h g = g ∙ rw (sym e ∙ h) (sym (ap answer (count-filter (parametersOf b) (acceptFilter xs))))

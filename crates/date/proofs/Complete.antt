@@ -12,7 +12,7 @@ use Rattle.date.specs.Marks.{hyphen, colon, plus, letterT}
 use Rattle.date.specs.Texts.{signed, zoneAt, readYear, readMonth, readDay, readLocal, zoned, read}
 use Rattle.date.specs.Spelling.{two, four, yearText, monthText, dayText, localText, signedText, SpellsZone, spells-utc, spells-east, spells-west, Spells, spells-year, spells-month, spells-day, spells-second}
 use Rattle.date.specs.declared.Date.{Date}
-use Rattle.date.specs.declared.Reading.the-variants.{Readable}
+use Rattle.date.specs.declared.DateReading.the-variants.{Readable}
 use Rattle.date.specs.declared.reader.Zone.the-variants.{Offset}
 use Rattle.date.proofs.Calendar.{day-below}
 use Rattle.date.proofs.Fields.{year-passes, month-passes, day-passes, time-passes, zone-passes}

@@ -15,7 +15,7 @@ use Rattle.date.specs.Texts.{read}
 use Rattle.date.specs.Instants.{InRange}
 use Rattle.date.specs.Spelling.{SpellsZone, spells-utc, spells-east, spells-west, Spells, spells-year, spells-month, spells-day, spells-second}
 use Rattle.date.specs.declared.Date.{Date}
-use Rattle.date.specs.declared.Reading.the-variants.{Readable}
+use Rattle.date.specs.declared.DateReading.the-variants.{Readable}
 use Rattle.date.proofs.Calendar.{day-bound, day-small, month-first, month-small, year-small}
 use Rattle.date.proofs.Fields.{time-bound}
 use Rattle.date.proofs.Spans.{instant-mag, instant-order}

@@ -24,8 +24,8 @@ use Rattle.date.specs.Marks.{hyphen, colon, plus, letterT, letterZ}
 use Rattle.date.specs.Texts.{twoAt, fourAt, fieldAt, signed, zoneAt, readYear, readMonth, readDay, readLocal, zoned, read}
 use Rattle.date.specs.Spelling.{two, yearText, monthText, dayText, localText, signedText, SpellsZone, spells-utc, spells-east, spells-west, Spells, spells-year, spells-month, spells-day, spells-second}
 use Rattle.date.specs.declared.Date.{Date}
-use Rattle.date.specs.declared.Reading.{Reading}
-use Rattle.date.specs.declared.Reading.the-variants.{Readable}
+use Rattle.date.specs.declared.DateReading.{DateReading}
+use Rattle.date.specs.declared.DateReading.the-variants.{Readable}
 use Rattle.date.specs.declared.reader.Zone.{Zone}
 use Rattle.date.specs.declared.reader.Zone.the-variants.{Offset}
 use Rattle.date.proofs.Calendar.{day-below}
@@ -34,7 +34,7 @@ use Rattle.date.proofs.Positions.{two-part, field-part, four-part}
 
 -- ---- a refusal is no value
 
-no-date : {d : Date} → Reading.Unreadable ≡ Readable d → ⊥
+no-date : {d : Date} → DateReading.Unreadable ≡ Readable d → ⊥
 no-date e = let z : _≡_ {A = ℕ} 0 1 = cc in omega arith
 
 no-offset : {z : ℤ} → Zone.Unreadable ≡ Offset z → ⊥
@@ -137,7 +137,7 @@ spelled e f h = subst₂ Spells (sym e) (date-same f) h
 year-spelled : (s : List ℕ) {d : Date} → length s ≡ 4 → readYear s ≡ Readable d → Spells s d
 unfolding readYear
 year-spelled s l e =
-    let p : _ = cond-first (validYear (fourAt s 0)) (Readable (yearDate (fourAt s 0))) Reading.Unreadable no-date e in
+    let p : _ = cond-first (validYear (fourAt s 0)) (Readable (yearDate (fourAt s 0))) DateReading.Unreadable no-date e in
     let v : ValidYear (fourAt s 0) = year-says (p .0) in
     spelled (begins-whole l (begins-year s (omega arith) v)) (p .1) (spells-year v)
 
@@ -146,7 +146,7 @@ unfolding readMonth
 month-spelled s l e =
     let y : ℕ = fourAt s 0 in
     let m : ℕ = fieldAt s 4 hyphen in
-    let p : _ = cond-first (validMonth y m) (Readable (monthDate y m)) Reading.Unreadable no-date e in
+    let p : _ = cond-first (validMonth y m) (Readable (monthDate y m)) DateReading.Unreadable no-date e in
     let v : ValidMonth y m = month-says (p .0) in
     spelled (begins-whole l (begins-month s (omega arith) v)) (p .1) (spells-month v)
 
@@ -156,7 +156,7 @@ day-spelled s l e =
     let y : ℕ = fourAt s 0 in
     let m : ℕ = fieldAt s 4 hyphen in
     let d : ℕ = fieldAt s 7 hyphen in
-    let p : _ = cond-first (validDay y m d) (Readable (dayDate y m d)) Reading.Unreadable no-date e in
+    let p : _ = cond-first (validDay y m d) (Readable (dayDate y m d)) DateReading.Unreadable no-date e in
     let v : ValidDay y m d = day-says (p .0) in
     spelled (begins-whole l (begins-day s (omega arith) v)) (p .1) (spells-day v)
 
@@ -169,8 +169,8 @@ second-spelled s {z} l zone e =
     let hour : ℕ = fieldAt s 10 letterT in
     let minute : ℕ = fieldAt s 13 colon in
     let second : ℕ = fieldAt s 16 colon in
-    let p : _ = cond-first (validDay y m d) (cond (validTime hour minute second) (Readable (secondDate y m d hour minute second z)) Reading.Unreadable) Reading.Unreadable no-date e in
-    let q : _ = cond-first (validTime hour minute second) (Readable (secondDate y m d hour minute second z)) Reading.Unreadable no-date (p .1) in
+    let p : _ = cond-first (validDay y m d) (cond (validTime hour minute second) (Readable (secondDate y m d hour minute second z)) DateReading.Unreadable) DateReading.Unreadable no-date e in
+    let q : _ = cond-first (validTime hour minute second) (Readable (secondDate y m d hour minute second z)) DateReading.Unreadable no-date (p .1) in
     let v : ValidDay y m d = day-says (p .0) in
     let t : ValidTime hour minute second = time-says (q .0) in
     spelled (begins-local s (omega arith) v t .split) (q .1) (spells-second v t zone)
@@ -180,7 +180,7 @@ unfolding zoned
 zoned-spelled s l (Offset z) e f = second-spelled s l (zone-spelled s e) f
 zoned-spelled s l Zone.Unreadable e f = absurd (no-date f)
 
-long-spelled : (s : List ℕ) {d : Date} → cond (ltb (length s) 20) Reading.Unreadable (zoned s (zoneAt s 19)) ≡ Readable d → Spells s d
+long-spelled : (s : List ℕ) {d : Date} → cond (ltb (length s) 20) DateReading.Unreadable (zoned s (zoneAt s 19)) ≡ Readable d → Spells s d
 long-spelled s e =
     ⊎-elim
     (λ p. absurd (no-date (p .1)))

@@ -8,8 +8,8 @@ use mathlib.Core.Logic.{_↔_}
 use Rattle.date.specs.Texts.{read, isDate, readable}
 use Rattle.date.specs.Spelling.{Spells}
 use Rattle.date.specs.declared.Date.{Date}
-use Rattle.date.specs.declared.Reading.{Reading}
-use Rattle.date.specs.declared.Reading.the-variants.{Readable}
+use Rattle.date.specs.declared.DateReading.{DateReading}
+use Rattle.date.specs.declared.DateReading.the-variants.{Readable}
 use Rattle.date.proofs.Complete.{spells-reads}
 use Rattle.date.proofs.Sound.{date-same, reads-spells}
 
@@ -22,10 +22,10 @@ pub spells-unique : {s : List ℕ} {d e : Date} → Spells s d → Spells s e �
 spells-unique p q = date-same (sym (spells-reads p) ∙ spells-reads q)
 
 -- and it is readable exactly where it spells one
-readable-date : (s : List ℕ) (r : Reading) → read s ≡ r → isDate r ≡ true → (d : Date) × Spells s d
+readable-date : (s : List ℕ) (r : DateReading) → read s ≡ r → isDate r ≡ true → (d : Date) × Spells s d
 unfolding isDate
 readable-date s (Readable d) e h = (d, reads-spells s e)
-readable-date s Reading.Unreadable e h = absurd (false≢true h)
+readable-date s DateReading.Unreadable e h = absurd (false≢true h)
 
 spells-readable : (s : List ℕ) → (d : Date) × Spells s d → readable s ≡ true
 unfolding readable isDate

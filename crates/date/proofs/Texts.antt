@@ -27,8 +27,8 @@ use Rattle.date.specs.Spans.{daysFrom, secondOfDay, secondFrom, yearDate
 use Rattle.date.specs.Marks.{hyphen, colon, plus, letterT, letterZ}
 use Rattle.date.specs.Texts.{digitOf, pair, twoAt, fourAt, fieldAt, signed, zoneAt, readYear, readMonth, readDay, readLocal, zoned, read, isDate, readable}
 use Rattle.date.specs.declared.Date.{Date}
-use Rattle.date.specs.declared.Reading.{Reading}
-use Rattle.date.specs.declared.Reading.the-variants.{Readable}
+use Rattle.date.specs.declared.DateReading.{DateReading}
+use Rattle.date.specs.declared.DateReading.the-variants.{Readable}
 use Rattle.date.specs.declared.reader.Zone.{Zone}
 use Rattle.date.specs.declared.reader.Zone.the-variants.{Offset}
 use Rattle.date.proofs.Fields.{zone-says}
@@ -211,7 +211,7 @@ module _ (s : List ℕ) {y : ℕ} {p : Bool} (e : y ≡ fourAt s 0) (f : p ≡ v
   unfolding readYear yearDate
   year-on t a b g = rw (← e, ← f, t, ← a, ← b) (ap Readable g)
 
-  pub year-off : p ≡ false → Reading.Unreadable ≡ readYear s
+  pub year-off : p ≡ false → DateReading.Unreadable ≡ readYear s
   unfolding readYear
   year-off t = rw (← e, ← f, t)
 
@@ -220,7 +220,7 @@ module _ (s : List ℕ) {y m : ℕ} {p : Bool} (e : y ≡ fourAt s 0) (i : m ≡
   unfolding readMonth monthDate
   month-on t a b g = rw (← e, ← i, ← f, t, ← a, ← b) (ap Readable g)
 
-  pub month-off : p ≡ false → Reading.Unreadable ≡ readMonth s
+  pub month-off : p ≡ false → DateReading.Unreadable ≡ readMonth s
   unfolding readMonth
   month-off t = rw (← e, ← i, ← f, t)
 
@@ -229,16 +229,16 @@ module _ (s : List ℕ) {y m d : ℕ} {p : Bool} (e : y ≡ fourAt s 0) (i : m �
   unfolding readDay dayDate
   day-on t a g = rw (← e, ← i, ← j, ← f, t, ← a) (ap Readable g)
 
-  pub day-off : p ≡ false → Reading.Unreadable ≡ readDay s
+  pub day-off : p ≡ false → DateReading.Unreadable ≡ readDay s
   unfolding readDay
   day-off t = rw (← e, ← i, ← j, ← f, t)
 
-  pub local-day : (offset : ℤ) → p ≡ false → Reading.Unreadable ≡ readLocal s offset
+  pub local-day : (offset : ℤ) → p ≡ false → DateReading.Unreadable ≡ readLocal s offset
   unfolding readLocal
   local-day offset t = rw (← e, ← i, ← j, ← f, t)
 
   module _ {hour minute second : ℕ} {q : Bool} (t : p ≡ true) (a : hour ≡ fieldAt s 10 letterT) (b : minute ≡ fieldAt s 13 colon) (c : second ≡ fieldAt s 16 colon) (g : q ≡ validTime hour minute second) where
-    pub local-time : (offset : ℤ) → q ≡ false → Reading.Unreadable ≡ readLocal s offset
+    pub local-time : (offset : ℤ) → q ≡ false → DateReading.Unreadable ≡ readLocal s offset
     unfolding readLocal
     local-time offset u = rw (← e, ← i, ← j, ← f, t, ← a, ← b, ← c, ← g, u)
 
@@ -250,22 +250,22 @@ module _ (s : List ℕ) {y m d : ℕ} {p : Bool} (e : y ≡ fourAt s 0) (i : m �
 -- ---- a text
 
 module _ (s : List ℕ) where
-  pub read-year : {r : Reading} → length s ≡ 4 → r ≡ readYear s → r ≡ read s
+  pub read-year : {r : DateReading} → length s ≡ 4 → r ≡ readYear s → r ≡ read s
   unfolding read
   read-year h e = rw (eq-eqb _ _ h) e
 
   module _ (not4 : length s ≡ 4 → ⊥) where
-    pub read-month : {r : Reading} → length s ≡ 7 → r ≡ readMonth s → r ≡ read s
+    pub read-month : {r : DateReading} → length s ≡ 7 → r ≡ readMonth s → r ≡ read s
     unfolding read
     read-month h e = rw (ne-eqb _ _ not4, eq-eqb _ _ h) e
 
     module _ (not7 : length s ≡ 7 → ⊥) where
-      pub read-day : {r : Reading} → length s ≡ 10 → r ≡ readDay s → r ≡ read s
+      pub read-day : {r : DateReading} → length s ≡ 10 → r ≡ readDay s → r ≡ read s
       unfolding read
       read-day h e = rw (ne-eqb _ _ not4, ne-eqb _ _ not7, eq-eqb _ _ h) e
 
       module _ (not10 : length s ≡ 10 → ⊥) where
-        pub read-short : length s < 20 → Reading.Unreadable ≡ read s
+        pub read-short : length s < 20 → DateReading.Unreadable ≡ read s
         unfolding read
         read-short h = rw (ne-eqb _ _ not4, ne-eqb _ _ not7, ne-eqb _ _ not10, lt-ltb _ _ h)
 
@@ -274,19 +274,19 @@ module _ (s : List ℕ) where
           unfolding read
           read-long = rw (ne-eqb _ _ not4, ne-eqb _ _ not7, ne-eqb _ _ not10, le-ltb _ _ h, ← e)
 
-          pub read-second : {r : Reading} {z : ℤ} → zone ≡ Offset z → r ≡ readLocal s (toZ w64 (ofZ w64 z)) → r ≡ read s
+          pub read-second : {r : DateReading} {z : ℤ} → zone ≡ Offset z → r ≡ readLocal s (toZ w64 (ofZ w64 z)) → r ≡ read s
           unfolding zoned
           read-second f g = g ∙ ap (readLocal s) (zone-back s 19 e f) ∙ ap (zoned s) (sym f) ∙ read-long
 
-          pub read-no-zone : zone ≡ Zone.Unreadable → Reading.Unreadable ≡ read s
+          pub read-no-zone : zone ≡ Zone.Unreadable → DateReading.Unreadable ≡ read s
           unfolding zoned
           read-no-zone f = ap (zoned s) (sym f) ∙ read-long
 
-module _ (s : List ℕ) {r : Reading} (e : r ≡ read s) where
+module _ (s : List ℕ) {r : DateReading} (e : r ≡ read s) where
   pub readable-on : {d : Date} → r ≡ Readable d → true ≡ readable s
   unfolding readable isDate
   readable-on f = rw (← e, f)
 
-  pub readable-off : r ≡ Reading.Unreadable → false ≡ readable s
+  pub readable-off : r ≡ DateReading.Unreadable → false ≡ readable s
   unfolding readable isDate
   readable-off f = rw (← e, f)

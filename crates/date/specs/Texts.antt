@@ -10,8 +10,8 @@ use Rattle.base.specs.Digits.{isDigit}
 use Rattle.date.specs.Fields.{validYear, validMonth, validDay, validTime, validZone}
 use Rattle.date.specs.Spans.{yearDate, monthDate, dayDate, secondDate}
 use Rattle.date.specs.Marks.{hyphen, colon, plus, letterT, letterZ}
-use Rattle.date.specs.declared.Reading.{Reading}
-use Rattle.date.specs.declared.Reading.the-variants.{Readable}
+use Rattle.date.specs.declared.DateReading.{DateReading}
+use Rattle.date.specs.declared.DateReading.the-variants.{Readable}
 use Rattle.date.specs.declared.reader.Zone.{Zone}
 use Rattle.date.specs.declared.reader.Zone.the-variants.{Offset}
 
@@ -56,48 +56,48 @@ zoneAt s at =
 -- ---- the spellings
 
 -- YYYY
-unfoldable pub readYear : List ℕ → Reading
-readYear s = cond (validYear (fourAt s 0)) (Readable (yearDate (fourAt s 0))) Reading.Unreadable
+unfoldable pub readYear : List ℕ → DateReading
+readYear s = cond (validYear (fourAt s 0)) (Readable (yearDate (fourAt s 0))) DateReading.Unreadable
 
 -- YYYY-MM
-unfoldable pub readMonth : List ℕ → Reading
+unfoldable pub readMonth : List ℕ → DateReading
 readMonth s =
-    cond (validMonth (fourAt s 0) (fieldAt s 4 hyphen)) (Readable (monthDate (fourAt s 0) (fieldAt s 4 hyphen))) Reading.Unreadable
+    cond (validMonth (fourAt s 0) (fieldAt s 4 hyphen)) (Readable (monthDate (fourAt s 0) (fieldAt s 4 hyphen))) DateReading.Unreadable
 
 -- YYYY-MM-DD
-unfoldable pub readDay : List ℕ → Reading
+unfoldable pub readDay : List ℕ → DateReading
 readDay s =
     cond (validDay (fourAt s 0) (fieldAt s 4 hyphen) (fieldAt s 7 hyphen))
     (Readable (dayDate (fourAt s 0) (fieldAt s 4 hyphen) (fieldAt s 7 hyphen)))
-    Reading.Unreadable
+    DateReading.Unreadable
 
 -- YYYY-MM-DDThh:mm:ss, at a zone offset
-unfoldable pub readLocal : List ℕ → ℤ → Reading
+unfoldable pub readLocal : List ℕ → ℤ → DateReading
 readLocal s offset =
     cond (validDay (fourAt s 0) (fieldAt s 4 hyphen) (fieldAt s 7 hyphen))
     (cond (validTime (fieldAt s 10 letterT) (fieldAt s 13 colon) (fieldAt s 16 colon))
     (Readable
     (secondDate (fourAt s 0) (fieldAt s 4 hyphen) (fieldAt s 7 hyphen) (fieldAt s 10 letterT) (fieldAt s 13 colon) (fieldAt s 16 colon) offset))
-    Reading.Unreadable)
-    Reading.Unreadable
+    DateReading.Unreadable)
+    DateReading.Unreadable
 
 -- YYYY-MM-DDThh:mm:ss and its zone
-unfoldable pub zoned : List ℕ → Zone → Reading
+unfoldable pub zoned : List ℕ → Zone → DateReading
 zoned s (Offset offset) = readLocal s offset
-zoned s Zone.Unreadable = Reading.Unreadable
+zoned s Zone.Unreadable = DateReading.Unreadable
 
 -- a text, by its length
-unfoldable pub read : List ℕ → Reading
+unfoldable pub read : List ℕ → DateReading
 read s =
     cond (eqb (length s) 4) (readYear s)
     (cond (eqb (length s) 7) (readMonth s)
     (cond (eqb (length s) 10) (readDay s)
-    (cond (ltb (length s) 20) Reading.Unreadable (zoned s (zoneAt s 19)))))
+    (cond (ltb (length s) 20) DateReading.Unreadable (zoned s (zoneAt s 19)))))
 
 -- the reading is a date
-unfoldable pub isDate : Reading → Bool
+unfoldable pub isDate : DateReading → Bool
 isDate (Readable d) = true
-isDate Reading.Unreadable = false
+isDate DateReading.Unreadable = false
 
 -- 01: readable
 unfoldable pub readable : List ℕ → Bool

@@ -14,7 +14,7 @@ pub struct Date {
 }
 
 // What a text reads to: a date, where it is readable as one.
-pub enum Reading {
+pub enum DateReading {
     Readable(Date),
     Unreadable,
 }

@@ -5,7 +5,7 @@ ghost use Prim.Native.Nat.{_+_, _≤_};
 ghost use lib.ListN.{length};
 ghost use Rattle.date.specs.Fields.{ValidOffset};
 ghost use Rattle.date.specs.Texts.{digitOf, pair, twoAt, fourAt, fieldAt, signed, zoneAt, readYear, readMonth, readDay, readLocal, read, readable};
-use crate::Reading;
+use crate::DateReading;
 use crate::days;
 use crate::seconds;
 
@@ -104,38 +104,38 @@ fn zone_at(s: &[u8], at: usize) -> Zone
 }
 
 // YYYY: the year.
-fn read_year(s: &[u8]) -> Reading
+fn read_year(s: &[u8]) -> DateReading
     requires { ⌜ 4 ≤ length (now s) ⌝ }
     ensures { λ r. ⌜ r ≡ readYear (now (s .entry)) ⌝ }
 {
     let y = four_at(s, 0);
     if days::valid_year(y) {
-        return Reading::Readable(seconds::days_from(
+        return DateReading::Readable(seconds::days_from(
             days::day_number(y, 1, 1),
             days::year_length(y),
         ));
     }
-    Reading::Unreadable
+    DateReading::Unreadable
 }
 
 // YYYY-MM: the month.
-fn read_month(s: &[u8]) -> Reading
+fn read_month(s: &[u8]) -> DateReading
     requires { ⌜ 7 ≤ length (now s) ⌝ }
     ensures { λ r. ⌜ r ≡ readMonth (now (s .entry)) ⌝ }
 {
     let y = four_at(s, 0);
     let m = field_at(s, 4, b'-');
     if days::valid_month(y, m) {
-        return Reading::Readable(seconds::days_from(
+        return DateReading::Readable(seconds::days_from(
             days::day_number(y, m, 1),
             days::month_length(y, m),
         ));
     }
-    Reading::Unreadable
+    DateReading::Unreadable
 }
 
 // YYYY-MM-DD: the day.
-fn read_day(s: &[u8]) -> Reading
+fn read_day(s: &[u8]) -> DateReading
     requires { ⌜ 10 ≤ length (now s) ⌝ }
     ensures { λ r. ⌜ r ≡ readDay (now (s .entry)) ⌝ }
 {
@@ -143,13 +143,13 @@ fn read_day(s: &[u8]) -> Reading
     let m = field_at(s, 4, b'-');
     let d = field_at(s, 7, b'-');
     if days::valid_day(y, m, d) {
-        return Reading::Readable(seconds::days_from(days::day_number(y, m, d), 1));
+        return DateReading::Readable(seconds::days_from(days::day_number(y, m, d), 1));
     }
-    Reading::Unreadable
+    DateReading::Unreadable
 }
 
 // YYYY-MM-DDThh:mm:ss: the second, at a zone offset.
-fn read_local(s: &[u8], offset: i64) -> Reading
+fn read_local(s: &[u8], offset: i64) -> DateReading
     requires { ⌜ 19 ≤ length (now s) ⌝ }
     requires { ⌜ ValidOffset offset ⌝ }
     ensures { λ r. ⌜ r ≡ readLocal (now (s .entry)) offset ⌝ }
@@ -162,18 +162,18 @@ fn read_local(s: &[u8], offset: i64) -> Reading
         let minute = field_at(s, 13, b':');
         let second = field_at(s, 16, b':');
         if days::valid_time(hour, minute, second) {
-            return Reading::Readable(seconds::second_from(
+            return DateReading::Readable(seconds::second_from(
                 days::day_number(y, m, d),
                 seconds::second_of_day(hour, minute, second),
                 offset,
             ));
         }
     }
-    Reading::Unreadable
+    DateReading::Unreadable
 }
 
 // What a text reads to: "YYYY, YYYY-MM, YYYY-MM-DD, or YYYY-MM-DDThh:mm:ss with Z or a zone".
-pub fn read(s: &[u8]) -> Reading
+pub fn read(s: &[u8]) -> DateReading
     ensures { λ r. ⌜ r ≡ read (now (s .entry)) ⌝ }
 {
     if s.len() == 4 {
@@ -186,11 +186,11 @@ pub fn read(s: &[u8]) -> Reading
         return read_day(s);
     }
     if s.len() < 20 {
-        return Reading::Unreadable;
+        return DateReading::Unreadable;
     }
     match zone_at(s, 19) {
         Zone::Offset(offset) => read_local(s, offset),
-        Zone::Unreadable => Reading::Unreadable,
+        Zone::Unreadable => DateReading::Unreadable,
     }
 }
 
@@ -199,7 +199,7 @@ pub fn readable(s: &[u8]) -> bool
     ensures { λ r. ⌜ r ≡ readable (now (s .entry)) ⌝ }
 {
     match read(s) {
-        Reading::Readable(_) => true,
-        Reading::Unreadable => false,
+        DateReading::Readable(_) => true,
+        DateReading::Unreadable => false,
     }
 }

@@ -26,15 +26,15 @@ use Rattle.judge.proofs.Rules.{PrSpelled, pr-spelled, filter-says-iff}
 use Rattle.refusal.specs.Answers.{Answer, yesOrNo, refused}
 use Rattle.refusal.specs.Steps.{Step, found, stop, _>>=_, answer}
 use Rattle.answer.specs.Demand.{TestRules, Meaningful, filterTests}
-use Rattle.answer.specs.Operations.{testsStep, Inputs, takeInputs, Card, takeCard, matchAnswer, written}
+use Rattle.answer.specs.Operations.{testsStep, Inputs, acceptInputs, Card, acceptCard, matchAnswer, written}
 use Rattle.answer.specs.Verdicts.{Verdict}
-use Rattle.answer.proofs.Cards.{conforms-taken, conforms-bytes}
-use Rattle.answer.proofs.Inputs.{inputs-taken, tests-outcome}
+use Rattle.answer.proofs.Cards.{conforms-accepted, conforms-bytes}
+use Rattle.answer.proofs.Inputs.{inputs-accepted, tests-outcome}
 use Rattle.answer.proofs.Outcomes.{TestsOutcome, all-mean, one-refused}
 use Rattle.answer.proofs.Verdicts.{verdict-spelled}
 use Rattle.explain.specs.Deciding.{outerTests, outerCount, verdicts, saysBy, cells}
 use Rattle.explain.specs.Marks.{deciding, explanation}
-use Rattle.explain.specs.Operation.{Explanation, explanationOf, takeMarks, explaining, explainAnswer, explainCells}
+use Rattle.explain.specs.Operation.{Explanation, explanationOf, acceptMarks, explaining, explainAnswer, explainCells}
 use Rattle.explain.specs.Refusals.{ExplainLine}
 use Rattle.explain.specs.Explaining.{SaysEach, ExplainAnswers, AsMatch, same-answer, short-list}
 use Rattle.explain.proofs.Deciding.{explains}
@@ -113,19 +113,19 @@ module _ (sheet text card list : List ℕ) (s : SheetBlock sheet) (f : Tree) (sh
 
   -- where no line of the table holds, it answers
   pub explain-answered : Bytes sheet → ((n p : ℕ) → ExplainLine sheet text card (length list) n p → ⊥) → ExplainAnswers sheet text card list ps es f
-  unfolding takeMarks
+  unfolding acceptMarks
   explain-answered bytes none-of = by-tests (testsStep ps (testsOf f)) refl
     where
       refusing : (n p : ℕ) → explaining sheet text card (length list) ≡ stop n p → ⊥
       refusing n p e = none-of n p (explain-table sheet text card (length list) bytes (conforms-bytes c) n p .0 (answer-by sheet text card list (stop n p) e) .holds)
 
-      inputs-by : (t : Step (Unit {0})) → testsStep ps (testsOf f) ≡ t → takeInputs sheet text ≡ (t >>= λ u. found both)
-      inputs-by t e = inputs-taken sheet text s f short spells ∙ ap (λ (q : Step (Unit {0})). q >>= λ u. found both) e
+      inputs-by : (t : Step (Unit {0})) → testsStep ps (testsOf f) ≡ t → acceptInputs sheet text ≡ (t >>= λ u. found both)
+      inputs-by t e = inputs-accepted sheet text s f short spells ∙ ap (λ (q : Step (Unit {0})). q >>= λ u. found both) e
 
       by-room : (u : Unit {0}) → testsStep ps (testsOf f) ≡ found u → (x : Step Explanation) → explaining sheet text card (length list) ≡ x → ExplainAnswers sheet text card list ps es f
       by-room u e (stop n p) g = absurd (refusing n p g)
       by-room u e (found y) g =
-          let by-steps : explaining sheet text card (length list) ≡ takeMarks (length list) (outerCount f) whole = explaining-by sheet text card (length list) (found both) (inputs-by (found u) e) ∙ rw (conforms-taken c 0) in
+          let by-steps : explaining sheet text card (length list) ≡ acceptMarks (length list) (outerCount f) whole = explaining-by sheet text card (length list) (found both) (inputs-by (found u) e) ∙ rw (conforms-accepted c 0) in
           let same : y ≡ whole = room-found (leb (outerCount f) (length list)) whole y 33 (outerCount f) (sym by-steps ∙ g) in
           let meant = all-meant (filterTests ps) (testsOf f) (testsStep ps (testsOf f)) (tests-outcome ps (s .well-formed) (testsOf f)) u e in
           answers (g ∙ ap found same) (all-map (λ t k. pr-spelled ps es t (k card es c)) meant)
@@ -138,8 +138,8 @@ module _ (sheet text card list : List ℕ) (s : SheetBlock sheet) (f : Tree) (sh
 
 module _ (sheet text card list : List ℕ) where
   pub as-match : AsMatch sheet text card (length list)
-  unfolding takeMarks
-  as-match = by-inputs (takeInputs sheet text) refl
+  unfolding acceptMarks
+  as-match = by-inputs (acceptInputs sheet text) refl
     where
       by-room : (y : Inputs) (c : Card) (b : Bool) → explaining sheet text card (length list) ≡ cond b (found (explanationOf y c)) (stop 33 (outerCount (y .filter)))
           → matchAnswer sheet text card ≡ yesOrNo (filterSays (y .parameters) 0 (c .entries) (y .filter)) → AsMatch sheet text card (length list)
@@ -147,13 +147,13 @@ module _ (sheet text card list : List ℕ) where
       by-room y c false e h =
           short-list (outerCount (y .filter)) (answer-by sheet text card list (stop 33 (outerCount (y .filter))) e) (λ n q g. not-refused (filterSays (y .parameters) 0 (c .entries) (y .filter)) n q (sym h ∙ g))
 
-      by-card : (y : Inputs) (q : Step Card) → explaining sheet text card (length list) ≡ (q >>= λ c. takeMarks (length list) (outerCount (y .filter)) (explanationOf y c))
+      by-card : (y : Inputs) (q : Step Card) → explaining sheet text card (length list) ≡ (q >>= λ c. acceptMarks (length list) (outerCount (y .filter)) (explanationOf y c))
           → matchAnswer sheet text card ≡ answer (q >>= λ c. found (yesOrNo (filterSays (y .parameters) 0 (c .entries) (y .filter)))) → AsMatch sheet text card (length list)
       by-card y (found c) e h = by-room y c (leb (outerCount (y .filter)) (length list)) e h
       by-card y (stop n p) e h = same-answer (answer-by sheet text card list (stop n p) e ∙ sym h)
 
-      by-inputs : (r : Step Inputs) → takeInputs sheet text ≡ r → AsMatch sheet text card (length list)
-      by-inputs (found y) e = by-card y (takeCard (y .parameters) 0 card) (explaining-by sheet text card (length list) (found y) e) (match-answer-by sheet text card (found y) e)
+      by-inputs : (r : Step Inputs) → acceptInputs sheet text ≡ r → AsMatch sheet text card (length list)
+      by-inputs (found y) e = by-card y (acceptCard (y .parameters) 0 card) (explaining-by sheet text card (length list) (found y) e) (match-answer-by sheet text card (found y) e)
       by-inputs (stop n p) e = same-answer (answer-by sheet text card list (stop n p) (explaining-by sheet text card (length list) (stop n p) e) ∙ sym (match-answer-by sheet text card (stop n p) e))
 
   -- a refusal keeps the list

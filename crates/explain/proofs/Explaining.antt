@@ -1,6 +1,6 @@
 -- Explain, as the code comes to its answer and its cells: it is match, by prepare and judge, and then the marks.
 -- The definition is a chain of steps, and the laws follow it. What match refuses stops explain with the same number and place
--- (`stops-as-match`). Else it is known what was taken (`Judged`, by `taken-with`): the sheet's parameters, the filter, good rows that state
+-- (`stops-as-match`). Else it is known what was accepted (`Judged`, by `accepted-with`): the sheet's parameters, the filter, good rows that state
 -- it, and the card. The rows' expression has the verdicts of the filter's outer tests (`filter-verdicts`) and is marked as the filter is
 -- (`filter-alike`). So what the code marks and then spares by the rows are the cells of the definition (`marks-are`). `mark-yes` and
 -- `mark-no` say so of the list, and `mark-short` is for a list that is too short.
@@ -42,7 +42,7 @@ use Rattle.refusal.specs.declared.Refusal.{Refusal}
 use Rattle.refusal.specs.Answers.{yesOrNo, count, refused, numberOf, refusalAnswer}
 use Rattle.refusal.specs.Steps.{Step, found, stop, _>>=_, answer}
 use Rattle.answer.specs.Answers.{matchedAnswer}
-use Rattle.answer.specs.Operations.{Inputs, takeInputs, Card, takeCard, questionOf, filterQuestion, matchAnswer, written}
+use Rattle.answer.specs.Operations.{Inputs, acceptInputs, Card, acceptCard, questionOf, filterQuestion, matchAnswer, written}
 use Rattle.answer.specs.Preparing.{preparation, prepareAnswer, prepareCells, preparedAnswer, judgeAnswer}
 use Rattle.answer.specs.Refusals.{CheckLine, line-10}
 use Rattle.sirophan.specs.Contracts.{PreparesInto, Judges}
@@ -57,7 +57,7 @@ use Rattle.answer.proofs.Passing.{card-found}
 use Rattle.answer.proofs.RowsAnswered.{known-of, prepares-good, match-is}
 use Rattle.explain.specs.Deciding.{outerCount, verdicts, cell, cells}
 use Rattle.explain.specs.Marks.{explanation}
-use Rattle.explain.specs.Operation.{Explanation, explanationOf, takeMarks, explaining, explainAnswer, explainCells}
+use Rattle.explain.specs.Operation.{Explanation, explanationOf, acceptMarks, explaining, explainAnswer, explainCells}
 use Rattle.explain.specs.Rows.{outline, outerVerdicts, Tells, Spares}
 use Rattle.explain.specs.Contracts.{Marks, Judged}
 use Rattle.explain.proofs.Alike.{filter-verdicts, filter-alike, deciding-alike}
@@ -70,30 +70,30 @@ not-refused true n p e = let z : _≡_ {A = ℕ} 0 1 = cc in omega arith
 not-refused false n p e = let z : _≡_ {A = ℕ} 0 1 = cc in omega arith
 
 module _ (sheet text card : List ℕ) where
-  pub explaining-by : (room : ℕ) (r : Step Inputs) → takeInputs sheet text ≡ r
-      → explaining sheet text card room ≡ (r >>= λ p. takeCard (p .parameters) 0 card >>= λ c. takeMarks room (outerCount (p .filter)) (explanationOf p c))
+  pub explaining-by : (room : ℕ) (r : Step Inputs) → acceptInputs sheet text ≡ r
+      → explaining sheet text card room ≡ (r >>= λ p. acceptCard (p .parameters) 0 card >>= λ c. acceptMarks room (outerCount (p .filter)) (explanationOf p c))
   unfolding explaining
   explaining-by room r e = rw e
 
-  pub match-answer-by : (r : Step Inputs) → takeInputs sheet text ≡ r
-      → matchAnswer sheet text card ≡ answer (r >>= λ p. takeCard (p .parameters) 0 card >>= λ c. found (yesOrNo (filterSays (p .parameters) 0 (c .entries) (p .filter))))
+  pub match-answer-by : (r : Step Inputs) → acceptInputs sheet text ≡ r
+      → matchAnswer sheet text card ≡ answer (r >>= λ p. acceptCard (p .parameters) 0 card >>= λ c. found (yesOrNo (filterSays (p .parameters) 0 (c .entries) (p .filter))))
   match-answer-by (found p) e = match-by (filterQuestion sheet text) (found (questionOf p)) (question-by sheet text (found p) e) card
   match-answer-by (stop n p) e = match-by (filterQuestion sheet text) (stop n p) (question-by sheet text (stop n p) e) card
 
   -- what match refuses is refused alike
   pub stops-as-match : (room n p : ℕ) → matchAnswer sheet text card ≡ refused n p → explaining sheet text card room ≡ stop n p
-  stops-as-match room n p h = by-inputs (takeInputs sheet text) refl
+  stops-as-match room n p h = by-inputs (acceptInputs sheet text) refl
     where
       by-card : (y : Inputs) (q : Step Card) → answer (q >>= λ c. found (yesOrNo (filterSays (y .parameters) 0 (c .entries) (y .filter)))) ≡ refused n p
-          → (q >>= λ c. takeMarks room (outerCount (y .filter)) (explanationOf y c)) ≡ stop n p
+          → (q >>= λ c. acceptMarks room (outerCount (y .filter)) (explanationOf y c)) ≡ stop n p
       by-card y (found c) g = absurd (not-refused (filterSays (y .parameters) 0 (c .entries) (y .filter)) n p g)
       by-card y (stop m q) g =
           let number : m ≡ n = cc in
           let where-at : q ≡ p = cc in
           rw (number, where-at)
 
-      by-inputs : (r : Step Inputs) → takeInputs sheet text ≡ r → explaining sheet text card room ≡ stop n p
-      by-inputs (found y) e = explaining-by room (found y) e ∙ by-card y (takeCard (y .parameters) 0 card) (sym (match-answer-by (found y) e) ∙ h)
+      by-inputs : (r : Step Inputs) → acceptInputs sheet text ≡ r → explaining sheet text card room ≡ stop n p
+      by-inputs (found y) e = explaining-by room (found y) e ∙ by-card y (acceptCard (y .parameters) 0 card) (sym (match-answer-by (found y) e) ∙ h)
       by-inputs (stop m q) e =
           let same : refused m q ≡ refused n p = sym (match-answer-by (stop m q) e) ∙ h in
           let number : m ≡ n = cc in
@@ -150,11 +150,11 @@ module _ (sheet text rows card : List ℕ) (says : Bool) (j : Judged sheet text 
         ∙ ap (λ (bs : List Bool). cell true (getD bs i false))
         (ap (λ (q : List ℕ). outerVerdicts q text (entriesOf card) (j .good .expression)) k ∙ filter-verdicts ps formed text (j .good .expression) (j .good .fits) f (j .states) (entriesOf card))
 
-    found-by : (room : ℕ) → explaining sheet text card room ≡ takeMarks room (outerCount f) (explanationOf (record { parameters = ps; filter = f }) (cardOf card))
-    found-by room = explaining-by sheet text card room (found (record { parameters = ps; filter = f })) (j .inputs-taken) ∙ rw (j .card-taken)
+    found-by : (room : ℕ) → explaining sheet text card room ≡ acceptMarks room (outerCount f) (explanationOf (record { parameters = ps; filter = f }) (cardOf card))
+    found-by room = explaining-by sheet text card room (found (record { parameters = ps; filter = f })) (j .inputs-accepted) ∙ rw (j .card-accepted)
 
     pub mark-short : (list : List ℕ) → length list < tests → Marks sheet text card list (Matched.Refused (record { reason = Reason.ShortMarks; place = tests })) list
-    unfolding takeMarks matchedAnswer refusalAnswer
+    unfolding acceptMarks matchedAnswer refusalAnswer
     mark-short list l =
         let s : explaining sheet text card (length list) ≡ stop 33 tests = found-by (length list) ∙ rw (← counted, lt-leb tests (length list) l) in
         record { answers = sym (answer-by sheet text card list (stop 33 tests) s); cells = sym (cells-by sheet text card list (stop 33 tests) s) }
@@ -180,7 +180,7 @@ module _ (sheet text rows card : List ℕ) (says : Bool) (j : Judged sheet text 
 
       module _ (list exit : List ℕ) {n : ℕ} (l : tests ≤ length list) (w : Puts (part spared 0 tests) list exit n) where
         done : explaining sheet text card (length list) ≡ found (explanationOf (record { parameters = ps; filter = f }) (cardOf card))
-        unfolding takeMarks
+        unfolding acceptMarks
         done = found-by (length list) ∙ rw (← counted, le-leb tests (length list) l)
 
         marked : (r : Matched) → matchedAnswer r ≡ yesOrNo says → Marks sheet text card list r exit
@@ -198,7 +198,7 @@ module _ (sheet text rows card : List ℕ) (says : Bool) (j : Judged sheet text 
         unfolding matchedAnswer
         mark-no h = marked Matched.No (sym (ap yesOrNo h))
 
--- ---- what was taken, where match answers yes or no
+-- ---- what was accepted, where match answers yes or no
 
 same-verdict : (a b : Bool) → yesOrNo a ≡ yesOrNo b → b ≡ a
 same-verdict true true e = refl
@@ -209,25 +209,25 @@ same-verdict false true e = let z : _≡_ {A = ℕ} 0 1 = cc in absurd (omega ar
 -- the card, from what is said of it
 record CardSays (ps : List Parameter) (card : List ℕ) (f : Tree) (says : Bool) : Type 0 where
   reads : readCard card ≡ Validity.WellFormed
-  is-taken : takeCard ps 0 card ≡ found (cardOf card)
+  is-accepted : acceptCard ps 0 card ≡ found (cardOf card)
   verdict : says ≡ filterSays ps 0 (entriesOf card) f
 
-card-says : (ps : List Parameter) (card : List ℕ) (f : Tree) (says : Bool) → answer (takeCard ps 0 card >>= λ c. found (yesOrNo (filterSays ps 0 (c .entries) f))) ≡ yesOrNo says → CardSays ps card f says
-unfolding takeCard
-card-says ps card f says h = by-step (takeCard ps 0 card) refl h
+card-says : (ps : List Parameter) (card : List ℕ) (f : Tree) (says : Bool) → answer (acceptCard ps 0 card >>= λ c. found (yesOrNo (filterSays ps 0 (c .entries) f))) ≡ yesOrNo says → CardSays ps card f says
+unfolding acceptCard
+card-says ps card f says h = by-step (acceptCard ps 0 card) refl h
   where
-    by-step : (q : Step Card) → takeCard ps 0 card ≡ q → answer (q >>= λ c. found (yesOrNo (filterSays ps 0 (c .entries) f))) ≡ yesOrNo says → CardSays ps card f says
+    by-step : (q : Step Card) → acceptCard ps 0 card ≡ q → answer (q >>= λ c. found (yesOrNo (filterSays ps 0 (c .entries) f))) ≡ yesOrNo says → CardSays ps card f says
     by-step (stop n p) e g = absurd (not-refused says n p (sym g))
     by-step (found c) e g =
         let was = card-found (readCard card) (conforms ps (entriesOf card)) (cardOf card) 0 c e in
         record {
           reads = was .0;
-          is-taken = e ∙ ap found (was .1);
+          is-accepted = e ∙ ap found (was .1);
           verdict = same-verdict (filterSays ps 0 (entriesOf card) f) says (ap (λ (d : Card). yesOrNo (filterSays ps 0 (d .entries) f)) (sym (was .1)) ∙ g);
         }
 
 module _ (sheet text card list : List ℕ) (bytes : Bytes sheet) (n : ℕ) (rows : List ℕ) (filled : rows ≡ take n (prepareCells sheet text list)) (counts-cells : prepareAnswer sheet text (length list) ≡ count n)
-    (y : Inputs) (e : takeInputs sheet text ≡ found y) where
+    (y : Inputs) (e : acceptInputs sheet text ≡ found y) where
   known : ((s : SheetBlock sheet) × (s .parameters ≡ y .parameters) × Spells text (y .filter)) × ((m p : ℕ) → CheckLine sheet text m p → ⊥)
   known = known-of (inputs-decided sheet text bytes) y e
 
@@ -251,14 +251,14 @@ module _ (sheet text card list : List ℕ) (bytes : Bytes sheet) (n : ℕ) (rows
       let g = prepared-good .rows in
       record { expression = g .expression; written = filled ∙ g .written; nests = g .nests; few = g .few; fits = subst (λ (qs : List Parameter). Fits qs text 0 (g .expression)) sheets (g .fits) }
 
-  pub taken-with : (says : Bool) → answer (takeCard (y .parameters) 0 card >>= λ c. found (yesOrNo (filterSays (y .parameters) 0 (c .entries) (y .filter)))) ≡ yesOrNo says → Judged sheet text rows card says
-  taken-with says h =
+  pub accepted-with : (says : Bool) → answer (acceptCard (y .parameters) 0 card >>= λ c. found (yesOrNo (filterSays (y .parameters) 0 (c .entries) (y .filter)))) ≡ yesOrNo says → Judged sheet text rows card says
+  accepted-with says h =
       let reads = sheet-reads-iff sheet (block .marked) (block .parameters) .1 (block .well-formed, block .form, block .encoded) in
       let tested : good (kindsOf (parametersOf sheet)) (parentsOf (parametersOf sheet)) text rows ≡ true = good-iff (parametersOf sheet) (sheet-well-formed sheet (reads .reading)) text rows .1 rows-good in
       let c : CardSays (parametersOf sheet) card (y .filter) says = subst (λ (qs : List Parameter). CardSays qs card (y .filter) says) mine (card-says (y .parameters) card (y .filter) says h) in
       record {
         filter = y .filter;
-        inputs-taken = e ∙ ap (λ (qs : List Parameter). found (record { parameters = qs; filter = y .filter })) mine;
+        inputs-accepted = e ∙ ap (λ (qs : List Parameter). found (record { parameters = qs; filter = y .filter })) mine;
         sheet-reads = reads .reading;
         short = short;
         good = rows-good;
@@ -266,7 +266,7 @@ module _ (sheet text card list : List ℕ) (bytes : Bytes sheet) (n : ℕ) (rows
         whole = good-whole (kindsOf (parametersOf sheet)) (parentsOf (parametersOf sheet)) text rows tested;
         few = good-few (kindsOf (parametersOf sheet)) (parentsOf (parametersOf sheet)) text rows tested;
         card-reads = c .reads;
-        card-taken = c .is-taken;
+        card-accepted = c .is-accepted;
         verdict = c .verdict;
       }
 
@@ -309,12 +309,12 @@ module _ (sheet text card : List ℕ) (prepared : Prepared) (exit : List ℕ) (p
     judge-refuses cells q e = marks-refused sheet text card cells q (sym as-match ∙ ap matchedAnswer e)
 
     judged : (says : Bool) → matchedAnswer r ≡ yesOrNo says → Judged sheet text (part exit 0 n) card says
-    judged says h = by-inputs (takeInputs sheet text) refl
+    judged says h = by-inputs (acceptInputs sheet text) refl
       where
-        by-inputs : (i : Step Inputs) → takeInputs sheet text ≡ i → Judged sheet text (part exit 0 n) card says
+        by-inputs : (i : Step Inputs) → acceptInputs sheet text ≡ i → Judged sheet text (part exit 0 n) card says
         by-inputs (stop m q) e = absurd (not-refused says m q (sym h ∙ as-match ∙ match-answer-by sheet text card (stop m q) e))
         by-inputs (found y) e =
-            taken-with sheet text card list (bytes-of sheet sliced) n (part exit 0 n) filled counts-cells y e says (sym (match-answer-by sheet text card (found y) e) ∙ sym as-match ∙ h)
+            accepted-with sheet text card list (bytes-of sheet sliced) n (part exit 0 n) filled counts-cells y e says (sym (match-answer-by sheet text card (found y) e) ∙ sym as-match ∙ h)
 
     pub judged-yes : r ≡ Matched.Yes → Judged sheet text (part exit 0 n) card true
     unfolding matchedAnswer

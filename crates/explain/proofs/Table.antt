@@ -20,12 +20,12 @@ use Rattle.refusal.specs.Order.{group, Before, Decides}
 use Rattle.refusal.proofs.Answers.{verdict-not-refused}
 use Rattle.refusal.proofs.Deciding.{Decided, none-holds, one-decides, decided-as, decided-then, decided-found, decided-answer}
 use Rattle.refusal.proofs.Order.{apart-at, before-itself}
-use Rattle.answer.specs.Operations.{Inputs, takeCard}
+use Rattle.answer.specs.Operations.{Inputs, acceptCard}
 use Rattle.answer.specs.Refusals.{CheckLine, OneCardLine, line-20-match, line-of-card}
 use Rattle.answer.proofs.CheckTable.{Ready, check-group, inputs-decided}
 use Rattle.answer.proofs.MatchTable.{card-group, one-decided}
 use Rattle.explain.specs.Deciding.{outerCount}
-use Rattle.explain.specs.Operation.{Explanation, explanationOf, takeMarks, explaining, explainAnswer}
+use Rattle.explain.specs.Operation.{Explanation, explanationOf, acceptMarks, explaining, explainAnswer}
 use Rattle.explain.specs.Refusals.{MarksLine, line-33, ExplainLine}
 
 module _ (sheet text card : List ℕ) (room : ℕ) where
@@ -37,8 +37,8 @@ module _ (sheet text card : List ℕ) (room : ℕ) where
       let same : outerCount g ≡ outerCount f = ap outerCount (spells-unique text g f other spells) in
       (refl, (same, subst (λ (k : ℕ). room < k) same l))
 
-  marks-decided : (f : Tree) → Spells text f → (x : Explanation) → Decided (λ y. Unit {0}) (MarksLine text room) (takeMarks room (outerCount f) x)
-  unfolding takeMarks
+  marks-decided : (f : Tree) → Spells text f → (x : Explanation) → Decided (λ y. Unit {0}) (MarksLine text room) (acceptMarks room (outerCount f) x)
+  unfolding acceptMarks
   marks-decided f spells x =
       cond-elim (Decided (λ y. Unit {0}) (MarksLine text room)) (leb (outerCount f) room)
       (λ h. none-holds tt (λ n p l. omega (arith, needed spells l .1 .1, leb-true (outerCount f) room h)))
@@ -76,9 +76,9 @@ module _ (sheet text card : List ℕ) (room : ℕ) where
   -- ---- the steps
 
   card-then : Bytes card → (p : Inputs) → Ready sheet text p
-      → Decided (λ y. Unit {0}) CardAndList (takeCard (p .parameters) 0 card >>= λ c. takeMarks room (outerCount (p .filter)) (explanationOf p c))
+      → Decided (λ y. Unit {0}) CardAndList (acceptCard (p .parameters) 0 card >>= λ c. acceptMarks room (outerCount (p .filter)) (explanationOf p c))
   card-then bytes p ready =
-      subst (λ (ps : List Parameter). Decided (λ y. Unit {0}) CardAndList (takeCard ps 0 card >>= λ c. takeMarks room (outerCount (p .filter)) (explanationOf p c))) (ready .1)
+      subst (λ (ps : List Parameter). Decided (λ y. Unit {0}) CardAndList (acceptCard ps 0 card >>= λ c. acceptMarks room (outerCount (p .filter)) (explanationOf p c))) (ready .1)
       (decided-then (OneCardLine sheet card) (MarksLine text room) (apart-at (OneCardLine sheet card) (MarksLine text room) (group 21) (λ n q l. one-group n q l .1) marks-group)
       (one-decided sheet card (ready .0) bytes) (λ c _ _. marks-decided (p .filter) (ready .2) (explanationOf p c)))
 

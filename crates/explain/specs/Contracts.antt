@@ -17,7 +17,7 @@ use Rattle.rows.specs.Stated.{treeOf}
 use Rattle.refusal.specs.Steps.{found}
 use Rattle.answer.specs.Answers.{matchedAnswer}
 use Rattle.sirophan.specs.Contracts.{RefusedBy}
-use Rattle.answer.specs.Operations.{takeInputs, takeCard}
+use Rattle.answer.specs.Operations.{acceptInputs, acceptCard}
 use Rattle.answer.specs.declared.Matched.{Matched}
 use Rattle.explain.specs.Operation.{explainAnswer, explainCells}
 use Rattle.explain.specs.Refusals.{ExplainLine}
@@ -35,7 +35,7 @@ pub record ExplainsInto (sheet text card list : List ℕ) (r : Matched) (exit : 
 -- rows that state the filter, on a card that conforms and of which the filter says `says`
 pub record Judged (sheet text rows card : List ℕ) (says : Bool) : Type 0 where
   pub filter : Tree
-  pub inputs-taken : takeInputs sheet text ≡ found (record { parameters = parametersOf sheet; filter = filter })
+  pub inputs-accepted : acceptInputs sheet text ≡ found (record { parameters = parametersOf sheet; filter = filter })
   pub sheet-reads : readSheet sheet ≡ Validity.WellFormed
   pub short : length text ≤ 1024
   pub good : Good (parametersOf sheet) text rows
@@ -43,5 +43,5 @@ pub record Judged (sheet text rows card : List ℕ) (says : Bool) : Type 0 where
   pub whole : Whole rows
   pub few : length rows ≤ 320
   pub card-reads : readCard card ≡ Validity.WellFormed
-  pub card-taken : takeCard (parametersOf sheet) 0 card ≡ found (record { number = recordNumber card; entries = entriesOf card })
+  pub card-accepted : acceptCard (parametersOf sheet) 0 card ≡ found (record { number = recordNumber card; entries = entriesOf card })
   pub verdict : says ≡ filterSays (parametersOf sheet) 0 (entriesOf card) filter

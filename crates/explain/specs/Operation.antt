@@ -8,7 +8,7 @@ use lib.ListN.{length}
 use Rattle.judge.specs.Verdicts.{filterSays}
 use Rattle.refusal.specs.Answers.{Answer, yesOrNo}
 use Rattle.refusal.specs.Steps.{Step, found, stop, _>>=_, answer}
-use Rattle.answer.specs.Operations.{Inputs, takeInputs, Card, takeCard, written}
+use Rattle.answer.specs.Operations.{Inputs, acceptInputs, Card, acceptCard, written}
 use Rattle.explain.specs.Deciding.{outerCount}
 use Rattle.explain.specs.Marks.{explanation}
 
@@ -22,14 +22,14 @@ explanationOf p c =
     record { verdict = filterSays (p .parameters) 0 (c .entries) (p .filter); cells = explanation (filterSays (p .parameters) 0 (c .entries)) (p .filter) }
 
 -- 33: "when the list has fewer cells than tests, place the number of tests"
-unfoldable pub takeMarks : (room tests : ℕ) → Explanation → Step Explanation
-takeMarks room tests x = cond (leb tests room) (found x) (stop 33 tests)
+unfoldable pub acceptMarks : (room tests : ℕ) → Explanation → Step Explanation
+acceptMarks room tests x = cond (leb tests room) (found x) (stop 33 tests)
 
 unfoldable pub explaining : (sheet text card : List ℕ) → (room : ℕ) → Step Explanation
 explaining sheet text card room = do
-  p ← takeInputs sheet text
-  c ← takeCard (p .parameters) 0 card
-  takeMarks room (outerCount (p .filter)) (explanationOf p c)
+  p ← acceptInputs sheet text
+  c ← acceptCard (p .parameters) 0 card
+  acceptMarks room (outerCount (p .filter)) (explanationOf p c)
 
 -- "the answer also gives the verdict": a yes or a no, as match
 unfoldable pub explainAnswer : (sheet text card : List ℕ) → (room : ℕ) → Answer

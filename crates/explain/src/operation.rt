@@ -1,6 +1,6 @@
 // Explain, with all that is promised of it. A slice holds bytes, so that nothing is asked of the caller.
 use crate::spare::spare;
-use crate::verdicts::take_verdicts;
+use crate::verdicts::gather_verdicts;
 use base::write_word;
 use refusal::Reason;
 use refusal::Refusal;
@@ -23,7 +23,7 @@ fn mark(
     let kinds = sheet::kinds(sheet);
     // a refusal writes nothing, so the marks wait here until the list is known to be long enough
     let mut marks = [0u8; 32];
-    let tests = take_verdicts(&kinds, filter, rows, card, &mut marks);
+    let tests = gather_verdicts(&kinds, filter, rows, card, &mut marks);
     if tests > cells.len() {
         return Matched::Refused(Refusal {
             reason: Reason::ShortMarks,

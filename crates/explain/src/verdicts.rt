@@ -34,7 +34,7 @@ fn verdict(kinds: &[u8], filter: &[u8], rows: &[u32], card: &[u8]) -> u8
 
 // Marks what each test that the rows state says of a well-formed card, and answers how many tests there are. A test after brackets is
 // judged with the rows in them, and its mark takes the place of theirs.
-pub fn take_verdicts(
+pub fn gather_verdicts(
     kinds: &[u8],
     filter: &[u8],
     rows: &[u32],

@@ -1,5 +1,5 @@
 -- The answers of match, judge and match by a search string on two cards that hold the same texts under the names used: sheet, text and rows
--- come first and are the same, a card that conforms is taken with its entries, and the verdicts are the same.
+-- come first and are the same, a card that conforms is accepted with its entries, and the verdicts are the same.
 -- Assumes nothing.
 use Prim.Native.Nat.{ℕ}
 use mathlib.Core.Path.{_≡_, refl, ap}
@@ -21,7 +21,7 @@ use Rattle.syntax.proofs.Spelling.{read-iff}
 use Rattle.judge.specs.Rules.{Conforms}
 use Rattle.judge.specs.Verdicts.{filterSays}
 use Rattle.search.specs.Spelling.{Query, alternativesOf, SpellsQuery}
-use Rattle.search.specs.Reader.{takeQuery}
+use Rattle.search.specs.Reader.{acceptQuery}
 use Rattle.search.proofs.Reading.{query-read}
 use Rattle.rows.specs.Cells.{stated}
 use Rattle.rows.specs.Good.{Good}
@@ -30,12 +30,12 @@ use Rattle.rows.specs.Stated.{treeOf}
 use Rattle.rows.proofs.Good.{good-states, good-iff}
 use Rattle.refusal.specs.Answers.{Answer, yesOrNo}
 use Rattle.refusal.specs.Steps.{Step, found, stop, _>>=_, answer}
-use Rattle.refusal.proofs.Steps.{taken, stop-not-found}
-use Rattle.answer.specs.Operations.{treeStep, takeFilter, testsStep, takeSheet, Inputs, takeInputs, takeCard, Question, questionOf, matchBy, filterQuestion, matchAnswer}
-use Rattle.answer.specs.Preparing.{takeSize, statedStep, takeRows, judgeAnswer}
-use Rattle.answer.specs.Searching.{alternativesStep, QueryInputs, takeQueryInputs, questionOfQuery, searchQuestion, matchSearchAnswer}
-use Rattle.answer.proofs.Cards.{conforms-taken}
-use Rattle.answer.proofs.Inputs.{sheet-taken}
+use Rattle.refusal.proofs.Steps.{bind-found, stop-not-found}
+use Rattle.answer.specs.Operations.{treeStep, acceptFilter, testsStep, acceptSheet, Inputs, acceptInputs, acceptCard, Question, questionOf, matchBy, filterQuestion, matchAnswer}
+use Rattle.answer.specs.Preparing.{acceptSize, statedStep, acceptRows, judgeAnswer}
+use Rattle.answer.specs.Searching.{alternativesStep, QueryInputs, acceptQueryInputs, questionOfQuery, searchQuestion, matchSearchAnswer}
+use Rattle.answer.proofs.Cards.{conforms-accepted}
+use Rattle.answer.proofs.Inputs.{sheet-accepted}
 use Rattle.fields.specs.Used.{namesOf, queryNames, Alike}
 use Rattle.fields.proofs.Verdicts.{verdict-same, query-same}
 
@@ -53,36 +53,36 @@ tree-found : (text : List ℕ) (o : Option Tree) (f : Tree) → treeStep text o 
 tree-found text (some g) f e = cc
 tree-found text none f e = cc
 
--- a text that is taken spells the filter
-filter-found : (text : List ℕ) (f : Tree) → takeFilter text ≡ found f → Spells text f
-unfolding takeFilter
+-- a text that is accepted spells the filter
+filter-found : (text : List ℕ) (f : Tree) → acceptFilter text ≡ found f → Spells text f
+unfolding acceptFilter
 filter-found text f e =
     read-iff text f .0 (⊎-elim (λ w. stop-not-found (w .1)) (λ w. tree-found text (read text) f (w .1)) (cond-either (eqb (length text) 0 || ltb 1024 (length text)) (stop 10 0) (treeStep text (read text)) e))
 
--- what was taken of a sheet and a text, by a reader of texts and a test of what it reads
+-- what was accepted of a sheet and a text, by a reader of texts and a test of what it reads
 module _ (sheet : List ℕ) (s : SheetBlock sheet) where
   read-found : {X P : Type 0} (r : Step X) (tests : List Parameter → X → Step (Unit {0})) (made : List Parameter → X → P) (p : P)
-      → (takeSheet sheet >>= λ ps. r >>= λ x. tests ps x >>= λ u. found (made ps x)) ≡ found p → (x : X) × (r ≡ found x) × (made (s .parameters) x ≡ p)
+      → (acceptSheet sheet >>= λ ps. r >>= λ x. tests ps x >>= λ u. found (made ps x)) ≡ found p → (x : X) × (r ≡ found x) × (made (s .parameters) x ≡ p)
   read-found r tests made p e =
-      let (x, t, rest) = taken r (λ x. tests (s .parameters) x >>= λ u. found (made (s .parameters) x)) p (rw (sheet-taken sheet s) at e) in
-      let (u, _, last) = taken (tests (s .parameters) x) (λ u. found (made (s .parameters) x)) p rest in
+      let (x, t, rest) = accepted r (λ x. tests (s .parameters) x >>= λ u. found (made (s .parameters) x)) p (rw (sheet-accepted sheet s) at e) in
+      let (u, _, last) = bind-found (tests (s .parameters) x) (λ u. found (made (s .parameters) x)) p rest in
       (x, t, found-same last)
 
-  pub inputs-found : (text : List ℕ) (p : Inputs) → takeInputs sheet text ≡ found p → (f : Tree) × Spells text f × (record { parameters = s .parameters; filter = f } ≡ p)
-  unfolding takeInputs
+  pub inputs-found : (text : List ℕ) (p : Inputs) → acceptInputs sheet text ≡ found p → (f : Tree) × Spells text f × (record { parameters = s .parameters; filter = f } ≡ p)
+  unfolding acceptInputs
   inputs-found text p e =
-      let (f, t, is) = read-found (takeFilter text) (λ ps f. testsStep ps (testsOf f)) (λ ps f. record { parameters = ps; filter = f }) p e in
+      let (f, t, is) = read-found (acceptFilter text) (λ ps f. testsStep ps (testsOf f)) (λ ps f. record { parameters = ps; filter = f }) p e in
       (f, filter-found text f t, is)
 
-  query-found : (text : List ℕ) (p : QueryInputs) → takeQueryInputs sheet text ≡ found p → (q : Query) × SpellsQuery text q × (record { parameters = s .parameters; query = q } ≡ p)
-  unfolding takeQueryInputs
+  query-found : (text : List ℕ) (p : QueryInputs) → acceptQueryInputs sheet text ≡ found p → (q : Query) × SpellsQuery text q × (record { parameters = s .parameters; query = q } ≡ p)
+  unfolding acceptQueryInputs
   query-found text p e =
-      let (q, t, is) = read-found (takeQuery text) (λ ps q. alternativesStep ps (alternativesOf q)) (λ ps q. record { parameters = ps; query = q }) p e in
+      let (q, t, is) = read-found (acceptQuery text) (λ ps q. alternativesStep ps (alternativesOf q)) (λ ps q. record { parameters = ps; query = q }) p e in
       (q, query-read text q .0 t, is)
 
--- rows that are taken are good, and the tree is the one that they state
-rows-found : (ps : List Parameter) → WellFormedSheet ps → (text cells : List ℕ) (f : Tree) → takeRows ps text cells ≡ found f → (g : Good ps text cells) × (treeOf ps text (g .expression) ≡ f)
-unfolding takeRows
+-- rows that are accepted are good, and the tree is the one that they state
+rows-found : (ps : List Parameter) → WellFormedSheet ps → (text cells : List ℕ) (f : Tree) → acceptRows ps text cells ≡ found f → (g : Good ps text cells) × (treeOf ps text (g .expression) ≡ f)
+unfolding acceptRows
 rows-found ps w text cells f e =
     ⊎-elim
     (λ h. let g = good-iff ps w text cells .0 (h .0) in let is = good-states ps w text g in let same : found (treeOf ps text (g .expression)) ≡ found f = rw is at h .1 in (g, cc))
@@ -95,10 +95,10 @@ module _ (sheet text card card′ : List ℕ) (s : SheetBlock sheet) (es es′ :
   ps = s .parameters
 
   card-same : (says : List Entry → Bool) → says es ≡ says es′
-      → answer (takeCard ps 0 card >>= λ d. found (yesOrNo (says (d .entries)))) ≡ answer (takeCard ps 0 card′ >>= λ d. found (yesOrNo (says (d .entries))))
-  card-same says h = rw (conforms-taken c 0, conforms-taken c′ 0) (ap yesOrNo h)
+      → answer (acceptCard ps 0 card >>= λ d. found (yesOrNo (says (d .entries)))) ≡ answer (acceptCard ps 0 card′ >>= λ d. found (yesOrNo (says (d .entries))))
+  card-same says h = rw (conforms-accepted c 0, conforms-accepted c′ 0) (ap yesOrNo h)
 
-  -- match, whatever is taken before the card, and what it asks
+  -- match, whatever is accepted before the card, and what it asks
   asked-same : {P : Type 0} (inputs : Step P) (ask : P → Question) → ((p : P) → inputs ≡ found p → (ps ≡ ask p .parameters) × (ask p .says es ≡ ask p .says es′))
       → matchBy (inputs >>= λ p. found (ask p)) card ≡ matchBy (inputs >>= λ p. found (ask p)) card′
   unfolding matchBy
@@ -108,23 +108,23 @@ module _ (sheet text card card′ : List ℕ) (s : SheetBlock sheet) (es es′ :
   pub match-same : ((f : Tree) → Spells text f → Alike ps (namesOf f) es es′) → matchAnswer sheet text card ≡ matchAnswer sheet text card′
   unfolding filterQuestion
   match-same alike =
-      asked-same (takeInputs sheet text) questionOf
+      asked-same (acceptInputs sheet text) questionOf
       (λ p e. let (f, spells, is) = inputs-found sheet s text p e in rw (← is) (refl, verdict-same ps (s .well-formed) f es es′ (alike f spells)))
 
   pub match-search-same : ((q : Query) → SpellsQuery text q → Alike ps (queryNames q) es es′) → matchSearchAnswer sheet text card ≡ matchSearchAnswer sheet text card′
   unfolding searchQuestion
   match-search-same alike =
-      asked-same (takeQueryInputs sheet text) questionOfQuery
+      asked-same (acceptQueryInputs sheet text) questionOfQuery
       (λ p e. let (q, spells, is) = query-found sheet s text p e in rw (← is) (refl, query-same ps (s .well-formed) q es es′ (alike q spells)))
 
   -- judge, over any cells
   pub judge-same : (cells : List ℕ) → ((g : Good ps text cells) → Alike ps (namesOf (treeOf ps text (g .expression))) es es′) → judgeAnswer sheet text cells card ≡ judgeAnswer sheet text cells card′
   unfolding judgeAnswer
   judge-same cells alike =
-      rw (sheet-taken sheet s) (then-same (takeSize text) (λ u. takeRows ps text cells >>= says card) (λ u. takeRows ps text cells >>= says card′)
-      (λ u _. then-same (takeRows ps text cells) (says card) (says card′)
+      rw (sheet-accepted sheet s) (then-same (acceptSize text) (λ u. acceptRows ps text cells >>= says card) (λ u. acceptRows ps text cells >>= says card′)
+      (λ u _. then-same (acceptRows ps text cells) (says card) (says card′)
       (λ f e. let (g, is) = rows-found ps (s .well-formed) text cells f e in
       card-same (λ es. filterSays ps 0 es f) (rw (← is) (verdict-same ps (s .well-formed) (treeOf ps text (g .expression)) es es′ (alike g))))))
     where
       says : List ℕ → Tree → Step Answer
-      says card f = takeCard ps 0 card >>= λ d. found (yesOrNo (filterSays ps 0 (d .entries) f))
+      says card f = acceptCard ps 0 card >>= λ d. found (yesOrNo (filterSays ps 0 (d .entries) f))

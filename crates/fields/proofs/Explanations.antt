@@ -17,10 +17,10 @@ use Rattle.judge.specs.Rules.{Conforms}
 use Rattle.judge.specs.Verdicts.{filterSays}
 use Rattle.refusal.specs.Answers.{yesOrNo}
 use Rattle.refusal.specs.Steps.{Step, found, stop, _>>=_, answer}
-use Rattle.answer.specs.Operations.{Inputs, takeInputs, takeCard, written}
-use Rattle.answer.proofs.Cards.{conforms-taken}
+use Rattle.answer.specs.Operations.{Inputs, acceptInputs, acceptCard, written}
+use Rattle.answer.proofs.Cards.{conforms-accepted}
 use Rattle.explain.specs.Deciding.{outerTests, outerCount}
-use Rattle.explain.specs.Operation.{Explanation, explanationOf, takeMarks, explaining, explainAnswer, explainCells}
+use Rattle.explain.specs.Operation.{Explanation, explanationOf, acceptMarks, explaining, explainAnswer, explainCells}
 use Rattle.explain.proofs.Numbered.{explanation-same}
 use Rattle.fields.specs.Used.{namesOf, SameUnder, Alike}
 use Rattle.fields.proofs.Verdicts.{parts-same, verdict-same}
@@ -39,21 +39,21 @@ module _ (ps : List Parameter) (w : WellFormedSheet ps) (es es′ : List Entry) 
 module _ (sheet text card card′ : List ℕ) (s : SheetBlock sheet) (es es′ : List Entry) (c : Conforms (s .parameters) card es) (c′ : Conforms (s .parameters) card′ es′)
     (alike : (f : Tree) → Spells text f → Alike (s .parameters) (namesOf f) es es′) where
   -- sheet and text come first, and then the card
-  by-inputs : (room : ℕ) (inputs : Step Inputs) → takeInputs sheet text ≡ inputs
-      → (inputs >>= λ p. takeCard (p .parameters) 0 card >>= λ d. takeMarks room (outerCount (p .filter)) (explanationOf p d))
-      ≡ (inputs >>= λ p. takeCard (p .parameters) 0 card′ >>= λ d. takeMarks room (outerCount (p .filter)) (explanationOf p d))
+  by-inputs : (room : ℕ) (inputs : Step Inputs) → acceptInputs sheet text ≡ inputs
+      → (inputs >>= λ p. acceptCard (p .parameters) 0 card >>= λ d. acceptMarks room (outerCount (p .filter)) (explanationOf p d))
+      ≡ (inputs >>= λ p. acceptCard (p .parameters) 0 card′ >>= λ d. acceptMarks room (outerCount (p .filter)) (explanationOf p d))
   by-inputs room (stop n p) e = refl
   by-inputs room (found p) e =
       let (f, spells, is) = inputs-found sheet s text p e in
       let h = alike f spells in
       let ps = s .parameters in
       let cells = explanation-same (filterSays ps 0 es) (filterSays ps 0 es′) f (outer-same ps (s .well-formed) es es′ f h) in
-      rw (← is, conforms-taken c 0, conforms-taken c′ 0)
-      (ap₂ (λ (v : Bool) (l : List ℕ). takeMarks room (outerCount f) (record { verdict = v; cells = l })) (verdict-same ps (s .well-formed) f es es′ h) cells)
+      rw (← is, conforms-accepted c 0, conforms-accepted c′ 0)
+      (ap₂ (λ (v : Bool) (l : List ℕ). acceptMarks room (outerCount f) (record { verdict = v; cells = l })) (verdict-same ps (s .well-formed) f es es′ h) cells)
 
   explaining-same : (room : ℕ) → explaining sheet text card room ≡ explaining sheet text card′ room
   unfolding explaining
-  explaining-same room = by-inputs room (takeInputs sheet text) refl
+  explaining-same room = by-inputs room (acceptInputs sheet text) refl
 
   pub explain-same : (list : List ℕ) → (explainAnswer sheet text card (length list) ≡ explainAnswer sheet text card′ (length list)) × (explainCells sheet text card list ≡ explainCells sheet text card′ list)
   unfolding explainAnswer explainCells

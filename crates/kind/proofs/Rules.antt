@@ -26,7 +26,7 @@ use Rattle.kind.specs.Readable.{cardReadable, filterReadable, isTrue, is
 use Rattle.kind.specs.Rules.{readable-string, readable-number, readable-date, readable-token, readable-reference, readable-period, ReadableOnCard, ReadableInFilter, TrueOrFalse, spells-true, spells-false, ReadableValue, value-of-pr, value-of-kind, HasDates, dates-of-date, dates-of-period, Row, string-eq, string-co, string-sw, string-ew, number-eq, number-gt, number-lt, number-ge, number-le, number-co, date-eq, date-gt, date-lt, date-ge, date-le, date-sa, date-eb, date-po, date-co, token-eq, reference-re, HasOperator, operator-of-row, operator-pr, operator-ne, RelatesTo, string-same, string-contains, string-starts, string-ends, NumbersRelate, number-inside, number-greater, number-less, number-at-least, number-at-most, number-covers, DatesRelate, date-inside, date-later, date-earlier, date-later-or-inside, date-earlier-or-inside, date-starts-after, date-ends-before, date-overlaps, date-covers, numbers-relate, dates-relate, tokens-relate, references-same}
 use mathlib.Core.Option.{Option, none, some, Option·some-injective, Option·none-ne-some}
 use Rattle.base.specs.Options.{isSome}
-use Rattle.kind.specs.Table.{RowEntry, stringRow, numberRow, dateRow, tokenRow, referenceRow, Kind, kinds, ofKind, row, relationIn, asked, rowMeaning, meaningOf, isMeaning, hasMeaning}
+use Rattle.kind.specs.Table.{RowEntry, stringRow, numberRow, dateRow, tokenRow, referenceRow, Kind, kinds, ofKind, row, relationIn, meaningBy, rowMeaning, meaningOf, isMeaning, hasMeaning}
 use Rattle.kind.specs.declared.Meaning.{Meaning}
 use Rattle.kind.specs.declared.Relation.{Relation}
 use Rattle.token.proofs.Readings.{matches-iff}
@@ -48,12 +48,12 @@ use Rattle.period.specs.Instants.{Inhabited, Held, SomeAfter, SomeBefore}
 use Rattle.period.specs.Relations.{inside, later, earlier, laterOrInside, earlierOrInside}
 use Rattle.period.specs.Texts as periods
 use Rattle.period.specs.declared.Period.{Period}
-use Rattle.period.specs.declared.Reading as period-readings
+use Rattle.period.specs.declared.PeriodReading.{PeriodReading}
 use Rattle.period.proofs.Relations as relations
 use Rattle.period.proofs.Spelling as period-spelling
 use Rattle.token.proofs.Readings as token-spelling
-use Rattle.number.specs.declared.Reading as number-readings
-use Rattle.date.specs.declared.Reading as date-readings
+use Rattle.number.specs.declared.NumberReading.{NumberReading}
+use Rattle.date.specs.declared.DateReading.{DateReading}
 
 -- ---- by kind
 
@@ -241,9 +241,9 @@ row-iff kind k r = (row-there kind k r, row-back)
 
 -- ---- operators
 
-asked-some : (how : Relation → Meaning) → ((r : Relation) → isMeaning (how r) ≡ true) → (o : Option Relation) → isMeaning (asked how o) ≡ isSome o
-asked-some how h (some r) = h r
-asked-some how h none = refl
+meaning-by-some : (how : Relation → Meaning) → ((r : Relation) → isMeaning (how r) ≡ true) → (o : Option Relation) → isMeaning (meaningBy how o) ≡ isSome o
+meaning-by-some how h (some r) = h r
+meaning-by-some how h none = refl
 
 -- no row has ne or pr of its own
 absent : (o : Option Relation) → not (isSome o) ≡ true → o ≡ none
@@ -265,9 +265,9 @@ some-is none h = absurd (false≢true h)
 
 module _ (kind : ℕ) where
   -- a relation that a row gives an operator
-  given : (how : Relation → Meaning) → ((r : Relation) → isMeaning (how r) ≡ true) → (k : ℕ) → isMeaning (asked how (relationIn (row kind) k)) ≡ true → (r : Relation) × Row kind k r
+  given : (how : Relation → Meaning) → ((r : Relation) → isMeaning (how r) ≡ true) → (k : ℕ) → isMeaning (meaningBy how (relationIn (row kind) k)) ≡ true → (r : Relation) × Row kind k r
   given how h k e =
-      let w = some-is (relationIn (row kind) k) (sym (asked-some how h (relationIn (row kind) k)) ∙ e) in
+      let w = some-is (relationIn (row kind) k) (sym (meaning-by-some how h (relationIn (row kind) k)) ∙ e) in
       (w .0, row-there kind k (w .0) (w .1))
 
   operator-there : (k : ℕ) → hasMeaning k kind ≡ true → HasOperator kind k
@@ -363,19 +363,19 @@ module _ (i : Period) (has : Inhabited i) (f : Date) (first : InRange f (f .star
 
 -- ---- a relation of two texts
 
-numbers-there : (r : NumberRelation) (x v : List ℕ) (a b : number-readings.Reading) → numbers.read x ≡ a → numbers.read v ≡ b → numberReadingsRelate r a b ≡ true → RelatesTo (Relation.Numbers r) x v
-numbers-there r x v (number-readings.Reading.Number i) (number-readings.Reading.Number f) d e h =
+numbers-there : (r : NumberRelation) (x v : List ℕ) (a b : NumberReading) → numbers.read x ≡ a → numbers.read v ≡ b → numberReadingsRelate r a b ≡ true → RelatesTo (Relation.Numbers r) x v
+numbers-there r x v (NumberReading.Number i) (NumberReading.Number f) d e h =
     numbers-relate (number-spelling.read-iff x i .0 d) (number-spelling.read-iff v f .0 e)
     (number-there i f (number-spelling.read-bounded x i d) (number-spelling.read-bounded v f e) r h)
-numbers-there r x v (number-readings.Reading.Number i) number-readings.Reading.Unreadable d e h = absurd (false≢true h)
-numbers-there r x v number-readings.Reading.Unreadable b d e h = absurd (false≢true h)
+numbers-there r x v (NumberReading.Number i) NumberReading.Unreadable d e h = absurd (false≢true h)
+numbers-there r x v NumberReading.Unreadable b d e h = absurd (false≢true h)
 
-dates-there : (r : DateRelation) (x v : List ℕ) (a : period-readings.Reading) (b : date-readings.Reading) → periods.readSpan x ≡ a → dates.read v ≡ b → dateReadingsRelate r a b ≡ true → RelatesTo (Relation.Dates r) x v
-dates-there r x v (period-readings.Reading.Readable i) (date-readings.Reading.Readable f) d e h =
+dates-there : (r : DateRelation) (x v : List ℕ) (a : PeriodReading) (b : DateReading) → periods.readSpan x ≡ a → dates.read v ≡ b → dateReadingsRelate r a b ≡ true → RelatesTo (Relation.Dates r) x v
+dates-there r x v (PeriodReading.Readable i) (DateReading.Readable f) d e h =
     let s = period-spelling.span-iff x i .0 d in
     dates-relate s (date-spelling.read-iff v f .0 e) (date-there i (period-spelling.span-inhabited s) f (read-first v e) r h)
-dates-there r x v (period-readings.Reading.Readable i) date-readings.Reading.Unreadable d e h = absurd (false≢true h)
-dates-there r x v period-readings.Reading.Unreadable b d e h = absurd (false≢true h)
+dates-there r x v (PeriodReading.Readable i) DateReading.Unreadable d e h = absurd (false≢true h)
+dates-there r x v PeriodReading.Unreadable b d e h = absurd (false≢true h)
 
 module _ (x v : List ℕ) where
   relates-there : (r : Relation) → relatesTo r x v ≡ true → RelatesTo r x v
@@ -396,12 +396,12 @@ relates-back (string-contains {x = x} {v = v} p q e) = contains-iff x v .1 (p, q
 relates-back (string-starts {x = x} {v = v} q e) = starts-iff x v .1 (q, e)
 relates-back (string-ends {x = x} {v = v} p e) = ends-iff x v .1 (p, e)
 relates-back (numbers-relate {x = x} {v = v} {i = i} {f = f} a b h) =
-    let d : numbers.read x ≡ number-readings.Reading.Number i = number-spelling.read-iff x i .1 a in
-    let e : numbers.read v ≡ number-readings.Reading.Number f = number-spelling.read-iff v f .1 b in
+    let d : numbers.read x ≡ NumberReading.Number i = number-spelling.read-iff x i .1 a in
+    let e : numbers.read v ≡ NumberReading.Number f = number-spelling.read-iff v f .1 b in
     rw (d, e) (number-back i f (number-spelling.read-bounded x i d) (number-spelling.read-bounded v f e) h)
 relates-back (dates-relate {x = x} {v = v} {i = i} {f = f} a b h) =
-    let d : periods.readSpan x ≡ period-readings.Reading.Readable i = period-spelling.span-iff x i .1 a in
-    let e : dates.read v ≡ date-readings.Reading.Readable f = date-spelling.read-iff v f .1 b in
+    let d : periods.readSpan x ≡ PeriodReading.Readable i = period-spelling.span-iff x i .1 a in
+    let e : dates.read v ≡ DateReading.Readable f = date-spelling.read-iff v f .1 b in
     rw (d, e) (date-back i (period-spelling.span-inhabited a) f (read-first v e) h)
 relates-back (tokens-relate {x = x} {v = v} {i = i} {f = f} a b h) = matches-iff x v .1 (i, f, a, b, h)
 relates-back (references-same {x = x} {v = v} e) = same-iff x v .1 e

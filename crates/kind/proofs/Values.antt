@@ -7,12 +7,12 @@ use mathlib.Core.Bool.{Bool, false}
 use mathlib.Core.List.{List}
 use Rattle.number.specs.Reading as numbers
 use Rattle.number.specs.declared.Decimal.{Decimal}
-use Rattle.number.specs.declared.Reading as number-readings
+use Rattle.number.specs.declared.NumberReading.{NumberReading}
 use Rattle.date.specs.declared.Date.{Date}
-use Rattle.date.specs.declared.Reading as date-readings
+use Rattle.date.specs.declared.DateReading.{DateReading}
 use Rattle.period.specs.Texts as periods
 use Rattle.period.specs.declared.Period.{Period}
-use Rattle.period.specs.declared.Reading as period-readings
+use Rattle.period.specs.declared.PeriodReading.{PeriodReading}
 use Rattle.kind.specs.declared.NumberRelation.{NumberRelation}
 use Rattle.kind.specs.declared.DateRelation.{DateRelation}
 use Rattle.number.proofs.Spelling.{number-bounded}
@@ -22,28 +22,28 @@ use Rattle.kind.specs.Relations.{Kept, numbersRelate, numberReadingsRela
 
 -- ---- numbers
 
-module _ (relation : NumberRelation) (i : List ℕ) (v : number-readings.Reading) (r : number-readings.Reading) (e : r ≡ numbers.read i) where
-  pub numbers-unreadable : r ≡ number-readings.Reading.Unreadable → false ≡ numberReadingsRelate relation (numbers.read i) v
+module _ (relation : NumberRelation) (i : List ℕ) (v : NumberReading) (r : NumberReading) (e : r ≡ numbers.read i) where
+  pub numbers-unreadable : r ≡ NumberReading.Unreadable → false ≡ numberReadingsRelate relation (numbers.read i) v
   numbers-unreadable h = rw (sym e ∙ h)
 
-  module _ (a : Decimal) (h : r ≡ number-readings.Reading.Number a) where
-    pub value-unreadable : v ≡ number-readings.Reading.Unreadable → false ≡ numberReadingsRelate relation (numbers.read i) v
+  module _ (a : Decimal) (h : r ≡ NumberReading.Number a) where
+    pub value-unreadable : v ≡ NumberReading.Unreadable → false ≡ numberReadingsRelate relation (numbers.read i) v
     value-unreadable j = rw (sym e ∙ h, j)
 
-    pub numbers-relate : (b : Decimal) (t : Bool) → v ≡ number-readings.Reading.Number b → t ≡ numbersRelate relation a b → t ≡ numberReadingsRelate relation (numbers.read i) v
+    pub numbers-relate : (b : Decimal) (t : Bool) → v ≡ NumberReading.Number b → t ≡ numbersRelate relation a b → t ≡ numberReadingsRelate relation (numbers.read i) v
     numbers-relate b t j l = rw (sym e ∙ h, j) l
 
 -- ---- dates
 
-module _ (relation : DateRelation) (i : List ℕ) (v : date-readings.Reading) (r : period-readings.Reading) (e : r ≡ periods.readSpan i) where
-  pub dates-unreadable : r ≡ period-readings.Reading.Unreadable → false ≡ dateReadingsRelate relation (periods.readSpan i) v
+module _ (relation : DateRelation) (i : List ℕ) (v : DateReading) (r : PeriodReading) (e : r ≡ periods.readSpan i) where
+  pub dates-unreadable : r ≡ PeriodReading.Unreadable → false ≡ dateReadingsRelate relation (periods.readSpan i) v
   dates-unreadable h = rw (sym e ∙ h)
 
-  module _ (a : Period) (h : r ≡ period-readings.Reading.Readable a) where
-    pub date-unreadable : v ≡ date-readings.Reading.Unreadable → false ≡ dateReadingsRelate relation (periods.readSpan i) v
+  module _ (a : Period) (h : r ≡ PeriodReading.Readable a) where
+    pub date-unreadable : v ≡ DateReading.Unreadable → false ≡ dateReadingsRelate relation (periods.readSpan i) v
     date-unreadable j = rw (sym e ∙ h, j)
 
-    pub dates-relate : (b : Date) (t : Bool) → v ≡ date-readings.Reading.Readable b → t ≡ datesRelate relation a b → t ≡ dateReadingsRelate relation (periods.readSpan i) v
+    pub dates-relate : (b : Date) (t : Bool) → v ≡ DateReading.Readable b → t ≡ datesRelate relation a b → t ≡ dateReadingsRelate relation (periods.readSpan i) v
     dates-relate b t j l = rw (sym e ∙ h, j) l
 
 -- ---- a value that was read already
@@ -56,13 +56,13 @@ relates-is (Relation.Dates r) i f = refl
 relates-is Relation.Tokens i f = refl
 relates-is Relation.References i f = refl
 
-pub number-kept : (f : List ℕ) (v : number-readings.Reading) → v ≡ numbers.read f → Kept v
+pub number-kept : (f : List ℕ) (v : NumberReading) → v ≡ numbers.read f → Kept v
 number-kept f v e = record { bounded = λ d h. number-bounded f v d e h }
 
 pub unread-kept : Kept (unread .number)
 unread-kept = record { bounded = λ d h. absurd (two d h) }
   where
-    two : (d : Decimal) → number-readings.Reading.Unreadable ≡ number-readings.Reading.Number d → ⊥
+    two : (d : Decimal) → NumberReading.Unreadable ≡ NumberReading.Number d → ⊥
     two d h = let z : _≡_ {A = ℕ} 0 1 = cc in omega arith
 
 pub readings-kept : (relation : Relation) (f : List ℕ) → Kept (readingsOf relation f .number)

@@ -9,14 +9,14 @@ use Rattle.number.specs.Value as number
 use Rattle.number.specs.Billionths as billionths
 use Rattle.number.specs.Reading as numbers
 use Rattle.number.specs.declared.Decimal.{Decimal}
-use Rattle.number.specs.declared.Reading as number-readings
+use Rattle.number.specs.declared.NumberReading.{NumberReading}
 use Rattle.date.specs.Texts as dates
 use Rattle.date.specs.declared.Date.{Date}
-use Rattle.date.specs.declared.Reading as date-readings
+use Rattle.date.specs.declared.DateReading.{DateReading}
 use Rattle.period.specs.Relations as period
 use Rattle.period.specs.Texts as periods
 use Rattle.period.specs.declared.Period.{Period}
-use Rattle.period.specs.declared.Reading as period-readings
+use Rattle.period.specs.declared.PeriodReading.{PeriodReading}
 use Rattle.token.specs.Match as tokens
 use Rattle.kind.specs.declared.StringRelation.{StringRelation}
 use Rattle.kind.specs.declared.NumberRelation.{NumberRelation}
@@ -40,10 +40,10 @@ numbersRelate NumberRelation.AtLeast i f = number.atLeast i f
 numbersRelate NumberRelation.AtMost i f = number.atMost i f
 numbersRelate NumberRelation.Covers i f = number.covers i f
 
-abbrev pub numberReadingsRelate : NumberRelation → number-readings.Reading → number-readings.Reading → Bool
-numberReadingsRelate r (number-readings.Reading.Number i) (number-readings.Reading.Number f) = numbersRelate r i f
-numberReadingsRelate r (number-readings.Reading.Number i) number-readings.Reading.Unreadable = false
-numberReadingsRelate r number-readings.Reading.Unreadable f = false
+abbrev pub numberReadingsRelate : NumberRelation → NumberReading → NumberReading → Bool
+numberReadingsRelate r (NumberReading.Number i) (NumberReading.Number f) = numbersRelate r i f
+numberReadingsRelate r (NumberReading.Number i) NumberReading.Unreadable = false
+numberReadingsRelate r NumberReading.Unreadable f = false
 
 -- i is the card's period, f the filter's date
 unfoldable pub datesRelate : DateRelation → Period → Date → Bool
@@ -57,10 +57,10 @@ datesRelate DateRelation.EndsBefore i f = period.endsBefore i f
 datesRelate DateRelation.Overlaps i f = period.overlaps i f
 datesRelate DateRelation.Covers i f = period.covers i f
 
-abbrev pub dateReadingsRelate : DateRelation → period-readings.Reading → date-readings.Reading → Bool
-dateReadingsRelate r (period-readings.Reading.Readable i) (date-readings.Reading.Readable f) = datesRelate r i f
-dateReadingsRelate r (period-readings.Reading.Readable i) date-readings.Reading.Unreadable = false
-dateReadingsRelate r period-readings.Reading.Unreadable f = false
+abbrev pub dateReadingsRelate : DateRelation → PeriodReading → DateReading → Bool
+dateReadingsRelate r (PeriodReading.Readable i) (DateReading.Readable f) = datesRelate r i f
+dateReadingsRelate r (PeriodReading.Readable i) DateReading.Unreadable = false
+dateReadingsRelate r PeriodReading.Unreadable f = false
 
 -- i is the card's text, f the filter's value; a card's date and period are both spans
 unfoldable pub relatesTo : Relation → List ℕ → List ℕ → Bool
@@ -73,18 +73,18 @@ relatesTo Relation.References i f = texts.same i f
 -- ---- a value that is read once for many texts
 
 -- a number that was read keeps to its bounds
-pub record Kept (n : number-readings.Reading) : Type 0 where
-  pub bounded : (d : Decimal) → n ≡ number-readings.Reading.Number d → number.Bounded d
+pub record Kept (n : NumberReading) : Type 0 where
+  pub bounded : (d : Decimal) → n ≡ NumberReading.Number d → number.Bounded d
 
 -- of a value whose bytes are compared
 abbrev pub unread : Readings
-unread = record { number = number-readings.Reading.Unreadable; date = date-readings.Reading.Unreadable }
+unread = record { number = NumberReading.Unreadable; date = DateReading.Unreadable }
 
 -- what a value reads to, where the relation compares what texts read to
 unfoldable pub readingsOf : Relation → List ℕ → Readings
 readingsOf (Relation.Strings r) f = unread
-readingsOf (Relation.Numbers r) f = record { number = numbers.read f; date = date-readings.Reading.Unreadable }
-readingsOf (Relation.Dates r) f = record { number = number-readings.Reading.Unreadable; date = dates.read f }
+readingsOf (Relation.Numbers r) f = record { number = numbers.read f; date = DateReading.Unreadable }
+readingsOf (Relation.Dates r) f = record { number = NumberReading.Unreadable; date = dates.read f }
 readingsOf Relation.Tokens f = unread
 readingsOf Relation.References f = unread
 

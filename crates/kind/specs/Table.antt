@@ -99,13 +99,13 @@ unfoldable pub relationIn : List RowEntry → ℕ → Option Relation
 relationIn [] k = none
 relationIn (u ∷ us) k = cond (eqb k (u .operator)) (some (u .relation)) (relationIn us k)
 
-abbrev pub asked : (Relation → Meaning) → Option Relation → Meaning
-asked how (some r) = how r
-asked how none = Nothing
+abbrev pub meaningBy : (Relation → Meaning) → Option Relation → Meaning
+meaningBy how (some r) = how r
+meaningBy how none = Nothing
 
 -- a row has its operators, "and ne if the row has eq": "some text in the set is not eq"
 unfoldable pub rowMeaning : List RowEntry → ℕ → Meaning
-rowMeaning us k = cond (eqb k ne) (asked Differs (relationIn us eq)) (asked Relates (relationIn us k))
+rowMeaning us k = cond (eqb k ne) (meaningBy Differs (relationIn us eq)) (meaningBy Relates (relationIn us k))
 
 -- the one decision over operator and kind: pr, or what the kind's row has
 unfoldable pub meaningOf : ℕ → ℕ → Meaning

@@ -4,7 +4,9 @@ mod decision;
 mod readable;
 mod relate;
 
+use date::DateReading;
 pub use decision::meaning_of;
+use number::NumberReading;
 pub use readable::card_readable;
 pub use readable::is_true;
 pub use readable::value_readable;
@@ -55,8 +57,8 @@ pub enum Relation {
 
 // What a filter's value reads to as a number and as a date, where a relation asks for that.
 pub struct Readings {
-    pub number: number::Reading,
-    pub date: date::Reading,
+    pub number: NumberReading,
+    pub date: DateReading,
 }
 
 // What an operator means for a kind: whether there is a text at all; that some text stands in the relation, or that

@@ -5,8 +5,11 @@ use crate::Readings;
 use crate::Relation;
 use crate::StringRelation;
 use date::Date;
+use date::DateReading;
 use number::Decimal;
+use number::NumberReading;
 use period::Period;
+use period::PeriodReading;
 ghost use mathlib.Core.Path.{_≡_};
 ghost use Rattle.number.specs.Value.{Bounded};
 ghost use Rattle.kind.specs.Relations.{Kept, stringsRelate, numbersRelate, datesRelate, relatesTo, numberReadingsRelate, dateReadingsRelate, unread, readingsOf, relatesRead};
@@ -40,14 +43,14 @@ fn numbers_relate(relation: NumberRelation, i: Decimal, f: Decimal) -> bool
 }
 
 // A card's text and a filter's number that was read.
-fn number_readings_relate(relation: NumberRelation, text: &[u8], value: number::Reading) -> bool
+fn number_readings_relate(relation: NumberRelation, text: &[u8], value: NumberReading) -> bool
     requires { ⌜ Kept value ⌝ }
     ensures { λ r. ⌜ r ≡ numberReadingsRelate relation (numbers.read (now (text .entry))) value ⌝ }
 {
-    let number::Reading::Number(i) = number::read(text) else {
+    let NumberReading::Number(i) = number::read(text) else {
         return false;
     };
-    let number::Reading::Number(f) = value else {
+    let NumberReading::Number(f) = value else {
         return false;
     };
     numbers_relate(relation, i, f)
@@ -70,13 +73,13 @@ fn dates_relate(relation: DateRelation, i: Period, f: Date) -> bool
 }
 
 // A card's text and a filter's date that was read.
-fn date_readings_relate(relation: DateRelation, text: &[u8], value: date::Reading) -> bool
+fn date_readings_relate(relation: DateRelation, text: &[u8], value: DateReading) -> bool
     ensures { λ r. ⌜ r ≡ dateReadingsRelate relation (periods.readSpan (now (text .entry))) value ⌝ }
 {
-    let period::Reading::Readable(i) = period::read_span(text) else {
+    let PeriodReading::Readable(i) = period::read_span(text) else {
         return false;
     };
-    let date::Reading::Readable(f) = value else {
+    let DateReading::Readable(f) = value else {
         return false;
     };
     dates_relate(relation, i, f)
@@ -100,8 +103,8 @@ pub fn unread() -> Readings
     ensures { λ r. ⌜ r ≡ unread ⌝ }
 {
     Readings {
-        number: number::Reading::Unreadable,
-        date: date::Reading::Unreadable,
+        number: NumberReading::Unreadable,
+        date: DateReading::Unreadable,
     }
 }
 
@@ -113,10 +116,10 @@ pub fn readings_of(relation: Relation, value: &[u8]) -> Readings
         Relation::Strings(_) => unread(),
         Relation::Numbers(_) => Readings {
             number: number::read(value),
-            date: date::Reading::Unreadable,
+            date: DateReading::Unreadable,
         },
         Relation::Dates(_) => Readings {
-            number: number::Reading::Unreadable,
+            number: NumberReading::Unreadable,
             date: date::read(value),
         },
         Relation::Tokens => unread(),

@@ -22,8 +22,8 @@ use Rattle.base.proofs.Tests.{cond-first}
 use Rattle.base.proofs.Runs.{run-whole, run-take, run-within, run-every, run-append}
 use Rattle.base.proofs.Lists.{rest, every-all, all-every}
 use Rattle.number.specs.declared.Decimal.{Decimal}
-use Rattle.number.specs.declared.Reading.{Reading}
-use Rattle.number.specs.declared.Reading.the-variants.{Number, Unreadable}
+use Rattle.number.specs.declared.NumberReading.{NumberReading}
+use Rattle.number.specs.declared.NumberReading.the-variants.{Number, Unreadable}
 use Rattle.number.specs.Value.{Bounded}
 use Rattle.number.specs.Reading.{point, valueFrom, readFraction, read, isNumber, readable}
 use Rattle.number.specs.Spelling.{Digits, Spells, whole, fraction}
@@ -142,11 +142,11 @@ pub read-bounded : (s : List ℕ) (d : Decimal) → read s ≡ Number d → Boun
 read-bounded s d e = spelled-bounded s d (read-spelled s d e)
 
 -- the same of an answer that was told to be a number
-pub number-bounded : (s : List ℕ) (r : Reading) (d : Decimal) → r ≡ read s → r ≡ Number d → Bounded d
+pub number-bounded : (s : List ℕ) (r : NumberReading) (d : Decimal) → r ≡ read s → r ≡ Number d → Bounded d
 number-bounded s r d e h = read-bounded s d (sym e ∙ h)
 
 -- a text is readable exactly where it spells a number
-readable-number : (s : List ℕ) (r : Reading) → read s ≡ r → isNumber r ≡ true → (d : Decimal) × Spells s d
+readable-number : (s : List ℕ) (r : NumberReading) → read s ≡ r → isNumber r ≡ true → (d : Decimal) × Spells s d
 readable-number s (Number d) e h = (d, read-spelled s d e)
 readable-number s Unreadable e h = absurd (false≢true h)
 

@@ -13,8 +13,8 @@ use Rattle.base.specs.Digits.{isDigit}
 use Rattle.base.specs.Runs.{run}
 use Rattle.base.proofs.Lists.{rest}
 use Rattle.number.specs.declared.Decimal.{Decimal}
-use Rattle.number.specs.declared.Reading.{Reading}
-use Rattle.number.specs.declared.Reading.the-variants.{Number, Unreadable}
+use Rattle.number.specs.declared.NumberReading.{NumberReading}
+use Rattle.number.specs.declared.NumberReading.the-variants.{Number, Unreadable}
 use Rattle.number.specs.Reading.{point, DigitText, valueFrom, readFraction, read, isNumber, readable}
 use Rattle.base.proofs.Runs.{run-whole, run-take}
 use Rattle.number.proofs.Digits.{value-short}
@@ -70,7 +70,7 @@ module _ (s : List ℕ) (k : ℕ) (e : k ≡ run isDigit s) where
   read-no-point one eight h p =
       rw (← e, le-leb 1 k one, le-leb k 8 eight, ne-eqb k (length s) h, ne-eqb (getD s k 0) point p)
 
-  pub read-point : (r : Reading) (whole : ℕ) → 1 ≤ k → k ≤ 8 → (k ≡ length s → ⊥) → getD s k 0 ≡ point → whole ≡ valueFrom 0 (take k s) → r ≡ readFraction whole (take (length s - (k + 1)) (drop (k + 1) s)) → r ≡ read s
+  pub read-point : (r : NumberReading) (whole : ℕ) → 1 ≤ k → k ≤ 8 → (k ≡ length s → ⊥) → getD s k 0 ≡ point → whole ≡ valueFrom 0 (take k s) → r ≡ readFraction whole (take (length s - (k + 1)) (drop (k + 1) s)) → r ≡ read s
   unfolding read
   read-point r whole one eight h p w q =
       rw (← e, le-leb 1 k one, le-leb k 8 eight, ne-eqb k (length s) h, eq-eqb (getD s k 0) point p, ← w) (q ∙ ap (readFraction whole) (rest s (k + 1)))
@@ -85,10 +85,10 @@ module _ (s : List ℕ) (k : ℕ) (e : k ≡ run isDigit s) where
   pub whole-small : (whole : ℕ) → k ≤ 8 → whole ≡ valueFrom 0 (take k s) → whole < 10 ^ 8
   whole-small whole h w = rw w (value-short (take k s) (rw e (run-take isDigit s)) (rw length-take (omega arith)))
 
-pub readable-number : (s : List ℕ) (r : Reading) (d : Decimal) → r ≡ read s → r ≡ Number d → true ≡ readable s
+pub readable-number : (s : List ℕ) (r : NumberReading) (d : Decimal) → r ≡ read s → r ≡ Number d → true ≡ readable s
 unfolding readable
 readable-number s r d e n = ap isNumber (sym n ∙ e)
 
-pub readable-not : (s : List ℕ) (r : Reading) → r ≡ read s → r ≡ Unreadable → false ≡ readable s
+pub readable-not : (s : List ℕ) (r : NumberReading) → r ≡ read s → r ≡ Unreadable → false ≡ readable s
 unfolding readable
 readable-not s r e n = ap isNumber (sym n ∙ e)

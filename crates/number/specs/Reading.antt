@@ -10,8 +10,8 @@ use lib.ListN.{length, getD, take, drop}
 use Rattle.base.specs.Digits.{isDigit}
 use Rattle.base.specs.Lists.{every}
 use Rattle.base.specs.Runs.{run}
-use Rattle.number.specs.declared.Reading.{Reading}
-use Rattle.number.specs.declared.Reading.the-variants.{Number, Unreadable}
+use Rattle.number.specs.declared.NumberReading.{NumberReading}
+use Rattle.number.specs.declared.NumberReading.the-variants.{Number, Unreadable}
 
 -- the byte between the whole part and the decimals
 abbrev pub point : ℕ
@@ -28,7 +28,7 @@ valueFrom before [] = before
 valueFrom before (x ∷ xs) = valueFrom (before * 10 + (x - code "0")) xs
 
 -- the text f of decimals after the whole part
-unfoldable pub readFraction : ℕ → List ℕ → Reading
+unfoldable pub readFraction : ℕ → List ℕ → NumberReading
 readFraction whole f =
     cond (leb 1 (length f))
     (cond (leb (length f) 9)
@@ -37,7 +37,7 @@ readFraction whole f =
     Unreadable
 
 -- 1 to 8 digits, then perhaps "." and 1 to 9 digits
-unfoldable pub read : List ℕ → Reading
+unfoldable pub read : List ℕ → NumberReading
 read s =
     cond (leb 1 (run isDigit s))
     (cond (leb (run isDigit s) 8)
@@ -50,7 +50,7 @@ read s =
     Unreadable
 
 -- the reading is a number
-abbrev pub isNumber : Reading → Bool
+abbrev pub isNumber : NumberReading → Bool
 isNumber (Number d) = true
 isNumber Unreadable = false
 

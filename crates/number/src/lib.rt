@@ -16,7 +16,7 @@ pub struct Decimal {
 }
 
 // What a text reads to.
-pub enum Reading {
+pub enum NumberReading {
     Number(Decimal),
     Unreadable,
 }
@@ -52,45 +52,45 @@ fn value_from(before: u64, s: &[u8]) -> u64
 }
 
 // The decimals that a text writes after the whole part.
-fn read_fraction(whole: u64, f: &[u8]) -> Reading
+fn read_fraction(whole: u64, f: &[u8]) -> NumberReading
     requires { ⌜ whole < 10 ^ 8 ⌝ }
     ensures { λ r. ⌜ r ≡ readFraction whole (now (f .entry)) ⌝ }
 {
     if f.len() < 1 {
-        return Reading::Unreadable;
+        return NumberReading::Unreadable;
     }
     if f.len() > 9 {
-        return Reading::Unreadable;
+        return NumberReading::Unreadable;
     }
     if digit_run(f) < f.len() {
-        return Reading::Unreadable;
+        return NumberReading::Unreadable;
     }
-    Reading::Number(Decimal {
+    NumberReading::Number(Decimal {
         digits: value_from(whole, f),
         decimals: f.len(),
     })
 }
 
 // What a text reads to: "1 to 8 digits, then perhaps "." and 1 to 9 digits. No sign, no exponent."
-pub fn read(s: &[u8]) -> Reading
+pub fn read(s: &[u8]) -> NumberReading
     ensures { λ r. ⌜ r ≡ read (now (s .entry)) ⌝ }
 {
     let run = digit_run(s);
     if run < 1 {
-        return Reading::Unreadable;
+        return NumberReading::Unreadable;
     }
     if run > 8 {
-        return Reading::Unreadable;
+        return NumberReading::Unreadable;
     }
     let whole = value_from(0, &s[..run]);
     if run == s.len() {
-        return Reading::Number(Decimal {
+        return NumberReading::Number(Decimal {
             digits: whole,
             decimals: 0,
         });
     }
     if s[run] != b'.' {
-        return Reading::Unreadable;
+        return NumberReading::Unreadable;
     }
     let after = run + 1;
     read_fraction(whole, &s[after..])
@@ -101,8 +101,8 @@ pub fn readable(s: &[u8]) -> bool
     ensures { λ r. ⌜ r ≡ readable (now (s .entry)) ⌝ }
 {
     match read(s) {
-        Reading::Number(_) => true,
-        Reading::Unreadable => false,
+        NumberReading::Number(_) => true,
+        NumberReading::Unreadable => false,
     }
 }
 

@@ -1,6 +1,6 @@
 -- Match, as the code comes to its answer.
 -- A law for each way through the code, and no induction. A card is refused for its size, its sum, its layout or as a misfit, or it conforms,
--- in the order of the definition's own choice (`takes-size` .. `takes-conforming`). The verdict on a card that conforms is what the question
+-- in the order of the definition's own choice (`accepts-size` .. `accepts-conforming`). The verdict on a card that conforms is what the question
 -- says of its entries, and on any other the refusal (`judged-says`, `judged-refused`); by rows for all parameters of these kinds
 -- (`rows-says`). By the text, the tree that the walk reads is the one that check has read (`read-from`), so that the walk's answer is what
 -- the text says (`says-done`). The verdict gives match's answer (`match-answered`).
@@ -35,10 +35,10 @@ use Rattle.row_judge.specs.Saying.{rowsSay}
 use Rattle.refusal.specs.Answers.{numberOf, yesOrNo, refusalAnswer}
 use Rattle.refusal.specs.Steps.{found, stop, Step, _>>=_, answer}
 use Rattle.refusal.specs.declared.Reason.{Reason}
-use Rattle.answer.specs.Operations.{Card, cardStep, takeCard, Question, matchBy, filterQuestion, matchAnswer}
+use Rattle.answer.specs.Operations.{Card, cardStep, acceptCard, Question, matchBy, filterQuestion, matchAnswer}
 use Rattle.answer.specs.Passing.{Passing, textSays, textQuestion, cardVerdict}
-use Rattle.one_card.specs.OneCard.{verdictStep, TakesCard, cellsQuestion, verdictAnswer}
-use Rattle.one_card.specs.declared.CardTaken.{CardTaken}
+use Rattle.one_card.specs.OneCard.{verdictStep, AcceptsCard, cellsQuestion, verdictAnswer}
+use Rattle.one_card.specs.declared.CardAcceptance.{CardAcceptance}
 use Rattle.one_card.specs.declared.CardVerdict.{CardVerdict}
 use Rattle.refusal.specs.declared.Refusal.{Refusal}
 use Rattle.answer.specs.Answers.{matchedAnswer}
@@ -69,24 +69,24 @@ module _ (ps : List Parameter) (es : List Entry) (b xs : List ℕ) (p : Passing 
       let z : none ≡ some (p .tree) = read-from unparsed (was-none Judged.Done Judged.Nothing judged-cases (judging true ps 0 (chosenOf every es)) xs round 8 start w e h) in
       cc
 
--- ---- one card is taken
+-- ---- one card is accepted
 
 module _ (kinds b : List ℕ) (r : Validity) (e : r ≡ readCard b) where
-  taken-refused : (k : Validity) (x : Reason) → ((fits : Bool) (c : Card) (i : ℕ) → cardStep k fits c i ≡ stop (numberOf x) i) → r ≡ k → TakesCard kinds b (CardTaken.Refused x)
-  taken-refused k x t h =
+  accepted-refused : (k : Validity) (x : Reason) → ((fits : Bool) (c : Card) (i : ℕ) → cardStep k fits c i ≡ stop (numberOf x) i) → r ≡ k → AcceptsCard kinds b (CardAcceptance.Refused x)
+  accepted-refused k x t h =
       record {
         well-formed = λ z. absurd (let y : _≡_ {A = ℕ} 0 1 = cc in omega arith);
-        steps = λ ps l i. (unfold takeCard in rw (sym e ∙ h, t (conforms ps (entriesOf b)) (record { number = recordNumber b; entries = entriesOf b }) i));
+        steps = λ ps l i. (unfold acceptCard in rw (sym e ∙ h, t (conforms ps (entriesOf b)) (record { number = recordNumber b; entries = entriesOf b }) i));
       }
 
-  pub takes-size : r ≡ Validity.WrongSize → TakesCard kinds b (CardTaken.Refused Reason.CardSize)
-  takes-size = taken-refused Validity.WrongSize Reason.CardSize (λ fits c i. refl)
+  pub accepts-size : r ≡ Validity.WrongSize → AcceptsCard kinds b (CardAcceptance.Refused Reason.CardSize)
+  accepts-size = accepted-refused Validity.WrongSize Reason.CardSize (λ fits c i. refl)
 
-  pub takes-sum : r ≡ Validity.WrongSum → TakesCard kinds b (CardTaken.Refused Reason.CardSum)
-  takes-sum = taken-refused Validity.WrongSum Reason.CardSum (λ fits c i. refl)
+  pub accepts-sum : r ≡ Validity.WrongSum → AcceptsCard kinds b (CardAcceptance.Refused Reason.CardSum)
+  accepts-sum = accepted-refused Validity.WrongSum Reason.CardSum (λ fits c i. refl)
 
-  pub takes-layout : r ≡ Validity.WrongLayout → TakesCard kinds b (CardTaken.Refused Reason.CardLayout)
-  takes-layout = taken-refused Validity.WrongLayout Reason.CardLayout (λ fits c i. refl)
+  pub accepts-layout : r ≡ Validity.WrongLayout → AcceptsCard kinds b (CardAcceptance.Refused Reason.CardLayout)
+  accepts-layout = accepted-refused Validity.WrongLayout Reason.CardLayout (λ fits c i. refl)
 
   pub card-known : r ≡ Validity.WellFormed → readCard b ≡ Validity.WellFormed
   card-known h = sym e ∙ h
@@ -95,42 +95,42 @@ module _ (kinds b : List ℕ) (r : Validity) (e : r ≡ readCard b) where
     fits : (ps : List Parameter) → kinds ≡ kindsOf ps → conforms ps (entriesOf b) ≡ o
     fits ps l = sym (g ∙ ap (λ (k : List ℕ). conformsTo k (entriesOf b)) l ∙ table-conforms ps (entriesOf b))
 
-    pub takes-misfit : o ≡ false → TakesCard kinds b (CardTaken.Refused Reason.CardMisfit)
-    takes-misfit n =
+    pub accepts-misfit : o ≡ false → AcceptsCard kinds b (CardAcceptance.Refused Reason.CardMisfit)
+    accepts-misfit n =
         record {
           well-formed = λ z. absurd (let y : _≡_ {A = ℕ} 0 1 = cc in omega arith);
-          steps = λ ps l i. (unfold takeCard in rw (sym e ∙ h, fits ps l ∙ n));
+          steps = λ ps l i. (unfold acceptCard in rw (sym e ∙ h, fits ps l ∙ n));
         }
 
-    pub takes-conforming : o ≡ true → TakesCard kinds b CardTaken.Conforming
-    takes-conforming y =
+    pub accepts-conforming : o ≡ true → AcceptsCard kinds b CardAcceptance.Conforming
+    accepts-conforming y =
         record {
           well-formed = λ z. sym e ∙ h;
-          steps = λ ps l i. (unfold takeCard in rw (sym e ∙ h, fits ps l ∙ y));
+          steps = λ ps l i. (unfold acceptCard in rw (sym e ∙ h, fits ps l ∙ y));
         }
 
 -- ---- and judged
 
-module _ (kinds b : List ℕ) (t : CardTaken) (e : TakesCard kinds b t) where
-  pub conforming-known : t ≡ CardTaken.Conforming → readCard b ≡ Validity.WellFormed
+module _ (kinds b : List ℕ) (t : CardAcceptance) (e : AcceptsCard kinds b t) where
+  pub conforming-known : t ≡ CardAcceptance.Conforming → readCard b ≡ Validity.WellFormed
   conforming-known h = e .well-formed h
 
   module _ (q : Question) (l : kinds ≡ kindsOf (q .parameters)) where
-    pub judged-says : (v : Bool) → t ≡ CardTaken.Conforming → v ≡ q .says (entriesOf b) → (i : ℕ) → found v ≡ cardVerdict q i b
+    pub judged-says : (v : Bool) → t ≡ CardAcceptance.Conforming → v ≡ q .says (entriesOf b) → (i : ℕ) → found v ≡ cardVerdict q i b
     unfolding cardVerdict
     judged-says v h s i = rw (sym (e .steps (q .parameters) l i), h, s)
 
-    pub judged-refused : (x : Reason) → t ≡ CardTaken.Refused x → (i : ℕ) → stop (numberOf x) i ≡ cardVerdict q i b
+    pub judged-refused : (x : Reason) → t ≡ CardAcceptance.Refused x → (i : ℕ) → stop (numberOf x) i ≡ cardVerdict q i b
     unfolding cardVerdict
     judged-refused x h i = rw (sym (e .steps (q .parameters) l i), h)
 
   -- by rows, whatever the parameters of these kinds
   module _ (xs cs : List ℕ) where
-    pub rows-says : (v : Bool) → t ≡ CardTaken.Conforming → v ≡ rowsSay kinds xs (chosenOf every (entriesOf b)) cs
+    pub rows-says : (v : Bool) → t ≡ CardAcceptance.Conforming → v ≡ rowsSay kinds xs (chosenOf every (entriesOf b)) cs
         → (ps : List Parameter) → kinds ≡ kindsOf ps → (i : ℕ) → found v ≡ cardVerdict (cellsQuestion ps xs cs) i b
     rows-says v h s ps l = judged-says (cellsQuestion ps xs cs) l v h (s ∙ ap₂ (λ (k : List ℕ) (es : List Entry). rowsSay k xs es cs) l (chosen-every (entriesOf b)))
 
-    pub rows-refused : (x : Reason) → t ≡ CardTaken.Refused x → (ps : List Parameter) → kinds ≡ kindsOf ps → (i : ℕ) → stop (numberOf x) i ≡ cardVerdict (cellsQuestion ps xs cs) i b
+    pub rows-refused : (x : Reason) → t ≡ CardAcceptance.Refused x → (ps : List Parameter) → kinds ≡ kindsOf ps → (i : ℕ) → stop (numberOf x) i ≡ cardVerdict (cellsQuestion ps xs cs) i b
     rows-refused x h ps l = judged-refused (cellsQuestion ps xs cs) l x h
 
 -- ---- match
@@ -139,7 +139,7 @@ module _ (kinds b : List ℕ) (t : CardTaken) (e : TakesCard kinds b t) where
 module _ (asked : Step Question) (q : Question) (card : List ℕ) (p : asked ≡ found q) (v : CardVerdict) (e : (i : ℕ) → verdictStep v i ≡ cardVerdict q i card) where
   match-is : matchBy asked card ≡ answer (verdictStep v 0 >>= λ y. found (yesOrNo y))
   unfolding matchBy cardVerdict
-  match-is = rw (p, e 0) (ap answer (yes-or-no-after (takeCard (q .parameters) 0 card) (λ c. q .says (c .entries))))
+  match-is = rw (p, e 0) (ap answer (yes-or-no-after (acceptCard (q .parameters) 0 card) (λ c. q .says (c .entries))))
 
   pub match-answered : (m : Matched) → matchedAnswer m ≡ verdictAnswer v → matchedAnswer m ≡ matchBy asked card
   unfolding verdictAnswer

@@ -11,21 +11,21 @@ use Rattle.card.specs.Card.{recordNumber, entriesOf, readCard}
 use Rattle.row_judge.specs.Saying.{rowsSay}
 use Rattle.refusal.specs.Answers.{Answer, yesOrNo, numberOf}
 use Rattle.refusal.specs.Steps.{Step, found, stop, _>>=_, answer}
-use Rattle.answer.specs.Operations.{Card, takeCard, Question}
-use Rattle.one_card.specs.declared.CardTaken.{CardTaken}
+use Rattle.answer.specs.Operations.{Card, acceptCard, Question}
+use Rattle.one_card.specs.declared.CardAcceptance.{CardAcceptance}
 use Rattle.one_card.specs.declared.CardVerdict.{CardVerdict}
 
--- ---- it is taken
+-- ---- it is accepted
 
 -- what each case of the code's answer states of the card with the index i
-abbrev pub takenStep : CardTaken → List ℕ → ℕ → Step Card
-takenStep CardTaken.Conforming b i = found (record { number = recordNumber b; entries = entriesOf b })
-takenStep (CardTaken.Refused r) b i = stop (numberOf r) i
+abbrev pub acceptanceStep : CardAcceptance → List ℕ → ℕ → Step Card
+acceptanceStep CardAcceptance.Conforming b i = found (record { number = recordNumber b; entries = entriesOf b })
+acceptanceStep (CardAcceptance.Refused r) b i = stop (numberOf r) i
 
 -- what taking a card does, by the kinds of the sheet
-pub record TakesCard (kinds card : List ℕ) (r : CardTaken) : Type 0 where
-  pub well-formed : r ≡ CardTaken.Conforming → readCard card ≡ Validity.WellFormed
-  pub steps : (ps : List Parameter) → kinds ≡ kindsOf ps → (i : ℕ) → takenStep r card i ≡ takeCard ps i card
+pub record AcceptsCard (kinds card : List ℕ) (r : CardAcceptance) : Type 0 where
+  pub well-formed : r ≡ CardAcceptance.Conforming → readCard card ≡ Validity.WellFormed
+  pub steps : (ps : List Parameter) → kinds ≡ kindsOf ps → (i : ℕ) → acceptanceStep r card i ≡ acceptCard ps i card
 
 -- ---- and judged
 

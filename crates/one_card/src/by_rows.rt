@@ -1,7 +1,7 @@
 // The first engine: rows that are whole say what a filter says, without its text being read again.
-use crate::CardTaken;
+use crate::CardAcceptance;
 use crate::CardVerdict;
-use crate::take_card;
+use crate::accept_card;
 use judge::Chosen;
 use row_judge::rows_say;
 use row_judge::say_once;
@@ -37,9 +37,9 @@ pub fn judge_by_rows(
     requires { ⌜ Opens (now kinds) (now filter) (now rows) (now spans) (now digits) (now starts) (now ends) (length (now rows)) ⌝ }
     ensures { λ r. ⌜ ((ps : List Parameter) → now (kinds .entry) ≡ kindsOf ps → (i : ℕ) → verdictStep r i ≡ cardVerdict (cellsQuestion ps (now (filter .entry)) (now (rows .entry))) i (now (card .entry))) ⌝ }
 {
-    let taken = take_card(kinds, card);
-    match taken {
-        CardTaken::Conforming => {
+    let accepted = accept_card(kinds, card);
+    match accepted {
+        CardAcceptance::Conforming => {
             let every = Chosen {
                 all: true,
                 occurrence: 0,
@@ -57,7 +57,7 @@ pub fn judge_by_rows(
                 every,
             ))
         }
-        CardTaken::Refused(reason) => CardVerdict::Refused(reason),
+        CardAcceptance::Refused(reason) => CardVerdict::Refused(reason),
     }
 }
 
@@ -69,15 +69,15 @@ pub fn judge_once(kinds: &[u8], filter: &[u8], rows: &[u32], card: &[u8]) -> Car
     requires { ⌜ length (now rows) ≤ 320 ⌝ }
     ensures { λ r. ⌜ ((ps : List Parameter) → now (kinds .entry) ≡ kindsOf ps → (i : ℕ) → verdictStep r i ≡ cardVerdict (cellsQuestion ps (now (filter .entry)) (now (rows .entry))) i (now (card .entry))) ⌝ }
 {
-    let taken = take_card(kinds, card);
-    match taken {
-        CardTaken::Conforming => {
+    let accepted = accept_card(kinds, card);
+    match accepted {
+        CardAcceptance::Conforming => {
             let every = Chosen {
                 all: true,
                 occurrence: 0,
             };
             CardVerdict::Says(say_once(kinds, filter, rows, card, every))
         }
-        CardTaken::Refused(reason) => CardVerdict::Refused(reason),
+        CardAcceptance::Refused(reason) => CardVerdict::Refused(reason),
     }
 }

@@ -1,7 +1,7 @@
 // The second engine: it walks the filter's text for each card, without rows, and decides as it reads. It is held against the first.
-use crate::CardTaken;
+use crate::CardAcceptance;
 use crate::CardVerdict;
-use crate::take_card;
+use crate::accept_card;
 use block::Validity;
 use filter::Judged;
 use filter::Spot;
@@ -47,9 +47,9 @@ pub fn judge_by_text(sheet: &[u8], kinds: &[u8], filter: &[u8], card: &[u8]) -> 
     requires { ⌜ now kinds ≡ kindsOf (parametersOf (now sheet)) ⌝ }
     ensures { λ r. ⌜ ((i : ℕ) → verdictStep r i ≡ cardVerdict (textQuestion (parametersOf (now (sheet .entry))) (read (now (filter .entry)))) i (now (card .entry))) ⌝ }
 {
-    let taken = take_card(kinds, card);
-    match taken {
-        CardTaken::Conforming => CardVerdict::Says(text_says(sheet, filter, card)),
-        CardTaken::Refused(reason) => CardVerdict::Refused(reason),
+    let accepted = accept_card(kinds, card);
+    match accepted {
+        CardAcceptance::Conforming => CardVerdict::Says(text_says(sheet, filter, card)),
+        CardAcceptance::Refused(reason) => CardVerdict::Refused(reason),
     }
 }

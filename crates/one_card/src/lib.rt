@@ -1,4 +1,4 @@
-// One card under a sheet: whether it is taken, what is said of it by either engine, and the answer that this makes.
+// One card under a sheet: whether it is accepted, what is said of it by either engine, and the answer that this makes.
 mod by_rows;
 mod by_text;
 
@@ -12,10 +12,10 @@ use refusal::Reason;
 use refusal::Refusal;
 ghost use mathlib.Core.Path.{_≡_};
 ghost use Rattle.answer.specs.Answers.{matchedAnswer};
-ghost use Rattle.one_card.specs.OneCard.{TakesCard, verdictAnswer};
+ghost use Rattle.one_card.specs.OneCard.{AcceptsCard, verdictAnswer};
 
 // Whether a card is well formed and conforms to a sheet; or why it is refused.
-pub enum CardTaken {
+pub enum CardAcceptance {
     Conforming,
     Refused(Reason),
 }
@@ -27,20 +27,20 @@ pub enum CardVerdict {
 }
 
 // Reads a card; `kinds` are those of the sheet.
-pub fn take_card(kinds: &[u8], card: &[u8]) -> CardTaken
-    ensures { λ r. ⌜ TakesCard (now (kinds .entry)) (now (card .entry)) r ⌝ }
+pub fn accept_card(kinds: &[u8], card: &[u8]) -> CardAcceptance
+    ensures { λ r. ⌜ AcceptsCard (now (kinds .entry)) (now (card .entry)) r ⌝ }
 {
     let reading = card::read_card(card);
     match reading {
         Validity::WellFormed => {
             if conforms(kinds, card) {
-                return CardTaken::Conforming;
+                return CardAcceptance::Conforming;
             }
-            CardTaken::Refused(Reason::CardMisfit)
+            CardAcceptance::Refused(Reason::CardMisfit)
         }
-        Validity::WrongSize => CardTaken::Refused(Reason::CardSize),
-        Validity::WrongSum => CardTaken::Refused(Reason::CardSum),
-        Validity::WrongLayout => CardTaken::Refused(Reason::CardLayout),
+        Validity::WrongSize => CardAcceptance::Refused(Reason::CardSize),
+        Validity::WrongSum => CardAcceptance::Refused(Reason::CardSum),
+        Validity::WrongLayout => CardAcceptance::Refused(Reason::CardLayout),
     }
 }
 

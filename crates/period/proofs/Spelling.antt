@@ -19,7 +19,7 @@ use Rattle.base.proofs.Integers.{ltZ-iff}
 use Rattle.base.proofs.Split.{split-whole, split-at, split-cases}
 use Rattle.base.proofs.Tests.{cond-first}
 use Rattle.date.specs.declared.Date.{Date}
-use Rattle.date.specs.declared.Reading as dates
+use Rattle.date.specs.declared.DateReading.{DateReading}
 use Rattle.date.specs.Marks.{hyphen, colon, plus, letterT, letterZ}
 use Rattle.date.specs.Spelling as date-spelling
 use Rattle.date.specs.Texts as texts
@@ -30,7 +30,7 @@ use Rattle.period.specs.Texts.{slash, period, known, fromTo, bothEnds, o
 use Rattle.period.specs.Spelling.{Spells, spells-both, spells-first, spells-second, SpellsSpan, span-of-date, span-of-period}
 use Rattle.period.specs.declared.End.{End}
 use Rattle.period.specs.declared.Period.{Period}
-use Rattle.period.specs.declared.Reading.{Reading}
+use Rattle.period.specs.declared.PeriodReading.{PeriodReading}
 use Rattle.period.proofs.Relations.{less}
 use Rattle.period.proofs.Texts.{parts-first, parts-both}
 
@@ -83,34 +83,34 @@ date-plain (date-spelling.spells-second {y} {m} {d} {hour} {minute} {second} v t
 
 -- ---- a text that reads to a period spells it
 
-second-there : (b : List ℕ) (p : Period) (r : dates.Reading) → texts.read b ≡ r → openStart r ≡ Reading.Readable p → Spells (slash ∷ b) p
+second-there : (b : List ℕ) (p : Period) (r : DateReading) → texts.read b ≡ r → openStart r ≡ PeriodReading.Readable p → Spells (slash ∷ b) p
 unfolding openStart
-second-there b p (dates.Reading.Readable e) h k =
+second-there b p (DateReading.Readable e) h k =
     let z : period End.Open (End.At (e .end)) ≡ p = cc in
     subst (Spells (slash ∷ b)) z (spells-second (date-reading.read-iff b e .0 h))
-second-there b p dates.Reading.Unreadable h k = let z : _≡_ {A = ℕ} 0 1 = cc in absurd (omega arith)
+second-there b p DateReading.Unreadable h k = let z : _≡_ {A = ℕ} 0 1 = cc in absurd (omega arith)
 
-first-there : (a : List ℕ) (p : Period) (r : dates.Reading) → texts.read a ≡ r → openEnd r ≡ Reading.Readable p → Spells (a ++ (slash ∷ [])) p
+first-there : (a : List ℕ) (p : Period) (r : DateReading) → texts.read a ≡ r → openEnd r ≡ PeriodReading.Readable p → Spells (a ++ (slash ∷ [])) p
 unfolding openEnd
-first-there a p (dates.Reading.Readable d) h k =
+first-there a p (DateReading.Readable d) h k =
     let z : period (End.At (d .start)) End.Open ≡ p = cc in
     subst (Spells (a ++ (slash ∷ []))) z (spells-first (date-reading.read-iff a d .0 h))
-first-there a p dates.Reading.Unreadable h k = let z : _≡_ {A = ℕ} 0 1 = cc in absurd (omega arith)
+first-there a p DateReading.Unreadable h k = let z : _≡_ {A = ℕ} 0 1 = cc in absurd (omega arith)
 
-not-readable : (p : Period) → Reading.Unreadable ≡ Reading.Readable p → ⊥
+not-readable : (p : Period) → PeriodReading.Unreadable ≡ PeriodReading.Readable p → ⊥
 not-readable p e = let z : _≡_ {A = ℕ} 0 1 = cc in omega arith
 
-both-there : (a b : List ℕ) (p : Period) (r s : dates.Reading) → texts.read a ≡ r → texts.read b ≡ s → bothEnds r s ≡ Reading.Readable p → Spells (a ++ (slash ∷ b)) p
+both-there : (a b : List ℕ) (p : Period) (r s : DateReading) → texts.read a ≡ r → texts.read b ≡ s → bothEnds r s ≡ PeriodReading.Readable p → Spells (a ++ (slash ∷ b)) p
 unfolding bothEnds fromTo
-both-there a b p (dates.Reading.Readable d) (dates.Reading.Readable e) h g k =
-    let w = cond-first (ltZ (d .start) (e .end)) (Reading.Readable (period (End.At (d .start)) (End.At (e .end)))) Reading.Unreadable (not-readable p) k in
+both-there a b p (DateReading.Readable d) (DateReading.Readable e) h g k =
+    let w = cond-first (ltZ (d .start) (e .end)) (PeriodReading.Readable (period (End.At (d .start)) (End.At (e .end)))) PeriodReading.Unreadable (not-readable p) k in
     let same = w .1 in
     let z : period (End.At (d .start)) (End.At (e .end)) ≡ p = cc in
     subst (Spells (a ++ (slash ∷ b))) z (spells-both (date-reading.read-iff a d .0 h) (date-reading.read-iff b e .0 g) (ltZ-iff (d .start) (e .end) .0 (w .0)))
-both-there a b p (dates.Reading.Readable d) dates.Reading.Unreadable h g k = absurd (not-readable p k)
-both-there a b p dates.Reading.Unreadable s h g k = absurd (not-readable p k)
+both-there a b p (DateReading.Readable d) DateReading.Unreadable h g k = absurd (not-readable p k)
+both-there a b p DateReading.Unreadable s h g k = absurd (not-readable p k)
 
-parts-there : (p : Period) (a b : List ℕ) → readParts a b ≡ Reading.Readable p → Spells (a ++ (slash ∷ b)) p
+parts-there : (p : Period) (a b : List ℕ) → readParts a b ≡ PeriodReading.Readable p → Spells (a ++ (slash ∷ b)) p
 unfolding readParts
 parts-there p [] b h = second-there b p (texts.read b) refl h
 parts-there p (x ∷ a) [] h = first-there (x ∷ a) p (texts.read (x ∷ a)) refl (parts-first (x ∷ a) [] _ (λ e. omega arith) refl refl ∙ h)
@@ -118,32 +118,32 @@ parts-there p (x ∷ a) (y ∷ b) h =
     both-there (x ∷ a) (y ∷ b) p (texts.read (x ∷ a)) (texts.read (y ∷ b)) refl refl
     (parts-both (x ∷ a) (y ∷ b) _ (λ e. omega arith) (λ e. omega arith) refl ∙ h)
 
-reads-spells : (p : Period) (t : List ℕ) → read t ≡ Reading.Readable p → Spells t p
+reads-spells : (p : Period) (t : List ℕ) → read t ≡ PeriodReading.Readable p → Spells t p
 unfolding read
 reads-spells p =
-    split-cases slash (λ (t : List ℕ). read t ≡ Reading.Readable p → Spells t p)
+    split-cases slash (λ (t : List ℕ). read t ≡ PeriodReading.Readable p → Spells t p)
     (λ c h e. absurd (not-readable p (rw (split-whole slash c h) at e)))
     (λ a b h e. parts-there p a b (rw (split-at slash a b h) at e))
 
 -- ---- and the other way round
 
 -- no date is empty
-empty-unreadable : (d : Date) → texts.read [] ≡ dates.Reading.Readable d → ⊥
+empty-unreadable : (d : Date) → texts.read [] ≡ DateReading.Readable d → ⊥
 unfolding texts.read
 empty-unreadable d e = let z : _≡_ {A = ℕ} 0 1 = cc in omega arith
 
-both-back : (a b : List ℕ) {d e : Date} → texts.read a ≡ dates.Reading.Readable d → texts.read b ≡ dates.Reading.Readable e → readParts a b ≡ fromTo d e
+both-back : (a b : List ℕ) {d e : Date} → texts.read a ≡ DateReading.Readable d → texts.read b ≡ DateReading.Readable e → readParts a b ≡ fromTo d e
 unfolding bothEnds
 both-back [] b {d} h g = absurd (empty-unreadable d h)
 both-back (x ∷ a) [] {d} {e} h g = absurd (empty-unreadable e g)
 both-back (x ∷ a) (y ∷ b) h g = sym (parts-both (x ∷ a) (y ∷ b) _ (λ e. omega arith) (λ e. omega arith) (rw (h, g)))
 
-first-back : (a : List ℕ) {d : Date} → texts.read a ≡ dates.Reading.Readable d → readParts a [] ≡ Reading.Readable (period (End.At (d .start)) End.Open)
+first-back : (a : List ℕ) {d : Date} → texts.read a ≡ DateReading.Readable d → readParts a [] ≡ PeriodReading.Readable (period (End.At (d .start)) End.Open)
 unfolding openEnd
 first-back [] {d} h = absurd (empty-unreadable d h)
 first-back (x ∷ a) h = sym (parts-first (x ∷ a) [] _ (λ e. omega arith) refl (rw h))
 
-spells-reads : {t : List ℕ} {p : Period} → Spells t p → read t ≡ Reading.Readable p
+spells-reads : {t : List ℕ} {p : Period} → Spells t p → read t ≡ PeriodReading.Readable p
 unfolding read fromTo readParts openStart
 spells-reads (spells-both {a = a} {b = b} {d = d} {e = e} s r l) =
     rw (split-at slash a b (date-plain s), both-back a b (date-reading.read-iff a d .1 s) (date-reading.read-iff b e .1 r), ltZ-iff (d .start) (e .end) .1 l)
@@ -153,19 +153,19 @@ spells-reads (spells-second {b = b} {e = e} s) =
     rw (split-at slash [] b all-empty, date-reading.read-iff b e .1 s)
 
 -- the theorem: a text reads to a period exactly where it is a spelling of it
-pub read-iff : (t : List ℕ) (p : Period) → (read t ≡ Reading.Readable p) ↔ Spells t p
+pub read-iff : (t : List ℕ) (p : Period) → (read t ≡ PeriodReading.Readable p) ↔ Spells t p
 read-iff t p = (reads-spells p t, spells-reads)
 
 -- so a text spells one period at most
 pub spells-unique : {t : List ℕ} {p q : Period} → Spells t p → Spells t q → p ≡ q
 spells-unique {t} {p} {q} s r =
-    let e : Reading.Readable p ≡ Reading.Readable q = sym (spells-reads s) ∙ spells-reads r in cc
+    let e : PeriodReading.Readable p ≡ PeriodReading.Readable q = sym (spells-reads s) ∙ spells-reads r in cc
 
 -- and it is readable exactly where it spells one
-readable-there : (t : List ℕ) (r : Reading) → read t ≡ r → isPeriod r ≡ true → (p : Period) × Spells t p
+readable-there : (t : List ℕ) (r : PeriodReading) → read t ≡ r → isPeriod r ≡ true → (p : Period) × Spells t p
 unfolding isPeriod
-readable-there t (Reading.Readable p) e h = (p, reads-spells p t e)
-readable-there t Reading.Unreadable e h = absurd (false≢true h)
+readable-there t (PeriodReading.Readable p) e h = (p, reads-spells p t e)
+readable-there t PeriodReading.Unreadable e h = absurd (false≢true h)
 
 pub readable-iff : (t : List ℕ) → (readable t ≡ true) ↔ ((p : Period) × Spells t p)
 unfolding readable isPeriod
@@ -179,23 +179,23 @@ not-plain (spells-first {a = a} s) h = all-head _ (all-right _ a h) refl
 not-plain (spells-second s) h = all-head _ h refl
 
 -- no period is a date
-period-no-date : (t : List ℕ) {p : Period} → Spells t p → (r : dates.Reading) → texts.read t ≡ r → r ≡ dates.Reading.Unreadable
-period-no-date t s (dates.Reading.Readable d) e = absurd (not-plain s (date-plain (date-reading.read-iff t d .0 e)))
-period-no-date t s dates.Reading.Unreadable e = refl
+period-no-date : (t : List ℕ) {p : Period} → Spells t p → (r : DateReading) → texts.read t ≡ r → r ≡ DateReading.Unreadable
+period-no-date t s (DateReading.Readable d) e = absurd (not-plain s (date-plain (date-reading.read-iff t d .0 e)))
+period-no-date t s DateReading.Unreadable e = refl
 
-span-there : (t : List ℕ) (p : Period) (r : dates.Reading) → texts.read t ≡ r → spanOr r (read t) ≡ Reading.Readable p → SpellsSpan t p
+span-there : (t : List ℕ) (p : Period) (r : DateReading) → texts.read t ≡ r → spanOr r (read t) ≡ PeriodReading.Readable p → SpellsSpan t p
 unfolding spanOr
-span-there t p (dates.Reading.Readable d) e h =
+span-there t p (DateReading.Readable d) e h =
     let z : known d ≡ p = cc in
     subst (SpellsSpan t) z (span-of-date (date-reading.read-iff t d .0 e))
-span-there t p dates.Reading.Unreadable e h = span-of-period (reads-spells p t h)
+span-there t p DateReading.Unreadable e h = span-of-period (reads-spells p t h)
 
-span-back : {t : List ℕ} {p : Period} → SpellsSpan t p → readSpan t ≡ Reading.Readable p
+span-back : {t : List ℕ} {p : Period} → SpellsSpan t p → readSpan t ≡ PeriodReading.Readable p
 unfolding readSpan spanOr
 span-back (span-of-date {t = t} {d = d} s) = rw (date-reading.read-iff t d .1 s)
 span-back (span-of-period {t = t} s) = rw (period-no-date t s (texts.read t) refl) (spells-reads s)
 
-pub span-iff : (t : List ℕ) (p : Period) → (readSpan t ≡ Reading.Readable p) ↔ SpellsSpan t p
+pub span-iff : (t : List ℕ) (p : Period) → (readSpan t ≡ PeriodReading.Readable p) ↔ SpellsSpan t p
 unfolding readSpan
 span-iff t p = (span-there t p (texts.read t) refl, span-back)
 

@@ -14,12 +14,12 @@ use borrow.Author.Tests.{ne-eqb}
 use Rattle.base.specs.Split.{firstOf}
 use Rattle.base.proofs.Split.{split-none, split-parts}
 use Rattle.date.specs.declared.Date.{Date}
-use Rattle.date.specs.declared.Reading as dates
+use Rattle.date.specs.declared.DateReading.{DateReading}
 use Rattle.date.specs.Texts as texts
 use Rattle.period.specs.Texts.{slash, period, known, fromTo, bothEnds, openEnd, openStart, readParts, read, isPeriod, readable, spanOr, readSpan}
 use Rattle.period.specs.declared.End.{End}
 use Rattle.period.specs.declared.Period.{Period}
-use Rattle.period.specs.declared.Reading.{Reading}
+use Rattle.period.specs.declared.PeriodReading.{PeriodReading}
 
 -- ---- ends
 
@@ -33,11 +33,11 @@ module _ (a b : Date) (low : SFits w64 (a .start)) (high : SFits w64 (b .end)) w
   both-back : period (at (a .start)) (at (b .end)) ≡ period (End.At (a .start)) (End.At (b .end))
   both-back = rw (at-back (a .start) low, at-back (b .end) high)
 
-  pub from-to-on : (t : Bool) → t ≡ ltZ (a .start) (b .end) → t ≡ true → Reading.Readable (period (at (a .start)) (at (b .end))) ≡ fromTo a b
+  pub from-to-on : (t : Bool) → t ≡ ltZ (a .start) (b .end) → t ≡ true → PeriodReading.Readable (period (at (a .start)) (at (b .end))) ≡ fromTo a b
   unfolding fromTo
-  from-to-on t e h = rw (sym e ∙ h) (ap (λ (p : Period). Reading.Readable p) both-back)
+  from-to-on t e h = rw (sym e ∙ h) (ap (λ (p : Period). PeriodReading.Readable p) both-back)
 
-pub from-to-off : (a b : Date) (t : Bool) → t ≡ ltZ (a .start) (b .end) → t ≡ false → Reading.Unreadable ≡ fromTo a b
+pub from-to-off : (a b : Date) (t : Bool) → t ≡ ltZ (a .start) (b .end) → t ≡ false → PeriodReading.Unreadable ≡ fromTo a b
 unfolding fromTo
 from-to-off a b t e h = rw (sym e ∙ h)
 
@@ -47,41 +47,41 @@ known-is d low high = both-back d d low high
 
 -- ---- one date, two dates
 
-module _ (t : List ℕ) (r : dates.Reading) (e : r ≡ texts.read t) where
-  pub end-unreadable : r ≡ dates.Reading.Unreadable → Reading.Unreadable ≡ openEnd (texts.read t)
+module _ (t : List ℕ) (r : DateReading) (e : r ≡ texts.read t) where
+  pub end-unreadable : r ≡ DateReading.Unreadable → PeriodReading.Unreadable ≡ openEnd (texts.read t)
   unfolding openEnd
   end-unreadable h = rw (sym e ∙ h)
 
-  pub start-unreadable : r ≡ dates.Reading.Unreadable → Reading.Unreadable ≡ openStart (texts.read t)
+  pub start-unreadable : r ≡ DateReading.Unreadable → PeriodReading.Unreadable ≡ openStart (texts.read t)
   unfolding openStart
   start-unreadable h = rw (sym e ∙ h)
 
-  module _ (d : Date) (h : r ≡ dates.Reading.Readable d) where
-    pub end-open : SFits w64 (d .start) → Reading.Readable (period (at (d .start)) End.Open) ≡ openEnd (texts.read t)
+  module _ (d : Date) (h : r ≡ DateReading.Readable d) where
+    pub end-open : SFits w64 (d .start) → PeriodReading.Readable (period (at (d .start)) End.Open) ≡ openEnd (texts.read t)
     unfolding openEnd
     end-open f = rw (sym e ∙ h, at-back (d .start) f)
 
-    pub start-open : SFits w64 (d .end) → Reading.Readable (period End.Open (at (d .end))) ≡ openStart (texts.read t)
+    pub start-open : SFits w64 (d .end) → PeriodReading.Readable (period End.Open (at (d .end))) ≡ openStart (texts.read t)
     unfolding openStart
     start-open f = rw (sym e ∙ h, at-back (d .end) f)
 
   module _ (u : List ℕ) where
-    pub first-unreadable : r ≡ dates.Reading.Unreadable → Reading.Unreadable ≡ bothEnds (texts.read t) (texts.read u)
+    pub first-unreadable : r ≡ DateReading.Unreadable → PeriodReading.Unreadable ≡ bothEnds (texts.read t) (texts.read u)
     unfolding bothEnds
     first-unreadable h = rw (sym e ∙ h)
 
-    module _ (a : Date) (h : r ≡ dates.Reading.Readable a) (s : dates.Reading) (f : s ≡ texts.read u) where
-      pub second-unreadable : s ≡ dates.Reading.Unreadable → Reading.Unreadable ≡ bothEnds (texts.read t) (texts.read u)
+    module _ (a : Date) (h : r ≡ DateReading.Readable a) (s : DateReading) (f : s ≡ texts.read u) where
+      pub second-unreadable : s ≡ DateReading.Unreadable → PeriodReading.Unreadable ≡ bothEnds (texts.read t) (texts.read u)
       unfolding bothEnds
       second-unreadable k = rw (sym e ∙ h, sym f ∙ k)
 
-      pub both-readable : (b : Date) (q : Reading) → s ≡ dates.Reading.Readable b → q ≡ fromTo a b → q ≡ bothEnds (texts.read t) (texts.read u)
+      pub both-readable : (b : Date) (q : PeriodReading) → s ≡ DateReading.Readable b → q ≡ fromTo a b → q ≡ bothEnds (texts.read t) (texts.read u)
       unfolding bothEnds
       both-readable b q k g = rw (sym e ∙ h, sym f ∙ k) g
 
 -- ---- the parts
 
-module _ (a b : List ℕ) (r : Reading) where
+module _ (a b : List ℕ) (r : PeriodReading) where
   pub parts-second : length a ≡ 0 → r ≡ openStart (texts.read b) → r ≡ readParts a b
   unfolding readParts
   parts-second h e = rw h e
@@ -96,30 +96,30 @@ module _ (a b : List ℕ) (r : Reading) where
     parts-both m e = rw (ne-eqb (length a) 0 n, ne-eqb (length b) 0 m) e
 
 module _ (t : List ℕ) (i : ℕ) (e : i ≡ firstOf slash t) where
-  pub read-parts : (r : Reading) → i < length t → r ≡ readParts (take i t) (take (length t - (i + 1)) (drop (i + 1) t)) → r ≡ read t
+  pub read-parts : (r : PeriodReading) → i < length t → r ≡ readParts (take i t) (take (length t - (i + 1)) (drop (i + 1) t)) → r ≡ read t
   unfolding read
   read-parts r h f = rw (split-parts slash t i e h) f
 
-  pub read-whole : length t ≤ i → Reading.Unreadable ≡ read t
+  pub read-whole : length t ≤ i → PeriodReading.Unreadable ≡ read t
   unfolding read
   read-whole h = rw (split-none slash t i e h)
 
 -- ---- the whole
 
-module _ (t : List ℕ) (r : Reading) (e : r ≡ read t) where
-  pub readable-on : (p : Period) → r ≡ Reading.Readable p → true ≡ readable t
+module _ (t : List ℕ) (r : PeriodReading) (e : r ≡ read t) where
+  pub readable-on : (p : Period) → r ≡ PeriodReading.Readable p → true ≡ readable t
   unfolding readable isPeriod
   readable-on p h = rw (sym e ∙ h)
 
-  pub readable-off : r ≡ Reading.Unreadable → false ≡ readable t
+  pub readable-off : r ≡ PeriodReading.Unreadable → false ≡ readable t
   unfolding readable isPeriod
   readable-off h = rw (sym e ∙ h)
 
-module _ (t : List ℕ) (r : dates.Reading) (e : r ≡ texts.read t) where
-  pub span-date : (d : Date) (p : Period) → r ≡ dates.Reading.Readable d → p ≡ known d → Reading.Readable p ≡ readSpan t
+module _ (t : List ℕ) (r : DateReading) (e : r ≡ texts.read t) where
+  pub span-date : (d : Date) (p : Period) → r ≡ DateReading.Readable d → p ≡ known d → PeriodReading.Readable p ≡ readSpan t
   unfolding readSpan spanOr
-  span-date d p h k = rw (sym e ∙ h) (ap (λ (x : Period). Reading.Readable x) k)
+  span-date d p h k = rw (sym e ∙ h) (ap (λ (x : Period). PeriodReading.Readable x) k)
 
-  pub span-period : (q : Reading) → r ≡ dates.Reading.Unreadable → q ≡ read t → q ≡ readSpan t
+  pub span-period : (q : PeriodReading) → r ≡ DateReading.Unreadable → q ≡ read t → q ≡ readSpan t
   unfolding readSpan spanOr
   span-period q h k = rw (sym e ∙ h) k

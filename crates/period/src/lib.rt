@@ -30,7 +30,7 @@ pub struct Period {
 }
 
 // What a text reads to: a period, where it is readable as one.
-pub enum Reading {
+pub enum PeriodReading {
     Readable(Period),
     Unreadable,
 }

@@ -5,8 +5,9 @@ ghost use Rattle.date.specs.Texts as texts;
 ghost use Rattle.period.specs.Texts.{known, fromTo, bothEnds, openEnd, openStart, readParts, read, readable, readSpan};
 use crate::End;
 use crate::Period;
-use crate::Reading;
+use crate::PeriodReading;
 use date::Date;
+use date::DateReading;
 
 // A card's date: the period with both ends known.
 fn known(d: Date) -> Period
@@ -26,59 +27,59 @@ fn in_order(a: Date, b: Date) -> bool
 }
 
 // "From the start of the first to the end of the second"; "a span that would not end after it starts is unreadable".
-fn from_to(a: Date, b: Date) -> Reading
+fn from_to(a: Date, b: Date) -> PeriodReading
     ensures { λ r. ⌜ r ≡ fromTo a b ⌝ }
 {
     if in_order(a, b) {
-        return Reading::Readable(Period {
+        return PeriodReading::Readable(Period {
             start: End::At(a.start),
             end: End::At(b.end),
         });
     }
-    Reading::Unreadable
+    PeriodReading::Unreadable
 }
 
 // Two dates.
-fn both_ends(first: &[u8], second: &[u8]) -> Reading
+fn both_ends(first: &[u8], second: &[u8]) -> PeriodReading
     ensures { λ r. ⌜ r ≡ bothEnds (texts.read (now (first .entry))) (texts.read (now (second .entry))) ⌝ }
 {
-    let date::Reading::Readable(a) = date::read(first) else {
-        return Reading::Unreadable;
+    let DateReading::Readable(a) = date::read(first) else {
+        return PeriodReading::Unreadable;
     };
-    let date::Reading::Readable(b) = date::read(second) else {
-        return Reading::Unreadable;
+    let DateReading::Readable(b) = date::read(second) else {
+        return PeriodReading::Unreadable;
     };
     from_to(a, b)
 }
 
 // The first alone: the end is missing.
-fn open_end(first: &[u8]) -> Reading
+fn open_end(first: &[u8]) -> PeriodReading
     ensures { λ r. ⌜ r ≡ openEnd (texts.read (now (first .entry))) ⌝ }
 {
-    let date::Reading::Readable(a) = date::read(first) else {
-        return Reading::Unreadable;
+    let DateReading::Readable(a) = date::read(first) else {
+        return PeriodReading::Unreadable;
     };
-    Reading::Readable(Period {
+    PeriodReading::Readable(Period {
         start: End::At(a.start),
         end: End::Open,
     })
 }
 
 // The second alone: the start is missing.
-fn open_start(second: &[u8]) -> Reading
+fn open_start(second: &[u8]) -> PeriodReading
     ensures { λ r. ⌜ r ≡ openStart (texts.read (now (second .entry))) ⌝ }
 {
-    let date::Reading::Readable(b) = date::read(second) else {
-        return Reading::Unreadable;
+    let DateReading::Readable(b) = date::read(second) else {
+        return PeriodReading::Unreadable;
     };
-    Reading::Readable(Period {
+    PeriodReading::Readable(Period {
         start: End::Open,
         end: End::At(b.end),
     })
 }
 
 // What stands before the slash and behind it: "either one missing but not both", since no empty text is a date.
-fn read_parts(first: &[u8], second: &[u8]) -> Reading
+fn read_parts(first: &[u8], second: &[u8]) -> PeriodReading
     ensures { λ r. ⌜ r ≡ readParts (now (first .entry)) (now (second .entry)) ⌝ }
 {
     if first.len() == 0 {
@@ -91,7 +92,7 @@ fn read_parts(first: &[u8], second: &[u8]) -> Reading
 }
 
 // What a text reads to: "two dates with a slash between". No date has a slash, so the first one is it.
-pub fn read(s: &[u8]) -> Reading
+pub fn read(s: &[u8]) -> PeriodReading
     ensures { λ r. ⌜ r ≡ read (now (s .entry)) ⌝ }
 {
     let slash = base::first_of(s, b'/');
@@ -99,7 +100,7 @@ pub fn read(s: &[u8]) -> Reading
         let after = slash + 1;
         return read_parts(&s[..slash], &s[after..]);
     }
-    Reading::Unreadable
+    PeriodReading::Unreadable
 }
 
 // Whether a text reads to a period.
@@ -107,17 +108,17 @@ pub fn readable(s: &[u8]) -> bool
     ensures { λ r. ⌜ r ≡ readable (now (s .entry)) ⌝ }
 {
     match read(s) {
-        Reading::Readable(_) => true,
-        Reading::Unreadable => false,
+        PeriodReading::Readable(_) => true,
+        PeriodReading::Unreadable => false,
     }
 }
 
 // The span of a card's text, a date or a period.
-pub fn read_span(s: &[u8]) -> Reading
+pub fn read_span(s: &[u8]) -> PeriodReading
     ensures { λ r. ⌜ r ≡ readSpan (now (s .entry)) ⌝ }
 {
     match date::read(s) {
-        date::Reading::Readable(d) => Reading::Readable(known(d)),
-        date::Reading::Unreadable => read(s),
+        DateReading::Readable(d) => PeriodReading::Readable(known(d)),
+        DateReading::Unreadable => read(s),
     }
 }

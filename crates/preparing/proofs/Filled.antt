@@ -34,9 +34,9 @@ use Rattle.refusal.specs.declared.Refusal.{Refusal}
 use Rattle.refusal.specs.Answers.{Answer, count, refused, numberOf, refusalAnswer}
 use Rattle.refusal.specs.Steps.{Step, found, stop, refusalStep, _>>=_, answer}
 use Rattle.answer.specs.Answers.{checkedAnswer}
-use Rattle.answer.specs.Operations.{treeStep, takeFilter, decisionStep, testsStep, sheetStep, takeSheet, Inputs, takeInputs, written}
+use Rattle.answer.specs.Operations.{treeStep, acceptFilter, decisionStep, testsStep, sheetStep, acceptSheet, Inputs, acceptInputs, written}
 use Rattle.answer.specs.Passing.{summaryAnswer}
-use Rattle.answer.specs.Preparing.{rowCells, takeCells, preparation, prepareAnswer, prepareCells, preparedAnswer, filledStep, textRows, FillsText, Fills, Prepares}
+use Rattle.answer.specs.Preparing.{rowCells, acceptCells, preparation, prepareAnswer, prepareCells, preparedAnswer, filledStep, textRows, FillsText, Fills, Prepares}
 use Rattle.answer.specs.declared.Checked.{Checked}
 use Rattle.answer.specs.declared.Prepared.{Prepared}
 use Rattle.answer.proofs.Inputs.{text-read}
@@ -70,11 +70,11 @@ module _ (ps : List Parameter) (xs : List ℕ) (c : Checked) (r : Prepared) (buf
   text-refused n p e s = record { rows = refused-step r buffer n p (h ∙ e) ∙ sym s; room = λ k i. absurd (refused-room r n p (h ∙ e) k i) }
 
   pub fill-empty : length xs ≡ 0 → checkedAnswer c ≡ refused (numberOf Reason.FilterSize) 0 → FillsText ps xs r buffer
-  unfolding textRows takeFilter
+  unfolding textRows acceptFilter
   fill-empty z e = text-refused 10 0 e (rw (eq-eqb (length xs) 0 z))
 
   pub fill-long : 1024 < length xs → checkedAnswer c ≡ refused (numberOf Reason.FilterSize) 0 → FillsText ps xs r buffer
-  unfolding textRows takeFilter
+  unfolding textRows acceptFilter
   fill-long l e =
       let n : length xs ≡ 0 → ⊥ = λ z. omega arith in
       text-refused 10 0 e (rw (ne-eqb (length xs) 0 n, lt-ltb 1024 (length xs) l))
@@ -149,7 +149,7 @@ module _ (ps : List Parameter) (xs : List ℕ) (n : length xs ≡ 0 → ⊥) (l 
           rows-by : textRows ps xs ≡ (decisionStep (a .summary .first) >>= λ u. found (rowCells ps xs (was .tree)))
           unfolding textRows testsStep
           rows-by =
-              let r : takeFilter xs ≡ found (was .tree) = text-read xs n l (some (was .tree)) (read-as end (was .tree) (was .read) ∙ whole-right (was .tree) k (omega (arith, tests-are))) in
+              let r : acceptFilter xs ≡ found (was .tree) = text-read xs n l (some (was .tree)) (read-as end (was .tree) (was .read) ∙ whole-right (was .tree) k (omega (arith, tests-are))) in
               ap (λ (q : Step Tree). q >>= λ f. decisionStep (firstFault ps 0 (testsOf f)) >>= λ u. found (rowCells ps xs f)) r
               ∙ ap (λ (o : Outcome). decisionStep (o .summary .first) >>= λ u. found (rowCells ps xs (was .tree))) (sym (was .value))
 
@@ -187,7 +187,7 @@ rows-filter ps xs (stop n p) = refl
 
 module _ (b xs : List ℕ) (k : Validity) (e : k ≡ readSheet b) (r : Prepared) (buffer : List ℕ) where
   fill-sheet : (c : Checked) (j : Validity) (n : ℕ) → ((ps : List Parameter) → sheetStep j ps ≡ stop n 0) → k ≡ j → checkedAnswer c ≡ refused n 0 → preparedAnswer r ≡ checkedAnswer c → Fills b xs r buffer
-  unfolding takeInputs takeSheet
+  unfolding acceptInputs acceptSheet
   fill-sheet c j n t i h g =
       record {
         rows = refused-step r buffer n 0 (g ∙ h) ∙ sym (rw (sym e ∙ i, t (parametersOf b)));
@@ -205,42 +205,42 @@ module _ (b xs : List ℕ) (k : Validity) (e : k ≡ readSheet b) (r : Prepared)
     fill-layout = fill-sheet c Validity.WrongLayout 3 (λ ps. refl)
 
   pub fill-right : k ≡ Validity.WellFormed → FillsText (parametersOf b) xs r buffer → Fills b xs r buffer
-  unfolding takeInputs takeSheet textRows
-  fill-right i f = record { rows = f .rows ∙ sym (rw (sym e ∙ i) (rows-filter (parametersOf b) xs (takeFilter xs))); room = f .room }
+  unfolding acceptInputs acceptSheet textRows
+  fill-right i f = record { rows = f .rows ∙ sym (rw (sym e ∙ i) (rows-filter (parametersOf b) xs (acceptFilter xs))); room = f .room }
 
 -- ---- the list
 
 -- the room decides after all else
-rows-room : {A : Type 0} (t : Step A) (g : A → List ℕ) (room : ℕ) → (t >>= λ p. takeCells room (g p)) ≡ (t >>= λ p. found (g p)) >>= λ cs. takeCells room cs
+rows-room : {A : Type 0} (t : Step A) (g : A → List ℕ) (room : ℕ) → (t >>= λ p. acceptCells room (g p)) ≡ (t >>= λ p. found (g p)) >>= λ cs. acceptCells room cs
 rows-room (found a) g room = refl
 rows-room (stop n p) g room = refl
 
 module _ (b xs list : List ℕ) (r : Prepared) (buffer : List ℕ) (f : Fills b xs r buffer) where
-  preparation-is : preparation b xs (length list) ≡ filledStep r buffer >>= λ cs. takeCells (length list) cs
+  preparation-is : preparation b xs (length list) ≡ filledStep r buffer >>= λ cs. acceptCells (length list) cs
   unfolding preparation
-  preparation-is = rows-room (takeInputs b xs) (λ p. rowCells (p .parameters) xs (p .filter)) (length list) ∙ ap (λ (q : Step (List ℕ)). q >>= λ cs. takeCells (length list) cs) (sym (f .rows))
+  preparation-is = rows-room (acceptInputs b xs) (λ p. rowCells (p .parameters) xs (p .filter)) (length list) ∙ ap (λ (q : Step (List ℕ)). q >>= λ cs. acceptCells (length list) cs) (sym (f .rows))
 
   pub prepare-refused : (q : Refusal) → r ≡ Prepared.Refused q → Prepares b xs list (Prepared.Refused q) list
   unfolding prepareAnswer prepareCells preparedAnswer refusalAnswer
   prepare-refused q i =
-      let s : preparation b xs (length list) ≡ stop (numberOf (q .reason)) (q .place) = preparation-is ∙ ap (λ (x : Prepared). filledStep x buffer >>= λ cs. takeCells (length list) cs) i in
+      let s : preparation b xs (length list) ≡ stop (numberOf (q .reason)) (q .place) = preparation-is ∙ ap (λ (x : Prepared). filledStep x buffer >>= λ cs. acceptCells (length list) cs) i in
       record { answers = sym (ap (λ (x : Step (List ℕ)). answer (x >>= λ cs. found (count (length cs)))) s); cells = sym (ap (λ (x : Step (List ℕ)). written x list) s) }
 
   module _ (n : ℕ) (i : r ≡ Prepared.Cells n) where
     taken-length : length (take n buffer) ≡ n
     taken-length = length-take-le n buffer (f .room n i)
 
-    filled : preparation b xs (length list) ≡ takeCells (length list) (take n buffer)
-    filled = preparation-is ∙ ap (λ (x : Prepared). filledStep x buffer >>= λ cs. takeCells (length list) cs) i
+    filled : preparation b xs (length list) ≡ acceptCells (length list) (take n buffer)
+    filled = preparation-is ∙ ap (λ (x : Prepared). filledStep x buffer >>= λ cs. acceptCells (length list) cs) i
 
     pub prepare-short : length list < n → Prepares b xs list (Prepared.Refused (record { reason = Reason.ShortCells; place = n })) list
-    unfolding prepareAnswer prepareCells preparedAnswer refusalAnswer takeCells
+    unfolding prepareAnswer prepareCells preparedAnswer refusalAnswer acceptCells
     prepare-short l =
         let s : preparation b xs (length list) ≡ stop 34 n = filled ∙ rw (taken-length, lt-leb n (length list) l) in
         record { answers = sym (ap (λ (x : Step (List ℕ)). answer (x >>= λ cs. found (count (length cs)))) s); cells = sym (ap (λ (x : Step (List ℕ)). written x list) s) }
 
     pub prepare-done : (exit : List ℕ) → n ≤ length list → exit ≡ part buffer 0 n ++ drop (length (part buffer 0 n)) list → Prepares b xs list (Prepared.Cells n) exit
-    unfolding prepareAnswer prepareCells preparedAnswer takeCells
+    unfolding prepareAnswer prepareCells preparedAnswer acceptCells
     prepare-done exit l e =
         let all : n - 0 ≡ n = omega arith in
         let whole-part : part buffer 0 n ≡ take n buffer = ap (λ (k : ℕ). take k buffer) all in

@@ -10,6 +10,6 @@ pub stop-not-found : {X A : Type 0} {n p : ℕ} {a : A} → _≡_ {A = Step A} (
 stop-not-found e = absurd (let z : _≡_ {A = ℕ} 0 1 = cc in omega arith)
 
 -- what was found first, where something was found after it
-pub taken : {A B : Type 0} (s : Step A) (next : A → Step B) (b : B) → (s >>= next) ≡ found b → (a : A) × (s ≡ found a) × (next a ≡ found b)
-taken (found a) next b h = (a, refl, h)
-taken (stop n p) next b h = stop-not-found h
+pub bind-found : {A B : Type 0} (s : Step A) (next : A → Step B) (b : B) → (s >>= next) ≡ found b → (a : A) × (s ≡ found a) × (next a ≡ found b)
+bind-found (found a) next b h = (a, refl, h)
+bind-found (stop n p) next b h = stop-not-found h

@@ -32,7 +32,7 @@ use Rattle.answer.proofs.Outcomes.{cardOf}
 use Rattle.answer.proofs.Runs.{run-size, run-blocks}
 use Rattle.answer.proofs.Slices.{Sliced}
 use Rattle.sirophan.proofs.Contracts.{refused-by}
-use Rattle.report.specs.Operation.{reportedAnswer, Survey, takeRows, says, saying, reporting, reportAnswer, entriesIn, reportRows}
+use Rattle.report.specs.Operation.{reportedAnswer, Survey, acceptRows, says, saying, reporting, reportAnswer, entriesIn, reportRows}
 use Rattle.report.specs.Refusals.{ReportLine}
 use Rattle.report.specs.Contracts.{Plans}
 use Rattle.report.specs.declared.Reported.{Reported}
@@ -129,11 +129,11 @@ module _ (sheet text cards list : List ℕ) (sel : Selected) (exit : List ℕ) (
       rows-are = counted-rows sheet text cards (counted y e) ∙ sym k
 
       pub plan-short : room < n → (r : Refusal) → r .reason ≡ Reason.ShortRows → r .place ≡ n → p ≡ record { rows = 0; steps = 0; answer = Reported.Refused r } → Plans sheet text cards room p
-      unfolding reporting takeRows
+      unfolding reporting acceptRows
       plan-short l r why where-at q = refused-plan r q (λ m z. rw (counted y e .finds, rows-are, z, lt-leb n room l, why, where-at))
 
       found-so : n ≤ room → (m : ℕ) → m ≡ room → reporting sheet text cards m ≡ found (counted y e .survey-of)
-      unfolding reporting takeRows
+      unfolding reporting acceptRows
       found-so l m z = rw (counted y e .finds, rows-are, z, le-leb n room l)
 
       pub plan-counts : n ≤ room → p ≡ record { rows = n; steps = n * (length cards / 512 + 1); answer = Reported.Counts y (length cards / 512 - y) } → Plans sheet text cards room p

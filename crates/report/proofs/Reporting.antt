@@ -1,6 +1,6 @@
 -- A report goes by match: it counts the cards on which match answers yes, and those on which it answers no, and refuses the first card that
 -- match refuses.
--- A survey that was found has the cards of the run, each taken. As many of them say yes as match answers yes on (`yes-matches`, from what is
+-- A survey that was found has the cards of the run, each accepted. As many of them say yes as match answers yes on (`yes-matches`, from what is
 -- known of select), and as many no as it answers no on (`no-matches`, by induction on the cards). A survey that has stopped stopped as select
 -- does (Surveys), and of select it is known that, with a number from 21 to 23, it refuses the first card that match refuses (`card-refused`).
 -- The theorems go by whether the report has found a survey or has stopped.
@@ -18,14 +18,14 @@ use Rattle.sheet.specs.Encode.{SheetBlock}
 use Rattle.card.specs.Card.{entriesOf, recordNumber}
 use Rattle.refusal.specs.Answers.{counts, refused, yesOrNo}
 use Rattle.refusal.specs.Steps.{Step, found, stop, _>>=_, answer}
-use Rattle.answer.specs.Operations.{Inputs, takeInputs, Card, questionOf, filterQuestion, matchAnswer, selectAnswer}
+use Rattle.answer.specs.Operations.{Inputs, acceptInputs, Card, questionOf, filterQuestion, matchAnswer, selectAnswer}
 use Rattle.answer.specs.Selection.{Run, matchingCards, RefusesCard}
 use Rattle.answer.proofs.CheckTable.{sheet-parameters}
-use Rattle.answer.proofs.Outcomes.{cardOf, Taken}
+use Rattle.answer.proofs.Outcomes.{cardOf, Accepted}
 use Rattle.answer.proofs.Inputs.{question-by}
 use Rattle.answer.proofs.RunTable.{run-unique}
-use Rattle.answer.proofs.Selection.{match-taken, matching-numbers, selects-by-match, filter-number}
-use Rattle.report.specs.Operation.{Survey, survey, takeRows, says, saying, verdicts, reporting, reportAnswer, entriesIn, tallied, reportRows}
+use Rattle.answer.proofs.Selection.{match-accepted, matching-numbers, selects-by-match, filter-number}
+use Rattle.report.specs.Operation.{Survey, survey, acceptRows, says, saying, verdicts, reporting, reportAnswer, entriesIn, tallied, reportRows}
 use Rattle.report.specs.Refusals.{ReportLine}
 use Rattle.report.specs.Reporting.{isNo, otherCards, rowsOf, ReportAnswers, ReportsByMatch}
 use Rattle.report.specs.declared.Tally.{Tally}
@@ -34,11 +34,11 @@ use Rattle.report.proofs.Table.{report-table}
 
 -- ---- match on each card of the run
 
-module _ (sheet text : List ℕ) (p : Inputs) (e : takeInputs sheet text ≡ found p) where
+module _ (sheet text : List ℕ) (p : Inputs) (e : acceptInputs sheet text ≡ found p) where
   asks : filterQuestion sheet text ≡ found (questionOf p)
   asks = question-by sheet text (found p) e
 
-  yes-matches : {bs : List (List ℕ)} → All (Taken (p .parameters)) bs → saying (says p) (map cardOf bs) ≡ length (matchingCards (matchAnswer sheet text) bs)
+  yes-matches : {bs : List (List ℕ)} → All (Accepted (p .parameters)) bs → saying (says p) (map cardOf bs) ≡ length (matchingCards (matchAnswer sheet text) bs)
   yes-matches {bs = bs} ts =
       sym (saying-matches p (map cardOf bs)) ∙ ap length (matching-numbers (filterQuestion sheet text) (questionOf p) asks ts) ∙ length-map (matchingCards (matchAnswer sheet text) bs) recordNumber
 
@@ -48,36 +48,36 @@ module _ (sheet text : List ℕ) (p : Inputs) (e : takeInputs sheet text ≡ fou
   no-next b bs true h = rw h
   no-next b bs false h = rw h
 
-  no-matches : {bs : List (List ℕ)} → All (Taken (p .parameters)) bs → saying (λ c. not (says p c)) (map cardOf bs) ≡ length (otherCards sheet text bs)
+  no-matches : {bs : List (List ℕ)} → All (Accepted (p .parameters)) bs → saying (λ c. not (says p c)) (map cardOf bs) ≡ length (otherCards sheet text bs)
   unfolding saying
   no-matches all-empty = refl
-  no-matches (all-cons {x = b} {xs = bs} t ts) = rw (no-matches ts) (no-next b bs (says p (cardOf b)) (match-taken (filterQuestion sheet text) (questionOf p) asks b t))
+  no-matches (all-cons {x = b} {xs = bs} t ts) = rw (no-matches ts) (no-next b bs (says p (cardOf b)) (match-accepted (filterQuestion sheet text) (questionOf p) asks b t))
 
 -- ---- what a report has found
 
 module _ (sheet text cards : List ℕ) (room : ℕ) where
   reporting-found : (s : Survey) → reporting sheet text cards room ≡ found s → survey sheet text cards ≡ found s
-  unfolding reporting takeRows
+  unfolding reporting acceptRows
   reporting-found s = by-survey (survey sheet text cards)
     where
       by-room : (t : Survey) (b : Bool) (n p : ℕ) → cond b (found t) (stop n p) ≡ found s → found t ≡ found s
       by-room t true n p h = h
       by-room t false n p h = absurd (let z : _≡_ {A = ℕ} 0 1 = cc in omega arith)
 
-      by-survey : (r : Step Survey) → (r >>= takeRows room) ≡ found s → r ≡ found s
+      by-survey : (r : Step Survey) → (r >>= acceptRows room) ≡ found s → r ≡ found s
       by-survey (stop n p) h = absurd (let z : _≡_ {A = ℕ} 0 1 = cc in omega arith)
       by-survey (found t) h = by-room t (leb (length (t .inputs .parameters)) room) 31 (length (t .inputs .parameters)) h
 
   -- a refusal with another number than 31 is the survey's
   reporting-stopped : (n p : ℕ) → (n ≡ 31 → ⊥) → reporting sheet text cards room ≡ stop n p → survey sheet text cards ≡ stop n p
-  unfolding reporting takeRows
+  unfolding reporting acceptRows
   reporting-stopped n p other = by-survey (survey sheet text cards)
     where
       by-room : (t : Survey) (b : Bool) (q : ℕ) → cond b (found t) (stop 31 q) ≡ stop n p → found t ≡ stop n p
       by-room t true q h = h
       by-room t false q h = absurd (let z : 31 ≡ n = cc in other (sym z))
 
-      by-survey : (r : Step Survey) → (r >>= takeRows room) ≡ stop n p → r ≡ stop n p
+      by-survey : (r : Step Survey) → (r >>= acceptRows room) ≡ stop n p → r ≡ stop n p
       by-survey (stop m q) h = h
       by-survey (found t) h = by-room t (leb (length (t .inputs .parameters)) room) (length (t .inputs .parameters)) h
 
@@ -86,18 +86,18 @@ module _ (sheet text cards : List ℕ) (b : SheetBlock sheet) (rows : List Tally
     same-blocks : f .blocks ≡ bs
     same-blocks = run-unique (f .run) run
 
-    taken : All (Taken (s .inputs .parameters)) bs
-    taken = subst (All (Taken (s .inputs .parameters))) same-blocks (f .taken)
+    accepted : All (Accepted (s .inputs .parameters)) bs
+    accepted = subst (All (Accepted (s .inputs .parameters))) same-blocks (f .accepted)
 
     same-cards : s .cards ≡ map cardOf bs
     same-cards = f .same ∙ ap (map cardOf) same-blocks
 
     counts-are : verdicts s ≡ counts (length (matchingCards (matchAnswer sheet text) bs)) (length (otherCards sheet text bs))
-    counts-are = rw same-cards (ap₂ counts (yes-matches sheet text (s .inputs) (f .inputs-taken) taken) (no-matches sheet text (s .inputs) (f .inputs-taken) taken))
+    counts-are = rw same-cards (ap₂ counts (yes-matches sheet text (s .inputs) (f .inputs-accepted) accepted) (no-matches sheet text (s .inputs) (f .inputs-accepted) accepted))
 
     make-up : length (matchingCards (matchAnswer sheet text) bs) + length (otherCards sheet text bs) ≡ length bs
     make-up =
-        ap₂ (λ (x y : ℕ). x + y) (sym (yes-matches sheet text (s .inputs) (f .inputs-taken) taken)) (sym (no-matches sheet text (s .inputs) (f .inputs-taken) taken))
+        ap₂ (λ (x y : ℕ). x + y) (sym (yes-matches sheet text (s .inputs) (f .inputs-accepted) accepted)) (sym (no-matches sheet text (s .inputs) (f .inputs-accepted) accepted))
         ∙ saying-whole (says (s .inputs)) (map cardOf bs) ∙ length-map bs cardOf
 
     rows-are : tallied (found s) rows ≡ rowsOf (b .parameters) bs rows

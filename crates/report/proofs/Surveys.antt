@@ -21,12 +21,12 @@ use Rattle.syntax.specs.Tree.{testsOf}
 use Rattle.refusal.specs.Answers.{count, refused}
 use Rattle.refusal.specs.Steps.{Step, found, stop, _>>=_, answer}
 use Rattle.answer.specs.Answers.{checkedAnswer}
-use Rattle.answer.specs.Operations.{checkAnswer, Inputs, takeInputs, Card, questionOf, filterQuestion, takeRun, takeCards, matching, takeRoom, selection, selectBy, selectAnswer}
+use Rattle.answer.specs.Operations.{checkAnswer, Inputs, acceptInputs, Card, questionOf, filterQuestion, acceptRun, acceptCards, matching, acceptRoom, selection, selectBy, selectAnswer}
 use Rattle.answer.specs.Passing.{Passing}
 use Rattle.answer.specs.Selection.{Run}
 use Rattle.answer.specs.declared.Checked.{Checked}
-use Rattle.answer.proofs.Outcomes.{cardOf, Taken, CardsOutcome, all-taken, one-stopped}
-use Rattle.answer.proofs.Passing.{passing, card-taken}
+use Rattle.answer.proofs.Outcomes.{cardOf, Accepted, CardsOutcome, all-accepted, one-stopped}
+use Rattle.answer.proofs.Passing.{passing, card-accepted}
 use Rattle.answer.proofs.Runs.{run-iff}
 use Rattle.answer.proofs.Selection.{cards-outcome}
 use Rattle.report.specs.Operation.{Survey, survey, says, saying}
@@ -58,8 +58,8 @@ module _ (sheet text cards : List ℕ) where
   pub record Found (s : Survey) : Type 0 where
     pub blocks : List (List ℕ)
     pub run : Run cards blocks
-    pub inputs-taken : takeInputs sheet text ≡ found (s .inputs)
-    pub taken : All (Taken (s .inputs .parameters)) blocks
+    pub inputs-accepted : acceptInputs sheet text ≡ found (s .inputs)
+    pub accepted : All (Accepted (s .inputs .parameters)) blocks
     pub same : s .cards ≡ map cardOf blocks
 
   -- the selection is that of the survey
@@ -71,34 +71,34 @@ module _ (sheet text cards : List ℕ) where
     surveyed : (s : Survey) → Found s → Outcome (found s) (found (matchesOf s))
 
   -- all matches of a run have room
-  room-enough : (p : Inputs) (bs : List (List ℕ)) → Run cards bs → takeRoom 128 (matching (questionOf p .says) (map cardOf bs)) ≡ found (matching (questionOf p .says) (map cardOf bs))
-  unfolding takeRoom
+  room-enough : (p : Inputs) (bs : List (List ℕ)) → Run cards bs → acceptRoom 128 (matching (questionOf p .says) (map cardOf bs)) ≡ found (matching (questionOf p .says) (map cardOf bs))
+  unfolding acceptRoom
   room-enough p bs run =
       let few : length (matching (questionOf p .says) (map cardOf bs)) ≤ 128 =
       omega (arith, saying-matches p (map cardOf bs), saying-whole (says p) (map cardOf bs), length-map bs cardOf, run .few)
       in
       rw (le-leb (length (matching (questionOf p .says) (map cardOf bs))) 128 few)
 
-  by-cards : (p : Inputs) (bs : List (List ℕ)) → takeInputs sheet text ≡ found p → Run cards bs → {cs : Step (List Card)} → CardsOutcome (p .parameters) 0 bs cs
-      → Outcome (cs >>= λ ds. found (record { inputs = p; cards = ds })) (cs >>= λ ds. takeRoom 128 (matching (questionOf p .says) ds))
-  by-cards p bs e run (all-taken ts) =
-      rw (room-enough p bs run) (surveyed (record { inputs = p; cards = map cardOf bs }) (record { blocks = bs; run = run; inputs-taken = e; taken = ts; same = refl }))
+  by-cards : (p : Inputs) (bs : List (List ℕ)) → acceptInputs sheet text ≡ found p → Run cards bs → {cs : Step (List Card)} → CardsOutcome (p .parameters) 0 bs cs
+      → Outcome (cs >>= λ ds. found (record { inputs = p; cards = ds })) (cs >>= λ ds. acceptRoom 128 (matching (questionOf p .says) ds))
+  by-cards p bs e run (all-accepted ts) =
+      rw (room-enough p bs run) (surveyed (record { inputs = p; cards = map cardOf bs }) (record { blocks = bs; run = run; inputs-accepted = e; accepted = ts; same = refl }))
   by-cards p bs e run (one-stopped before b after n j split k ts m s) = stopped n j
 
-  by-run : (p : Inputs) → takeInputs sheet text ≡ found p → (r : Step (List (List ℕ))) → takeRun cards ≡ r
-      → Outcome (r >>= λ bs. takeCards (p .parameters) 0 bs >>= λ ds. found (record { inputs = p; cards = ds })) (r >>= λ bs. takeCards (p .parameters) 0 bs >>= λ ds. takeRoom 128 (matching (questionOf p .says) ds))
+  by-run : (p : Inputs) → acceptInputs sheet text ≡ found p → (r : Step (List (List ℕ))) → acceptRun cards ≡ r
+      → Outcome (r >>= λ bs. acceptCards (p .parameters) 0 bs >>= λ ds. found (record { inputs = p; cards = ds })) (r >>= λ bs. acceptCards (p .parameters) 0 bs >>= λ ds. acceptRoom 128 (matching (questionOf p .says) ds))
   by-run p e (stop n i) h = stopped n i
   by-run p e (found bs) h = by-cards p bs e (run-iff cards bs .0 h) (cards-outcome (p .parameters) 0 bs)
 
   outcome : Outcome (survey sheet text cards) (selection (filterQuestion sheet text) cards 128)
   unfolding survey selection filterQuestion
-  outcome = by-inputs (takeInputs sheet text) refl
+  outcome = by-inputs (acceptInputs sheet text) refl
     where
-      by-inputs : (r : Step Inputs) → takeInputs sheet text ≡ r
-          → Outcome (r >>= λ p. takeRun cards >>= λ bs. takeCards (p .parameters) 0 bs >>= λ ds. found (record { inputs = p; cards = ds }))
-          ((r >>= λ p. found (questionOf p)) >>= λ q. takeRun cards >>= λ bs. takeCards (q .parameters) 0 bs >>= λ ds. takeRoom 128 (matching (q .says) ds))
+      by-inputs : (r : Step Inputs) → acceptInputs sheet text ≡ r
+          → Outcome (r >>= λ p. acceptRun cards >>= λ bs. acceptCards (p .parameters) 0 bs >>= λ ds. found (record { inputs = p; cards = ds }))
+          ((r >>= λ p. found (questionOf p)) >>= λ q. acceptRun cards >>= λ bs. acceptCards (q .parameters) 0 bs >>= λ ds. acceptRoom 128 (matching (q .says) ds))
       by-inputs (stop n i) e = stopped n i
-      by-inputs (found p) e = by-run p e (takeRun cards) refl
+      by-inputs (found p) e = by-run p e (acceptRun cards) refl
 
   -- ---- what it comes to, and by what select answers
 
@@ -148,7 +148,7 @@ module _ (sheet text cards : List ℕ) where
   module _ (s : Survey) (f : Found s) where
     checked : checkedAnswer (Checked.Tests (length (testsOf (s .inputs .filter)))) ≡ checkAnswer sheet text
     unfolding checkedAnswer checkAnswer
-    checked = rw (f .inputs-taken)
+    checked = rw (f .inputs-accepted)
 
     passes : Passing sheet text
     passes = passing sheet text (Checked.Tests (length (testsOf (s .inputs .filter)))) (length (testsOf (s .inputs .filter))) checked refl
@@ -157,7 +157,7 @@ module _ (sheet text cards : List ℕ) where
     found-sheet = passes .sheet-well-formed
 
     pub found-parameters : s .inputs .parameters ≡ parametersOf sheet
-    found-parameters = let e = f .inputs-taken in let g = passes .inputs-taken in cc
+    found-parameters = let e = f .inputs-accepted in let g = passes .inputs-accepted in cc
 
     pub found-cards : All (λ (b : List ℕ). readCard b ≡ WellFormed) (f .blocks)
-    found-cards = all-map (λ b t. card-taken (s .inputs .parameters) 0 b (cardOf b) (t 0) .0) (f .taken)
+    found-cards = all-map (λ b t. card-accepted (s .inputs .parameters) 0 b (cardOf b) (t 0) .0) (f .accepted)

@@ -20,11 +20,11 @@ use Rattle.refusal.specs.Steps.{Step}
 use Rattle.refusal.proofs.Answers.{counts-not-refused}
 use Rattle.refusal.proofs.Deciding.{Decided, none-holds, one-decides, decided-as, decided-then, decided-found, decided-answer}
 use Rattle.refusal.proofs.Order.{apart-at, no-lower-rank}
-use Rattle.answer.specs.Operations.{Card, takeCards}
+use Rattle.answer.specs.Operations.{Card, acceptCards}
 use Rattle.answer.specs.Refusals.{CheckLine, RunLine, CardsLine}
 use Rattle.answer.proofs.CheckTable.{sheet-parameters, check-group, inputs-decided}
-use Rattle.answer.proofs.RunTable.{run-decided, run-group, cards-group, taken-decided}
-use Rattle.report.specs.Operation.{Survey, survey, takeRows, verdicts, reporting, reportAnswer}
+use Rattle.answer.proofs.RunTable.{run-decided, run-group, cards-group, accepted-decided}
+use Rattle.report.specs.Operation.{Survey, survey, acceptRows, verdicts, reporting, reportAnswer}
 use Rattle.report.specs.Refusals.{RowsLine, line-31, ReportLine}
 
 -- what is known of what a step found can be left out
@@ -68,8 +68,8 @@ module _ (sheet text cards : List ℕ) where
       decided-then (RunLine cards) (CardsLine sheet cards)
       (apart-at (RunLine cards) (CardsLine sheet cards) (group 20) (λ n q l. le-of-eq (run-group sheet cards n q l)) cards-above) (run-decided cards)
       (λ bs _ run. decided-found (λ (cs : List Card). record { inputs = p; cards = cs }) (λ cs _. (ready .0, ready .1))
-      (subst (λ (ps : List Parameter). Decided (λ (cs : List Card). Unit {0}) (CardsLine sheet cards) (takeCards ps 0 bs)) (ready .1)
-      (decided-known (taken-decided sheet cards bytes (ready .0) bs run)))))
+      (subst (λ (ps : List Parameter). Decided (λ (cs : List Card). Unit {0}) (CardsLine sheet cards) (acceptCards ps 0 bs)) (ready .1)
+      (decided-known (accepted-decided sheet cards bytes (ready .0) bs run)))))
 
   -- ---- the rows
 
@@ -84,8 +84,8 @@ module _ (sheet text cards : List ℕ) where
     rows-first : (b : SheetBlock sheet) (m q : ℕ) → RowsLine sheet room m q → Before m q 31 (length (b .parameters)) → ⊥
     rows-first b m q (line-31 b′ l) = no-lower-rank refl (le-of-eq (sym (same-count b b′))) (le-refl (rank 31))
 
-    rows-decided : (s : Survey) → HasSheet s → Decided HasSheet (RowsLine sheet room) (takeRows room s)
-    unfolding takeRows
+    rows-decided : (s : Survey) → HasSheet s → Decided HasSheet (RowsLine sheet room) (acceptRows room s)
+    unfolding acceptRows
     rows-decided s k =
         let b = k .0 in
         let same : length (b .parameters) ≡ length (s .inputs .parameters) = ap length (k .1) in

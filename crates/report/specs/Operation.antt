@@ -9,7 +9,7 @@ use Rattle.card.specs.Card.{Entry}
 use Rattle.judge.specs.Verdicts.{filterSays}
 use Rattle.refusal.specs.Answers.{Answer, counts, refusalAnswer}
 use Rattle.refusal.specs.Steps.{Step, found, stop, _>>=_, answer}
-use Rattle.answer.specs.Operations.{Inputs, takeInputs, Card, takeRun, takeCards}
+use Rattle.answer.specs.Operations.{Inputs, acceptInputs, Card, acceptRun, acceptCards}
 use Rattle.report.specs.Tallies.{tallies}
 use Rattle.report.specs.declared.Tally.{Tally}
 use Rattle.report.specs.declared.Reported.{Reported}
@@ -26,9 +26,9 @@ pub record Survey : Type 0 where
 
 unfoldable pub survey : (sheet text cards : List ℕ) → Step Survey
 survey sheet text cards = do
-  p ← takeInputs sheet text
-  bs ← takeRun cards
-  cs ← takeCards (p .parameters) 0 bs
+  p ← acceptInputs sheet text
+  bs ← acceptRun cards
+  cs ← acceptCards (p .parameters) 0 bs
   found (record { inputs = p; cards = cs })
 
 -- how many rows there are: "one per parameter"
@@ -36,8 +36,8 @@ abbrev pub rowCount : Survey → ℕ
 rowCount s = length (s .inputs .parameters)
 
 -- 31: "when the rows are fewer than the parameters, place the number needed"
-unfoldable pub takeRows : ℕ → Survey → Step Survey
-takeRows room s = cond (leb (rowCount s) room) (found s) (stop 31 (rowCount s))
+unfoldable pub acceptRows : ℕ → Survey → Step Survey
+acceptRows room s = cond (leb (rowCount s) room) (found s) (stop 31 (rowCount s))
 
 -- what the filter says of a card
 abbrev pub says : Inputs → Card → Bool
@@ -55,7 +55,7 @@ verdicts s = counts (saying (says (s .inputs)) (s .cards)) (saying (λ c. not (s
 unfoldable pub reporting : (sheet text cards : List ℕ) → (room : ℕ) → Step Survey
 reporting sheet text cards room = do
   s ← survey sheet text cards
-  takeRows room s
+  acceptRows room s
 
 unfoldable pub reportAnswer : (sheet text cards : List ℕ) → (room : ℕ) → Answer
 reportAnswer sheet text cards room = answer (do

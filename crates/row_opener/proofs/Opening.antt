@@ -15,10 +15,10 @@ use lib.ListN.{length, getD, set, length-set}
 use lib.Seq.{getD-set-same, getD-set-other}
 use borrow.Author.Tests.{lt-ltb, le-ltb, eq-eqb, ne-eqb, eqb-true, eqb-false}
 use Rattle.number.specs.Reading as numbers
-use Rattle.number.specs.declared.Reading as number-readings
+use Rattle.number.specs.declared.NumberReading.{NumberReading}
 use Rattle.number.specs.declared.Decimal.{Decimal}
 use Rattle.number.proofs.Spelling.{number-bounded}
-use Rattle.date.specs.declared.Reading as date-readings
+use Rattle.date.specs.declared.DateReading.{DateReading}
 use Rattle.date.specs.declared.Date.{Date}
 use Rattle.syntax.specs.Placed.{PlacedValue}
 use Rattle.syntax.specs.Scan.{valueAt}
@@ -43,29 +43,29 @@ use Rattle.row_opener.specs.declared.Opened.{Opened}
 
 -- ---- what a value reads to is small
 
-not-both : (a : Decimal) → number-readings.Reading.Unreadable ≡ number-readings.Reading.Number a → ⊥
+not-both : (a : Decimal) → NumberReading.Unreadable ≡ NumberReading.Number a → ⊥
 not-both a h = let z : _≡_ {A = ℕ} 0 1 = cc in omega arith
 
-sane-unread : (d : date-readings.Reading) → Sane number-readings.Reading.Unreadable d
+sane-unread : (d : DateReading) → Sane NumberReading.Unreadable d
 sane-unread d = record { decimals = λ a h. absurd (not-both a h); alone = λ a h. absurd (not-both a h) }
 
 sane-of : (r : Relation) (w : List ℕ) → Sane (readingsOf r w .number) (readingsOf r w .date)
 unfolding readingsOf
-sane-of (Relation.Strings r) w = sane-unread date-readings.Reading.Unreadable
+sane-of (Relation.Strings r) w = sane-unread DateReading.Unreadable
 sane-of (Relation.Numbers r) w = record { decimals = λ a h. number-bounded w (numbers.read w) a refl h .few-decimals; alone = λ a h. refl }
 sane-of (Relation.Dates r) w = sane-unread (readingsOf (Relation.Dates r) w .date)
-sane-of Relation.Tokens w = sane-unread date-readings.Reading.Unreadable
-sane-of Relation.References w = sane-unread date-readings.Reading.Unreadable
+sane-of Relation.Tokens w = sane-unread DateReading.Unreadable
+sane-of Relation.References w = sane-unread DateReading.Unreadable
 
 sane-for : (m : Meaning) (w : List ℕ) → Sane (readingsFor m w .number) (readingsFor m w .date)
 unfolding readingsFor
-sane-for Meaning.Present w = sane-unread date-readings.Reading.Unreadable
+sane-for Meaning.Present w = sane-unread DateReading.Unreadable
 sane-for (Meaning.Relates r) w = sane-of r w
 sane-for (Meaning.Differs r) w = sane-of r w
-sane-for Meaning.Nothing w = sane-unread date-readings.Reading.Unreadable
+sane-for Meaning.Nothing w = sane-unread DateReading.Unreadable
 
 closed-small : Small closed
-closed-small = record { sane = sane-unread date-readings.Reading.Unreadable; start-most = omega arith; end-most = omega arith }
+closed-small = record { sane = sane-unread DateReading.Unreadable; start-most = omega arith; end-most = omega arith }
 
 for-small : (kinds xs : List ℕ) (p : Probe) → length xs ≤ 1024 → Small (openedFor kinds xs p)
 unfolding openedFor openedValue
@@ -93,22 +93,22 @@ opened-small kinds xs c o e l = subst Small (sym e) (row-small kinds xs c l)
 
 -- ---- cells stand for what was opened
 
-mark-most : (n : number-readings.Reading) (d : date-readings.Reading) → Sane n d → markOf n d ≤ 11
-mark-most (number-readings.Reading.Number a) d s = omega (arith, s .decimals a refl)
-mark-most number-readings.Reading.Unreadable (date-readings.Reading.Readable d) s = omega arith
-mark-most number-readings.Reading.Unreadable date-readings.Reading.Unreadable s = omega arith
+mark-most : (n : NumberReading) (d : DateReading) → Sane n d → markOf n d ≤ 11
+mark-most (NumberReading.Number a) d s = omega (arith, s .decimals a refl)
+mark-most NumberReading.Unreadable (DateReading.Readable d) s = omega arith
+mark-most NumberReading.Unreadable DateReading.Unreadable s = omega arith
 
-number-back : (n : number-readings.Reading) (d : date-readings.Reading) → Sane n d → numberFrom (markOf n d) (digitsOf n) ≡ n
+number-back : (n : NumberReading) (d : DateReading) → Sane n d → numberFrom (markOf n d) (digitsOf n) ≡ n
 unfolding numberFrom
-number-back (number-readings.Reading.Number a) d s = rw (lt-ltb (a .decimals) 10 (omega (arith, s .decimals a refl)))
-number-back number-readings.Reading.Unreadable (date-readings.Reading.Readable d) s = refl
-number-back number-readings.Reading.Unreadable date-readings.Reading.Unreadable s = refl
+number-back (NumberReading.Number a) d s = rw (lt-ltb (a .decimals) 10 (omega (arith, s .decimals a refl)))
+number-back NumberReading.Unreadable (DateReading.Readable d) s = refl
+number-back NumberReading.Unreadable DateReading.Unreadable s = refl
 
-date-back : (n : number-readings.Reading) (d : date-readings.Reading) → Sane n d → dateFrom (markOf n d) (startOf d) (endOf d) ≡ d
+date-back : (n : NumberReading) (d : DateReading) → Sane n d → dateFrom (markOf n d) (startOf d) (endOf d) ≡ d
 unfolding dateFrom
-date-back (number-readings.Reading.Number a) d s = ap (λ (t : Bool). cond t (date-readings.Reading.Readable (record { start = startOf d; end = endOf d })) date-readings.Reading.Unreadable) (ne-eqb (a .decimals) 10 (λ z. omega (arith, s .decimals a refl, z))) ∙ sym (s .alone a refl)
-date-back number-readings.Reading.Unreadable (date-readings.Reading.Readable d) s = refl
-date-back number-readings.Reading.Unreadable date-readings.Reading.Unreadable s = refl
+date-back (NumberReading.Number a) d s = ap (λ (t : Bool). cond t (DateReading.Readable (record { start = startOf d; end = endOf d })) DateReading.Unreadable) (ne-eqb (a .decimals) 10 (λ z. omega (arith, s .decimals a refl, z))) ∙ sym (s .alone a refl)
+date-back NumberReading.Unreadable (DateReading.Readable d) s = refl
+date-back NumberReading.Unreadable DateReading.Unreadable s = refl
 
 bit-most : (b : Bool) → bit b ≤ 1
 bit-most true = omega arith
@@ -118,7 +118,7 @@ flag-back : (b : Bool) (n : ℕ) → n ≡ bit b → eqb n 1 ≡ b
 flag-back true n e = eq-eqb n 1 e
 flag-back false n e = ne-eqb n 1 (λ z. omega (arith, e, z))
 
-opened-same : {f g : Bool} {e h : Bool} {t u : Bool} {a b : ℕ} {c d : ℕ} {x y : number-readings.Reading} {p q : date-readings.Reading} → f ≡ g → e ≡ h → t ≡ u → a ≡ b → c ≡ d → x ≡ y → p ≡ q
+opened-same : {f g : Bool} {e h : Bool} {t u : Bool} {a b : ℕ} {c d : ℕ} {x y : NumberReading} {p q : DateReading} → f ≡ g → e ≡ h → t ≡ u → a ≡ b → c ≡ d → x ≡ y → p ≡ q
     → _≡_ {A = Opened} (record { found = f; escaped = e; truth = t; start = a; end = c; readings = record { number = x; date = p } }) (record { found = g; escaped = h; truth = u; start = b; end = d; readings = record { number = y; date = q } })
 opened-same i j k l m n o = rw (i, j, k, l, m, n, o)
 
@@ -259,48 +259,48 @@ module _ (kinds xs : List ℕ) (c : ℕ) (r : Row) (e : r ≡ rowOf c) (o : Open
 
 -- ---- the functions that make cells of it, and it of cells
 
-pub mark-number : (n : number-readings.Reading) (d : date-readings.Reading) (a : Decimal) (r : ℕ) → n ≡ number-readings.Reading.Number a → (r ≡ a .decimals) × (r ≤ 11) → (r ≡ markOf n d) × (r ≤ 11)
+pub mark-number : (n : NumberReading) (d : DateReading) (a : Decimal) (r : ℕ) → n ≡ NumberReading.Number a → (r ≡ a .decimals) × (r ≤ 11) → (r ≡ markOf n d) × (r ≤ 11)
 mark-number n d a r h e = (rw h (e .0), e .1)
 
-pub mark-few : (n : number-readings.Reading) (d : date-readings.Reading) (a : Decimal) → Sane n d → n ≡ number-readings.Reading.Number a → a .decimals ≤ 9
+pub mark-few : (n : NumberReading) (d : DateReading) (a : Decimal) → Sane n d → n ≡ NumberReading.Number a → a .decimals ≤ 9
 mark-few n d a s h = s .decimals a h
 
-pub mark-date : (n : number-readings.Reading) (d : date-readings.Reading) (r : ℕ) → n ≡ number-readings.Reading.Unreadable → (r ≡ dateMark d) × (r ≤ 11) → (r ≡ markOf n d) × (r ≤ 11)
+pub mark-date : (n : NumberReading) (d : DateReading) (r : ℕ) → n ≡ NumberReading.Unreadable → (r ≡ dateMark d) × (r ≤ 11) → (r ≡ markOf n d) × (r ≤ 11)
 mark-date n d r h e = (rw h (e .0), e .1)
 
 pub span-is : (o : Opened) (f e t m : ℕ) → f ≡ bit (o .found) → e ≡ bit (o .escaped) → t ≡ bit (o .truth) → m ≡ markOf (o .readings .number) (o .readings .date) → f + 2 * (e + 2 * (t + 2 * (m + 16 * (o .start + 2048 * o .end)))) ≡ spanOf o
 unfolding spanOf
 span-is o f e t m a b c d = rw (a, b, c, d)
 
-pub number-known : (mark digits : ℕ) → mark < 10 → number-readings.Reading.Number (record { digits = digits; decimals = mark }) ≡ numberFrom mark digits
+pub number-known : (mark digits : ℕ) → mark < 10 → NumberReading.Number (record { digits = digits; decimals = mark }) ≡ numberFrom mark digits
 unfolding numberFrom
 number-known mark digits h = rw (lt-ltb mark 10 h)
 
-pub number-none : (mark digits : ℕ) → 10 ≤ mark → number-readings.Reading.Unreadable ≡ numberFrom mark digits
+pub number-none : (mark digits : ℕ) → 10 ≤ mark → NumberReading.Unreadable ≡ numberFrom mark digits
 unfolding numberFrom
 number-none mark digits h = rw (le-ltb mark 10 h)
 
-pub date-known : (mark : ℕ) (start end : ℤ) → mark ≡ 10 → date-readings.Reading.Readable (record { start = start; end = end }) ≡ dateFrom mark start end
+pub date-known : (mark : ℕ) (start end : ℤ) → mark ≡ 10 → DateReading.Readable (record { start = start; end = end }) ≡ dateFrom mark start end
 unfolding dateFrom
 date-known mark start end h = rw (eq-eqb mark 10 h)
 
-pub date-none : (mark : ℕ) (start end : ℤ) → (mark ≡ 10 → ⊥) → date-readings.Reading.Unreadable ≡ dateFrom mark start end
+pub date-none : (mark : ℕ) (start end : ℤ) → (mark ≡ 10 → ⊥) → DateReading.Unreadable ≡ dateFrom mark start end
 unfolding dateFrom
 date-none mark start end h = rw (ne-eqb mark 10 h)
 
-pub start-known : (d : date-readings.Reading) (a : Date) → d ≡ date-readings.Reading.Readable a → a .start ≡ startOf d
+pub start-known : (d : DateReading) (a : Date) → d ≡ DateReading.Readable a → a .start ≡ startOf d
 start-known d a h = rw h
 
-pub start-none : (d : date-readings.Reading) → d ≡ date-readings.Reading.Unreadable → pos 0 ≡ startOf d
+pub start-none : (d : DateReading) → d ≡ DateReading.Unreadable → pos 0 ≡ startOf d
 start-none d h = rw h
 
-pub end-known : (d : date-readings.Reading) (a : Date) → d ≡ date-readings.Reading.Readable a → a .end ≡ endOf d
+pub end-known : (d : DateReading) (a : Date) → d ≡ DateReading.Readable a → a .end ≡ endOf d
 end-known d a h = rw h
 
-pub end-none : (d : date-readings.Reading) → d ≡ date-readings.Reading.Unreadable → pos 0 ≡ endOf d
+pub end-none : (d : DateReading) → d ≡ DateReading.Unreadable → pos 0 ≡ endOf d
 end-none d h = rw h
 
-pub from-is : (n digits : ℕ) (start end : ℤ) (x : number-readings.Reading) (y : date-readings.Reading) (a b : ℤ) → x ≡ numberFrom (n / 8 % 16) digits → y ≡ dateFrom (n / 8 % 16) a b → a ≡ start → b ≡ end
+pub from-is : (n digits : ℕ) (start end : ℤ) (x : NumberReading) (y : DateReading) (a b : ℤ) → x ≡ numberFrom (n / 8 % 16) digits → y ≡ dateFrom (n / 8 % 16) a b → a ≡ start → b ≡ end
     → _≡_ {A = Opened} (record { found = eqb (n % 2) 1; escaped = eqb (n / 2 % 2) 1; truth = eqb (n / 4 % 2) 1; start = n / 128 % 2048; end = n / 128 / 2048; readings = record { number = x; date = y } }) (openedFrom n digits start end)
 unfolding openedFrom
 from-is n digits start end x y a b e h i j = rw (e, h ∙ ap₂ (dateFrom (n / 8 % 16)) i j)

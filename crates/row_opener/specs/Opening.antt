@@ -8,8 +8,8 @@ use lib.Dec.{eqb, ltb}
 use lib.IntN.{ℤ, pos}
 use lib.ListN.{length, getD}
 use Rattle.base.specs.Parts.{part}
-use Rattle.number.specs.declared.Reading as number-readings
-use Rattle.date.specs.declared.Reading as date-readings
+use Rattle.number.specs.declared.NumberReading.{NumberReading}
+use Rattle.date.specs.declared.DateReading.{DateReading}
 use Rattle.syntax.specs.Scan.{valueAt, contents}
 use Rattle.syntax.specs.declared.RawValue.{RawValue}
 use Rattle.syntax.specs.declared.FoundValue.{FoundValue}
@@ -64,35 +64,35 @@ pub record Known (xs : List ℕ) (m : Meaning) (o : Opened) : Type 0 where
 -- ---- its cells: flags, a mark for what it reads to, and where it stands; a number's digits; a date's ends
 
 -- a number's count of decimals; 10 for a date, 11 for neither
-abbrev pub dateMark : date-readings.Reading → ℕ
-dateMark (date-readings.Reading.Readable d) = 10
-dateMark date-readings.Reading.Unreadable = 11
+abbrev pub dateMark : DateReading → ℕ
+dateMark (DateReading.Readable d) = 10
+dateMark DateReading.Unreadable = 11
 
-abbrev pub markOf : number-readings.Reading → date-readings.Reading → ℕ
-markOf (number-readings.Reading.Number n) d = n .decimals
-markOf number-readings.Reading.Unreadable d = dateMark d
+abbrev pub markOf : NumberReading → DateReading → ℕ
+markOf (NumberReading.Number n) d = n .decimals
+markOf NumberReading.Unreadable d = dateMark d
 
-abbrev pub digitsOf : number-readings.Reading → ℕ
-digitsOf (number-readings.Reading.Number n) = n .digits
-digitsOf number-readings.Reading.Unreadable = 0
+abbrev pub digitsOf : NumberReading → ℕ
+digitsOf (NumberReading.Number n) = n .digits
+digitsOf NumberReading.Unreadable = 0
 
-abbrev pub startOf : date-readings.Reading → ℤ
-startOf (date-readings.Reading.Readable d) = d .start
-startOf date-readings.Reading.Unreadable = pos 0
+abbrev pub startOf : DateReading → ℤ
+startOf (DateReading.Readable d) = d .start
+startOf DateReading.Unreadable = pos 0
 
-abbrev pub endOf : date-readings.Reading → ℤ
-endOf (date-readings.Reading.Readable d) = d .end
-endOf date-readings.Reading.Unreadable = pos 0
+abbrev pub endOf : DateReading → ℤ
+endOf (DateReading.Readable d) = d .end
+endOf DateReading.Unreadable = pos 0
 
 unfoldable pub spanOf : Opened → ℕ
 spanOf o = bit (o .found) + 2 * (bit (o .escaped) + 2 * (bit (o .truth) + 2 * (markOf (o .readings .number) (o .readings .date) + 16 * (o .start + 2048 * o .end))))
 
 -- what cells stand for
-unfoldable pub numberFrom : ℕ → ℕ → number-readings.Reading
-numberFrom mark digits = cond (ltb mark 10) (number-readings.Reading.Number (record { digits = digits; decimals = mark })) number-readings.Reading.Unreadable
+unfoldable pub numberFrom : ℕ → ℕ → NumberReading
+numberFrom mark digits = cond (ltb mark 10) (NumberReading.Number (record { digits = digits; decimals = mark })) NumberReading.Unreadable
 
-unfoldable pub dateFrom : ℕ → ℤ → ℤ → date-readings.Reading
-dateFrom mark start end = cond (eqb mark 10) (date-readings.Reading.Readable (record { start = start; end = end })) date-readings.Reading.Unreadable
+unfoldable pub dateFrom : ℕ → ℤ → ℤ → DateReading
+dateFrom mark start end = cond (eqb mark 10) (DateReading.Readable (record { start = start; end = end })) DateReading.Unreadable
 
 unfoldable pub openedFrom : ℕ → ℕ → ℤ → ℤ → Opened
 openedFrom n digits start end =

@@ -2,15 +2,15 @@
 -- Assumes nothing.
 use Prim.Native.Nat.{_≤_}
 use mathlib.Core.Path.{_≡_}
-use Rattle.number.specs.declared.Reading as number-readings
+use Rattle.number.specs.declared.NumberReading.{NumberReading}
 use Rattle.number.specs.declared.Decimal.{Decimal}
-use Rattle.date.specs.declared.Reading as date-readings
+use Rattle.date.specs.declared.DateReading.{DateReading}
 use Rattle.row_opener.specs.declared.Opened.{Opened}
 
 -- a number has at most nine decimals, and what reads to a number is not read as a date
-pub record Sane (n : number-readings.Reading) (d : date-readings.Reading) : Type 0 where
-  pub decimals : (a : Decimal) → n ≡ number-readings.Reading.Number a → a .decimals ≤ 9
-  pub alone : (a : Decimal) → n ≡ number-readings.Reading.Number a → d ≡ date-readings.Reading.Unreadable
+pub record Sane (n : NumberReading) (d : DateReading) : Type 0 where
+  pub decimals : (a : Decimal) → n ≡ NumberReading.Number a → a .decimals ≤ 9
+  pub alone : (a : Decimal) → n ≡ NumberReading.Number a → d ≡ DateReading.Unreadable
 
 pub record Small (o : Opened) : Type 0 where
   pub sane : Sane (o .readings .number) (o .readings .date)

@@ -1,10 +1,12 @@
 // Values opened once for many cards: what each reads to, and the cells that have it.
 use crate::Opened;
 use date::Date;
+use date::DateReading;
 use judge::readings_for;
 use kind::Meaning;
 use kind::Readings;
 use number::Decimal;
+use number::NumberReading;
 use rows::Probe;
 use rows::Row;
 use rows::bit;
@@ -105,12 +107,12 @@ fn opened_row(kinds: &[u8], filter: &[u8], cell: u32) -> Opened
 
 // ---- its cells
 
-fn date_mark(date: date::Reading) -> u32
+fn date_mark(date: DateReading) -> u32
     ensures { λ r. ⌜ (r ≡ dateMark date) × (r ≤ 11) ⌝ }
 {
     match date {
-        date::Reading::Readable(_) => 10,
-        date::Reading::Unreadable => 11,
+        DateReading::Readable(_) => 10,
+        DateReading::Unreadable => 11,
     }
 }
 
@@ -121,40 +123,40 @@ fn decimal_mark(decimals: usize) -> u32
     decimals as u32
 }
 
-fn mark_of(number: number::Reading, date: date::Reading) -> u32
+fn mark_of(number: NumberReading, date: DateReading) -> u32
     requires { ⌜ Sane number date ⌝ }
     ensures { λ r. ⌜ (r ≡ markOf number date) × (r ≤ 11) ⌝ }
 {
     match number {
-        number::Reading::Number(n) => decimal_mark(n.decimals),
-        number::Reading::Unreadable => date_mark(date),
+        NumberReading::Number(n) => decimal_mark(n.decimals),
+        NumberReading::Unreadable => date_mark(date),
     }
 }
 
-fn digits_of(number: number::Reading) -> u64
+fn digits_of(number: NumberReading) -> u64
     ensures { λ r. ⌜ r ≡ digitsOf number ⌝ }
 {
     match number {
-        number::Reading::Number(n) => n.digits,
-        number::Reading::Unreadable => 0,
+        NumberReading::Number(n) => n.digits,
+        NumberReading::Unreadable => 0,
     }
 }
 
-fn start_of(date: date::Reading) -> i64
+fn start_of(date: DateReading) -> i64
     ensures { λ r. ⌜ r ≡ startOf date ⌝ }
 {
     match date {
-        date::Reading::Readable(d) => d.start,
-        date::Reading::Unreadable => 0,
+        DateReading::Readable(d) => d.start,
+        DateReading::Unreadable => 0,
     }
 }
 
-fn end_of(date: date::Reading) -> i64
+fn end_of(date: DateReading) -> i64
     ensures { λ r. ⌜ r ≡ endOf date ⌝ }
 {
     match date {
-        date::Reading::Readable(d) => d.end,
-        date::Reading::Unreadable => 0,
+        DateReading::Readable(d) => d.end,
+        DateReading::Unreadable => 0,
     }
 }
 
@@ -175,25 +177,25 @@ fn span_of(opened: Opened) -> u32
     found + 2 * (escaped + 2 * (bit(opened.truth) + 2 * place))
 }
 
-fn number_from(mark: u32, digits: u64) -> number::Reading
+fn number_from(mark: u32, digits: u64) -> NumberReading
     ensures { λ r. ⌜ r ≡ numberFrom mark digits ⌝ }
 {
     if mark < 10 {
-        return number::Reading::Number(Decimal {
+        return NumberReading::Number(Decimal {
             digits,
             decimals: mark as usize,
         });
     }
-    number::Reading::Unreadable
+    NumberReading::Unreadable
 }
 
-fn date_from(mark: u32, start: i64, end: i64) -> date::Reading
+fn date_from(mark: u32, start: i64, end: i64) -> DateReading
     ensures { λ r. ⌜ r ≡ dateFrom mark start end ⌝ }
 {
     if mark == 10 {
-        return date::Reading::Readable(Date { start, end });
+        return DateReading::Readable(Date { start, end });
     }
-    date::Reading::Unreadable
+    DateReading::Unreadable
 }
 
 // What cells stand for.

@@ -13,6 +13,6 @@ mod Pairs
 mod Keeping
 mod Holding
 mod Passing
-mod Taking
+mod Accepting
 mod Judging
-pub mod Taken
+pub mod Accepted

@@ -25,7 +25,7 @@ use Rattle.refusal.proofs.Deciding.{Decided, none-holds, one-decides}
 use Rattle.refusal.proofs.Order.{later-group, no-lower-rank}
 use Rattle.base.specs.Split.{Without}
 use Rattle.search.specs.Spelling.{ampersand, equals, Alternative, Query, alternativesOf, PairAt, PairsAt, last-pair, next-pair, SpellsQuery}
-use Rattle.search.specs.Reader.{decoded, pairOf, readPair, readPairs, takeQuery}
+use Rattle.search.specs.Reader.{decoded, pairOf, readPair, readPairs, acceptQuery}
 use Rattle.search.specs.Lines.{PartAt, part-last, part-first, part-later, QueryLine, line-10, line-50, line-51}
 use Rattle.search.proofs.Cuts.{cut-shorter, Cut, cut-at, no-cut, cut-of, cut-unique, not-both}
 use Rattle.search.proofs.Reading.{pair-cut, pair-whole, pair-there, pair-back, pair-without, pairs-cut, pairs-last, pairs-back}
@@ -183,8 +183,8 @@ module _ (text : List ℕ) where
             (λ t. no-lower-rank {m = 50} {q = q} {n = 50} {p = at} refl (ltb-false q at t) (omega arith) k) (decided (ltb q at))
         first m p (line-51 pairs l) k = let w = parts-are-pairs pairs part in lacks (w .0) (w .1)
 
-  pub query-decided : Decided (SpellsQuery text) (QueryLine text) (takeQuery text)
-  unfolding takeQuery
+  pub query-decided : Decided (SpellsQuery text) (QueryLine text) (acceptQuery text)
+  unfolding acceptQuery
   query-decided =
       cond-elim (Decided (SpellsQuery text) (QueryLine text)) (eqb (length text) 0 || ltb 1024 (length text))
       (λ h. one-decides (record { holds = line-10 (size-there h); first = first-10 }))

@@ -16,10 +16,10 @@ use Rattle.base.specs.Runs.{runEnd, differs}
 use Rattle.base.proofs.All.{all-append}
 use Rattle.base.proofs.Tests.{cond-first}
 use Rattle.refusal.specs.Steps.{Step, found, stop, _>>=_}
-use Rattle.refusal.proofs.Steps.{stop-not-found, taken}
+use Rattle.refusal.proofs.Steps.{stop-not-found, bind-found}
 use Rattle.base.specs.Split.{Without}
 use Rattle.search.specs.Spelling.{ampersand, equals, cutSigns, Alternative, alternative, Query, alternativesOf, PairAt, a-pair, PairsAt, last-pair, next-pair, SpellsQuery}
-use Rattle.search.specs.Reader.{decoded, signsOf, pairOf, readPair, readPairs, takeQuery}
+use Rattle.search.specs.Reader.{decoded, signsOf, pairOf, readPair, readPairs, acceptQuery}
 use Rattle.search.proofs.Cuts.{drop-right, cut-shorter, cut-end, whole-end, Cut, cut-at, no-cut, cut-of}
 use Rattle.search.proofs.Decoding.{decoded-there, decoded-back}
 use Rattle.search.proofs.Signs.{signs-iff}
@@ -86,12 +86,12 @@ pairs-there (suc n) p xs q e = by-cut (pairs-there n) (cut-of ampersand xs) e
   where
     by-cut : ((p : ℕ) (xs : List ℕ) (q : Query) → readPairs n p xs ≡ found q → PairsAt p xs q) → {t : List ℕ} → Cut ampersand t → readPairs (suc n) p t ≡ found q → PairsAt p t q
     by-cut on (cut-at s t h) e =
-        let (a, i, rest) = taken (readPair p s) (λ a. readPairs n (p + length s + 1) t >>= λ q. found (a ∷ q)) q (sym (pairs-cut n p s t h) ∙ e) in
-        let (r, j, k) = taken (readPairs n (p + length s + 1) t) (λ q. found (a ∷ q)) q rest in
+        let (a, i, rest) = bind-found (readPair p s) (λ a. readPairs n (p + length s + 1) t >>= λ q. found (a ∷ q)) q (sym (pairs-cut n p s t h) ∙ e) in
+        let (r, j, k) = bind-found (readPairs n (p + length s + 1) t) (λ q. found (a ∷ q)) q rest in
         let z : q ≡ a ∷ r = cc in
         subst (PairsAt p (s ++ (ampersand ∷ t))) (sym z) (next-pair (pair-there p s a h i) (on (p + length s + 1) t r j))
     by-cut on {t} (no-cut h) e =
-        let (a, i, rest) = taken (readPair p t) (λ a. found (a ∷ [])) q (sym (pairs-last n p t h) ∙ e) in
+        let (a, i, rest) = bind-found (readPair p t) (λ a. found (a ∷ [])) q (sym (pairs-last n p t h) ∙ e) in
         let z : q ≡ a ∷ [] = cc in
         subst (PairsAt p t) (sym z) (last-pair (pair-there p t a h i))
 
@@ -111,11 +111,11 @@ found-size : (t : Bool) (r : Step Query) (q : Query) → cond t (stop 10 0) r �
 found-size true r q e = stop-not-found e
 found-size false r q e = (refl, e)
 
-pub query-there : (xs : List ℕ) (q : Query) → takeQuery xs ≡ found q → SpellsQuery xs q
-unfolding takeQuery
+pub query-there : (xs : List ℕ) (q : Query) → acceptQuery xs ≡ found q → SpellsQuery xs q
+unfolding acceptQuery
 query-there xs q e =
     let (size, rest) = found-size (eqb (length xs) 0 || ltb 1024 (length xs)) _ q e in
-    let (r, i, last) = taken (readPairs (suc (length xs)) 0 xs) (λ q. cond (leb (length (alternativesOf q)) 32) (found q) (stop 51 0)) q rest in
+    let (r, i, last) = bind-found (readPairs (suc (length xs)) 0 xs) (λ q. cond (leb (length (alternativesOf q)) 32) (found q) (stop 51 0)) q rest in
     let (few, same) = cond-first (leb (length (alternativesOf r)) 32) (found r) (stop 51 0) {v = found q} stop-not-found last in
     let (filled, short) = or-false (eqb (length xs) 0) (ltb 1024 (length xs)) size in
     let z : r ≡ q = cc in
@@ -130,13 +130,13 @@ not-empty-length : (xs : List ℕ) → (xs ≡ [] → ⊥) → length xs ≡ 0 �
 not-empty-length [] n e = n refl
 not-empty-length (x ∷ xs) n e = omega arith
 
-pub query-back : (xs : List ℕ) (q : Query) → SpellsQuery xs q → takeQuery xs ≡ found q
-unfolding takeQuery
+pub query-back : (xs : List ℕ) (q : Query) → SpellsQuery xs q → acceptQuery xs ≡ found q
+unfolding acceptQuery
 query-back xs q h =
     rw (ne-eqb (length xs) 0 (not-empty-length xs (h .not-empty)), le-ltb 1024 (length xs) (h .short), pairs-back (h .pairs) (suc (length xs)) (omega arith), le-leb (length (alternativesOf q)) 32 (h .few))
 
 -- a query is read exactly where the string asks it
-pub query-read : (xs : List ℕ) (q : Query) → (takeQuery xs ≡ found q) ↔ SpellsQuery xs q
+pub query-read : (xs : List ℕ) (q : Query) → (acceptQuery xs ≡ found q) ↔ SpellsQuery xs q
 query-read xs q = (query-there xs q, query-back xs q)
 
 -- so that a string asks one query at most

@@ -61,7 +61,7 @@ readPairs (suc n) p xs = do
   found (a ∷ q)
 
 -- 51: "too many alternatives, place 0"
-unfoldable pub takeQuery : List ℕ → Step Query
-takeQuery xs = cond (eqb (length xs) 0 || ltb 1024 (length xs)) (stop 10 0) (do
+unfoldable pub acceptQuery : List ℕ → Step Query
+acceptQuery xs = cond (eqb (length xs) 0 || ltb 1024 (length xs)) (stop 10 0) (do
   q ← readPairs (suc (length xs)) 0 xs
   cond (leb (length (alternativesOf q)) 32) (found q) (stop 51 0))

@@ -15,7 +15,7 @@ use Rattle.refusal.specs.declared.Refusal.{Refusal}
 use Rattle.refusal.specs.Decisions.{refuse}
 use Rattle.refusal.specs.Steps.{found, stop, refusalStep}
 use Rattle.search.specs.Meaning.{queryMet}
-use Rattle.search.specs.Reader.{signsOf, readPairs, takeQuery}
+use Rattle.search.specs.Reader.{signsOf, readPairs, acceptQuery}
 use Rattle.search.specs.declared.QueryRead.{QueryRead}
 use Rattle.search.specs.declared.Held.{Held}
 use Rattle.search.specs.declared.Row.{Row}
@@ -76,10 +76,10 @@ pub data QueryOf (text bytes : List ℕ) : QueryRead → Type 0 where
   query-of : {q : Query} {rows : Rows} (used : ℕ) → used ≤ length bytes → readPairs (suc (length text)) 0 text ≡ found q → Keeps rows bytes used (keepAll q) → QueryOf text bytes (record { rows = rows; decision = Decision.Passed })
   query-of-none : {at : ℕ} {rows : Rows} → readPairs (suc (length text)) 0 text ≡ stop 50 at → QueryOf text bytes (record { rows = rows; decision = refuse Reason.NoPair at })
 
--- what `take_query` leaves: the definition's query, kept in at most 32 rows, or its refusal
-pub data TakenOf (text bytes : List ℕ) : QueryRead → Type 0 where
-  taken-query : {q : Query} {rows : Rows} (used : ℕ) → used ≤ length bytes → takeQuery text ≡ found q → rows .count ≤ 32 → Keeps rows bytes used (keepAll q) → TakenOf text bytes (record { rows = rows; decision = Decision.Passed })
-  taken-none : {rows : Rows} {r : Refusal} → takeQuery text ≡ refusalStep r → TakenOf text bytes (record { rows = rows; decision = Decision.Refused r })
+-- what `accept_query` leaves: the definition's query, kept in at most 32 rows, or its refusal
+pub data AcceptsQuery (text bytes : List ℕ) : QueryRead → Type 0 where
+  accepted-query : {q : Query} {rows : Rows} (used : ℕ) → used ≤ length bytes → acceptQuery text ≡ found q → rows .count ≤ 32 → Keeps rows bytes used (keepAll q) → AcceptsQuery text bytes (record { rows = rows; decision = Decision.Passed })
+  accepted-none : {rows : Rows} {r : Refusal} → acceptQuery text ≡ refusalStep r → AcceptsQuery text bytes (record { rows = rows; decision = Decision.Refused r })
 
 -- ---- rows that are kept, as they are judged
 
@@ -100,9 +100,9 @@ alternativesIn bytes rows = map (alternativeIn bytes) (take (rows .count) (rows 
 unfoldable pub rowsSay : (Alternative → Bool) → List ℕ → Rows → Bool
 rowsSay says bytes rows = keptSays says false (map (keptIn bytes) (take (rows .count) (rows .rows)))
 
--- a search string was taken, and the rows keep its query
+-- a search string was accepted, and the rows keep its query
 pub record RowsOf (text bytes : List ℕ) (rows : Rows) (q : Query) : Type 0 where
-  pub taken : takeQuery text ≡ found q
+  pub accepted : acceptQuery text ≡ found q
   pub within : RowsWithin (length bytes) rows
   pub alternatives : alternativesIn bytes rows ≡ alternativesOf q
   pub count : rows .count ≡ length (alternativesOf q)

@@ -12,7 +12,7 @@ use refusal::refuse;
 ghost use mathlib.Core.Path.{_≡_};
 ghost use Prim.Native.Nat.{_+_, _≤_, _<_};
 ghost use lib.ListN.{length};
-ghost use Rattle.search.specs.Rows.{pushed, PairHeld, QueryOf, TakenOf};
+ghost use Rattle.search.specs.Rows.{pushed, PairHeld, QueryOf, AcceptsQuery};
 
 // The rows with one more; beyond 32 they are only counted.
 fn push(q: Rows, row: Row) -> Rows
@@ -134,9 +134,9 @@ pub fn no_rows() -> Rows {
 }
 
 // Reads a search string: 10, 50 and 51 in this order, or its alternatives.
-pub fn take_query(text: &[u8], bytes: &mut [u8]) -> QueryRead
+pub fn accept_query(text: &[u8], bytes: &mut [u8]) -> QueryRead
     requires { ⌜ 1024 ≤ length (now bytes) ⌝ }
-    ensures { λ r. ⌜ TakenOf (now (text .entry)) (now (bytes .exit)) r ⌝ }
+    ensures { λ r. ⌜ AcceptsQuery (now (text .entry)) (now (bytes .exit)) r ⌝ }
 {
     if text.len() == 0 {
         return QueryRead {

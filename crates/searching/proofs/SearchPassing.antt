@@ -1,5 +1,5 @@
 -- Check and match by a search string, as the code comes to their answers: the rows ask what the string asks.
--- A law for each way through the code: the sheet is refused, the text is refused, or it is taken. Where it is taken the rows keep the
+-- A law for each way through the code: the sheet is refused, the text is refused, or it is accepted. Where it is accepted the rows keep the
 -- query, so that checking and judging by the rows is checking and judging by the query (`rows-answer`, `same-says`). Where a count is
 -- answered no step has stopped (`passed-tests`), so the string's question is that of the rows (`asks`), and match follows as it does for a
 -- filter (`search-answered`). Where check refuses, the question stops with the same refusal (`question-stopped`). Select uses `asks` and
@@ -17,17 +17,17 @@ use Rattle.card.specs.Card.{Entry}
 use Rattle.refusal.specs.declared.Decision.{Decision}
 use Rattle.search.specs.Spelling.{Query, alternativesOf}
 use Rattle.search.specs.Meaning.{firstAlternativeFault, alternativeSays, querySays}
-use Rattle.search.specs.Rows.{RowsWithin, alternativesIn, rowsSay, TakenOf, RowsOf}
+use Rattle.search.specs.Rows.{RowsWithin, alternativesIn, rowsSay, AcceptsQuery, RowsOf}
 use Rattle.search.specs.declared.QueryRead.{QueryRead}
 use Rattle.search.specs.declared.Rows.{Rows}
-use Rattle.search.proofs.Taken.{taken-rows, taken-refused}
+use Rattle.search.proofs.Accepted.{accepted-rows, accepted-refused}
 use Rattle.refusal.specs.Answers.{Answer, count, refused, numberOf, refusalAnswer}
 use Rattle.refusal.specs.Steps.{Step, found, stop, _>>=_, answer}
 use Rattle.refusal.specs.declared.Refusal.{Refusal}
 use Rattle.answer.specs.Answers.{checkedAnswer, matchedAnswer}
-use Rattle.answer.specs.Operations.{decisionStep, sheetStep, takeSheet}
+use Rattle.answer.specs.Operations.{decisionStep, sheetStep, acceptSheet}
 use Rattle.answer.specs.Passing.{summaryAnswer, cardVerdict}
-use Rattle.answer.specs.Searching.{alternativesStep, QueryInputs, takeQueryInputs, checkSearchAnswer, questionOfQuery, searchQuestion, matchSearchAnswer}
+use Rattle.answer.specs.Searching.{alternativesStep, QueryInputs, acceptQueryInputs, checkSearchAnswer, questionOfQuery, searchQuestion, matchSearchAnswer}
 use Rattle.searching.specs.SearchPassing.{rowsAnswer, rowsQuestion, PassingRows, ReadsRows}
 use Rattle.answer.specs.declared.Checked.{Checked}
 use Rattle.answer.specs.declared.Matched.{Matched}
@@ -47,7 +47,7 @@ unfolding checkedAnswer
 no-tests c n k p e h = let z : count n ≡ refused k p = ap checkedAnswer (sym h) ∙ e in let y : _≡_ {A = ℕ} 0 1 = cc in omega arith
 
 module _ (sheet text bytes : List ℕ) (c : Checked) (rows : Rows) where
-  refuses : (k p : ℕ) → takeQueryInputs sheet text ≡ stop k p → checkedAnswer c ≡ refused k p → ReadsRows sheet text bytes (record { checked = c; rows = rows })
+  refuses : (k p : ℕ) → acceptQueryInputs sheet text ≡ stop k p → checkedAnswer c ≡ refused k p → ReadsRows sheet text bytes (record { checked = c; rows = rows })
   refuses k p e h =
       let answered : checkedAnswer c ≡ checkSearchAnswer sheet text = h ∙ sym (unfold checkSearchAnswer in rw e) in
       record { answers = answered; passes = λ n t. absurd (no-tests c n k p h t) }
@@ -55,7 +55,7 @@ module _ (sheet text bytes : List ℕ) (c : Checked) (rows : Rows) where
   -- the sheet is refused
   sheet-refuses : (r k : Validity) (n : ℕ) → ((ps : List Parameter) → sheetStep k ps ≡ stop n 0) → r ≡ readSheet sheet → r ≡ k → checkedAnswer c ≡ refused n 0
       → ReadsRows sheet text bytes (record { checked = c; rows = rows })
-  sheet-refuses r k n t e i h = refuses n 0 (unfold takeQueryInputs takeSheet in rw (sym e ∙ i, t (parametersOf sheet))) h
+  sheet-refuses r k n t e i h = refuses n 0 (unfold acceptQueryInputs acceptSheet in rw (sym e ∙ i, t (parametersOf sheet))) h
 
   module _ (r : Validity) (e : r ≡ readSheet sheet) where
     pub sheet-size : r ≡ Validity.WrongSize → checkedAnswer c ≡ refused 1 0 → ReadsRows sheet text bytes (record { checked = c; rows = rows })
@@ -68,15 +68,15 @@ module _ (sheet text bytes : List ℕ) (c : Checked) (rows : Rows) where
     sheet-layout = sheet-refuses r Validity.WrongLayout 3 (λ ps. refl) e
 
 -- the string is refused as its taking is
-pub text-refuses : (sheet text bytes : List ℕ) (rows : Rows) → readSheet sheet ≡ Validity.WellFormed → (r : QueryRead) (x : Refusal) → TakenOf text bytes r → r .decision ≡ Decision.Refused x
+pub text-refuses : (sheet text bytes : List ℕ) (rows : Rows) → readSheet sheet ≡ Validity.WellFormed → (r : QueryRead) (x : Refusal) → AcceptsQuery text bytes r → r .decision ≡ Decision.Refused x
     → ReadsRows sheet text bytes (record { checked = Checked.Refused x; rows = rows })
-unfolding takeQueryInputs takeSheet checkedAnswer refusalAnswer
-text-refuses sheet text bytes rows w r x t o = refuses sheet text bytes (Checked.Refused x) rows (numberOf (x .reason)) (x .place) (rw (w, taken-refused x t o)) refl
+unfolding acceptQueryInputs acceptSheet checkedAnswer refusalAnswer
+text-refuses sheet text bytes rows w r x t o = refuses sheet text bytes (Checked.Refused x) rows (numberOf (x .reason)) (x .place) (rw (w, accepted-refused x t o)) refl
 
--- ---- a string that is taken
+-- ---- a string that is accepted
 
-pub taken-within : (text bytes : List ℕ) (r : QueryRead) → TakenOf text bytes r → r .decision ≡ Decision.Passed → RowsWithin (length bytes) (r .rows)
-taken-within text bytes r t o = taken-rows t o .1 .within
+pub accepted-within : (text bytes : List ℕ) (r : QueryRead) → AcceptsQuery text bytes r → r .decision ≡ Decision.Passed → RowsWithin (length bytes) (r .rows)
+accepted-within text bytes r t o = accepted-rows t o .1 .within
 
 module _ (sheet text bytes : List ℕ) (w : readSheet sheet ≡ Validity.WellFormed) (rows : Rows) (q : Query) (of : RowsOf text bytes rows q) where
   abbrev ps : List Parameter
@@ -91,9 +91,9 @@ module _ (sheet text bytes : List ℕ) (w : readSheet sheet ≡ Validity.WellFor
   abbrev counted : QueryInputs → Step Answer
   counted p = found (count (length (alternativesOf (p .query))))
 
-  ready : takeQueryInputs sheet text ≡ ready-by (alternativesStep ps (alternativesOf q))
-  unfolding takeQueryInputs takeSheet
-  ready = rw (w, of .taken)
+  ready : acceptQueryInputs sheet text ≡ ready-by (alternativesStep ps (alternativesOf q))
+  unfolding acceptQueryInputs acceptSheet
+  ready = rw (w, of .accepted)
 
   rows-answer : checkSearchAnswer sheet text ≡ rowsAnswer ps bytes rows
   unfolding checkSearchAnswer rowsAnswer summaryAnswer alternativesStep
@@ -116,27 +116,27 @@ module _ (sheet text bytes : List ℕ) (w : readSheet sheet ≡ Validity.WellFor
   unfolding checkSearchAnswer
   check-by = rw ready
 
-  question-by : takeQueryInputs sheet text ≡ found inputs-as → searchQuestion sheet text ≡ found (questionOfQuery inputs-as)
+  question-by : acceptQueryInputs sheet text ≡ found inputs-as → searchQuestion sheet text ≡ found (questionOfQuery inputs-as)
   unfolding searchQuestion
   question-by e = rw e
 
-  taken-passes : (c : Checked) → checkedAnswer c ≡ checkSearchAnswer sheet text → (n : ℕ) → c ≡ Checked.Tests n → PassingRows sheet text bytes rows
-  taken-passes c e n h =
-      let inputs-taken : takeQueryInputs sheet text ≡ found inputs-as =
+  accepted-passes : (c : Checked) → checkedAnswer c ≡ checkSearchAnswer sheet text → (n : ℕ) → c ≡ Checked.Tests n → PassingRows sheet text bytes rows
+  accepted-passes c e n h =
+      let inputs-accepted : acceptQueryInputs sheet text ≡ found inputs-as =
       ready ∙ passed-tests (alternativesStep ps (alternativesOf q)) c n (e ∙ check-by) h
       in
       record {
         sheet-well-formed = w;
         within = of .within;
-        asked = question-by inputs-taken ∙ ap (λ (f : List Entry → Bool). found (record { parameters = ps; says = f })) same-says;
+        asked = question-by inputs-accepted ∙ ap (λ (f : List Entry → Bool). found (record { parameters = ps; says = f })) same-says;
       }
 
-pub rows-read : (sheet text bytes : List ℕ) → readSheet sheet ≡ Validity.WellFormed → (r : QueryRead) (c : Checked) → TakenOf text bytes r → r .decision ≡ Decision.Passed
+pub rows-read : (sheet text bytes : List ℕ) → readSheet sheet ≡ Validity.WellFormed → (r : QueryRead) (c : Checked) → AcceptsQuery text bytes r → r .decision ≡ Decision.Passed
     → checkedAnswer c ≡ rowsAnswer (parametersOf sheet) bytes (r .rows) → ReadsRows sheet text bytes (record { checked = c; rows = r .rows })
 rows-read sheet text bytes w r c t o e =
-    let (q, of) = taken-rows t o in
+    let (q, of) = accepted-rows t o in
     let answered : checkedAnswer c ≡ checkSearchAnswer sheet text = e ∙ sym (rows-answer sheet text bytes w (r .rows) q of) in
-    record { answers = answered; passes = taken-passes sheet text bytes w (r .rows) q of c answered }
+    record { answers = answered; passes = accepted-passes sheet text bytes w (r .rows) q of c answered }
 
 pub rows-checked : (ps : List Parameter) (bytes : List ℕ) (rows : Rows) (first : Decision) (c : Checked) → first ≡ firstAlternativeFault ps (alternativesIn bytes rows)
     → checkedAnswer c ≡ summaryAnswer (record { tests = rows .count; first = first }) → checkedAnswer c ≡ rowsAnswer ps bytes rows
@@ -150,9 +150,9 @@ module _ (sheet text bytes : List ℕ) (r : SearchRead) (read : ReadsRows sheet 
   search-checked = read .answers
 
   pub question-stopped : (f : Refusal) → r .checked ≡ Checked.Refused f → searchQuestion sheet text ≡ stop (numberOf (f .reason)) (f .place)
-  question-stopped f h = (unfold searchQuestion in rw (stopped (takeQueryInputs sheet text) refl))
+  question-stopped f h = (unfold searchQuestion in rw (stopped (acceptQueryInputs sheet text) refl))
     where
-      stopped : (s : Step QueryInputs) → takeQueryInputs sheet text ≡ s → s ≡ stop (numberOf (f .reason)) (f .place)
+      stopped : (s : Step QueryInputs) → acceptQueryInputs sheet text ≡ s → s ≡ stop (numberOf (f .reason)) (f .place)
       stopped (found p) e = absurd (let a : checkedAnswer (Checked.Refused f) ≡ count (length (alternativesOf (p .query))) = sym (ap checkedAnswer h) ∙ read .answers ∙ (unfold checkSearchAnswer in rw e) in never a)
         where
           never : {n : ℕ} → checkedAnswer (Checked.Refused f) ≡ count n → ⊥

@@ -5,16 +5,16 @@ use block::Validity;
 use checking::outcome;
 use checking::refuse;
 use filter::Summary;
-use one_card::CardTaken;
+use one_card::CardAcceptance;
 use one_card::CardVerdict;
+use one_card::accept_card;
 use one_card::answered;
-use one_card::take_card;
 use refusal::Decision;
 use refusal::Reason;
 use search::Rows;
 use search::faults::first_fault;
+use search::query::accept_query;
 use search::query::no_rows;
-use search::query::take_query;
 use search::says::rows_say;
 ghost use mathlib.Core.Path.{_≡_};
 ghost use Prim.Native.Nat.{ℕ, _≤_};
@@ -53,9 +53,9 @@ fn read_text(sheet: &[u8], text: &[u8], bytes: &mut [u8]) -> SearchRead
     requires { ⌜ 1024 ≤ length (now bytes) ⌝ }
     ensures { λ r. ⌜ ReadsRows (now (sheet .entry)) (now (text .entry)) (now (bytes .exit)) r ⌝ }
 {
-    let taken = take_query(text, bytes);
-    let rows = taken.rows;
-    let decision = taken.decision;
+    let accepted = accept_query(text, bytes);
+    let rows = accepted.rows;
+    let decision = accepted.decision;
     match decision {
         Decision::Passed => SearchRead {
             checked: check_rows(sheet, bytes, rows),
@@ -113,10 +113,10 @@ pub fn judge_by_search(
     requires { ⌜ RowsWithin (length (now bytes)) rows ⌝ }
     ensures { λ r. ⌜ ((i : ℕ) → verdictStep r i ≡ cardVerdict (rowsQuestion (parametersOf (now (sheet .entry))) (now (bytes .entry)) rows) i (now (card .entry))) ⌝ }
 {
-    let taken = take_card(kinds, card);
-    match taken {
-        CardTaken::Conforming => CardVerdict::Says(rows_say(sheet, card, bytes, rows)),
-        CardTaken::Refused(reason) => CardVerdict::Refused(reason),
+    let accepted = accept_card(kinds, card);
+    match accepted {
+        CardAcceptance::Conforming => CardVerdict::Says(rows_say(sheet, card, bytes, rows)),
+        CardAcceptance::Refused(reason) => CardVerdict::Refused(reason),
     }
 }
 

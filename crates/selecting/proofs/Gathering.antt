@@ -23,20 +23,20 @@ use Rattle.one_card.specs.declared.CardVerdict.{CardVerdict}
 use Rattle.refusal.specs.declared.Refusal.{Refusal}
 use Rattle.answer.specs.declared.Selected.{Selected}
 use Rattle.refusal.specs.Steps.{Step, found, stop, _>>=_}
-use Rattle.answer.specs.Operations.{Question, blocks, takeCard}
+use Rattle.answer.specs.Operations.{Question, blocks, acceptCard}
 use Rattle.answer.specs.Passing.{cardVerdict}
 use Rattle.one_card.specs.OneCard.{verdictStep}
 use Rattle.selecting.specs.Selecting.{runNumbers, Gathers}
-use Rattle.refusal.proofs.Steps.{taken}
-use Rattle.answer.proofs.Passing.{card-taken}
+use Rattle.refusal.proofs.Steps.{bind-found}
+use Rattle.answer.proofs.Passing.{card-accepted}
 
 -- ---- a card that has a verdict is well formed
 
 judged-well-formed : (q : Question) (b : List ℕ) (y : Bool) → cardVerdict q 0 b ≡ found y → readCard b ≡ Validity.WellFormed
 unfolding cardVerdict
 judged-well-formed q b y h =
-    let (c, t, says) = taken (takeCard (q .parameters) 0 b) (λ c. found (q .says (c .entries))) y h in
-    card-taken (q .parameters) 0 b c t .0
+    let (c, t, says) = bind-found (acceptCard (q .parameters) 0 b) (λ c. found (q .says (c .entries))) y h in
+    card-accepted (q .parameters) 0 b c t .0
 
 -- ---- the loop
 

@@ -31,7 +31,7 @@ use Rattle.search.specs.declared.Rows.{Rows}
 use Rattle.refusal.specs.Answers.{numberOf}
 use Rattle.refusal.specs.Steps.{Step, found, stop, _>>=_}
 use Rattle.refusal.specs.declared.Refusal.{Refusal}
-use Rattle.answer.specs.Operations.{testsStep, Inputs, takeInputs, Question, filterQuestion}
+use Rattle.answer.specs.Operations.{testsStep, Inputs, acceptInputs, Question, filterQuestion}
 use Rattle.answer.specs.Passing.{Passing}
 use Rattle.answer.specs.Preparing.{rowCells, Fills}
 use Rattle.selecting.specs.Selecting.{Selects}
@@ -84,7 +84,7 @@ module _ (sheet text : List ℕ) (p : Passing sheet text) where
 
   pub rows-ask : filterQuestion sheet text ≡ found (cellsQuestion ps text cells)
   unfolding filterQuestion
-  rows-ask = rw (p .inputs-taken) (ap (λ (f : List Entry → Bool). found (record { parameters = ps; says = f })) (fun-ext says-same))
+  rows-ask = rw (p .inputs-accepted) (ap (λ (f : List Entry → Bool). found (record { parameters = ps; says = f })) (fun-ext says-same))
 
 -- ---- as the code has filled them
 
@@ -93,17 +93,17 @@ module _ (sheet text buffer : List ℕ) (r : Prepared) (e : Fills sheet text r b
   filling s = s >>= λ p. found (rowCells (p .parameters) text (p .filter))
 
   pub filled-refused : (cards list : List ℕ) (f : Refusal) → r ≡ Prepared.Refused f → Selects (filterQuestion sheet text) cards list (Selected.Refused f) list
-  filled-refused cards list f h = select-stopped (filterQuestion sheet text) cards list f (unfold filterQuestion in rw (by (takeInputs sheet text) (sym (e .rows) ∙ rw h)))
+  filled-refused cards list f h = select-stopped (filterQuestion sheet text) cards list f (unfold filterQuestion in rw (by (acceptInputs sheet text) (sym (e .rows) ∙ rw h)))
     where
       by : (s : Step Inputs) → filling s ≡ stop (numberOf (f .reason)) (f .place) → s ≡ stop (numberOf (f .reason)) (f .place)
       by (found p) g = absurd (let z : _≡_ {A = ℕ} 0 1 = cc in omega arith)
       by (stop n q) g = cc
 
   module _ (n : ℕ) (h : r ≡ Prepared.Cells n) where
-    inputs : (p : Inputs) × ((takeInputs sheet text ≡ found p) × (take n buffer ≡ rowCells (p .parameters) text (p .filter)))
-    inputs = by (takeInputs sheet text) refl (sym (e .rows) ∙ rw h)
+    inputs : (p : Inputs) × ((acceptInputs sheet text ≡ found p) × (take n buffer ≡ rowCells (p .parameters) text (p .filter)))
+    inputs = by (acceptInputs sheet text) refl (sym (e .rows) ∙ rw h)
       where
-        by : (s : Step Inputs) → takeInputs sheet text ≡ s → filling s ≡ found (take n buffer) → (p : Inputs) × ((takeInputs sheet text ≡ found p) × (take n buffer ≡ rowCells (p .parameters) text (p .filter)))
+        by : (s : Step Inputs) → acceptInputs sheet text ≡ s → filling s ≡ found (take n buffer) → (p : Inputs) × ((acceptInputs sheet text ≡ found p) × (take n buffer ≡ rowCells (p .parameters) text (p .filter)))
         by (found p) i g = (p, (i, cc))
         by (stop m q) i g = absurd (let z : _≡_ {A = ℕ} 0 1 = cc in omega arith)
 
@@ -112,7 +112,7 @@ module _ (sheet text buffer : List ℕ) (r : Prepared) (e : Fills sheet text r b
 
     filled-cells : part buffer 0 n ≡ rowCells (parametersOf sheet) text (passed .tree)
     filled-cells =
-        let same : inputs .0 ≡ record { parameters = parametersOf sheet; filter = passed .tree } = inputs-same (sym (inputs .1 .0) ∙ passed .inputs-taken) in
+        let same : inputs .0 ≡ record { parameters = parametersOf sheet; filter = passed .tree } = inputs-same (sym (inputs .1 .0) ∙ passed .inputs-accepted) in
         rw (sub-zero n) (inputs .1 .1 ∙ ap (λ (p : Inputs). rowCells (p .parameters) text (p .filter)) same)
       where
         inputs-same : {a b : Inputs} → found a ≡ found b → a ≡ b

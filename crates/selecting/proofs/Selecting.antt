@@ -17,14 +17,14 @@ use Rattle.answer.specs.declared.Selected.{Selected}
 use Rattle.refusal.specs.Answers.{numberOf, refusalAnswer}
 use Rattle.answer.specs.Answers.{checkedAnswer, selectedAnswer}
 use Rattle.refusal.specs.Steps.{Step, found, stop, _>>=_}
-use Rattle.answer.specs.Operations.{checkAnswer, Card, takeCard, Question, filterQuestion, takeRun, takeCards, matching, takeRoom, selection, selectBy, cellsBy}
+use Rattle.answer.specs.Operations.{checkAnswer, Card, acceptCard, Question, filterQuestion, acceptRun, acceptCards, matching, acceptRoom, selection, selectBy, cellsBy}
 use Rattle.answer.specs.Passing.{Passing, cardVerdict}
 use Rattle.selecting.specs.Asking.{askedSays, askedQuestion, Asks, asks-text}
 use Rattle.selecting.specs.declared.Asked.{Asked}
 use Rattle.search.specs.declared.Rows.{Rows}
 use Rattle.sheet.specs.Sheet.{parametersOf}
 use Rattle.selecting.specs.Selecting.{runNumbers, gatheredStep, Gathers, Selects}
-use Rattle.answer.proofs.Passing.{card-taken, question-stopped, passing-asks}
+use Rattle.answer.proofs.Passing.{card-accepted, question-stopped, passing-asks}
 
 -- ---- the numbers of a run are those of its matching cards
 
@@ -37,13 +37,13 @@ module _ (q : Question) where
   numbers-next (found d) b (stop n p) e = refl
   numbers-next (stop n p) b cs e = refl
 
-  run-numbers : (i : ℕ) (bs : List (List ℕ)) → runNumbers q i bs ≡ takeCards (q .parameters) i bs >>= λ cs. found (matching (q .says) cs)
-  unfolding runNumbers takeCards matching cardVerdict
+  run-numbers : (i : ℕ) (bs : List (List ℕ)) → runNumbers q i bs ≡ acceptCards (q .parameters) i bs >>= λ cs. found (matching (q .says) cs)
+  unfolding runNumbers acceptCards matching cardVerdict
   run-numbers i [] = refl
   run-numbers i (b ∷ bs) =
-      rw (run-numbers (suc i) bs) (numbers-next (takeCard (q .parameters) i b) b (takeCards (q .parameters) (suc i) bs) (λ d h. card-taken (q .parameters) i b d h .1))
+      rw (run-numbers (suc i) bs) (numbers-next (acceptCard (q .parameters) i b) b (acceptCards (q .parameters) (suc i) bs) (λ d h. card-accepted (q .parameters) i b d h .1))
 
-  room-after : (room : ℕ) (s : Step (List Card)) → (s >>= λ cs. takeRoom room (matching (q .says) cs)) ≡ (s >>= λ cs. found (matching (q .says) cs)) >>= takeRoom room
+  room-after : (room : ℕ) (s : Step (List Card)) → (s >>= λ cs. acceptRoom room (matching (q .says) cs)) ≡ (s >>= λ cs. found (matching (q .says) cs)) >>= acceptRoom room
   room-after room (found cs) = refl
   room-after room (stop n p) = refl
 
@@ -71,24 +71,24 @@ module _ (asked : Step Question) (cards list : List ℕ) where
   select-stopped r e = selects-stop r (rw e)
 
   module _ (q : Question) (p : asked ≡ found q) where
-    selection-is : (room : ℕ) → selection asked cards room ≡ takeRun cards >>= λ bs. runNumbers q 0 bs >>= takeRoom room
+    selection-is : (room : ℕ) → selection asked cards room ≡ acceptRun cards >>= λ bs. runNumbers q 0 bs >>= acceptRoom room
     unfolding selection
     selection-is room =
         rw p
-        (after (takeRun cards) _ _
-        (λ bs. room-after q room (takeCards (q .parameters) 0 bs) ∙ ap (λ (s : Step (List ℕ)). s >>= takeRoom room) (sym (run-numbers q 0 bs))))
+        (after (acceptRun cards) _ _
+        (λ bs. room-after q room (acceptCards (q .parameters) 0 bs) ∙ ap (λ (s : Step (List ℕ)). s >>= acceptRoom room) (sym (run-numbers q 0 bs))))
 
     pub select-parted : (r : Refusal) → (length cards % 512 ≡ 0 → ⊥) → r .reason ≡ Reason.CardSize → r .place ≡ 0 → Selects asked cards list (Selected.Refused r) list
-    unfolding takeRun
+    unfolding acceptRun
     select-parted r h n z = selects-stop r (selection-is (length list) ∙ rw (ne-eqb (length cards % 512) 0 h, n, z))
 
     pub select-over : (r : Refusal) → length cards % 512 ≡ 0 → 65536 < length cards → r .reason ≡ Reason.CardSize → r .place ≡ 0 → Selects asked cards list (Selected.Refused r) list
-    unfolding takeRun
+    unfolding acceptRun
     select-over r w h n z = selects-stop r (selection-is (length list) ∙ rw (eq-eqb (length cards % 512) 0 w, lt-leb (length cards) 65536 h, n, z))
 
     module _ (whole : length cards % 512 ≡ 0) (few : length cards ≤ 65536) (g : Selected) (buffer : List ℕ) (e : Gathers q cards g buffer) where
-      gathered : selection asked cards (length list) ≡ gatheredStep g buffer >>= takeRoom (length list)
-      unfolding takeRun
+      gathered : selection asked cards (length list) ≡ gatheredStep g buffer >>= acceptRoom (length list)
+      unfolding acceptRun
       gathered = selection-is (length list) ∙ rw (eq-eqb (length cards % 512) 0 whole, le-leb (length cards) 65536 few, e .numbers)
 
       pub select-card-refused : (r : Refusal) → g ≡ Selected.Refused r → Selects asked cards list (Selected.Refused r) list
@@ -99,11 +99,11 @@ module _ (asked : Step Question) (cards list : List ℕ) where
         size = length-take-le n buffer (e .room n h)
 
         pub select-short : (r : Refusal) → length list < n → r .reason ≡ Reason.ShortList → r .place ≡ n → Selects asked cards list (Selected.Refused r) list
-        unfolding takeRoom
+        unfolding acceptRoom
         select-short r k s z = selects-stop r (gathered ∙ rw (h, size, lt-leb n (length list) k, s, z))
 
         pub select-writes : (exit : List ℕ) → n ≤ length list → exit ≡ part buffer 0 n ++ drop (length (part buffer 0 n)) list → Selects asked cards list (Selected.Count n) exit
-        unfolding takeRoom
+        unfolding acceptRoom
         select-writes exit k w =
             let q : part buffer 0 n ≡ take n buffer = rw (sub-zero n) in
             rw (w, q, size) (rw size at (selects-found (take n buffer) (gathered ∙ rw (h, size, le-leb n (length list) k))))

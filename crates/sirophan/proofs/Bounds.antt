@@ -11,7 +11,7 @@ use borrow.Author.Tests.{leb-true}
 use Rattle.base.proofs.Tests.{cond-elim}
 use Rattle.refusal.specs.Answers.{count, refused, PlaceBound}
 use Rattle.refusal.specs.Steps.{Step, found, stop, _>>=_, answer}
-use Rattle.answer.specs.Operations.{Question, takeRun, takeCards, matching, takeRoom, selection, selectBy}
+use Rattle.answer.specs.Operations.{Question, acceptRun, acceptCards, matching, acceptRoom, selection, selectBy}
 use Rattle.answer.proofs.Outcomes.{OtherNumber}
 use Rattle.answer.proofs.Runs.{run-iff, run-or-none}
 use Rattle.answer.proofs.Selection.{selects-by-match}
@@ -31,13 +31,13 @@ other-number : {n p : ℕ} → (21 ≤ n → n ≤ 23 → ⊥) → PlaceBound n 
 other-number h = record { within = λ low high. absurd (h low high) }
 
 module _ (asked : Step Question) (other : (n p : ℕ) → asked ≡ stop n p → OtherNumber n) (cards list : List ℕ) where
-  module _ (q : Question) (bs : List (List ℕ)) (e : asked ≡ found q) (f : takeRun cards ≡ found bs) (n p : ℕ) where
-    card-answer : takeCards (q .parameters) 0 bs ≡ stop n p → selectBy asked cards (length list) ≡ refused n p
+  module _ (q : Question) (bs : List (List ℕ)) (e : asked ≡ found q) (f : acceptRun cards ≡ found bs) (n p : ℕ) where
+    card-answer : acceptCards (q .parameters) 0 bs ≡ stop n p → selectBy asked cards (length list) ≡ refused n p
     unfolding selectBy selection
     card-answer g = rw (e, f, g)
 
     -- a card that is refused stands in the run at its place
-    card-place : takeCards (q .parameters) 0 bs ≡ stop n p → PlaceBound n p
+    card-place : acceptCards (q .parameters) 0 bs ≡ stop n p → PlaceBound n p
     card-place g = record {
       within = λ low high.
           let run = run-iff cards bs .0 f in
@@ -47,16 +47,16 @@ module _ (asked : Step Question) (other : (n p : ℕ) → asked ≡ stop n p →
           omega (arith, simp length-append at (ap length (card .at .split)));
     }
 
-  run-place : (n p : ℕ) → takeRun cards ≡ stop n p → PlaceBound n p
+  run-place : (n p : ℕ) → acceptRun cards ≡ stop n p → PlaceBound n p
   run-place n p e =
       other-number (λ low high. ⊎-elim (λ w. let f = w .1 in let z : _≡_ {A = ℕ} 0 1 = cc in omega arith) (λ f. let z : n ≡ 20 = cc in omega arith) (run-or-none cards))
 
   selection-bounded : Bounded (length list) (selection asked cards (length list))
-  unfolding selection takeRoom
+  unfolding selection acceptRoom
   selection-bounded =
       bounded-then asked (λ n p e. other-number (λ low high. other n p e low (omega arith)))
-      (λ q e. bounded-then (takeRun cards) run-place
-      (λ bs f. bounded-then (takeCards (q .parameters) 0 bs) (card-place q bs e f)
+      (λ q e. bounded-then (acceptRun cards) run-place
+      (λ bs f. bounded-then (acceptCards (q .parameters) 0 bs) (card-place q bs e f)
       (λ cs g. let ns = matching (q .says) cs in
       cond-elim (Bounded (length list)) (leb (length ns) (length list)) (λ h. listed (leb-true (length ns) (length list) h))
       (λ _. stopped (other-number (λ low high. omega arith))))))

@@ -15,15 +15,15 @@ use Rattle.syntax.specs.Grammar.{Spells}
 use Rattle.judge.specs.Verdicts.{filterSays}
 use Rattle.refusal.specs.Answers.{Answer, yesOrNo, count}
 use Rattle.refusal.specs.Steps.{Step, found, stop, _>>=_, answer}
-use Rattle.answer.specs.Operations.{testsStep, Inputs, takeCard, checkAnswer, questionOf, filterQuestion, matchAnswer}
+use Rattle.answer.specs.Operations.{testsStep, Inputs, acceptCard, checkAnswer, questionOf, filterQuestion, matchAnswer}
 use Rattle.judge.specs.Rules.{Conforms, FilterSays}
 use Rattle.answer.specs.Verdicts.{Verdict}
 use Rattle.answer.specs.Demand.{TestRules, Meaningful, Demand, filterTests, MeetsDemand}
 use Rattle.answer.proofs.Verdicts.{verdict-by}
 use Rattle.refusal.proofs.Answers.{count-not-refused}
-use Rattle.answer.proofs.Cards.{conforms-size, conforms-bytes, conforms-taken}
+use Rattle.answer.proofs.Cards.{conforms-size, conforms-bytes, conforms-accepted}
 use Rattle.answer.proofs.Outcomes.{TestsOutcome, all-mean, one-refused}
-use Rattle.answer.proofs.Inputs.{check-by, match-by, question-by, tests-outcome, inputs-taken}
+use Rattle.answer.proofs.Inputs.{check-by, match-by, question-by, tests-outcome, inputs-accepted}
 
 -- ---- over any kind of test: a check and a match that go by what the tests come to
 
@@ -31,13 +31,13 @@ module _ {T : Type 0} (rules : TestRules T) (ts : List T) (Says : List Entry →
   pub demand-by : {tests : Step (Unit {0})} → TestsOutcome rules ts tests
       → (All (Meaningful rules) ts → (card : List ℕ) (es : List Entry) → Conforms (rules .parameters) card es → Verdict (Says es) (yesOrNo (says es)))
       → check ≡ answer (tests >>= λ u. found (count (length ts)))
-      → ((card : List ℕ) → match card ≡ answer (tests >>= λ u. takeCard (rules .parameters) 0 card >>= λ c. found (yesOrNo (says (c .entries)))))
+      → ((card : List ℕ) → match card ≡ answer (tests >>= λ u. acceptCard (rules .parameters) 0 card >>= λ c. found (yesOrNo (says (c .entries)))))
       → Demand rules ts Says check match
   demand-by (all-mean m) verdict passed matched =
       record {
         passes = ((λ _. m), (λ _. passed));
         verdict = λ _ card es c.
-            let e : match card ≡ yesOrNo (says es) = matched card ∙ rw (conforms-taken c 0) in
+            let e : match card ≡ yesOrNo (says es) = matched card ∙ rw (conforms-accepted c 0) in
             subst (λ (a : Answer). Verdict (Says es) a) (sym e) (verdict m card es c);
         refuses = λ n. absurd (n passed);
       }
@@ -77,21 +77,21 @@ module _ (sheet text : List ℕ) (s : SheetBlock sheet) (f : Tree) (short : leng
   ready tests = tests >>= λ u. found (record { parameters = ps; filter = f })
 
   check-tests : checkAnswer sheet text ≡ answer (testsStep ps (testsOf f) >>= λ u. found (count (length (testsOf f))))
-  check-tests = check-by sheet text (ready (testsStep ps (testsOf f))) (inputs-taken sheet text s f short spells) ∙ by (testsStep ps (testsOf f))
+  check-tests = check-by sheet text (ready (testsStep ps (testsOf f))) (inputs-accepted sheet text s f short spells) ∙ by (testsStep ps (testsOf f))
     where
       by : (tests : Step (Unit {0})) → answer (ready tests >>= λ p. found (count (length (testsOf (p .filter))))) ≡ answer (tests >>= λ u. found (count (length (testsOf f))))
       by (found u) = refl
       by (stop n p) = refl
 
-  match-tests : (card : List ℕ) → matchAnswer sheet text card ≡ answer (testsStep ps (testsOf f) >>= λ u. takeCard ps 0 card >>= λ c. found (yesOrNo (filterSays ps 0 (c .entries) f)))
+  match-tests : (card : List ℕ) → matchAnswer sheet text card ≡ answer (testsStep ps (testsOf f) >>= λ u. acceptCard ps 0 card >>= λ c. found (yesOrNo (filterSays ps 0 (c .entries) f)))
   match-tests card =
       match-by (filterQuestion sheet text) (ready (testsStep ps (testsOf f)) >>= λ p. found (questionOf p))
-      (question-by sheet text (ready (testsStep ps (testsOf f))) (inputs-taken sheet text s f short spells)) card
+      (question-by sheet text (ready (testsStep ps (testsOf f))) (inputs-accepted sheet text s f short spells)) card
       ∙ by (testsStep ps (testsOf f))
     where
       by : (tests : Step (Unit {0}))
-          → answer ((ready tests >>= λ p. found (questionOf p)) >>= λ q. takeCard (q .parameters) 0 card >>= λ c. found (yesOrNo (q .says (c .entries))))
-          ≡ answer (tests >>= λ u. takeCard ps 0 card >>= λ c. found (yesOrNo (filterSays ps 0 (c .entries) f)))
+          → answer ((ready tests >>= λ p. found (questionOf p)) >>= λ q. acceptCard (q .parameters) 0 card >>= λ c. found (yesOrNo (q .says (c .entries))))
+          ≡ answer (tests >>= λ u. acceptCard ps 0 card >>= λ c. found (yesOrNo (filterSays ps 0 (c .entries) f)))
       by (found u) = refl
       by (stop n p) = refl
 

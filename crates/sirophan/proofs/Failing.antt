@@ -17,8 +17,8 @@ use Rattle.place.specs.Begins.{Begins, Longest, Number}
 use Rattle.place.specs.Machine.{failure}
 use Rattle.place.proofs.Place.{text-place, text-number, longest-unique, number-unique}
 use Rattle.refusal.specs.Answers.{refused, numberOf}
-use Rattle.answer.specs.Operations.{takeFilter, takeInputs, checkAnswer}
-use Rattle.answer.proofs.Inputs.{sheet-taken}
+use Rattle.answer.specs.Operations.{acceptFilter, acceptInputs, checkAnswer}
+use Rattle.answer.proofs.Inputs.{sheet-accepted}
 
 reads-none : (text : List ℕ) → ((f : Tree) → Spells text f → ⊥) → read text ≡ none
 reads-none text h = go (read text) refl
@@ -29,10 +29,10 @@ reads-none text h = go (read text) refl
 
 module _ (sheet text : List ℕ) (s : SheetBlock sheet) (some-bytes : 1 ≤ length text) (short : length text ≤ 1024) (no-filter : (f : Tree) → Spells text f → ⊥) where
   failed : checkAnswer sheet text ≡ refused (numberOf (failure deepest mostTests text .reason)) (failure deepest mostTests text .place)
-  unfolding checkAnswer takeInputs takeFilter
+  unfolding checkAnswer acceptInputs acceptFilter
   failed =
       let n : length text ≡ 0 → ⊥ = λ e. omega arith in
-      rw (sheet-taken sheet s, ne-eqb (length text) 0 n, le-ltb 1024 (length text) short, reads-none text no-filter)
+      rw (sheet-accepted sheet s, ne-eqb (length text) 0 n, le-ltb 1024 (length text) short, reads-none text no-filter)
 
   pub no-filter-refused : (n p : ℕ) → (checkAnswer sheet text ≡ refused n p) ↔ (Longest (Begins deepest mostTests) text p × Number deepest mostTests text p n)
   no-filter-refused n p = (there, back)

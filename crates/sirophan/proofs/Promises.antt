@@ -66,7 +66,7 @@ use Rattle.refusal.specs.Order.{rank, Decides}
 use Rattle.answer.specs.Refusals.{CheckLine, MatchLine, SelectLine, SpellLine}
 use Rattle.sirophan.specs.Spelling.{spellAnswer, spellBytes, SpellAnswers}
 use Rattle.search.specs.Spelling.{Query, SpellsQuery}
-use Rattle.search.specs.Reader.{takeQuery}
+use Rattle.search.specs.Reader.{acceptQuery}
 use Rattle.search.proofs.Reading as query-reading
 use Rattle.refusal.specs.Steps.{found}
 use Rattle.answer.specs.Searching.{checkSearchAnswer, searchQuestion, matchSearchAnswer, selectSearchAnswer, selectSearchCells}
@@ -344,7 +344,7 @@ spell-answered = spell.spell-answered
 -- ---- search strings (02 [13])
 
 -- a string is read as a query exactly where it spells it, and there is at most one
-pub query-read : (text : List ℕ) (q : Query) → (takeQuery text ≡ found q) ↔ SpellsQuery text q
+pub query-read : (text : List ℕ) (q : Query) → (acceptQuery text ≡ found q) ↔ SpellsQuery text q
 query-read = query-reading.query-read
 
 pub query-unique : (text : List ℕ) (q r : Query) → SpellsQuery text q → SpellsQuery text r → q ≡ r

@@ -65,7 +65,7 @@ use Rattle.answer.specs.SearchDemand.{searchTests}
 use Rattle.sirophan.specs.SameQuestion.{Joined, alone, joins, AsksAlike, TestsAlike, alike-end, alike-next, PairsAlike, pairs-end, pairs-next, SameQuestion, AnsweredAlike}
 use Rattle.answer.proofs.Outcomes.{TestsOutcome, all-mean, one-refused}
 use Rattle.answer.proofs.Passing.{passing}
-use Rattle.answer.proofs.Inputs.{inputs-taken, tests-outcome, question-by}
+use Rattle.answer.proofs.Inputs.{inputs-accepted, tests-outcome, question-by}
 use Rattle.sirophan.proofs.Demand.{demand-met}
 use Rattle.answer.proofs.SearchFaults.{alternatives-outcome}
 use Rattle.sirophan.proofs.SearchDemand.{query-question, search-demand-met}
@@ -336,7 +336,7 @@ module _ (sheet text query : List ℕ) (s : SheetBlock sheet) (f : Tree) (q : Qu
 
   filter-asks : filterQuestion sheet text ≡ found (record { parameters = ps; says = λ es. filterSays ps 0 es f })
   filter-asks =
-      question-by sheet text _ (inputs-taken sheet text s f short spells)
+      question-by sheet text _ (inputs-accepted sheet text s f short spells)
       ∙ ap (λ (t : Step (Unit {0})). (t >>= λ u. found (record { parameters = ps; filter = f })) >>= λ p. found (questionOf p))
       (all-found (filterTests ps) (tests-outcome ps (s .well-formed) (testsOf f)) tests-mean)
 

@@ -13,12 +13,12 @@ use Rattle.search.proofs.Reading.{query-back}
 use Rattle.search.proofs.Rules.{query-says-iff}
 use Rattle.refusal.specs.Answers.{yesOrNo, count}
 use Rattle.refusal.specs.Steps.{Step, found, stop, _>>=_, answer}
-use Rattle.answer.specs.Operations.{takeCard}
-use Rattle.answer.specs.Searching.{alternativesStep, QueryInputs, takeQueryInputs, checkSearchAnswer, questionOfQuery, searchQuestion, matchSearchAnswer}
+use Rattle.answer.specs.Operations.{acceptCard}
+use Rattle.answer.specs.Searching.{alternativesStep, QueryInputs, acceptQueryInputs, checkSearchAnswer, questionOfQuery, searchQuestion, matchSearchAnswer}
 use Rattle.answer.specs.SearchDemand.{searchTests, MeetsSearchDemand}
 use Rattle.answer.proofs.Verdicts.{verdict-of}
 use Rattle.sirophan.proofs.Demand.{demand-by}
-use Rattle.answer.proofs.Inputs.{match-by, sheet-taken}
+use Rattle.answer.proofs.Inputs.{match-by, sheet-accepted}
 use Rattle.answer.proofs.SearchFaults.{alternatives-outcome}
 
 module _ (sheet text : List ℕ) (s : SheetBlock sheet) (q : Query) (spells : SpellsQuery text q) where
@@ -28,9 +28,9 @@ module _ (sheet text : List ℕ) (s : SheetBlock sheet) (q : Query) (spells : Sp
   abbrev ready : Step (Unit {0}) → Step QueryInputs
   ready tests = tests >>= λ u. found (record { parameters = ps; query = q })
 
-  pub query-inputs : takeQueryInputs sheet text ≡ ready (alternativesStep ps (alternativesOf q))
-  unfolding takeQueryInputs
-  query-inputs = rw (sheet-taken sheet s, query-back text q spells)
+  pub query-inputs : acceptQueryInputs sheet text ≡ ready (alternativesStep ps (alternativesOf q))
+  unfolding acceptQueryInputs
+  query-inputs = rw (sheet-accepted sheet s, query-back text q spells)
 
   pub query-question : searchQuestion sheet text ≡ (ready (alternativesStep ps (alternativesOf q)) >>= λ p. found (questionOfQuery p))
   unfolding searchQuestion
@@ -44,14 +44,14 @@ module _ (sheet text : List ℕ) (s : SheetBlock sheet) (q : Query) (spells : Sp
       by (found u) = refl
       by (stop n p) = refl
 
-  match-alternatives : (card : List ℕ) → matchSearchAnswer sheet text card ≡ answer (alternativesStep ps (alternativesOf q) >>= λ u. takeCard ps 0 card >>= λ c. found (yesOrNo (querySays ps (c .entries) q)))
+  match-alternatives : (card : List ℕ) → matchSearchAnswer sheet text card ≡ answer (alternativesStep ps (alternativesOf q) >>= λ u. acceptCard ps 0 card >>= λ c. found (yesOrNo (querySays ps (c .entries) q)))
   match-alternatives card =
       match-by (searchQuestion sheet text) (ready (alternativesStep ps (alternativesOf q)) >>= λ p. found (questionOfQuery p)) query-question card
       ∙ by (alternativesStep ps (alternativesOf q))
     where
       by : (tests : Step (Unit {0}))
-          → answer ((ready tests >>= λ p. found (questionOfQuery p)) >>= λ r. takeCard (r .parameters) 0 card >>= λ c. found (yesOrNo (r .says (c .entries))))
-          ≡ answer (tests >>= λ u. takeCard ps 0 card >>= λ c. found (yesOrNo (querySays ps (c .entries) q)))
+          → answer ((ready tests >>= λ p. found (questionOfQuery p)) >>= λ r. acceptCard (r .parameters) 0 card >>= λ c. found (yesOrNo (r .says (c .entries))))
+          ≡ answer (tests >>= λ u. acceptCard ps 0 card >>= λ c. found (yesOrNo (querySays ps (c .entries) q)))
       by (found u) = refl
       by (stop n p) = refl
 

@@ -20,7 +20,7 @@ use Rattle.refusal.proofs.Answers.{count-not-refused}
 use Rattle.refusal.proofs.Deciding.{Decided, none-holds, one-decides, decided-then, decided-found, decided-answer}
 use Rattle.refusal.proofs.Order.{apart-at, before-itself}
 use Rattle.answer.specs.Refusals.{TextLine, line-10, line-11, BufferLine, line-32, SpellLine}
-use Rattle.sirophan.specs.Spelling.{takeBuffer, spelling, spellAnswer}
+use Rattle.sirophan.specs.Spelling.{acceptBuffer, spelling, spellAnswer}
 use Rattle.answer.proofs.CheckTable.{number-group, text-decided}
 
 module _ (text : List ℕ) (from room : ℕ) where
@@ -38,8 +38,8 @@ module _ (text : List ℕ) (from room : ℕ) where
     buffer-none : from + length (plain f) ≤ room → (m q : ℕ) → BufferLine text from room m q → ⊥
     buffer-none h m q (line-32 {f = g} s l) = omega (arith, same-length g s)
 
-    buffer-decided : Decided Plain (BufferLine text from room) (takeBuffer from room (plain f))
-    unfolding takeBuffer
+    buffer-decided : Decided Plain (BufferLine text from room) (acceptBuffer from room (plain f))
+    unfolding acceptBuffer
     buffer-decided =
         cond-elim (Decided Plain (BufferLine text from room)) (leb (from + length (plain f)) room)
         (λ h. none-holds (f, spells, refl) (buffer-none (leb-true (from + length (plain f)) room h)))

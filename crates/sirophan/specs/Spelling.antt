@@ -9,17 +9,17 @@ use lib.ListN.{length, take, drop}
 use Rattle.spell.specs.Plain.{plain}
 use Rattle.refusal.specs.Answers.{Answer, count}
 use Rattle.refusal.specs.Steps.{Step, found, stop, _>>=_, answer}
-use Rattle.answer.specs.Operations.{takeFilter}
+use Rattle.answer.specs.Operations.{acceptFilter}
 
 -- 32: "when it would run past the buffer's end, place its length"
-unfoldable pub takeBuffer : (from room : ℕ) → List ℕ → Step (List ℕ)
-takeBuffer from room w = cond (leb (from + length w) room) (found w) (stop 32 (length w))
+unfoldable pub acceptBuffer : (from room : ℕ) → List ℕ → Step (List ℕ)
+acceptBuffer from room w = cond (leb (from + length w) room) (found w) (stop 32 (length w))
 
 -- the text that is written into a buffer of `room` bytes
 unfoldable pub spelling : List ℕ → (from room : ℕ) → Step (List ℕ)
 spelling text from room = do
-  f ← takeFilter text
-  takeBuffer from room (plain f)
+  f ← acceptFilter text
+  acceptBuffer from room (plain f)
 
 -- "its length is the answer"
 unfoldable pub spellAnswer : List ℕ → (from room : ℕ) → Answer

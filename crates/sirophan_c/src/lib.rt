@@ -1,9 +1,9 @@
 // The operations for C: include/sirophan.h declares them. No enum crosses to C, so a struct of numbers stands for an answer.
 use answers_c::Answer;
+use answers_c::c_checked;
+use answers_c::c_matched;
+use answers_c::c_selected;
 use answers_c::refused;
-use answers_c::told_check;
-use answers_c::told_match;
-use answers_c::told_select;
 use refusal::number;
 use report::Reported;
 use report::Tally;
@@ -38,7 +38,7 @@ pub extern "C" fn sirophan_check(sheet: &[u8], filter: &[u8]) -> Answer
     ensures { λ r. ⌜ r ≡ cAnswer (checkAnswer (now (sheet .entry)) (now (filter .entry))) ⌝ }
 {
     let checked = sirophan::check(sheet, filter);
-    told_check(checked)
+    c_checked(checked)
 }
 
 // Whether the card matches the filter, or a refusal.
@@ -47,7 +47,7 @@ pub extern "C" fn sirophan_match(sheet: &[u8], filter: &[u8], card: &[u8]) -> An
     ensures { λ r. ⌜ r ≡ cAnswer (matchAnswer (now (sheet .entry)) (now (filter .entry)) (now (card .entry))) ⌝ }
 {
     let matched = sirophan::match_card(sheet, filter, card);
-    told_match(matched)
+    c_matched(matched)
 }
 
 // The same by the filter's text, without rows.
@@ -56,7 +56,7 @@ pub extern "C" fn sirophan_match_by_text(sheet: &[u8], filter: &[u8], card: &[u8
     ensures { λ r. ⌜ r ≡ cAnswer (matchAnswer (now (sheet .entry)) (now (filter .entry)) (now (card .entry))) ⌝ }
 {
     let matched = sirophan::match_by_text(sheet, filter, card);
-    told_match(matched)
+    c_matched(matched)
 }
 
 // How many cards of the run match the filter, with their record numbers in the list from its first cell on, or a refusal.
@@ -71,7 +71,7 @@ pub extern "C" fn sirophan_select(
     ensures { λ _. ⌜ now (list .exit) ≡ selectCells (now (sheet .entry)) (now (filter .entry)) (now (cards .entry)) (now (list .entry)) ⌝ }
 {
     let selected = sirophan::select(sheet, filter, cards, list);
-    told_select(selected)
+    c_selected(selected)
 }
 
 // The engine of a number.
@@ -98,7 +98,7 @@ pub extern "C" fn sirophan_select_by(
 {
     let by = engine_of(engine);
     let selected = sirophan::select_by(by, sheet, filter, cards, list);
-    told_select(selected)
+    c_selected(selected)
 }
 
 // How many alternatives the search string has, or a refusal.
@@ -107,7 +107,7 @@ pub extern "C" fn sirophan_check_search(sheet: &[u8], text: &[u8]) -> Answer
     ensures { λ r. ⌜ r ≡ cAnswer (checkSearchAnswer (now (sheet .entry)) (now (text .entry))) ⌝ }
 {
     let checked = sirophan::check_search(sheet, text);
-    told_check(checked)
+    c_checked(checked)
 }
 
 // Whether the card matches the search string, or a refusal.
@@ -116,7 +116,7 @@ pub extern "C" fn sirophan_match_search(sheet: &[u8], text: &[u8], card: &[u8]) 
     ensures { λ r. ⌜ r ≡ cAnswer (matchSearchAnswer (now (sheet .entry)) (now (text .entry)) (now (card .entry))) ⌝ }
 {
     let matched = sirophan::match_search(sheet, text, card);
-    told_match(matched)
+    c_matched(matched)
 }
 
 // How many cards of the run match the search string, with their record numbers in the list from its first cell on, or a refusal.
@@ -131,7 +131,7 @@ pub extern "C" fn sirophan_select_search(
     ensures { λ _. ⌜ now (list .exit) ≡ selectSearchCells (now (sheet .entry)) (now (text .entry)) (now (cards .entry)) (now (list .entry)) ⌝ }
 {
     let selected = sirophan::select_search(sheet, text, cards, list);
-    told_select(selected)
+    c_selected(selected)
 }
 
 // The length of the filter's plain spelling, which stands in the buffer from the place on, or a refusal.
@@ -172,7 +172,7 @@ pub extern "C" fn sirophan_judge(sheet: &[u8], filter: &[u8], rows: &[u32], card
     ensures { λ r. ⌜ r ≡ cAnswer (judgeAnswer (now (sheet .entry)) (now (filter .entry)) (now (rows .entry)) (now (card .entry))) ⌝ }
 {
     let judged = sirophan::judge(sheet, filter, rows, card);
-    told_match(judged)
+    c_matched(judged)
 }
 
 // Whether the card matches the filter, with a cell for each test in the cells from the first on, or a refusal.
@@ -187,11 +187,11 @@ pub extern "C" fn sirophan_explain(
     ensures { λ _. ⌜ now (cells .exit) ≡ explainCells (now (sheet .entry)) (now (filter .entry)) (now (card .entry)) (now (cells .entry)) ⌝ }
 {
     let explained = explain::explain(sheet, filter, card, cells);
-    told_match(explained)
+    c_matched(explained)
 }
 
 // A report's answer in numbers.
-fn told_report(reported: Reported) -> Counts
+fn c_reported(reported: Reported) -> Counts
     ensures { λ r. ⌜ r ≡ cCounts (reportedAnswer reported) ⌝ }
 {
     match reported {
@@ -224,5 +224,5 @@ pub extern "C" fn sirophan_report(
     ensures { λ r. ⌜ TellsReport (now (sheet .entry)) (now (filter .entry)) (now (cards .entry)) (now (rows .entry)) r (now (rows .exit)) ⌝ }
 {
     let reported = report::report(sheet, filter, cards, rows);
-    told_report(reported)
+    c_reported(reported)
 }

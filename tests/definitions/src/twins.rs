@@ -36,7 +36,7 @@ pub const TWINS: &[Twin] = &[
     twin(SEARCHING, "matchSearchAnswer", &["match-search-refused", "check-and-match-search"]),
     twin(SEARCHING, "selectSearchAnswer", &["select-search-refused", "select-search-answered"]),
     twin(SEARCHING, "selectSearchCells", &["search-refusal-keeps-list", "select-search-answered"]),
-    twin("crates/search/specs/Reader.antt", "takeQuery", &["query-read"]),
+    twin("crates/search/specs/Reader.antt", "acceptQuery", &["query-read"]),
     twin(PREPARING, "prepareAnswer", &["prepare-refused", "prepare-answered"]),
     twin(PREPARING, "prepareCells", &["prepare-keeps-list", "prepare-answered"]),
     twin(PREPARING, "judgeAnswer", &["judge-refused", "judge-answered"]),

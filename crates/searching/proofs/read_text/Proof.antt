@@ -1,17 +1,17 @@
--- `searching::read_text` meets its contract: the string is taken into rows, or refused as its taking is. Assumes nothing.
+-- `searching::read_text` meets its contract: the string is read into rows, or refused as the definition refuses it. Assumes nothing.
 use borrow.Author.Needs.{needs}
-use Rattle.searching.proofs.SearchPassing.{taken-within, rows-read, text-refuses}
+use Rattle.searching.proofs.SearchPassing.{accepted-within, rows-read, text-refuses}
 use Rattle.searching.proofs.read_text.Statement.{statement}
 use Rattle.searching.proofs.read_text.Tie as tie
 
-take-query-requires : tie.Need-take-query-requires
-take-query-requires c κs = search needs
+accept-query-requires : tie.Need-accept-query-requires
+accept-query-requires c κs = search needs
 
 enum-told : tie.Need-enum-told
 enum-told c = search needs
 
 check-rows-requires : tie.Need-check-rows-requires
-check-rows-requires c κs = search (taken-within, needs)
+check-rows-requires c κs = search (accepted-within, needs)
 
 enum-known-decision : tie.Need-enum-known-decision
 enum-known-decision c = search needs
@@ -32,7 +32,7 @@ pub read-text-spec : {M : Type 1} → statement M
 read-text-spec =
     tie.close
     (tie.spec
-    take-query-requires
+    accept-query-requires
     enum-told
     check-rows-requires
     enum-known-decision

@@ -7,11 +7,11 @@ use Rattle.sirophan_c.proofs.sirophan_check_search.Tie as tie
 check-search-requires : tie.Need-check-search-requires
 check-search-requires c κs = search needs
 
-told-check-requires : tie.Need-told-check-requires
-told-check-requires c κs = search needs
+c-checked-requires : tie.Need-c-checked-requires
+c-checked-requires c κs = search needs
 
 returns : tie.Need-returns
 returns c = search (check-told, needs)
 
 pub sirophan-check-search-spec : {M : Type 1} → statement M
-sirophan-check-search-spec = tie.close (tie.spec check-search-requires told-check-requires returns)
+sirophan-check-search-spec = tie.close (tie.spec check-search-requires c-checked-requires returns)

@@ -7,8 +7,8 @@ use Rattle.sirophan_c.proofs.sirophan_explain.Tie as tie
 explain-requires : tie.Need-explain-requires
 explain-requires c κs = search needs
 
-told-match-requires : tie.Need-told-match-requires
-told-match-requires c κs = search needs
+c-matched-requires : tie.Need-c-matched-requires
+c-matched-requires c κs = search needs
 
 same-length : tie.Need-same-length
 same-length c = search needs
@@ -17,4 +17,4 @@ returns : tie.Need-returns
 returns c = search (match-told, needs)
 
 pub sirophan-explain-spec : {M : Type 1} → statement M
-sirophan-explain-spec = tie.close (tie.spec explain-requires told-match-requires same-length returns)
+sirophan-explain-spec = tie.close (tie.spec explain-requires c-matched-requires same-length returns)

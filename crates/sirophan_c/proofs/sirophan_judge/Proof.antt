@@ -7,11 +7,11 @@ use Rattle.sirophan_c.proofs.sirophan_judge.Tie as tie
 judge-requires : tie.Need-judge-requires
 judge-requires c κs = search needs
 
-told-match-requires : tie.Need-told-match-requires
-told-match-requires c κs = search needs
+c-matched-requires : tie.Need-c-matched-requires
+c-matched-requires c κs = search needs
 
 returns : tie.Need-returns
 returns c = search (match-told, needs)
 
 pub sirophan-judge-spec : {M : Type 1} → statement M
-sirophan-judge-spec = tie.close (tie.spec judge-requires told-match-requires returns)
+sirophan-judge-spec = tie.close (tie.spec judge-requires c-matched-requires returns)

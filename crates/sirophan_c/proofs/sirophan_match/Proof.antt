@@ -7,11 +7,11 @@ use Rattle.sirophan_c.proofs.sirophan_match.Tie as tie
 match-card-requires : tie.Need-match-card-requires
 match-card-requires c κs = search needs
 
-told-match-requires : tie.Need-told-match-requires
-told-match-requires c κs = search needs
+c-matched-requires : tie.Need-c-matched-requires
+c-matched-requires c κs = search needs
 
 returns : tie.Need-returns
 returns c = search (match-told, needs)
 
 pub sirophan-match-spec : {M : Type 1} → statement M
-sirophan-match-spec = tie.close (tie.spec match-card-requires told-match-requires returns)
+sirophan-match-spec = tie.close (tie.spec match-card-requires c-matched-requires returns)

@@ -7,11 +7,11 @@ use Rattle.sirophan_c.proofs.sirophan_match_by_text.Tie as tie
 match-by-text-requires : tie.Need-match-by-text-requires
 match-by-text-requires c κs = search needs
 
-told-match-requires : tie.Need-told-match-requires
-told-match-requires c κs = search needs
+c-matched-requires : tie.Need-c-matched-requires
+c-matched-requires c κs = search needs
 
 returns : tie.Need-returns
 returns c = search (match-told, needs)
 
 pub sirophan-match-by-text-spec : {M : Type 1} → statement M
-sirophan-match-by-text-spec = tie.close (tie.spec match-by-text-requires told-match-requires returns)
+sirophan-match-by-text-spec = tie.close (tie.spec match-by-text-requires c-matched-requires returns)

@@ -7,11 +7,11 @@ use Rattle.sirophan_c.proofs.sirophan_match_search.Tie as tie
 match-search-requires : tie.Need-match-search-requires
 match-search-requires c κs = search needs
 
-told-match-requires : tie.Need-told-match-requires
-told-match-requires c κs = search needs
+c-matched-requires : tie.Need-c-matched-requires
+c-matched-requires c κs = search needs
 
 returns : tie.Need-returns
 returns c = search (match-told, needs)
 
 pub sirophan-match-search-spec : {M : Type 1} → statement M
-sirophan-match-search-spec = tie.close (tie.spec match-search-requires told-match-requires returns)
+sirophan-match-search-spec = tie.close (tie.spec match-search-requires c-matched-requires returns)

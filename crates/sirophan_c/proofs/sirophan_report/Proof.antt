@@ -54,10 +54,10 @@ use Rattle.sirophan_c.specs.Contracts.{TellsReport}
 use Rattle.sirophan_c.proofs.Answers.{tells-report}
 use Rattle.sirophan_c.proofs.Counts as N
 use Rattle.sirophan_c.proofs.Counts.Laws as N′
-use Rattle.sirophan_c.proofs.told_report as told
-use Rattle.sirophan_c.proofs.told_report.Symbol as told-def
-use Rattle.sirophan_c.proofs.told_report.Symbol.{name as #told}
-use Rattle.sirophan_c.proofs.told_report.Met as told-thm
+use Rattle.sirophan_c.proofs.c_reported as told
+use Rattle.sirophan_c.proofs.c_reported.Symbol as told-def
+use Rattle.sirophan_c.proofs.c_reported.Symbol.{name as #told}
+use Rattle.sirophan_c.proofs.c_reported.Met as told-thm
 use Rattle.sirophan_c.proofs.sirophan_report.Key.{name as #sirophan-report}
 use Rattle.sirophan_c.proofs.sirophan_report as f
 use Rattle.sirophan_c.proofs.sirophan_report.Statement as stated
@@ -169,7 +169,7 @@ module _ {M : Type 1} (𝓤 : URA M) (H : Heap 𝓤) (A : Atoms 𝓤) (W : Given
         fsplit ! $ move ! (1 ∷ []) $ fsplit ! $ move ! (1 ∷ []) $ fsplit ! $ move ! (1 ∷ []) $ fsplit ! $ fsplit ! $ move ! (1 ∷ []) $ feqL ! (λ l.
         -- [the last rows; true, four times; the tokens and the result; the cards; the filter; the sheet; _7; …]
         move ! (5 ∷ []) $ split ! $ move ! (1 ∷ []) $ peeks ! R.the-row (Is R.the-row) (shows 𝓤 H A R.the-row) r (v ∷ []) (λ is-r. land ! (from ! (stop !)) (init ! 14 refl (EL.lawful R.the-type R′.the-laws 𝓤 H A W tt .typed r _ is-r .0)) $
-        -- `told_report`
+        -- `c_reported`
         use1 W (raw (Told 𝓤 H A mem run .pre (to-told r v))) (goes-told r v) $
         calls-at ! fm (Told 𝓤 H A mem run) known-told (to-told r v) (and-then ! (load ! (from ! (stop !)) (look ! 14 refl)) (no-more !)) (λ w.
         use1 W (later (some (λ (c : Counts). (‵ ftrue ⊛ ‵ (N.the-row .own c (w ∷ []))) ⊛ raw (ensured 𝓤 H A told.ended (told.clauses 𝓤 H A mem run) tt (r, tt) tt c)))) (id⊢ 𝓤 _) $ await ! tt $ pick ! (λ c.
@@ -198,4 +198,4 @@ sirophan-report-spec 𝓤 H 𝓜 𝓖 𝓡 =
     (tables 𝓤 H 𝓜 𝓡 code.env .C) (tables 𝓤 H 𝓜 𝓡 code.env .Λ) #sirophan-report code.function (code.unfolded 𝓤 H 𝓜 𝓡)
     (meets 𝓤 H (𝓖 .A) (givenOf 𝓤 H 𝓜 𝓖) (𝓜 .mem) (𝓡 .run) (tablesOf 𝓤 H 𝓜 (tables 𝓤 H 𝓜 𝓡 code.env))
     (cited 𝓤 H (Report 𝓤 H (𝓖 .A) (𝓜 .mem) (𝓡 .run)) 𝓜 𝓡 code.env #report report-def.routine code.calls-report·report (report-thm.met 𝓤 H 𝓜 𝓖 𝓡))
-    (cited 𝓤 H (Told 𝓤 H (𝓖 .A) (𝓜 .mem) (𝓡 .run)) 𝓜 𝓡 code.env #told told-def.routine code.calls-sirophan-c·told-report (told-thm.met 𝓤 H 𝓜 𝓖 𝓡)))
+    (cited 𝓤 H (Told 𝓤 H (𝓖 .A) (𝓜 .mem) (𝓡 .run)) 𝓜 𝓡 code.env #told told-def.routine code.calls-sirophan-c·c-reported (told-thm.met 𝓤 H 𝓜 𝓖 𝓡)))

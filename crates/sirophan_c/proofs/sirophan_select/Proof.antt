@@ -7,8 +7,8 @@ use Rattle.sirophan_c.proofs.sirophan_select.Tie as tie
 select-requires : tie.Need-select-requires
 select-requires c κs = search needs
 
-told-select-requires : tie.Need-told-select-requires
-told-select-requires c κs = search needs
+c-selected-requires : tie.Need-c-selected-requires
+c-selected-requires c κs = search needs
 
 same-length : tie.Need-same-length
 same-length c = search needs
@@ -17,4 +17,4 @@ returns : tie.Need-returns
 returns c = search (select-told, needs)
 
 pub sirophan-select-spec : {M : Type 1} → statement M
-sirophan-select-spec = tie.close (tie.spec select-requires told-select-requires same-length returns)
+sirophan-select-spec = tie.close (tie.spec select-requires c-selected-requires same-length returns)

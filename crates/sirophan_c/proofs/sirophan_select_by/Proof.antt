@@ -10,8 +10,8 @@ engine-of-requires c κs = search needs
 select-by-requires : tie.Need-select-by-requires
 select-by-requires c κs = search needs
 
-told-select-requires : tie.Need-told-select-requires
-told-select-requires c κs = search needs
+c-selected-requires : tie.Need-c-selected-requires
+c-selected-requires c κs = search needs
 
 same-length : tie.Need-same-length
 same-length c = search needs
@@ -22,4 +22,4 @@ returns c = search (select-told, needs)
 pub sirophan-select-by-spec : {M : Type 1} → statement M
 sirophan-select-by-spec =
     tie.close
-    (tie.spec engine-of-requires select-by-requires told-select-requires same-length returns)
+    (tie.spec engine-of-requires select-by-requires c-selected-requires same-length returns)

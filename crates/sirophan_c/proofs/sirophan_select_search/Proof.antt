@@ -7,8 +7,8 @@ use Rattle.sirophan_c.proofs.sirophan_select_search.Tie as tie
 select-search-requires : tie.Need-select-search-requires
 select-search-requires c κs = search needs
 
-told-select-requires : tie.Need-told-select-requires
-told-select-requires c κs = search needs
+c-selected-requires : tie.Need-c-selected-requires
+c-selected-requires c κs = search needs
 
 same-length : tie.Need-same-length
 same-length c = search needs
@@ -17,4 +17,4 @@ returns : tie.Need-returns
 returns c = search (select-told, needs)
 
 pub sirophan-select-search-spec : {M : Type 1} → statement M
-sirophan-select-search-spec = tie.close (tie.spec select-search-requires told-select-requires same-length returns)
+sirophan-select-search-spec = tie.close (tie.spec select-search-requires c-selected-requires same-length returns)

@@ -7,14 +7,14 @@ use Rattle.explain.proofs.operation.mark.Tie as tie
 kinds-requires : tie.Need-kinds-requires
 kinds-requires c κs = search needs
 
-slice-aggregate-take-verdicts : tie.Need-slice-aggregate-take-verdicts
-slice-aggregate-take-verdicts c = search needs
+slice-aggregate-gather-verdicts : tie.Need-slice-aggregate-gather-verdicts
+slice-aggregate-gather-verdicts c = search needs
 
-slice-aggregate-take-verdicts-2 : tie.Need-slice-aggregate-take-verdicts-2
-slice-aggregate-take-verdicts-2 c = search needs
+slice-aggregate-gather-verdicts-2 : tie.Need-slice-aggregate-gather-verdicts-2
+slice-aggregate-gather-verdicts-2 c = search needs
 
-take-verdicts-requires : tie.Need-take-verdicts-requires
-take-verdicts-requires c κs = (search needs, (search needs, (search needs, (search needs, (search needs, search needs)))))
+gather-verdicts-requires : tie.Need-gather-verdicts-requires
+gather-verdicts-requires c κs = (search needs, (search needs, (search needs, (search needs, (search needs, search needs)))))
 
 returns : tie.Need-returns
 returns c = search (mark-short, needs)
@@ -54,9 +54,9 @@ mark-spec =
     tie.close
     (tie.spec
     kinds-requires
-    slice-aggregate-take-verdicts
-    slice-aggregate-take-verdicts-2
-    take-verdicts-requires
+    slice-aggregate-gather-verdicts
+    slice-aggregate-gather-verdicts-2
+    gather-verdicts-requires
     returns
     slice-aggregate-spare
     spare-requires

@@ -4,8 +4,8 @@ use Rattle.one_card.proofs.Judging.{conforming-known, rows-says, rows-r
 use Rattle.one_card.proofs.by_rows.judge_once.Statement.{statement}
 use Rattle.one_card.proofs.by_rows.judge_once.Tie as tie
 
-take-card-requires : tie.Need-take-card-requires
-take-card-requires c κs = search needs
+accept-card-requires : tie.Need-accept-card-requires
+accept-card-requires c κs = search needs
 
 enum-told : tie.Need-enum-told
 enum-told c = search needs
@@ -13,8 +13,8 @@ enum-told c = search needs
 say-once-requires : tie.Need-say-once-requires
 say-once-requires c κs = (search needs, (search needs, (search needs, (search needs, search (conforming-known, needs)))))
 
-enum-known-taken : tie.Need-enum-known-taken
-enum-known-taken c = search needs
+enum-known-accepted : tie.Need-enum-known-accepted
+enum-known-accepted c = search needs
 
 returns : tie.Need-returns
 returns c = search (rows-says, needs)
@@ -25,4 +25,4 @@ returns-2 c = search (rows-refused, needs)
 pub judge-once-spec : {M : Type 1} → statement M
 judge-once-spec =
     tie.close
-    (tie.spec take-card-requires enum-told say-once-requires enum-known-taken returns returns-2)
+    (tie.spec accept-card-requires enum-told say-once-requires enum-known-accepted returns returns-2)

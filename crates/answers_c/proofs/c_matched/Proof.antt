@@ -1,8 +1,8 @@
--- `answers_c::told_match` meets its contract: each case by its two numbers. Assumes nothing.
+-- `answers_c::c_matched` meets its contract: each case by its two numbers. Assumes nothing.
 use borrow.Author.Needs.{needs}
 use Rattle.answers_c.proofs.Answers.{yes-told, no-told, match-refusal-told}
-use Rattle.answers_c.proofs.told_match.Statement.{statement}
-use Rattle.answers_c.proofs.told_match.Tie as tie
+use Rattle.answers_c.proofs.c_matched.Statement.{statement}
+use Rattle.answers_c.proofs.c_matched.Tie as tie
 
 enum-told : tie.Need-enum-told
 enum-told c = search needs
@@ -25,5 +25,5 @@ returns-2 c = search (no-told, needs)
 returns-3 : tie.Need-returns-3
 returns-3 c = search (match-refusal-told, needs)
 
-pub told-match-spec : {M : Type 1} → statement M
-told-match-spec = tie.close (tie.spec enum-told enum-told-2 enum-known-matched refused-requires returns returns-2 returns-3)
+pub c-matched-spec : {M : Type 1} → statement M
+c-matched-spec = tie.close (tie.spec enum-told enum-told-2 enum-known-matched refused-requires returns returns-2 returns-3)

@@ -1,8 +1,8 @@
--- `search::query::take_query` meets its contract: the tests are those of the definition. Assumes nothing.
+-- `search::query::accept_query` meets its contract: the tests are those of the definition. Assumes nothing.
 use borrow.Author.Needs.{needs}
-use Rattle.search.proofs.Taking.{take-empty, take-long, take-bad, take-many, take-all}
-use Rattle.search.proofs.query.take_query.Statement.{statement}
-use Rattle.search.proofs.query.take_query.Tie as tie
+use Rattle.search.proofs.Accepting.{query-empty, query-long, query-refused, query-many, query-accepted}
+use Rattle.search.proofs.query.accept_query.Statement.{statement}
+use Rattle.search.proofs.query.accept_query.Tie as tie
 
 no-rows-requires : tie.Need-no-rows-requires
 no-rows-requires c κs = search needs
@@ -11,7 +11,7 @@ refuse-requires : tie.Need-refuse-requires
 refuse-requires c κs = search needs
 
 returns : tie.Need-returns
-returns c = search (take-empty, needs)
+returns c = search (query-empty, needs)
 
 no-rows-requires-2 : tie.Need-no-rows-requires-2
 no-rows-requires-2 c κs = search needs
@@ -20,7 +20,7 @@ refuse-requires-2 : tie.Need-refuse-requires-2
 refuse-requires-2 c κs = search needs
 
 returns-2 : tie.Need-returns-2
-returns-2 c = search (take-long, needs)
+returns-2 c = search (query-long, needs)
 
 read-query-requires : tie.Need-read-query-requires
 read-query-requires c κs = search needs
@@ -32,7 +32,7 @@ same-length : tie.Need-same-length
 same-length c = search needs
 
 returns-3 : tie.Need-returns-3
-returns-3 c = search (take-bad, needs)
+returns-3 c = search (query-refused, needs)
 
 enum-told-2 : tie.Need-enum-told-2
 enum-told-2 c = search needs
@@ -44,16 +44,16 @@ same-length-2 : tie.Need-same-length-2
 same-length-2 c = search needs
 
 returns-4 : tie.Need-returns-4
-returns-4 c = search (take-many, needs)
+returns-4 c = search (query-many, needs)
 
 same-length-3 : tie.Need-same-length-3
 same-length-3 c = search needs
 
 returns-5 : tie.Need-returns-5
-returns-5 c = search (take-all, needs)
+returns-5 c = search (query-accepted, needs)
 
-pub take-query-spec : {M : Type 1} → statement M
-take-query-spec =
+pub accept-query-spec : {M : Type 1} → statement M
+accept-query-spec =
     tie.close
     (tie.spec
     no-rows-requires

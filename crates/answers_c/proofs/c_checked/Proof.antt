@@ -1,8 +1,8 @@
--- `answers_c::told_check` meets its contract: each case by its two numbers. Assumes nothing.
+-- `answers_c::c_checked` meets its contract: each case by its two numbers. Assumes nothing.
 use borrow.Author.Needs.{needs}
 use Rattle.answers_c.proofs.Answers.{tests-told, check-refusal-told}
-use Rattle.answers_c.proofs.told_check.Statement.{statement}
-use Rattle.answers_c.proofs.told_check.Tie as tie
+use Rattle.answers_c.proofs.c_checked.Statement.{statement}
+use Rattle.answers_c.proofs.c_checked.Tie as tie
 
 enum-known-checked : tie.Need-enum-known-checked
 enum-known-checked c = search needs
@@ -19,5 +19,5 @@ returns c = search (tests-told, needs)
 returns-2 : tie.Need-returns-2
 returns-2 c = search (check-refusal-told, needs)
 
-pub told-check-spec : {M : Type 1} → statement M
-told-check-spec = tie.close (tie.spec enum-known-checked enum-known-checked-2 refused-requires returns returns-2)
+pub c-checked-spec : {M : Type 1} → statement M
+c-checked-spec = tie.close (tie.spec enum-known-checked enum-known-checked-2 refused-requires returns returns-2)

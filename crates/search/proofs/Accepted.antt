@@ -1,4 +1,4 @@
--- What a search string that was taken leaves: rows that keep its query; and why one was not taken.
+-- What a search string that was accepted leaves: rows that keep its query; and why one was not accepted.
 -- Assumes nothing.
 use Prim.Native.Nat.{ℕ}
 use native.Mathlib.Omega.{arith}
@@ -11,13 +11,13 @@ use Rattle.refusal.specs.declared.Decision.{Decision}
 use Rattle.refusal.specs.declared.Refusal.{Refusal}
 use Rattle.refusal.specs.Steps.{refusalStep}
 use Rattle.search.specs.Spelling.{Alternative, Query, alternativesOf}
-use Rattle.search.specs.Reader.{takeQuery}
-use Rattle.search.specs.Rows.{Kept, keepPair, keepAll, keptIn, keptSays, RowWithin, alternativeIn, alternativesIn, rowsSay, TakenOf, taken-query, taken-none, RowsOf}
+use Rattle.search.specs.Reader.{acceptQuery}
+use Rattle.search.specs.Rows.{Kept, keepPair, keepAll, keptIn, keptSays, RowWithin, alternativeIn, alternativesIn, rowsSay, AcceptsQuery, accepted-query, accepted-none, RowsOf}
 use Rattle.search.specs.declared.QueryRead.{QueryRead}
 use Rattle.search.specs.declared.Row.{Row}
 use Rattle.search.proofs.Keeping.{kept-says, map-append}
 use Rattle.search.proofs.Reading.{query-there}
-use Rattle.search.proofs.Taking.{keep-length}
+use Rattle.search.proofs.Accepting.{keep-length}
 
 abbrev alternativeOf : Kept → Alternative
 alternativeOf k = k .alternative
@@ -41,12 +41,12 @@ kept-alternatives bytes [] = refl
 kept-alternatives bytes (r ∷ rs) = ap (λ (l : List Alternative). alternativeIn bytes r ∷ l) (kept-alternatives bytes rs)
 
 module _ {text bytes : List ℕ} where
-  pub taken-rows : {r : QueryRead} → TakenOf text bytes r → r .decision ≡ Decision.Passed → (q : Query) × RowsOf text bytes (r .rows) q
+  pub accepted-rows : {r : QueryRead} → AcceptsQuery text bytes r → r .decision ≡ Decision.Passed → (q : Query) × RowsOf text bytes (r .rows) q
   unfolding alternativesIn rowsSay
-  taken-rows (taken-query {q = q} {rows = rows} used u e few k) o = (
+  accepted-rows (accepted-query {q = q} {rows = rows} used u e few k) o = (
     q,
     record {
-      taken = e;
+      accepted = e;
       within = record {
         few = few;
         cells = k .cells;
@@ -57,9 +57,9 @@ module _ {text bytes : List ℕ} where
       says = λ says. ap (keptSays says false) (k .kept few) ∙ kept-says says (query-there text q e .pairs);
     },
   )
-  taken-rows (taken-none e) o = absurd (let z : _≡_ {A = ℕ} 0 1 = cc in omega arith)
+  accepted-rows (accepted-none e) o = absurd (let z : _≡_ {A = ℕ} 0 1 = cc in omega arith)
 
-  -- why one was not taken
-  pub taken-refused : {r : QueryRead} (x : Refusal) → TakenOf text bytes r → r .decision ≡ Decision.Refused x → takeQuery text ≡ refusalStep x
-  taken-refused x (taken-none {r = y} e) o = let z : y ≡ x = cc in e ∙ ap (λ (w : Refusal). refusalStep w) z
-  taken-refused x (taken-query used u e few k) o = absurd (let z : _≡_ {A = ℕ} 0 1 = cc in omega arith)
+  -- why one was not accepted
+  pub accepted-refused : {r : QueryRead} (x : Refusal) → AcceptsQuery text bytes r → r .decision ≡ Decision.Refused x → acceptQuery text ≡ refusalStep x
+  accepted-refused x (accepted-none {r = y} e) o = let z : y ≡ x = cc in e ∙ ap (λ (w : Refusal). refusalStep w) z
+  accepted-refused x (accepted-query used u e few k) o = absurd (let z : _≡_ {A = ℕ} 0 1 = cc in omega arith)

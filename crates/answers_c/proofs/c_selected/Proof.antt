@@ -1,8 +1,8 @@
--- `answers_c::told_select` meets its contract: each case by its two numbers. Assumes nothing.
+-- `answers_c::c_selected` meets its contract: each case by its two numbers. Assumes nothing.
 use borrow.Author.Needs.{needs}
 use Rattle.answers_c.proofs.Answers.{count-told, select-refusal-told}
-use Rattle.answers_c.proofs.told_select.Statement.{statement}
-use Rattle.answers_c.proofs.told_select.Tie as tie
+use Rattle.answers_c.proofs.c_selected.Statement.{statement}
+use Rattle.answers_c.proofs.c_selected.Tie as tie
 
 enum-known-selected : tie.Need-enum-known-selected
 enum-known-selected c = search needs
@@ -19,5 +19,5 @@ returns c = search (count-told, needs)
 returns-2 : tie.Need-returns-2
 returns-2 c = search (select-refusal-told, needs)
 
-pub told-select-spec : {M : Type 1} → statement M
-told-select-spec = tie.close (tie.spec enum-known-selected enum-known-selected-2 refused-requires returns returns-2)
+pub c-selected-spec : {M : Type 1} → statement M
+c-selected-spec = tie.close (tie.spec enum-known-selected enum-known-selected-2 refused-requires returns returns-2)

@@ -1,11 +1,11 @@
--- `explain::verdicts::take_verdicts` meets its contract. The loop's invariant: the list has the marks of what the tests so far say. Assumes nothing.
+-- `explain::verdicts::gather_verdicts` meets its contract. The loop's invariant: the list has the marks of what the tests so far say. Assumes nothing.
 use Prim.Native.Nat.{_-_}
 use lib.ListN.{length}
 use Rattle.card.specs.Card.{entriesOf}
 use Rattle.explain.proofs.Telling.{part-few, Telling, telling-start, telling-full, telling-test-whole, telling-test, telling-bare-bracket, telling-scaled, telling-ordered, telling-bracket-whole, telling-counts, telling-marks, telling-bracket, telling-bare-not, telling-not, telling-short, telling-connect, telling-unknown, telling-end, telling-tests, telling-top}
 use borrow.Author.Needs.{needs}
-use Rattle.explain.proofs.verdicts.take_verdicts.Statement.{statement}
-use Rattle.explain.proofs.verdicts.take_verdicts.Tie as tie
+use Rattle.explain.proofs.verdicts.gather_verdicts.Statement.{statement}
+use Rattle.explain.proofs.verdicts.gather_verdicts.Tie as tie
 
 abbrev Inv-loop : tie.InvT-loop
 Inv-loop kinds filter rows card marks₀ starts₀ firsts₀ top₀ tests₀ i₀ marks starts firsts top tests i = Telling kinds filter (entriesOf card) rows marks starts firsts top tests i
@@ -181,8 +181,8 @@ same-length-6 c = search needs
 returns-6 : tie.Need-returns-6 Inv-loop μ-loop
 returns-6 c = search (telling-end, needs)
 
-pub take-verdicts-spec : {M : Type 1} → statement M
-take-verdicts-spec =
+pub gather-verdicts-spec : {M : Type 1} → statement M
+gather-verdicts-spec =
     tie.close
     (tie.spec
     Inv-loop
