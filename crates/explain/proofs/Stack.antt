@@ -8,7 +8,7 @@ use Prim.Native.Nat.{ℕ, suc, _+_, _-_, _≤_, _<_}
 use native.Mathlib.Omega.{arith}
 use native.Mathlib.Numerals.{add-one}
 use mathlib.Core.Path.{_≡_, refl, sym, ap, ap₂, subst, _∙_}
-use mathlib.Core.Option.{none, some}
+use mathlib.Core.Option.{none, some, Option·none-ne-some, Option·some-injective}
 use mathlib.Core.List.{List, [], _∷_}
 use lib.ListN.{length, getD}
 use Rattle.syntax.specs.declared.Connective.{Connective}
@@ -18,7 +18,7 @@ use Rattle.row_judge.specs.Saying.{Whole}
 use Rattle.rows.specs.Stated.{treeOf}
 use Rattle.rows.specs.declared.Probe.{Probe}
 use Rattle.rows.specs.declared.Row.{Row}
-use Rattle.rows.proofs.Stating.{total, none-some, some-same}
+use Rattle.rows.proofs.Stating.{total}
 use Rattle.rows.proofs.Machine.{Stacked, stacked-start, stacked-next, stacked-fails, stacked-end, stacked-total}
 use Rattle.explain.specs.Deciding.{outerCount}
 use Rattle.explain.specs.Rows.{outline}
@@ -87,7 +87,7 @@ walk-start P rows = record { stacked = stacked-start rows; stack = stack-none; c
 
 -- rows that state an expression state no other outcome
 pub not-stated : {A : Type 0} (rows : List ℕ) (e : Expression) → stated rows ≡ none → stated rows ≡ some e → A
-not-stated rows e n s = none-some (sym n ∙ s)
+not-stated rows e n s = absurd (Option·none-ne-some _ (sym n ∙ s))
 
 module _ (P : ℕ → List Expression → Expression → Type 0) (rows : List ℕ) (top tests i : ℕ) (st : List Expression) (w : Walk P rows top tests i st) (l : i < length rows) (r : Row) (e : r ≡ rowOf (getD rows i 0)) where
   -- ---- rows that state nothing
@@ -217,9 +217,9 @@ module _ (P : ℕ → List Expression → Expression → Type 0) (rows : List �
   walk-whole e s = by-stack st (sym (stacked-end (w .stacked) l) ∙ s)
     where
       by-stack : (st : List Expression) → only (some st) ≡ some e → st ≡ e ∷ []
-      by-stack [] h = none-some h
-      by-stack (f ∷ []) h = ap (λ (x : Expression). x ∷ []) (some-same h)
-      by-stack (f ∷ g ∷ st) h = none-some h
+      by-stack [] h = absurd (Option·none-ne-some _ h)
+      by-stack (f ∷ []) h = ap (λ (x : Expression). x ∷ []) (Option·some-injective _ _ h)
+      by-stack (f ∷ g ∷ st) h = absurd (Option·none-ne-some _ h)
 
   pub walk-one : (e : Expression) → stated rows ≡ some e → top ≡ 1
   walk-one e s = sym (stack-length (w .stack)) ∙ ap length (walk-whole e s)

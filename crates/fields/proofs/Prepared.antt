@@ -2,7 +2,7 @@
 -- Assumes nothing.
 use Prim.Native.Nat.{ℕ, _≤_}
 use mathlib.Core.Path.{_≡_, refl, sym, ap, ap₂, _∙_}
-use mathlib.Core.Option.{some}
+use mathlib.Core.Option.{Option·some-injective}
 use mathlib.Core.List.{List, [], _∷_, _++_, map, map-append}
 use lib.ListN.{length, take}
 use Rattle.sheet.specs.Encode.{SheetBlock}
@@ -33,14 +33,11 @@ names-erased (join k f g) =
     map-append pathOf (testsOf (erase f)) (testsOf (erase g)) ∙ ap₂ (λ (l m : List Path). l ++ m) (names-erased f) (names-erased g) ∙ sym (map-append pathOf (testsOf f) (testsOf g))
 names-erased (negation f) = names-erased f
 
-some-one : {A : Type 0} {x y : A} → some x ≡ some y → x ≡ y
-some-one e = cc
-
 pub prepared-names : (sheet text : List ℕ) (s : SheetBlock sheet) (f : Tree) → length text ≤ 1024 → Spells text f → (list : List ℕ) (n : ℕ) → prepareAnswer sheet text (length list) ≡ count n
     → (g : Good (s .parameters) text (take n (prepareCells sheet text list))) → namesOf (treeOf (s .parameters) text (g .expression)) ≡ namesOf f
 prepared-names sheet text s f short spells list n e g =
     let ps = s .parameters in
     let p = prepare-good sheet text s f short spells list n e in
-    let one : g .expression ≡ p .rows .expression = some-one (sym (good-states ps (s .well-formed) text g) ∙ good-states ps (s .well-formed) text (p .rows)) in
+    let one : g .expression ≡ p .rows .expression = Option·some-injective _ _ (sym (good-states ps (s .well-formed) text g) ∙ good-states ps (s .well-formed) text (p .rows)) in
     ap (λ (x : Expression). namesOf (treeOf ps text x)) one
     ∙ sym (names-erased (treeOf ps text (p .rows .expression))) ∙ ap namesOf (p .states) ∙ names-erased f

@@ -3,7 +3,7 @@
 use Prim.Native.Nat.{ℕ, suc}
 use mathlib.Core.Path.{_≡_, refl, sym, ap, ap₂, subst, _∙_}
 use mathlib.Core.Bool.{Bool, true, cond, not}
-use mathlib.Core.Option.{Option, none, some}
+use mathlib.Core.Option.{Option, none, some, Option·some-injective}
 use mathlib.Core.List.{List, [], _∷_, map}
 use lib.Dec.{leb}
 use lib.ListN.{getD}
@@ -32,7 +32,6 @@ use Rattle.rows.specs.Shapes.{shapeOf, isWithin, goodBy, good}
 use Rattle.row_judge.specs.Saying.{probeSays, expressionSays, statedSays, rowsSay, Whole}
 use Rattle.rows.specs.Stated.{nameAt, valueBy, testFor, bundleFor, treeOf}
 use Rattle.rows.specs.declared.Probe.{Probe}
-use Rattle.rows.proofs.Stating.{some-same}
 use Rattle.rows.proofs.Good.{good-states, good-iff}
 use Rattle.rows.proofs.Naming.{name-listed, bundle-name, bundle-at-top}
 use Rattle.rows.proofs.Values.{from-found}
@@ -93,7 +92,7 @@ pub rows-mean : (ps : List Parameter) → WellFormedSheet ps → (xs cs : List �
 unfolding rowsSay
 rows-mean ps w xs cs e h i es =
     let g : Good ps xs cs = good-iff ps w xs cs .0 h in
-    let same : g .expression ≡ e = some-same (sym (good-states ps w xs g) ∙ i) in
+    let same : g .expression ≡ e = Option·some-injective _ _ (sym (good-states ps w xs g) ∙ i) in
     ap (statedSays (kindsOf ps) xs es) i ∙ says-is ps w xs (subst (Fits ps xs 0) same (g .fits)) es
 
 -- pr's values are true or false

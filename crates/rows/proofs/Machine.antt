@@ -9,7 +9,7 @@ use Prim.Native.Nat.{ℕ, suc, _+_, _/_, _%_, _≤_, _<_}
 use native.Mathlib.Omega.{arith}
 use native.Mathlib.Numerals.{add-one}
 use mathlib.Core.Path.{_≡_, refl, sym, ap, subst, _∙_}
-use mathlib.Core.Option.{none, some}
+use mathlib.Core.Option.{none, some, Option·none-ne-some, Option·some-injective}
 use mathlib.Core.List.{List, [], _∷_, _++_}
 use lib.Dec.{eqb}
 use lib.ListN.{length, getD, take, drop, set, drop-of-length-le}
@@ -21,7 +21,7 @@ use Rattle.rows.specs.Cells.{rowOf, Sayable, Writable, writable-test, wr
 use Rattle.rows.specs.declared.Probe.{Probe}
 use Rattle.rows.specs.declared.Row.{Row}
 use Rattle.rows.proofs.Cells.{probe-sayable}
-use Rattle.rows.proofs.Stating.{flat, push-flat, some-same, none-some, total, run-total, stated-run}
+use Rattle.rows.proofs.Stating.{flat, push-flat, total, run-total, stated-run}
 
 -- ---- the array: its first n cells have what g gathers of the expressions on the stack, the top last
 
@@ -83,15 +83,15 @@ bracket-index c r p e h = let s : Sayable p = rw (sym e ∙ h) at (row-sayable c
 
 push-writable : (r : Row) → RowSayable r → (st m : List Expression) → push r st ≡ some m → All Writable st → All Writable m
 unfolding push
-push-writable (Row.Test p) s st m e w = subst (All Writable) (some-same e) (all-cons (writable-test s) w)
-push-writable (Row.Bracket p) s [] m e w = none-some e
-push-writable (Row.Bracket p) s (f ∷ st) m e (all-cons a w) = subst (All Writable) (some-same e) (all-cons (writable-bracket a s) w)
-push-writable Row.Not s [] m e w = none-some e
-push-writable Row.Not s (f ∷ st) m e (all-cons a w) = subst (All Writable) (some-same e) (all-cons (writable-not a) w)
-push-writable (Row.Connect b) s [] m e w = none-some e
-push-writable (Row.Connect b) s (g ∷ []) m e w = none-some e
-push-writable (Row.Connect b) s (g ∷ f ∷ st) m e (all-cons a (all-cons d w)) = subst (All Writable) (some-same e) (all-cons (writable-join d a) w)
-push-writable Row.Unknown s st m e w = none-some e
+push-writable (Row.Test p) s st m e w = subst (All Writable) (Option·some-injective _ _ e) (all-cons (writable-test s) w)
+push-writable (Row.Bracket p) s [] m e w = absurd (Option·none-ne-some _ e)
+push-writable (Row.Bracket p) s (f ∷ st) m e (all-cons a w) = subst (All Writable) (Option·some-injective _ _ e) (all-cons (writable-bracket a s) w)
+push-writable Row.Not s [] m e w = absurd (Option·none-ne-some _ e)
+push-writable Row.Not s (f ∷ st) m e (all-cons a w) = subst (All Writable) (Option·some-injective _ _ e) (all-cons (writable-not a) w)
+push-writable (Row.Connect b) s [] m e w = absurd (Option·none-ne-some _ e)
+push-writable (Row.Connect b) s (g ∷ []) m e w = absurd (Option·none-ne-some _ e)
+push-writable (Row.Connect b) s (g ∷ f ∷ st) m e (all-cons a (all-cons d w)) = subst (All Writable) (Option·some-injective _ _ e) (all-cons (writable-join d a) w)
+push-writable Row.Unknown s st m e w = absurd (Option·none-ne-some _ e)
 
 -- ---- the rows: the stack at i decides with those that are left, and has those before
 

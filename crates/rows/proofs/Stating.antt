@@ -3,7 +3,7 @@
 use Prim.Native.Nat.{ℕ, _+_, _≤_}
 use native.Mathlib.Omega.{arith}
 use mathlib.Core.Path.{_≡_, refl, sym, ap, subst, _∙_}
-use mathlib.Core.Option.{Option, none, some}
+use mathlib.Core.Option.{Option, none, some, Option·none-ne-some, Option·some-injective}
 use mathlib.Core.List.{List, [], _∷_, _++_, append-assoc, append-nil}
 use lib.ListN.{length}
 use Rattle.rows.specs.Expression.{Expression, probing, choosing, joining, negating, testCount}
@@ -48,12 +48,6 @@ unfoldable pub flat : List Expression → List ℕ
 flat [] = []
 flat (e ∷ st) = flat st ++ encode e
 
-pub some-same : {A : Type 0} {a b : A} → some a ≡ some b → a ≡ b
-some-same e = cc
-
-pub none-some : {A : Type 0} {B : Type 0} {a : A} → none ≡ some a → B
-none-some e = let z : _≡_ {A = ℕ} 0 1 = cc in absurd (omega arith)
-
 -- the cell of a row that is pushed
 said : (c : ℕ) (r : Row) → rowOf c ≡ r → (r ≡ Row.Unknown → ⊥) → cellOf r ≡ c
 said c r i h = subst (λ (q : Row). cellOf q ≡ c) i (cell-row c (λ (e : rowOf c ≡ Row.Unknown). h (sym i ∙ e)))
@@ -65,30 +59,30 @@ push-flat c st s e = by-row (rowOf c) refl st e
     by-row : (r : Row) → rowOf c ≡ r → (st : List Expression) → push r st ≡ some s → flat s ≡ flat st ++ (c ∷ [])
     by-row (Row.Test p) i st e =
         let k : cellOf (Row.Test p) ≡ c = said c (Row.Test p) i (λ (h : Row.Test p ≡ Row.Unknown). let z : _≡_ {A = ℕ} 0 1 = cc in omega arith) in
-        rw (← some-same e, k)
-    by-row (Row.Bracket p) i [] e = none-some e
+        rw (← Option·some-injective _ _ e, k)
+    by-row (Row.Bracket p) i [] e = absurd (Option·none-ne-some _ e)
     by-row (Row.Bracket p) i (f ∷ st) e =
         let k : cellOf (Row.Bracket p) ≡ c = said c (Row.Bracket p) i (λ (h : Row.Bracket p ≡ Row.Unknown). let z : _≡_ {A = ℕ} 0 1 = cc in omega arith) in
-        rw (← some-same e, k, append-assoc)
-    by-row Row.Not i [] e = none-some e
+        rw (← Option·some-injective _ _ e, k, append-assoc)
+    by-row Row.Not i [] e = absurd (Option·none-ne-some _ e)
     by-row Row.Not i (f ∷ st) e =
         let k : cellOf Row.Not ≡ c = said c Row.Not i (λ (h : Row.Not ≡ Row.Unknown). let z : _≡_ {A = ℕ} 0 1 = cc in omega arith) in
-        rw (← some-same e, k, append-assoc)
-    by-row (Row.Connect b) i [] e = none-some e
-    by-row (Row.Connect b) i (g ∷ []) e = none-some e
+        rw (← Option·some-injective _ _ e, k, append-assoc)
+    by-row (Row.Connect b) i [] e = absurd (Option·none-ne-some _ e)
+    by-row (Row.Connect b) i (g ∷ []) e = absurd (Option·none-ne-some _ e)
     by-row (Row.Connect b) i (g ∷ f ∷ st) e =
         let k : cellOf (Row.Connect b) ≡ c = said c (Row.Connect b) i (λ (h : Row.Connect b ≡ Row.Unknown). let z : _≡_ {A = ℕ} 0 1 = cc in omega arith) in
-        rw (← some-same e, k, append-assoc, append-assoc)
-    by-row Row.Unknown i st e = none-some e
+        rw (← Option·some-injective _ _ e, k, append-assoc, append-assoc)
+    by-row Row.Unknown i st e = absurd (Option·none-ne-some _ e)
 
 run-flat : (cs : List ℕ) (st s : List Expression) → run cs st ≡ some s → flat s ≡ flat st ++ cs
 unfolding run
-run-flat [] st s e = rw (← some-same e, append-nil)
+run-flat [] st s e = rw (← Option·some-injective _ _ e, append-nil)
 run-flat (c ∷ cs) st s e = onward (push (rowOf c) st) refl e (λ (m : List Expression) (h : run cs m ≡ some s). run-flat cs m s h)
   where
     onward : (o : Option (List Expression)) → push (rowOf c) st ≡ o → andThen (λ m. run cs m) o ≡ some s
         → ((m : List Expression) → run cs m ≡ some s → flat s ≡ flat m ++ cs) → flat s ≡ flat st ++ (c ∷ cs)
-    onward none i e h = none-some e
+    onward none i e h = absurd (Option·none-ne-some _ e)
     onward (some m) i e h = h m e ∙ ap (λ (l : List ℕ). l ++ cs) (push-flat c st m i) ∙ append-assoc (flat st) (c ∷ []) cs
 
 -- what a whole run leaves
@@ -97,10 +91,10 @@ unfolding stated
 stated-run cs e h = whole (run cs []) refl h
   where
     whole : (o : Option (List Expression)) → run cs [] ≡ o → only o ≡ some e → run cs [] ≡ some (e ∷ [])
-    whole none i h = none-some h
-    whole (some []) i h = none-some h
-    whole (some (g ∷ [])) i h = i ∙ ap (λ (f : Expression). some (f ∷ [])) (some-same h)
-    whole (some (f ∷ g ∷ st)) i h = none-some h
+    whole none i h = absurd (Option·none-ne-some _ h)
+    whole (some []) i h = absurd (Option·none-ne-some _ h)
+    whole (some (g ∷ [])) i h = i ∙ ap (λ (f : Expression). some (f ∷ [])) (Option·some-injective _ _ h)
+    whole (some (f ∷ g ∷ st)) i h = absurd (Option·none-ne-some _ h)
 
 pub stated-cells : (cs : List ℕ) (e : Expression) → stated cs ≡ some e → cs ≡ encode e
 unfolding flat
@@ -126,22 +120,22 @@ height-total (e ∷ st) = omega (arith, some-tests e, height-total st)
 
 push-total : (r : Row) (st s : List Expression) → push r st ≡ some s → total st ≤ total s
 unfolding push total testCount
-push-total (Row.Test p) st s e = subst (λ (m : List Expression). total st ≤ total m) (some-same e) (omega arith)
-push-total (Row.Bracket p) [] s e = none-some e
-push-total (Row.Bracket p) (f ∷ st) s e = subst (λ (m : List Expression). total (f ∷ st) ≤ total m) (some-same e) (omega arith)
-push-total Row.Not [] s e = none-some e
-push-total Row.Not (f ∷ st) s e = subst (λ (m : List Expression). total (f ∷ st) ≤ total m) (some-same e) (omega arith)
-push-total (Row.Connect a) [] s e = none-some e
-push-total (Row.Connect a) (g ∷ []) s e = none-some e
-push-total (Row.Connect a) (g ∷ f ∷ st) s e = subst (λ (m : List Expression). total (g ∷ f ∷ st) ≤ total m) (some-same e) (omega arith)
-push-total Row.Unknown st s e = none-some e
+push-total (Row.Test p) st s e = subst (λ (m : List Expression). total st ≤ total m) (Option·some-injective _ _ e) (omega arith)
+push-total (Row.Bracket p) [] s e = absurd (Option·none-ne-some _ e)
+push-total (Row.Bracket p) (f ∷ st) s e = subst (λ (m : List Expression). total (f ∷ st) ≤ total m) (Option·some-injective _ _ e) (omega arith)
+push-total Row.Not [] s e = absurd (Option·none-ne-some _ e)
+push-total Row.Not (f ∷ st) s e = subst (λ (m : List Expression). total (f ∷ st) ≤ total m) (Option·some-injective _ _ e) (omega arith)
+push-total (Row.Connect a) [] s e = absurd (Option·none-ne-some _ e)
+push-total (Row.Connect a) (g ∷ []) s e = absurd (Option·none-ne-some _ e)
+push-total (Row.Connect a) (g ∷ f ∷ st) s e = subst (λ (m : List Expression). total (g ∷ f ∷ st) ≤ total m) (Option·some-injective _ _ e) (omega arith)
+push-total Row.Unknown st s e = absurd (Option·none-ne-some _ e)
 
 pub run-total : (cs : List ℕ) (st s : List Expression) → run cs st ≡ some s → total st ≤ total s
 unfolding run
-run-total [] st s e = subst (λ (m : List Expression). total st ≤ total m) (some-same e) (omega arith)
+run-total [] st s e = subst (λ (m : List Expression). total st ≤ total m) (Option·some-injective _ _ e) (omega arith)
 run-total (c ∷ cs) st s e = onward (push (rowOf c) st) refl e (λ (m : List Expression) (h : run cs m ≡ some s). run-total cs m s h)
   where
     onward : (o : Option (List Expression)) → push (rowOf c) st ≡ o → andThen (λ m. run cs m) o ≡ some s
         → ((m : List Expression) → run cs m ≡ some s → total m ≤ total s) → total st ≤ total s
-    onward none i e h = none-some e
+    onward none i e h = absurd (Option·none-ne-some _ e)
     onward (some m) i e h = omega (arith, push-total (rowOf c) st m i, h m e)

@@ -8,7 +8,7 @@ use Prim.Native.Nat.{ℕ, _+_, _-_, _≤_, _<_}
 use native.Mathlib.Omega.{arith}
 use mathlib.Core.Path.{_≡_, refl, sym, ap, _∙_}
 use mathlib.Core.Bool.{Bool, true, false, cond, _||_}
-use mathlib.Core.Option.{Option, none, some}
+use mathlib.Core.Option.{Option, none, some, Option·none-ne-some, Option·some-injective}
 use mathlib.Core.List.{List, [], append-nil}
 use lib.Dec.{eqb, leb, ltb}
 use lib.ListN.{length, drop, length-drop, drop-of-length-le}
@@ -35,12 +35,6 @@ use Rattle.spell.proofs.Length.{never-longer}
 use Rattle.base.proofs.Writing.{lent, back}
 use Rattle.spell.proofs.Walking.{same-tree}
 
-none-some : {X : Type 0} {f : Tree} → _≡_ {A = Option Tree} none (some f) → X
-none-some e = absurd (let z : _≡_ {A = ℕ} 0 1 = cc in omega arith)
-
-same-some : {f g : Tree} → some f ≡ some g → f ≡ g
-same-some e = cc
-
 -- ---- the text's filter, from its first byte that is no space
 
 read-parsed : (xs : List ℕ) (f : Tree) → read xs ≡ some f → (q : ℕ) × (filterAt deepest xs round (skipAt xs 0) ≡ parsed q f)
@@ -48,16 +42,16 @@ unfolding read
 read-parsed xs f e = go (filterAt deepest xs round (skipAt xs 0)) refl e
   where
     few : (t : Bool) (g : Tree) → cond t (some g) none ≡ some f → g ≡ f
-    few true g h = same-some h
-    few false g h = none-some h
+    few true g h = Option·some-injective _ _ h
+    few false g h = absurd (Option·none-ne-some _ h)
 
     ends : (t u : Bool) (g : Tree) → cond t (cond u (some g) none) none ≡ some f → g ≡ f
     ends true u g h = few u g h
-    ends false u g h = none-some h
+    ends false u g h = absurd (Option·none-ne-some _ h)
 
     go : (r : Parsed) → filterAt deepest xs round (skipAt xs 0) ≡ r → whole xs r ≡ some f → (q : ℕ) × (filterAt deepest xs round (skipAt xs 0) ≡ parsed q f)
     go (parsed q g) k h = (q, k ∙ ap (parsed q) (ends (eqb (skipAt xs q) (length xs)) (leb (length (testsOf g)) mostTests) g h))
-    go unparsed k h = none-some h
+    go unparsed k h = absurd (Option·none-ne-some _ h)
 
 module _ (xs : List ℕ) (p : ℕ) (s : RunEnd isSpace xs 0 p) where
   here : filterAt deepest xs round p ≡ filterAt deepest xs round (skipAt xs 0)
@@ -116,7 +110,7 @@ module _ (xs buffer : List ℕ) (from n : ℕ) (t : TextLength xs n) where
     pub place-text : {exit : List ℕ} {m : ℕ} → TextSpelt xs (lent buffer from) exit m → PlacedInto xs buffer from (Spelled.Length m) (back buffer from exit)
     unfolding placed put
     place-text {exit} {m} s =
-        let same : t .tree ≡ s .tree = same-some (sym (t .reads) ∙ s .reads) in
+        let same : t .tree ≡ s .tree = Option·some-injective _ _ (sym (t .reads) ∙ s .reads) in
         let long : m ≡ length (plain (s .tree)) = s .puts .long in
         let fits : from + length (plain (s .tree)) ≤ length buffer = omega (arith, room, t .long, ap (λ (x : Tree). length (plain x)) same) in
         let z : leb (from + length (plain (s .tree))) (length buffer) ≡ true = le-leb (from + length (plain (s .tree))) (length buffer) fits in

@@ -5,10 +5,9 @@
 -- more make the grammar's `one-more` (`chain-filter`). `read-sound` adds the spaces around it and the limit on tests.
 -- Assumes nothing.
 use Prim.Native.Nat.{ℕ, zero, suc, _+_}
-use native.Mathlib.Omega.{arith}
 use mathlib.Core.Path.{_≡_, subst}
 use mathlib.Core.Bool.{Bool, true, false, cond}
-use mathlib.Core.Option.{none, some}
+use mathlib.Core.Option.{none, some, Option·none-ne-some}
 use mathlib.Core.List.{List}
 use lib.Dec.{eqb, leb}
 use lib.ListN.{length}
@@ -154,18 +153,15 @@ filter-derived d xs close p = filter-of xs close d (λ k. itemAt d xs close k) (
 
 -- ---- the whole text
 
-never-some : {A X : Type 0} {a : A} → none ≡ some a → X
-never-some h = let z : _≡_ {A = ℕ} 0 1 = cc in absurd (omega arith)
-
 pub read-sound : (xs : List ℕ) (f : Tree) → read xs ≡ some f → Spells xs f
 unfolding read
 read-sound xs f e = go (filterAt deepest xs round (skipAt xs 0)) (filter-derived deepest xs round (skipAt xs 0)) e
   where
     go : (g : Parsed) → FilterDerived xs round deepest (skipAt xs 0) g → whole xs g ≡ some f → Spells xs f
-    go unparsed l h = never-some h
+    go unparsed l h = absurd (Option·none-ne-some _ h)
     go (parsed m u) l h =
-        let t = cond-first (eqb (skipAt xs m) (length xs)) (cond (leb (length (testsOf u)) mostTests) (some u) none) none never-some h in
-        let c = cond-first (leb (length (testsOf u)) mostTests) (some u) none never-some (t .1) in
+        let t = cond-first (eqb (skipAt xs m) (length xs)) (cond (leb (length (testsOf u)) mostTests) (some u) none) none absurd (Option·none-ne-some _ h) in
+        let c = cond-first (leb (length (testsOf u)) mostTests) (some u) none absurd (Option·none-ne-some _ (t .1)) in
         let z : u ≡ f = let k = c .1 in cc in
         subst (Spells xs) z (record {
           from = skipAt xs 0;
