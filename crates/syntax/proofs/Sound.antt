@@ -160,8 +160,8 @@ read-sound xs f e = go (filterAt deepest xs round (skipAt xs 0)) (filter-derived
     go : (g : Parsed) → FilterDerived xs round deepest (skipAt xs 0) g → whole xs g ≡ some f → Spells xs f
     go unparsed l h = absurd (Option·none-ne-some _ h)
     go (parsed m u) l h =
-        let t = cond-first (eqb (skipAt xs m) (length xs)) (cond (leb (length (testsOf u)) mostTests) (some u) none) none absurd (Option·none-ne-some _ h) in
-        let c = cond-first (leb (length (testsOf u)) mostTests) (some u) none absurd (Option·none-ne-some _ (t .1)) in
+        let t = cond-first (eqb (skipAt xs m) (length xs)) (cond (leb (length (testsOf u)) mostTests) (some u) none) none (Option·none-ne-some _) h in
+        let c = cond-first (leb (length (testsOf u)) mostTests) (some u) none (Option·none-ne-some _) (t .1) in
         let z : u ≡ f = let k = c .1 in cc in
         subst (Spells xs) z (record {
           from = skipAt xs 0;
