@@ -33,7 +33,7 @@ use Rattle.sheet.proofs.Listed.{find-iff, at-listed, listed-kind}
 use Rattle.card.specs.Card.{Entry}
 use Rattle.syntax.specs.Tree.{Path, name, member, Test, under, Tree, test, bracketed, join, negation, testsOf}
 use Rattle.syntax.specs.declared.Connective.{Connective}
-use Rattle.kind.specs.Table.{stringRow, numberRow, dateRow, tokenRow, referenceRow, kinds, ofKind, row, relationIn, asked, rowMeaning, meaningOf, isMeaning, hasMeaning}
+use Rattle.kind.specs.Table.{stringRow, numberRow, dateRow, tokenRow, referenceRow, kinds, ofKind, row, relationIn, meaningBy, rowMeaning, meaningOf, isMeaning, hasMeaning}
 use Rattle.kind.specs.declared.Meaning.{Meaning}
 use Rattle.kind.specs.declared.Relation.{Relation}
 use Rattle.judge.specs.Sets.{lookup, entryConforms, conforms, valuesAt, ofOccurrence, keep}
@@ -196,21 +196,21 @@ empty-iff (x ∷ xs) = ((λ h. absurd (false≢true h)), (λ e. absurd (cons≢n
 
 -- ---- what an operator means for a kind, by the kind's row
 
-asked-relation : (op kind : ℕ) (o : Option Relation) → relationIn (row kind) op ≡ o → MeansFor op kind (asked Meaning.Relates o)
-asked-relation op kind (some r) e = means-relation e
-asked-relation op kind none e = means-nothing
+meaning-relation : (op kind : ℕ) (o : Option Relation) → relationIn (row kind) op ≡ o → MeansFor op kind (meaningBy Meaning.Relates o)
+meaning-relation op kind (some r) e = means-relation e
+meaning-relation op kind none e = means-nothing
 
-asked-other : (op kind : ℕ) → op ≡ ne → (o : Option Relation) → relationIn (row kind) eq ≡ o → MeansFor op kind (asked Meaning.Differs o)
-asked-other op kind n (some r) e = means-other n e
-asked-other op kind n none e = means-nothing
+meaning-other : (op kind : ℕ) → op ≡ ne → (o : Option Relation) → relationIn (row kind) eq ≡ o → MeansFor op kind (meaningBy Meaning.Differs o)
+meaning-other op kind n (some r) e = means-other n e
+meaning-other op kind n none e = means-nothing
 
 means-for : (op kind : ℕ) → MeansFor op kind (meaningOf op kind)
 unfolding meaningOf rowMeaning
 means-for op kind =
     cond-elim (MeansFor op kind) (eqb op pr) (λ e. means-present (eqb-true op pr e))
     (λ _. cond-elim (MeansFor op kind) (eqb op ne)
-    (λ e. asked-other op kind (eqb-true op ne e) (relationIn (row kind) eq) refl)
-    (λ _. asked-relation op kind (relationIn (row kind) op) refl))
+    (λ e. meaning-other op kind (eqb-true op ne e) (relationIn (row kind) eq) refl)
+    (λ _. meaning-relation op kind (relationIn (row kind) op) refl))
 
 none-not-some : {A : Type 0} {x : A} {o : Option A} {X : Type 0} → o ≡ none → o ≡ some x → X
 none-not-some {X = X} p q = absurd (let z : _≡_ {A = ℕ} 0 1 = cc in omega arith)

@@ -99,6 +99,7 @@ unfoldable pub relationIn : List RowEntry → ℕ → Option Relation
 relationIn [] k = none
 relationIn (u ∷ us) k = cond (eqb k (u .operator)) (some (u .relation)) (relationIn us k)
 
+-- the meaning that a relation gives, where the row has one
 abbrev pub meaningBy : (Relation → Meaning) → Option Relation → Meaning
 meaningBy how (some r) = how r
 meaningBy how none = Nothing
