@@ -99,10 +99,6 @@ module _ (sheet text : List ℕ) (s : SheetBlock sheet) (f : Tree) (short : leng
   unfolding prepareCells
   cells-by list q e = rw e
 
-  room-by : (room : ℕ) → length cells ≤ room → acceptCells room cells ≡ found cells
-  unfolding acceptCells
-  room-by room l = rw (le-leb (length cells) room l)
-
   -- prepare answers, where no line holds
   pub prepare-answered : Bytes sheet → (list : List ℕ) → ((n p : ℕ) → PrepareLine sheet text (length list) n p → ⊥) → PrepareAnswers sheet text list ps f
   prepare-answered bytes list none-of = by-tests (testsStep ps (testsOf f)) refl

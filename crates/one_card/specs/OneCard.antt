@@ -22,7 +22,7 @@ abbrev pub acceptanceStep : CardAcceptance → List ℕ → ℕ → Step Card
 acceptanceStep CardAcceptance.Conforming b i = found (record { number = recordNumber b; entries = entriesOf b })
 acceptanceStep (CardAcceptance.Refused r) b i = stop (numberOf r) i
 
--- what taking a card does, by the kinds of the sheet
+-- what accepting a card answers, by the kinds of the sheet
 pub record AcceptsCard (kinds card : List ℕ) (r : CardAcceptance) : Type 0 where
   pub well-formed : r ≡ CardAcceptance.Conforming → readCard card ≡ Validity.WellFormed
   pub steps : (ps : List Parameter) → kinds ≡ kindsOf ps → (i : ℕ) → acceptanceStep r card i ≡ acceptCard ps i card

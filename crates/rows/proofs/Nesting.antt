@@ -95,9 +95,6 @@ tests-some (negating e) = tests-some e
 one-deeper : (t d : ℕ) → t * (2 + suc d) ≡ t * (2 + d) + t
 one-deeper t d = let more : 2 + suc d ≡ 2 + d + 1 = omega arith in ap (λ (n : ℕ). t * n) more ∙ mul-add t (2 + d) 1 ∙ ap (λ (n : ℕ). t * (2 + d) + n) (omega arith)
 
-both-wide : (t u d : ℕ) → (t + u) * d ≡ t * d + u * d
-both-wide t u d = add-mul t u d
-
 pub rows-few : (e : Expression) (d : ℕ) → depthOf e .chain ≤ d → length (encode e) + 1 ≤ testCount e * (2 + d)
 unfolding encode testCount depthOf
 rows-few (probing p) d h = omega arith
@@ -111,7 +108,7 @@ rows-few (joining c e f) d h =
       arith,
       rows-few e d (omega (arith, h, l .0)),
       rows-few f d (omega (arith, h, l .1, chain-item f)),
-      both-wide (testCount e) (testCount f) (2 + d),
+      add-mul (testCount e) (testCount f) (2 + d),
       length-append (encode e) (encode f ++ (cellOf (Row.Connect c) ∷ [])),
       length-append (encode f) (cellOf (Row.Connect c) ∷ []),
     )

@@ -67,7 +67,7 @@ module _ (sheet text bytes : List ℕ) (c : Checked) (rows : Rows) where
     pub sheet-layout : r ≡ Validity.WrongLayout → checkedAnswer c ≡ refused 3 0 → ReadsRows sheet text bytes (record { checked = c; rows = rows })
     sheet-layout = sheet-refuses r Validity.WrongLayout 3 (λ ps. refl) e
 
--- the string is refused as its taking is
+-- the string is refused, as the definition refuses it
 pub text-refuses : (sheet text bytes : List ℕ) (rows : Rows) → readSheet sheet ≡ Validity.WellFormed → (r : QueryRead) (x : Refusal) → AcceptsQuery text bytes r → r .decision ≡ Decision.Refused x
     → ReadsRows sheet text bytes (record { checked = Checked.Refused x; rows = rows })
 unfolding acceptQueryInputs acceptSheet checkedAnswer refusalAnswer
@@ -146,9 +146,6 @@ rows-checked ps bytes rows first c e h = h ∙ ap (λ (f : Decision). summaryAns
 -- ---- match
 
 module _ (sheet text bytes : List ℕ) (r : SearchRead) (read : ReadsRows sheet text bytes r) where
-  pub search-checked : checkedAnswer (r .checked) ≡ checkSearchAnswer sheet text
-  search-checked = read .answers
-
   pub question-stopped : (f : Refusal) → r .checked ≡ Checked.Refused f → searchQuestion sheet text ≡ stop (numberOf (f .reason)) (f .place)
   question-stopped f h = (unfold searchQuestion in rw (stopped (acceptQueryInputs sheet text) refl))
     where

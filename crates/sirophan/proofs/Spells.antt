@@ -47,10 +47,6 @@ module _ (text : List ℕ) (from : ℕ) (buffer : List ℕ) where
       go true = refl
       go false = refl
 
-  tree-answer : (o : Option Tree) → spelledAnswer (spell.treeOutcome text from (length buffer) o) ≡ answer (treeStep text o >>= λ f. acceptBuffer from (length buffer) (plain f) >>= λ w. found (count (length w)))
-  tree-answer (some f) = room-answer (plain f)
-  tree-answer none = unfold spelledAnswer refusalAnswer in refl
-
   tree-bytes : (o : Option Tree) → spell.treeBytes from buffer o ≡ putInto from buffer (treeStep text o >>= λ f. acceptBuffer from (length buffer) (plain f))
   tree-bytes (some f) = room-bytes (plain f)
   tree-bytes none = refl
