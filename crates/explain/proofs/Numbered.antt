@@ -10,6 +10,7 @@ use Rattle.base.specs.Lists.{All, all-cons}
 use Rattle.sheet.specs.Sheet.{Parameter}
 use Rattle.card.specs.Card.{Entry}
 use Rattle.syntax.specs.Tree.{Tree, test, bracketed, join, negation}
+use Rattle.syntax.specs.Fold.{foldTree}
 use Rattle.judge.specs.Verdicts.{joined, filterSays}
 use Rattle.explain.specs.Deciding.{outerTests, outerCount, verdicts, saysBy, cells}
 use Rattle.explain.specs.Marks.{deciding, explanation}
@@ -61,7 +62,7 @@ module _ (ps : List Parameter) (c : ℕ) (es : List Entry) where
 
   -- where u says from i on what the tests say
   says-tests : (f : Tree) (u : ℕ → Bool) (i : ℕ) → ((j : ℕ) → j < outerCount f → u (i + j) ≡ verdicts says f j) → saysBy u i f ≡ says f
-  unfolding outerCount outerTests saysBy filterSays
+  unfolding outerCount outerTests saysBy filterSays foldTree
   says-tests (test t) u i h = let z : i ≡ i + 0 = omega arith in ap u z ∙ h 0 (omega arith)
   says-tests (bracketed p b f t) u i h = let z : i ≡ i + 0 = omega arith in ap u z ∙ h 0 (omega arith)
   says-tests (join k f g) u i h =

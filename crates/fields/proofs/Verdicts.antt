@@ -16,6 +16,7 @@ use Rattle.sheet.specs.Find.{enter}
 use Rattle.sheet.specs.declared.Found.{Found}
 use Rattle.card.specs.Card.{Entry}
 use Rattle.syntax.specs.Tree.{Path, name, member, Test, under, Tree, test, bracketed, join, negation, testsOf}
+use Rattle.syntax.specs.Fold.{foldTree}
 use Rattle.kind.specs.Table.{meaningOf}
 use Rattle.judge.specs.Sets.{lookup, valuesAt, keep, ofOccurrence}
 use Rattle.judge.specs.Verdicts.{saysAt, testSays, joined, filterSays}
@@ -71,7 +72,7 @@ module _ (ps : List Parameter) where
   test-same c es es′ t h = found-same (lookup ps c (t .path)) (t .operator) (t .value) es es′ h
 
   filter-same : (f : Tree) (c : ℕ) (es es′ : List Entry) → All (SameIn c es es′) (namesOf f) → filterSays ps c es f ≡ filterSays ps c es′ f
-  unfolding filterSays testsOf
+  unfolding filterSays foldTree testsOf
   filter-same (test t) c es es′ (all-cons h _) = test-same c es es′ t (same-texts h)
   filter-same (bracketed p b f t) c es es′ (all-cons h hs) =
       let inner : (o : ℕ) → filterSays ps (enter ps c b) (ofOccurrence o es) f ≡ filterSays ps (enter ps c b) (ofOccurrence o es′) f =

@@ -95,7 +95,7 @@ module _ (ps : List Parameter) (c : ℕ) (all : List Entry) (k : Chosen) (q : �
 -- so the test of a member says what the definition says
 pub member-is : (ps : List Parameter) (c : ℕ) (es : List Entry) (k : Chosen) (p : ℕ) (b : List ℕ) (q : ℕ) (f : Tree) (t : Test)
     → memberSays ps (enter ps c b) es k (parsed q f) t ≡ filterSays ps c (chosenOf k es) (bracketed p b f t)
-unfolding memberSays filterSays testSays
+unfolding memberSays filterSays foldTree testSays
 member-is ps c es k p b q f t = go (lookup ps (enter ps c b) (t .path))
   where
     yes : Entry → Bool
@@ -150,7 +150,7 @@ module _ (ps : List Parameter) (c : ℕ) (es : List Entry) (k : Chosen) (g : Par
 
 -- as the code judges the test of a member after what was parsed in the brackets
 pub verdict-inside : (needed : Bool) (ps : List Parameter) (c : ℕ) (es : List Entry) (k : Chosen) (p : ℕ) (b : List ℕ) (i : ℕ) (g : Parsed) (t : Test) (v : Bool) → i ≡ enter ps c b → v ≡ (needed && memberSays ps i es k g t)
-    → (q : ℕ) (f : Tree) → g ≡ parsed q f → v ≡ judging needed ps c (chosenOf k es) .inside p b f t
+    → (q : ℕ) (f : Tree) → g ≡ parsed q f → v ≡ judging needed ps c (chosenOf k es) .inside p b f (foldTree (judging needed ps c (chosenOf k es)) f) t
 unfolding judging
 verdict-inside needed ps c es k p b i g t v e h q f r =
     h ∙ ap (λ (x : Bool). needed && x) (ap (λ (x : ℕ). memberSays ps x es k g t) e ∙ ap (λ (x : Parsed). memberSays ps (enter ps c b) es k x t) r ∙ member-is ps c es k p b q f t)

@@ -73,7 +73,7 @@ reading-is ps c (negation f) = reading-is ps c f
 
 -- the member's test, and then those in the brackets
 pub summary-inside : (ps : List Parameter) (c : ℕ) (b : List ℕ) (i p : ℕ) (t : Test) (o a s : Summary) → i ≡ enter ps c b → o ≡ reading ps i .one (moved p t) → s ≡ joinSummaries o a
-    → (f : Tree) → a ≡ foldTree (reading ps i) f → s ≡ reading ps c .inside p b f t
+    → (f : Tree) → a ≡ foldTree (reading ps i) f → s ≡ reading ps c .inside p b f (foldTree (reading ps c) f) t
 unfolding testsOf
 summary-inside ps c b i p t o a s e h k f g =
     let ts = testsOf f in

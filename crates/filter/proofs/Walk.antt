@@ -147,7 +147,7 @@ module _ {A R : Type 0} (done : ℕ → A → R) (nothing : R) (cases : Cases do
           unfolding answerOf
           choice-no-member y = let w = was-done done nothing cases ψ (filterAt (d - 1) xs square q) f j in rw (chosen-step xs close p d (sym e ∙ i) n, ← s .is, w .read, sym g ∙ y)
 
-          pub choice-member : (t : RawTest) (v : A) → c ≡ FoundTest.Test t → ((g : Tree) → filterAt (d - 1) xs square q ≡ parsed k g → a ≡ foldTree ψ g → v ≡ φ .inside p (part xs p u) g (testOf xs t)) → done (t .value .next) v ≡ answer (itemAt d xs close p)
+          pub choice-member : (t : RawTest) (v : A) → c ≡ FoundTest.Test t → ((g : Tree) → filterAt (d - 1) xs square q ≡ parsed k g → a ≡ foldTree ψ g → v ≡ φ .inside p (part xs p u) g (foldTree φ g) (testOf xs t)) → done (t .value .next) v ≡ answer (itemAt d xs close p)
           unfolding answerOf foldTree
           choice-member t v y z =
               let w = was-done done nothing cases ψ (filterAt (d - 1) xs square q) f j in

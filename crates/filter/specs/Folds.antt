@@ -26,7 +26,7 @@ abbrev pub reading : List Parameter → ℕ → Fold Summary
 reading ps c =
     record {
       one = λ t. summaryOf ps c (t ∷ []);
-      inside = λ p b f t. summaryOf ps c (testsOf (bracketed p b f t));
+      inside = λ p b f a t. summaryOf ps c (testsOf (bracketed p b f t));
       both = λ o a b. joinSummaries a b;
       negate = λ a. a;
     }
@@ -41,7 +41,7 @@ unfoldable pub judging : (needed : Bool) → List Parameter → ℕ → List Ent
 judging needed ps c es =
     record {
       one = λ t. needed && testSays ps c es t;
-      inside = λ p b f t. needed && filterSays ps c es (bracketed p b f t);
+      inside = λ p b f a t. needed && filterSays ps c es (bracketed p b f t);
       both = λ o a b. cond needed (joined o a b) a;
       negate = not;
     }

@@ -32,6 +32,7 @@ use Rattle.sheet.specs.declared.Found.{Found}
 use Rattle.sheet.proofs.Listed.{find-iff, at-listed, listed-kind}
 use Rattle.card.specs.Card.{Entry}
 use Rattle.syntax.specs.Tree.{Path, name, member, Test, under, Tree, test, bracketed, join, negation, testsOf}
+use Rattle.syntax.specs.Fold.{foldTree}
 use Rattle.syntax.specs.declared.Connective.{Connective}
 use Rattle.kind.specs.Table.{stringRow, numberRow, dateRow, tokenRow, referenceRow, kinds, ofKind, row, relationIn, meaningBy, rowMeaning, meaningOf, isMeaning, hasMeaning}
 use Rattle.kind.specs.declared.Meaning.{Meaning}
@@ -343,12 +344,12 @@ module _ (ps : List Parameter) (w : WellFormedSheet ps) where
     bundle-there (Found.At i k) e h = entered ps w c b (t .path) i k e
 
     bundle-of : filterSays ps c es (bracketed p b f t) ≡ true → (j : ℕ) × Listed ps j (parameter bundleKind c b)
-    unfolding filterSays testSays
+    unfolding filterSays foldTree testSays
     bundle-of h = bundle-there (lookup ps (enter ps c b) (t .path)) refl h
 
     -- what is said in it
     bundle-says : (j : ℕ) → Listed ps j (parameter bundleKind c b) → filterSays ps c es (bracketed p b f t) ≡ testSays ps (suc j) (chosen-in (suc j)) t
-    unfolding filterSays
+    unfolding filterSays foldTree
     bundle-says j l = ap (λ (x : ℕ). testSays ps x (chosen-in x) t) (enters ps w c b j l)
 
     module _ (spelled : PrSpelled t) (again : (j : ℕ) (l : List Entry) → (filterSays ps (suc j) l f ≡ true) ↔ FilterSays ps (suc j) l f) where
@@ -365,7 +366,7 @@ module _ (ps : List Parameter) (w : WellFormedSheet ps) where
 
   -- where each pr spells true or false, the filter says yes exactly where the rules do
   pub filter-says-iff : (c : ℕ) (es : List Entry) (f : Tree) → All PrSpelled (testsOf f) → (filterSays ps c es f ≡ true) ↔ FilterSays ps c es f
-  unfolding filterSays testsOf
+  unfolding filterSays foldTree testsOf
   filter-says-iff c es (test t) h = says-iff ps w c es t (all-head PrSpelled h)
   filter-says-iff c es (bracketed p b f t) h =
       let again : (j : ℕ) (l : List Entry) → (filterSays ps (suc j) l f ≡ true) ↔ FilterSays ps (suc j) l f = λ j l. filter-says-iff (suc j) l f (spelled-under b (testsOf f) (all-tail PrSpelled h)) in

@@ -6,7 +6,8 @@ use mathlib.Core.List.{List, [], _∷_}
 use Rattle.sheet.specs.Sheet.{Parameter}
 use Rattle.sheet.specs.declared.Found.{Found}
 use Rattle.card.specs.Card.{Entry}
-use Rattle.syntax.specs.Tree.{Test, Tree, test, bracketed, join, negation}
+use Rattle.syntax.specs.Tree.{Test, Tree}
+use Rattle.syntax.specs.Fold.{Fold, foldTree}
 use Rattle.syntax.specs.declared.Connective.{Connective}
 use Rattle.kind.specs.Table.{meaningOf}
 use Rattle.kind.specs.Readable.{isTrue}
@@ -75,11 +76,17 @@ abbrev pub joined : Connective → Bool → Bool → Bool
 joined Connective.And a b = a && b
 joined Connective.Or a b = a || b
 
--- what a filter, looked up in c, says of entries: it "joins those of its items from left to right, and and or equal in rank"; "after
+-- what a filter says, looked up in c, of entries: it "joins those of its items from left to right, and and or equal in rank"; "after
 -- not the opposite"; 02: square brackets hold a filter "judged for each occurrence by itself; the set is the named member's texts from
 -- the occurrences that say yes"
+abbrev pub says : List Parameter → Fold (ℕ → List Entry → Bool)
+says ps =
+    record {
+      one = λ t c es. testSays ps c es t;
+      inside = λ p b f said t c es. testSays ps (enter ps c b) (keep (λ e. said (enter ps c b) (ofOccurrence (e .occurrence) es)) es) t;
+      both = λ k f g c es. joined k (f c es) (g c es);
+      negate = λ f c es. not (f c es);
+    }
+
 unfoldable pub filterSays : List Parameter → ℕ → List Entry → Tree → Bool
-filterSays ps c es (test t) = testSays ps c es t
-filterSays ps c es (bracketed p b f t) = testSays ps (enter ps c b) (keep (λ e. filterSays ps (enter ps c b) (ofOccurrence (e .occurrence) es) f) es) t
-filterSays ps c es (join k f g) = joined k (filterSays ps c es f) (filterSays ps c es g)
-filterSays ps c es (negation f) = not (filterSays ps c es f)
+filterSays ps c es f = foldTree (says ps) f c es

@@ -20,6 +20,7 @@ use Rattle.sheet.specs.declared.Found.{Found}
 use Rattle.sheet.proofs.Listed.{find-iff, table-listed}
 use Rattle.card.specs.Card.{Entry}
 use Rattle.syntax.specs.Tree.{Test, name, moved, under, testsOf, Tree, test, bracketed, join, negation, erase}
+use Rattle.syntax.specs.Fold.{foldTree}
 use Rattle.syntax.specs.Scan.{valueAt}
 use Rattle.judge.specs.Sets.{lookup, ofOccurrence, keep}
 use Rattle.judge.specs.Verdicts.{testSays, joined, filterSays}
@@ -52,7 +53,7 @@ module _ (ps : List Parameter) (w : WellFormedSheet ps) (xs : List ℕ) where
       rw (kind, v .found, at)
 
   pub says-is : {c : ℕ} {e : Expression} → Fits ps xs c e → (es : List Entry) → expressionSays (kindsOf ps) xs es e ≡ filterSays ps c es (treeOf ps xs e)
-  unfolding expressionSays filterSays treeOf
+  unfolding expressionSays filterSays foldTree treeOf
   says-is (fits-test {c = c} {p = p} {q = q} l e f) es = probe-is c p q l e f es
   says-is (fits-bracket {e = e} {p = p} {j = j} {q = q} {b = b} l i m k f g) es =
       let parent : getD (parentsOf ps) (p .index) 0 ≡ suc j = table-listed (λ r. r .bundle) ps (p .index) q l ∙ i in
@@ -68,7 +69,7 @@ module _ (ps : List Parameter) (w : WellFormedSheet ps) (xs : List ℕ) where
 -- ---- positions
 
 pub erase-says : (ps : List Parameter) (c : ℕ) (es : List Entry) (f : Tree) → filterSays ps c es (erase f) ≡ filterSays ps c es f
-unfolding filterSays erase testSays
+unfolding filterSays foldTree erase testSays
 erase-says ps c es (test t) = refl
 erase-says ps c es (bracketed p b f t) =
     ap (λ (l : List Entry). testSays ps (enter ps c b) l t) (keep-same (λ e. filterSays ps (enter ps c b) (ofOccurrence (e .occurrence) es) (erase f)) (λ e. filterSays ps (enter ps c b) (ofOccurrence (e .occurrence) es) f) (λ e. erase-says ps (enter ps c b) (ofOccurrence (e .occurrence) es) f) es)

@@ -38,6 +38,7 @@ use Rattle.sheet.specs.Encode.{SheetBlock, WellFormedSheet}
 use Rattle.sheet.specs.declared.Found.{Found}
 use Rattle.card.specs.Card.{Entry}
 use Rattle.syntax.specs.Tree.{Path, name, Test, Tree, testsOf}
+use Rattle.syntax.specs.Fold.{foldTree}
 use Rattle.syntax.specs.declared.Connective.{Connective}
 use Rattle.syntax.specs.Grammar.{Spells}
 use Rattle.kind.specs.Table.{meaningOf, rowMeaning, row, ofKind, kinds, tokenRow, relationIn}
@@ -103,12 +104,12 @@ module _ (ps : List Parameter) (es : List Entry) where
   says f = filterSays ps 0 es f
 
   or-joined : {fs : List Tree} {f : Tree} → Joined Connective.Or fs f → says f ≡ or-all says fs
-  unfolding or-all filterSays
+  unfolding or-all filterSays foldTree
   or-joined (alone {f = f}) = sym (or-false (says f))
   or-joined (joins {fs = fs} {gs = gs} {g = g} a b) = ap (λ (x : Bool). x || says g) (or-joined a) ∙ ap (λ (x : Bool). or-all says fs || x) (or-joined b) ∙ sym (or-append says fs gs)
 
   and-joined : {fs : List Tree} {f : Tree} → Joined Connective.And fs f → says f ≡ and-all says fs
-  unfolding and-all filterSays
+  unfolding and-all filterSays foldTree
   and-joined (alone {f = f}) = sym (and-true (says f))
   and-joined (joins {fs = fs} {gs = gs} {g = g} a b) = ap (λ (x : Bool). x && says g) (and-joined a) ∙ ap (λ (x : Bool). and-all says fs && x) (and-joined b) ∙ sym (and-append says fs gs)
 
@@ -267,7 +268,7 @@ sums e g = cc
 
 module _ (ps : List Parameter) (w : WellFormedSheet ps) where
   pair-says : (es : List Entry) {p : List Alternative} {fs : List Tree} → TestsAlike ps p fs → pairMet (alternativeSays ps es) p ≡ or-all (says ps es) fs
-  unfolding pairMet or-all filterSays
+  unfolding pairMet or-all filterSays foldTree
   pair-says es alike-end = refl
   pair-says es (alike-next {a = a} {rest = rest} {t = t} {fs = fs} h r) =
       ap (λ (b : Bool). b || pairMet (alternativeSays ps es) rest) (same-says ps w a t h es) ∙ ap (λ (b : Bool). testSays ps 0 es t || b) (pair-says es r)

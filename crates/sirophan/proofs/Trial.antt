@@ -37,6 +37,7 @@ use Rattle.sheet.specs.Trial.{trialSheet, bundleSheet, staySheet}
 use Rattle.card.specs.Card.{entryCount, entriesOf, readCard}
 use Rattle.card.specs.Trial.{trialCard, bundleCard, stayCard}
 use Rattle.syntax.specs.Tree.{testsOf}
+use Rattle.syntax.specs.Fold.{foldTree}
 use Rattle.syntax.specs.Strings.{isBare, isEscape, unescaped}
 use Rattle.syntax.specs.Scan.{decode, stepOf, stringFrom, stringAt, valueAt, follows, findOperator, operatorAt, testValue, testOperator, testAt, openAt, choiceAt, headAt, memberAt, connectiveAt, closeAt, memberAfter}
 use Rattle.syntax.specs.Reader.{chainOf, filterOf, itemAt, filterAt, read}
@@ -60,7 +61,7 @@ abbrev stated : List Row → List Answer
 stated = map (λ (r : Row). r .gives)
 
 computed : (given trialSheet trialCard trialRows ≡ stated trialRows) × (given bundleSheet bundleCard bundleRows ≡ stated bundleRows) × (given staySheet stayCard stayRows ≡ stated stayRows) × (given trialSheet edgeCard edgeRows ≡ stated edgeRows)
-unfolding trialRows trialSheet trialCard matchBy filterQuestion acceptCard acceptInputs machine.failure machine.failureFrom machine.step machine.beginsOperator machine.isOperator machine.someWord testsStep acceptFilter acceptSheet filterSays testSays saysOf isEmpty someValue firstFault testFault kindFault unsupported conforms entryConforms valuesAt lookup relatesTo datesRelate numbersRelate stringsRelate kind.valueReadable kind.isTrue kind.filterReadable kind.cardReadable table.hasMeaning table.meaningOf table.rowMeaning table.relationIn table.row table.tokenRow table.dateRow table.numberRow table.stringRow read filterAt itemAt filterOf chainOf closeAt connectiveAt headAt choiceAt memberAfter memberAt openAt testAt testOperator testValue operatorAt findOperator follows valueAt stringAt stringFrom stepOf isBare testsOf readCard entriesOf entryCount find findFrom readSheet sheetLayout areRight haveParents hasParent kindAt distinct absent clashes areParameters isParameter isKind parametersOf parameterCount reading items hasEither hasLayout laidOut textAt markAt next lengthAt hasMarks zeros block.check checkSum sumFrom token.matches token.meets token.asks systemOf namespaceOf standsFor forms.filterReadable forms.filterForm forms.splitForm tokens.cardReadable tokens.cardToken tokens.splitToken tokens.tokenOf split dates.readable dates.isDate dates.read dates.readYear dates.readMonth dates.fieldAt dates.fourAt dates.twoAt dates.pair dates.digitOf spans.monthDate spans.yearDate spans.daysFrom spans.dateOf spans.instant spans.epoch calendar.dayNumber calendar.daysOfYears calendar.daysBeforeMonth calendar.monthLength calendar.yearLength calendar.leapYear fields.validMonth billionths.inside billionths.billionths billionths.unit number.greater number.atLeast number.covers number.halfUnit number.exactValue number.plus number.isAtMost number.isLess numbers.readable numbers.read numbers.readFraction numbers.valueFrom texts.same texts.contains foldText foldByte runEnd run operatorWords isName isReserved isNamePart isNameStart isLetter between isDigit hasInfix hasPrefix member equal every bundleRows bundleSheet bundleCard ofOccurrence keep enter kind.isFalse table.referenceRow table.kinds table.ofKind period.startsBefore period.startsNoLater period.endsAfter period.endsNoEarlier period.inside period.laterOrInside period.earlierOrInside period.overlaps period.covers periods.readable periods.isPeriod periods.readSpan periods.spanOr periods.read periods.readParts periods.openStart periods.openEnd periods.bothEnds periods.fromTo periods.known stayRows staySheet stayCard foldFrom isCapital isAccented edgeRows edgeCard decode unescaped isEscape texts.starts texts.ends hasSuffix number.less number.atMost
+unfolding trialRows trialSheet trialCard matchBy filterQuestion acceptCard acceptInputs machine.failure machine.failureFrom machine.step machine.beginsOperator machine.isOperator machine.someWord testsStep acceptFilter acceptSheet filterSays foldTree testSays saysOf isEmpty someValue firstFault testFault kindFault unsupported conforms entryConforms valuesAt lookup relatesTo datesRelate numbersRelate stringsRelate kind.valueReadable kind.isTrue kind.filterReadable kind.cardReadable table.hasMeaning table.meaningOf table.rowMeaning table.relationIn table.row table.tokenRow table.dateRow table.numberRow table.stringRow read filterAt itemAt filterOf chainOf closeAt connectiveAt headAt choiceAt memberAfter memberAt openAt testAt testOperator testValue operatorAt findOperator follows valueAt stringAt stringFrom stepOf isBare testsOf readCard entriesOf entryCount find findFrom readSheet sheetLayout areRight haveParents hasParent kindAt distinct absent clashes areParameters isParameter isKind parametersOf parameterCount reading items hasEither hasLayout laidOut textAt markAt next lengthAt hasMarks zeros block.check checkSum sumFrom token.matches token.meets token.asks systemOf namespaceOf standsFor forms.filterReadable forms.filterForm forms.splitForm tokens.cardReadable tokens.cardToken tokens.splitToken tokens.tokenOf split dates.readable dates.isDate dates.read dates.readYear dates.readMonth dates.fieldAt dates.fourAt dates.twoAt dates.pair dates.digitOf spans.monthDate spans.yearDate spans.daysFrom spans.dateOf spans.instant spans.epoch calendar.dayNumber calendar.daysOfYears calendar.daysBeforeMonth calendar.monthLength calendar.yearLength calendar.leapYear fields.validMonth billionths.inside billionths.billionths billionths.unit number.greater number.atLeast number.covers number.halfUnit number.exactValue number.plus number.isAtMost number.isLess numbers.readable numbers.read numbers.readFraction numbers.valueFrom texts.same texts.contains foldText foldByte runEnd run operatorWords isName isReserved isNamePart isNameStart isLetter between isDigit hasInfix hasPrefix member equal every bundleRows bundleSheet bundleCard ofOccurrence keep enter kind.isFalse table.referenceRow table.kinds table.ofKind period.startsBefore period.startsNoLater period.endsAfter period.endsNoEarlier period.inside period.laterOrInside period.earlierOrInside period.overlaps period.covers periods.readable periods.isPeriod periods.readSpan periods.spanOr periods.read periods.readParts periods.openStart periods.openEnd periods.bothEnds periods.fromTo periods.known stayRows staySheet stayCard foldFrom isCapital isAccented edgeRows edgeCard decode unescaped isEscape texts.starts texts.ends hasSuffix number.less number.atMost
 computed = (refl, refl, refl, refl)
 
 -- each row of a table that is computed so gives what it says
