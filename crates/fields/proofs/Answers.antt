@@ -64,7 +64,7 @@ module _ (sheet : List ℕ) (s : SheetBlock sheet) where
   read-found : {X P : Type 0} (r : Step X) (tests : List Parameter → X → Step (Unit {0})) (made : List Parameter → X → P) (p : P)
       → (acceptSheet sheet >>= λ ps. r >>= λ x. tests ps x >>= λ u. found (made ps x)) ≡ found p → (x : X) × (r ≡ found x) × (made (s .parameters) x ≡ p)
   read-found r tests made p e =
-      let (x, t, rest) = accepted r (λ x. tests (s .parameters) x >>= λ u. found (made (s .parameters) x)) p (rw (sheet-accepted sheet s) at e) in
+      let (x, t, rest) = bind-found r (λ x. tests (s .parameters) x >>= λ u. found (made (s .parameters) x)) p (rw (sheet-accepted sheet s) at e) in
       let (u, _, last) = bind-found (tests (s .parameters) x) (λ u. found (made (s .parameters) x)) p rest in
       (x, t, found-same last)
 
