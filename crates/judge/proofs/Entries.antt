@@ -2,7 +2,7 @@
 -- Assumes nothing.
 use Prim.Native.Nat.{ℕ, _≤_}
 use mathlib.Core.Path.{_≡_, refl, ap, sym, _∙_}
-use mathlib.Core.Bool.{Bool, true, false, not, _&&_}
+use mathlib.Core.Bool.{Bool, true, false, _&&_, _||_}
 use mathlib.Core.List.{List, [], _∷_}
 use lib.Dec.{eqb}
 use lib.ListN.{length, getD, List·getD-eq-default}
@@ -11,11 +11,13 @@ use Rattle.base.proofs.Tests.{both-ways, and-left, and-right}
 use Rattle.card.specs.Card.{Entry, entry}
 use Rattle.kind.specs.Readable.{cardReadable}
 use Rattle.kind.specs.Table as table
-use Rattle.kind.specs.Relations.{relatesTo}
-use Rattle.kind.specs.declared.Relation.{Relation}
+use Rattle.kind.specs.declared.Readings.{Readings}
+use Rattle.kind.specs.declared.Meaning.{Meaning}
 use Rattle.judge.specs.Sets.{valuesAt, counts, chosenOf, conformsTo, keep}
 use Rattle.judge.specs.declared.Chosen.{Chosen}
-use Rattle.judge.specs.Verdicts.{someValue, isEmpty, related, entryRelated}
+use Rattle.judge.specs.Verdicts.{someValue, textCounts}
+use Rattle.judge.specs.Once.{readingsFor, countsRead}
+use Rattle.judge.proofs.Once.{once-counts}
 
 -- ---- conforming
 
@@ -62,66 +64,34 @@ unfolding chosenOf keep
 chosen-every [] = refl
 chosen-every (e ∷ es) = ap (λ (l : List Entry). e ∷ l) (chosen-every es)
 
--- ---- whether there is a text
+-- ---- whether some text counts
 
-abbrev pub hasValue : Chosen → ℕ → List Entry → Bool
-hasValue c i es = not (isEmpty (valuesAt i (chosenOf c es)))
+abbrev pub someCounts : Chosen → ℕ → Meaning → List ℕ → List Entry → Bool
+someCounts c i m v es = someValue (textCounts m v) (valuesAt i (chosenOf c es))
 
-module _ (c : Chosen) (i j o : ℕ) (t : List ℕ) (es : List Entry) (b : Bool) (e : b ≡ (counts c o && eqb j i)) where
-  pub value-here : b ≡ true → true ≡ hasValue c i (entry j o t ∷ es)
-  unfolding chosenOf valuesAt isEmpty keep
-  value-here h = rw (and-left (counts c o) (eqb j i) (sym e ∙ h), and-right (counts c o) (eqb j i) (sym e ∙ h))
-
-  pub value-next : b ≡ false → hasValue c i (entry j o t ∷ es) ≡ hasValue c i es
-  unfolding chosenOf valuesAt isEmpty keep
-  value-next h = go (counts c o) (eqb j i) refl refl
+module _ (c : Chosen) (i : ℕ) (m : Meaning) (v : List ℕ) (j o : ℕ) (t : List ℕ) (es : List Entry) (under : Bool) (k : under ≡ (counts c o && eqb j i)) where
+  pub some-other : under ≡ false → someCounts c i m v (entry j o t ∷ es) ≡ someCounts c i m v es
+  unfolding chosenOf valuesAt someValue keep
+  some-other h = go (counts c o) (eqb j i) refl refl
     where
-      go : (u w : Bool) → counts c o ≡ u → eqb j i ≡ w → hasValue c i (entry j o t ∷ es) ≡ hasValue c i es
-      go true true p q = both-ways (e ∙ rw (p, q)) h
+      go : (u w : Bool) → counts c o ≡ u → eqb j i ≡ w → someCounts c i m v (entry j o t ∷ es) ≡ someCounts c i m v es
+      go true true p q = both-ways (k ∙ rw (p, q)) h
       go true false p q = rw (p, q)
       go false w p q = rw p
 
-pub value-end : (c : Chosen) (i : ℕ) → false ≡ hasValue c i []
-unfolding chosenOf valuesAt isEmpty keep
-value-end c i = refl
+  module _ (w : Readings) (e : w ≡ readingsFor m v) (b : Bool) (h : under ≡ true) (g : b ≡ countsRead m v w t) where
+    some-step : someCounts c i m v (entry j o t ∷ es) ≡ (b || someCounts c i m v es)
+    unfolding chosenOf valuesAt someValue keep
+    some-step =
+        let both : (counts c o && eqb j i) ≡ true = sym k ∙ h in
+        rw (and-left (counts c o) (eqb j i) both, and-right (counts c o) (eqb j i) both, once-counts m v w e t b g)
 
--- ---- whether some text is related
+    pub some-here : b ≡ true → true ≡ someCounts c i m v (entry j o t ∷ es)
+    some-here f = sym (some-step ∙ ap (λ (y : Bool). y || someCounts c i m v es) f)
 
-pub related-differs : (differs : Bool) (r : Relation) (v x : List ℕ) (b : Bool) → differs ≡ true → b ≡ relatesTo r x v → not b ≡ related differs r v x
-related-differs differs r v x b d e = rw (d, e)
+    pub some-next : b ≡ false → someCounts c i m v (entry j o t ∷ es) ≡ someCounts c i m v es
+    some-next f = some-step ∙ ap (λ (y : Bool). y || someCounts c i m v es) f
 
-pub related-plain : (differs : Bool) (r : Relation) (v x : List ℕ) (b : Bool) → differs ≡ false → b ≡ relatesTo r x v → b ≡ related differs r v x
-related-plain differs r v x b d e = rw d e
-
-pub entry-under : (under differs : Bool) (r : Relation) (v x : List ℕ) (b : Bool) → under ≡ true → b ≡ related differs r v x → b ≡ entryRelated under differs r v x
-entry-under under differs r v x b u e = rw u e
-
-abbrev pub someRelated : Chosen → Bool → Relation → List ℕ → ℕ → List Entry → Bool
-someRelated c differs r v i es = someValue (related differs r v) (valuesAt i (chosenOf c es))
-
-module _ (c : Chosen) (differs : Bool) (r : Relation) (v : List ℕ) (i j o : ℕ) (t : List ℕ) (es : List Entry) (under : Bool) (k : under ≡ (counts c o && eqb j i)) (b : Bool) (e : b ≡ entryRelated under differs r v t) where
-  pub some-here : b ≡ true → true ≡ someRelated c differs r v i (entry j o t ∷ es)
-  unfolding chosenOf valuesAt someValue keep
-  some-here h = go (counts c o) (eqb j i) refl refl
-    where
-      both-true : (counts c o && eqb j i) ≡ true
-      both-true = sym k ∙ and-left under (related differs r v t) (sym e ∙ h)
-
-      go : (u w : Bool) → counts c o ≡ u → eqb j i ≡ w → true ≡ someRelated c differs r v i (entry j o t ∷ es)
-      go u w p q = rw (and-left (counts c o) (eqb j i) both-true, and-right (counts c o) (eqb j i) both-true, and-right under (related differs r v t) (sym e ∙ h))
-
-  pub some-next : b ≡ false → someRelated c differs r v i (entry j o t ∷ es) ≡ someRelated c differs r v i es
-  unfolding chosenOf valuesAt someValue keep
-  some-next h = go (counts c o) (eqb j i) refl refl
-    where
-      go : (u w : Bool) → counts c o ≡ u → eqb j i ≡ w → someRelated c differs r v i (entry j o t ∷ es) ≡ someRelated c differs r v i es
-      go true true p q =
-          let under-is : under ≡ true = k ∙ rw (p, q) in
-          let same : related differs r v t ≡ false = sym (ap (λ (x : Bool). x && related differs r v t) under-is) ∙ sym e ∙ h in
-          rw (p, q, same)
-      go true false p q = rw (p, q)
-      go false w p q = rw p
-
-pub some-end : (c : Chosen) (differs : Bool) (r : Relation) (v : List ℕ) (i : ℕ) → false ≡ someRelated c differs r v i []
+pub some-end : (c : Chosen) (i : ℕ) (m : Meaning) (v : List ℕ) → false ≡ someCounts c i m v []
 unfolding chosenOf valuesAt someValue keep
-some-end c differs r v i = refl
+some-end c i m v = refl

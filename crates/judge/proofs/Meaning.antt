@@ -2,12 +2,12 @@
 -- The definitions are nested choices, and there is a law for each way through the code, which rewrites the definition by the tests made on
 -- that way. Which operators below 18 are not supported is computed (`low-rule`, `range-rule`). A value with escapes is judged by its
 -- decoded bytes (`value-escaped`), and one without by the bytes as they stand in the text (`value-plain`). `says-some` brings every
--- operator into one form, whether some text of a set counts: by it members are judged. It is by the cases of the meaning, and by induction
+-- operator into one form, whether some text of a set counts: by it tests are judged. It is by the cases of the meaning, and by induction
 -- on the set only where there is no meaning.
 -- Assumes nothing.
 use Prim.Native.Nat.{ℕ, _≤_, _<_}
 use native.Mathlib.Omega.{arith}
-use mathlib.Core.Path.{_≡_, refl, sym, ap, _∙_}
+use mathlib.Core.Path.{_≡_, refl, sym, ap, ap₂, _∙_}
 use mathlib.Core.Bool.{Bool, true, false, cond, not, _||_, Bool·not-not}
 use mathlib.Core.List.{List, [], _∷_}
 use lib.Dec.{eqb, leb}
@@ -30,13 +30,11 @@ use Rattle.kind.specs.Readable.{isTrue, valueReadable}
 use Rattle.kind.specs.declared.Relation.{Relation}
 use Rattle.kind.specs.declared.Meaning.{Meaning}
 use Rattle.judge.specs.Faults.{unsupported, kindFault, faultAt, testFault}
-use Rattle.judge.specs.Sets.{lookup, valuesAt, chosenOf}
-use Rattle.judge.specs.declared.Chosen.{Chosen}
-use Rattle.judge.specs.Verdicts.{isEmpty, someValue, related, textCounts, someSays, saysOf, saysAt, testSays}
+use Rattle.judge.specs.Sets.{lookup, valuesAt}
+use Rattle.judge.specs.Verdicts.{isEmpty, someValue, textCounts, someSays, saysOf, saysAt, testSays}
 use Rattle.refusal.specs.declared.Reason.{Reason}
 use Rattle.refusal.specs.declared.Decision.{Decision}
 use Rattle.refusal.specs.Decisions.{refuse}
-use Rattle.judge.proofs.Entries.{hasValue}
 
 -- ---- operators that are not supported
 
@@ -132,27 +130,6 @@ module _ (found : Found) (k : ℕ) (v : List ℕ) where
   pub says-missing : (es : List Entry) → found ≡ Found.Missing → false ≡ saysAt found k v es
   says-missing es h = rw h
 
-module _ (m : Meaning) (v : List ℕ) (c : Chosen) (i : ℕ) (es : List Entry) (r : Bool) where
-  pub says-present : (t : Bool) → m ≡ Meaning.Present → t ≡ isTrue v → t ≡ true → r ≡ hasValue c i es → r ≡ saysOf m v (valuesAt i (chosenOf c es))
-  unfolding saysOf
-  says-present t e f h g = rw (e, sym f ∙ h) g
-
-  pub says-absent : (t : Bool) → m ≡ Meaning.Present → t ≡ isTrue v → t ≡ false → r ≡ hasValue c i es → not r ≡ saysOf m v (valuesAt i (chosenOf c es))
-  unfolding saysOf
-  says-absent t e f h g = rw (e, sym f ∙ h, g) (Bool·not-not (isEmpty (valuesAt i (chosenOf c es))))
-
-  pub says-relates : (s : Relation) → m ≡ Meaning.Relates s → r ≡ someValue (related false s v) (valuesAt i (chosenOf c es)) → r ≡ saysOf m v (valuesAt i (chosenOf c es))
-  unfolding saysOf
-  says-relates s e g = rw e g
-
-  pub says-differs : (s : Relation) → m ≡ Meaning.Differs s → r ≡ someValue (related true s v) (valuesAt i (chosenOf c es)) → r ≡ saysOf m v (valuesAt i (chosenOf c es))
-  unfolding saysOf
-  says-differs s e g = rw e g
-
-pub says-nothing : (m : Meaning) (v : List ℕ) (set : List (List ℕ)) → m ≡ Meaning.Nothing → false ≡ saysOf m v set
-unfolding saysOf
-says-nothing m v set e = rw e
-
 -- ---- tests as they stand in the text
 
 -- a value is the text's part, or what its escapes stand for
@@ -223,3 +200,7 @@ says-some Meaning.Nothing v set = sym (never set)
     never : (xs : List (List ℕ)) → someValue (textCounts Meaning.Nothing v) xs ≡ false
     never [] = refl
     never (x ∷ xs) = never xs
+
+-- `says_of`
+pub says-by-some : (m : Meaning) (v : List ℕ) (set : List (List ℕ)) (truth some r : Bool) → some ≡ someValue (textCounts m v) set → truth ≡ isTrue v → r ≡ someSays m truth some → r ≡ saysOf m v set
+says-by-some m v set truth some r e f g = g ∙ ap₂ (someSays m) f e ∙ sym (says-some m v set)

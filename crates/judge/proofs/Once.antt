@@ -45,7 +45,7 @@ module _ (m : Meaning) (v : List ℕ) (w : Readings) (x : List ℕ) where
   unfolding countsRead
   read-nothing h = rw h
 
--- ---- `text_counts`: the value is read, then it counts as before
+-- ---- a value that was read for the meaning counts as before
 
 module _ (m : Meaning) (v : List ℕ) (w : Readings) (e : w ≡ readingsFor m v) where
   pub once-kept : Kept (w .number)

@@ -34,10 +34,6 @@ abbrev pub related : Bool → Relation → List ℕ → List ℕ → Bool
 related false r v x = relatesTo r x v
 related true r v x = not (relatesTo r x v)
 
--- the same of an entry's text, where under says that it belongs to the set
-abbrev pub entryRelated : Bool → Bool → Relation → List ℕ → List ℕ → Bool
-entryRelated under differs r v x = under && related differs r v x
-
 -- "a test says yes when some text in the set stands in the relation; on an empty set it says no, save pr, where pr true asks
 -- for a set that is not empty and pr false for an empty one"; "ne: some text in the set is not eq"
 unfoldable pub saysOf : Meaning → List ℕ → List (List ℕ) → Bool

@@ -14,6 +14,7 @@ pub use placed::test_found;
 pub use placed::test_says;
 pub use sets::conforms;
 pub use sets::is_under;
+pub use sets::some_counts;
 pub use values::counts_read;
 pub use values::readings_for;
 pub use verdicts::says_of;

@@ -1,14 +1,17 @@
 // The texts of a card: whether they conform to a sheet, and those under one parameter.
 use crate::Chosen;
+use crate::values::counts_read;
 use block::Validity;
-use kind::Relation;
+use kind::Meaning;
+use kind::Readings;
 ghost use mathlib.Core.Path.{_≡_};
-ghost use mathlib.Core.Bool.{not, _&&_};
+ghost use mathlib.Core.Bool.{_&&_};
 ghost use lib.ListN.{getD};
 ghost use Rattle.card.specs.Card.{entriesOf, readCard};
 ghost use Rattle.kind.specs.Readable.{cardReadable};
 ghost use Rattle.judge.specs.Sets.{valuesAt, counts, chosenOf, conformsTo};
-ghost use Rattle.judge.specs.Verdicts.{someValue, isEmpty, related, entryRelated};
+ghost use Rattle.judge.specs.Verdicts.{someValue, textCounts};
+ghost use Rattle.judge.specs.Once.{readingsFor};
 
 // Whether the text of an entry is readable as the kind of its parameter.
 fn entry_conforms(kinds: &[u8], index: u8, text: &[u8]) -> bool
@@ -54,55 +57,18 @@ pub fn is_under(chosen: Chosen, occurrence: u8, same: bool) -> bool
     false
 }
 
-// Whether a well-formed card has a text under a parameter, among the entries that count.
-pub fn has_value(card: &[u8], chosen: Chosen, index: u8) -> bool
-    requires { ⌜ readCard (now card) ≡ Validity.WellFormed ⌝ }
-    ensures { λ r. ⌜ r ≡ not (isEmpty (valuesAt index (chosenOf chosen (entriesOf (now (card .entry)))))) ⌝ }
-{
-    let mut at = card::FIRST_ENTRY;
-    let mut left = card::entry_count(card);
-    while left > 0 {
-        let e = card::entry_at(card, at, left);
-        if is_under(chosen, e.occurrence, e.index == index) {
-            return true;
-        }
-        at = e.end;
-        left -= 1;
-    }
-    false
-}
-
-// Whether a text stands in a relation to a value, or, where `differs`, does not.
-pub fn text_related(differs: bool, relation: Relation, value: &[u8], text: &[u8]) -> bool
-    ensures { λ r. ⌜ r ≡ related differs relation (now (value .entry)) (now (text .entry)) ⌝ }
-{
-    if differs {
-        return !kind::relates_to(relation, text, value);
-    }
-    kind::relates_to(relation, text, value)
-}
-
-// Whether an entry's text belongs to a parameter and is related to a value.
-fn entry_related(under: bool, differs: bool, relation: Relation, value: &[u8], text: &[u8]) -> bool
-    ensures { λ r. ⌜ r ≡ entryRelated under differs relation (now (value .entry)) (now (text .entry)) ⌝ }
-{
-    if under {
-        return text_related(differs, relation, value, text);
-    }
-    false
-}
-
-// Whether some text under a parameter stands in a relation to a value, or, where `differs`, some text does not.
-pub fn some_value(
+// Whether some text under a parameter counts for a meaning and a value that was read for it, among the entries that count.
+pub fn some_counts(
     card: &[u8],
     chosen: Chosen,
     index: u8,
-    differs: bool,
-    relation: Relation,
+    meaning: Meaning,
     value: &[u8],
+    readings: Readings,
 ) -> bool
     requires { ⌜ readCard (now card) ≡ Validity.WellFormed ⌝ }
-    ensures { λ r. ⌜ r ≡ someValue (related differs relation (now (value .entry))) (valuesAt index (chosenOf chosen (entriesOf (now (card .entry))))) ⌝ }
+    requires { ⌜ readings ≡ readingsFor meaning (now value) ⌝ }
+    ensures { λ r. ⌜ r ≡ someValue (textCounts meaning (now (value .entry))) (valuesAt index (chosenOf chosen (entriesOf (now (card .entry))))) ⌝ }
 {
     let mut at = card::FIRST_ENTRY;
     let mut left = card::entry_count(card);
@@ -110,17 +76,16 @@ pub fn some_value(
         let e = card::entry_at(card, at, left);
         let start = e.start;
         let end = e.end;
-        if entry_related(
-            is_under(chosen, e.occurrence, e.index == index),
-            differs,
-            relation,
-            value,
-            &card[start..end],
-        ) {
-            return true;
+        if is_under(chosen, e.occurrence, e.index == index) {
+            if counts_read(meaning, value, readings, &card[start..end]) {
+                return true;
+            }
+            at = end;
+            left -= 1;
+        } else {
+            at = end;
+            left -= 1;
         }
-        at = end;
-        left -= 1;
     }
     false
 }

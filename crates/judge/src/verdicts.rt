@@ -1,7 +1,7 @@
 // What a test says of a card.
 use crate::Chosen;
-use crate::sets::has_value;
-use crate::sets::some_value;
+use crate::sets::some_counts;
+use crate::values::readings_for;
 use block::Validity;
 use kind::Meaning;
 use sheet::Found;
@@ -15,17 +15,9 @@ pub fn says_of(card: &[u8], chosen: Chosen, index: u8, meaning: Meaning, value: 
     requires { ⌜ readCard (now card) ≡ Validity.WellFormed ⌝ }
     ensures { λ r. ⌜ r ≡ saysOf meaning (now (value .entry)) (valuesAt index (chosenOf chosen (entriesOf (now (card .entry))))) ⌝ }
 {
-    match meaning {
-        Meaning::Present => {
-            if kind::is_true(value) {
-                return has_value(card, chosen, index);
-            }
-            !has_value(card, chosen, index)
-        }
-        Meaning::Relates(relation) => some_value(card, chosen, index, false, relation, value),
-        Meaning::Differs(relation) => some_value(card, chosen, index, true, relation, value),
-        Meaning::Nothing => false,
-    }
+    let readings = readings_for(meaning, value);
+    let some = some_counts(card, chosen, index, meaning, value, readings);
+    some_says(meaning, kind::is_true(value), some)
 }
 
 // What a test with this operator and value says of a well-formed card, at what its name is on the sheet.

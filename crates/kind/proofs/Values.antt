@@ -56,7 +56,7 @@ relates-is (Relation.Dates r) i f = refl
 relates-is Relation.Tokens i f = refl
 relates-is Relation.References i f = refl
 
-pub number-kept : (f : List ℕ) (v : NumberReading) → v ≡ numbers.read f → Kept v
+number-kept : (f : List ℕ) (v : NumberReading) → v ≡ numbers.read f → Kept v
 number-kept f v e = record { bounded = λ d h. number-bounded f v d e h }
 
 pub unread-kept : Kept (unread .number)

@@ -12,7 +12,6 @@ pub use readable::is_true;
 pub use readable::value_readable;
 pub use relate::readings_of;
 pub use relate::relates_read;
-pub use relate::relates_to;
 pub use relate::unread;
 
 // The relations of strings: same, holds it somewhere, at the start, at the end.

@@ -12,7 +12,7 @@ use period::Period;
 use period::PeriodReading;
 ghost use mathlib.Core.Path.{_≡_};
 ghost use Rattle.number.specs.Value.{Bounded};
-ghost use Rattle.kind.specs.Relations.{Kept, stringsRelate, numbersRelate, datesRelate, relatesTo, numberReadingsRelate, dateReadingsRelate, unread, readingsOf, relatesRead};
+ghost use Rattle.kind.specs.Relations.{Kept, stringsRelate, numbersRelate, datesRelate, numberReadingsRelate, dateReadingsRelate, unread, readingsOf, relatesRead};
 ghost use Rattle.number.specs.Reading as numbers;
 ghost use Rattle.period.specs.Texts as periods;
 
@@ -85,19 +85,6 @@ fn date_readings_relate(relation: DateRelation, text: &[u8], value: DateReading)
     dates_relate(relation, i, f)
 }
 
-// Whether the card's text stands in the relation to the filter's value.
-pub fn relates_to(relation: Relation, text: &[u8], value: &[u8]) -> bool
-    ensures { λ r. ⌜ r ≡ relatesTo relation (now (text .entry)) (now (value .entry)) ⌝ }
-{
-    match relation {
-        Relation::Strings(r) => strings_relate(r, text, value),
-        Relation::Numbers(r) => number_readings_relate(r, text, number::read(value)),
-        Relation::Dates(r) => date_readings_relate(r, text, date::read(value)),
-        Relation::Tokens => token::matches(text, value),
-        Relation::References => text::same(text, value),
-    }
-}
-
 // Of a value whose bytes are compared.
 pub fn unread() -> Readings
     ensures { λ r. ⌜ r ≡ unread ⌝ }
@@ -127,7 +114,7 @@ pub fn readings_of(relation: Relation, value: &[u8]) -> Readings
     }
 }
 
-// `stands` with a value that was read already.
+// Whether the card's text stands in the relation to the filter's value, which was read already.
 pub fn relates_read(relation: Relation, text: &[u8], value: &[u8], readings: Readings) -> bool
     requires { ⌜ Kept (readings .number) ⌝ }
     ensures { λ r. ⌜ r ≡ relatesRead relation (now (text .entry)) (now (value .entry)) readings ⌝ }

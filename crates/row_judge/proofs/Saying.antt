@@ -1,5 +1,5 @@
--- Judging rows: the stack has the verdicts and the sizes of the expressions so far, and a test is judged entry by entry.
--- Two things are shown. A test's verdict by the set of the entries that are kept is found from whether there is an entry that counts and of
+-- Judging rows: the stack has the verdicts and the sizes of the expressions so far, and a test after brackets is judged entry by entry.
+-- Two things are shown. Its verdict by the set of the entries that are kept is found from whether there is an entry that counts and of
 -- whose occurrence the rows in the brackets say yes (`each-is`, from `entry-is`, by induction on the entries). And the walk over the rows
 -- keeps `Judging`: `Stacked` says that the expressions on the stack are those of the rows before i and decide with the rows that are left,
 -- and `Holds` that the arrays have their verdicts and lengths. Each kind of row has a law that takes `Judging` from i to i + 1, or says no
@@ -37,14 +37,14 @@ use Rattle.kind.specs.declared.Meaning.{Meaning}
 use Rattle.judge.specs.Sets.{valuesAt, counts, chosenOf, ofOccurrence, keep}
 use Rattle.judge.specs.Verdicts.{someValue, textCounts, someSays, saysOf, joined}
 use Rattle.judge.specs.declared.Chosen.{Chosen}
-use Rattle.judge.specs.Once.{countsRead}
-use Rattle.judge.proofs.Meaning.{says-some}
+use Rattle.judge.specs.Once.{readingsFor, countsRead}
+use Rattle.judge.proofs.Meaning.{says-some, says-by-some}
 use Rattle.judge.proofs.Once.{for-kept, once-counts}
 use Rattle.judge.proofs.Occurrences.{chosen-one, occurrence-whole}
 use Rattle.rows.specs.Expression.{Expression, probing, choosing, joining, negating, testCount}
 use Rattle.rows.specs.Cells.{rowOf, cellOf, encode, Writable, push, only, stated}
 use Rattle.rows.specs.Shapes.{valueIn}
-use Rattle.row_judge.specs.Saying.{probeSaysBy, probeSays, expressionSays, statedSays, rowsSay, Whole, Bracketed, innerSays, anyOccurrence, someEntry, occurrenceSays, probeSaysEachBy, probeSaysEach}
+use Rattle.row_judge.specs.Saying.{probeSaysBy, probeSays, expressionSays, statedSays, rowsSay, Whole, Bracketed, someEntry, occurrenceSays, probeSaysEachBy, probeSaysEach}
 use Rattle.rows.specs.declared.Probe.{Probe}
 use Rattle.row_opener.specs.Opening.{openedValue, openedBy, openedFor, openedIn, openedRow, valueOf, Known, openedFrom, Opens}
 use Rattle.row_judge.specs.Jumping.{Item, Jumps, Lands, Leapt}
@@ -52,7 +52,7 @@ use Rattle.rows.specs.declared.Row.{Row}
 use Rattle.row_opener.specs.declared.Opened.{Opened}
 use Rattle.row_opener.proofs.Opening.{row-small, cells-back}
 use Rattle.row_judge.proofs.Jumping.{stacked-item}
-use Rattle.rows.proofs.Stating.{stated-encode, stated-cells, flat, total, height-total}
+use Rattle.rows.proofs.Stating.{stated-encode, flat, total, height-total}
 use Rattle.rows.proofs.Machine.{Holds, holds-none, holds-more, holds-length, holds-push, top-of, none-on, Stacked, stacked-start, stacked-next, stacked-fails, stacked-end, stacked-total}
 
 -- ---- entry by entry is by the set of the entries that are kept
@@ -74,18 +74,6 @@ module _ (says kept : ℕ → Bool) (k : Chosen) (same : (o : ℕ) → counts k 
           by false true b d = rw (a, d, b, r)
           by false false b d = rw (a, d, b, r)
 
-keep-all : (es : List Entry) → keep (λ e. true) es ≡ es
-unfolding keep
-keep-all [] = refl
-keep-all (e ∷ es) = ap (λ (l : List Entry). e ∷ l) (keep-all es)
-
-some-cells : (e : Expression) → 1 ≤ length (encode e)
-unfolding encode
-some-cells (probing p) = omega arith
-some-cells (choosing e p) = omega (arith, length-append (encode e) (cellOf (Row.Bracket p) ∷ []))
-some-cells (joining c e f) = omega (arith, some-cells e, length-append (encode e) (encode f ++ (cellOf (Row.Connect c) ∷ [])))
-some-cells (negating e) = omega (arith, length-append (encode e) (cellOf Row.Not ∷ []))
-
 module _ (kinds xs : List ℕ) (k : Chosen) (all : List Entry) (p : Probe) where
   -- the test of what is kept, from some entry that counts
   each-is : (says kept : ℕ → Bool) → ((o : ℕ) → counts k o ≡ true → says o ≡ kept o) → (kind : ℕ) (v : RawValue)
@@ -95,19 +83,10 @@ module _ (kinds xs : List ℕ) (k : Chosen) (all : List Entry) (p : Probe) where
       let m : Meaning = meaningOf (p .operator) kind in
       ap (someSays m (isTrue (valueIn xs v))) (entry-is says kept k same (p .index) m (valueIn xs v) all) ∙ sym (says-some m (valueIn xs v) (valuesAt (p .index) (keep (λ e. kept (e .occurrence)) (chosenOf k all))))
 
-  plain-is : probeSaysEach kinds xs [] p k all ≡ expressionSays kinds xs (chosenOf k all) (probing p)
-  unfolding probeSaysEach probeSays expressionSays
-  plain-is = by-value (valueAt xs (p .position))
-    where
-      by-value : (f : FoundValue) → probeSaysEachBy f (getD kinds (p .index) 0) kinds xs [] p k all ≡ probeSaysBy f (getD kinds (p .index) 0) xs p (chosenOf k all)
-      by-value (FoundValue.Value v) = each-is (λ o. true) (λ o. true) (λ o h. refl) (getD kinds (p .index) 0) v ∙ ap (λ (l : List Entry). saysOf (meaningOf (p .operator) (getD kinds (p .index) 0)) (valueIn xs v) (valuesAt (p .index) l)) (keep-all (chosenOf k all))
-      by-value FoundValue.Nothing = refl
-
   -- the rows in the brackets say what their expression says
-  inner-is : (e : Expression) (cs : List ℕ) (es : List Entry) → cs ≡ encode e → Writable e → innerSays kinds xs es cs ≡ expressionSays kinds xs es e
-  unfolding rowsSay encode
-  inner-is e [] es h w = absurd (omega (arith, ap length h, some-cells e))
-  inner-is e (c ∷ cs) es h w = ap (statedSays kinds xs es) (ap stated h ∙ stated-encode e w)
+  inner-is : (e : Expression) (cs : List ℕ) (es : List Entry) → cs ≡ encode e → Writable e → rowsSay kinds xs es cs ≡ expressionSays kinds xs es e
+  unfolding rowsSay
+  inner-is e cs es h w = ap (statedSays kinds xs es) (ap stated h ∙ stated-encode e w)
 
   bracket-is : (e : Expression) (cs : List ℕ) → cs ≡ encode e → Writable e → probeSaysEach kinds xs cs p k all ≡ expressionSays kinds xs (chosenOf k all) (choosing e p)
   unfolding probeSaysEach probeSays expressionSays
@@ -139,37 +118,16 @@ module _ (says : ℕ → Bool) (k : Chosen) (i : ℕ) (m : Meaning) (v : List �
   pub entry-next : r ≡ false → someEntry says k i m v (entry j o x ∷ es) ≡ someEntry says k i m v es
   entry-next h = entry-step ∙ ap (λ (y : Bool). y || someEntry says k i m v es) h
 
--- the same without brackets
-module _ (k : Chosen) (i : ℕ) (m : Meaning) (v : List ℕ) (j o : ℕ) (x : List ℕ) (es : List Entry) (under : Bool) (a : under ≡ (counts k o && eqb j i)) where
-  pub plain-here : (n : Bool) → under ≡ true → n ≡ textCounts m v x → n ≡ true → true ≡ someEntry anyOccurrence k i m v (entry j o x ∷ es)
-  plain-here n u b h = entry-here anyOccurrence k i m v j o x es under n n a (b ∙ ap (λ (y : Bool). y && textCounts m v x) (sym u)) (sym (and-true n)) h
-
-  pub plain-next : (n : Bool) → under ≡ true → n ≡ textCounts m v x → n ≡ false → someEntry anyOccurrence k i m v (entry j o x ∷ es) ≡ someEntry anyOccurrence k i m v es
-  plain-next n u b h = entry-next anyOccurrence k i m v j o x es under n n a (b ∙ ap (λ (y : Bool). y && textCounts m v x) (sym u)) (sym (and-true n)) h
-
-  pub plain-other : under ≡ false → someEntry anyOccurrence k i m v (entry j o x ∷ es) ≡ someEntry anyOccurrence k i m v es
-  plain-other u = entry-next anyOccurrence k i m v j o x es under false false a (ap (λ (y : Bool). y && textCounts m v x) (sym u)) refl refl
-
 pub entry-end : (says : ℕ → Bool) (k : Chosen) (i : ℕ) (m : Meaning) (v : List ℕ) → false ≡ someEntry says k i m v []
 unfolding someEntry
 entry-end says k i m v = refl
 
 module _ (kinds xs : List ℕ) (all : List Entry) (inner : List ℕ) (o : ℕ) (u : Bool) where
-  chosen-inner : (r : Bool) → u ≡ true → (length inner ≡ 0 → ⊥) → r ≡ rowsSay kinds xs (chosenOf (record { all = false; occurrence = o }) all) inner → r ≡ (u && occurrenceSays kinds xs all inner o)
-  chosen-inner r h z e = rw h (e ∙ ap (λ (l : List Entry). rowsSay kinds xs l inner) (chosen-one o all) ∙ by-length inner z)
-    where
-      by-length : (cs : List ℕ) → (length cs ≡ 0 → ⊥) → rowsSay kinds xs (ofOccurrence o all) cs ≡ innerSays kinds xs (ofOccurrence o all) cs
-      by-length [] z = absurd (z refl)
-      by-length (c ∷ cs) z = refl
+  pub chosen-inner : (r : Bool) → u ≡ true → r ≡ rowsSay kinds xs (chosenOf (record { all = false; occurrence = o }) all) inner → r ≡ (u && occurrenceSays kinds xs all inner o)
+  chosen-inner r h e = rw h (e ∙ ap (λ (l : List Entry). rowsSay kinds xs l inner) (chosen-one o all))
 
   pub chosen-not : u ≡ false → false ≡ (u && occurrenceSays kinds xs all inner o)
   chosen-not h = rw h
-
-pub bracket-inner : (kinds xs : List ℕ) (all : List Entry) (rows : List ℕ) (from to o : ℕ) (u r : Bool) → Bracketed rows from to → u ≡ true
-    → r ≡ rowsSay kinds xs (chosenOf (record { all = false; occurrence = o }) all) (part rows from to) → r ≡ (u && occurrenceSays kinds xs all (part rows from to) o)
-bracket-inner kinds xs all rows from to o u r b h e =
-    let w : Whole (part rows from to) = b .whole in
-    chosen-inner kinds xs all (part rows from to) o u r h (λ n. omega (arith, n, ap length (stated-cells (part rows from to) (w .expression) (w .states)), some-cells (w .expression))) e
 
 module _ (kinds xs : List ℕ) (p : Probe) (o : Opened) (e : o ≡ openedFor kinds xs p) where
   -- what is opened of a value that there is
@@ -202,16 +160,36 @@ module _ (kinds xs : List ℕ) (p : Probe) (o : Opened) (e : o ≡ openedFor kin
   pub probe-known : (m : Meaning) (kind : ℕ) → o .found ≡ true → kind ≡ getD kinds (p .index) 0 → m ≡ meaningOf (p .operator) kind → Known xs m o
   probe-known m kind h i j = subst (λ (n : Meaning). Known xs n o) (sym (j ∙ ap (meaningOf (p .operator)) i)) (told h .known)
 
+  -- where none is opened there is none
+  none-told : o .found ≡ false → valueAt xs (p .position) ≡ FoundValue.Nothing
+  unfolding openedFor openedValue
+  none-told h = by-value (valueAt xs (p .position)) refl
+    where
+      by-value : (f : FoundValue) → valueAt xs (p .position) ≡ f → f ≡ FoundValue.Nothing
+      by-value (FoundValue.Value v) i =
+          let some : true ≡ false = sym (ap (λ (q : Opened). q .found) (e ∙ ap (openedBy xs (meaningOf (p .operator) (getD kinds (p .index) 0))) i)) ∙ h in
+          absurd (let z : _≡_ {A = ℕ} 0 1 = cc in omega arith)
+      by-value FoundValue.Nothing i = refl
+
+  -- a test without brackets
+  module _ (es : List Entry) where
+    pub plain-closed : o .found ≡ false → false ≡ probeSays kinds xs p es
+    unfolding probeSays
+    plain-closed h = rw (none-told h)
+
+    pub plain-opened : (m : Meaning) (kind : ℕ) (s r : Bool) → o .found ≡ true → kind ≡ getD kinds (p .index) 0 → m ≡ meaningOf (p .operator) kind
+        → s ≡ someValue (textCounts m (valueOf xs o)) (valuesAt (p .index) es) → r ≡ someSays m (o .truth) s → r ≡ probeSays kinds xs p es
+    unfolding probeSays
+    plain-opened m kind s r h i j q y =
+        let is : m ≡ meaningOf (p .operator) (getD kinds (p .index) 0) = j ∙ ap (meaningOf (p .operator)) i in
+        let w = told h in
+        rw (w .found) (says-by-some m (valueOf xs o) (valuesAt (p .index) es) (o .truth) s r q (w .truth ∙ ap isTrue (sym (w .same))) y ∙ ap₂ (λ (n : Meaning) (v : List ℕ). saysOf n v (valuesAt (p .index) es)) is (w .same))
+
+  -- a test after brackets
   module _ (inner : List ℕ) (k : Chosen) (all : List Entry) where
     pub probe-closed : o .found ≡ false → false ≡ probeSaysEach kinds xs inner p k all
-    unfolding probeSaysEach openedFor openedValue
-    probe-closed h = by-value (valueAt xs (p .position)) refl
-      where
-        by-value : (f : FoundValue) → valueAt xs (p .position) ≡ f → false ≡ probeSaysEachBy f (getD kinds (p .index) 0) kinds xs inner p k all
-        by-value (FoundValue.Value v) i =
-            let some : true ≡ false = sym (ap (λ (q : Opened). q .found) (e ∙ ap (openedBy xs (meaningOf (p .operator) (getD kinds (p .index) 0))) i)) ∙ h in
-            absurd (let z : _≡_ {A = ℕ} 0 1 = cc in omega arith)
-        by-value FoundValue.Nothing i = refl
+    unfolding probeSaysEach
+    probe-closed h = rw (none-told h)
 
     pub probe-opened : (m : Meaning) (kind : ℕ) (s r : Bool) → o .found ≡ true → kind ≡ getD kinds (p .index) 0 → m ≡ meaningOf (p .operator) kind
         → s ≡ someEntry (occurrenceSays kinds xs all inner) k (p .index) m (valueOf xs o) all → r ≡ someSays m (o .truth) s → r ≡ probeSaysEach kinds xs inner p k all
@@ -227,17 +205,37 @@ module _ (xs : List ℕ) (m : Meaning) (o : Opened) (w : Known xs m o) where
   pub known-kept : Kept (o .readings .number)
   known-kept = rw (w .read) (for-kept m (valueOf xs o))
 
-  pub known-escaped : (x : List ℕ) (t : Bool) → o .escaped ≡ true → t ≡ countsRead m (decode false (part xs (o .start) (o .end))) (o .readings) x → t ≡ textCounts m (valueOf xs o) x
+  escaped-value : o .escaped ≡ true → decode false (part xs (o .start) (o .end)) ≡ valueOf xs o
   unfolding valueOf
-  known-escaped x t h e =
-      let same : decode false (part xs (o .start) (o .end)) ≡ valueOf xs o = ap (λ (b : Bool). contents b (part xs (o .start) (o .end))) (sym h) in
-      once-counts m (valueOf xs o) (o .readings) (w .read) x t (e ∙ ap (λ (v : List ℕ). countsRead m v (o .readings) x) same)
+  escaped-value h = ap (λ (b : Bool). contents b (part xs (o .start) (o .end))) (sym h)
+
+  plain-value : o .escaped ≡ false → part xs (o .start) (o .end) ≡ valueOf xs o
+  unfolding valueOf
+  plain-value h = ap (λ (b : Bool). contents b (part xs (o .start) (o .end))) (sym h)
+
+  -- of one text
+  known-counts : (v x : List ℕ) (t : Bool) → v ≡ valueOf xs o → t ≡ countsRead m v (o .readings) x → t ≡ textCounts m (valueOf xs o) x
+  known-counts v x t h e = once-counts m (valueOf xs o) (o .readings) (w .read) x t (e ∙ ap (λ (y : List ℕ). countsRead m y (o .readings) x) h)
+
+  pub known-escaped : (x : List ℕ) (t : Bool) → o .escaped ≡ true → t ≡ countsRead m (decode false (part xs (o .start) (o .end))) (o .readings) x → t ≡ textCounts m (valueOf xs o) x
+  known-escaped x t h = known-counts (decode false (part xs (o .start) (o .end))) x t (escaped-value h)
 
   pub known-plain : (x : List ℕ) (t : Bool) → o .escaped ≡ false → t ≡ countsRead m (part xs (o .start) (o .end)) (o .readings) x → t ≡ textCounts m (valueOf xs o) x
-  unfolding valueOf
-  known-plain x t h e =
-      let same : part xs (o .start) (o .end) ≡ valueOf xs o = ap (λ (b : Bool). contents b (part xs (o .start) (o .end))) (sym h) in
-      once-counts m (valueOf xs o) (o .readings) (w .read) x t (e ∙ ap (λ (v : List ℕ). countsRead m v (o .readings) x) same)
+  known-plain x t h = known-counts (part xs (o .start) (o .end)) x t (plain-value h)
+
+  -- of some text
+  pub escaped-read : (out : List ℕ) (n : ℕ) → o .escaped ≡ true → Decoded (part xs (o .start) (o .end)) out n → o .readings ≡ readingsFor m (take n out)
+  escaped-read out n h d = w .read ∙ ap (readingsFor m) (sym (d .is ∙ escaped-value h))
+
+  pub plain-read : o .escaped ≡ false → o .readings ≡ readingsFor m (part xs (o .start) (o .end))
+  plain-read h = w .read ∙ ap (readingsFor m) (sym (plain-value h))
+
+  module _ (set : List (List ℕ)) (t : Bool) where
+    pub escaped-some : (out : List ℕ) (n : ℕ) → o .escaped ≡ true → Decoded (part xs (o .start) (o .end)) out n → t ≡ someValue (textCounts m (take n out)) set → t ≡ someValue (textCounts m (valueOf xs o)) set
+    escaped-some out n h d e = e ∙ ap (λ (v : List ℕ). someValue (textCounts m v) set) (d .is ∙ escaped-value h)
+
+    pub plain-some : o .escaped ≡ false → t ≡ someValue (textCounts m (part xs (o .start) (o .end))) set → t ≡ someValue (textCounts m (valueOf xs o)) set
+    plain-some h e = e ∙ ap (λ (v : List ℕ). someValue (textCounts m v) set) (plain-value h)
 
 pub decoded-counts : (raw out : List ℕ) (n : ℕ) → Decoded raw out n → (m : Meaning) (r : Readings) (x : List ℕ) (t : Bool) → t ≡ countsRead m (take n out) r x → t ≡ countsRead m (decode false raw) r x
 decoded-counts raw out n d m r x t e = e ∙ ap (λ (v : List ℕ). countsRead m v r x) (d .is)
@@ -307,14 +305,14 @@ module _ (kinds xs : List ℕ) (k : Chosen) (all : List Entry) where
         let next : Stacked rows (i + 1) (probing p ∷ s .st) = stacked-next (s .stacked) l r e (probing p ∷ s .st) (rw u) in
         absurd (omega (arith, stacked-total next (w .expression) (w .states), height-total (s .st), holds-length (s .verdicts), z, w .few))
 
-    pub judging-test : (p : Probe) (v : Bool) → r ≡ Row.Test p → (top ≡ 32 → ⊥) → v ≡ probeSaysEach kinds xs [] p k all → Judging rows (set says top v) (set sizes top 1) (top + 1) (i + 1)
-    unfolding push encode
+    pub judging-test : (p : Probe) (v : Bool) → r ≡ Row.Test p → (top ≡ 32 → ⊥) → v ≡ probeSays kinds xs p (chosenOf k all) → Judging rows (set says top v) (set sizes top 1) (top + 1) (i + 1)
+    unfolding push encode expressionSays
     judging-test p v u z w =
         let low : top < 32 = omega (arith, s .few, z) in
         record {
           st = probing p ∷ s .st;
           stacked = stacked-next (s .stacked) l r e (probing p ∷ s .st) (rw u);
-          verdicts = holds-push (probing p) v (s .verdicts) (omega (arith, s .says-size, low)) (w ∙ plain-is kinds xs k all p);
+          verdicts = holds-push (probing p) v (s .verdicts) (omega (arith, s .says-size, low)) w;
           lengths = holds-push (probing p) 1 (s .lengths) (omega (arith, s .sizes-size, low)) refl;
           says-size = length-set says top v ∙ s .says-size;
           sizes-size = length-set sizes top 1 ∙ s .sizes-size;

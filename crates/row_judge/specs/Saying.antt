@@ -2,7 +2,7 @@
 -- Assumes nothing.
 use Prim.Native.Nat.{ℕ, _≤_}
 use mathlib.Core.Path.{_≡_}
-use mathlib.Core.Bool.{Bool, true, false, not, _&&_, _||_}
+use mathlib.Core.Bool.{Bool, false, not, _&&_, _||_}
 use mathlib.Core.Option.{Option, none, some}
 use mathlib.Core.List.{List, [], _∷_}
 use lib.Dec.{eqb}
@@ -59,24 +59,16 @@ pub record Bracketed (rows : List ℕ) (from to : ℕ) : Type 0 where
   pub within : to ≤ length rows
   pub whole : Whole (part rows from to)
 
--- ---- a test after the rows in its brackets, entry by entry; a test without brackets has none
-
-abbrev pub innerSays : List ℕ → List ℕ → List Entry → List ℕ → Bool
-innerSays kinds xs es [] = true
-innerSays kinds xs es (c ∷ cs) = rowsSay kinds xs es (c ∷ cs)
+-- ---- a test after the rows in its brackets, entry by entry
 
 -- some of the entries is among those that count, stands under the parameter, has a text that counts, and has an occurrence that says yes
 unfoldable pub someEntry : (ℕ → Bool) → Chosen → ℕ → Meaning → List ℕ → List Entry → Bool
 someEntry says k i m v [] = false
 someEntry says k i m v (e ∷ es) = (((counts k (e .occurrence) && eqb (e .index) i) && textCounts m v (e .text)) && says (e .occurrence)) || someEntry says k i m v es
 
--- without brackets every occurrence says yes
-abbrev pub anyOccurrence : ℕ → Bool
-anyOccurrence o = true
-
 -- what the rows in the brackets say of an occurrence of a card with the entries all
 abbrev pub occurrenceSays : List ℕ → List ℕ → List Entry → List ℕ → ℕ → Bool
-occurrenceSays kinds xs all inner o = innerSays kinds xs (ofOccurrence o all) inner
+occurrenceSays kinds xs all inner o = rowsSay kinds xs (ofOccurrence o all) inner
 
 abbrev pub probeSaysEachBy : FoundValue → ℕ → List ℕ → List ℕ → List ℕ → Probe → Chosen → List Entry → Bool
 probeSaysEachBy (FoundValue.Value v) kind kinds xs inner p k all =

@@ -4,6 +4,7 @@ use block::Validity;
 use judge::Chosen;
 use judge::counts_read;
 use judge::is_under;
+use judge::some_counts;
 use judge::some_says;
 use kind::Meaning;
 use kind::Readings;
@@ -16,7 +17,6 @@ use syntax::Connective;
 use syntax::value::decode;
 ghost use mathlib.Core.Path.{_≡_};
 ghost use mathlib.Core.Bool.{false, _&&_};
-ghost use mathlib.Core.List.{[]};
 ghost use Prim.Native.Nat.{_≤_, _<_};
 ghost use lib.ListN.{length, getD};
 ghost use lib.IntN.{pos};
@@ -24,10 +24,10 @@ ghost use Rattle.card.specs.Card.{entriesOf, readCard};
 ghost use Rattle.syntax.specs.Scan.{decode as decoded};
 ghost use Rattle.kind.specs.Relations.{Kept};
 ghost use Rattle.judge.specs.Once.{countsRead};
-ghost use Rattle.judge.specs.Sets.{chosenOf};
-ghost use Rattle.judge.specs.Verdicts.{textCounts, joined};
+ghost use Rattle.judge.specs.Sets.{valuesAt, chosenOf};
+ghost use Rattle.judge.specs.Verdicts.{someValue, textCounts, joined};
 ghost use Rattle.base.specs.Parts.{part};
-ghost use Rattle.row_judge.specs.Saying.{rowsSay, Whole, Bracketed, anyOccurrence, someEntry, occurrenceSays, probeSaysEach};
+ghost use Rattle.row_judge.specs.Saying.{probeSays, rowsSay, Whole, Bracketed, someEntry, occurrenceSays, probeSaysEach};
 ghost use Rattle.row_opener.specs.Opening.{Known, valueOf, openedFor, openedFrom, Opens};
 ghost use Rattle.row_judge.specs.Jumping.{Jumps, Leapt};
 
@@ -124,8 +124,8 @@ fn entry_chosen(
     false
 }
 
-// Whether some entry under a parameter counts for a test without brackets.
-fn some_counts(
+// Whether some text under a parameter counts for a value of the filter that was opened: one with escapes is decoded once.
+fn some_text(
     filter: &[u8],
     card: &[u8],
     chosen: Chosen,
@@ -136,26 +136,17 @@ fn some_counts(
     requires { ⌜ length (now filter) ≤ 1024 ⌝ }
     requires { ⌜ readCard (now card) ≡ Validity.WellFormed ⌝ }
     requires { ⌜ Known (now filter) meaning opened ⌝ }
-    ensures { λ r. ⌜ r ≡ someEntry anyOccurrence chosen index meaning (valueOf (now (filter .entry)) opened) (entriesOf (now (card .entry))) ⌝ }
+    ensures { λ r. ⌜ r ≡ someValue (textCounts meaning (valueOf (now (filter .entry)) opened)) (valuesAt index (chosenOf chosen (entriesOf (now (card .entry))))) ⌝ }
 {
-    let mut at = card::FIRST_ENTRY;
-    let mut left = card::entry_count(card);
-    while left > 0 {
-        let e = card::entry_at(card, at, left);
-        let start = e.start;
-        let end = e.end;
-        if is_under(chosen, e.occurrence, e.index == index) {
-            if value_counts(filter, opened, meaning, &card[start..end]) {
-                return true;
-            }
-            at = end;
-            left -= 1;
-        } else {
-            at = end;
-            left -= 1;
-        }
+    let start = opened.start;
+    let end = opened.end;
+    let readings = opened.readings;
+    if opened.escaped {
+        let mut value = [0u8; 1024];
+        let n = decode(&filter[start..end], &mut value);
+        return some_counts(card, chosen, index, meaning, &value[..n], readings);
     }
-    false
+    some_counts(card, chosen, index, meaning, &filter[start..end], readings)
 }
 
 // What a test without brackets says of the entries that count.
@@ -172,12 +163,12 @@ fn plain_says(
     requires { ⌜ readCard (now card) ≡ Validity.WellFormed ⌝ }
     requires { ⌜ probe .index < 32 ⌝ }
     requires { ⌜ opened ≡ openedFor (now kinds) (now filter) probe ⌝ }
-    ensures { λ r. ⌜ r ≡ probeSaysEach (now (kinds .entry)) (now (filter .entry)) [] probe chosen (entriesOf (now (card .entry))) ⌝ }
+    ensures { λ r. ⌜ r ≡ probeSays (now (kinds .entry)) (now (filter .entry)) probe (chosenOf chosen (entriesOf (now (card .entry)))) ⌝ }
 {
     let index = probe.index as usize;
     if opened.found {
         let meaning = kind::meaning_of(probe.operator, kinds[index]);
-        let some = some_counts(filter, card, chosen, probe.index, meaning, opened);
+        let some = some_text(filter, card, chosen, probe.index, meaning, opened);
         return some_says(meaning, opened.truth, some);
     }
     false

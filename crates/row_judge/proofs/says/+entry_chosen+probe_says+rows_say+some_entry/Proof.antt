@@ -18,7 +18,7 @@ use Rattle.row_judge.specs.Saying.{someEntry, occurrenceSays}
 use Rattle.row_opener.specs.Opening.{valueOf}
 use Rattle.rows.proofs.Machine.{test-index, bracket-index}
 use Rattle.row_judge.proofs.Jumping.{opens-part, jumps-part, leap-within, leap-top}
-use Rattle.row_judge.proofs.Saying.{entry-here, entry-next, entry-end, bracket-inner, chosen-not, probe-known, probe-closed, probe-opened, at-test, at-bracket, Judging, judging-start, judging-unknown, judging-full, judging-test, judging-bare-bracket, judging-before, judging-inner, judging-bracket, judging-bare-not, judging-not, judging-short, judging-sizes, judging-connect, judging-leap, leap-size, judging-whole, judging-other}
+use Rattle.row_judge.proofs.Saying.{entry-here, entry-next, entry-end, chosen-inner, chosen-not, probe-known, probe-closed, probe-opened, at-test, at-bracket, Judging, judging-start, judging-unknown, judging-full, judging-test, judging-bare-bracket, judging-before, judging-inner, judging-bracket, judging-bare-not, judging-not, judging-short, judging-sizes, judging-connect, judging-leap, leap-size, judging-whole, judging-other}
 use borrow.Author.Needs.{needs}
 use Prim.Native.Nat.{ℕ, _<_}
 use borrow.Fn.Kinds.{In}
@@ -139,7 +139,7 @@ pub +entry-chosen+probe-says+rows-say+some-entry-spec : {M : Type 1} → stateme
     (λ c. omega (arith, c .before .before .before .before .before .before .before .before .before .before .before .before .before .pre .1 .1 .1 .0 .order))  -- part-rows-say-start-6
     (λ c. omega (arith, c .before .before .before .before .before .before .before .before .before .before .before .before .before .pre .1 .1 .1 .0 .within, c .before .before .before .before .before .before .before .before .before .before .before .before .before .pre .1 .1 .1 .1 .1 .0 .end-cells .room))  -- part-rows-say-end-6
     (λ c κs. let start = c .before .before .before .before .before .before .before .before .before .before .before .before .before .before in (omega (arith, start .pre .0, part-length (start .args .rows .now) (start .args .from) (start .args .to) (start .pre .1 .1 .1 .0 .within)), (start .pre .1 .0, (start .pre .1 .1 .0, (start .pre .1 .1 .1 .0 .whole, (jumps-part (start .pre .1 .1 .1 .1 .0) (start .args .from) (start .args .to) (start .pre .1 .1 .1 .0 .order) (start .pre .1 .1 .1 .0 .within), (opens-part (start .pre .1 .1 .1 .1 .1 .0) (start .args .from) (start .args .to) (start .pre .1 .1 .1 .0 .order) (start .pre .1 .1 .1 .0 .within), start .pre .1 .1 .1 .1 .1 .1)))))))  -- rows-say-requires
-    (λ c. bracket-inner _ _ _ _ _ _ _ _ _ (c .before .before .before .before .before .before .before .before .before .before .before .before .before .before .before .pre .1 .1 .1 .0) (c .before .before .before .before .before .before .before .if1 .taken) (c .rows-say .ensures))  -- returns
+    (λ c. search (chosen-inner, needs))  -- returns
     (λ c. search (chosen-not, needs)))  -- returns-2
     (λ t. probe-says-lts.spec
     (meaning-of-reads.Asked, meaning-of-reads.Learnt, some-entry-below t, some-entry.Post, some-says-reads.Asked, some-says-reads.Learnt)
