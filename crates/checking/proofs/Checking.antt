@@ -6,22 +6,23 @@ use mathlib.Core.Path.{_≡_, refl, sym, ap, _∙_}
 use mathlib.Core.Option.{none, some}
 use mathlib.Core.List.{List}
 use lib.ListN.{length}
-use borrow.Author.Tests.{eq-eqb, ne-eqb, lt-ltb, le-leb, lt-leb}
+use borrow.Author.Tests.{eq-eqb, ne-eqb, lt-ltb}
 use Rattle.base.specs.Runs.{RunEnd}
 use Rattle.block.specs.declared.Validity.{Validity}
 use Rattle.sheet.specs.Sheet.{Parameter, parametersOf, readSheet}
 use Rattle.syntax.specs.Tree.{Tree, testsOf}
 use Rattle.syntax.specs.Scan.{isSpace}
-use Rattle.syntax.specs.Grammar.{round, deepest, mostTests}
+use Rattle.syntax.specs.Grammar.{deepest, mostTests}
 use Rattle.syntax.specs.Reader.{parsed, filterAt, whole, read}
+use Rattle.syntax.proofs.Whole.{whole-trails, whole-many, whole-few}
 use Rattle.place.specs.Machine.{failure}
-use Rattle.judge.specs.Faults.{firstFault}
 use Rattle.refusal.specs.declared.Decision.{Decision}
-use Rattle.filter.specs.Folds.{reading}
-use Rattle.filter.specs.Walks.{answerOf}
+use Rattle.filter.specs.Folds.{summaryOf, reading}
+use Rattle.filter.specs.Walks.{topSpot, answerOf}
+use Rattle.filter.specs.declared.Spot.{Spot}
 use Rattle.filter.specs.declared.Summary.{Summary}
 use Rattle.filter.specs.declared.Walked.{Walked}
-use Rattle.filter.proofs.Walk.{WasFilter, was-filter, was-none, filter-ahead}
+use Rattle.filter.proofs.Walk.{top-bundle, top-read, WasFilter, was-filter, was-none}
 use Rattle.filter.proofs.Reading.{walked-cases, reading-is}
 use Rattle.refusal.specs.declared.Reason.{Reason}
 use Rattle.refusal.specs.declared.Refusal.{Refusal}
@@ -29,7 +30,7 @@ use Rattle.answer.specs.declared.Checked.{Checked}
 use Rattle.refusal.specs.Answers.{Answer, count, refused, numberOf, refusalAnswer}
 use Rattle.answer.specs.Answers.{checkedAnswer}
 use Rattle.refusal.specs.Steps.{Step, found, stop, _>>=_, answer}
-use Rattle.answer.specs.Operations.{treeStep, acceptFilter, decisionStep, testsStep, sheetStep, acceptSheet, filterAnswer, Inputs, acceptInputs, checkAnswer}
+use Rattle.answer.specs.Operations.{acceptFilter, decisionStep, testsStep, sheetStep, acceptSheet, filterAnswer, Inputs, acceptInputs, checkAnswer}
 use Rattle.answer.specs.Passing.{summaryAnswer}
 use Rattle.answer.proofs.Inputs.{text-read}
 
@@ -67,44 +68,35 @@ module _ (ps : List Parameter) (xs : List ℕ) (n : length xs ≡ 0 → ⊥) (l 
   unfolding filterAnswer refusalAnswer
   text-none c e h = h ∙ rw (text-read xs n l none e)
 
-  module _ (start : ℕ) (s : RunEnd isSpace xs 0 start) (w : Walked) (e : w ≡ answerOf Walked.Done Walked.Nothing (reading ps 0) (filterAt 8 xs round start)) where
+  module _ (spot : Spot) (s : spot ≡ topSpot xs) (w : Walked) (e : w ≡ answerOf Walked.Done Walked.Nothing (reading ps (spot .bundle)) (filterAt (spot .levels) xs (spot .close) (spot .at))) where
     pub text-nothing : (c : Checked) → w ≡ Walked.Nothing → checkedAnswer c ≡ refusalAnswer (failure deepest mostTests xs) → checkedAnswer c ≡ filterAnswer ps xs
-    unfolding read
-    text-nothing c h = text-none c (rw (← s .is, was-none Walked.Done Walked.Nothing walked-cases (reading ps 0) xs round 8 start w e h))
+    text-nothing c h = text-none c (top-read xs spot s ∙ ap (whole xs) (was-none Walked.Done Walked.Nothing walked-cases (reading ps (spot .bundle)) xs (spot .close) (spot .levels) (spot .at) w e h))
 
     module _ (end : ℕ) (a : Summary) (h : w ≡ Walked.Done end a) (after : ℕ) (t : RunEnd isSpace xs end after) where
-      was : WasFilter Walked.Done Walked.Nothing walked-cases (reading ps 0) xs round 8 start end a
-      was = was-filter Walked.Done Walked.Nothing walked-cases (reading ps 0) xs round 8 start w end a e h
+      was : WasFilter Walked.Done Walked.Nothing walked-cases (reading ps (spot .bundle)) xs (spot .close) (spot .levels) (spot .at) end a
+      was = was-filter Walked.Done Walked.Nothing walked-cases (reading ps (spot .bundle)) xs (spot .close) (spot .levels) (spot .at) w end a e h
 
-      gathered : a ≡ record { tests = length (testsOf (was .tree)); first = firstFault ps 0 (testsOf (was .tree)) }
-      gathered = was .value ∙ reading-is ps 0 (was .tree)
+      gathered : a ≡ summaryOf ps 0 (testsOf (was .tree))
+      gathered = was .value ∙ reading-is ps (spot .bundle) (was .tree) ∙ ap (λ (c : ℕ). summaryOf ps c (testsOf (was .tree))) (top-bundle xs spot s)
 
       tests-are : a .tests ≡ length (testsOf (was .tree))
       tests-are = ap (λ (x : Summary). x .tests) gathered
 
       read-whole : read xs ≡ whole xs (parsed end (was .tree))
-      unfolding read
-      read-whole = rw (← s .is, was .read)
+      read-whole = top-read xs spot s ∙ ap (whole xs) (was .read)
 
       pub text-trails : (c : Checked) → (after ≡ length xs → ⊥) → checkedAnswer c ≡ refusalAnswer (failure deepest mostTests xs) → checkedAnswer c ≡ filterAnswer ps xs
-      text-trails c k = text-none c (read-whole ∙ rw (← t .is, ne-eqb after (length xs) k))
+      text-trails c k = text-none c (read-whole ∙ whole-trails xs end after t (was .tree) k)
 
       module _ (k : after ≡ length xs) where
         pub text-many : (c : Checked) → 32 < a .tests → checkedAnswer c ≡ refusalAnswer (failure deepest mostTests xs) → checkedAnswer c ≡ filterAnswer ps xs
-        text-many c m =
-            let j : 32 < length (testsOf (was .tree)) = rw tests-are at m in
-            text-none c (read-whole ∙ rw (← t .is, eq-eqb after (length xs) k, lt-leb (length (testsOf (was .tree))) 32 j))
+        text-many c m = text-none c (read-whole ∙ whole-many xs end after t (was .tree) k (omega (arith, tests-are)))
 
         pub text-answered : (c : Checked) → a .tests ≤ 32 → checkedAnswer c ≡ summaryAnswer a → checkedAnswer c ≡ filterAnswer ps xs
         unfolding filterAnswer summaryAnswer testsStep
         text-answered c m g =
-            let j : length (testsOf (was .tree)) ≤ 32 = rw tests-are at m in
-            let r : read xs ≡ some (was .tree) = read-whole ∙ rw (← t .is, eq-eqb after (length xs) k, le-leb (length (testsOf (was .tree))) 32 j) in
+            let r : read xs ≡ some (was .tree) = read-whole ∙ whole-few xs end after t (was .tree) k (omega (arith, tests-are)) in
             g ∙ rw (text-read xs n l (some (was .tree)) r) (ap (λ (x : Summary). answer (decisionStep (x .first) >>= λ u. found (count (x .tests)))) gathered)
-
--- a walk that has come to its end stands inside the text
-pub walk-within : (ps : List Parameter) (xs : List ℕ) (start : ℕ) (w : Walked) (end : ℕ) (a : Summary) → w ≡ answerOf Walked.Done Walked.Nothing (reading ps 0) (filterAt 8 xs round start) → w ≡ Walked.Done end a → end ≤ length xs
-walk-within ps xs start w end a e h = filter-ahead Walked.Done Walked.Nothing walked-cases (reading ps 0) xs round 8 start w end a e h .1
 
 -- ---- the sheet
 

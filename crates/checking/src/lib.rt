@@ -1,10 +1,10 @@
 // Check: a sheet and a filter are read, and the first refusal in the order of the table decides.
 use answer::Checked;
 use block::Validity;
-use filter::Spot;
 use filter::Summary;
 use filter::Walked;
 use filter::check_filter;
+use filter::top;
 use place::find_failure;
 use refusal::Decision;
 use refusal::Reason;
@@ -55,17 +55,8 @@ fn check_text(sheet: &[u8], filter: &[u8]) -> Checked
     if filter.len() > 1024 {
         return refuse(Reason::FilterSize, 0);
     }
-    let start = skip(filter, 0);
-    let walked = check_filter(
-        sheet,
-        filter,
-        Spot {
-            at: start,
-            levels: 8,
-            close: b')',
-            bundle: 0,
-        },
-    );
+    let spot = top(filter);
+    let walked = check_filter(sheet, filter, spot);
     match walked {
         Walked::Done(end, summary) => {
             let after = skip(filter, end);

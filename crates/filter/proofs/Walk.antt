@@ -4,6 +4,7 @@
 -- at its place, rewrites the reader's clause there (`test-step`, `opened-step` ..), and finds the code's answer to be its translation. The
 -- loop of a filter keeps `Chain`: the reader goes on from the position reached with some tree, and the value so far is that tree's. The
 -- filter in square brackets and the next item of a filter may be walked for another fold ψ, which may gather less.
+-- A walk from the first spot reads the whole text (`top-read`).
 -- Assumes nothing.
 use Prim.Native.Nat.{ℕ, _+_, _-_, _≤_}
 use native.Mathlib.Omega.{arith}
@@ -12,24 +13,46 @@ use mathlib.Core.Bool.{Bool, cond}
 use mathlib.Core.List.{List}
 use lib.ListN.{length}
 use Rattle.syntax.specs.Tree.{Test, Tree, join}
-use Rattle.syntax.specs.Grammar.{round, square, Item, Filter, one-item, one-more}
+use Rattle.syntax.specs.Grammar.{round, square, deepest, Item, Filter, one-item, one-more}
 use Rattle.syntax.specs.Scan.{isSpace, testOf, headAt, memberAfter, connectiveAt, closeAt}
 use Rattle.base.specs.Runs.{RunEnd}
 use Rattle.base.specs.Parts.{part}
 use Rattle.syntax.specs.declared.FoundTest.{FoundTest}
-use Rattle.syntax.specs.Reader.{Parsed, parsed, unparsed, negatedIf, chainOf, itemAt, filterAt}
+use Rattle.syntax.specs.Reader.{Parsed, parsed, unparsed, negatedIf, chainOf, itemAt, filterAt, whole, read}
 use Rattle.syntax.specs.declared.RawTest.{RawTest}
 use Rattle.syntax.specs.declared.Head.{Head}
 use Rattle.syntax.specs.declared.Connective.{Connective}
 use Rattle.syntax.specs.declared.FoundConnective.{FoundConnective}
 use Rattle.syntax.specs.declared.FoundClose.{FoundClose}
+use Rattle.syntax.proofs.Words.{skip-spaces, spaces-rise}
 use Rattle.syntax.proofs.Structure.{ConnectiveDerived, connective-derived}
 use Rattle.syntax.proofs.Sound.{ItemDerived, FilterDerived, item-derived, filter-derived}
 use Rattle.syntax.proofs.Complete.{item-rise, filter-rise, test-step, opened-step, deep-step, chosen-step, deep-choice-step, nothing-step, filter-step, chain-step}
 use Rattle.syntax.proofs.Places.{connective-ahead}
 use Rattle.syntax.specs.Fold.{Fold, foldTree}
 use Rattle.syntax.proofs.Fold.{fold-negated}
-use Rattle.filter.specs.Walks.{answerOf}
+use Rattle.filter.specs.Walks.{topSpot, answerOf}
+use Rattle.filter.specs.declared.Spot.{Spot}
+
+-- ---- where the whole text begins
+
+pub top-is : (xs : List ℕ) (start : ℕ) → RunEnd isSpace xs 0 start → record { at = start; levels = deepest; close = round; bundle = 0 } ≡ topSpot xs
+unfolding topSpot
+top-is xs start s = rw (s .is)
+
+module _ (xs : List ℕ) (s : Spot) (e : s ≡ topSpot xs) where
+  pub top-within : s .at ≤ length xs
+  unfolding topSpot
+  top-within = rw e (spaces-rise (skip-spaces xs 0) .1 (omega arith))
+
+  pub top-bundle : s .bundle ≡ 0
+  unfolding topSpot
+  top-bundle = rw e
+
+  -- the reader reads the whole text as the filter at that spot
+  pub top-read : read xs ≡ whole xs (filterAt (s .levels) xs (s .close) (s .at))
+  unfolding topSpot read
+  top-read = rw e
 
 -- ---- gathering
 

@@ -6,7 +6,10 @@ pub use check::check_filter;
 pub use check::join_summaries;
 pub use check::test_summary;
 use refusal::Decision;
+use syntax::scan::skip;
 pub use verdict::judge_filter;
+ghost use mathlib.Core.Path.{_≡_};
+ghost use Rattle.filter.specs.Walks.{topSpot};
 
 // A position in the filter's text, how many brackets may still open around it, the byte that closes the one around it, and where
 // names are looked up: 0 at the top of the sheet, or a bundle's index plus 1.
@@ -33,4 +36,16 @@ pub enum Walked {
 pub enum Judged {
     Done(usize, bool),
     Nothing,
+}
+
+// Where the whole filter begins: behind leading spaces, with 8 levels of brackets below it, at the top of the sheet.
+pub fn top(filter: &[u8]) -> Spot
+    ensures { λ r. ⌜ r ≡ topSpot (now (filter .entry)) ⌝ }
+{
+    Spot {
+        at: skip(filter, 0),
+        levels: 8,
+        close: b')',
+        bundle: 0,
+    }
 }

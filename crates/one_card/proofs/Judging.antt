@@ -8,28 +8,24 @@
 use Prim.Native.Nat.{ℕ}
 use native.Mathlib.Omega.{arith}
 use mathlib.Core.Path.{_≡_, refl, sym, ap, ap₂, _∙_}
-use mathlib.Core.Bool.{Bool, true, false, cond}
+use mathlib.Core.Bool.{Bool, true, false}
 use mathlib.Core.Option.{none, some}
 use mathlib.Core.List.{List}
-use lib.Dec.{eqb, leb}
-use lib.ListN.{length}
-use Rattle.base.specs.Runs.{RunEnd}
 use Rattle.block.specs.declared.Validity.{Validity}
 use Rattle.sheet.specs.Sheet.{Parameter, parametersOf}
 use Rattle.sheet.specs.Find.{kindsOf}
 use Rattle.card.specs.Card.{Entry, entriesOf, readCard, recordNumber}
-use Rattle.syntax.specs.Tree.{Tree, testsOf}
-use Rattle.syntax.specs.Grammar.{round}
-use Rattle.syntax.specs.Scan.{isSpace, skipAt}
 use Rattle.syntax.specs.Reader.{Parsed, parsed, unparsed, filterAt, whole, read}
+use Rattle.syntax.proofs.Whole.{whole-kept}
 use Rattle.judge.specs.Sets.{chosenOf, conforms, conformsTo}
 use Rattle.judge.specs.Verdicts.{filterSays}
 use Rattle.judge.proofs.Entries.{every, chosen-every}
 use Rattle.judge.proofs.Table.{table-conforms}
 use Rattle.filter.specs.Folds.{judging}
-use Rattle.filter.specs.Walks.{answerOf}
+use Rattle.filter.specs.Walks.{topSpot, answerOf}
+use Rattle.filter.specs.declared.Spot.{Spot}
 use Rattle.filter.specs.declared.Judged.{Judged}
-use Rattle.filter.proofs.Walk.{was-filter, was-none}
+use Rattle.filter.proofs.Walk.{top-bundle, top-read, was-filter, was-none}
 use Rattle.filter.proofs.Judging.{judged-cases, judging-is}
 use Rattle.row_judge.specs.Saying.{rowsSay}
 use Rattle.refusal.specs.Answers.{numberOf, yesOrNo, refusalAnswer}
@@ -47,26 +43,21 @@ use Rattle.answer.proofs.Passing.{passing-asks, yes-or-no-after}
 
 -- ---- what the filter says
 
-kept-tree : (b c : Bool) (f g : Tree) → cond b (cond c (some f) none) none ≡ some g → f ≡ g
-kept-tree true true f g h = cc
-kept-tree true false f g h = cc
-kept-tree false c f g h = cc
-
-module _ (ps : List Parameter) (es : List Entry) (b xs : List ℕ) (p : Passing b xs) (start : ℕ) (s : RunEnd isSpace xs 0 start) (w : Judged) (e : w ≡ answerOf Judged.Done Judged.Nothing (judging true ps 0 (chosenOf every es)) (filterAt 8 xs round start)) where
-  read-from : (g : Parsed) → filterAt 8 xs round start ≡ g → whole xs g ≡ some (p .tree)
-  unfolding read
-  read-from g h = (rw (← h, s .is) refl) ∙ p .reads
+module _ (ps : List Parameter) (es : List Entry) (b xs : List ℕ) (p : Passing b xs) (spot : Spot) (s : spot ≡ topSpot xs) (w : Judged)
+    (e : w ≡ answerOf Judged.Done Judged.Nothing (judging true ps (spot .bundle) (chosenOf every es)) (filterAt (spot .levels) xs (spot .close) (spot .at))) where
+  read-from : (g : Parsed) → filterAt (spot .levels) xs (spot .close) (spot .at) ≡ g → whole xs g ≡ some (p .tree)
+  read-from g h = sym (top-read xs spot s ∙ ap (whole xs) h) ∙ p .reads
 
   pub says-done : (q : ℕ) (a : Bool) → w ≡ Judged.Done q a → a ≡ textSays ps es (read xs)
   says-done q a h =
-      let was = was-filter Judged.Done Judged.Nothing judged-cases (judging true ps 0 (chosenOf every es)) xs round 8 start w q a e h in
+      let was = was-filter Judged.Done Judged.Nothing judged-cases (judging true ps (spot .bundle) (chosenOf every es)) xs (spot .close) (spot .levels) (spot .at) w q a e h in
       let f = was .tree in
-      let same : f ≡ p .tree = kept-tree (eqb (skipAt xs q) (length xs)) (leb (length (testsOf f)) 32) f (p .tree) (read-from (parsed q f) (was .read)) in
-      was .value ∙ judging-is ps 0 (chosenOf every es) f ∙ ap (λ (l : List Entry). filterSays ps 0 l f) (chosen-every es) ∙ rw (p .reads) (ap (filterSays ps 0 es) same)
+      let same : f ≡ p .tree = whole-kept xs q f (p .tree) (read-from (parsed q f) (was .read)) .same in
+      was .value ∙ judging-is ps (spot .bundle) (chosenOf every es) f ∙ ap₂ (λ (c : ℕ) (l : List Entry). filterSays ps c l f) (top-bundle xs spot s) (chosen-every es) ∙ rw (p .reads) (ap (filterSays ps 0 es) same)
 
   pub says-nothing : (r : Bool) → w ≡ Judged.Nothing → r ≡ textSays ps es (read xs)
   says-nothing r h =
-      let z : none ≡ some (p .tree) = read-from unparsed (was-none Judged.Done Judged.Nothing judged-cases (judging true ps 0 (chosenOf every es)) xs round 8 start w e h) in
+      let z : none ≡ some (p .tree) = read-from unparsed (was-none Judged.Done Judged.Nothing judged-cases (judging true ps (spot .bundle) (chosenOf every es)) xs (spot .close) (spot .levels) (spot .at) w e h) in
       cc
 
 -- ---- one card is accepted

@@ -4,10 +4,9 @@ use crate::CardVerdict;
 use crate::accept_card;
 use block::Validity;
 use filter::Judged;
-use filter::Spot;
 use filter::judge_filter;
+use filter::top;
 use judge::Chosen;
-use syntax::scan::skip;
 ghost use mathlib.Core.Path.{_≡_};
 ghost use Prim.Native.Nat.{ℕ};
 ghost use Rattle.sheet.specs.Sheet.{parametersOf};
@@ -23,16 +22,10 @@ fn text_says(sheet: &[u8], filter: &[u8], card: &[u8]) -> bool
     requires { ⌜ readCard (now card) ≡ Validity.WellFormed ⌝ }
     ensures { λ r. ⌜ r ≡ textSays (parametersOf (now (sheet .entry))) (entriesOf (now (card .entry))) (read (now (filter .entry))) ⌝ }
 {
-    let start = skip(filter, 0);
+    let spot = top(filter);
     let every = Chosen {
         all: true,
         occurrence: 0,
-    };
-    let spot = Spot {
-        at: start,
-        levels: 8,
-        close: b')',
-        bundle: 0,
     };
     let judged = judge_filter(true, sheet, card, every, filter, spot);
     match judged {

@@ -7,7 +7,7 @@
 -- Assumes nothing.
 use Prim.Native.Nat.{ℕ, _+_, _-_, _≤_, _<_}
 use native.Mathlib.Omega.{arith}
-use mathlib.Core.Path.{_≡_, refl, sym, ap, _∙_}
+use mathlib.Core.Path.{_≡_, refl, sym, ap, subst, _∙_}
 use mathlib.Core.Option.{none, some}
 use mathlib.Core.List.{List, _++_}
 use lib.ListN.{length, take, drop}
@@ -19,12 +19,16 @@ use Rattle.block.specs.declared.Validity.{Validity}
 use Rattle.sheet.specs.Sheet.{Parameter, parametersOf, readSheet}
 use Rattle.syntax.specs.Tree.{Tree, testsOf}
 use Rattle.syntax.specs.Scan.{isSpace}
-use Rattle.syntax.specs.Grammar.{round, deepest, mostTests}
+use Rattle.syntax.specs.Grammar.{deepest, mostTests}
 use Rattle.syntax.specs.Reader.{parsed, filterAt, whole, read}
+use Rattle.syntax.proofs.Whole.{whole-trails, whole-many, whole-few}
 use Rattle.place.specs.Machine.{failure}
 use Rattle.judge.specs.Faults.{firstFault}
 use Rattle.refusal.specs.declared.Decision.{Decision}
 use Rattle.filter.specs.declared.Summary.{Summary}
+use Rattle.filter.specs.declared.Spot.{Spot}
+use Rattle.filter.specs.Walks.{topSpot}
+use Rattle.filter.proofs.Walk.{top-bundle, top-read}
 use Rattle.row_writer.specs.Writing.{cellCount, Wrote}
 use Rattle.row_writer.specs.declared.Outcome.{Outcome}
 use Rattle.row_writer.specs.declared.Written.{Written}
@@ -34,7 +38,7 @@ use Rattle.refusal.specs.declared.Refusal.{Refusal}
 use Rattle.refusal.specs.Answers.{Answer, count, refused, numberOf, refusalAnswer}
 use Rattle.refusal.specs.Steps.{Step, found, stop, refusalStep, _>>=_, answer}
 use Rattle.answer.specs.Answers.{checkedAnswer}
-use Rattle.answer.specs.Operations.{treeStep, acceptFilter, decisionStep, testsStep, sheetStep, acceptSheet, Inputs, acceptInputs, written}
+use Rattle.answer.specs.Operations.{acceptFilter, decisionStep, testsStep, sheetStep, acceptSheet, Inputs, acceptInputs, written}
 use Rattle.answer.specs.Passing.{summaryAnswer}
 use Rattle.answer.specs.Preparing.{rowCells, acceptCells, preparation, prepareAnswer, prepareCells, preparedAnswer, filledStep, textRows, FillsText, Fills, Prepares}
 use Rattle.answer.specs.declared.Checked.{Checked}
@@ -109,47 +113,42 @@ module _ (ps : List Parameter) (xs : List ℕ) (n : length xs ≡ 0 → ⊥) (l 
   no-tree c r buffer e h g =
       text-refused ps xs c r buffer g (numberOf (failure deepest mostTests xs .reason)) (failure deepest mostTests xs .place) h (rw (text-read xs n l none e))
 
-  module _ (start : ℕ) (s : RunEnd isSpace xs 0 start) (v : Written) (before after : List ℕ) (w : Wrote ps 0 xs 0 (filterAt 8 xs round start) v before after) where
-    pub fill-nothing : (c : Checked) (r : Prepared) → v ≡ Written.Nothing → checkedAnswer c ≡ refusalAnswer (failure deepest mostTests xs) → preparedAnswer r ≡ checkedAnswer c → FillsText ps xs r after
-    unfolding read
-    fill-nothing c r h = no-tree c r after (rw (← s .is, writing.was-none ps 0 xs 0 w h))
+  module _ (spot : Spot) (s : spot ≡ topSpot xs) (v : Written) (before after : List ℕ) (w : Wrote ps (spot .bundle) xs 0 (filterAt (spot .levels) xs (spot .close) (spot .at)) v before after) where
+    at-top : Wrote ps 0 xs 0 (filterAt (spot .levels) xs (spot .close) (spot .at)) v before after
+    at-top = subst (λ (c : ℕ). Wrote ps c xs 0 (filterAt (spot .levels) xs (spot .close) (spot .at)) v before after) (top-bundle xs spot s) w
 
-    read-as : (end : ℕ) (f : Tree) → filterAt 8 xs round start ≡ parsed end f → read xs ≡ whole xs (parsed end f)
-    unfolding read
-    read-as end f e = rw (← s .is, e)
+    pub fill-nothing : (c : Checked) (r : Prepared) → v ≡ Written.Nothing → checkedAnswer c ≡ refusalAnswer (failure deepest mostTests xs) → preparedAnswer r ≡ checkedAnswer c → FillsText ps xs r after
+    fill-nothing c r h = no-tree c r after (top-read xs spot s ∙ ap (whole xs) (writing.was-none ps 0 xs 0 at-top h))
 
     module _ (end : ℕ) (a : Outcome) (h : v ≡ Written.Done end a) where
+      takes : writing.Takes ps 0 xs 0 (spot .close) (spot .levels) (spot .at) v before after end a
+      takes = writing.filter-takes ps 0 xs 0 (spot .close) (spot .levels) (spot .at) v before after end a at-top h
+
       pub fill-within : end ≤ length xs
-      fill-within = writing.filter-takes ps 0 xs 0 round 8 start v before after end a w h .within
+      fill-within = takes .within
 
       module _ (behind : ℕ) (t : RunEnd isSpace xs end behind) where
-        was : writing.Was ps 0 xs 0 (filterAt 8 xs round start) end a before after
-        was = writing.was ps 0 xs 0 end a w h
+        was : writing.Was ps 0 xs 0 (filterAt (spot .levels) xs (spot .close) (spot .at)) end a before after
+        was = writing.was ps 0 xs 0 end a at-top h
 
-        whole-trails : (f : Tree) → (behind ≡ length xs → ⊥) → whole xs (parsed end f) ≡ none
-        whole-trails f k = rw (← t .is, ne-eqb behind (length xs) k)
-
-        whole-many : (f : Tree) → behind ≡ length xs → 32 < length (testsOf f) → whole xs (parsed end f) ≡ none
-        whole-many f k m = rw (← t .is, eq-eqb behind (length xs) k, lt-leb (length (testsOf f)) 32 m)
-
-        whole-right : (f : Tree) → behind ≡ length xs → length (testsOf f) ≤ 32 → whole xs (parsed end f) ≡ some f
-        whole-right f k m = rw (← t .is, eq-eqb behind (length xs) k, le-leb (length (testsOf f)) 32 m)
+        read-whole : read xs ≡ whole xs (parsed end (was .tree))
+        read-whole = top-read xs spot s ∙ ap (whole xs) (was .read)
 
         pub fill-trails : (c : Checked) (r : Prepared) → (behind ≡ length xs → ⊥) → checkedAnswer c ≡ refusalAnswer (failure deepest mostTests xs) → preparedAnswer r ≡ checkedAnswer c → FillsText ps xs r after
-        fill-trails c r k = no-tree c r after (read-as end (was .tree) (was .read) ∙ whole-trails (was .tree) k)
+        fill-trails c r k = no-tree c r after (read-whole ∙ whole-trails xs end behind t (was .tree) k)
 
         tests-are : a .summary .tests ≡ length (testsOf (was .tree))
         tests-are = ap (λ (o : Outcome). o .summary .tests) (was .value)
 
         pub fill-many : (c : Checked) (r : Prepared) → behind ≡ length xs → 32 < a .summary .tests → checkedAnswer c ≡ refusalAnswer (failure deepest mostTests xs) → preparedAnswer r ≡ checkedAnswer c → FillsText ps xs r after
-        fill-many c r k m = no-tree c r after (read-as end (was .tree) (was .read) ∙ whole-many (was .tree) k (omega (arith, tests-are)))
+        fill-many c r k m = no-tree c r after (read-whole ∙ whole-many xs end behind t (was .tree) k (omega (arith, tests-are)))
 
         -- the text is a filter: its tests decide
         module _ (k : behind ≡ length xs) (m : a .summary .tests ≤ 32) where
           rows-by : textRows ps xs ≡ (decisionStep (a .summary .first) >>= λ u. found (rowCells ps xs (was .tree)))
           unfolding textRows testsStep
           rows-by =
-              let r : acceptFilter xs ≡ found (was .tree) = text-read xs n l (some (was .tree)) (read-as end (was .tree) (was .read) ∙ whole-right (was .tree) k (omega (arith, tests-are))) in
+              let r : acceptFilter xs ≡ found (was .tree) = text-read xs n l (some (was .tree)) (read-whole ∙ whole-few xs end behind t (was .tree) k (omega (arith, tests-are))) in
               ap (λ (q : Step Tree). q >>= λ f. decisionStep (firstFault ps 0 (testsOf f)) >>= λ u. found (rowCells ps xs f)) r
               ∙ ap (λ (o : Outcome). decisionStep (o .summary .first) >>= λ u. found (rowCells ps xs (was .tree))) (sym (was .value))
 
@@ -159,10 +158,9 @@ module _ (ps : List Parameter) (xs : List ℕ) (n : length xs ≡ 0 → ⊥) (l 
               let same : a .cells ≡ cellCount (was .tree) = ap (λ (o : Outcome). o .cells) (was .value) in
               let at-first : a .cells ≡ 0 + cellCount (was .tree) = omega (arith, same) in
               let cells : take (a .cells) after ≡ rowCells ps xs (was .tree) = ap (λ (x : ℕ). take x after) at-first ∙ was .cells in
-              let t = writing.filter-takes ps 0 xs 0 round 8 start v before after end a w h in
               record {
                 rows = ap found cells ∙ sym (rows-by ∙ ap (λ (q : Step (Unit {0})). q >>= λ u. found (rowCells ps xs (was .tree))) clean);
-                room = λ j g. let x : a .cells ≡ j = cc in omega (arith, t .cells-fit, t .within, w .size, size);
+                room = λ j g. let x : a .cells ≡ j = cc in omega (arith, takes .cells-fit, takes .within, w .size, size);
               }
 
           pub fill-fault : (c : Checked) (r : Refusal) → checkedAnswer c ≡ summaryAnswer (a .summary) → c ≡ Checked.Refused r → FillsText ps xs (Prepared.Refused r) after

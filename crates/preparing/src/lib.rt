@@ -6,7 +6,7 @@ use block::Validity;
 use checking::no_filter;
 use checking::outcome;
 use checking::refuse;
-use filter::Spot;
+use filter::top;
 use refusal::Reason;
 use refusal::Refusal;
 use row_writer::Outcome;
@@ -41,19 +41,8 @@ fn fill_text(sheet: &[u8], filter: &[u8], buffer: &mut [u32]) -> Prepared
     if filter.len() > 1024 {
         return hand_back(refuse(Reason::FilterSize, 0));
     }
-    let start = skip(filter, 0);
-    let written = write_filter(
-        sheet,
-        filter,
-        Spot {
-            at: start,
-            levels: 8,
-            close: b')',
-            bundle: 0,
-        },
-        buffer,
-        0,
-    );
+    let spot = top(filter);
+    let written = write_filter(sheet, filter, spot, buffer, 0);
     match written {
         Written::Done(end, gathered) => {
             let after = skip(filter, end);

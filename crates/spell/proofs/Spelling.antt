@@ -7,7 +7,7 @@
 use Prim.Native.Nat.{ℕ, _+_, _-_, _≤_, _<_}
 use native.Mathlib.Omega.{arith}
 use mathlib.Core.Path.{_≡_, refl, sym, ap, _∙_}
-use mathlib.Core.Bool.{Bool, true, false, cond, _||_}
+use mathlib.Core.Bool.{Bool, true, false, _||_}
 use mathlib.Core.Option.{Option, none, some, Option·none-ne-some, Option·some-injective}
 use mathlib.Core.List.{List, [], append-nil}
 use lib.Dec.{eqb, leb, ltb}
@@ -16,10 +16,11 @@ use lib.Seq.{take-all, drop-drop}
 use borrow.Author.Tests.{eq-eqb, ne-eqb, lt-ltb, le-ltb, le-leb, lt-leb, leb-true, leb-false}
 use Rattle.base.specs.Runs.{RunEnd}
 use Rattle.base.proofs.Tests.{same-test}
-use Rattle.syntax.specs.Tree.{Tree, testsOf}
+use Rattle.syntax.specs.Tree.{Tree}
 use Rattle.syntax.specs.Grammar.{Spells, round, deepest, mostTests}
 use Rattle.syntax.specs.Scan.{isSpace, skipAt}
 use Rattle.syntax.specs.Reader.{Parsed, parsed, unparsed, filterAt, whole, read}
+use Rattle.syntax.proofs.Whole.{whole-kept}
 use Rattle.syntax.proofs.Spelling.{read-iff}
 use Rattle.place.specs.Machine.{found}
 use Rattle.refusal.specs.declared.Reason.{Reason}
@@ -41,16 +42,8 @@ read-parsed : (xs : List ℕ) (f : Tree) → read xs ≡ some f → (q : ℕ) ×
 unfolding read
 read-parsed xs f e = go (filterAt deepest xs round (skipAt xs 0)) refl e
   where
-    few : (t : Bool) (g : Tree) → cond t (some g) none ≡ some f → g ≡ f
-    few true g h = Option·some-injective _ _ h
-    few false g h = absurd (Option·none-ne-some _ h)
-
-    ends : (t u : Bool) (g : Tree) → cond t (cond u (some g) none) none ≡ some f → g ≡ f
-    ends true u g h = few u g h
-    ends false u g h = absurd (Option·none-ne-some _ h)
-
     go : (r : Parsed) → filterAt deepest xs round (skipAt xs 0) ≡ r → whole xs r ≡ some f → (q : ℕ) × (filterAt deepest xs round (skipAt xs 0) ≡ parsed q f)
-    go (parsed q g) k h = (q, k ∙ ap (parsed q) (ends (eqb (skipAt xs q) (length xs)) (leb (length (testsOf g)) mostTests) g h))
+    go (parsed q g) k h = (q, k ∙ ap (parsed q) (whole-kept xs q g f h .same))
     go unparsed k h = absurd (Option·none-ne-some _ h)
 
 module _ (xs : List ℕ) (p : ℕ) (s : RunEnd isSpace xs 0 p) where
@@ -58,10 +51,10 @@ module _ (xs : List ℕ) (p : ℕ) (s : RunEnd isSpace xs 0 p) where
   here = ap (filterAt deepest xs round) (s .is)
 
   module _ (out : List ℕ) (r : TextRoom xs out) where
-    pub text-room : RoomFor plain (filterAt 8 xs 0x29 p) out
+    pub text-room : RoomFor plain (filterAt deepest xs round p) out
     text-room = let q = read-parsed xs (r .tree) (r .reads) in record { end = q .0; tree = r .tree; reads = here ∙ q .1; room = r .room }
 
-    pub text-spelt : {exit : List ℕ} {w : Written} → Spelt plain (filterAt 8 xs 0x29 p) out exit w → TextSpelt xs out exit (w .length)
+    pub text-spelt : {exit : List ℕ} {w : Written} → Spelt plain (filterAt deepest xs round p) out exit w → TextSpelt xs out exit (w .length)
     text-spelt t =
         let q = read-parsed xs (r .tree) (r .reads) in
         let e : r .tree ≡ t .tree = same-tree (sym (q .1) ∙ sym here ∙ t .reads) in

@@ -7,6 +7,7 @@ pub mod Operators
 pub mod Tests
 pub mod Structure
 pub mod Places
+pub mod Whole
 pub mod Sound
 pub mod Chains
 pub mod Complete

@@ -6,17 +6,15 @@
 -- Assumes nothing.
 use Prim.Native.Nat.{ℕ, zero, suc, _+_}
 use mathlib.Core.Path.{_≡_, subst}
-use mathlib.Core.Bool.{Bool, true, false, cond}
-use mathlib.Core.Option.{none, some, Option·none-ne-some}
+use mathlib.Core.Bool.{Bool, true, false}
+use mathlib.Core.Option.{some, Option·none-ne-some}
 use mathlib.Core.List.{List}
-use lib.Dec.{eqb, leb}
 use lib.ListN.{length}
-use borrow.Author.Tests.{eqb-true, leb-true}
 use Rattle.base.specs.Ascii.{ascii}
 use Rattle.base.specs.Parts.{part}
-use Rattle.base.proofs.Tests.{cond-first, cond-elim}
-use Rattle.syntax.specs.Tree.{Test, Tree, join, testsOf}
-use Rattle.syntax.specs.Grammar.{Stands, Spaces, TestAt, Opens, Closes, Chooses, round, square, Item, item-test, item-bracket, item-not, item-bracketed, Filter, one-item, one-more, deepest, mostTests, Spells}
+use Rattle.base.proofs.Tests.{cond-elim}
+use Rattle.syntax.specs.Tree.{Test, Tree, join}
+use Rattle.syntax.specs.Grammar.{Stands, Spaces, TestAt, Opens, Closes, Chooses, round, square, Item, item-test, item-bracket, item-not, item-bracketed, Filter, one-item, one-more, deepest, Spells}
 use Rattle.syntax.specs.Scan.{skipAt, has, testOf, testAt, openAt, choiceAt, choiceOr, testOr, headAt, memberAt, afterClose, memberAfter, connectiveAt, closeAt}
 use Rattle.syntax.specs.Reader.{Parsed, parsed, unparsed, closeBracket, inBracket, memberBy, inChoice, itemBy, andThen, chainBy, chainOf, filterOf, itemAt, filterAt, whole, read}
 use Rattle.syntax.specs.declared.FoundTest.{FoundTest}
@@ -26,6 +24,7 @@ use Rattle.syntax.specs.declared.FoundConnective.{FoundConnective}
 use Rattle.syntax.specs.declared.FoundClose.{FoundClose}
 use Rattle.syntax.proofs.Words.{has-stands, skip-spaces}
 use Rattle.syntax.proofs.Tests.{TestDerived, test-derived}
+use Rattle.syntax.proofs.Whole.{whole-kept}
 use Rattle.syntax.proofs.Structure.{OpenDerived, open-derived, ChoiceDerived, choice-derived, ConnectiveDerived, connective-derived, CloseDerived, close-derived}
 
 -- ---- what an item begins with
@@ -160,14 +159,12 @@ read-sound xs f e = go (filterAt deepest xs round (skipAt xs 0)) (filter-derived
     go : (g : Parsed) → FilterDerived xs round deepest (skipAt xs 0) g → whole xs g ≡ some f → Spells xs f
     go unparsed l h = absurd (Option·none-ne-some _ h)
     go (parsed m u) l h =
-        let t = cond-first (eqb (skipAt xs m) (length xs)) (cond (leb (length (testsOf u)) mostTests) (some u) none) none (Option·none-ne-some _) h in
-        let c = cond-first (leb (length (testsOf u)) mostTests) (some u) none (Option·none-ne-some _) (t .1) in
-        let z : u ≡ f = let k = c .1 in cc in
-        subst (Spells xs) z (record {
+        let k = whole-kept xs m u f h in
+        subst (Spells xs) (k .same) (record {
           from = skipAt xs 0;
           to = m;
           before = skip-spaces xs 0;
           filter = l;
-          after = subst (Spaces xs m) (eqb-true (skipAt xs m) (length xs) (t .0)) (skip-spaces xs m);
-          few = leb-true (length (testsOf u)) mostTests (c .0);
+          after = subst (Spaces xs m) (k .ends) (skip-spaces xs m);
+          few = k .few;
         })

@@ -1,6 +1,10 @@
 -- `checking::check_text` meets its contract: the tests are those of the definition. Assumes nothing.
 use borrow.Author.Needs.{needs}
-use Rattle.checking.proofs.Checking.{text-empty, text-long, text-nothing, text-trails, text-many, text-answered, walk-within}
+use Rattle.filter.specs.Folds.{reading}
+use Rattle.filter.specs.declared.Walked.{Walked}
+use Rattle.filter.proofs.Walk.{top-within, filter-ahead}
+use Rattle.filter.proofs.Reading.{walked-cases}
+use Rattle.checking.proofs.Checking.{text-empty, text-long, text-nothing, text-trails, text-many, text-answered}
 use Rattle.checking.proofs.check_text.Statement.{statement}
 use Rattle.checking.proofs.check_text.Tie as tie
 
@@ -16,17 +20,17 @@ refuse-requires-2 c κs = search needs
 returns-2 : tie.Need-returns-2
 returns-2 c = search (text-long, needs)
 
-skip-requires : tie.Need-skip-requires
-skip-requires c κs = search needs
+top-requires : tie.Need-top-requires
+top-requires c κs = search needs
 
 check-filter-requires : tie.Need-check-filter-requires
-check-filter-requires c κs = search needs
+check-filter-requires c κs = search (top-within, needs)
 
 enum-known-walked : tie.Need-enum-known-walked
 enum-known-walked c = search needs
 
-skip-requires-2 : tie.Need-skip-requires-2
-skip-requires-2 c κs = search (walk-within, needs)
+skip-requires : tie.Need-skip-requires
+skip-requires c κs = filter-ahead Walked.Done Walked.Nothing walked-cases (reading _ _) _ _ _ _ _ _ _ (c .before .before .before .check-filter .ensures) (c .before .walked .given .1) .1
 
 no-filter-requires : tie.Need-no-filter-requires
 no-filter-requires c κs = search needs
@@ -63,10 +67,10 @@ check-text-spec =
     returns
     refuse-requires-2
     returns-2
-    skip-requires
+    top-requires
     check-filter-requires
     enum-known-walked
-    skip-requires-2
+    skip-requires
     no-filter-requires
     returns-3
     no-filter-requires-2

@@ -1,5 +1,6 @@
 -- `preparing::fill_text` meets its contract. Assumes nothing.
 use borrow.Author.Needs.{needs}
+use Rattle.filter.proofs.Walk.{top-within}
 use Rattle.preparing.proofs.Filled.{fill-empty, fill-long, fill-nothing, fill-within, fill-trails, fill-many, fill-done, fill-fault}
 use Rattle.preparing.proofs.fill_text.Statement.{statement}
 use Rattle.preparing.proofs.fill_text.Tie as tie
@@ -22,17 +23,17 @@ hand-back-requires-2 c κs = search needs
 returns-2 : tie.Need-returns-2
 returns-2 c = search (fill-long, needs)
 
-skip-requires : tie.Need-skip-requires
-skip-requires c κs = search needs
+top-requires : tie.Need-top-requires
+top-requires c κs = search needs
 
 write-filter-requires : tie.Need-write-filter-requires
-write-filter-requires c κs = (search needs, (search needs, (search needs, (search needs, search needs))))
+write-filter-requires c κs = (search needs, (search needs, (search (top-within, needs), (search needs, search needs))))
 
 enum-known-written : tie.Need-enum-known-written
 enum-known-written c = search needs
 
-skip-requires-2 : tie.Need-skip-requires-2
-skip-requires-2 c κs = search (fill-within, needs)
+skip-requires : tie.Need-skip-requires
+skip-requires c κs = search (fill-within, needs)
 
 no-filter-requires : tie.Need-no-filter-requires
 no-filter-requires c κs = search needs
@@ -104,10 +105,10 @@ fill-text-spec =
     refuse-requires-2
     hand-back-requires-2
     returns-2
-    skip-requires
+    top-requires
     write-filter-requires
     enum-known-written
-    skip-requires-2
+    skip-requires
     no-filter-requires
     hand-back-requires-3
     same-length
