@@ -1,6 +1,6 @@
 -- Reading: what is gathered is the number of tests and the first refusal, and it fits.
 -- Assumes nothing.
-use Prim.Native.Nat.{ℕ, suc, _+_, _≤_}
+use Prim.Native.Nat.{ℕ, suc, _+_, _≤_, _<_}
 use native.Mathlib.Omega.{arith}
 use mathlib.Core.Path.{_≡_, refl, sym, ap, ap₂, _∙_}
 use mathlib.Core.Bool.{Bool, true, false, cond}
@@ -8,7 +8,6 @@ use mathlib.Core.List.{List, [], _∷_, _++_, map}
 use lib.ListN.{length, length-append}
 use Rattle.sheet.specs.Sheet.{Parameter}
 use Rattle.syntax.specs.Tree.{Test, moved, under, Tree, test, bracketed, join, negation, testsOf}
-use Rattle.syntax.specs.Grammar.{square}
 use Rattle.sheet.specs.Find.{enter}
 use Rattle.judge.specs.Sets.{lookup}
 use Rattle.syntax.specs.Scan.{connectiveAt}
@@ -94,11 +93,14 @@ tests-fit ps s xs close d p m q n a b c o r k e h f i short =
     let after : b .tests ≡ length (testsOf (w .tree)) = ap (λ (s : Summary). s .tests) (w .value ∙ reading-is ps s (w .tree)) in
     omega (arith, filter-count (k .derives), item-count (w .derives), item-rise (w .derives))
 
-pub member-fits : (ps : List Parameter) (i : ℕ) (xs : List ℕ) (d q n : ℕ) (a o : Summary) (u : Test) (r : Walked) → o ≡ reading ps i .one u → r ≡ answerOf Walked.Done Walked.Nothing (reading ps i) (filterAt d xs square q) → r ≡ Walked.Done n a
-    → 1 ≤ q → length xs ≤ 1024 → o .tests + a .tests ≤ 1024
-member-fits ps i xs d q n a o u r k f e low short =
-    let one : o .tests ≡ 1 = ap (λ (s : Summary). s .tests) k in
-    let w = was-filter Walked.Done Walked.Nothing walked-cases (reading ps i) xs square d q r n a f e in
+pub one-test : (ps : List Parameter) (i : ℕ) (o : Summary) (u : Test) → o ≡ reading ps i .one u → o .tests ≡ 1
+one-test ps i o u e = ap (λ (s : Summary). s .tests) e
+
+-- behind an opening bracket at least
+pub tests-within : (ps : List Parameter) (i : ℕ) (xs : List ℕ) (close d q n : ℕ) (a : Summary) (r : Walked) → r ≡ answerOf Walked.Done Walked.Nothing (reading ps i) (filterAt d xs close q) → r ≡ Walked.Done n a
+    → 1 ≤ q → length xs ≤ 1024 → a .tests < 1024
+tests-within ps i xs close d q n a r f e low short =
+    let w = was-filter Walked.Done Walked.Nothing walked-cases (reading ps i) xs close d q r n a f e in
     let inner : a .tests ≡ length (testsOf (w .tree)) = ap (λ (s : Summary). s .tests) (w .value ∙ reading-is ps i (w .tree)) in
     omega (arith, filter-count (w .derives), filter-rise (w .derives))
 

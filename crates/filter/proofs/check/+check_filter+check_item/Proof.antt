@@ -7,7 +7,7 @@ use Rattle.syntax.proofs.Places.{head-test-placed, head-open-ahead, head-choice
 use Rattle.filter.specs.Folds.{reading}
 use Rattle.filter.specs.declared.Walked.{Walked}
 use Rattle.filter.proofs.Walk.{Chain, item-test, item-nothing, item-deep, item-no-filter, item-open, item-closed, choice-deep, choice-no-filter, choice-no-member, choice-member, item-ahead, filter-ahead, filter-no-item, chain-starts, chain-ends, chain-no-item, chain-goes-on}
-use Rattle.filter.proofs.Reading.{walked-cases, tests-fit, summary-negated, summary-inside, member-fits}
+use Rattle.filter.proofs.Reading.{walked-cases, tests-fit, one-test, tests-within, summary-negated, summary-inside}
 use borrow.Author.Needs.{needs}
 use Prim.Native.Nat.{ℕ, _<_}
 use borrow.Fn.Kinds.{In}
@@ -112,7 +112,7 @@ pub +check-filter+check-item-spec : {M : Type 1} → statement M
     (λ c κs. filter-ahead Walked.Done Walked.Nothing walked-cases (reading _ _) _ _ _ _ _ _ _ (c .before .before .before .check-filter2 .ensures) (c .before .inner2 .given .1) .1)  -- read-member-requires
     (λ c. search needs)  -- enum-known-member
     (λ c κs. (c .before .before .before .before .before .before .before .before .before .before .before .before .before .before .before .before .before .before .pre .1 .0, (c .before .before .before .before .before .before .before .before .before .before .before .before .before .before .before .before .before .before .pre .1 .1 .0, member-ahead _ _ _ _ (c .before .before .before .read-member .ensures) _ (c .before .member .given .1) .0)))  -- test-summary-requires-2
-    (λ c κs. member-fits _ _ _ _ _ _ _ _ _ _ (c .before .test-summary2 .ensures) (c .before .before .before .before .before .before .before .before .before .check-filter2 .ensures) (c .before .before .before .before .before .before .before .inner2 .given .1) (omega (arith, c .before .before .before .before .before .before .before .before .before .before .skip .ensures .from)) (c .before .before .before .before .before .before .before .before .before .before .before .before .before .before .before .before .before .before .before .before .pre .1 .1 .0))  -- join-summaries-requires
+    (λ c κs. omega (arith, one-test _ _ _ _ (c .before .test-summary2 .ensures), tests-within _ _ _ _ _ _ _ _ _ (c .before .before .before .before .before .before .before .before .before .check-filter2 .ensures) (c .before .before .before .before .before .before .before .inner2 .given .1) (omega (arith, c .before .before .before .before .before .before .before .before .before .before .skip .ensures .from)) (c .before .before .before .before .before .before .before .before .before .before .before .before .before .before .before .before .before .before .before .before .pre .1 .1 .0)))  -- join-summaries-requires
     (λ c. search needs)  -- enum-told-3
     (λ c. search needs)  -- enum-told-4
     (λ c. search needs)  -- enum-told-5
