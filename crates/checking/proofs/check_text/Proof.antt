@@ -42,7 +42,7 @@ no-filter-requires-2 : tie.Need-no-filter-requires-2
 no-filter-requires-2 c κs = search needs
 
 returns-4 : tie.Need-returns-4
-returns-4 c = let many = omega (arith, c .before .before .if4 .taken) in search (text-many, many, needs)
+returns-4 c = search (text-many, needs)
 
 outcome-requires : tie.Need-outcome-requires
 outcome-requires c κs = search needs
