@@ -96,13 +96,13 @@ pub record Pass (text bytes₀ bytes : List ℕ) (rows : Rows) (used at : ℕ) (
 never : {X : Type 0} → true ≡ false → X
 never e = absurd (let z : _≡_ {A = ℕ} 0 1 = cc in omega arith)
 
-pub pass-starts : (text bytes : List ℕ) (rows : List Row) → length rows ≡ 32 → length text ≤ 1024 → length text ≤ length bytes → Pass text bytes bytes (record { count = 0; rows = rows }) 0 0 true
+pub pass-starts : (text bytes : List ℕ) (rows : Rows) → (rows .count ≡ 0) × (length (rows .rows) ≡ 32) → length text ≤ 1024 → length text ≤ length bytes → Pass text bytes bytes rows 0 0 true
 unfolding keepAll
 pass-starts text bytes rows h s r =
     record {
       done = [];
       fuel = suc (length text);
-      keeps = record { count = refl; cells = h; kept = λ n. refl; ends = λ n. all-empty };
+      keeps = record { count = h .0; cells = h .1; kept = λ n. rw (h .0) refl; ends = λ n. rw (h .0) all-empty };
       enough = λ m. omega arith;
       within = λ m. omega arith;
       left = λ m. after-none (readPairs (suc (length text)) 0 text);

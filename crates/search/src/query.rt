@@ -72,14 +72,11 @@ pub fn keep_pair(
     Held { rows, used }
 }
 
-// Reads the pairs of a search string: a row for each alternative, over the bytes that are written into the buffer; or where
-// the first pair begins that is none.
-pub fn read_query(text: &[u8], bytes: &mut [u8]) -> QueryRead
-    requires { ⌜ length (now text) ≤ 1024 ⌝ }
-    requires { ⌜ length (now text) ≤ length (now bytes) ⌝ }
-    ensures { λ r. ⌜ QueryOf (now (text .entry)) (now (bytes .exit)) r ⌝ }
+// Rows that keep nothing.
+pub fn no_rows() -> Rows
+    ensures { λ r. ⌜ (r .count ≡ 0) × (length (r .rows) ≡ 32) ⌝ }
 {
-    let mut rows = Rows {
+    Rows {
         count: 0,
         rows: [Row {
             at: 0,
@@ -90,7 +87,17 @@ pub fn read_query(text: &[u8], bytes: &mut [u8]) -> QueryRead
             split: 0,
             last: false,
         }; 32],
-    };
+    }
+}
+
+// Reads the pairs of a search string: a row for each alternative, over the bytes that are written into the buffer; or where
+// the first pair begins that is none.
+pub fn read_query(text: &[u8], bytes: &mut [u8]) -> QueryRead
+    requires { ⌜ length (now text) ≤ 1024 ⌝ }
+    requires { ⌜ length (now text) ≤ length (now bytes) ⌝ }
+    ensures { λ r. ⌜ QueryOf (now (text .entry)) (now (bytes .exit)) r ⌝ }
+{
+    let mut rows = no_rows();
     let mut used = 0;
     let mut at = 0;
     let mut more = true;
@@ -114,22 +121,6 @@ pub fn read_query(text: &[u8], bytes: &mut [u8]) -> QueryRead
     QueryRead {
         rows,
         decision: Decision::Passed,
-    }
-}
-
-// Rows that keep nothing.
-pub fn no_rows() -> Rows {
-    Rows {
-        count: 0,
-        rows: [Row {
-            at: 0,
-            name: 0,
-            until: 0,
-            text: 0,
-            end: 0,
-            split: 0,
-            last: false,
-        }; 32],
     }
 }
 

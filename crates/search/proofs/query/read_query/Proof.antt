@@ -14,6 +14,9 @@ Inv-loop text bytes₀ rows₀ used₀ at₀ more₀ value₀ bytes rows used at
 abbrev μ-loop : tie.MeasureT-loop
 μ-loop text bytes₀ rows₀ used₀ at₀ more₀ value₀ bytes rows used at more value = cond more (length text + 1 - at) 0
 
+no-rows-requires : tie.Need-no-rows-requires Inv-loop μ-loop
+no-rows-requires c κs = search needs
+
 loop-holds : tie.Need-loop-holds Inv-loop μ-loop
 loop-holds c = (search (pass-starts, needs), (refl, search needs))
 
@@ -92,6 +95,7 @@ read-query-spec =
     (tie.spec
     Inv-loop
     μ-loop
+    no-rows-requires
     loop-holds
     first-from-requires
     sub-read-pair
