@@ -11,13 +11,10 @@ use Rattle.base.proofs.Tests.{both-ways, and-left, and-right}
 use Rattle.card.specs.Card.{Entry, entry}
 use Rattle.kind.specs.Readable.{cardReadable}
 use Rattle.kind.specs.Table as table
-use Rattle.kind.specs.declared.Readings.{Readings}
 use Rattle.kind.specs.declared.Meaning.{Meaning}
 use Rattle.judge.specs.Sets.{valuesAt, counts, chosenOf, conformsTo, keep}
 use Rattle.judge.specs.declared.Chosen.{Chosen}
 use Rattle.judge.specs.Verdicts.{someValue, textCounts}
-use Rattle.judge.specs.Once.{readingsFor, countsRead}
-use Rattle.judge.proofs.Once.{once-counts}
 
 -- ---- conforming
 
@@ -79,12 +76,12 @@ module _ (c : Chosen) (i : ℕ) (m : Meaning) (v : List ℕ) (j o : ℕ) (t : Li
       go true false p q = rw (p, q)
       go false w p q = rw p
 
-  module _ (w : Readings) (e : w ≡ readingsFor m v) (b : Bool) (h : under ≡ true) (g : b ≡ countsRead m v w t) where
+  module _ (b : Bool) (h : under ≡ true) (g : b ≡ textCounts m v t) where
     some-step : someCounts c i m v (entry j o t ∷ es) ≡ (b || someCounts c i m v es)
     unfolding chosenOf valuesAt someValue keep
     some-step =
         let both : (counts c o && eqb j i) ≡ true = sym k ∙ h in
-        rw (and-left (counts c o) (eqb j i) both, and-right (counts c o) (eqb j i) both, once-counts m v w e t b g)
+        rw (and-left (counts c o) (eqb j i) both, and-right (counts c o) (eqb j i) both, ← g)
 
     pub some-here : b ≡ true → true ≡ someCounts c i m v (entry j o t ∷ es)
     some-here f = sym (some-step ∙ ap (λ (y : Bool). y || someCounts c i m v es) f)

@@ -4,13 +4,14 @@ use Prim.Native.Nat.{ℕ}
 use mathlib.Core.Path.{_≡_, refl, ap, _∙_}
 use mathlib.Core.Bool.{Bool, true, false, not}
 use mathlib.Core.List.{List}
+use Rattle.base.proofs.Tests.{both-ways}
 use Rattle.kind.specs.Relations.{Kept, relatesRead}
 use Rattle.kind.specs.declared.Readings.{Readings}
 use Rattle.kind.specs.declared.Relation.{Relation}
 use Rattle.kind.specs.declared.Meaning.{Meaning}
 use Rattle.kind.proofs.Values.{relates-is, unread-kept, readings-kept}
 use Rattle.judge.specs.Verdicts.{textCounts}
-use Rattle.judge.specs.Once.{readingsFor, countsRead}
+use Rattle.judge.specs.Once.{readingsFor, countsRead, Given}
 
 pub counts-once : (m : Meaning) (v x : List ℕ) → countsRead m v (readingsFor m v) x ≡ textCounts m v x
 unfolding readingsFor countsRead textCounts
@@ -53,3 +54,16 @@ module _ (m : Meaning) (v : List ℕ) (w : Readings) (e : w ≡ readingsFor m v)
 
   pub once-counts : (x : List ℕ) (t : Bool) → t ≡ countsRead m v w x → t ≡ textCounts m v x
   once-counts x t h = h ∙ ap (λ (y : Readings). countsRead m v y x) e ∙ counts-once m v x
+
+module _ {known : Bool} {m : Meaning} {v : List ℕ} {w : Readings} (g : Given known m v w) (h : known ≡ true) where
+  pub known-kept : Kept (w .number)
+  known-kept = once-kept m v w (g .readings h)
+
+  pub known-counts : (x : List ℕ) (t : Bool) → t ≡ countsRead m v w x → t ≡ textCounts m v x
+  known-counts = once-counts m v w (g .readings h)
+
+pub not-given : (m : Meaning) (v : List ℕ) (w : Readings) → Given false m v w
+not-given m v w = record { readings = λ e. both-ways e refl }
+
+pub is-given : (m : Meaning) (v : List ℕ) (w : Readings) → w ≡ readingsFor m v → Given true m v w
+is-given m v w e = record { readings = λ h. e }

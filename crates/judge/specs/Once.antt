@@ -1,6 +1,7 @@
 -- A filter's value that is read once for many texts.
 -- Assumes nothing.
 use Prim.Native.Nat.{ℕ}
+use mathlib.Core.Path.{_≡_}
 use mathlib.Core.Bool.{Bool, true, false, not}
 use mathlib.Core.List.{List}
 use Rattle.kind.specs.Relations.{unread, readingsOf, relatesRead}
@@ -20,3 +21,7 @@ countsRead Meaning.Present v w x = true
 countsRead (Meaning.Relates r) v w x = relatesRead r x v w
 countsRead (Meaning.Differs r) v w x = not (relatesRead r x v w)
 countsRead Meaning.Nothing v w x = false
+
+-- what a value reads to is given, where known says so
+pub record Given (known : Bool) (m : Meaning) (v : List ℕ) (w : Readings) : Type 0 where
+  pub readings : known ≡ true → w ≡ readingsFor m v

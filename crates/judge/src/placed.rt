@@ -1,8 +1,7 @@
 // Tests as they stand in the filter's text: a value without escapes is judged where it stands, one with escapes in a buffer.
 use crate::Chosen;
 use crate::faults::fault_at;
-use crate::values::counts_read;
-use crate::values::readings_for;
+use crate::values::text_counts;
 use crate::verdicts::says_at;
 use block::Validity;
 use kind::Meaning;
@@ -78,13 +77,6 @@ pub fn test_says(
         return says_at(found, card, chosen, test.operator, &bytes[..n]);
     }
     says_at(found, card, chosen, test.operator, &filter[start..end])
-}
-
-// Whether a text counts for a meaning and a value: for pr each does.
-fn text_counts(meaning: Meaning, value: &[u8], text: &[u8]) -> bool
-    ensures { λ r. ⌜ r ≡ textCounts meaning (now (value .entry)) (now (text .entry)) ⌝ }
-{
-    counts_read(meaning, value, readings_for(meaning, value), text)
 }
 
 // `text_counts` with the value of a test of the filter.

@@ -1,6 +1,6 @@
 // The texts of a card: whether they conform to a sheet, and those under one parameter.
 use crate::Chosen;
-use crate::values::counts_read;
+use crate::values::text_counts_by;
 use block::Validity;
 use kind::Meaning;
 use kind::Readings;
@@ -11,7 +11,7 @@ ghost use Rattle.card.specs.Card.{entriesOf, readCard};
 ghost use Rattle.kind.specs.Readable.{cardReadable};
 ghost use Rattle.judge.specs.Sets.{valuesAt, counts, chosenOf, conformsTo};
 ghost use Rattle.judge.specs.Verdicts.{someValue, textCounts};
-ghost use Rattle.judge.specs.Once.{readingsFor};
+ghost use Rattle.judge.specs.Once.{Given};
 
 // Whether the text of an entry is readable as the kind of its parameter.
 fn entry_conforms(kinds: &[u8], index: u8, text: &[u8]) -> bool
@@ -57,17 +57,18 @@ pub fn is_under(chosen: Chosen, occurrence: u8, same: bool) -> bool
     false
 }
 
-// Whether some text under a parameter counts for a meaning and a value that was read for it, among the entries that count.
+// Whether some text under a parameter counts for a meaning and a value, among the entries that count; what the value reads to may be known.
 pub fn some_counts(
     card: &[u8],
     chosen: Chosen,
     index: u8,
     meaning: Meaning,
     value: &[u8],
+    known: bool,
     readings: Readings,
 ) -> bool
     requires { ⌜ readCard (now card) ≡ Validity.WellFormed ⌝ }
-    requires { ⌜ readings ≡ readingsFor meaning (now value) ⌝ }
+    requires { ⌜ Given known meaning (now value) readings ⌝ }
     ensures { λ r. ⌜ r ≡ someValue (textCounts meaning (now (value .entry))) (valuesAt index (chosenOf chosen (entriesOf (now (card .entry))))) ⌝ }
 {
     let mut at = card::FIRST_ENTRY;
@@ -77,7 +78,7 @@ pub fn some_counts(
         let start = e.start;
         let end = e.end;
         if is_under(chosen, e.occurrence, e.index == index) {
-            if counts_read(meaning, value, readings, &card[start..end]) {
+            if text_counts_by(known, meaning, value, readings, &card[start..end]) {
                 return true;
             }
             at = end;

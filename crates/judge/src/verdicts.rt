@@ -1,7 +1,6 @@
 // What a test says of a card.
 use crate::Chosen;
 use crate::sets::some_counts;
-use crate::values::readings_for;
 use block::Validity;
 use kind::Meaning;
 use sheet::Found;
@@ -15,8 +14,7 @@ pub fn says_of(card: &[u8], chosen: Chosen, index: u8, meaning: Meaning, value: 
     requires { ⌜ readCard (now card) ≡ Validity.WellFormed ⌝ }
     ensures { λ r. ⌜ r ≡ saysOf meaning (now (value .entry)) (valuesAt index (chosenOf chosen (entriesOf (now (card .entry))))) ⌝ }
 {
-    let readings = readings_for(meaning, value);
-    let some = some_counts(card, chosen, index, meaning, value, readings);
+    let some = some_counts(card, chosen, index, meaning, value, false, kind::unread());
     some_says(meaning, kind::is_true(value), some)
 }
 

@@ -144,9 +144,17 @@ fn some_text(
     if opened.escaped {
         let mut value = [0u8; 1024];
         let n = decode(&filter[start..end], &mut value);
-        return some_counts(card, chosen, index, meaning, &value[..n], readings);
+        return some_counts(card, chosen, index, meaning, &value[..n], true, readings);
     }
-    some_counts(card, chosen, index, meaning, &filter[start..end], readings)
+    some_counts(
+        card,
+        chosen,
+        index,
+        meaning,
+        &filter[start..end],
+        true,
+        readings,
+    )
 }
 
 // What a test without brackets says of the entries that count.

@@ -4,16 +4,15 @@ use Rattle.block.proofs.Invariants.{Visited}
 use Rattle.block.proofs.Items.{visited-next, visited-decides, visited-end}
 use Rattle.card.specs.Card.{entry, entriesOf}
 use Rattle.card.proofs.Entries.{entries-start}
-use Rattle.judge.proofs.Once.{once-kept}
 use Rattle.judge.proofs.Entries.{someCounts, some-here, some-next, some-other, some-end}
 use Rattle.judge.proofs.sets.some_counts.Statement.{statement}
 use Rattle.judge.proofs.sets.some_counts.Tie as tie
 
 abbrev Inv-loop : tie.InvT-loop
-Inv-loop card chosen index meaning value readings at₀ left₀ at left = Visited entry (someCounts chosen index meaning value) (someCounts chosen index meaning value (entriesOf card)) card at left
+Inv-loop card chosen index meaning value known readings at₀ left₀ at left = Visited entry (someCounts chosen index meaning value) (someCounts chosen index meaning value (entriesOf card)) card at left
 
 abbrev μ-loop : tie.MeasureT-loop
-μ-loop card chosen index meaning value readings at₀ left₀ at left = left
+μ-loop card chosen index meaning value known readings at₀ left₀ at left = left
 
 entry-count-requires : tie.Need-entry-count-requires Inv-loop μ-loop
 entry-count-requires c κs = search needs
@@ -27,17 +26,17 @@ entry-at-requires c κs = search needs
 is-under-requires : tie.Need-is-under-requires Inv-loop μ-loop
 is-under-requires c κs = search needs
 
-sub-counts-read : tie.Need-sub-counts-read Inv-loop μ-loop
-sub-counts-read c = search needs
+sub-text-counts-by : tie.Need-sub-text-counts-by Inv-loop μ-loop
+sub-text-counts-by c = search needs
 
-part-counts-read-start : tie.Need-part-counts-read-start Inv-loop μ-loop
-part-counts-read-start c = search needs
+part-text-counts-by-start : tie.Need-part-text-counts-by-start Inv-loop μ-loop
+part-text-counts-by-start c = search needs
 
-part-counts-read-end : tie.Need-part-counts-read-end Inv-loop μ-loop
-part-counts-read-end c = search needs
+part-text-counts-by-end : tie.Need-part-text-counts-by-end Inv-loop μ-loop
+part-text-counts-by-end c = search needs
 
-counts-read-requires : tie.Need-counts-read-requires Inv-loop μ-loop
-counts-read-requires c κs = search (once-kept, needs)
+text-counts-by-requires : tie.Need-text-counts-by-requires Inv-loop μ-loop
+text-counts-by-requires c κs = search needs
 
 returns : tie.Need-returns Inv-loop μ-loop
 returns c = search (visited-decides, some-here, needs)
@@ -73,10 +72,10 @@ some-counts-spec =
     loop-holds
     entry-at-requires
     is-under-requires
-    sub-counts-read
-    part-counts-read-start
-    part-counts-read-end
-    counts-read-requires
+    sub-text-counts-by
+    part-text-counts-by-start
+    part-text-counts-by-end
+    text-counts-by-requires
     returns
     sub-left
     loop-less

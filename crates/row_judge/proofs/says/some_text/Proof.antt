@@ -2,6 +2,7 @@
 use borrow.Author.Needs.{needs}
 use native.Mathlib.Omega.{arith}
 use lib.ListN.{length-take}
+use Rattle.judge.proofs.Once.{is-given}
 use Rattle.row_judge.proofs.Saying.{escaped-read, escaped-some, plain-read, plain-some}
 use Rattle.row_judge.proofs.says.some_text.Statement.{statement}
 use Rattle.row_judge.proofs.says.some_text.Tie as tie
@@ -28,7 +29,7 @@ slice-aggregate-some-counts : tie.Need-slice-aggregate-some-counts
 slice-aggregate-some-counts c = simp length-take (omega arith)
 
 some-counts-requires : tie.Need-some-counts-requires
-some-counts-requires c κs = search (escaped-read, needs)
+some-counts-requires c κs = search (is-given, escaped-read, needs)
 
 returns : tie.Need-returns
 returns c = search (escaped-some, needs)
@@ -43,7 +44,7 @@ part-some-counts-end : tie.Need-part-some-counts-end
 part-some-counts-end c = search needs
 
 some-counts-requires-2 : tie.Need-some-counts-requires-2
-some-counts-requires-2 c κs = search (plain-read, needs)
+some-counts-requires-2 c κs = search (is-given, plain-read, needs)
 
 returns-2 : tie.Need-returns-2
 returns-2 c = search (plain-some, needs)

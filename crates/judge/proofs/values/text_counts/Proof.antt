@@ -1,8 +1,8 @@
--- `judge::placed::text_counts` meets its contract: the value is read, and then counts as before. Assumes nothing.
+-- `judge::values::text_counts` meets its contract: the value is read, and then counts as before. Assumes nothing.
 use borrow.Author.Needs.{needs}
 use Rattle.judge.proofs.Once.{once-kept, once-counts}
-use Rattle.judge.proofs.placed.text_counts.Statement.{statement}
-use Rattle.judge.proofs.placed.text_counts.Tie as tie
+use Rattle.judge.proofs.values.text_counts.Statement.{statement}
+use Rattle.judge.proofs.values.text_counts.Tie as tie
 
 readings-for-requires : tie.Need-readings-for-requires
 readings-for-requires c κs = search needs
