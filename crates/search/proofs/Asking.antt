@@ -1,6 +1,6 @@
 -- What a text asks under a kind: the computed operator and value are those of the rule.
 -- Assumes nothing.
-use Prim.Native.Nat.{ℕ, zero, suc}
+use Prim.Native.Nat.{ℕ, _<_}
 use native.Mathlib.Omega.{arith}
 use mathlib.Core.Path.{_≡_, refl, ap, sym, _∙_, subst}
 use mathlib.Core.Bool.{true, false}
@@ -8,12 +8,12 @@ use mathlib.Core.Logic.{_⊎_, inl, inr, ⊎-elim}
 use mathlib.Core.List.{List, [], _∷_, _++_}
 use lib.Dec.{eqb}
 use lib.ListN.{length, drop}
-use borrow.Author.Tests.{eq-eqb, eqb-true}
+use borrow.Author.Tests.{eq-eqb, eqb-true, eqb-false}
 use Rattle.base.specs.Lists.{member, All, all-empty, all-cons}
 use Rattle.base.specs.Affixes.{hasPrefix}
-use Rattle.base.specs.Kinds.{string, token, reference}
+use Rattle.base.specs.Kinds.{string, number, date, token, reference, period}
 use Rattle.base.specs.Operators.{operatorWords, eq, sw, re, pr}
-use Rattle.base.proofs.Tests.{or-left, or-right, or-either, and-left, and-right, cond-elim}
+use Rattle.base.proofs.Tests.{or-left, or-right, or-either, and-left, and-right, both-ways, cond-elim}
 use Rattle.sheet.specs.Encode.{ValueKind}
 use Rattle.judge.specs.Faults.{unsupported}
 use Rattle.search.specs.Asking.{takesPrefix, prefixes, wordOf, AskedBy, asked-prefix, asked-eq, asked-start, asked-token, asked-reference, Asked, prefixed, askedOf}
@@ -98,14 +98,19 @@ module _ (kind : ℕ) (takes : takesPrefix kind ≡ true) (t : List ℕ) where
 -- each kind of values asks something of every text
 pub asked-there : (kind : ℕ) (t : List ℕ) → ValueKind kind → AskedBy kind t (askedOf kind t .operator) (askedOf kind t .value)
 unfolding askedOf takesPrefix
-asked-there zero t v = absurd (omega (arith, v .lowest))
-asked-there (suc zero) t v = asked-start refl
-asked-there (suc (suc zero)) t v = prefixed-asks 2 refl t prefixes two-bytes (λ k m. m) (λ k m. inl m)
-asked-there (suc (suc (suc zero))) t v = prefixed-asks 3 refl t prefixes two-bytes (λ k m. m) (λ k m. inl m)
-asked-there (suc (suc (suc (suc zero)))) t v = asked-token refl
-asked-there (suc (suc (suc (suc (suc zero))))) t v = asked-reference refl
-asked-there (suc (suc (suc (suc (suc (suc zero)))))) t v = prefixed-asks 6 refl t prefixes two-bytes (λ k m. m) (λ k m. inl m)
-asked-there (suc (suc (suc (suc (suc (suc (suc k))))))) t v = absurd (omega (arith, v .highest))
+asked-there kind t v =
+    cond-elim By (takesPrefix kind) (λ h. prefixed-asks kind h t prefixes two-bytes (λ k m. m) (λ k m. inl m))
+    (λ h. cond-elim By (eqb kind string) (λ e. asked-start (eqb-true kind string e))
+    (λ n. cond-elim By (eqb kind token) (λ e. asked-token (eqb-true kind token e)) (λ m. asked-reference (last h (eqb-false kind string n) (eqb-false kind token m)))))
+  where
+    By : Asked → Type 0
+    By a = AskedBy kind t (a .operator) (a .value)
+
+    last : takesPrefix kind ≡ false → (kind ≡ string → ⊥) → (kind ≡ token → ⊥) → kind ≡ reference
+    last h n m =
+        let other : (j : ℕ) → takesPrefix j ≡ true → kind ≡ j → ⊥ = λ j e same. both-ways (ap takesPrefix same ∙ e) h in
+        let above : date < kind = omega (arith, v .lowest, other number refl, other date refl) in
+        omega (arith, v .highest, other period refl)
 
 -- what is asked is none of the operators that are not supported
 pub asked-supported : {kind o : ℕ} {t v : List ℕ} → AskedBy kind t o v → unsupported o ≡ false

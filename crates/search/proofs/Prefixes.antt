@@ -8,16 +8,18 @@
 use Prim.Native.Nat.{ℕ, zero, suc, _+_, _≤_, _<_}
 use native.Mathlib.Omega.{arith}
 use mathlib.Core.Path.{_≡_, refl, ap, sym, _∙_, subst}
-use mathlib.Core.Bool.{Bool, true, false, cond}
+use mathlib.Core.Bool.{Bool, true, false, cond, not, _||_}
 use mathlib.Core.Logic.{⊎-elim}
 use mathlib.Core.List.{List, _++_}
-use lib.Dec.{eqb, ltb}
+use lib.Dec.{eqb, leb}
 use lib.ListN.{length, drop, length-append}
 use lib.Seq.{drop-append-add}
-use borrow.Author.Tests.{eq-eqb, ne-eqb, le-ltb}
+use borrow.Author.Tests.{eq-eqb, ne-eqb, le-leb, not-true}
 use Rattle.base.specs.Lists.{member, All, all-empty, all-cons}
 use Rattle.base.specs.Affixes.{hasPrefix}
+use Rattle.base.specs.Below.{passes}
 use Rattle.base.specs.Operators.{operatorWords, eq, ne, gt, lt, ge, le, sa, eb, sw, re}
+use Rattle.base.proofs.Below.{passes-at}
 use Rattle.base.proofs.Tests.{decided, both-ways}
 use Rattle.base.specs.Kinds.{string, number, date, token}
 use Rattle.syntax.specs.Scan.{operatorAt}
@@ -44,65 +46,41 @@ module _ (kind : ℕ) where
 
 -- ---- prefixes
 
+-- in a range of numbers each is a prefix's, or none is: a computed test tells which
+in-range : (low high : ℕ) (is : Bool) → passes (λ (j : ℕ). not (leb low j) || cond is (member j prefixes) (not (member j prefixes))) high ≡ true → (k : ℕ) → low ≤ k → k < high → is ≡ member k prefixes
+in-range low high is rule k l h =
+    let t = passes-at (λ (j : ℕ). not (leb low j) || cond is (member j prefixes) (not (member j prefixes))) high rule k h in
+    either is (member k prefixes) (rw (le-leb low k l) at t)
+  where
+    either : (is m : Bool) → cond is m (not m) ≡ true → is ≡ m
+    either true m e = sym e
+    either false m e = sym (not-true m e)
+
 pub prefix-first : (k : ℕ) → k < 2 → true ≡ member k prefixes
 unfolding member
-prefix-first zero h = refl
-prefix-first (suc zero) h = refl
-prefix-first (suc (suc k)) h = absurd (omega arith)
+prefix-first k h = in-range 0 2 true refl k (omega arith) h
 
 pub prefix-gap : (k : ℕ) → 2 ≤ k → k < 5 → false ≡ member k prefixes
 unfolding member
-prefix-gap zero l h = absurd (omega arith)
-prefix-gap (suc zero) l h = absurd (omega arith)
-prefix-gap (suc (suc zero)) l h = refl
-prefix-gap (suc (suc (suc zero))) l h = refl
-prefix-gap (suc (suc (suc (suc zero)))) l h = refl
-prefix-gap (suc (suc (suc (suc (suc k))))) l h = absurd (omega arith)
+prefix-gap = in-range 2 5 false refl
 
 pub prefix-middle : (k : ℕ) → 5 ≤ k → k < 9 → true ≡ member k prefixes
 unfolding member
-prefix-middle zero l h = absurd (omega arith)
-prefix-middle (suc zero) l h = absurd (omega arith)
-prefix-middle (suc (suc zero)) l h = absurd (omega arith)
-prefix-middle (suc (suc (suc zero))) l h = absurd (omega arith)
-prefix-middle (suc (suc (suc (suc zero)))) l h = absurd (omega arith)
-prefix-middle (suc (suc (suc (suc (suc zero))))) l h = refl
-prefix-middle (suc (suc (suc (suc (suc (suc zero)))))) l h = refl
-prefix-middle (suc (suc (suc (suc (suc (suc (suc zero))))))) l h = refl
-prefix-middle (suc (suc (suc (suc (suc (suc (suc (suc zero)))))))) l h = refl
-prefix-middle (suc (suc (suc (suc (suc (suc (suc (suc (suc k))))))))) l h = absurd (omega arith)
+prefix-middle = in-range 5 9 true refl
 
-pub prefix-nine : (k : ℕ) → 9 ≤ k → k < 10 → false ≡ member k prefixes
+pub prefix-ap : (k : ℕ) → 9 ≤ k → k < 10 → false ≡ member k prefixes
 unfolding member
-prefix-nine zero l h = absurd (omega arith)
-prefix-nine (suc zero) l h = absurd (omega arith)
-prefix-nine (suc (suc zero)) l h = absurd (omega arith)
-prefix-nine (suc (suc (suc zero))) l h = absurd (omega arith)
-prefix-nine (suc (suc (suc (suc zero)))) l h = absurd (omega arith)
-prefix-nine (suc (suc (suc (suc (suc zero))))) l h = absurd (omega arith)
-prefix-nine (suc (suc (suc (suc (suc (suc zero)))))) l h = absurd (omega arith)
-prefix-nine (suc (suc (suc (suc (suc (suc (suc zero))))))) l h = absurd (omega arith)
-prefix-nine (suc (suc (suc (suc (suc (suc (suc (suc zero)))))))) l h = absurd (omega arith)
-prefix-nine (suc (suc (suc (suc (suc (suc (suc (suc (suc zero))))))))) l h = refl
-prefix-nine (suc (suc (suc (suc (suc (suc (suc (suc (suc (suc k)))))))))) l h = absurd (omega arith)
+prefix-ap = in-range 9 10 false refl
 
-pub prefix-last : (r : Bool) (k : ℕ) → r ≡ ltb k 12 → 10 ≤ k → r ≡ member k prefixes
+pub prefix-last : (k : ℕ) → 10 ≤ k → k < 12 → true ≡ member k prefixes
 unfolding member
-prefix-last r zero e h = absurd (omega arith)
-prefix-last r (suc zero) e h = absurd (omega arith)
-prefix-last r (suc (suc zero)) e h = absurd (omega arith)
-prefix-last r (suc (suc (suc zero))) e h = absurd (omega arith)
-prefix-last r (suc (suc (suc (suc zero)))) e h = absurd (omega arith)
-prefix-last r (suc (suc (suc (suc (suc zero))))) e h = absurd (omega arith)
-prefix-last r (suc (suc (suc (suc (suc (suc zero)))))) e h = absurd (omega arith)
-prefix-last r (suc (suc (suc (suc (suc (suc (suc zero))))))) e h = absurd (omega arith)
-prefix-last r (suc (suc (suc (suc (suc (suc (suc (suc zero)))))))) e h = absurd (omega arith)
-prefix-last r (suc (suc (suc (suc (suc (suc (suc (suc (suc zero))))))))) e h = absurd (omega arith)
-prefix-last r (suc (suc (suc (suc (suc (suc (suc (suc (suc (suc zero)))))))))) e h = e
-prefix-last r (suc (suc (suc (suc (suc (suc (suc (suc (suc (suc (suc zero))))))))))) e h = e
-prefix-last r (suc (suc (suc (suc (suc (suc (suc (suc (suc (suc (suc (suc k)))))))))))) e h =
-    let n : ℕ = suc (suc (suc (suc (suc (suc (suc (suc (suc (suc (suc (suc k))))))))))) in
-    e ∙ rw (le-ltb n 12 (omega arith), ne-eqb n eq (λ z. omega arith), ne-eqb n ne (λ z. omega arith), ne-eqb n gt (λ z. omega arith), ne-eqb n lt (λ z. omega arith), ne-eqb n ge (λ z. omega arith), ne-eqb n le (λ z. omega arith), ne-eqb n sa (λ z. omega arith), ne-eqb n eb (λ z. omega arith))
+prefix-last = in-range 10 12 true refl
+
+pub prefix-none : (k : ℕ) → 12 ≤ k → false ≡ member k prefixes
+unfolding member
+prefix-none k h =
+    let far : (j : ℕ) → j < 12 → k ≡ j → ⊥ = λ j i e. omega arith in
+    rw (ne-eqb k eq (far eq (omega arith)), ne-eqb k ne (far ne (omega arith)), ne-eqb k gt (far gt (omega arith)), ne-eqb k lt (far lt (omega arith)), ne-eqb k ge (far ge (omega arith)), ne-eqb k le (far le (omega arith)), ne-eqb k sa (far sa (omega arith)), ne-eqb k eb (far eb (omega arith)))
 
 in-words : All (λ (k : ℕ). k < length operatorWords) prefixes
 unfolding operatorWords

@@ -6,8 +6,15 @@ use base::kind::NUMBER;
 use base::kind::PERIOD;
 use base::kind::STRING;
 use base::kind::TOKEN;
+use base::operator::EB;
 use base::operator::EQ;
+use base::operator::GE;
+use base::operator::GT;
+use base::operator::LE;
+use base::operator::LT;
+use base::operator::NE;
 use base::operator::RE;
+use base::operator::SA;
 use base::operator::SW;
 use syntax::FoundOperator;
 use syntax::test::read_operator;
@@ -32,19 +39,10 @@ fn takes_prefix(kind: u8) -> bool
 fn is_prefix(operator: u8) -> bool
     ensures { λ r. ⌜ r ≡ member operator prefixes ⌝ }
 {
-    if operator < 2 {
-        return true;
+    match operator {
+        EQ | NE | GT | LT | GE | LE | SA | EB => true,
+        _ => false,
     }
-    if operator < 5 {
-        return false;
-    }
-    if operator < 9 {
-        return true;
-    }
-    if operator < 10 {
-        return false;
-    }
-    operator < 12
 }
 
 // What a text with a prefix, or without, asks.
