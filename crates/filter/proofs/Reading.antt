@@ -10,7 +10,8 @@ use Rattle.sheet.specs.Sheet.{Parameter}
 use Rattle.syntax.specs.Tree.{Test, moved, under, Tree, test, bracketed, join, negation, testsOf}
 use Rattle.sheet.specs.Find.{enter}
 use Rattle.judge.specs.Sets.{lookup}
-use Rattle.syntax.specs.Scan.{connectiveAt}
+use Rattle.base.specs.Runs.{RunEnd}
+use Rattle.syntax.specs.Scan.{isSpace, connectiveAt}
 use Rattle.syntax.specs.Reader.{itemAt, filterAt}
 use Rattle.syntax.specs.declared.Connective.{Connective}
 use Rattle.syntax.specs.declared.FoundConnective.{FoundConnective}
@@ -93,16 +94,14 @@ tests-fit ps s xs close d p m q n a b c o r k e h f i short =
     let after : b .tests ≡ length (testsOf (w .tree)) = ap (λ (s : Summary). s .tests) (w .value ∙ reading-is ps s (w .tree)) in
     omega (arith, filter-count (k .derives), item-count (w .derives), item-rise (w .derives))
 
-pub one-test : (ps : List Parameter) (i : ℕ) (o : Summary) (u : Test) → o ≡ reading ps i .one u → o .tests ≡ 1
-one-test ps i o u e = ap (λ (s : Summary). s .tests) e
-
--- behind an opening bracket at least
-pub tests-within : (ps : List Parameter) (i : ℕ) (xs : List ℕ) (close d q n : ℕ) (a : Summary) (r : Walked) → r ≡ answerOf Walked.Done Walked.Nothing (reading ps i) (filterAt d xs close q) → r ≡ Walked.Done n a
-    → 1 ≤ q → length xs ≤ 1024 → a .tests < 1024
-tests-within ps i xs close d q n a r f e low short =
+-- a member's test and those in its bundle's brackets: behind the opening bracket at least
+pub member-fits : (ps : List Parameter) (i : ℕ) (xs : List ℕ) (close d u q n : ℕ) (o a : Summary) (t : Test) (r : Walked) → RunEnd isSpace xs (u + 1) q → r ≡ answerOf Walked.Done Walked.Nothing (reading ps i) (filterAt d xs close q)
+    → r ≡ Walked.Done n a → o ≡ reading ps i .one t → length xs ≤ 1024 → o .tests + a .tests ≤ 1024
+member-fits ps i xs close d u q n o a t r s f e h short =
     let w = was-filter Walked.Done Walked.Nothing walked-cases (reading ps i) xs close d q r n a f e in
+    let outer : o .tests ≡ 1 = ap (λ (s : Summary). s .tests) h in
     let inner : a .tests ≡ length (testsOf (w .tree)) = ap (λ (s : Summary). s .tests) (w .value ∙ reading-is ps i (w .tree)) in
-    omega (arith, filter-count (w .derives), filter-rise (w .derives))
+    omega (arith, filter-count (w .derives), filter-rise (w .derives), s .from)
 
 -- a negation changes nothing that reading gathers
 pub summary-negated : (b : Bool) (a : Summary) → a ≡ cond b a a

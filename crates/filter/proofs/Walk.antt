@@ -18,7 +18,7 @@ use Rattle.syntax.specs.Scan.{isSpace, testOf, headAt, memberAfter, connectiveA
 use Rattle.base.specs.Runs.{RunEnd}
 use Rattle.base.specs.Parts.{part}
 use Rattle.syntax.specs.declared.FoundTest.{FoundTest}
-use Rattle.syntax.specs.Reader.{Parsed, parsed, unparsed, negatedIf, chainOf, itemAt, filterAt, whole, read}
+use Rattle.syntax.specs.Reader.{Parsed, parsed, unparsed, negatedIf, chainOf, itemAt, filterAt, bracketAt, chosenAt, whole, read}
 use Rattle.syntax.specs.declared.RawTest.{RawTest}
 use Rattle.syntax.specs.declared.Head.{Head}
 use Rattle.syntax.specs.declared.Connective.{Connective}
@@ -118,6 +118,9 @@ module _ {A R : Type 0} (done : ℕ → A → R) (nothing : R) (cases : Cases do
     pub item-ahead : (q : ℕ) (a : A) → r ≡ answer (itemAt d xs close p) → r ≡ done q a → (p + 1 ≤ q) × (q ≤ length xs)
     item-ahead q a e h = item-rise (was-item q a e h .derives)
 
+    pub filter-within : (q : ℕ) (a : A) → r ≡ answer (filterAt d xs close p) → r ≡ done q a → q ≤ length xs
+    filter-within q a e h = filter-rise (was-filter q a e h .derives) .1
+
     pub filter-ahead : (q : ℕ) (a : A) → r ≡ answer (filterAt d xs close p) → r ≡ done q a → (p + 1 ≤ q) × (q ≤ length xs)
     filter-ahead q a e h = filter-rise (was-filter q a e h .derives)
 
@@ -137,44 +140,59 @@ module _ {A R : Type 0} (done : ℕ → A → R) (nothing : R) (cases : Cases do
       unfolding answerOf
       item-deep z = rw (deep-step xs close p d (sym e ∙ i) z)
 
-      module _ (n : d ≡ 0 → ⊥) (r : R) (f : r ≡ answer (filterAt (d - 1) xs round q)) where
-        pub item-no-filter : r ≡ nothing → nothing ≡ answer (itemAt d xs close p)
-        unfolding answerOf
-        item-no-filter j = rw (opened-step xs close p d (sym e ∙ i) n, was-nothing done nothing cases φ (filterAt (d - 1) xs round q) f j)
-
-        module _ (k : ℕ) (a : A) (j : r ≡ done k a) (c : FoundClose) (g : c ≡ closeAt xs round k) where
-          pub item-open : c ≡ FoundClose.Nothing → nothing ≡ answer (itemAt d xs close p)
-          unfolding answerOf
-          item-open y = let w = was-done done nothing cases φ (filterAt (d - 1) xs round q) f j in rw (opened-step xs close p d (sym e ∙ i) n, w .read, sym g ∙ y)
-
-          pub item-closed : (m : ℕ) (v : A) → c ≡ FoundClose.At m → v ≡ cond b (φ .negate a) a → done m v ≡ answer (itemAt d xs close p)
-          unfolding answerOf
-          item-closed m v y z =
-              let w = was-done done nothing cases φ (filterAt (d - 1) xs round q) f j in
-              let s : v ≡ foldTree φ (negatedIf b (w .tree)) = z ∙ ap (λ (x : A). cond b (φ .negate x) x) (w .value) ∙ sym (fold-negated φ b (w .tree)) in
-              rw (opened-step xs close p d (sym e ∙ i) n, w .read, sym g ∙ y) (ap (done m) s)
+      pub item-opened : (d ≡ 0 → ⊥) → (r : R) → r ≡ answer (bracketAt (d - 1) xs b q) → r ≡ answer (itemAt d xs close p)
+      item-opened n r f = f ∙ ap answer (sym (opened-step xs close p d (sym e ∙ i) n))
 
     module _ (u : ℕ) (i : h ≡ Head.Choice u) where
       pub choice-deep : d ≡ 0 → nothing ≡ answer (itemAt d xs close p)
       unfolding answerOf
       choice-deep z = rw (deep-choice-step xs close p d (sym e ∙ i) z)
 
-      -- what is in the brackets is walked for what ψ gathers
-      module _ (n : d ≡ 0 → ⊥) (q : ℕ) (s : RunEnd isSpace xs (u + 1) q) (ψ : Fold A) (r : R) (f : r ≡ answerOf done nothing ψ (filterAt (d - 1) xs square q)) where
-        pub choice-no-filter : r ≡ nothing → nothing ≡ answer (itemAt d xs close p)
-        unfolding answerOf
-        choice-no-filter j = rw (chosen-step xs close p d (sym e ∙ i) n, ← s .is, was-nothing done nothing cases ψ (filterAt (d - 1) xs square q) f j)
+      pub item-chosen : (d ≡ 0 → ⊥) → (r : R) → r ≡ answer (chosenAt (d - 1) xs close p u) → r ≡ answer (itemAt d xs close p)
+      item-chosen n r f = f ∙ ap answer (sym (chosen-step xs close p d (sym e ∙ i) n))
 
-        module _ (k : ℕ) (a : A) (j : r ≡ done k a) (c : FoundTest) (g : c ≡ memberAfter xs close k) where
-          pub choice-no-member : c ≡ FoundTest.Nothing → nothing ≡ answer (itemAt d xs close p)
-          unfolding answerOf
-          choice-no-member y = let w = was-done done nothing cases ψ (filterAt (d - 1) xs square q) f j in rw (chosen-step xs close p d (sym e ∙ i) n, ← s .is, w .read, sym g ∙ y)
+  -- ---- a filter in round brackets
 
-          pub choice-member : (t : RawTest) (v : A) → c ≡ FoundTest.Test t → ((g : Tree) → filterAt (d - 1) xs square q ≡ parsed k g → a ≡ foldTree ψ g → v ≡ φ .inside p (part xs p u) g (foldTree φ g) (testOf xs t)) → done (t .value .next) v ≡ answer (itemAt d xs close p)
-          unfolding answerOf foldTree
-          choice-member t v y z =
-              let w = was-done done nothing cases ψ (filterAt (d - 1) xs square q) f j in
-              rw (chosen-step xs close p d (sym e ∙ i) n, ← s .is, w .read, sym g ∙ y) (ap (done (t .value .next)) (z (w .tree) (w .read) (w .value)))
+  module _ (xs : List ℕ) (close d q : ℕ) (o : close ≡ round) (b : Bool) (r : R) (f : r ≡ answer (filterAt d xs close q)) where
+    in-round : r ≡ answer (filterAt d xs round q)
+    in-round = f ∙ ap (λ (n : ℕ). answer (filterAt d xs n q)) o
+
+    pub round-no-filter : r ≡ nothing → nothing ≡ answer (bracketAt d xs b q)
+    unfolding answerOf bracketAt
+    round-no-filter j = rw (was-nothing done nothing cases φ (filterAt d xs round q) in-round j)
+
+    module _ (k : ℕ) (a : A) (j : r ≡ done k a) (c : FoundClose) (g : c ≡ closeAt xs round k) where
+      was-there : Was φ (filterAt d xs round q) k a
+      was-there = was-done done nothing cases φ (filterAt d xs round q) in-round j
+
+      pub round-open : c ≡ FoundClose.Nothing → nothing ≡ answer (bracketAt d xs b q)
+      unfolding answerOf bracketAt
+      round-open y = let w = was-there in rw (w .read, sym g ∙ y)
+
+      pub round-closed : (m : ℕ) (v : A) → c ≡ FoundClose.At m → v ≡ cond b (φ .negate a) a → done m v ≡ answer (bracketAt d xs b q)
+      unfolding answerOf bracketAt
+      round-closed m v y z =
+          let w = was-there in
+          let s : v ≡ foldTree φ (negatedIf b (w .tree)) = z ∙ ap (λ (x : A). cond b (φ .negate x) x) (w .value) ∙ sym (fold-negated φ b (w .tree)) in
+          rw (w .read, sym g ∙ y) (ap (done m) s)
+
+  -- ---- the test of a member after its bundle's brackets; what is in them is walked for what ψ gathers
+
+  module _ (xs : List ℕ) (close d p u q : ℕ) (s : RunEnd isSpace xs (u + 1) q) (ψ : Fold A) (r : R) (f : r ≡ answerOf done nothing ψ (filterAt d xs square q)) where
+    pub chosen-no-filter : r ≡ nothing → nothing ≡ answer (chosenAt d xs close p u)
+    unfolding answerOf chosenAt
+    chosen-no-filter j = rw (← s .is, was-nothing done nothing cases ψ (filterAt d xs square q) f j)
+
+    module _ (k : ℕ) (a : A) (j : r ≡ done k a) (c : FoundTest) (g : c ≡ memberAfter xs close k) where
+      pub chosen-no-member : c ≡ FoundTest.Nothing → nothing ≡ answer (chosenAt d xs close p u)
+      unfolding answerOf chosenAt
+      chosen-no-member y = let w = was-done done nothing cases ψ (filterAt d xs square q) f j in rw (← s .is, w .read, sym g ∙ y)
+
+      pub chosen-member : (t : RawTest) (v : A) → c ≡ FoundTest.Test t → ((g : Tree) → filterAt d xs square q ≡ parsed k g → a ≡ foldTree ψ g → v ≡ φ .inside p (part xs p u) g (foldTree φ g) (testOf xs t)) → done (t .value .next) v ≡ answer (chosenAt d xs close p u)
+      unfolding answerOf foldTree chosenAt
+      chosen-member t v y z =
+          let w = was-done done nothing cases ψ (filterAt d xs square q) f j in
+          rw (← s .is, w .read, sym g ∙ y) (ap (done (t .value .next)) (z (w .tree) (w .read) (w .value)))
 
   -- ---- a filter, of which the loop has read the part up to m
 

@@ -1,4 +1,3 @@
--- What a walk over a filter's text answers, and what it gathers from the tests.
+-- What a walk over a filter's text answers, and what reading gathers from the tests.
 pub mod Folds
 pub mod Walks
-pub mod Members

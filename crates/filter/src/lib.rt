@@ -1,13 +1,11 @@
-// Filters read and judged: a filter and an item call each other, and the text left and the nesting left fall.
+// Filters read on a sheet: a filter and an item call each other, and the text left and the nesting left fall.
 mod check;
-mod verdict;
 
 pub use check::check_filter;
 pub use check::join_summaries;
 pub use check::test_summary;
 use refusal::Decision;
 use syntax::scan::skip;
-pub use verdict::judge_filter;
 ghost use mathlib.Core.Path.{_≡_};
 ghost use Rattle.filter.specs.Walks.{topSpot};
 
@@ -29,12 +27,6 @@ pub struct Summary {
 // Where a filter or an item that was read ends, and what was gathered; or that there is none.
 pub enum Walked {
     Done(usize, Summary),
-    Nothing,
-}
-
-// Where a filter or an item that was judged ends, and what it says; or that there is none.
-pub enum Judged {
-    Done(usize, bool),
     Nothing,
 }
 

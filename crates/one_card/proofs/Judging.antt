@@ -21,12 +21,12 @@ use Rattle.judge.specs.Sets.{chosenOf, conforms, conformsTo}
 use Rattle.judge.specs.Verdicts.{filterSays}
 use Rattle.judge.proofs.Entries.{every, chosen-every}
 use Rattle.judge.proofs.Table.{table-conforms}
-use Rattle.filter.specs.Folds.{judging}
+use Rattle.text_judge.specs.Folds.{judging}
 use Rattle.filter.specs.Walks.{topSpot, answerOf}
 use Rattle.filter.specs.declared.Spot.{Spot}
-use Rattle.filter.specs.declared.Judged.{Judged}
+use Rattle.text_judge.specs.declared.Judged.{Judged}
 use Rattle.filter.proofs.Walk.{top-bundle, top-read, was-filter, was-none}
-use Rattle.filter.proofs.Judging.{judged-cases, judging-is}
+use Rattle.text_judge.proofs.Judging.{judged-cases, judging-is}
 use Rattle.row_judge.specs.Saying.{rowsSay}
 use Rattle.refusal.specs.Answers.{numberOf, yesOrNo, refusalAnswer}
 use Rattle.refusal.specs.Steps.{found, stop, Step, _>>=_, answer}

@@ -26,7 +26,7 @@ use Rattle.syntax.specs.declared.FoundTest.{FoundTest}
 use Rattle.syntax.specs.declared.FoundChoice.{FoundChoice}
 use Rattle.syntax.specs.declared.FoundClose.{FoundClose}
 use Rattle.syntax.specs.declared.Head.{Head}
-use Rattle.syntax.specs.Reader.{Parsed, parsed, unparsed, negatedIf, inBracket, inChoice, itemAt, filterAt}
+use Rattle.syntax.specs.Reader.{Parsed, parsed, unparsed, negatedIf, inBracket, inChoice, itemAt, filterAt, bracketAt, chosenAt}
 use Rattle.syntax.proofs.Structure.{OpenDerived, open-derived}
 use Rattle.syntax.proofs.Sound.{ItemDerived, FilterDerived, item-derived, filter-derived}
 use Rattle.syntax.proofs.Complete.{item-rise, filter-rise, test-step, opened-step, deep-step, chosen-step, deep-choice-step, nothing-step}
@@ -34,7 +34,7 @@ use Rattle.syntax.proofs.Tests.{TestDerived, test-derived}
 use Rattle.spell.specs.Plain.{connectiveText, inRoundIf, plainTest, plain, operand}
 use Rattle.base.specs.Writing.{Room, Puts}
 use Rattle.spell.specs.Writing.{testText}
-use Rattle.spell.specs.Walks.{RoomFor, Spelt, joined, choiceText, memberText, bracketAt, chosenAt}
+use Rattle.spell.specs.Walks.{RoomFor, Spelt, joined, choiceText, memberText}
 use Rattle.spell.specs.declared.Written.{Written}
 use Rattle.spell.proofs.Length.{operand-short}
 use Rattle.base.proofs.Writing.{room-same, puts-same, lent, back, Wrote, wrote-end, first-room, first-within, last-room, last-wrote, second-room, second-wrote, third-room, third-wrote, puts-length, puts-over}
@@ -294,13 +294,9 @@ module _ (d : ℕ) (xs : List ℕ) (close p : ℕ) (out : List ℕ) (r : RoomFor
     pub item-open-deep : d ≡ 0 → ⊥
     item-open-deep z = never (sym (deep-step xs close p d (sym e ∙ i) z) ∙ r .reads)
 
-    opened : itemAt d xs close p ≡ bracketAt (d - 1) xs b q
-    unfolding bracketAt
-    opened = opened-step xs close p d (sym e ∙ i) item-open-deep
-
     module _ (c : Bool) (k : b ≡ c) where
       opened-as : itemAt d xs close p ≡ bracketAt (d - 1) xs c q
-      opened-as = opened ∙ ap (λ (x : Bool). bracketAt (d - 1) xs x q) k
+      opened-as = opened-step xs close p d (sym e ∙ i) item-open-deep ∙ ap (λ (x : Bool). bracketAt (d - 1) xs x q) k
 
       pub item-open-room : RoomFor plain (bracketAt (d - 1) xs c q) out
       item-open-room = record { end = r .end; tree = r .tree; reads = sym opened-as ∙ r .reads; room = r .room }
@@ -313,7 +309,6 @@ module _ (d : ℕ) (xs : List ℕ) (close p : ℕ) (out : List ℕ) (r : RoomFor
     item-choice-deep z = never (sym (deep-choice-step xs close p d (sym e ∙ i) z) ∙ r .reads)
 
     chosen-is : itemAt d xs close p ≡ chosenAt (d - 1) xs close p u
-    unfolding chosenAt
     chosen-is = chosen-step xs close p d (sym e ∙ i) item-choice-deep
 
     pub item-choice-room : RoomFor plain (chosenAt (d - 1) xs close p u) out

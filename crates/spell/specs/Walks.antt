@@ -1,15 +1,11 @@
 -- What the walk over a filter's text does, which writes as it reads: of a part of the text that is known to be an item or a filter.
 -- Assumes nothing.
-use Prim.Native.Nat.{ℕ, _+_}
+use Prim.Native.Nat.{ℕ}
 use mathlib.Core.Path.{_≡_}
-use mathlib.Core.Bool.{Bool}
 use mathlib.Core.List.{List, _++_}
 use Rattle.base.specs.Ascii.{ascii}
-use Rattle.base.specs.Parts.{part}
 use Rattle.syntax.specs.Tree.{Tree}
-use Rattle.syntax.specs.Grammar.{round, square}
-use Rattle.syntax.specs.Scan.{skipAt}
-use Rattle.syntax.specs.Reader.{Parsed, parsed, inBracket, inChoice, filterAt}
+use Rattle.syntax.specs.Reader.{Parsed, parsed}
 use Rattle.syntax.specs.declared.Connective.{Connective}
 use Rattle.syntax.specs.declared.RawTest.{RawTest}
 use Rattle.spell.specs.Plain.{connectiveText, isJoin, operand}
@@ -41,11 +37,3 @@ choiceText n = n ++ ascii "["
 
 unfoldable pub memberText : List ℕ → RawTest → List ℕ
 memberText xs t = ascii "]." ++ testText xs t
-
--- a filter in round brackets that begins at p inside them, after not or without, with brackets nested at most d deep in them
-unfoldable pub bracketAt : (d : ℕ) → List ℕ → (negated : Bool) → (p : ℕ) → Parsed
-bracketAt d xs negated p = inBracket xs negated (filterAt d xs round p)
-
--- the test of a member at p after the filter in square brackets of the bundle whose name ends at u
-unfoldable pub chosenAt : (d : ℕ) → List ℕ → (close p u : ℕ) → Parsed
-chosenAt d xs close p u = inChoice xs close p (part xs p u) (filterAt d xs square (skipAt xs (u + 1)))

@@ -18,10 +18,10 @@ ghost use mathlib.Core.Bool.{true, false};
 ghost use Prim.Native.Nat.{_≤_, _<_};
 ghost use lib.ListN.{length};
 ghost use Rattle.syntax.specs.Placed.{Placed};
-ghost use Rattle.syntax.specs.Reader.{itemAt, filterAt};
+ghost use Rattle.syntax.specs.Reader.{itemAt, filterAt, bracketAt, chosenAt};
 ghost use Rattle.spell.specs.Plain.{connectiveText, plain, operand};
 ghost use Rattle.base.specs.Writing.{Room, Puts};
-ghost use Rattle.spell.specs.Walks.{RoomFor, Spelt, joined, choiceText, memberText, bracketAt, chosenAt};
+ghost use Rattle.spell.specs.Walks.{RoomFor, Spelt, joined, choiceText, memberText};
 
 // Writes a connective with a space on either side, and answers its length.
 fn write_connective(connective: Connective, out: &mut [u8]) -> usize

@@ -22,7 +22,7 @@ use Rattle.syntax.specs.Strings.{isBare}
 use Rattle.syntax.specs.Tree.{Test, Tree, test, testsOf}
 use Rattle.syntax.specs.Grammar.{Stands, Opens, opens, opens-not, Closes, chooses, round, square, Item, item-test, item-bracket, item-not, item-bracketed, Filter, one-item, one-more, mostTests, Spells}
 use Rattle.syntax.specs.Scan.{skipAt, testOf, headAt, memberAt, memberAfter, connectiveAt}
-use Rattle.syntax.specs.Reader.{Parsed, parsed, unparsed, inBracket, inChoice, andThen, chainBy, chainOf, filterOf, itemAt, filterAt, read}
+use Rattle.syntax.specs.Reader.{Parsed, parsed, unparsed, inBracket, inChoice, andThen, chainBy, chainOf, filterOf, itemAt, filterAt, bracketAt, chosenAt, read}
 use Rattle.syntax.specs.declared.RawTest.{RawTest}
 use Rattle.syntax.specs.declared.Head.{Head}
 use Rattle.syntax.proofs.Words.{NoSpaceAt, stands-has, stands-no-space, end-no-space, spaces-skip}
@@ -103,7 +103,8 @@ module _ (xs : List ℕ) (close p : ℕ) where
   choice-step d e = rw e
 
   -- as the code goes: one bracket fewer left, none left, nothing there
-  pub opened-step : (d : ℕ) {q : ℕ} {b : Bool} → headAt xs close p ≡ Head.Open q b → (d ≡ 0 → ⊥) → itemAt d xs close p ≡ inBracket xs b (filterAt (d - 1) xs round q)
+  pub opened-step : (d : ℕ) {q : ℕ} {b : Bool} → headAt xs close p ≡ Head.Open q b → (d ≡ 0 → ⊥) → itemAt d xs close p ≡ bracketAt (d - 1) xs b q
+  unfolding bracketAt
   opened-step zero e n = absurd (n refl)
   opened-step (suc d) e n = rw (sub-one (suc d)) (open-step d e)
 
@@ -111,7 +112,8 @@ module _ (xs : List ℕ) (close p : ℕ) where
   unfolding itemAt
   deep-step d e z = rw (z, e)
 
-  pub chosen-step : (d : ℕ) {e : ℕ} → headAt xs close p ≡ Head.Choice e → (d ≡ 0 → ⊥) → itemAt d xs close p ≡ inChoice xs close p (part xs p e) (filterAt (d - 1) xs square (skipAt xs (e + 1)))
+  pub chosen-step : (d : ℕ) {e : ℕ} → headAt xs close p ≡ Head.Choice e → (d ≡ 0 → ⊥) → itemAt d xs close p ≡ chosenAt (d - 1) xs close p e
+  unfolding chosenAt
   chosen-step zero e n = absurd (n refl)
   chosen-step (suc d) e n = rw (sub-one (suc d)) (choice-step d e)
 

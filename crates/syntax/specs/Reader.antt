@@ -74,6 +74,14 @@ itemAt (suc d) xs close p = itemBy xs close p (λ c q. filterOf xs (λ k. itemAt
 unfoldable pub filterAt : ℕ → List ℕ → (close p : ℕ) → Parsed
 filterAt d xs close p = filterOf xs (λ k. itemAt d xs close k) p
 
+-- a filter in round brackets that begins at p inside them, after not or without, with brackets nested at most d deep in them
+unfoldable pub bracketAt : (d : ℕ) → List ℕ → (negated : Bool) → (p : ℕ) → Parsed
+bracketAt d xs negated p = inBracket xs negated (filterAt d xs round p)
+
+-- the test of a member at p after the filter in square brackets of the bundle whose name ends at u
+unfoldable pub chosenAt : (d : ℕ) → List ℕ → (close p u : ℕ) → Parsed
+chosenAt d xs close p u = inChoice xs close p (part xs p u) (filterAt d xs square (skipAt xs (u + 1)))
+
 -- a whole text: a filter between spaces, with few enough tests
 abbrev pub whole : List ℕ → Parsed → Option Tree
 whole xs (parsed q f) = cond (eqb (skipAt xs q) (length xs)) (cond (leb (length (testsOf f)) mostTests) (some f) none) none

@@ -1,8 +1,8 @@
--- `filter::verdict::test_verdict` meets its contract. Assumes nothing.
+-- `text_judge::test_verdict` meets its contract. Assumes nothing.
 use borrow.Author.Needs.{needs}
-use Rattle.filter.specs.Folds.{judging}
-use Rattle.filter.proofs.verdict.test_verdict.Statement.{statement}
-use Rattle.filter.proofs.verdict.test_verdict.Tie as tie
+use Rattle.text_judge.specs.Folds.{judging}
+use Rattle.text_judge.proofs.test_verdict.Statement.{statement}
+use Rattle.text_judge.proofs.test_verdict.Tie as tie
 
 test-says-requires : tie.Need-test-says-requires
 test-says-requires c κs = search needs

@@ -1,8 +1,8 @@
--- `filter::verdict::entry_counts` meets its contract. Assumes nothing.
+-- `text_judge::entry_counts` meets its contract. Assumes nothing.
 use borrow.Author.Needs.{needs}
 use Rattle.base.proofs.Tests.{and-holds, and-fails}
-use Rattle.filter.proofs.verdict.entry_counts.Statement.{statement}
-use Rattle.filter.proofs.verdict.entry_counts.Tie as tie
+use Rattle.text_judge.proofs.entry_counts.Statement.{statement}
+use Rattle.text_judge.proofs.entry_counts.Tie as tie
 
 member-counts-requires : tie.Need-member-counts-requires
 member-counts-requires c κs = search needs

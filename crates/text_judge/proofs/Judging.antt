@@ -22,17 +22,17 @@ use Rattle.judge.specs.Sets.{lookup, valuesAt, counts, chosenOf, ofOccurrence, 
 use Rattle.judge.specs.declared.Chosen.{Chosen}
 use Rattle.judge.proofs.Meaning.{says-some}
 use Rattle.judge.proofs.Occurrences.{chosen-one, occurrence-whole}
 use Rattle.filter.specs.Walks.{answerOf}
-use Rattle.filter.specs.Members.{parsedSays, judgedSays, someChosen, memberAt, memberSays}
+use Rattle.text_judge.specs.Members.{parsedSays, judgedSays, someChosen, memberAt, memberSays}
 use Rattle.sheet.specs.Sheet.{Parameter}
 use Rattle.card.specs.Card.{Entry, entry}
 use Rattle.syntax.specs.Tree.{Test, Tree, test, bracketed, join, negation}
 use Rattle.syntax.specs.Fold.{foldTree}
 use Rattle.syntax.specs.declared.Connective.{Connective}
 use Rattle.judge.specs.Verdicts.{someValue, textCounts, someSays, saysAt, testSays, filterSays}
-use Rattle.filter.specs.Folds.{undecided, judging}
-use Rattle.filter.specs.declared.Judged.{Judged}
+use Rattle.text_judge.specs.Folds.{undecided, judging}
+use Rattle.text_judge.specs.declared.Judged.{Judged}
 use Rattle.filter.proofs.Walk.{Cases}
 
 -- the two cases of an answer
 pub judged-cases : Cases Judged.Done Judged.Nothing

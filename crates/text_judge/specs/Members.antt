@@ -15,7 +15,7 @@ use Rattle.kind.specs.declared.Meaning.{Meaning}
 use Rattle.judge.specs.Sets.{lookup, counts, ofOccurrence}
 use Rattle.judge.specs.Verdicts.{textCounts, someSays, filterSays}
 use Rattle.judge.specs.declared.Chosen.{Chosen}
-use Rattle.filter.specs.declared.Judged.{Judged}
+use Rattle.text_judge.specs.declared.Judged.{Judged}
 
 -- what the filter that was parsed says, and no where there is none
 abbrev pub parsedSays : List Parameter → ℕ → List Entry → Parsed → Bool

@@ -1,8 +1,7 @@
-// Judging a filter on a card. A test whose join is already decided is read and not judged: the verdict is the same, and
+// Judging a card by a filter's text. A test whose join is already decided is read and not judged: the verdict is the same, and
 // that the test has a meaning was for check to say, before any card.
-use crate::Judged;
-use crate::Spot;
 use block::Validity;
+use filter::Spot;
 use judge::Chosen;
 use judge::is_under;
 use judge::member_counts;
@@ -25,18 +24,25 @@ use syntax::read_member;
 use syntax::scan::skip;
 ghost use mathlib.Core.Path.{_≡_};
 ghost use mathlib.Core.Bool.{cond, not, _&&_};
-ghost use Prim.Native.Nat.{_≤_};
+ghost use Prim.Native.Nat.{_≤_, _<_};
 ghost use lib.ListN.{length};
 ghost use Rattle.sheet.specs.Sheet.{parametersOf, readSheet};
 ghost use Rattle.card.specs.Card.{entriesOf, readCard};
 ghost use Rattle.syntax.specs.Placed.{Placed};
 ghost use Rattle.syntax.specs.Scan.{testOf};
-ghost use Rattle.syntax.specs.Reader.{itemAt, filterAt};
-ghost use Rattle.filter.specs.Folds.{undecided, judging};
+ghost use Rattle.syntax.specs.Grammar.{round};
+ghost use Rattle.syntax.specs.Reader.{itemAt, filterAt, bracketAt, chosenAt};
+ghost use Rattle.text_judge.specs.Folds.{undecided, judging};
 ghost use Rattle.judge.specs.Sets.{ofOccurrence, chosenOf};
 ghost use Rattle.judge.specs.Verdicts.{textCounts};
-ghost use Rattle.filter.specs.Members.{parsedSays, judgedSays, someChosen, memberSays};
+ghost use Rattle.text_judge.specs.Members.{parsedSays, judgedSays, someChosen, memberSays};
 ghost use Rattle.filter.specs.Walks.{answerOf};
+
+// Where a filter or an item that was judged ends, and what it says; or that there is none.
+pub enum Judged {
+    Done(usize, bool),
+    Nothing,
+}
 
 // The verdict, or after not the opposite.
 fn negated_if(negate: bool, says: bool) -> bool
@@ -202,6 +208,74 @@ fn member_verdict(
     false
 }
 
+// The filter in round brackets at a spot inside them, after not where `negate` says so.
+fn judge_round(
+    needed: bool,
+    negate: bool,
+    sheet: &[u8],
+    card: &[u8],
+    chosen: Chosen,
+    filter: &[u8],
+    spot: Spot,
+) -> Judged
+    requires { ⌜ readSheet (now sheet) ≡ Validity.WellFormed ⌝ }
+    requires { ⌜ readCard (now card) ≡ Validity.WellFormed ⌝ }
+    requires { ⌜ length (now filter) ≤ 1024 ⌝ }
+    requires { ⌜ spot .at ≤ length (now filter) ⌝ }
+    requires { ⌜ spot .close ≡ round ⌝ }
+    ensures { λ r. ⌜ r ≡ answerOf Judged.Done Judged.Nothing (judging needed (parametersOf (now (sheet .entry))) (spot .bundle) (chosenOf chosen (entriesOf (now (card .entry))))) (bracketAt (spot .levels) (now (filter .entry)) negate (spot .at)) ⌝ }
+{
+    let inner = judge_filter(needed, sheet, card, chosen, filter, spot);
+    let Judged::Done(end, says) = inner else {
+        return Judged::Nothing;
+    };
+    let closed = read_close(filter, b')', end);
+    let FoundClose::At(after) = closed else {
+        return Judged::Nothing;
+    };
+    Judged::Done(after, negated_if(negate, says))
+}
+
+// The test of a member at a spot, after the filter in square brackets of the bundle whose name ends at `until`; the levels are those in
+// the brackets.
+fn judge_chosen(
+    needed: bool,
+    sheet: &[u8],
+    card: &[u8],
+    chosen: Chosen,
+    filter: &[u8],
+    spot: Spot,
+    until: usize,
+) -> Judged
+    requires { ⌜ readSheet (now sheet) ≡ Validity.WellFormed ⌝ }
+    requires { ⌜ readCard (now card) ≡ Validity.WellFormed ⌝ }
+    requires { ⌜ length (now filter) ≤ 1024 ⌝ }
+    requires { ⌜ spot .at ≤ until ⌝ }
+    requires { ⌜ until < length (now filter) ⌝ }
+    ensures { λ r. ⌜ r ≡ answerOf Judged.Done Judged.Nothing (judging needed (parametersOf (now (sheet .entry))) (spot .bundle) (chosenOf chosen (entriesOf (now (card .entry))))) (chosenAt (spot .levels) (now (filter .entry)) (spot .close) (spot .at) until) ⌝ }
+{
+    let at = spot.at;
+    let levels = spot.levels;
+    let inside = Spot {
+        at: skip(filter, until + 1),
+        levels,
+        close: b']',
+        bundle: sheet::enter(sheet, spot.bundle, &filter[at..until]),
+    };
+    // only where the brackets end is asked: their filter is judged for each entry
+    let inner = judge_filter(false, sheet, card, chosen, filter, inside);
+    let Judged::Done(end, _) = inner else {
+        return Judged::Nothing;
+    };
+    let member = read_member(filter, spot.close, end);
+    let FoundTest::Test(test) = member else {
+        return Judged::Nothing;
+    };
+    let says = member_verdict(needed, sheet, card, chosen, filter, inside, test);
+    let value = test.value;
+    Judged::Done(value.next, says)
+}
+
 // The item at a spot.
 fn judge_item(
     needed: bool,
@@ -232,66 +306,25 @@ fn judge_item(
             if levels == 0 {
                 return Judged::Nothing;
             }
-            let inner = judge_filter(
-                needed,
-                sheet,
-                card,
-                chosen,
-                filter,
-                Spot {
-                    at: next,
-                    levels: levels - 1,
-                    close: b')',
-                    bundle,
-                },
-            );
-            match inner {
-                Judged::Done(end, says) => {
-                    let closed = read_close(filter, b')', end);
-                    match closed {
-                        FoundClose::At(after) => Judged::Done(after, negated_if(negate, says)),
-                        FoundClose::Nothing => Judged::Nothing,
-                    }
-                }
-                Judged::Nothing => Judged::Nothing,
-            }
+            let inside = Spot {
+                at: next,
+                levels: levels - 1,
+                close: b')',
+                bundle,
+            };
+            judge_round(needed, negate, sheet, card, chosen, filter, inside)
         }
         Head::Choice(until) => {
             if levels == 0 {
                 return Judged::Nothing;
             }
-            let inside = sheet::enter(sheet, bundle, &filter[at..until]);
-            let next = skip(filter, until + 1);
-            let inner_spot = Spot {
-                at: next,
+            let member = Spot {
+                at,
                 levels: levels - 1,
-                close: b']',
-                bundle: inside,
+                close,
+                bundle,
             };
-            // only where the brackets end is asked: their filter is judged for each entry
-            let inner = judge_filter(false, sheet, card, chosen, filter, inner_spot);
-            match inner {
-                Judged::Done(end, _) => {
-                    let member = read_member(filter, close, end);
-                    match member {
-                        FoundTest::Test(test) => {
-                            let says = member_verdict(
-                                needed,
-                                sheet,
-                                card,
-                                chosen,
-                                filter,
-                                inner_spot,
-                                test,
-                            );
-                            let value = test.value;
-                            Judged::Done(value.next, says)
-                        }
-                        FoundTest::Nothing => Judged::Nothing,
-                    }
-                }
-                Judged::Nothing => Judged::Nothing,
-            }
+            judge_chosen(needed, sheet, card, chosen, filter, member, until)
         }
         Head::Nothing => Judged::Nothing,
     }
@@ -317,19 +350,13 @@ pub fn judge_filter(
     let levels = spot.levels;
     let close = spot.close;
     let bundle = spot.bundle;
-    let first = judge_item(
-        needed,
-        sheet,
-        card,
-        chosen,
-        filter,
-        Spot {
-            at,
-            levels,
-            close,
-            bundle,
-        },
-    );
+    let start = Spot {
+        at,
+        levels,
+        close,
+        bundle,
+    };
+    let first = judge_item(needed, sheet, card, chosen, filter, start);
     let Judged::Done(first_end, first_says) = first else {
         return Judged::Nothing;
     };
@@ -340,19 +367,13 @@ pub fn judge_filter(
         match found {
             FoundConnective::Next(next, connective) => {
                 let asked = item_needed(needed, connective, says);
-                let item = judge_item(
-                    asked,
-                    sheet,
-                    card,
-                    chosen,
-                    filter,
-                    Spot {
-                        at: next,
-                        levels,
-                        close,
-                        bundle,
-                    },
-                );
+                let next_spot = Spot {
+                    at: next,
+                    levels,
+                    close,
+                    bundle,
+                };
+                let item = judge_item(asked, sheet, card, chosen, filter, next_spot);
                 match item {
                     Judged::Done(item_end, item_says) => {
                         end = item_end;
