@@ -20,7 +20,7 @@ use Rattle.sheet.specs.Find.{enter}
 use Rattle.syntax.specs.Tree.{Test, moved, Tree, test, bracketed, join, negation, testsOf}
 use Rattle.syntax.specs.Grammar.{round, square, Item, Filter, item-test, item-bracket, item-not, item-bracketed, one-item, one-more}
 use Rattle.syntax.specs.Scan.{isSpace, testOf, headAt, memberAfter, connectiveAt, closeAt}
-use Rattle.syntax.specs.Reader.{Parsed, parsed, unparsed, negatedIf, chainOf, itemAt, filterAt}
+use Rattle.syntax.specs.Reader.{Parsed, parsed, unparsed, negatedIf, chainOf, itemAt, filterAt, bracketAt, chosenAt}
 use Rattle.syntax.specs.declared.RawTest.{RawTest}
 use Rattle.syntax.specs.declared.FoundTest.{FoundTest}
 use Rattle.syntax.specs.declared.Head.{Head}
@@ -159,16 +159,46 @@ module _ (ps : List Parameter) (c : ℕ) (xs : List ℕ) (row close d p : ℕ) (
         tests-fit = omega (arith, filter-count i, ap (λ (o : Outcome). o .summary .tests) (k .value));
       }
 
+  -- a cell more has room behind a bracket, and so has a test more
+  module _ (w : Wrote ps c xs row (filterAt d xs close p) r before after) (h : r ≡ Written.Done q v) (short : length xs ≤ 1024) where
+    pub cell-room : row < p → row + v .cells < 1024
+    cell-room low = let t = filter-takes w h in omega (arith, t .cells-fit, t .within)
+
+    pub test-room : (t : Test) (o : Summary) → 1 ≤ p → o ≡ reading ps c .one t → o .tests + v .summary .tests ≤ 1024
+    test-room t o low e =
+        let k = filter-takes w h in
+        let one : o .tests ≡ 1 = ap (λ (s : Summary). s .tests) e in
+        omega (arith, k .tests-fit, k .within)
+
 -- ---- what is read, from what its parts are read as
 
+module _ (xs : List ℕ) where
+  closed-read : (d q : ℕ) (b : Bool) (k m : ℕ) (f : Tree) → filterAt d xs round q ≡ parsed k f → closeAt xs round k ≡ FoundClose.At m → bracketAt d xs b q ≡ parsed m (negatedIf b f)
+  unfolding bracketAt
+  closed-read d q b k m f r c = rw (r, c)
+
+  open-read : (d q : ℕ) (b : Bool) (k : ℕ) (f : Tree) → filterAt d xs round q ≡ parsed k f → closeAt xs round k ≡ FoundClose.Nothing → bracketAt d xs b q ≡ unparsed
+  unfolding bracketAt
+  open-read d q b k f r c = rw (r, c)
+
+  none-read : (d q : ℕ) (b : Bool) → filterAt d xs round q ≡ unparsed → bracketAt d xs b q ≡ unparsed
+  unfolding bracketAt
+  none-read d q b r = rw r
+
+module _ (xs : List ℕ) (close d p u q : ℕ) (s : RunEnd isSpace xs (u + 1) q) where
+  chosen-read : (k : ℕ) (f : Tree) (t : RawTest) → filterAt d xs square q ≡ parsed k f → memberAfter xs close k ≡ FoundTest.Test t → chosenAt d xs close p u ≡ parsed (t .value .next) (bracketed p (part xs p u) f (testOf xs t))
+  unfolding chosenAt
+  chosen-read k f t r c = rw (← s .is, r, c)
+
+  no-member-read : (k : ℕ) (f : Tree) → filterAt d xs square q ≡ parsed k f → memberAfter xs close k ≡ FoundTest.Nothing → chosenAt d xs close p u ≡ unparsed
+  unfolding chosenAt
+  no-member-read k f r c = rw (← s .is, r, c)
+
+  no-choice-read : filterAt d xs square q ≡ unparsed → chosenAt d xs close p u ≡ unparsed
+  unfolding chosenAt
+  no-choice-read r = rw (← s .is, r)
+
 module _ (xs : List ℕ) (close d p : ℕ) where
-  closed-read : (q : ℕ) (b : Bool) (k m : ℕ) (f : Tree) → headAt xs close p ≡ Head.Open q b → (d ≡ 0 → ⊥) → filterAt (d - 1) xs round q ≡ parsed k f → closeAt xs round k ≡ FoundClose.At m → itemAt d xs close p ≡ parsed m (negatedIf b f)
-  closed-read q b k m f h n r c = rw (opened-step xs close p d h n, r, c)
-
-  chosen-read : (u q k : ℕ) (f : Tree) (t : RawTest) → headAt xs close p ≡ Head.Choice u → (d ≡ 0 → ⊥) → RunEnd isSpace xs (u + 1) q → filterAt (d - 1) xs square q ≡ parsed k f → memberAfter xs close k ≡ FoundTest.Test t
-      → itemAt d xs close p ≡ parsed (t .value .next) (bracketed p (part xs p u) f (testOf xs t))
-  chosen-read u q k f t h n s r c = rw (chosen-step xs close p d h n, ← s .is, r, c)
-
   first-read : (q : ℕ) (f : Tree) → itemAt d xs close p ≡ parsed q f → filterAt d xs close p ≡ chainOf (length xs) xs (λ k. itemAt d xs close k) q f
   first-read q f r = rw (filter-step d xs close p, r)
 
@@ -203,70 +233,93 @@ module _ (ps : List Parameter) (c : ℕ) (xs : List ℕ) (row close d p : ℕ) (
     pub wrote-deep : (l : List ℕ) → d ≡ 0 → Item-wrote Written.Nothing l l
     wrote-deep l z = give-none ps c xs row (itemAt d xs close p) l l (deep-step xs close p d (sym e ∙ i) z) refl
 
-    module _ (n : d ≡ 0 → ⊥) (l m : List ℕ) (r : Written) (w : Wrote ps c xs row (filterAt (d - 1) xs round q) r l m) where
-      pub wrote-no-filter : r ≡ Written.Nothing → Item-wrote Written.Nothing l m
-      wrote-no-filter j = give-none ps c xs row (itemAt d xs close p) l m (rw (opened-step xs close p d (sym e ∙ i) n, was-none ps c xs row w j)) (w .size)
-
-      module _ (k : ℕ) (v : Outcome) (j : r ≡ Written.Done k v) (f : FoundClose) (g : f ≡ closeAt xs round k) where
-        pub wrote-open : f ≡ FoundClose.Nothing → Item-wrote Written.Nothing l m
-        wrote-open y =
-            let a = was ps c xs row k v w j in
-            give-none ps c xs row (itemAt d xs close p) l m (rw (opened-step xs close p d (sym e ∙ i) n, a .read, sym g ∙ y)) (w .size)
-
-        pub wrote-bracket : (after : ℕ) → f ≡ FoundClose.At after → b ≡ false → Item-wrote (Written.Done after v) l m
-        wrote-bracket after y z =
-            let a = was ps c xs row k v w j in
-            give ps c xs row (itemAt d xs close p) after (a .tree) v l m (closed-read xs close d p q b k after (a .tree) (sym e ∙ i) n (a .read) (sym g ∙ y) ∙ ap (λ (x : Bool). parsed after (negatedIf x (a .tree))) z) (a .value) (a .cells) (w .size)
-
-        pub wrote-not : (after : ℕ) → f ≡ FoundClose.At after → b ≡ true → row + v .cells < length m
-            → Item-wrote (Written.Done after (record { summary = v .summary; cells = v .cells + 1 })) l (set m (row + v .cells) 2)
-        unfolding cellCount prepared encode cellOf testsOf
-        wrote-not after y z low =
-            let a = was ps c xs row k v w j in
-            let same : v .cells ≡ cellCount (a .tree) = ap (λ (o : Outcome). o .cells) (a .value) in
-            let before : take (row + v .cells) m ≡ take row l ++ encode (prepared ps xs c (a .tree)) = ap (λ (x : ℕ). take (row + x) m) same ∙ a .cells in
-            let place : row + suc (cellCount (a .tree)) ≡ row + v .cells + 1 = omega (arith, same) in
-            give ps c xs row (itemAt d xs close p) after (negation (a .tree)) (record { summary = v .summary; cells = v .cells + 1 }) l (set m (row + v .cells) 2)
-            (closed-read xs close d p q b k after (a .tree) (sym e ∙ i) n (a .read) (sym g ∙ y) ∙ ap (λ (x : Bool). parsed after (negatedIf x (a .tree))) z)
-            (outcome-same ps c (negation (a .tree)) (v .summary) (v .cells + 1) (ap (λ (o : Outcome). o .summary) (a .value)) (omega (arith, same)))
-            (ap (λ (x : ℕ). take x (set m (row + v .cells) 2)) place ∙ put-more (take row l) (encode (prepared ps xs c (a .tree))) m (row + v .cells) 2 before low)
-            (length-set m (row + v .cells) 2 ∙ w .size)
+    pub wrote-opened : (l m : List ℕ) (r : Written) → (d ≡ 0 → ⊥) → Wrote ps c xs row (bracketAt (d - 1) xs b q) r l m → Item-wrote r l m
+    wrote-opened l m r n w = subst (λ (o : Parsed). Wrote ps c xs row o r l m) (sym (opened-step xs close p d (sym e ∙ i) n)) w
 
   module _ (u : ℕ) (i : h ≡ Head.Choice u) where
     pub wrote-choice-deep : (l : List ℕ) → d ≡ 0 → Item-wrote Written.Nothing l l
     wrote-choice-deep l z = give-none ps c xs row (itemAt d xs close p) l l (deep-choice-step xs close p d (sym e ∙ i) z) refl
 
-    module _ (n : d ≡ 0 → ⊥) (z : ℕ) (b : z ≡ enter ps c (part xs p u)) (q : ℕ) (s : RunEnd isSpace xs (u + 1) q) (l m : List ℕ) (r : Written) (w : Wrote ps z xs row (filterAt (d - 1) xs square q) r l m) where
-      pub wrote-choice-no-filter : r ≡ Written.Nothing → Item-wrote Written.Nothing l m
-      wrote-choice-no-filter j = give-none ps c xs row (itemAt d xs close p) l m (rw (chosen-step xs close p d (sym e ∙ i) n, ← s .is, was-none ps z xs row w j)) (w .size)
+    pub wrote-chosen : (l m : List ℕ) (r : Written) → (d ≡ 0 → ⊥) → Wrote ps c xs row (chosenAt (d - 1) xs close p u) r l m → Item-wrote r l m
+    wrote-chosen l m r n w = subst (λ (o : Parsed). Wrote ps c xs row o r l m) (sym (chosen-step xs close p d (sym e ∙ i) n)) w
 
-      module _ (k : ℕ) (v : Outcome) (j : r ≡ Written.Done k v) (f : FoundTest) (g : f ≡ memberAfter xs close k) where
-        pub wrote-no-member : f ≡ FoundTest.Nothing → Item-wrote Written.Nothing l m
-        wrote-no-member y =
-            let a = was ps z xs row k v w j in
-            give-none ps c xs row (itemAt d xs close p) l m (rw (chosen-step xs close p d (sym e ∙ i) n, ← s .is, a .read, sym g ∙ y)) (w .size)
+-- ---- a filter in round brackets
 
-        pub wrote-member : (t : RawTest) (o x : Summary) (y : ℕ) → f ≡ FoundTest.Test t → o ≡ reading ps z .one (moved p (testOf xs t)) → x ≡ joinSummaries o (v .summary) → y ≡ numberOf (probeFor ps xs z (testOf xs t)) → row + v .cells < length m
-            → Item-wrote (Written.Done (t .value .next) (record { summary = x; cells = v .cells + 1 })) l (set m (row + v .cells) (8 * y + 1))
-        unfolding cellCount prepared encode cellOf
-        wrote-member t o x y i2 k1 k2 k3 k4 =
-            let a = was ps z xs row k v w j in
-            let tree : Tree = bracketed p (part xs p u) (a .tree) (testOf xs t) in
-            let same : v .cells ≡ cellCount (a .tree) = ap (λ (o : Outcome). o .cells) (a .value) in
-            let inner : v .summary ≡ foldTree (reading ps z) (a .tree) = ap (λ (o : Outcome). o .summary) (a .value) ∙ sym (reading-is ps z (a .tree)) in
-            let all : x ≡ summaryOf ps c (testsOf tree) = summary-inside ps c (part xs p u) z p (testOf xs t) o (v .summary) x b k1 k2 (a .tree) inner in
-            let before : take (row + v .cells) m ≡ take row l ++ encode (prepared ps xs z (a .tree)) = ap (λ (n : ℕ). take (row + n) m) same ∙ a .cells in
-            let place : row + suc (cellCount (a .tree)) ≡ row + v .cells + 1 = omega (arith, same) in
-            give ps c xs row (itemAt d xs close p) (t .value .next) tree (record { summary = x; cells = v .cells + 1 }) l (set m (row + v .cells) (8 * y + 1))
-            (chosen-read xs close d p u q k (a .tree) t (sym e ∙ i) n s (a .read) (sym g ∙ i2))
-            (outcome-same ps c tree x (v .cells + 1) all (omega (arith, same)))
-            (ap (λ (x : ℕ). take x (set m (row + v .cells) (8 * y + 1))) place ∙ put-more (take row l) (encode (prepared ps xs z (a .tree))) m (row + v .cells) (8 * y + 1) before k4
-            ∙ ap (λ (n : ℕ). take row l ++ (encode (prepared ps xs z (a .tree)) ++ ((8 * n + 1) ∷ []))) k3
-            ∙ ap (λ (s : ℕ). take row l ++ (encode (prepared ps xs s (a .tree)) ++ ((8 * numberOf (probeFor ps xs s (testOf xs t)) + 1) ∷ []))) b)
-            (length-set m (row + v .cells) (8 * y + 1) ∙ w .size)
+module _ (ps : List Parameter) (c : ℕ) (xs : List ℕ) (row close d q : ℕ) (o : close ≡ round) (b : Bool) (l m : List ℕ) (r : Written) (w : Wrote ps c xs row (filterAt d xs close q) r l m) where
+  abbrev Round-wrote : Written → List ℕ → Type 0
+  Round-wrote r after = Wrote ps c xs row (bracketAt d xs b q) r l after
 
-pub one-test : (ps : List Parameter) (c : ℕ) (t : Test) (o : Summary) → o ≡ reading ps c .one t → o .tests ≡ 1
-one-test ps c t o e = ap (λ (s : Summary). s .tests) e
+  in-round : Wrote ps c xs row (filterAt d xs round q) r l m
+  in-round = subst (λ (n : ℕ). Wrote ps c xs row (filterAt d xs n q) r l m) o w
+
+  pub round-no-filter : r ≡ Written.Nothing → Round-wrote Written.Nothing m
+  round-no-filter j = give-none ps c xs row (bracketAt d xs b q) l m (none-read xs d q b (was-none ps c xs row in-round j)) (w .size)
+
+  module _ (k : ℕ) (v : Outcome) (j : r ≡ Written.Done k v) where
+    module _ (f : FoundClose) (g : f ≡ closeAt xs round k) where
+      pub round-open : f ≡ FoundClose.Nothing → Round-wrote Written.Nothing m
+      round-open y =
+          let a = was ps c xs row k v in-round j in
+          give-none ps c xs row (bracketAt d xs b q) l m (open-read xs d q b k (a .tree) (a .read) (sym g ∙ y)) (w .size)
+
+      closed-as : (after : ℕ) → f ≡ FoundClose.At after → (x : Bool) → b ≡ x → bracketAt d xs b q ≡ parsed after (negatedIf x (was ps c xs row k v in-round j .tree))
+      closed-as after y x z =
+          let a = was ps c xs row k v in-round j in
+          closed-read xs d q b k after (a .tree) (a .read) (sym g ∙ y) ∙ ap (λ (x : Bool). parsed after (negatedIf x (a .tree))) z
+
+      pub round-closed : (after : ℕ) → f ≡ FoundClose.At after → b ≡ false → Round-wrote (Written.Done after v) m
+      round-closed after y z =
+          let a = was ps c xs row k v in-round j in
+          give ps c xs row (bracketAt d xs b q) after (a .tree) v l m (closed-as after y false z) (a .value) (a .cells) (w .size)
+
+      pub round-not : (after : ℕ) → f ≡ FoundClose.At after → b ≡ true → row + v .cells < length m
+          → Round-wrote (Written.Done after (record { summary = v .summary; cells = v .cells + 1 })) (set m (row + v .cells) 2)
+      unfolding cellCount prepared encode cellOf testsOf
+      round-not after y z low =
+          let a = was ps c xs row k v in-round j in
+          let same : v .cells ≡ cellCount (a .tree) = ap (λ (o : Outcome). o .cells) (a .value) in
+          let before : take (row + v .cells) m ≡ take row l ++ encode (prepared ps xs c (a .tree)) = ap (λ (x : ℕ). take (row + x) m) same ∙ a .cells in
+          let place : row + suc (cellCount (a .tree)) ≡ row + v .cells + 1 = omega (arith, same) in
+          give ps c xs row (bracketAt d xs b q) after (negation (a .tree)) (record { summary = v .summary; cells = v .cells + 1 }) l (set m (row + v .cells) 2)
+          (closed-as after y true z)
+          (outcome-same ps c (negation (a .tree)) (v .summary) (v .cells + 1) (ap (λ (o : Outcome). o .summary) (a .value)) (omega (arith, same)))
+          (ap (λ (x : ℕ). take x (set m (row + v .cells) 2)) place ∙ put-more (take row l) (encode (prepared ps xs c (a .tree))) m (row + v .cells) 2 before low)
+          (length-set m (row + v .cells) 2 ∙ w .size)
+
+-- ---- the test of a member after its bundle's brackets
+
+module _ (ps : List Parameter) (c : ℕ) (xs : List ℕ) (row close d p u : ℕ) (z : ℕ) (b : z ≡ enter ps c (part xs p u)) (q : ℕ) (s : RunEnd isSpace xs (u + 1) q) (l m : List ℕ) (r : Written) (w : Wrote ps z xs row (filterAt d xs square q) r l m) where
+  abbrev Chosen-wrote : Written → List ℕ → Type 0
+  Chosen-wrote r after = Wrote ps c xs row (chosenAt d xs close p u) r l after
+
+  pub chosen-no-filter : r ≡ Written.Nothing → Chosen-wrote Written.Nothing m
+  chosen-no-filter j = give-none ps c xs row (chosenAt d xs close p u) l m (no-choice-read xs close d p u q s (was-none ps z xs row w j)) (w .size)
+
+  module _ (k : ℕ) (v : Outcome) (j : r ≡ Written.Done k v) where
+    module _ (f : FoundTest) (g : f ≡ memberAfter xs close k) where
+      pub chosen-no-member : f ≡ FoundTest.Nothing → Chosen-wrote Written.Nothing m
+      chosen-no-member y =
+          let a = was ps z xs row k v w j in
+          give-none ps c xs row (chosenAt d xs close p u) l m (no-member-read xs close d p u q s k (a .tree) (a .read) (sym g ∙ y)) (w .size)
+
+      pub chosen-member : (t : RawTest) (o x : Summary) (y : ℕ) → f ≡ FoundTest.Test t → o ≡ reading ps z .one (moved p (testOf xs t)) → x ≡ joinSummaries o (v .summary) → y ≡ numberOf (probeFor ps xs z (testOf xs t)) → row + v .cells < length m
+          → Chosen-wrote (Written.Done (t .value .next) (record { summary = x; cells = v .cells + 1 })) (set m (row + v .cells) (8 * y + 1))
+      unfolding cellCount prepared encode cellOf
+      chosen-member t o x y i2 k1 k2 k3 k4 =
+          let a = was ps z xs row k v w j in
+          let tree : Tree = bracketed p (part xs p u) (a .tree) (testOf xs t) in
+          let same : v .cells ≡ cellCount (a .tree) = ap (λ (o : Outcome). o .cells) (a .value) in
+          let inner : v .summary ≡ foldTree (reading ps z) (a .tree) = ap (λ (o : Outcome). o .summary) (a .value) ∙ sym (reading-is ps z (a .tree)) in
+          let all : x ≡ summaryOf ps c (testsOf tree) = summary-inside ps c (part xs p u) z p (testOf xs t) o (v .summary) x b k1 k2 (a .tree) inner in
+          let before : take (row + v .cells) m ≡ take row l ++ encode (prepared ps xs z (a .tree)) = ap (λ (n : ℕ). take (row + n) m) same ∙ a .cells in
+          let place : row + suc (cellCount (a .tree)) ≡ row + v .cells + 1 = omega (arith, same) in
+          give ps c xs row (chosenAt d xs close p u) (t .value .next) tree (record { summary = x; cells = v .cells + 1 }) l (set m (row + v .cells) (8 * y + 1))
+          (chosen-read xs close d p u q s k (a .tree) t (a .read) (sym g ∙ i2))
+          (outcome-same ps c tree x (v .cells + 1) all (omega (arith, same)))
+          (ap (λ (x : ℕ). take x (set m (row + v .cells) (8 * y + 1))) place ∙ put-more (take row l) (encode (prepared ps xs z (a .tree))) m (row + v .cells) (8 * y + 1) before k4
+          ∙ ap (λ (n : ℕ). take row l ++ (encode (prepared ps xs z (a .tree)) ++ ((8 * n + 1) ∷ []))) k3
+          ∙ ap (λ (s : ℕ). take row l ++ (encode (prepared ps xs s (a .tree)) ++ ((8 * numberOf (probeFor ps xs s (testOf xs t)) + 1) ∷ []))) b)
+          (length-set m (row + v .cells) (8 * y + 1) ∙ w .size)
 
 -- ---- a filter, of which the loop has read the part up to m
 
@@ -359,6 +412,9 @@ module _ (ps : List Parameter) (c : ℕ) (xs : List ℕ) (row close d p : ℕ) (
           let t = item-takes ps c xs (row + k) close d q r list list2 n v w j in
           let u = connective-ahead xs m q o f e i in
           omega (arith, h .room, t .cells-fit, u .0)
+
+      pub chain-cell : length xs ≤ 1024 → row + k + v .cells < 1024
+      chain-cell short = let t = item-takes ps c xs (row + k) close d q r list list2 n v w j in omega (arith, chain-room, t .within)
 
       pub chain-takes : (x : Summary) (y : ℕ) → x ≡ joinSummaries s (v .summary) → y ≡ cellOf (Row.Connect o) → length xs ≤ length list2
           → Chained ps c xs row close d p l n x (k + v .cells + 1) (set list2 (row + k + v .cells) y)

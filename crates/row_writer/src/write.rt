@@ -23,12 +23,13 @@ use syntax::read_head;
 use syntax::read_member;
 use syntax::scan::skip;
 ghost use mathlib.Core.Path.{_≡_};
-ghost use Prim.Native.Nat.{_≤_};
+ghost use Prim.Native.Nat.{_≤_, _<_};
 ghost use lib.ListN.{length};
 ghost use Rattle.sheet.specs.Sheet.{parametersOf, readSheet};
 ghost use Rattle.syntax.specs.Placed.{Placed};
 ghost use Rattle.syntax.specs.Scan.{testOf};
-ghost use Rattle.syntax.specs.Reader.{itemAt, filterAt};
+ghost use Rattle.syntax.specs.Grammar.{round};
+ghost use Rattle.syntax.specs.Reader.{itemAt, filterAt, bracketAt, chosenAt};
 ghost use Rattle.rows.specs.Cells.{numberOf, cellOf};
 ghost use Rattle.row_writer.specs.Writing.{valuePlace, indexOf, probeFor, Wrote, Read};
 
@@ -68,6 +69,97 @@ fn test_number(sheet: &[u8], bundle: u8, filter: &[u8], test: RawTest) -> u32
     index + 32 * (operator + 32 * place)
 }
 
+// The filter in round brackets at a spot inside them, after not where `negate` says so. Its cells are written from a row on.
+fn write_round(
+    sheet: &[u8],
+    filter: &[u8],
+    spot: Spot,
+    negate: bool,
+    rows: &mut [u32],
+    row: usize,
+) -> Written
+    requires { ⌜ readSheet (now sheet) ≡ Validity.WellFormed ⌝ }
+    requires { ⌜ length (now filter) ≤ 1024 ⌝ }
+    requires { ⌜ spot .at ≤ length (now filter) ⌝ }
+    requires { ⌜ spot .close ≡ round ⌝ }
+    requires { ⌜ length (now rows) ≡ 1024 ⌝ }
+    requires { ⌜ row < spot .at ⌝ }
+    ensures { λ r. ⌜ Wrote (parametersOf (now (sheet .entry))) (spot .bundle) (now (filter .entry)) row (bracketAt (spot .levels) (now (filter .entry)) negate (spot .at)) r (now (rows .entry)) (now (rows .exit)) ⌝ }
+{
+    let inner = write_filter(sheet, filter, spot, rows, row);
+    let Written::Done(end, outcome) = inner else {
+        return Written::Nothing;
+    };
+    let closed = read_close(filter, b')', end);
+    let FoundClose::At(after) = closed else {
+        return Written::Nothing;
+    };
+    if negate {
+        let summary = outcome.summary;
+        let cells = outcome.cells;
+        let last = row + cells;
+        rows[last] = 2;
+        return Written::Done(
+            after,
+            Outcome {
+                summary,
+                cells: cells + 1,
+            },
+        );
+    }
+    Written::Done(after, outcome)
+}
+
+// The test of a member at a spot, after the filter in square brackets of the bundle whose name ends at `until`; the levels are those in
+// the brackets. The cells of both are written from a row on.
+fn write_chosen(
+    sheet: &[u8],
+    filter: &[u8],
+    spot: Spot,
+    until: usize,
+    rows: &mut [u32],
+    row: usize,
+) -> Written
+    requires { ⌜ readSheet (now sheet) ≡ Validity.WellFormed ⌝ }
+    requires { ⌜ length (now filter) ≤ 1024 ⌝ }
+    requires { ⌜ spot .at ≤ until ⌝ }
+    requires { ⌜ until < length (now filter) ⌝ }
+    requires { ⌜ length (now rows) ≡ 1024 ⌝ }
+    requires { ⌜ row ≤ spot .at ⌝ }
+    ensures { λ r. ⌜ Wrote (parametersOf (now (sheet .entry))) (spot .bundle) (now (filter .entry)) row (chosenAt (spot .levels) (now (filter .entry)) (spot .close) (spot .at) until) r (now (rows .entry)) (now (rows .exit)) ⌝ }
+{
+    let at = spot.at;
+    let levels = spot.levels;
+    let bundle = sheet::enter(sheet, spot.bundle, &filter[at..until]);
+    let inside = Spot {
+        at: skip(filter, until + 1),
+        levels,
+        close: b']',
+        bundle,
+    };
+    let inner = write_filter(sheet, filter, inside, rows, row);
+    let Written::Done(end, outcome) = inner else {
+        return Written::Nothing;
+    };
+    let member = read_member(filter, spot.close, end);
+    let FoundTest::Test(test) = member else {
+        return Written::Nothing;
+    };
+    let cells = outcome.cells;
+    let last = row + cells;
+    rows[last] = 8 * test_number(sheet, bundle, filter, test) + 1;
+    let outer = test_summary(sheet, bundle, filter, at, test);
+    let summary = join_summaries(outer, outcome.summary);
+    let value = test.value;
+    Written::Done(
+        value.next,
+        Outcome {
+            summary,
+            cells: cells + 1,
+        },
+    )
+}
+
 // The item at a spot: "a test, a filter in round brackets, or not followed by a filter in round brackets", or the test of a member
 // after its bundle's brackets. Its cells are written from a row on.
 fn write_item(sheet: &[u8], filter: &[u8], spot: Spot, rows: &mut [u32], row: usize) -> Written
@@ -94,84 +186,25 @@ fn write_item(sheet: &[u8], filter: &[u8], spot: Spot, rows: &mut [u32], row: us
             if levels == 0 {
                 return Written::Nothing;
             }
-            let inner = write_filter(
-                sheet,
-                filter,
-                Spot {
-                    at: next,
-                    levels: levels - 1,
-                    close: b')',
-                    bundle,
-                },
-                rows,
-                row,
-            );
-            match inner {
-                Written::Done(end, outcome) => {
-                    let closed = read_close(filter, b')', end);
-                    match closed {
-                        FoundClose::At(after) => {
-                            if negate {
-                                let summary = outcome.summary;
-                                let cells = outcome.cells;
-                                rows[row + cells] = 2;
-                                return Written::Done(
-                                    after,
-                                    Outcome {
-                                        summary,
-                                        cells: cells + 1,
-                                    },
-                                );
-                            }
-                            Written::Done(after, outcome)
-                        }
-                        FoundClose::Nothing => Written::Nothing,
-                    }
-                }
-                Written::Nothing => Written::Nothing,
-            }
+            let inside = Spot {
+                at: next,
+                levels: levels - 1,
+                close: b')',
+                bundle,
+            };
+            write_round(sheet, filter, inside, negate, rows, row)
         }
         Head::Choice(until) => {
             if levels == 0 {
                 return Written::Nothing;
             }
-            let inside = sheet::enter(sheet, bundle, &filter[at..until]);
-            let next = skip(filter, until + 1);
-            let inner = write_filter(
-                sheet,
-                filter,
-                Spot {
-                    at: next,
-                    levels: levels - 1,
-                    close: b']',
-                    bundle: inside,
-                },
-                rows,
-                row,
-            );
-            match inner {
-                Written::Done(end, outcome) => {
-                    let member = read_member(filter, close, end);
-                    match member {
-                        FoundTest::Test(test) => {
-                            let outer = test_summary(sheet, inside, filter, at, test);
-                            let summary = outcome.summary;
-                            let cells = outcome.cells;
-                            rows[row + cells] = 8 * test_number(sheet, inside, filter, test) + 1;
-                            let value = test.value;
-                            Written::Done(
-                                value.next,
-                                Outcome {
-                                    summary: join_summaries(outer, summary),
-                                    cells: cells + 1,
-                                },
-                            )
-                        }
-                        FoundTest::Nothing => Written::Nothing,
-                    }
-                }
-                Written::Nothing => Written::Nothing,
-            }
+            let member = Spot {
+                at,
+                levels: levels - 1,
+                close,
+                bundle,
+            };
+            write_chosen(sheet, filter, member, until, rows, row)
         }
         Head::Nothing => Written::Nothing,
     }
@@ -206,18 +239,13 @@ pub fn write_filter(
     let levels = spot.levels;
     let close = spot.close;
     let bundle = spot.bundle;
-    let first = write_item(
-        sheet,
-        filter,
-        Spot {
-            at,
-            levels,
-            close,
-            bundle,
-        },
-        rows,
-        row,
-    );
+    let start = Spot {
+        at,
+        levels,
+        close,
+        bundle,
+    };
+    let first = write_item(sheet, filter, start, rows, row);
     let Written::Done(first_end, first_outcome) = first else {
         return Written::Nothing;
     };
@@ -228,23 +256,19 @@ pub fn write_filter(
         let found = read_connective(filter, end);
         match found {
             FoundConnective::Next(next, connective) => {
-                let item = write_item(
-                    sheet,
-                    filter,
-                    Spot {
-                        at: next,
-                        levels,
-                        close,
-                        bundle,
-                    },
-                    rows,
-                    row + cells,
-                );
+                let next_spot = Spot {
+                    at: next,
+                    levels,
+                    close,
+                    bundle,
+                };
+                let item = write_item(sheet, filter, next_spot, rows, row + cells);
                 match item {
                     Written::Done(item_end, item_outcome) => {
                         let item_summary = item_outcome.summary;
                         let item_cells = item_outcome.cells;
-                        rows[row + cells + item_cells] = connect_cell(connective);
+                        let last = row + cells + item_cells;
+                        rows[last] = connect_cell(connective);
                         end = item_end;
                         summary = join_summaries(summary, item_summary);
                         cells = cells + item_cells + 1;

@@ -170,9 +170,9 @@ pub +check-chosen+check-filter+check-item+check-round-spec : {M : Type 1} → st
     (λ c κs. search needs)  -- check-filter-requires
     (λ c. search needs)  -- enum-known-inner
     (λ c. search needs)  -- enum-told
-    (λ c. λ b. search (round-no-filter, walked-cases, needs))  -- returns
+    (λ c b. search (round-no-filter, walked-cases, needs))  -- returns
     (λ c κs. search (filter-within, walked-cases, needs))  -- read-close-requires
     (λ c. search needs)  -- enum-known-closed
     (λ c. search needs)  -- enum-told-2
-    (λ c. λ b. search (round-open, walked-cases, needs))  -- returns-2
-    (λ c. λ b. round-closed Walked.Done Walked.Nothing walked-cases (reading _ _) _ _ _ _ (c .before .before .before .before .before .before .before .before .before .before .pre .1 .1 .1 .1) b _ (c .before .before .before .before .before .before .before .check-filter .ensures) _ _ (c .before .before .before .before .before .inner .given .1) _ (c .before .before .before .read-close .ensures) _ _ (c .before .closed .given .1) (summary-negated b _))  -- returns-3
+    (λ c b. search (round-open, walked-cases, needs))  -- returns-2
+    (λ c b. round-closed Walked.Done Walked.Nothing walked-cases (reading _ _) _ _ _ _ (c .before .before .before .before .before .before .before .before .before .before .pre .1 .1 .1 .1) b _ (c .before .before .before .before .before .before .before .check-filter .ensures) _ _ (c .before .before .before .before .before .inner .given .1) _ (c .before .before .before .read-close .ensures) _ _ (c .before .closed .given .1) (summary-negated b _))  -- returns-3
