@@ -39,7 +39,7 @@ use Rattle.refusal.specs.declared.Reason.{Reason}
 use Rattle.refusal.specs.declared.Decision.{Decision}
 use Rattle.refusal.specs.Decisions.{refuse}
 use Rattle.judge.proofs.Rules.{names-iff, names-kind, names-listed, missing-iff}
-use Rattle.search.specs.Spelling.{Alternative}
+use Rattle.query.specs.Spelling.{Alternative}
 use Rattle.search.specs.Asking.{AskedBy, Asked, askedOf}
 use Rattle.search.specs.Meaning.{textFault, faultAt, alternativeFault, firstAlternativeFault}
 use Rattle.search.specs.Rules.{ReadableAlternative, readable-form, readable-value, LacksMeaning, not-on-sheet, bundle-named, lacks-operator, unreadable, AlternativeLine, line-14, line-14-bundle, line-16, line-17}

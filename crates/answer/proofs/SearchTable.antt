@@ -23,15 +23,15 @@ use Rattle.sheet.specs.Sheet.{Parameter, parametersOf, readSheet}
 use Rattle.sheet.specs.Encode.{SheetBlock, WellFormedSheet}
 use Rattle.sheet.specs.declared.Found.{Found}
 use Rattle.syntax.specs.Tree.{name}
-use Rattle.search.specs.Spelling.{Alternative, Query, alternativesOf, SpellsQuery}
-use Rattle.search.specs.Reader.{acceptQuery}
+use Rattle.query.specs.Spelling.{Alternative, Query, alternativesOf, SpellsQuery}
+use Rattle.query.specs.Reader.{acceptQuery}
 use Rattle.judge.specs.Sets.{lookup}
 use Rattle.search.specs.Asking.{askedOf}
 use Rattle.search.specs.Meaning.{textFault, faultAt, alternativeFault, firstAlternativeFault}
-use Rattle.search.specs.Lines.{QueryLine, line-10, line-50, line-51}
+use Rattle.query.specs.Lines.{QueryLine, line-10, line-50, line-51}
 use Rattle.search.specs.Rules.{AlternativeLine, line-14, line-14-bundle, line-16, line-17}
-use Rattle.search.proofs.Reading.{query-unique}
-use Rattle.search.proofs.Lines.{query-decided}
+use Rattle.query.proofs.Reading.{query-unique}
+use Rattle.query.proofs.Lines.{query-decided}
 use Rattle.refusal.specs.Answers.{count, refused}
 use Rattle.refusal.specs.Order.{group, Decides}
 use Rattle.refusal.specs.Steps.{Step, found, stop, _>>=_}

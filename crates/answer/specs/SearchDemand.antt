@@ -4,7 +4,7 @@ use Prim.Native.Nat.{ℕ}
 use mathlib.Core.List.{List}
 use Rattle.sheet.specs.Sheet.{Parameter}
 use Rattle.sheet.specs.Encode.{SheetBlock}
-use Rattle.search.specs.Spelling.{Alternative, Query, alternativesOf, SpellsQuery}
+use Rattle.query.specs.Spelling.{Alternative, Query, alternativesOf, SpellsQuery}
 use Rattle.search.specs.Rules.{LacksMeaning, AlternativeLine, QuerySays}
 use Rattle.refusal.specs.Answers.{Answer}
 use Rattle.answer.specs.Demand.{TestRules, Demand}

@@ -7,8 +7,8 @@ use mathlib.Core.List.{List, _∷_, _++_}
 use Rattle.base.specs.Lists.{All}
 use Rattle.sheet.specs.Sheet.{Parameter}
 use Rattle.sheet.specs.Encode.{SheetBlock}
-use Rattle.search.specs.Spelling.{Alternative, Query, alternativesOf, SpellsQuery}
-use Rattle.search.specs.Lines.{QueryLine}
+use Rattle.query.specs.Spelling.{Alternative, Query, alternativesOf, SpellsQuery}
+use Rattle.query.specs.Lines.{QueryLine}
 use Rattle.search.specs.Rules.{AlternativeLine}
 use Rattle.answer.specs.Refusals.{SheetLine, OneCardLine, RunLine, CardsLine, RoomLine}
 use Rattle.answer.specs.Searching.{matchSearchAnswer}

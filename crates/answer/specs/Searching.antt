@@ -4,8 +4,8 @@ use Prim.Native.Nat.{ℕ}
 use mathlib.Core.List.{List}
 use lib.ListN.{length}
 use Rattle.sheet.specs.Sheet.{Parameter}
-use Rattle.search.specs.Spelling.{Alternative, Query, alternativesOf}
-use Rattle.search.specs.Reader.{acceptQuery}
+use Rattle.query.specs.Spelling.{Alternative, Query, alternativesOf}
+use Rattle.query.specs.Reader.{acceptQuery}
 use Rattle.search.specs.Meaning.{firstAlternativeFault, querySays}
 use Rattle.refusal.specs.Answers.{Answer, count}
 use Rattle.refusal.specs.Steps.{Step, found, _>>=_, answer}

@@ -15,7 +15,7 @@ use borrow.Author.Tests.{eq-eqb, ne-eqb, eqb-true, le-leb, lt-leb, leb-true}
 use Rattle.base.specs.Parts.{part}
 use mathlib.Core.Logic.{⊎-elim}
 use Rattle.base.proofs.Tests.{and-left, and-right, or-either}
-use Rattle.block.specs.Items.{zeros, hasMarks, lengthAt, next, markAt, textAt, laidOut, hasLayout, hasEither, items, ItemAt, Walk, Step}
+use Rattle.block.specs.Items.{zeros, hasMarks, lengthAt, next, markAt, textAt, laidOut, hasLayout, hasEither, items, ItemAt, Walk, ItemStep}
 use Rattle.block.specs.declared.Item.{Item}
 use Rattle.block.proofs.Invariants.{LaidTo, Visited}
 
@@ -170,7 +170,7 @@ module _ {X : Type 0} (make : ℕ → ℕ → List ℕ → X) (b : List ℕ) (p 
   items-first h = let e : left ≡ suc (left - 1) = omega arith in ap (λ (n : ℕ). items make n b p) e
 
   -- what is read at p is a step of the walk
-  pub item-step : Walk b p left → 0 < left → (r : Item) → ItemAt b p r → Step make b p left (r .tag) (r .mark) (r .start) (r .end)
+  pub item-step : Walk b p left → 0 < left → (r : Item) → ItemAt b p r → ItemStep make b p left (r .tag) (r .mark) (r .start) (r .end)
   unfolding textAt
   item-step w l r i =
       record {
@@ -189,7 +189,7 @@ module _ {X A : Type 0} (make : ℕ → ℕ → List ℕ → X) (G : List X → 
     visited-start w e = record { walk = w; rest = sym e }
 
     module _ (inv : Visited make G answer b p left) where
-      module _ (tag mark start end : ℕ) (s : Step make b p left tag mark start end) where
+      module _ (tag mark start end : ℕ) (s : ItemStep make b p left tag mark start end) where
         pub visited-next : (G′ : List X → A) → G (make tag mark (part b start end) ∷ items make (left - 1) b end) ≡ G′ (items make (left - 1) b end)
             → Visited make G′ answer b end (left - 1)
         visited-next G′ e = record { walk = s .walk; rest = sym e ∙ sym (ap G (s .first)) ∙ inv .rest }

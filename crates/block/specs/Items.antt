@@ -78,7 +78,7 @@ pub record Walk (b : List ℕ) (p left : ℕ) : Type 0 where
 
 -- what a step of the walk learns: the item at p has the first byte `tag`, a mark, and its text from `start` to `end`, where the
 -- walk goes on
-pub record Step {X : Type 0} (make : ℕ → ℕ → List ℕ → X) (b : List ℕ) (p left tag mark start end : ℕ) : Type 0 where
+pub record ItemStep {X : Type 0} (make : ℕ → ℕ → List ℕ → X) (b : List ℕ) (p left tag mark start end : ℕ) : Type 0 where
   pub order : start ≤ end
   pub within : end ≤ length b
   pub onward : p < end

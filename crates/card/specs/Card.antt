@@ -5,7 +5,7 @@ use mathlib.Core.List.{List}
 use lib.ListN.{getD}
 use Rattle.block.specs.Words.{word}
 use Rattle.block.specs.Seal.{check}
-use Rattle.block.specs.Items.{hasEither, items, Step}
+use Rattle.block.specs.Items.{hasEither, items, ItemStep}
 use Rattle.block.specs.Readings.{reading}
 use Rattle.block.specs.declared.Validity.{Validity}
 use Rattle.card.specs.declared.Entry.{Entry as Span}
@@ -39,4 +39,4 @@ readCard b = reading (check b) (hasEither 0x43 0x44 5 64 b)
 
 -- r says where the entry at `at` stands, with `left` entries to come
 abbrev pub EntryAt : List ℕ → (at left : ℕ) → Span → Type 0
-EntryAt b at left r = Step entry b at left (r .index) (r .occurrence) (r .start) (r .end)
+EntryAt b at left r = ItemStep entry b at left (r .index) (r .occurrence) (r .start) (r .end)

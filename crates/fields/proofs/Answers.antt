@@ -20,9 +20,9 @@ use Rattle.syntax.specs.Reader.{read}
 use Rattle.syntax.proofs.Spelling.{read-iff}
 use Rattle.judge.specs.Rules.{Conforms}
 use Rattle.judge.specs.Verdicts.{filterSays}
-use Rattle.search.specs.Spelling.{Query, alternativesOf, SpellsQuery}
-use Rattle.search.specs.Reader.{acceptQuery}
-use Rattle.search.proofs.Reading.{query-read}
+use Rattle.query.specs.Spelling.{Query, alternativesOf, SpellsQuery}
+use Rattle.query.specs.Reader.{acceptQuery}
+use Rattle.query.proofs.Reading.{query-read}
 use Rattle.rows.specs.Cells.{stated}
 use Rattle.rows.specs.Good.{Good}
 use Rattle.rows.specs.Shapes.{good}

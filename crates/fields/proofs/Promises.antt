@@ -13,7 +13,7 @@ use Rattle.card.specs.Trial.{trialCard, bundleCard}
 use Rattle.syntax.specs.Tree.{Tree}
 use Rattle.syntax.specs.Grammar.{Spells}
 use Rattle.judge.specs.Rules.{Conforms, FilterSays}
-use Rattle.search.specs.Spelling.{Query, SpellsQuery}
+use Rattle.query.specs.Spelling.{Query, SpellsQuery}
 use Rattle.rows.specs.Good.{Good}
 use Rattle.rows.specs.Stated.{treeOf}
 use Rattle.refusal.specs.Answers.{yes, count}

@@ -22,9 +22,10 @@ use Rattle.judge.specs.Sets.{lookup, valuesAt, keep, ofOccurrence}
 use Rattle.judge.specs.Verdicts.{saysAt, testSays, joined, filterSays}
 use Rattle.judge.specs.Rules.{FilterSays}
 use Rattle.judge.proofs.Rules.{names-iff, pr-spelled, filter-says-iff}
-use Rattle.search.specs.Spelling.{Alternative, Query, alternativesOf}
+use Rattle.query.specs.Spelling.{Alternative, Query, alternativesOf}
 use Rattle.search.specs.Asking.{askedOf}
-use Rattle.search.specs.Meaning.{textSays, alternativeSays, pairMet, queryMet, querySays}
+use Rattle.query.specs.Met.{pairMet, queryMet}
+use Rattle.search.specs.Meaning.{textSays, alternativeSays, querySays}
 use Rattle.search.specs.Meaning as queries
 use Rattle.fields.specs.Used.{namesOf, alternativeNames, queryNames, SameTexts, SameOccurrences, SameUnder, same-name, same-member, Alike, ByNames}
 use Rattle.fields.proofs.Sets.{SameMembers, some-same, says-same, values-same, keep-alike, texts-of}

@@ -10,7 +10,7 @@ use Rattle.card.specs.Card.{Entry, entry}
 use Rattle.syntax.specs.Tree.{Path, name, member, Test, Tree, testsOf}
 use Rattle.syntax.specs.Grammar.{Spells}
 use Rattle.judge.specs.Rules.{Names, Conforms, LacksMeaning}
-use Rattle.search.specs.Spelling.{Alternative, Query, alternativesOf}
+use Rattle.query.specs.Spelling.{Alternative, Query, alternativesOf}
 
 -- ---- names
 

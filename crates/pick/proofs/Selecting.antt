@@ -27,8 +27,8 @@ use Rattle.pick.specs.Bounds.{RunAdded}
 use Rattle.pick.specs.Runs.{runText, TurnAfter, RunPut}
 
 -- the answer of a selection
-abbrev told : Step (List ℕ) → Answer
-told x = answer (do
+abbrev runAnswer : Step (List ℕ) → Answer
+runAnswer x = answer (do
   ns ← x
   found (count (length ns)))
 
@@ -39,14 +39,14 @@ pub record Listed (x : Step (List ℕ)) (n : ℕ) (list : List ℕ) : Type 0 whe
   pub many : length numbers ≡ n
   pub first : take n (written x list) ≡ numbers
 
-listed : (x : Step (List ℕ)) (n : ℕ) (list : List ℕ) → told x ≡ count n → Listed x n list
+listed : (x : Step (List ℕ)) (n : ℕ) (list : List ℕ) → runAnswer x ≡ count n → Listed x n list
 listed (found ns) n list e =
     let l : length ns ≡ n = cc in
     record { numbers = ns; finds = refl; many = l; first = take-at ns (drop (length ns) list) n l }
 listed (stop k p) n list e = let z : _≡_ {A = ℕ} 0 1 = cc in absurd (omega arith)
 
 -- one that is refused has stopped there
-stopped : (x : Step (List ℕ)) (k p : ℕ) → told x ≡ refused k p → x ≡ stop k p
+stopped : (x : Step (List ℕ)) (k p : ℕ) → runAnswer x ≡ refused k p → x ≡ stop k p
 stopped (found ns) k p e = let z : _≡_ {A = ℕ} 0 1 = cc in absurd (omega arith)
 stopped (stop k′ p′) k p e = cc
 
@@ -69,7 +69,7 @@ unfolding selectBy
 turn-added sheet text cards t (found ns) e (Turn.More u) a =
     let room : List ℕ = replicate 128 0 in
     let few : selectAnswer sheet text cards (length room) ≡ count (length ns) → length ns ≤ length room = select-count-within sheet text cards room (length ns) in
-    (length ns, ap told e, omega (arith, few (ap told e)), a)
+    (length ns, ap runAnswer e, omega (arith, few (ap runAnswer e)), a)
 turn-added sheet text cards t (found ns) e Turn.Ended a = absurd a
 turn-added sheet text cards t (stop k p) e (Turn.More u) a = absurd a
 turn-added sheet text cards t (stop k p) e Turn.Ended a = a

@@ -30,7 +30,7 @@ use Rattle.syntax.specs.Strings.{quote, backslash, isBare, isPlain, isEscape, n
 use Rattle.syntax.specs.Grammar.{Stands, Spaces, no-space, space, gap, bare, string, Follows, the-end, a-space, a-close, a-test, connectiveWord, connects, opens, opens-not, closes, round, square, chooses, item-test}
 use Rattle.syntax.specs.Scan.{isSpace, stepOf}
 use Rattle.syntax.specs.declared.StringStep.{StringStep}
-use Rattle.place.specs.Machine.{Phase, at-item, in-name, after-not, after-name, in-operator, after-operator, at-value, in-bare, in-string, after-item, after-space, in-connective, after-square, at-member, in-member, Bracket, round-open, square-open, closeOf, closedPhase, State, state, Step, live, deep, many, wrong, someWord, beginsOperator, isOperator, opened, chosen, closed, joined, ended, inString, step}
+use Rattle.place.specs.Machine.{Phase, at-item, in-name, after-not, after-name, in-operator, after-operator, at-value, in-bare, in-string, after-item, after-space, in-connective, after-square, at-member, in-member, Bracket, round-open, square-open, closeOf, closedPhase, State, state, Progress, live, deep, many, wrong, someWord, beginsOperator, isOperator, opened, chosen, closed, joined, ended, inString, step}
 use Rattle.place.proofs.Walks.{At, at-stands, at-only, Walk, stay, go}
 use Rattle.place.proofs.Rests.{closing, AfterLeft, end-left, close-left, choice-left, join-left, ItemLeft, item-left, left-opens, left-chooses, ValueLeft, OperatorLeft, NotLeft, NameLeft, name-left, chosen-left, not-left, MemberLeft, TestLeft, ConnectiveLeft, SpacesLeft, Left}
 
@@ -59,7 +59,7 @@ after-space-left s (join-left (connects {c = c} (gap h r) w m) t e a n) = join-l
 -- ---- the byte b at p, where the machine stays live, goes before what is left
 
 -- the answer keeps to the limit, and what is left with it makes the same sum with the tests that are done or due
-abbrev pub Backs : (d : ℕ) → List ℕ → (p : ℕ) → State → Step → Type 0
+abbrev pub Backs : (d : ℕ) → List ℕ → (p : ℕ) → State → Progress → Type 0
 Backs d xs p (state f k n) (live (state g l u)) = (length l ≤ d) × ((i : ℕ) → Left d xs g l (p + 1) i → (j : ℕ) × Left d xs f k p j × (n + j ≡ u + i))
 Backs d xs p s deep = Unit {0}
 Backs d xs p s many = Unit {0}
@@ -116,7 +116,7 @@ module _ (d m : ℕ) (xs : List ℕ) (p b : ℕ) (at : At xs p b) where
       (λ s. back-closed k n l)
 
   -- the end of a bare word
-  back-as-bare : (k : List Bracket) (n : ℕ) (s : Step) → Backs d xs p (state after-item k n) s → Backs d xs p (state in-bare k n) s
+  back-as-bare : (k : List Bracket) (n : ℕ) (s : Progress) → Backs d xs p (state after-item k n) s → Backs d xs p (state in-bare k n) s
   back-as-bare k n (live (state g l u)) h =
       (h .0, λ i v. let r = h .1 i v in (r .0, record { word = []; stands = (drop p xs, refl); bare = all-empty; left = moved (sym (add-zero p)) (r .1) }, r .2))
   back-as-bare k n deep h = tt
@@ -345,7 +345,7 @@ module _ (d m : ℕ) (xs : List ℕ) (p b : ℕ) (at : At xs p b) where
 
   back-chosen : (k : List Bracket) (n : ℕ) (w : List ℕ) → isName w ≡ true → eqb b (code "[") ≡ true → Backs d xs p (state (in-name w) k n) (chosen d m k n)
   back-chosen k n w h s =
-      let P : Step → Type 0 = Backs d xs p (state (in-name w) k n) in
+      let P : Progress → Type 0 = Backs d xs p (state (in-name w) k n) in
       cond-elim P (ltb (length k) d)
       (λ t. cond-elim P (ltb n m) (λ c. (ltb-true (length k) d t, λ i v. (suc i, name-chosen k i w h s v, omega arith))) (λ c. tt))
       (λ t. cond-elim P (ltb n m) (λ c. tt) (λ c. tt))
@@ -353,7 +353,7 @@ module _ (d m : ℕ) (xs : List ℕ) (p b : ℕ) (at : At xs p b) where
   back-name : (w : List ℕ) (k : List Bracket) (n : ℕ) → length k ≤ d → Backs d xs p (state (in-name w) k n) (step d m (state (in-name w) k n) b)
   unfolding step
   back-name w k n l =
-      let P : Step → Type 0 = Backs d xs p (state (in-name w) k n) in
+      let P : Progress → Type 0 = Backs d xs p (state (in-name w) k n) in
       cond-elim P (isNamePart b) (λ h. (l, λ i v. (i, name-back k i w v, refl)))
       (λ c. cond-elim P (isName w)
       (λ h. cond-elim P (isSpace b) (λ s. (l, λ i v. (i, name-ends k i w h s v, refl))) (λ s. cond-elim P (eqb b (code "[")) (λ s. back-chosen k n w h s) (λ s. tt)))
@@ -394,7 +394,7 @@ module _ (d m : ℕ) (xs : List ℕ) (p b : ℕ) (at : At xs p b) where
   back-item : (k : List Bracket) (n : ℕ) → length k ≤ d → Backs d xs p (state at-item k n) (step d m (state at-item k n) b)
   unfolding step
   back-item k n l =
-      let P : Step → Type 0 = Backs d xs p (state at-item k n) in
+      let P : Progress → Type 0 = Backs d xs p (state at-item k n) in
       cond-elim P (isSpace b) (λ h. (l, λ i v. (i, record { start = v .start; spaces = space (byte-here at 0x20 h) (v .spaces); item = v .item }, refl)))
       (λ s. cond-elim P (eqb b (code "("))
       (λ h. back-opened k n at-item (λ i v. record { start = p; spaces = no-space; item = left-opens (opens (byte-here at (code "(") h) (v .spaces)) (v .item) }))
@@ -439,7 +439,7 @@ module _ (d m : ℕ) (xs : List ℕ) (p b : ℕ) (at : At xs p b) where
   back-member : (w : List ℕ) (k : List Bracket) (n : ℕ) → length k ≤ d → Backs d xs p (state (in-member w) k n) (step d m (state (in-member w) k n) b)
   unfolding step
   back-member w k n l =
-      let P : Step → Type 0 = Backs d xs p (state (in-member w) k n) in
+      let P : Progress → Type 0 = Backs d xs p (state (in-member w) k n) in
       cond-elim P (isNamePart b) (λ h. (l, λ i v. (i, member-back k i w v, refl)))
       (λ c. cond-elim P (isName w) (λ h. cond-elim P (isSpace b) (λ s. (l, λ i v. (i, member-ends k i w h s v, refl))) (λ s. tt)) (λ h. tt))
 

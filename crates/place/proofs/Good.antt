@@ -31,7 +31,7 @@ use Rattle.syntax.specs.Strings.{quote, isBare, isEscape}
 use Rattle.syntax.specs.Grammar.{round, square}
 use Rattle.syntax.specs.Scan.{isSpace, stepOf}
 use Rattle.syntax.specs.declared.StringStep.{StringStep}
-use Rattle.place.specs.Machine.{Phase, at-item, in-name, after-not, after-name, in-operator, after-operator, at-value, in-bare, in-string, after-item, after-space, in-connective, after-square, at-member, in-member, Bracket, round-open, square-open, closeOf, closedPhase, State, state, Step, live, deep, many, wrong, someWord, beginsOperator, isOperator, opened, chosen, closed, joined, ended, inString, connectiveLeft, step}
+use Rattle.place.specs.Machine.{Phase, at-item, in-name, after-not, after-name, in-operator, after-operator, at-value, in-bare, in-string, after-item, after-space, in-connective, after-square, at-member, in-member, Bracket, round-open, square-open, closeOf, closedPhase, State, state, Progress, live, deep, many, wrong, someWord, beginsOperator, isOperator, opened, chosen, closed, joined, ended, inString, connectiveLeft, step}
 use Rattle.place.proofs.Steps.{Ended, ended-bare, ended-item, name-starts, name-part, name-space, after-not-opens, first-letter, second-letter, operator-space, bare-starts, escape-part, quote-closes, ended-closes, spaced-closes, connective-part, square-dot, member-starts, member-part, member-space}
 use Rattle.place.proofs.Walks.{Runs, rests, goes, then-runs}
 use Rattle.place.proofs.Walking.{operator-letters}
@@ -68,7 +68,7 @@ Good d m (state f k n) = (length k ≤ d) × (n ≤ m) × Fine d k f
 
 -- ---- the machine keeps to it
 
-abbrev GoodStep : (d m : ℕ) → Step → Type 0
+abbrev GoodStep : (d m : ℕ) → Progress → Type 0
 GoodStep d m (live s) = Good d m s
 GoodStep d m deep = Unit {0}
 GoodStep d m many = Unit {0}

@@ -21,12 +21,12 @@ use Rattle.base.proofs.Tests.{both-ways}
 use Rattle.syntax.specs.Strings.{quote, isBare}
 use Rattle.syntax.specs.Scan.{isSpace, stepOf}
 use Rattle.syntax.specs.declared.StringStep.{StringStep}
-use Rattle.place.specs.Machine.{Phase, at-item, in-name, after-not, after-name, in-operator, after-operator, at-value, in-bare, in-string, after-item, after-space, in-connective, after-square, at-member, in-member, Bracket, round-open, square-open, closeOf, closedPhase, State, state, Step, live, deep, many, wrong, beginsOperator, isOperator, chosen, closed, ended, inString, connectiveLeft, step}
+use Rattle.place.specs.Machine.{Phase, at-item, in-name, after-not, after-name, in-operator, after-operator, at-value, in-bare, in-string, after-item, after-space, in-connective, after-square, at-member, in-member, Bracket, round-open, square-open, closeOf, closedPhase, State, state, Progress, live, deep, many, wrong, beginsOperator, isOperator, chosen, closed, ended, inString, connectiveLeft, step}
 use Rattle.place.proofs.Walks.{Runs, rests, goes}
 use Rattle.place.proofs.Good.{Good, runs-good}
 
 -- x is the answer under the limits d and m, y under D and M
-pub record Lifts (d m D M : ℕ) (x y : Step) : Type 0 where
+pub record Lifts (d m D M : ℕ) (x y : Progress) : Type 0 where
   pub keeps : d ≤ D → m ≤ M → (s : State) → x ≡ live s → y ≡ live s
   pub wrong-stays : x ≡ wrong → (D ≡ d) ⊎ (M ≡ m) → (s : State) → y ≡ live s → ⊥
   pub deep-stays : x ≡ deep → D ≡ d → (s : State) → y ≡ live s → ⊥
@@ -55,7 +55,7 @@ deep-many h = let z : _≡_ {A = ℕ} 0 1 = cc in absurd (omega arith)
 
 -- ---- a byte that may need a bracket more, a test more, or both: a and b say that there is room for them
 
-abbrev needs : (a b : Bool) → State → Step
+abbrev needs : (a b : Bool) → State → Progress
 needs true true s = live s
 needs true false s = many
 needs false true s = deep
@@ -151,7 +151,7 @@ module _ (d m D M : ℕ) where
         many-lifts = λ e a b. wrong-many e;
       }
 
-  lifts-cond : (c : Bool) {x y x′ y′ : Step} → Lifts d m D M x x′ → Lifts d m D M y y′ → Lifts d m D M (cond c x y) (cond c x′ y′)
+  lifts-cond : (c : Bool) {x y x′ y′ : Progress} → Lifts d m D M x x′ → Lifts d m D M y y′ → Lifts d m D M (cond c x y) (cond c x′ y′)
   lifts-cond true a b = a
   lifts-cond false a b = b
 

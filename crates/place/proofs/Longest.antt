@@ -17,7 +17,7 @@ use Rattle.syntax.specs.Grammar.{Spaces, no-space, space, Within}
 use Rattle.place.specs.Begins.{Begins, Longest, Number, number-11, number-12, number-13}
 use Rattle.refusal.specs.declared.Reason.{Reason}
 use Rattle.refusal.specs.declared.Refusal.{Refusal}
-use Rattle.place.specs.Machine.{Phase, State, state, Step, live, deep, many, wrong, step, onStep, failureFrom, start, failure}
+use Rattle.place.specs.Machine.{Phase, State, state, Progress, live, deep, many, wrong, step, onStep, failureFrom, start, failure}
 use Rattle.refusal.specs.Answers.{numberOf}
 use Rattle.place.proofs.Steps.{ended-bare, ended-item}
 use Rattle.place.proofs.Walks.{Walk, Runs, rests, goes, then-runs, runs-fewer, runs-same, runs-walk}
@@ -84,7 +84,7 @@ fails d m s (y ∷ ys) p = go (step d m s y) refl (λ t. fails d m t ys (p + 1))
     here : (r : Refusal) → r .place ≡ p → Dead d m s (y ∷ ys) (r .reason) → Failed d m s (y ∷ ys) p r
     here r e z = record { gone = []; left = y ∷ ys; at = s; split = refl; runs = rests; place = e ∙ sym (add-zero p); dead = z }
 
-    go : (x : Step) → step d m s y ≡ x → ((t : State) → Failed d m t ys (p + 1) (failureFrom d m t ys (p + 1)))
+    go : (x : Progress) → step d m s y ≡ x → ((t : State) → Failed d m t ys (p + 1) (failureFrom d m t ys (p + 1)))
         → Failed d m s (y ∷ ys) p (onStep x (λ t. failureFrom d m t ys (p + 1)) p)
     go (live t) e next =
         let r = next t in

@@ -33,7 +33,7 @@ use Rattle.place.specs.declared.Outcome.{Outcome}
 use Rattle.refusal.specs.declared.Reason.{Reason}
 use Rattle.refusal.specs.declared.Refusal.{Refusal}
 use Rattle.place.specs.declared.Found.{Found}
-use Rattle.place.specs.Machine.{Phase, Bracket, round-open, square-open, State, state, Step, live, deep, many, wrong, someWord, beginsOperator, isOperator, step, onStep, failureFrom, start, failure, itemOver, over, onLive, endsFrom, isFilter, found}
+use Rattle.place.specs.Machine.{Phase, Bracket, round-open, square-open, State, state, Progress, live, deep, many, wrong, someWord, beginsOperator, isOperator, step, onStep, failureFrom, start, failure, itemOver, over, onLive, endsFrom, isFilter, found}
 use Rattle.place.specs.Machine as machine
 use Rattle.place.specs.Code as coded
 use Rattle.place.specs.Code.{digits, full, on, opened, chosen, closed, joined, ended, notStep, nameEnds, onQuoted, quoted, byMode, advance, nameFrom, phaseOf}
@@ -144,14 +144,14 @@ fewer (suc j) (square-open ∷ k) =
 -- ---- the code's step is the machine's
 
 -- the answer at p stands for the machine's
-data To (xs : List ℕ) (p : ℕ) : Outcome → Step → Type 0 where
+data To (xs : List ℕ) (p : ℕ) : Outcome → Progress → Type 0 where
   to-live : {r : Reached} {f : Phase} {k : List Bracket} {n : ℕ} → phaseOf xs (p + 1) (r .mode) ≡ f → r .brackets ≡ digits k → r .tests ≡ n
       → To xs p (Outcome.Live r) (live (state f k n))
   to-deep : To xs p Outcome.Deep deep
   to-many : To xs p Outcome.Many many
   to-wrong : To xs p Outcome.Wrong wrong
 
-both : {xs : List ℕ} {p : ℕ} (a : Bool) {b : Bool} → a ≡ b → {o q : Outcome} {u v : Step} → To xs p o u → To xs p q v → To xs p (cond a o q) (cond b u v)
+both : {xs : List ℕ} {p : ℕ} (a : Bool) {b : Bool} → a ≡ b → {o q : Outcome} {u v : Progress} → To xs p o u → To xs p q v → To xs p (cond a o q) (cond b u v)
 both true h s t = rw (← h) s
 both false h s t = rw (← h) t
 
@@ -395,7 +395,7 @@ module _ (xs : List ℕ) (at : ℕ) (r : Reached) (a : Reaching xs at r) where
     reaching-ends i = failed xs (record { reason = Reason.NoFilter; place = at }) (ends-here ∙ i) (sym (a .left ∙ rw (drop-of-length-le xs h)))
 
   module _ (o : Outcome) (e : o ≡ advance xs at r) (h : at < length xs) where
-    abbrev stepped : Step
+    abbrev stepped : Progress
     stepped = step deepest mostTests (state (phaseOf xs at (r .mode)) (a .open-brackets) (r .tests)) (getD xs at 0)
 
     abbrev next-from : State → Refusal
@@ -424,7 +424,7 @@ module _ (xs : List ℕ) (at : ℕ) (r : Reached) (a : Reaching xs at r) where
     unfolding advance
     reaching-on next f = go stepped (subst (λ (z : Outcome). To xs at z stepped) f to-step) one-on one-on-ends
       where
-        go : (s : Step) → To xs at (Outcome.Live next) s → failure deepest mostTests xs ≡ onStep s next-from at → isFilter deepest mostTests xs ≡ onLive s next-ends → Reaching xs (at + 1) next
+        go : (s : Progress) → To xs at (Outcome.Live next) s → failure deepest mostTests xs ≡ onStep s next-from at → isFilter deepest mostTests xs ≡ onLive s next-ends → Reaching xs (at + 1) next
         go (live (state g k n)) (to-live u v w) z y =
             record {
               within = omega arith;
@@ -438,19 +438,19 @@ module _ (xs : List ℕ) (at : ℕ) (r : Reached) (a : Reaching xs at r) where
     pub reaching-deep : o ≡ Outcome.Deep → Found.Failed (record { reason = Reason.TooDeep; place = at }) ≡ found deepest mostTests xs
     reaching-deep f = go stepped (subst (λ (z : Outcome). To xs at z stepped) f to-step) one-on one-on-ends
       where
-        go : (s : Step) → To xs at Outcome.Deep s → failure deepest mostTests xs ≡ onStep s next-from at → isFilter deepest mostTests xs ≡ onLive s next-ends → Found.Failed (record { reason = Reason.TooDeep; place = at }) ≡ found deepest mostTests xs
+        go : (s : Progress) → To xs at Outcome.Deep s → failure deepest mostTests xs ≡ onStep s next-from at → isFilter deepest mostTests xs ≡ onLive s next-ends → Found.Failed (record { reason = Reason.TooDeep; place = at }) ≡ found deepest mostTests xs
         go deep to-deep z y = failed xs (record { reason = Reason.TooDeep; place = at }) y (sym z)
 
     pub reaching-many : o ≡ Outcome.Many → Found.Failed (record { reason = Reason.TooMany; place = at }) ≡ found deepest mostTests xs
     reaching-many f = go stepped (subst (λ (z : Outcome). To xs at z stepped) f to-step) one-on one-on-ends
       where
-        go : (s : Step) → To xs at Outcome.Many s → failure deepest mostTests xs ≡ onStep s next-from at → isFilter deepest mostTests xs ≡ onLive s next-ends → Found.Failed (record { reason = Reason.TooMany; place = at }) ≡ found deepest mostTests xs
+        go : (s : Progress) → To xs at Outcome.Many s → failure deepest mostTests xs ≡ onStep s next-from at → isFilter deepest mostTests xs ≡ onLive s next-ends → Found.Failed (record { reason = Reason.TooMany; place = at }) ≡ found deepest mostTests xs
         go many to-many z y = failed xs (record { reason = Reason.TooMany; place = at }) y (sym z)
 
     pub reaching-wrong : o ≡ Outcome.Wrong → Found.Failed (record { reason = Reason.NoFilter; place = at }) ≡ found deepest mostTests xs
     reaching-wrong f = go stepped (subst (λ (z : Outcome). To xs at z stepped) f to-step) one-on one-on-ends
       where
-        go : (s : Step) → To xs at Outcome.Wrong s → failure deepest mostTests xs ≡ onStep s next-from at → isFilter deepest mostTests xs ≡ onLive s next-ends → Found.Failed (record { reason = Reason.NoFilter; place = at }) ≡ found deepest mostTests xs
+        go : (s : Progress) → To xs at Outcome.Wrong s → failure deepest mostTests xs ≡ onStep s next-from at → isFilter deepest mostTests xs ≡ onLive s next-ends → Found.Failed (record { reason = Reason.NoFilter; place = at }) ≡ found deepest mostTests xs
         go wrong to-wrong z y = failed xs (record { reason = Reason.NoFilter; place = at }) y (sym z)
 
 -- ---- where a text that is a filter would fail: at its end
@@ -460,7 +460,7 @@ unfolding endsFrom failureFrom
 ends-failure d m s [] p e = ap (λ (n : ℕ). record { reason = Reason.NoFilter; place = n }) (add-zero p)
 ends-failure d m s (y ∷ ys) p e = go (step d m s y) e (λ t. ends-failure d m t ys (p + 1))
   where
-    go : (x : Step) → onLive x (λ t. endsFrom d m t ys) ≡ true → ((t : State) → endsFrom d m t ys ≡ true → record { reason = Reason.NoFilter; place = p + 1 + length ys } ≡ failureFrom d m t ys (p + 1))
+    go : (x : Progress) → onLive x (λ t. endsFrom d m t ys) ≡ true → ((t : State) → endsFrom d m t ys ≡ true → record { reason = Reason.NoFilter; place = p + 1 + length ys } ≡ failureFrom d m t ys (p + 1))
         → record { reason = Reason.NoFilter; place = p + length (y ∷ ys) } ≡ onStep x (λ t. failureFrom d m t ys (p + 1)) p
     go (live t) h on = let z : p + length (y ∷ ys) ≡ p + 1 + length ys = omega arith in ap (λ (n : ℕ). record { reason = Reason.NoFilter; place = n }) z ∙ on t h
     go deep h on = both-ways h refl

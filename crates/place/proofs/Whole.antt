@@ -11,7 +11,7 @@ use lib.ListN.{length}
 use Rattle.base.proofs.Tests.{both-ways}
 use Rattle.syntax.specs.Tree.{Tree}
 use Rattle.syntax.specs.Grammar.{Within, Spells, deepest, mostTests}
-use Rattle.place.specs.Machine.{Phase, at-item, in-name, after-not, after-name, in-operator, after-operator, at-value, in-bare, in-string, after-item, after-space, in-connective, after-square, at-member, in-member, State, state, Step, live, deep, many, wrong, step, start, itemOver, over, onLive, endsFrom, isFilter, failure, found}
+use Rattle.place.specs.Machine.{Phase, at-item, in-name, after-not, after-name, in-operator, after-operator, at-value, in-bare, in-string, after-item, after-space, in-connective, after-square, at-member, in-member, State, state, Progress, live, deep, many, wrong, step, start, itemOver, over, onLive, endsFrom, isFilter, failure, found}
 use Rattle.refusal.specs.declared.Refusal.{Refusal}
 use Rattle.place.specs.declared.Found.{Found}
 use Rattle.place.proofs.Steps.{ended-bare, ended-item}
@@ -31,7 +31,7 @@ unfolding endsFrom
 ends-comes d m s [] e = record { to = s; runs = rests; is-over = e }
 ends-comes d m s (y ∷ ys) e = go (step d m s y) refl e (λ t. ends-comes d m t ys)
   where
-    go : (x : Step) → step d m s y ≡ x → onLive x (λ t. endsFrom d m t ys) ≡ true → ((t : State) → endsFrom d m t ys ≡ true → Comes d m t ys) → Comes d m s (y ∷ ys)
+    go : (x : Progress) → step d m s y ≡ x → onLive x (λ t. endsFrom d m t ys) ≡ true → ((t : State) → endsFrom d m t ys ≡ true → Comes d m t ys) → Comes d m s (y ∷ ys)
     go (live t) k h on = let c = on t h in record { to = c .to; runs = goes k (c .runs); is-over = c .is-over }
     go deep k h on = both-ways h refl
     go many k h on = both-ways h refl

@@ -54,11 +54,11 @@ pub data State : Type 0 where
   state : Phase → List Bracket → ℕ → State
 
 -- a filter may go on; or only with brackets deeper than the limit, or more tests than the limit; or not at all
-pub data Step : Type 0 where
-  live : State → Step
-  deep : Step
-  many : Step
-  wrong : Step
+pub data Progress : Type 0 where
+  live : State → Progress
+  deep : Progress
+  many : Progress
+  wrong : Progress
 
 -- some word of the list passes
 unfoldable pub someWord : (List ℕ → Bool) → List (List ℕ) → Bool
@@ -73,38 +73,38 @@ unfoldable pub isOperator : List ℕ → Bool
 isOperator w = someWord (λ u. equal w u) operatorWords
 
 -- a round bracket opens
-abbrev pub opened : (d : ℕ) → List Bracket → ℕ → Step
+abbrev pub opened : (d : ℕ) → List Bracket → ℕ → Progress
 opened d k n = cond (ltb (length k) d) (live (state at-item (round-open ∷ k) n)) deep
 
 -- a square bracket opens: one test more is due, the first one in it; where both limits are met, neither alone is the reason
-abbrev pub chosen : (d m : ℕ) → List Bracket → ℕ → Step
+abbrev pub chosen : (d m : ℕ) → List Bracket → ℕ → Progress
 chosen d m k n =
     cond (ltb (length k) d) (cond (ltb n m) (live (state at-item (square-open ∷ k) (suc n))) many) (cond (ltb n m) deep wrong)
 
 -- a byte that may close the innermost bracket
-abbrev pub closed : List Bracket → (n b : ℕ) → Step
+abbrev pub closed : List Bracket → (n b : ℕ) → Progress
 closed [] n b = wrong
 closed (s ∷ k) n b = cond (eqb b (closeOf s)) (live (state (closedPhase s) k n)) wrong
 
 -- a connective begins, of which w is to come: one test more is due
-abbrev pub joined : (m : ℕ) → List ℕ → List Bracket → ℕ → Step
+abbrev pub joined : (m : ℕ) → List ℕ → List Bracket → ℕ → Progress
 joined m w k n = cond (ltb n m) (live (state (in-connective w) k (suc n))) many
 
 -- the byte after a value or a round bracket
-abbrev pub ended : List Bracket → (n b : ℕ) → Step
+abbrev pub ended : List Bracket → (n b : ℕ) → Progress
 ended k n b = cond (isSpace b) (live (state after-space k n)) (closed k n b)
 
-abbrev pub inString : List Bracket → ℕ → StringStep → Step
+abbrev pub inString : List Bracket → ℕ → StringStep → Progress
 inString k n (StringStep.More pending) = live (state (in-string pending) k n)
 inString k n StringStep.Close = live (state after-item k n)
 inString k n StringStep.Wrong = wrong
 
 -- the byte after a name
-abbrev pub nameEnds : (d m : ℕ) → List Bracket → (n b : ℕ) → Step
+abbrev pub nameEnds : (d m : ℕ) → List Bracket → (n b : ℕ) → Progress
 nameEnds d m k n b = cond (isSpace b) (live (state after-name k n)) (cond (eqb b (code "[")) (chosen d m k n) wrong)
 
 -- the byte after not, or after not and spaces: a bracket must come, so one must still be allowed
-abbrev pub notEnds : (d : ℕ) → List Bracket → (n b : ℕ) → Step
+abbrev pub notEnds : (d : ℕ) → List Bracket → (n b : ℕ) → Progress
 notEnds d k n b =
     cond (isSpace b) (cond (ltb (length k) d) (live (state after-not k n)) deep) (cond (eqb b (code "(")) (opened d k n) wrong)
 
@@ -113,7 +113,7 @@ connectiveLeft [] = at-item
 connectiveLeft (x ∷ w) = in-connective (x ∷ w)
 
 -- the machine's step on a byte, with brackets at most d deep and at most m tests
-unfoldable pub step : (d m : ℕ) → State → ℕ → Step
+unfoldable pub step : (d m : ℕ) → State → ℕ → Progress
 step d m (state at-item k n) b =
     cond (isSpace b) (live (state at-item k n))
     (cond (eqb b (code "(")) (opened d k n)
@@ -147,7 +147,7 @@ step d m (state (in-member w) k n) b =
 
 -- ---- where it fails
 
-abbrev pub onStep : Step → (State → Refusal) → ℕ → Refusal
+abbrev pub onStep : Progress → (State → Refusal) → ℕ → Refusal
 onStep (live s) next p = next s
 onStep deep next p = record { reason = Reason.TooDeep; place = p }
 onStep many next p = record { reason = Reason.TooMany; place = p }
@@ -190,7 +190,7 @@ abbrev pub over : State → Bool
 over (state f [] n) = itemOver f
 over (state f (s ∷ k) n) = false
 
-abbrev pub onLive : Step → (State → Bool) → Bool
+abbrev pub onLive : Progress → (State → Bool) → Bool
 onLive (live s) next = next s
 onLive deep next = false
 onLive many next = false

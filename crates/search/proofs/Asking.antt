@@ -16,7 +16,7 @@ use Rattle.base.specs.Operators.{operatorWords, eq, sw, re, pr}
 use Rattle.base.proofs.Tests.{or-left, or-right, or-either, and-left, and-right, both-ways, cond-elim}
 use Rattle.sheet.specs.Encode.{ValueKind}
 use Rattle.judge.specs.Faults.{unsupported}
-use Rattle.search.specs.Asking.{takesPrefix, prefixes, wordOf, AskedBy, asked-prefix, asked-eq, asked-start, asked-token, asked-reference, Asked, prefixed, askedOf}
+use Rattle.search.specs.Asking.{takesPrefix, prefixes, wordOf, AskedBy, asked-prefix, asked-eq, asked-start, asked-token, asked-reference, Comparison, prefixed, askedOf}
 
 -- ---- the rule has one operator and one value, the computed ones
 
@@ -28,7 +28,7 @@ pub reference-is : {kind : ℕ} → kind ≡ reference → (v : List ℕ) → as
 unfolding askedOf takesPrefix
 reference-is e v = ap (λ (k : ℕ). askedOf k v) e
 
-abbrev pub asks-for : ℕ → List ℕ → Asked
+abbrev pub asks-for : ℕ → List ℕ → Comparison
 asks-for k v = record { operator = k; value = v }
 
 pub at-one : (P : ℕ → Type 0) (ks : List ℕ) (k : ℕ) → All P ks → member k ks ≡ true → P k
@@ -48,7 +48,7 @@ no-prefix [] t h = refl
 no-prefix (k ∷ ks) t h =
     let e = h k (or-left (eqb k k) (member k ks) (eq-eqb k k refl)) in
     let r = no-prefix ks t (λ j m. h j (or-right (eqb j k) (member j ks) m)) in
-    cond-elim (λ (a : Asked). a ≡ asks-for eq t) (hasPrefix t (wordOf k)) (λ x. absurd (let z : _≡_ {A = ℕ} 0 1 = cc in omega arith)) (λ x. r)
+    cond-elim (λ (a : Comparison). a ≡ asks-for eq t) (hasPrefix t (wordOf k)) (λ x. absurd (let z : _≡_ {A = ℕ} 0 1 = cc in omega arith)) (λ x. r)
 
 pub asked-is : {kind o : ℕ} {t v : List ℕ} → AskedBy kind t o v → (kind ≡ token → ⊥) → askedOf kind t ≡ asks-for o v
 unfolding askedOf
@@ -90,7 +90,7 @@ module _ (kind : ℕ) (takes : takesPrefix kind ≡ true) (t : List ℕ) where
   prefixed-asks [] l sub rest = asked-eq takes (λ k m. ⊎-elim (λ z. absurd (let y : _≡_ {A = ℕ} 0 1 = cc in omega arith)) (λ z. z) (rest k m))
   prefixed-asks (k ∷ ks) (all-cons two l) sub rest =
       let more = prefixed-asks ks l (λ j m. sub j (or-right (eqb j k) (member j ks) m)) in
-      cond-elim (λ (a : Asked). AskedBy kind t (a .operator) (a .value)) (hasPrefix t (wordOf k))
+      cond-elim (λ (a : Comparison). AskedBy kind t (a .operator) (a .value)) (hasPrefix t (wordOf k))
       (λ h. let e : t ≡ wordOf k ++ drop 2 t = prefix-splits t (wordOf k) h ∙ ap (λ (n : ℕ). wordOf k ++ drop n t) two in
       subst (λ (u : List ℕ). AskedBy kind u k (drop 2 t)) (sym e) (asked-prefix takes (sub k (or-left (eqb k k) (member k ks) (eq-eqb k k refl)))))
       (λ h. more (λ j m. ⊎-elim (λ z. ⊎-elim (λ e. inr (ap (λ (i : ℕ). hasPrefix t (wordOf i)) (eqb-true j k e) ∙ h)) (λ e. inl e) (or-either (eqb j k) (member j ks) z)) (λ z. inr z) (rest j m)))
@@ -103,7 +103,7 @@ asked-there kind t v =
     (λ h. cond-elim By (eqb kind string) (λ e. asked-start (eqb-true kind string e))
     (λ n. cond-elim By (eqb kind token) (λ e. asked-token (eqb-true kind token e)) (λ m. asked-reference (last h (eqb-false kind string n) (eqb-false kind token m)))))
   where
-    By : Asked → Type 0
+    By : Comparison → Type 0
     By a = AskedBy kind t (a .operator) (a .value)
 
     last : takesPrefix kind ≡ false → (kind ≡ string → ⊥) → (kind ≡ token → ⊥) → kind ≡ reference

@@ -36,13 +36,13 @@ use Rattle.refusal.specs.declared.Decision.{Decision}
 use Rattle.refusal.specs.declared.Refusal.{Refusal}
 use Rattle.refusal.specs.Decisions.{refuse, orElse}
 use Rattle.judge.proofs.Entries.{every, chosen-every}
-use Rattle.search.specs.Spelling.{Alternative}
+use Rattle.query.specs.Spelling.{Alternative}
 use Rattle.search.specs.Asking.{askedOf, PrefixOf}
 use Rattle.search.specs.Meaning.{textFault, faultAt, alternativeFault, firstAlternativeFault, textSays, saysAt, alternativeSays}
-use Rattle.search.specs.Rows.{keptIn, keptSays, alternativeIn, alternativesIn, rowsSay, RowWithin, RowsWithin}
+use Rattle.query.specs.Rows.{keptIn, keptSays, alternativeIn, alternativesIn, rowsSay, RowWithin, RowsWithin}
 use Rattle.search.specs.declared.Prefixed.{Prefixed}
-use Rattle.search.specs.declared.Row.{Row}
-use Rattle.search.specs.declared.Rows.{Rows}
+use Rattle.query.specs.declared.Row.{Row}
+use Rattle.query.specs.declared.Rows.{Rows}
 
 -- ---- the value behind a prefix, as a slice has it
 

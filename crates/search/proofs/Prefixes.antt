@@ -25,7 +25,7 @@ use Rattle.base.specs.Kinds.{string, number, date, token}
 use Rattle.syntax.specs.Scan.{operatorAt}
 use Rattle.syntax.specs.declared.FoundOperator.{FoundOperator}
 use Rattle.syntax.proofs.Operators.{operator-derives, operator-found}
-use Rattle.search.specs.Asking.{takesPrefix, prefixes, wordOf, Asked, prefixed, askedOf, PrefixOf}
+use Rattle.search.specs.Asking.{takesPrefix, prefixes, wordOf, Comparison, prefixed, askedOf, PrefixOf}
 use Rattle.search.specs.declared.Prefixed.{Prefixed}
 use Rattle.search.proofs.Asking.{asks-for, at-one, prefixed-word, no-prefix, prefix-splits, two-bytes}
 
@@ -90,8 +90,8 @@ abbrev with-prefix : ℕ → ℕ → Prefixed
 with-prefix k n = record { operator = k; skip = n }
 
 module _ (text : List ℕ) where
-  as-asked : (o n : ℕ) (v : List ℕ) (asked : Asked) → asked ≡ asks-for o v → drop n text ≡ v → n ≤ length text → PrefixOf asked text (with-prefix o n)
-  as-asked o n v asked e d h = record { operator = sym (ap (λ (a : Asked). a .operator) e); value = d ∙ sym (ap (λ (a : Asked). a .value) e); within = h }
+  as-asked : (o n : ℕ) (v : List ℕ) (asked : Comparison) → asked ≡ asks-for o v → drop n text ≡ v → n ≤ length text → PrefixOf asked text (with-prefix o n)
+  as-asked o n v asked e d h = record { operator = sym (ap (λ (a : Comparison). a .operator) e); value = d ∙ sym (ap (λ (a : Comparison). a .value) e); within = h }
 
   pub prefix-is : (f : FoundOperator) (t : Bool) (k : ℕ) → f ≡ operatorAt text 0 → f ≡ FoundOperator.Is k → t ≡ member k prefixes → t ≡ true → PrefixOf (prefixed prefixes text) text (with-prefix k 2)
   prefix-is f t k e h m u =
@@ -128,7 +128,7 @@ module _ (text : List ℕ) where
   module _ (kind : ℕ) (t : Bool) (e : t ≡ takesPrefix kind) where
     pub asked-by-prefix : (q : Prefixed) → PrefixOf (prefixed prefixes text) text q → t ≡ true → PrefixOf (askedOf kind text) text q
     unfolding askedOf
-    asked-by-prefix q h u = subst (λ (a : Asked). PrefixOf a text q) (sym (ap (λ (x : Bool). cond x (prefixed prefixes text) (cond (eqb kind string) (asks-for sw text) (cond (eqb kind token) (asks-for eq text) (asks-for re text)))) (sym e ∙ u))) h
+    asked-by-prefix q h u = subst (λ (a : Comparison). PrefixOf a text q) (sym (ap (λ (x : Bool). cond x (prefixed prefixes text) (cond (eqb kind string) (asks-for sw text) (cond (eqb kind token) (asks-for eq text) (asks-for re text)))) (sym e ∙ u))) h
 
     pub asked-of-string : t ≡ false → kind ≡ 1 → PrefixOf (askedOf kind text) text (with-prefix 3 0)
     unfolding askedOf

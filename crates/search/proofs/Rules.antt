@@ -22,7 +22,7 @@ use Rattle.judge.specs.Sets.{lookup, valuesAt}
 use Rattle.judge.specs.Verdicts.{someValue, saysOf, saysAt, testSays}
 use Rattle.judge.specs.Rules.{Names}
 use Rattle.judge.proofs.Rules.{names-iff, names-kind, says-iff, some-there, some-back}
-use Rattle.search.specs.Spelling.{Alternative, Query}
+use Rattle.query.specs.Spelling.{Alternative, Query}
 use Rattle.search.specs.Asking.{takesPrefix, askedOf}
 use Rattle.search.specs.Meaning as text
 use Rattle.search.specs.Meaning.{textSays, alternativeSays, pairMet, queryMet, querySays}

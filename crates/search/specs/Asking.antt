@@ -36,22 +36,23 @@ pub data AskedBy (kind : ℕ) : List ℕ → ℕ → List ℕ → Type 0 where
 
 -- ---- as it is computed
 
-pub record Asked : Type 0 where
+-- what is asked of a text on a card
+pub record Comparison : Type 0 where
   pub operator : ℕ
   pub value : List ℕ
 
 -- the first of the words that the text begins with
-unfoldable pub prefixed : List ℕ → List ℕ → Asked
+unfoldable pub prefixed : List ℕ → List ℕ → Comparison
 prefixed [] t = record { operator = eq; value = t }
 prefixed (k ∷ ks) t = cond (hasPrefix t (wordOf k)) (record { operator = k; value = drop 2 t }) (prefixed ks t)
 
-unfoldable pub askedOf : ℕ → List ℕ → Asked
+unfoldable pub askedOf : ℕ → List ℕ → Comparison
 askedOf kind t =
     cond (takesPrefix kind) (prefixed prefixes t)
     (cond (eqb kind string) (record { operator = sw; value = t }) (cond (eqb kind token) (record { operator = eq; value = t }) (record { operator = re; value = t })))
 
 -- what `asked_of` answers: the operator, and how many bytes stand before the value
-pub record PrefixOf (asked : Asked) (text : List ℕ) (r : Prefixed) : Type 0 where
+pub record PrefixOf (asked : Comparison) (text : List ℕ) (r : Prefixed) : Type 0 where
   pub operator : r .operator ≡ asked .operator
   pub value : drop (r .skip) text ≡ asked .value
   pub within : r .skip ≤ length text

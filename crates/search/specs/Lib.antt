@@ -1,9 +1,4 @@
--- Search strings: how they are spelled, read and kept, and what their alternatives ask.
-pub mod Spelling
-pub mod Reader
-pub mod Lines
-pub mod Scan
+-- What the alternatives of a search string ask, on a sheet and of a card.
 pub mod Asking
 pub mod Meaning
 pub mod Rules
-pub mod Rows

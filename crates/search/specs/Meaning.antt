@@ -1,7 +1,7 @@
 -- Search strings as they are judged: the fault of an alternative on a sheet, and what alternatives, pairs and queries say of a card.
 -- Assumes nothing.
 use Prim.Native.Nat.{ℕ}
-use mathlib.Core.Bool.{Bool, true, false, cond, _&&_, _||_}
+use mathlib.Core.Bool.{Bool, false, cond}
 use mathlib.Core.List.{List, [], _∷_}
 use lib.Dec.{eqb}
 use Rattle.base.specs.Kinds.{token, bundleKind}
@@ -18,7 +18,8 @@ use Rattle.judge.specs.Verdicts.{someValue, saysOf}
 use Rattle.refusal.specs.declared.Reason.{Reason}
 use Rattle.refusal.specs.declared.Decision.{Decision}
 use Rattle.refusal.specs.Decisions.{refuse, orElse}
-use Rattle.search.specs.Spelling.{Alternative, Query}
+use Rattle.query.specs.Spelling.{Alternative, Query}
+use Rattle.query.specs.Met.{queryMet}
 use Rattle.search.specs.Asking.{askedOf}
 
 -- ---- faults
@@ -59,15 +60,6 @@ saysAt (Found.At i kind) split text es = textSays kind split text (valuesAt i es
 unfoldable pub alternativeSays : List Parameter → List Entry → Alternative → Bool
 alternativeSays ps es a = saysAt (lookup ps 0 (name (a .name))) (a .split) (a .text) es
 
--- a pair is met where some alternative of it says yes
-unfoldable pub pairMet : (Alternative → Bool) → List Alternative → Bool
-pairMet says [] = false
-pairMet says (a ∷ rest) = says a || pairMet says rest
-
--- "pairs .., all to be met"
-unfoldable pub queryMet : (Alternative → Bool) → Query → Bool
-queryMet says [] = true
-queryMet says (p ∷ q) = pairMet says p && queryMet says q
-
+-- of a query
 unfoldable pub querySays : List Parameter → List Entry → Query → Bool
 querySays ps es q = queryMet (alternativeSays ps es) q

@@ -15,7 +15,7 @@ use Rattle.syntax.specs.Tree.{name, Test}
 use Rattle.kind.specs.Rules.{ReadableInFilter, HasOperator}
 use Rattle.judge.specs.Sets.{valuesAt}
 use Rattle.judge.specs.Rules.{Names, NotOnSheet, Says}
-use Rattle.search.specs.Spelling.{Alternative, Query}
+use Rattle.query.specs.Spelling.{Alternative, Query}
 use Rattle.search.specs.Asking.{AskedBy}
 
 -- ---- meaning

@@ -1,10 +1,10 @@
 // What is decided of an alternative on a sheet, whatever the card.
-use crate::Row;
-use crate::Rows;
 use crate::asked::asked_of;
 use base::kind::BUNDLE;
 use base::kind::TOKEN;
 use block::Validity;
+use query::Row;
+use query::Rows;
 use refusal::Decision;
 use refusal::Reason;
 use refusal::refuse;
@@ -18,7 +18,7 @@ ghost use Rattle.sheet.specs.Sheet.{parametersOf, readSheet};
 ghost use Rattle.sheet.specs.Find.{find};
 ghost use Rattle.refusal.specs.Decisions.{refuse};
 ghost use Rattle.search.specs.Meaning.{textFault, faultAt, alternativeFault, firstAlternativeFault};
-ghost use Rattle.search.specs.Rows.{alternativeIn, alternativesIn, RowWithin, RowsWithin};
+ghost use Rattle.query.specs.Rows.{alternativeIn, alternativesIn, RowWithin, RowsWithin};
 
 // What is decided of a text under a kind, at the place of its pair: 16 or 17.
 fn text_fault(kind: u8, split: usize, text: &[u8], place: usize) -> Decision

@@ -1,10 +1,10 @@
 // What a query says of a card: pairs, all to be met, each by some alternative.
-use crate::Row;
-use crate::Rows;
 use crate::asked::asked_of;
 use base::kind::TOKEN;
 use block::Validity;
 use judge::Chosen;
+use query::Row;
+use query::Rows;
 use sheet::Found;
 ghost use mathlib.Core.Path.{_≡_};
 ghost use mathlib.Core.Bool.{not, _&&_, _||_};
@@ -16,7 +16,7 @@ ghost use Rattle.card.specs.Card.{entriesOf, readCard};
 ghost use Rattle.judge.specs.Sets.{valuesAt};
 ghost use Rattle.judge.specs.Verdicts.{someValue};
 ghost use Rattle.search.specs.Meaning.{textSays, saysAt, alternativeSays};
-ghost use Rattle.search.specs.Rows.{alternativeIn, rowsSay, RowWithin, RowsWithin};
+ghost use Rattle.query.specs.Rows.{alternativeIn, rowsSay, RowWithin, RowsWithin};
 
 // Whether an entry's text belongs to a parameter and is a token that is asked for.
 fn entry_asked(under: bool, split: usize, asked: &[u8], text: &[u8]) -> bool

@@ -15,12 +15,12 @@ use Rattle.block.specs.declared.Validity.{Validity}
 use Rattle.sheet.specs.Sheet.{Parameter, parametersOf, readSheet}
 use Rattle.card.specs.Card.{Entry}
 use Rattle.refusal.specs.declared.Decision.{Decision}
-use Rattle.search.specs.Spelling.{Query, alternativesOf}
+use Rattle.query.specs.Spelling.{Query, alternativesOf}
 use Rattle.search.specs.Meaning.{firstAlternativeFault, alternativeSays, querySays}
-use Rattle.search.specs.Rows.{RowsWithin, alternativesIn, rowsSay, AcceptsQuery, RowsOf}
-use Rattle.search.specs.declared.QueryRead.{QueryRead}
-use Rattle.search.specs.declared.Rows.{Rows}
-use Rattle.search.proofs.Accepted.{accepted-rows, accepted-refused}
+use Rattle.query.specs.Rows.{RowsWithin, alternativesIn, rowsSay, AcceptsQuery, RowsOf}
+use Rattle.query.specs.declared.QueryRead.{QueryRead}
+use Rattle.query.specs.declared.Rows.{Rows}
+use Rattle.query.proofs.Accepted.{accepted-rows, accepted-refused}
 use Rattle.refusal.specs.Answers.{Answer, count, refused, numberOf, refusalAnswer}
 use Rattle.refusal.specs.Steps.{Step, found, stop, _>>=_, answer}
 use Rattle.refusal.specs.declared.Refusal.{Refusal}

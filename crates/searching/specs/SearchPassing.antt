@@ -7,8 +7,8 @@ use lib.ListN.{length}
 use Rattle.block.specs.declared.Validity.{Validity}
 use Rattle.sheet.specs.Sheet.{Parameter, parametersOf, readSheet}
 use Rattle.search.specs.Meaning.{firstAlternativeFault, alternativeSays}
-use Rattle.search.specs.Rows.{RowsWithin, alternativesIn, rowsSay}
-use Rattle.search.specs.declared.Rows.{Rows}
+use Rattle.query.specs.Rows.{RowsWithin, alternativesIn, rowsSay}
+use Rattle.query.specs.declared.Rows.{Rows}
 use Rattle.refusal.specs.Answers.{Answer}
 use Rattle.refusal.specs.Steps.{found}
 use Rattle.answer.specs.Answers.{checkedAnswer}

@@ -9,8 +9,8 @@ use Rattle.sheet.specs.Sheet.{Parameter}
 use Rattle.sheet.specs.Find.{kindsOf}
 use Rattle.syntax.specs.Reader.{read}
 use Rattle.row_judge.specs.Saying.{Whole}
-use Rattle.search.specs.Rows.{RowsWithin}
-use Rattle.search.specs.declared.Rows.{Rows}
+use Rattle.query.specs.Rows.{RowsWithin}
+use Rattle.query.specs.declared.Rows.{Rows}
 use Rattle.answer.specs.Passing.{Passing, textQuestion, cardVerdict}
 use Rattle.one_card.specs.OneCard.{verdictStep, cellsQuestion}
 use Rattle.searching.specs.SearchPassing.{rowsQuestion}

@@ -27,7 +27,7 @@ use Rattle.rows.specs.Stated.{treeOf}
 use Rattle.rows.proofs.Good.{good-states, good-iff, good-few}
 use Rattle.row_judge.proofs.Meaning.{erase-says, good-whole, rows-mean}
 use Rattle.row_writer.proofs.Preparing.{prepared-good, prepared-states}
-use Rattle.search.specs.declared.Rows.{Rows}
+use Rattle.query.specs.declared.Rows.{Rows}
 use Rattle.refusal.specs.Answers.{numberOf}
 use Rattle.refusal.specs.Steps.{Step, found, stop, _>>=_}
 use Rattle.refusal.specs.declared.Refusal.{Refusal}

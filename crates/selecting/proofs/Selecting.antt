@@ -21,7 +21,7 @@ use Rattle.answer.specs.Operations.{checkAnswer, Card, acceptCard, Question, fi
 use Rattle.answer.specs.Passing.{Passing, cardVerdict}
 use Rattle.selecting.specs.Asking.{askedSays, askedQuestion, Asks, asks-text}
 use Rattle.selecting.specs.declared.Asked.{Asked}
-use Rattle.search.specs.declared.Rows.{Rows}
+use Rattle.query.specs.declared.Rows.{Rows}
 use Rattle.sheet.specs.Sheet.{parametersOf}
 use Rattle.selecting.specs.Selecting.{runNumbers, gatheredStep, Gathers, Selects}
 use Rattle.answer.proofs.Passing.{card-accepted, question-stopped, passing-asks}

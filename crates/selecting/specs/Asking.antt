@@ -10,9 +10,9 @@ use Rattle.card.specs.Card.{Entry}
 use Rattle.syntax.specs.Reader.{read}
 use Rattle.row_judge.specs.Saying.{rowsSay, Whole}
 use Rattle.search.specs.Meaning.{alternativeSays}
-use Rattle.search.specs.Rows as search
-use Rattle.search.specs.Rows.{RowsWithin}
-use Rattle.search.specs.declared.Rows.{Rows}
+use Rattle.query.specs.Rows as search
+use Rattle.query.specs.Rows.{RowsWithin}
+use Rattle.query.specs.declared.Rows.{Rows}
 use Rattle.answer.specs.Operations.{Question}
 use Rattle.answer.specs.Passing.{Passing, textSays}
 use Rattle.selecting.specs.declared.Asked.{Asked}

@@ -4,7 +4,7 @@ use block::Validity;
 use one_card::CardVerdict;
 use one_card::judge_by_rows;
 use one_card::judge_by_text;
-use search::Rows;
+use query::Rows;
 use searching::judge_by_search;
 ghost use mathlib.Core.Path.{_≡_};
 ghost use Prim.Native.Nat.{ℕ};

@@ -8,7 +8,7 @@ use mathlib.Core.List.{List, _∷_, _++_, append-assoc, map}
 use lib.ListN.{length, take, drop, set, replicate, length-set, take-append-drop}
 use lib.Seq.{take-suc-set, drop-set-lt, drop-drop}
 use Rattle.base.specs.Parts.{part}
-use Rattle.block.specs.Items.{items, Step}
+use Rattle.block.specs.Items.{items, ItemStep}
 use Rattle.block.specs.declared.Validity.the-variants.{WellFormed}
 use Rattle.block.proofs.Invariants.{Visited}
 use Rattle.block.proofs.Items.{visited-next, visited-end, items-length}
@@ -45,7 +45,7 @@ filled-more of table index p ps v e h k =
     let n : 32 - index - suc (length (map of ps)) ≡ 32 - (index + 1) - length (map of ps) = omega arith in
     rw (n, add-one index, e, take-suc-set table index (of p) h, append-assoc)
 
-pub filling-next : (of : Parameter → ℕ) (b table : List ℕ) (p left index kind bundle start end : ℕ) → Filling of b table p left index → Step parameter b p left kind bundle start end → 0 < left
+pub filling-next : (of : Parameter → ℕ) (b table : List ℕ) (p left index kind bundle start end : ℕ) → Filling of b table p left index → ItemStep parameter b p left kind bundle start end → 0 < left
     → (v : ℕ) → v ≡ of (parameter kind bundle (part b start end)) → Filling of b (set table index v) end (left - 1) (index + 1)
 filling-next of b table p left index kind bundle start end f s l v e =
     let h : index < length table = omega (arith, f .size, f .few) in

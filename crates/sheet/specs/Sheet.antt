@@ -10,7 +10,7 @@ use Rattle.base.specs.Kinds.{string, period, bundleKind}
 use Rattle.base.specs.Between.{between}
 use Rattle.base.specs.Names.{isName}
 use Rattle.block.specs.Seal.{check}
-use Rattle.block.specs.Items.{hasMarks, hasEither, items, Step}
+use Rattle.block.specs.Items.{hasMarks, hasEither, items, ItemStep}
 use Rattle.block.specs.Readings.{reading}
 use Rattle.block.specs.declared.Validity.{Validity}
 use Rattle.sheet.specs.declared.Parameter.{Parameter as Span}
@@ -90,4 +90,4 @@ readSheet b = reading (check b) (sheetLayout b)
 
 -- r says where the parameter at `at` stands, with `left` parameters to come
 abbrev pub ParameterAt : List ℕ → (at left : ℕ) → Span → Type 0
-ParameterAt b at left r = Step parameter b at left (r .kind) (r .bundle) (r .start) (r .end)
+ParameterAt b at left r = ItemStep parameter b at left (r .kind) (r .bundle) (r .start) (r .end)

@@ -65,9 +65,9 @@ use Rattle.answer.specs.Selection.{Run, matchingCards, matchingNumbers, occurre
 use Rattle.refusal.specs.Order.{rank, Decides}
 use Rattle.answer.specs.Refusals.{CheckLine, MatchLine, SelectLine, SpellLine}
 use Rattle.sirophan.specs.Spelling.{spellAnswer, spellBytes, SpellAnswers}
-use Rattle.search.specs.Spelling.{Query, SpellsQuery}
-use Rattle.search.specs.Reader.{acceptQuery}
-use Rattle.search.proofs.Reading as query-reading
+use Rattle.query.specs.Spelling.{Query, SpellsQuery}
+use Rattle.query.specs.Reader.{acceptQuery}
+use Rattle.query.proofs.Reading as query-reading
 use Rattle.refusal.specs.Steps.{found}
 use Rattle.answer.specs.Searching.{checkSearchAnswer, searchQuestion, matchSearchAnswer, selectSearchAnswer, selectSearchCells}
 use Rattle.answer.specs.SearchDemand.{MeetsSearchDemand}

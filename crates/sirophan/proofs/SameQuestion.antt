@@ -49,10 +49,11 @@ use Rattle.judge.specs.Verdicts.{someValue, saysOf, saysAt, testSays, filterSay
 use Rattle.judge.specs.Rules.{Names}
 use Rattle.judge.specs.Rules as tests
 use Rattle.judge.proofs.Rules.{names-iff}
-use Rattle.search.specs.Spelling.{Alternative, Query, alternativesOf, SpellsQuery}
-use Rattle.search.specs.Asking.{AskedBy, Asked, askedOf}
+use Rattle.query.specs.Spelling.{Alternative, Query, alternativesOf, SpellsQuery}
+use Rattle.search.specs.Asking.{AskedBy, Comparison, askedOf}
 use Rattle.search.specs.Meaning as search
-use Rattle.search.specs.Meaning.{textSays, alternativeSays, pairMet, queryMet, querySays}
+use Rattle.query.specs.Met.{pairMet, queryMet}
+use Rattle.search.specs.Meaning.{textSays, alternativeSays, querySays}
 use Rattle.search.specs.Rules.{ReadableAlternative, readable-form, readable-value, LacksMeaning, not-on-sheet, bundle-named, lacks-operator, unreadable}
 use Rattle.search.proofs.Asking.{asked-is, token-asks, never-pr}
 use Rattle.refusal.specs.Answers.{count}
@@ -208,7 +209,7 @@ module _ (ps : List Parameter) (w : WellFormedSheet ps) (a : Alternative) (t : T
       let mine : AskedBy (h .kind) (a .text) o v = subst (λ (m : ℕ). AskedBy m (a .text) o v) e asked in
       ⊎-elim
       (λ z. let is : h .kind ≡ token = eqb-true (h .kind) token z in token-asks (subst (λ (m : ℕ). AskedBy m (a .text) o v) is mine) .0 ∙ sym (token-asks (of-token is) .0))
-      (λ z. let n = eqb-false (h .kind) token z in ap (λ (x : Asked). x .operator) (sym (asked-is mine n) ∙ asked-is (h .asked) n))
+      (λ z. let n = eqb-false (h .kind) token z in ap (λ (x : Comparison). x .operator) (sym (asked-is mine n) ∙ asked-is (h .asked) n))
       (decided (eqb (h .kind) token))
 
   form-read : h .kind ≡ token → ReadableInFilter token (t .value) → ReadableAlternative (h .kind) a

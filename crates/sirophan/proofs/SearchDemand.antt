@@ -6,10 +6,10 @@ use mathlib.Core.List.{List}
 use lib.ListN.{length}
 use Rattle.sheet.specs.Sheet.{Parameter}
 use Rattle.sheet.specs.Encode.{SheetBlock}
-use Rattle.search.specs.Spelling.{Query, alternativesOf, SpellsQuery}
+use Rattle.query.specs.Spelling.{Query, alternativesOf, SpellsQuery}
 use Rattle.search.specs.Meaning.{querySays}
 use Rattle.search.specs.Rules.{QuerySays}
-use Rattle.search.proofs.Reading.{query-back}
+use Rattle.query.proofs.Reading.{query-back}
 use Rattle.search.proofs.Rules.{query-says-iff}
 use Rattle.refusal.specs.Answers.{yesOrNo, count}
 use Rattle.refusal.specs.Steps.{Step, found, stop, _>>=_, answer}

@@ -12,7 +12,7 @@ use Rattle.sheet.specs.Sheet.{Parameter}
 use Rattle.syntax.specs.Tree.{name, Test, Tree, test, join}
 use Rattle.syntax.specs.declared.Connective.{Connective}
 use Rattle.judge.specs.Rules.{Names}
-use Rattle.search.specs.Spelling.{Alternative, Query}
+use Rattle.query.specs.Spelling.{Alternative, Query}
 use Rattle.search.specs.Asking.{AskedBy}
 use Rattle.answer.specs.Operations.{checkAnswer, matchAnswer, selectAnswer, selectCells}
 use Rattle.answer.specs.Searching.{checkSearchAnswer, matchSearchAnswer, selectSearchAnswer, selectSearchCells}

@@ -3,7 +3,7 @@ use libc::STDERR_FILENO;
 use libc::STDOUT_FILENO;
 
 // Says on standard error that the output cannot be written, where it was not.
-fn told(written: bool) -> bool {
+fn reported(written: bool) -> bool {
     if written {
         return true;
     }
@@ -13,10 +13,10 @@ fn told(written: bool) -> bool {
 
 // Writes a text.
 pub fn write(t: &[u8]) -> bool {
-    told(io::write_all(STDOUT_FILENO, t))
+    reported(io::write_all(STDOUT_FILENO, t))
 }
 
 // Writes a number after a text.
 pub fn labelled(label: &[u8], n: u64) -> bool {
-    write(label) && told(io::print_decimal(STDOUT_FILENO, n))
+    write(label) && reported(io::print_decimal(STDOUT_FILENO, n))
 }
