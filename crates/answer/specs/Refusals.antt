@@ -13,7 +13,7 @@ use Rattle.card.specs.Card.{Entry}
 use Rattle.card.specs.Encode.{CardBlock}
 use Rattle.syntax.specs.Tree.{Test, Tree, testsOf}
 use Rattle.syntax.specs.Grammar.{deepest, mostTests, Spells}
-use Rattle.spell.specs.Plain.{plain}
+use Rattle.plain.specs.Plain.{plain}
 use Rattle.place.specs.Begins.{Begins, Longest, Number}
 use Rattle.judge.specs.Rules.{Conforms}
 use Rattle.refusal.specs.Answers.{Answer}

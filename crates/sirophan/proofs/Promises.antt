@@ -25,10 +25,10 @@ use Rattle.syntax.specs.Tree.{Tree, test, testsOf, Rising}
 use Rattle.syntax.specs.Grammar.{deepest, mostTests, Spells}
 use Rattle.syntax.specs.Reader.{read}
 use Rattle.syntax.proofs.Spelling as spelling
-use Rattle.spell.specs.Plain.{plain}
-use Rattle.spell.specs.Laws.{PlainSpelling, Determined}
-use Rattle.spell.proofs.Length as lengths
-use Rattle.spell.proofs.Shortest as shortest
+use Rattle.plain.specs.Plain.{plain}
+use Rattle.plain.specs.Laws.{PlainSpelling, Determined}
+use Rattle.plain.proofs.Length as lengths
+use Rattle.plain.proofs.Shortest as shortest
 use Rattle.place.specs.Begins.{Begins, Longest, Number}
 use Rattle.place.proofs.Place as place
 use Rattle.date.specs.Calendar.{daysBeforeMonth}

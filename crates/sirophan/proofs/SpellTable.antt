@@ -13,7 +13,7 @@ use Rattle.base.proofs.Tests.{cond-elim}
 use Rattle.syntax.specs.Tree.{Tree}
 use Rattle.syntax.specs.Grammar.{Spells}
 use Rattle.syntax.proofs.Spelling.{spells-unique}
-use Rattle.spell.specs.Plain.{plain}
+use Rattle.plain.specs.Plain.{plain}
 use Rattle.refusal.specs.Answers.{count, refused}
 use Rattle.refusal.specs.Order.{group, Before, Decides}
 use Rattle.refusal.proofs.Answers.{count-not-refused}

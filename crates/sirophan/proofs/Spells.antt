@@ -14,7 +14,7 @@ use Rattle.syntax.specs.Tree.{Tree}
 use Rattle.syntax.specs.Grammar.{Spells}
 use Rattle.syntax.specs.Reader.{read}
 use Rattle.syntax.proofs.Spelling.{read-iff, spells-not-empty}
-use Rattle.spell.specs.Plain.{plain}
+use Rattle.plain.specs.Plain.{plain}
 use Rattle.spell.specs.Spelling as spell
 use Rattle.spell.specs.declared.Spelled.{Spelled}
 use Rattle.refusal.specs.declared.Reason.{Reason}

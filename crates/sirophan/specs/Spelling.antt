@@ -6,7 +6,7 @@ use mathlib.Core.Bool.{cond}
 use mathlib.Core.List.{List, _++_}
 use lib.Dec.{leb}
 use lib.ListN.{length, take, drop}
-use Rattle.spell.specs.Plain.{plain}
+use Rattle.plain.specs.Plain.{plain}
 use Rattle.refusal.specs.Answers.{Answer, count}
 use Rattle.refusal.specs.Steps.{Step, found, stop, _>>=_, answer}
 use Rattle.answer.specs.Operations.{acceptFilter}

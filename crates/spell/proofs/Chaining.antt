@@ -17,11 +17,11 @@ use Rattle.syntax.specs.declared.FoundConnective.{FoundConnective}
 use Rattle.syntax.specs.Reader.{Parsed, parsed, unparsed, andThen, chainBy, chainOf, itemAt, filterAt}
 use Rattle.syntax.proofs.Complete.{filter-step, chain-step}
 use Rattle.syntax.proofs.Places.{connective-ahead}
-use Rattle.spell.specs.Plain.{connectiveText, isJoin, plain, operand}
+use Rattle.plain.specs.Plain.{connectiveText, isJoin, plain, operand}
 use Rattle.base.specs.Writing.{Puts}
 use Rattle.spell.specs.Walks.{RoomFor, Spelt, joined}
 use Rattle.spell.specs.declared.Written.{Written}
-use Rattle.spell.proofs.Length.{join-length}
+use Rattle.plain.proofs.Length.{join-length}
 use Rattle.base.proofs.Writing.{puts-same, puts-length, puts-over, puts-stay, lent, back, Wrote, wrote-room, wrote-next, wrote-end}
 use Rattle.spell.proofs.Walking.{never, same-tree, item-within}
 

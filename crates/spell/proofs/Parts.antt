@@ -8,9 +8,9 @@ use lib.ListN.{length}
 use Rattle.base.specs.Ascii.{ascii}
 use Rattle.syntax.specs.declared.Connective.{Connective}
 use Rattle.syntax.specs.declared.RawTest.{RawTest}
-use Rattle.spell.specs.Plain.{connectiveText}
+use Rattle.plain.specs.Plain.{connectiveText}
 use Rattle.base.specs.Writing.{Room, Puts}
-use Rattle.spell.specs.Writing.{testText}
+use Rattle.plain.specs.Writing.{testText}
 use Rattle.spell.specs.Walks.{choiceText, memberText}
 use Rattle.base.proofs.Writing.{lent, back, Wrote, wrote-end, first-room, first-within, last-room, last-wrote}
 

@@ -27,12 +27,12 @@ use Rattle.refusal.specs.declared.Reason.{Reason}
 use Rattle.refusal.specs.declared.Refusal.{Refusal}
 use Rattle.place.specs.declared.Found.{Found}
 use Rattle.place.proofs.Whole.{found-filter, found-failed}
-use Rattle.spell.specs.Plain.{plain}
+use Rattle.plain.specs.Plain.{plain}
 use Rattle.spell.specs.Walks.{RoomFor, Spelt}
 use Rattle.spell.specs.Spelling.{wrongSize, placed, outcome, put, bytes, SpellsInto, IsFilter, TextRoom, TextSpelt, TextLength, PlacedInto}
 use Rattle.spell.specs.declared.Written.{Written}
 use Rattle.spell.specs.declared.Spelled.{Spelled}
-use Rattle.spell.proofs.Length.{never-longer}
+use Rattle.plain.proofs.Length.{never-longer}
 use Rattle.base.proofs.Writing.{lent, back}
 use Rattle.spell.proofs.Walking.{same-tree}
 

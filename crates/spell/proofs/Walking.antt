@@ -31,12 +31,12 @@ use Rattle.syntax.proofs.Structure.{OpenDerived, open-derived}
 use Rattle.syntax.proofs.Sound.{ItemDerived, FilterDerived, item-derived, filter-derived}
 use Rattle.syntax.proofs.Complete.{item-rise, filter-rise, test-step, opened-step, deep-step, chosen-step, deep-choice-step, nothing-step}
 use Rattle.syntax.proofs.Tests.{TestDerived, test-derived}
-use Rattle.spell.specs.Plain.{connectiveText, inRoundIf, plainTest, plain, operand}
+use Rattle.plain.specs.Plain.{connectiveText, inRoundIf, plainTest, plain, operand}
 use Rattle.base.specs.Writing.{Room, Puts}
-use Rattle.spell.specs.Writing.{testText}
+use Rattle.plain.specs.Writing.{testText}
 use Rattle.spell.specs.Walks.{RoomFor, Spelt, joined, choiceText, memberText}
 use Rattle.spell.specs.declared.Written.{Written}
-use Rattle.spell.proofs.Length.{operand-short}
+use Rattle.plain.proofs.Length.{operand-short}
 use Rattle.base.proofs.Writing.{room-same, puts-same, lent, back, Wrote, wrote-end, first-room, first-within, last-room, last-wrote, second-room, second-wrote, third-room, third-wrote, puts-length, puts-over}
 
 pub never : {X : Type 0} {q : ℕ} {f : Tree} → unparsed ≡ parsed q f → X

@@ -1,6 +1,3 @@
--- The plain spelling of a filter, what is promised of it, and what its writers do.
-pub mod Plain
-pub mod Laws
-pub mod Writing
+-- What the walk writes that spells a filter, and what spell answers.
 pub mod Walks
 pub mod Spelling

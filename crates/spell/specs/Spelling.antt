@@ -12,7 +12,7 @@ use Rattle.syntax.specs.Grammar.{deepest, mostTests}
 use Rattle.syntax.specs.Reader.{read}
 use Rattle.refusal.specs.declared.Reason.{Reason}
 use Rattle.place.specs.Machine.{failure}
-use Rattle.spell.specs.Plain.{plain}
+use Rattle.plain.specs.Plain.{plain}
 use Rattle.base.specs.Writing.{Room, Puts}
 use Rattle.spell.specs.declared.Spelled.{Spelled}
 

@@ -8,9 +8,9 @@ use Rattle.syntax.specs.Tree.{Tree}
 use Rattle.syntax.specs.Reader.{Parsed, parsed}
 use Rattle.syntax.specs.declared.Connective.{Connective}
 use Rattle.syntax.specs.declared.RawTest.{RawTest}
-use Rattle.spell.specs.Plain.{connectiveText, isJoin, operand}
+use Rattle.plain.specs.Plain.{connectiveText, isJoin, operand}
 use Rattle.base.specs.Writing.{Room, Puts}
-use Rattle.spell.specs.Writing.{testText}
+use Rattle.plain.specs.Writing.{testText}
 use Rattle.spell.specs.declared.Written.{Written}
 
 -- a tree was parsed, and the part has room for its text

@@ -2,9 +2,9 @@
 // that is known to be a filter.
 use crate::Spot;
 use crate::Written;
-use crate::bracket::bracket_join;
-use crate::test::write_test;
 use base::write_word;
+use plain::bracket_join;
+use plain::write_test;
 use syntax::Connective;
 use syntax::FoundConnective;
 use syntax::FoundTest;
@@ -19,7 +19,7 @@ ghost use Prim.Native.Nat.{_≤_, _<_};
 ghost use lib.ListN.{length};
 ghost use Rattle.syntax.specs.Placed.{Placed};
 ghost use Rattle.syntax.specs.Reader.{itemAt, filterAt, bracketAt, chosenAt};
-ghost use Rattle.spell.specs.Plain.{connectiveText, plain, operand};
+ghost use Rattle.plain.specs.Plain.{connectiveText, plain, operand};
 ghost use Rattle.base.specs.Writing.{Room, Puts};
 ghost use Rattle.spell.specs.Walks.{RoomFor, Spelt, joined, choiceText, memberText};
 

@@ -31,8 +31,8 @@ use Rattle.spell.proofs.walk.+write_chosen+write_filter+write_item+writ
 use Rattle.spell.proofs.walk.write_round.Reads as write-round
 use Rattle.spell.proofs.walk.write_round.Kinds as write-round-kinds
 use Rattle.spell.proofs.walk.+write_chosen+write_filter+write_item+write_joined+write_not+write_operand+write_round.Lts-write_round as write-round-lts
-use Rattle.spell.proofs.bracket.bracket_join.Reads as bracket-join-reads
-use Rattle.spell.proofs.test.write_test.Reads as write-test-reads
+use Rattle.plain.proofs.bracket_join.Reads as bracket-join-reads
+use Rattle.plain.proofs.write_test.Reads as write-test-reads
 use Rattle.base.proofs.write_word.Reads as write-word-reads
 use Rattle.spell.proofs.walk.write_choice.Reads as write-choice-reads
 use Rattle.spell.proofs.walk.write_connective.Reads as write-connective-reads
