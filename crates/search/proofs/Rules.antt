@@ -25,7 +25,8 @@ use Rattle.judge.proofs.Rules.{names-iff, names-kind, says-iff, some-there, som
 use Rattle.query.specs.Spelling.{Alternative, Query}
 use Rattle.search.specs.Asking.{takesPrefix, askedOf}
 use Rattle.search.specs.Meaning as text
-use Rattle.search.specs.Meaning.{textSays, alternativeSays, pairMet, queryMet, querySays}
+use Rattle.query.specs.Met.{pairMet, queryMet}
+use Rattle.search.specs.Meaning.{textSays, alternativeSays, querySays}
 use Rattle.search.specs.Rules.{testOf, AlternativeSays, says-token, says-test, QuerySays}
 use Rattle.search.proofs.Asking.{asks-for, asked-is, asked-there, never-pr}
 
