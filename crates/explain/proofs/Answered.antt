@@ -32,13 +32,13 @@ use Rattle.answer.proofs.Cards.{conforms-accepted, conforms-bytes}
 use Rattle.answer.proofs.Inputs.{inputs-accepted, tests-outcome}
 use Rattle.answer.proofs.Outcomes.{TestsOutcome, all-mean, one-refused}
 use Rattle.answer.proofs.Verdicts.{verdict-spelled}
-use Rattle.explain.specs.Deciding.{outerTests, outerCount, verdicts, saysBy, cells}
-use Rattle.explain.specs.Marks.{deciding, explanation}
+use Rattle.deciding.specs.Deciding.{outerTests, outerCount, verdicts, saysBy, cells}
+use Rattle.deciding.specs.Marks.{deciding, explanation}
 use Rattle.explain.specs.Operation.{Explanation, explanationOf, acceptMarks, explaining, explainAnswer, explainCells}
 use Rattle.explain.specs.Refusals.{ExplainLine}
 use Rattle.explain.specs.Explaining.{SaysEach, ExplainAnswers, AsMatch, same-answer, short-list}
-use Rattle.explain.proofs.Deciding.{explains}
-use Rattle.explain.proofs.Numbered.{cells-counted, map-append, getD-after, says-by-verdicts}
+use Rattle.deciding.proofs.Deciding.{explains}
+use Rattle.deciding.proofs.Numbered.{cells-counted, map-append, getD-after, says-by-verdicts}
 use Rattle.explain.proofs.Explaining.{not-refused, explaining-by, match-answer-by, answer-by, cells-by}
 use Rattle.explain.proofs.Table.{explain-table}
 

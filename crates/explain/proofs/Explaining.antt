@@ -55,13 +55,13 @@ use Rattle.answer.proofs.Inputs.{question-by, match-by}
 use Rattle.answer.proofs.Outcomes.{cardOf}
 use Rattle.answer.proofs.Passing.{card-found}
 use Rattle.answer.proofs.RowsAnswered.{known-of, prepares-good, match-is}
-use Rattle.explain.specs.Deciding.{outerCount, verdicts, cell, cells}
-use Rattle.explain.specs.Marks.{explanation}
+use Rattle.deciding.specs.Deciding.{outerCount, verdicts, cell, cells}
+use Rattle.deciding.specs.Marks.{explanation}
 use Rattle.explain.specs.Operation.{Explanation, explanationOf, acceptMarks, explaining, explainAnswer, explainCells}
-use Rattle.explain.specs.Rows.{outline, outerVerdicts, Tells, Spares}
+use Rattle.deciding.specs.Rows.{outline, outerVerdicts, Tells, Spares}
 use Rattle.explain.specs.Contracts.{Marks, Judged}
-use Rattle.explain.proofs.Alike.{filter-verdicts, filter-alike, deciding-alike}
-use Rattle.explain.proofs.Stack.{outer-tests}
+use Rattle.deciding.proofs.Alike.{filter-verdicts, filter-alike, deciding-alike}
+use Rattle.deciding.proofs.Stack.{outer-tests}
 
 -- ---- by what was found
 

@@ -1,13 +1,4 @@
--- Laws of the tests that decide, of the walks over rows, the table of refusals, and the promises.
-pub mod Exact
-pub mod Numbered
-pub mod Deciding
-pub mod Leaves
-pub mod Stack
-pub mod Marking
-pub mod Sparing
-pub mod Telling
-pub mod Alike
+-- Laws of explain, its table of refusals, and the promises.
 pub mod Explaining
 pub mod Table
 pub mod Contracts

@@ -14,14 +14,14 @@ use Rattle.syntax.specs.Grammar.{Spells}
 use Rattle.judge.specs.Rules.{Conforms}
 use Rattle.refusal.specs.Answers.{refused}
 use Rattle.refusal.specs.Order.{Decides}
-use Rattle.explain.specs.Deciding.{outerTests, outerCount, Suffices, Explains}
-use Rattle.explain.specs.Marks.{suffices, deciding}
+use Rattle.deciding.specs.Deciding.{outerTests, outerCount, Suffices, Explains}
+use Rattle.deciding.specs.Marks.{suffices, deciding}
 use Rattle.explain.specs.Operation.{explainAnswer, explainCells}
 use Rattle.explain.specs.Refusals.{ExplainLine}
 use Rattle.explain.specs.Explaining.{ExplainAnswers, AsMatch}
-use Rattle.explain.proofs.Exact as exact
-use Rattle.explain.proofs.Numbered as numbered
-use Rattle.explain.proofs.Deciding as deciding-set
+use Rattle.deciding.proofs.Exact as exact
+use Rattle.deciding.proofs.Numbered as numbered
+use Rattle.deciding.proofs.Deciding as deciding-set
 use Rattle.explain.proofs.Table as table
 use Rattle.explain.proofs.Answered as answered
 

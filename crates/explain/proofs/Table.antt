@@ -24,7 +24,7 @@ use Rattle.answer.specs.Operations.{Inputs, acceptCard}
 use Rattle.answer.specs.Refusals.{CheckLine, OneCardLine, line-20-match, line-of-card}
 use Rattle.answer.proofs.CheckTable.{Ready, check-group, inputs-decided}
 use Rattle.answer.proofs.MatchTable.{card-group, one-decided}
-use Rattle.explain.specs.Deciding.{outerCount}
+use Rattle.deciding.specs.Deciding.{outerCount}
 use Rattle.explain.specs.Operation.{Explanation, explanationOf, acceptMarks, explaining, explainAnswer}
 use Rattle.explain.specs.Refusals.{MarksLine, line-33, ExplainLine}
 

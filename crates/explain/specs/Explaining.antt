@@ -13,7 +13,7 @@ use Rattle.judge.specs.Rules.{FilterSays}
 use Rattle.refusal.specs.Answers.{refused}
 use Rattle.answer.specs.Operations.{matchAnswer}
 use Rattle.answer.specs.Verdicts.{Verdict}
-use Rattle.explain.specs.Deciding.{outerTests, outerCount, saysBy, Explains, cells}
+use Rattle.deciding.specs.Deciding.{outerTests, outerCount, saysBy, Explains, cells}
 use Rattle.explain.specs.Operation.{explainAnswer, explainCells}
 
 -- v has by number what each test of the filter says of entries

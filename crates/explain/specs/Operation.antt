@@ -9,8 +9,8 @@ use Rattle.judge.specs.Verdicts.{filterSays}
 use Rattle.refusal.specs.Answers.{Answer, yesOrNo}
 use Rattle.refusal.specs.Steps.{Step, found, stop, _>>=_, answer}
 use Rattle.answer.specs.Operations.{Inputs, acceptInputs, Card, acceptCard, written}
-use Rattle.explain.specs.Deciding.{outerCount}
-use Rattle.explain.specs.Marks.{explanation}
+use Rattle.deciding.specs.Deciding.{outerCount}
+use Rattle.deciding.specs.Marks.{explanation}
 
 -- what the filter says of the card, and the cells of its tests
 pub record Explanation : Type 0 where

@@ -6,7 +6,7 @@ use mathlib.Core.List.{List}
 use Rattle.syntax.specs.Tree.{Tree}
 use Rattle.syntax.specs.Grammar.{Spells}
 use Rattle.answer.specs.Refusals.{MatchLine}
-use Rattle.explain.specs.Deciding.{outerCount}
+use Rattle.deciding.specs.Deciding.{outerCount}
 
 -- the line about the list
 pub data MarksLine (text : List ℕ) (room : ℕ) : ℕ → ℕ → Type 0 where

@@ -1,7 +1,4 @@
 // Why a filter says what it says of a card (02: "why this card?"): the tests that decide, over the rows of the filter.
-mod marks;
 mod operation;
-mod spare;
-mod verdicts;
 
 pub use operation::explain;

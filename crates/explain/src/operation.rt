@@ -1,7 +1,7 @@
 // Explain, with all that is promised of it. A slice holds bytes, so that nothing is asked of the caller.
-use crate::spare::spare;
-use crate::verdicts::gather_verdicts;
 use base::write_word;
+use deciding::gather_verdicts;
+use deciding::spare;
 use refusal::Reason;
 use refusal::Refusal;
 use sirophan::Matched;

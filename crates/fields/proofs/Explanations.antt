@@ -19,9 +19,9 @@ use Rattle.refusal.specs.Answers.{yesOrNo}
 use Rattle.refusal.specs.Steps.{Step, found, stop, _>>=_, answer}
 use Rattle.answer.specs.Operations.{Inputs, acceptInputs, acceptCard, written}
 use Rattle.answer.proofs.Cards.{conforms-accepted}
-use Rattle.explain.specs.Deciding.{outerTests, outerCount}
+use Rattle.deciding.specs.Deciding.{outerTests, outerCount}
 use Rattle.explain.specs.Operation.{Explanation, explanationOf, acceptMarks, explaining, explainAnswer, explainCells}
-use Rattle.explain.proofs.Numbered.{explanation-same}
+use Rattle.deciding.proofs.Numbered.{explanation-same}
 use Rattle.fields.specs.Used.{namesOf, SameUnder, Alike}
 use Rattle.fields.proofs.Verdicts.{parts-same, verdict-same}
 use Rattle.fields.proofs.Answers.{inputs-found}

@@ -1,0 +1,10 @@
+-- Laws of the tests that decide, and of the walks over rows.
+pub mod Exact
+pub mod Numbered
+pub mod Deciding
+mod Leaves
+pub mod Stack
+mod Marking
+mod Spared
+mod Telling
+pub mod Alike

@@ -1,0 +1,7 @@
+// Which tests decide what a filter says of a card: their verdicts, and those that can be spared, by marks over the filter's rows.
+mod marks;
+mod sparing;
+mod verdicts;
+
+pub use sparing::spare;
+pub use verdicts::gather_verdicts;
