@@ -9,7 +9,7 @@ use Prim.Native.Nat.{ℕ, _≤_, _<_}
 use native.Mathlib.Omega.{arith}
 use mathlib.Core.Path.{_≡_, refl, subst}
 use mathlib.Core.Bool.{false}
-use mathlib.Core.List.{List, []}
+use mathlib.Core.List.{List}
 use Rattle.base.specs.Operators.{pr}
 use Rattle.base.proofs.Tests.{both-ways, cond-elim}
 use Rattle.base.specs.Kinds.{bundleKind}
@@ -19,23 +19,22 @@ use borrow.Author.Tests.{eqb-true, eqb-false}
 use Rattle.sheet.specs.Encode.{WellFormedSheet}
 use Rattle.sheet.specs.declared.Found.{Found}
 use Rattle.card.specs.Card.{Entry}
-use Rattle.card.specs.Encode.{encodeCard}
 use Rattle.syntax.specs.Tree.{Test}
 use Rattle.kind.specs.Table.{hasMeaning}
 use Rattle.kind.specs.Readable.{valueReadable}
-use Rattle.judge.specs.Sets.{lookup, valuesAt}
+use Rattle.judge.specs.Sets.{lookup}
 use Rattle.judge.specs.Faults.{unsupported, kindFault, faultAt, testFault}
 use Rattle.refusal.specs.declared.Decision.{Decision}
 use Rattle.answer.specs.Operations.{decisionStep}
 use Rattle.kind.specs.Rules.{TrueOrFalse, ReadableValue, value-of-pr, value-of-kind, HasOperator}
 use Rattle.judge.specs.Rules.{Names, NotOnSheet, LacksMeaning, not-on-sheet, bare-bundle, neither, lacks-operator, unreadable}
 use Rattle.refusal.specs.Order.{rank}
-use Rattle.answer.specs.Numbers.{TestLine, line-14, line-18, line-15, line-16, line-17, Numbered}
+use Rattle.answer.specs.Numbers.{TestLine, line-14, line-18, line-15, line-16, line-17}
 use Rattle.answer.specs.Demand.{filterTests}
 use Rattle.kind.proofs.Rules.{value-iff, operator-iff}
-use Rattle.judge.proofs.Rules.{unsupported-lacks, names-iff, names-listed, missing-iff}
-use Rattle.answer.proofs.Cards.{empty-conforms, one-entry, one-entry-conforms, one-entry-value}
-use Rattle.answer.proofs.Outcomes.{Judged, judged-unknown, judged-bundle, judged-unsupported, judged-meaningless, judged-unreadable, judged-right, Refused, TestOutcome, test-means, test-refused}
+use Rattle.judge.proofs.Rules.{unsupported-lacks, names-iff, missing-iff}
+use Rattle.answer.proofs.Witnesses.{refused-at, refused-empty}
+use Rattle.answer.proofs.Outcomes.{Judged, judged-unknown, judged-bundle, judged-unsupported, judged-meaningless, judged-unreadable, judged-right, TestOutcome, test-means, test-refused}
 
 -- a readable value of pr is true or false
 pr-readable : {kind k : ℕ} {v : List ℕ} → ReadableValue kind v k → k ≡ pr → (TrueOrFalse v → ⊥) → ⊥
@@ -83,56 +82,31 @@ module _ (ps : List Parameter) (w : WellFormedSheet ps) (t : Test) where
 
   -- ---- what a test comes to: a meaning on every conforming card, or a refusal
 
-  -- a test whose path names a parameter lacks a meaning on the card with one entry under it
-  refused-at : (i k : ℕ) → (k ≡ bundleKind → ⊥) → Names ps (t .path) i k → (n : ℕ) → Numbered (TestLine ps t) n
-      → ((es : List Entry) → (valuesAt i es ≡ [] → ⊥) → LacksMeaning ps es t) → Refused (filterTests ps) t n
-  refused-at i k z j n table lacks =
-      let p = parameter k (names-listed j .0) (names-listed j .1) in
-      let l = names-listed j .2 in
-      let es = one-entry ps w i p l in
-      record {
-        table = table;
-        card = encodeCard false 0 es;
-        entries = es;
-        conforms = one-entry-conforms ps w i p l z;
-        lacks = lacks es (one-entry-value ps w i p l);
-      }
-
   outcome-by : {d : Decision} → Judged ps t d → TestOutcome (filterTests ps) t (decisionStep d)
   unfolding rank
   outcome-by (judged-unknown u) =
       test-refused
-      (record {
-        table = record { line = line-14 u; lowest = lowest-from (rank 14) (omega arith) (λ l. absurd (omega arith)) (λ l. absurd (omega arith)) (λ l. absurd (omega arith)) (λ l. absurd (omega arith)) };
-        card = encodeCard false 0 [];
-        entries = [];
-        conforms = empty-conforms ps;
-        lacks = not-on-sheet u;
-      })
+      (refused-empty (filterTests ps) t 14
+      (record { line = line-14 u; lowest = lowest-from (rank 14) (omega arith) (λ l. absurd (omega arith)) (λ l. absurd (omega arith)) (λ l. absurd (omega arith)) (λ l. absurd (omega arith)) }) (not-on-sheet u))
   outcome-by (judged-bundle {i = i} j) =
       test-refused
-      (record {
-        table = record { line = line-18 j; lowest = lowest-from (rank 18) (omega arith) (λ l n. n i bundleKind j) (λ l. absurd (omega arith)) (λ l. absurd (omega arith)) (λ l. absurd (omega arith)) };
-        card = encodeCard false 0 [];
-        entries = [];
-        conforms = empty-conforms ps;
-        lacks = bare-bundle j;
-      })
+      (refused-empty (filterTests ps) t 18
+      (record { line = line-18 j; lowest = lowest-from (rank 18) (omega arith) (λ l n. n i bundleKind j) (λ l. absurd (omega arith)) (λ l. absurd (omega arith)) (λ l. absurd (omega arith)) }) (bare-bundle j))
   outcome-by (judged-unsupported {i = i} {k = k} z j u) =
       let lacking : HasOperator k (t .operator) → ⊥ = λ h. both-ways (operator-iff k (t .operator) .1 h) (unsupported-lacks k (t .operator) u) in
       test-refused
-      (refused-at i k z j 15
-      (record { line = line-15 u; lowest = lowest-from (rank 15) (omega arith) (λ l n. n i k j) (λ l i′ j′. z (same-kind j j′)) (λ l. absurd (omega arith)) (λ l. absurd (omega arith)) })
+      (refused-at (filterTests ps) t 15
+      (record { line = line-15 u; lowest = lowest-from (rank 15) (omega arith) (λ l n. n i k j) (λ l i′ j′. z (same-kind j j′)) (λ l. absurd (omega arith)) (λ l. absurd (omega arith)) }) w z j
       (λ es v. lacks-operator j v lacking))
   outcome-by (judged-meaningless {i = i} {k = k} z j u o) =
       test-refused
-      (refused-at i k z j 16
-      (record { line = line-16 j u o; lowest = lowest-from (rank 16) (omega arith) (λ l n. n i k j) (λ l i′ j′. z (same-kind j j′)) (λ l. u) (λ l. absurd (omega arith)) })
+      (refused-at (filterTests ps) t 16
+      (record { line = line-16 j u o; lowest = lowest-from (rank 16) (omega arith) (λ l n. n i k j) (λ l i′ j′. z (same-kind j j′)) (λ l. u) (λ l. absurd (omega arith)) }) w z j
       (λ es v. lacks-operator j v o))
   outcome-by (judged-unreadable {i = i} {k = k} z j u o r) =
       test-refused
-      (refused-at i k z j 17
-      (record { line = line-17 j r; lowest = lowest-from (rank 17) (omega arith) (λ l n. n i k j) (λ l i′ j′. z (same-kind j j′)) (λ l. u) (λ l i′ k′ j′. subst (λ (m : ℕ). HasOperator m (t .operator)) (same-kind j j′) o) })
+      (refused-at (filterTests ps) t 17
+      (record { line = line-17 j r; lowest = lowest-from (rank 17) (omega arith) (λ l n. n i k j) (λ l i′ j′. z (same-kind j j′)) (λ l. u) (λ l i′ k′ j′. subst (λ (m : ℕ). HasOperator m (t .operator)) (same-kind j j′) o) }) w z j
       (λ es v. unreadable j v r))
   outcome-by (judged-right {i = i} {k = k} z j o r) = test-means (λ card es c. never es) no-line
     where

@@ -3,6 +3,7 @@ pub mod Slices
 pub mod Passing
 pub mod Outcomes
 pub mod Cards
+mod Witnesses
 pub mod Faults
 pub mod Inputs
 pub mod Verdicts

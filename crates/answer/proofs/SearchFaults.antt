@@ -9,7 +9,7 @@
 use Prim.Native.Nat.{ℕ, _≤_, _<_}
 use native.Mathlib.Omega.{arith}
 use mathlib.Core.Path.{_≡_, refl, ap, sym, subst}
-use mathlib.Core.Bool.{true, false, cond}
+use mathlib.Core.Bool.{true, cond}
 use mathlib.Core.Logic.{_↔_, ⊎-elim}
 use mathlib.Core.List.{List, [], _∷_}
 use lib.Dec.{eqb}
@@ -23,7 +23,6 @@ use Rattle.sheet.specs.Sheet.{Parameter, parameter}
 use Rattle.sheet.specs.Encode.{ValueKind, WellFormedSheet}
 use Rattle.sheet.specs.declared.Found.{Found}
 use Rattle.card.specs.Card.{Entry}
-use Rattle.card.specs.Encode.{encodeCard}
 use Rattle.syntax.specs.Tree.{name}
 use Rattle.token.specs.Filter.{Form, formAt, readableAt}
 use Rattle.token.specs.Spelling.{SplitSpells}
@@ -32,15 +31,15 @@ use Rattle.kind.specs.Table.{hasMeaning}
 use Rattle.kind.specs.Readable.{valueReadable}
 use Rattle.kind.specs.Rules.{ReadableInFilter, ReadableValue, value-of-pr, value-of-kind, HasOperator, token-eq, operator-of-row}
 use Rattle.kind.proofs.Rules.{value-iff, operator-iff}
-use Rattle.judge.specs.Sets.{lookup, valuesAt}
+use Rattle.judge.specs.Sets.{lookup}
 use Rattle.judge.specs.Faults.{kindFault}
 use Rattle.judge.specs.Rules.{Names, NotOnSheet}
 use Rattle.refusal.specs.declared.Reason.{Reason}
 use Rattle.refusal.specs.declared.Decision.{Decision}
 use Rattle.refusal.specs.Decisions.{refuse}
-use Rattle.judge.proofs.Rules.{names-iff, names-kind, names-listed, missing-iff}
+use Rattle.judge.proofs.Rules.{names-iff, names-kind, missing-iff}
 use Rattle.query.specs.Spelling.{Alternative}
-use Rattle.search.specs.Asking.{AskedBy, Asked, askedOf}
+use Rattle.search.specs.Asking.{AskedBy, Comparison, askedOf}
 use Rattle.search.specs.Meaning.{textFault, faultAt, alternativeFault, firstAlternativeFault}
 use Rattle.search.specs.Rules.{ReadableAlternative, readable-form, readable-value, LacksMeaning, not-on-sheet, bundle-named, lacks-operator, unreadable, AlternativeLine, line-14, line-14-bundle, line-16, line-17}
 use Rattle.search.proofs.Asking.{asked-is, token-asks, asked-there, never-pr, asked-supported}
@@ -48,10 +47,9 @@ use Rattle.refusal.specs.Order.{rank}
 use Rattle.refusal.specs.Steps.{_>>=_}
 use Rattle.answer.specs.Operations.{decisionStep}
 use Rattle.answer.specs.Searching.{alternativesStep}
-use Rattle.answer.specs.Numbers.{Numbered}
 use Rattle.answer.specs.SearchDemand.{searchTests}
-use Rattle.answer.proofs.Cards.{empty-conforms, one-entry, one-entry-conforms, one-entry-value}
-use Rattle.answer.proofs.Outcomes.{Refused, TestOutcome, test-means, test-refused, TestsOutcome, all-mean}
+use Rattle.answer.proofs.Witnesses.{refused-at, refused-empty}
+use Rattle.answer.proofs.Outcomes.{TestOutcome, test-means, test-refused, TestsOutcome, all-mean}
 use Rattle.answer.proofs.Inputs.{step-or-else, outcome-next}
 
 token-has : HasOperator token eq
@@ -102,10 +100,10 @@ module _ (ps : List Parameter) (w : WellFormedSheet ps) (a : Alternative) where
       value = askedOf k (a .text) .value
 
       same-operator : (o : ℕ) (v : List ℕ) → AskedBy k (a .text) o v → operator ≡ o
-      same-operator o v h = ap (λ (x : Asked). x .operator) (asked-is h other)
+      same-operator o v h = ap (λ (x : Comparison). x .operator) (asked-is h other)
 
       same-value : {o : ℕ} {v : List ℕ} → AskedBy k (a .text) o v → value ≡ v
-      same-value h = ap (λ (x : Asked). x .value) (asked-is h other)
+      same-value h = ap (λ (x : Comparison). x .value) (asked-is h other)
 
       in-filter : {o : ℕ} {v : List ℕ} → ReadableValue k v o → (o ≡ pr → ⊥) → ReadableInFilter k v
       in-filter (value-of-pr h) n = absurd (n refl)
@@ -162,42 +160,23 @@ module _ (ps : List Parameter) (w : WellFormedSheet ps) (a : Alternative) where
 
   -- ---- what an alternative comes to
 
-  -- an alternative whose name names a parameter lacks a meaning on the card with one entry under it
-  refused-at : (i k : ℕ) → (k ≡ bundleKind → ⊥) → Names ps (name (a .name)) i k → (n : ℕ) → Numbered (AlternativeLine ps a) n
-      → ((es : List Entry) → (valuesAt i es ≡ [] → ⊥) → LacksMeaning ps es a) → Refused (searchTests ps) a n
-  refused-at i k z j n table lacks =
-      let p = parameter k (names-listed j .0) (names-listed j .1) in
-      let l = names-listed j .2 in
-      let es = one-entry ps w i p l in
-      record {
-        table = table;
-        card = encodeCard false 0 es;
-        entries = es;
-        conforms = one-entry-conforms ps w i p l z;
-        lacks = lacks es (one-entry-value ps w i p l);
-      }
-
-  -- and one whose name names none, on the card with no entries
-  refused-empty : (n : ℕ) → Numbered (AlternativeLine ps a) n → LacksMeaning ps [] a → Refused (searchTests ps) a n
-  refused-empty n table lacks = record { table = table; card = encodeCard false 0 []; entries = []; conforms = empty-conforms ps; lacks = lacks }
-
   outcome-by : {d : Decision} → Judged ps a d → TestOutcome (searchTests ps) a (decisionStep d)
   unfolding rank
   outcome-by (judged-unknown u) =
-      test-refused (refused-empty 14
+      test-refused (refused-empty (searchTests ps) a 14
       (record { line = line-14 u; lowest = lowest-from (rank 14) (omega arith) (λ l. absurd (omega arith)) (λ l. absurd (omega arith)) (λ l. absurd (omega arith)) }) (not-on-sheet u))
   outcome-by (judged-bundle j) =
-      test-refused (refused-empty 14
+      test-refused (refused-empty (searchTests ps) a 14
       (record { line = line-14-bundle j; lowest = lowest-from (rank 14) (omega arith) (λ l. absurd (omega arith)) (λ l. absurd (omega arith)) (λ l. absurd (omega arith)) }) (bundle-named j))
   outcome-by (judged-meaningless {i = i} {k = k} z j q n) =
       test-refused
-      (refused-at i k z j 16
-      (record { line = line-16 j q n; lowest = lowest-from (rank 16) (omega arith) (λ l u. u i k j) (λ l i′ j′. z (same-kind j j′)) (λ l. absurd (omega arith)) })
+      (refused-at (searchTests ps) a 16
+      (record { line = line-16 j q n; lowest = lowest-from (rank 16) (omega arith) (λ l u. u i k j) (λ l i′ j′. z (same-kind j j′)) (λ l. absurd (omega arith)) }) w z j
       (λ es v. lacks-operator j v q n))
   outcome-by (judged-unreadable {i = i} {k = k} z j has n) =
       test-refused
-      (refused-at i k z j 17
-      (record { line = line-17 j n; lowest = lowest-from (rank 17) (omega arith) (λ l u. u i k j) (λ l i′ j′. z (same-kind j j′)) (λ l i′ k′ j′. subst (λ (m : ℕ). Has m a) (same-kind j j′) has) })
+      (refused-at (searchTests ps) a 17
+      (record { line = line-17 j n; lowest = lowest-from (rank 17) (omega arith) (λ l u. u i k j) (λ l i′ j′. z (same-kind j j′)) (λ l i′ k′ j′. subst (λ (m : ℕ). Has m a) (same-kind j j′) has) }) w z j
       (λ es v. unreadable j v n))
   outcome-by (judged-right {i = i} {k = k} z j has r) = test-means (λ card es c. never es) no-line
     where
