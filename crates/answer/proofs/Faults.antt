@@ -8,12 +8,11 @@
 use Prim.Native.Nat.{ℕ, _≤_, _<_}
 use native.Mathlib.Omega.{arith}
 use mathlib.Core.Path.{_≡_, refl, subst}
-use mathlib.Core.Bool.{false}
 use mathlib.Core.List.{List}
 use Rattle.base.specs.Operators.{pr}
 use Rattle.base.proofs.Tests.{both-ways, cond-elim}
 use Rattle.base.specs.Kinds.{bundleKind}
-use Rattle.sheet.specs.Sheet.{Parameter, parameter}
+use Rattle.sheet.specs.Sheet.{Parameter}
 use lib.Dec.{eqb}
 use borrow.Author.Tests.{eqb-true, eqb-false}
 use Rattle.sheet.specs.Encode.{WellFormedSheet}

@@ -19,7 +19,7 @@ use Rattle.base.specs.Lists.{all-empty}
 use Rattle.base.specs.Operators.{eq, pr}
 use Rattle.base.proofs.Options.{isSome-iff}
 use Rattle.base.proofs.Tests.{both-ways, cond-elim}
-use Rattle.sheet.specs.Sheet.{Parameter, parameter}
+use Rattle.sheet.specs.Sheet.{Parameter}
 use Rattle.sheet.specs.Encode.{ValueKind, WellFormedSheet}
 use Rattle.sheet.specs.declared.Found.{Found}
 use Rattle.card.specs.Card.{Entry}

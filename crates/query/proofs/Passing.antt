@@ -27,7 +27,6 @@ use Rattle.query.specs.Reader.{signsOf, readPair, readPairs}
 use Rattle.query.specs.Scan.{PairOf, pair-of, pair-of-none}
 use Rattle.query.specs.Rows.{Kept, keepPair, keepAll, Keeps, PairHeld, QueryOf, query-of, query-of-none}
 use Rattle.query.specs.declared.PairRead.{PairRead}
-use Rattle.query.specs.declared.Row.{Row}
 use Rattle.query.specs.declared.Rows.{Rows}
 use Rattle.query.specs.declared.Held.{Held}
 use Rattle.query.proofs.Holding.{keeps-on}

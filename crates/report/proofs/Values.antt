@@ -10,7 +10,7 @@ use lib.ListN.{length, getD}
 use borrow.Author.Tests.{eq-eqb, ne-eqb}
 use Rattle.base.specs.Parts.{part}
 use Rattle.base.proofs.Tests.{cond-elim}
-use Rattle.block.specs.Items.{items, Step, Walk}
+use Rattle.block.specs.Items.{items, ItemStep, Walk}
 use Rattle.block.specs.declared.Validity.the-variants.{WellFormed}
 use Rattle.block.proofs.Items.{items-length, layout-count}
 use Rattle.card.specs.Card.{Entry, entry, entryCount, entriesOf, readCard}
@@ -66,7 +66,7 @@ module _ (card : List ℕ) (i : ℕ) where
     counted true index occurrence text es e = rw (← e) (omega arith)
     counted false index occurrence text es e = rw (← e)
 
-    pub counting-next : (index occurrence start end : ℕ) → 0 < left → Step entry card at left index occurrence start end
+    pub counting-next : (index occurrence start end : ℕ) → 0 < left → ItemStep entry card at left index occurrence start end
         → (same : Bool) → same ≡ eqb index i → (n : ℕ) → n ≡ countValue values same → Counting card i end (left - 1) n
     counting-next index occurrence start end l s same e n h =
         record {
