@@ -8,6 +8,7 @@
 use Prim.Native.Nat.{ℕ, _≤_, _<_}
 use native.Mathlib.Omega.{arith}
 use mathlib.Core.Path.{_≡_, refl, subst}
+use mathlib.Core.Bool.{false}
 use mathlib.Core.List.{List}
 use Rattle.base.specs.Operators.{pr}
 use Rattle.base.proofs.Tests.{both-ways, cond-elim}
