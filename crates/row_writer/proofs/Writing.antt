@@ -159,6 +159,9 @@ module _ (ps : List Parameter) (c : ℕ) (xs : List ℕ) (row close d p : ℕ) (
         tests-fit = omega (arith, filter-count i, ap (λ (o : Outcome). o .summary .tests) (k .value));
       }
 
+  pub filter-within : Wrote ps c xs row (filterAt d xs close p) r before after → r ≡ Written.Done q v → q ≤ length xs
+  filter-within w h = filter-takes w h .within
+
   -- a cell more has room behind a bracket, and so has a test more
   module _ (w : Wrote ps c xs row (filterAt d xs close p) r before after) (h : r ≡ Written.Done q v) (short : length xs ≤ 1024) where
     pub cell-room : row < p → row + v .cells < 1024

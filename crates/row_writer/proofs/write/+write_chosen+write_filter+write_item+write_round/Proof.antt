@@ -10,7 +10,7 @@ use lib.ListN.{length}
 use Rattle.sheet.specs.Sheet.{parametersOf}
 use Rattle.syntax.proofs.Places.{head-test-placed, test-in-place, head-open-ahead, head-choice-order, head-choice-within, member-in-place, connective-ahead}
 use Rattle.row_writer.proofs.Numbers.{head-read, member-read}
-use Rattle.row_writer.proofs.Writing.{item-takes, filter-takes, cell-room, test-room, wrote-test, wrote-nothing, wrote-deep, wrote-opened, wrote-choice-deep, wrote-chosen, round-no-filter, round-open, round-closed, round-not, chosen-no-filter, chosen-no-member, chosen-member, Chained, wrote-keeps, wrote-no-item, chain-starts, chain-ends, chain-no-item, chain-fits, chain-cell, chain-takes}
+use Rattle.row_writer.proofs.Writing.{item-takes, filter-within, cell-room, test-room, wrote-test, wrote-nothing, wrote-deep, wrote-opened, wrote-choice-deep, wrote-chosen, round-no-filter, round-open, round-closed, round-not, chosen-no-filter, chosen-no-member, chosen-member, Chained, wrote-keeps, wrote-no-item, chain-starts, chain-ends, chain-no-item, chain-fits, chain-cell, chain-takes}
 use borrow.Author.Needs.{needs}
 use Prim.Native.Nat.{ℕ, _<_}
 use borrow.Fn.Kinds.{In}
@@ -119,7 +119,7 @@ pub +write-chosen+write-filter+write-item+write-round-spec : {M : Type 1} → st
     (λ c. search needs)  -- enum-told
     (λ c. search needs)  -- same-length
     (λ c. search (chosen-no-filter, needs))  -- returns
-    (λ c κs. filter-takes _ _ _ _ _ _ _ _ _ _ _ _ (c .before .before .before .before .before .write-filter .ensures) (c .before .inner .given .1) .within)  -- read-member-requires
+    (λ c κs. search (filter-within, needs))  -- read-member-requires
     (λ c. search needs)  -- enum-known-member
     (λ c. search needs)  -- enum-told-2
     (λ c. search needs)  -- same-length-2
@@ -145,7 +145,7 @@ pub +write-chosen+write-filter+write-item+write-round-spec : {M : Type 1} → st
     (λ c. search needs)  -- enum-known-first
     (λ c. search needs)  -- enum-told
     (λ c. search needs)  -- same-length
-    (λ c. wrote-no-item _ _ _ _ _ _ _ _ _ _ (c .before .before .before .before .write-item .ensures) (c .enum-told .given .1))  -- returns
+    (λ c. search (wrote-no-item, needs))  -- returns
     (λ c. let start = c .before .before .before .before .before .before .before .before .before .before .before in chain-starts _ _ _ _ _ _ _ _ _ _ (c .before .before .before .before .before .before .write-item .ensures) _ _ (c .before .before .first .given .1) (start .pre .1 .1 .1 .1 .1) (omega (arith, start .pre .1 .1 .1 .1 .1, start .pre .1 .1 .1 .0, start .pre .1 .1 .0, start .pre .1 .1 .1 .1 .0)))  -- loop-holds
     (λ c κs. search needs)  -- read-connective-requires
     (λ c. search needs)  -- enum-known-found
@@ -204,7 +204,7 @@ pub +write-chosen+write-filter+write-item+write-round-spec : {M : Type 1} → st
     (λ c. search needs)  -- enum-told
     (λ c. search needs)  -- same-length
     (λ c. search (round-no-filter, needs))  -- returns
-    (λ c κs. filter-takes _ _ _ _ _ _ _ _ _ _ _ _ (c .before .before .before .before .before .write-filter .ensures) (c .before .inner .given .1) .within)  -- read-close-requires
+    (λ c κs. search (filter-within, needs))  -- read-close-requires
     (λ c. search needs)  -- enum-known-closed
     (λ c. search needs)  -- enum-told-2
     (λ c. search needs)  -- same-length-2
