@@ -75,8 +75,8 @@ joined Connective.Or a b = a || b
 -- what a filter says, looked up in c, of entries: it "joins those of its items from left to right, and and or equal in rank"; "after
 -- not the opposite"; 02: square brackets hold a filter "judged for each occurrence by itself; the set is the named member's texts from
 -- the occurrences that say yes"
-abbrev pub says : List Parameter → Fold (ℕ → List Entry → Bool)
-says ps =
+abbrev pub saying : List Parameter → Fold (ℕ → List Entry → Bool)
+saying ps =
     record {
       one = λ t c es. testSays ps c es t;
       inside = λ p b f said t c es. testSays ps (enter ps c b) (keep (λ e. said (enter ps c b) (ofOccurrence (e .occurrence) es)) es) t;
@@ -85,4 +85,4 @@ says ps =
     }
 
 unfoldable pub filterSays : List Parameter → ℕ → List Entry → Tree → Bool
-filterSays ps c es f = foldTree (says ps) f c es
+filterSays ps c es f = foldTree (saying ps) f c es
