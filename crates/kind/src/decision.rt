@@ -22,6 +22,7 @@ use base::operator::SW;
 ghost use mathlib.Core.Path.{_≡_};
 ghost use Rattle.kind.specs.Table.{stringRow, numberRow, dateRow, tokenRow, referenceRow, rowMeaning, meaningOf};
 
+// The row of strings.
 fn string_meaning(operator: u8) -> Meaning
     ensures { λ r. ⌜ r ≡ rowMeaning stringRow operator ⌝ }
 {
@@ -35,6 +36,7 @@ fn string_meaning(operator: u8) -> Meaning
     }
 }
 
+// The row of numbers.
 fn number_meaning(operator: u8) -> Meaning
     ensures { λ r. ⌜ r ≡ rowMeaning numberRow operator ⌝ }
 {
@@ -50,6 +52,7 @@ fn number_meaning(operator: u8) -> Meaning
     }
 }
 
+// The row of dates, which periods have too.
 fn date_meaning(operator: u8) -> Meaning
     ensures { λ r. ⌜ r ≡ rowMeaning dateRow operator ⌝ }
 {
@@ -68,6 +71,7 @@ fn date_meaning(operator: u8) -> Meaning
     }
 }
 
+// The row of tokens.
 fn token_meaning(operator: u8) -> Meaning
     ensures { λ r. ⌜ r ≡ rowMeaning tokenRow operator ⌝ }
 {
@@ -78,6 +82,7 @@ fn token_meaning(operator: u8) -> Meaning
     }
 }
 
+// The row of references.
 fn reference_meaning(operator: u8) -> Meaning
     ensures { λ r. ⌜ r ≡ rowMeaning referenceRow operator ⌝ }
 {

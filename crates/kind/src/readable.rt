@@ -44,6 +44,7 @@ pub fn is_true(value: &[u8]) -> bool
     text::same(value, b"true")
 }
 
+// Whether it is false, case ignored.
 fn is_false(value: &[u8]) -> bool
     ensures { λ r. ⌜ r ≡ isFalse (now (value .entry)) ⌝ }
 {

@@ -16,6 +16,7 @@ ghost use Rattle.kind.specs.Relations.{Kept, stringsRelate, numbersRelat
 ghost use Rattle.number.specs.Reading as numbers;
 ghost use Rattle.period.specs.Texts as periods;
 
+// A card's text and a filter's value, as they are written.
 fn strings_relate(relation: StringRelation, text: &[u8], value: &[u8]) -> bool
     ensures { λ r. ⌜ r ≡ stringsRelate relation (now (text .entry)) (now (value .entry)) ⌝ }
 {
@@ -27,6 +28,7 @@ fn strings_relate(relation: StringRelation, text: &[u8], value: &[u8]) -> bool
     }
 }
 
+// A card's number and a filter's.
 fn numbers_relate(relation: NumberRelation, i: Decimal, f: Decimal) -> bool
     requires { ⌜ Bounded i ⌝ }
     requires { ⌜ Bounded f ⌝ }
@@ -56,6 +58,7 @@ fn number_readings_relate(relation: NumberRelation, text: &[u8], value: NumberRe
     numbers_relate(relation, i, f)
 }
 
+// A card's period, which a date is too, and a filter's date.
 fn dates_relate(relation: DateRelation, i: Period, f: Date) -> bool
     ensures { λ r. ⌜ r ≡ datesRelate relation i f ⌝ }
 {

@@ -21,12 +21,14 @@ ghost use Rattle.base.specs.Lists.{member};
 ghost use Rattle.place.specs.Machine.{beginsOperator, isOperator};
 ghost use Rattle.place.specs.Code.{on, opened, chosen, closedRound, closedSquare, closed, joined, ended, itemStep, notStep, nameEnds, nameStep, memberStart, memberStep, afterName, letter, quoted, valueStep, bareStep, afterSpace, expect, advance, nameFrom};
 
+// Whether a byte is another.
 fn is(b: u8, x: u8) -> bool
     ensures { λ r. ⌜ r ≡ eqb b x ⌝ }
 {
     b == x
 }
 
+// The text may go on in a mode.
 fn live(mode: Mode, brackets: usize, tests: usize) -> Outcome
     ensures { λ r. ⌜ r ≡ on mode brackets tests ⌝ }
 {
@@ -116,6 +118,7 @@ fn ends(b: u8, brackets: usize, tests: usize) -> Outcome
     closes(b, brackets, tests)
 }
 
+// The byte where an item is due.
 fn item_byte(b: u8, at: usize, brackets: usize, tests: usize) -> Outcome
     ensures { λ r. ⌜ r ≡ itemStep b at brackets tests ⌝ }
 {
@@ -208,6 +211,7 @@ fn member_byte(s: &[u8], from: usize, at: usize, brackets: usize, tests: usize) 
     Outcome::Wrong
 }
 
+// Whether a letter begins one of eq, ne, co, sw, ew, gt, ge, sa, eb, ss, sb, ni.
 fn is_first(b: u8) -> bool
     ensures { λ r. ⌜ r ≡ member b (ascii "cegns") ⌝ }
 {
@@ -217,6 +221,7 @@ fn is_first(b: u8) -> bool
     }
 }
 
+// Whether it begins one of lt, le, ap, pr, po, in, re.
 fn is_other(b: u8) -> bool
     ensures { λ r. ⌜ r ≡ member b (ascii "ailpr") ⌝ }
 {
@@ -236,6 +241,7 @@ fn begins_operator(b: u8) -> bool
     is_other(b)
 }
 
+// Whether two letters are an operator.
 fn is_operator(first: u8, second: u8) -> bool
     ensures { λ r. ⌜ r ≡ isOperator (first ∷ second ∷ []) ⌝ }
 {
@@ -245,6 +251,7 @@ fn is_operator(first: u8, second: u8) -> bool
     }
 }
 
+// The byte after a test's name and a space.
 fn after_name_byte(b: u8, brackets: usize, tests: usize) -> Outcome
     ensures { λ r. ⌜ r ≡ afterName b brackets tests ⌝ }
 {
@@ -257,6 +264,7 @@ fn after_name_byte(b: u8, brackets: usize, tests: usize) -> Outcome
     Outcome::Wrong
 }
 
+// The byte after an operator's first letter.
 fn letter_byte(first: u8, b: u8, brackets: usize, tests: usize) -> Outcome
     ensures { λ r. ⌜ r ≡ letter first b brackets tests ⌝ }
 {
@@ -266,6 +274,7 @@ fn letter_byte(first: u8, b: u8, brackets: usize, tests: usize) -> Outcome
     Outcome::Wrong
 }
 
+// The byte where a value is due.
 fn value_byte(b: u8, brackets: usize, tests: usize) -> Outcome
     ensures { λ r. ⌜ r ≡ valueStep b brackets tests ⌝ }
 {
@@ -281,6 +290,7 @@ fn value_byte(b: u8, brackets: usize, tests: usize) -> Outcome
     Outcome::Wrong
 }
 
+// The byte in or after a bare word.
 fn bare_byte(b: u8, brackets: usize, tests: usize) -> Outcome
     ensures { λ r. ⌜ r ≡ bareStep b brackets tests ⌝ }
 {
@@ -290,6 +300,7 @@ fn bare_byte(b: u8, brackets: usize, tests: usize) -> Outcome
     ends(b, brackets, tests)
 }
 
+// The byte in a string, after a backslash or not.
 fn quoted_byte(pending: bool, b: u8, brackets: usize, tests: usize) -> Outcome
     ensures { λ r. ⌜ r ≡ quoted pending b brackets tests ⌝ }
 {
@@ -300,6 +311,7 @@ fn quoted_byte(pending: bool, b: u8, brackets: usize, tests: usize) -> Outcome
     }
 }
 
+// The byte after an item and a space.
 fn after_space_byte(b: u8, brackets: usize, tests: usize) -> Outcome
     ensures { λ r. ⌜ r ≡ afterSpace b brackets tests ⌝ }
 {

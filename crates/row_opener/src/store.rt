@@ -107,6 +107,7 @@ fn opened_row(kinds: &[u8], filter: &[u8], cell: u32) -> Opened
 
 // ---- its cells
 
+// The mark of a value that is no number: 10 for a date, and else 11.
 fn date_mark(date: DateReading) -> u32
     ensures { λ r. ⌜ (r ≡ dateMark date) × (r ≤ 11) ⌝ }
 {
@@ -116,6 +117,7 @@ fn date_mark(date: DateReading) -> u32
     }
 }
 
+// The mark of a number: its decimals.
 fn decimal_mark(decimals: usize) -> u32
     requires { ⌜ decimals ≤ 9 ⌝ }
     ensures { λ r. ⌜ (r ≡ decimals) × (r ≤ 11) ⌝ }
@@ -123,6 +125,7 @@ fn decimal_mark(decimals: usize) -> u32
     decimals as u32
 }
 
+// What a value reads to, as a mark from 0 to 11.
 fn mark_of(number: NumberReading, date: DateReading) -> u32
     requires { ⌜ Sane number date ⌝ }
     ensures { λ r. ⌜ (r ≡ markOf number date) × (r ≤ 11) ⌝ }
@@ -133,6 +136,7 @@ fn mark_of(number: NumberReading, date: DateReading) -> u32
     }
 }
 
+// A number's digits, and 0 where there is none.
 fn digits_of(number: NumberReading) -> u64
     ensures { λ r. ⌜ r ≡ digitsOf number ⌝ }
 {
@@ -142,6 +146,7 @@ fn digits_of(number: NumberReading) -> u64
     }
 }
 
+// A date's start, and 0 where there is none.
 fn start_of(date: DateReading) -> i64
     ensures { λ r. ⌜ r ≡ startOf date ⌝ }
 {
@@ -151,6 +156,7 @@ fn start_of(date: DateReading) -> i64
     }
 }
 
+// A date's end, and 0 where there is none.
 fn end_of(date: DateReading) -> i64
     ensures { λ r. ⌜ r ≡ endOf date ⌝ }
 {
@@ -177,6 +183,7 @@ fn span_of(opened: Opened) -> u32
     found + 2 * (escaped + 2 * (bit(opened.truth) + 2 * place))
 }
 
+// The number that a mark and digits stand for.
 fn number_from(mark: u32, digits: u64) -> NumberReading
     ensures { λ r. ⌜ r ≡ numberFrom mark digits ⌝ }
 {
@@ -189,6 +196,7 @@ fn number_from(mark: u32, digits: u64) -> NumberReading
     NumberReading::Unreadable
 }
 
+// The date that a mark and two ends stand for.
 fn date_from(mark: u32, start: i64, end: i64) -> DateReading
     ensures { λ r. ⌜ r ≡ dateFrom mark start end ⌝ }
 {

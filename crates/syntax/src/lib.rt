@@ -51,6 +51,7 @@ pub enum Piece {
     Backslash,
 }
 
+// The value at a position, if there is one.
 pub enum FoundValue {
     Value(RawValue),
     Nothing,
@@ -62,6 +63,7 @@ pub enum FoundOperator {
     Nothing,
 }
 
+// The test at a position, if there is one.
 pub enum FoundTest {
     Test(RawTest),
     Nothing,
