@@ -43,6 +43,7 @@ numberOf Reason.BadRows = 40
 numberOf Reason.NoPair = 50
 numberOf Reason.ManyAlternatives = 51
 
+-- what is answered for a refusal: its number and its place
 unfoldable pub refusalAnswer : Refusal → Answer
 refusalAnswer r = refused (numberOf (r .reason)) (r .place)
 
