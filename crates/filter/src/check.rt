@@ -168,17 +168,7 @@ pub fn check_filter(sheet: &[u8], filter: &[u8], spot: Spot) -> Walked
     requires { ⌜ spot .at ≤ length (now filter) ⌝ }
     ensures { λ r. ⌜ r ≡ answerOf Walked.Done Walked.Nothing (reading (parametersOf (now (sheet .entry))) (spot .bundle)) (filterAt (spot .levels) (now (filter .entry)) (spot .close) (spot .at)) ⌝ }
 {
-    let at = spot.at;
-    let levels = spot.levels;
-    let close = spot.close;
-    let bundle = spot.bundle;
-    let start = Spot {
-        at,
-        levels,
-        close,
-        bundle,
-    };
-    let first = check_item(sheet, filter, start);
+    let first = check_item(sheet, filter, spot);
     let Walked::Done(first_end, first_summary) = first else {
         return Walked::Nothing;
     };
@@ -190,9 +180,9 @@ pub fn check_filter(sheet: &[u8], filter: &[u8], spot: Spot) -> Walked
             FoundConnective::Next(next, _) => {
                 let next_spot = Spot {
                     at: next,
-                    levels,
-                    close,
-                    bundle,
+                    levels: spot.levels,
+                    close: spot.close,
+                    bundle: spot.bundle,
                 };
                 let item = check_item(sheet, filter, next_spot);
                 match item {

@@ -235,17 +235,7 @@ pub fn write_filter(
     requires { ⌜ row ≤ spot .at ⌝ }
     ensures { λ r. ⌜ Wrote (parametersOf (now (sheet .entry))) (spot .bundle) (now (filter .entry)) row (filterAt (spot .levels) (now (filter .entry)) (spot .close) (spot .at)) r (now (rows .entry)) (now (rows .exit)) ⌝ }
 {
-    let at = spot.at;
-    let levels = spot.levels;
-    let close = spot.close;
-    let bundle = spot.bundle;
-    let start = Spot {
-        at,
-        levels,
-        close,
-        bundle,
-    };
-    let first = write_item(sheet, filter, start, rows, row);
+    let first = write_item(sheet, filter, spot, rows, row);
     let Written::Done(first_end, first_outcome) = first else {
         return Written::Nothing;
     };
@@ -258,9 +248,9 @@ pub fn write_filter(
             FoundConnective::Next(next, connective) => {
                 let next_spot = Spot {
                     at: next,
-                    levels,
-                    close,
-                    bundle,
+                    levels: spot.levels,
+                    close: spot.close,
+                    bundle: spot.bundle,
                 };
                 let item = write_item(sheet, filter, next_spot, rows, row + cells);
                 match item {

@@ -346,17 +346,7 @@ pub fn judge_filter(
     requires { ⌜ spot .at ≤ length (now filter) ⌝ }
     ensures { λ r. ⌜ r ≡ answerOf Judged.Done Judged.Nothing (judging needed (parametersOf (now (sheet .entry))) (spot .bundle) (chosenOf chosen (entriesOf (now (card .entry))))) (filterAt (spot .levels) (now (filter .entry)) (spot .close) (spot .at)) ⌝ }
 {
-    let at = spot.at;
-    let levels = spot.levels;
-    let close = spot.close;
-    let bundle = spot.bundle;
-    let start = Spot {
-        at,
-        levels,
-        close,
-        bundle,
-    };
-    let first = judge_item(needed, sheet, card, chosen, filter, start);
+    let first = judge_item(needed, sheet, card, chosen, filter, spot);
     let Judged::Done(first_end, first_says) = first else {
         return Judged::Nothing;
     };
@@ -369,9 +359,9 @@ pub fn judge_filter(
                 let asked = item_needed(needed, connective, says);
                 let next_spot = Spot {
                     at: next,
-                    levels,
-                    close,
-                    bundle,
+                    levels: spot.levels,
+                    close: spot.close,
+                    bundle: spot.bundle,
                 };
                 let item = judge_item(asked, sheet, card, chosen, filter, next_spot);
                 match item {

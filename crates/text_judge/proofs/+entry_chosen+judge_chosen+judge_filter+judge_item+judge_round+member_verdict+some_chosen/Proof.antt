@@ -167,10 +167,10 @@ some-chosen-below t =
     and 3 some-chosen-kinds.ps (falls 3 some-chosen-kinds.ps _<_ μ-some-chosen t) some-chosen.Pre
 
 abbrev judge-filter-Inv-loop : judge-filter-lts.InvT-loop
-judge-filter-Inv-loop needed sheet card chosen filter at levels close bundle first-end first-says end₀ says₀ end says = Chain Judged.Done Judged.Nothing judged-cases (judging needed (parametersOf sheet) bundle (chosenOf chosen (entriesOf card))) filter close levels at end says
+judge-filter-Inv-loop needed sheet card chosen filter spot first-end first-says end₀ says₀ end says = Chain Judged.Done Judged.Nothing judged-cases (judging needed (parametersOf sheet) (spot .bundle) (chosenOf chosen (entriesOf card))) filter (spot .close) (spot .levels) (spot .at) end says
 
 abbrev judge-filter-μ-loop : judge-filter-lts.MeasureT-loop
-judge-filter-μ-loop needed sheet card chosen filter at levels close bundle first-end first-says end₀ says₀ end says = length filter - end
+judge-filter-μ-loop needed sheet card chosen filter spot first-end first-says end₀ says₀ end says = length filter - end
 
 abbrev some-chosen-Inv-loop : some-chosen-lts.InvT-loop
 some-chosen-Inv-loop sheet card chosen filter spot index meaning test at₀ left₀ at left = Visited entry (someChosen (parametersOf sheet) (spot .bundle) (entriesOf card) chosen (filterAt (spot .levels) filter (spot .close) (spot .at)) index meaning (testOf filter test .value)) (someChosen (parametersOf sheet) (spot .bundle) (entriesOf card) chosen (filterAt (spot .levels) filter (spot .close) (spot .at)) index meaning (testOf filter test .value) (entriesOf card)) card at left

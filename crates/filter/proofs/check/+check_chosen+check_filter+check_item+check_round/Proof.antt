@@ -93,10 +93,10 @@ check-round-below t =
     and 2 check-round-kinds.ps (falls 2 check-round-kinds.ps _<_ μ-check-round t) check-round.Pre
 
 abbrev check-filter-Inv-loop : check-filter-lts.InvT-loop
-check-filter-Inv-loop sheet filter at levels close bundle first-end end₀ summary₀ end summary = Chain Walked.Done Walked.Nothing walked-cases (reading (parametersOf sheet) bundle) filter close levels at end summary
+check-filter-Inv-loop sheet filter spot first-end end₀ summary₀ end summary = Chain Walked.Done Walked.Nothing walked-cases (reading (parametersOf sheet) (spot .bundle)) filter (spot .close) (spot .levels) (spot .at) end summary
 
 abbrev check-filter-μ-loop : check-filter-lts.MeasureT-loop
-check-filter-μ-loop sheet filter at levels close bundle first-end end₀ summary₀ end summary = length filter - end
+check-filter-μ-loop sheet filter spot first-end end₀ summary₀ end summary = length filter - end
 
 pub +check-chosen+check-filter+check-item+check-round-spec : {M : Type 1} → statement M
 +check-chosen+check-filter+check-item+check-round-spec =

@@ -97,10 +97,10 @@ write-round-below t =
     and 3 write-round-kinds.ps (falls 3 write-round-kinds.ps _<_ μ-write-round t) write-round.Pre
 
 abbrev write-filter-Inv-loop : write-filter-lts.InvT-loop
-write-filter-Inv-loop sheet filter rows₀ row at levels close bundle first-end end₀ summary₀ cells₀ rows end summary cells = Chained (parametersOf sheet) bundle filter row close levels at rows₀ end summary cells rows
+write-filter-Inv-loop sheet filter spot rows₀ row first-end end₀ summary₀ cells₀ rows end summary cells = Chained (parametersOf sheet) (spot .bundle) filter row (spot .close) (spot .levels) (spot .at) rows₀ end summary cells rows
 
 abbrev write-filter-μ-loop : write-filter-lts.MeasureT-loop
-write-filter-μ-loop sheet filter rows₀ row at levels close bundle first-end end₀ summary₀ cells₀ rows end summary cells = length filter - end
+write-filter-μ-loop sheet filter spot rows₀ row first-end end₀ summary₀ cells₀ rows end summary cells = length filter - end
 
 pub +write-chosen+write-filter+write-item+write-round-spec : {M : Type 1} → statement M
 +write-chosen+write-filter+write-item+write-round-spec =
