@@ -204,23 +204,9 @@ close-within xs close p q f e h = close-ahead xs close p q f e h .1
 pub member-in-place : (xs : List ℕ) (close p : ℕ) (f : FoundTest) → f ≡ memberAfter xs close p → (r : RawTest) → f ≡ FoundTest.Test r → Placed xs r
 member-in-place xs close p f e r h = member-ahead xs close p f e r h .0
 
-module _ (xs : List ℕ) (p q : ℕ) (c : Connective) (f : FoundConnective) (e : f ≡ connectiveAt xs p) (h : f ≡ FoundConnective.Next q c) where
-  pub connective-rises : p + 1 ≤ q
-  connective-rises = connective-ahead xs p q c f e h .0
-
-  pub connective-within : q ≤ length xs
-  connective-within = connective-ahead xs p q c f e h .1
-
 module _ (xs : List ℕ) (close p : ℕ) (h : Head) (e : h ≡ headAt xs close p) (i : p ≤ length xs) where
   pub test-in-place : (r : RawTest) → h ≡ Head.Test r → Placed xs r
   test-in-place r f = head-test-placed xs close p h e i r f .0
-
-  module _ (q : ℕ) (b : Bool) (f : h ≡ Head.Open q b) where
-    pub head-open-rises : p + 1 ≤ q
-    head-open-rises = head-open-ahead xs close p h e i q b f .0
-
-    pub head-open-within : q ≤ length xs
-    head-open-within = head-open-ahead xs close p h e i q b f .1
 
   module _ (q : ℕ) (f : h ≡ Head.Choice q) where
     pub head-choice-order : p ≤ q
