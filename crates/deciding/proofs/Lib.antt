@@ -3,7 +3,8 @@ pub mod Exact
 pub mod Numbered
 pub mod Deciding
 mod Leaves
-pub mod Stack
+pub mod Outer
+mod Parting
 mod Marking
 mod Spared
 mod Telling

@@ -1,50 +1,35 @@
--- The verdicts of the tests that rows state: the stack has where the rows and the tests of each expression begin, and the list has the marks
--- of what the tests so far say.
--- The invariant `Telling` is file Stack's `Walk` with where each expression begins (`Begun`), and with the marks so far (`Told`). A test is
--- judged at its row, and its mark comes last (`told-more`). At a row of brackets the rows from the start of the expression on top are those
--- of the member's test with its brackets (`top-rows`), so judging these gives its verdict. It takes the place of the first test inside, and
--- the marks behind that are given up (`told-fewer`). Connectives and `not` change no mark.
+-- What the tests that rows state say, from left to right.
 -- Assumes nothing.
-use Prim.Native.Nat.{ℕ, _+_, _-_, _*_, _^_, _≤_, _<_}
+use Prim.Native.Nat.{ℕ, zero, suc, _+_, _-_, _≤_, _<_}
 use native.Mathlib.Omega.{arith}
-use mathlib.Core.Path.{_≡_, refl, sym, ap, ap₂, subst, _∙_}
+use mathlib.Core.Path.{_≡_, refl, sym, ap, subst, _∙_}
 use mathlib.Core.Bool.{Bool, true, false}
 use mathlib.Core.Logic.{⊎-elim}
-use mathlib.Core.Option.{none, some}
-use mathlib.Core.List.{List, [], _∷_, _++_, append-assoc}
-use lib.Dec.{eqb}
-use lib.ListN.{length, getD, take, drop, set, replicate, length-append, length-set, take-append-drop, List·getD-append}
-use lib.Seq.{drop-at, take-at, length-take-le, getD-set-same, getD-set-other}
-use borrow.Author.Tests.{eqb-true, eqb-false}
-use borrow.Author.Needs.{scaled-fits}
-use mir.Val.{Fits}
-use mir.Syntax.{w64}
-use Rattle.base.specs.Parts.{part}
-use Rattle.base.proofs.Parts.{part-length}
-use Rattle.base.proofs.All.{all-head}
+use mathlib.Core.Option.{Option, some, Option·none-ne-some, Option·some-injective}
+use mathlib.Core.List.{List, [], _∷_, _++_}
+use lib.Dec.{ltb}
+use lib.ListN.{length, getD, set, take, drop, length-set, List·getD-append}
+use lib.Seq.{getD-set-same, getD-set-other}
+use borrow.Author.Tests.{ltb-true, ltb-false}
 use Rattle.base.proofs.Tests.{decided}
 use Rattle.card.specs.Card.{Entry}
 use Rattle.syntax.specs.declared.Connective.{Connective}
 use Rattle.judge.specs.Sets.{chosenOf}
 use Rattle.judge.proofs.Entries.{every, chosen-every}
-use Rattle.rows.specs.Expression.{Expression, probing, choosing, joining, negating}
-use Rattle.rows.specs.Cells.{rowOf, encode, Writable, stated}
-use Rattle.row_judge.specs.Saying.{expressionSays, statedSays, rowsSay, Whole}
+use Rattle.rows.specs.Expression.{Expression, joining, negating}
+use Rattle.rows.specs.Cells.{rowOf, nextRow, onFrom, stated}
 use Rattle.rows.specs.Stated.{treeOf}
-use Rattle.rows.specs.declared.Probe.{Probe}
 use Rattle.rows.specs.declared.Row.{Row}
-use Rattle.rows.proofs.Stating.{stated-encode, flat, total}
-use Rattle.rows.proofs.Machine.{Stacked, stacked-total}
+use Rattle.rows.proofs.Stating.{then-some}
+use Rattle.row_judge.specs.Saying.{expressionSays, statedSays, rowsSay, Whole}
 use Rattle.deciding.specs.Deciding.{outerCount, cell}
-use Rattle.deciding.specs.Rows.{outline, outerVerdicts, Tells}
+use Rattle.deciding.specs.Rows.{outline, outerVerdicts, Single, single-test, single-bracket, Reading, Starts, Room, Gathers, Tells}
 use Rattle.deciding.proofs.Numbered.{getD-after}
-use Rattle.deciding.proofs.Stack.{outers, Walk, walk-start, walk-unknown, walk-bare-bracket, walk-bare-not, walk-short, test-next, walk-full, walk-test, on-top, first-low, bracket-next, walk-bracket, walk-not, second-on, first-on, walk-connect, walk-whole, not-stated}
+use Rattle.deciding.proofs.Outer.{outer-tests, verdicts-size}
+use Rattle.deciding.proofs.Marking.{single-count}
+use Rattle.deciding.proofs.Parting.{part-states, all-states, reading-not, second-rows, second-whole, reading-join}
 
 -- ---- what rows say
-
--- a part of rows that are few is few
-pub part-few : (rows : List ℕ) (a e : ℕ) → e ≤ length rows → length rows ≤ 320 → length (part rows a e) ≤ 320
-part-few rows a e h k = omega (arith, part-length rows a e h)
 
 module _ (kinds xs : List ℕ) (es : List Entry) (rows : List ℕ) (says : Bool) (h : says ≡ rowsSay kinds xs (chosenOf every es) rows) where
   said : says ≡ rowsSay kinds xs es rows
@@ -56,278 +41,147 @@ module _ (kinds xs : List ℕ) (es : List Entry) (rows : List ℕ) (says : Bool)
   pub verdict-no : says ≡ false → 2 ≡ cell true (rowsSay kinds xs es rows)
   verdict-no e = ap (cell true) (sym e ∙ said)
 
--- ---- the rows of the expression on top
+-- ---- from left to right
 
--- what a list ends with before n
-part-last : (rows a b : List ℕ) (start n : ℕ) → a ++ b ≡ take n rows → n ≤ length rows → start ≡ length a → part rows start n ≡ b
-part-last rows a b start n e l s =
-    let size : length a + length b ≡ n = sym (length-append a b) ∙ ap length e ∙ length-take-le n rows l in
-    let rest : n - start ≡ length b = omega (arith, size, s) in
-    let whole : rows ≡ a ++ (b ++ drop n rows) = sym (take-append-drop n rows) ∙ ap (λ (x : List ℕ). x ++ drop n rows) (sym e) ∙ append-assoc a b (drop n rows) in
-    ap₂ (λ (j : ℕ) (q : List ℕ). take j (drop start q)) rest whole ∙ ap (take (length b)) (drop-at a (b ++ drop n rows) start (sym s)) ∙ take-at b (drop n rows) (length b) refl
+-- what is in hand is part of what is stated, so that it has no more tests
+on-grows : (inner : List ℕ → Option Expression) (n : ℕ) (e : Expression) (cs : List ℕ) (g : Expression) → onFrom inner n e cs ≡ some g → outerCount (outline e) ≤ outerCount (outline g)
+unfolding onFrom treeOf outerCount
+on-grows inner zero e [] g h = let same : e ≡ g = Option·some-injective _ _ h in subst (λ (x : Expression). outerCount (outline e) ≤ outerCount (outline x)) same (omega arith)
+on-grows inner (suc n) e [] g h = absurd (Option·none-ne-some _ h)
+on-grows inner zero e (x ∷ cs) g h = by-row (rowOf x) (λ n f i. on-grows inner n f cs g i) h
+  where
+    by-row : (r : Row) → ((n : ℕ) (f : Expression) → onFrom inner n f cs ≡ some g → outerCount (outline f) ≤ outerCount (outline g)) → nextRow (λ n f. onFrom inner n f cs) inner e cs r ≡ some g → outerCount (outline e) ≤ outerCount (outline g)
+    by-row (Row.Test p) s i = absurd (Option·none-ne-some _ i)
+    by-row (Row.Bracket n) s i = absurd (Option·none-ne-some _ i)
+    by-row Row.Not s i = s 0 (negating e) i
+    by-row (Row.Connect k n) s i = let t = then-some (inner (take n cs)) (λ f. onFrom inner n (joining k e f) cs) g i in omega (arith, s n (joining k e (t .expression)) (t .then-is))
+    by-row Row.Unknown s i = absurd (Option·none-ne-some _ i)
+on-grows inner (suc n) e (x ∷ cs) g h = on-grows inner n e cs g h
 
-module _ (rows : List ℕ) (n : ℕ) (f : Expression) (below : List Expression) (s : Stacked rows n (f ∷ below)) (l : n ≤ length rows) (start : ℕ) (h : start ≡ length (flat below)) where
-  top-rows : part rows start n ≡ encode f
-  unfolding flat
-  top-rows = part-last rows (flat below) (encode f) start n (s .before) l h
+-- the loop: the tests of the expression in hand are marked
+pub record Gathering (kinds xs : List ℕ) (es : List Entry) (rows : List ℕ) (first at next : ℕ) (before after : List ℕ) : Type 0 where
+  pub expression : Expression
+  pub reading : Reading rows at expression
+  pub count : next ≡ first + outerCount (outline expression)
+  pub verdicts : (j : ℕ) → j < outerCount (outline expression) → getD after (first + j) 0 ≡ cell true (getD (outerVerdicts kinds xs es expression) j false)
+  pub below : (j : ℕ) → j < first → getD after j 0 ≡ getD before j 0
+  pub size : length after ≡ length before
+  pub long : length after ≡ 32
 
-  top-states : stated (part rows start n) ≡ some f
-  top-states = ap stated top-rows ∙ stated-encode f (all-head Writable (s .writable))
+-- the marks before the first are as they were
+pub record Kept (first : ℕ) (before after : List ℕ) : Type 0 where
+  pub same : (j : ℕ) → j < first → getD after j 0 ≡ getD before j 0
+  pub size : length after ≡ length before
 
-  top-whole : Whole rows → Whole (part rows start n)
-  unfolding total
-  top-whole w = record { expression = f; states = top-states; few = omega (arith, stacked-total s (w .expression) (w .states), w .few) }
+pub kept-set : (first : ℕ) (marks : List ℕ) (v : ℕ) → Kept first marks (set marks first v)
+kept-set first marks v = record { same = λ j k. getD-set-other marks first j v 0 (λ z. omega (arith, k, z)); size = length-set marks first v }
 
-  top-says : (kinds xs : List ℕ) (es : List Entry) → rowsSay kinds xs es (part rows start n) ≡ expressionSays kinds xs es f
+single-verdicts : (kinds xs : List ℕ) (es : List Entry) {e : Expression} → Single e → outerVerdicts kinds xs es e ≡ expressionSays kinds xs es e ∷ []
+unfolding outerVerdicts
+single-verdicts kinds xs es single-test = refl
+single-verdicts kinds xs es single-bracket = refl
+
+module _ {rows : List ℕ} (w : Whole rows) (first n : ℕ) (m : Room rows first n) where
+  pub room-here : first < n
+  room-here = omega (arith, m .each (w .expression) (w .states), outer-tests (w .expression) .0)
+
+  -- what is in hand has room
+  in-room : (at : ℕ) (e : Expression) → Reading rows at e → first + outerCount (outline e) ≤ n
+  in-room at e s = omega (arith, m .each (w .expression) (w .states), on-grows stated 0 e (drop at rows) (w .expression) (sym (s .rest) ∙ w .states))
+
+module _ (kinds xs : List ℕ) (es : List Entry) {rows : List ℕ} (w : Whole rows) (first : ℕ) where
+  pub gathering-start : (at : ℕ) (s : Starts rows at) (marks : List ℕ) (v : ℕ) → first < length marks → length marks ≡ 32 → v ≡ cell true (rowsSay kinds xs es (take at rows)) → Gathering kinds xs es rows first at (first + 1) (set marks first v) (set marks first v)
   unfolding rowsSay
-  top-says kinds xs es = ap (statedSays kinds xs es) top-states
+  gathering-start at s marks v l long h =
+      let e : Expression = s .expression in
+      let one = single-count (s .single) in
+      let says : rowsSay kinds xs es (take at rows) ≡ expressionSays kinds xs es e = ap (statedSays kinds xs es) (part-states w at e (s .reading)) in
+      record {
+        expression = e;
+        reading = s .reading;
+        count = omega (arith, one);
+        verdicts = λ j k.
+            let z : j ≡ 0 = omega (arith, k, one) in
+            let same : first + j ≡ first = omega (arith, z) in
+            ap (λ (x : ℕ). getD (set marks first v) x 0) same ∙ getD-set-same marks first v 0 l ∙ h ∙ ap (cell true) says
+            ∙ sym (ap (λ (x : ℕ). cell true (getD (outerVerdicts kinds xs es e) x false)) z ∙ ap (λ (bs : List Bool). cell true (getD bs 0 false)) (single-verdicts kinds xs es (s .single)));
+        below = λ j k. refl;
+        size = refl;
+        long = length-set marks first v ∙ long;
+      }
 
--- ---- an expression on the stack
-
-pub record Begun (starts firsts : List ℕ) (k : ℕ) (below : List Expression) (e : Expression) : Type 0 where
-  pub start : getD starts k 0 ≡ length (flat below)
-  pub first : getD firsts k 0 ≡ outers below
-
-begun-under : (starts firsts : List ℕ) (j x y k : ℕ) (below : List Expression) (e : Expression) → k < j → Begun starts firsts k below e → Begun (set starts j x) (set firsts j y) k below e
-begun-under starts firsts j x y k below e l h =
-    record {
-      start = getD-set-other starts j k x 0 (λ z. omega (arith, l, z)) ∙ h .start;
-      first = getD-set-other firsts j k y 0 (λ z. omega (arith, l, z)) ∙ h .first;
-    }
-
--- ---- the verdicts so far
-
-module _ (kinds xs : List ℕ) (es : List Entry) where
-  unfoldable pub verdictsOn : List Expression → List Bool
-  verdictsOn [] = []
-  verdictsOn (e ∷ st) = verdictsOn st ++ outerVerdicts kinds xs es e
-
-  verdicts-size : (e : Expression) → length (outerVerdicts kinds xs es e) ≡ outerCount (outline e)
-  unfolding outerVerdicts outerCount treeOf
-  verdicts-size (probing p) = refl
-  verdicts-size (choosing e p) = refl
-  verdicts-size (joining k e f) = omega (arith, length-append (outerVerdicts kinds xs es e) (outerVerdicts kinds xs es f), verdicts-size e, verdicts-size f)
-  verdicts-size (negating e) = verdicts-size e
-
-  on-size : (st : List Expression) → length (verdictsOn st) ≡ outers st
-  unfolding verdictsOn outers
-  on-size [] = refl
-  on-size (e ∷ st) = omega (arith, length-append (verdictsOn st) (outerVerdicts kinds xs es e), on-size st, verdicts-size e)
-
-  -- the marks below n are those of the verdicts
-  abbrev Told : List ℕ → ℕ → List Bool → Type 0
-  Told marks n vs = (j : ℕ) → j < n → getD marks j 0 ≡ cell true (getD vs j false)
-
-  -- one verdict more
-  told-more : (marks : List ℕ) (n x : ℕ) (vs : List Bool) (v : Bool) → n ≡ length vs → n < length marks → x ≡ cell true v → Told marks n vs → Told (set marks n x) (n + 1) (vs ++ (v ∷ []))
-  told-more marks n x vs v size l e t j b = ⊎-elim (λ q. last (eqb-true j n q)) (λ q. earlier (eqb-false j n q)) (decided (eqb j n))
-    where
-      last : j ≡ n → getD (set marks n x) j 0 ≡ cell true (getD (vs ++ (v ∷ [])) j false)
-      last q =
-          let z : n ≡ n + 0 = omega arith in
-          ap (λ (k : ℕ). getD (set marks n x) k 0) q ∙ getD-set-same marks n x 0 l ∙ e
-          ∙ sym (ap (λ (k : ℕ). cell true (getD (vs ++ (v ∷ [])) k false)) (q ∙ z) ∙ ap (cell true) (getD-after vs (v ∷ []) n 0 size))
-
-      earlier : (j ≡ n → ⊥) → getD (set marks n x) j 0 ≡ cell true (getD (vs ++ (v ∷ [])) j false)
-      earlier q =
-          let low : j < n = omega (arith, b, q) in
-          getD-set-other marks n j x 0 q ∙ t j low ∙ ap (cell true) (sym (List·getD-append vs (v ∷ []) false j (omega (arith, low, size))))
-
-  -- fewer of them
-  told-fewer : (marks : List ℕ) (n m : ℕ) (vs ws : List Bool) → n ≡ length vs → n ≤ m → Told marks m (vs ++ ws) → Told marks n vs
-  told-fewer marks n m vs ws size l t j b = t j (omega (arith, b, l)) ∙ ap (cell true) (List·getD-append vs ws false j (omega (arith, b, size)))
-
-  -- ---- the loop
-
-  pub record Telling (rows marks starts firsts : List ℕ) (top tests i : ℕ) : Type 0 where
-    pub st : List Expression
-    pub walk : Walk (Begun starts firsts) rows top tests i st
-    pub told : Told marks tests (verdictsOn st)
-    pub marks-size : length marks ≡ 32
-    pub starts-size : length starts ≡ 32
-    pub firsts-size : length firsts ≡ 32
-
-  pub telling-start : (rows marks : List ℕ) → length marks ≡ 32 → Telling rows marks (replicate 32 0) (replicate 32 0) 0 0 0
-  telling-start rows marks h =
-      record { st = []; walk = walk-start (Begun (replicate 32 0) (replicate 32 0)) rows; told = λ j b. absurd (omega (arith, b)); marks-size = h; starts-size = refl; firsts-size = refl }
-
-  module _ (rows marks starts firsts : List ℕ) (top tests i : ℕ) (s : Telling rows marks starts firsts top tests i) where
-    pub telling-tests : tests ≤ 32
-    telling-tests = s .walk .few
-
-    pub telling-top : top ≤ tests
-    telling-top = s .walk .high
-
-    nothing-told : stated rows ≡ none → Tells kinds xs es rows 0 marks
-    nothing-told n = record { count = λ e h. not-stated rows e n h; verdicts = λ e h. not-stated rows e n h; size = s .marks-size }
-
-    abbrev P : ℕ → List Expression → Expression → Type 0
-    P = Begun starts firsts
-
-    module _ (l : i < length rows) (r : Row) (e : r ≡ rowOf (getD rows i 0)) where
-      pub telling-unknown : r ≡ Row.Unknown → Tells kinds xs es rows 0 marks
-      telling-unknown u = nothing-told (walk-unknown P rows top tests i (s .st) (s .walk) l r e u)
-
-      -- ---- a test
-
-      pub telling-full : (p : Probe) → r ≡ Row.Test p → tests ≡ 32 → Whole rows → Tells kinds xs es rows 0 marks
-      telling-full p u z w = absurd (walk-full P rows top tests i (s .st) (s .walk) l r e p u z w)
-
-      -- ---- the top of the stack
-
-      module _ (n : top ≡ 0 → ⊥) where
-        abbrev f : Expression
-        f = on-top P rows top tests i (s .st) (s .walk) l r e n .top
-
-        abbrev below : List Expression
-        below = on-top P rows top tests i (s .st) (s .walk) l r e n .rest
-
-        on-it : s .st ≡ f ∷ below
-        on-it = on-top P rows top tests i (s .st) (s .walk) l r e n .is
-
-        known : Begun starts firsts (top - 1) below f
-        known = on-top P rows top tests i (s .st) (s .walk) l r e n .known
-
-        module _ (start : ℕ) (a : start ≡ getD starts (top - 1) 0) where
-          before-it : start + length (encode f) ≡ i
-          unfolding flat
-          before-it =
-              let whole : length (flat below ++ encode f) ≡ i = ap length (sym (ap flat on-it) ∙ s .walk .stacked .before) ∙ length-take-le i rows (s .walk .within) in
-              omega (arith, a, known .start, whole, length-append (flat below) (encode f))
-
-          pub telling-begins : start < length rows
-          telling-begins = omega (arith, before-it, l)
-
-          pub telling-scaled : length rows * 4 < 2 ^ 63 → Fits w64 (start * 4)
-          telling-scaled h = scaled-fits start (length rows) 4 telling-begins h
-
-        module _ (first : ℕ) (b : first ≡ getD firsts (top - 1) 0) where
-          pub telling-first : first < 32
-          telling-first = first-low P rows top tests i (s .st) (s .walk) l r e n first (b ∙ known .first)
-
-          pub telling-marks : first < length marks
-          telling-marks = omega (arith, telling-first, s .marks-size)
-
-          pub telling-counts : Fits w64 (first + 1)
-          telling-counts = record { fits = omega (arith, telling-first) }
-
-      module _ (next : ℕ) (d : next ≡ i + 1) where
-        inside : next ≤ length rows
-        inside = omega (arith, d, l)
-
-        module _ (p : Probe) (u : r ≡ Row.Test p) where
-          pushed : Stacked rows next (probing p ∷ s .st)
-          pushed = subst (λ (k : ℕ). Stacked rows k (probing p ∷ s .st)) (sym d) (test-next P rows top tests i (s .st) (s .walk) l r e p u)
-
-          begins : i ≡ length (flat (s .st))
-          begins = sym (ap length (s .walk .stacked .before) ∙ length-take-le i rows (s .walk .within))
-
-          pub telling-test-whole : Whole rows → Whole (part rows i next)
-          telling-test-whole = top-whole rows next (probing p) (s .st) pushed inside i begins
-
-          pub telling-test : (x : ℕ) → (tests ≡ 32 → ⊥) → x ≡ cell true (rowsSay kinds xs es (part rows i next)) → Telling rows (set marks tests x) (set starts top i) (set firsts top tests) (top + 1) (tests + 1) next
-          unfolding verdictsOn outerVerdicts
-          telling-test x z h =
-              let low : top < 32 = omega (arith, s .walk .few, s .walk .high, z) in
-              rw d
-              (record {
-                st = probing p ∷ s .st;
-                walk = walk-test P rows top tests i (s .st) (s .walk) l r e (Begun (set starts top i) (set firsts top tests)) p u z (begun-under starts firsts top i tests)
-                    (record {
-                      start = getD-set-same starts top i 0 (omega (arith, s .starts-size, low)) ∙ begins;
-                      first = getD-set-same firsts top tests 0 (omega (arith, s .firsts-size, low)) ∙ s .walk .count;
-                    });
-                told = told-more marks tests x (verdictsOn (s .st)) (expressionSays kinds xs es (probing p)) (s .walk .count ∙ sym (on-size (s .st))) (omega (arith, s .marks-size, s .walk .few, z))
-                    (h ∙ ap (cell true) (top-says rows next (probing p) (s .st) pushed inside i begins kinds xs es)) (s .told);
-                marks-size = length-set marks tests x ∙ s .marks-size;
-                starts-size = length-set starts top i ∙ s .starts-size;
-                firsts-size = length-set firsts top tests ∙ s .firsts-size;
-              })
-
-        -- ---- the top of the stack
-
-        module _ (n : top ≡ 0 → ⊥) where
-          module _ (start : ℕ) (a : start ≡ getD starts (top - 1) 0) where
-            pub telling-ordered : start ≤ next
-            telling-ordered = omega (arith, before-it n start a, d)
-
-            module _ (p : Probe) (u : r ≡ Row.Bracket p) where
-              chosen : Stacked rows next (choosing (f n) p ∷ (below n))
-              chosen = subst (λ (k : ℕ). Stacked rows k (choosing (f n) p ∷ (below n))) (sym d) (bracket-next P rows top tests i (s .st) (s .walk) l r e n p u)
-
-              pub telling-bracket-whole : Whole rows → Whole (part rows start next)
-              telling-bracket-whole = top-whole rows next (choosing (f n) p) (below n) chosen inside start (a ∙ known n .start)
-
-          module _ (first : ℕ) (b : first ≡ getD firsts (top - 1) 0) where
-            pub telling-bracket : (start : ℕ) → start ≡ getD starts (top - 1) 0 → (p : Probe) → r ≡ Row.Bracket p → (x : ℕ) → x ≡ cell true (rowsSay kinds xs es (part rows start next))
-                → Telling rows (set marks first x) starts firsts top (first + 1) next
-            unfolding verdictsOn outerVerdicts outers
-            telling-bracket start a p u x h =
-                let size : first ≡ length (verdictsOn (below n)) = b ∙ known n .first ∙ sym (on-size (below n)) in
-                let before : first ≤ tests = omega (arith, b, known n .first, s .walk .count, ap outers (on-it n)) in
-                let told-on : Told marks tests (verdictsOn (below n) ++ outerVerdicts kinds xs es (f n)) = subst (λ (st : List Expression). Told marks tests (verdictsOn st)) (on-it n) (s .told) in
-                rw d
-                (record {
-                  st = choosing (f n) p ∷ below n;
-                  walk = walk-bracket P rows top tests i (s .st) (s .walk) l r e n P p first u (b ∙ known n .first) (λ k q g w h. h) (record { start = known n .start; first = known n .first });
-                  told = told-more marks first x (verdictsOn (below n)) (expressionSays kinds xs es (choosing (f n) p)) size (telling-marks n first b)
-                      (h ∙ ap (cell true) (top-says rows next (choosing (f n) p) (below n) (chosen start a p u) inside start (a ∙ known n .start) kinds xs es))
-                      (told-fewer marks first tests (verdictsOn (below n)) (outerVerdicts kinds xs es (f n)) size before told-on);
-                  marks-size = length-set marks first x ∙ s .marks-size;
-                  starts-size = s .starts-size;
-                  firsts-size = s .firsts-size;
-                })
-
-          pub telling-not : r ≡ Row.Not → Telling rows marks starts firsts top tests next
-          unfolding verdictsOn outerVerdicts
-          telling-not u =
-              rw d
-              (record {
-                st = negating (f n) ∷ below n;
-                walk = walk-not P rows top tests i (s .st) (s .walk) l r e n P u (λ k q g w h. h) (record { start = known n .start; first = known n .first });
-                told = subst (λ (st : List Expression). Told marks tests (verdictsOn st)) (on-it n) (s .told);
-                marks-size = s .marks-size;
-                starts-size = s .starts-size;
-                firsts-size = s .firsts-size;
-              })
-
-        -- ---- the two on top
-
-        pub telling-connect : (c : Connective) → r ≡ Row.Connect c → 2 ≤ top → Telling rows marks starts firsts (top - 1) tests next
-        unfolding verdictsOn outerVerdicts
-        telling-connect c u n =
-            let t2 = second-on P rows top tests i (s .st) (s .walk) l r e n in
-            let t1 = first-on P rows top tests i (s .st) (s .walk) l r e n in
-            let both : s .st ≡ t2 .top ∷ t1 .top ∷ t1 .rest = t2 .is ∙ ap (λ (q : List Expression). t2 .top ∷ q) (t1 .is) in
-            let together : (verdictsOn (t1 .rest) ++ outerVerdicts kinds xs es (t1 .top)) ++ outerVerdicts kinds xs es (t2 .top) ≡ verdictsOn (t1 .rest) ++ (outerVerdicts kinds xs es (t1 .top) ++ outerVerdicts kinds xs es (t2 .top)) = append-assoc (verdictsOn (t1 .rest)) (outerVerdicts kinds xs es (t1 .top)) (outerVerdicts kinds xs es (t2 .top)) in
-            rw d
-            (record {
-              st = joining c (t1 .top) (t2 .top) ∷ t1 .rest;
-              walk = walk-connect P rows top tests i (s .st) (s .walk) l r e n P c u (λ k q g w h. h) (record { start = t1 .known .start; first = t1 .known .first });
-              told = subst (Told marks tests) together (subst (λ (st : List Expression). Told marks tests (verdictsOn st)) both (s .told));
-              marks-size = s .marks-size;
-              starts-size = s .starts-size;
-              firsts-size = s .firsts-size;
-            })
-
-      -- ---- rows that state nothing
-
-      pub telling-bare-bracket : (p : Probe) → r ≡ Row.Bracket p → top ≡ 0 → Tells kinds xs es rows 0 marks
-      telling-bare-bracket p u z = nothing-told (walk-bare-bracket P rows top tests i (s .st) (s .walk) l r e p u z)
-
-      pub telling-bare-not : r ≡ Row.Not → top ≡ 0 → Tells kinds xs es rows 0 marks
-      telling-bare-not u z = nothing-told (walk-bare-not P rows top tests i (s .st) (s .walk) l r e u z)
-
-      pub telling-short : (c : Connective) → r ≡ Row.Connect c → top < 2 → Tells kinds xs es rows 0 marks
-      telling-short c u z = nothing-told (walk-short P rows top tests i (s .st) (s .walk) l r e c u z)
-
-    -- ---- the end
-
-    pub telling-end : length rows ≤ i → Tells kinds xs es rows tests marks
-    unfolding outers verdictsOn
-    telling-end l =
+  module _ (at next : ℕ) (before between : List ℕ) (g : Gathering kinds xs es rows first at next before between) where
+    pub gathering-end : (entry : List ℕ) → Kept first entry before → length rows ≤ at → Gathers kinds xs es rows first next entry between
+    gathering-end entry kept h =
+        let states : stated rows ≡ some (g .expression) = all-states w at (g .expression) (g .reading) h in
         record {
-          count = λ f h. s .walk .count ∙ ap outers (walk-whole P rows top tests i (s .st) (s .walk) l f h) ∙ omega arith;
-          verdicts = λ f h. subst (λ (st : List Expression). Told marks tests (verdictsOn st)) (walk-whole P rows top tests i (s .st) (s .walk) l f h) (s .told);
-          size = s .marks-size;
+          count = λ f i. subst (λ (x : Expression). next ≡ first + outerCount (outline x)) (Option·some-injective _ _ (sym states ∙ i)) (g .count);
+          verdicts = λ f i. subst (λ (x : Expression). (k : ℕ) → k < outerCount (outline x) → getD between (first + k) 0 ≡ cell true (getD (outerVerdicts kinds xs es x) k false)) (Option·some-injective _ _ (sym states ∙ i)) (g .verdicts);
+          below = λ j k. g .below j k ∙ kept .same j k;
+          size = g .size ∙ kept .size;
         }
+
+    module _ (l : at < length rows) (r : Row) (i : r ≡ rowOf (getD rows at 0)) where
+      pub gathering-not : r ≡ Row.Not → Gathering kinds xs es rows first (at + 1) next before between
+      unfolding treeOf outerCount outerVerdicts
+      gathering-not j = record { expression = negating (g .expression); reading = reading-not w at (g .expression) (g .reading) l r i j; count = g .count; verdicts = g .verdicts; below = g .below; size = g .size; long = g .long }
+
+      module _ (c : Connective) (s : ℕ) (j : r ≡ Row.Connect c s) where
+        abbrev second-part : List ℕ
+        second-part = second-rows w at (g .expression) (g .reading) l r i c s j
+
+        pub room-second : (n : ℕ) → Room rows first n → Room second-part next n
+        unfolding treeOf outerCount
+        room-second n m =
+            let f = second-whole w at (g .expression) (g .reading) l r i c s j in
+            record {
+              each = λ h k. subst (λ (x : Expression). next + outerCount (outline x) ≤ n) (Option·some-injective _ _ (sym (f .states) ∙ k)) (omega (arith, g .count, in-room w first n m (at + 1 + s) (joining c (g .expression) (f .expression)) (reading-join w at (g .expression) (g .reading) l r i c s j)));
+            }
+
+        pub gathering-join : (last : ℕ) (after : List ℕ) → Gathers kinds xs es second-part next last between after → Gathering kinds xs es rows first (at + 1 + s) last before after
+        unfolding treeOf outerCount outerVerdicts
+        gathering-join last after h =
+            let f = second-whole w at (g .expression) (g .reading) l r i c s j in
+            record {
+              expression = joining c (g .expression) (f .expression);
+              reading = reading-join w at (g .expression) (g .reading) l r i c s j;
+              count = omega (arith, g .count, h .count (f .expression) (f .states));
+              verdicts = λ k z. at-place (g .expression) (f .expression) (g .count) (g .verdicts) (h .verdicts (f .expression) (f .states)) k z;
+              below = λ k z. h .below k (omega (arith, z, g .count)) ∙ g .below k z;
+              size = h .size ∙ g .size;
+              long = h .size ∙ g .long;
+            }
+          where
+            at-place : (a b : Expression) → next ≡ first + outerCount (outline a) → ((k : ℕ) → k < outerCount (outline a) → getD between (first + k) 0 ≡ cell true (getD (outerVerdicts kinds xs es a) k false))
+                → ((k : ℕ) → k < outerCount (outline b) → getD after (next + k) 0 ≡ cell true (getD (outerVerdicts kinds xs es b) k false)) → (k : ℕ) → k < outerCount (outline a) + outerCount (outline b)
+                → getD after (first + k) 0 ≡ cell true (getD (outerVerdicts kinds xs es a ++ outerVerdicts kinds xs es b) k false)
+            at-place a b n p q k z = ⊎-elim (λ y. earlier (ltb-true k (outerCount (outline a)) y)) (λ y. later (ltb-false k (outerCount (outline a)) y)) (decided (ltb k (outerCount (outline a))))
+              where
+                va : List Bool
+                va = outerVerdicts kinds xs es a
+
+                vb : List Bool
+                vb = outerVerdicts kinds xs es b
+
+                earlier : k < outerCount (outline a) → getD after (first + k) 0 ≡ cell true (getD (va ++ vb) k false)
+                earlier y =
+                    h .below (first + k) (omega (arith, y, n)) ∙ p k y
+                    ∙ ap (cell true) (sym (List·getD-append va vb false k (omega (arith, y, verdicts-size kinds xs es a))))
+
+                later : outerCount (outline a) ≤ k → getD after (first + k) 0 ≡ cell true (getD (va ++ vb) k false)
+                later y =
+                    let d : ℕ = k - outerCount (outline a) in
+                    let place : first + k ≡ next + d = omega (arith, y, n) in
+                    let shift : k ≡ outerCount (outline a) + d = omega (arith, y) in
+                    ap (λ (x : ℕ). getD after x 0) place ∙ q d (omega (arith, y, z))
+                    ∙ sym (ap (λ (x : ℕ). cell true (getD (va ++ vb) x false)) shift ∙ ap (cell true) (getD-after va vb (outerCount (outline a)) d (sym (verdicts-size kinds xs es a))))
+
+pub gathered-all : (kinds xs : List ℕ) (es : List Entry) (rows : List ℕ) (tests : ℕ) (before after : List ℕ) → Gathers kinds xs es rows 0 tests before after → length before ≡ 32 → Tells kinds xs es rows tests after
+gathered-all kinds xs es rows tests before after g h =
+    record {
+      count = λ e i. g .count e i ∙ (omega arith);
+      verdicts = λ e i j l.
+          let same : j ≡ 0 + j = omega arith in
+          ap (λ (k : ℕ). getD after k 0) same ∙ g .verdicts e i j (omega (arith, l, g .count e i));
+      size = g .size ∙ h;
+    }

@@ -1,19 +1,21 @@
 -- What the code does over rows: the verdicts of the tests that they state, the mark of the whole, and the tests that are spared.
 -- Assumes nothing.
-use Prim.Native.Nat.{ℕ, _<_}
+use Prim.Native.Nat.{ℕ, _+_, _≤_, _<_}
 use mathlib.Core.Path.{_≡_}
 use mathlib.Core.Bool.{Bool, true, false}
 use mathlib.Core.Option.{some}
 use mathlib.Core.List.{List, [], _∷_, _++_}
-use lib.ListN.{length, getD, take}
+use lib.ListN.{length, getD, take, drop}
 use Rattle.card.specs.Card.{Entry}
 use Rattle.syntax.specs.Tree.{Tree}
 use Rattle.rows.specs.Expression.{Expression, probing, choosing, joining, negating}
-use Rattle.rows.specs.Cells.{stated}
+use Rattle.rows.specs.Cells.{Writable, onFrom, stated}
+use Rattle.rows.specs.declared.Probe.{Probe}
 use Rattle.row_judge.specs.Saying.{expressionSays}
 use Rattle.rows.specs.Stated.{treeOf}
 use Rattle.deciding.specs.Deciding.{outerCount, cell, cells}
 use Rattle.deciding.specs.Marks.{Mark, markBy, markOf, deciding}
+use Rattle.deciding.specs.declared.Marked.{Marked}
 
 -- the tree that an expression states, with no names: which tests decide goes by joins, negations and brackets alone
 abbrev pub outline : Expression → Tree
@@ -30,9 +32,44 @@ outerVerdicts kinds xs es (negating e) = outerVerdicts kinds xs es e
 abbrev pub marksIn : List ℕ → ℕ → Mark
 marksIn marks j = markOf (getD marks j 0)
 
+-- one test, alone or after brackets
+pub data Single : Expression → Type 0 where
+  single-test : {p : Probe} → Single (probing p)
+  single-bracket : {e : Expression} {p : Probe} → Single (choosing e p)
+
+-- an expression that is in hand before the row at
+pub record Reading (rows : List ℕ) (at : ℕ) (e : Expression) : Type 0 where
+  pub within : at ≤ length rows
+  pub writable : Writable e
+  pub rest : stated rows ≡ onFrom stated 0 e (drop at rows)
+
+-- the first test is read, with its brackets
+pub record Starts (rows : List ℕ) (at : ℕ) : Type 0 where
+  pub expression : Expression
+  pub single : Single expression
+  pub reading : Reading rows at expression
+  pub some-rows : 1 ≤ at
+
+-- the mark of what the rows state, where the first of their tests has the number first, and the number of the test behind them
+pub record MarksFrom (rows marks : List ℕ) (first : ℕ) (r : Marked) : Type 0 where
+  pub whole : (e : Expression) → stated rows ≡ some e → markOf (r .mark) ≡ markBy (marksIn marks) first (outline e)
+  pub next : (e : Expression) → stated rows ≡ some e → r .next ≡ first + outerCount (outline e)
+  pub most : r .next ≤ first + length rows
+
 -- the mark of what the rows state
 pub record MarksWhole (rows marks : List ℕ) (r : ℕ) : Type 0 where
   pub whole : (e : Expression) → stated rows ≡ some e → markOf r ≡ markBy (marksIn marks) 0 (outline e)
+
+-- the rows state few enough tests for a list of n, from the number first on
+pub record Room (rows : List ℕ) (first n : ℕ) : Type 0 where
+  pub each : (e : Expression) → stated rows ≡ some e → first + outerCount (outline e) ≤ n
+
+-- the number of the test behind those that the rows state, and in the list, from the number first on, the mark of what each says
+pub record Gathers (kinds xs : List ℕ) (es : List Entry) (rows : List ℕ) (first next : ℕ) (before after : List ℕ) : Type 0 where
+  pub count : (e : Expression) → stated rows ≡ some e → next ≡ first + outerCount (outline e)
+  pub verdicts : (e : Expression) → stated rows ≡ some e → (j : ℕ) → j < outerCount (outline e) → getD after (first + j) 0 ≡ cell true (getD (outerVerdicts kinds xs es e) j false)
+  pub below : (j : ℕ) → j < first → getD after j 0 ≡ getD before j 0
+  pub size : length after ≡ length before
 
 -- the number of tests that the rows state, and in the list the mark of what each says
 pub record Tells (kinds xs : List ℕ) (es : List Entry) (rows : List ℕ) (tests : ℕ) (marks : List ℕ) : Type 0 where

@@ -5,3 +5,9 @@ mod verdicts;
 
 pub use sparing::spare;
 pub use verdicts::gather_verdicts;
+
+// The mark of a part of the rows, and the number of the test behind it.
+pub struct Marked {
+    pub mark: u8,
+    pub next: usize,
+}

@@ -1,12 +1,14 @@
 // Marks of tests, 0 spared, 1 yes and 2 no, and the mark that rows come to with them.
+use crate::Marked;
 use rows::Row;
 use rows::row_of;
 use syntax::Connective;
 ghost use mathlib.Core.Path.{_≡_};
-ghost use lib.ListN.{length};
+ghost use Prim.Native.Nat.{_+_, _≤_};
+ghost use lib.ListN.{length, getD};
 ghost use Rattle.row_judge.specs.Saying.{Whole};
 ghost use Rattle.deciding.specs.Marks.{both, opposite, joinedMarks, markOf};
-ghost use Rattle.deciding.specs.Rows.{MarksWhole};
+ghost use Rattle.deciding.specs.Rows.{Starts, MarksFrom, MarksWhole};
 
 // The mark of two parts that are to hold both: a no decides, and else what is spared leaves it open.
 fn both(first: u8, second: u8) -> u8
@@ -50,64 +52,75 @@ fn join_marks(connective: Connective, first: u8, second: u8) -> u8
     }
 }
 
-// The mark of what rows state, with these marks of its tests. A test after brackets has one mark with them, that of the first test in
-// them, so that what was marked inside is left behind.
-pub fn mark_of(rows: &[u32], marks: &[u8]) -> u8
-    requires { ⌜ Whole (now rows) ⌝ }
-    requires { ⌜ length (now marks) ≡ 32 ⌝ }
-    ensures { λ r. ⌜ MarksWhole (now (rows .entry)) (now (marks .entry)) r ⌝ }
+// The mark of a test by its number; where there is none it is spared.
+fn mark_at(marks: &[u8], i: usize) -> u8
+    ensures { λ r. ⌜ r ≡ getD (now (marks .entry)) i 0 ⌝ }
 {
-    let mut stack = [0u8; 32];
-    let mut firsts = [0usize; 32];
-    let mut top: usize = 0;
-    let mut tests: usize = 0;
-    let mut i = 0;
-    while i < rows.len() {
-        match row_of(rows[i]) {
+    if i < marks.len() {
+        return marks[i];
+    }
+    0
+}
+
+// The row behind the first test of rows, or behind its brackets.
+pub fn after_first(rows: &[u32]) -> usize
+    requires { ⌜ Whole (now rows) ⌝ }
+    requires { ⌜ length (now rows) ≤ 320 ⌝ }
+    ensures { λ r. ⌜ Starts (now (rows .entry)) r ⌝ }
+{
+    match row_of(rows[0]) {
+        Row::Test(_) => 1,
+        Row::Bracket(size) => size + 2,
+        Row::Not => 1,
+        Row::Connect(_, _) => 1,
+        Row::Unknown => 1,
+    }
+}
+
+// The mark of what rows state, with these marks of its tests, of which the first has the number `first`. A test after brackets has one mark
+// with them.
+fn mark_from(rows: &[u32], marks: &[u8], first: usize) -> Marked
+    requires { ⌜ Whole (now rows) ⌝ }
+    requires { ⌜ first + length (now rows) ≤ 320 ⌝ }
+    ensures { λ r. ⌜ MarksFrom (now (rows .entry)) (now (marks .entry)) first r ⌝ }
+{
+    let mut at = after_first(rows);
+    let mut mark = mark_at(marks, first);
+    let mut next = first + 1;
+    while at < rows.len() {
+        match row_of(rows[at]) {
+            Row::Not => {
+                mark = opposite(mark);
+                at += 1;
+            }
+            Row::Connect(connective, size) => {
+                let start = at + 1;
+                let end = start + size;
+                let second = mark_from(&rows[start..end], marks, next);
+                mark = join_marks(connective, mark, second.mark);
+                next = second.next;
+                at = end;
+            }
             Row::Test(_) => {
-                if tests == 32 {
-                    return 0;
-                }
-                stack[top] = marks[tests];
-                firsts[top] = tests;
-                top += 1;
-                tests += 1;
-                i += 1;
+                return Marked { mark, next };
             }
             Row::Bracket(_) => {
-                if top == 0 {
-                    return 0;
-                }
-                let first = firsts[top - 1];
-                stack[top - 1] = marks[first];
-                tests = first + 1;
-                i += 1;
-            }
-            Row::Not => {
-                if top == 0 {
-                    return 0;
-                }
-                let inner = stack[top - 1];
-                stack[top - 1] = opposite(inner);
-                i += 1;
-            }
-            Row::Connect(connective) => {
-                if top < 2 {
-                    return 0;
-                }
-                let second = stack[top - 1];
-                let first = stack[top - 2];
-                stack[top - 2] = join_marks(connective, first, second);
-                top -= 1;
-                i += 1;
+                return Marked { mark, next };
             }
             Row::Unknown => {
-                return 0;
+                return Marked { mark, next };
             }
         }
     }
-    if top == 1 {
-        return stack[0];
-    }
-    0
+    Marked { mark, next }
+}
+
+// The mark of what rows state, with these marks of its tests.
+pub fn mark_of(rows: &[u32], marks: &[u8]) -> u8
+    requires { ⌜ Whole (now rows) ⌝ }
+    requires { ⌜ length (now rows) ≤ 320 ⌝ }
+    ensures { λ r. ⌜ MarksWhole (now (rows .entry)) (now (marks .entry)) r ⌝ }
+{
+    let whole = mark_from(rows, marks, 0);
+    whole.mark
 }

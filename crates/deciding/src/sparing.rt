@@ -24,6 +24,7 @@ fn remains(whole: u8, mark: u8) -> u8
 // Spares what can be spared of the marks of the tests that rows state.
 pub fn spare(rows: &[u32], tests: usize, marks: &mut [u8])
     requires { ⌜ Whole (now rows) ⌝ }
+    requires { ⌜ length (now rows) ≤ 320 ⌝ }
     requires { ⌜ tests ≤ 32 ⌝ }
     requires { ⌜ length (now marks) ≡ 32 ⌝ }
     ensures { λ _. ⌜ Spares (now (rows .entry)) tests (now (marks .entry)) (now (marks .exit)) ⌝ }

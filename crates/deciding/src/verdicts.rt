@@ -1,4 +1,5 @@
 // What the tests that rows state say of a card.
+use crate::marks::after_first;
 use block::Validity;
 use judge::Chosen;
 use row_judge::say_once;
@@ -11,7 +12,7 @@ ghost use lib.ListN.{length};
 ghost use Rattle.card.specs.Card.{entriesOf, readCard};
 ghost use Rattle.row_judge.specs.Saying.{rowsSay, Whole};
 ghost use Rattle.deciding.specs.Deciding.{cell};
-ghost use Rattle.deciding.specs.Rows.{Tells};
+ghost use Rattle.deciding.specs.Rows.{Tells, Room, Gathers};
 
 // The mark of what rows say: 1 for yes, 2 for no.
 fn verdict(kinds: &[u8], filter: &[u8], rows: &[u32], card: &[u8]) -> u8
@@ -32,8 +33,54 @@ fn verdict(kinds: &[u8], filter: &[u8], rows: &[u32], card: &[u8]) -> u8
     2
 }
 
-// Marks what each test that the rows state says of a well-formed card, and answers how many tests there are. A test after brackets is
-// judged with the rows in them, and its mark takes the place of theirs.
+// Marks what each test that the rows state says of a well-formed card, from the number `first` on, and answers the number behind them. A test
+// after brackets is judged with the rows in them.
+fn gather_from(
+    kinds: &[u8],
+    filter: &[u8],
+    rows: &[u32],
+    card: &[u8],
+    marks: &mut [u8],
+    first: usize,
+) -> usize
+    requires { ⌜ length (now kinds) ≡ 32 ⌝ }
+    requires { ⌜ length (now filter) ≤ 1024 ⌝ }
+    requires { ⌜ Whole (now rows) ⌝ }
+    requires { ⌜ length (now rows) ≤ 320 ⌝ }
+    requires { ⌜ readCard (now card) ≡ Validity.WellFormed ⌝ }
+    requires { ⌜ length (now marks) ≡ 32 ⌝ }
+    requires { ⌜ Room (now rows) first 32 ⌝ }
+    ensures { λ r. ⌜ Gathers (now (kinds .entry)) (now (filter .entry)) (entriesOf (now (card .entry))) (now (rows .entry)) first r (now (marks .entry)) (now (marks .exit)) ⌝ }
+{
+    let mut at = after_first(rows);
+    marks[first] = verdict(kinds, filter, &rows[..at], card);
+    let mut next = first + 1;
+    while at < rows.len() {
+        match row_of(rows[at]) {
+            Row::Not => {
+                at += 1;
+            }
+            Row::Connect(_, size) => {
+                let start = at + 1;
+                let end = start + size;
+                next = gather_from(kinds, filter, &rows[start..end], card, marks, next);
+                at = end;
+            }
+            Row::Test(_) => {
+                return next;
+            }
+            Row::Bracket(_) => {
+                return next;
+            }
+            Row::Unknown => {
+                return next;
+            }
+        }
+    }
+    next
+}
+
+// Marks what each test that the rows state says of a well-formed card, and answers how many tests there are.
 pub fn gather_verdicts(
     kinds: &[u8],
     filter: &[u8],
@@ -47,54 +94,8 @@ pub fn gather_verdicts(
     requires { ⌜ length (now rows) ≤ 320 ⌝ }
     requires { ⌜ readCard (now card) ≡ Validity.WellFormed ⌝ }
     requires { ⌜ length (now marks) ≡ 32 ⌝ }
+    requires { ⌜ Room (now rows) 0 32 ⌝ }
     ensures { λ r. ⌜ Tells (now (kinds .entry)) (now (filter .entry)) (entriesOf (now (card .entry))) (now (rows .entry)) r (now (marks .exit)) ⌝ }
 {
-    let mut starts = [0usize; 32];
-    let mut firsts = [0usize; 32];
-    let mut top: usize = 0;
-    let mut tests: usize = 0;
-    let mut i = 0;
-    while i < rows.len() {
-        let next = i + 1;
-        match row_of(rows[i]) {
-            Row::Test(_) => {
-                if tests == 32 {
-                    return 0;
-                }
-                marks[tests] = verdict(kinds, filter, &rows[i..next], card);
-                starts[top] = i;
-                firsts[top] = tests;
-                top += 1;
-                tests += 1;
-                i = next;
-            }
-            Row::Bracket(_) => {
-                if top == 0 {
-                    return 0;
-                }
-                let start = starts[top - 1];
-                let first = firsts[top - 1];
-                marks[first] = verdict(kinds, filter, &rows[start..next], card);
-                tests = first + 1;
-                i = next;
-            }
-            Row::Not => {
-                if top == 0 {
-                    return 0;
-                }
-                i = next;
-            }
-            Row::Connect(_) => {
-                if top < 2 {
-                    return 0;
-                }
-                top -= 1;
-                i = next;
-            }
-            Row::Unknown => {
-                return 0;
-            }
-        }
-    }
-    tests
+    gather_from(kinds, filter, rows, card, marks, 0)
 }

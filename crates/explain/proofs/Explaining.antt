@@ -11,7 +11,7 @@ use native.Mathlib.Nat.{le-of-eq}
 use mathlib.Core.Path.{_≡_, refl, sym, ap, ap₂, subst, _∙_}
 use mathlib.Core.Bool.{Bool, true, false}
 use mathlib.Core.Logic.{inl, inr}
-use mathlib.Core.Option.{some}
+use mathlib.Core.Option.{some, Option·some-injective}
 use mathlib.Core.List.{List, _++_}
 use lib.ListN.{length, getD, take, drop, replicate, length-append, length-replicate}
 use lib.Seq.{length-take-le}
@@ -31,6 +31,7 @@ use Rattle.syntax.specs.Tree.{Tree, erase}
 use Rattle.syntax.specs.Grammar.{Spells}
 use Rattle.judge.specs.Sets.{conforms}
 use Rattle.judge.specs.Verdicts.{filterSays}
+use Rattle.rows.specs.Expression.{Expression, testCount}
 use Rattle.rows.specs.Cells.{stated}
 use Rattle.rows.specs.Good.{Fits, Good}
 use Rattle.rows.specs.Shapes.{good}
@@ -58,10 +59,10 @@ use Rattle.answer.proofs.RowsAnswered.{known-of, prepares-good, match-is}
 use Rattle.deciding.specs.Deciding.{outerCount, verdicts, cell, cells}
 use Rattle.deciding.specs.Marks.{explanation}
 use Rattle.explain.specs.Operation.{Explanation, explanationOf, acceptMarks, explaining, explainAnswer, explainCells}
-use Rattle.deciding.specs.Rows.{outline, outerVerdicts, Tells, Spares}
+use Rattle.deciding.specs.Rows.{outline, outerVerdicts, Room as TestRoom, Tells, Spares}
 use Rattle.explain.specs.Contracts.{Marks, Judged}
 use Rattle.deciding.proofs.Alike.{filter-verdicts, filter-alike, deciding-alike}
-use Rattle.deciding.proofs.Stack.{outer-tests}
+use Rattle.deciding.proofs.Outer.{outer-tests}
 
 -- ---- by what was found
 
@@ -128,6 +129,15 @@ module _ (sheet text rows card : List ℕ) (says : Bool) (j : Judged sheet text 
   states-it : stated rows ≡ some (j .good .expression)
   states-it = good-states ps formed text (j .good)
 
+  few-tests : (e : Expression) → stated rows ≡ some e → outerCount (outline e) ≤ 32
+  few-tests e i =
+      let same : j .good .expression ≡ e = Option·some-injective _ _ (sym states-it ∙ i) in
+      omega (arith, outer-tests e .1, ap testCount same, j .good .few)
+
+  -- the tests have room in a list of 32
+  pub mark-tests : TestRoom rows 0 32
+  mark-tests = record { each = λ e i. omega (arith, few-tests e i) }
+
   abbrev f : Tree
   f = j .filter
 
@@ -136,7 +146,7 @@ module _ (sheet text rows card : List ℕ) (says : Bool) (j : Judged sheet text 
 
   module _ (kinds : List ℕ) (k : kinds ≡ kindsOf ps) (tests : ℕ) (marks : List ℕ) (t : Tells kinds text (entriesOf card) rows tests marks) where
     pub mark-few : tests ≤ 32
-    mark-few = omega (arith, t .count (j .whole .expression) (j .whole .states), outer-tests (j .whole .expression) .1, j .whole .few)
+    mark-few = omega (arith, t .count (j .good .expression) states-it, few-tests (j .good .expression) states-it)
 
     outline-count : tests ≡ outerCount (outline (j .good .expression))
     outline-count = t .count (j .good .expression) states-it

@@ -13,7 +13,6 @@ ghost use Rattle.sheet.specs.Sheet.{Parameter};
 ghost use Rattle.sheet.specs.Find.{kindsOf};
 ghost use Rattle.row_judge.specs.Saying.{Whole};
 ghost use Rattle.row_opener.specs.Opening.{Opens};
-ghost use Rattle.row_judge.specs.Jumping.{Jumps};
 ghost use Rattle.answer.specs.Passing.{cardVerdict};
 ghost use Rattle.one_card.specs.OneCard.{verdictStep};
 ghost use Rattle.one_card.specs.OneCard.{cellsQuestion};
@@ -23,18 +22,14 @@ pub fn judge_by_rows(
     kinds: &[u8],
     filter: &[u8],
     rows: &[u32],
-    jumps: &[u32],
-    spans: &[u32],
-    digits: &[u64],
-    starts: &[i64],
+    values: &[u64],
     ends: &[i64],
     card: &[u8],
 ) -> CardVerdict
     requires { ⌜ length (now kinds) ≡ 32 ⌝ }
     requires { ⌜ length (now filter) ≤ 1024 ⌝ }
     requires { ⌜ Whole (now rows) ⌝ }
-    requires { ⌜ Jumps (now rows) (now jumps) ⌝ }
-    requires { ⌜ Opens (now kinds) (now filter) (now rows) (now spans) (now digits) (now starts) (now ends) (length (now rows)) ⌝ }
+    requires { ⌜ Opens (now kinds) (now filter) (now rows) (now values) (now ends) (length (now rows)) ⌝ }
     ensures { λ r. ⌜ ((ps : List Parameter) → now (kinds .entry) ≡ kindsOf ps → (i : ℕ) → verdictStep r i ≡ cardVerdict (cellsQuestion ps (now (filter .entry)) (now (rows .entry))) i (now (card .entry))) ⌝ }
 {
     let accepted = accept_card(kinds, card);
@@ -44,18 +39,7 @@ pub fn judge_by_rows(
                 all: true,
                 occurrence: 0,
             };
-            CardVerdict::Says(rows_say(
-                kinds,
-                filter,
-                rows,
-                jumps,
-                spans,
-                digits,
-                starts,
-                ends,
-                card,
-                every,
-            ))
+            CardVerdict::Says(rows_say(kinds, filter, rows, values, ends, card, every))
         }
         CardAcceptance::Refused(reason) => CardVerdict::Refused(reason),
     }

@@ -1,5 +1,3 @@
 -- The laws that the proofs cite.
 pub mod Saying
 pub mod Meaning
-pub mod Jumping
-pub mod Noting

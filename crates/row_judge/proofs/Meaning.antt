@@ -5,13 +5,11 @@ use mathlib.Core.Path.{_≡_, refl, sym, ap, ap₂, subst, _∙_}
 use mathlib.Core.Bool.{Bool, true, cond, not}
 use mathlib.Core.Option.{Option, none, some, Option·some-injective}
 use mathlib.Core.List.{List, [], _∷_, map}
-use lib.Dec.{leb}
 use lib.ListN.{getD}
-use borrow.Author.Tests.{leb-true}
 use Rattle.base.specs.Lists.{Listed, All, all-empty, all-cons}
 use Rattle.base.specs.Operators.{pr}
 use Rattle.base.specs.Kinds.{bundleKind}
-use Rattle.base.proofs.Tests.{and-left, both-ways}
+use Rattle.base.proofs.Tests.{both-ways}
 use Rattle.base.proofs.All.{all-append}
 use Rattle.sheet.specs.Sheet.{Parameter, parameter}
 use Rattle.sheet.specs.Find.{find, enter, kindsOf, parentsOf}
@@ -26,10 +24,10 @@ use Rattle.judge.specs.Sets.{lookup, ofOccurrence, keep}
 use Rattle.judge.specs.Verdicts.{testSays, joined, filterSays}
 use Rattle.kind.specs.Rules.{TrueOrFalse, ReadableValue, value-of-pr, value-of-kind}
 use Rattle.judge.proofs.Rules.{PrSpelled, enters}
-use Rattle.rows.specs.Expression.{Expression, testCount}
+use Rattle.rows.specs.Expression.{Expression}
 use Rattle.rows.specs.Cells.{stated}
 use Rattle.rows.specs.Good.{FitsTo, Fits, fits-test, fits-bracket, fits-join, fits-not, Good}
-use Rattle.rows.specs.Shapes.{shapeOf, isWithin, goodBy, good}
+use Rattle.rows.specs.Shapes.{goodBy, good}
 use Rattle.row_judge.specs.Saying.{probeSays, expressionSays, statedSays, rowsSay, Whole}
 use Rattle.rows.specs.Stated.{nameAt, valueBy, testFor, bundleFor, treeOf}
 use Rattle.rows.specs.declared.Probe.{Probe}
@@ -78,14 +76,14 @@ erase-says ps c es (negation f) = ap not (erase-says ps c es f)
 
 -- ---- good rows
 
--- they state an expression that a stack of 32 holds
+-- they state an expression
 pub good-whole : (kinds parents xs cs : List ℕ) → good kinds parents xs cs ≡ true → Whole cs
 unfolding good
 good-whole kinds parents xs cs h = by-stated (stated cs) refl h
   where
     by-stated : (o : Option Expression) → stated cs ≡ o → goodBy kinds parents xs o ≡ true → Whole cs
     by-stated none i g = both-ways g refl
-    by-stated (some e) i g = record { expression = e; states = i; few = leb-true (testCount e) 32 (and-left (leb (testCount e) 32) (isWithin (shapeOf kinds parents xs e)) g) }
+    by-stated (some e) i g = record { expression = e; states = i }
 
 -- and say what its tree says
 pub rows-mean : (ps : List Parameter) → WellFormedSheet ps → (xs cs : List ℕ) (e : Expression) → good (kindsOf ps) (parentsOf ps) xs cs ≡ true → stated cs ≡ some e → (es : List Entry)

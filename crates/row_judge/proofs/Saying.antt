@@ -1,27 +1,22 @@
--- Judging rows: the stack has the verdicts and the sizes of the expressions so far, and a test after brackets is judged entry by entry.
--- Two things are shown. Its verdict by the set of the entries that are kept is found from whether there is an entry that counts and of
--- whose occurrence the rows in the brackets say yes (`each-is`, from `entry-is`, by induction on the entries). And the walk over the rows
--- keeps `Judging`: `Stacked` says that the expressions on the stack are those of the rows before i and decide with the rows that are left,
--- and `Holds` that the arrays have their verdicts and lengths. Each kind of row has a law that takes `Judging` from i to i + 1, or says no
--- where the row does not fit; an item that is left out takes it to behind its join, which the verdict on top decides already
--- (`judging-leap`). At the end the one verdict on the stack is what the rows say (`judging-whole`).
+-- Judging rows: from left to right with one verdict in hand, and a test after brackets entry by entry.
+-- What rows say with a verdict in hand is `tell`. The rows of an expression bring its verdict into the hand, whatever was in it before
+-- (`tell-encode`, by induction on the expression); the loop keeps that what is left decides (`Telling`), with a law for each row. The
+-- verdict of a test after brackets, by the set of the entries that are kept, is found from whether there is an entry that counts and of
+-- whose occurrence the rows in the brackets say yes (`each-is`, from `entry-is`, by induction on the entries).
 -- Assumes nothing.
-use Prim.Native.Nat.{ℕ, _+_, _-_, _≤_, _<_}
+use Prim.Native.Nat.{ℕ, zero, suc, _+_, _*_, _-_, _/_, _≤_, _<_}
 use native.Mathlib.Omega.{arith}
-use native.Mathlib.Numerals.{add-one}
 use mathlib.Core.Path.{_≡_, refl, sym, ap, ap₂, subst, _∙_}
-use mathlib.Core.Bool.{Bool, true, false, not, _&&_, _||_}
-use mathlib.Core.Option.{none, some}
-use mathlib.Core.List.{List, [], _∷_, _++_, append-assoc}
+use mathlib.Core.Bool.{Bool, true, false, cond, not, _&&_, _||_}
+use mathlib.Core.Option.{Option, none, some, Option·none-ne-some, Option·some-injective}
+use mathlib.Core.List.{List, [], _∷_, _++_, append-nil, append-assoc}
 use lib.Dec.{eqb}
-use lib.IntN.{ℤ, pos}
-use lib.ListN.{length, getD, take, drop, set, replicate, length-append, length-set, take-append-drop}
-use lib.Seq.{drop-at, take-at, length-take-le}
-use Rattle.base.specs.Lists.{All}
+use lib.IntN.{ℤ}
+use lib.ListN.{length, getD, take, drop, length-drop}
+use lib.Seq.{take-all, take-append-seam, drop-cons, drop-drop, drop-length}
 use Rattle.base.specs.Parts.{part}
-use Rattle.base.proofs.All.{all-head}
 use Rattle.base.proofs.Parts.{part-length}
-use Rattle.base.proofs.Tests.{and-true, and-false}
+use Rattle.base.proofs.Tests.{and-true, and-false, both-ways}
 use Rattle.card.specs.Card.{Entry, entry}
 use Rattle.syntax.specs.Placed.{PlacedValue}
 use Rattle.syntax.specs.declared.Connective.{Connective}
@@ -41,19 +36,17 @@ use Rattle.judge.specs.Once.{readingsFor, countsRead}
 use Rattle.judge.proofs.Meaning.{says-some, says-by-some}
 use Rattle.judge.proofs.Once.{for-kept, once-counts}
 use Rattle.judge.proofs.Occurrences.{chosen-one, occurrence-whole}
-use Rattle.rows.specs.Expression.{Expression, probing, choosing, joining, negating, testCount}
-use Rattle.rows.specs.Cells.{rowOf, cellOf, encode, Writable, push, only, stated}
+use Rattle.rows.specs.Expression.{Expression, probing, choosing, joining, negating}
+use Rattle.rows.specs.Cells.{probeOf, rowOf, cellOf, encode, Writable, writable-test, writable-bracket, writable-join, writable-not, stated}
 use Rattle.rows.specs.Shapes.{valueIn}
-use Rattle.row_judge.specs.Saying.{probeSaysBy, probeSays, expressionSays, statedSays, rowsSay, Whole, Bracketed, someEntry, occurrenceSays, probeSaysEachBy, probeSaysEach}
 use Rattle.rows.specs.declared.Probe.{Probe}
-use Rattle.row_opener.specs.Opening.{openedValue, openedBy, openedFor, openedIn, openedRow, valueOf, Known, openedFrom, Opens}
-use Rattle.row_judge.specs.Jumping.{Item, Jumps, Lands, Leapt}
 use Rattle.rows.specs.declared.Row.{Row}
+use Rattle.rows.proofs.Cells.{row-test, row-bracket, row-not, row-connect, test-index, cell-probe}
+use Rattle.rows.proofs.Stating.{stated-encode, stated-are}
+use Rattle.row_opener.specs.Opening.{openedValue, openedBy, openedFor, openedIn, openedRow, valueOf, Known, openedAt}
 use Rattle.row_opener.specs.declared.Opened.{Opened}
-use Rattle.row_opener.proofs.Opening.{row-small, cells-back}
-use Rattle.row_judge.proofs.Jumping.{stacked-item}
-use Rattle.rows.proofs.Stating.{stated-encode, flat, total, height-total}
-use Rattle.rows.proofs.Machine.{Holds, holds-none, holds-more, holds-length, holds-push, top-of, none-on, Stacked, stacked-start, stacked-next, stacked-fails, stacked-end, stacked-total}
+use Rattle.row_opener.proofs.Opening.{opens-second}
+use Rattle.row_judge.specs.Saying.{probeSaysBy, probeSays, expressionSays, statedSays, rowsSay, Whole, Ready, Bracketed, decides, skipped, someEntry, occurrenceSays, probeSaysEachBy, probeSaysEach, bracketSays}
 
 -- ---- entry by entry is by the set of the entries that are kept
 
@@ -74,6 +67,11 @@ module _ (says kept : ℕ → Bool) (k : Chosen) (same : (o : ℕ) → counts k 
           by false true b d = rw (a, d, b, r)
           by false false b d = rw (a, d, b, r)
 
+-- rows say what their expression says
+rows-are : (kinds xs : List ℕ) (e : Expression) (cs : List ℕ) (es : List Entry) → stated cs ≡ some e → rowsSay kinds xs es cs ≡ expressionSays kinds xs es e
+unfolding rowsSay
+rows-are kinds xs e cs es h = ap (statedSays kinds xs es) h
+
 module _ (kinds xs : List ℕ) (k : Chosen) (all : List Entry) (p : Probe) where
   -- the test of what is kept, from some entry that counts
   each-is : (says kept : ℕ → Bool) → ((o : ℕ) → counts k o ≡ true → says o ≡ kept o) → (kind : ℕ) (v : RawValue)
@@ -83,20 +81,15 @@ module _ (kinds xs : List ℕ) (k : Chosen) (all : List Entry) (p : Probe) where
       let m : Meaning = meaningOf (p .operator) kind in
       ap (someSays m (isTrue (valueIn xs v))) (entry-is says kept k same (p .index) m (valueIn xs v) all) ∙ sym (says-some m (valueIn xs v) (valuesAt (p .index) (keep (λ e. kept (e .occurrence)) (chosenOf k all))))
 
-  -- the rows in the brackets say what their expression says
-  inner-is : (e : Expression) (cs : List ℕ) (es : List Entry) → cs ≡ encode e → Writable e → rowsSay kinds xs es cs ≡ expressionSays kinds xs es e
-  unfolding rowsSay
-  inner-is e cs es h w = ap (statedSays kinds xs es) (ap stated h ∙ stated-encode e w)
-
-  bracket-is : (e : Expression) (cs : List ℕ) → cs ≡ encode e → Writable e → probeSaysEach kinds xs cs p k all ≡ expressionSays kinds xs (chosenOf k all) (choosing e p)
+  bracket-is : (e : Expression) (cs : List ℕ) → stated cs ≡ some e → probeSaysEach kinds xs cs p k all ≡ expressionSays kinds xs (chosenOf k all) (choosing e p)
   unfolding probeSaysEach probeSays expressionSays
-  bracket-is e cs h w = by-value (valueAt xs (p .position))
+  bracket-is e cs h = by-value (valueAt xs (p .position))
     where
       kept : ℕ → Bool
       kept o = expressionSays kinds xs (ofOccurrence o (chosenOf k all)) e
 
       same : (o : ℕ) → counts k o ≡ true → occurrenceSays kinds xs all cs o ≡ kept o
-      same o c = inner-is e cs (ofOccurrence o all) h w ∙ ap (λ (l : List Entry). expressionSays kinds xs l e) (sym (occurrence-whole k o all c))
+      same o c = rows-are kinds xs e cs (ofOccurrence o all) h ∙ ap (λ (l : List Entry). expressionSays kinds xs l e) (sym (occurrence-whole k o all c))
 
       by-value : (f : FoundValue) → probeSaysEachBy f (getD kinds (p .index) 0) kinds xs cs p k all ≡ probeSaysBy f (getD kinds (p .index) 0) xs p (keep (λ n. kept (n .occurrence)) (chosenOf k all))
       by-value (FoundValue.Value v) = each-is (occurrenceSays kinds xs all cs) kept same (getD kinds (p .index) 0) v
@@ -240,279 +233,260 @@ module _ (xs : List ℕ) (m : Meaning) (o : Opened) (w : Known xs m o) where
 pub decoded-counts : (raw out : List ℕ) (n : ℕ) → Decoded raw out n → (m : Meaning) (r : Readings) (x : List ℕ) (t : Bool) → t ≡ countsRead m (take n out) r x → t ≡ countsRead m (decode false raw) r x
 decoded-counts raw out n d m r x t e = e ∙ ap (λ (v : List ℕ). countsRead m v r x) (d .is)
 
--- what the cells at a row's place stand for
-module _ (kinds xs rows spans digits : List ℕ) (starts ends : List ℤ) (s : Opens kinds xs rows spans digits starts ends (length rows)) (few : length xs ≤ 1024) (i : ℕ) (l : i < length rows) (o : Opened)
-    (e : o ≡ openedFrom (getD spans i 0) (getD digits i 0) (getD starts i (pos 0)) (getD ends i (pos 0))) (r : Row) (h : r ≡ rowOf (getD rows i 0)) where
-  at-row : o ≡ openedRow kinds xs (getD rows i 0)
-  at-row = e ∙ rw (s .span-cells .each i l, s .digit-cells .each i l, s .start-cells .each i l, s .end-cells .each i l) (cells-back (openedRow kinds xs (getD rows i 0)) (row-small kinds xs (getD rows i 0) few))
+-- ---- rows, from left to right with a verdict in hand
 
-  pub at-test : (p : Probe) → r ≡ Row.Test p → o ≡ openedFor kinds xs p
-  unfolding openedRow
-  at-test p u = at-row ∙ ap (openedIn kinds xs) (sym h ∙ u)
+decided-so : (c : Connective) (a b : Bool) → decides c a ≡ true → a ≡ joined c a b
+decided-so Connective.And true b h = both-ways h refl
+decided-so Connective.And false b h = refl
+decided-so Connective.Or true b h = refl
+decided-so Connective.Or false b h = both-ways h refl
 
-  pub at-bracket : (p : Probe) → r ≡ Row.Bracket p → o ≡ openedFor kinds xs p
-  unfolding openedRow
-  at-bracket p u = at-row ∙ ap (openedIn kinds xs) (sym h ∙ u)
+decided-not : (c : Connective) (a b : Bool) → decides c a ≡ false → b ≡ joined c a b
+decided-not Connective.And true b h = refl
+decided-not Connective.And false b h = both-ways refl h
+decided-not Connective.Or true b h = both-ways refl h
+decided-not Connective.Or false b h = refl
 
--- ---- the loop over rows
-
--- the part before i that is the last of the cells before i
-pub part-last : (rows a b : List ℕ) (i : ℕ) → a ++ b ≡ take i rows → i ≤ length rows → part rows (i - length b) i ≡ b
-part-last rows a b i e l =
-    let n : length a + length b ≡ i = sym (length-append a b) ∙ ap length e ∙ length-take-le i rows l in
-    let m : i - length b ≡ length a = omega (arith, n) in
-    let c : i - length a ≡ length b = omega (arith, n) in
-    let whole : rows ≡ a ++ (b ++ drop i rows) = sym (take-append-drop i rows) ∙ ap (λ (x : List ℕ). x ++ drop i rows) (sym e) ∙ append-assoc a b (drop i rows) in
-    ap (λ (j : ℕ). take (i - j) (drop j rows)) m
-    ∙ ap₂ (λ (j : ℕ) (q : List ℕ). take j (drop (length a) q)) c whole
-    ∙ ap (take (length b)) (drop-at a (b ++ drop i rows) (length a) refl)
-    ∙ take-at b (drop i rows) (length b) refl
+abbrev whenStated : Option Expression → Option Bool → Option Bool
+whenStated none then = none
+whenStated (some e) then = then
 
 module _ (kinds xs : List ℕ) (k : Chosen) (all : List Entry) where
-  abbrev verdict : Expression → Bool
-  verdict = expressionSays kinds xs (chosenOf k all)
+  -- brackets with n rows in them, by the row of the test
+  abbrev tellTest : (ℕ → Bool → Option Bool) → ℕ → List ℕ → Row → Option Bool
+  tellTest go n cs (Row.Test p) = whenStated (stated (take n cs)) (go n (probeSaysEach kinds xs (take n cs) p k all))
+  tellTest go n cs (Row.Bracket m) = none
+  tellTest go n cs Row.Not = none
+  tellTest go n cs (Row.Connect c m) = none
+  tellTest go n cs Row.Unknown = none
 
-  abbrev sizeOf : Expression → ℕ
-  sizeOf e = length (encode e)
+  abbrev tellBrackets : (ℕ → Bool → Option Bool) → ℕ → List ℕ → Option Bool
+  tellBrackets go n [] = none
+  tellBrackets go n (c ∷ cs) = tellTest (λ m u. go (suc m) u) n cs (rowOf c)
 
-  pub record Judging (rows : List ℕ) (says : List Bool) (sizes : List ℕ) (top i : ℕ) : Type 0 where
-    pub st : List Expression
-    pub stacked : Stacked rows i st
-    pub verdicts : Holds false verdict says top st
-    pub lengths : Holds 0 sizeOf sizes top st
-    pub says-size : length says ≡ 32
-    pub sizes-size : length sizes ≡ 32
-    pub few : top ≤ 32
-    pub within : i ≤ length rows
+  abbrev tellRow : (ℕ → Bool → Option Bool) → Bool → List ℕ → Row → Option Bool
+  tellRow go v cs (Row.Test p) = go 0 (probeSays kinds xs p (chosenOf k all))
+  tellRow go v cs (Row.Bracket n) = tellBrackets go n cs
+  tellRow go v cs Row.Not = go 0 (not v)
+  tellRow go v cs (Row.Connect c n) = go (skipped c v n) v
+  tellRow go v cs Row.Unknown = none
 
-  pub judging-start : (rows : List ℕ) → Judging rows (replicate 32 false) (replicate 32 0) 0 0
-  judging-start rows = record { st = []; stacked = stacked-start rows; verdicts = holds-none; lengths = holds-none; says-size = refl; sizes-size = refl; few = omega arith; within = omega arith }
+  -- the verdict in hand, and all rows behind the next n
+  unfoldable pub tell : ℕ → Bool → List ℕ → Option Bool
+  tell zero v [] = some v
+  tell (suc n) v [] = none
+  tell zero v (c ∷ cs) = tellRow (λ n u. tell n u cs) v cs (rowOf c)
+  tell (suc n) v (c ∷ cs) = tell n v cs
 
-  says-none : (rows : List ℕ) → stated rows ≡ none → false ≡ rowsSay kinds xs (chosenOf k all) rows
-  unfolding rowsSay
-  says-none rows h = sym (ap (statedSays kinds xs (chosenOf k all)) h)
+  tell-skip : (n : ℕ) (v : Bool) (cs : List ℕ) (r : Bool) → tell n v cs ≡ some r → (n ≤ length cs) × (tell 0 v (drop n cs) ≡ some r)
+  unfolding tell
+  tell-skip zero v cs r h = (omega arith, h)
+  tell-skip (suc n) v [] r h = absurd (Option·none-ne-some _ h)
+  tell-skip (suc n) v (c ∷ cs) r h = let t = tell-skip n v cs r h in (omega (arith, t .0), t .1)
 
-  module _ (rows : List ℕ) (says : List Bool) (sizes : List ℕ) (top i : ℕ) (s : Judging rows says sizes top i) (l : i < length rows) (r : Row) (e : r ≡ rowOf (getD rows i 0)) where
-    pub judging-unknown : r ≡ Row.Unknown → false ≡ rowsSay kinds xs (chosenOf k all) rows
-    unfolding push
-    judging-unknown u = says-none rows (stacked-fails (s .stacked) l r e (rw u))
+  tell-part : (l : List ℕ) (v : Bool) (cs : List ℕ) → tell (length l) v (l ++ cs) ≡ tell 0 v cs
+  unfolding tell
+  tell-part [] v cs = refl
+  tell-part (c ∷ l) v cs = tell-part l v cs
 
-    -- ---- a test
+  -- the rows of an expression say what it says
+  tell-encode : (e : Expression) → Writable e → (v : Bool) (cs : List ℕ) → tell 0 v (encode e ++ cs) ≡ tell 0 (expressionSays kinds xs (chosenOf k all) e) cs
+  unfolding tell encode expressionSays
+  tell-encode (probing p) (writable-test s) v cs = ap (tellRow (λ n u. tell n u cs) v cs) (row-test p s)
+  tell-encode (choosing e p) (writable-bracket w s) v cs =
+      let n : ℕ = length (encode e) in
+      let c : ℕ = cellOf (Row.Test p) in
+      let part-is : take n (encode e ++ cs) ≡ encode e = take-append-seam (encode e) cs in
+      ap (tellRow (λ m u. tell m u (c ∷ (encode e ++ cs))) v (c ∷ (encode e ++ cs))) (row-bracket n)
+      ∙ ap (tellTest (λ m u. tell m u (encode e ++ cs)) n (encode e ++ cs)) (row-test p s)
+      ∙ ap (λ (l : List ℕ). whenStated (stated l) (tell n (probeSaysEach kinds xs l p k all) (encode e ++ cs))) part-is
+      ∙ ap (λ (o : Option Expression). whenStated o (tell n (probeSaysEach kinds xs (encode e) p k all) (encode e ++ cs))) (stated-encode e w)
+      ∙ tell-part (encode e) (probeSaysEach kinds xs (encode e) p k all) cs
+      ∙ ap (λ (u : Bool). tell 0 u cs) (bracket-is kinds xs k all p e (encode e) (stated-encode e w))
+  tell-encode (negating e) (writable-not w) v cs =
+      let a : Bool = expressionSays kinds xs (chosenOf k all) e in
+      ap (tell 0 v) (append-assoc (encode e) (cellOf Row.Not ∷ []) cs) ∙ tell-encode e w v (cellOf Row.Not ∷ cs) ∙ ap (tellRow (λ n u. tell n u cs) a cs) row-not
+  tell-encode (joining o e f) (writable-join w x) v cs =
+      let n : ℕ = length (encode f) in
+      let c : ℕ = cellOf (Row.Connect o n) in
+      let a : Bool = expressionSays kinds xs (chosenOf k all) e in
+      let b : Bool = expressionSays kinds xs (chosenOf k all) f in
+      ap (tell 0 v) (append-assoc (encode e) (c ∷ encode f) cs) ∙ tell-encode e w v (c ∷ (encode f ++ cs)) ∙ ap (tellRow (λ m u. tell m u (encode f ++ cs)) a (encode f ++ cs)) (row-connect o n)
+      ∙ by-verdict a b (decides o a) refl (tell-encode f x a cs)
+    where
+      by-verdict : (a b t : Bool) → decides o a ≡ t → tell 0 a (encode f ++ cs) ≡ tell 0 b cs → tell (cond (decides o a) (length (encode f)) 0) a (encode f ++ cs) ≡ tell 0 (joined o a b) cs
+      by-verdict a b true h i = ap (λ (t : Bool). tell (cond t (length (encode f)) 0) a (encode f ++ cs)) h ∙ tell-part (encode f) a cs ∙ ap (λ (u : Bool). tell 0 u cs) (decided-so o a b h)
+      by-verdict a b false h i = ap (λ (t : Bool). tell (cond t (length (encode f)) 0) a (encode f ++ cs)) h ∙ i ∙ ap (λ (u : Bool). tell 0 u cs) (decided-not o a b h)
 
-    pub judging-full : (p : Probe) → r ≡ Row.Test p → top ≡ 32 → Whole rows → false ≡ rowsSay kinds xs (chosenOf k all) rows
-    unfolding push total testCount
-    judging-full p u z w =
-        let next : Stacked rows (i + 1) (probing p ∷ s .st) = stacked-next (s .stacked) l r e (probing p ∷ s .st) (rw u) in
-        absurd (omega (arith, stacked-total next (w .expression) (w .states), height-total (s .st), holds-length (s .verdicts), z, w .few))
+  -- brackets that are told of
+  record ToldOf (n : ℕ) (cs : List ℕ) (r : Bool) : Type 0 where
+    first : ℕ
+    rest : List ℕ
+    are : cs ≡ first ∷ rest
+    probe : Probe
+    row : rowOf first ≡ Row.Test probe
+    expression : Expression
+    states : stated (take n rest) ≡ some expression
+    goes : tell n (probeSaysEach kinds xs (take n rest) probe k all) rest ≡ some r
 
-    pub judging-test : (p : Probe) (v : Bool) → r ≡ Row.Test p → (top ≡ 32 → ⊥) → v ≡ probeSays kinds xs p (chosenOf k all) → Judging rows (set says top v) (set sizes top 1) (top + 1) (i + 1)
-    unfolding push encode expressionSays
-    judging-test p v u z w =
-        let low : top < 32 = omega (arith, s .few, z) in
-        record {
-          st = probing p ∷ s .st;
-          stacked = stacked-next (s .stacked) l r e (probing p ∷ s .st) (rw u);
-          verdicts = holds-push (probing p) v (s .verdicts) (omega (arith, s .says-size, low)) w;
-          lengths = holds-push (probing p) 1 (s .lengths) (omega (arith, s .sizes-size, low)) refl;
-          says-size = length-set says top v ∙ s .says-size;
-          sizes-size = length-set sizes top 1 ∙ s .sizes-size;
-          few = omega (arith, low);
-          within = omega (arith, l);
-        }
+  told-of : (n : ℕ) (cs : List ℕ) (r : Bool) → tellBrackets (λ m u. tell m u cs) n cs ≡ some r → ToldOf n cs r
+  unfolding tell
+  told-of n [] r h = absurd (Option·none-ne-some _ h)
+  told-of n (c ∷ cs) r h = by-row (rowOf c) refl h
+    where
+      by-row : (q : Row) → rowOf c ≡ q → tellTest (λ m u. tell m u cs) n cs q ≡ some r → ToldOf n (c ∷ cs) r
+      by-row (Row.Test p) i g = by-stated (stated (take n cs)) refl g
+        where
+          by-stated : (o : Option Expression) → stated (take n cs) ≡ o → whenStated o (tell n (probeSaysEach kinds xs (take n cs) p k all) cs) ≡ some r → ToldOf n (c ∷ cs) r
+          by-stated none j g = absurd (Option·none-ne-some _ g)
+          by-stated (some e) j g = record { first = c; rest = cs; are = refl; probe = p; row = i; expression = e; states = j; goes = g }
+      by-row (Row.Bracket m) i g = absurd (Option·none-ne-some _ g)
+      by-row Row.Not i g = absurd (Option·none-ne-some _ g)
+      by-row (Row.Connect o m) i g = absurd (Option·none-ne-some _ g)
+      by-row Row.Unknown i g = absurd (Option·none-ne-some _ g)
 
-    -- ---- the top of the stack
+-- the loop: what is left decides
+pub record Telling (kinds xs rows : List ℕ) (k : Chosen) (all : List Entry) (r : Bool) (at : ℕ) (v : Bool) : Type 0 where
+  pub within : at ≤ length rows
+  pub rest : tell kinds xs k all 0 v (drop at rows) ≡ some r
 
-    both-on : (top ≡ 0 → ⊥) → (f : Expression) × ((m : List Expression) × ((s .st ≡ f ∷ m) × ((getD says (top - 1) false ≡ verdict f) × ((getD sizes (top - 1) 0 ≡ sizeOf f) × (Holds false verdict says (top - 1) m × Holds 0 sizeOf sizes (top - 1) m)))))
-    both-on z =
-        let a = top-of (top - 1) (s .verdicts) (omega (arith, z)) in
-        let b = top-of (top - 1) (s .lengths) (omega (arith, z)) in
-        let same : a .top ∷ a .rest ≡ b .top ∷ b .rest = sym (a .is) ∙ b .is in
-        let heads : b .top ≡ a .top = cc in
-        let tails : b .rest ≡ a .rest = cc in
-        (a .top, (a .rest, (a .is, (a .value, (b .value ∙ ap sizeOf heads, (a .below, subst (λ (m : List Expression). Holds 0 sizeOf sizes (top - 1) m) tails (b .below)))))))
+inner-of : (x : ℕ) (l cs : List ℕ) → cs ≡ x ∷ l → take (length cs - 1) (drop 1 cs) ≡ l
+inner-of x l cs h = ap (λ (c : List ℕ). take (length c - 1) (drop 1 c)) h ∙ take-all (length (x ∷ l) - 1) l (omega arith)
 
-    pub judging-bare-bracket : (p : Probe) → r ≡ Row.Bracket p → top ≡ 0 → false ≡ rowsSay kinds xs (chosenOf k all) rows
-    unfolding push
-    judging-bare-bracket p u z = says-none rows (stacked-fails (s .stacked) l r e (ap₂ push u (none-on (s .verdicts) z)))
-
-    pub judging-bare-not : r ≡ Row.Not → top ≡ 0 → false ≡ rowsSay kinds xs (chosenOf k all) rows
-    unfolding push
-    judging-bare-not u z = says-none rows (stacked-fails (s .stacked) l r e (ap₂ push u (none-on (s .verdicts) z)))
-
-    -- the rows in the brackets of a test are those of the expression on top
-    inner-cells : (f : Expression) (m : List Expression) → s .st ≡ f ∷ m → part rows (i - sizeOf f) i ≡ encode f
-    unfolding flat
-    inner-cells f m h = part-last rows (flat m) (encode f) i (sym (ap flat h) ∙ s .stacked .before) (s .within)
-
-    inner-writable : (f : Expression) (m : List Expression) → s .st ≡ f ∷ m → Writable f
-    inner-writable f m h = all-head Writable (subst (All Writable) h (s .stacked .writable))
-
-    pub judging-before : (z : ℕ) → (top ≡ 0 → ⊥) → z ≡ getD sizes (top - 1) 0 → z ≤ i
-    unfolding flat
-    judging-before z n h =
-        let t = both-on n in
-        let whole : length (flat (t .1 .0)) + sizeOf (t .0) ≡ i = sym (length-append (flat (t .1 .0)) (encode (t .0))) ∙ ap length (sym (ap flat (t .1 .1 .0)) ∙ s .stacked .before) ∙ length-take-le i rows (s .within) in
-        omega (arith, whole, h, t .1 .1 .1 .1 .0)
-
-    pub judging-inner : (z : ℕ) → (top ≡ 0 → ⊥) → z ≡ getD sizes (top - 1) 0 → Whole rows → Bracketed rows (i - z) i
-    unfolding total
-    judging-inner z n h w =
-        let t = both-on n in
-        let size : z ≡ sizeOf (t .0) = h ∙ t .1 .1 .1 .1 .0 in
-        let cells : part rows (i - z) i ≡ encode (t .0) = ap (λ (j : ℕ). part rows (i - j) i) size ∙ inner-cells (t .0) (t .1 .0) (t .1 .1 .0) in
-        record {
-          order = omega arith;
-          within = s .within;
-          whole = record {
-            expression = t .0;
-            states = ap stated cells ∙ stated-encode (t .0) (inner-writable (t .0) (t .1 .0) (t .1 .1 .0));
-            few = omega (arith, stacked-total (s .stacked) (w .expression) (w .states), ap total (t .1 .1 .0), w .few);
-          };
-        }
-
-    pub judging-bracket : (p : Probe) (z : ℕ) (v : Bool) → r ≡ Row.Bracket p → (top ≡ 0 → ⊥) → z ≡ getD sizes (top - 1) 0 → v ≡ probeSaysEach kinds xs (part rows (i - z) i) p k all
-        → Judging rows (set says (top - 1) v) (set sizes (top - 1) (z + 1)) top (i + 1)
-    unfolding push encode
-    judging-bracket p z v u n h w =
-        let t = both-on n in
-        let f : Expression = t .0 in
-        let size : z ≡ sizeOf f = h ∙ t .1 .1 .1 .1 .0 in
-        let cells : part rows (i - z) i ≡ encode f = ap (λ (j : ℕ). part rows (i - j) i) size ∙ inner-cells f (t .1 .0) (t .1 .1 .0) in
-        let one : top - 1 + 1 ≡ top = omega (arith, n) in
-        let low : top - 1 < 32 = omega (arith, s .few, n) in
-        let longer : z + 1 ≡ sizeOf (choosing f p) = omega (arith, size, length-append (encode f) (cellOf (Row.Bracket p) ∷ [])) in
-        record {
-          st = choosing f p ∷ t .1 .0;
-          stacked = stacked-next (s .stacked) l r e (choosing f p ∷ t .1 .0) (ap₂ push u (t .1 .1 .0));
-          verdicts = subst (λ (j : ℕ). Holds false verdict (set says (top - 1) v) j (choosing f p ∷ t .1 .0)) one (holds-push (choosing f p) v (t .1 .1 .1 .1 .1 .0) (omega (arith, s .says-size, low)) (w ∙ bracket-is kinds xs k all p f (part rows (i - z) i) cells (inner-writable f (t .1 .0) (t .1 .1 .0))));
-          lengths = subst (λ (j : ℕ). Holds 0 sizeOf (set sizes (top - 1) (z + 1)) j (choosing f p ∷ t .1 .0)) one (holds-push (choosing f p) (z + 1) (t .1 .1 .1 .1 .1 .1) (omega (arith, s .sizes-size, low)) longer);
-          says-size = length-set says (top - 1) v ∙ s .says-size;
-          sizes-size = length-set sizes (top - 1) (z + 1) ∙ s .sizes-size;
-          few = s .few;
-          within = omega (arith, l);
-        }
-
-    pub judging-not : (a v : Bool) (z : ℕ) → r ≡ Row.Not → (top ≡ 0 → ⊥) → a ≡ getD says (top - 1) false → z ≡ getD sizes (top - 1) 0 → v ≡ not a → Judging rows (set says (top - 1) v) (set sizes (top - 1) (z + 1)) top (i + 1)
-    unfolding push encode expressionSays
-    judging-not a v z u n b h w =
-        let t = both-on n in
-        let f : Expression = t .0 in
-        let one : top - 1 + 1 ≡ top = omega (arith, n) in
-        let low : top - 1 < 32 = omega (arith, s .few, n) in
-        let longer : z + 1 ≡ sizeOf (negating f) = omega (arith, h, t .1 .1 .1 .1 .0, length-append (encode f) (cellOf Row.Not ∷ [])) in
-        record {
-          st = negating f ∷ t .1 .0;
-          stacked = stacked-next (s .stacked) l r e (negating f ∷ t .1 .0) (ap₂ push u (t .1 .1 .0));
-          verdicts = subst (λ (j : ℕ). Holds false verdict (set says (top - 1) v) j (negating f ∷ t .1 .0)) one (holds-push (negating f) v (t .1 .1 .1 .1 .1 .0) (omega (arith, s .says-size, low)) (w ∙ ap not (b ∙ t .1 .1 .1 .0)));
-          lengths = subst (λ (j : ℕ). Holds 0 sizeOf (set sizes (top - 1) (z + 1)) j (negating f ∷ t .1 .0)) one (holds-push (negating f) (z + 1) (t .1 .1 .1 .1 .1 .1) (omega (arith, s .sizes-size, low)) longer);
-          says-size = length-set says (top - 1) v ∙ s .says-size;
-          sizes-size = length-set sizes (top - 1) (z + 1) ∙ s .sizes-size;
-          few = s .few;
-          within = omega (arith, l);
-        }
-
-    pub judging-short : (c : Connective) → r ≡ Row.Connect c → top < 2 → false ≡ rowsSay kinds xs (chosenOf k all) rows
-    unfolding push
-    judging-short c u z = says-none rows (stacked-fails (s .stacked) l r e (ap (λ (q : Row). push q (s .st)) u ∙ few-on (s .verdicts) z))
-      where
-        few-on : {n : ℕ} {st : List Expression} → Holds false verdict says n st → n < 2 → push (Row.Connect c) st ≡ none
-        few-on holds-none z = refl
-        few-on (holds-more v holds-none) z = refl
-        few-on (holds-more v (holds-more y h)) z = absurd (omega (arith, z))
-
-    -- the sizes of the two on top
-    pub judging-sizes : 2 ≤ top → getD sizes (top - 2) 0 + getD sizes (top - 1) 0 ≤ i
-    unfolding flat
-    judging-sizes z =
-        let b = top-of (top - 1) (s .lengths) (omega (arith, z)) in
-        let a = top-of (top - 2) (b .below) (omega (arith, z)) in
-        let both : s .st ≡ b .top ∷ a .top ∷ a .rest = b .is ∙ ap (λ (q : List Expression). b .top ∷ q) (a .is) in
-        let whole : length ((flat (a .rest) ++ encode (a .top)) ++ encode (b .top)) ≡ i = ap length (sym (ap flat both) ∙ s .stacked .before) ∙ length-take-le i rows (s .within) in
-        omega (arith, whole, a .value, b .value, length-append (flat (a .rest) ++ encode (a .top)) (encode (b .top)), length-append (flat (a .rest)) (encode (a .top)))
-
-    pub judging-connect : (c : Connective) (a b v : Bool) (z : ℕ) → r ≡ Row.Connect c → 2 ≤ top → b ≡ getD says (top - 1) false → a ≡ getD says (top - 2) false → z ≡ getD sizes (top - 2) 0 + getD sizes (top - 1) 0 → v ≡ joined c a b
-        → Judging rows (set says (top - 2) v) (set sizes (top - 2) (z + 1)) (top - 1) (i + 1)
-    unfolding push encode expressionSays
-    judging-connect c a b v z u n h g y w =
-        let y2 = top-of (top - 1) (s .lengths) (omega (arith, n)) in
-        let y1 = top-of (top - 2) (y2 .below) (omega (arith, n)) in
-        let x2 = top-of (top - 1) (s .verdicts) (omega (arith, n)) in
-        let x1 = top-of (top - 2) (x2 .below) (omega (arith, n)) in
-        let both : s .st ≡ x2 .top ∷ x1 .top ∷ x1 .rest = x2 .is ∙ ap (λ (q : List Expression). x2 .top ∷ q) (x1 .is) in
-        let same : x2 .top ∷ x1 .top ∷ x1 .rest ≡ y2 .top ∷ y1 .top ∷ y1 .rest = sym both ∙ y2 .is ∙ ap (λ (q : List Expression). y2 .top ∷ q) (y1 .is) in
-        let second : y2 .top ≡ x2 .top = cc in
-        let first : y1 .top ≡ x1 .top = cc in
-        let rest : y1 .rest ≡ x1 .rest = cc in
-        let f : Expression = joining c (x1 .top) (x2 .top) in
-        let one : top - 2 + 1 ≡ top - 1 = omega (arith, n) in
-        let low : top - 2 < 32 = omega (arith, s .few, n) in
-        let last : ℕ = cellOf (Row.Connect c) in
-        let longer : z + 1 ≡ sizeOf f = omega (arith, y, y1 .value, y2 .value, ap sizeOf first, ap sizeOf second, length-append (encode (x1 .top)) (encode (x2 .top) ++ (last ∷ [])), length-append (encode (x2 .top)) (last ∷ [])) in
-        record {
-          st = f ∷ x1 .rest;
-          stacked = stacked-next (s .stacked) l r e (f ∷ x1 .rest) (ap₂ push u both);
-          verdicts = subst (λ (j : ℕ). Holds false verdict (set says (top - 2) v) j (f ∷ x1 .rest)) one (holds-push f v (x1 .below) (omega (arith, s .says-size, low)) (w ∙ ap₂ (joined c) (g ∙ x1 .value) (h ∙ x2 .value)));
-          lengths = subst (λ (j : ℕ). Holds 0 sizeOf (set sizes (top - 2) (z + 1)) j (f ∷ x1 .rest)) one (holds-push f (z + 1) (subst (λ (m : List Expression). Holds 0 sizeOf sizes (top - 2) m) rest (y1 .below)) (omega (arith, s .sizes-size, low)) longer);
-          says-size = length-set says (top - 2) v ∙ s .says-size;
-          sizes-size = length-set sizes (top - 2) (z + 1) ∙ s .sizes-size;
-          few = omega (arith, s .few);
-          within = omega (arith, l);
-        }
-
-  -- the rows of the expression on top are rows before i
-  pub leap-size : (rows : List ℕ) (says : List Bool) (sizes : List ℕ) (top i : ℕ) (s : Judging rows says sizes top i) {jumps : List ℕ} {n : ℕ} → Leapt rows jumps i says top n → (n ≡ 0 → ⊥) → getD sizes (top - 1) 0 ≤ i
-  unfolding flat
-  leap-size rows says sizes top i s t nz =
-      let b = top-of (top - 1) (s .lengths) (omega (arith, t .lands nz .some)) in
-      let whole : length (flat (b .rest)) + sizeOf (b .top) ≡ i = sym (length-append (flat (b .rest)) (encode (b .top))) ∙ ap length (sym (ap flat (b .is)) ∙ s .stacked .before) ∙ length-take-le i rows (s .within) in
-      omega (arith, whole, b .value)
-
-  -- ---- an item that is left out
-
-  pub judging-leap : (rows : List ℕ) (says : List Bool) (sizes : List ℕ) (top i : ℕ) (s : Judging rows says sizes top i) → (jumps : List ℕ) (n z : ℕ) → Jumps rows jumps → Leapt rows jumps i says top n → (n ≡ 0 → ⊥) → z ≡ getD sizes (top - 1) 0
-      → Judging rows says (set sizes (top - 1) (z + n + 1)) top (i + n + 1)
-  unfolding push encode expressionSays
-  judging-leap rows says sizes top i s jumps n z js t nz h =
-      let d : Lands rows jumps i says top n = t .lands nz in
-      let q : Item rows i n = subst (λ (x : ℕ). Item rows i x) (sym (d .jump)) (js .each i (λ y. nz (d .jump ∙ y)) (omega (arith, d .within, d .jump))) in
-      let a = top-of (top - 1) (s .verdicts) (omega (arith, d .some)) in
-      let b = top-of (top - 1) (s .lengths) (omega (arith, d .some)) in
-      let same : a .top ∷ a .rest ≡ b .top ∷ b .rest = sym (a .is) ∙ b .is in
-      let heads : b .top ≡ a .top = cc in
-      let tails : b .rest ≡ a .rest = cc in
-      let f : Expression = q .expression in
-      let k : Connective = d .join in
-      let g : Expression = joining k (a .top) f in
-      let one : top - 1 + 1 ≡ top = omega (arith, d .some) in
-      let last : ℕ = cellOf (Row.Connect k) in
-      let cells : length (encode f) ≡ n = sym (ap length (q .cells)) ∙ part-length rows i (i + n) (omega (arith, d .within)) ∙ (omega arith) in
-      let longer : z + n + 1 ≡ sizeOf g = omega (arith, h, b .value, ap sizeOf heads, cells, length-append (encode (a .top)) (encode f ++ (last ∷ [])), length-append (encode f) (last ∷ [])) in
-      let low : top - 1 < 32 = omega (arith, s .few, d .some) in
+module _ (kinds xs rows : List ℕ) (k : Chosen) (all : List Entry) where
+  pub telling-start : Whole rows → Telling kinds xs rows k all (rowsSay kinds xs (chosenOf k all) rows) 0 false
+  unfolding tell
+  telling-start w =
+      let e : Expression = w .expression in
+      let c = stated-are rows e (w .states) in
+      let says : rowsSay kinds xs (chosenOf k all) rows ≡ expressionSays kinds xs (chosenOf k all) e = rows-are kinds xs e rows (chosenOf k all) (w .states) in
       record {
-        st = g ∷ a .rest;
-        stacked = stacked-next (stacked-item (s .stacked) n q) (d .within) (Row.Connect (d .join)) (sym (d .row)) (g ∷ a .rest) (ap (λ (x : List Expression). push (Row.Connect (d .join)) (f ∷ x)) (a .is));
-        verdicts = subst (λ (j : ℕ). Holds false verdict says j (g ∷ a .rest)) (sym (add-one (top - 1)) ∙ one) (holds-more (sym (d .decides (verdict f)) ∙ ap (λ (x : Bool). joined k x (verdict f)) (a .value)) (a .below));
-        lengths = subst (λ (j : ℕ). Holds 0 sizeOf (set sizes (top - 1) (z + n + 1)) j (g ∷ a .rest)) one (holds-push g (z + n + 1) (subst (λ (m : List Expression). Holds 0 sizeOf sizes (top - 1) m) tails (b .below)) (omega (arith, s .sizes-size, low)) longer);
-        says-size = s .says-size;
-        sizes-size = length-set sizes (top - 1) (z + n + 1) ∙ s .sizes-size;
-        few = s .few;
-        within = omega (arith, d .within);
+        within = omega arith;
+        rest = ap (tell kinds xs k all 0 false) (c .are ∙ sym (append-nil (encode e))) ∙ tell-encode kinds xs k all e (c .writable) false [] ∙ ap some (sym says);
       }
 
-  module _ (rows : List ℕ) (says : List Bool) (sizes : List ℕ) (top i : ℕ) (s : Judging rows says sizes top i) (l : length rows ≤ i) where
-    pub judging-whole : top ≡ 1 → getD says 0 false ≡ rowsSay kinds xs (chosenOf k all) rows
-    unfolding rowsSay
-    judging-whole z =
-        let a = top-of 0 (s .verdicts) z in
-        let none-below : a .rest ≡ [] = none-on (a .below) refl in
-        let one : s .st ≡ a .top ∷ [] = a .is ∙ ap (λ (q : List Expression). a .top ∷ q) none-below in
-        let states : stated rows ≡ some (a .top) = stacked-end (s .stacked) l ∙ ap (λ (q : List Expression). only (some q)) one in
-        a .value ∙ sym (ap (statedSays kinds xs (chosenOf k all)) states)
+  module _ (r : Bool) (at : ℕ) (v : Bool) (s : Telling kinds xs rows k all r at v) where
+    pub telling-end : length rows ≤ at → v ≡ r
+    unfolding tell
+    telling-end h =
+        let n : at ≡ length rows = omega (arith, h, s .within) in
+        let none-left : drop at rows ≡ [] = ap (λ (m : ℕ). drop m rows) n ∙ drop-length rows in
+        Option·some-injective _ _ (sym (ap (tell kinds xs k all 0 v) none-left) ∙ s .rest)
 
-    pub judging-other : (top ≡ 1 → ⊥) → false ≡ rowsSay kinds xs (chosenOf k all) rows
-    judging-other z = says-none rows (stacked-end (s .stacked) l ∙ not-one (s .verdicts) z)
-      where
-        not-one : {n : ℕ} {st : List Expression} → Holds false verdict says n st → (n ≡ 1 → ⊥) → only (some st) ≡ none
-        not-one holds-none z = refl
-        not-one (holds-more v holds-none) z = absurd (z refl)
-        not-one (holds-more v (holds-more y h)) z = refl
+    module _ (l : at < length rows) (q : Row) (e : q ≡ rowOf (getD rows at 0)) where
+      next : tellRow kinds xs k all (λ n u. tell kinds xs k all n u (drop (suc at) rows)) v (drop (suc at) rows) q ≡ some r
+      unfolding tell
+      next = ap (tellRow kinds xs k all (λ n u. tell kinds xs k all n u (drop (suc at) rows)) v (drop (suc at) rows)) e ∙ sym (ap (tell kinds xs k all 0 v) (drop-cons rows at 0 l)) ∙ s .rest
+
+      by-row : (p : Row) → q ≡ p → tellRow kinds xs k all (λ n u. tell kinds xs k all n u (drop (suc at) rows)) v (drop (suc at) rows) p ≡ some r
+      by-row p j = ap (tellRow kinds xs k all (λ n u. tell kinds xs k all n u (drop (suc at) rows)) v (drop (suc at) rows)) (sym j) ∙ next
+
+      go-on : (n : ℕ) (u : Bool) → tell kinds xs k all n u (drop (suc at) rows) ≡ some r → (m : ℕ) → suc at + n ≡ m → Telling kinds xs rows k all r m u
+      go-on n u h m i =
+          let t = tell-skip kinds xs k all n u (drop (suc at) rows) r h in
+          record {
+            within = omega (arith, i, l, t .0, length-drop (suc at) rows);
+            rest = ap (tell kinds xs k all 0 u) (sym (drop-drop n (suc at) rows ∙ ap (λ (j : ℕ). drop j rows) i)) ∙ t .1;
+          }
+
+      pub step-test : (p : Probe) (u : Bool) → q ≡ Row.Test p → u ≡ probeSays kinds xs p (chosenOf k all) → Telling kinds xs rows k all r (at + 1) u
+      step-test p u j h = go-on 0 u (ap (λ (x : Bool). tell kinds xs k all 0 x (drop (suc at) rows)) h ∙ by-row (Row.Test p) j) (at + 1) (omega arith)
+
+      pub step-not : q ≡ Row.Not → Telling kinds xs rows k all r (at + 1) (not v)
+      step-not j = go-on 0 (not v) (by-row Row.Not j) (at + 1) (omega arith)
+
+      pub step-connect : (c : Connective) (n m : ℕ) → q ≡ Row.Connect c n → m ≡ skipped c v n → Telling kinds xs rows k all r (at + 1 + m) v
+      step-connect c n m j h = go-on m v (ap (λ (x : ℕ). tell kinds xs k all x v (drop (suc at) rows)) h ∙ by-row (Row.Connect c n) j) (at + 1 + m) (omega arith)
+
+      pub step-unknown : q ≡ Row.Unknown → false ≡ r
+      step-unknown j = absurd (Option·none-ne-some _ (by-row Row.Unknown j))
+
+      module _ (n : ℕ) (j : q ≡ Row.Bracket n) where
+        brackets : ToldOf kinds xs k all n (drop (suc at) rows) r
+        brackets = told-of kinds xs k all n (drop (suc at) rows) r (by-row (Row.Bracket n) j)
+
+        pub bracket-room : at + 1 + n + 1 ≤ length rows
+        bracket-room =
+            let t = tell-skip kinds xs k all n (probeSaysEach kinds xs (take n (brackets .rest)) (brackets .probe) k all) (brackets .rest) r (brackets .goes) in
+            omega (arith, l, t .0, ap length (brackets .are), length-drop (suc at) rows)
+
+        abbrev part-rows : List ℕ
+        part-rows = part rows (at + 1) (at + 1 + n + 1)
+
+        part-are : part-rows ≡ brackets .first ∷ take n (brackets .rest)
+        part-are =
+            let size : at + 1 + n + 1 - (at + 1) ≡ suc n = omega arith in
+            let from : at + 1 ≡ suc at = omega arith in
+            ap₂ (λ (a b : ℕ). take a (drop b rows)) size from ∙ ap (take (suc n)) (brackets .are)
+
+        pub part-size : length part-rows ≡ n + 1
+        part-size = part-length rows (at + 1) (at + 1 + n + 1) bracket-room ∙ (omega arith)
+
+        pub bracket-ready : {values : List ℕ} {ends : List ℤ} {card : List ℕ} → Ready kinds xs rows values ends card
+            → Bracketed kinds xs part-rows (take (length values - 2 * (at + 1)) (drop (2 * (at + 1)) values)) (take (length ends - 2 * (at + 1)) (drop (2 * (at + 1)) ends)) card
+        bracket-ready w =
+            record {
+              each-kind = w .each-kind;
+              short = w .short;
+              some-row = omega (arith, part-size);
+              test = brackets .probe;
+              row = ap (λ (c : List ℕ). rowOf (getD c 0 0)) part-are ∙ brackets .row;
+              whole = record { expression = brackets .expression; states = ap stated (inner-of (brackets .first) (take n (brackets .rest)) part-rows part-are) ∙ brackets .states };
+              opens = opens-second (w .opens) (at + 1) (at + 1 + n + 1) (omega arith) bracket-room;
+              well-formed = w .well-formed;
+            }
+
+        pub step-bracket : (u : Bool) → u ≡ bracketSays kinds xs part-rows k all → Telling kinds xs rows k all r (at + 1 + n + 1) u
+        unfolding tell
+        step-bracket u h =
+            let probe-is : probeOf (getD part-rows 0 0 / 8) ≡ brackets .probe = cell-probe (getD part-rows 0 0) (brackets .probe) (ap (λ (c : List ℕ). rowOf (getD c 0 0)) part-are ∙ brackets .row) in
+            let says : u ≡ probeSaysEach kinds xs (take n (brackets .rest)) (brackets .probe) k all = h ∙ ap₂ (λ (c : List ℕ) (p : Probe). probeSaysEach kinds xs c p k all) (inner-of (brackets .first) (take n (brackets .rest)) part-rows part-are) probe-is in
+            go-on (suc n) u (ap (tell kinds xs k all (suc n) u) (brackets .are) ∙ ap (λ (x : Bool). tell kinds xs k all n x (brackets .rest)) says ∙ brackets .goes) (at + 1 + n + 1) (omega arith)
+
+-- ---- rows that are ready, and a test after brackets
+
+module _ {kinds xs rows values : List ℕ} {ends : List ℤ} {card : List ℕ} (w : Ready kinds xs rows values ends card) (at : ℕ) (l : at < length rows) where
+  pub ready-value : 2 * at + 1 < length values
+  ready-value = omega (arith, l, w .opens .room)
+
+  pub ready-end : 2 * at + 1 < length ends
+  ready-end = omega (arith, l, w .opens .ends-room)
+
+  pub ready-test : (r : Row) → r ≡ rowOf (getD rows at 0) → (p : Probe) (o : Opened) → r ≡ Row.Test p → o ≡ openedAt values ends at → o ≡ openedFor kinds xs p
+  unfolding openedRow
+  ready-test r e p o j h = h ∙ w .opens .each at l ∙ ap (openedIn kinds xs) (sym e ∙ j)
+
+module _ {kinds xs rows values : List ℕ} {ends : List ℤ} {card : List ℕ} (w : Bracketed kinds xs rows values ends card) where
+  pub bracketed-value : 1 < length values
+  bracketed-value = omega (arith, w .some-row, w .opens .room)
+
+  pub bracketed-end : 1 < length ends
+  bracketed-end = omega (arith, w .some-row, w .opens .ends-room)
+
+  pub bracketed-inner : Ready kinds xs (take (length rows - 1) (drop 1 rows)) (take (length values - 2) (drop 2 values)) (take (length ends - 2) (drop 2 ends)) card
+  bracketed-inner = record { each-kind = w .each-kind; short = w .short; whole = w .whole; opens = opens-second (w .opens) 1 (length rows) (w .some-row) (omega arith); well-formed = w .well-formed }
+
+  module _ (p : Probe) (i : p ≡ probeOf (getD rows 0 0 / 8)) where
+    test-is : w .test ≡ p
+    test-is = sym (i ∙ cell-probe (getD rows 0 0) (w .test) (w .row))
+
+    pub bracketed-index : p .index < 32
+    bracketed-index = test-index (getD rows 0 0) (Row.Test p) p (sym (w .row ∙ ap Row.Test test-is)) refl
+
+    module _ (o : Opened) (h : o ≡ openedAt values ends 0) where
+      opened-is : o ≡ openedFor kinds xs p
+      unfolding openedRow
+      opened-is = h ∙ w .opens .each 0 (omega (arith, w .some-row)) ∙ ap (openedIn kinds xs) (w .row ∙ ap Row.Test test-is)
+
+      pub bracket-known : (m : Meaning) (kind : ℕ) → o .found ≡ true → kind ≡ getD kinds (p .index) 0 → m ≡ meaningOf (p .operator) kind → Known xs m o
+      bracket-known = probe-known kinds xs p o opened-is
+
+      abbrev inner-rows : List ℕ
+      inner-rows = take (length rows - 1) (drop 1 rows)
+
+      pub bracket-closed : (k : Chosen) (all : List Entry) → o .found ≡ false → false ≡ bracketSays kinds xs rows k all
+      bracket-closed k all f = probe-closed kinds xs p o opened-is inner-rows k all f ∙ ap (λ (x : Probe). probeSaysEach kinds xs inner-rows x k all) i
+
+      pub bracket-opened : (k : Chosen) (all : List Entry) (m : Meaning) (kind : ℕ) (s r : Bool) → o .found ≡ true → kind ≡ getD kinds (p .index) 0 → m ≡ meaningOf (p .operator) kind
+          → s ≡ someEntry (occurrenceSays kinds xs all inner-rows) k (p .index) m (valueOf xs o) all → r ≡ someSays m (o .truth) s → r ≡ bracketSays kinds xs rows k all
+      bracket-opened k all m kind s r f a b q y = probe-opened kinds xs p o opened-is inner-rows k all m kind s r f a b q y ∙ ap (λ (x : Probe). probeSaysEach kinds xs inner-rows x k all) i

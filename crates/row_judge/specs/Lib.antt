@@ -1,3 +1,2 @@
 -- What rows say of a card.
 pub mod Saying
-pub mod Jumping

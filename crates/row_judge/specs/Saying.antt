@@ -1,15 +1,17 @@
 -- What an expression says of a card's entries, as the code goes: by index, and entry by entry. Kinds are a table by index.
 -- Assumes nothing.
-use Prim.Native.Nat.{ℕ, _≤_}
+use Prim.Native.Nat.{ℕ, _-_, _/_, _≤_}
 use mathlib.Core.Path.{_≡_}
-use mathlib.Core.Bool.{Bool, false, not, _&&_, _||_}
+use mathlib.Core.Bool.{Bool, false, cond, not, _&&_, _||_}
 use mathlib.Core.Option.{Option, none, some}
 use mathlib.Core.List.{List, [], _∷_}
 use lib.Dec.{eqb}
-use lib.ListN.{length, getD}
-use Rattle.base.specs.Parts.{part}
-use Rattle.card.specs.Card.{Entry}
+use lib.ListN.{length, getD, take, drop}
+use lib.IntN.{ℤ}
+use Rattle.block.specs.declared.Validity.{Validity}
+use Rattle.card.specs.Card.{Entry, readCard}
 use Rattle.syntax.specs.Scan.{valueAt}
+use Rattle.syntax.specs.declared.Connective.{Connective}
 use Rattle.syntax.specs.declared.FoundValue.{FoundValue}
 use Rattle.kind.specs.Table.{meaningOf}
 use Rattle.kind.specs.Readable.{isTrue}
@@ -17,10 +19,12 @@ use Rattle.kind.specs.declared.Meaning.{Meaning}
 use Rattle.judge.specs.Sets.{valuesAt, ofOccurrence, keep, counts}
 use Rattle.judge.specs.Verdicts.{textCounts, someSays, saysOf, joined}
 use Rattle.judge.specs.declared.Chosen.{Chosen}
-use Rattle.rows.specs.Expression.{Expression, probing, choosing, joining, negating, testCount}
-use Rattle.rows.specs.Cells.{stated}
+use Rattle.rows.specs.Expression.{Expression, probing, choosing, joining, negating}
+use Rattle.rows.specs.Cells.{probeOf, rowOf, stated}
 use Rattle.rows.specs.Shapes.{valueIn}
 use Rattle.rows.specs.declared.Probe.{Probe}
+use Rattle.rows.specs.declared.Row.{Row}
+use Rattle.row_opener.specs.Opening.{Opens}
 
 -- ---- an expression
 
@@ -47,17 +51,38 @@ statedSays kinds xs es (some e) = expressionSays kinds xs es e
 unfoldable pub rowsSay : List ℕ → List ℕ → List Entry → List ℕ → Bool
 rowsSay kinds xs es cs = statedSays kinds xs es (stated cs)
 
--- they state an expression, with few enough tests for a stack of 32
+-- they state an expression
 pub record Whole (cs : List ℕ) : Type 0 where
   pub expression : Expression
   pub states : stated cs ≡ some expression
-  pub few : testCount expression ≤ 32
 
--- the rows in brackets, from one place to another
-pub record Bracketed (rows : List ℕ) (from to : ℕ) : Type 0 where
-  pub order : from ≤ to
-  pub within : to ≤ length rows
-  pub whole : Whole (part rows from to)
+-- rows that state an expression, were opened, and are to be judged on a well-formed card
+pub record Ready (kinds xs rows values : List ℕ) (ends : List ℤ) (card : List ℕ) : Type 0 where
+  pub each-kind : length kinds ≡ 32
+  pub short : length xs ≤ 1024
+  pub whole : Whole rows
+  pub opens : Opens kinds xs rows values ends (length rows)
+  pub well-formed : readCard card ≡ Validity.WellFormed
+
+-- the row of a test and the rows of its brackets behind it, opened
+pub record Bracketed (kinds xs rows values : List ℕ) (ends : List ℤ) (card : List ℕ) : Type 0 where
+  pub each-kind : length kinds ≡ 32
+  pub short : length xs ≤ 1024
+  pub some-row : 1 ≤ length rows
+  pub test : Probe
+  pub row : rowOf (getD rows 0 0) ≡ Row.Test test
+  pub whole : Whole (take (length rows - 1) (drop 1 rows))
+  pub opens : Opens kinds xs rows values ends (length rows)
+  pub well-formed : readCard card ≡ Validity.WellFormed
+
+-- a join is decided by the verdict of its first part
+abbrev pub decides : Connective → Bool → Bool
+decides Connective.And a = not a
+decides Connective.Or a = a
+
+-- how many of the rows of its second part are left out
+abbrev pub skipped : Connective → Bool → ℕ → ℕ
+skipped c a n = cond (decides c a) n 0
 
 -- ---- a test after the rows in its brackets, entry by entry
 
@@ -77,3 +102,7 @@ probeSaysEachBy FoundValue.Nothing kind kinds xs inner p k all = false
 
 unfoldable pub probeSaysEach : List ℕ → List ℕ → List ℕ → Probe → Chosen → List Entry → Bool
 probeSaysEach kinds xs inner p k all = probeSaysEachBy (valueAt xs (p .position)) (getD kinds (p .index) 0) kinds xs inner p k all
+
+-- by the row of the test and the rows behind it
+abbrev pub bracketSays : List ℕ → List ℕ → List ℕ → Chosen → List Entry → Bool
+bracketSays kinds xs rows k all = probeSaysEach kinds xs (take (length rows - 1) (drop 1 rows)) (probeOf (getD rows 0 0 / 8)) k all

@@ -1,5 +1,4 @@
 // Rows that are opened for one card alone.
-use crate::jump::note_jumps;
 use crate::says::rows_say;
 use block::Validity;
 use judge::Chosen;
@@ -20,31 +19,8 @@ pub fn say_once(kinds: &[u8], filter: &[u8], rows: &[u32], card: &[u8], chosen: 
     requires { ⌜ readCard (now card) ≡ Validity.WellFormed ⌝ }
     ensures { λ r. ⌜ r ≡ rowsSay (now (kinds .entry)) (now (filter .entry)) (chosenOf chosen (entriesOf (now (card .entry)))) (now (rows .entry)) ⌝ }
 {
-    let mut jumps = [0u32; 320];
-    let mut spans = [0u32; 320];
-    let mut digits = [0u64; 320];
-    let mut starts = [0i64; 320];
-    let mut ends = [0i64; 320];
-    note_jumps(rows, &mut jumps);
-    open_rows(
-        kinds,
-        filter,
-        rows,
-        &mut spans,
-        &mut digits,
-        &mut starts,
-        &mut ends,
-    );
-    rows_say(
-        kinds,
-        filter,
-        rows,
-        &jumps,
-        &spans,
-        &digits,
-        &starts,
-        &ends,
-        card,
-        chosen,
-    )
+    let mut values = [0u64; 640];
+    let mut ends = [0i64; 640];
+    open_rows(kinds, filter, rows, &mut values, &mut ends);
+    rows_say(kinds, filter, rows, &values, &ends, card, chosen)
 }

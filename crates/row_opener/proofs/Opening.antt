@@ -1,18 +1,20 @@
 -- Values opened once: the cells of one stand for it, and lists of cells have each at its row's place.
 -- What a value reads to is small (`Small`): its places are within 1,024, a number has at most nine decimals, and what reads to a number is
 -- not read as a date. So one mark below 16 is enough: a number's decimals, 10 for a date, 11 for neither (`mark-most`). Flags, mark and
--- places go into one number and come out again by division (`cells-back`). The loop over the rows keeps `Opening`: four lists have the cells
--- of the rows so far (`Opens`), one row more at each turn (`opening-next`).
+-- places go into one number and come out again by division (`cells-back`). The loop over the rows keeps `Opening`: two lists have the cells
+-- of the rows so far (`Opens`), one row more at each turn (`opening-next`). Parts of rows are opened by parts of the lists.
 -- Assumes nothing.
-use Prim.Native.Nat.{ℕ, _+_, _*_, _/_, _%_, _≤_, _<_}
+use Prim.Native.Nat.{ℕ, _+_, _*_, _-_, _/_, _%_, _≤_, _<_}
 use native.Mathlib.Omega.{arith}
 use mathlib.Core.Path.{_≡_, refl, sym, ap, ap₂, subst, _∙_}
 use mathlib.Core.Bool.{Bool, true, false, cond}
 use mathlib.Core.List.{List}
 use lib.Dec.{eqb}
 use lib.IntN.{ℤ, pos}
-use lib.ListN.{length, getD, set, length-set}
-use lib.Seq.{getD-set-same, getD-set-other}
+use lib.ListN.{length, getD, take, drop, set, length-set, length-drop}
+use lib.Seq.{getD-set-same, getD-set-other, getD-take, getD-drop, take-all, length-take-le}
+use Rattle.base.specs.Parts.{part}
+use Rattle.base.proofs.Parts.{part-length}
 use borrow.Author.Tests.{lt-ltb, le-ltb, eq-eqb, ne-eqb, eqb-true, eqb-false}
 use Rattle.number.specs.Reading as numbers
 use Rattle.number.specs.declared.NumberReading.{NumberReading}
@@ -35,7 +37,7 @@ use Rattle.kind.specs.declared.Meaning.{Meaning}
 use Rattle.judge.specs.Once.{readingsFor}
 use Rattle.rows.specs.Cells.{rowOf}
 use Rattle.rows.specs.Shapes.{bit, valueIn}
-use Rattle.row_opener.specs.Opening.{closed, openedValue, openedBy, openedFor, openedIn, openedRow, dateMark, markOf, digitsOf, startOf, endOf, spanOf, numberFrom, dateFrom, openedFrom, Lists, Opens}
+use Rattle.row_opener.specs.Opening.{closed, openedValue, openedBy, openedFor, openedIn, openedRow, dateMark, markOf, digitsOf, startOf, endOf, spanOf, numberFrom, dateFrom, openedFrom, openedAt, Opens}
 use Rattle.row_opener.specs.Packing.{Sane, Small}
 use Rattle.rows.specs.declared.Probe.{Probe}
 use Rattle.rows.specs.declared.Row.{Row}
@@ -83,9 +85,9 @@ row-small kinds xs c l = by-row (rowOf c)
   where
     by-row : (r : Row) → Small (openedIn kinds xs r)
     by-row (Row.Test p) = for-small kinds xs p l
-    by-row (Row.Bracket p) = for-small kinds xs p l
+    by-row (Row.Bracket n) = closed-small
     by-row Row.Not = closed-small
-    by-row (Row.Connect a) = closed-small
+    by-row (Row.Connect a n) = closed-small
     by-row Row.Unknown = closed-small
 
 pub opened-small : (kinds xs : List ℕ) (c : ℕ) (o : Opened) → o ≡ openedRow kinds xs c → length xs ≤ 1024 → Small o
@@ -141,73 +143,82 @@ cells-back o s =
     let date : dateFrom (n / 8 % 16) (startOf (o .readings .date)) (endOf (o .readings .date)) ≡ o .readings .date = ap (λ (k : ℕ). dateFrom k (startOf (o .readings .date)) (endOf (o .readings .date))) mark ∙ date-back (o .readings .number) (o .readings .date) (s .sane) in
     opened-same (flag-back (o .found) (n % 2) (omega (arith, f1))) (flag-back (o .escaped) (n / 2 % 2) (omega (arith, f1, e1))) (flag-back (o .truth) (n / 4 % 2) (omega (arith, f1, e1, t1))) start end number date
 
--- ---- lists of cells
+-- ---- lists of cells, two for a row
 
-module _ {A : Type 0} {rest : A} {f : ℕ → A} {rows : List ℕ} {cells : List A} where
-  pub lists-none : length rows ≤ length cells → Lists rest f rows cells 0
-  lists-none l = record { room = l; each = λ j h. absurd (omega (arith, h)) }
+module _ {A : Type 0} (l : List A) (i : ℕ) (a b d : A) where
+  abbrev pair : List A
+  pair = set (set l (2 * i) a) (2 * i + 1) b
 
-  pub lists-more : (n : ℕ) (v : A) → Lists rest f rows cells n → n < length rows → v ≡ f (getD rows n 0) → Lists rest f rows (set cells n v) (n + 1)
-  lists-more n v s l e =
-      record {
-        room = subst (λ (k : ℕ). length rows ≤ k) (sym (length-set cells n v)) (s .room);
-        each = λ j h. by-place j h (eqb j n) refl;
-      }
-    where
-      by-place : (j : ℕ) → j < n + 1 → (t : Bool) → eqb j n ≡ t → getD (set cells n v) j rest ≡ f (getD rows j 0)
-      by-place j h true z =
-          let same : j ≡ n = eqb-true j n z in
-          subst (λ (k : ℕ). getD (set cells n v) k rest ≡ f (getD rows k 0)) (sym same) (getD-set-same cells n v rest (omega (arith, l, s .room)) ∙ e)
-      by-place j h false z = getD-set-other cells n j v rest (eqb-false j n z) ∙ s .each j (omega (arith, h, eqb-false j n z))
+  pair-length : length pair ≡ length l
+  pair-length = length-set (set l (2 * i) a) (2 * i + 1) b ∙ length-set l (2 * i) a
+
+  pair-first : 2 * i + 1 < length l → getD pair (2 * i) d ≡ a
+  pair-first h = getD-set-other (set l (2 * i) a) (2 * i + 1) (2 * i) b d (λ z. omega (arith, z)) ∙ getD-set-same l (2 * i) a d (omega (arith, h))
+
+  pair-second : 2 * i + 1 < length l → getD pair (2 * i + 1) d ≡ b
+  pair-second h = getD-set-same (set l (2 * i) a) (2 * i + 1) b d (omega (arith, h, length-set l (2 * i) a))
+
+  pair-other : (j : ℕ) → (j ≡ 2 * i → ⊥) → (j ≡ 2 * i + 1 → ⊥) → getD pair j d ≡ getD l j d
+  pair-other j n m = getD-set-other (set l (2 * i) a) (2 * i + 1) j b d m ∙ getD-set-other l (2 * i) j a d n
+
+opened-cells : {a b n m : ℕ} {x y w z : ℤ} → a ≡ n → b ≡ m → x ≡ w → y ≡ z → openedFrom a b x y ≡ openedFrom n m w z
+opened-cells e f g h = rw (e, f, g, h)
 
 -- ---- `open_rows`
 
-pub record Opening (kinds xs rows spans₀ digits₀ : List ℕ) (starts₀ ends₀ : List ℤ) (spans digits : List ℕ) (starts ends : List ℤ) (i : ℕ) : Type 0 where
-  pub opens : Opens kinds xs rows spans digits starts ends i
+pub record Opening (kinds xs rows values₀ : List ℕ) (ends₀ : List ℤ) (values : List ℕ) (ends : List ℤ) (i : ℕ) : Type 0 where
+  pub opens : Opens kinds xs rows values ends i
   pub within : i ≤ length rows
-  pub span-length : length spans ≡ length spans₀
-  pub digit-length : length digits ≡ length digits₀
-  pub start-length : length starts ≡ length starts₀
+  pub value-length : length values ≡ length values₀
   pub end-length : length ends ≡ length ends₀
 
-module _ (kinds xs rows spans₀ digits₀ : List ℕ) (starts₀ ends₀ : List ℤ) where
-  pub opening-start : length rows ≤ length spans₀ → length rows ≤ length digits₀ → length rows ≤ length starts₀ → length rows ≤ length ends₀
-      → Opening kinds xs rows spans₀ digits₀ starts₀ ends₀ spans₀ digits₀ starts₀ ends₀ 0
-  opening-start a b c d =
-      record {
-        opens = record { span-cells = lists-none a; digit-cells = lists-none b; start-cells = lists-none c; end-cells = lists-none d };
-        within = omega arith;
-        span-length = refl;
-        digit-length = refl;
-        start-length = refl;
-        end-length = refl;
-      }
+module _ (kinds xs rows values₀ : List ℕ) (ends₀ : List ℤ) where
+  pub opening-start : 2 * length rows ≤ length values₀ → 2 * length rows ≤ length ends₀ → Opening kinds xs rows values₀ ends₀ values₀ ends₀ 0
+  opening-start a b = record { opens = record { room = a; ends-room = b; each = λ j h. absurd (omega (arith, h)) }; within = omega arith; value-length = refl; end-length = refl }
 
-  module _ (spans digits : List ℕ) (starts ends : List ℤ) (i : ℕ) (s : Opening kinds xs rows spans₀ digits₀ starts₀ ends₀ spans digits starts ends i) where
-    pub opening-next : i < length rows → (o : Opened) (n d : ℕ) (a b : ℤ) → o ≡ openedRow kinds xs (getD rows i 0) → n ≡ spanOf o → d ≡ digitsOf (o .readings .number) → a ≡ startOf (o .readings .date) → b ≡ endOf (o .readings .date)
-        → (y z : ℤ) → y ≡ a → z ≡ b → Opening kinds xs rows spans₀ digits₀ starts₀ ends₀ (set spans i n) (set digits i d) (set starts i y) (set ends i z) (i + 1)
-    opening-next l o n d a b e en ed ea eb y z ey ez =
+  module _ (values : List ℕ) (ends : List ℤ) (i : ℕ) (s : Opening kinds xs rows values₀ ends₀ values ends i) where
+    pub opening-next : i < length rows → length xs ≤ 1024 → (o : Opened) (n d : ℕ) (a b : ℤ) → o ≡ openedRow kinds xs (getD rows i 0) → n ≡ spanOf o → d ≡ digitsOf (o .readings .number) → a ≡ startOf (o .readings .date) → b ≡ endOf (o .readings .date)
+        → (y z : ℤ) → y ≡ a → z ≡ b → Opening kinds xs rows values₀ ends₀ (set (set values (2 * i) n) (2 * i + 1) d) (set (set ends (2 * i) y) (2 * i + 1) z) (i + 1)
+    unfolding openedAt
+    opening-next l short o n d a b e en ed ea eb y z ey ez =
         record {
           opens = record {
-            span-cells = lists-more i n (s .opens .span-cells) l (en ∙ ap spanOf e);
-            digit-cells = lists-more i d (s .opens .digit-cells) l (ed ∙ ap (λ (q : Opened). digitsOf (q .readings .number)) e);
-            start-cells = lists-more i y (s .opens .start-cells) l (ey ∙ ea ∙ ap (λ (q : Opened). startOf (q .readings .date)) e);
-            end-cells = lists-more i z (s .opens .end-cells) l (ez ∙ eb ∙ ap (λ (q : Opened). endOf (q .readings .date)) e);
+            room = omega (arith, s .opens .room, pair-length values i n d 0);
+            ends-room = omega (arith, s .opens .ends-room, pair-length ends i y z (pos 0));
+            each = λ j h. by-place j h (eqb j i) refl;
           };
           within = omega (arith, l);
-          span-length = length-set spans i n ∙ s .span-length;
-          digit-length = length-set digits i d ∙ s .digit-length;
-          start-length = length-set starts i y ∙ s .start-length;
-          end-length = length-set ends i z ∙ s .end-length;
+          value-length = pair-length values i n d 0 ∙ s .value-length;
+          end-length = pair-length ends i y z (pos 0) ∙ s .end-length;
         }
+      where
+        by-place : (j : ℕ) → j < i + 1 → (t : Bool) → eqb j i ≡ t → openedAt (pair values i n d 0) (pair ends i y z (pos 0)) j ≡ openedRow kinds xs (getD rows j 0)
+        by-place j h true k =
+            let same : j ≡ i = eqb-true j i k in
+            let low : 2 * i + 1 < length values = omega (arith, l, s .opens .room) in
+            let ends-low : 2 * i + 1 < length ends = omega (arith, l, s .opens .ends-room) in
+            subst (λ (m : ℕ). openedAt (pair values i n d 0) (pair ends i y z (pos 0)) m ≡ openedRow kinds xs (getD rows m 0)) (sym same)
+            (opened-cells (pair-first values i n d 0 low ∙ en) (pair-second values i n d 0 low ∙ ed) (pair-first ends i y z (pos 0) ends-low ∙ ey ∙ ea) (pair-second ends i y z (pos 0) ends-low ∙ ez ∙ eb)
+            ∙ cells-back o (opened-small kinds xs (getD rows i 0) o e short) ∙ e)
+        by-place j h false k =
+            let other : j ≡ i → ⊥ = eqb-false j i k in
+            let a1 : 2 * j ≡ 2 * i → ⊥ = λ z. other (omega (arith, z)) in
+            let a2 : 2 * j ≡ 2 * i + 1 → ⊥ = λ z. omega (arith, z) in
+            let b1 : 2 * j + 1 ≡ 2 * i → ⊥ = λ z. omega (arith, z) in
+            let b2 : 2 * j + 1 ≡ 2 * i + 1 → ⊥ = λ z. other (omega (arith, z)) in
+            opened-cells (pair-other values i n d 0 (2 * j) a1 a2) (pair-other values i n d 0 (2 * j + 1) b1 b2) (pair-other ends i y z (pos 0) (2 * j) a1 a2) (pair-other ends i y z (pos 0) (2 * j + 1) b1 b2)
+            ∙ s .opens .each j (omega (arith, h, other))
 
-    pub opening-end : length rows ≤ i → Opens kinds xs rows spans digits starts ends (length rows)
+    pub value-room : (n : ℕ) → i < length rows → 2 * i + 1 < length (set values (2 * i) n)
+    value-room n l = omega (arith, l, s .opens .room, length-set values (2 * i) n)
+
+    pub end-room : (z : ℤ) → i < length rows → 2 * i + 1 < length (set ends (2 * i) z)
+    end-room z l = omega (arith, l, s .opens .ends-room, length-set ends (2 * i) z)
+
+    pub opening-end : length rows ≤ i → Opens kinds xs rows values ends (length rows)
     opening-end l =
         let all : i ≡ length rows = omega (arith, l, s .within) in
-        subst (λ (n : ℕ). Opens kinds xs rows spans digits starts ends n) all (s .opens)
-
-    pub span-room : length rows ≤ length spans
-    span-room = s .opens .span-cells .room
+        subst (λ (n : ℕ). Opens kinds xs rows values ends n) all (s .opens)
 
 -- ---- the functions that open a value
 
@@ -241,17 +252,17 @@ module _ (kinds xs : List ℕ) (c : ℕ) (r : Row) (e : r ≡ rowOf c) (o : Open
   unfolding openedRow
   row-test p h k = rw (sym e ∙ h) k
 
-  pub row-bracket : (p : Probe) → r ≡ Row.Bracket p → o ≡ openedFor kinds xs p → o ≡ openedRow kinds xs c
+  pub row-bracket : (n : ℕ) → r ≡ Row.Bracket n → o ≡ closed → o ≡ openedRow kinds xs c
   unfolding openedRow
-  row-bracket p h k = rw (sym e ∙ h) k
+  row-bracket n h k = rw (sym e ∙ h) k
 
   pub row-not : r ≡ Row.Not → o ≡ closed → o ≡ openedRow kinds xs c
   unfolding openedRow
   row-not h k = rw (sym e ∙ h) k
 
-  pub row-connect : (a : Connective) → r ≡ Row.Connect a → o ≡ closed → o ≡ openedRow kinds xs c
+  pub row-connect : (a : Connective) (n : ℕ) → r ≡ Row.Connect a n → o ≡ closed → o ≡ openedRow kinds xs c
   unfolding openedRow
-  row-connect a h k = rw (sym e ∙ h) k
+  row-connect a n h k = rw (sym e ∙ h) k
 
   pub row-unknown : r ≡ Row.Unknown → o ≡ closed → o ≡ openedRow kinds xs c
   unfolding openedRow
@@ -305,5 +316,44 @@ pub from-is : (n digits : ℕ) (start end : ℤ) (x : NumberReading) (y : DateRe
 unfolding openedFrom
 from-is n digits start end x y a b e h i j = rw (e, h ∙ ap₂ (dateFrom (n / 8 % 16)) i j)
 
-pub from-same : (n digits : ℕ) (start end a b : ℤ) (o : Opened) → o ≡ openedFrom n digits a b → a ≡ start → b ≡ end → o ≡ openedFrom n digits start end
-from-same n digits start end a b o e h k = e ∙ ap₂ (openedFrom n digits) h k
+pub at-is : (values : List ℕ) (ends : List ℤ) (i : ℕ) (a b : ℤ) (o : Opened) → o ≡ openedFrom (getD values (2 * i) 0) (getD values (2 * i + 1) 0) a b → a ≡ getD ends (2 * i) (pos 0) → b ≡ getD ends (2 * i + 1) (pos 0) → o ≡ openedAt values ends i
+unfolding openedAt
+at-is values ends i a b o e h k = e ∙ ap₂ (openedFrom (getD values (2 * i) 0) (getD values (2 * i + 1) 0)) h k
+
+-- ---- parts of rows
+
+module _ {kinds xs rows values : List ℕ} {ends : List ℤ} (o : Opens kinds xs rows values ends (length rows)) where
+  -- the value of the last row
+  pub opens-last : (n : ℕ) → n < length rows → (2 * n + 1 < length values) × ((2 * n + 1 < length ends) × (openedAt values ends n ≡ openedRow kinds xs (getD rows n 0)))
+  opens-last n h = (omega (arith, h, o .room), (omega (arith, h, o .ends-room), o .each n h))
+
+  pub opens-first : (m : ℕ) → m ≤ length rows → Opens kinds xs (take m rows) values ends (length (take m rows))
+  opens-first m h =
+      let n : length (take m rows) ≡ m = length-take-le m rows h in
+      record {
+        room = omega (arith, n, h, o .room);
+        ends-room = omega (arith, n, h, o .ends-room);
+        each = λ j k. o .each j (omega (arith, k, n, h)) ∙ ap (openedRow kinds xs) (sym (getD-take m rows j 0 (omega (arith, k, n))));
+      }
+
+  pub opens-second : (m e : ℕ) → m ≤ e → e ≤ length rows → Opens kinds xs (part rows m e) (take (length values - 2 * m) (drop (2 * m) values)) (take (length ends - 2 * m) (drop (2 * m) ends)) (length (part rows m e))
+  unfolding openedAt
+  opens-second m e h k =
+      let n : length (part rows m e) ≡ e - m = part-length rows m e k in
+      let vs : take (length values - 2 * m) (drop (2 * m) values) ≡ drop (2 * m) values = take-all (length values - 2 * m) (drop (2 * m) values) (omega (arith, length-drop (2 * m) values)) in
+      let es : take (length ends - 2 * m) (drop (2 * m) ends) ≡ drop (2 * m) ends = take-all (length ends - 2 * m) (drop (2 * m) ends) (omega (arith, length-drop (2 * m) ends)) in
+      rw (vs, es)
+      (record {
+        room = omega (arith, n, h, k, o .room, length-drop (2 * m) values);
+        ends-room = omega (arith, n, h, k, o .ends-room, length-drop (2 * m) ends);
+        each = λ j i. at j (omega (arith, i, n));
+      })
+    where
+      at : (j : ℕ) → j < e - m → openedAt (drop (2 * m) values) (drop (2 * m) ends) j ≡ openedRow kinds xs (getD (part rows m e) j 0)
+      at j i =
+          let a : 2 * m + 2 * j ≡ 2 * (m + j) = omega arith in
+          let b : 2 * m + (2 * j + 1) ≡ 2 * (m + j) + 1 = omega arith in
+          opened-cells (getD-drop (2 * m) values (2 * j) 0 ∙ ap (λ (x : ℕ). getD values x 0) a) (getD-drop (2 * m) values (2 * j + 1) 0 ∙ ap (λ (x : ℕ). getD values x 0) b)
+          (getD-drop (2 * m) ends (2 * j) (pos 0) ∙ ap (λ (x : ℕ). getD ends x (pos 0)) a) (getD-drop (2 * m) ends (2 * j + 1) (pos 0) ∙ ap (λ (x : ℕ). getD ends x (pos 0)) b)
+          ∙ o .each (m + j) (omega (arith, i, k, h))
+          ∙ ap (openedRow kinds xs) (sym (getD-take (e - m) (drop m rows) j 0 i ∙ getD-drop m rows j 0))

@@ -1,4 +1,4 @@
--- What the value of a test reads to, opened once for many cards, and the cells that have it, one of each list for a row.
+-- What the value of a test reads to, opened once for many cards, and the cells that have it.
 -- Assumes nothing.
 use Prim.Native.Nat.{ℕ, _+_, _*_, _/_, _%_, _≤_, _<_}
 use mathlib.Core.Path.{_≡_}
@@ -43,9 +43,9 @@ openedFor kinds xs p = openedBy xs (meaningOf (p .operator) (getD kinds (p .inde
 
 abbrev pub openedIn : List ℕ → List ℕ → Row → Opened
 openedIn kinds xs (Row.Test p) = openedFor kinds xs p
-openedIn kinds xs (Row.Bracket p) = openedFor kinds xs p
+openedIn kinds xs (Row.Bracket n) = closed
 openedIn kinds xs Row.Not = closed
-openedIn kinds xs (Row.Connect a) = closed
+openedIn kinds xs (Row.Connect a n) = closed
 openedIn kinds xs Row.Unknown = closed
 
 unfoldable pub openedRow : List ℕ → List ℕ → ℕ → Opened
@@ -105,15 +105,13 @@ openedFrom n digits start end =
       readings = record { number = numberFrom (n / 8 % 16) digits; date = dateFrom (n / 8 % 16) start end };
     }
 
--- ---- the lists of cells: each has at a row's place what it opens to
+-- ---- the lists of cells: two of each for a row, flags and digits in one list, a date's ends in the other
 
-pub record Lists {A : Type 0} (rest : A) (f : ℕ → A) (rows : List ℕ) (cells : List A) (n : ℕ) : Type 0 where
-  pub room : length rows ≤ length cells
-  pub each : (j : ℕ) → j < n → getD cells j rest ≡ f (getD rows j 0)
+unfoldable pub openedAt : List ℕ → List ℤ → ℕ → Opened
+openedAt values ends j = openedFrom (getD values (2 * j) 0) (getD values (2 * j + 1) 0) (getD ends (2 * j) (pos 0)) (getD ends (2 * j + 1) (pos 0))
 
 -- of the first n rows
-pub record Opens (kinds xs rows spans digits : List ℕ) (starts ends : List ℤ) (n : ℕ) : Type 0 where
-  pub span-cells : Lists 0 (λ c. spanOf (openedRow kinds xs c)) rows spans n
-  pub digit-cells : Lists 0 (λ c. digitsOf (openedRow kinds xs c .readings .number)) rows digits n
-  pub start-cells : Lists (pos 0) (λ c. startOf (openedRow kinds xs c .readings .date)) rows starts n
-  pub end-cells : Lists (pos 0) (λ c. endOf (openedRow kinds xs c .readings .date)) rows ends n
+pub record Opens (kinds xs rows values : List ℕ) (ends : List ℤ) (n : ℕ) : Type 0 where
+  pub room : 2 * length rows ≤ length values
+  pub ends-room : 2 * length rows ≤ length ends
+  pub each : (j : ℕ) → j < n → openedAt values ends j ≡ openedRow kinds xs (getD rows j 0)

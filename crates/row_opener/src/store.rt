@@ -16,11 +16,11 @@ use syntax::RawValue;
 use syntax::value::decode;
 use syntax::value::read_value;
 ghost use mathlib.Core.Path.{_≡_};
-ghost use Prim.Native.Nat.{_≤_, _<_};
+ghost use Prim.Native.Nat.{_+_, _*_, _≤_, _<_};
 ghost use lib.ListN.{length};
 ghost use Rattle.syntax.specs.Placed.{PlacedValue};
 ghost use Rattle.rows.specs.Shapes.{valueIn};
-ghost use Rattle.row_opener.specs.Opening.{closed, openedValue, openedFor, openedRow, dateMark, markOf, digitsOf, startOf, endOf, spanOf, numberFrom, dateFrom, openedFrom, Opens};
+ghost use Rattle.row_opener.specs.Opening.{closed, openedValue, openedFor, openedRow, dateMark, markOf, digitsOf, startOf, endOf, spanOf, numberFrom, dateFrom, openedFrom, openedAt, Opens};
 ghost use Rattle.row_opener.specs.Packing.{Sane, Small};
 
 // ---- the value of a test
@@ -98,9 +98,9 @@ fn opened_row(kinds: &[u8], filter: &[u8], cell: u32) -> Opened
 {
     match row_of(cell) {
         Row::Test(probe) => opened_probe(kinds, filter, probe),
-        Row::Bracket(probe) => opened_probe(kinds, filter, probe),
+        Row::Bracket(_) => closed(),
         Row::Not => closed(),
-        Row::Connect(_) => closed(),
+        Row::Connect(_, _) => closed(),
         Row::Unknown => closed(),
     }
 }
@@ -184,7 +184,7 @@ fn span_of(opened: Opened) -> u32
 }
 
 // The number that a mark and digits stand for.
-fn number_from(mark: u32, digits: u64) -> NumberReading
+fn number_from(mark: u64, digits: u64) -> NumberReading
     ensures { λ r. ⌜ r ≡ numberFrom mark digits ⌝ }
 {
     if mark < 10 {
@@ -197,7 +197,7 @@ fn number_from(mark: u32, digits: u64) -> NumberReading
 }
 
 // The date that a mark and two ends stand for.
-fn date_from(mark: u32, start: i64, end: i64) -> DateReading
+fn date_from(mark: u64, start: i64, end: i64) -> DateReading
     ensures { λ r. ⌜ r ≡ dateFrom mark start end ⌝ }
 {
     if mark == 10 {
@@ -207,7 +207,7 @@ fn date_from(mark: u32, start: i64, end: i64) -> DateReading
 }
 
 // What cells stand for.
-pub fn opened_from(span: u32, digits: u64, start: i64, end: i64) -> Opened
+fn opened_from(span: u64, digits: u64, start: i64, end: i64) -> Opened
     ensures { λ r. ⌜ r ≡ openedFrom span digits start end ⌝ }
 {
     let mark = span / 8 % 16;
@@ -224,23 +224,23 @@ pub fn opened_from(span: u32, digits: u64, start: i64, end: i64) -> Opened
     }
 }
 
+// The value of the row at i.
+pub fn opened_at(values: &[u64], ends: &[i64], i: usize) -> Opened
+    requires { ⌜ 2 * i + 1 < length (now values) ⌝ }
+    requires { ⌜ 2 * i + 1 < length (now ends) ⌝ }
+    ensures { λ r. ⌜ r ≡ openedAt (now (values .entry)) (now (ends .entry)) i ⌝ }
+{
+    let cell = 2 * i;
+    opened_from(values[cell], values[cell + 1], ends[cell], ends[cell + 1])
+}
+
 // Opens rows: writes the cells of each.
-pub fn open_rows(
-    kinds: &[u8],
-    filter: &[u8],
-    rows: &[u32],
-    spans: &mut [u32],
-    digits: &mut [u64],
-    starts: &mut [i64],
-    ends: &mut [i64],
-)
+pub fn open_rows(kinds: &[u8], filter: &[u8], rows: &[u32], values: &mut [u64], ends: &mut [i64])
     requires { ⌜ length (now kinds) ≡ 32 ⌝ }
     requires { ⌜ length (now filter) ≤ 1024 ⌝ }
-    requires { ⌜ length (now rows) ≤ length (now spans) ⌝ }
-    requires { ⌜ length (now rows) ≤ length (now digits) ⌝ }
-    requires { ⌜ length (now rows) ≤ length (now starts) ⌝ }
-    requires { ⌜ length (now rows) ≤ length (now ends) ⌝ }
-    ensures { λ _. ⌜ Opens (now (kinds .entry)) (now (filter .entry)) (now (rows .entry)) (now (spans .exit)) (now (digits .exit)) (now (starts .exit)) (now (ends .exit)) (length (now (rows .entry))) ⌝ }
+    requires { ⌜ 2 * length (now rows) ≤ length (now values) ⌝ }
+    requires { ⌜ 2 * length (now rows) ≤ length (now ends) ⌝ }
+    ensures { λ _. ⌜ Opens (now (kinds .entry)) (now (filter .entry)) (now (rows .entry)) (now (values .exit)) (now (ends .exit)) (length (now (rows .entry))) ⌝ }
 {
     let mut i = 0;
     while i < rows.len() {
@@ -248,10 +248,11 @@ pub fn open_rows(
         let readings = opened.readings;
         let number = readings.number;
         let date = readings.date;
-        spans[i] = span_of(opened);
-        digits[i] = digits_of(number);
-        starts[i] = start_of(date);
-        ends[i] = end_of(date);
+        let cell = 2 * i;
+        values[cell] = span_of(opened) as u64;
+        values[cell + 1] = digits_of(number);
+        ends[cell] = start_of(date);
+        ends[cell + 1] = end_of(date);
         i += 1;
     }
 }

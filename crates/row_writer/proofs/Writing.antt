@@ -1,7 +1,7 @@
 -- Reading a filter and writing its rows: one law for each answer of an item and of a filter, and for each turn.
 -- `Wrote` says of a call that it answers what the definition reads, and that the cells of the expression stand behind those before its row. A
 -- law takes the `Wrote` of the call inside, if there is one, and what the leaves found around it, and gives the `Wrote` of the whole. A row
--- that is written is one cell more (`put-more`). The items of a filter are a chain: `Chained` has the tree so far, its cells, and that the
+-- that is written is one cell more (`put-more`), or was left out before its part and is filled in (`fill`). The items of a filter are a chain: `Chained` has the tree so far, its cells, and that the
 -- rest of the chain decides; a turn adds an item and its connective (`chain-takes`). An item takes at least as many bytes as it has cells
 -- (`item-cells`, by induction on its derivation), and this bounds every sum.
 -- Assumes nothing.
@@ -11,8 +11,8 @@ use native.Mathlib.Numerals.{add-one}
 use mathlib.Core.Path.{_≡_, refl, sym, ap, ap₂, subst, _∙_}
 use mathlib.Core.Bool.{Bool, true, false}
 use mathlib.Core.List.{List, [], _∷_, _++_, append-assoc, append-nil}
-use lib.ListN.{length, take, set, length-append, length-set}
-use lib.Seq.{take-suc-set, take-take, take-at, length-take-le}
+use lib.ListN.{length, getD, take, set, length-append, length-set}
+use lib.Seq.{take-suc, take-suc-set, take-set-lt, set-append-seam, take-take, take-at, length-take-le}
 use Rattle.base.specs.Parts.{part}
 use Rattle.base.specs.Runs.{RunEnd}
 use Rattle.sheet.specs.Sheet.{Parameter}
@@ -40,6 +40,7 @@ use Rattle.filter.specs.declared.Summary.{Summary}
 use Rattle.filter.proofs.Reading.{fault-append, reading-is, summary-inside}
 use Rattle.rows.specs.Cells.{numberOf, cellOf, encode}
 use Rattle.row_writer.specs.Writing.{probeFor, prepared, cellCount, outcomeOf, writtenOf, Wrote}
+use Rattle.rows.specs.declared.Probe.{Probe}
 use Rattle.rows.specs.declared.Row.{Row}
 use Rattle.row_writer.specs.declared.Outcome.{Outcome}
 use Rattle.row_writer.specs.declared.Written.{Written}
@@ -62,14 +63,37 @@ mutual
 pub cells-counted : (ps : List Parameter) (xs : List ℕ) (c : ℕ) (f : Tree) → length (encode (prepared ps xs c f)) ≡ cellCount f
 unfolding prepared encode cellCount
 cells-counted ps xs c (test t) = refl
-cells-counted ps xs c (bracketed p b f t) = omega (arith, length-append (encode (prepared ps xs (enter ps c b) f)) (cellOf (Row.Bracket (probeFor ps xs (enter ps c b) t)) ∷ []), cells-counted ps xs (enter ps c b) f)
+cells-counted ps xs c (bracketed p b f t) = omega (arith, cells-counted ps xs (enter ps c b) f)
 cells-counted ps xs c (join k f g) =
-    omega (arith, length-append (encode (prepared ps xs c f)) (encode (prepared ps xs c g) ++ (cellOf (Row.Connect k) ∷ [])), length-append (encode (prepared ps xs c g)) (cellOf (Row.Connect k) ∷ []), cells-counted ps xs c f, cells-counted ps xs c g)
+    omega (arith, length-append (encode (prepared ps xs c f)) (cellOf (Row.Connect k (length (encode (prepared ps xs c g)))) ∷ encode (prepared ps xs c g)), cells-counted ps xs c f, cells-counted ps xs c g)
 cells-counted ps xs c (negation f) = omega (arith, length-append (encode (prepared ps xs c f)) (cellOf Row.Not ∷ []), cells-counted ps xs c f)
 
 -- one cell more
 put-more : (a b : List ℕ) (l : List ℕ) (k v : ℕ) → take k l ≡ a ++ b → k < length l → take (k + 1) (set l k v) ≡ a ++ (b ++ (v ∷ []))
 put-more a b l k v e h = ap (λ (n : ℕ). take n (set l k v)) (add-one k) ∙ take-suc-set l k v h ∙ ap (λ (x : List ℕ). x ++ (v ∷ [])) e ∙ append-assoc a b (v ∷ [])
+
+-- a cell filled in
+fill : (a e m : List ℕ) (x i k v : ℕ) → take k m ≡ a ++ (x ∷ e) → length a ≡ i → i < k → take k (set m i v) ≡ a ++ (v ∷ e)
+fill a e m x i k v h l low = take-set-lt k m i v low ∙ ap₂ (λ (s : List ℕ) (j : ℕ). set s j v) h (sym l) ∙ set-append-seam a x e v
+
+-- one before cells that were written behind it
+fill-one : (l e m : List ℕ) (i k v : ℕ) → take k m ≡ take (i + 1) l ++ e → i < length l → i < k → take k (set m i v) ≡ take i l ++ (v ∷ e)
+fill-one l e m i k v h s low =
+    let before : take k m ≡ take i l ++ (getD l i 0 ∷ e) = h ∙ ap (λ (n : ℕ). take n l ++ e) (add-one i) ∙ ap (λ (a : List ℕ). a ++ e) (take-suc l i 0 s) ∙ append-assoc (take i l) (getD l i 0 ∷ []) e in
+    fill (take i l) e m (getD l i 0) i k v before (length-take-le i l (omega (arith, s))) low
+
+-- and two
+fill-two : (l e m : List ℕ) (i k u v : ℕ) → take k m ≡ take (i + 2) l ++ e → i + 1 < length l → i + 1 < k → take k (set (set m i u) (i + 1) v) ≡ take i l ++ (u ∷ (v ∷ e))
+fill-two l e m i k u v h s low =
+    let x : ℕ = getD l i 0 in
+    let y : ℕ = getD l (i + 1) 0 in
+    let two : i + 2 ≡ suc (i + 1) = omega arith in
+    let first : take (i + 1) l ≡ take i l ++ (x ∷ []) = ap (λ (n : ℕ). take n l) (add-one i) ∙ take-suc l i 0 (omega (arith, s)) in
+    let both : take (i + 2) l ≡ take i l ++ (x ∷ (y ∷ [])) = ap (λ (n : ℕ). take n l) two ∙ take-suc l (i + 1) 0 s ∙ ap (λ (a : List ℕ). a ++ (y ∷ [])) first ∙ append-assoc (take i l) (x ∷ []) (y ∷ []) in
+    let before : take k m ≡ take i l ++ (x ∷ (y ∷ e)) = h ∙ ap (λ (a : List ℕ). a ++ e) both ∙ append-assoc (take i l) (x ∷ (y ∷ [])) e in
+    let long : length (take i l) ≡ i = length-take-le i l (omega (arith, s)) in
+    let one : take k (set m i u) ≡ (take i l ++ (u ∷ [])) ++ (y ∷ e) = fill (take i l) (y ∷ e) m x i k u before long (omega (arith, low)) ∙ sym (append-assoc (take i l) (u ∷ []) (y ∷ e)) in
+    fill (take i l ++ (u ∷ [])) e (set m i u) y (i + 1) k v one (length-append (take i l) (u ∷ []) ∙ ap (λ (n : ℕ). n + 1) long) low ∙ append-assoc (take i l) (u ∷ []) (v ∷ e)
 
 -- ---- what an answer tells, and how one is given
 
@@ -291,38 +315,45 @@ module _ (ps : List Parameter) (c : ℕ) (xs : List ℕ) (row close d q : ℕ) (
 
 -- ---- the test of a member after its bundle's brackets
 
-module _ (ps : List Parameter) (c : ℕ) (xs : List ℕ) (row close d p u : ℕ) (z : ℕ) (b : z ≡ enter ps c (part xs p u)) (q : ℕ) (s : RunEnd isSpace xs (u + 1) q) (l m : List ℕ) (r : Written) (w : Wrote ps z xs row (filterAt d xs square q) r l m) where
+test-cell : (p : Probe) → cellOf (Row.Test p) ≡ 8 * numberOf p
+unfolding cellOf
+test-cell p = refl
+
+module _ (ps : List Parameter) (c : ℕ) (xs : List ℕ) (row close d p u : ℕ) (z : ℕ) (b : z ≡ enter ps c (part xs p u)) (q : ℕ) (s : RunEnd isSpace xs (u + 1) q) (l m : List ℕ) (r : Written) (w : Wrote ps z xs (row + 2) (filterAt d xs square q) r l m) where
   abbrev Chosen-wrote : Written → List ℕ → Type 0
   Chosen-wrote r after = Wrote ps c xs row (chosenAt d xs close p u) r l after
 
   pub chosen-no-filter : r ≡ Written.Nothing → Chosen-wrote Written.Nothing m
-  chosen-no-filter j = give-none ps c xs row (chosenAt d xs close p u) l m (no-choice-read xs close d p u q s (was-none ps z xs row w j)) (w .size)
+  chosen-no-filter j = give-none ps c xs row (chosenAt d xs close p u) l m (no-choice-read xs close d p u q s (was-none ps z xs (row + 2) w j)) (w .size)
 
   module _ (k : ℕ) (v : Outcome) (j : r ≡ Written.Done k v) where
     module _ (f : FoundTest) (g : f ≡ memberAfter xs close k) where
       pub chosen-no-member : f ≡ FoundTest.Nothing → Chosen-wrote Written.Nothing m
       chosen-no-member y =
-          let a = was ps z xs row k v w j in
+          let a = was ps z xs (row + 2) k v w j in
           give-none ps c xs row (chosenAt d xs close p u) l m (no-member-read xs close d p u q s k (a .tree) (a .read) (sym g ∙ y)) (w .size)
 
-      pub chosen-member : (t : RawTest) (o x : Summary) (y : ℕ) → f ≡ FoundTest.Test t → o ≡ reading ps z .one (moved p (testOf xs t)) → x ≡ joinSummaries o (v .summary) → y ≡ numberOf (probeFor ps xs z (testOf xs t)) → row + v .cells < length m
-          → Chosen-wrote (Written.Done (t .value .next) (record { summary = x; cells = v .cells + 1 })) (set m (row + v .cells) (8 * y + 1))
-      unfolding cellCount prepared encode cellOf
-      chosen-member t o x y i2 k1 k2 k3 k4 =
-          let a = was ps z xs row k v w j in
+      pub chosen-member : (t : RawTest) (o x : Summary) (b y : ℕ) → f ≡ FoundTest.Test t → o ≡ reading ps z .one (moved p (testOf xs t)) → x ≡ joinSummaries o (v .summary) → b ≡ cellOf (Row.Bracket (v .cells)) → y ≡ numberOf (probeFor ps xs z (testOf xs t)) → row + 1 < length l
+          → Chosen-wrote (Written.Done (t .value .next) (record { summary = x; cells = v .cells + 2 })) (set (set m row b) (row + 1) (8 * y))
+      unfolding cellCount prepared encode
+      chosen-member t o x cell y i2 k1 k2 k5 k3 k4 =
+          let a = was ps z xs (row + 2) k v w j in
           let tree : Tree = bracketed p (part xs p u) (a .tree) (testOf xs t) in
+          let inner : List ℕ = encode (prepared ps xs z (a .tree)) in
           let same : v .cells ≡ cellCount (a .tree) = ap (λ (o : Outcome). o .cells) (a .value) in
-          let inner : v .summary ≡ foldTree (reading ps z) (a .tree) = ap (λ (o : Outcome). o .summary) (a .value) ∙ sym (reading-is ps z (a .tree)) in
-          let all : x ≡ summaryOf ps c (testsOf tree) = summary-inside ps c (part xs p u) z p (testOf xs t) o (v .summary) x b k1 k2 (a .tree) inner in
-          let before : take (row + v .cells) m ≡ take row l ++ encode (prepared ps xs z (a .tree)) = ap (λ (n : ℕ). take (row + n) m) same ∙ a .cells in
-          let place : row + suc (cellCount (a .tree)) ≡ row + v .cells + 1 = omega (arith, same) in
-          give ps c xs row (chosenAt d xs close p u) (t .value .next) tree (record { summary = x; cells = v .cells + 1 }) l (set m (row + v .cells) (8 * y + 1))
+          let said : v .summary ≡ foldTree (reading ps z) (a .tree) = ap (λ (o : Outcome). o .summary) (a .value) ∙ sym (reading-is ps z (a .tree)) in
+          let all : x ≡ summaryOf ps c (testsOf tree) = summary-inside ps c (part xs p u) z p (testOf xs t) o (v .summary) x b k1 k2 (a .tree) said in
+          let place : row + 2 + cellCount (a .tree) ≡ row + suc (suc (cellCount (a .tree))) = omega arith in
+          let before : take (row + suc (suc (cellCount (a .tree)))) m ≡ take (row + 2) l ++ inner = ap (λ (n : ℕ). take n m) (sym place) ∙ a .cells in
+          let first : cell ≡ cellOf (Row.Bracket (length inner)) = k5 ∙ ap (λ (n : ℕ). cellOf (Row.Bracket n)) (same ∙ sym (cells-counted ps xs z (a .tree))) in
+          let second : 8 * y ≡ cellOf (Row.Test (probeFor ps xs z (testOf xs t))) = ap (λ (n : ℕ). 8 * n) k3 ∙ sym (test-cell (probeFor ps xs z (testOf xs t))) in
+          give ps c xs row (chosenAt d xs close p u) (t .value .next) tree (record { summary = x; cells = v .cells + 2 }) l (set (set m row cell) (row + 1) (8 * y))
           (chosen-read xs close d p u q s k (a .tree) t (a .read) (sym g ∙ i2))
-          (outcome-same ps c tree x (v .cells + 1) all (omega (arith, same)))
-          (ap (λ (x : ℕ). take x (set m (row + v .cells) (8 * y + 1))) place ∙ put-more (take row l) (encode (prepared ps xs z (a .tree))) m (row + v .cells) (8 * y + 1) before k4
-          ∙ ap (λ (n : ℕ). take row l ++ (encode (prepared ps xs z (a .tree)) ++ ((8 * n + 1) ∷ []))) k3
-          ∙ ap (λ (s : ℕ). take row l ++ (encode (prepared ps xs s (a .tree)) ++ ((8 * numberOf (probeFor ps xs s (testOf xs t)) + 1) ∷ []))) b)
-          (length-set m (row + v .cells) (8 * y + 1) ∙ w .size)
+          (outcome-same ps c tree x (v .cells + 2) all (omega (arith, same)))
+          (fill-two l inner m row (row + suc (suc (cellCount (a .tree)))) cell (8 * y) before k4 (omega arith)
+          ∙ ap₂ (λ (x y : ℕ). take row l ++ (x ∷ (y ∷ inner))) first second
+          ∙ ap (λ (s : ℕ). take row l ++ (cellOf (Row.Bracket (length (encode (prepared ps xs s (a .tree))))) ∷ (cellOf (Row.Test (probeFor ps xs s (testOf xs t))) ∷ encode (prepared ps xs s (a .tree))))) b)
+          (length-set (set m row cell) (row + 1) (8 * y) ∙ length-set m row cell ∙ w .size)
 
 -- ---- a filter, of which the loop has read the part up to m
 
@@ -396,42 +427,44 @@ module _ (ps : List Parameter) (c : ℕ) (xs : List ℕ) (row close d p : ℕ) (
       (outcome-same ps c (h .tree) s k (h .summary-is) (h .cells-are))
       (ap (λ (x : ℕ). take (row + x) list) (sym (h .cells-are)) ∙ h .cells) (h .size))
 
-  module _ (q : ℕ) (o : Connective) (i : f ≡ FoundConnective.Next q o) (r : Written) (list2 : List ℕ) (w : Wrote ps c xs (row + k) (itemAt d xs close q) r list list2) where
+  module _ (q : ℕ) (o : Connective) (i : f ≡ FoundConnective.Next q o) (r : Written) (list2 : List ℕ) (w : Wrote ps c xs (row + k + 1) (itemAt d xs close q) r list list2) where
     pub chain-no-item : (first : List ℕ) → r ≡ Written.Nothing → Kept row first l → Wrote ps c xs row (filterAt d xs close p) Written.Nothing first list2
     chain-no-item first j kept =
         rebased ps c xs row (filterAt d xs close p) Written.Nothing first l list2 kept
         (give-none ps c xs row (filterAt d xs close p) l list2
-        (rw (h .reads, chain-step (h .left) xs (λ k. itemAt d xs close k) m (h .tree) (omega (arith, h .enough)), sym e ∙ i, was-none ps c xs (row + k) w j)) (w .size ∙ h .size))
+        (rw (h .reads, chain-step (h .left) xs (λ k. itemAt d xs close k) m (h .tree) (omega (arith, h .enough)), sym e ∙ i, was-none ps c xs (row + k + 1) w j)) (w .size ∙ h .size))
 
     module _ (n : ℕ) (v : Outcome) (j : r ≡ Written.Done n v) where
       pub chain-fits : length xs ≤ 1024 → s .tests + v .summary .tests ≤ 1024
       chain-fits short =
-          let t = item-takes ps c xs (row + k) close d q r list list2 n v w j in
+          let t = item-takes ps c xs (row + k + 1) close d q r list list2 n v w j in
           let u = connective-ahead xs m q o f e i in
           omega (arith, filter-count (h .derives), ap (λ (x : Summary). x .tests) (h .summary-is), t .tests-fit, t .within, u .0)
 
       pub chain-room : row + k + v .cells < n
       chain-room =
-          let t = item-takes ps c xs (row + k) close d q r list list2 n v w j in
+          let t = item-takes ps c xs (row + k + 1) close d q r list list2 n v w j in
           let u = connective-ahead xs m q o f e i in
           omega (arith, h .room, t .cells-fit, u .0)
 
       pub chain-cell : length xs ≤ 1024 → row + k + v .cells < 1024
-      chain-cell short = let t = item-takes ps c xs (row + k) close d q r list list2 n v w j in omega (arith, chain-room, t .within)
+      chain-cell short = let t = item-takes ps c xs (row + k + 1) close d q r list list2 n v w j in omega (arith, chain-room, t .within)
 
-      pub chain-takes : (x : Summary) (y : ℕ) → x ≡ joinSummaries s (v .summary) → y ≡ cellOf (Row.Connect o) → length xs ≤ length list2
-          → Chained ps c xs row close d p l n x (k + v .cells + 1) (set list2 (row + k + v .cells) y)
+      pub chain-takes : (x : Summary) (y : ℕ) → x ≡ joinSummaries s (v .summary) → y ≡ cellOf (Row.Connect o (v .cells)) → length xs ≤ length list2
+          → Chained ps c xs row close d p l n x (k + v .cells + 1) (set list2 (row + k) y)
       unfolding cellCount prepared encode testsOf
       chain-takes x y z g short =
-          let a = was ps c xs (row + k) n v w j in
+          let a = was ps c xs (row + k + 1) n v w j in
           let item = subst (ItemDerived xs close d q) (a .read) (item-derived d xs close q) in
           let rise = item-rise item in
           let ahead = connective-ahead xs m q o f e i in
           let conn : ConnectiveDerived xs m (FoundConnective.Next q o) = subst (ConnectiveDerived xs m) (sym e ∙ i) (connective-derived xs m) in
           let same : v .cells ≡ cellCount (a .tree) = ap (λ (o : Outcome). o .cells) (a .value) in
-          let low : row + k + v .cells < length list2 = omega (arith, chain-room, rise .1, short) in
-          let before : take (row + k + v .cells) list2 ≡ take row l ++ (encode (prepared ps xs c (h .tree)) ++ encode (prepared ps xs c (a .tree))) = ap (λ (x : ℕ). take (row + k + x) list2) same ∙ a .cells ∙ ap (λ (b : List ℕ). b ++ encode (prepared ps xs c (a .tree))) (h .cells) ∙ append-assoc (take row l) (encode (prepared ps xs c (h .tree))) (encode (prepared ps xs c (a .tree))) in
-          let place : row + (k + v .cells + 1) ≡ row + k + v .cells + 1 = omega arith in
+          let inner : List ℕ = encode (prepared ps xs c (a .tree)) in
+          let low : row + k < length list = omega (arith, chain-room, rise .1, short, w .size) in
+          let cell : y ≡ cellOf (Row.Connect o (length inner)) = g ∙ ap (λ (n : ℕ). cellOf (Row.Connect o n)) (same ∙ sym (cells-counted ps xs c (a .tree))) in
+          let place : row + k + 1 + cellCount (a .tree) ≡ row + (k + v .cells + 1) = omega (arith, same) in
+          let before : take (row + (k + v .cells + 1)) list2 ≡ take (row + k + 1) list ++ inner = ap (λ (x : ℕ). take x list2) (sym place) ∙ a .cells in
           record {
             left = h .left - 1;
             tree = join o (h .tree) (a .tree);
@@ -442,8 +475,8 @@ module _ (ps : List Parameter) (c : ℕ) (xs : List ℕ) (row close d p : ℕ) (
             within = rise .1;
             summary-is = z ∙ ap₂ joinSummaries (h .summary-is) (ap (λ (o : Outcome). o .summary) (a .value)) ∙ summary-joined ps c (testsOf (h .tree)) (testsOf (a .tree));
             cells-are = omega (arith, h .cells-are, same);
-            cells = ap (λ (x : ℕ). take x (set list2 (row + k + v .cells) y)) place ∙ put-more (take row l) (encode (prepared ps xs c (h .tree)) ++ encode (prepared ps xs c (a .tree))) list2 (row + k + v .cells) y before low
-                ∙ ap (λ (b : List ℕ). take row l ++ b) (append-assoc (encode (prepared ps xs c (h .tree))) (encode (prepared ps xs c (a .tree))) (y ∷ []) ∙ ap (λ (b : ℕ). encode (prepared ps xs c (h .tree)) ++ (encode (prepared ps xs c (a .tree)) ++ (b ∷ []))) g);
-            size = length-set list2 (row + k + v .cells) y ∙ w .size ∙ h .size;
+            cells = fill-one list inner list2 (row + k) (row + (k + v .cells + 1)) y before low (omega arith)
+                ∙ ap₂ (λ (b : List ℕ) (x : ℕ). b ++ (x ∷ inner)) (h .cells) cell ∙ append-assoc (take row l) (encode (prepared ps xs c (h .tree))) (cellOf (Row.Connect o (length inner)) ∷ inner);
+            size = length-set list2 (row + k) y ∙ w .size ∙ h .size;
             room = omega (arith, chain-room);
           }

@@ -43,7 +43,7 @@ prepared ps xs c (negation f) = negating (prepared ps xs c f)
 -- how many cells it has
 unfoldable pub cellCount : Tree → ℕ
 cellCount (test t) = 1
-cellCount (bracketed p b f t) = suc (cellCount f)
+cellCount (bracketed p b f t) = suc (suc (cellCount f))
 cellCount (join k f g) = suc (cellCount f + cellCount g)
 cellCount (negation f) = suc (cellCount f)
 

@@ -110,8 +110,17 @@ fn write_round(
     Written::Done(after, outcome)
 }
 
+// The cell of brackets with so many rows in them.
+fn bracket_cell(size: usize) -> u32
+    requires { ⌜ size ≤ 1024 ⌝ }
+    ensures { λ r. ⌜ r ≡ cellOf (Row.Bracket size) ⌝ }
+{
+    let rows = size as u32;
+    8 * rows + 1
+}
+
 // The test of a member at a spot, after the filter in square brackets of the bundle whose name ends at `until`; the levels are those in
-// the brackets. The cells of both are written from a row on.
+// the brackets. The cells of both are written from a row on: those of the brackets and of the test are filled in afterwards.
 fn write_chosen(
     sheet: &[u8],
     filter: &[u8],
@@ -122,7 +131,7 @@ fn write_chosen(
 ) -> Written
     requires { ⌜ readSheet (now sheet) ≡ Validity.WellFormed ⌝ }
     requires { ⌜ length (now filter) ≤ 1024 ⌝ }
-    requires { ⌜ spot .at ≤ until ⌝ }
+    requires { ⌜ spot .at < until ⌝ }
     requires { ⌜ until < length (now filter) ⌝ }
     requires { ⌜ length (now rows) ≡ 1024 ⌝ }
     requires { ⌜ row ≤ spot .at ⌝ }
@@ -137,7 +146,7 @@ fn write_chosen(
         close: b']',
         bundle,
     };
-    let inner = write_filter(sheet, filter, inside, rows, row);
+    let inner = write_filter(sheet, filter, inside, rows, row + 2);
     let Written::Done(end, outcome) = inner else {
         return Written::Nothing;
     };
@@ -146,8 +155,8 @@ fn write_chosen(
         return Written::Nothing;
     };
     let cells = outcome.cells;
-    let last = row + cells;
-    rows[last] = 8 * test_number(sheet, bundle, filter, test) + 1;
+    rows[row] = bracket_cell(cells);
+    rows[row + 1] = 8 * test_number(sheet, bundle, filter, test);
     let outer = test_summary(sheet, bundle, filter, at, test);
     let summary = join_summaries(outer, outcome.summary);
     let value = test.value;
@@ -155,7 +164,7 @@ fn write_chosen(
         value.next,
         Outcome {
             summary,
-            cells: cells + 1,
+            cells: cells + 2,
         },
     )
 }
@@ -210,17 +219,20 @@ fn write_item(sheet: &[u8], filter: &[u8], spot: Spot, rows: &mut [u32], row: us
     }
 }
 
-// The cell of a connective.
-fn connect_cell(connective: Connective) -> u32
-    ensures { λ r. ⌜ r ≡ cellOf (Row.Connect connective) ⌝ }
+// The cell of a connective whose second part has so many rows.
+fn connect_cell(connective: Connective, size: usize) -> u32
+    requires { ⌜ size ≤ 1024 ⌝ }
+    ensures { λ r. ⌜ r ≡ cellOf (Row.Connect connective size) ⌝ }
 {
+    let rows = size as u32;
     match connective {
-        Connective::And => 3,
-        Connective::Or => 4,
+        Connective::And => 8 * rows + 3,
+        Connective::Or => 8 * rows + 4,
     }
 }
 
-// The filter at a spot: "one or more items joined by and or or", from left to right. Its cells are written from a row on.
+// The filter at a spot: "one or more items joined by and or or", from left to right. Its cells are written from a row on; a connective's
+// is filled in behind its item.
 pub fn write_filter(
     sheet: &[u8],
     filter: &[u8],
@@ -252,13 +264,13 @@ pub fn write_filter(
                     close: spot.close,
                     bundle: spot.bundle,
                 };
-                let item = write_item(sheet, filter, next_spot, rows, row + cells);
+                let item = write_item(sheet, filter, next_spot, rows, row + cells + 1);
                 match item {
                     Written::Done(item_end, item_outcome) => {
                         let item_summary = item_outcome.summary;
                         let item_cells = item_outcome.cells;
-                        let last = row + cells + item_cells;
-                        rows[last] = connect_cell(connective);
+                        let place = row + cells;
+                        rows[place] = connect_cell(connective, item_cells);
                         end = item_end;
                         summary = join_summaries(summary, item_summary);
                         cells = cells + item_cells + 1;

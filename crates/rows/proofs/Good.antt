@@ -1,13 +1,12 @@
 -- The test for good rows passes exactly where they are good.
--- The computed shape of an expression has its nesting, its scope and whether each test fits. The way from the shape to `Fits` is by induction
--- on the expression (`shape-fits`), and the way back by induction on `Fits` (`fits-shape`); for one test these are `probe-there` and
--- `probe-fits`. That the nesting agrees with the grammar's is known from files Shapes and Nesting. Cells that state an expression are its
+-- The way from the test to `Fits` is by induction on the expression (`within-fits`), and the way back by induction on how it fits
+-- (`fits-within`); for one test these are `probe-there` and `probe-fits`. That the nesting agrees with the grammar's is known from file Nesting. Cells that state an expression are its
 -- cells, and an expression that fits can be written, so that the expression of `Good` is the one that the test finds (`good-states`).
 -- Assumes nothing.
 use Prim.Native.Nat.{ℕ, zero, suc, _≤_}
 use native.Mathlib.Omega.{arith}
 use mathlib.Core.Path.{_≡_, refl, sym, ap, subst, _∙_}
-use mathlib.Core.Bool.{Bool, true, not, _&&_}
+use mathlib.Core.Bool.{Bool, true, false, cond, not, _&&_}
 use mathlib.Core.Logic.{_↔_, ⊎-elim}
 use mathlib.Core.Option.{Option, none, some}
 use mathlib.Core.List.{List, _∷_}
@@ -17,7 +16,7 @@ use borrow.Author.Tests.{lt-ltb, ltb-true, le-leb, leb-true, eq-eqb, ne-eqb, eqb
 use Rattle.base.specs.Lists.{Listed, All}
 use Rattle.base.specs.Kinds.{bundleKind}
 use Rattle.base.specs.Operators.{operatorWords}
-use Rattle.base.proofs.Tests.{and-left, and-right, both-ways}
+use Rattle.base.proofs.Tests.{and-left, and-right, and-both, both-ways}
 use Rattle.base.proofs.All.{all-head, all-right}
 use Rattle.sheet.specs.Sheet.{Parameter}
 use Rattle.sheet.specs.Find.{kindsOf, parentsOf}
@@ -31,12 +30,11 @@ use Rattle.kind.proofs.Rules.{value-iff, operator-iff}
 use Rattle.rows.specs.Expression.{Expression, probing, choosing, joining, negating, testCount}
 use Rattle.rows.specs.Cells.{stated, Sayable, Writable, writable-test, writable-bracket, writable-join, writable-not}
 use Rattle.rows.specs.Good.{ValueFrom, FitsTo, Fits, fits-test, fits-bracket, fits-join, fits-not, Good}
-use Rattle.rows.specs.Shapes.{kindFits, valueIn, valueFits, probeFits, testShape, notShape, bracketShape, joinShape, shapeOf, isWithin, goodBy, good}
+use Rattle.rows.specs.Nesting.{depthOf}
+use Rattle.rows.specs.Shapes.{kindFits, valueIn, valueFits, probeFits, memberOf, fitsIn, goodBy, good}
 use Rattle.rows.specs.declared.Probe.{Probe}
-use Rattle.rows.specs.declared.Shape.{Shape}
 use Rattle.rows.proofs.Stating.{stated-encode, stated-cells}
 use Rattle.rows.proofs.Nesting.{chain-of, of-chain, rows-few}
-use Rattle.rows.proofs.Shapes.{shape-shallow, shallow-shape}
 use Rattle.rows.proofs.Values.{found-from, from-found}
 
 -- a property of every parameter holds of the one that is listed
@@ -97,9 +95,6 @@ module _ (ps : List Parameter) (w : WellFormedSheet ps) (xs : List ℕ) where
 
   -- ---- an expression
 
-  abbrev shape : Expression → Shape
-  shape = shapeOf (kindsOf ps) (parentsOf ps) xs
-
   parent-of : {i : ℕ} {q : Parameter} → Listed ps i q → getD (parentsOf ps) i 0 ≡ q .bundle
   parent-of {i} {q} l = table-listed (λ r. r .bundle) ps i q l
 
@@ -111,44 +106,50 @@ module _ (ps : List Parameter) (w : WellFormedSheet ps) (xs : List ℕ) where
       by-parent (at-top z) = absurd (omega (arith, z, e))
       by-parent (in-bundle {i = i} {q = b} m k n d) = let s : i ≡ j = omega (arith, n, e) in (b, (subst (λ (x : ℕ). Listed ps x b) s m, k))
 
-  shape-fits : (e : Expression) → shape e .fits ≡ true → Fits ps xs (shape e .scope) e
-  unfolding shapeOf testShape notShape bracketShape joinShape
-  shape-fits (probing p) h = let t = probe-there p h in fits-test (t .1 .0) (sym (parent-of (t .1 .0))) (t .1 .1)
-  shape-fits (choosing e p) h =
-      let parent : ℕ = getD (parentsOf ps) (p .index) 0 in
-      let inner : Bool = shape e .fits in
-      let rest : Bool = not (eqb parent 0) && eqb parent (shape e .scope) in
-      let a : (probeFits (kindsOf ps) xs p && rest) ≡ true = and-right inner (probeFits (kindsOf ps) xs p && rest) h in
-      let b : rest ≡ true = and-right (probeFits (kindsOf ps) xs p) rest a in
-      let t = probe-there p (and-left (probeFits (kindsOf ps) xs p) rest a) in
-      by-parent parent refl (eqb-false parent 0 (not-true (eqb parent 0) (and-left (not (eqb parent 0)) (eqb parent (shape e .scope)) b)))
-      (eqb-true parent (shape e .scope) (and-right (not (eqb parent 0)) (eqb parent (shape e .scope)) b)) t (shape-fits e (and-left inner (probeFits (kindsOf ps) xs p && rest) h))
-    where
-      by-parent : (n : ℕ) → getD (parentsOf ps) (p .index) 0 ≡ n → (n ≡ 0 → ⊥) → n ≡ shape e .scope → (q : Parameter) × (Listed ps (p .index) q × FitsTo xs q p) → Fits ps xs (shape e .scope) e → Fits ps xs 0 (choosing e p)
-      by-parent zero i n s t f = absurd (n refl)
-      by-parent (suc j) i n s t f =
-          let within : t .0 .bundle ≡ suc j = sym (parent-of (t .1 .0)) ∙ i in
-          let b = bundle-of (t .1 .0) j within in
-          fits-bracket (t .1 .0) within (b .1 .0) (b .1 .1) (t .1 .1) (subst (λ (x : ℕ). Fits ps xs x e) (sym s) f)
-  shape-fits (joining c e f) h =
-      let a : (shape f .fits && eqb (shape e .scope) (shape f .scope)) ≡ true = and-right (shape e .fits) (shape f .fits && eqb (shape e .scope) (shape f .scope)) h in
-      let s : shape e .scope ≡ shape f .scope = eqb-true (shape e .scope) (shape f .scope) (and-right (shape f .fits) (eqb (shape e .scope) (shape f .scope)) a) in
-      fits-join (shape-fits e (and-left (shape e .fits) (shape f .fits && eqb (shape e .scope) (shape f .scope)) h))
-      (subst (λ (x : ℕ). Fits ps xs x f) (sym s) (shape-fits f (and-left (shape f .fits) (eqb (shape e .scope) (shape f .scope)) a)))
-  shape-fits (negating e) h = fits-not (shape-fits e h)
+  abbrev within : ℕ → Expression → Bool
+  within = fitsIn (kindsOf ps) (parentsOf ps) xs
 
-  fits-shape : {c : ℕ} {e : Expression} → Fits ps xs c e → (shape e .fits ≡ true) × (shape e .scope ≡ c)
-  unfolding shapeOf testShape notShape bracketShape joinShape
-  fits-shape (fits-test {p = p} {q = q} l e f) = (probe-fits p q l f, parent-of l ∙ e)
-  fits-shape (fits-bracket {e = e} {p = p} {j = j} {q = q} l i m k f g) =
-      let r = fits-shape g in
+  member-there : (p : Probe) → (memberOf (kindsOf ps) (parentsOf ps) xs p ≡ 0 → ⊥) → (q : Parameter) × (Listed ps (p .index) q × (FitsTo xs q p × (memberOf (kindsOf ps) (parentsOf ps) xs p ≡ q .bundle)))
+  unfolding memberOf
+  member-there p n = by-fits (probeFits (kindsOf ps) xs p) refl
+    where
+      by-fits : (t : Bool) → probeFits (kindsOf ps) xs p ≡ t → (q : Parameter) × (Listed ps (p .index) q × (FitsTo xs q p × (cond (probeFits (kindsOf ps) xs p) (getD (parentsOf ps) (p .index) 0) 0 ≡ q .bundle)))
+      by-fits true e = let t = probe-there p e in (t .0, (t .1 .0, (t .1 .1, rw e (parent-of (t .1 .0)))))
+      by-fits false e = absurd (n (rw e))
+
+  within-fits : (e : Expression) (c : ℕ) → within c e ≡ true → Fits ps xs c e
+  unfolding fitsIn
+  within-fits (probing p) c h =
+      let a : Bool = probeFits (kindsOf ps) xs p in
+      let b : Bool = eqb (getD (parentsOf ps) (p .index) 0) c in
+      let t = probe-there p (and-left a b h) in
+      fits-test (t .1 .0) (sym (parent-of (t .1 .0)) ∙ eqb-true (getD (parentsOf ps) (p .index) 0) c (and-right a b h)) (t .1 .1)
+  within-fits (choosing e p) c h =
+      let m : ℕ = memberOf (kindsOf ps) (parentsOf ps) xs p in
+      let g : Bool = within m e in
+      let a : (not (eqb m 0) && g) ≡ true = and-right (eqb c 0) (not (eqb m 0) && g) h in
+      let n : m ≡ 0 → ⊥ = eqb-false m 0 (not-true (eqb m 0) (and-left (not (eqb m 0)) g a)) in
+      subst (λ (x : ℕ). Fits ps xs x (choosing e p)) (sym (eqb-true c 0 (and-left (eqb c 0) (not (eqb m 0) && g) h)))
+      (by-member m refl n (within-fits e m (and-right (not (eqb m 0)) g a)))
+    where
+      by-member : (j : ℕ) → memberOf (kindsOf ps) (parentsOf ps) xs p ≡ j → (j ≡ 0 → ⊥) → Fits ps xs j e → Fits ps xs 0 (choosing e p)
+      by-member zero i n f = absurd (n refl)
+      by-member (suc j) i n f =
+          let t = member-there p (λ z. omega (arith, i, z)) in
+          let inner : t .0 .bundle ≡ suc j = sym (t .1 .1 .1) ∙ i in
+          let b = bundle-of (t .1 .0) j inner in
+          fits-bracket (t .1 .0) inner (b .1 .0) (b .1 .1) (t .1 .1 .0) f
+  within-fits (joining k e f) c h = fits-join (within-fits e c (and-left (within c e) (within c f) h)) (within-fits f c (and-right (within c e) (within c f) h))
+  within-fits (negating e) c h = fits-not (within-fits e c h)
+
+  fits-within : {c : ℕ} {e : Expression} → Fits ps xs c e → within c e ≡ true
+  unfolding fitsIn memberOf
+  fits-within (fits-test {c = c} {p = p} {q = q} l e f) = rw (probe-fits p q l f, parent-of l, e) (eq-eqb c c refl)
+  fits-within (fits-bracket {e = e} {p = p} {j = j} {q = q} l i m k f g) =
       let parent : getD (parentsOf ps) (p .index) 0 ≡ suc j = parent-of l ∙ i in
-      (rw (r .0, probe-fits p q l f, parent, not-eqb (suc j) 0 (λ z. omega (arith, z)), r .1, eq-eqb (suc j) (suc j) refl), refl)
-  fits-shape (fits-join {c = c} {e = e} {f = f} a b) =
-      let r = fits-shape a in
-      let s = fits-shape b in
-      (rw (r .0, s .0, r .1, s .1) (eq-eqb c c refl), r .1)
-  fits-shape (fits-not a) = fits-shape a
+      rw (probe-fits p q l f, parent, not-eqb (suc j) 0 (λ z. omega (arith, z))) (fits-within g)
+  fits-within (fits-join {c = c} {e = e} {f = f} a b) = and-both (within c e) (within c f) (fits-within a) (fits-within b)
+  fits-within (fits-not a) = fits-within a
 
   -- what fits can be written
   fits-sayable : {p : Probe} {q : Parameter} → Listed ps (p .index) q → FitsTo xs q p → Sayable p
@@ -168,29 +169,25 @@ module _ (ps : List Parameter) (w : WellFormedSheet ps) (xs : List ℕ) where
   -- ---- rows
 
   good-of : (cs : List ℕ) (o : Option Expression) → stated cs ≡ o → goodBy (kindsOf ps) (parentsOf ps) xs o ≡ true → Good ps xs cs
-  unfolding isWithin
   good-of cs none e h = both-ways h refl
   good-of cs (some f) e h =
-      let deep : Bool = leb (shape f .chain) 8 in
-      let rest : Bool = shape f .fits && eqb (shape f .scope) 0 in
-      let a : (deep && rest) ≡ true = and-right (leb (testCount f) 32) (deep && rest) h in
-      let b : rest ≡ true = and-right deep rest a in
+      let few : Bool = leb (testCount f) 32 in
+      let low : Bool = leb (depthOf f .chain) 8 in
+      let rest : (low && within 0 f) ≡ true = and-right few (low && within 0 f) h in
       record {
         expression = f;
         written = stated-cells cs f e;
-        nests = chain-of f 8 (shape-shallow (kindsOf ps) (parentsOf ps) xs f (and-left deep rest a));
-        few = leb-true (testCount f) 32 (and-left (leb (testCount f) 32) (deep && rest) h);
-        fits = subst (λ (c : ℕ). Fits ps xs c f) (eqb-true (shape f .scope) 0 (and-right (shape f .fits) (eqb (shape f .scope) 0) b)) (shape-fits f (and-left (shape f .fits) (eqb (shape f .scope) 0) b));
+        nests = chain-of f 8 (leb-true (depthOf f .chain) 8 (and-left low (within 0 f) rest));
+        few = leb-true (testCount f) 32 (and-left few (low && within 0 f) h);
+        fits = within-fits f 0 (and-right low (within 0 f) rest);
       }
 
   pub good-states : {cs : List ℕ} (g : Good ps xs cs) → stated cs ≡ some (g .expression)
   good-states g = ap stated (g .written) ∙ stated-encode (g .expression) (fits-writable (g .fits))
 
   of-good : (cs : List ℕ) → Good ps xs cs → good (kindsOf ps) (parentsOf ps) xs cs ≡ true
-  unfolding good isWithin
-  of-good cs g =
-      let s = fits-shape (g .fits) in
-      rw (good-states g, le-leb (testCount (g .expression)) 32 (g .few), shallow-shape (kindsOf ps) (parentsOf ps) xs (g .expression) (of-chain (g .nests)), s .0, s .1)
+  unfolding good
+  of-good cs g = rw (good-states g, le-leb (testCount (g .expression)) 32 (g .few), le-leb (depthOf (g .expression) .chain) 8 (of-chain (g .nests))) (fits-within (g .fits))
 
   pub good-iff : (cs : List ℕ) → (good (kindsOf ps) (parentsOf ps) xs cs ≡ true) ↔ Good ps xs cs
   unfolding good
@@ -198,15 +195,14 @@ module _ (ps : List Parameter) (w : WellFormedSheet ps) (xs : List ℕ) where
 
 -- good rows are few
 pub good-few : (kinds parents xs cs : List ℕ) → good kinds parents xs cs ≡ true → length cs ≤ 320
-unfolding good isWithin
+unfolding good
 good-few kinds parents xs cs h = by-stated (stated cs) refl h
   where
     by-stated : (o : Option Expression) → stated cs ≡ o → goodBy kinds parents xs o ≡ true → length cs ≤ 320
-    by-stated none e h = absurd (let z : _≡_ {A = ℕ} 0 1 = cc in omega arith)
+    by-stated none e h = both-ways h refl
     by-stated (some f) e h =
-        let s : Shape = shapeOf kinds parents xs f in
-        let deep : Bool = leb (s .chain) 8 in
-        let rest : Bool = s .fits && eqb (s .scope) 0 in
-        let a : (deep && rest) ≡ true = and-right (leb (testCount f) 32) (deep && rest) h in
-        let few : testCount f ≤ 32 = leb-true (testCount f) 32 (and-left (leb (testCount f) 32) (deep && rest) h) in
-        omega (arith, few, rows-few f 8 (shape-shallow kinds parents xs f (and-left deep rest a)), ap length (stated-cells cs f e))
+        let few : Bool = leb (testCount f) 32 in
+        let low : Bool = leb (depthOf f .chain) 8 in
+        let fits : Bool = fitsIn kinds parents xs 0 f in
+        let deep : depthOf f .chain ≤ 8 = leb-true (depthOf f .chain) 8 (and-left low fits (and-right few (low && fits) h)) in
+        omega (arith, leb-true (testCount f) 32 (and-left few (low && fits) h), rows-few (chain-of f 8 deep), ap length (stated-cells cs f e))

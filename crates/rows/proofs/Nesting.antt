@@ -1,10 +1,10 @@
--- The number of brackets that an expression needs decides how deep they nest.
+-- The number of brackets that an expression needs decides how deep they nest, and an expression of few tests that nests little has few rows.
 -- Assumes nothing.
 use Prim.Native.Nat.{ℕ, zero, suc, _+_, _*_, _≤_, _<_}
 use native.Mathlib.Omega.{arith}
 use native.Mathlib.Nat.{mul-add, add-mul}
 use mathlib.Core.Path.{_≡_, refl, ap, _∙_}
-use mathlib.Core.List.{[], _∷_, _++_}
+use mathlib.Core.List.{[], _∷_}
 use lib.ListN.{length, length-append}
 use mathlib.Core.Bool.{Bool, true, false, cond}
 use lib.Dec.{ltb}
@@ -14,7 +14,7 @@ use Rattle.rows.specs.Cells.{cellOf, encode}
 use Rattle.rows.specs.declared.Row.{Row}
 use Rattle.rows.specs.Nesting.{NestsItem, Nests, nests-test, nests-bracketed, nests-bracket, nests-not, nests-item, nests-more, larger, depthOf}
 
-larger-of : (a b : ℕ) → (a ≤ larger a b) × (b ≤ larger a b)
+pub larger-of : (a b : ℕ) → (a ≤ larger a b) × (b ≤ larger a b)
 unfolding larger
 larger-of a b = by-test (ltb a b) refl
   where
@@ -22,7 +22,7 @@ larger-of a b = by-test (ltb a b) refl
     by-test true e = let l : a < b = ltb-true a b e in (rw e (omega (arith, l)), rw e (omega arith))
     by-test false e = let l : b ≤ a = ltb-false a b e in (rw e (omega arith), rw e l)
 
-larger-least : (a b d : ℕ) → a ≤ d → b ≤ d → larger a b ≤ d
+pub larger-least : (a b d : ℕ) → a ≤ d → b ≤ d → larger a b ≤ d
 unfolding larger
 larger-least a b d h k = by-test (ltb a b)
   where
@@ -85,30 +85,46 @@ mutual
 
 -- ---- an expression of few tests that nests little has few rows
 
-tests-some : (e : Expression) → 1 ≤ testCount e
+pub tests-some : (e : Expression) → 1 ≤ testCount e
 unfolding testCount
 tests-some (probing p) = omega arith
 tests-some (choosing e p) = omega arith
 tests-some (joining c e f) = omega (arith, tests-some e)
 tests-some (negating e) = tests-some e
 
+-- and no more tests than rows
+pub tests-rows : (e : Expression) → testCount e ≤ length (encode e)
+unfolding testCount encode
+tests-rows (probing p) = omega arith
+tests-rows (choosing e p) = omega (arith, tests-rows e)
+tests-rows (negating e) = omega (arith, tests-rows e, length-append (encode e) (cellOf Row.Not ∷ []))
+tests-rows (joining c e f) = omega (arith, tests-rows e, tests-rows f, length-append (encode e) (cellOf (Row.Connect c (length (encode f))) ∷ encode f))
+
 one-deeper : (t d : ℕ) → t * (2 + suc d) ≡ t * (2 + d) + t
 one-deeper t d = let more : 2 + suc d ≡ 2 + d + 1 = omega arith in ap (λ (n : ℕ). t * n) more ∙ mul-add t (2 + d) 1 ∙ ap (λ (n : ℕ). t * (2 + d) + n) (omega arith)
 
-pub rows-few : (e : Expression) (d : ℕ) → depthOf e .chain ≤ d → length (encode e) + 1 ≤ testCount e * (2 + d)
-unfolding encode testCount depthOf
-rows-few (probing p) d h = omega arith
-rows-few (choosing e p) zero h = absurd (omega (arith, h))
-rows-few (choosing e p) (suc d) h = omega (arith, rows-few e d (omega (arith, h)), one-deeper (testCount e) d, length-append (encode e) (cellOf (Row.Bracket p) ∷ []))
-rows-few (negating e) zero h = absurd (omega (arith, h))
-rows-few (negating e) (suc d) h = omega (arith, rows-few e d (omega (arith, h)), one-deeper (testCount e) d, tests-some e, length-append (encode e) (cellOf Row.Not ∷ []))
-rows-few (joining c e f) d h =
-    let l = larger-of (depthOf e .chain) (depthOf f .item) in
-    omega (
-      arith,
-      rows-few e d (omega (arith, h, l .0)),
-      rows-few f d (omega (arith, h, l .1, chain-item f)),
-      add-mul (testCount e) (testCount f) (2 + d),
-      length-append (encode e) (encode f ++ (cellOf (Row.Connect c) ∷ [])),
-      length-append (encode f) (cellOf (Row.Connect c) ∷ []),
-    )
+mutual
+  unfolding encode testCount
+
+  item-few : {d : ℕ} {e : Expression} → NestsItem d e → length (encode e) + 1 ≤ testCount e * (2 + d)
+  item-few nests-test = omega arith
+  item-few (nests-bracketed {d = d} {e = e} {p = p} n) = omega (arith, rows-few n, one-deeper (testCount e) d, tests-some e)
+  item-few (nests-bracket {d = d} {e = e} n) = omega (arith, rows-few n, one-deeper (testCount e) d)
+  item-few (nests-not {d = d} {e = e} n) = omega (arith, rows-few n, one-deeper (testCount e) d, tests-some e, length-append (encode e) (cellOf Row.Not ∷ []))
+
+  pub rows-few : {d : ℕ} {e : Expression} → Nests d e → length (encode e) + 1 ≤ testCount e * (2 + d)
+  rows-few (nests-item i) = item-few i
+  rows-few (nests-more {d = d} {c = c} {e = e} {f = f} a b) =
+      omega (arith, rows-few a, item-few b, add-mul (testCount e) (testCount f) (2 + d), length-append (encode e) (cellOf (Row.Connect c (length (encode f))) ∷ encode f))
+
+-- ---- and no more levels than rows
+
+pub depth-rows : (e : Expression) → (depthOf e .chain < length (encode e)) × (depthOf e .item ≤ length (encode e))
+unfolding depthOf encode
+depth-rows (probing p) = (omega arith, omega arith)
+depth-rows (choosing e p) = (omega (arith, depth-rows e .0), omega (arith, depth-rows e .0))
+depth-rows (negating e) = (omega (arith, depth-rows e .0, length-append (encode e) (cellOf Row.Not ∷ [])), omega (arith, depth-rows e .0, length-append (encode e) (cellOf Row.Not ∷ [])))
+depth-rows (joining c e f) =
+    let size = length-append (encode e) (cellOf (Row.Connect c (length (encode f))) ∷ encode f) in
+    let most : larger (depthOf e .chain) (depthOf f .item) ≤ length (encode e) + length (encode f) = larger-least (depthOf e .chain) (depthOf f .item) (length (encode e) + length (encode f)) (omega (arith, depth-rows e .0)) (omega (arith, depth-rows f .1)) in
+    (omega (arith, most, size), omega (arith, most, size))

@@ -1,6 +1,5 @@
 // Tests of rows: whether each names a parameter with its operator, and a value that is one and readable.
 use crate::Probe;
-use crate::Shape;
 use base::kind::BUNDLE;
 use judge::has_meaning;
 use syntax::FoundValue;
@@ -9,10 +8,12 @@ use syntax::value::decode;
 use syntax::value::read_value;
 ghost use mathlib.Core.Path.{_≡_};
 ghost use Prim.Native.Nat.{_≤_, _<_};
-ghost use lib.ListN.{length};
+ghost use mathlib.Core.Bool.{_&&_};
+ghost use lib.Dec.{eqb};
+ghost use lib.ListN.{length, getD};
 ghost use Rattle.syntax.specs.Placed.{PlacedValue};
 ghost use Rattle.kind.specs.Readable.{valueReadable};
-ghost use Rattle.rows.specs.Shapes.{kindFits, valueIn, probeFits, testShape};
+ghost use Rattle.rows.specs.Shapes.{kindFits, valueIn, probeFits, memberOf};
 
 // Whether a parameter of this kind is there, is no bundle, and has the operator.
 fn kind_fits(operator: u8, kind: u8) -> bool
@@ -67,20 +68,32 @@ fn probe_fits(kinds: &[u8], filter: &[u8], probe: Probe) -> bool
     }
 }
 
-// The shape of a test.
-pub fn test_shape(kinds: &[u8], parents: &[u8], filter: &[u8], probe: Probe) -> Shape
+// Whether a test fits where it stands, 0 at the top and a bundle's index plus 1 in its brackets.
+pub fn stands(kinds: &[u8], parents: &[u8], filter: &[u8], probe: Probe, scope: u8) -> bool
     requires { ⌜ length (now kinds) ≡ 32 ⌝ }
     requires { ⌜ length (now parents) ≡ 32 ⌝ }
     requires { ⌜ length (now filter) ≤ 1024 ⌝ }
     requires { ⌜ probe .index < 32 ⌝ }
-    ensures { λ r. ⌜ (r ≡ testShape (now (kinds .entry)) (now (parents .entry)) (now (filter .entry)) probe) × ((r .chain ≤ 15) × ((r .item ≤ 15) × (r .scope ≤ 255))) ⌝ }
+    ensures { λ r. ⌜ r ≡ (probeFits (now (kinds .entry)) (now (filter .entry)) probe && eqb (getD (now (parents .entry)) (probe .index) 0) scope) ⌝ }
 {
     let index = probe.index as usize;
-    let scope = base::wide(parents[index]) as u32;
-    Shape {
-        chain: 0,
-        item: 0,
-        scope,
-        fits: probe_fits(kinds, filter, probe),
+    if probe_fits(kinds, filter, probe) {
+        return parents[index] == scope;
     }
+    false
+}
+
+// The index plus 1 of the bundle that a test's parameter is a member of, where the test fits; else 0.
+pub fn member_of(kinds: &[u8], parents: &[u8], filter: &[u8], probe: Probe) -> u8
+    requires { ⌜ length (now kinds) ≡ 32 ⌝ }
+    requires { ⌜ length (now parents) ≡ 32 ⌝ }
+    requires { ⌜ length (now filter) ≤ 1024 ⌝ }
+    requires { ⌜ probe .index < 32 ⌝ }
+    ensures { λ r. ⌜ r ≡ memberOf (now (kinds .entry)) (now (parents .entry)) (now (filter .entry)) probe ⌝ }
+{
+    let index = probe.index as usize;
+    if probe_fits(kinds, filter, probe) {
+        return parents[index];
+    }
+    0
 }

@@ -1,12 +1,12 @@
-// Rows: a filter that was read, as 32-bit cells in postfix order. What each cell says, and whether cells are the rows of a filter; they are
-// tested before they are trusted.
+// Rows: a filter that was read, as 32-bit cells to be read from left to right with one expression in hand. What each cell says, and
+// whether cells are the rows of a filter; they are tested before they are trusted.
 mod cell;
 mod fit;
-mod stack;
 mod whole;
 
+pub use cell::bit;
+pub use cell::probe_of;
 pub use cell::row_of;
-pub use stack::bit;
 use syntax::Connective;
 pub use whole::are_good;
 
@@ -17,20 +17,26 @@ pub struct Probe {
     pub position: usize,
 }
 
-// What a cell says: a test, the test of a member after brackets, not, a connective, or nothing.
+// What a cell says: a test, brackets with the number of rows in them (which stand behind the row of the test after them), not, a connective
+// with the number of rows of its second part, or nothing.
 pub enum Row {
     Test(Probe),
-    Bracket(Probe),
+    Bracket(usize),
     Not,
-    Connect(Connective),
+    Connect(Connective, usize),
     Unknown,
 }
 
-// What is gathered of an expression to tell whether rows are good: how deep its brackets nest as a filter and as an item of one, up to
-// 9; where its tests stand, 0 at the top and a bundle's index plus 1 in its brackets; and whether each fits there.
+// What was found of rows with tests that fit where they stand: the number of tests, and how deep brackets nest, as a filter and as an item of
+// one. No tests for rows that are none or do not fit.
 pub struct Shape {
-    pub chain: u32,
-    pub item: u32,
-    pub scope: u32,
-    pub fits: bool,
+    pub tests: usize,
+    pub chain: usize,
+    pub item: usize,
+}
+
+// The shape of the first test or brackets of rows, and the row behind.
+pub struct Begun {
+    pub shape: Shape,
+    pub next: usize,
 }

@@ -12,7 +12,6 @@ ghost use lib.ListN.{length};
 ghost use Rattle.sheet.specs.Sheet.{parametersOf, readSheet};
 ghost use Rattle.sheet.specs.Find.{kindsOf};
 ghost use Rattle.row_opener.specs.Opening.{Opens};
-ghost use Rattle.row_judge.specs.Jumping.{Jumps};
 ghost use Rattle.answer.specs.Passing.{cardVerdict};
 ghost use Rattle.one_card.specs.OneCard.{verdictStep};
 ghost use Rattle.selecting.specs.Asking.{Asks, askedQuestion};
@@ -25,10 +24,7 @@ pub fn judge_asked(
     kinds: &[u8],
     text: &[u8],
     cells: &[u32],
-    jumps: &[u32],
-    spans: &[u32],
-    digits: &[u64],
-    starts: &[i64],
+    values: &[u64],
     ends: &[i64],
     rows: Rows,
     card: &[u8],
@@ -36,13 +32,12 @@ pub fn judge_asked(
     requires { ⌜ readSheet (now sheet) ≡ Validity.WellFormed ⌝ }
     requires { ⌜ length (now kinds) ≡ 32 ⌝ }
     requires { ⌜ now kinds ≡ kindsOf (parametersOf (now sheet)) ⌝ }
-    requires { ⌜ Jumps (now cells) (now jumps) ⌝ }
-    requires { ⌜ Opens (now kinds) (now text) (now cells) (now spans) (now digits) (now starts) (now ends) (length (now cells)) ⌝ }
+    requires { ⌜ Opens (now kinds) (now text) (now cells) (now values) (now ends) (length (now cells)) ⌝ }
     requires { ⌜ Asks (now sheet) (now text) (now cells) rows asked ⌝ }
     ensures { λ r. ⌜ ((i : ℕ) → verdictStep r i ≡ cardVerdict (askedQuestion asked (parametersOf (now (sheet .entry))) (now (text .entry)) (now (cells .entry)) rows) i (now (card .entry))) ⌝ }
 {
     match asked {
-        Asked::Rows => judge_by_rows(kinds, text, cells, jumps, spans, digits, starts, ends, card),
+        Asked::Rows => judge_by_rows(kinds, text, cells, values, ends, card),
         Asked::Text => judge_by_text(sheet, kinds, text, card),
         Asked::Search => judge_by_search(sheet, kinds, text, rows, card),
     }

@@ -15,7 +15,6 @@ use query::Rows;
 use query::no_rows;
 use refusal::Reason;
 use refusal::Refusal;
-use row_judge::note_jumps;
 use row_opener::open_rows;
 use searching::read_search;
 ghost use mathlib.Core.Path.{_≡_};
@@ -24,7 +23,6 @@ ghost use lib.ListN.{length};
 ghost use Rattle.sheet.specs.Sheet.{parametersOf, readSheet};
 ghost use Rattle.sheet.specs.Find.{kindsOf};
 ghost use Rattle.row_opener.specs.Opening.{Opens};
-ghost use Rattle.row_judge.specs.Jumping.{Jumps};
 ghost use Rattle.refusal.specs.Steps.{found};
 ghost use Rattle.answer.specs.Operations.{filterQuestion};
 ghost use Rattle.answer.specs.Searching.{searchQuestion};
@@ -45,10 +43,7 @@ fn gather(
     kinds: &[u8],
     text: &[u8],
     cells: &[u32],
-    jumps: &[u32],
-    spans: &[u32],
-    digits: &[u64],
-    starts: &[i64],
+    values: &[u64],
     ends: &[i64],
     rows: Rows,
     cards: &[u8],
@@ -57,8 +52,7 @@ fn gather(
     requires { ⌜ readSheet (now sheet) ≡ Validity.WellFormed ⌝ }
     requires { ⌜ length (now kinds) ≡ 32 ⌝ }
     requires { ⌜ now kinds ≡ kindsOf (parametersOf (now sheet)) ⌝ }
-    requires { ⌜ Jumps (now cells) (now jumps) ⌝ }
-    requires { ⌜ Opens (now kinds) (now text) (now cells) (now spans) (now digits) (now starts) (now ends) (length (now cells)) ⌝ }
+    requires { ⌜ Opens (now kinds) (now text) (now cells) (now values) (now ends) (length (now cells)) ⌝ }
     requires { ⌜ Asks (now sheet) (now text) (now cells) rows asked ⌝ }
     requires { ⌜ length (now cards) % 512 ≡ 0 ⌝ }
     requires { ⌜ length (now cards) / 512 ≤ length (now buffer) ⌝ }
@@ -69,20 +63,7 @@ fn gather(
     while at < cards.len() {
         let end = at + 512;
         let card = &cards[at..end];
-        match judge_asked(
-            asked,
-            sheet,
-            kinds,
-            text,
-            cells,
-            jumps,
-            spans,
-            digits,
-            starts,
-            ends,
-            rows,
-            card,
-        ) {
+        match judge_asked(asked, sheet, kinds, text, cells, values, ends, rows, card) {
             CardVerdict::Says(yes) => {
                 if yes {
                     buffer[count] = card::record_number(card);
@@ -120,31 +101,16 @@ fn gather_run(
     ensures { λ r. ⌜ Gathers (askedQuestion asked (parametersOf (now (sheet .entry))) (now (text .entry)) (now (cells .entry)) rows) (now (cards .entry)) r (now (buffer .exit)) ⌝ }
 {
     let kinds = sheet::kinds(sheet);
-    let mut jumps = [0u32; 320];
-    let mut spans = [0u32; 320];
-    let mut digits = [0u64; 320];
-    let mut starts = [0i64; 320];
-    let mut ends = [0i64; 320];
-    note_jumps(cells, &mut jumps);
-    open_rows(
-        &kinds,
-        text,
-        cells,
-        &mut spans,
-        &mut digits,
-        &mut starts,
-        &mut ends,
-    );
+    let mut values = [0u64; 640];
+    let mut ends = [0i64; 640];
+    open_rows(&kinds, text, cells, &mut values, &mut ends);
     gather(
         asked,
         sheet,
         &kinds,
         text,
         cells,
-        &jumps,
-        &spans,
-        &digits,
-        &starts,
+        &values,
         &ends,
         rows,
         cards,

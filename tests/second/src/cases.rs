@@ -324,19 +324,23 @@ pub fn spell_prepared(answer: Result<usize, Refusal>, cells: &[u32]) -> String {
     spelled
 }
 
-/// The rows without tests, by their numbers.
-const WORDS: [(&str, u32); 3] = [("not", 2), ("and", 3), ("or", 4)];
+const NOT: u32 = 2;
+
+/// The rows that have a number of rows, by what they are beyond eight times that number.
+const WORDS: [(&str, u32); 3] = [("in", 1), ("and", 3), ("or", 4)];
 
 /// A row as the file writes it; any other cell as a number.
 fn spell_row(cell: u32) -> String {
-    if let Some((word, _)) = WORDS.iter().find(|(_, number)| *number == cell) {
-        return word.to_string();
+    if cell == NOT {
+        return "not".into();
     }
-    let (test, bracket) = (cell / 8, cell % 8);
+    if let Some((word, _)) = WORDS.iter().find(|(_, number)| *number == cell % 8) {
+        return format!("{word}{}", cell / 8);
+    }
+    let test = cell / 8;
     match OPERATIONS.get((test / 32 % 32) as usize) {
-        Some((operator, _)) if bracket < 2 => {
-            let bracket = if bracket == 1 { "]" } else { "" };
-            format!("{bracket}{}.{}@{}", test % 32, String::from_utf8_lossy(operator), test / 1024)
+        Some((operator, _)) if cell % 8 == 0 => {
+            format!("{}.{}@{}", test % 32, String::from_utf8_lossy(operator), test / 1024)
         }
         _ => cell.to_string(),
     }
@@ -350,17 +354,20 @@ fn repeated_row(written: &str) -> Option<Vec<u32>> {
 
 /// The cell of a row that the file writes.
 fn read_row(written: &str) -> Option<u32> {
-    if let Some((_, number)) = WORDS.iter().find(|(word, _)| *word == written) {
-        return Some(*number);
+    if written == "not" {
+        return Some(NOT);
+    }
+    let sized = |(word, number): &(&str, u32)| Some(8 * written.strip_prefix(word)?.parse::<u32>().ok()? + number);
+    if let Some(cell) = WORDS.iter().find_map(sized) {
+        return Some(cell);
     }
     let Some((test, place)) = written.split_once('@') else { return written.parse().ok() };
-    let (test, bracket) = test.strip_prefix(']').map_or((test, 0), |test| (test, 1));
     let (parameter, operator) = test.split_once('.')?;
     let operator = match operator.parse() {
         Ok(number) => number,
         Err(_) => OPERATIONS.iter().position(|(word, _)| *word == operator.as_bytes())? as u32,
     };
-    Some(8 * (parameter.parse::<u32>().ok()? + 32 * (operator + 32 * place.parse::<u32>().ok()?)) + bracket)
+    Some(8 * (parameter.parse::<u32>().ok()? + 32 * (operator + 32 * place.parse::<u32>().ok()?)))
 }
 
 /// The answer of a report, with the rows.

@@ -4,6 +4,7 @@ use crate::block::Sheet;
 use crate::filter::{self, DEEPEST, Filter, Item, Join, MOST_TESTS, OPERATIONS, Operation, Test};
 use crate::meaning::{self, Question};
 
+const BRACKETS: u32 = 1;
 const NOT: u32 = 2;
 const AND: u32 = 3;
 const OR: u32 = 4;
@@ -18,11 +19,11 @@ pub fn write(filter: &Filter<Test>, sheet: &Sheet) -> Vec<u32> {
 fn write_filter(filter: &Filter<Test>, sheet: &Sheet, rows: &mut Vec<u32>) {
     write_item(&filter.first, sheet, rows);
     for (join, item) in &filter.rest {
+        let tag = if matches!(join, Join::And) { AND } else { OR };
+        let place = rows.len();
+        rows.push(tag);
         write_item(item, sheet, rows);
-        rows.push(match join {
-            Join::And => AND,
-            Join::Or => OR,
-        });
+        rows[place] += 8 * size(rows.len() - place - 1);
     }
 }
 
@@ -30,8 +31,10 @@ fn write_item(item: &Item<Test>, sheet: &Sheet, rows: &mut Vec<u32>) {
     match item {
         Item::Test(test, None) => rows.push(cell(test, sheet)),
         Item::Test(test, Some(condition)) => {
+            let place = rows.len();
+            rows.extend([BRACKETS, cell(test, sheet)]);
             write_filter(condition, sheet, rows);
-            rows.push(cell(test, sheet) + 1);
+            rows[place] += 8 * size(rows.len() - place - 2);
         }
         Item::Bracket(filter) => write_filter(filter, sheet, rows),
         Item::Not(filter) => {
@@ -39,6 +42,10 @@ fn write_item(item: &Item<Test>, sheet: &Sheet, rows: &mut Vec<u32>) {
             rows.push(NOT);
         }
     }
+}
+
+fn size(rows: usize) -> u32 {
+    u32::try_from(rows).expect("a part of a filter's rows")
 }
 
 /// Eight times the number of a test.
@@ -65,32 +72,41 @@ struct Named {
 
 /// The filter that the rows state on a text and a sheet, if they are good.
 pub fn read(rows: &[u32], text: &[u8], sheet: &Sheet) -> Option<Filter<Question>> {
-    let (stated, before) = last(rows)?;
+    let stated = whole(rows)?;
     let is_within = stated.as_filter() <= DEEPEST && stated.count() <= MOST_TESTS;
-    (before.is_empty() && is_within).then(|| stated.filter(None, text, sheet)).flatten()
+    is_within.then(|| stated.filter(None, text, sheet)).flatten()
 }
 
-/// The expression that ends with the last row, and the rows before it.
-fn last(rows: &[u32]) -> Option<(Stated, &[u32])> {
-    let (&row, before) = rows.split_last()?;
-    Some(match (row, row % 8) {
-        (NOT, _) => {
-            let (inner, before) = last(before)?;
-            (Stated::Not(Box::new(inner)), before)
+/// The expression that the rows are, from left to right.
+fn whole(rows: &[u32]) -> Option<Stated> {
+    let (mut hand, mut rest) = first(rows)?;
+    while let Some((&row, behind)) = rest.split_first() {
+        (hand, rest) = match (row, row % 8) {
+            (NOT, _) => (Stated::Not(Box::new(hand)), behind),
+            (_, AND | OR) => {
+                let join = if row % 8 == AND { Join::And } else { Join::Or };
+                let (second, behind) = behind.split_at_checked(row as usize / 8)?;
+                (Stated::Joined(join, Box::new(hand), Box::new(whole(second)?)), behind)
+            }
+            _ => return None,
+        };
+    }
+    Some(hand)
+}
+
+/// The test that rows begin with, and the rows behind it and its brackets.
+fn first(rows: &[u32]) -> Option<(Stated, &[u32])> {
+    let (&row, behind) = rows.split_first()?;
+    match row % 8 {
+        0 => Some((Stated::Test(named(row / 8)?), behind)),
+        BRACKETS => {
+            let (&test, behind) = behind.split_first()?;
+            let (condition, behind) = behind.split_at_checked(row as usize / 8)?;
+            let named = (test % 8 == 0).then(|| named(test / 8)).flatten()?;
+            Some((Stated::Chosen(Box::new(whole(condition)?), named), behind))
         }
-        (AND | OR, _) => {
-            let join = if row == AND { Join::And } else { Join::Or };
-            let (right, before) = last(before)?;
-            let (left, before) = last(before)?;
-            (Stated::Joined(join, Box::new(left), Box::new(right)), before)
-        }
-        (_, 0) => (Stated::Test(named(row / 8)?), before),
-        (_, 1) => {
-            let (inner, before) = last(before)?;
-            (Stated::Chosen(Box::new(inner), named(row / 8)?), before)
-        }
-        _ => return None,
-    })
+        _ => None,
+    }
 }
 
 fn named(number: u32) -> Option<Named> {
@@ -188,7 +204,7 @@ mod tests {
     fn written() {
         let rows = write(&filter::read(TEXT).unwrap(), &sheet());
         let (a, c, f) = (test(0, Operation::Eq, 5), test(1, Operation::Eq, 22), test(0, Operation::Ne, 37));
-        assert_eq!(rows, [a, c, NOT, f, OR, AND]);
+        assert_eq!(rows, [a, 8 * 4 + AND, c, NOT, 8 + OR, f]);
         assert_eq!(rows[0], 5 * 8192);
         assert!(is_good(&rows));
     }
@@ -198,7 +214,10 @@ mod tests {
         let a = test(0, Operation::Eq, 5);
         let m = test(3, Operation::Eq, 5);
         let n = test(4, Operation::Pr, 5);
-        for rows in [&[a][..], &[a, NOT], &[a, a, AND], &[m, m + 1], &[m, m, OR, m + 1, a, AND], &[a + 32 * 8]] {
+        let (and, or, one) = (8 + AND, 8 + OR, 8 + BRACKETS);
+        for rows in
+            [&[a][..], &[a, NOT], &[a, and, a], &[one, m, m], &[8 * 3 + BRACKETS, m, m, or, m, and, a], &[a + 32 * 8]]
+        {
             assert!(is_good(rows), "{rows:?}");
         }
         for rows in [
@@ -206,14 +225,19 @@ mod tests {
             &[NOT],
             &[5],
             &[a, a],
-            &[a, AND],
-            &[a, a, AND, a],
+            &[a, and],
+            &[and, a],
+            &[a, and, a, a],
+            &[a, 2 * 8 + AND, a],
             &[m],
-            &[a, a + 1],
-            &[a, m + 1],
-            &[m, m + 1, m + 1],
-            &[m, a, AND],
-            &[n, m + 1],
+            &[one, a, a],
+            &[one, m, a],
+            &[one, a, m],
+            &[one, m],
+            &[8 * 3 + BRACKETS, m, one, m, m],
+            &[m, and, a],
+            &[one, m, n],
+            &[one, and, m],
             &[test(2, Operation::Pr, 5)],
             &[test(5, Operation::Eq, 5)],
             &[test(0, Operation::Gt, 5)],
@@ -229,9 +253,9 @@ mod tests {
         }
         let deep = |depth| [&[a][..], &vec![NOT; depth]].concat();
         assert!(is_good(&deep(8)) && !is_good(&deep(9)));
-        let many = |count: usize| [&[a][..], &[a, OR].repeat(count - 1)].concat();
+        let many = |count: usize| [&[a][..], &[or, a].repeat(count - 1)].concat();
         assert!(is_good(&many(32)) && !is_good(&many(33)));
-        let right = |count: usize| [vec![a; count], vec![OR; count - 1]].concat();
+        let right = |count: u32| (0..count).rev().flat_map(|left| [8 * (2 * left + 1) + OR, a]).skip(1).collect::<Vec<_>>();
         assert!(is_good(&right(10)) && !is_good(&right(11)));
     }
 

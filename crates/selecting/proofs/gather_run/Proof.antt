@@ -1,17 +1,10 @@
 -- `selecting::gather_run` meets its contract: the rows are opened, then the cards. Assumes nothing.
 use borrow.Author.Needs.{needs}
-use Rattle.row_judge.proofs.Noting.{jumps-none}
 use Rattle.selecting.proofs.gather_run.Statement.{statement}
 use Rattle.selecting.proofs.gather_run.Tie as tie
 
 kinds-requires : tie.Need-kinds-requires
 kinds-requires c κs = search needs
-
-slice-aggregate-note-jumps : tie.Need-slice-aggregate-note-jumps
-slice-aggregate-note-jumps c = search needs
-
-note-jumps-requires : tie.Need-note-jumps-requires
-note-jumps-requires c κs = (search needs, search (jumps-none, needs))
 
 slice-aggregate-open-rows : tie.Need-slice-aggregate-open-rows
 slice-aggregate-open-rows c = search needs
@@ -21,12 +14,6 @@ slice-aggregate-open-rows-2 c = search needs
 
 slice-aggregate-open-rows-3 : tie.Need-slice-aggregate-open-rows-3
 slice-aggregate-open-rows-3 c = search needs
-
-slice-aggregate-open-rows-4 : tie.Need-slice-aggregate-open-rows-4
-slice-aggregate-open-rows-4 c = search needs
-
-slice-aggregate-open-rows-5 : tie.Need-slice-aggregate-open-rows-5
-slice-aggregate-open-rows-5 c = search needs
 
 open-rows-requires : tie.Need-open-rows-requires
 open-rows-requires c κs = search needs
@@ -40,17 +27,8 @@ slice-aggregate-gather-2 c = search needs
 slice-aggregate-gather-3 : tie.Need-slice-aggregate-gather-3
 slice-aggregate-gather-3 c = search needs
 
-slice-aggregate-gather-4 : tie.Need-slice-aggregate-gather-4
-slice-aggregate-gather-4 c = search needs
-
-slice-aggregate-gather-5 : tie.Need-slice-aggregate-gather-5
-slice-aggregate-gather-5 c = search needs
-
-slice-aggregate-gather-6 : tie.Need-slice-aggregate-gather-6
-slice-aggregate-gather-6 c = search needs
-
 gather-requires : tie.Need-gather-requires
-gather-requires c κs = (search needs, (search needs, (search needs, (search needs, (search needs, (c .before .before .before .before .before .before .before .before .before .before .before .before .before .before .before .before .before .before .before .before .before .before .before .before .before .before .pre .1 .1 .1 .0, (c .before .before .before .before .before .before .before .before .before .before .before .before .before .before .before .before .before .before .before .before .before .before .before .before .before .before .pre .1 .1 .1 .1 .0, c .before .before .before .before .before .before .before .before .before .before .before .before .before .before .before .before .before .before .before .before .before .before .before .before .before .before .pre .1 .1 .1 .1 .1)))))))
+gather-requires c κs = (search needs, (search needs, (search needs, (search needs, (c .before .before .before .before .before .before .before .before .before .before .before .before .before .before .before .before .pre .1 .1 .1 .0, (c .before .before .before .before .before .before .before .before .before .before .before .before .before .before .before .before .pre .1 .1 .1 .1 .0, c .before .before .before .before .before .before .before .before .before .before .before .before .before .before .before .before .pre .1 .1 .1 .1 .1))))))
 
 same-length : tie.Need-same-length
 same-length c = search needs
@@ -63,20 +41,13 @@ gather-run-spec =
     tie.close
     (tie.spec
     kinds-requires
-    slice-aggregate-note-jumps
-    note-jumps-requires
     slice-aggregate-open-rows
     slice-aggregate-open-rows-2
     slice-aggregate-open-rows-3
-    slice-aggregate-open-rows-4
-    slice-aggregate-open-rows-5
     open-rows-requires
     slice-aggregate-gather
     slice-aggregate-gather-2
     slice-aggregate-gather-3
-    slice-aggregate-gather-4
-    slice-aggregate-gather-5
-    slice-aggregate-gather-6
     gather-requires
     same-length
     returns)

@@ -31,25 +31,37 @@ fn test(random: &mut Random, case: &Case) -> u32 {
     let place = random.below(34).min(31);
     let operation = random.below(OPERATIONS.len() + 2);
     let value_place = random.below(case.filter.len() + 2);
-    8 * (place + 32 * (operation + 32 * value_place)) as u32 + u32::from(random.once_in(4))
+    8 * (place + 32 * (operation + 32 * value_place)) as u32
+}
+
+/// A row that is no test, mostly with a number of rows that is small.
+fn word(random: &mut Random) -> u32 {
+    let size = if random.once_in(8) { random.below(400) } else { random.below(5) };
+    if random.once_in(3) { 2 } else { 8 * size as u32 + random.one(&[1, 3, 4]) }
 }
 
 /// Some rows with one of them changed, left out or put in.
 fn damaged(random: &mut Random, mut rows: Vec<u32>, case: &Case) -> Vec<u32> {
     let at = random.below(rows.len() + 1);
     if at == rows.len() || random.once_in(4) {
-        let row = random.one(&[0, 1, 2, 3, 4, 5, 10, u32::MAX]);
-        rows.insert(at, if random.once_in(2) { row } else { test(random, case) });
+        let row = match random.below(3) {
+            0 => random.one(&[0, 1, 2, 3, 4, 5, 10, u32::MAX]),
+            1 => word(random),
+            _ => test(random, case),
+        };
+        rows.insert(at, row);
         return rows;
     }
-    match random.below(7) {
+    match random.below(9) {
         0 => drop(rows.remove(at)),
         1 => rows[at] ^= 1 << random.below(32),
         2 => rows[at] = test(random, case),
-        3 => rows[at] = random.one(&[2, 3, 4]),
+        3 => rows[at] = word(random),
         4 => rows[at] = (rows[at] / 256) * 256 + 8 * random.below(32) as u32 + rows[at] % 8,
         5 => rows[at] = rows[at] % 8192 + 8192 * random.below(case.filter.len() + 1) as u32,
-        _ => rows.rotate_left(at),
+        6 => rows.rotate_left(at),
+        7 => rows[at] = rows[at].wrapping_add(8),
+        _ => rows[at] = rows[at].wrapping_sub(8),
     }
     rows
 }
@@ -57,7 +69,7 @@ fn damaged(random: &mut Random, mut rows: Vec<u32>, case: &Case) -> Vec<u32> {
 /// Any few rows.
 fn drawn(random: &mut Random, case: &Case) -> Vec<u32> {
     let count = random.below(6);
-    let draw = |_| if random.once_in(2) { random.one(&[2, 3, 4]) } else { test(random, case) };
+    let draw = |_| if random.once_in(2) { word(random) } else { test(random, case) };
     (0..count).map(draw).collect()
 }
 
@@ -68,10 +80,20 @@ fn limits(random: &mut Random, case: &Case) -> Vec<u32> {
         return rows;
     };
     let more = random.below(2);
-    match random.below(4) {
+    // from the right: each test with all that follow it as its second part
+    let nested = |count: usize, tag: u32| {
+        let pair = |left: usize| [8 * (2 * left as u32 + 1) + tag, test];
+        (0..count).rev().flat_map(pair).skip(1).collect::<Vec<_>>()
+    };
+    match random.below(5) {
         0 => [vec![test], vec![2; 8 + more]].concat(),
-        1 => [vec![test; 32 + more], vec![4; 31 + more]].concat(),
-        2 => [vec![test], [test, 3].repeat(31 + more)].concat(),
-        _ => [vec![test; 10 + more], vec![3; 9 + more]].concat(),
+        1 => nested(32 + more, 4),
+        2 => [vec![test], [8 + 3, test].repeat(31 + more)].concat(),
+        3 => nested(10 + more, 3),
+        _ => {
+            let last = nested(5 + more, 3);
+            let join = vec![8 * last.len() as u32 + 4];
+            [nested(9, 4), vec![8 * 17 + 3], nested(9, 4), vec![8 * 17 + 4], nested(9, 3), join, last].concat()
+        }
     }
 }

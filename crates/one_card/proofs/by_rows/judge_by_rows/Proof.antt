@@ -11,7 +11,7 @@ enum-told : tie.Need-enum-told
 enum-told c = search needs
 
 rows-say-requires : tie.Need-rows-say-requires
-rows-say-requires c κs = (search needs, (search needs, (search needs, (search needs, (search needs, search (conforming-known, needs))))))
+rows-say-requires c κs = record { each-kind = search needs; short = search needs; whole = search needs; opens = search needs; well-formed = search (conforming-known, needs) }
 
 enum-known-accepted : tie.Need-enum-known-accepted
 enum-known-accepted c = search needs

@@ -4,12 +4,6 @@ use Rattle.row_opener.proofs.Opening.{from-is}
 use Rattle.row_opener.proofs.store.opened_from.Statement.{statement}
 use Rattle.row_opener.proofs.store.opened_from.Tie as tie
 
-cast-t16 : tie.Need-cast-t16
-cast-t16 c = search needs
-
-cast-t19 : tie.Need-cast-t19
-cast-t19 c = search needs
-
 number-from-requires : tie.Need-number-from-requires
 number-from-requires c κs = search needs
 
@@ -20,5 +14,4 @@ returns : tie.Need-returns
 returns c = from-is _ _ _ _ _ _ _ _ (c .before .number-from .ensures) (c .date-from .ensures) (search needs) (search needs)
 
 pub opened-from-spec : {M : Type 1} → statement M
-opened-from-spec =
-    tie.close (tie.spec cast-t16 cast-t19 number-from-requires date-from-requires returns)
+opened-from-spec = tie.close (tie.spec number-from-requires date-from-requires returns)

@@ -1,6 +1,6 @@
 -- `row_opener::store::opened_row` meets its contract: each row is a case of the definition. Assumes nothing.
 use borrow.Author.Needs.{needs}
-use Rattle.rows.proofs.Machine.{test-index, bracket-index}
+use Rattle.rows.proofs.Cells.{test-index}
 use Rattle.row_opener.proofs.Opening.{row-test, row-bracket, row-not, row-connect, row-unknown}
 use Rattle.row_opener.proofs.store.opened_row.Statement.{statement}
 use Rattle.row_opener.proofs.store.opened_row.Tie as tie
@@ -13,12 +13,6 @@ enum-known-probe c = search needs
 
 opened-probe-requires : tie.Need-opened-probe-requires
 opened-probe-requires c κs = search (test-index, needs)
-
-enum-known-probe-2 : tie.Need-enum-known-probe-2
-enum-known-probe-2 c = search needs
-
-opened-probe-requires-2 : tie.Need-opened-probe-requires-2
-opened-probe-requires-2 c κs = search (bracket-index, needs)
 
 enum-told : tie.Need-enum-told
 enum-told c = search needs
@@ -37,6 +31,12 @@ enum-told-3 c = search needs
 
 closed-requires-3 : tie.Need-closed-requires-3
 closed-requires-3 c κs = search needs
+
+enum-told-4 : tie.Need-enum-told-4
+enum-told-4 c = search needs
+
+closed-requires-4 : tie.Need-closed-requires-4
+closed-requires-4 c κs = search needs
 
 returns : tie.Need-returns
 returns c = search (row-test, needs)
@@ -60,14 +60,14 @@ opened-row-spec =
     row-of-requires
     enum-known-probe
     opened-probe-requires
-    enum-known-probe-2
-    opened-probe-requires-2
     enum-told
     closed-requires
     enum-told-2
     closed-requires-2
     enum-told-3
     closed-requires-3
+    enum-told-4
+    closed-requires-4
     returns
     returns-2
     returns-3

@@ -8,7 +8,7 @@ enum-told : tie.Need-enum-told
 enum-told c = search needs
 
 judge-by-rows-requires : tie.Need-judge-by-rows-requires
-judge-by-rows-requires c κs = (search needs, (search (asks-short, needs), (search (asks-whole, needs), (search needs, search needs))))
+judge-by-rows-requires c κs = (search needs, (search (asks-short, needs), (search (asks-whole, needs), search needs)))
 
 enum-told-2 : tie.Need-enum-told-2
 enum-told-2 c = search needs
