@@ -9,12 +9,15 @@ use lib.Dec.{eqb}
 use lib.ListN.{length, getD}
 use borrow.Author.Tests.{lt-ltb, le-ltb, eq-eqb, ne-eqb}
 use Rattle.syntax.specs.Scan.{valueAt}
+use Rattle.syntax.specs.declared.Connective.{Connective}
 use Rattle.syntax.specs.declared.RawValue.{RawValue}
 use Rattle.syntax.specs.declared.FoundValue.{FoundValue}
 use Rattle.kind.specs.Table.{hasMeaning}
 use Rattle.kind.specs.Readable.{valueReadable}
-use Rattle.rows.specs.Shapes.{kindFits, valueIn, probeFits, memberOf}
+use Rattle.rows.specs.Cells.{rowOf}
+use Rattle.rows.specs.Shapes.{kindFits, valueIn, probeFits, memberOf, memberBy}
 use Rattle.rows.specs.declared.Probe.{Probe}
+use Rattle.rows.specs.declared.Row.{Row}
 
 -- ---- a test
 
@@ -63,14 +66,27 @@ module _ (kinds parents xs : List ℕ) (p : Probe) (f : Bool) (e : f ≡ probeFi
   pub stands-fits : (c : ℕ) → f ≡ true → eqb parent c ≡ (probeFits kinds xs p && eqb (getD parents (p .index) 0) c)
   stands-fits c h = rw (sym e ∙ h, same)
 
-  pub member-fits : f ≡ true → parent ≡ memberOf kinds parents xs p
+  pub member-fits : f ≡ true → (d : ℕ) (q : Row) → q ≡ rowOf d → q ≡ Row.Test p → parent ≡ memberBy kinds parents xs (rowOf d)
   unfolding memberOf
-  member-fits h = rw (sym e ∙ h) same
+  member-fits h d q i j = rw (sym i ∙ j, sym e ∙ h) same
 
 module _ (kinds parents xs : List ℕ) (p : Probe) (f : Bool) (e : f ≡ probeFits kinds xs p) where
   pub stands-not : (c : ℕ) → f ≡ false → false ≡ (probeFits kinds xs p && eqb (getD parents (p .index) 0) c)
   stands-not c h = rw (sym e ∙ h)
 
-  pub member-not : f ≡ false → 0 ≡ memberOf kinds parents xs p
+  pub member-not : f ≡ false → (d : ℕ) (q : Row) → q ≡ rowOf d → q ≡ Row.Test p → 0 ≡ memberBy kinds parents xs (rowOf d)
   unfolding memberOf
-  member-not h = rw (sym e ∙ h)
+  member-not h d q i j = rw (sym i ∙ j, sym e ∙ h)
+
+module _ (kinds parents xs : List ℕ) (d : ℕ) (q : Row) (i : q ≡ rowOf d) where
+  pub no-member-bracket : (n : ℕ) → q ≡ Row.Bracket n → 0 ≡ memberBy kinds parents xs (rowOf d)
+  no-member-bracket n j = ap (memberBy kinds parents xs) (sym j ∙ i)
+
+  pub no-member-not : q ≡ Row.Not → 0 ≡ memberBy kinds parents xs (rowOf d)
+  no-member-not j = ap (memberBy kinds parents xs) (sym j ∙ i)
+
+  pub no-member-connect : (k : Connective) (n : ℕ) → q ≡ Row.Connect k n → 0 ≡ memberBy kinds parents xs (rowOf d)
+  no-member-connect k n j = ap (memberBy kinds parents xs) (sym j ∙ i)
+
+  pub no-member-unknown : q ≡ Row.Unknown → 0 ≡ memberBy kinds parents xs (rowOf d)
+  no-member-unknown j = ap (memberBy kinds parents xs) (sym j ∙ i)

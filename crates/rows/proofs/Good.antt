@@ -3,16 +3,16 @@
 -- (`fits-within`); for one test these are `probe-there` and `probe-fits`. That the nesting agrees with the grammar's is known from file Nesting. Cells that state an expression are its
 -- cells, and an expression that fits can be written, so that the expression of `Good` is the one that the test finds (`good-states`).
 -- Assumes nothing.
-use Prim.Native.Nat.{ℕ, zero, suc, _≤_}
+use Prim.Native.Nat.{ℕ, zero, suc, _≤_, _<_}
 use native.Mathlib.Omega.{arith}
 use mathlib.Core.Path.{_≡_, refl, sym, ap, subst, _∙_}
 use mathlib.Core.Bool.{Bool, true, false, cond, not, _&&_}
 use mathlib.Core.Logic.{_↔_, ⊎-elim}
-use mathlib.Core.Option.{Option, none, some}
+use mathlib.Core.Option.{Option, none, some, Option·none-ne-some}
 use mathlib.Core.List.{List, _∷_}
 use lib.Dec.{eqb, ltb, leb}
 use lib.ListN.{length, getD, length-append}
-use borrow.Author.Tests.{lt-ltb, ltb-true, le-leb, leb-true, eq-eqb, ne-eqb, eqb-true, eqb-false, not-true}
+use borrow.Author.Tests.{lt-ltb, ltb-true, le-leb, lt-leb, leb-true, eq-eqb, ne-eqb, eqb-true, eqb-false, not-true}
 use Rattle.base.specs.Lists.{Listed, All}
 use Rattle.base.specs.Kinds.{bundleKind}
 use Rattle.base.specs.Operators.{operatorWords}
@@ -28,13 +28,16 @@ use Rattle.kind.specs.Table.{hasMeaning}
 use Rattle.kind.specs.Rules.{ReadableValue}
 use Rattle.kind.proofs.Rules.{value-iff, operator-iff}
 use Rattle.rows.specs.Expression.{Expression, probing, choosing, joining, negating, testCount}
-use Rattle.rows.specs.Cells.{stated, Sayable, Writable, writable-test, writable-bracket, writable-join, writable-not}
+use Rattle.rows.specs.Cells.{statedIn, stated, Sayable, Writable, writable-test, writable-bracket, writable-join, writable-not}
 use Rattle.rows.specs.Good.{ValueFrom, FitsTo, Fits, fits-test, fits-bracket, fits-join, fits-not, Good}
-use Rattle.rows.specs.Nesting.{depthOf}
-use Rattle.rows.specs.Shapes.{kindFits, valueIn, valueFits, probeFits, memberOf, fitsIn, goodBy, good}
+use Rattle.rows.specs.Nesting.{shapeOf, partsIn}
+use Rattle.rows.specs.Shapes.{kindFits, valueIn, valueFits, probeFits, memberOf, fitsIn, goodBy, good, shapeBy}
+use Rattle.rows.specs.declared.FoundShape.{FoundShape}
 use Rattle.rows.specs.declared.Probe.{Probe}
-use Rattle.rows.proofs.Stating.{stated-encode, stated-cells}
-use Rattle.rows.proofs.Nesting.{chain-of, of-chain, rows-few}
+use Rattle.rows.specs.declared.Shape.{Shape}
+use Rattle.rows.proofs.Stating.{in-encode, in-cells, stated-encode, stated-are, stated-cells}
+use Rattle.rows.proofs.Nesting.{chain-of, of-chain, rows-few, shape-tests, parts-levels}
+use Rattle.rows.proofs.Reading.{found, not-found}
 use Rattle.rows.proofs.Values.{found-from, from-found}
 
 -- a property of every parameter holds of the one that is listed
@@ -172,12 +175,12 @@ module _ (ps : List Parameter) (w : WellFormedSheet ps) (xs : List ℕ) where
   good-of cs none e h = both-ways h refl
   good-of cs (some f) e h =
       let few : Bool = leb (testCount f) 32 in
-      let low : Bool = leb (depthOf f .chain) 8 in
+      let low : Bool = leb (shapeOf f .chain) 8 in
       let rest : (low && within 0 f) ≡ true = and-right few (low && within 0 f) h in
       record {
         expression = f;
         written = stated-cells cs f e;
-        nests = chain-of f 8 (leb-true (depthOf f .chain) 8 (and-left low (within 0 f) rest));
+        nests = chain-of f 8 (leb-true (shapeOf f .chain) 8 (and-left low (within 0 f) rest));
         few = leb-true (testCount f) 32 (and-left few (low && within 0 f) h);
         fits = within-fits f 0 (and-right low (within 0 f) rest);
       }
@@ -187,7 +190,7 @@ module _ (ps : List Parameter) (w : WellFormedSheet ps) (xs : List ℕ) where
 
   of-good : (cs : List ℕ) → Good ps xs cs → good (kindsOf ps) (parentsOf ps) xs cs ≡ true
   unfolding good
-  of-good cs g = rw (good-states g, le-leb (testCount (g .expression)) 32 (g .few), le-leb (depthOf (g .expression) .chain) 8 (of-chain (g .nests))) (fits-within (g .fits))
+  of-good cs g = rw (good-states g, le-leb (testCount (g .expression)) 32 (g .few), le-leb (shapeOf (g .expression) .chain) 8 (of-chain (g .nests))) (fits-within (g .fits))
 
   pub good-iff : (cs : List ℕ) → (good (kindsOf ps) (parentsOf ps) xs cs ≡ true) ↔ Good ps xs cs
   unfolding good
@@ -202,7 +205,74 @@ good-few kinds parents xs cs h = by-stated (stated cs) refl h
     by-stated none e h = both-ways h refl
     by-stated (some f) e h =
         let few : Bool = leb (testCount f) 32 in
-        let low : Bool = leb (depthOf f .chain) 8 in
+        let low : Bool = leb (shapeOf f .chain) 8 in
         let fits : Bool = fitsIn kinds parents xs 0 f in
-        let deep : depthOf f .chain ≤ 8 = leb-true (depthOf f .chain) 8 (and-left low fits (and-right few (low && fits) h)) in
+        let deep : shapeOf f .chain ≤ 8 = leb-true (shapeOf f .chain) 8 (and-left low fits (and-right few (low && fits) h)) in
         omega (arith, leb-true (testCount f) 32 (and-left few (low && fits) h), rows-few (chain-of f 8 deep), ap length (stated-cells cs f e))
+
+-- ---- as the code tests them
+
+module _ (kinds parents xs cs : List ℕ) where
+  pub too-many : 320 < length cs → false ≡ good kinds parents xs cs
+  too-many l = by-test (good kinds parents xs cs) refl
+    where
+      by-test : (t : Bool) → good kinds parents xs cs ≡ t → false ≡ t
+      by-test true e = absurd (omega (arith, l, good-few kinds parents xs cs e))
+      by-test false e = refl
+
+  -- 18 calls within calls are enough for brackets within the limit
+  enough : (o : Option Expression) → stated cs ≡ o → statedIn 18 cs ≡ none → goodBy kinds parents xs o ≡ false
+  enough none i h = refl
+  enough (some e) i h = by-depth (leb (shapeOf e .chain) 8) refl
+    where
+      no-and : (a b : Bool) → (a && (false && b)) ≡ false
+      no-and true b = refl
+      no-and false b = refl
+
+      by-depth : (t : Bool) → leb (shapeOf e .chain) 8 ≡ t → (leb (testCount e) 32 && (t && fitsIn kinds parents xs 0 e)) ≡ false
+      by-depth false j = no-and (leb (testCount e) 32) (fitsIn kinds parents xs 0 e)
+      by-depth true j =
+          let c = stated-are cs e i in
+          let few : partsIn e ≤ 18 = omega (arith, parts-levels e .0, leb-true (shapeOf e .chain) 8 j) in
+          absurd (Option·none-ne-some _ (sym h ∙ ap (statedIn 18) (c .are) ∙ in-encode e (c .writable) 18 few))
+
+  states-so : (e : Expression) → statedIn 18 cs ≡ some e → stated cs ≡ some e
+  states-so e h = let c = in-cells 18 cs e h in ap stated (c .are) ∙ stated-encode e (c .writable)
+
+  module _ (r : FoundShape) (h : r ≡ shapeBy (fitsIn kinds parents xs 0) (statedIn 18 cs)) where
+    pub none-good : r ≡ FoundShape.Nothing → false ≡ good kinds parents xs cs
+    unfolding good
+    none-good i = by-stated (statedIn 18 cs) refl
+      where
+        and-no : (a b : Bool) → (a && (b && false)) ≡ false
+        and-no true true = refl
+        and-no true false = refl
+        and-no false b = refl
+
+        by-stated : (o : Option Expression) → statedIn 18 cs ≡ o → false ≡ goodBy kinds parents xs (stated cs)
+        by-stated none j = sym (enough (stated cs) refl j)
+        by-stated (some e) j =
+            let misfits : fitsIn kinds parents xs 0 e ≡ false = not-found (fitsIn kinds parents xs 0) (statedIn 18 cs) r h i .each e j in
+            sym
+            (ap (goodBy kinds parents xs) (states-so e j) ∙ ap (λ (b : Bool). leb (testCount e) 32 && (leb (shapeOf e .chain) 8 && b)) misfits
+            ∙ and-no (leb (testCount e) 32) (leb (shapeOf e .chain) 8))
+
+    module _ (s : Shape) (i : r ≡ FoundShape.Shape s) where
+      good-is : good kinds parents xs cs ≡ (leb (s .tests) 32 && leb (s .chain) 8)
+      unfolding good
+      good-is =
+          let f = found (fitsIn kinds parents xs 0) 18 cs r h s i in
+          let e : Expression = f .expression in
+          ap (goodBy kinds parents xs) (states-so e (f .states)) ∙ ap (λ (b : Bool). leb (testCount e) 32 && (leb (shapeOf e .chain) 8 && b)) (f .fitting)
+          ∙ ap (λ (b : Bool). leb (testCount e) 32 && b) (and-yes (leb (shapeOf e .chain) 8)) ∙ ap (λ (n : ℕ). leb n 32 && leb (shapeOf e .chain) 8) (sym (shape-tests e))
+          ∙ sym (ap (λ (a : Shape). leb (a .tests) 32 && leb (a .chain) 8) (f .is))
+        where
+          and-yes : (b : Bool) → (b && true) ≡ b
+          and-yes true = refl
+          and-yes false = refl
+
+      pub many-good : 32 < s .tests → false ≡ good kinds parents xs cs
+      many-good l = sym (good-is ∙ ap (λ (b : Bool). b && leb (s .chain) 8) (lt-leb (s .tests) 32 l))
+
+      pub few-good : s .tests ≤ 32 → leb (s .chain) 8 ≡ good kinds parents xs cs
+      few-good l = sym (good-is ∙ ap (λ (b : Bool). b && leb (s .chain) 8) (le-leb (s .tests) 32 l))

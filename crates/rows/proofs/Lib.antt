@@ -6,4 +6,4 @@ pub mod Values
 pub mod Good
 pub mod Naming
 pub mod Fitting
-pub mod Testing
+pub mod Reading

@@ -12,7 +12,7 @@ use borrow.Author.Tests.{ltb-true, ltb-false}
 use Rattle.rows.specs.Expression.{Expression, probing, choosing, joining, negating, testCount}
 use Rattle.rows.specs.Cells.{cellOf, encode}
 use Rattle.rows.specs.declared.Row.{Row}
-use Rattle.rows.specs.Nesting.{NestsItem, Nests, nests-test, nests-bracketed, nests-bracket, nests-not, nests-item, nests-more, larger, depthOf}
+use Rattle.rows.specs.Nesting.{NestsItem, Nests, nests-test, nests-bracketed, nests-bracket, nests-not, nests-item, nests-more, larger, shapeOf, partsIn}
 
 pub larger-of : (a b : ℕ) → (a ≤ larger a b) × (b ≤ larger a b)
 unfolding larger
@@ -31,25 +31,25 @@ larger-least a b d h k = by-test (ltb a b)
     by-test false = h
 
 -- as an item an expression needs no fewer
-chain-item : (e : Expression) → depthOf e .chain ≤ depthOf e .item
-unfolding depthOf
+chain-item : (e : Expression) → shapeOf e .chain ≤ shapeOf e .item
+unfolding shapeOf
 chain-item (probing p) = omega arith
 chain-item (choosing e p) = omega arith
 chain-item (negating e) = omega arith
 chain-item (joining c e f) = omega arith
 
 -- and at most one more
-item-chain : (e : Expression) → depthOf e .item ≤ suc (depthOf e .chain)
-unfolding depthOf
+item-chain : (e : Expression) → shapeOf e .item ≤ suc (shapeOf e .chain)
+unfolding shapeOf
 item-chain (probing p) = omega arith
 item-chain (choosing e p) = omega arith
 item-chain (negating e) = omega arith
 item-chain (joining c e f) = omega arith
 
 mutual
-  unfolding depthOf
+  unfolding shapeOf
 
-  item-of : (e : Expression) (d : ℕ) → depthOf e .item ≤ d → NestsItem d e
+  item-of : (e : Expression) (d : ℕ) → shapeOf e .item ≤ d → NestsItem d e
   item-of (probing p) d h = nests-test
   item-of (choosing e p) zero h = absurd (omega (arith, h))
   item-of (choosing e p) (suc d) h = nests-bracketed (chain-of e d (omega (arith, h)))
@@ -57,31 +57,31 @@ mutual
   item-of (negating e) (suc d) h = nests-not (chain-of e d (omega (arith, h)))
   item-of (joining c e f) zero h = absurd (omega (arith, h))
   item-of (joining c e f) (suc d) h =
-      let l = larger-of (depthOf e .chain) (depthOf f .item) in
+      let l = larger-of (shapeOf e .chain) (shapeOf f .item) in
       nests-bracket (nests-more (chain-of e d (omega (arith, h, l .0))) (item-of f d (omega (arith, h, l .1))))
 
-  pub chain-of : (e : Expression) (d : ℕ) → depthOf e .chain ≤ d → Nests d e
+  pub chain-of : (e : Expression) (d : ℕ) → shapeOf e .chain ≤ d → Nests d e
   chain-of (probing p) d h = nests-item nests-test
   chain-of (choosing e p) zero h = absurd (omega (arith, h))
   chain-of (choosing e p) (suc d) h = nests-item (nests-bracketed (chain-of e d (omega (arith, h))))
   chain-of (negating e) zero h = absurd (omega (arith, h))
   chain-of (negating e) (suc d) h = nests-item (nests-not (chain-of e d (omega (arith, h))))
   chain-of (joining c e f) d h =
-      let l = larger-of (depthOf e .chain) (depthOf f .item) in
+      let l = larger-of (shapeOf e .chain) (shapeOf f .item) in
       nests-more (chain-of e d (omega (arith, h, l .0))) (item-of f d (omega (arith, h, l .1)))
 
 mutual
-  unfolding depthOf
+  unfolding shapeOf
 
-  of-item : {e : Expression} {d : ℕ} → NestsItem d e → depthOf e .item ≤ d
+  of-item : {e : Expression} {d : ℕ} → NestsItem d e → shapeOf e .item ≤ d
   of-item nests-test = omega arith
   of-item (nests-bracketed h) = omega (arith, of-chain h)
   of-item (nests-bracket {e = e} h) = omega (arith, of-chain h, item-chain e)
   of-item (nests-not h) = omega (arith, of-chain h)
 
-  pub of-chain : {e : Expression} {d : ℕ} → Nests d e → depthOf e .chain ≤ d
+  pub of-chain : {e : Expression} {d : ℕ} → Nests d e → shapeOf e .chain ≤ d
   of-chain (nests-item {e = e} h) = omega (arith, of-item h, chain-item e)
-  of-chain (nests-more {d = d} {e = e} {f = f} h k) = larger-least (depthOf e .chain) (depthOf f .item) d (of-chain h) (of-item k)
+  of-chain (nests-more {d = d} {e = e} {f = f} h k) = larger-least (shapeOf e .chain) (shapeOf f .item) d (of-chain h) (of-item k)
 
 -- ---- an expression of few tests that nests little has few rows
 
@@ -117,14 +117,52 @@ mutual
   rows-few (nests-more {d = d} {c = c} {e = e} {f = f} a b) =
       omega (arith, rows-few a, item-few b, add-mul (testCount e) (testCount f) (2 + d), length-append (encode e) (cellOf (Row.Connect c (length (encode f))) ∷ encode f))
 
--- ---- and no more levels than rows
+-- ---- shapes: the number of tests, and no more tests and levels than rows
 
-pub depth-rows : (e : Expression) → (depthOf e .chain < length (encode e)) × (depthOf e .item ≤ length (encode e))
-unfolding depthOf encode
-depth-rows (probing p) = (omega arith, omega arith)
-depth-rows (choosing e p) = (omega (arith, depth-rows e .0), omega (arith, depth-rows e .0))
-depth-rows (negating e) = (omega (arith, depth-rows e .0, length-append (encode e) (cellOf Row.Not ∷ [])), omega (arith, depth-rows e .0, length-append (encode e) (cellOf Row.Not ∷ [])))
-depth-rows (joining c e f) =
+pub shape-tests : (e : Expression) → shapeOf e .tests ≡ testCount e
+unfolding shapeOf testCount
+shape-tests (probing p) = refl
+shape-tests (choosing e p) = omega (arith, shape-tests e)
+shape-tests (negating e) = omega (arith, shape-tests e)
+shape-tests (joining c e f) = omega (arith, shape-tests e, shape-tests f)
+
+pub levels-rows : (e : Expression) → (shapeOf e .chain < length (encode e)) × (shapeOf e .item ≤ length (encode e))
+unfolding shapeOf encode
+levels-rows (probing p) = (omega arith, omega arith)
+levels-rows (choosing e p) = (omega (arith, levels-rows e .0), omega (arith, levels-rows e .0))
+levels-rows (negating e) = (omega (arith, levels-rows e .0, length-append (encode e) (cellOf Row.Not ∷ [])), omega (arith, levels-rows e .0, length-append (encode e) (cellOf Row.Not ∷ [])))
+levels-rows (joining c e f) =
     let size = length-append (encode e) (cellOf (Row.Connect c (length (encode f))) ∷ encode f) in
-    let most : larger (depthOf e .chain) (depthOf f .item) ≤ length (encode e) + length (encode f) = larger-least (depthOf e .chain) (depthOf f .item) (length (encode e) + length (encode f)) (omega (arith, depth-rows e .0)) (omega (arith, depth-rows f .1)) in
+    let rows : ℕ = length (encode e) + length (encode f) in
+    let most : larger (shapeOf e .chain) (shapeOf f .item) ≤ rows = larger-least (shapeOf e .chain) (shapeOf f .item) rows (omega (arith, levels-rows e .0)) (omega (arith, levels-rows f .1)) in
     (omega (arith, most, size), omega (arith, most, size))
+
+-- ---- parts in parts: some, no more than rows, and at most two for each level and two more
+
+pub parts-some : (e : Expression) → 1 ≤ partsIn e
+unfolding partsIn
+parts-some (probing p) = omega arith
+parts-some (choosing e p) = omega arith
+parts-some (negating e) = parts-some e
+parts-some (joining c e f) = omega (arith, parts-some e, larger-of (partsIn e) (suc (partsIn f)) .0)
+
+pub parts-rows : (e : Expression) → partsIn e ≤ length (encode e)
+unfolding partsIn encode
+parts-rows (probing p) = omega arith
+parts-rows (choosing e p) = omega (arith, parts-rows e)
+parts-rows (negating e) = omega (arith, parts-rows e, length-append (encode e) (cellOf Row.Not ∷ []))
+parts-rows (joining c e f) =
+    let size = length-append (encode e) (cellOf (Row.Connect c (length (encode f))) ∷ encode f) in
+    larger-least (partsIn e) (suc (partsIn f)) (length (encode (joining c e f))) (omega (arith, size, parts-rows e)) (omega (arith, size, parts-rows f))
+
+pub parts-levels : (e : Expression) → (partsIn e ≤ 2 * shapeOf e .chain + 2) × (partsIn e ≤ 2 * shapeOf e .item + 1)
+unfolding partsIn shapeOf
+parts-levels (probing p) = (omega arith, omega arith)
+parts-levels (choosing e p) = (omega (arith, parts-levels e .0), omega (arith, parts-levels e .0))
+parts-levels (negating e) = (omega (arith, parts-levels e .0), omega (arith, parts-levels e .0))
+parts-levels (joining c e f) =
+    let deep = larger-of (shapeOf e .chain) (shapeOf f .item) in
+    let chain : ℕ = larger (shapeOf e .chain) (shapeOf f .item) in
+    let most : larger (partsIn e) (suc (partsIn f)) ≤ 2 * chain + 2 =
+    larger-least (partsIn e) (suc (partsIn f)) (2 * chain + 2) (omega (arith, parts-levels e .0, deep .0)) (omega (arith, parts-levels f .1, deep .1)) in
+    (most, omega (arith, most))

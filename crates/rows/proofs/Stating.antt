@@ -1,5 +1,5 @@
 -- The cells of an expression state it, and cells that state an expression are its cells.
--- Both are shown for a bound on the nesting that is large enough: from an expression by induction on it, with any rows behind its own
+-- Both are shown for a bound on how deep parts stand in parts: from an expression by induction on it, with any rows behind its own
 -- (`from-encode`), and from cells by induction on the bound (`in-cells`), with the rows behind an expression in hand by induction on them
 -- (`on-cells`). So the bound makes no difference, and rows state what their first row makes of what the parts behind it state (`stated-step`).
 -- Assumes nothing.
@@ -13,6 +13,8 @@ use lib.Seq.{take-append-seam, drop-append-seam, length-take-le}
 use Rattle.rows.specs.Expression.{Expression, probing, choosing, joining, negating}
 use Rattle.rows.specs.Cells.{rowOf, cellOf, encode, Sayable, Writable, writable-test, writable-bracket, writable-join, writable-not, andThen, nextRow, onFrom, afterBrackets, byFirst, wholeBy, statedIn, stated}
 use Rattle.rows.specs.declared.Row.{Row}
+use Rattle.rows.specs.Nesting.{partsIn}
+use Rattle.rows.proofs.Nesting.{larger-of, parts-some, parts-rows}
 use Rattle.rows.proofs.Cells.{row-test, row-bracket, row-not, row-connect, cell-row, RowSayable, row-sayable}
 
 -- ---- the cells of an expression state it
@@ -39,14 +41,14 @@ module _ (inner : List ℕ → Option Expression) where
   unfolding onFrom
   on-row e c cs r h = ap (nextRow (λ n f. onFrom inner n f cs) inner e cs) h
 
-in-from : (f : Expression) → ((k : ℕ) → length (encode f) ≤ suc k → (cs : List ℕ) → wholeBy (λ l. statedIn k l) (encode f ++ cs) ≡ onFrom (λ l. statedIn k l) 0 f cs)
-    → (k : ℕ) → length (encode f) ≤ k → statedIn k (encode f) ≡ some f
+in-from : (f : Expression) → ((k : ℕ) → partsIn f ≤ suc k → (cs : List ℕ) → wholeBy (λ l. statedIn k l) (encode f ++ cs) ≡ onFrom (λ l. statedIn k l) 0 f cs)
+    → (k : ℕ) → partsIn f ≤ k → statedIn k (encode f) ≡ some f
 unfolding statedIn onFrom
-in-from f h zero l = absurd (omega (arith, l, rows-some f))
+in-from f h zero l = absurd (omega (arith, l, parts-some f))
 in-from f h (suc k) l = ap (wholeBy (λ l. statedIn k l)) (sym (append-nil (encode f))) ∙ h k l []
 
-from-encode : (e : Expression) → Writable e → (k : ℕ) → length (encode e) ≤ suc k → (cs : List ℕ) → wholeBy (λ l. statedIn k l) (encode e ++ cs) ≡ onFrom (λ l. statedIn k l) 0 e cs
-unfolding encode
+from-encode : (e : Expression) → Writable e → (k : ℕ) → partsIn e ≤ suc k → (cs : List ℕ) → wholeBy (λ l. statedIn k l) (encode e ++ cs) ≡ onFrom (λ l. statedIn k l) 0 e cs
+unfolding encode partsIn
 from-encode (probing p) (writable-test s) k h cs = ap (byFirst (λ l. statedIn k l) cs) (row-test p s)
 from-encode (choosing e p) (writable-bracket w s) k h cs =
     let n : ℕ = length (encode e) in
@@ -58,23 +60,23 @@ from-encode (negating e) (writable-not w) k h cs =
     let c : ℕ = cellOf Row.Not in
     let inner : List ℕ → Option Expression = λ l. statedIn k l in
     ap (wholeBy inner) (append-assoc (encode e) (c ∷ []) cs)
-    ∙ from-encode e w k (omega (arith, h, length-append (encode e) (c ∷ []))) (c ∷ cs) ∙ on-row inner e c cs Row.Not row-not
+    ∙ from-encode e w k h (c ∷ cs) ∙ on-row inner e c cs Row.Not row-not
 from-encode (joining o e f) (writable-join w v) k h cs =
     let n : ℕ = length (encode f) in
     let c : ℕ = cellOf (Row.Connect o n) in
     let inner : List ℕ → Option Expression = λ l. statedIn k l in
-    let sum : length (encode e ++ (c ∷ encode f)) ≡ length (encode e) + suc n = length-append (encode e) (c ∷ encode f) in
+    let each = larger-of (partsIn e) (suc (partsIn f)) in
     ap (wholeBy inner) (append-assoc (encode e) (c ∷ encode f) cs)
-    ∙ from-encode e w k (omega (arith, h, sum)) (c ∷ (encode f ++ cs)) ∙ on-row inner e c (encode f ++ cs) (Row.Connect o n) (row-connect o n)
-    ∙ ap (λ (g : Option Expression). andThen g (λ g. onFrom inner n (joining o e g) (encode f ++ cs))) (ap (statedIn k) (take-append-seam (encode f) cs) ∙ in-from f (λ i l ds. from-encode f v i l ds) k (omega (arith, h, sum, rows-some e)))
+    ∙ from-encode e w k (omega (arith, h, each .0)) (c ∷ (encode f ++ cs)) ∙ on-row inner e c (encode f ++ cs) (Row.Connect o n) (row-connect o n)
+    ∙ ap (λ (g : Option Expression). andThen g (λ g. onFrom inner n (joining o e g) (encode f ++ cs))) (ap (statedIn k) (take-append-seam (encode f) cs) ∙ in-from f (λ i l ds. from-encode f v i l ds) k (omega (arith, h, each .1)))
     ∙ on-part inner f (joining o e f) cs
 
-pub in-encode : (e : Expression) → Writable e → (k : ℕ) → length (encode e) ≤ k → statedIn k (encode e) ≡ some e
+pub in-encode : (e : Expression) → Writable e → (k : ℕ) → partsIn e ≤ k → statedIn k (encode e) ≡ some e
 in-encode e w = in-from e (from-encode e w)
 
 pub stated-encode : (e : Expression) → Writable e → stated (encode e) ≡ some e
 unfolding stated
-stated-encode e w = in-encode e w (length (encode e)) (omega arith)
+stated-encode e w = in-encode e w (length (encode e)) (parts-rows e)
 
 -- ---- cells that state an expression are its cells
 
@@ -185,7 +187,7 @@ module _ (inner : List ℕ → Option Expression) (sound : (l : List ℕ) (e : E
   whole-cells [] g h = absurd (Option·none-ne-some _ h)
   whole-cells (c ∷ cs) g h = first-cells c cs (rowOf c) refl g h
 
-in-cells : (k : ℕ) (cs : List ℕ) (e : Expression) → statedIn k cs ≡ some e → Cells cs e
+pub in-cells : (k : ℕ) (cs : List ℕ) (e : Expression) → statedIn k cs ≡ some e → Cells cs e
 unfolding statedIn
 in-cells zero cs e h = absurd (Option·none-ne-some _ h)
 in-cells (suc k) cs e h = whole-cells (λ l. statedIn k l) (λ l f i. in-cells k l f i) cs e h
@@ -205,7 +207,7 @@ unfolding stated
 stated-same k cs h = by-both (statedIn k cs) (statedIn (length cs) cs) refl refl
   where
     states : (m : ℕ) (e : Expression) → statedIn m cs ≡ some e → (n : ℕ) → length cs ≤ n → statedIn n cs ≡ some e
-    states m e i n l = let c = in-cells m cs e i in ap (statedIn n) (c .are) ∙ in-encode e (c .writable) n (omega (arith, l, ap length (c .are)))
+    states m e i n l = let c = in-cells m cs e i in ap (statedIn n) (c .are) ∙ in-encode e (c .writable) n (omega (arith, l, ap length (c .are), parts-rows e))
 
     by-both : (a b : Option Expression) → statedIn k cs ≡ a → statedIn (length cs) cs ≡ b → a ≡ b
     by-both none none i j = refl

@@ -1,11 +1,12 @@
 -- How deep the brackets nest that an expression needs: the grammar's rules for items and filters, without the text.
 -- Assumes nothing.
-use Prim.Native.Nat.{ℕ, suc}
+use Prim.Native.Nat.{ℕ, suc, _+_}
 use mathlib.Core.Bool.{cond}
 use lib.Dec.{ltb}
 use Rattle.syntax.specs.declared.Connective.{Connective}
 use Rattle.rows.specs.Expression.{Expression, probing, choosing, joining, negating}
 use Rattle.rows.specs.declared.Probe.{Probe}
+use Rattle.rows.specs.declared.Shape.{Shape}
 
 mutual
   -- an item, with brackets nested at most d deep
@@ -20,21 +21,30 @@ mutual
     nests-item : {d : ℕ} {e : Expression} → NestsItem d e → Nests d e
     nests-more : {d : ℕ} {c : Connective} {e f : Expression} → Nests d e → NestsItem d f → Nests d (joining c e f)
 
--- ---- as a number
+-- ---- as numbers
 
 unfoldable pub larger : ℕ → ℕ → ℕ
 larger a b = cond (ltb a b) b a
 
--- the depth as a filter and as an item of one
-pub record Depth : Type 0 where
-  pub chain : ℕ
-  pub item : ℕ
+-- with one level more, for brackets or for not, and n tests
+abbrev pub deeperShape : Shape → ℕ → Shape
+deeperShape a n = record { tests = a .tests + n; chain = a .chain + 1; item = a .chain + 1 }
 
-abbrev pub sameDepth : ℕ → Depth
-sameDepth n = record { chain = n; item = n }
+-- of two that are joined: the second is an item, and the whole would need brackets to be one
+abbrev pub joinedShape : Shape → Shape → Shape
+joinedShape a b = record { tests = a .tests + b .tests; chain = larger (a .chain) (b .item); item = larger (a .chain) (b .item) + 1 }
 
-unfoldable pub depthOf : Expression → Depth
-depthOf (probing p) = sameDepth 0
-depthOf (choosing e p) = sameDepth (suc (depthOf e .chain))
-depthOf (negating e) = sameDepth (suc (depthOf e .chain))
-depthOf (joining c e f) = record { chain = larger (depthOf e .chain) (depthOf f .item); item = suc (larger (depthOf e .chain) (depthOf f .item)) }
+-- the number of tests, and the depth as a filter and as an item of one
+unfoldable pub shapeOf : Expression → Shape
+shapeOf (probing p) = record { tests = 1; chain = 0; item = 0 }
+shapeOf (choosing e p) = deeperShape (shapeOf e) 1
+shapeOf (negating e) = deeperShape (shapeOf e) 0
+shapeOf (joining c e f) = joinedShape (shapeOf e) (shapeOf f)
+
+-- ---- how deep parts stand in parts, where a second part is one, and what is in brackets
+
+unfoldable pub partsIn : Expression → ℕ
+partsIn (probing p) = 1
+partsIn (choosing e p) = suc (partsIn e)
+partsIn (negating e) = partsIn e
+partsIn (joining c e f) = larger (partsIn e) (suc (partsIn f))

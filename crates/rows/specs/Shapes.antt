@@ -1,12 +1,12 @@
 -- Whether rows are good, as a test that computes. Kinds and parents are tables by index.
 -- Assumes nothing.
-use Prim.Native.Nat.{ℕ, _+_, _-_, _≤_}
+use Prim.Native.Nat.{ℕ, suc, _≤_}
 use mathlib.Core.Path.{_≡_}
 use mathlib.Core.Bool.{Bool, true, false, cond, not, _&&_}
-use mathlib.Core.Option.{Option, none, some, Option·map}
+use mathlib.Core.Option.{Option, none, some}
 use mathlib.Core.List.{List}
 use lib.Dec.{eqb, ltb, leb}
-use lib.ListN.{length, getD, take, drop}
+use lib.ListN.{length, getD, drop}
 use Rattle.base.specs.Kinds.{bundleKind}
 use Rattle.base.specs.Parts.{part}
 use Rattle.syntax.specs.Grammar.{deepest, mostTests}
@@ -16,9 +16,10 @@ use Rattle.syntax.specs.declared.FoundValue.{FoundValue}
 use Rattle.kind.specs.Table.{hasMeaning}
 use Rattle.kind.specs.Readable.{valueReadable}
 use Rattle.rows.specs.Expression.{Expression, probing, choosing, joining, negating, testCount}
-use Rattle.rows.specs.Cells.{rowOf, onFrom, stated}
-use Rattle.rows.specs.Nesting.{larger, depthOf}
+use Rattle.rows.specs.Cells.{rowOf, onFrom, statedIn, stated}
+use Rattle.rows.specs.Nesting.{shapeOf}
 use Rattle.rows.specs.declared.Begun.{Begun}
+use Rattle.rows.specs.declared.FoundShape.{FoundShape}
 use Rattle.rows.specs.declared.Probe.{Probe}
 use Rattle.rows.specs.declared.Row.{Row}
 use Rattle.rows.specs.declared.Shape.{Shape}
@@ -49,6 +50,14 @@ bit false = 0
 unfoldable pub memberOf : List ℕ → List ℕ → List ℕ → Probe → ℕ
 memberOf kinds parents xs p = cond (probeFits kinds xs p) (getD parents (p .index) 0) 0
 
+-- the same of a row's test
+abbrev pub memberBy : List ℕ → List ℕ → List ℕ → Row → ℕ
+memberBy kinds parents xs (Row.Test p) = memberOf kinds parents xs p
+memberBy kinds parents xs (Row.Bracket n) = 0
+memberBy kinds parents xs Row.Not = 0
+memberBy kinds parents xs (Row.Connect c n) = 0
+memberBy kinds parents xs Row.Unknown = 0
+
 -- ---- an expression
 
 -- its tests fit in c, 0 at the top and a bundle's index plus 1 in its brackets
@@ -62,62 +71,37 @@ fitsIn kinds parents xs c (negating e) = fitsIn kinds parents xs c e
 
 abbrev pub goodBy : List ℕ → List ℕ → List ℕ → Option Expression → Bool
 goodBy kinds parents xs none = false
-goodBy kinds parents xs (some e) = leb (testCount e) mostTests && (leb (depthOf e .chain) deepest && fitsIn kinds parents xs 0 e)
+goodBy kinds parents xs (some e) = leb (testCount e) mostTests && (leb (shapeOf e .chain) deepest && fitsIn kinds parents xs 0 e)
 
 unfoldable pub good : List ℕ → List ℕ → List ℕ → List ℕ → Bool
 good kinds parents xs cs = goodBy kinds parents xs (stated cs)
 
--- ---- as the code goes: the number of tests and the depths, of rows with tests that fit; and no tests for others
+-- ---- as the code goes
 
-abbrev pub noShape : Shape
-noShape = record { tests = 0; chain = 0; item = 0 }
+abbrev pub shapeBy : (Expression → Bool) → Option Expression → FoundShape
+shapeBy fits none = FoundShape.Nothing
+shapeBy fits (some e) = cond (fits e) (FoundShape.Shape (shapeOf e)) FoundShape.Nothing
 
-unfoldable pub shapeOf : Expression → Shape
-shapeOf e = record { tests = testCount e; chain = depthOf e .chain; item = depthOf e .item }
+-- nothing is stated that fits
+pub record Misfit (fits : Expression → Bool) (o : Option Expression) : Type 0 where
+  pub each : (e : Expression) → o ≡ some e → fits e ≡ false
 
-abbrev pub shapeBy : (Expression → Bool) → Option Expression → Shape
-shapeBy fits none = noShape
-shapeBy fits (some e) = cond (fits e) (shapeOf e) noShape
+module _ (kinds parents xs : List ℕ) where
+  -- an expression that fits, with its shape, is in hand before the next row; what all rows state follows from it and the rows from there on
+  pub record InHand (c k : ℕ) (cs : List ℕ) (next : ℕ) (s : Shape) : Type 0 where
+    pub expression : Expression
+    pub rest : statedIn (suc k) cs ≡ onFrom (λ l. statedIn k l) 0 expression (drop next cs)
+    pub fits : fitsIn kinds parents xs c expression ≡ true
+    pub is : s ≡ shapeOf expression
+    pub within : next ≤ length cs
+    pub few-tests : s .tests ≤ next
+    pub few-levels : s .chain ≤ next
 
--- in brackets, and with so many tests more
-abbrev pub deeperShape : Shape → ℕ → Shape
-deeperShape a n = record { tests = a .tests + n; chain = a .chain + 1; item = a .chain + 1 }
+  -- the first test was read, with the brackets before it
+  pub data Began (c k : ℕ) (cs : List ℕ) : Begun → Type 0 where
+    began-at : {s : Shape} {next : ℕ} → InHand c k cs next s → Began c k cs (Begun.At s next)
+    began-nothing : Misfit (fitsIn kinds parents xs c) (statedIn (suc k) cs) → Began c k cs Begun.Nothing
 
-abbrev pub joinShape : Shape → Shape → Shape
-joinShape a b = record { tests = a .tests + b .tests; chain = larger (a .chain) (b .item); item = larger (a .chain) (b .item) + 1 }
-
--- what is found is small
-pub record Small (n : ℕ) (r : Shape) : Type 0 where
-  pub tests-most : r .tests ≤ n
-  pub chain-most : r .chain ≤ n
-  pub item-most : r .item ≤ n + 1
-
-pub record Shaped (fits : Expression → Bool) (cs : List ℕ) (r : Shape) : Type 0 where
-  pub is : r ≡ shapeBy fits (stated cs)
-  pub small : Small (length cs) r
-
--- of the row of a test and the rows in its brackets behind it
-abbrev pub chosenBy : List ℕ → List ℕ → List ℕ → Row → List ℕ → Shape
-chosenBy kinds parents xs (Row.Test p) inner = shapeBy (fitsIn kinds parents xs 0) (Option·map (λ e. choosing e p) (stated inner))
-chosenBy kinds parents xs (Row.Bracket n) inner = noShape
-chosenBy kinds parents xs Row.Not inner = noShape
-chosenBy kinds parents xs (Row.Connect c n) inner = noShape
-chosenBy kinds parents xs Row.Unknown inner = noShape
-
-pub record Chosen (kinds parents xs cs : List ℕ) (r : Shape) : Type 0 where
-  pub is : r ≡ chosenBy kinds parents xs (rowOf (getD cs 0 0)) (take (length cs - 1) (drop 1 cs))
-  pub small : Small (length cs) r
-
--- an expression in hand that fits, and the rows from the next on
-pub record InHand (kinds parents xs : List ℕ) (c : ℕ) (cs : List ℕ) (next : ℕ) (r : Shape) : Type 0 where
-  pub expression : Expression
-  pub rest : stated cs ≡ onFrom stated 0 expression (drop next cs)
-  pub fits : fitsIn kinds parents xs c expression ≡ true
-  pub is : r ≡ shapeOf expression
-  pub within : next ≤ length cs
-  pub small : Small next r
-
--- the first test or brackets of rows; no tests where the rows do not fit
-pub record Began (kinds parents xs : List ℕ) (c : ℕ) (cs : List ℕ) (r : Begun) : Type 0 where
-  pub misfits : r .shape .tests ≡ 0 → noShape ≡ shapeBy (fitsIn kinds parents xs c) (stated cs)
-  pub fits : (r .shape .tests ≡ 0 → ⊥) → InHand kinds parents xs c cs (r .next) (r .shape)
+  -- of rows that begin with brackets with n rows in them, at the top
+  pub record BeganInBrackets (k : ℕ) (cs : List ℕ) (n : ℕ) (r : Begun) : Type 0 where
+    pub began : rowOf (getD cs 0 0) ≡ Row.Bracket n → 1 ≤ length cs → Began 0 k cs r

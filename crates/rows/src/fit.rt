@@ -1,5 +1,7 @@
 // Tests of rows: whether each names a parameter with its operator, and a value that is one and readable.
 use crate::Probe;
+use crate::Row;
+use crate::cell::row_of;
 use base::kind::BUNDLE;
 use judge::has_meaning;
 use syntax::FoundValue;
@@ -13,7 +15,8 @@ ghost use lib.Dec.{eqb};
 ghost use lib.ListN.{length, getD};
 ghost use Rattle.syntax.specs.Placed.{PlacedValue};
 ghost use Rattle.kind.specs.Readable.{valueReadable};
-ghost use Rattle.rows.specs.Shapes.{kindFits, valueIn, probeFits, memberOf};
+ghost use Rattle.rows.specs.Cells.{rowOf};
+ghost use Rattle.rows.specs.Shapes.{kindFits, valueIn, probeFits, memberBy};
 
 // Whether a parameter of this kind is there, is no bundle, and has the operator.
 fn kind_fits(operator: u8, kind: u8) -> bool
@@ -83,17 +86,24 @@ pub fn stands(kinds: &[u8], parents: &[u8], filter: &[u8], probe: Probe, scope: 
     false
 }
 
-// The index plus 1 of the bundle that a test's parameter is a member of, where the test fits; else 0.
-pub fn member_of(kinds: &[u8], parents: &[u8], filter: &[u8], probe: Probe) -> u8
+// The index plus 1 of the bundle that a test's parameter is a member of, where the cell says a test and it fits; else 0.
+pub fn member_of(kinds: &[u8], parents: &[u8], filter: &[u8], cell: u32) -> u8
     requires { ⌜ length (now kinds) ≡ 32 ⌝ }
     requires { ⌜ length (now parents) ≡ 32 ⌝ }
     requires { ⌜ length (now filter) ≤ 1024 ⌝ }
-    requires { ⌜ probe .index < 32 ⌝ }
-    ensures { λ r. ⌜ r ≡ memberOf (now (kinds .entry)) (now (parents .entry)) (now (filter .entry)) probe ⌝ }
+    ensures { λ r. ⌜ r ≡ memberBy (now (kinds .entry)) (now (parents .entry)) (now (filter .entry)) (rowOf cell) ⌝ }
 {
-    let index = probe.index as usize;
-    if probe_fits(kinds, filter, probe) {
-        return parents[index];
+    match row_of(cell) {
+        Row::Test(probe) => {
+            let index = probe.index as usize;
+            if probe_fits(kinds, filter, probe) {
+                return parents[index];
+            }
+            0
+        }
+        Row::Bracket(_) => 0,
+        Row::Not => 0,
+        Row::Connect(_, _) => 0,
+        Row::Unknown => 0,
     }
-    0
 }

@@ -2,6 +2,7 @@
 // whether cells are the rows of a filter; they are tested before they are trusted.
 mod cell;
 mod fit;
+mod shapes;
 mod whole;
 
 pub use cell::bit;
@@ -27,16 +28,21 @@ pub enum Row {
     Unknown,
 }
 
-// What was found of rows with tests that fit where they stand: the number of tests, and how deep brackets nest, as a filter and as an item of
-// one. No tests for rows that are none or do not fit.
+// The number of an expression's tests, and how deep the brackets nest that it needs: as a filter, and as an item of one.
 pub struct Shape {
     pub tests: usize,
     pub chain: usize,
     pub item: usize,
 }
 
-// The shape of the first test or brackets of rows, and the row behind.
-pub struct Begun {
-    pub shape: Shape,
-    pub next: usize,
+// The shape of what rows state, where its tests fit; or that rows state nothing, or a test that does not fit.
+pub enum FoundShape {
+    Shape(Shape),
+    Nothing,
+}
+
+// The same of the first test of rows, with the brackets before it, and the row behind.
+pub enum Begun {
+    At(Shape, usize),
+    Nothing,
 }

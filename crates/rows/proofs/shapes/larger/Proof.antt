@@ -1,8 +1,8 @@
--- `rows::whole::larger` meets its contract. Assumes nothing.
+-- `rows::shapes::larger` meets its contract. Assumes nothing.
 use borrow.Author.Needs.{needs}
-use Rattle.rows.proofs.Testing.{larger-first, larger-second}
-use Rattle.rows.proofs.whole.larger.Statement.{statement}
-use Rattle.rows.proofs.whole.larger.Tie as tie
+use Rattle.rows.proofs.Reading.{larger-first, larger-second}
+use Rattle.rows.proofs.shapes.larger.Statement.{statement}
+use Rattle.rows.proofs.shapes.larger.Tie as tie
 
 returns : tie.Need-returns
 returns c = search (larger-second, needs)
