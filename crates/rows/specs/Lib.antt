@@ -1,4 +1,4 @@
--- Rows: a filter's expression in postfix order, one cell a row.
+-- Rows: a filter's expression as cells that are read from left to right.
 pub mod Expression
 pub mod Cells
 pub mod Nesting

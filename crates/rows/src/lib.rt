@@ -11,7 +11,7 @@ pub use cell::row_of;
 use syntax::Connective;
 pub use whole::are_good;
 
-// A test by the index of its parameter, its operator's number, and the position of its value's first byte in the text.
+// A probe is a test as a row has it: the index of its parameter, its operator's number, and the position of its value's first byte in the text.
 pub struct Probe {
     pub index: u8,
     pub operator: u8,

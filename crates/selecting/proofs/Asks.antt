@@ -15,44 +15,45 @@ use Rattle.answer.specs.Passing.{Passing, textQuestion, cardVerdict}
 use Rattle.one_card.specs.OneCard.{verdictStep, cellsQuestion}
 use Rattle.searching.specs.SearchPassing.{rowsQuestion}
 use Rattle.selecting.specs.Asking.{askedSays, askedQuestion, Asks, asks-rows, asks-text, asks-search}
+use Rattle.selecting.specs.declared.Way.{Way}
 use Rattle.selecting.specs.declared.Asked.{Asked}
 use Rattle.one_card.specs.declared.CardVerdict.{CardVerdict}
 
 -- ---- what the code knows
 
 module _ (b xs cs : List ℕ) (rows : Rows) where
-  pub asks-short : (a : Asked) → Asks b xs cs rows a → a ≡ Asked.Rows → length xs ≤ 1024
-  asks-short Asked.Rows (asks-rows l w) h = l
-  asks-short Asked.Text (asks-text p) h = absurd (let y : _≡_ {A = ℕ} 0 1 = cc in omega arith)
-  asks-short Asked.Search (asks-search w) h = absurd (let y : _≡_ {A = ℕ} 0 1 = cc in omega arith)
+  pub asks-short : (a : Way) → Asks b xs cs rows a → a ≡ Way.Rows → length xs ≤ 1024
+  asks-short Way.Rows (asks-rows l w) h = l
+  asks-short Way.Text (asks-text p) h = absurd (let y : _≡_ {A = ℕ} 0 1 = cc in omega arith)
+  asks-short Way.Search (asks-search w) h = absurd (let y : _≡_ {A = ℕ} 0 1 = cc in omega arith)
 
-  pub asks-whole : (a : Asked) → Asks b xs cs rows a → a ≡ Asked.Rows → Whole cs
-  asks-whole Asked.Rows (asks-rows l w) h = w
-  asks-whole Asked.Text (asks-text p) h = absurd (let y : _≡_ {A = ℕ} 0 1 = cc in omega arith)
-  asks-whole Asked.Search (asks-search w) h = absurd (let y : _≡_ {A = ℕ} 0 1 = cc in omega arith)
+  pub asks-whole : (a : Way) → Asks b xs cs rows a → a ≡ Way.Rows → Whole cs
+  asks-whole Way.Rows (asks-rows l w) h = w
+  asks-whole Way.Text (asks-text p) h = absurd (let y : _≡_ {A = ℕ} 0 1 = cc in omega arith)
+  asks-whole Way.Search (asks-search w) h = absurd (let y : _≡_ {A = ℕ} 0 1 = cc in omega arith)
 
-  pub asks-passing : (a : Asked) → Asks b xs cs rows a → a ≡ Asked.Text → Passing b xs
-  asks-passing Asked.Rows (asks-rows l w) h = absurd (let y : _≡_ {A = ℕ} 0 1 = cc in omega arith)
-  asks-passing Asked.Text (asks-text p) h = p
-  asks-passing Asked.Search (asks-search w) h = absurd (let y : _≡_ {A = ℕ} 0 1 = cc in omega arith)
+  pub asks-passing : (a : Way) → Asks b xs cs rows a → a ≡ Way.Text → Passing b xs
+  asks-passing Way.Rows (asks-rows l w) h = absurd (let y : _≡_ {A = ℕ} 0 1 = cc in omega arith)
+  asks-passing Way.Text (asks-text p) h = p
+  asks-passing Way.Search (asks-search w) h = absurd (let y : _≡_ {A = ℕ} 0 1 = cc in omega arith)
 
-  pub asks-within : (a : Asked) → Asks b xs cs rows a → a ≡ Asked.Search → RowsWithin (length xs) rows
-  asks-within Asked.Rows (asks-rows l w) h = absurd (let y : _≡_ {A = ℕ} 0 1 = cc in omega arith)
-  asks-within Asked.Text (asks-text p) h = absurd (let y : _≡_ {A = ℕ} 0 1 = cc in omega arith)
-  asks-within Asked.Search (asks-search w) h = w
+  pub asks-within : (a : Way) → Asks b xs cs rows a → a ≡ Way.Search → RowsWithin (length xs) rows
+  asks-within Way.Rows (asks-rows l w) h = absurd (let y : _≡_ {A = ℕ} 0 1 = cc in omega arith)
+  asks-within Way.Text (asks-text p) h = absurd (let y : _≡_ {A = ℕ} 0 1 = cc in omega arith)
+  asks-within Way.Search (asks-search w) h = w
 
 -- ---- the verdict
 
-module _ (ps : List Parameter) (xs cs : List ℕ) (rows : Rows) (a : Asked) (v : CardVerdict) (b : List ℕ) where
-  pub asked-rows : a ≡ Asked.Rows → (kinds : List ℕ) → kinds ≡ kindsOf ps → ((qs : List Parameter) → kinds ≡ kindsOf qs → (i : ℕ) → verdictStep v i ≡ cardVerdict (cellsQuestion qs xs cs) i b)
-      → (i : ℕ) → verdictStep v i ≡ cardVerdict (askedQuestion a ps xs cs rows) i b
+module _ (ps : List Parameter) (xs cs : List ℕ) (a : Asked) (v : CardVerdict) (b : List ℕ) where
+  pub asked-rows : a .way ≡ Way.Rows → (kinds : List ℕ) → kinds ≡ kindsOf ps → ((qs : List Parameter) → kinds ≡ kindsOf qs → (i : ℕ) → verdictStep v i ≡ cardVerdict (cellsQuestion qs xs cs) i b)
+      → (i : ℕ) → verdictStep v i ≡ cardVerdict (askedQuestion a ps xs cs) i b
   unfolding askedSays
   asked-rows h kinds l e i = rw h (e ps l i)
 
-  pub asked-text : a ≡ Asked.Text → ((i : ℕ) → verdictStep v i ≡ cardVerdict (textQuestion ps (read xs)) i b) → (i : ℕ) → verdictStep v i ≡ cardVerdict (askedQuestion a ps xs cs rows) i b
+  pub asked-text : a .way ≡ Way.Text → ((i : ℕ) → verdictStep v i ≡ cardVerdict (textQuestion ps (read xs)) i b) → (i : ℕ) → verdictStep v i ≡ cardVerdict (askedQuestion a ps xs cs) i b
   unfolding askedSays
   asked-text h e i = rw h (e i)
 
-  pub asked-search : a ≡ Asked.Search → ((i : ℕ) → verdictStep v i ≡ cardVerdict (rowsQuestion ps xs rows) i b) → (i : ℕ) → verdictStep v i ≡ cardVerdict (askedQuestion a ps xs cs rows) i b
+  pub asked-search : a .way ≡ Way.Search → ((i : ℕ) → verdictStep v i ≡ cardVerdict (rowsQuestion ps xs (a .search)) i b) → (i : ℕ) → verdictStep v i ≡ cardVerdict (askedQuestion a ps xs cs) i b
   unfolding askedSays
   asked-search h e i = rw h (e i)

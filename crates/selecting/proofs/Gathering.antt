@@ -4,13 +4,12 @@
 -- stays, and where it is refused the loop and the run both stop at its index. A position is its card's index times 512. There are no more
 -- numbers than cards seen (`few`), so the buffer has room. A card with a verdict is well formed (`judged-well-formed`).
 -- Assumes nothing.
-use Prim.Native.Nat.{ℕ, suc, _+_, _-_, _*_, _/_, _%_, _≤_, _<_, zero-le, _^_}
+use Prim.Native.Nat.{ℕ, suc, _+_, _-_, _*_, _/_, _%_, _≤_, _<_, zero-le}
 use native.Mathlib.Nat.{sub-zero}
 use native.Mathlib.Numerals.{add-one}
 use native.Mathlib.Omega.{arith}
 use mir.Syntax.{w64}
 use mir.Val.{Fits}
-use borrow.Author.Needs.{scaled-fits}
 use mathlib.Core.Path.{_≡_, refl, sym, ap, _∙_}
 use mathlib.Core.Bool.{Bool, true, false, cond}
 use mathlib.Core.List.{List, [], _∷_, _++_, append-assoc, append-nil}
@@ -66,11 +65,12 @@ pub record Gathering (q : Question) (cards entry buffer : List ℕ) (at count : 
   pub few : count ≤ index
   pub room : total ≤ length buffer
   pub long : length buffer ≡ length entry
+  pub short : length buffer ≤ 128
   pub rest : runNumbers q 0 (blocks total cards) ≡ onto (take count buffer) (runNumbers q index (blocks (total - index) (drop at cards)))
 
 module _ (q : Question) (cards : List ℕ) where
-  pub gathering-start : (buffer : List ℕ) → length cards % 512 ≡ 0 → length cards / 512 ≤ length buffer → Gathering q cards buffer buffer 0 0
-  gathering-start buffer w h =
+  pub gathering-start : (buffer : List ℕ) → length cards % 512 ≡ 0 → length cards / 512 ≤ length buffer → length buffer ≤ 128 → Gathering q cards buffer buffer 0 0
+  gathering-start buffer w h s =
       record {
         index = 0;
         total = length cards / 512;
@@ -80,6 +80,7 @@ module _ (q : Question) (cards : List ℕ) where
         few = zero-le;
         room = h;
         long = refl;
+        short = s;
         rest = rw (sub-zero (length cards / 512)) (onto-none (runNumbers q 0 (blocks (length cards / 512) cards)));
       }
 
@@ -90,11 +91,11 @@ module _ (q : Question) (cards : List ℕ) where
     pub gathering-room : at < length cards → count < length buffer
     gathering-room h = omega (arith, g .at-index, g .size, g .few, g .room)
 
-    pub gathering-scaled : at < length cards → length buffer * 4 < 2 ^ 63 → Fits w64 (count * 4)
-    gathering-scaled h r = scaled-fits count (length buffer) 4 (gathering-room h) r
+    pub gathering-scaled : at < length cards → Fits w64 (count * 4)
+    gathering-scaled h = record { fits = omega (arith, gathering-room h, g .short) }
 
-    pub gathering-more : at < length cards → length buffer * 4 < 2 ^ 63 → Fits w64 (count + 1)
-    gathering-more h r = record { fits = omega (arith, gathering-room h, r) }
+    pub gathering-more : at < length cards → Fits w64 (count + 1)
+    gathering-more h = record { fits = omega (arith, gathering-room h, g .short) }
 
     pub gathering-well-formed : (b : List ℕ) (v : CardVerdict) → ((i : ℕ) → verdictStep v i ≡ cardVerdict q i b) → (y : Bool) → v ≡ CardVerdict.Says y → readCard b ≡ Validity.WellFormed
     gathering-well-formed b v e y s = judged-well-formed q b y (sym (e 0) ∙ ap (λ (w : CardVerdict). verdictStep w 0) s)
@@ -124,6 +125,7 @@ module _ (q : Question) (cards : List ℕ) where
             few = few;
             room = rw l (g .room);
             long = l ∙ g .long;
+            short = omega (arith, l, g .short);
             rest = rest;
           }
 

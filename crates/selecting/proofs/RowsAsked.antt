@@ -39,7 +39,7 @@ use Rattle.one_card.specs.OneCard.{cellsQuestion}
 use Rattle.selecting.specs.Asking.{askedSays, askedQuestion, Asks, asks-rows}
 use Rattle.answer.specs.declared.Prepared.{Prepared}
 use Rattle.answer.specs.declared.Selected.{Selected}
-use Rattle.selecting.specs.declared.Asked.{Asked}
+use Rattle.selecting.specs.declared.Way.{Way}
 use Rattle.answer.proofs.Passing.{passing-inputs}
 use Rattle.answer.proofs.RowsAnswered.{step-passed}
 use Rattle.selecting.proofs.Selecting.{select-stopped}
@@ -130,11 +130,11 @@ module _ (sheet text buffer : List ℕ) (r : Prepared) (e : Fills sheet text r b
     pub filled-few : length (part buffer 0 n) ≤ 320
     filled-few = subst (λ (cs : List ℕ). length cs ≤ 320) (sym filled-cells) (rows-short sheet text passed)
 
-    pub filled-asks : (rows : Rows) → Asks sheet text (part buffer 0 n) rows Asked.Rows
+    pub filled-asks : (rows : Rows) → Asks sheet text (part buffer 0 n) rows Way.Rows
     filled-asks rows = asks-rows (passed .short) (subst Whole (sym filled-cells) (rows-whole sheet text passed))
 
     pub filled-selects : (rows : Rows) (cards list : List ℕ) (s : Selected) (exit : List ℕ)
-        → Selects (found (askedQuestion Asked.Rows (parametersOf sheet) text (part buffer 0 n) rows)) cards list s exit → Selects (filterQuestion sheet text) cards list s exit
+        → Selects (found (askedQuestion (record { way = Way.Rows; search = rows }) (parametersOf sheet) text (part buffer 0 n))) cards list s exit → Selects (filterQuestion sheet text) cards list s exit
     unfolding askedSays
     filled-selects rows cards list s exit g =
         let same : filterQuestion sheet text ≡ found (cellsQuestion (parametersOf sheet) text (part buffer 0 n)) =

@@ -13,7 +13,7 @@ use Rattle.selecting.specs.Asking.{askedSays, askedQuestion, Asks, asks-
 use Rattle.selecting.specs.Selecting.{Selects}
 use Rattle.answer.specs.declared.Checked.{Checked}
 use Rattle.answer.specs.declared.Selected.{Selected}
-use Rattle.selecting.specs.declared.Asked.{Asked}
+use Rattle.selecting.specs.declared.Way.{Way}
 use Rattle.searching.specs.declared.SearchRead.{SearchRead}
 use Rattle.searching.proofs.SearchPassing.{question-stopped, passed-within, asks}
 use Rattle.selecting.proofs.Selecting.{select-stopped}
@@ -23,9 +23,9 @@ module _ (sheet text bytes : List ℕ) (r : SearchRead) (read : ReadsRows sheet 
   select-search-refused cards list f h = select-stopped (searchQuestion sheet text) cards list f (question-stopped sheet text bytes r read f h)
 
   module _ (n : ℕ) (h : r .checked ≡ Checked.Tests n) where
-    pub search-asks : (cells : List ℕ) → Asks sheet bytes cells (r .rows) Asked.Search
+    pub search-asks : (cells : List ℕ) → Asks sheet bytes cells (r .rows) Way.Search
     search-asks cells = asks-search (passed-within sheet text bytes r read n h)
 
-    pub search-selects : (cells cards list : List ℕ) (s : Selected) (exit : List ℕ) → Selects (found (askedQuestion Asked.Search (parametersOf sheet) bytes cells (r .rows))) cards list s exit → Selects (searchQuestion sheet text) cards list s exit
+    pub search-selects : (cells cards list : List ℕ) (s : Selected) (exit : List ℕ) → Selects (found (askedQuestion (record { way = Way.Search; search = r .rows }) (parametersOf sheet) bytes cells)) cards list s exit → Selects (searchQuestion sheet text) cards list s exit
     unfolding askedSays
     search-selects cells cards list s exit g = subst (λ (a : Step Question). Selects a cards list s exit) (sym (asks sheet text bytes r read n h)) g

@@ -20,7 +20,7 @@ use Rattle.refusal.specs.Steps.{Step, found, stop, _>>=_}
 use Rattle.answer.specs.Operations.{checkAnswer, Card, acceptCard, Question, filterQuestion, acceptRun, acceptCards, matching, acceptRoom, selection, selectBy, cellsBy}
 use Rattle.answer.specs.Passing.{Passing, cardVerdict}
 use Rattle.selecting.specs.Asking.{askedSays, askedQuestion, Asks, asks-text}
-use Rattle.selecting.specs.declared.Asked.{Asked}
+use Rattle.selecting.specs.declared.Way.{Way}
 use Rattle.query.specs.declared.Rows.{Rows}
 use Rattle.sheet.specs.Sheet.{parametersOf}
 use Rattle.selecting.specs.Selecting.{runNumbers, gatheredStep, Gathers, Selects}
@@ -115,10 +115,10 @@ select-refused sheet text cards list c r e h = select-stopped (filterQuestion sh
 
 -- check has passed it, and its text asks
 module _ (sheet text : List ℕ) (p : Passing sheet text) (cells : List ℕ) (rows : Rows) where
-  pub text-asks : Asks sheet text cells rows Asked.Text
+  pub text-asks : Asks sheet text cells rows Way.Text
   text-asks = asks-text p
 
-  pub text-selects : (cards list : List ℕ) (s : Selected) (exit : List ℕ) → Selects (found (askedQuestion Asked.Text (parametersOf sheet) text cells rows)) cards list s exit → Selects (filterQuestion sheet text) cards list s exit
+  pub text-selects : (cards list : List ℕ) (s : Selected) (exit : List ℕ) → Selects (found (askedQuestion (record { way = Way.Text; search = rows }) (parametersOf sheet) text cells)) cards list s exit → Selects (filterQuestion sheet text) cards list s exit
   unfolding askedSays
   text-selects cards list s exit g = subst (λ (a : Step Question). Selects a cards list s exit) (sym (passing-asks sheet text p)) g
 

@@ -16,18 +16,19 @@ use Rattle.query.specs.declared.Rows.{Rows}
 use Rattle.answer.specs.Operations.{Question}
 use Rattle.answer.specs.Passing.{Passing, textSays}
 use Rattle.selecting.specs.declared.Asked.{Asked}
+use Rattle.selecting.specs.declared.Way.{Way}
 
 -- what is said of entries: by the rows in the cells, by the text as a filter's, or by the rows of a search string over the text
-unfoldable pub askedSays : Asked → List Parameter → (text cells : List ℕ) → Rows → List Entry → Bool
-askedSays Asked.Rows ps text cells rows es = rowsSay (kindsOf ps) text es cells
-askedSays Asked.Text ps text cells rows es = textSays ps es (read text)
-askedSays Asked.Search ps text cells rows es = search.rowsSay (alternativeSays ps es) text rows
+unfoldable pub askedSays : Way → List Parameter → (text cells : List ℕ) → Rows → List Entry → Bool
+askedSays Way.Rows ps text cells rows es = rowsSay (kindsOf ps) text es cells
+askedSays Way.Text ps text cells rows es = textSays ps es (read text)
+askedSays Way.Search ps text cells rows es = search.rowsSay (alternativeSays ps es) text rows
 
-abbrev pub askedQuestion : Asked → List Parameter → (text cells : List ℕ) → Rows → Question
-askedQuestion asked ps text cells rows = record { parameters = ps; says = λ es. askedSays asked ps text cells rows es }
+abbrev pub askedQuestion : Asked → List Parameter → (text cells : List ℕ) → Question
+askedQuestion a ps text cells = record { parameters = ps; says = λ es. askedSays (a .way) ps text cells (a .search) es }
 
 -- what the code knows of what it is asked by
-pub data Asks (sheet text cells : List ℕ) (rows : Rows) : Asked → Type 0 where
-  asks-rows : length text ≤ 1024 → Whole cells → Asks sheet text cells rows Asked.Rows
-  asks-text : Passing sheet text → Asks sheet text cells rows Asked.Text
-  asks-search : RowsWithin (length text) rows → Asks sheet text cells rows Asked.Search
+pub data Asks (sheet text cells : List ℕ) (rows : Rows) : Way → Type 0 where
+  asks-rows : length text ≤ 1024 → Whole cells → Asks sheet text cells rows Way.Rows
+  asks-text : Passing sheet text → Asks sheet text cells rows Way.Text
+  asks-search : RowsWithin (length text) rows → Asks sheet text cells rows Way.Search

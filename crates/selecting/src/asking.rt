@@ -1,10 +1,10 @@
 // What is asked of a card, whichever way: by the rows of a filter, by a filter's text, or by a search string.
 use crate::Asked;
+use crate::Way;
 use block::Validity;
 use one_card::CardVerdict;
 use one_card::judge_by_rows;
 use one_card::judge_by_text;
-use query::Rows;
 use searching::judge_by_search;
 ghost use mathlib.Core.Path.{_≡_};
 ghost use Prim.Native.Nat.{ℕ};
@@ -26,19 +26,22 @@ pub fn judge_asked(
     cells: &[u32],
     values: &[u64],
     ends: &[i64],
-    rows: Rows,
     card: &[u8],
 ) -> CardVerdict
     requires { ⌜ readSheet (now sheet) ≡ Validity.WellFormed ⌝ }
     requires { ⌜ length (now kinds) ≡ 32 ⌝ }
     requires { ⌜ now kinds ≡ kindsOf (parametersOf (now sheet)) ⌝ }
     requires { ⌜ Opens (now kinds) (now text) (now cells) (now values) (now ends) (length (now cells)) ⌝ }
-    requires { ⌜ Asks (now sheet) (now text) (now cells) rows asked ⌝ }
-    ensures { λ r. ⌜ ((i : ℕ) → verdictStep r i ≡ cardVerdict (askedQuestion asked (parametersOf (now (sheet .entry))) (now (text .entry)) (now (cells .entry)) rows) i (now (card .entry))) ⌝ }
+    requires { ⌜ Asks (now sheet) (now text) (now cells) (asked .search) (asked .way) ⌝ }
+    ensures { λ r. ⌜ ((i : ℕ) → verdictStep r i ≡ cardVerdict (askedQuestion asked (parametersOf (now (sheet .entry))) (now (text .entry)) (now (cells .entry))) i (now (card .entry))) ⌝ }
 {
-    match asked {
-        Asked::Rows => judge_by_rows(kinds, text, cells, values, ends, card),
-        Asked::Text => judge_by_text(sheet, kinds, text, card),
-        Asked::Search => judge_by_search(sheet, kinds, text, rows, card),
+    let way = asked.way;
+    match way {
+        Way::Rows => judge_by_rows(kinds, text, cells, values, ends, card),
+        Way::Text => judge_by_text(sheet, kinds, text, card),
+        Way::Search => {
+            let search = asked.search;
+            judge_by_search(sheet, kinds, text, search, card)
+        }
     }
 }

@@ -30,40 +30,47 @@ ghost use Rattle.selecting.specs.Asking.{Asks, askedQuestion};
 ghost use Rattle.selecting.specs.Selecting.{Gathers, Selects};
 
 // What is asked of a card: the rows of a filter, a filter's text, or the rows of a search string.
-pub enum Asked {
+pub enum Way {
     Rows,
     Text,
     Search,
 }
 
-// Gathers the record numbers of the cards that match in the buffer, until a card is refused; `kinds` are those of the sheet.
+// What is asked of cards: in which way, and the rows of a search string where it is by them.
+pub struct Asked {
+    pub way: Way,
+    pub search: Rows,
+}
+
+// Gathers the record numbers of the cards that match in the buffer, until a card is refused. The kinds of the sheet are read and the rows are
+// opened once for all cards.
 fn gather(
     asked: Asked,
     sheet: &[u8],
-    kinds: &[u8],
     text: &[u8],
     cells: &[u32],
-    values: &[u64],
-    ends: &[i64],
-    rows: Rows,
     cards: &[u8],
     buffer: &mut [u32],
 ) -> Selected
     requires { ⌜ readSheet (now sheet) ≡ Validity.WellFormed ⌝ }
-    requires { ⌜ length (now kinds) ≡ 32 ⌝ }
-    requires { ⌜ now kinds ≡ kindsOf (parametersOf (now sheet)) ⌝ }
-    requires { ⌜ Opens (now kinds) (now text) (now cells) (now values) (now ends) (length (now cells)) ⌝ }
-    requires { ⌜ Asks (now sheet) (now text) (now cells) rows asked ⌝ }
+    requires { ⌜ length (now text) ≤ 1024 ⌝ }
+    requires { ⌜ length (now cells) ≤ 320 ⌝ }
+    requires { ⌜ Asks (now sheet) (now text) (now cells) (asked .search) (asked .way) ⌝ }
     requires { ⌜ length (now cards) % 512 ≡ 0 ⌝ }
     requires { ⌜ length (now cards) / 512 ≤ length (now buffer) ⌝ }
-    ensures { λ r. ⌜ Gathers (askedQuestion asked (parametersOf (now (sheet .entry))) (now (text .entry)) (now (cells .entry)) rows) (now (cards .entry)) r (now (buffer .exit)) ⌝ }
+    requires { ⌜ length (now buffer) ≤ 128 ⌝ }
+    ensures { λ r. ⌜ Gathers (askedQuestion asked (parametersOf (now (sheet .entry))) (now (text .entry)) (now (cells .entry))) (now (cards .entry)) r (now (buffer .exit)) ⌝ }
 {
+    let kinds = sheet::kinds(sheet);
+    let mut values = [0u64; 640];
+    let mut ends = [0i64; 640];
+    open_rows(&kinds, text, cells, &mut values, &mut ends);
     let mut at = 0;
     let mut count = 0;
     while at < cards.len() {
         let end = at + 512;
         let card = &cards[at..end];
-        match judge_asked(asked, sheet, kinds, text, cells, values, ends, rows, card) {
+        match judge_asked(asked, sheet, &kinds, text, cells, &values, &ends, card) {
             CardVerdict::Says(yes) => {
                 if yes {
                     buffer[count] = card::record_number(card);
@@ -82,57 +89,20 @@ fn gather(
     Selected::Count(count)
 }
 
-// The same, with the kinds of the sheet and the rows opened once for the run.
-fn gather_run(
-    asked: Asked,
-    sheet: &[u8],
-    text: &[u8],
-    cells: &[u32],
-    rows: Rows,
-    cards: &[u8],
-    buffer: &mut [u32],
-) -> Selected
-    requires { ⌜ readSheet (now sheet) ≡ Validity.WellFormed ⌝ }
-    requires { ⌜ length (now text) ≤ 1024 ⌝ }
-    requires { ⌜ length (now cells) ≤ 320 ⌝ }
-    requires { ⌜ Asks (now sheet) (now text) (now cells) rows asked ⌝ }
-    requires { ⌜ length (now cards) % 512 ≡ 0 ⌝ }
-    requires { ⌜ length (now cards) / 512 ≤ length (now buffer) ⌝ }
-    ensures { λ r. ⌜ Gathers (askedQuestion asked (parametersOf (now (sheet .entry))) (now (text .entry)) (now (cells .entry)) rows) (now (cards .entry)) r (now (buffer .exit)) ⌝ }
-{
-    let kinds = sheet::kinds(sheet);
-    let mut values = [0u64; 640];
-    let mut ends = [0i64; 640];
-    open_rows(&kinds, text, cells, &mut values, &mut ends);
-    gather(
-        asked,
-        sheet,
-        &kinds,
-        text,
-        cells,
-        &values,
-        &ends,
-        rows,
-        cards,
-        buffer,
-    )
-}
-
 // Selects from the cards under a sheet and a question that check has passed.
 pub fn select_cards(
     asked: Asked,
     sheet: &[u8],
     text: &[u8],
     cells: &[u32],
-    rows: Rows,
     cards: &[u8],
     list: &mut [u32],
 ) -> Selected
     requires { ⌜ readSheet (now sheet) ≡ Validity.WellFormed ⌝ }
     requires { ⌜ length (now text) ≤ 1024 ⌝ }
     requires { ⌜ length (now cells) ≤ 320 ⌝ }
-    requires { ⌜ Asks (now sheet) (now text) (now cells) rows asked ⌝ }
-    ensures { λ r. ⌜ Selects (found (askedQuestion asked (parametersOf (now (sheet .entry))) (now (text .entry)) (now (cells .entry)) rows)) (now (cards .entry)) (now (list .entry)) r (now (list .exit)) ⌝ }
+    requires { ⌜ Asks (now sheet) (now text) (now cells) (asked .search) (asked .way) ⌝ }
+    ensures { λ r. ⌜ Selects (found (askedQuestion asked (parametersOf (now (sheet .entry))) (now (text .entry)) (now (cells .entry)))) (now (cards .entry)) (now (list .entry)) r (now (list .exit)) ⌝ }
 {
     if cards.len() % 512 != 0 {
         return Selected::Refused(Refusal {
@@ -148,7 +118,7 @@ pub fn select_cards(
     }
     // a refusal writes nothing, so the numbers wait here until the last card is judged
     let mut buffer = [0u32; 128];
-    let gathered = gather_run(asked, sheet, text, cells, rows, cards, &mut buffer);
+    let gathered = gather(asked, sheet, text, cells, cards, &mut buffer);
     match gathered {
         Selected::Count(matches) => {
             if matches > list.len() {
@@ -171,15 +141,13 @@ fn select_by_rows(sheet: &[u8], filter: &[u8], cards: &[u8], list: &mut [u32]) -
     let mut cells = [0u32; 1024];
     let filled = fill(sheet, filter, &mut cells);
     match filled {
-        Prepared::Cells(n) => select_cards(
-            Asked::Rows,
-            sheet,
-            filter,
-            &cells[0..n],
-            no_rows(),
-            cards,
-            list,
-        ),
+        Prepared::Cells(n) => {
+            let asked = Asked {
+                way: Way::Rows,
+                search: no_rows(),
+            };
+            select_cards(asked, sheet, filter, &cells[0..n], cards, list)
+        }
         Prepared::Refused(refusal) => Selected::Refused(refusal),
     }
 }
@@ -192,7 +160,11 @@ fn select_by_text(sheet: &[u8], filter: &[u8], cards: &[u8], list: &mut [u32]) -
     match checked {
         Checked::Tests(_) => {
             let none = [0u32; 0];
-            select_cards(Asked::Text, sheet, filter, &none, no_rows(), cards, list)
+            let asked = Asked {
+                way: Way::Text,
+                search: no_rows(),
+            };
+            select_cards(asked, sheet, filter, &none, cards, list)
         }
         Checked::Refused(refusal) => Selected::Refused(refusal),
     }
@@ -226,7 +198,11 @@ pub fn select_search(sheet: &[u8], text: &[u8], cards: &[u8], list: &mut [u32]) 
     match checked {
         Checked::Tests(_) => {
             let none = [0u32; 0];
-            select_cards(Asked::Search, sheet, &bytes, &none, rows, cards, list)
+            let asked = Asked {
+                way: Way::Search,
+                search: rows,
+            };
+            select_cards(asked, sheet, &bytes, &none, cards, list)
         }
         Checked::Refused(refusal) => Selected::Refused(refusal),
     }

@@ -38,8 +38,8 @@ select-by-text-spec =
     (tie.spec
     check-requires
     enum-told
-    slice-aggregate-select-cards
     no-rows-requires
+    slice-aggregate-select-cards
     select-cards-requires
     enum-known-checked
     same-length
