@@ -35,18 +35,31 @@ fn filters() -> Vec<(&'static str, String)> {
         ("4, mixed", mixed(4)),
         ("12, mixed", mixed(12)),
         ("32, mixed", mixed(32)),
+        ("12, reversed", reversed(12)),
+        ("32, reversed", reversed(32)),
     ]
 }
 
 /// So many tests of four kinds, in brackets of four.
 fn mixed(count: usize) -> String {
-    let test = |index: usize| match index % 4 {
+    bracketed(&tests(count).collect::<Vec<String>>())
+}
+
+/// The same tests and brackets the other way round, so that others are left out.
+fn reversed(count: usize) -> String {
+    bracketed(&tests(count).rev().collect::<Vec<String>>())
+}
+
+fn tests(count: usize) -> impl DoubleEndedIterator<Item = String> {
+    (0..count).map(|index| match index % 4 {
         0 => format!("title co \"book {index}\""),
         1 => format!("birthdate le {}-06", 1930 + index),
         2 => format!("code eq loinc|{}-5", 1230 + index),
         _ => format!("pages ge {}", 10 * index),
-    };
-    let tests: Vec<String> = (0..count).map(test).collect();
+    })
+}
+
+fn bracketed(tests: &[String]) -> String {
     let brackets: Vec<String> = tests.chunks(4).map(|four| format!("({})", four.join(" or "))).collect();
     brackets.join(" and ")
 }
