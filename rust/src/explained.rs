@@ -2,6 +2,7 @@
 
 use crate::Refusal;
 use crate::ffi::call;
+use crate::filter::Filter;
 use crate::refusal::printable;
 use std::ops::Range;
 
@@ -101,82 +102,26 @@ impl Explanation {
     }
 }
 
-/// Where the tests of a filter stand that are in no square brackets. Only a text that is a filter is read here, so that
-/// each step is told by the next byte.
+/// Where the tests of a filter stand that are in no square brackets.
 fn outer_tests(filter: &[u8]) -> Vec<Range<usize>> {
-    let mut tests = Vec::new();
-    skip_filter(filter, 0, &mut |test| tests.push(test));
-    tests
-}
-
-/// Goes past the items of a filter and the words that join them, up to its end or a closing square bracket.
-fn skip_filter(text: &[u8], from: usize, found: &mut dyn FnMut(Range<usize>)) -> usize {
-    let mut at = from;
-    loop {
-        at = behind(text, at, |byte| matches!(byte, b' ' | b'('));
-        let not = text[at..].strip_prefix(b"not").map(|_| behind(text, at + 3, |byte| byte == b' '));
-        match not.filter(|&open| text.get(open) == Some(&b'(')) {
-            Some(open) => {
-                at = open;
-                continue;
-            }
-            None => {
-                let end = skip_test(text, at);
-                found(at..end);
-                at = behind(text, end, |byte| matches!(byte, b' ' | b')'));
-            }
-        }
-        if at == text.len() || text[at] == b']' {
-            return at;
-        }
-        at = skip_word(text, at);
-    }
-}
-
-/// Goes past a test: a path, an operator and a value.
-fn skip_test(text: &[u8], from: usize) -> usize {
-    let mut at = skip_word(text, from);
-    if text.get(at) == Some(&b'[') {
-        at = skip_filter(text, at + 1, &mut |_| {});
-        at = skip_word(text, at + 2);
-    }
-    at = behind(text, at, |byte| byte == b' ');
-    at = skip_word(text, at);
-    at = behind(text, at, |byte| byte == b' ');
-    if text.get(at) != Some(&b'"') {
-        return behind(text, at, |byte| !matches!(byte, b' ' | b')' | b']'));
-    }
-    at += 1;
-    while at < text.len() && text[at] != b'"' {
-        at += if text[at] == b'\\' { 2 } else { 1 };
-    }
-    text.len().min(at + 1)
-}
-
-/// Goes past a name, an operator or a joining word.
-fn skip_word(text: &[u8], from: usize) -> usize {
-    behind(text, from, |byte| byte.is_ascii_alphanumeric() || matches!(byte, b'_' | b'-'))
-}
-
-/// Where the bytes end that pass.
-fn behind(text: &[u8], from: usize, passes: impl Fn(u8) -> bool) -> usize {
-    let from = from.min(text.len());
-    from + text[from..].iter().take_while(|byte| passes(**byte)).count()
+    let tests = Filter::read(filter).map_or_else(Vec::new, |filter| filter.tests);
+    tests.into_iter().filter(|test| test.inside.is_none()).map(|test| test.whole).collect()
 }
 
 #[cfg(test)]
 mod tests {
     use super::*;
 
-    /// Tests are found in brackets and behind `not`, with their own brackets, and where a name is a word of the grammar.
+    /// Tests are found in brackets and behind `not`, with their own brackets, and where a name begins like a word of the grammar.
     #[test]
     fn outer_tests_of_a_filter() {
         let part = |text: &'static [u8]| -> Vec<&str> {
+            assert!(crate::plain(text).is_ok(), "{}", String::from_utf8_lossy(text));
             outer_tests(text).into_iter().map(|place| str::from_utf8(&text[place]).unwrap()).collect()
         };
         assert_eq!(part(b"a eq 1"), ["a eq 1"]);
-        assert_eq!(part(b" not ( a eq \"x\\\") or b\" )or not eq (1 "), [r#"a eq "x\") or b""#, "not eq (1"]);
-        assert_eq!(part(b"(a eq 1)and(not(b eq 2))or and ne or"), ["a eq 1", "b eq 2", "and ne or"]);
+        assert_eq!(part(b" not ( a eq \"x\\\") or b\" ) or nota eq (1 "), [r#"a eq "x\") or b""#, "nota eq (1"]);
+        assert_eq!(part(b"(a eq 1) and (not(b eq 2)) or  And ne or"), ["a eq 1", "b eq 2", "And ne or"]);
         assert_eq!(
             part(b"r[ not (t eq \"]\") or u eq [ ].x pr true and ((y lt 2))"),
             [r#"r[ not (t eq "]") or u eq [ ].x pr true"#, "y lt 2"]

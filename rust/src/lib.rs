@@ -14,11 +14,16 @@
 //! }
 //! ```
 
+pub mod block;
 mod engine;
 mod explained;
 mod ffi;
+pub mod filter;
+pub mod kind;
 mod prepared;
 mod refusal;
+pub mod sheet;
+pub mod spelling;
 
 use ffi::call;
 

@@ -2,7 +2,7 @@
 //! library, with a sheet that has one parameter: so there are no rules here beside its own.
 
 use crate::block::{self, Item};
-use sirophan::Prepared;
+use crate::{Prepared, Refusal};
 
 /// The number of the kind whose texts are periods.
 const PERIOD: u8 = 6;
@@ -130,7 +130,7 @@ impl Reader {
     /// A reader of texts of the kind with this number.
     pub fn new(kind: u8) -> Reader {
         let sheet = sheet_of(kind);
-        let prepared = sirophan::prepare(&sheet, ASKED).ok();
+        let prepared = crate::prepare(&sheet, ASKED).ok();
         Reader { sheet, prepared }
     }
 
@@ -143,7 +143,7 @@ impl Reader {
 
     /// Whether the kind has an operator: whether it is not for the operator that the library refuses a test with it.
     fn has(&self, operator: &str) -> bool {
-        let refusal = sirophan::check(&self.sheet, format!("x {operator} 1").as_bytes()).err();
+        let refusal = crate::check(&self.sheet, format!("x {operator} 1").as_bytes()).err();
         !matches!(refusal.map(|refusal| refusal.number), Some(14..=16 | 18))
     }
 
@@ -159,8 +159,8 @@ pub fn kinds_with(operator: &str) -> Vec<&'static str> {
 }
 
 /// Whether a card by itself is sound, or the library's refusal. A card that is sound may not fit its sheet.
-pub fn sound_card(card: &[u8]) -> Result<(), sirophan::Refusal> {
-    match sirophan::matches(&sheet_of(1), ASKED, card) {
+pub fn sound_card(card: &[u8]) -> Result<(), Refusal> {
+    match crate::matches(&sheet_of(1), ASKED, card) {
         Err(refusal) if refusal.number != 23 => Err(refusal),
         _ => Ok(()),
     }
@@ -169,7 +169,7 @@ pub fn sound_card(card: &[u8]) -> Result<(), sirophan::Refusal> {
 /// Whether the library takes a name for one that a sheet may have.
 pub fn is_name(name: &[u8]) -> bool {
     let sheet = block::write_sheet(&[Item { byte: 1, mark: 0, text: name }], false);
-    sheet.is_some_and(|sheet| !matches!(sirophan::check(&sheet, ASKED), Err(refusal) if refusal.number == 3))
+    sheet.is_some_and(|sheet| !matches!(crate::check(&sheet, ASKED), Err(refusal) if refusal.number == 3))
 }
 
 #[cfg(test)]

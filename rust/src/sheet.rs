@@ -2,7 +2,8 @@
 
 use crate::block::{self, Item, SIZE, Sort};
 use crate::kind::{self, BUNDLE};
-use crate::text;
+use crate::spelling::spell;
+use crate::{Refusal, check};
 
 /// A parameter of a sheet.
 #[derive(Clone, Debug, PartialEq, Eq)]
@@ -55,8 +56,8 @@ impl Sheet {
     }
 
     /// The library's refusal of the sheet, if it is not sound.
-    pub fn refusal(&self) -> Option<sirophan::Refusal> {
-        sirophan::check(&self.block, b"x pr true").err().filter(|refusal| refusal.number <= 3)
+    pub fn refusal(&self) -> Option<Refusal> {
+        check(&self.block, b"x pr true").err().filter(|refusal| refusal.number <= 3)
     }
 
     /// The place of the parameter that has this name at the top (0) or in a bundle (its place plus 1).
@@ -77,7 +78,7 @@ impl Sheet {
 
     /// The name of a place's parameter, spelled.
     pub fn name(&self, place: usize) -> String {
-        self.parameters.get(place).map_or_else(|| format!("place {place}?"), |parameter| text::spell(&parameter.name))
+        self.parameters.get(place).map_or_else(|| format!("place {place}?"), |parameter| spell(&parameter.name))
     }
 
     /// The path of a place's parameter as a description has it, with the occurrence: `related#1.type`.
@@ -203,7 +204,7 @@ mod tests {
         assert_eq!(sheet.find_bundle(b"b"), Some(3));
         assert_eq!(sheet.find(3, b"type"), Some(3));
         let filter = sheet.some_filter().unwrap();
-        assert_eq!(sirophan::check(&sheet.block, filter.as_bytes()), Ok(2));
+        assert_eq!(check(&sheet.block, filter.as_bytes()), Ok(2));
         assert_eq!(Sheet::read(sheet.block.clone()).parameters, sheet.parameters);
     }
 
