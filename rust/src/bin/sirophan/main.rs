@@ -31,6 +31,7 @@ mod table;
 mod tally;
 mod text;
 mod verify;
+mod version;
 
 use arguments::Arguments;
 use report::{Failure, Output};
@@ -255,7 +256,7 @@ fn run() -> Result<(), (Failure, bool)> {
     match (name.as_str(), given) {
         ("--help" | "-h" | "help", []) => return answered(overview()),
         ("--help" | "-h" | "help", [name, ..]) => return answered(command_help(command_by(name)?)),
-        ("--version" | "-V" | "version", _) => return answered(format!("sirophan {}", env!("CARGO_PKG_VERSION"))),
+        ("--version" | "-V" | "version", _) => return answered(version::told()),
         _ => {}
     }
     let command = command_by(name)?;
