@@ -13,11 +13,9 @@ fn main() {
         Some(folder) => vec![PathBuf::from(folder)],
         None => vec![root.join("target/lib"), root.join("lib")],
     };
-    for folder in &folders {
-        println!("cargo::rerun-if-changed={}", folder.join(ARCHIVE).display());
-    }
     match folders.iter().find(|folder| folder.join(ARCHIVE).is_file()) {
         Some(folder) => {
+            println!("cargo::rerun-if-changed={}", folder.join(ARCHIVE).display());
             println!("cargo::rustc-link-search=native={}", folder.display());
             println!("cargo::rustc-link-lib=static=sirophan");
         }
