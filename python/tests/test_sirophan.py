@@ -186,11 +186,12 @@ class Archives(unittest.TestCase):
             expected = [(index, index // 5) for index in range(0, count, 3)]
             self.assertEqual(list(archive.select("pages gt 50")), expected)
             self.assertEqual(list(archive.search("pages=gt50")), expected)
+            self.assertEqual(list(Archive(str(self.folder / "cards.bin")).select("pages gt 50")), expected)
             self.assertEqual(archive.read, count)
 
     def test_faults(self):
         self.write([SHEET.card(1, {"pages": "7"})] * 200 + [CARDS[0][:-1] + b"\1"])
-        archive = Archive(sheet=SHEET.block, cards=self.folder / "cards.bin")
+        archive = Archive(self.folder / "cards.bin", SHEET.block)
         with self.assertRaises(Refused) as caught:
             list(archive.select("pages pr true"))
         self.assertEqual((caught.exception.number, caught.exception.place), (21, 200))
