@@ -28,6 +28,7 @@ class Archive:
 
     def __init__(self, path: Union[str, os.PathLike], sheet: Union[str, os.PathLike, Bytes, None] = None) -> None:
         self.cards = Path(path, "cards.bin") if Path(path).is_dir() else Path(path)
+        self.cards.stat()  # a file that is missing is told at once
         if isinstance(sheet, (bytes, bytearray, memoryview)):
             self.sheet = bytes(sheet)
         else:
