@@ -2,11 +2,12 @@
 
 use crate::Refusal;
 use crate::ffi::call;
+use crate::filter::Filter;
 use crate::refusal::printable;
 use std::ops::Range;
 
-/// A filter has at most this many tests.
-const MOST_TESTS: usize = 32;
+/// A filter has at most this many tests, so that as many cells are always enough for [`explain_into`].
+pub const MOST_TESTS: usize = 32;
 /// How many characters of the filter stand on a line of a rendering.
 const WIDTH: usize = 100;
 
@@ -15,8 +16,9 @@ const WIDTH: usize = 100;
 pub enum Mark {
     /// The answer stands whatever the test says.
     Spared,
-    /// It decides by its yes, or by its no.
+    /// It decides by its yes,
     Yes,
+    /// or by its no.
     No,
 }
 
@@ -40,12 +42,24 @@ pub struct Explanation {
 /// Explains what the filter says of the card. What [`matches`](crate::matches) refuses is refused alike.
 ///
 /// ```
-/// fn tell(sheet: &[u8], filter: &[u8], card: &[u8]) -> Result<(), sirophan::Refusal> {
-///     let explanation = sirophan::explain(sheet, filter, card)?;
-///     println!("{}", explanation.render(filter));
-///     Ok(())
-/// }
+/// use sirophan::block::{Item, write_card};
+/// use sirophan::sheet::{Parameter, Sheet};
+/// use sirophan::{explain, kind};
+///
+/// let sheet = Sheet::write(vec![Parameter::new(kind::STRING, "title"), Parameter::new(kind::DATE, "birthdate")]).unwrap();
+/// let card = write_card(7, &[Item::new(0, "Ward book 4"), Item::new(1, "1974-06")]).unwrap();
+/// let filter = b"title co men or birthdate eq 1974";
+/// let explanation = explain(&sheet.block, filter, &card).unwrap();
+/// assert!(explanation.matches);
+/// assert_eq!(
+///     explanation.render(filter),
+///     "title co men or birthdate eq 1974\n                ^^^^^^^^^^^^^^^^^\n                yes"
+/// );
 /// ```
+///
+/// # Errors
+///
+/// What [`matches`](crate::matches) refuses.
 pub fn explain(sheet: &[u8], filter: &[u8], card: &[u8]) -> Result<Explanation, Refusal> {
     let mut cells = [0; MOST_TESTS];
     let matches = explain_into(sheet, filter, card, &mut cells)?;
@@ -64,6 +78,10 @@ pub fn explain(sheet: &[u8], filter: &[u8], card: &[u8]) -> Result<Explanation, 
 /// Answers whether the card matches the filter, and writes a cell for each test into the list, from its first cell on: 0
 /// where it is spared, 1 where it decides by its yes, 2 where it decides by its no. Later cells stay, and a refusal leaves
 /// all of them as they are; 33 says how many are needed.
+///
+/// # Errors
+///
+/// What [`matches`](crate::matches) refuses, and cells that are too few (33).
 pub fn explain_into(sheet: &[u8], filter: &[u8], card: &[u8], cells: &mut [u8]) -> Result<bool, Refusal> {
     call!(sirophan_explain: read sheet, read filter, read card, write cells).into_yes()
 }
@@ -76,6 +94,7 @@ impl Explanation {
     ///                  ^^^^^^^^^^^^^^^^^^^^     ^^^^^^^^^^^
     ///                  yes                      yes
     /// ```
+    #[must_use]
     pub fn render(&self, filter: &[u8]) -> String {
         let shown = printable(filter);
         let mut carets = vec![' '; shown.len()];
@@ -101,82 +120,26 @@ impl Explanation {
     }
 }
 
-/// Where the tests of a filter stand that are in no square brackets. Only a text that is a filter is read here, so that
-/// each step is told by the next byte.
+/// Where the tests of a filter stand that are in no square brackets.
 fn outer_tests(filter: &[u8]) -> Vec<Range<usize>> {
-    let mut tests = Vec::new();
-    skip_filter(filter, 0, &mut |test| tests.push(test));
-    tests
-}
-
-/// Goes past the items of a filter and the words that join them, up to its end or a closing square bracket.
-fn skip_filter(text: &[u8], from: usize, found: &mut dyn FnMut(Range<usize>)) -> usize {
-    let mut at = from;
-    loop {
-        at = behind(text, at, |byte| matches!(byte, b' ' | b'('));
-        let not = text[at..].strip_prefix(b"not").map(|_| behind(text, at + 3, |byte| byte == b' '));
-        match not.filter(|&open| text.get(open) == Some(&b'(')) {
-            Some(open) => {
-                at = open;
-                continue;
-            }
-            None => {
-                let end = skip_test(text, at);
-                found(at..end);
-                at = behind(text, end, |byte| matches!(byte, b' ' | b')'));
-            }
-        }
-        if at == text.len() || text[at] == b']' {
-            return at;
-        }
-        at = skip_word(text, at);
-    }
-}
-
-/// Goes past a test: a path, an operator and a value.
-fn skip_test(text: &[u8], from: usize) -> usize {
-    let mut at = skip_word(text, from);
-    if text.get(at) == Some(&b'[') {
-        at = skip_filter(text, at + 1, &mut |_| {});
-        at = skip_word(text, at + 2);
-    }
-    at = behind(text, at, |byte| byte == b' ');
-    at = skip_word(text, at);
-    at = behind(text, at, |byte| byte == b' ');
-    if text.get(at) != Some(&b'"') {
-        return behind(text, at, |byte| !matches!(byte, b' ' | b')' | b']'));
-    }
-    at += 1;
-    while at < text.len() && text[at] != b'"' {
-        at += if text[at] == b'\\' { 2 } else { 1 };
-    }
-    text.len().min(at + 1)
-}
-
-/// Goes past a name, an operator or a joining word.
-fn skip_word(text: &[u8], from: usize) -> usize {
-    behind(text, from, |byte| byte.is_ascii_alphanumeric() || matches!(byte, b'_' | b'-'))
-}
-
-/// Where the bytes end that pass.
-fn behind(text: &[u8], from: usize, passes: impl Fn(u8) -> bool) -> usize {
-    let from = from.min(text.len());
-    from + text[from..].iter().take_while(|byte| passes(**byte)).count()
+    let tests = Filter::read(filter).map_or_else(Vec::new, |filter| filter.tests);
+    tests.into_iter().filter(|test| test.inside.is_none()).map(|test| test.whole).collect()
 }
 
 #[cfg(test)]
 mod tests {
     use super::*;
 
-    /// Tests are found in brackets and behind `not`, with their own brackets, and where a name is a word of the grammar.
+    /// Tests are found in brackets and behind `not`, with their own brackets, and where a name begins like a word of the grammar.
     #[test]
     fn outer_tests_of_a_filter() {
         let part = |text: &'static [u8]| -> Vec<&str> {
+            assert!(crate::plain(text).is_ok(), "{}", String::from_utf8_lossy(text));
             outer_tests(text).into_iter().map(|place| str::from_utf8(&text[place]).unwrap()).collect()
         };
         assert_eq!(part(b"a eq 1"), ["a eq 1"]);
-        assert_eq!(part(b" not ( a eq \"x\\\") or b\" )or not eq (1 "), [r#"a eq "x\") or b""#, "not eq (1"]);
-        assert_eq!(part(b"(a eq 1)and(not(b eq 2))or and ne or"), ["a eq 1", "b eq 2", "and ne or"]);
+        assert_eq!(part(b" not ( a eq \"x\\\") or b\" ) or nota eq (1 "), [r#"a eq "x\") or b""#, "nota eq (1"]);
+        assert_eq!(part(b"(a eq 1) and (not(b eq 2)) or  And ne or"), ["a eq 1", "b eq 2", "And ne or"]);
         assert_eq!(
             part(b"r[ not (t eq \"]\") or u eq [ ].x pr true and ((y lt 2))"),
             [r#"r[ not (t eq "]") or u eq [ ].x pr true"#, "y lt 2"]

@@ -1,4 +1,4 @@
-//! The C interface of the proved library, as `include/sirophan.h` declares it.
+//! The C interface of the proved library, as `include/sirophan.h` declares it; what of it is plain C is in `texts`.
 
 use crate::{Counts, Refusal, Tally};
 
@@ -63,6 +63,10 @@ macro_rules! call {
 pub(crate) use call;
 
 unsafe extern "C" {
+    pub fn sirophan_record(card: *const u8, card_len: usize) -> Answer;
+
+    pub fn sirophan_seal(block: *mut u8, block_len: usize) -> Answer;
+
     pub fn sirophan_check(sheet: *const u8, sheet_len: usize, filter: *const u8, filter_len: usize) -> Answer;
 
     pub fn sirophan_match(

@@ -5,12 +5,11 @@
 //! - the commands: `pick` and `search` (in `pick`), `explain`, `check`, `report` (in `counts`), `plain`, `fields`, `pack`, `show`, `verify`;
 //! - what they say beside their answers: `advice` and `search_advice` on refusals, `doubt` about what is asked, `tally` of what cards hold;
 //! - what they go through: `cards` in blocks, `description` in words;
-//! - what these are made of: `sheet`, `filter`, `search`, `kind`, which asks the library, and `block`;
+//! - what these are made of: `search`, and `sheet`, `filter`, `kind` and `block` of the library's interface;
 //! - in and out: `arguments`, `input`, `report`, `progress`, `table`, `json`, `text`.
 
 mod advice;
 mod arguments;
-mod block;
 mod cards;
 mod check;
 mod counts;
@@ -18,10 +17,8 @@ mod description;
 mod doubt;
 mod explain;
 mod fields;
-mod filter;
 mod input;
 mod json;
-mod kind;
 mod pack;
 mod pick;
 mod plain;
@@ -29,15 +26,16 @@ mod progress;
 mod report;
 mod search;
 mod search_advice;
-mod sheet;
 mod show;
 mod table;
 mod tally;
 mod text;
 mod verify;
+mod version;
 
 use arguments::Arguments;
 use report::{Failure, Output};
+use sirophan::{block, filter, kind, sheet};
 use std::env;
 use std::ops::RangeInclusive;
 use std::process::ExitCode;
@@ -258,7 +256,7 @@ fn run() -> Result<(), (Failure, bool)> {
     match (name.as_str(), given) {
         ("--help" | "-h" | "help", []) => return answered(overview()),
         ("--help" | "-h" | "help", [name, ..]) => return answered(command_help(command_by(name)?)),
-        ("--version" | "-V" | "version", _) => return answered(format!("sirophan {}", env!("CARGO_PKG_VERSION"))),
+        ("--version" | "-V" | "version", _) => return answered(version::told()),
         _ => {}
     }
     let command = command_by(name)?;
