@@ -11,4 +11,5 @@ pub mod SpellTable
 pub mod Spells
 pub mod Operators
 pub mod Trial
+pub mod Searches
 pub mod Promises

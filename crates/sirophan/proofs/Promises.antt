@@ -10,7 +10,9 @@ use mathlib.Core.List.{List, [], _∷_, map}
 use lib.ListN.{length, getD}
 use Rattle.base.specs.Ascii.{ascii}
 use Rattle.base.specs.Bytes.{Bytes}
-use Rattle.base.specs.Lists.{All}
+use Rattle.base.specs.Lists.{All, member}
+use Rattle.base.specs.Split.{Without, firstOf}
+use Rattle.text.specs.Bar.{bar}
 use Rattle.base.specs.Operators.{operatorWords, eq, ne, co, sw, ew, gt, lt, ge, le, ap, sa, eb, pr, po, ss, sb, «in», ni, re}
 use Rattle.block.specs.declared.Validity.the-variants.{WellFormed}
 use Rattle.sheet.specs.Sheet.{Parameter, readSheet}
@@ -65,8 +67,15 @@ use Rattle.answer.specs.Selection.{Run, matchingCards, matchingNumbers, occurre
 use Rattle.refusal.specs.Order.{rank, Decides}
 use Rattle.answer.specs.Refusals.{CheckLine, MatchLine, SelectLine, SpellLine}
 use Rattle.sirophan.specs.Spelling.{spellAnswer, spellBytes, SpellAnswers}
-use Rattle.query.specs.Spelling.{Query, SpellsQuery}
-use Rattle.query.specs.Reader.{acceptQuery}
+use Rattle.query.specs.Spelling.{ampersand, Special, Sign, Pieces, TextIs, SplitAt, NoPlainBar, Alternative, Query, PairAt, SpellsQuery}
+use Rattle.query.specs.Lines.{BadPart, QueryLine}
+use Rattle.query.specs.Reader.{isSpecial, cutSigns, splitOf, acceptQuery}
+use Rattle.query.proofs.Signs as query-signs
+use Rattle.query.proofs.Alternatives as query-alternatives
+use Rattle.query.proofs.Parts as query-parts
+use Rattle.query.proofs.Lines as query-lines
+use Rattle.search.specs.Asking.{TakesPrefix, Prefix, takesPrefix, prefixes}
+use Rattle.search.proofs.Asking as asking
 use Rattle.query.proofs.Reading as query-reading
 use Rattle.refusal.specs.Steps.{found}
 use Rattle.answer.specs.Searching.{checkSearchAnswer, searchQuestion, matchSearchAnswer, selectSearchAnswer, selectSearchCells}
@@ -75,7 +84,7 @@ use Rattle.answer.specs.SearchRefusals.{CheckSearchLine, MatchSearchLine, Selec
 use Rattle.sirophan.specs.SameQuestion.{SameQuestion, AnsweredAlike}
 use Rattle.sirophan.proofs.SameQuestion as same-question
 use Rattle.sirophan.proofs.SearchDemand as search-demand
-use Rattle.answer.proofs.SearchTable as search-table
+use Rattle.answer.proofs.SearchTable as search-lines
 use Rattle.sheet.specs.Find.{kindsOf, parentsOf}
 use Rattle.rows.specs.Expression.{Expression}
 use Rattle.rows.specs.Cells.{encode, stated}
@@ -89,7 +98,8 @@ use Rattle.answer.specs.RowsRefusals.{PrepareLine, JudgeLine, PrepareAnswers, P
 use Rattle.answer.proofs.RowsTable as rows-table
 use Rattle.answer.proofs.RowsAnswered as rows-answered
 use Rattle.sirophan.specs.Trial.{Row, trialRows, bundleRows, stayRows, titleTest, codeTest}
-use Rattle.sirophan.specs.Edges.{edgeCard, edgeRows}
+use Rattle.sirophan.specs.Edges.{edgeCard, edgeRows, emptyCard, emptyRows}
+use Rattle.sirophan.specs.Searches.{SearchRow, searchRows}
 use Rattle.kind.proofs.Rules as rules
 use Rattle.sirophan.proofs.Failing as failing
 use Rattle.sirophan.proofs.Demand as demand
@@ -105,6 +115,7 @@ use Rattle.sirophan.proofs.SpellTable as spell-table
 use Rattle.sirophan.proofs.Spells as spell
 use Rattle.sirophan.proofs.Operators as words
 use Rattle.sirophan.proofs.Trial as trial
+use Rattle.sirophan.proofs.Searches as searches
 
 -- ---- demand 1: an answer or a refusal, and a refusal writes nothing
 
@@ -347,39 +358,68 @@ spell-answered = spell.spell-answered
 pub query-read : (text : List ℕ) (q : Query) → (acceptQuery text ≡ found q) ↔ SpellsQuery text q
 query-read = query-reading.query-read
 
+-- the rules of spelling in 02's words: the bytes that a backslash makes plain, the alternatives that commas give, where a token is split
+pub special-bytes : (b : ℕ) → (isSpecial b ≡ true) ↔ Special b
+special-bytes = query-signs.special-iff
+
+pub alternatives-cut : (v : List Sign) (ws : List (List Sign)) → (cutSigns v ≡ ws) ↔ Pieces v ws
+alternatives-cut = query-alternatives.pieces-iff
+
+pub token-split : (w : List Sign) (i : ℕ) → (splitOf w ≡ i) ↔ SplitAt w i
+token-split = query-alternatives.split-iff
+
+-- without a bar behind a backslash it is split at the first bar of its text
+pub split-first-bar : {w : List Sign} {t : List ℕ} {i : ℕ} → TextIs w t → SplitAt w i → NoPlainBar w → i ≡ firstOf bar t
+split-first-bar = query-alternatives.split-first-bar
+
+-- the prefixes by their words, and the kinds that take one
+pub prefix-words : (k : ℕ) (w : List ℕ) → ((member k prefixes ≡ true) × (w ≡ getD operatorWords k [])) ↔ Prefix k w
+prefix-words = asking.prefix-iff
+
+pub prefix-kinds : (kind : ℕ) → (takesPrefix kind ≡ true) ↔ TakesPrefix kind
+prefix-kinds = asking.takes-iff
+
+-- a string which none of 10, 50 and 51 refuses spells a query; a part is no pair exactly where it has no "=" or a % that no two hex digits
+-- follow, and 50 is the line of such a part
+pub unrefused-spells : (text : List ℕ) → ((n p : ℕ) → QueryLine text n p → ⊥) → (q : Query) × SpellsQuery text q
+unrefused-spells = query-lines.unrefused-spells
+
+pub no-pair : (at : ℕ) (s : List ℕ) → Without ampersand s → ((a : List Alternative) → PairAt at s a → ⊥) ↔ BadPart s
+no-pair = query-parts.part-iff
+
 pub query-unique : (text : List ℕ) (q r : Query) → SpellsQuery text q → SpellsQuery text r → q ≡ r
 query-unique = query-reading.query-unique
 
 -- demand 1: each operation is refused exactly where a line of its table decides
 pub check-search-refused : (sheet text : List ℕ) → Bytes sheet → (n p : ℕ) → (checkSearchAnswer sheet text ≡ refused n p) ↔ Decides (CheckSearchLine sheet text) n p
-check-search-refused = search-table.check-search-table
+check-search-refused = search-lines.check-search-table
 
 pub match-search-refused : (sheet text card : List ℕ) → Bytes sheet → Bytes card → (n p : ℕ)
     → (matchSearchAnswer sheet text card ≡ refused n p) ↔ Decides (MatchSearchLine sheet text card) n p
-match-search-refused = search-table.match-search-table
+match-search-refused = search-lines.match-search-table
 
 pub select-search-refused : (sheet text cards : List ℕ) (room : ℕ) → Bytes sheet → Bytes cards → (n p : ℕ)
     → (selectSearchAnswer sheet text cards room ≡ refused n p) ↔ Decides (SelectSearchLine sheet text cards room) n p
-select-search-refused = search-table.select-search-table
+select-search-refused = search-lines.select-search-table
 
 pub search-refusal-keeps-list : (sheet text cards list : List ℕ) (n i : ℕ) → selectSearchAnswer sheet text cards (length list) ≡ refused n i → selectSearchCells sheet text cards list ≡ list
-search-refusal-keeps-list sheet text = selection.refusal-keeps (searchQuestion sheet text) (search-table.search-number sheet text)
+search-refusal-keeps-list sheet text = selection.refusal-keeps (searchQuestion sheet text) (search-lines.search-number sheet text)
 
 -- demand 2: a selection lists the record numbers of the cards on which match answers yes, in card order; where no line holds, it answers
 pub select-search-by-match : (sheet text cards list : List ℕ) (bs : List (List ℕ)) → Run cards bs
     → SelectsByMatch (matchSearchAnswer sheet text) (selectSearchAnswer sheet text cards (length list)) (selectSearchCells sheet text cards list) list bs
-select-search-by-match sheet text = selection.selects-by-match (searchQuestion sheet text) (search-table.search-number sheet text)
+select-search-by-match sheet text = selection.selects-by-match (searchQuestion sheet text) (search-lines.search-number sheet text)
 
 pub select-search-answered : (sheet text cards list : List ℕ) → Bytes sheet → Bytes cards → (bs : List (List ℕ)) → Run cards bs
     → ((n p : ℕ) → SelectSearchLine sheet text cards (length list) n p → ⊥)
     → SelectAnswers (matchSearchAnswer sheet text) (selectSearchAnswer sheet text cards (length list)) (selectSearchCells sheet text cards list) list bs
-select-search-answered = search-table.select-search-answered
+select-search-answered = search-lines.select-search-answered
 
 -- demand 3 over alternatives; that nothing is left free is demand-determines
 pub check-and-match-search : MeetsSearchDemand checkSearchAnswer matchSearchAnswer
 check-and-match-search = search-demand.search-demand-met
 
--- a filter that asks the same, and that check passes, is answered the same
+-- a filter that asks the same, in whichever order, and that check passes, is answered the same
 pub search-as-filter : (sheet text query : List ℕ) (s : SheetBlock sheet) (f : Tree) (q : Query) → Spells text f → SpellsQuery query q → SameQuestion (s .parameters) q f
     → checkAnswer sheet text ≡ count (length (testsOf f)) → AnsweredAlike sheet query text
 search-as-filter = same-question.same-question
@@ -400,3 +440,11 @@ period-table = trial.stay-rows
 -- a card at the edges of the rules: escapes, short names, touching spans, half units, each operator by its word
 pub edge-table : All (λ (r : Row). matchAnswer trialSheet (r .filter) edgeCard ≡ r .gives) edgeRows
 edge-table = trial.edge-rows
+
+-- a card whose only text is empty
+pub empty-text-table : All (λ (r : Row). matchAnswer trialSheet (r .filter) emptyCard ≡ r .gives) emptyRows
+empty-text-table = trial.empty-rows
+
+-- search strings, each on its sheet and card
+pub search-table : All (λ (r : SearchRow). matchSearchAnswer (r .sheet) (r .query) (r .card) ≡ r .gives) searchRows
+search-table = searches.search-rows

@@ -4,3 +4,4 @@ pub mod SameQuestion
 pub mod Contracts
 pub mod Trial
 pub mod Edges
+pub mod Searches
