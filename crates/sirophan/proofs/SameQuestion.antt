@@ -304,8 +304,15 @@ order-count List·Permᴰ·nil = refl
 order-count (List·Permᴰ·cons {a = a} {b = b} {l₁ = l₁} {l₂ = l₂} e d) =
     omega (arith, order-count d, length-append (testsOf a) (all-tests l₁), length-append (testsOf b) (all-tests l₂), ap (λ (f : Tree). length (testsOf f)) e)
 order-count (List·Permᴰ·swap {a = a} {b = b} {a′ = a′} {b′ = b′} {l = l} e g) =
-    omega (arith, length-append (testsOf a) (testsOf b ++ all-tests l), length-append (testsOf b) (all-tests l), length-append (testsOf a′) (testsOf b′ ++ all-tests l),
-    length-append (testsOf b′) (all-tests l), ap (λ (f : Tree). length (testsOf f)) e, ap (λ (f : Tree). length (testsOf f)) g)
+    omega (
+      arith,
+      length-append (testsOf a) (testsOf b ++ all-tests l),
+      length-append (testsOf b) (all-tests l),
+      length-append (testsOf a′) (testsOf b′ ++ all-tests l),
+      length-append (testsOf b′) (all-tests l),
+      ap (λ (f : Tree). length (testsOf f)) e,
+      ap (λ (f : Tree). length (testsOf f)) g,
+    )
 order-count (List·Permᴰ·trans d e) = order-count d ∙ order-count e
 
 order-all : (P : Test → Type 0) {fs gs : List Tree} → List·Permᴰ fs gs → All P (all-tests gs) → All P (all-tests fs)

@@ -1,8 +1,7 @@
 -- The table of search strings: match gives what its rows say, over the bytes of sheets and cards.
 -- Assumes nothing.
-use Prim.Native.Nat.{ℕ}
 use mathlib.Core.Path.{_≡_, refl}
-use mathlib.Core.List.{List, map, flatten}
+use mathlib.Core.List.{map, flatten}
 use Rattle.base.specs.Lists.{All, every, equal, member}
 use Rattle.base.specs.Affixes.{hasPrefix, hasSuffix, hasInfix}
 use Rattle.base.specs.Digits.{isDigit}
