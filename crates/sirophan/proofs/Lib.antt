@@ -12,4 +12,5 @@ pub mod Spells
 pub mod Operators
 pub mod Trial
 pub mod Searches
+pub mod Seconds
 pub mod Promises

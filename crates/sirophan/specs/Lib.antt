@@ -5,3 +5,4 @@ pub mod Contracts
 pub mod Trial
 pub mod Edges
 pub mod Searches
+pub mod Seconds
