@@ -38,7 +38,7 @@ pub fn outcome(summary: Summary) -> Checked
 }
 
 // The answer for a text that is no filter.
-pub fn no_filter(filter: &[u8]) -> Checked
+fn no_filter(filter: &[u8]) -> Checked
     ensures { λ r. ⌜ checkedAnswer r ≡ refusalAnswer (failure deepest mostTests (now (filter .entry))) ⌝ }
 {
     Checked::Refused(find_failure(filter))

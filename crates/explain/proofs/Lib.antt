@@ -3,4 +3,5 @@ pub mod Explaining
 pub mod Table
 pub mod Contracts
 pub mod Answered
+pub mod Trial
 pub mod Promises

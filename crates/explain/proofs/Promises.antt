@@ -7,8 +7,11 @@ use mathlib.Core.Logic.{_↔_}
 use mathlib.Core.List.{List}
 use lib.ListN.{length}
 use Rattle.base.specs.Bytes.{Bytes}
+use Rattle.base.specs.Lists.{All}
 use Rattle.sheet.specs.Encode.{SheetBlock}
+use Rattle.sheet.specs.Trial.{trialSheet}
 use Rattle.card.specs.Card.{Entry}
+use Rattle.card.specs.Trial.{trialCard}
 use Rattle.syntax.specs.Tree.{Tree}
 use Rattle.syntax.specs.Grammar.{Spells}
 use Rattle.judge.specs.Rules.{Conforms}
@@ -19,11 +22,13 @@ use Rattle.deciding.specs.Marks.{suffices, deciding}
 use Rattle.explain.specs.Operation.{explainAnswer, explainCells}
 use Rattle.explain.specs.Refusals.{ExplainLine}
 use Rattle.explain.specs.Explaining.{ExplainAnswers, AsMatch}
+use Rattle.explain.specs.Trial.{Row, lent, explainRows}
 use Rattle.deciding.proofs.Exact as exact
 use Rattle.deciding.proofs.Numbered as numbered
 use Rattle.deciding.proofs.Deciding as deciding-set
 use Rattle.explain.proofs.Table as table
 use Rattle.explain.proofs.Answered as answered
+use Rattle.explain.proofs.Trial as trial
 
 -- ---- explain: refusals
 
@@ -61,3 +66,12 @@ sufficing f v kept = (exact.suffices-stands f v kept, exact.stands-suffices f v 
 -- there is a cell for each outer test, and there is one at least
 pub tests-counted : (f : Tree) → (length (outerTests f) ≡ outerCount f) × (0 < outerCount f)
 tests-counted f = (numbered.tests-counted f, numbered.some-tests f)
+
+-- ---- explain: the trial card
+
+-- what it gives, and the list that it leaves: 0, 1 and 2 in its cells
+pub explain-trial-answers : All (λ (r : Row). explainAnswer trialSheet (r .filter) trialCard (length lent) ≡ r .gives) explainRows
+explain-trial-answers = trial.answered-rows
+
+pub explain-trial-cells : All (λ (r : Row). explainCells trialSheet (r .filter) trialCard lent ≡ r .leaves) explainRows
+explain-trial-cells = trial.left-rows

@@ -3,3 +3,4 @@ pub mod Operation
 pub mod Refusals
 pub mod Contracts
 pub mod Explaining
+pub mod Trial

@@ -3,7 +3,8 @@
 -- numbers away. Assumes nothing.
 use Prim.Native.Nat.{ℕ, _≤_}
 use mathlib.Core.Path.{_≡_}
-use mathlib.Core.List.{List}
+use mathlib.Core.Logic.{_↔_}
+use mathlib.Core.List.{List, [], List·Memᴰ}
 use lib.ListN.{length, take}
 use Rattle.base.specs.Ascii.{ascii}
 use Rattle.sheet.specs.Encode.{SheetBlock}
@@ -13,6 +14,7 @@ use Rattle.card.specs.Trial.{trialCard, bundleCard}
 use Rattle.syntax.specs.Tree.{Tree}
 use Rattle.syntax.specs.Grammar.{Spells}
 use Rattle.judge.specs.Rules.{Conforms, FilterSays}
+use Rattle.judge.specs.Sets.{valuesAt, ofOccurrence}
 use Rattle.query.specs.Spelling.{Query, SpellsQuery}
 use Rattle.rows.specs.Good.{Good}
 use Rattle.rows.specs.Stated.{treeOf}
@@ -21,15 +23,30 @@ use Rattle.answer.specs.Operations.{matchAnswer}
 use Rattle.answer.specs.Preparing.{prepareAnswer, prepareCells, judgeAnswer}
 use Rattle.answer.specs.Searching.{matchSearchAnswer}
 use Rattle.explain.specs.Operation.{explainAnswer, explainCells}
-use Rattle.fields.specs.Used.{namesOf, queryNames, Alike, ByNames, UsesOnly}
+use Rattle.fields.specs.Used.{namesOf, queryNames, Holds, Alike, ByNames, UsesOnly}
 use Rattle.fields.specs.Leaks.{AllTextsSay, OccurringSay}
 use Rattle.fields.specs.Trial.{dateCard, dateNames, relationCard, relationNames}
+use Rattle.fields.proofs.Sets as sets
 use Rattle.fields.proofs.Verdicts as verdicts
 use Rattle.fields.proofs.Answers as answers
 use Rattle.fields.proofs.Explanations as explanations
 use Rattle.fields.proofs.Prepared as prepared
 use Rattle.fields.proofs.Trial as trial
 use Rattle.fields.proofs.Leaks as leaks
+
+-- ---- sets by what a card holds
+
+-- 01: "the set of a name is the card's texts under it": the texts in it are those that the entries hold under the index, and it is empty
+-- exactly where they hold none; an empty text is a text
+pub set-holds : (i : ℕ) (es : List Entry) (x : List ℕ) → List·Memᴰ x (valuesAt i es) ↔ ((o : ℕ) × Holds es i o x)
+set-holds = sets.values-iff
+
+pub set-empty : (i : ℕ) (es : List Entry) → (valuesAt i es ≡ []) ↔ ((o : ℕ) (x : List ℕ) → Holds es i o x → ⊥)
+set-empty = sets.values-none
+
+-- 02: the entries of one occurrence hold what bears its number, and nothing else
+pub occurrence-holds : (o : ℕ) (es : List Entry) (i p : ℕ) (x : List ℕ) → Holds (ofOccurrence o es) i p x ↔ (Holds es i p x × (p ≡ o))
+occurrence-holds = sets.occurrence-iff
 
 -- ---- helpers who may see only some fields (02 [14])
 

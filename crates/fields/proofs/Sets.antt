@@ -2,16 +2,17 @@
 -- are kept hold what passes.
 -- Assumes nothing.
 use Prim.Native.Nat.{ℕ}
-use mathlib.Core.Path.{_≡_, refl, ap, ap₂, sym, _∙_}
+use mathlib.Core.Path.{_≡_, refl, ap, ap₂, sym, _∙_, subst}
 use mathlib.Core.Bool.{Bool, true, false, cond, not}
 use mathlib.Core.Logic.{_↔_, ⊎-elim}
 use mathlib.Core.List.{List, [], _∷_, List·Memᴰ, List·Memᴰ·head, List·Memᴰ·tail, List·Memᴰ·not-nil, List·Memᴰ·cases-cons}
+use lib.Dec.{eqb}
 use borrow.Author.Tests.{eq-eqb, eqb-true}
 use Rattle.base.proofs.Tests.{cond-elim, same-test}
 use Rattle.card.specs.Card.{Entry, entry}
 use Rattle.kind.specs.Readable.{isTrue}
 use Rattle.kind.specs.declared.Meaning.{Meaning}
-use Rattle.judge.specs.Sets.{isUnder, valuesAt, keep}
+use Rattle.judge.specs.Sets.{isUnder, valuesAt, keep, ofOccurrence}
 use Rattle.judge.specs.Verdicts.{someValue, isEmpty, related, saysOf}
 use Rattle.judge.proofs.Rules.{some-there, some-back}
 use Rattle.fields.specs.Used.{Holds, SameTexts, SameOccurrences}
@@ -61,6 +62,17 @@ values-back i (e ∷ es) o x m =
     (λ q. let again = values-back i es o x q in cond-elim (λ (l : List (List ℕ)). List·Memᴰ x l) (isUnder i e) (λ t. List·Memᴰ·tail again) (λ t. again))
     (List·Memᴰ·cases-cons m)
 
+pub values-iff : (i : ℕ) (es : List Entry) (x : List ℕ) → List·Memᴰ x (valuesAt i es) ↔ ((o : ℕ) × Holds es i o x)
+values-iff i es x = (values-there i es x, (λ w. values-back i es (w .0) x (w .1)))
+
+-- there are none exactly where none is held
+pub values-none : (i : ℕ) (es : List Entry) → (valuesAt i es ≡ []) ↔ ((o : ℕ) (x : List ℕ) → Holds es i o x → ⊥)
+values-none i es = ((λ e o x h. List·Memᴰ·not-nil (subst (List·Memᴰ x) e (values-back i es o x h))), by-values (valuesAt i es) refl)
+  where
+    by-values : (xs : List (List ℕ)) → valuesAt i es ≡ xs → ((o : ℕ) (x : List ℕ) → Holds es i o x → ⊥) → xs ≡ []
+    by-values [] e n = refl
+    by-values (x ∷ xs) e n = let w = values-there i es x (subst (List·Memᴰ x) (sym e) (List·Memᴰ·head refl)) in absurd (n (w .0) x (w .1))
+
 pub values-same : {es es′ : List Entry} (i : ℕ) → SameTexts es es′ i → SameMembers (valuesAt i es) (valuesAt i es′)
 values-same {es} {es′} i h x = (
   λ m. let w = h x .0 (values-there i es x m) in values-back i es′ (w .0) x (w .1),
@@ -93,3 +105,12 @@ keep-alike p p′ same {es} {es′} {i} h o x = (
 
 pub texts-of : {es es′ : List Entry} {i : ℕ} → SameOccurrences es es′ i → SameTexts es es′ i
 texts-of h x = ((λ w. (w .0, h (w .0) x .0 (w .1))), (λ w. (w .0, h (w .0) x .1 (w .1))))
+
+-- ---- one occurrence
+
+pub occurrence-iff : (o : ℕ) (es : List Entry) (i p : ℕ) (x : List ℕ) → Holds (ofOccurrence o es) i p x ↔ (Holds es i p x × (p ≡ o))
+unfolding ofOccurrence
+occurrence-iff o es i p x = (
+  λ m. let w = keep-there (λ (e : Entry). eqb (e .occurrence) o) es (entry i p x) m in (w .0, eqb-true p o (w .1)),
+  λ w. keep-back (λ (e : Entry). eqb (e .occurrence) o) es (entry i p x) (w .0) (eq-eqb p o (w .1)),
+)

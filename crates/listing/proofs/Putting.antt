@@ -18,7 +18,7 @@ use Rattle.listing.proofs.Decimal.{decimal-length}
 labelled-length : (word : List ℕ) (n : ℕ) → n < 2 ^ 64 → length (labelled word n) ≤ length word + 20
 labelled-length word n h = omega (arith, length-append word (decimal n), decimal-length n h)
 
-lines-length : (ns : List ℕ) → ((i : ℕ) → getD ns i 0 < 2 ^ 64) → length (lines ns) ≤ 21 * length ns
+pub lines-length : (ns : List ℕ) → ((i : ℕ) → getD ns i 0 < 2 ^ 64) → length (lines ns) ≤ 21 * length ns
 unfolding lines
 lines-length [] h = omega arith
 lines-length (n ∷ ns) h =

@@ -5,8 +5,6 @@ use mathlib.Core.Bool.{cond}
 use mathlib.Core.List.{List, [], _∷_, _++_}
 use lib.Dec.{ltb}
 use Rattle.base.specs.Ascii.{ascii}
-use Rattle.refusal.specs.Steps.{Step, found, stop}
-use Rattle.listing.specs.Places.{placeInFile}
 
 -- a digit in ASCII
 abbrev pub digit : ℕ → ℕ
@@ -47,8 +45,3 @@ countLine matches cards = decimal matches ++ (labelled (ascii " of ") cards ++ l
 -- `cards.bin cannot be read`
 abbrev pub failureLine : (file done : List ℕ) → List ℕ
 failureLine file done = (file ++ ascii " cannot be ") ++ (done ++ lineFeed)
-
--- what a selection says, behind runs of `before` cards: the numbers that it lists, or its refusal
-unfoldable pub selectionText : (before : ℕ) → Step (List ℕ) → List ℕ
-selectionText before (found ns) = lines ns
-selectionText before (stop number place) = refusalLine number (placeInFile number place before)

@@ -9,32 +9,35 @@ use lib.ListN.{length, take}
 use Rattle.base.specs.Parts.{part}
 use Rattle.base.proofs.All.{bytes-of}
 use Rattle.refusal.specs.Answers.{count, refused, numberOf, refusalAnswer}
+use Rattle.refusal.specs.declared.Reason.{Reason}
 use Rattle.refusal.specs.declared.Refusal.{Refusal}
 use Rattle.answer.specs.Answers.{matchedAnswer}
 use Rattle.answer.specs.Operations.{matchAnswer}
 use Rattle.answer.specs.Preparing.{prepareCells, judgeAnswer, preparedAnswer, Prepares}
 use Rattle.answer.specs.declared.Matched.{Matched}
 use Rattle.answer.specs.declared.Prepared.{Prepared}
+use Rattle.matching.specs.HandedBack.{handedBack}
 use Rattle.answer.proofs.Slices.{Sliced}
 use Rattle.answer.proofs.RowsAnswered.{match-is, prepare-within}
 
 -- ---- a refusal is handed back
 
-pub refusal-handed : (prepared : Prepared) (r : Refusal) → prepared ≡ Prepared.Refused r → (n p : ℕ) → preparedAnswer prepared ≡ refused n p → matchedAnswer (Matched.Refused r) ≡ refused n p
-unfolding preparedAnswer matchedAnswer
-refusal-handed prepared r h n p e = sym (ap preparedAnswer h) ∙ e
+pub refusal-handed : (prepared : Prepared) (r : Refusal) → prepared ≡ Prepared.Refused r → matchedAnswer (Matched.Refused r) ≡ handedBack prepared
+unfolding matchedAnswer handedBack
+refusal-handed prepared r h = sym (ap handedBack h)
 
-pub cells-handed : (prepared : Prepared) (k : ℕ) (m : Matched) → prepared ≡ Prepared.Cells k → (n p : ℕ) → preparedAnswer prepared ≡ refused n p → matchedAnswer m ≡ refused n p
-unfolding preparedAnswer
-cells-handed prepared k m h n p e = absurd (let z : _≡_ {A = ℕ} 0 1 = cc in omega arith)
+pub cells-handed : (prepared : Prepared) (k : ℕ) → prepared ≡ Prepared.Cells k → matchedAnswer (Matched.Refused (record { reason = Reason.BadRows; place = 0 })) ≡ handedBack prepared
+unfolding matchedAnswer handedBack refusalAnswer
+cells-handed prepared k h = sym (ap handedBack h)
 
 -- ---- prepare into 1,024 cells
 
 module _ (sheet text list exit : List ℕ) (r : Prepared) (e : Prepares sheet text list r exit) (size : length list ≡ 1024) (sliced : Sliced sheet) where
-  pub match-handed : (card : List ℕ) (f : Refusal) → r ≡ Prepared.Refused f → (m : Matched) → ((n p : ℕ) → preparedAnswer r ≡ refused n p → matchedAnswer m ≡ refused n p) → matchedAnswer m ≡ matchAnswer sheet text card
+  pub match-handed : (card : List ℕ) (f : Refusal) → r ≡ Prepared.Refused f → (m : Matched) → matchedAnswer m ≡ handedBack r → matchedAnswer m ≡ matchAnswer sheet text card
   match-handed card f h m back =
       let is : preparedAnswer r ≡ refused (numberOf (f .reason)) (f .place) = ap preparedAnswer h ∙ (unfold preparedAnswer refusalAnswer in refl) in
-      back (numberOf (f .reason)) (f .place) is ∙ sym (match-is sheet text card list (bytes-of sheet sliced) (omega (arith, size)) .refused-alike (numberOf (f .reason)) (f .place) (sym (e .answers) ∙ is))
+      let given : handedBack (Prepared.Refused f) ≡ refused (numberOf (f .reason)) (f .place) = unfold handedBack refusalAnswer in refl in
+      back ∙ ap handedBack h ∙ given ∙ sym (match-is sheet text card list (bytes-of sheet sliced) (omega (arith, size)) .refused-alike (numberOf (f .reason)) (f .place) (sym (e .answers) ∙ is))
 
   module _ (n : ℕ) (h : r ≡ Prepared.Cells n) where
     counted : preparedAnswer r ≡ count n

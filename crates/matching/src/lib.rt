@@ -9,20 +9,23 @@ pub use judging::judge;
 use one_card::answered;
 use one_card::judge_by_text;
 use preparing::prepare;
+use refusal::Reason;
+use refusal::Refusal;
 ghost use mathlib.Core.Path.{_≡_};
-ghost use Prim.Native.Nat.{ℕ};
-ghost use Rattle.refusal.specs.Answers.{refused};
 ghost use Rattle.answer.specs.Answers.{matchedAnswer};
 ghost use Rattle.answer.specs.Operations.{matchAnswer};
-ghost use Rattle.answer.specs.Preparing.{preparedAnswer};
+ghost use Rattle.matching.specs.HandedBack.{handedBack};
 
-// Prepare's refusal as match's answer. Cells are never handed back, and what they would give is left open.
+// Prepare's refusal as match's answer. Cells are not handed back: they would be refused as rows that are not good, never answered.
 fn hand_back(prepared: Prepared) -> Matched
-    ensures { λ r. ⌜ ((n p : ℕ) → preparedAnswer prepared ≡ refused n p → matchedAnswer r ≡ refused n p) ⌝ }
+    ensures { λ r. ⌜ matchedAnswer r ≡ handedBack prepared ⌝ }
 {
     match prepared {
         Prepared::Refused(refusal) => Matched::Refused(refusal),
-        Prepared::Cells(_) => Matched::No,
+        Prepared::Cells(_) => Matched::Refused(Refusal {
+            reason: Reason::BadRows,
+            place: 0,
+        }),
     }
 }
 

@@ -1,7 +1,6 @@
 // Lines of the output, written: each is put into a buffer, and a buffer is written in one piece.
 use libc::STDERR_FILENO;
 use libc::STDOUT_FILENO;
-use listing::put_count;
 use listing::put_failure;
 ghost use Prim.Native.Nat.{_+_, _≤_};
 ghost use lib.ListN.{length};
@@ -20,13 +19,6 @@ pub fn print_usage() {
     let usage =
         b"pick takes no arguments: it reads sheet.bin, filter.txt and cards.bin in the current folder\n";
     io::write_all(STDERR_FILENO, usage);
-}
-
-// Prints the last line.
-pub fn print_count(matches: u64, cards: u64) {
-    let mut buffer = [0u8; 64];
-    let size = put_count(matches, cards, &mut buffer);
-    print(&buffer[0..size]);
 }
 
 // Prints what cannot be done with a file. The words around the two texts take 12 bytes.

@@ -1,7 +1,7 @@
 -- Prepare, as the code comes to its answer and its cells.
 -- It is put together from the inside out, and no law takes an induction. `FillsText` says what the buffer has after the text, with a law for
 -- each way in which the code leaves it (size, no filter, bytes behind it, too many tests, a fault, done); `Fills` says it after sheet and
--- text, whatever the room of the list. Where the code refuses sheet or text, it hands on check's answer to the same bytes, and that is the
+-- text, whatever the room of the list. Where the code refuses sheet or text, that is the
 -- refusal (`text-refused`, `fill-sheet`). The room is tested last of all (`preparation-is`), which leaves the laws of the list: refused
 -- before, too short, or filled (`prepare-refused`, `prepare-short`, `prepare-done`).
 -- Assumes nothing.
@@ -47,13 +47,9 @@ use Rattle.answer.proofs.Inputs.{text-read}
 
 -- ---- refusals
 
-pub handed-tests : (c : Checked) (n : ℕ) → c ≡ Checked.Tests n → preparedAnswer (Prepared.Cells n) ≡ checkedAnswer c
-unfolding preparedAnswer checkedAnswer
-handed-tests c n e = sym (ap checkedAnswer e)
-
-pub handed-refusal : (c : Checked) (r : Refusal) → c ≡ Checked.Refused r → preparedAnswer (Prepared.Refused r) ≡ checkedAnswer c
-unfolding preparedAnswer checkedAnswer
-handed-refusal c r e = sym (ap checkedAnswer e)
+pub failure-prepared : (xs : List ℕ) (r : Refusal) → r ≡ failure deepest mostTests xs → preparedAnswer (Prepared.Refused r) ≡ refusalAnswer (failure deepest mostTests xs)
+unfolding preparedAnswer
+failure-prepared xs r e = ap refusalAnswer e
 
 refused-step : (r : Prepared) (buffer : List ℕ) (n p : ℕ) → preparedAnswer r ≡ refused n p → filledStep r buffer ≡ stop n p
 unfolding preparedAnswer refusalAnswer
@@ -69,15 +65,15 @@ refused-room r n p e k h =
     let c : count k ≡ refused n p = sym (ap preparedAnswer h) ∙ e in
     let z : _≡_ {A = ℕ} 0 1 = cc in omega arith
 
-module _ (ps : List Parameter) (xs : List ℕ) (c : Checked) (r : Prepared) (buffer : List ℕ) (h : preparedAnswer r ≡ checkedAnswer c) where
-  text-refused : (n p : ℕ) → checkedAnswer c ≡ refused n p → textRows ps xs ≡ stop n p → FillsText ps xs r buffer
-  text-refused n p e s = record { rows = refused-step r buffer n p (h ∙ e) ∙ sym s; room = λ k i. absurd (refused-room r n p (h ∙ e) k i) }
+module _ (ps : List Parameter) (xs : List ℕ) (r : Prepared) (buffer : List ℕ) where
+  text-refused : (n p : ℕ) → preparedAnswer r ≡ refused n p → textRows ps xs ≡ stop n p → FillsText ps xs r buffer
+  text-refused n p e s = record { rows = refused-step r buffer n p e ∙ sym s; room = λ k i. absurd (refused-room r n p e k i) }
 
-  pub fill-empty : length xs ≡ 0 → checkedAnswer c ≡ refused (numberOf Reason.FilterSize) 0 → FillsText ps xs r buffer
+  pub fill-empty : length xs ≡ 0 → preparedAnswer r ≡ refused (numberOf Reason.FilterSize) 0 → FillsText ps xs r buffer
   unfolding textRows acceptFilter
   fill-empty z e = text-refused 10 0 e (rw (eq-eqb (length xs) 0 z))
 
-  pub fill-long : 1024 < length xs → checkedAnswer c ≡ refused (numberOf Reason.FilterSize) 0 → FillsText ps xs r buffer
+  pub fill-long : 1024 < length xs → preparedAnswer r ≡ refused (numberOf Reason.FilterSize) 0 → FillsText ps xs r buffer
   unfolding textRows acceptFilter
   fill-long l e =
       let n : length xs ≡ 0 → ⊥ = λ z. omega arith in
@@ -108,17 +104,17 @@ one-refused s c r e i =
 -- ---- the text
 
 module _ (ps : List Parameter) (xs : List ℕ) (n : length xs ≡ 0 → ⊥) (l : length xs ≤ 1024) where
-  no-tree : (c : Checked) (r : Prepared) (buffer : List ℕ) → read xs ≡ none → checkedAnswer c ≡ refusalAnswer (failure deepest mostTests xs) → preparedAnswer r ≡ checkedAnswer c → FillsText ps xs r buffer
+  no-tree : (r : Prepared) (buffer : List ℕ) → read xs ≡ none → preparedAnswer r ≡ refusalAnswer (failure deepest mostTests xs) → FillsText ps xs r buffer
   unfolding textRows refusalAnswer
-  no-tree c r buffer e h g =
-      text-refused ps xs c r buffer g (numberOf (failure deepest mostTests xs .reason)) (failure deepest mostTests xs .place) h (rw (text-read xs n l none e))
+  no-tree r buffer e h =
+      text-refused ps xs r buffer (numberOf (failure deepest mostTests xs .reason)) (failure deepest mostTests xs .place) h (rw (text-read xs n l none e))
 
   module _ (spot : Spot) (s : spot ≡ topSpot xs) (v : Written) (before after : List ℕ) (w : Wrote ps (spot .bundle) xs 0 (filterAt (spot .levels) xs (spot .close) (spot .at)) v before after) where
     at-top : Wrote ps 0 xs 0 (filterAt (spot .levels) xs (spot .close) (spot .at)) v before after
     at-top = subst (λ (c : ℕ). Wrote ps c xs 0 (filterAt (spot .levels) xs (spot .close) (spot .at)) v before after) (top-bundle xs spot s) w
 
-    pub fill-nothing : (c : Checked) (r : Prepared) → v ≡ Written.Nothing → checkedAnswer c ≡ refusalAnswer (failure deepest mostTests xs) → preparedAnswer r ≡ checkedAnswer c → FillsText ps xs r after
-    fill-nothing c r h = no-tree c r after (top-read xs spot s ∙ ap (whole xs) (writing.was-none ps 0 xs 0 at-top h))
+    pub fill-nothing : (r : Prepared) → v ≡ Written.Nothing → preparedAnswer r ≡ refusalAnswer (failure deepest mostTests xs) → FillsText ps xs r after
+    fill-nothing r h = no-tree r after (top-read xs spot s ∙ ap (whole xs) (writing.was-none ps 0 xs 0 at-top h))
 
     module _ (end : ℕ) (a : Outcome) (h : v ≡ Written.Done end a) where
       takes : writing.Takes ps 0 xs 0 (spot .close) (spot .levels) (spot .at) v before after end a
@@ -134,14 +130,14 @@ module _ (ps : List Parameter) (xs : List ℕ) (n : length xs ≡ 0 → ⊥) (l 
         read-whole : read xs ≡ whole xs (parsed end (was .tree))
         read-whole = top-read xs spot s ∙ ap (whole xs) (was .read)
 
-        pub fill-trails : (c : Checked) (r : Prepared) → (behind ≡ length xs → ⊥) → checkedAnswer c ≡ refusalAnswer (failure deepest mostTests xs) → preparedAnswer r ≡ checkedAnswer c → FillsText ps xs r after
-        fill-trails c r k = no-tree c r after (read-whole ∙ whole-trails xs end behind t (was .tree) k)
+        pub fill-trails : (r : Prepared) → (behind ≡ length xs → ⊥) → preparedAnswer r ≡ refusalAnswer (failure deepest mostTests xs) → FillsText ps xs r after
+        fill-trails r k = no-tree r after (read-whole ∙ whole-trails xs end behind t (was .tree) k)
 
         tests-are : a .summary .tests ≡ length (testsOf (was .tree))
         tests-are = ap (λ (o : Outcome). o .summary .tests) (was .value)
 
-        pub fill-many : (c : Checked) (r : Prepared) → behind ≡ length xs → 32 < a .summary .tests → checkedAnswer c ≡ refusalAnswer (failure deepest mostTests xs) → preparedAnswer r ≡ checkedAnswer c → FillsText ps xs r after
-        fill-many c r k m = no-tree c r after (read-whole ∙ whole-many xs end behind t (was .tree) k (omega (arith, tests-are)))
+        pub fill-many : (r : Prepared) → behind ≡ length xs → 32 < a .summary .tests → preparedAnswer r ≡ refusalAnswer (failure deepest mostTests xs) → FillsText ps xs r after
+        fill-many r k m = no-tree r after (read-whole ∙ whole-many xs end behind t (was .tree) k (omega (arith, tests-are)))
 
         -- the text is a filter: its tests decide
         module _ (k : behind ≡ length xs) (m : a .summary .tests ≤ 32) where
@@ -184,23 +180,19 @@ rows-filter ps xs (found f) = rows-tests ps xs f (testsStep ps (testsOf f))
 rows-filter ps xs (stop n p) = refl
 
 module _ (b xs : List ℕ) (k : Validity) (e : k ≡ readSheet b) (r : Prepared) (buffer : List ℕ) where
-  fill-sheet : (c : Checked) (j : Validity) (n : ℕ) → ((ps : List Parameter) → sheetStep j ps ≡ stop n 0) → k ≡ j → checkedAnswer c ≡ refused n 0 → preparedAnswer r ≡ checkedAnswer c → Fills b xs r buffer
+  fill-sheet : (j : Validity) (n : ℕ) → ((ps : List Parameter) → sheetStep j ps ≡ stop n 0) → k ≡ j → preparedAnswer r ≡ refused n 0 → Fills b xs r buffer
   unfolding acceptInputs acceptSheet
-  fill-sheet c j n t i h g =
-      record {
-        rows = refused-step r buffer n 0 (g ∙ h) ∙ sym (rw (sym e ∙ i, t (parametersOf b)));
-        room = λ m q. absurd (refused-room r n 0 (g ∙ h) m q);
-      }
+  fill-sheet j n t i h =
+      record { rows = refused-step r buffer n 0 h ∙ sym (rw (sym e ∙ i, t (parametersOf b))); room = λ m q. absurd (refused-room r n 0 h m q) }
 
-  module _ (c : Checked) where
-    pub fill-size : k ≡ Validity.WrongSize → checkedAnswer c ≡ refused (numberOf Reason.SheetSize) 0 → preparedAnswer r ≡ checkedAnswer c → Fills b xs r buffer
-    fill-size = fill-sheet c Validity.WrongSize 1 (λ ps. refl)
+  pub fill-size : k ≡ Validity.WrongSize → preparedAnswer r ≡ refused (numberOf Reason.SheetSize) 0 → Fills b xs r buffer
+  fill-size = fill-sheet Validity.WrongSize 1 (λ ps. refl)
 
-    pub fill-sum : k ≡ Validity.WrongSum → checkedAnswer c ≡ refused (numberOf Reason.SheetSum) 0 → preparedAnswer r ≡ checkedAnswer c → Fills b xs r buffer
-    fill-sum = fill-sheet c Validity.WrongSum 2 (λ ps. refl)
+  pub fill-sum : k ≡ Validity.WrongSum → preparedAnswer r ≡ refused (numberOf Reason.SheetSum) 0 → Fills b xs r buffer
+  fill-sum = fill-sheet Validity.WrongSum 2 (λ ps. refl)
 
-    pub fill-layout : k ≡ Validity.WrongLayout → checkedAnswer c ≡ refused (numberOf Reason.SheetLayout) 0 → preparedAnswer r ≡ checkedAnswer c → Fills b xs r buffer
-    fill-layout = fill-sheet c Validity.WrongLayout 3 (λ ps. refl)
+  pub fill-layout : k ≡ Validity.WrongLayout → preparedAnswer r ≡ refused (numberOf Reason.SheetLayout) 0 → Fills b xs r buffer
+  fill-layout = fill-sheet Validity.WrongLayout 3 (λ ps. refl)
 
   pub fill-right : k ≡ Validity.WellFormed → FillsText (parametersOf b) xs r buffer → Fills b xs r buffer
   unfolding acceptInputs acceptSheet textRows

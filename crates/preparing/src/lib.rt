@@ -3,10 +3,9 @@ use answer::Checked;
 use answer::Prepared;
 use answer::write;
 use block::Validity;
-use checking::no_filter;
 use checking::outcome;
-use checking::refuse;
 use filter::top;
+use place::find_failure;
 use refusal::Reason;
 use refusal::Refusal;
 use row_writer::Outcome;
@@ -16,17 +15,23 @@ use syntax::scan::skip;
 ghost use mathlib.Core.Path.{_≡_};
 ghost use lib.ListN.{length};
 ghost use Rattle.sheet.specs.Sheet.{parametersOf, readSheet};
-ghost use Rattle.answer.specs.Answers.{checkedAnswer};
+ghost use Rattle.syntax.specs.Grammar.{deepest, mostTests};
+ghost use Rattle.place.specs.Machine.{failure};
+ghost use Rattle.refusal.specs.Answers.{refused, numberOf, refusalAnswer};
 ghost use Rattle.answer.specs.Preparing.{preparedAnswer, FillsText, Fills, Prepares};
 
-// Check's answer as prepare's.
-fn hand_back(checked: Checked) -> Prepared
-    ensures { λ r. ⌜ preparedAnswer r ≡ checkedAnswer checked ⌝ }
+// A refusal as prepare's answer.
+fn refuse(reason: Reason, place: usize) -> Prepared
+    ensures { λ r. ⌜ preparedAnswer r ≡ refused (numberOf reason) place ⌝ }
 {
-    match checked {
-        Checked::Tests(tests) => Prepared::Cells(tests),
-        Checked::Refused(refusal) => Prepared::Refused(refusal),
-    }
+    Prepared::Refused(Refusal { reason, place })
+}
+
+// The answer for a text that is no filter.
+fn no_filter(filter: &[u8]) -> Prepared
+    ensures { λ r. ⌜ preparedAnswer r ≡ refusalAnswer (failure deepest mostTests (now (filter .entry))) ⌝ }
+{
+    Prepared::Refused(find_failure(filter))
 }
 
 // Writes the rows of a filter on a well-formed sheet into a buffer, which has a cell for each byte of the longest filter.
@@ -36,10 +41,10 @@ fn fill_text(sheet: &[u8], filter: &[u8], buffer: &mut [u32]) -> Prepared
     ensures { λ r. ⌜ FillsText (parametersOf (now (sheet .entry))) (now (filter .entry)) r (now (buffer .exit)) ⌝ }
 {
     if filter.len() == 0 {
-        return hand_back(refuse(Reason::FilterSize, 0));
+        return refuse(Reason::FilterSize, 0);
     }
     if filter.len() > 1024 {
-        return hand_back(refuse(Reason::FilterSize, 0));
+        return refuse(Reason::FilterSize, 0);
     }
     let spot = top(filter);
     let written = write_filter(sheet, filter, spot, buffer, 0);
@@ -47,11 +52,11 @@ fn fill_text(sheet: &[u8], filter: &[u8], buffer: &mut [u32]) -> Prepared
         Written::Done(end, gathered) => {
             let after = skip(filter, end);
             if after != filter.len() {
-                return hand_back(no_filter(filter));
+                return no_filter(filter);
             }
             let summary = gathered.summary;
             if summary.tests > 32 {
-                return hand_back(no_filter(filter));
+                return no_filter(filter);
             }
             let checked = outcome(summary);
             match checked {
@@ -59,7 +64,7 @@ fn fill_text(sheet: &[u8], filter: &[u8], buffer: &mut [u32]) -> Prepared
                 Checked::Refused(refusal) => Prepared::Refused(refusal),
             }
         }
-        Written::Nothing => hand_back(no_filter(filter)),
+        Written::Nothing => no_filter(filter),
     }
 }
 
@@ -71,9 +76,9 @@ pub fn fill(sheet: &[u8], filter: &[u8], buffer: &mut [u32]) -> Prepared
     let reading = sheet::read_sheet(sheet);
     match reading {
         Validity::WellFormed => fill_text(sheet, filter, buffer),
-        Validity::WrongSize => hand_back(refuse(Reason::SheetSize, 0)),
-        Validity::WrongSum => hand_back(refuse(Reason::SheetSum, 0)),
-        Validity::WrongLayout => hand_back(refuse(Reason::SheetLayout, 0)),
+        Validity::WrongSize => refuse(Reason::SheetSize, 0),
+        Validity::WrongSum => refuse(Reason::SheetSum, 0),
+        Validity::WrongLayout => refuse(Reason::SheetLayout, 0),
     }
 }
 

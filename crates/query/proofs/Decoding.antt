@@ -18,7 +18,7 @@ use Rattle.query.specs.Reader.{hexValue, prepend, decoded}
 
 -- ---- hex digits
 
-digit-there : (b v : ℕ) → hexValue b ≡ v → v < 16 → HexDigit b v
+pub digit-there : (b v : ℕ) → hexValue b ≡ v → v < 16 → HexDigit b v
 unfolding hexValue isDigit between
 digit-there b v =
     cond-elim (λ (n : ℕ). n ≡ v → v < 16 → HexDigit b v) (leb 48 b && leb b 57)
@@ -32,7 +32,7 @@ digit-there b v =
     let z : code "a" + (b - 97) ≡ b = omega arith in let y : 10 + (b - 97) ≡ v = omega arith in subst₂ HexDigit z y (hex-small (omega arith)))
     (λ _ e h. absurd (omega arith))))
 
-digit-back : {b v : ℕ} → HexDigit b v → (hexValue b ≡ v) × (v < 16)
+pub digit-back : {b v : ℕ} → HexDigit b v → (hexValue b ≡ v) × (v < 16)
 unfolding hexValue isDigit between
 digit-back (hex-digit {n = n} h) = (rw (le-leb 48 (48 + n) (omega arith), le-leb (48 + n) 57 (omega arith)) (omega arith), omega arith)
 digit-back (hex-capital {n = n} h) =

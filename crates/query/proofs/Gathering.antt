@@ -20,8 +20,8 @@ use Rattle.base.proofs.Lists.{drop-next}
 use Rattle.base.proofs.Tests.{cond-elim}
 use Rattle.text.specs.Bar.{bar}
 use Rattle.syntax.specs.Strings.{backslash}
-use Rattle.query.specs.Spelling.{comma, Sign, byte, cut, split, isSpecial, beginsSpecial, cutSigns, textOf, splitOf}
-use Rattle.query.specs.Reader.{signsOf}
+use Rattle.query.specs.Spelling.{comma, Sign, byte, cut, split}
+use Rattle.query.specs.Reader.{signsOf, isSpecial, beginsSpecial, cutSigns, textOf, splitOf}
 use Rattle.query.specs.Scan.{markAt, firstOf, restOf, signsFrom, PieceOf}
 use Rattle.query.specs.declared.Mark.{Mark}
 use Rattle.query.proofs.Signs.{signs-of-byte, signs-kept}

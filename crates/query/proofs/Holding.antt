@@ -18,8 +18,8 @@ use borrow.Author.Tests.{leb-true, leb-false}
 use Rattle.base.proofs.Tests.{decided}
 use Rattle.base.specs.Lists.{All, all-empty, all-cons}
 use Rattle.base.specs.Parts.{part}
-use Rattle.query.specs.Spelling.{Alternative, Sign, cutSigns, textOf, splitOf, alternative}
-use Rattle.query.specs.Reader.{signsOf}
+use Rattle.query.specs.Spelling.{Alternative, Sign}
+use Rattle.query.specs.Reader.{signsOf, cutSigns, textOf, splitOf, alternative}
 use Rattle.query.specs.Scan.{firstOf, signsFrom, PieceOf}
 use Rattle.query.specs.Rows.{pushed, Kept, keepPair, keptIn, RowWithin, Keeps, PairHeld}
 use Rattle.query.specs.declared.Piece.{Piece}

@@ -12,7 +12,7 @@ use lib.Seq.{take-suc-set}
 use borrow.Author.Tests.{lt-ltb, le-ltb}
 use Rattle.base.specs.Lists.{All, all-empty, all-cons}
 use Rattle.base.proofs.All.{all-append}
-use Rattle.query.specs.Spelling.{Alternative, Query, Sign, byte, cut, split, onFirst, cutSigns, alternative, PairAt, a-pair, PairsAt, last-pair, next-pair}
+use Rattle.query.specs.Spelling.{Alternative, Query, Sign, Pieces, last-piece, next-piece, AlternativesAre, alternatives-next, PairAt, a-pair, PairsAt, last-pair, next-pair}
 use Rattle.query.specs.Met.{pairMet, queryMet}
 use Rattle.query.specs.Rows.{pushed, Kept, keepPair, keepAll, keptIn, RowWithin, Keeps, keptSays}
 use Rattle.query.specs.declared.Row.{Row}
@@ -54,19 +54,12 @@ module _ (says : Alternative → Bool) where
   query-kept ((a ∷ rest) ∷ q) (all-cons n h) = pair-kept a rest false (keepAll q) ∙ ap (λ (x : Bool). pairMet says (a ∷ rest) && x) (query-kept q h)
 
 -- no pair is empty
-on-first : (f : List Sign → Alternative) (x : Sign) (ws : List (List Sign)) → map f (onFirst x ws) ≡ [] → ⊥
-on-first f x [] e = let z = ap length e in omega arith
-on-first f x (w ∷ ws) e = let z = ap length e in omega arith
-
-cut-some : (f : List Sign → Alternative) (v : List Sign) → map f (cutSigns v) ≡ [] → ⊥
-unfolding cutSigns
-cut-some f [] e = let z : _≡_ {A = ℕ} 0 1 = ap length (sym e) in omega arith
-cut-some f (cut ∷ v) e = let z = ap length e in omega arith
-cut-some f (byte b ∷ v) e = on-first f (byte b) (cutSigns v) e
-cut-some f (split ∷ v) e = on-first f split (cutSigns v) e
+alternatives-some : {p : ℕ} {n : List ℕ} {v : List Sign} {ws : List (List Sign)} {a : List Alternative} → Pieces v ws → AlternativesAre p n ws a → a ≡ [] → ⊥
+alternatives-some (last-piece h) (alternatives-next x y r) e = let z = ap length e in omega arith
+alternatives-some (next-piece h k) (alternatives-next x y r) e = let z = ap length e in omega arith
 
 pair-some : {p : ℕ} {s : List ℕ} {a : List Alternative} → PairAt p s a → a ≡ [] → ⊥
-pair-some (a-pair {p = p} {n = n} {v = v} x y z d e g) = cut-some (alternative p n) v
+pair-some (a-pair x y z d e g c l) = alternatives-some c l
 
 pairs-some : {p : ℕ} {xs : List ℕ} {q : Query} → PairsAt p xs q → All (λ (a : List Alternative). a ≡ [] → ⊥) q
 pairs-some (last-pair h) = all-cons (pair-some h) all-empty

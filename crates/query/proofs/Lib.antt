@@ -2,7 +2,9 @@
 pub mod Cuts
 pub mod Decoding
 pub mod Signs
+pub mod Alternatives
 pub mod Reading
+pub mod Parts
 pub mod Lines
 mod Units
 mod Gathering

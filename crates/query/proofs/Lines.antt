@@ -26,8 +26,9 @@ use Rattle.refusal.proofs.Order.{later-group, no-lower-rank}
 use Rattle.base.specs.Split.{Without}
 use Rattle.query.specs.Spelling.{ampersand, equals, Alternative, Query, alternativesOf, PairAt, PairsAt, last-pair, next-pair, SpellsQuery}
 use Rattle.query.specs.Reader.{decoded, pairOf, readPair, readPairs, acceptQuery}
-use Rattle.query.specs.Lines.{PartAt, part-last, part-first, part-later, QueryLine, line-10, line-50, line-51}
+use Rattle.query.specs.Lines.{PartAt, part-last, part-first, part-later, BadPart, QueryLine, line-10, line-50, line-51}
 use Rattle.query.proofs.Cuts.{cut-shorter, Cut, cut-at, no-cut, cut-of, cut-unique, not-both}
+use Rattle.query.proofs.Parts.{part-iff, pair-not-bad}
 use Rattle.query.proofs.Reading.{pair-cut, pair-whole, pair-there, pair-back, pair-without, pairs-cut, pairs-last, pairs-back}
 
 -- ---- parts
@@ -72,10 +73,10 @@ parts-are-pairs (next-pair {p = p} {s = t} {xs = xs} {a = a} h rest) {at} {s} r 
 
 data PairOutcome (p : ℕ) (s : List ℕ) : Step (List Alternative) → Type 0 where
   pair-is : {a : List Alternative} → PairAt p s a → PairOutcome p s (found a)
-  pair-is-none : ((a : List Alternative) → PairAt p s a → ⊥) → PairOutcome p s (stop 50 p)
+  pair-is-none : BadPart s → PairOutcome p s (stop 50 p)
 
 pair-step : (p : ℕ) (s : List ℕ) → Without ampersand s → (r : Step (List Alternative)) → readPair p s ≡ r → (r ≡ stop 50 p) ⊎ ((a : List Alternative) × (r ≡ found a)) → PairOutcome p s r
-pair-step p s o r e (inl z) = subst (PairOutcome p s) (sym z) (pair-is-none (λ a h. stop-not-found (sym z ∙ sym e ∙ pair-back h)))
+pair-step p s o r e (inl z) = subst (PairOutcome p s) (sym z) (pair-is-none (part-iff p s o .0 (λ a h. stop-not-found (sym z ∙ sym e ∙ pair-back h))))
 pair-step p s o r e (inr (a, z)) = subst (PairOutcome p s) (sym z) (pair-is (pair-there p s a o (e ∙ z)))
 
 pair-either : (p : ℕ) (s : List ℕ) → (readPair p s ≡ stop 50 p) ⊎ ((a : List Alternative) × (readPair p s ≡ found a))
@@ -97,7 +98,7 @@ pair-outcome p s o = pair-step p s o (readPair p s) refl (pair-either p s)
 
 data PairsOutcome (p : ℕ) (xs : List ℕ) : Step Query → Type 0 where
   pairs-are : {q : Query} → PairsAt p xs q → PairsOutcome p xs (found q)
-  first-is-none : {at : ℕ} {s : List ℕ} → PartAt p xs at s → ((a : List Alternative) → PairAt at s a → ⊥)
+  first-is-none : {at : ℕ} {s : List ℕ} → PartAt p xs at s → BadPart s
       → ((k : ℕ) (t : List ℕ) → PartAt p xs k t → k < at → IsPair k t) → PairsOutcome p xs (stop 50 at)
 
 module _ (p : ℕ) (s : List ℕ) (o : Without ampersand s) where
@@ -157,7 +158,7 @@ module _ (text : List ℕ) where
     module _ (q : Query) (pairs : PairsAt 0 text q) where
       pairs-line : {m p : ℕ} → QueryLine text m p → (m ≡ 51) × (p ≡ 0) × (32 < length (alternativesOf q))
       pairs-line (line-10 u) = absurd (size u)
-      pairs-line (line-50 r n) = absurd (let w = parts-are-pairs pairs r in n (w .0) (w .1))
+      pairs-line (line-50 r n) = absurd (let w = parts-are-pairs pairs r in pair-not-bad (w .1) n)
       pairs-line (line-51 {q = r} other l) =
           let e : found q ≡ found r = sym (pairs-back pairs (suc (length text)) (omega arith)) ∙ pairs-back other (suc (length text)) (omega arith) in
           let z : q ≡ r = cc in
@@ -179,9 +180,9 @@ module _ (text : List ℕ) where
         first : (m p : ℕ) → QueryLine text m p → Before m p 50 at → ⊥
         first m p (line-10 u) k = size u
         first m p (line-50 {at = q} {s = s} r n) k =
-            ⊎-elim (λ t. let w = earlier q s r (ltb-true q at t) in n (w .0) (w .1))
+            ⊎-elim (λ t. let w = earlier q s r (ltb-true q at t) in pair-not-bad (w .1) n)
             (λ t. no-lower-rank {m = 50} {q = q} {n = 50} {p = at} refl (ltb-false q at t) (omega arith) k) (decided (ltb q at))
-        first m p (line-51 pairs l) k = let w = parts-are-pairs pairs part in lacks (w .0) (w .1)
+        first m p (line-51 pairs l) k = let w = parts-are-pairs pairs part in pair-not-bad (w .1) lacks
 
   pub query-decided : Decided (SpellsQuery text) (QueryLine text) (acceptQuery text)
   unfolding acceptQuery
@@ -189,3 +190,11 @@ module _ (text : List ℕ) where
       cond-elim (Decided (SpellsQuery text) (QueryLine text)) (eqb (length text) 0 || ltb 1024 (length text))
       (λ h. one-decides (record { holds = line-10 (size-there h); first = first-10 }))
       (λ h. pairs-decided (λ w. both-ways (size-back w) h) (pairs-outcome (suc (length text)) 0 text (omega arith)))
+
+-- a string that no line refuses spells a query
+pub unrefused-spells : (text : List ℕ) → ((n p : ℕ) → QueryLine text n p → ⊥) → (q : Query) × SpellsQuery text q
+unrefused-spells text n = by-case (query-decided text)
+  where
+    by-case : {s : Step Query} → Decided (SpellsQuery text) (QueryLine text) s → (q : Query) × SpellsQuery text q
+    by-case (none-holds h k) = (_, h)
+    by-case (one-decides {n = m} {p = p} d) = absurd (n m p (d .holds))

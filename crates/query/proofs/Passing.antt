@@ -22,8 +22,8 @@ use Rattle.refusal.specs.declared.Decision.{Decision}
 use Rattle.refusal.specs.declared.Reason.{Reason}
 use Rattle.refusal.specs.Decisions.{refuse}
 use Rattle.refusal.specs.Steps.{Step, found, stop, _>>=_}
-use Rattle.query.specs.Spelling.{Alternative, Query, cutSigns, alternative}
-use Rattle.query.specs.Reader.{signsOf, readPair, readPairs}
+use Rattle.query.specs.Spelling.{Alternative, Query}
+use Rattle.query.specs.Reader.{signsOf, readPair, readPairs, cutSigns, alternative}
 use Rattle.query.specs.Scan.{PairOf, pair-of, pair-of-none}
 use Rattle.query.specs.Rows.{Kept, keepPair, keepAll, Keeps, PairHeld, QueryOf, query-of, query-of-none}
 use Rattle.query.specs.declared.PairRead.{PairRead}

@@ -18,11 +18,12 @@ use Rattle.base.proofs.Tests.{cond-first}
 use Rattle.refusal.specs.Steps.{Step, found, stop, _>>=_}
 use Rattle.refusal.proofs.Steps.{stop-not-found, bind-found}
 use Rattle.base.specs.Split.{Without}
-use Rattle.query.specs.Spelling.{ampersand, equals, cutSigns, Alternative, alternative, Query, alternativesOf, PairAt, a-pair, PairsAt, last-pair, next-pair, SpellsQuery}
-use Rattle.query.specs.Reader.{decoded, signsOf, pairOf, readPair, readPairs, acceptQuery}
+use Rattle.query.specs.Spelling.{ampersand, equals, Alternative, Query, alternativesOf, PairAt, a-pair, PairsAt, last-pair, next-pair, SpellsQuery}
+use Rattle.query.specs.Reader.{decoded, signsOf, pairOf, readPair, readPairs, acceptQuery, cutSigns, alternative}
 use Rattle.query.proofs.Cuts.{drop-right, cut-shorter, cut-end, whole-end, Cut, cut-at, no-cut, cut-of}
 use Rattle.query.proofs.Decoding.{decoded-there, decoded-back}
 use Rattle.query.proofs.Signs.{signs-iff}
+use Rattle.query.proofs.Alternatives.{pieces-back, alternatives-back, alternatives-cut}
 
 -- ---- a pair
 
@@ -42,30 +43,31 @@ pairs-of p (some m) (some v) a e = (m, v, refl, refl, cc)
 pairs-of p (some m) none a e = absurd (let z : _≡_ {A = ℕ} 0 1 = cc in omega arith)
 pairs-of p none u a e = absurd (let z : _≡_ {A = ℕ} 0 1 = cc in omega arith)
 
-without-left : (b : ℕ) (m w : List ℕ) → Without b (m ++ w) → Without b m
+pub without-left : (b : ℕ) (m w : List ℕ) → Without b (m ++ w) → Without b m
 without-left b [] w h = all-empty
 without-left b (x ∷ m) w (all-cons n h) = all-cons n (without-left b m w h)
 
-without-right : (b : ℕ) (m : List ℕ) (x : ℕ) (w : List ℕ) → Without b (m ++ (x ∷ w)) → Without b w
+pub without-right : (b : ℕ) (m : List ℕ) (x : ℕ) (w : List ℕ) → Without b (m ++ (x ∷ w)) → Without b w
 without-right b [] x w (all-cons n h) = h
 without-right b (y ∷ m) x w (all-cons n h) = without-right b m x w h
 
 pair-of-cut : (p : ℕ) {s : List ℕ} (a : List Alternative) → Without ampersand s → Cut equals s → readPair p s ≡ found a → PairAt p s a
 pair-of-cut p a o (cut-at m w h) e =
     let (n, u, d, f, i) = pairs-of p (decoded m) (decoded w) a (sym (pair-cut p m w h) ∙ e) in
+    let rest = alternatives-cut p n (signsOf false u) in
     subst (PairAt p (m ++ (equals ∷ w))) (sym i)
-    (a-pair (without-left ampersand m (equals ∷ w) o) h (without-right ampersand m equals w o) (decoded-there m n d) (decoded-there w u f) (signs-iff u (signsOf false u) .0 refl))
+    (a-pair (without-left ampersand m (equals ∷ w) o) h (without-right ampersand m equals w o) (decoded-there m n d) (decoded-there w u f) (signs-iff u (signsOf false u) .0 refl) (rest .0) (rest .1))
 pair-of-cut p {s} a o (no-cut h) e = absurd (let k : readPair p s ≡ stop 50 p = pair-whole p s h in let z : _≡_ {A = ℕ} 0 1 = cc in omega arith)
 
 pub pair-there : (p : ℕ) (s : List ℕ) (a : List Alternative) → Without ampersand s → readPair p s ≡ found a → PairAt p s a
 pair-there p s a o e = pair-of-cut p a o (cut-of equals s) e
 
 pub pair-back : {p : ℕ} {s : List ℕ} {a : List Alternative} → PairAt p s a → readPair p s ≡ found a
-pair-back (a-pair {p = p} {m = m} {n = n} {w = w} {u = u} {v = v} x h y d f g) =
-    pair-cut p m w h ∙ rw (decoded-back d, decoded-back f, signs-iff u v .1 g)
+pair-back (a-pair {p = p} {m = m} {n = n} {w = w} {u = u} {v = v} {ws = ws} {a = a} x h y d f g c l) =
+    pair-cut p m w h ∙ rw (decoded-back d, decoded-back f, signs-iff u v .1 g, pieces-back c) (ap found (alternatives-back p n l))
 
 pub pair-without : {p : ℕ} {s : List ℕ} {a : List Alternative} → PairAt p s a → Without ampersand s
-pair-without (a-pair x h y d f g) = all-append (λ (z : ℕ). z ≡ ampersand → ⊥) x (all-cons (λ e. omega arith) y)
+pair-without (a-pair x h y d f g c l) = all-append (λ (z : ℕ). z ≡ ampersand → ⊥) x (all-cons (λ e. omega arith) y)
 
 -- ---- pairs
 

@@ -7,13 +7,14 @@ use mathlib.Core.Option.{Option, none, some}
 use mathlib.Core.List.{List, [], _∷_, map}
 use lib.Dec.{eqb, leb, ltb}
 use lib.ListN.{length, drop, take}
+use Rattle.base.specs.Lists.{member}
 use Rattle.base.specs.Digits.{isDigit}
 use Rattle.base.specs.Between.{between}
 use Rattle.base.specs.Runs.{runEnd, differs}
 use Rattle.syntax.specs.Strings.{backslash}
 use Rattle.text.specs.Bar.{bar}
 use Rattle.refusal.specs.Steps.{Step, found, stop, _>>=_}
-use Rattle.query.specs.Spelling.{ampersand, equals, percent, plus, comma, Sign, byte, cut, split, isSpecial, cutSigns, Alternative, alternative, Query, alternativesOf}
+use Rattle.query.specs.Spelling.{ampersand, equals, percent, plus, comma, Sign, byte, cut, split, Alternative, Query, alternativesOf}
 
 -- the value of a hex digit, or 16 where the byte is none
 unfoldable pub hexValue : ℕ → ℕ
@@ -33,6 +34,15 @@ decoded (b ∷ h ∷ l ∷ s) =
     cond (eqb b percent) (cond (ltb (hexValue h) 16 && ltb (hexValue l) 16) (prepend (hexValue h * 16 + hexValue l) (decoded s)) none)
     (prepend (cond (eqb b plus) 0x20 b) (decoded (h ∷ l ∷ s)))
 
+-- whether a backslash makes the byte plain
+unfoldable pub isSpecial : ℕ → Bool
+isSpecial b = member b (code "$" ∷ comma ∷ backslash ∷ bar ∷ [])
+
+-- whether the next byte is one
+abbrev pub beginsSpecial : List ℕ → Bool
+beginsSpecial [] = false
+beginsSpecial (b ∷ s) = isSpecial b
+
 -- pending says that a backslash stands before
 unfoldable pub signsOf : (pending : Bool) → List ℕ → List Sign
 signsOf false [] = []
@@ -40,6 +50,36 @@ signsOf true [] = byte backslash ∷ []
 signsOf true (b ∷ s) = cond (isSpecial b) (byte b ∷ signsOf false s) (byte backslash ∷ byte b ∷ signsOf false s)
 signsOf false (b ∷ s) =
     cond (eqb b backslash) (signsOf true s) (cond (eqb b comma) (cut ∷ signsOf false s) (cond (eqb b bar) (split ∷ signsOf false s) (byte b ∷ signsOf false s)))
+
+-- a sign before the first of the alternatives
+abbrev pub onFirst : Sign → List (List Sign) → List (List Sign)
+onFirst x [] = (x ∷ []) ∷ []
+onFirst x (w ∷ ws) = (x ∷ w) ∷ ws
+
+-- the alternatives of a value, as signs: one more than it has cuts
+unfoldable pub cutSigns : List Sign → List (List Sign)
+cutSigns [] = [] ∷ []
+cutSigns (cut ∷ v) = [] ∷ cutSigns v
+cutSigns (byte b ∷ v) = onFirst (byte b) (cutSigns v)
+cutSigns (split ∷ v) = onFirst split (cutSigns v)
+
+-- the bytes of an alternative
+unfoldable pub textOf : List Sign → List ℕ
+textOf [] = []
+textOf (byte b ∷ v) = b ∷ textOf v
+textOf (cut ∷ v) = comma ∷ textOf v
+textOf (split ∷ v) = bar ∷ textOf v
+
+-- where a token is split: the first bar that is not plain, or the end
+unfoldable pub splitOf : List Sign → ℕ
+splitOf [] = 0
+splitOf (split ∷ v) = 0
+splitOf (byte b ∷ v) = suc (splitOf v)
+splitOf (cut ∷ v) = suc (splitOf v)
+
+-- an alternative of the pair at p, by its parameter's name and its signs
+abbrev pub alternative : ℕ → List ℕ → List Sign → Alternative
+alternative p n w = record { at = p; name = n; text = textOf w; split = splitOf w }
 
 abbrev pub pairOf : ℕ → Option (List ℕ) → Option (List ℕ) → Step (List Alternative)
 pairOf p (some n) (some u) = found (map (alternative p n) (cutSigns (signsOf false u)))

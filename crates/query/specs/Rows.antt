@@ -8,14 +8,14 @@ use lib.Dec.{ltb}
 use lib.ListN.{length, take, set}
 use Rattle.base.specs.Lists.{All}
 use Rattle.base.specs.Parts.{part}
-use Rattle.query.specs.Spelling.{Alternative, alternative, Query, alternativesOf, cutSigns}
+use Rattle.query.specs.Spelling.{Alternative, Query, alternativesOf}
 use Rattle.refusal.specs.declared.Decision.{Decision}
 use Rattle.refusal.specs.declared.Reason.{Reason}
 use Rattle.refusal.specs.declared.Refusal.{Refusal}
 use Rattle.refusal.specs.Decisions.{refuse}
 use Rattle.refusal.specs.Steps.{found, stop, refusalStep}
 use Rattle.query.specs.Met.{queryMet}
-use Rattle.query.specs.Reader.{signsOf, readPairs, acceptQuery}
+use Rattle.query.specs.Reader.{signsOf, readPairs, acceptQuery, alternative, cutSigns}
 use Rattle.query.specs.declared.QueryRead.{QueryRead}
 use Rattle.query.specs.declared.Held.{Held}
 use Rattle.query.specs.declared.Row.{Row}

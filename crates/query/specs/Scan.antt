@@ -9,9 +9,9 @@ use lib.Dec.{eqb, ltb}
 use lib.ListN.{length, getD, take, drop}
 use Rattle.text.specs.Bar.{bar}
 use Rattle.syntax.specs.Strings.{backslash}
-use Rattle.query.specs.Spelling.{percent, plus, comma, isSpecial, Sign, byte, cut, split, cutSigns, textOf, splitOf, alternative}
+use Rattle.query.specs.Spelling.{percent, plus, comma, Sign, byte, cut, split}
 use Rattle.refusal.specs.Steps.{found, stop}
-use Rattle.query.specs.Reader.{hexValue, decoded, signsOf, readPair}
+use Rattle.query.specs.Reader.{hexValue, decoded, signsOf, readPair, isSpecial, cutSigns, textOf, splitOf, alternative}
 use Rattle.query.specs.declared.Read.{Read}
 use Rattle.query.specs.declared.Decoded.{Decoded}
 use Rattle.query.specs.declared.Mark.{Mark}

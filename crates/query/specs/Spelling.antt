@@ -1,12 +1,11 @@
 -- Search strings: how they are spelled, in the words of 02's request for them.
 -- Assumes nothing.
-use Prim.Native.Nat.{ℕ, suc, _+_, _*_, _≤_, _<_}
+use Prim.Native.Nat.{ℕ, _+_, _*_, _≤_, _<_}
 use Prim.Native.Char.{code}
 use mathlib.Core.Path.{_≡_}
-use mathlib.Core.Bool.{Bool, true, false}
-use mathlib.Core.List.{List, [], _∷_, _++_, map, flatten}
+use mathlib.Core.List.{List, [], _∷_, _++_, flatten}
 use lib.ListN.{length}
-use Rattle.base.specs.Lists.{member}
+use Rattle.base.specs.Lists.{All}
 use Rattle.base.specs.Split.{Without}
 use Rattle.text.specs.Bar.{bar}
 use Rattle.syntax.specs.Strings.{backslash}
@@ -47,50 +46,54 @@ pub data Sign : Type 0 where
   split : Sign
 
 -- "a comma, "|", "$" or backslash"
-unfoldable pub isSpecial : ℕ → Bool
-isSpecial b = member b (code "$" ∷ comma ∷ backslash ∷ bar ∷ [])
+pub data Special : ℕ → Type 0 where
+  special-comma : Special (code ",")
+  special-bar : Special (code "|")
+  special-dollar : Special (code "$")
+  special-backslash : Special (code "\\")
 
--- whether the next byte is one that a backslash makes plain
-abbrev pub beginsSpecial : List ℕ → Bool
-beginsSpecial [] = false
-beginsSpecial (b ∷ s) = isSpecial b
+-- the bytes begin with one of them
+pub data BeginsSpecial : List ℕ → Type 0 where
+  begins-special : {b : ℕ} (s : List ℕ) → Special b → BeginsSpecial (b ∷ s)
 
 -- a decoded value as signs
 pub data Signs : List ℕ → List Sign → Type 0 where
   signs-end : Signs [] []
   -- "a comma, "|", "$" or backslash after a backslash is plain"
-  signs-plain : {b : ℕ} {s : List ℕ} {v : List Sign} → isSpecial b ≡ true → Signs s v → Signs (backslash ∷ b ∷ s) (byte b ∷ v)
+  signs-plain : {b : ℕ} {s : List ℕ} {v : List Sign} → Special b → Signs s v → Signs (backslash ∷ b ∷ s) (byte b ∷ v)
   -- "any other backslash is itself"
-  signs-backslash : {s : List ℕ} {v : List Sign} → beginsSpecial s ≡ false → Signs s v → Signs (backslash ∷ s) (byte backslash ∷ v)
+  signs-backslash : {s : List ℕ} {v : List Sign} → (BeginsSpecial s → ⊥) → Signs s v → Signs (backslash ∷ s) (byte backslash ∷ v)
   signs-cut : {s : List ℕ} {v : List Sign} → Signs s v → Signs (comma ∷ s) (cut ∷ v)
   signs-split : {s : List ℕ} {v : List Sign} → Signs s v → Signs (bar ∷ s) (split ∷ v)
   signs-byte : {b : ℕ} {s : List ℕ} {v : List Sign} → (b ≡ backslash → ⊥) → (b ≡ comma → ⊥) → (b ≡ bar → ⊥) → Signs s v → Signs (b ∷ s) (byte b ∷ v)
 
--- "commas in the value give alternatives": one more than there are commas
-abbrev pub onFirst : Sign → List (List Sign) → List (List Sign)
-onFirst x [] = (x ∷ []) ∷ []
-onFirst x (w ∷ ws) = (x ∷ w) ∷ ws
+-- no comma cuts the signs
+abbrev pub Uncut : List Sign → Type 0
+Uncut w = All (λ (x : Sign). x ≡ cut → ⊥) w
 
--- the alternatives of a value, as signs: one more than it has cuts
-unfoldable pub cutSigns : List Sign → List (List Sign)
-cutSigns [] = [] ∷ []
-cutSigns (cut ∷ v) = [] ∷ cutSigns v
-cutSigns (byte b ∷ v) = onFirst (byte b) (cutSigns v)
-cutSigns (split ∷ v) = onFirst split (cutSigns v)
+-- "commas in the value give alternatives": what joins back to the signs, none with a cut in it
+pub data Pieces : List Sign → List (List Sign) → Type 0 where
+  last-piece : {w : List Sign} → Uncut w → Pieces w (w ∷ [])
+  next-piece : {w v : List Sign} {ws : List (List Sign)} → Uncut w → Pieces v ws → Pieces (w ++ (cut ∷ v)) (w ∷ ws)
 
--- the bytes of an alternative
-unfoldable pub textOf : List Sign → List ℕ
-textOf [] = []
-textOf (byte b ∷ v) = b ∷ textOf v
-textOf (cut ∷ v) = comma ∷ textOf v
-textOf (split ∷ v) = bar ∷ textOf v
+-- the bytes of an alternative: each sign's own, and a bar for one that splits
+pub data TextIs : List Sign → List ℕ → Type 0 where
+  text-end : TextIs [] []
+  text-byte : {b : ℕ} {w : List Sign} {t : List ℕ} → TextIs w t → TextIs (byte b ∷ w) (b ∷ t)
+  text-bar : {w : List Sign} {t : List ℕ} → TextIs w t → TextIs (split ∷ w) (bar ∷ t)
 
--- where a token is split: the first bar that is not plain, or the end
-unfoldable pub splitOf : List Sign → ℕ
-splitOf [] = 0
-splitOf (split ∷ v) = 0
-splitOf (byte b ∷ v) = suc (splitOf v)
-splitOf (cut ∷ v) = suc (splitOf v)
+-- no bar splits the signs
+abbrev pub Unsplit : List Sign → Type 0
+Unsplit w = All (λ (x : Sign). x ≡ split → ⊥) w
+
+-- where a token is split: at the first bar that is not plain, so that what is before it has none; or at the end
+pub data SplitAt : List Sign → ℕ → Type 0 where
+  split-none : {w : List Sign} → Unsplit w → SplitAt w (length w)
+  split-first : {w : List Sign} (rest : List Sign) → Unsplit w → SplitAt (w ++ (split ∷ rest)) (length w)
+
+-- no bar of the signs is made plain by a backslash
+abbrev pub NoPlainBar : List Sign → Type 0
+NoPlainBar w = All (λ (x : Sign). x ≡ byte bar → ⊥) w
 
 -- an alternative: the first byte of its pair, the pair's name, its text, and where a token is split
 pub record Alternative : Type 0 where
@@ -99,9 +102,11 @@ pub record Alternative : Type 0 where
   pub text : List ℕ
   pub split : ℕ
 
--- an alternative of the pair at p, by its parameter's name and its signs
-abbrev pub alternative : ℕ → List ℕ → List Sign → Alternative
-alternative p n w = record { at = p; name = n; text = textOf w; split = splitOf w }
+-- the alternatives of the pair at p, by their parameter's name and their signs
+pub data AlternativesAre (p : ℕ) (n : List ℕ) : List (List Sign) → List Alternative → Type 0 where
+  alternatives-end : AlternativesAre p n [] []
+  alternatives-next : {w : List Sign} {ws : List (List Sign)} {t : List ℕ} {i : ℕ} {rest : List Alternative} → TextIs w t → SplitAt w i → AlternativesAre p n ws rest
+      → AlternativesAre p n (w ∷ ws) (record { at = p; name = n; text = t; split = i } ∷ rest)
 
 -- a pair is the list of its alternatives, which is not empty
 abbrev pub Query : Type 0
@@ -113,8 +118,8 @@ alternativesOf = flatten
 
 -- "each cut at its first "=""; "decoded after those cuts and before the one at commas"
 pub data PairAt : ℕ → List ℕ → List Alternative → Type 0 where
-  a-pair : {p : ℕ} {m n w u : List ℕ} {v : List Sign} → Without ampersand m → Without equals m → Without ampersand w → Encodes m n → Encodes w u → Signs u v
-      → PairAt p (m ++ (equals ∷ w)) (map (alternative p n) (cutSigns v))
+  a-pair : {p : ℕ} {m n w u : List ℕ} {v : List Sign} {ws : List (List Sign)} {a : List Alternative} → Without ampersand m → Without equals m → Without ampersand w
+      → Encodes m n → Encodes w u → Signs u v → Pieces v ws → AlternativesAre p n ws a → PairAt p (m ++ (equals ∷ w)) a
 
 -- "pairs joined by "&""
 pub data PairsAt : ℕ → List ℕ → Query → Type 0 where

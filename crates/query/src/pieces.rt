@@ -5,7 +5,7 @@ ghost use mathlib.Core.Bool.{cond};
 ghost use mathlib.Core.Path.{_≡_};
 ghost use Prim.Native.Nat.{_≤_, _<_, _-_};
 ghost use lib.ListN.{length};
-ghost use Rattle.query.specs.Spelling.{isSpecial};
+ghost use Rattle.query.specs.Reader.{isSpecial};
 ghost use Rattle.query.specs.Scan.{markAt, PieceOf};
 
 // Whether a backslash makes the byte plain.

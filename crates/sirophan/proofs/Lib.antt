@@ -11,4 +11,6 @@ pub mod SpellTable
 pub mod Spells
 pub mod Operators
 pub mod Trial
+pub mod Searches
+pub mod Seconds
 pub mod Promises

@@ -1,16 +1,50 @@
 -- The promises, grouped by the letter's demands; each is proved where its one line says. The contracts of check, match_card and select say
 -- that the code answers as checkAnswer, matchAnswer and selectAnswer do, and leaves the list as selectCells says, and those of match_by_text
 -- and select_by the same; that of spell, that it answers as spellAnswer does, and leaves the buffer as spellBytes says. Assumes nothing.
-use Prim.Native.Nat.{ℕ, _+_, _≤_, _<_}
+use Prim.Native.Nat.{ℕ, _+_, _*_, _-_, _≤_, _<_}
+use Prim.Native.Char.{code}
 use mathlib.Core.Path.{_≡_, sym, _∙_}
 use mathlib.Core.Bool.{Bool, true}
 use mathlib.Core.Logic.{_↔_, _⊎_}
 use mathlib.Core.Option.{some}
-use mathlib.Core.List.{List, [], _∷_, map}
+use mathlib.Core.List.{List, [], _∷_, _++_, map, List·Memᴰ}
 use lib.ListN.{length, getD}
+use lib.IntN.{pos, negℤ}
 use Rattle.base.specs.Ascii.{ascii}
 use Rattle.base.specs.Bytes.{Bytes}
-use Rattle.base.specs.Lists.{All}
+use Rattle.base.specs.Lists.{All, member}
+use Rattle.base.specs.Split.{Without, firstOf, split}
+use Rattle.text.specs.Bar.{bar}
+use Rattle.text.specs.Fold.{foldText, Folded, twoBytes, smallLetter}
+use Rattle.text.specs.Compare.{same, starts, ends, contains}
+use Rattle.text.proofs.Folded as folded
+use Rattle.text.proofs.Readings as texts
+use Rattle.number.specs.Reading.{valueFrom}
+use Rattle.number.specs.Reading as numbers-text
+use Rattle.number.specs.Spelling as number-spelling
+use Rattle.number.specs.declared.NumberReading.{NumberReading}
+use Rattle.number.proofs.Spelling as number-reading
+use Rattle.date.specs.Texts as date-texts
+use Rattle.date.specs.Spelling as date-spelling
+use Rattle.date.specs.declared.DateReading.{DateReading}
+use Rattle.date.proofs.Spelling as date-reading
+use Rattle.date.specs.Spans.{yearDate, monthDate, dayDate}
+use Rattle.date.specs.Succession.{nextMonth, nextDay}
+use Rattle.date.proofs.Succession as succession
+use Rattle.period.specs.Texts as period-texts
+use Rattle.period.specs.Spelling as period-spelling
+use Rattle.period.specs.declared.PeriodReading.{PeriodReading}
+use Rattle.period.proofs.Spelling as period-reading
+use Rattle.token.specs.Card.{Token, cardToken}
+use Rattle.token.specs.Filter.{Form, filterForm}
+use Rattle.token.specs.Spelling.{CardSpells, FilterSpells}
+use Rattle.token.specs.Rules.{Asks}
+use Rattle.token.specs.Match.{matches}
+use Rattle.token.specs.Split.{foldParts}
+use Rattle.token.proofs.Readings as tokens
+use Rattle.token.proofs.Split as token-split-law
+use Rattle.block.specs.Sum.{checkSum}
+use Rattle.judge.specs.Faults.{unsupported}
 use Rattle.base.specs.Operators.{operatorWords, eq, ne, co, sw, ew, gt, lt, ge, le, ap, sa, eb, pr, po, ss, sb, «in», ni, re}
 use Rattle.block.specs.declared.Validity.the-variants.{WellFormed}
 use Rattle.sheet.specs.Sheet.{Parameter, readSheet}
@@ -21,7 +55,7 @@ use Rattle.card.specs.Card.{Entry, readCard}
 use Rattle.card.specs.Encode.{encodeCard, WellFormedCard, CardBlock, ReadsAsCard}
 use Rattle.card.specs.Trial.{trialCard, bundleCard, stayCard}
 use Rattle.card.proofs.Cards as cards
-use Rattle.syntax.specs.Tree.{Tree, test, testsOf, Rising}
+use Rattle.syntax.specs.Tree.{Test, Tree, test, testsOf, Rising}
 use Rattle.syntax.specs.Grammar.{deepest, mostTests, Spells}
 use Rattle.syntax.specs.Reader.{read}
 use Rattle.syntax.proofs.Spelling as spelling
@@ -31,7 +65,7 @@ use Rattle.plain.proofs.Length as lengths
 use Rattle.plain.proofs.Shortest as shortest
 use Rattle.place.specs.Begins.{Begins, Longest, Number}
 use Rattle.place.proofs.Place as place
-use Rattle.date.specs.Calendar.{daysBeforeMonth}
+use Rattle.date.specs.Calendar.{leapYear, monthLength, daysBeforeMonth}
 use Rattle.date.specs.Arithmetic.{beforeByNumber}
 use Rattle.date.proofs.Calendar as calendar
 use Rattle.date.specs.Instants.{InRange}
@@ -62,11 +96,18 @@ use Rattle.judge.specs.Rules.{Conforms, FilterSays}
 use Rattle.answer.specs.Verdicts.{Verdict}
 use Rattle.answer.specs.Demand.{TestRules, Demand, Agree, FilterDemand, MeetsDemand}
 use Rattle.answer.specs.Selection.{Run, matchingCards, matchingNumbers, occurrences, bearing, SelectsByMatch, SelectAnswers}
-use Rattle.refusal.specs.Order.{rank, Decides}
+use Rattle.refusal.specs.Order.{lines, numbers, rank, Decides}
 use Rattle.answer.specs.Refusals.{CheckLine, MatchLine, SelectLine, SpellLine}
 use Rattle.sirophan.specs.Spelling.{spellAnswer, spellBytes, SpellAnswers}
-use Rattle.query.specs.Spelling.{Query, SpellsQuery}
-use Rattle.query.specs.Reader.{acceptQuery}
+use Rattle.query.specs.Spelling.{ampersand, Special, Sign, Pieces, TextIs, SplitAt, NoPlainBar, Alternative, Query, PairAt, SpellsQuery}
+use Rattle.query.specs.Lines.{BadPart, QueryLine}
+use Rattle.query.specs.Reader.{isSpecial, cutSigns, splitOf, acceptQuery}
+use Rattle.query.proofs.Signs as query-signs
+use Rattle.query.proofs.Alternatives as query-alternatives
+use Rattle.query.proofs.Parts as query-parts
+use Rattle.query.proofs.Lines as query-lines
+use Rattle.search.specs.Asking.{TakesPrefix, Prefix, takesPrefix, prefixes}
+use Rattle.search.proofs.Asking as asking
 use Rattle.query.proofs.Reading as query-reading
 use Rattle.refusal.specs.Steps.{found}
 use Rattle.answer.specs.Searching.{checkSearchAnswer, searchQuestion, matchSearchAnswer, selectSearchAnswer, selectSearchCells}
@@ -75,7 +116,7 @@ use Rattle.answer.specs.SearchRefusals.{CheckSearchLine, MatchSearchLine, Selec
 use Rattle.sirophan.specs.SameQuestion.{SameQuestion, AnsweredAlike}
 use Rattle.sirophan.proofs.SameQuestion as same-question
 use Rattle.sirophan.proofs.SearchDemand as search-demand
-use Rattle.answer.proofs.SearchTable as search-table
+use Rattle.answer.proofs.SearchTable as search-lines
 use Rattle.sheet.specs.Find.{kindsOf, parentsOf}
 use Rattle.rows.specs.Expression.{Expression}
 use Rattle.rows.specs.Cells.{encode, stated}
@@ -89,7 +130,8 @@ use Rattle.answer.specs.RowsRefusals.{PrepareLine, JudgeLine, PrepareAnswers, P
 use Rattle.answer.proofs.RowsTable as rows-table
 use Rattle.answer.proofs.RowsAnswered as rows-answered
 use Rattle.sirophan.specs.Trial.{Row, trialRows, bundleRows, stayRows, titleTest, codeTest}
-use Rattle.sirophan.specs.Edges.{edgeCard, edgeRows}
+use Rattle.sirophan.specs.Edges.{edgeCard, edgeRows, emptyCard, emptyRows}
+use Rattle.sirophan.specs.Searches.{SearchRow, searchRows}
 use Rattle.kind.proofs.Rules as rules
 use Rattle.sirophan.proofs.Failing as failing
 use Rattle.sirophan.proofs.Demand as demand
@@ -105,6 +147,9 @@ use Rattle.sirophan.proofs.SpellTable as spell-table
 use Rattle.sirophan.proofs.Spells as spell
 use Rattle.sirophan.proofs.Operators as words
 use Rattle.sirophan.proofs.Trial as trial
+use Rattle.sirophan.proofs.Searches as searches
+use Rattle.sirophan.specs.Seconds.{NotSupported, placesSum, TestIn, orders, among}
+use Rattle.sirophan.proofs.Seconds as seconds
 
 -- ---- demand 1: an answer or a refusal, and a refusal writes nothing
 
@@ -347,39 +392,68 @@ spell-answered = spell.spell-answered
 pub query-read : (text : List ℕ) (q : Query) → (acceptQuery text ≡ found q) ↔ SpellsQuery text q
 query-read = query-reading.query-read
 
+-- the rules of spelling in 02's words: the bytes that a backslash makes plain, the alternatives that commas give, where a token is split
+pub special-bytes : (b : ℕ) → (isSpecial b ≡ true) ↔ Special b
+special-bytes = query-signs.special-iff
+
+pub alternatives-cut : (v : List Sign) (ws : List (List Sign)) → (cutSigns v ≡ ws) ↔ Pieces v ws
+alternatives-cut = query-alternatives.pieces-iff
+
+pub token-split : (w : List Sign) (i : ℕ) → (splitOf w ≡ i) ↔ SplitAt w i
+token-split = query-alternatives.split-iff
+
+-- without a bar behind a backslash it is split at the first bar of its text
+pub split-first-bar : {w : List Sign} {t : List ℕ} {i : ℕ} → TextIs w t → SplitAt w i → NoPlainBar w → i ≡ firstOf bar t
+split-first-bar = query-alternatives.split-first-bar
+
+-- the prefixes by their words, and the kinds that take one
+pub prefix-words : (k : ℕ) (w : List ℕ) → ((member k prefixes ≡ true) × (w ≡ getD operatorWords k [])) ↔ Prefix k w
+prefix-words = asking.prefix-iff
+
+pub prefix-kinds : (kind : ℕ) → (takesPrefix kind ≡ true) ↔ TakesPrefix kind
+prefix-kinds = asking.takes-iff
+
+-- a string which none of 10, 50 and 51 refuses spells a query; a part is no pair exactly where it has no "=" or a % that no two hex digits
+-- follow, and 50 is the line of such a part
+pub unrefused-spells : (text : List ℕ) → ((n p : ℕ) → QueryLine text n p → ⊥) → (q : Query) × SpellsQuery text q
+unrefused-spells = query-lines.unrefused-spells
+
+pub no-pair : (at : ℕ) (s : List ℕ) → Without ampersand s → ((a : List Alternative) → PairAt at s a → ⊥) ↔ BadPart s
+no-pair = query-parts.part-iff
+
 pub query-unique : (text : List ℕ) (q r : Query) → SpellsQuery text q → SpellsQuery text r → q ≡ r
 query-unique = query-reading.query-unique
 
 -- demand 1: each operation is refused exactly where a line of its table decides
 pub check-search-refused : (sheet text : List ℕ) → Bytes sheet → (n p : ℕ) → (checkSearchAnswer sheet text ≡ refused n p) ↔ Decides (CheckSearchLine sheet text) n p
-check-search-refused = search-table.check-search-table
+check-search-refused = search-lines.check-search-table
 
 pub match-search-refused : (sheet text card : List ℕ) → Bytes sheet → Bytes card → (n p : ℕ)
     → (matchSearchAnswer sheet text card ≡ refused n p) ↔ Decides (MatchSearchLine sheet text card) n p
-match-search-refused = search-table.match-search-table
+match-search-refused = search-lines.match-search-table
 
 pub select-search-refused : (sheet text cards : List ℕ) (room : ℕ) → Bytes sheet → Bytes cards → (n p : ℕ)
     → (selectSearchAnswer sheet text cards room ≡ refused n p) ↔ Decides (SelectSearchLine sheet text cards room) n p
-select-search-refused = search-table.select-search-table
+select-search-refused = search-lines.select-search-table
 
 pub search-refusal-keeps-list : (sheet text cards list : List ℕ) (n i : ℕ) → selectSearchAnswer sheet text cards (length list) ≡ refused n i → selectSearchCells sheet text cards list ≡ list
-search-refusal-keeps-list sheet text = selection.refusal-keeps (searchQuestion sheet text) (search-table.search-number sheet text)
+search-refusal-keeps-list sheet text = selection.refusal-keeps (searchQuestion sheet text) (search-lines.search-number sheet text)
 
 -- demand 2: a selection lists the record numbers of the cards on which match answers yes, in card order; where no line holds, it answers
 pub select-search-by-match : (sheet text cards list : List ℕ) (bs : List (List ℕ)) → Run cards bs
     → SelectsByMatch (matchSearchAnswer sheet text) (selectSearchAnswer sheet text cards (length list)) (selectSearchCells sheet text cards list) list bs
-select-search-by-match sheet text = selection.selects-by-match (searchQuestion sheet text) (search-table.search-number sheet text)
+select-search-by-match sheet text = selection.selects-by-match (searchQuestion sheet text) (search-lines.search-number sheet text)
 
 pub select-search-answered : (sheet text cards list : List ℕ) → Bytes sheet → Bytes cards → (bs : List (List ℕ)) → Run cards bs
     → ((n p : ℕ) → SelectSearchLine sheet text cards (length list) n p → ⊥)
     → SelectAnswers (matchSearchAnswer sheet text) (selectSearchAnswer sheet text cards (length list)) (selectSearchCells sheet text cards list) list bs
-select-search-answered = search-table.select-search-answered
+select-search-answered = search-lines.select-search-answered
 
 -- demand 3 over alternatives; that nothing is left free is demand-determines
 pub check-and-match-search : MeetsSearchDemand checkSearchAnswer matchSearchAnswer
 check-and-match-search = search-demand.search-demand-met
 
--- a filter that asks the same, and that check passes, is answered the same
+-- a filter that asks the same, in whichever order, and that check passes, is answered the same
 pub search-as-filter : (sheet text query : List ℕ) (s : SheetBlock sheet) (f : Tree) (q : Query) → Spells text f → SpellsQuery query q → SameQuestion (s .parameters) q f
     → checkAnswer sheet text ≡ count (length (testsOf f)) → AnsweredAlike sheet query text
 search-as-filter = same-question.same-question
@@ -400,3 +474,100 @@ period-table = trial.stay-rows
 -- a card at the edges of the rules: escapes, short names, touching spans, half units, each operator by its word
 pub edge-table : All (λ (r : Row). matchAnswer trialSheet (r .filter) edgeCard ≡ r .gives) edgeRows
 edge-table = trial.edge-rows
+
+-- a card whose only text is empty
+pub empty-text-table : All (λ (r : Row). matchAnswer trialSheet (r .filter) emptyCard ≡ r .gives) emptyRows
+empty-text-table = trial.empty-rows
+
+-- search strings, each on its sheet and card
+pub search-table : All (λ (r : SearchRow). matchSearchAnswer (r .sheet) (r .query) (r .card) ≡ r .gives) searchRows
+search-table = searches.search-rows
+
+-- ---- rules that statements and code share, said a second time
+
+-- the five words that are not supported
+pub unsupported-words : (k : ℕ) (w : List ℕ) → ((unsupported k ≡ true) × (w ≡ getD operatorWords k [])) ↔ NotSupported k w
+unsupported-words = seconds.unsupported-iff
+
+-- a number's digits by their last: the digits before it ten times, and it
+pub digits-by-the-last : (valueFrom 0 [] ≡ 0) × ((s : List ℕ) (x : ℕ) → valueFrom 0 (s ++ (x ∷ [])) ≡ valueFrom 0 s * 10 + (x - code "0"))
+digits-by-the-last = (seconds.no-digit, seconds.last-digit)
+
+-- the check sum over the places
+pub check-sum-places : (b : List ℕ) → checkSum b ≡ placesSum 508 b
+check-sum-places = seconds.check-sum-places
+
+-- the tests of a filter are those of its tree, each with its path; that they are in order, an outer one before its inner ones, and none
+-- twice is tests-in-order
+pub tests-of-the-tree : (f : Tree) (t : Test) → List·Memᴰ t (testsOf f) ↔ TestIn f t
+tests-of-the-tree = seconds.tests-iff
+
+-- the one list of lines has the lines of each operation in that operation's order
+pub refusal-orders : All (λ (o : List (List ℕ)). among (numbers o) lines ≡ o) orders
+refusal-orders = seconds.orders-kept
+
+-- ---- the leaves
+
+-- texts
+pub text-folded : (s t : List ℕ) → (foldText s ≡ t) ↔ Folded s t
+text-folded = folded.foldText-iff
+
+pub letter-folded : (c : ℕ) → 128 ≤ c → c < 2048 → foldText (twoBytes c) ≡ twoBytes (smallLetter c)
+letter-folded = folded.letter-small
+
+pub texts-same : (a b : List ℕ) → (same a b ≡ true) ↔ (foldText a ≡ foldText b)
+texts-same = texts.same-iff
+
+pub text-starts : (a b : List ℕ) → (starts a b ≡ true) ↔ ((q : List ℕ) × (foldText a ≡ foldText b ++ q))
+text-starts = texts.starts-iff
+
+pub text-ends : (a b : List ℕ) → (ends a b ≡ true) ↔ ((p : List ℕ) × (foldText a ≡ p ++ foldText b))
+text-ends = texts.ends-iff
+
+pub text-contains : (a b : List ℕ) → (contains a b ≡ true) ↔ ((p : List ℕ) × (q : List ℕ) × (foldText a ≡ p ++ (foldText b ++ q)))
+text-contains = texts.contains-iff
+
+-- numbers, dates and periods
+pub number-read : (s : List ℕ) (d : Decimal) → (numbers-text.read s ≡ NumberReading.Number d) ↔ number-spelling.Spells s d
+number-read = number-reading.read-iff
+
+pub date-read : (s : List ℕ) (d : Date) → (date-texts.read s ≡ DateReading.Readable d) ↔ date-spelling.Spells s d
+date-read = date-reading.read-iff
+
+pub date-unique : {s : List ℕ} {d e : Date} → date-spelling.Spells s d → date-spelling.Spells s e → d ≡ e
+date-unique = date-reading.spells-unique
+
+pub period-read : (t : List ℕ) (p : Period) → (period-texts.read t ≡ PeriodReading.Readable p) ↔ period-spelling.Spells t p
+period-read = period-reading.read-iff
+
+pub period-unique : {t : List ℕ} {p q : Period} → period-spelling.Spells t p → period-spelling.Spells t q → p ≡ q
+period-unique = period-reading.spells-unique
+
+-- the days follow each other without gap, by the Gregorian rule, from 0001-01-01 to the end of 9999
+pub next-year : (y : ℕ) → 1 ≤ y → yearDate (y + 1) .start ≡ yearDate y .end
+next-year = succession.next-year
+
+pub next-month : (y m : ℕ) → 1 ≤ y → m ≤ 12 → monthDate (nextMonth y m .year) (nextMonth y m .month) .start ≡ monthDate y m .end
+next-month = succession.next-month
+
+pub next-day : (y m d : ℕ) → 1 ≤ y → m ≤ 12 → 1 ≤ d → d ≤ monthLength (leapYear y) m → dayDate (nextDay y m d .year) (nextDay y m d .month) (nextDay y m d .day) .start ≡ dayDate y m d .end
+next-day = succession.next-day
+
+pub calendar-starts : dayDate 1 1 1 .start ≡ negℤ (pos 62135596800)
+calendar-starts = succession.calendar-starts
+
+pub calendar-ends : yearDate 9999 .end ≡ pos 253402300800
+calendar-ends = succession.calendar-ends
+
+-- tokens
+pub token-on-card : (t : List ℕ) (k : Token) → (cardToken t ≡ some k) ↔ CardSpells t k
+token-on-card = tokens.cardToken-iff
+
+pub token-in-filter : (t : List ℕ) (f : Form) → (filterForm t ≡ some f) ↔ FilterSpells t f
+token-in-filter = tokens.filterForm-iff
+
+pub token-asked : (card filter : List ℕ) → (matches card filter ≡ true) ↔ ((k : Token) × (f : Form) × CardSpells card k × FilterSpells filter f × Asks f k)
+token-asked = tokens.matches-iff
+
+pub token-folded : (t : List ℕ) → split bar (foldText t) ≡ foldParts (split bar t)
+token-folded = token-split-law.split-folded

@@ -1,6 +1,7 @@
 -- A filter that asks the same as a search string, and that check passes, is answered the same: both ask one question.
 -- An alternative and the test that asks the same say the same of every card (`same-says`). Of a token `AsksAlike` demands that its system
--- stands for itself (`Literal`), since a filter takes short names for systems, and that it is split at its first bar (`form-same`). By
+-- stands for itself (`Literal`), since a filter takes short names for systems, and that no bar of it is plain, so that it is split at its
+-- first bar (`form-same`). By
 -- induction on how trees are joined, a join by or says the or of its tests and a join by and the and of its parts, whatever the brackets,
 -- as both are associative (`or-joined`, `and-joined`); so the query says what the filter says (`query-says`). Where an alternative lacks a
 -- meaning its test lacks one (`lacks-alike`), so the string passes where check passes the filter, and the counts are equal, as there are as
@@ -8,11 +9,12 @@
 -- of it.
 -- Assumes nothing.
 use Prim.Native.Nat.{ℕ, suc, _+_, _≤_, _<_}
+use native.Mathlib.Omega.{arith}
 use mathlib.Core.Path.{_≡_, refl, ap, sym, _∙_, subst, fun-ext}
 use mathlib.Core.Bool.{Bool, true, false, cond, _&&_, _||_, or-false}
 use mathlib.Core.Logic.{⊎-elim}
 use mathlib.Core.Option.{Option, none, some}
-use mathlib.Core.List.{List, [], _∷_, _++_, flatten, append-assoc, append-nil}
+use mathlib.Core.List.{List, [], _∷_, _++_, flatten, append-assoc, append-nil, List·Permᴰ, List·Permᴰ·nil, List·Permᴰ·cons, List·Permᴰ·swap, List·Permᴰ·trans}
 use lib.Dec.{eqb, ltb}
 use lib.ListN.{length, take, length-append}
 use borrow.Author.Tests.{eq-eqb, ne-eqb, eqb-true, eqb-false, ltb-true}
@@ -50,6 +52,7 @@ use Rattle.judge.specs.Rules.{Names}
 use Rattle.judge.specs.Rules as tests
 use Rattle.judge.proofs.Rules.{names-iff}
 use Rattle.query.specs.Spelling.{Alternative, Query, alternativesOf, SpellsQuery}
+use Rattle.query.proofs.Alternatives.{split-first-bar}
 use Rattle.search.specs.Asking.{AskedBy, Comparison, askedOf}
 use Rattle.search.specs.Meaning as search
 use Rattle.query.specs.Met.{pairMet, queryMet}
@@ -99,6 +102,33 @@ and-append : (p : Tree → Bool) (fs gs : List Tree) → and-all p (fs ++ gs) �
 unfolding and-all
 and-append p [] gs = refl
 and-append p (f ∷ fs) gs = ap (λ (b : Bool). p f && b) (and-append p fs gs) ∙ sym (and-assoc (p f) (and-all p fs) (and-all p gs))
+
+or-swap : (a b c : Bool) → (a || (b || c)) ≡ (b || (a || c))
+or-swap true true c = refl
+or-swap true false c = refl
+or-swap false b c = refl
+
+and-swap : (a b c : Bool) → (a && (b && c)) ≡ (b && (a && c))
+and-swap false false c = refl
+and-swap false true c = refl
+and-swap true b c = refl
+
+-- in whichever order
+or-order : (p : Tree → Bool) {fs gs : List Tree} → List·Permᴰ fs gs → or-all p fs ≡ or-all p gs
+unfolding or-all
+or-order p List·Permᴰ·nil = refl
+or-order p (List·Permᴰ·cons {a = a} {l₂ = l₂} e d) = ap (λ (b : Bool). p a || b) (or-order p d) ∙ ap (λ (f : Tree). p f || or-all p l₂) e
+or-order p (List·Permᴰ·swap {a = a} {b = b} {a′ = a′} {b′ = b′} {l = l} e g) =
+    or-swap (p a) (p b) (or-all p l) ∙ ap (λ (f : Tree). p f || (p a || or-all p l)) g ∙ ap (λ (f : Tree). p a′ || (p f || or-all p l)) e
+or-order p (List·Permᴰ·trans d e) = or-order p d ∙ or-order p e
+
+and-order : (p : Tree → Bool) {fs gs : List Tree} → List·Permᴰ fs gs → and-all p fs ≡ and-all p gs
+unfolding and-all
+and-order p List·Permᴰ·nil = refl
+and-order p (List·Permᴰ·cons {a = a} {l₂ = l₂} e d) = ap (λ (b : Bool). p a && b) (and-order p d) ∙ ap (λ (f : Tree). p f && and-all p l₂) e
+and-order p (List·Permᴰ·swap {a = a} {b = b} {a′ = a′} {b′ = b′} {l = l} e g) =
+    and-swap (p a) (p b) (and-all p l) ∙ ap (λ (f : Tree). p f && (p a && and-all p l)) g ∙ ap (λ (f : Tree). p a′ && (p f && and-all p l)) e
+and-order p (List·Permᴰ·trans d e) = and-order p d ∙ and-order p e
 
 module _ (ps : List Parameter) (es : List Entry) where
   abbrev says : Tree → Bool
@@ -168,6 +198,9 @@ module _ (ps : List Parameter) (w : WellFormedSheet ps) (a : Alternative) (t : T
     of-token : AskedBy token (a .text) (t .operator) (t .value)
     of-token = subst (λ (x : ℕ). AskedBy x (a .text) (t .operator) (t .value)) is (h .asked)
 
+    at-first : a .split ≡ firstOf bar (a .text)
+    at-first = split-first-bar (h .text) (h .split) (h .bars is)
+
     literal : a .split < length (a .text) → namespaceOf (take (a .split) (a .text)) ≡ take (a .split) (a .text)
     literal l = stands-namespace (take (a .split) (a .text)) (h .systems is l)
 
@@ -191,7 +224,7 @@ module _ (ps : List Parameter) (w : WellFormedSheet ps) (a : Alternative) (t : T
           (let k = eq-eqb (h .kind) token e in
           let o : t .operator ≡ eq = token-asks (of-token e) .0 in
           let v : t .value ≡ a .text = token-asks (of-token e) .1 in
-          let q = token-set (a .split) (a .text) (h .bars e) (literal e) (valuesAt (h .index) es) in
+          let q = token-set (a .split) (a .text) (at-first e) (literal e) (valuesAt (h .index) es) in
           let r : saysOf (meaningOf (t .operator) (h .kind)) (t .value) (valuesAt (h .index) es) ≡ saysOf (meaningOf eq token) (a .text) (valuesAt (h .index) es) = cc in
           let u : cond (eqb (h .kind) token) (someValue (λ x. matchesAt x (a .split) (a .text)) (valuesAt (h .index) es)) (saysOf (meaningOf (askedOf (h .kind) (a .text) .operator) (h .kind)) (askedOf (h .kind) (a .text) .value) (valuesAt (h .index) es)) ≡ someValue (λ x. matchesAt x (a .split) (a .text)) (valuesAt (h .index) es) = rw k in
           u ∙ q ∙ sym r)
@@ -215,7 +248,7 @@ module _ (ps : List Parameter) (w : WellFormedSheet ps) (a : Alternative) (t : T
   form-read : h .kind ≡ token → ReadableInFilter token (t .value) → ReadableAlternative (h .kind) a
   form-read is (readable-token (f, s)) =
       let v : t .value ≡ a .text = token-asks (of-token is) .1 in
-      readable-form is (formAt-iff (a .text) (a .split) f .0 (form-same (a .split) (a .text) (h .bars is) ∙ ap filterForm (sym v) ∙ filterForm-iff (t .value) f .1 s))
+      readable-form is (formAt-iff (a .text) (a .split) f .0 (form-same (a .split) (a .text) (at-first is) ∙ ap filterForm (sym v) ∙ filterForm-iff (t .value) f .1 s))
 
   reads : ReadableValue (h .kind) (t .value) (t .operator) → ReadableAlternative (h .kind) a
   reads r = by-value r refl
@@ -264,6 +297,35 @@ joined-tests (alone {f = f}) = sym (append-nil (testsOf f))
 joined-tests (joins {fs = fs} {gs = gs} {g = g} a b) =
     ap (λ (l : List Test). l ++ testsOf g) (joined-tests a) ∙ ap (λ (l : List Test). all-tests fs ++ l) (joined-tests b) ∙ sym (tests-append fs gs)
 
+-- the tests of trees in another order: as many, and all of a property together
+order-count : {fs gs : List Tree} → List·Permᴰ fs gs → length (all-tests fs) ≡ length (all-tests gs)
+unfolding all-tests
+order-count List·Permᴰ·nil = refl
+order-count (List·Permᴰ·cons {a = a} {b = b} {l₁ = l₁} {l₂ = l₂} e d) =
+    omega (arith, order-count d, length-append (testsOf a) (all-tests l₁), length-append (testsOf b) (all-tests l₂), ap (λ (f : Tree). length (testsOf f)) e)
+order-count (List·Permᴰ·swap {a = a} {b = b} {a′ = a′} {b′ = b′} {l = l} e g) =
+    omega (
+      arith,
+      length-append (testsOf a) (testsOf b ++ all-tests l),
+      length-append (testsOf b) (all-tests l),
+      length-append (testsOf a′) (testsOf b′ ++ all-tests l),
+      length-append (testsOf b′) (all-tests l),
+      ap (λ (f : Tree). length (testsOf f)) e,
+      ap (λ (f : Tree). length (testsOf f)) g,
+    )
+order-count (List·Permᴰ·trans d e) = order-count d ∙ order-count e
+
+order-all : (P : Test → Type 0) {fs gs : List Tree} → List·Permᴰ fs gs → All P (all-tests gs) → All P (all-tests fs)
+unfolding all-tests
+order-all P List·Permᴰ·nil h = h
+order-all P (List·Permᴰ·cons {a = a} {b = b} {l₁ = l₁} {l₂ = l₂} e d) h =
+    all-append P (subst (λ (f : Tree). All P (testsOf f)) (sym e) (all-left P (testsOf b) (all-tests l₂) h)) (order-all P d (all-right P (testsOf b) h))
+order-all P (List·Permᴰ·swap {a = a} {b = b} {a′ = a′} {b′ = b′} {l = l} e g) h =
+    let more = all-right P (testsOf a′) h in
+    all-append P (subst (λ (f : Tree). All P (testsOf f)) (sym e) (all-left P (testsOf b′) (all-tests l) more))
+    (all-append P (subst (λ (f : Tree). All P (testsOf f)) (sym g) (all-left P (testsOf a′) (testsOf b′ ++ all-tests l) h)) (all-right P (testsOf b′) more))
+order-all P (List·Permᴰ·trans d e) h = order-all P d (order-all P e h)
+
 sums : {a b c d : ℕ} → a ≡ b → c ≡ d → a + c ≡ b + d
 sums e g = cc
 
@@ -277,12 +339,12 @@ module _ (ps : List Parameter) (w : WellFormedSheet ps) where
   pairs-say : (es : List Entry) {q : Query} {fs : List Tree} → PairsAlike ps q fs → queryMet (alternativeSays ps es) q ≡ and-all (says ps es) fs
   unfolding queryMet and-all
   pairs-say es pairs-end = refl
-  pairs-say es (pairs-next {p = p} {q = q} {fs = fs} {f = f} h j r) =
-      ap (λ (b : Bool). b && queryMet (alternativeSays ps es) q) (pair-says es h ∙ sym (or-joined ps es j)) ∙ ap (λ (b : Bool). says ps es f && b) (pairs-say es r)
+  pairs-say es (pairs-next {p = p} {q = q} {fs = fs} {f = f} h o j r) =
+      ap (λ (b : Bool). b && queryMet (alternativeSays ps es) q) (pair-says es h ∙ or-order (says ps es) o ∙ sym (or-joined ps es j)) ∙ ap (λ (b : Bool). says ps es f && b) (pairs-say es r)
 
   query-says : (es : List Entry) (q : Query) (f : Tree) → SameQuestion ps q f → querySays ps es q ≡ filterSays ps 0 es f
   unfolding querySays
-  query-says es q f s = pairs-say es (s .alike) ∙ sym (and-joined ps es (s .joined))
+  query-says es q f s = pairs-say es (s .alike) ∙ and-order (says ps es) (s .order) ∙ sym (and-joined ps es (s .joined))
 
   pair-alike : {p : List Alternative} {fs : List Tree} → TestsAlike ps p fs
       → (length p ≡ length (all-tests fs)) × (All (Meaningful (filterTests ps)) (all-tests fs) → All (Meaningful (searchTests ps)) p)
@@ -300,12 +362,12 @@ module _ (ps : List Parameter) (w : WellFormedSheet ps) where
       → (length (alternativesOf q) ≡ length (all-tests fs)) × (All (Meaningful (filterTests ps)) (all-tests fs) → All (Meaningful (searchTests ps)) (alternativesOf q))
   unfolding all-tests flatten
   pairs-alike pairs-end = (refl, (λ _. all-empty))
-  pairs-alike (pairs-next {p = p} {q = q} {ts = ts} {fs = fs} {f = f} h j r) =
+  pairs-alike (pairs-next {p = p} {q = q} {ts = ts} {us = us} {fs = fs} {f = f} h o j r) =
       let here = pair-alike h in
       let more = pairs-alike r in
-      let same : testsOf f ≡ all-tests ts = joined-tests j in (
-        length-append p (flatten q) ∙ sums (here .0 ∙ sym (ap length same)) (more .0) ∙ sym (length-append (testsOf f) (all-tests fs)),
-        (λ all. all-append (Meaningful (searchTests ps)) (here .1 (subst (All (Meaningful (filterTests ps))) same (all-left (Meaningful (filterTests ps)) (testsOf f) (all-tests fs) all)))
+      let same : testsOf f ≡ all-tests us = joined-tests j in (
+        length-append p (flatten q) ∙ sums (here .0 ∙ order-count o ∙ sym (ap length same)) (more .0) ∙ sym (length-append (testsOf f) (all-tests fs)),
+        (λ all. all-append (Meaningful (searchTests ps)) (here .1 (order-all (Meaningful (filterTests ps)) o (subst (All (Meaningful (filterTests ps))) same (all-left (Meaningful (filterTests ps)) (testsOf f) (all-tests fs) all))))
             (more .1 (all-right (Meaningful (filterTests ps)) (testsOf f) all))),
       )
 
@@ -331,10 +393,10 @@ module _ (sheet text query : List ℕ) (s : SheetBlock sheet) (f : Tree) (q : Qu
   tests-mean = demand-met sheet text s f short spells .passes .0 passes
 
   alternatives-mean : All (Meaningful (searchTests ps)) (alternativesOf q)
-  alternatives-mean = pairs-alike ps (s .well-formed) (alike .alike) .1 (subst (All (Meaningful (filterTests ps))) (joined-tests (alike .joined)) tests-mean)
+  alternatives-mean = pairs-alike ps (s .well-formed) (alike .alike) .1 (order-all (Meaningful (filterTests ps)) (alike .order) (subst (All (Meaningful (filterTests ps))) (joined-tests (alike .joined)) tests-mean))
 
   sizes : length (alternativesOf q) ≡ length (testsOf f)
-  sizes = pairs-alike ps (s .well-formed) (alike .alike) .0 ∙ sym (ap length (joined-tests (alike .joined)))
+  sizes = pairs-alike ps (s .well-formed) (alike .alike) .0 ∙ order-count (alike .order) ∙ sym (ap length (joined-tests (alike .joined)))
 
   filter-asks : filterQuestion sheet text ≡ found (record { parameters = ps; says = λ es. filterSays ps 0 es f })
   filter-asks =

@@ -50,7 +50,7 @@ use Rattle.judge.specs.Faults.{unsupported, kindFault, testFault, firstFault}
 use Rattle.judge.specs.Verdicts.{someValue, isEmpty, saysOf, testSays, filterSays}
 use Rattle.refusal.specs.Answers.{Answer}
 use Rattle.answer.specs.Operations.{acceptSheet, acceptFilter, testsStep, acceptInputs, acceptCard, matchBy, filterQuestion, matchAnswer}
-use Rattle.sirophan.specs.Edges.{edgeCard, edgeRows}
+use Rattle.sirophan.specs.Edges.{edgeCard, edgeRows, emptyCard, emptyRows}
 use Rattle.sirophan.specs.Trial.{Row, trialRows, bundleRows, stayRows}
 
 -- what match gives for each row of a table, on a sheet and a card
@@ -60,9 +60,9 @@ given sheet card = map (λ (r : Row). matchAnswer sheet (r .filter) card)
 abbrev stated : List Row → List Answer
 stated = map (λ (r : Row). r .gives)
 
-computed : (given trialSheet trialCard trialRows ≡ stated trialRows) × (given bundleSheet bundleCard bundleRows ≡ stated bundleRows) × (given staySheet stayCard stayRows ≡ stated stayRows) × (given trialSheet edgeCard edgeRows ≡ stated edgeRows)
-unfolding trialRows trialSheet trialCard matchBy filterQuestion acceptCard acceptInputs machine.failure machine.failureFrom machine.step machine.beginsOperator machine.isOperator machine.someWord testsStep acceptFilter acceptSheet filterSays foldTree testSays saysOf isEmpty someValue firstFault testFault kindFault unsupported conforms entryConforms valuesAt lookup relatesTo datesRelate numbersRelate stringsRelate kind.valueReadable kind.isTrue kind.filterReadable kind.cardReadable table.hasMeaning table.meaningOf table.rowMeaning table.relationIn table.row table.tokenRow table.dateRow table.numberRow table.stringRow read filterAt itemAt filterOf chainOf closeAt connectiveAt headAt choiceAt memberAfter memberAt openAt testAt testOperator testValue operatorAt findOperator follows valueAt stringAt stringFrom stepOf isBare testsOf readCard entriesOf entryCount find findFrom readSheet sheetLayout areRight haveParents hasParent kindAt distinct absent clashes areParameters isParameter isKind parametersOf parameterCount reading items hasEither hasLayout laidOut textAt markAt next lengthAt hasMarks zeros block.check checkSum sumFrom token.matches token.meets token.asks systemOf namespaceOf standsFor forms.filterReadable forms.filterForm forms.splitForm tokens.cardReadable tokens.cardToken tokens.splitToken tokens.tokenOf split dates.readable dates.isDate dates.read dates.readYear dates.readMonth dates.fieldAt dates.fourAt dates.twoAt dates.pair dates.digitOf spans.monthDate spans.yearDate spans.daysFrom spans.dateOf spans.instant spans.epoch calendar.dayNumber calendar.daysOfYears calendar.daysBeforeMonth calendar.monthLength calendar.yearLength calendar.leapYear fields.validMonth billionths.inside billionths.billionths billionths.unit number.greater number.atLeast number.covers number.halfUnit number.exactValue number.plus number.isAtMost number.isLess numbers.readable numbers.read numbers.readFraction numbers.valueFrom texts.same texts.contains foldText foldByte runEnd run operatorWords isName isReserved isNamePart isNameStart isLetter between isDigit hasInfix hasPrefix member equal every bundleRows bundleSheet bundleCard ofOccurrence keep enter kind.isFalse table.referenceRow table.kinds table.ofKind period.startsBefore period.startsNoLater period.endsAfter period.endsNoEarlier period.inside period.laterOrInside period.earlierOrInside period.overlaps period.covers periods.readable periods.isPeriod periods.readSpan periods.spanOr periods.read periods.readParts periods.openStart periods.openEnd periods.bothEnds periods.fromTo periods.known stayRows staySheet stayCard foldFrom isCapital isAccented edgeRows edgeCard decode unescaped isEscape texts.starts texts.ends hasSuffix number.less number.atMost
-computed = (refl, refl, refl, refl)
+computed : (given trialSheet trialCard trialRows ≡ stated trialRows) × (given bundleSheet bundleCard bundleRows ≡ stated bundleRows) × (given staySheet stayCard stayRows ≡ stated stayRows) × (given trialSheet edgeCard edgeRows ≡ stated edgeRows) × (given trialSheet emptyCard emptyRows ≡ stated emptyRows)
+unfolding trialRows trialSheet trialCard matchBy filterQuestion acceptCard acceptInputs machine.failure machine.failureFrom machine.step machine.beginsOperator machine.isOperator machine.someWord testsStep acceptFilter acceptSheet filterSays foldTree testSays saysOf isEmpty someValue firstFault testFault kindFault unsupported conforms entryConforms valuesAt lookup relatesTo datesRelate numbersRelate stringsRelate kind.valueReadable kind.isTrue kind.filterReadable kind.cardReadable table.hasMeaning table.meaningOf table.rowMeaning table.relationIn table.row table.tokenRow table.dateRow table.numberRow table.stringRow read filterAt itemAt filterOf chainOf closeAt connectiveAt headAt choiceAt memberAfter memberAt openAt testAt testOperator testValue operatorAt findOperator follows valueAt stringAt stringFrom stepOf isBare testsOf readCard entriesOf entryCount find findFrom readSheet sheetLayout areRight haveParents hasParent kindAt distinct absent clashes areParameters isParameter isKind parametersOf parameterCount reading items hasEither hasLayout laidOut textAt markAt next lengthAt hasMarks zeros block.check checkSum sumFrom token.matches token.meets token.asks systemOf namespaceOf standsFor forms.filterReadable forms.filterForm forms.splitForm tokens.cardReadable tokens.cardToken tokens.splitToken tokens.tokenOf split dates.readable dates.isDate dates.read dates.readYear dates.readMonth dates.fieldAt dates.fourAt dates.twoAt dates.pair dates.digitOf spans.monthDate spans.yearDate spans.daysFrom spans.dateOf spans.instant spans.epoch calendar.dayNumber calendar.daysOfYears calendar.daysBeforeMonth calendar.monthLength calendar.yearLength calendar.leapYear fields.validMonth billionths.inside billionths.billionths billionths.unit number.greater number.atLeast number.covers number.halfUnit number.exactValue number.plus number.isAtMost number.isLess numbers.readable numbers.read numbers.readFraction numbers.valueFrom texts.same texts.contains foldText foldByte runEnd run operatorWords isName isReserved isNamePart isNameStart isLetter between isDigit hasInfix hasPrefix member equal every bundleRows bundleSheet bundleCard ofOccurrence keep enter kind.isFalse table.referenceRow table.kinds table.ofKind period.startsBefore period.startsNoLater period.endsAfter period.endsNoEarlier period.inside period.laterOrInside period.earlierOrInside period.overlaps period.covers periods.readable periods.isPeriod periods.readSpan periods.spanOr periods.read periods.readParts periods.openStart periods.openEnd periods.bothEnds periods.fromTo periods.known stayRows staySheet stayCard foldFrom isCapital isAccented edgeRows edgeCard decode unescaped isEscape texts.starts texts.ends hasSuffix number.less number.atMost emptyRows emptyCard
+computed = (refl, refl, refl, refl, refl)
 
 -- each row of a table that is computed so gives what it says
 rows-give : (sheet card : List ℕ) (rows : List Row) → given sheet card rows ≡ stated rows → All (λ (r : Row). matchAnswer sheet (r .filter) card ≡ r .gives) rows
@@ -82,3 +82,7 @@ stay-rows = rows-give staySheet stayCard stayRows (computed .2)
 -- the card at the edges of the rules
 pub edge-rows : All (λ (r : Row). matchAnswer trialSheet (r .filter) edgeCard ≡ r .gives) edgeRows
 edge-rows = rows-give trialSheet edgeCard edgeRows (computed .3)
+
+-- the card with an empty text
+pub empty-rows : All (λ (r : Row). matchAnswer trialSheet (r .filter) emptyCard ≡ r .gives) emptyRows
+empty-rows = rows-give trialSheet emptyCard emptyRows (computed .4)

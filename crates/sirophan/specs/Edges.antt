@@ -1,5 +1,5 @@
--- A card at the edges of the rules, on the trial sheet: each escape, each short name of a system, spans that touch, half units, and each
--- operator by its word.
+-- A card at the edges of the rules, on the trial sheet: each escape, each short name of a system, an accented letter, spans that touch,
+-- half units, and each operator by its word; and a card with an empty text.
 -- Assumes nothing.
 use Prim.Native.Nat.{ℕ}
 use mathlib.Core.List.{List, [], _∷_, _++_}
@@ -8,10 +8,10 @@ use Rattle.base.specs.Ascii.{ascii}
 use Rattle.refusal.specs.Answers.{yes, no, refused}
 use Rattle.sirophan.specs.Trial.{Row, row}
 
--- the card's 512 bytes: the number 10, 10 entries, zeros and the check sum
+-- the card's 512 bytes: the number 10, 11 entries, zeros and the check sum
 unfoldable pub edgeCard : List ℕ
 edgeCard =
-    (0x43 ∷ 10 ∷ 0 ∷ 0 ∷ 0 ∷ 10 ∷ [])
+    (0x43 ∷ 10 ∷ 0 ∷ 0 ∷ 0 ∷ 11 ∷ [])
     ++ (0 ∷ 8 ∷ 0x22 ∷ 0x5c ∷ 0x2f ∷ 0x08 ∷ 0x0c ∷ 0x0a ∷ 0x0d ∷ 0x09 ∷ [])
     ++ (0 ∷ 11 ∷ ascii "Ward book 4")
     ++ (1 ∷ 7 ∷ ascii "1974-06")
@@ -22,14 +22,18 @@ edgeCard =
     ++ (2 ∷ 1 ∷ ascii "5")
     ++ (3 ∷ 4 ∷ ascii "12.0")
     ++ (4 ∷ 10 ∷ ascii "Patient/17")
-    ++ replicate 327 0
-    ++ (35 ∷ 217 ∷ 20 ∷ 0 ∷ [])
+    ++ (0 ∷ 6 ∷ ascii "Str" ++ (0xc3 ∷ 0xb6 ∷ ascii "m"))
+    ++ replicate 319 0
+    ++ (85 ∷ 36 ∷ 23 ∷ 0 ∷ [])
 
 -- each rule at its edge: touching spans, half units, each namespace, each escape, each operator's word
 unfoldable pub edgeRows : List Row
 edgeRows =
     row (ascii "title eq \"\\\"\\\\\\/\\b\\f\\n\\r\\t\"") yes
     ∷ row (ascii "title eq \"ward BOOK 4\"") yes
+    -- 02: "a search for "STRÖM" misses "Ström""
+    ∷ row (ascii "title eq \"STR" ++ (0xc3 ∷ 0x96 ∷ ascii "M\"")) yes
+    ∷ row (ascii "title eq Strom") no
     ∷ row (ascii "title sw ward") yes
     ∷ row (ascii "title sw book") no
     ∷ row (ascii "title ew \"k 4\"") yes
@@ -96,4 +100,20 @@ edgeRows =
     ∷ row (ascii "subject eq x") (refused 16 0)
     ∷ row (ascii "pages sa 12") (refused 16 0)
     ∷ row (ascii "title po x") (refused 16 0)
+    ∷ []
+
+-- a card whose only text is empty, under title: the number 12, one entry, 500 zeros and the check sum
+unfoldable pub emptyCard : List ℕ
+emptyCard = (0x43 ∷ 12 ∷ 0 ∷ 0 ∷ 0 ∷ 1 ∷ []) ++ (0 ∷ 0 ∷ []) ++ replicate 500 0 ++ (97 ∷ 0 ∷ 0 ∷ 0 ∷ [])
+
+-- an empty text is a text: the set is not empty
+unfoldable pub emptyRows : List Row
+emptyRows =
+    row (ascii "title pr true") yes
+    ∷ row (ascii "title pr false") no
+    ∷ row (ascii "title eq \"\"") yes
+    ∷ row (ascii "title ne \"\"") no
+    ∷ row (ascii "title ne x") yes
+    ∷ row (ascii "title co x") no
+    ∷ row (ascii "pages pr true") no
     ∷ []

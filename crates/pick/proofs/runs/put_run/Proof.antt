@@ -16,20 +16,20 @@ select-requires c κs = search needs
 enum-known-selected : tie.Need-enum-known-selected
 enum-known-selected c = search needs
 
-sub-put-lines : tie.Need-sub-put-lines
-sub-put-lines c = search needs
-
-part-put-lines-start : tie.Need-part-put-lines-start
-part-put-lines-start c = search needs
-
-part-put-lines-end : tie.Need-part-put-lines-end
-part-put-lines-end c = omega (arith, selected-count _ _ _ _ (c .before .before .before .before .before .select .ensures) _ (c .before .before .selected .given .1))
-
-put-lines-requires : tie.Need-put-lines-requires
-put-lines-requires c κs = omega (arith, selected-count _ _ _ _ (c .before .before .before .before .before .before .before .select .ensures) _ (c .before .before .before .before .selected .given .1))
-
 add-run-requires : tie.Need-add-run-requires
-add-run-requires c κs = (search needs, (omega (arith, selected-count _ _ _ _ (c .before .before .before .before .before .before .before .before .before .before .select .ensures) _ (c .before .before .before .before .before .before .before .selected .given .1)), search needs))
+add-run-requires c κs = (search needs, (omega (arith, selected-count _ _ _ _ (c .before .before .before .before .select .ensures) _ (c .before .selected .given .1)), search needs))
+
+sub-put-listed : tie.Need-sub-put-listed
+sub-put-listed c = search needs
+
+part-put-listed-start : tie.Need-part-put-listed-start
+part-put-listed-start c = search needs
+
+part-put-listed-end : tie.Need-part-put-listed-end
+part-put-listed-end c = omega (arith, selected-count _ _ _ _ (c .before .before .before .before .before .before .select .ensures) _ (c .before .before .before .selected .given .1))
+
+put-listed-requires : tie.Need-put-listed-requires
+put-listed-requires c κs = (omega (arith, selected-count _ _ _ _ (c .before .before .before .before .before .before .before .before .select .ensures) _ (c .before .before .before .before .before .selected .given .1)), search needs)
 
 enum-known-selected-2 : tie.Need-enum-known-selected-2
 enum-known-selected-2 c = search needs
@@ -50,7 +50,7 @@ same-length : tie.Need-same-length
 same-length c = search needs
 
 returns : tie.Need-returns
-returns c = selected-run _ _ _ _ (c .before .before .before .before .before .before .before .before .before .before .before .select .ensures) (search needs) _ (c .before .before .before .before .before .before .before .before .selected .given .1) (c .before .before .before .put-lines .ensures) (c .add-run .ensures)
+returns c = selected-run _ _ _ _ (c .before .before .before .before .before .before .before .before .before .before .before .select .ensures) (search needs) _ (c .before .before .before .before .before .before .before .before .selected .given .1) _ (c .before .before .before .before .before .before .add-run .ensures) _ (c .before .before .put-listed .ensures)
 
 same-length-2 : tie.Need-same-length-2
 same-length-2 c = search needs
@@ -65,11 +65,11 @@ put-run-spec =
     slice-aggregate-select
     select-requires
     enum-known-selected
-    sub-put-lines
-    part-put-lines-start
-    part-put-lines-end
-    put-lines-requires
     add-run-requires
+    sub-put-listed
+    part-put-listed-start
+    part-put-listed-end
+    put-listed-requires
     enum-known-selected-2
     number-requires
     place-in-file-requires

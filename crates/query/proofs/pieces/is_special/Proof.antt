@@ -1,6 +1,6 @@
 -- `query::pieces::is_special` meets its contract: the arm's keys are the bytes that a backslash makes plain. Assumes nothing.
 use Rattle.base.proofs.Lists.{member-arm, member-rest}
-use Rattle.query.specs.Spelling.{isSpecial}
+use Rattle.query.specs.Reader.{isSpecial}
 use Rattle.query.proofs.pieces.is_special.Statement.{statement}
 use Rattle.query.proofs.pieces.is_special.Tie as tie
 
