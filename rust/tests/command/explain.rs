@@ -1,0 +1,54 @@
+//! `sirophan explain`.
+
+use crate::folder::Folder;
+
+/// The tests that decide are underlined, with what each says; a test behind square brackets with them.
+#[test]
+fn explain_underlines_the_tests_that_decide() {
+    let sheet = "string title\nnumber pages\nbundle related\ntoken related.type\nreference related.target\n";
+    let cards = "record: 1\ntitle Ward book 4\npages 12\nrecord: 7\ntitle Ward\nrelated#1.type x\nrelated#1.target a/1\n\
+                 record: 7\npages 300\n";
+    let filter = "title eq x or pages gt 5 and not (related[type eq x].target pr true)";
+    let folder = Folder::packed("explain", sheet, cards, filter);
+    folder.run(&["explain", "--record", "1", "sheet.bin", "filter.txt", "cards.bin"]).says(
+        0,
+        "card 0, record 1: yes\n\
+         title eq x or pages gt 5 and not (related[type eq x].target pr true)\n\
+         \x20             ^^^^^^^^^^          ^^^^^^^^^^^^^^^^^^^^^^^^^^^^^^^^^\n\
+         \x20             yes                 no\n",
+        "",
+    );
+    // two cards with the number
+    let both = folder.run(&["explain", "--record=7", "--json", "sheet.bin", "filter.txt", "cards.bin"]);
+    both.says(
+        0,
+        "{\"card\":1,\"record\":7,\"matches\":false,\"tests\":[{\"place\":0,\"test\":\"title eq x\",\"mark\":\"no\"},\
+         {\"place\":14,\"test\":\"pages gt 5\",\"mark\":\"no\"},\
+         {\"place\":34,\"test\":\"related[type eq x].target pr true\",\"mark\":\"spared\"}]}\n\
+         {\"card\":2,\"record\":7,\"matches\":true,\"tests\":[{\"place\":0,\"test\":\"title eq x\",\"mark\":\"spared\"},\
+         {\"place\":14,\"test\":\"pages gt 5\",\"mark\":\"yes\"},\
+         {\"place\":34,\"test\":\"related[type eq x].target pr true\",\"mark\":\"no\"}]}\n",
+        "",
+    );
+}
+
+/// Without a number, without such a card, and where the card is refused there is no answer.
+#[test]
+fn explain_refuses() {
+    let folder = Folder::packed("explain-refuses", "number n\n", "record: 1\nn 1\nrecord: 2\nn 2\n", "n eq 1");
+    folder
+        .run(&["explain", "sheet.bin", "filter.txt", "cards.bin"])
+        .fails(1, "sirophan: explain needs --record and the number of the card's record.\n");
+    folder
+        .run(&["explain", "--record", "3", "sheet.bin", "filter.txt", "cards.bin"])
+        .fails(2, "cards.bin: no card has the record number 3.\n");
+    folder.change("cards.bin", |cards| cards[512 + 100] = 1);
+    let refused = folder.run(&["explain", "--record", "2", "sheet.bin", "filter.txt", "cards.bin"]);
+    assert_eq!((refused.status, refused.output.as_str()), (2, ""));
+    assert!(refused.errors.starts_with("cards.bin: refused 21 at 1: "), "{}", refused.errors);
+    assert_eq!(folder.run(&["explain", "--record", "1", "sheet.bin", "filter.txt", "cards.bin"]).status, 0);
+    folder.change("cards.bin", |cards| cards.truncate(600));
+    let refused = folder.run(&["explain", "--record", "1", "sheet.bin", "filter.txt", "cards.bin"]);
+    assert_eq!((refused.status, refused.output.as_str()), (2, ""));
+    assert!(refused.errors.starts_with("cards.bin: refused 20 at 0: "), "{}", refused.errors);
+}

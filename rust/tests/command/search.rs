@@ -1,0 +1,154 @@
+//! `sirophan search`.
+
+use crate::folder::Folder;
+
+#[test]
+fn search_lists_and_counts() {
+    let folder = Folder::ward("search");
+    folder.search("title=ward").says(0, "7\n19\n2 of 3\n", "");
+    folder.search("birthdate=lt1975&title=ward,admissions\n").says(0, "7\n300\n2 of 3\n", "");
+    folder.search("title=admissions\\,+men&pages=ge50,12").says(0, "300\n1 of 3\n", "");
+    folder.write("string.txt", "code=http://loinc.org|1234-5\n");
+    let files = ["sheet.bin", "string.txt", "cards.bin"];
+    let lines = "{\"record\":7}\n{\"record\":19}\n{\"matching\":2,\"cards\":3}\n";
+    folder.run(&["search", files[0], files[1], files[2], "--json", "--stream"]).says(0, lines, "");
+    folder.run(&["search", "sheet.bin", "title=ward", "cards.bin"]).fails(
+        3,
+        "sirophan: title=ward cannot be opened: No such file or directory\n\
+         \x20 This is to be a file. The text itself can be given on standard input, with - as the file.\n",
+    );
+    folder.change("cards.bin", |cards| cards[600] ^= 1);
+    let damaged = folder.search("title=ward");
+    assert_eq!((damaged.status, damaged.output.as_str()), (2, ""));
+    assert!(damaged.errors.starts_with("cards.bin: refused 21 at 1: "), "{}", damaged.errors);
+}
+
+/// The pair at fault is underlined, and what to do stands below.
+#[test]
+fn search_helps_with_strings() {
+    let sheet = "string title\nnumber pages\ndate birthdate\nperiod stay\nbundle related\ntoken related.type\n";
+    let folder = Folder::packed("search-strings", sheet, "record: 1\n", "title pr true");
+    let no_pair = "A part of the search string is no pair: it has no \"=\", or a % without two hex digits behind it.";
+    let unknown = "The name is not on the sheet, or cannot stand here: members are named with their bundle's brackets.";
+    let unreadable = "The value cannot be read as the parameter's kind, or for pr as true or false.";
+    let no_meaning = "The operator has no meaning for a parameter of this kind.";
+    let pair = "A pair is a name, = and a value, as in `title=ward`. An & in a value is written %26.";
+    let cases = [
+        ("title=a&ward", 50, 8..12, no_pair, pair),
+        ("title=a&&pages=1", 50, 8..9, no_pair, "There is no pair before or behind an &. Leave the & out."),
+        ("title=a&", 50, 8..9, no_pair, "There is no pair before or behind an &. Leave the & out."),
+        ("title=5%", 50, 0..8, no_pair, "Behind % stand two hex digits. A % itself is written %25."),
+        ("tilte=x&pages=1", 14, 0..7, unknown, "tilte is not on the sheet. Is it title?"),
+        ("title:exact=x", 14, 0..13, unknown, "Search strings have no modifiers. Leave out what is behind title."),
+        ("ward=x", 14, 0..6, unknown, "ward is not on the sheet. There are title, pages, birthdate and stay."),
+        (
+            "type=x",
+            14,
+            0..6,
+            unknown,
+            "type is a member of related. Write `related[type pr true].type` in place of type.\n  Search strings ask for no \
+             bundles and no members. `sirophan pick` takes filters, which do.",
+        ),
+        (
+            "related=x",
+            14,
+            0..9,
+            unknown,
+            "related is a bundle of type. Write `related[type pr true].type pr true`.\n  Search strings ask for no bundles and \
+             no members. `sirophan pick` takes filters, which do.",
+        ),
+        (
+            "title=a&pages=1,sa5,x",
+            16,
+            8..21,
+            no_meaning,
+            "pages is a number, which has the prefixes eq, ne, gt, lt, ge and le.\n  sa is for dates and periods. If that is \
+             what pages holds, the sheet gives it the wrong kind.",
+        ),
+        (
+            "pages=1,getwelve",
+            17,
+            0..16,
+            unreadable,
+            "pages is a number, and twelve cannot be read as one: 1 to 8 digits, then perhaps a point and 1 to 9 digits.",
+        ),
+        (
+            "stay=1974/",
+            17,
+            0..10,
+            unreadable,
+            "stay is a period, which is asked by a date, and 1974/ cannot be read as one: YYYY, YYYY-MM, YYYY-MM-DD, or \
+             YYYY-MM-DDThh:mm:ss with Z or a zone such as +02:00.",
+        ),
+        (
+            "birthdate=1974-06-01T00:00:00+01:00",
+            17,
+            0..35,
+            unreadable,
+            "birthdate is a date, and 1974-06-01T00:00:00 01:00 cannot be read as one: YYYY, YYYY-MM, YYYY-MM-DD, or \
+             YYYY-MM-DDThh:mm:ss with Z or a zone such as +02:00.\n  A + stands for a space. A plus itself is written %2B.",
+        ),
+    ];
+    for (string, number, part, sentence, help) in cases {
+        let carets = format!("{}{}", " ".repeat(part.start), "^".repeat(part.len()));
+        let message =
+            format!("{string}\n{carets}\nstandard input: refused {number} at {}: {sentence}\n  {help}\n", part.start);
+        folder.search(string).fails(2, &message);
+    }
+    folder.search("title=a").says(0, "0 of 1\n", "");
+}
+
+#[test]
+fn search_helps_with_sizes_and_with_filters() {
+    let folder = Folder::ward("search-sizes");
+    folder.search("").fails(
+        2,
+        "standard input: refused 10 at 0: The filter or search string is empty or longer than 1,024 bytes.\n  It has 0 bytes.\n",
+    );
+    folder.search(&format!("title={}&pages=1", ",".repeat(32))).fails(
+        2,
+        "standard input: refused 51 at 0: The search string has more than 32 alternatives.\n\
+         \x20 It has 34, over all pairs. Each comma makes one more; a comma of the text is written \\,.\n",
+    );
+    folder.search("title co ward").fails(
+        2,
+        "title co ward\n^^^^^^^^^^^^^\nstandard input: refused 50 at 0: A part of the search string is no pair: it has no \
+         \"=\", or a % without two hex digits behind it.\n\
+         \x20 It is a filter, and `sirophan pick` takes those.\n\
+         \x20 A pair is a name, = and a value, as in `title=ward`. An & in a value is written %26.\n",
+    );
+    let picked = folder.pick("title=ward");
+    assert!(picked.errors.contains("\n  It is a search string, and `sirophan search` takes those.\n"), "{picked:?}");
+    assert_eq!((picked.status, picked.output.as_str()), (2, ""));
+}
+
+#[test]
+fn search_says_what_may_be_meant_otherwise() {
+    let folder = Folder::packed(
+        "search-doubts",
+        "string title\ntoken birthdate\n",
+        "record: 1\ntitle x\nbirthdate 1974\n",
+        "title pr true",
+    );
+    folder.search("birthdate=1980").says(
+        0,
+        "0 of 1\n",
+        "warning: birthdate is a token, and 1 of 1 value looks like a date.\n\
+         \x20 If it holds dates, the sheet gives it the wrong kind, and a filter asks something else than it seems to.\n",
+    );
+    let quotes = "asks for its quotes too.\n  A search string has no quotes: leave them out.\n";
+    folder.search("title=%22x%22").says(0, "0 of 1\n", &format!("warning: the value \"\\\"x\\\"\" of title {quotes}"));
+    folder.search("title='x'").says(0, "0 of 1\n", &format!("warning: the value 'x' of title {quotes}"));
+    folder.search("title=x\r\n").says(
+        0,
+        "0 of 1\n",
+        "warning: the search string has a line end in it, and asks for it too.\n\
+         \x20 Save it with one line feed at its end, or without a line end.\n",
+    );
+    folder.search("title=%F6").says(
+        0,
+        "0 of 1\n",
+        "warning: the search string seems to be in another encoding: not UTF-8, perhaps Latin-1.\n\
+         \x20 Letters beyond ASCII have other bytes there: on cards in UTF-8 it does not find them.\n",
+    );
+}

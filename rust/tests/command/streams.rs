@@ -1,0 +1,89 @@
+//! Files that cannot be read, and outputs that cannot be written.
+
+use crate::folder::{Folder, PROGRAM, REPOSITORY};
+use std::fs;
+use std::process::Command;
+
+#[test]
+fn files_that_are_missing() {
+    let folder = Folder::ward("missing");
+    let commands: [&[&str]; 6] = [
+        &["pick", "none", "filter.txt", "cards.bin"],
+        &["pick", "sheet.bin", "filter.txt", "none"],
+        &["check", "sheet.bin", "none"],
+        &["fields", "sheet.bin", "none"],
+        &["show", "none"],
+        &["fields", "none", "cards.bin"],
+    ];
+    for command in commands {
+        folder.run(command).fails(3, "sirophan: none cannot be opened: No such file or directory\n");
+    }
+    folder
+        .run(&["pack", "none", "new"])
+        .fails(3, "sirophan: none/filter.txt cannot be opened: No such file or directory\n");
+    folder.run(&["verify", "none"]).fails(3, "sirophan: none/sheet.bin cannot be opened: No such file or directory\n");
+    folder.run(&["check", "sheet.bin", "title eq x"]).fails(
+        3,
+        "sirophan: title eq x cannot be opened: No such file or directory\n\
+         \x20 This is to be a file. The text itself can be given on standard input, with - as the file.\n",
+    );
+    folder.run(&["pick", "sheet.bin", "filter.txt", "."]).fails(3, "sirophan: . cannot be read: Is a directory\n");
+    assert_eq!(folder.files(), ["cards.bin", "filter.txt", "sheet.bin"]);
+}
+
+#[test]
+fn folders_that_cannot_be_written() {
+    let folder = Folder::ward("unwritable");
+    let ward = format!("{REPOSITORY}/examples/ward");
+    folder.run(&["pack", &ward, "sheet.bin"]).fails(3, "sirophan: sheet.bin cannot be made: File exists\n");
+    fs::create_dir_all(folder.path.join("out/cards.bin")).unwrap();
+    folder.run(&["pack", &ward, "out"]).fails(3, "sirophan: out/cards.bin cannot be replaced: Is a directory\n");
+    assert!(!folder.path.join("out/cards.bin.new").exists());
+    // On a full disk the archive that was there stays, and nothing else.
+    folder.change("cards.bin", |cards| cards.truncate(512));
+    std::os::unix::fs::symlink("/dev/full", folder.path.join("cards.bin.new")).unwrap();
+    folder.run(&["pack", &ward, "."]).fails(3, "sirophan: ./cards.bin cannot be written: No space left on device\n");
+    assert_eq!(folder.files(), ["cards.bin", "filter.txt", "out", "sheet.bin"]);
+    assert_eq!(folder.read("cards.bin").len(), 512);
+}
+
+#[test]
+fn outputs_that_are_full() {
+    let folder = Folder::ward("full");
+    let commands: [&[&str]; 8] = [
+        &["pick", "sheet.bin", "filter.txt", "cards.bin"],
+        &["pick", "--stream", "sheet.bin", "filter.txt", "cards.bin"],
+        &["check", "sheet.bin", "filter.txt"],
+        &["fields", "sheet.bin", "cards.bin"],
+        &["show", "cards.bin"],
+        &["verify", "."],
+        &["pack", "--help"],
+        &["--version"],
+    ];
+    for command in commands {
+        let full = fs::OpenOptions::new().write(true).open("/dev/full").unwrap();
+        let output = Command::new(PROGRAM).args(command).current_dir(&folder.path).stdout(full).output().unwrap();
+        let errors = String::from_utf8(output.stderr).unwrap();
+        assert_eq!(errors, "sirophan: standard output cannot be written: No space left on device\n", "{command:?}");
+        assert_eq!(output.status.code(), Some(3), "{command:?}");
+    }
+}
+
+/// Where the reader of standard output has gone the command ends, and says nothing.
+#[test]
+fn pipes_that_are_closed() {
+    let cards: String = (0..3000).map(|record| format!("record: {record}\n")).collect();
+    let folder = Folder::packed("closed", "string title\n", &cards, "title pr false\n");
+    let commands: [&[&str]; 3] = [
+        &["pick", "sheet.bin", "filter.txt", "cards.bin"],
+        &["pick", "--stream", "sheet.bin", "filter.txt", "cards.bin"],
+        &["show", "cards.bin"],
+    ];
+    for command in commands {
+        let (reader, writer) = std::io::pipe().unwrap();
+        drop(reader);
+        let output = Command::new(PROGRAM).args(command).current_dir(&folder.path).stdout(writer).output().unwrap();
+        assert_eq!(String::from_utf8(output.stderr).unwrap(), "", "{command:?}");
+        assert_eq!(output.status.code(), Some(3), "{command:?}");
+    }
+}
