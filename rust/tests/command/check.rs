@@ -15,19 +15,20 @@ fn check_answers_with_the_tests() {
     );
     folder.run_with(&["check", "--json", "sheet.bin", "-"], b"pages gt 5").says(
         0,
-        "{\"count\":1,\"tests\":[{\"field\":\"pages\",\"kind\":\"number\",\"operator\":\"gt\",\"value\":\"5\"}]}\n",
+        "{\"count\":1,\"tests\":[{\"field\":\"pages\",\"kind\":\"number\",\"operator\":\"gt\",\"value\":\"5\"}],\"warnings\":[]}\n",
         "",
     );
     folder.run_with(&["check", "--json", "sheet.bin", "-"], b"title co \"a\\tb \\\\ c\"").says(
         0,
-        "{\"count\":1,\"tests\":[{\"field\":\"title\",\"kind\":\"string\",\"operator\":\"co\",\"value\":\"a\\u0009b \\\\ c\"}]}\n",
+        "{\"count\":1,\"tests\":[{\"field\":\"title\",\"kind\":\"string\",\"operator\":\"co\",\"value\":\"a\\u0009b \\\\ c\"}],\"warnings\":[]}\n",
         "",
     );
     let folder = Folder::packed("check-name", "token discharge-date\n", "record: 1\n", "discharge-date eq 1974");
     folder.run(&["check", "sheet.bin", "filter.txt"]).says(
         0,
         "1 test\n  discharge-date  token  eq  1974\n",
-        "warning: discharge-date is a token, and its name speaks of a date.\n  `sirophan fields` shows what it holds.\n",
+        "warning: the value 1974 of discharge-date looks like a date, and discharge-date is a token: it is asked as a text.\n\
+         \x20 `sirophan fields` shows what it holds.\n",
     );
 }
 
@@ -112,7 +113,11 @@ fn check_helps_with_texts_that_are_no_filters() {
         ("title eq \"a\"b", 12, "Here could stand `and`, `or` or the end. Words have a space before them."),
         ("title eq x)", 10, "Here could stand `and`, `or` or the end. Words have a space before them."),
         ("(title eq x", 11, "Here could stand `)`, `and` or `or`. Words have a space before them."),
-        ("not title eq x", 4, "Here could stand `(`."),
+        (
+            "not title eq x",
+            4,
+            "Behind not stands a filter in brackets: write `not (title eq x)`.\n  Here could stand `(`.",
+        ),
         ("title eq x and", 14, "Here could stand a name or `(`. Words have a space before them."),
         ("related[].target pr true", 8, "Here could stand a name or `(`."),
         ("related[type eq x", 17, "Here could stand `]`, `and` or `or`. Words have a space before them."),
@@ -154,14 +159,14 @@ fn check_helps_with_texts_that_are_no_filters() {
             "title eq x\r\n",
             "title eq x\u{FFFD}\n          ^",
             10,
-            "It has a Windows line end (0x0D). Save it with a line feed alone, or without a line end.",
+            "It has a Windows line end (0x0D). Save it with a line feed alone, or mend it by `tr -d '\\r' < OLD > NEW`.",
             format!("Here could stand `and`, `or` or the end. {words}"),
         ),
         (
             "\u{FEFF}title eq x",
             "\u{FEFF}title eq x\n^",
             0,
-            "It has a byte order mark (EF BB BF). Save it as UTF-8 without one.",
+            "It has a byte order mark (EF BB BF). Save it as UTF-8 without one, or mend it by `tail -c +4 OLD > NEW`.",
             "Here could stand a name or `(`.".into(),
         ),
         (

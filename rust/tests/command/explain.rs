@@ -15,8 +15,11 @@ fn explain_underlines_the_tests_that_decide() {
         "card 0, record 1: yes\n\
          title eq x or pages gt 5 and not (related[type eq x].target pr true)\n\
          \x20             ^^^^^^^^^^          ^^^^^^^^^^^^^^^^^^^^^^^^^^^^^^^^^\n\
-         \x20             yes                 no\n",
-        "",
+         \x20             yes                 no\n\
+         \x20 pages gt 5                          yes: 12\n\
+         \x20 related[type eq x].target pr true   no: no related.target on this card\n",
+        "warning: `and` and `or` are read from left to right, with equal rank. The filter asks:\n\
+         \x20 (title eq x or pages gt 5) and not (related[type eq x].target pr true)\n",
     );
     // two cards with the number
     let both = folder.run(&["explain", "--record=7", "--json", "sheet.bin", "filter.txt", "cards.bin"]);
@@ -24,10 +27,14 @@ fn explain_underlines_the_tests_that_decide() {
         0,
         "{\"card\":1,\"record\":7,\"matches\":false,\"tests\":[{\"place\":0,\"test\":\"title eq x\",\"mark\":\"no\"},\
          {\"place\":14,\"test\":\"pages gt 5\",\"mark\":\"no\"},\
-         {\"place\":34,\"test\":\"related[type eq x].target pr true\",\"mark\":\"spared\"}]}\n\
+         {\"place\":34,\"test\":\"related[type eq x].target pr true\",\"mark\":\"spared\"}],\"warnings\":[]}\n\
          {\"card\":2,\"record\":7,\"matches\":true,\"tests\":[{\"place\":0,\"test\":\"title eq x\",\"mark\":\"spared\"},\
          {\"place\":14,\"test\":\"pages gt 5\",\"mark\":\"yes\"},\
-         {\"place\":34,\"test\":\"related[type eq x].target pr true\",\"mark\":\"no\"}]}\n",
+         {\"place\":34,\"test\":\"related[type eq x].target pr true\",\"mark\":\"no\"}],\"warnings\":[{\"level\":\"warning\",\"code\":\"joins\",\"message\":\"`and` and `or` \
+         are read from left to right, with equal rank. The filter asks:\",\"help\":[\"(title eq x or pages gt 5) and not \
+         (related[type eq x].target pr true)\"]},{\"level\":\"warning\",\"code\":\"record_repeated\",\"message\":\"cards.bin: a \
+         record number is borne by several cards: 7 (2 cards).\",\"help\":[\"A list names them by the number alone, once for each \
+         card that matches.\"],\"figures\":{\"records\":1,\"cards\":2}}]}\n",
         "",
     );
 }
@@ -36,9 +43,10 @@ fn explain_underlines_the_tests_that_decide() {
 #[test]
 fn explain_refuses() {
     let folder = Folder::packed("explain-refuses", "number n\n", "record: 1\nn 1\nrecord: 2\nn 2\n", "n eq 1");
-    folder
-        .run(&["explain", "sheet.bin", "filter.txt", "cards.bin"])
-        .fails(1, "sirophan: explain needs --record and the number of the card's record.\n");
+    folder.run(&["explain", "sheet.bin", "filter.txt", "cards.bin"]).fails(
+        1,
+        "sirophan: explain needs --record and the number of the card's record, or --all for every card of the list.\n",
+    );
     folder
         .run(&["explain", "--record", "3", "sheet.bin", "filter.txt", "cards.bin"])
         .fails(2, "cards.bin: no card has the record number 3.\n");

@@ -30,7 +30,7 @@ fn fields_show_what_the_cards_hold() {
     folder.run(&["fields", "--json", "sheet.bin", "cards.bin"]).says(
         0,
         "{\"cards\":1,\"fields\":[{\"field\":\"d\",\"kind\":\"date\",\"cards\":1,\"values\":1,\"example\":\"1974\",\
-         \"looks_like\":null,\"warnings\":[]}]}\n",
+         \"looks_like\":null,\"warnings\":[]}],\"warnings\":[]}\n",
         "",
     );
 }

@@ -20,7 +20,7 @@ fn pack_writes_blocks() {
     let cards = folder.read("cards.bin");
     assert!(cards.starts_with(b"\x44\x07\0\0\0\x03\x02\0\x01x\0\x01\x01a\x04\xFF\x041974\0"));
     assert!(cards[512..].starts_with(b"\x43\x08\0\0\0\x02\0\x01a\x04\x041974\0"));
-    let json = "{\"cards\":2,\"parameters\":5}\n";
+    let json = "{\"cards\":2,\"parameters\":5,\"warnings\":[]}\n";
     folder.run(&["pack", "--json", ".", "new"]).says(0, json, "");
 }
 
@@ -32,8 +32,8 @@ fn pack_tells_the_faults_of_cards() {
     let before = folder.read("cards.bin");
     let lines = [
         ("title x", "title stands before the first record number. A card begins with `record:` and a number."),
-        ("record: x", "x is no record number: it is a number up to 4294967295."),
-        ("record: 4294967296", "4294967296 is no record number: it is a number up to 4294967295."),
+        ("record: x", "x is no record number: it is a number up to 4,294,967,295."),
+        ("record: 4294967296", "4294967296 is no record number: it is a number up to 4,294,967,295."),
         ("record: 1", ""),
         ("", ""),
         ("# title", ""),
@@ -200,7 +200,12 @@ fn packed_texts_are_shown_again() {
         expected += &format!("{{\"card\":{index},\"record\":{record},\"entries\":[{entries}],\"faults\":[]}}\n");
     }
     folder.write("cards.txt", cards);
-    folder.run(&["pack", ".", "."]).says(0, "60 cards and a sheet with 5 parameters, in .\n", "");
+    folder.run(&["pack", ".", "."]).says(
+        0,
+        "60 cards and a sheet with 5 parameters, in .\n",
+        "warning: ./cards.txt: 3 record numbers are borne by several cards: 0 (28 cards), 7 (18 cards) and 4294967295 (14 cards).\n\
+         \x20 A list names them by the number alone, once for each card that matches.\n",
+    );
     folder.run(&["show", "--json", "cards.bin"]).says(0, &expected, "");
     // What is shown to people is the text's spelling in a description: packed again, it gives the same blocks.
     let before = folder.read("cards.bin");

@@ -8,9 +8,9 @@ fn pick_lists_and_counts() {
     let files = ["sheet.bin", "filter.txt", "cards.bin"];
     folder.run(&["pick", files[0], files[1], files[2]]).says(0, "7\n300\n2 of 3\n", "");
     folder.run(&["pick", "--stream", files[0], files[1], files[2]]).says(0, "7\n300\n2 of 3\n", "");
-    let json = "{\"records\":[7,300],\"matching\":2,\"cards\":3}\n";
+    let json = "{\"records\":[7,300],\"matching\":2,\"cards\":3,\"warnings\":[]}\n";
     folder.run(&["pick", "--json", files[0], files[1], files[2]]).says(0, json, "");
-    let lines = "{\"record\":7}\n{\"record\":300}\n{\"matching\":2,\"cards\":3}\n";
+    let lines = "{\"record\":7}\n{\"record\":300}\n{\"matching\":2,\"cards\":3,\"warnings\":[]}\n";
     folder.run(&["pick", files[0], files[1], files[2], "--json", "--stream"]).says(0, lines, "");
     for place in 0..3 {
         let mut paths = files;
@@ -19,7 +19,11 @@ fn pick_lists_and_counts() {
         said.says(0, "7\n300\n2 of 3\n", "");
     }
     folder.write("cards.bin", "");
-    folder.pick("title pr true\n").says(0, "0 of 0\n", "");
+    folder.pick("title pr true\n").says(
+        0,
+        "0 of 0\n",
+        "warning: cards.bin has no cards.\n  It is empty. Is it the file that was meant?\n",
+    );
 }
 
 #[test]
@@ -135,21 +139,25 @@ fn pick_says_what_may_be_meant_otherwise() {
     let encoding = "warning: title: 1 of 2 values seems to be in another encoding, first on record 2: not UTF-8, perhaps Latin-1.\n\
                     \x20 Letters beyond ASCII have other bytes there, and a filter in UTF-8 does not find them.\n";
     let quotes = "warning: the value 'Ward' of title asks for its quotes too.\n  Write \"Ward\" to ask without them.\n";
-    folder.pick("title co 'Ward'").says(0, "0 of 2\n", &format!("{quotes}{encoding}"));
+    let note = |test: &str| format!("note: no card meets `{test}`: 2 of 2 cards have title, such as \"Ward\".\n");
+    folder.pick("title co 'Ward'").says(0, "0 of 2\n", &format!("{quotes}{encoding}{}", note("title co 'Ward'")));
     let joins = "warning: `and` and `or` are read from left to right, with equal rank. The filter asks:\n\
                  \x20 (subject eq loinc|1 or title pr false) and title pr true\n";
     let kind = "warning: subject is a string, and 1 of 1 value looks like a token.\n\
                 \x20 If it holds tokens, the sheet gives it the wrong kind, and a filter asks something else than it seems to.\n";
+    let counts = "note: asked by itself, each is met by so many of 2 cards: `subject eq loinc|1` 0, `title pr false` 0, \
+                  `title pr true` 2.\n";
     let filter = "subject eq loinc|1 or title pr false and title pr true";
-    folder.pick(filter).says(0, "0 of 2\n", &format!("{joins}{encoding}{kind}"));
+    folder.pick(filter).says(0, "0 of 2\n", &format!("{joins}{encoding}{kind}{counts}"));
     let latin = "warning: the filter seems to be in another encoding: not UTF-8, perhaps Latin-1.\n\
                  \x20 Letters beyond ASCII have other bytes there: on cards in UTF-8 it does not find them.\n";
     let said = folder.run_with(&["pick", "sheet.bin", "-", "cards.bin"], b"title eq \"\xD6\"");
-    said.says(0, "0 of 2\n", &format!("{latin}{encoding}"));
+    said.says(0, "0 of 2\n", &format!("{latin}{encoding}{}", note("title eq \"\u{FFFD}\"")));
     let json =
         folder.run_with(&["pick", "--json", "sheet.bin", "-", "cards.bin"], b"title co 'Ward' and subject pr true");
-    let warning = "{\"level\":\"warning\",\"message\":\"the value 'Ward' of title asks for its quotes too.\",\
+    let warning = "{\"level\":\"warning\",\"code\":\"quotes\",\"field\":\"title\",\"message\":\"the value 'Ward' of title asks for its quotes too.\",\
                    \"help\":[\"Write \\\"Ward\\\" to ask without them.\"]}";
-    assert_eq!(json.output, "{\"records\":[],\"matching\":0,\"cards\":2}\n");
-    assert_eq!(json.errors.lines().next(), Some(warning));
+    assert_eq!(json.errors, "");
+    let start = format!("{{\"records\":[],\"matching\":0,\"cards\":2,\"warnings\":[{warning},{{");
+    assert!(json.output.starts_with(&start), "{}", json.output);
 }

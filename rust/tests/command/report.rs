@@ -24,7 +24,7 @@ fn report_counts_cards_and_values() {
         "{\"yes\":2,\"no\":1,\"fields\":[{\"field\":\"title\",\"kind\":\"string\",\"cards\":1,\"values\":1},\
          {\"field\":\"birthdate\",\"kind\":\"date\",\"cards\":2,\"values\":3},\
          {\"field\":\"related\",\"kind\":\"bundle\",\"cards\":0,\"values\":0},\
-         {\"field\":\"related.type\",\"kind\":\"token\",\"cards\":1,\"values\":2}]}\n",
+         {\"field\":\"related.type\",\"kind\":\"token\",\"cards\":1,\"values\":2}],\"warnings\":[]}\n",
         "",
     );
     folder.write("cards.bin", "");

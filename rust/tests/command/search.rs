@@ -10,12 +10,12 @@ fn search_lists_and_counts() {
     folder.search("title=admissions\\,+men&pages=ge50,12").says(0, "300\n1 of 3\n", "");
     folder.write("string.txt", "code=http://loinc.org|1234-5\n");
     let files = ["sheet.bin", "string.txt", "cards.bin"];
-    let lines = "{\"record\":7}\n{\"record\":19}\n{\"matching\":2,\"cards\":3}\n";
+    let lines = "{\"record\":7}\n{\"record\":19}\n{\"matching\":2,\"cards\":3,\"warnings\":[]}\n";
     folder.run(&["search", files[0], files[1], files[2], "--json", "--stream"]).says(0, lines, "");
     folder.run(&["search", "sheet.bin", "title=ward", "cards.bin"]).fails(
         3,
         "sirophan: title=ward cannot be opened: No such file or directory\n\
-         \x20 This is to be a file. The text itself can be given on standard input, with - as the file.\n",
+         \x20 This is to be a file. The text itself is given by -e in its place.\n",
     );
     folder.change("cards.bin", |cards| cards[600] ^= 1);
     let damaged = folder.search("title=ward");
@@ -39,7 +39,13 @@ fn search_helps_with_strings() {
         ("title=a&", 50, 8..9, no_pair, "There is no pair before or behind an &. Leave the & out."),
         ("title=5%", 50, 0..8, no_pair, "Behind % stand two hex digits. A % itself is written %25."),
         ("tilte=x&pages=1", 14, 0..7, unknown, "tilte is not on the sheet. Is it title?"),
-        ("title:exact=x", 14, 0..13, unknown, "Search strings have no modifiers. Leave out what is behind title."),
+        (
+            "title:exact=x",
+            14,
+            0..13,
+            unknown,
+            ":exact is a modifier, and search strings have none here.\n  The filter `title eq x` asks it: `sirophan pick -e 'title eq x'`.\n  Large and small letters are alike in it, other than in :exact.",
+        ),
         ("ward=x", 14, 0..6, unknown, "ward is not on the sheet. There are title, pages, birthdate and stay."),
         (
             "type=x",
@@ -95,7 +101,11 @@ fn search_helps_with_strings() {
             format!("{string}\n{carets}\nstandard input: refused {number} at {}: {sentence}\n  {help}\n", part.start);
         folder.search(string).fails(2, &message);
     }
-    folder.search("title=a").says(0, "0 of 1\n", "");
+    folder.search("title=a").says(
+        0,
+        "0 of 1\n",
+        "warning: no card meets `title=a`: no card has title.\n  `sirophan fields` shows what the cards have.\n",
+    );
 }
 
 #[test]
@@ -137,18 +147,24 @@ fn search_says_what_may_be_meant_otherwise() {
          \x20 If it holds dates, the sheet gives it the wrong kind, and a filter asks something else than it seems to.\n",
     );
     let quotes = "asks for its quotes too.\n  A search string has no quotes: leave them out.\n";
-    folder.search("title=%22x%22").says(0, "0 of 1\n", &format!("warning: the value \"\\\"x\\\"\" of title {quotes}"));
-    folder.search("title='x'").says(0, "0 of 1\n", &format!("warning: the value 'x' of title {quotes}"));
+    let note = |pair: &str| format!("note: no card meets `{pair}`: 1 of 1 card has title, such as \"x\".\n");
+    let quoted = format!("warning: the value \"\\\"x\\\"\" of title {quotes}{}", note("title=%22x%22"));
+    folder.search("title=%22x%22").says(0, "0 of 1\n", &quoted);
+    let quoted = format!("warning: the value 'x' of title {quotes}{}", note("title='x'"));
+    folder.search("title='x'").says(0, "0 of 1\n", &quoted);
     folder.search("title=x\r\n").says(
         0,
         "0 of 1\n",
         "warning: the search string has a line end in it, and asks for it too.\n\
-         \x20 Save it with one line feed at its end, or without a line end.\n",
+         \x20 Save it with one line feed at its end, or without a line end.\n\
+         warning: no card meets `title=x\u{FFFD}`: 1 value differs only in spaces, such as \"x\".\n\
+         \x20 Such texts are compared byte by byte: copy it from a card. It stands on record 1.\n",
     );
     folder.search("title=%F6").says(
         0,
         "0 of 1\n",
         "warning: the search string seems to be in another encoding: not UTF-8, perhaps Latin-1.\n\
-         \x20 Letters beyond ASCII have other bytes there: on cards in UTF-8 it does not find them.\n",
+         \x20 Letters beyond ASCII have other bytes there: on cards in UTF-8 it does not find them.\n\
+         note: no card meets `title=%F6`: 1 of 1 card has title, such as \"x\".\n",
     );
 }

@@ -20,12 +20,12 @@ fn files_that_are_missing() {
     }
     folder
         .run(&["pack", "none", "new"])
-        .fails(3, "sirophan: none/filter.txt cannot be opened: No such file or directory\n");
+        .fails(3, "sirophan: none/sheet.txt cannot be opened: No such file or directory\n");
     folder.run(&["verify", "none"]).fails(3, "sirophan: none/sheet.bin cannot be opened: No such file or directory\n");
     folder.run(&["check", "sheet.bin", "title eq x"]).fails(
         3,
         "sirophan: title eq x cannot be opened: No such file or directory\n\
-         \x20 This is to be a file. The text itself can be given on standard input, with - as the file.\n",
+         \x20 This is to be a file. The text itself is given by -e in its place.\n",
     );
     folder.run(&["pick", "sheet.bin", "filter.txt", "."]).fails(3, "sirophan: . cannot be read: Is a directory\n");
     assert_eq!(folder.files(), ["cards.bin", "filter.txt", "sheet.bin"]);

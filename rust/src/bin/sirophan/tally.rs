@@ -1,44 +1,112 @@
-//! What the cards have under each parameter of a sheet: how many, an example, and whether all values of a field look
-//! like those of another kind.
+//! What the cards have under each parameter of a sheet: how many, an example, what the values look like; and which record
+//! numbers there are.
 
 use crate::block::{self, SIZE};
 use crate::cards::{self, AtFault};
 use crate::input::Input;
-use crate::kind::{self, Reader};
-use crate::report::{Failure, Message};
+use crate::kind;
+use crate::looks::{self, Look, Spelling};
+use crate::report::Failure;
 use crate::sheet::Sheet;
 use crate::text;
 
-/// A kind that values of another kind may look like. What a text can be read as says the library; that is too wide
-/// where four digits may be a year or a count, and where nearly every text can be read as a token.
-struct Likeness {
+/// What values may look like that are of another kind.
+pub struct Likeness {
     /// The kind that the values look like.
-    kind: &'static str,
-    /// The kinds that this is doubtful for. Codes and references of digits alone are common, and no doubt.
+    pub kind: &'static str,
+    /// One value that does, and several.
+    pub one: &'static str,
+    pub many: &'static str,
+    /// The kinds that this is doubtful for.
     doubtful: &'static [&'static str],
-    /// Whether a text that can be read as the kind also looks like it.
-    looks: fn(&[u8]) -> bool,
+    /// How a value is spelled that looks like it.
+    spelling: fn(&Look, &[u8], own: &str) -> Option<Spelling>,
 }
 
-/// Likenesses, the more telling first. A further one is another row.
-const LIKENESSES: [Likeness; 4] = [
-    Likeness { kind: "date", doubtful: &["string", "number", "token", "reference"], looks: is_likely_date },
-    Likeness { kind: "period", doubtful: &["string", "token", "reference"], looks: |_| true },
-    Likeness { kind: "number", doubtful: &["string"], looks: |_| true },
-    Likeness { kind: "token", doubtful: &["string", "reference"], looks: has_system },
+/// Likenesses, the more telling first. A further one is another row. Numbers under a token are only those that no code is
+/// spelled like: codes of digits alone are common.
+pub const LIKENESSES: [Likeness; 5] = [
+    Likeness {
+        kind: "date",
+        one: "a date",
+        many: "dates",
+        doubtful: &["string", "number", "token", "reference"],
+        spelling: |look, _, _| look.date,
+    },
+    Likeness {
+        kind: "period",
+        one: "a period",
+        many: "periods",
+        doubtful: &["string", "token", "reference"],
+        spelling: |look, _, _| look.period,
+    },
+    Likeness {
+        kind: "period",
+        one: "a date or a period",
+        many: "dates or periods",
+        doubtful: &["string", "token", "reference"],
+        spelling: |look, _, _| look.date.or(look.period),
+    },
+    Likeness {
+        kind: "number",
+        one: "a number",
+        many: "numbers",
+        doubtful: &["string", "token"],
+        spelling: |look, value, own| if own == "token" { look.certain_number(value) } else { look.number },
+    },
+    Likeness {
+        kind: "token",
+        one: "a token",
+        many: "tokens",
+        doubtful: &["string", "reference"],
+        spelling: |look, _, _| look.token.then_some(Spelling::Readable),
+    },
 ];
 
-/// Four digits alone are taken for a year from 1500 to 2099.
-fn is_likely_date(date: &[u8]) -> bool {
-    date.len() > 4 || (&b"1500"[..]..&b"2100"[..]).contains(&date)
+/// How many of the values that do not look like a kind are shown.
+const OTHERS: usize = 2;
+/// Bare years count as dates where so many times as many values are years as are other digits alone: else they are codes.
+const YEARS_TO_DIGITS: u64 = 9;
+
+/// A value with the index of its card.
+pub type Found = (u64, Vec<u8>);
+
+/// The values that look like one kind.
+#[derive(Clone, Debug, Default)]
+pub struct Alike {
+    pub count: u64,
+    /// How many of them cannot be read as the kind, and the first of those.
+    pub unreadable: u64,
+    pub first_unreadable: Option<Found>,
+    /// The first values that do not look like it.
+    pub others: Vec<Found>,
 }
 
-/// A system is an address before a bar.
-fn has_system(token: &[u8]) -> bool {
-    token
-        .split(|&byte| byte == b'|')
-        .next()
-        .is_some_and(|system| system.len() < token.len() && system.windows(3).any(|window| window == b"://"))
+impl Alike {
+    fn add(&mut self, other: Alike) {
+        self.count += other.count;
+        self.unreadable += other.unreadable;
+        self.first_unreadable = first(self.first_unreadable.take(), other.first_unreadable, |found| found.0);
+        let mut others = [std::mem::take(&mut self.others), other.others].concat();
+        others.sort();
+        others.into_iter().for_each(|(index, text)| self.add_other(index, &text));
+    }
+
+    /// Counts a value that looks like the kind.
+    fn take(&mut self, spelling: Spelling, index: u64, value: &[u8]) {
+        self.count += 1;
+        if spelling == Spelling::Other {
+            self.unreadable += 1;
+            self.first_unreadable.get_or_insert_with(|| (index, value.to_vec()));
+        }
+    }
+
+    /// Keeps a value that does not look like the kind, if it is one of the first.
+    fn add_other(&mut self, index: u64, value: &[u8]) {
+        if self.others.len() < OTHERS && self.others.iter().all(|(_, other)| other != value) {
+            self.others.push((index, value.to_vec()));
+        }
+    }
 }
 
 /// What the cards have under one parameter.
@@ -46,13 +114,15 @@ fn has_system(token: &[u8]) -> bool {
 pub struct Field {
     pub cards: u64,
     pub values: u64,
-    /// The first value, with the index of its card.
-    pub example: Option<(u64, Vec<u8>)>,
-    /// How many values look like those of another kind, as long as all do.
-    alike: [u64; LIKENESSES.len()],
+    /// The first value.
+    pub example: Option<Found>,
+    pub alike: [Alike; LIKENESSES.len()],
+    /// How many values are digits alone: likely years, and others.
+    years: u64,
+    digits: u64,
     /// How many values seem to be in another encoding, and the first card that has one: index, record and why.
-    strange: u64,
-    first_strange: Option<(u64, u32, &'static str)>,
+    pub strange: u64,
+    pub first_strange: Option<(u64, u32, &'static str)>,
 }
 
 impl Field {
@@ -60,50 +130,27 @@ impl Field {
     fn add(&mut self, other: Field) {
         self.cards += other.cards;
         self.values += other.values;
+        self.years += other.years;
+        self.digits += other.digits;
         self.strange += other.strange;
         self.example = first(self.example.take(), other.example, |example| example.0);
         self.first_strange = first(self.first_strange.take(), other.first_strange, |strange| strange.0);
-        for (count, more) in self.alike.iter_mut().zip(other.alike) {
-            *count += more;
-        }
+        self.alike.iter_mut().zip(other.alike).for_each(|(alike, more)| alike.add(more));
     }
 
-    /// The kind that all values look like, if it is another one's.
-    pub fn looks_like(&self) -> Option<&'static kind::Kind> {
-        let all = |count: u64| count > 0 && count == self.values;
-        let likeness = LIKENESSES.iter().zip(self.alike).find(|(_, count)| all(*count))?.0;
-        kind::by_word(likeness.kind)
+    /// Whether bare digits under it are codes: they are not all likely years.
+    pub fn has_codes(&self) -> bool {
+        self.digits > 0
     }
 
-    /// The doubts about a field of a sheet, each as a warning.
-    pub fn doubts(&self, sheet: &Sheet, place: usize) -> Vec<Message> {
-        let path = sheet.path(place, 0);
-        let kind = self.looks_like().zip(kind::by_number(sheet.parameters[place].kind));
-        let kind = kind.map(|(like, own)| self.kind_doubt(&path, like, own));
-        let encoding = self.first_strange.map(|(_, record, why)| self.encoding_doubt(&path, record, why));
-        kind.into_iter().chain(encoding).collect()
-    }
-
-    /// All values look like those of another kind.
-    fn kind_doubt(&self, path: &str, like: &kind::Kind, own: &kind::Kind) -> Message {
-        let (all, values) = (text::grouped(self.values), text::counted(self.values, "value"));
-        let look =
-            if self.values == 1 { format!("looks like {}", like.one) } else { format!("look like {}", like.many) };
-        let help = format!(
-            "If it holds {}, the sheet gives it the wrong kind, and a filter asks something else than it seems to.",
-            like.many
-        );
-        Message::warning(format!("{path} is {}, and {all} of {values} {look}.", own.one), help)
-    }
-
-    /// Some values seem to be in another encoding.
-    fn encoding_doubt(&self, path: &str, record: u32, why: &str) -> Message {
-        let (some, values) = (text::grouped(self.strange), text::counted(self.values, "value"));
-        let seem = if self.strange == 1 { "seems" } else { "seem" };
-        Message::warning(
-            format!("{path}: {some} of {values} {seem} to be in another encoding, first on record {record}: {why}."),
-            "Letters beyond ASCII have other bytes there, and a filter in UTF-8 does not find them.",
-        )
+    /// What more than half of the values look like, if it is another kind's.
+    pub fn looks_like(&self) -> Option<(&'static Likeness, &Alike)> {
+        let are_codes = self.years < YEARS_TO_DIGITS * self.digits;
+        let likely = |likeness: &Likeness, alike: &Alike| {
+            let codes = if are_codes && ["date", "period"].contains(&likeness.kind) { self.years } else { 0 };
+            2 * alike.count.saturating_sub(codes) > self.values
+        };
+        LIKENESSES.iter().zip(&self.alike).find(|(likeness, alike)| likely(likeness, alike))
     }
 }
 
@@ -112,32 +159,60 @@ fn first<T>(one: Option<T>, other: Option<T>, index: impl Fn(&T) -> u64) -> Opti
     one.into_iter().chain(other).min_by_key(index)
 }
 
-/// The fields of a sheet, by their places.
+/// What all cards hold.
+pub struct Held {
+    pub cards: u64,
+    /// The fields of the sheet, by their places.
+    pub fields: Vec<Field>,
+    /// The record numbers that several cards bear, in order, each with how many.
+    pub repeated: Vec<(u32, u64)>,
+    /// For each value that is watched for whether a card has it.
+    pub seen: Vec<bool>,
+}
+
+/// What one processor has counted.
 #[derive(Default)]
-struct Tally {
+pub struct Tally {
+    cards: u64,
     fields: Vec<Field>,
+    records: Vec<u32>,
+    seen: Vec<bool>,
+}
+
+/// What is counted of a parameter.
+#[derive(Clone, Default)]
+struct Asked {
+    asked: bool,
+    /// The word of its kind, and which likenesses are doubtful for it.
+    word: &'static str,
+    doubtful: Vec<usize>,
+    /// The watched values of it, by their numbers.
+    watched: Vec<usize>,
 }
 
 /// Counts what cards have under some parameters.
 pub struct Counter<'a> {
     sheet: &'a Sheet,
-    asked: Vec<bool>,
-    /// For each likeness a reader of its kind, and the numbers of the kinds that it is doubtful for.
-    readers: Vec<(Reader, Vec<u8>)>,
+    asked: Vec<Asked>,
+    watched: Vec<Vec<u8>>,
 }
 
 impl<'a> Counter<'a> {
-    /// A counter for the parameters at these places.
-    pub fn new(sheet: &'a Sheet, places: impl IntoIterator<Item = usize>) -> Counter<'a> {
-        let mut asked = vec![false; sheet.parameters.len()];
+    /// A counter for the parameters at these places, which watches for values of theirs.
+    pub fn new(sheet: &'a Sheet, places: impl IntoIterator<Item = usize>, watched: &[(usize, Vec<u8>)]) -> Counter<'a> {
+        let mut asked = vec![Asked::default(); sheet.parameters.len()];
         for place in places {
-            asked[place] = true;
+            let word = kind::by_number(sheet.parameters[place].kind).map_or("", |kind| kind.word);
+            let doubtful = (0..LIKENESSES.len()).filter(|&row| LIKENESSES[row].doubtful.contains(&word)).collect();
+            let watched = (0..watched.len()).filter(|&number| watched[number].0 == place).collect();
+            asked[place] = Asked { asked: true, word, doubtful, watched };
         }
-        let number = |word: &&str| kind::by_word(word).expect("a kind's word").number;
-        let readers = LIKENESSES
-            .iter()
-            .map(|likeness| (Reader::new(number(&likeness.kind)), likeness.doubtful.iter().map(number).collect()));
-        Counter { sheet, asked, readers: readers.collect() }
+        Counter { sheet, asked, watched: watched.iter().map(|(_, value)| value.clone()).collect() }
+    }
+
+    /// A counter for all parameters.
+    pub fn of_all(sheet: &'a Sheet) -> Counter<'a> {
+        Counter::new(sheet, 0..sheet.parameters.len(), &[])
     }
 
     /// Goes through cards that all have to fit, and counts them. `ask` asks the library of a piece, given the index of its
@@ -147,7 +222,7 @@ impl<'a> Counter<'a> {
         cards: Input,
         ask: impl Fn(u64, &[u8]) -> (R, Option<AtFault>) + Sync,
         mut take: impl FnMut(R, u64) -> Result<(), Failure> + Send,
-    ) -> Result<Vec<Field>, Failure> {
+    ) -> Result<Held, Failure> {
         let name = cards.name.clone();
         let tallies = cards::pass(
             cards,
@@ -166,87 +241,80 @@ impl<'a> Counter<'a> {
         Ok(self.sum(tallies))
     }
 
-    /// Counts the cards of a piece, which fit the sheet.
-    fn count(&self, tally: &mut Tally, first: u64, piece: &[u8]) {
+    /// Counts the cards of a piece. An entry of a card that does not fit may be of no parameter, and is passed over.
+    pub fn count(&self, tally: &mut Tally, first: u64, piece: &[u8]) {
         tally.fields.resize_with(self.asked.len(), Field::default);
+        tally.seen.resize(self.watched.len(), false);
         for (card, index) in piece.chunks_exact(SIZE).zip(first..) {
+            tally.cards += 1;
+            tally.records.push(block::record(card));
             let mut seen = 0_u32;
             for item in block::items(card) {
                 let place = usize::from(item.byte);
-                if !self.asked[place] {
-                    continue;
-                }
+                let Some(asked) = self.asked.get(place).filter(|asked| asked.asked) else { continue };
                 let field = &mut tally.fields[place];
                 field.cards += u64::from(seen & 1 << place == 0);
                 seen |= 1 << place;
-                self.count_value(field, self.sheet.parameters[place].kind, item.text);
-                field.values += 1;
-                field.example.get_or_insert_with(|| (index, item.text.to_vec()));
+                count_value(field, asked, index, item.text);
                 if let Some(why) = Some(item.text).filter(|text| !text.is_ascii()).and_then(text::other_encoding) {
                     field.strange += 1;
                     field.first_strange.get_or_insert((index, block::record(card), why));
                 }
+                for &number in &asked.watched {
+                    tally.seen[number] |= is_value(item.text, &self.watched[number]);
+                }
             }
         }
     }
 
-    /// Counts what a value looks like. Once a value does not look like a kind, no further one is tried.
-    fn count_value(&self, field: &mut Field, kind: u8, value: &[u8]) {
-        for ((count, likeness), (reader, doubtful)) in field.alike.iter_mut().zip(&LIKENESSES).zip(&self.readers) {
-            let so_far = *count == field.values && doubtful.contains(&kind);
-            if so_far && (likeness.looks)(value) && reader.reads(value) {
-                *count += 1;
-            }
-        }
-    }
-
-    /// What all processors have counted, by the places of the fields.
-    fn sum(&self, tallies: Vec<Tally>) -> Vec<Field> {
-        let mut fields = vec![Field::default(); self.asked.len()];
+    /// What all processors have counted.
+    pub fn sum(&self, tallies: Vec<Tally>) -> Held {
+        let mut held = Held {
+            cards: 0,
+            fields: vec![Field::default(); self.asked.len()],
+            repeated: Vec::new(),
+            seen: vec![false; self.watched.len()],
+        };
+        let mut records = Vec::new();
         for tally in tallies {
-            fields.iter_mut().zip(tally.fields).for_each(|(field, more)| field.add(more));
+            held.cards += tally.cards;
+            records.extend(tally.records);
+            held.fields.iter_mut().zip(tally.fields).for_each(|(field, more)| field.add(more));
+            held.seen.iter_mut().zip(tally.seen).for_each(|(seen, more)| *seen |= more);
         }
-        fields
+        // This sort is quick where there are few rising runs, and most archives are in the order of their numbers.
+        records.sort();
+        let runs = records.chunk_by(|one, other| one == other).filter(|run| run.len() > 1);
+        held.repeated = runs.map(|run| (run[0], run.len() as u64)).collect();
+        held
     }
 }
 
-#[cfg(test)]
-mod tests {
-    use super::*;
-    use crate::block::Item;
-    use crate::sheet::Parameter;
-
-    /// What a field of a kind looks like that has these values.
-    fn look(word: &str, values: &[&str]) -> Option<&'static str> {
-        let kind = kind::by_word(word).unwrap().number;
-        let sheet = Sheet::write(vec![Parameter { kind, bundle: 0, name: b"x".to_vec() }]).unwrap();
-        let counter = Counter::new(&sheet, [0]);
-        let items: Vec<Item> = values.iter().map(|value| Item { byte: 0, mark: 0, text: value.as_bytes() }).collect();
-        let mut tallies = vec![Tally::default(), Tally::default()];
-        counter.count(&mut tallies[0], 0, &block::write_card(1, &items).unwrap());
-        let fields = counter.sum(tallies);
-        fields[0].looks_like().map(|kind| kind.word)
+/// Counts a value, and what it looks like.
+fn count_value(field: &mut Field, asked: &Asked, index: u64, value: &[u8]) {
+    field.values += 1;
+    field.example.get_or_insert_with(|| (index, value.to_vec()));
+    if asked.doubtful.is_empty() {
+        return;
     }
-
-    /// Values that look like another kind's, and values that do not.
-    #[test]
-    fn likenesses() {
-        assert_eq!(look("token", &["1974-06", "1980"]), Some("date"));
-        assert_eq!(look("string", &["1974"]), Some("date"));
-        assert_eq!(look("number", &["1974", "1980"]), Some("date"));
-        assert_eq!(look("string", &["1974-06/1975", "1974/", "/1980"]), Some("period"));
-        assert_eq!(look("token", &["1974/"]), Some("period"));
-        assert_eq!(look("reference", &["1974/", "Patient/17"]), None);
-        assert_eq!(look("period", &["1974/"]), None);
-        assert_eq!(look("string", &["12.0", "250"]), Some("number"));
-        assert_eq!(look("string", &["http://loinc.org|1234-5"]), Some("token"));
-        assert_eq!(look("token", &["1974", "unknown"]), None);
-        assert_eq!(look("token", &["32485007"]), None);
-        assert_eq!(look("reference", &["17"]), None);
-        assert_eq!(look("token", &["1200", "1201"]), None);
-        assert_eq!(look("date", &["1974"]), None);
-        assert_eq!(look("number", &["250", "1974"]), None);
-        assert_eq!(look("string", &["Ward book 4"]), None);
-        assert_eq!(look("string", &[]), None);
+    let look = looks::look(value);
+    let keeps_others =
+        field.values <= OTHERS as u64 || asked.doubtful.iter().any(|&row| field.alike[row].others.len() < OTHERS);
+    if look == Look::NONE && !keeps_others {
+        return;
     }
+    field.years += u64::from(look.year);
+    field.digits += u64::from(look.digits);
+    for &row in &asked.doubtful {
+        match (LIKENESSES[row].spelling)(&look, value, asked.word) {
+            Some(spelling) => field.alike[row].take(spelling, index, value),
+            None => field.alike[row].add_other(index, value),
+        }
+    }
+}
+
+/// Whether a card's value is a certain text, as it stands or behind a system.
+fn is_value(value: &[u8], text: &[u8]) -> bool {
+    let Some(start) = value.len().checked_sub(text.len()) else { return false };
+    value[start..].eq_ignore_ascii_case(text) && (start == 0 || value[start - 1] == b'|')
 }

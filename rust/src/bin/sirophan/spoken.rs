@@ -1,0 +1,280 @@
+//! Dates and periods as people write them: in words, and with days, months and years in other orders.
+
+use crate::looks::YEARS;
+
+/// No date and no period that a person writes is longer, in bytes.
+pub const LONGEST: usize = 60;
+
+/// A piece of such a text.
+#[derive(Debug, PartialEq, Eq)]
+pub enum Token {
+    /// A number, with how many digits it has.
+    Digits(u32, usize),
+    /// A word in small letters, without its accents.
+    Word(String),
+    /// Any other sign; all kinds of dashes are one.
+    Sign(char),
+}
+
+use Token::{Digits, Sign, Word};
+
+/// Names of months: English, German, French and Roman numbers. A name may be cut after three letters.
+const MONTHS: [&[&str]; 12] = [
+    &["january", "januar", "janvier", "jaenner", "janner", "i"],
+    &["february", "februar", "feber", "fevrier", "ii"],
+    &["march", "maerz", "marz", "mrz", "mars", "iii"],
+    &["april", "avril", "iv"],
+    &["may", "mai", "v"],
+    &["june", "juni", "juin", "vi"],
+    &["july", "juli", "juillet", "vii"],
+    &["august", "aout", "viii"],
+    &["september", "septembre", "sept", "ix"],
+    &["october", "oktober", "octobre", "x"],
+    &["november", "novembre", "xi"],
+    &["december", "dezember", "decembre", "xii"],
+];
+
+/// Days of the week, in the same languages.
+const WEEKDAYS: [&str; 21] = [
+    "monday",
+    "tuesday",
+    "wednesday",
+    "thursday",
+    "friday",
+    "saturday",
+    "sunday",
+    "montag",
+    "dienstag",
+    "mittwoch",
+    "donnerstag",
+    "freitag",
+    "samstag",
+    "sonntag",
+    "lundi",
+    "mardi",
+    "mercredi",
+    "jeudi",
+    "vendredi",
+    "samedi",
+    "dimanche",
+];
+
+/// Words that stand beside a date and leave it one.
+const BESIDE: [&str; 24] = [
+    "about", "after", "am", "approx", "around", "at", "avant", "before", "c", "ca", "circa", "de", "den", "der",
+    "early", "late", "le", "nach", "of", "on", "the", "um", "vers", "vor",
+];
+/// Endings of a day's number, and of a decade's.
+const ENDINGS: [&str; 8] = ["st", "nd", "rd", "th", "er", "e", "s", "ten"];
+/// Words that begin a period, words between its ends, and words for an end that is open.
+const BEGINNINGS: [&str; 12] =
+    ["ab", "bis", "depuis", "des", "du", "from", "jusqu", "seit", "since", "till", "until", "von"];
+const BETWEEN: [&str; 9] = ["a", "and", "au", "bis", "en", "jusqu", "till", "to", "until"];
+const OPEN: [&str; 5] = ["heute", "now", "present", "today", "date"];
+
+/// Whether a word, as a value has it, may begin a date or a period.
+pub fn begins_date(word: &[u8]) -> bool {
+    let Ok(word) = str::from_utf8(word) else { return false };
+    let word = word.to_ascii_lowercase();
+    let beside = |words: &[&str]| words.contains(&&word[..]);
+    is_month(&word)
+        || is_cut_of(&word, &WEEKDAYS)
+        || beside(&BESIDE)
+        || beside(&BEGINNINGS)
+        || word == "j"
+        || word == "f"
+}
+
+/// Whether a word is a name of a month, perhaps cut.
+fn is_month(word: &str) -> bool {
+    MONTHS.iter().any(|names| is_cut_of(word, names))
+}
+
+fn is_cut_of(word: &str, names: &[&str]) -> bool {
+    names.iter().any(|name| *name == word || (word.len() >= 3 && name.starts_with(word)))
+}
+
+/// The pieces of a text. Spaces are left out, but for those around a dash, which make it a sign of its own.
+pub fn tokens(text: &str) -> Vec<Token> {
+    let mut found = Vec::new();
+    let mut chars = text.chars().peekable();
+    while let Some(c) = chars.next() {
+        match c {
+            '0'..='9' => {
+                let mut digits = String::from(c);
+                while let Some(digit) = chars.next_if(char::is_ascii_digit) {
+                    digits.push(digit);
+                }
+                found.push(Digits(digits.parse().unwrap_or(u32::MAX), digits.len()));
+            }
+            _ if c.is_alphabetic() => {
+                let mut word = bare(c);
+                while let Some(letter) = chars.next_if(|c| c.is_alphabetic() || ('\u{300}'..='\u{36F}').contains(c)) {
+                    word += &bare(letter);
+                }
+                found.push(Word(word));
+            }
+            _ if c.is_whitespace() => {
+                if found.last() != Some(&Sign(' ')) {
+                    found.push(Sign(' '));
+                }
+            }
+            // A point behind a word says that it is cut.
+            '.' if matches!(found.last(), Some(Word(_))) => {}
+            '\u{2010}'..='\u{2015}' | '\u{2212}' => found.push(Sign('-')),
+            _ => found.push(Sign(c)),
+        }
+    }
+    found
+}
+
+/// A letter in small, without the accents that names of months have.
+fn bare(letter: char) -> String {
+    match letter {
+        '\u{300}'..='\u{36F}' => String::new(),
+        'ä' | 'Ä' | 'à' | 'À' | 'â' => "a".into(),
+        'é' | 'É' | 'è' | 'È' => "e".into(),
+        'û' | 'Û' => "u".into(),
+        _ => letter.to_lowercase().collect(),
+    }
+}
+
+/// Whether pieces are a date.
+pub fn is_date(tokens: &[Token]) -> bool {
+    let tokens = without_time(trimmed(tokens));
+    let said: Vec<&Token> = tokens.iter().filter(|token| !is_beside(token)).collect();
+    match said[..] {
+        [Digits(year, 4)] => tokens.len() > 1 && YEARS.contains(year),
+        [Digits(month, 2), Sign('.' | '/' | '-'), Digits(year, 4)] => (1..=12).contains(month) && YEARS.contains(year),
+        [Digits(a, n), Sign(s), Digits(b, m), Sign(t), Digits(c, l)] if s == t && "./-".contains(*s) => {
+            is_day([(*a, *n), (*b, *m), (*c, *l)])
+        }
+        _ => is_day_in_words(&said),
+    }
+}
+
+/// Whether a piece may be left out of a date.
+fn is_beside(token: &&Token) -> bool {
+    match token {
+        Word(word) if is_month(word) => false,
+        Word(word) => BESIDE.contains(&&word[..]) || ENDINGS.contains(&&word[..]) || is_cut_of(word, &WEEKDAYS),
+        Sign(sign) => " ?~[](),<>\u{B0}".contains(*sign),
+        Digits(..) => false,
+    }
+}
+
+/// Three numbers that are a day, a month and a year, or a year, a month and a day. A short year is two digits.
+fn is_day(parts: [(u32, usize); 3]) -> bool {
+    let [(a, n), (b, m), (c, l)] = parts;
+    let day_of = |day: u32, month: u32| (1..=31).contains(&day) && (1..=12).contains(&month);
+    let short = n <= 2 && m <= 2;
+    match (n, l) {
+        (4, 1..=2) => m <= 2 && YEARS.contains(&a) && day_of(c, b),
+        (_, 4) if short => YEARS.contains(&c) && (day_of(a, b) || day_of(b, a)),
+        (_, 2) if short => day_of(a, b) || day_of(b, a),
+        _ => false,
+    }
+}
+
+/// A month's name with a year, and perhaps a day.
+fn is_day_in_words(said: &[&Token]) -> bool {
+    let parts: Vec<&&Token> =
+        said.iter().filter(|token| !matches!(token, Sign('.' | '-' | '/' | '\'' | '\u{2019}'))).collect();
+    let months = parts.iter().filter(|token| matches!(token, Word(word) if is_month(word))).count();
+    let numbers: Vec<(u32, usize)> = parts
+        .iter()
+        .filter_map(|token| if let Digits(number, length) = token { Some((*number, *length)) } else { None })
+        .collect();
+    let is_year = |(number, length): &(u32, usize)| *length == 4 && YEARS.contains(number);
+    let is_short = |(number, length): &(u32, usize)| *length <= 2 && (1..=31).contains(number);
+    months == 1
+        && parts.len() == numbers.len() + 1
+        && match &numbers[..] {
+            [year] => is_year(year),
+            [day, year] if is_year(year) => is_short(day),
+            [year, day] if is_year(year) => is_short(day),
+            [day, (_, 2)] => is_short(day),
+            _ => false,
+        }
+}
+
+/// Pieces without spaces at their ends.
+fn trimmed(mut tokens: &[Token]) -> &[Token] {
+    while let [Sign(' '), rest @ ..] | [rest @ .., Sign(' ')] = tokens {
+        tokens = rest;
+    }
+    tokens
+}
+
+/// Pieces without a time of the day behind them.
+fn without_time(tokens: &[Token]) -> &[Token] {
+    let Some(colon) = tokens.iter().position(|token| *token == Sign(':')).filter(|colon| *colon > 1) else {
+        return tokens;
+    };
+    let behind = &tokens[colon..];
+    let is_time = matches!(tokens[colon - 1], Digits(0..=24, 1..=2))
+        && behind.iter().all(|token| match token {
+            Digits(..) => true,
+            Word(word) => ["am", "pm", "uhr", "h", "z", "utc", "gmt", "a", "p", "m"].contains(&&word[..]),
+            Sign(sign) => ": .+-".contains(*sign),
+        });
+    let mut date = if is_time { &tokens[..colon - 1] } else { return tokens };
+    while let [rest @ .., Sign(' ' | ',') | Word(_)] = date {
+        date = rest;
+    }
+    date
+}
+
+/// Whether pieces are a period: two dates with a dash or a word between, of which one may be missing.
+pub fn is_period(tokens: &[Token]) -> bool {
+    let tokens = trimmed(tokens);
+    if let [Word(first), rest @ ..] = tokens
+        && BEGINNINGS.contains(&&first[..])
+    {
+        return is_end(after_between(rest)) || is_period(rest);
+    }
+    (0..tokens.len()).any(|at| {
+        let (before, behind) = (trimmed(&tokens[..at]), after_between(&tokens[at + 1..]));
+        let open = |tokens: &[Token]| {
+            tokens.is_empty()
+                || matches!(tokens, [Sign('?')])
+                || matches!(tokens, [Word(word)] if OPEN.contains(&&word[..]))
+        };
+        match &tokens[at] {
+            Sign('-') => {
+                is_end(before) && (is_end(behind) || open(behind) || is_short_year(before, behind))
+                    || before.is_empty() && is_end(behind)
+            }
+            Sign('/') => is_end(before) && (is_end(behind) || is_short_year(before, behind)),
+            Word(word) if BETWEEN.contains(&&word[..]) => {
+                is_end(before) && (is_end(behind) || (!behind.is_empty() && open(behind)))
+            }
+            _ => false,
+        }
+    })
+}
+
+/// Pieces without the words and signs between the ends of a period that they begin with.
+fn after_between(mut tokens: &[Token]) -> &[Token] {
+    loop {
+        tokens = match tokens {
+            [Sign(' ' | '\'' | '\u{2019}'), rest @ ..] => rest,
+            [Word(word), rest @ ..] if BETWEEN.contains(&&word[..]) => rest,
+            _ => return trimmed(tokens),
+        };
+    }
+}
+
+/// A year, or a date in any spelling.
+fn is_end(tokens: &[Token]) -> bool {
+    match tokens {
+        [Digits(year, 4)] => YEARS.contains(year),
+        [Digits(year, 4), Sign('-'), Digits(1..=12, 2)] => YEARS.contains(year),
+        _ => is_date(tokens),
+    }
+}
+
+/// The last two digits of a later year behind one, where they are no month: `1973-75`.
+fn is_short_year(before: &[Token], behind: &[Token]) -> bool {
+    matches!((before, behind), ([Digits(year, 4)], [Digits(short @ 13..=99, 2)]) if YEARS.contains(year) && *short > year % 100)
+}
