@@ -4,39 +4,56 @@
 use crate::kind;
 use crate::report::Message;
 use crate::sheet::Sheet;
-use crate::tally::{Alike, Field, Held, Likeness};
+use crate::tally::{Alike, Held, Likeness};
 use crate::text::{counted, grouped, quoted, row};
 
 /// How many repeated record numbers are named.
 const NAMED: usize = 3;
 
 /// The doubts about the fields at these places, each as a warning.
-pub fn of_fields(sheet: &Sheet, fields: &[Field], places: impl IntoIterator<Item = usize>) -> Vec<Message> {
-    places.into_iter().flat_map(|place| of_field(sheet, place, &fields[place])).collect()
+pub fn of_fields(sheet: &Sheet, held: &Held, places: impl IntoIterator<Item = usize>) -> Vec<Message> {
+    places.into_iter().flat_map(|place| of_field(sheet, held, place)).collect()
 }
 
 /// The doubts about one field.
-pub fn of_field(sheet: &Sheet, place: usize, field: &Field) -> Vec<Message> {
-    let path = sheet.path(place, 0);
+pub fn of_field(sheet: &Sheet, held: &Held, place: usize) -> Vec<Message> {
+    let (path, field) = (sheet.path(place, 0), &held.fields[place]);
+    let of = if held.all_looked_at { "" } else { " looked at" };
     let own = kind::by_number(sheet.parameters[place].kind);
-    let kind =
-        field.looks_like().zip(own).map(|((likeness, alike), own)| kind_doubt(field, &path, own, likeness, alike));
-    let encoding = field.first_strange.map(|(_, record, why)| encoding_doubt(field, &path, record, why));
+    let kind = field.looks_like().zip(own);
+    let kind = kind.map(|((likeness, alike), own)| {
+        let values = format!("{}{of}", counted(field.values, "value"));
+        let told = format!("{path} is {}, and {} of {values}", own.one, grouped(alike.count));
+        kind_doubt(&told, own, likeness, alike).about("looks_like", &path).figures([
+            ("values", field.values),
+            ("alike", alike.count),
+            ("unreadable", alike.unreadable),
+        ])
+    });
+    let encoding = field.first_strange.map(|(_, record, why)| {
+        let values = counted(if held.all_looked_at { field.values } else { field.strange }, "value");
+        let some = if held.all_looked_at { format!("{} of {values}", grouped(field.strange)) } else { values };
+        let seem = if field.strange == 1 { "seems" } else { "seem" };
+        Message::warning(
+            format!("{path}: {some} {seem} to be in another encoding, first on record {record}: {why}."),
+            "Letters beyond ASCII have other bytes there, and a filter in UTF-8 does not find them.",
+        )
+        .about("encoding", &path)
+        .figures([("strange", field.strange)])
+    });
     kind.into_iter().chain(encoding).collect()
 }
 
-/// More than half of the values look like those of another kind.
-fn kind_doubt(field: &Field, path: &str, own: &kind::Kind, likeness: &Likeness, alike: &Alike) -> Message {
+/// So many of the values look like those of another kind.
+fn kind_doubt(told: &str, own: &'static kind::Kind, likeness: &Likeness, alike: &Alike) -> Message {
     let Likeness { one, many, .. } = likeness;
-    let values = counted(field.values, "value");
     let look = if alike.count == 1 { format!("looks like {one}") } else { format!("look like {many}") };
     let others: Vec<String> = alike.others.iter().map(|(_, text)| quoted(text)).collect();
     let others = if others.is_empty() { String::new() } else { format!("; others: {}", others.join(", ")) };
-    let told = format!("{path} is {}, and {} of {values} {look}{others}.", own.one, grouped(alike.count));
     let help = format!(
         "If it holds {many}, the sheet gives it the wrong kind, and a filter asks something else than it seems to."
     );
-    let mut message = Message::warning(told, help).about("looks_like", path);
+    let mut message = Message::warning(format!("{told} {look}{others}."), help);
     if let Some((_, first)) = alike.first_unreadable.as_ref().filter(|_| alike.unreadable > 0) {
         let kind = kind::by_word(likeness.kind).unwrap_or(own);
         let these = match (alike.unreadable, alike.count) {
@@ -48,19 +65,7 @@ fn kind_doubt(field: &Field, path: &str, own: &kind::Kind, likeness: &Likeness, 
         let spelled = format!("{these} in a spelling that cannot be read, such as {}", quoted(first));
         message.help.push(format!("{spelled}: {} are written {}.", kind.many, kind.written));
     }
-    message.figures([("values", field.values), ("alike", alike.count), ("unreadable", alike.unreadable)])
-}
-
-/// Some values seem to be in another encoding.
-fn encoding_doubt(field: &Field, path: &str, record: u32, why: &str) -> Message {
-    let (some, values) = (grouped(field.strange), counted(field.values, "value"));
-    let seem = if field.strange == 1 { "seems" } else { "seem" };
-    Message::warning(
-        format!("{path}: {some} of {values} {seem} to be in another encoding, first on record {record}: {why}."),
-        "Letters beyond ASCII have other bytes there, and a filter in UTF-8 does not find them.",
-    )
-    .about("encoding", path)
-    .figures([("values", field.values), ("strange", field.strange)])
+    message
 }
 
 /// The doubts about the cards as a whole: that there are none, and the record numbers that several bear, of those that

@@ -28,7 +28,7 @@ pub fn run(arguments: &Arguments) -> Result<(), Failure> {
     let select = |first, piece: &[u8]| fit.select_piece(first, piece);
     let held = counter.pass(cards, select, |_, _| Ok(()))?;
     let mut warnings = field_doubt::of_cards(&shown(cards_name), &held, |_| false);
-    warnings.extend(field_doubt::of_fields(&sheet, &held.fields, 0..held.fields.len()));
+    warnings.extend(field_doubt::of_fields(&sheet, &held, 0..held.fields.len()));
     if arguments.json { show_json(&sheet, &held, &warnings) } else { show(&sheet, &held, &warnings) }
 }
 
@@ -61,7 +61,7 @@ fn example(field: &Field) -> String {
 /// The fields as JSON.
 fn show_json(sheet: &Sheet, held: &Held, warnings: &[Message]) -> Result<(), Failure> {
     let object = |(place, field): (usize, &Field)| {
-        let doubts = field_doubt::of_field(sheet, place, field);
+        let doubts = field_doubt::of_field(sheet, held, place);
         let doubts: Vec<String> = doubts.iter().map(|doubt| json::string(&doubt.text)).collect();
         json::object(&[
             ("field", json::string(&sheet.path(place, 0))),

@@ -26,8 +26,8 @@ pub struct Look {
     pub date: Option<Spelling>,
     pub period: Option<Spelling>,
     pub number: Option<Spelling>,
-    /// It has an address before a bar.
-    pub token: bool,
+    /// It begins as an address does.
+    pub address: bool,
     /// It is digits alone: a likely year, which only the other values tell from a code.
     pub year: bool,
     /// It is digits alone, and neither a likely year nor a day.
@@ -36,7 +36,7 @@ pub struct Look {
 
 impl Look {
     /// A look like nothing.
-    pub const NONE: Look = Look { date: None, period: None, number: None, token: false, year: false, digits: false };
+    pub const NONE: Look = Look { date: None, period: None, number: None, address: false, year: false, digits: false };
 
     fn date(spelling: Spelling) -> Look {
         Look { date: Some(spelling), ..Look::NONE }
@@ -106,7 +106,7 @@ fn look_of_words(value: &[u8]) -> Look {
     if spoken::begins_date(&value[..length]) && may_be_spoken(value, false) {
         return spoken_look(value);
     }
-    Look { token: has_system(value), ..Look::NONE }
+    Look { address: value[length..].starts_with(b"://"), ..Look::NONE }
 }
 
 /// A value that begins with another sign: spaces and quotes around it are left out.
@@ -218,6 +218,21 @@ fn is_day(year: &[u8], month: &[u8], day: &[u8]) -> bool {
 /// How a number is spelled: digits and perhaps a point, as the library reads them; with a sign, a comma or thousands
 /// apart, as people write them. So many digits before the point as the library takes.
 fn number(value: &[u8]) -> Option<Spelling> {
+    let before = value.iter().take_while(|byte| byte.is_ascii_digit()).count();
+    let behind = value[before..].iter().skip(1).take_while(|byte| byte.is_ascii_digit()).count();
+    // This is what nearly all numbers are, and what nearly all others are not.
+    if before + 1 + behind == value.len() && (1..=8).contains(&before) && (1..=9).contains(&behind) {
+        return match value[before] {
+            b'.' => Some(Readable),
+            b',' => Some(Other),
+            b'\'' if before <= 3 && behind == 3 => Some(Other),
+            b' ' if before <= 2 && behind == 3 => Some(Other),
+            _ => None,
+        };
+    }
+    if !value.iter().all(|byte| byte.is_ascii_digit() || b"+-.,' ".contains(byte)) {
+        return None;
+    }
     let (signed, body) = match value {
         [b'+' | b'-', body @ ..] => (true, body),
         body => (false, body),
@@ -232,8 +247,6 @@ fn number(value: &[u8]) -> Option<Spelling> {
         ([], _) => Readable,
         ([b'.'], [_, part]) if part.len() <= 9 => Readable,
         ([b','], [_, part]) if part.len() <= 9 => Other,
-        ([b'\''], [first, part]) if first.len() <= 3 && part.len() == 3 => Other,
-        ([b' '], [first, part]) if first.len() <= 2 && part.len() == 3 => Other,
         (signs, [first, rest @ ..]) if first.len() <= 3 && are_thousands(signs, rest) => Other,
         _ => return None,
     };
@@ -247,14 +260,6 @@ fn are_thousands(signs: &[u8], groups: &[&[u8]]) -> bool {
     let ([first, .., last], [thousands @ .., part]) = (signs, groups) else { return false };
     let same = signs[..signs.len() - 1].iter().all(|sign| sign == first) && *first != b' ';
     same && thousands.iter().all(|group| group.len() == 3) && (last != first && last != &b' ' || part.len() == 3)
-}
-
-/// A system is an address before a bar.
-fn has_system(token: &[u8]) -> bool {
-    token
-        .split(|&byte| byte == b'|')
-        .next()
-        .is_some_and(|system| system.len() < token.len() && system.windows(3).any(|window| window == b"://"))
 }
 
 #[cfg(test)]
@@ -274,7 +279,7 @@ mod tests {
             Some(("period", Other)) => "spoken period",
             Some(("number", Readable)) => "number",
             Some(_) => "spoken number",
-            None if look.token => "token",
+            None if look.address && value.contains('|') => "token",
             None => "nothing",
         }
     }

@@ -28,7 +28,7 @@ pub fn run(arguments: &Arguments) -> Result<(), Failure> {
     let mut warnings: Vec<Message> =
         filter.and_then(|filter| filter_doubt(&path_in(from, FILTER), &sheet, &filter)).into_iter().collect();
     warnings.extend(field_doubt::of_cards(&path_in(from, "cards.txt"), &held, |_| true));
-    warnings.extend(field_doubt::of_fields(&sheet, &held.fields, 0..held.fields.len()));
+    warnings.extend(field_doubt::of_fields(&sheet, &held, 0..held.fields.len()));
     let mut output = Output::new();
     let fields = sheet.parameters.len() as u64;
     if arguments.json {

@@ -29,7 +29,7 @@ fn list(words: Words, arguments: &Arguments) -> Result<(), Failure> {
     cards.shows_progress = !(arguments.stream && io::stdout().is_terminal());
     question.check()?;
     let survey = Survey::new(&question);
-    let counter = survey.counter();
+    let counter = survey.quick_counter();
     let fit = Fit { sheet: &question.sheet, asked: Some((words, question.text.clone())) };
 
     let mut list = List { output: Output::new(), listed: Vec::new(), matching: 0, cards: 0, arguments };

@@ -25,11 +25,12 @@ pub fn overlap(kind: &str, operator: &str) -> Option<&'static str> {
 
 /// What one walk tells: that no card has a field, and of a single test that no card meets it.
 pub fn of_one_walk(question: &Question, asked: &[Asked], held: &Held, matching: u64) -> Vec<Message> {
-    let told = |asked: &&Asked| held.fields[asked.place].cards == 0;
+    let told = |asked: &&Asked| !held.fields[asked.place].is_there;
     let mut messages: Vec<Message> =
         asked.iter().filter(told).filter_map(|asked| without_field(question, asked)).collect();
     if let ([asked], 0, true) = (asked, matching, messages.is_empty()) {
-        messages.extend(plain_zero(question, asked, held, None));
+        let cards = held.fields[asked.place].cards;
+        messages.extend(plain_zero(question, asked, held, held.all_looked_at.then_some(cards), None));
     }
     messages
 }
@@ -46,11 +47,14 @@ pub fn of_two_walks(
     let unmet = |clues: &&Option<Clues>| clues.as_ref().is_some_and(|clues| clues.met == 0);
     let reasons = asked.iter().zip(clues).filter(|(_, clues)| unmet(clues)).filter_map(|(asked, clues)| {
         let clues = clues.as_ref()?;
-        if held.fields[asked.place].cards == 0 {
+        if !held.fields[asked.place].is_there {
             return without_field(question, asked);
         }
         let found = reason(question, asked, clues);
-        found.or_else(|| plain_zero(question, asked, held, clues.ends.as_ref()).filter(|_| is_alone && matching == 0))
+        found.or_else(|| {
+            plain_zero(question, asked, held, Some(clues.cards), clues.ends.as_ref())
+                .filter(|_| is_alone && matching == 0)
+        })
     });
     let mut messages: Vec<Message> = reasons.collect();
     if matching == 0 && !is_alone {
@@ -185,22 +189,32 @@ fn part_reason(asked: &Asked, clues: &Clues) -> Option<Reason> {
     (count > 0).then_some(("part_of_text", count, why, finds))
 }
 
-/// No reason is known: what the field has. A field that is doubted needs no more words.
-fn plain_zero(question: &Question, asked: &Asked, held: &Held, ends: Option<&(Vec<u8>, Vec<u8>)>) -> Option<Message> {
+/// No reason is known: how many cards have the field, where that is known, and what they hold. A field that is doubted needs no
+/// more words.
+fn plain_zero(
+    question: &Question,
+    asked: &Asked,
+    held: &Held,
+    cards: Option<u64>,
+    ends: Option<&(Vec<u8>, Vec<u8>)>,
+) -> Option<Message> {
     let field = &held.fields[asked.place];
     let path = question.sheet.path(asked.place, 0);
     if field.looks_like().is_some() {
         return None;
     }
-    let (cards, of) = (grouped(field.cards), counted(held.cards, "card"));
-    let have = if field.cards == 1 { "has" } else { "have" };
+    let have = match cards {
+        Some(1) => format!("1 of {} has {path}", counted(held.cards, "card")),
+        Some(cards) => format!("{} of {} have {path}", grouped(cards), counted(held.cards, "card")),
+        None => format!("cards have {path}"),
+    };
     let values = match (ends, &field.example) {
         (Some((least, greatest)), _) => format!(", with values from {} to {}", spell(least), spell(greatest)),
         (None, Some((_, example))) => format!(", such as {}", quoted(example)),
         (None, None) => String::new(),
     };
-    let told = format!("no card meets `{}`: {cards} of {of} {have} {path}{values}.", asked.shown);
-    Some(Message::note(told).about("no_card_meets", &path).figures([("cards", field.cards), ("values", field.values)]))
+    let told = format!("no card meets `{}`: {have}{values}.", asked.shown);
+    Some(Message::note(told).about("no_card_meets", &path).figures(cards.map(|cards| ("cards", cards))))
 }
 
 /// How many cards meet each test by itself, where none meets all that is asked.

@@ -136,7 +136,7 @@ pub enum Failure {
     /// What was given is refused, or has faults.
     Refused(Vec<Message>),
     /// A file cannot be read, or an output not be written.
-    Unusable(Message),
+    Unusable(Box<Message>),
     /// Whoever reads standard output has gone, and needs no message.
     Closed,
 }
@@ -151,7 +151,7 @@ impl Failure {
     pub fn file(name: &str, what: &str, reason: io::Error) -> Failure {
         let reason = reason.to_string();
         let words = reason.split(" (os error").next().unwrap_or_default();
-        Failure::Unusable(Message::error(format!("sirophan: {name} cannot be {what}: {words}")))
+        Failure::Unusable(Box::new(Message::error(format!("sirophan: {name} cannot be {what}: {words}"))))
     }
 
     /// The status with which the program ends.

@@ -1,6 +1,7 @@
 //! Dates and periods as people write them: in words, and with days, months and years in other orders.
 
 use crate::looks::YEARS;
+use std::sync::OnceLock;
 
 /// No date and no period that a person writes is longer, in bytes.
 pub const LONGEST: usize = 60;
@@ -72,17 +73,31 @@ const BEGINNINGS: [&str; 12] =
 const BETWEEN: [&str; 9] = ["a", "and", "au", "bis", "en", "jusqu", "till", "to", "until"];
 const OPEN: [&str; 5] = ["heute", "now", "present", "today", "date"];
 
-/// Whether a word, as a value has it, may begin a date or a period.
+/// Whether a word, as a value has it, may begin a date or a period. Nearly all words are told by their first letters.
 pub fn begins_date(word: &[u8]) -> bool {
-    let Ok(word) = str::from_utf8(word) else { return false };
-    let word = word.to_ascii_lowercase();
-    let beside = |words: &[&str]| words.contains(&&word[..]);
-    is_month(&word)
-        || is_cut_of(&word, &WEEKDAYS)
-        || beside(&BESIDE)
-        || beside(&BEGINNINGS)
-        || word == "j"
-        || word == "f"
+    let Some(first) = word.first().map(u8::to_ascii_lowercase) else { return false };
+    let place = usize::from(first.wrapping_sub(b'a'));
+    BY_LETTER.get_or_init(by_letter).get(place).is_some_and(|names| {
+        names.iter().any(|(name, cut)| {
+            let enough = if *cut { word.len() >= 3 && word.len() <= name.len() } else { word.len() == name.len() };
+            enough && name[..word.len()].eq_ignore_ascii_case(word)
+        })
+    })
+}
+
+/// The words that may begin a date by their first letters, each with whether it may be cut.
+type ByLetter = [Vec<(&'static [u8], bool)>; 26];
+static BY_LETTER: OnceLock<ByLetter> = OnceLock::new();
+
+fn by_letter() -> ByLetter {
+    let mut words: ByLetter = Default::default();
+    let cut = MONTHS.iter().copied().flatten().chain(&WEEKDAYS).map(|word| (word, word.len() > 3));
+    let whole = BESIDE.iter().chain(&BEGINNINGS).map(|word| (word, false));
+    // The first letters of months whose next letter has an accent: février, août has none before it.
+    for (word, cut) in cut.chain(whole).chain([(&"f", false), (&"d", false)]) {
+        words[usize::from(word.as_bytes()[0] - b'a')].push((word.as_bytes(), cut));
+    }
+    words
 }
 
 /// Whether a word is a name of a month, perhaps cut.

@@ -23,7 +23,12 @@ impl<'a> Survey<'a> {
         Counter::new(&self.question.sheet, doubt::places(&self.asked), &self.watched())
     }
 
-    /// The same of all fields.
+    /// The same, for where a list has to come quickly.
+    pub fn quick_counter(&self) -> Counter<'a> {
+        self.counter().quick()
+    }
+
+    /// A counter of all fields.
     pub fn counter_of_all(&self) -> Counter<'a> {
         Counter::new(&self.question.sheet, 0..self.question.sheet.parameters.len(), &self.watched())
     }
@@ -52,7 +57,7 @@ impl<'a> Survey<'a> {
         });
         let mut doubts = doubt::of_text(self.question);
         doubts.extend(field_doubt::of_cards(cards, held, matters));
-        doubts.extend(field_doubt::of_fields(sheet, &held.fields, places));
+        doubts.extend(field_doubt::of_fields(sheet, held, places));
         doubts.extend(values);
         doubts
     }

@@ -59,7 +59,7 @@ pub const LIKENESSES: [Likeness; 5] = [
         one: "a token",
         many: "tokens",
         doubtful: &["string", "reference"],
-        spelling: |look, _, _| look.token.then_some(Spelling::Readable),
+        spelling: |look, value, _| (look.address && value.contains(&b'|')).then_some(Spelling::Readable),
     },
 ];
 
@@ -67,6 +67,10 @@ pub const LIKENESSES: [Likeness; 5] = [
 const OTHERS: usize = 2;
 /// Bare years count as dates where so many times as many values are years as are other digits alone: else they are codes.
 const YEARS_TO_DIGITS: u64 = 9;
+
+/// Where a list has to come quickly, the values of so many cards are looked at, and behind them those of one in so many.
+const LOOKED_AT: u64 = 4096;
+const ONE_IN: u64 = 32;
 
 /// A value with the index of its card.
 pub type Found = (u64, Vec<u8>);
@@ -109,18 +113,20 @@ impl Alike {
     }
 }
 
-/// What the cards have under one parameter.
+/// What the cards have under one parameter, of those that are looked at.
 #[derive(Clone, Debug, Default)]
 pub struct Field {
     pub cards: u64,
     pub values: u64,
+    /// Whether any card has it, of all of them.
+    pub is_there: bool,
     /// The first value.
     pub example: Option<Found>,
     pub alike: [Alike; LIKENESSES.len()],
     /// How many values are digits alone: likely years, and others.
     years: u64,
     digits: u64,
-    /// How many values seem to be in another encoding, and the first card that has one: index, record and why.
+    /// How many values seem to be in another encoding, of all of them, and the first card that has one: index, record and why.
     pub strange: u64,
     pub first_strange: Option<(u64, u32, &'static str)>,
 }
@@ -130,6 +136,7 @@ impl Field {
     fn add(&mut self, other: Field) {
         self.cards += other.cards;
         self.values += other.values;
+        self.is_there |= other.is_there;
         self.years += other.years;
         self.digits += other.digits;
         self.strange += other.strange;
@@ -162,6 +169,8 @@ fn first<T>(one: Option<T>, other: Option<T>, index: impl Fn(&T) -> u64) -> Opti
 /// What all cards hold.
 pub struct Held {
     pub cards: u64,
+    /// Whether the values of all of them were looked at.
+    pub all_looked_at: bool,
     /// The fields of the sheet, by their places.
     pub fields: Vec<Field>,
     /// The record numbers that several cards bear, in order, each with how many.
@@ -173,10 +182,11 @@ pub struct Held {
 /// What one processor has counted.
 #[derive(Default)]
 pub struct Tally {
-    cards: u64,
     fields: Vec<Field>,
     records: Vec<u32>,
     seen: Vec<bool>,
+    /// Whether a card has been seen for each parameter that is counted.
+    all_there: bool,
 }
 
 /// What is counted of a parameter.
@@ -195,6 +205,8 @@ pub struct Counter<'a> {
     sheet: &'a Sheet,
     asked: Vec<Asked>,
     watched: Vec<Vec<u8>>,
+    /// Whether only some of many cards are looked at.
+    is_quick: bool,
 }
 
 impl<'a> Counter<'a> {
@@ -207,7 +219,12 @@ impl<'a> Counter<'a> {
             let watched = (0..watched.len()).filter(|&number| watched[number].0 == place).collect();
             asked[place] = Asked { asked: true, word, doubtful, watched };
         }
-        Counter { sheet, asked, watched: watched.iter().map(|(_, value)| value.clone()).collect() }
+        Counter { sheet, asked, watched: watched.iter().map(|(_, value)| value.clone()).collect(), is_quick: false }
+    }
+
+    /// The same counter, for where a list has to come quickly.
+    pub fn quick(self) -> Counter<'a> {
+        Counter { is_quick: true, ..self }
     }
 
     /// A counter for all parameters.
@@ -241,35 +258,52 @@ impl<'a> Counter<'a> {
         Ok(self.sum(tallies))
     }
 
-    /// Counts the cards of a piece. An entry of a card that does not fit may be of no parameter, and is passed over.
+    /// Counts the cards of a piece.
     pub fn count(&self, tally: &mut Tally, first: u64, piece: &[u8]) {
         tally.fields.resize_with(self.asked.len(), Field::default);
         tally.seen.resize(self.watched.len(), false);
+        tally.records.reserve(piece.len() / SIZE);
         for (card, index) in piece.chunks_exact(SIZE).zip(first..) {
-            tally.cards += 1;
             tally.records.push(block::record(card));
-            let mut seen = 0_u32;
-            for item in block::items(card) {
-                let place = usize::from(item.byte);
-                let Some(asked) = self.asked.get(place).filter(|asked| asked.asked) else { continue };
-                let field = &mut tally.fields[place];
+            let looked_at = !self.is_quick || index < LOOKED_AT || is_drawn(index);
+            // Letters beyond ASCII may be in another encoding.
+            if looked_at || !tally.all_there || !self.watched.is_empty() || !is_ascii(card) {
+                self.count_card(tally, index, card, looked_at);
+            }
+        }
+    }
+
+    /// Counts a card, whether its values are looked at or not. An entry of a card that does not fit may be of no parameter, and
+    /// is passed over.
+    fn count_card(&self, tally: &mut Tally, index: u64, card: &[u8], looked_at: bool) {
+        let mut seen = 0_u32;
+        for item in block::items(card) {
+            let place = usize::from(item.byte);
+            let Some(asked) = self.asked.get(place).filter(|asked| asked.asked) else { continue };
+            let field = &mut tally.fields[place];
+            field.is_there = true;
+            if looked_at {
                 field.cards += u64::from(seen & 1 << place == 0);
                 seen |= 1 << place;
                 count_value(field, asked, index, item.text);
-                if let Some(why) = Some(item.text).filter(|text| !text.is_ascii()).and_then(text::other_encoding) {
-                    field.strange += 1;
-                    field.first_strange.get_or_insert((index, block::record(card), why));
-                }
-                for &number in &asked.watched {
-                    tally.seen[number] |= is_value(item.text, &self.watched[number]);
-                }
             }
+            if let Some(why) = Some(item.text).filter(|text| !text.is_ascii()).and_then(text::other_encoding) {
+                field.strange += 1;
+                field.first_strange.get_or_insert((index, block::record(card), why));
+            }
+            for &number in &asked.watched {
+                tally.seen[number] |= is_value(item.text, &self.watched[number]);
+            }
+        }
+        if !tally.all_there {
+            tally.all_there = tally.fields.iter().zip(&self.asked).all(|(field, asked)| field.is_there || !asked.asked);
         }
     }
 
     /// What all processors have counted.
     pub fn sum(&self, tallies: Vec<Tally>) -> Held {
         let mut held = Held {
+            all_looked_at: true,
             cards: 0,
             fields: vec![Field::default(); self.asked.len()],
             repeated: Vec::new(),
@@ -277,17 +311,33 @@ impl<'a> Counter<'a> {
         };
         let mut records = Vec::new();
         for tally in tallies {
-            held.cards += tally.cards;
             records.extend(tally.records);
             held.fields.iter_mut().zip(tally.fields).for_each(|(field, more)| field.add(more));
             held.seen.iter_mut().zip(tally.seen).for_each(|(seen, more)| *seen |= more);
         }
+        held.cards = records.len() as u64;
+        held.all_looked_at = !self.is_quick || held.cards <= LOOKED_AT;
         // This sort is quick where there are few rising runs, and most archives are in the order of their numbers.
         records.sort();
         let runs = records.chunk_by(|one, other| one == other).filter(|run| run.len() > 1);
         held.repeated = runs.map(|run| (run[0], run.len() as u64)).collect();
         held
     }
+}
+
+/// Whether all bytes of a card between its head and its check sum are ASCII: so are its texts then. Most of them are taken
+/// together, sixteen at a time, and those at the ends eight at a time.
+fn is_ascii(card: &[u8]) -> bool {
+    const HIGH_BITS: u64 = 0x8080_8080_8080_8080;
+    let eight = |at: usize| u64::from_ne_bytes(card[at..at + 8].try_into().expect("eight bytes"));
+    let (first, last) = (block::CARD_HEAD, block::SUMMED - 8);
+    let ends = eight(first) | eight(first + 2) | eight(last - 4) | eight(last);
+    card[first + 10..last - 4].iter().fold(0, |sum, byte| sum | byte) < 0x80 && ends & HIGH_BITS == 0
+}
+
+/// Whether a card is one of those that are looked at behind the first: as good as by lot, and the same in every run.
+fn is_drawn(index: u64) -> bool {
+    index.wrapping_mul(0x9E37_79B9_7F4A_7C15) < u64::MAX / ONE_IN
 }
 
 /// Counts a value, and what it looks like.

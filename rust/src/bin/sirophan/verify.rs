@@ -44,7 +44,7 @@ pub fn run(arguments: &Arguments) -> Result<(), Failure> {
     // Both hold the same, and so one of them is doubted.
     let warnings = found.last().map_or_else(Vec::new, |(found, cards, sheet)| {
         let mut warnings = field_doubt::of_cards(&path_in(folder, cards), &found.held, |_| true);
-        warnings.extend(field_doubt::of_fields(sheet, &found.held.fields, 0..found.held.fields.len()));
+        warnings.extend(field_doubt::of_fields(sheet, &found.held, 0..found.held.fields.len()));
         warnings
     });
     show(arguments, found.into_iter().map(|(found, ..)| found).collect(), &warnings)

@@ -48,8 +48,9 @@ impl Clue {
 /// What was found out about a test.
 #[derive(Clone, Debug, Default)]
 pub struct Clues {
-    /// How many cards meet it.
+    /// How many cards meet it, and how many have its field, where none does.
     pub met: u64,
+    pub cards: u64,
     /// Cards whose date, period or number the value lies in or overlaps.
     pub overlapping: Clue,
     /// Values that differ in little, and in what the first does.
@@ -69,6 +70,7 @@ pub struct Clues {
 impl Clues {
     fn add(&mut self, other: Clues) {
         self.met += other.met;
+        self.cards += other.cards;
         let earlier = |one: &Clue, more: &Clue| match (&one.first, &more.first) {
             (Some(one), Some(more)) => more.0 < one.0,
             (one, more) => one.is_none() && more.is_some(),
@@ -193,9 +195,12 @@ impl<'a> Walk<'a> {
             self.look_for_overlaps(asked, operator, clues, first, piece);
         }
         for (card, index) in piece.chunks_exact(SIZE).zip(first..) {
+            let mut is_there = false;
             for item in block::items(card).filter(|item| usize::from(item.byte) == asked.place) {
+                is_there = true;
                 look_at_value(kind, asked, clues, (index, block::record(card)), item.text);
             }
+            clues.cards += u64::from(is_there);
         }
     }
 
