@@ -253,3 +253,19 @@ fn check_helps_with_sheets() {
          \x20 title is a bundle, and a sheet that begins with 0x50 has none: it begins with 0x51.\n",
     );
 }
+
+/// A dash in a date, and a filter that stands in an address.
+#[test]
+fn check_names_dashes_and_addresses() {
+    let folder = Folder::packed("check-dashes", "date birthdate\n", "record: 1\n", "");
+    let dash = "  It has an en dash (U+2013) in the place of a hyphen. Write 1974-06.\n";
+    let bare = folder.check("birthdate eq 1974\u{2013}06");
+    assert!(bare.errors.contains(dash) && !bare.errors.contains("Letters"), "{}", bare.errors);
+    let quoted = folder.check("birthdate eq \"1974\u{2013}06\"");
+    assert!(quoted.errors.contains(dash), "{}", quoted.errors);
+    for text in ["_filter=birthdate+lt+1975", "http://h/Patient?_filter=birthdate%20lt%201975"] {
+        let said = folder.check(text);
+        let told = "  _filter carries a filter, and what stands behind its = is asked by `sirophan pick -e 'birthdate lt 1975'`.\n";
+        assert!(said.status == 2 && said.errors.contains(told), "{}", said.errors);
+    }
+}

@@ -60,3 +60,70 @@ fn explain_refuses() {
     assert_eq!((refused.status, refused.output.as_str()), (2, ""));
     assert!(refused.errors.starts_with("cards.bin: refused 20 at 0: "), "{}", refused.errors);
 }
+
+/// Every card of the list, with the values that each test went by; and search strings, by the verdict on each part.
+#[test]
+fn explain_with_values() {
+    let sheet = "date discharge\nstring title\ntoken code\n";
+    let cards = "record: 1\ndischarge 1973-10\ndischarge 1980\ntitle Ward\nrecord: 2\ntitle Ward\nrecord: 3\ndischarge 1974\n\
+                 title \"\"\n";
+    let folder = Folder::packed("explain-values", sheet, cards, "discharge lt 1975 and title pr true\n");
+    let files = ["sheet.bin", "filter.txt", "cards.bin"];
+    folder.run(&["explain", "--all", files[0], files[1], files[2]]).says(
+        0,
+        "2 cards on the list\n\
+         card 0, record 1: yes\n\
+         discharge lt 1975 and title pr true\n\
+         ^^^^^^^^^^^^^^^^^     ^^^^^^^^^^^^^\n\
+         yes                   yes\n\
+         \x20 discharge lt 1975   yes: 1973-10\n\
+         \x20 title pr true       yes: Ward\n\
+         card 2, record 3: yes\n\
+         discharge lt 1975 and title pr true\n\
+         ^^^^^^^^^^^^^^^^^     ^^^^^^^^^^^^^\n\
+         yes                   yes\n\
+         \x20 discharge lt 1975   yes: 1974\n\
+         \x20 title pr true       yes: \"\"\n",
+        "",
+    );
+    folder.run(&["explain", "--record", "2", files[0], files[1], files[2]]).says(
+        0,
+        "card 1, record 2: no\n\
+         discharge lt 1975 and title pr true\n\
+         ^^^^^^^^^^^^^^^^^\n\
+         no\n\
+         \x20 discharge lt 1975   no: no discharge on this card\n",
+        "",
+    );
+    let search = "discharge=lt1975,1980&title=ward";
+    folder.run(&["explain", "--search", "--record", "1", "-e", search, files[0], files[2]]).says(
+        0,
+        "card 0, record 1: yes\n\
+         verdicts on each by itself:\n\
+         \x20 discharge=lt1975,1980   yes\n\
+         \x20   discharge=lt1975      yes: 1973-10\n\
+         \x20   discharge=1980        yes: 1980\n\
+         \x20 title=ward              yes: Ward\n",
+        "",
+    );
+    folder.run(&["explain", "--search", "--record", "2", "--json", "-e", search, files[0], files[2]]).says(
+        0,
+        "{\"card\":1,\"record\":2,\"matches\":false,\"verdicts\":[{\"pair\":\"discharge=lt1975,1980\",\"says\":false,\
+         \"alternatives\":[{\"alternative\":\"discharge=lt1975\",\"says\":false},{\"alternative\":\"discharge=1980\",\"says\":false}]},\
+         {\"pair\":\"title=ward\",\"says\":true,\"alternatives\":[{\"alternative\":\"title=ward\",\"says\":true}]}],\"warnings\":[]}\n",
+        "",
+    );
+    folder.run(&["check", "--search", "-e", search, files[0]]).says(
+        0,
+        "3 alternatives\n\
+         \x20 discharge  date    lt  1975\n\
+         \x20 discharge  date    eq  1980\n\
+         \x20 title      string  sw  ward\n",
+        "",
+    );
+    folder.run(&["explain", "--all", "-e", "title eq x", files[0], files[2]]).says(0, "0 cards on the list\n", "");
+    folder.run(&["explain", "--all", "--record", "1", files[0], files[1], files[2]]).fails(
+        1,
+        "sirophan: explain needs --record and the number of the card's record, or --all for every card of the list.\n",
+    );
+}

@@ -79,3 +79,50 @@ fn command_lines_that_are_not_understood() {
         .run(&["verify", "--json"])
         .fails(1, "{\"level\":\"error\",\"message\":\"sirophan: 0 paths given. Usage: sirophan verify DIR\"}\n");
 }
+
+/// A text in the place of its file, as grep has it.
+#[test]
+fn texts_on_the_command_line() {
+    let folder = Folder::ward("text");
+    let listed = "7\n19\n2 of 3\n";
+    folder.run(&["pick", "-e", "title co ward", "sheet.bin", "cards.bin"]).says(0, listed, "");
+    folder.run(&["pick", "sheet.bin", "cards.bin", "-etitle co ward"]).says(0, listed, "");
+    folder.run(&["search", "sheet.bin", "-e", "title=ward", "cards.bin"]).says(0, listed, "");
+    folder.run(&["plain", "-e", " title  co ward"]).says(0, "title co ward\n", "");
+    let report = folder.run(&["report", "-e", "title co ward", "sheet.bin", "cards.bin"]);
+    assert!(report.output.starts_with("3 cards: yes 2, no 1\n"), "{}", report.output);
+    folder.run(&["check", "-e", "title", "sheet.bin"]).fails(
+        2,
+        "title\n     ^\n-e: refused 11 at 5: The text is no filter by the grammar: no filter goes on like this.\n\
+         \x20 Here could stand an operator. Words have a space before them.\n\
+         \x20 title is a string, which has the operators eq, ne, co, sw, ew and pr.\n",
+    );
+    folder.run(&["pick", "-e"]).fails(
+        1,
+        "sirophan: Behind -e stands the text that asks. Usage: sirophan pick [--stream] SHEET FILTER CARDS\n",
+    );
+    folder
+        .run(&["plain", "-e", "a eq b", "-e", "a eq c"])
+        .fails(1, "sirophan: -e stands once: a text is one filter or string. Usage: sirophan plain FILTER\n");
+    folder
+        .run(&["pick", "-e", "title co ward", "sheet.bin", "filter.txt", "cards.bin"])
+        .fails(1, "sirophan: 4 paths given. Usage: sirophan pick [--stream] SHEET FILTER CARDS\n");
+    folder
+        .run(&["fields", "-e", "x", "sheet.bin", "cards.bin"])
+        .fails(1, "sirophan: -e is no option here. Usage: sirophan fields SHEET CARDS\n");
+}
+
+/// No line of a help is wider than eighty columns, or than COLUMNS says, but for examples.
+#[test]
+fn help_in_eighty_columns() {
+    let folder = Folder::new("columns");
+    for name in ["pick", "search", "explain", "check", "report", "plain", "fields", "pack", "show", "verify"] {
+        for line in folder.run(&[name, "--help"]).output.lines().chain(folder.run(&["--help"]).output.lines()) {
+            assert!(line.chars().count() <= 80, "{name}: {line}");
+        }
+        let narrow = Command::new(PROGRAM).args([name, "--help"]).env("COLUMNS", "60").output().unwrap();
+        for line in String::from_utf8(narrow.stdout).unwrap().lines().filter(|line| !line.starts_with(' ')) {
+            assert!(line.chars().count() <= 60 || line.starts_with("sirophan "), "{name}: {line}");
+        }
+    }
+}

@@ -1,6 +1,7 @@
 //! The command `sirophan` as it is run: what it says on both streams, and its status. Messages are compared whole.
 
 mod check;
+mod doubts;
 mod explain;
 mod fields;
 mod folder;

@@ -1,7 +1,12 @@
 //! `sirophan pack`.
 
-use crate::folder::{Folder, REPOSITORY};
+use crate::folder::{Folder, PROGRAM, REPOSITORY};
 use std::fs;
+use std::io::Write;
+use std::os::unix::process::ExitStatusExt;
+use std::process::Command;
+use std::thread;
+use std::time::Duration;
 
 /// What is packed has the bytes of the archive that `pick` is tried on.
 #[test]
@@ -221,4 +226,45 @@ fn packed_texts_are_shown_again() {
     folder.write("cards.txt", described.collect::<String>());
     assert_eq!(folder.run(&["pack", ".", "."]).status, 0);
     assert!(folder.read("cards.bin") == before);
+}
+
+/// A pack that is ended from outside leaves no half file, and no folder that it made; the archive that was there stays.
+#[test]
+fn pack_that_is_interrupted() {
+    for (signal, number) in [("-INT", 2), ("-TERM", 15), ("-HUP", 1)] {
+        let folder = Folder::described(&format!("interrupted{signal}"), "string title\n", "", "title pr true\n");
+        fs::remove_file(folder.path.join("cards.txt")).unwrap();
+        assert!(Command::new("mkfifo").arg(folder.path.join("cards.txt")).status().unwrap().success());
+        fs::create_dir(folder.path.join("old")).unwrap();
+        folder.write("old/cards.bin", "as it was");
+        for to in ["new", "old"] {
+            let mut pack = Command::new(PROGRAM).args(["pack", ".", to]).current_dir(&folder.path).spawn().unwrap();
+            let mut cards = fs::OpenOptions::new().write(true).open(folder.path.join("cards.txt")).unwrap();
+            cards.write_all(b"record: 1\nrecord: 2\n").unwrap();
+            while !folder.path.join(to).join("cards.bin.new").exists() {
+                thread::sleep(Duration::from_millis(5));
+            }
+            let process = pack.id().to_string();
+            assert!(Command::new("kill").args([signal, &process]).status().unwrap().success());
+            assert_eq!(pack.wait().unwrap().signal(), Some(number));
+        }
+        assert_eq!(folder.files(), ["cards.txt", "filter.txt", "old", "sheet.txt"]);
+        assert_eq!(folder.read("old/cards.bin"), b"as it was");
+        assert_eq!(fs::read_dir(folder.path.join("old")).unwrap().count(), 1);
+    }
+}
+
+/// An archive without a filter is packed, and verified, without one.
+#[test]
+fn pack_without_a_filter() {
+    let folder = Folder::described("no-filter", "string title\n", "record: 1\ntitle x\n", "");
+    fs::remove_file(folder.path.join("filter.txt")).unwrap();
+    folder.run(&["pack", ".", "new"]).says(0, "1 card and a sheet with 1 parameter, in new\n", "");
+    assert!(!folder.path.join("new/filter.txt").exists());
+    folder.run(&["verify", "new"]).says(0, "the blocks: 1 card, a sheet with 1 parameter: all go together\n", "");
+    folder.run(&["verify", "--json", "new"]).says(
+        0,
+        "{\"verified\":\"blocks\",\"cards\":1,\"parameters\":1,\"tests\":null,\"warnings\":[]}\n",
+        "",
+    );
 }

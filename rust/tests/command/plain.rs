@@ -37,3 +37,15 @@ fn plain_refuses_what_is_no_filter() {
     );
     folder.run(&["plain", "a", "b"]).fails(1, "sirophan: 2 paths given. Usage: sirophan plain FILTER\n");
 }
+
+/// Two filters that differ in bytes that are no UTF-8 have two spellings in JSON too.
+#[test]
+fn plain_tells_bytes_apart() {
+    let folder = Folder::new("plain-bytes");
+    let plain = |filter: &[u8]| folder.run_with(&["plain", "--json", "-"], filter).output;
+    assert_eq!(
+        plain(b"a eq \"\xF6\""),
+        "{\"filter\":{\"hex\":\"6120657120 22f622\"},\"length\":8,\"changed\":false}\n".replace(' ', "")
+    );
+    assert_ne!(plain(b"a eq \"\xF6\""), plain(b"a eq \"\xE4\""));
+}

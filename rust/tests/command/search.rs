@@ -168,3 +168,67 @@ fn search_says_what_may_be_meant_otherwise() {
          note: no card meets `title=%F6`: 1 of 1 card has title, such as \"x\".\n",
     );
 }
+
+/// Modifiers, parameters about the answer, addresses: each is named for what it is, with the filter that asks it.
+#[test]
+fn search_names_what_it_does_not_take() {
+    let sheet = "string title\ntoken code\nreference subject\ndate birthdate\n";
+    let folder = Folder::packed("search-modifiers", sheet, "record: 1\n", "");
+    let unknown = "The name is not on the sheet, or cannot stand here: members are named with their bundle's brackets.";
+    let modifier = |name: &str, filter: &str| {
+        let quoted = filter.replace('\'', "'\\''");
+        format!(
+            ":{name} is a modifier, and search strings have none here.\n  The filter `{filter}` asks it: `sirophan pick -e \
+             '{quoted}'`."
+        )
+    };
+    for (string, help) in [
+        ("code:not=291", modifier("not", "not (code eq 291)")),
+        ("code:not=291,292", modifier("not", "not (code eq 291 or code eq 292)")),
+        ("birthdate:not=lt1975", modifier("not", "not (birthdate lt 1975)")),
+        ("title:not=O'Neill", modifier("not", "not (title sw O'Neill)")),
+        ("subject:missing=true", modifier("missing", "subject pr false")),
+        ("subject:missing=false", modifier("missing", "subject pr true")),
+        ("title:contains=ward+4", modifier("contains", "title co \"ward 4\"")),
+        (
+            "title:exact=Ward",
+            modifier("exact", "title eq Ward") + "\n  Large and small letters are alike in it, other than in :exact.",
+        ),
+        (
+            "title:above=x",
+            ":above is a modifier, and search strings have none here.\n  Without it the string asks something else. See `sirophan \
+             pick` for what filters ask of title."
+                .into(),
+        ),
+        ("titel:not=x", "titel is not on the sheet. Is it title?".into()),
+        (
+            "_filter=title+co+x",
+            "_filter carries a filter, and what stands behind its = is asked by `sirophan pick -e 'title co x'`.".into(),
+        ),
+        (
+            "_count=10",
+            "_count says how many are listed at a time, and asks nothing of a card. All cards that match are listed: leave it out."
+                .into(),
+        ),
+        (
+            "?title=x",
+            "The ? belongs to an address, and no part of a search string: leave it out, and begin with title.".into(),
+        ),
+        (
+            "http://h/Patient?title=x",
+            "http://h/Patient? is an address, and no part of a search string: leave it out, and begin with title.".into(),
+        ),
+        ("birthdate=1974\u{2013}06", String::new()),
+    ] {
+        let said = folder.search(string);
+        assert_eq!((said.status, said.output.as_str()), (2, ""), "{string}");
+        let carets = "^".repeat(string.chars().count());
+        let message = format!("{string}\n{carets}\nstandard input: refused 14 at 0: {unknown}\n  {help}\n");
+        let dash = "  It has an en dash (U+2013) in the place of a hyphen. Write 1974-06.\n";
+        if help.is_empty() {
+            assert!(said.errors.contains(dash), "{}", said.errors);
+        } else {
+            assert_eq!(said.errors, message);
+        }
+    }
+}

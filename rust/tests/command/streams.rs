@@ -87,3 +87,68 @@ fn pipes_that_are_closed() {
         assert_eq!(output.status.code(), Some(3), "{command:?}");
     }
 }
+
+/// Runs a line of a shell in a folder, where `$S` is the command.
+fn shell(folder: &Folder, line: &str) -> (Option<i32>, String, String) {
+    let mut shell = Command::new("sh");
+    let output = shell.args(["-c", line]).env("S", PROGRAM).current_dir(&folder.path).output().unwrap();
+    let text = |bytes| String::from_utf8(bytes).unwrap();
+    (output.status.code(), text(output.stdout), text(output.stderr))
+}
+
+/// A standard output that is closed, or open for reading alone, takes no answer: that is no success.
+#[test]
+fn outputs_that_are_closed() {
+    let folder = Folder::ward("output-closed");
+    let unwritten = "sirophan: standard output cannot be written: Bad file descriptor\n".to_string();
+    for command in [
+        "pick sheet.bin filter.txt cards.bin",
+        "pick --stream sheet.bin filter.txt cards.bin",
+        "search -e title=ward sheet.bin cards.bin",
+        "explain --record 7 sheet.bin filter.txt cards.bin",
+        "check sheet.bin filter.txt",
+        "plain filter.txt",
+        "report sheet.bin filter.txt cards.bin",
+        "fields sheet.bin cards.bin",
+        "show cards.bin",
+        "verify .",
+        "pick --json sheet.bin filter.txt cards.bin",
+        "--help",
+    ] {
+        for closed in [">&-", "1< sheet.bin"] {
+            let unwritten = if command.contains("--json") {
+                "{\"level\":\"error\",\"message\":\"sirophan: standard output cannot be written: Bad file descriptor\"}\n".into()
+            } else {
+                unwritten.clone()
+            };
+            let said = shell(&folder, &format!("\"$S\" {command} {closed}"));
+            assert_eq!(said, (Some(3), String::new(), unwritten), "{command} {closed}");
+        }
+    }
+}
+
+/// A standard input that is closed, or open for writing alone, has no cards: an empty archive is another thing.
+#[test]
+fn inputs_that_are_closed() {
+    let folder = Folder::ward("input-closed");
+    let unread = "sirophan: standard input cannot be read: Bad file descriptor\n".to_string();
+    for command in [
+        "pick sheet.bin filter.txt -",
+        "pick sheet.bin - cards.bin",
+        "search -e title=ward sheet.bin -",
+        "fields sheet.bin -",
+        "plain -",
+        "show -",
+    ] {
+        for closed in ["<&-", "0> nothing"] {
+            let said = shell(&folder, &format!("\"$S\" {command} {closed}"));
+            assert_eq!(said, (Some(3), String::new(), unread.clone()), "{command} {closed}");
+        }
+    }
+    // Where it is not read it need not be open; and the null device is an empty archive.
+    let said = shell(&folder, "\"$S\" pick sheet.bin filter.txt cards.bin <&-");
+    assert_eq!(said, (Some(0), "7\n300\n2 of 3\n".into(), String::new()));
+    let (status, output, errors) = shell(&folder, "\"$S\" pick sheet.bin filter.txt - < /dev/null");
+    assert_eq!((status, output.as_str()), (Some(0), "0 of 0\n"));
+    assert_eq!(errors, "warning: standard input has no cards.\n  It is empty. Is it the file that was meant?\n");
+}

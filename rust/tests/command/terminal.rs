@@ -1,10 +1,10 @@
-//! What is shown on a terminal by a command that takes over a second.
+//! What is shown on a terminal: how far a command is that takes over a second, and warnings.
 
 use crate::folder::{Folder, PROGRAM};
-use std::ffi::{CStr, c_char, c_int};
+use std::ffi::{CStr, c_char, c_int, c_ulong};
 use std::fs::{self, File};
 use std::io::{Read, Write};
-use std::os::fd::FromRawFd;
+use std::os::fd::{AsRawFd, FromRawFd};
 use std::process::{Command, Stdio};
 use std::thread;
 use std::time::Duration;
@@ -14,6 +14,7 @@ unsafe extern "C" {
     fn grantpt(terminal: c_int) -> c_int;
     fn unlockpt(terminal: c_int) -> c_int;
     fn ptsname(terminal: c_int) -> *const c_char;
+    fn ioctl(descriptor: c_int, request: c_ulong, ...) -> c_int;
 }
 
 /// A terminal: the side that a program writes to, and the side that reads what it wrote.
@@ -96,4 +97,36 @@ fn pack_shows_how_far_it_is() {
     assert_eq!(output, packed);
     slowly();
     folder.run(&["pack", ".", "new"]).says(0, packed, "");
+}
+
+/// On a terminal warnings stand between the list and the count, wrapped at words for its width.
+#[test]
+fn warnings_on_a_terminal() {
+    let cards = "record: 1\nbirthdate 1974-06\nrecord: 2\nbirthdate 1980-07\n";
+    let folder = Folder::packed("terminal", "token birthdate\n", cards, "birthdate eq 1974-06\n");
+    let (writer, reader) = terminal();
+    set_columns(&writer, 60);
+    let mut command = Command::new(PROGRAM);
+    command.args(["pick", "sheet.bin", "filter.txt", "cards.bin"]).current_dir(&folder.path).env_remove("COLUMNS");
+    command.stdout(writer.try_clone().unwrap()).stderr(writer);
+    let mut child = command.spawn().unwrap();
+    drop(command);
+    assert!(child.wait().unwrap().success());
+    assert_eq!(
+        shown(reader).replace('\r', ""),
+        "1\n\
+         warning: birthdate is a token, and 2 of 2 values look like\n\
+         \x20 dates.\n\
+         \x20 If it holds dates, the sheet gives it the wrong kind, and\n\
+         \x20   a filter asks something else than it seems to.\n\
+         1 of 2\n"
+    );
+}
+
+/// Sets how many columns a terminal has.
+fn set_columns(terminal: &File, columns: u16) {
+    const SET_WINDOW_SIZE: c_ulong = 0x5414;
+    let size: [u16; 4] = [24, columns, 0, 0];
+    // Safe: the size is read, and the descriptor is open.
+    assert_eq!(unsafe { ioctl(terminal.as_raw_fd(), SET_WINDOW_SIZE, size.as_ptr()) }, 0);
 }

@@ -53,7 +53,8 @@ impl Asked {
 
     /// A filter as it is told, where the test stands by itself.
     pub fn told(&self, operator: &str, value: &[u8]) -> String {
-        let before = self.before.rsplit(|&byte| byte == b'[').next().unwrap_or_default();
+        let bundle = if self.is_inside() { self.before.iter().position(|&byte| byte == b'[') } else { None };
+        let before = &self.before[bundle.map_or(0, |bracket| bracket + 1)..];
         printable(&[before, operator.as_bytes(), b" ", &as_value(value)].concat())
     }
 }

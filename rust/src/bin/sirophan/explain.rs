@@ -175,7 +175,8 @@ pub fn told(question: &Question, asked: &Asked, says: bool, card: &[u8]) -> Stri
     let there = asked.with("pr", b"true");
     let set = values::that_meet(&question.sheet, asked, Words::Filter, &there, card);
     let met = values::that_meet(&question.sheet, asked, asked.words, &asked.alone, card);
-    let shown = if says && !met.is_empty() { met } else { set };
+    // Whether there is a value says no value by itself.
+    let shown = if says && !met.is_empty() && asked.operator != "pr" { met } else { set };
     match &shown[..] {
         [] if asked.has_condition() && !values::under(card, asked.place).is_empty() => {
             format!("{answer}: no {path} on this card meets the condition")
