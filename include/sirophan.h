@@ -1,21 +1,21 @@
 /*
  * Sirophan: which catalogue cards of an archive match a FHIR R4 _filter or a search string.
  *
- * A sheet says which parameters the cards have and of which kind each is (1 string, 2 number, 3 date, 4 token,
- * 5 reference, 6 period); a card holds a record number and search values. Both are blocks of 512 bytes, in two forms
- * that the first byte tells apart: a sheet begins with 0x50, or with 0x51 where its parameters may be bundles (kind 7)
- * and their members; a card begins with 0x43, or with 0x44 where its entries have occurrences. Every sheet may be used
- * with every card. A filter is a text of 1 to 1,024 bytes. docs/RULES.md has the blocks byte by byte and says what
- * filters mean.
+ * A sheet says which parameters the cards have and of which kind each is; a card holds a record number and search values.
+ * Both are blocks of 512 bytes, in two forms that the first byte tells apart, and every sheet may be used with every card.
+ * A filter is a text of 1 to 1,024 bytes. docs/RULES.md has the blocks byte by byte and says what filters mean.
  *
  * None of them is trusted: each function checks all that it is given, and for every input it ends with an answer or
- * with a numbered refusal.
+ * with a numbered refusal. That is proved, with what the answers are, of all functions but sirophan_version and
+ * sirophan_reason, which are a table in plain C.
  *
- * A pointer comes with the number of elements that it points to. It may be anything, but not NULL, where that number
- * is 0. The list, the rows or the buffer must not overlap the other arguments. The functions keep nothing and may be
- * called from any thread.
+ * A pointer comes with the number of elements that it points to. Where that number is 0 it may be anything, NULL
+ * included. What is written (the list, the rows, the cells, the buffer, the block) must not overlap the other arguments.
  *
- * Link with libsirophan_c.a, which `rt staticlib sirophan_c` writes into target/staticlib (x86-64).
+ * Threads: the functions keep nothing and may be called from any thread at the same time, also with the same sheet,
+ * filter and cards. Memory: they allocate none, and SIROPHAN_STACK bytes of stack are enough for any call.
+ *
+ * Link with `pkg-config --cflags --libs sirophan` (and --static for libsirophan.a), on x86-64 Linux.
  */
 #ifndef SIROPHAN_H
 #define SIROPHAN_H
@@ -26,6 +26,43 @@
 #ifdef __cplusplus
 extern "C" {
 #endif
+
+#define SIROPHAN_VERSION "0.1.0"
+
+/* The version of the library that is linked: SIROPHAN_VERSION where it is the header's own. */
+const char *sirophan_version(void);
+
+/* Sizes and limits. */
+enum {
+    SIROPHAN_BLOCK = 512,      /* the bytes of a sheet, and of a card */
+    SIROPHAN_RUN = 128,        /* the most cards of a run: so many cells are always enough for sirophan_select */
+    SIROPHAN_TEXT = 1024,      /* the most bytes of a filter or a search string */
+    SIROPHAN_CELLS = 1024,     /* so many cells are always enough for sirophan_prepare */
+    SIROPHAN_TESTS = 32,       /* the most tests of a filter: so many cells are always enough for sirophan_explain */
+    SIROPHAN_PARAMETERS = 32,  /* the most parameters of a sheet: so many rows are always enough for sirophan_report */
+    SIROPHAN_ENTRIES = 64,     /* the most entries of a card */
+    SIROPHAN_ENTRY = 255,      /* the most bytes of an entry's text */
+    SIROPHAN_STACK = 49152     /* bytes of stack that are enough for any call; measured by the tests, and not proved */
+};
+
+/* The first byte of a block. */
+enum {
+    SIROPHAN_SHEET = 0x50,        /* a sheet without bundles */
+    SIROPHAN_BUNDLE_SHEET = 0x51, /* a sheet whose parameters may be bundles and their members */
+    SIROPHAN_CARD = 0x43,         /* a card whose entries have no occurrences */
+    SIROPHAN_BUNDLE_CARD = 0x44   /* a card whose entries have occurrences */
+};
+
+/* The kinds of parameters, as a sheet has them. */
+enum {
+    SIROPHAN_STRING = 1,
+    SIROPHAN_NUMBER = 2,
+    SIROPHAN_DATE = 3,
+    SIROPHAN_TOKEN = 4,
+    SIROPHAN_REFERENCE = 5,
+    SIROPHAN_PERIOD = 6,
+    SIROPHAN_BUNDLE = 7
+};
 
 /*
  * The numbers of refusal, in the order in which they are tried: the first that holds is given. But of tests the
@@ -50,7 +87,8 @@ enum {
     SIROPHAN_NO_MEANING = 16,   /* another operator without a meaning for the parameter's kind */
     SIROPHAN_UNREADABLE = 17,   /* the value cannot be read */
     SIROPHAN_BAD_ROWS = 40,     /* judge: the rows are not good for this sheet and this filter's text */
-    SIROPHAN_CARD_SIZE = 20,    /* the card is not 512 bytes; the run is no whole number of cards, or over 128 */
+    SIROPHAN_CARD_SIZE = 20,    /* the card, or the block to be sealed, is not 512 bytes; the run is no whole number of
+                                   cards, or over 128 */
     SIROPHAN_CARD_SUM = 21,     /* a card's check sum is wrong; place: the card's index, as for 22 and 23 */
     SIROPHAN_CARD_LAYOUT = 22,  /* a card breaks its layout */
     SIROPHAN_CARD_MISFIT = 23,  /* a card does not fit the sheet; a text under a bundle is among the reasons */
@@ -61,11 +99,23 @@ enum {
     SIROPHAN_SHORT_CELLS = 34   /* the list is shorter than the filter's rows; place: the cells that they need */
 };
 
+/* The refusal of a number in a sentence; never NULL, also where no refusal has the number. */
+const char *sirophan_reason(uint32_t number);
+
 /* An answer. */
 typedef struct sirophan_answer {
     uint32_t refusal; /* the number of the refusal, or 0 if there is none */
     size_t value;     /* the count, or 1 for yes and 0 for no; of a refusal its place, 0 where none is named above */
 } sirophan_answer;
+
+/* Answers the record number of a card, whatever else is in it, and refuses only what is not 512 bytes, with 20. */
+sirophan_answer sirophan_record(const uint8_t *card, size_t card_len);
+
+/*
+ * For programs that make blocks: writes the check sum into the last four bytes, and answers it. What is not 512 bytes is
+ * refused with 20 and stays as it is. The sum makes no sheet or card of other bytes.
+ */
+sirophan_answer sirophan_seal(uint8_t *block, size_t block_len);
 
 /* Answers how many tests the filter has. If it does, every test has a meaning on every card that fits the sheet. */
 sirophan_answer sirophan_check(const uint8_t *sheet, size_t sheet_len,

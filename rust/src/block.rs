@@ -1,6 +1,7 @@
 //! Blocks of 512 bytes, as `docs/RULES.md` lays them out: written, and read as far as they go. Whether a block is sound
 //! is for the proved library to say; here it is taken apart, so that what is in it can be shown.
 
+use crate::seal;
 use std::iter;
 
 /// The size of a block.
@@ -31,6 +32,7 @@ pub enum Sort {
 
 impl Sort {
     /// What a block is, by its first byte.
+    #[must_use]
     pub fn of(block: &[u8]) -> Sort {
         match block.first() {
             Some(&(SHEET | MARKED_SHEET)) => Sort::Sheet,
@@ -54,24 +56,29 @@ pub struct Item<'a> {
     pub text: &'a [u8],
 }
 
+impl<'a> Item<'a> {
+    /// A text of a card under the parameter at a place, or a name of a kind, without a mark.
+    pub fn new(byte: u8, text: &'a (impl AsRef<[u8]> + ?Sized)) -> Item<'a> {
+        Item { byte, mark: 0, text: text.as_ref() }
+    }
+}
+
 impl Item<'_> {
     /// How many bytes the item takes in a block.
+    #[must_use]
     pub fn size(&self, marked: bool) -> usize {
         usize::from(marked) + 2 + self.text.len()
     }
 }
 
 /// Whether a block is of the form whose items have a mark.
+#[must_use]
 pub fn is_marked(block: &[u8]) -> bool {
-    matches!(block[0], MARKED_SHEET | MARKED_CARD)
-}
-
-/// The sum of the bytes, each times its place counted from 1.
-fn check_sum(bytes: &[u8]) -> u32 {
-    bytes.iter().zip(1..).map(|(&byte, place)| u32::from(byte) * place).sum()
+    matches!(block.first(), Some(&(MARKED_SHEET | MARKED_CARD)))
 }
 
 /// A sheet of these parameters, if a sheet has room for them. Without bundles it is written in the older form.
+#[must_use]
 pub fn write_sheet(parameters: &[Item], marked: bool) -> Option<Vec<u8>> {
     let first = if marked { MARKED_SHEET } else { SHEET };
     let count = u8::try_from(parameters.len()).ok()?;
@@ -79,6 +86,7 @@ pub fn write_sheet(parameters: &[Item], marked: bool) -> Option<Vec<u8>> {
 }
 
 /// A card with these entries, if a card has room for them. Without occurrences it is written in the older form.
+#[must_use]
 pub fn write_card(record: u32, entries: &[Item]) -> Option<Vec<u8>> {
     let marked = has_marks(entries);
     let mut head = vec![if marked { MARKED_CARD } else { CARD }];
@@ -88,6 +96,7 @@ pub fn write_card(record: u32, entries: &[Item]) -> Option<Vec<u8>> {
 }
 
 /// Whether an entry has an occurrence other than 0, so that its card needs the newer form.
+#[must_use]
 pub fn has_marks(entries: &[Item]) -> bool {
     entries.iter().any(|entry| entry.mark > 0)
 }
@@ -105,19 +114,25 @@ fn write_block(mut block: Vec<u8>, items: &[Item], marked: bool) -> Option<Vec<u
     if block.len() > SUMMED {
         return None;
     }
-    block.resize(SUMMED, 0);
-    block.extend(check_sum(&block).to_le_bytes());
+    block.resize(SIZE, 0);
+    seal(&mut block).ok()?;
     Some(block)
 }
 
-/// The record number of a card.
+/// The record number of a block that is a card.
+///
+/// # Panics
+///
+/// If it is not 512 bytes; [`crate::record`] refuses that.
+#[must_use]
 pub fn record(card: &[u8]) -> u32 {
-    u32::from_le_bytes([card[1], card[2], card[3], card[4]])
+    crate::record(card).expect("a card has 512 bytes")
 }
 
 /// How many items a block says that it has.
+#[must_use]
 pub fn count(block: &[u8]) -> u8 {
-    block[Sort::of(block).count_at()]
+    block.get(Sort::of(block).count_at()).copied().unwrap_or(0)
 }
 
 /// The items of a block, as far as they lie inside it.
@@ -129,12 +144,12 @@ pub fn items(block: &[u8]) -> impl Iterator<Item = Item<'_>> {
 fn placed_items(block: &[u8]) -> impl Iterator<Item = (Item<'_>, usize)> {
     let marked = is_marked(block);
     let count_at = Sort::of(block).count_at();
-    let mut left = block[count_at];
+    let mut left = count(block);
     let mut at = count_at + 1;
     iter::from_fn(move || {
         left = left.checked_sub(1)?;
         let text_at = at + if marked { 3 } else { 2 };
-        let summed = &block[..SUMMED];
+        let summed = &block[..block.len().min(SUMMED)];
         let text = summed.get(text_at..text_at + usize::from(*summed.get(text_at - 1)?))?;
         let item = Item { byte: summed[at], mark: if marked { summed[at + 1] } else { 0 }, text };
         at = text_at + text.len();
@@ -143,15 +158,17 @@ fn placed_items(block: &[u8]) -> impl Iterator<Item = (Item<'_>, usize)> {
 }
 
 /// What is wrong with the layout of a block, in words. An empty list does not say that the block is sound.
+#[must_use]
 pub fn faults(block: &[u8]) -> Vec<&'static str> {
     let placed: Vec<usize> = placed_items(block).map(|(_, end)| end).collect();
     let end = placed.last().copied().unwrap_or(Sort::of(block).count_at() + 1);
     let most = if Sort::of(block) == Sort::Sheet { MOST_PARAMETERS } else { MOST_ENTRIES };
+    let behind = block.get(end..SUMMED).unwrap_or_default();
     let cut_off = placed.len() < usize::from(count(block));
     let found = [
         (usize::from(count(block)) > most, "more entries than are allowed"),
         (cut_off, "entries that go past its end"),
-        (!cut_off && block[end..SUMMED].iter().any(|&byte| byte != 0), "bytes behind the entries"),
+        (!cut_off && behind.iter().any(|&byte| byte != 0), "bytes behind the entries"),
     ];
     found.into_iter().filter_map(|(holds, words)| holds.then_some(words)).collect()
 }
@@ -196,7 +213,7 @@ mod tests {
             damaged[bit / 8] ^= 1 << (bit % 8);
             assert!(items(&damaged).count() <= 255);
         }
-        let noise: Vec<u8> = (0..SIZE).map(|at| (at * at % 251) as u8).collect();
+        let noise: Vec<u8> = (0..SIZE).map(|at| u8::try_from(at * at % 251).unwrap()).collect();
         for first in [SHEET, MARKED_SHEET, CARD, MARKED_CARD, 0] {
             let block = [&[first], &noise[1..]].concat();
             assert!(!faults(&block).is_empty());

@@ -24,6 +24,10 @@ impl Engine {
 }
 
 /// Answers what [`matches`](crate::matches) does, by the filter's text.
+///
+/// # Errors
+///
+/// What [`matches`](crate::matches) refuses.
 pub fn matches_by_text(sheet: &[u8], filter: &[u8], card: &[u8]) -> Result<bool, Refusal> {
     call!(sirophan_match_by_text: read sheet, read filter, read card).into_yes()
 }
@@ -31,14 +35,17 @@ pub fn matches_by_text(sheet: &[u8], filter: &[u8], card: &[u8]) -> Result<bool,
 /// Does what [`select`](crate::select) does, by either engine.
 ///
 /// ```
-/// use sirophan::{Engine, select_by};
+/// use sirophan::sheet::{Parameter, Sheet};
+/// use sirophan::{Engine, RUN, kind, select_by};
 ///
-/// fn engines_agree(sheet: &[u8], filter: &[u8], cards: &[u8]) -> bool {
-///     let (mut by_rows, mut by_text) = ([0; 128], [0; 128]);
-///     let counted = select_by(Engine::Rows, sheet, filter, cards, &mut by_rows);
-///     counted == select_by(Engine::Text, sheet, filter, cards, &mut by_text) && by_rows == by_text
-/// }
+/// let sheet = Sheet::write(vec![Parameter::new(kind::TOKEN, "code")]).unwrap();
+/// let by = |engine| select_by(engine, &sheet.block, b"code eq 291 or code gt 5", &[], &mut [0; RUN]);
+/// assert_eq!(by(Engine::Rows), by(Engine::Text));
 /// ```
+///
+/// # Errors
+///
+/// What [`select`](crate::select) refuses.
 pub fn select_by(
     engine: Engine,
     sheet: &[u8],

@@ -16,8 +16,9 @@ const WIDTH: usize = 100;
 pub enum Mark {
     /// The answer stands whatever the test says.
     Spared,
-    /// It decides by its yes, or by its no.
+    /// It decides by its yes,
     Yes,
+    /// or by its no.
     No,
 }
 
@@ -41,12 +42,24 @@ pub struct Explanation {
 /// Explains what the filter says of the card. What [`matches`](crate::matches) refuses is refused alike.
 ///
 /// ```
-/// fn tell(sheet: &[u8], filter: &[u8], card: &[u8]) -> Result<(), sirophan::Refusal> {
-///     let explanation = sirophan::explain(sheet, filter, card)?;
-///     println!("{}", explanation.render(filter));
-///     Ok(())
-/// }
+/// use sirophan::block::{Item, write_card};
+/// use sirophan::sheet::{Parameter, Sheet};
+/// use sirophan::{explain, kind};
+///
+/// let sheet = Sheet::write(vec![Parameter::new(kind::STRING, "title"), Parameter::new(kind::DATE, "birthdate")]).unwrap();
+/// let card = write_card(7, &[Item::new(0, "Ward book 4"), Item::new(1, "1974-06")]).unwrap();
+/// let filter = b"title co men or birthdate eq 1974";
+/// let explanation = explain(&sheet.block, filter, &card).unwrap();
+/// assert!(explanation.matches);
+/// assert_eq!(
+///     explanation.render(filter),
+///     "title co men or birthdate eq 1974\n                ^^^^^^^^^^^^^^^^^\n                yes"
+/// );
 /// ```
+///
+/// # Errors
+///
+/// What [`matches`](crate::matches) refuses.
 pub fn explain(sheet: &[u8], filter: &[u8], card: &[u8]) -> Result<Explanation, Refusal> {
     let mut cells = [0; MOST_TESTS];
     let matches = explain_into(sheet, filter, card, &mut cells)?;
@@ -65,6 +78,10 @@ pub fn explain(sheet: &[u8], filter: &[u8], card: &[u8]) -> Result<Explanation, 
 /// Answers whether the card matches the filter, and writes a cell for each test into the list, from its first cell on: 0
 /// where it is spared, 1 where it decides by its yes, 2 where it decides by its no. Later cells stay, and a refusal leaves
 /// all of them as they are; 33 says how many are needed.
+///
+/// # Errors
+///
+/// What [`matches`](crate::matches) refuses, and cells that are too few (33).
 pub fn explain_into(sheet: &[u8], filter: &[u8], card: &[u8], cells: &mut [u8]) -> Result<bool, Refusal> {
     call!(sirophan_explain: read sheet, read filter, read card, write cells).into_yes()
 }
@@ -77,6 +94,7 @@ impl Explanation {
     ///                  ^^^^^^^^^^^^^^^^^^^^     ^^^^^^^^^^^
     ///                  yes                      yes
     /// ```
+    #[must_use]
     pub fn render(&self, filter: &[u8]) -> String {
         let shown = printable(filter);
         let mut carets = vec![' '; shown.len()];

@@ -22,6 +22,7 @@ pub struct Test {
 
 impl Test {
     /// The place of the test's parameter on a sheet, if its path leads to one.
+    #[must_use]
     pub fn place(&self, sheet: &Sheet, text: &[u8]) -> Option<usize> {
         let bundle = match self.bundle.as_ref().or(self.inside.as_ref()) {
             Some(bundle) => sheet.find_bundle(&text[bundle.clone()])?,
@@ -31,27 +32,28 @@ impl Test {
     }
 
     /// The value without its quotes and escapes.
+    #[must_use]
     pub fn decoded(&self, text: &[u8]) -> Vec<u8> {
         let value = &text[self.value.clone()];
         let Some(quoted) = value.strip_prefix(b"\"") else { return value.to_vec() };
         let mut bytes = quoted.strip_suffix(b"\"").unwrap_or(quoted).iter();
         let mut decoded = Vec::new();
         while let Some(&byte) = bytes.next() {
-            decoded.push(if byte == b'\\' { bytes.next().map_or(byte, escaped) } else { byte });
+            decoded.push(if byte == b'\\' { bytes.next().map_or(byte, |&letter| escaped(letter)) } else { byte });
         }
         decoded
     }
 }
 
 /// The byte that an escape stands for.
-fn escaped(letter: &u8) -> u8 {
+fn escaped(letter: u8) -> u8 {
     match letter {
         b'b' => 0x08,
         b'f' => 0x0C,
         b'n' => b'\n',
         b'r' => b'\r',
         b't' => b'\t',
-        other => *other,
+        other => other,
     }
 }
 
@@ -66,6 +68,7 @@ pub struct Filter {
 
 impl Filter {
     /// Reads a text that is a filter; none where it turns out not to be one.
+    #[must_use]
     pub fn read(text: &[u8]) -> Option<Filter> {
         let mut walk = Walk { text, at: 0, tests: Vec::new(), brackets_added: false };
         let read = walk.items(None)?;
@@ -76,6 +79,7 @@ impl Filter {
     }
 
     /// The test that begins at a place.
+    #[must_use]
     pub fn test_at(&self, place: usize) -> Option<&Test> {
         self.tests.iter().find(|test| test.whole.start == place)
     }
@@ -91,9 +95,9 @@ struct Walk<'a> {
 
 impl Walk<'_> {
     /// The items up to a closing bracket or the end, as they are read: an `or` before an `and` gets brackets.
-    fn items(&mut self, inside: Option<Range<usize>>) -> Option<Vec<u8>> {
+    fn items(&mut self, inside: Option<&Range<usize>>) -> Option<Vec<u8>> {
         self.spaces();
-        let mut read = self.item(inside.clone())?;
+        let mut read = self.item(inside)?;
         let mut has_or = false;
         loop {
             self.spaces();
@@ -110,13 +114,13 @@ impl Walk<'_> {
             has_or |= join == b" or ";
             self.at += join.len() - 2;
             self.spaces();
-            let item = self.item(inside.clone())?;
+            let item = self.item(inside)?;
             read = [&read[..], join, &item].concat();
         }
     }
 
     /// A filter in round brackets, perhaps behind `not`, or a test.
-    fn item(&mut self, inside: Option<Range<usize>>) -> Option<Vec<u8>> {
+    fn item(&mut self, inside: Option<&Range<usize>>) -> Option<Vec<u8>> {
         let not = self.negation();
         if self.rest().first() != Some(&b'(') {
             return self.test(inside);
@@ -135,7 +139,7 @@ impl Walk<'_> {
     }
 
     /// A filter from its opening bracket to its closing one.
-    fn enclosed(&mut self, inside: Option<Range<usize>>, closing: u8) -> Option<Vec<u8>> {
+    fn enclosed(&mut self, inside: Option<&Range<usize>>, closing: u8) -> Option<Vec<u8>> {
         self.at += 1;
         let read = self.items(inside)?;
         self.byte(closing)?;
@@ -143,13 +147,13 @@ impl Walk<'_> {
     }
 
     /// A test.
-    fn test(&mut self, inside: Option<Range<usize>>) -> Option<Vec<u8>> {
+    fn test(&mut self, inside: Option<&Range<usize>>) -> Option<Vec<u8>> {
         let start = self.at;
         let mut name = self.name()?;
         let mut path = self.text[name.clone()].to_vec();
         let mut bundle = None;
         if self.rest().first() == Some(&b'[') {
-            let condition = self.enclosed(Some(name.clone()), b']')?;
+            let condition = self.enclosed(Some(&name), b']')?;
             self.byte(b'.')?;
             bundle = Some(name);
             name = self.name()?;
@@ -161,7 +165,7 @@ impl Walk<'_> {
         self.spaces();
         let value = self.value()?;
         let read = [&path, &self.text[behind_path..value.end]].concat();
-        self.tests.push(Test { whole: start..value.end, bundle, inside, name, operator, value });
+        self.tests.push(Test { whole: start..value.end, bundle, inside: inside.cloned(), name, operator, value });
         Some(read)
     }
 
@@ -169,7 +173,7 @@ impl Walk<'_> {
     fn name(&mut self) -> Option<Range<usize>> {
         let is_name = |byte: &&u8| byte.is_ascii_alphanumeric() || matches!(byte, b'_' | b'-');
         let length = self.rest().iter().take_while(is_name).count();
-        self.advance((length > 0).then_some(length)?)
+        self.advance(length)
     }
 
     /// A quoted text, or a bare word.
@@ -179,14 +183,14 @@ impl Walk<'_> {
             Some(quoted) => 2 + closing_quote(quoted)?,
             None => rest.iter().take_while(|byte| !matches!(byte, b' ' | b')' | b']')).count(),
         };
-        self.advance((length > 0).then_some(length)?)
+        self.advance(length)
     }
 
-    /// Goes on by so many bytes, and answers where they are.
+    /// Goes on by so many bytes, at least one, and answers where they are.
     fn advance(&mut self, length: usize) -> Option<Range<usize>> {
         let start = self.at;
         self.at += length;
-        Some(start..self.at)
+        (length > 0).then_some(start..self.at)
     }
 
     fn byte(&mut self, byte: u8) -> Option<()> {

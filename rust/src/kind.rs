@@ -4,9 +4,13 @@
 use crate::block::{self, Item};
 use crate::{Prepared, Refusal};
 
-/// The number of the kind whose texts are periods.
-const PERIOD: u8 = 6;
-/// The number of the kind whose parameters are bundles.
+/// The numbers of the kinds on a sheet.
+pub const STRING: u8 = 1;
+pub const NUMBER: u8 = 2;
+pub const DATE: u8 = 3;
+pub const TOKEN: u8 = 4;
+pub const REFERENCE: u8 = 5;
+pub const PERIOD: u8 = 6;
 pub const BUNDLE: u8 = 7;
 
 /// A kind as people speak of it.
@@ -25,23 +29,29 @@ pub struct Kind {
 
 /// The kinds, by their numbers. A further kind is another row.
 pub const KINDS: [Kind; 7] = [
-    Kind { number: 1, word: "string", one: "a string", many: "strings", written: "any text" },
+    Kind { number: STRING, word: "string", one: "a string", many: "strings", written: "any text" },
     Kind {
-        number: 2,
+        number: NUMBER,
         word: "number",
         one: "a number",
         many: "numbers",
         written: "1 to 8 digits, then perhaps a point and 1 to 9 digits",
     },
     Kind {
-        number: 3,
+        number: DATE,
         word: "date",
         one: "a date",
         many: "dates",
         written: "YYYY, YYYY-MM, YYYY-MM-DD, or YYYY-MM-DDThh:mm:ss with Z or a zone such as +02:00",
     },
-    Kind { number: 4, word: "token", one: "a token", many: "tokens", written: "a code, or system|code" },
-    Kind { number: 5, word: "reference", one: "a reference", many: "references", written: "any text but an empty one" },
+    Kind { number: TOKEN, word: "token", one: "a token", many: "tokens", written: "a code, or system|code" },
+    Kind {
+        number: REFERENCE,
+        word: "reference",
+        one: "a reference",
+        many: "references",
+        written: "any text but an empty one",
+    },
     Kind {
         number: PERIOD,
         word: "period",
@@ -67,27 +77,32 @@ const OPERATORS: [&str; 19] =
 const JOINS: [&str; 3] = ["and", "or", "not"];
 
 /// Whether a word has a meaning of its own in filters.
+#[must_use]
 pub fn is_word_of_grammar(word: &str) -> bool {
     OPERATORS.contains(&word) || JOINS.contains(&word)
 }
 
 /// The kind with this number.
+#[must_use]
 pub fn by_number(number: u8) -> Option<&'static Kind> {
     KINDS.iter().find(|kind| kind.number == number)
 }
 
 /// The kind with this word.
+#[must_use]
 pub fn by_word(word: &str) -> Option<&'static Kind> {
     KINDS.iter().find(|kind| kind.word == word)
 }
 
 /// The kind whose texts are the values that a filter asks a kind by: a period is asked by a date, any other by itself.
+#[must_use]
 pub fn asked_by(kind: &'static Kind) -> &'static Kind {
     let by = if kind.number == PERIOD { by_word("date") } else { None };
     by.unwrap_or(kind)
 }
 
 /// What a card's text says, where the signs in it do not say it plainly: the ends of a period.
+#[must_use]
 pub fn in_words(kind: u8, text: &[u8]) -> Option<String> {
     if kind != PERIOD || !Reader::new(PERIOD).reads(text) {
         return None;
@@ -101,11 +116,13 @@ pub fn in_words(kind: u8, text: &[u8]) -> Option<String> {
 }
 
 /// The words of all kinds.
+#[must_use]
 pub fn words() -> Vec<&'static str> {
     KINDS.iter().map(|kind| kind.word).collect()
 }
 
 /// The word of a kind's number, or the number where no kind has it.
+#[must_use]
 pub fn word_of(number: u8) -> String {
     by_number(number).map_or_else(|| format!("kind {number}?"), |kind| kind.word.into())
 }
@@ -128,6 +145,7 @@ pub struct Reader {
 
 impl Reader {
     /// A reader of texts of the kind with this number.
+    #[must_use]
     pub fn new(kind: u8) -> Reader {
         let sheet = sheet_of(kind);
         let prepared = crate::prepare(&sheet, ASKED).ok();
@@ -135,6 +153,7 @@ impl Reader {
     }
 
     /// Whether a text can be read as the kind: whether a card fits that has this text alone.
+    #[must_use]
     pub fn reads(&self, text: &[u8]) -> bool {
         let card = block::write_card(0, &[Item { byte: 0, mark: 0, text }]);
         let fits = |prepared: &Prepared| card.is_some_and(|card| prepared.matches(&card).is_ok());
@@ -148,17 +167,23 @@ impl Reader {
     }
 
     /// The operators that the kind has.
+    #[must_use]
     pub fn operators(&self) -> Vec<&'static str> {
         OPERATORS.into_iter().filter(|operator| self.has(operator)).collect()
     }
 }
 
 /// The plural words of the kinds that have an operator.
+#[must_use]
 pub fn kinds_with(operator: &str) -> Vec<&'static str> {
     KINDS.iter().filter(|kind| Reader::new(kind.number).has(operator)).map(|kind| kind.many).collect()
 }
 
-/// Whether a card by itself is sound, or the library's refusal. A card that is sound may not fit its sheet.
+/// Whether a card by itself is sound. A card that is sound may not fit its sheet.
+///
+/// # Errors
+///
+/// A card that is not sound, with 20 to 22.
 pub fn sound_card(card: &[u8]) -> Result<(), Refusal> {
     match crate::matches(&sheet_of(1), ASKED, card) {
         Err(refusal) if refusal.number != 23 => Err(refusal),
@@ -167,6 +192,7 @@ pub fn sound_card(card: &[u8]) -> Result<(), Refusal> {
 }
 
 /// Whether the library takes a name for one that a sheet may have.
+#[must_use]
 pub fn is_name(name: &[u8]) -> bool {
     let sheet = block::write_sheet(&[Item { byte: 1, mark: 0, text: name }], false);
     sheet.is_some_and(|sheet| !matches!(crate::check(&sheet, ASKED), Err(refusal) if refusal.number == 3))

@@ -1,5 +1,6 @@
 //! A refusal, and how it is told to a person.
 
+use crate::reason::{self, Reason};
 use std::error::Error;
 use std::fmt;
 use std::ops::Range;
@@ -21,40 +22,43 @@ const SHOWN_BEFORE: usize = 30;
 const SHOWN_BEHIND: usize = 46;
 
 impl Refusal {
+    /// The reason by name; none where this version knows no refusal of the number.
+    #[must_use]
+    pub fn reason(&self) -> Option<Reason> {
+        Reason::of(self.number)
+    }
+
     /// What the number means, in one sentence.
+    #[must_use]
     pub fn sentence(&self) -> &'static str {
-        match self.number {
-            1 => "The sheet is not 512 bytes long.",
-            2 => "The sheet's check sum is wrong.",
-            3 => "The sheet breaks its layout, or the rules for its names or its bundles.",
-            10 => "The filter or search string is empty or longer than 1,024 bytes.",
-            11 => "The text is no filter by the grammar: no filter goes on like this.",
-            12 => "The text is no filter: here it would need brackets more than 8 deep.",
-            13 => "The text is no filter: here it would need more than 32 tests.",
-            14 => "The name is not on the sheet, or cannot stand here: members are named with their bundle's brackets.",
-            15 => "The operators ap, ss, sb, in and ni have no meaning for any kind.",
-            16 => "The operator has no meaning for a parameter of this kind.",
-            17 => "The value cannot be read as the parameter's kind, or for pr as true or false.",
-            18 => "A bundle's name needs a condition in square brackets, and a member behind it.",
-            20 => "The card is not 512 bytes long, or the run is no whole number of cards or over 128.",
-            21 => "The card's check sum is wrong.",
-            22 => "The card breaks its layout.",
-            23 => "The card does not fit the sheet: a text is under a bundle or no parameter, or cannot be read.",
-            30 => "The list is shorter than the number of matching cards.",
-            31 => "The rows are fewer than the sheet's parameters.",
-            32 => "The plain spelling would run past the buffer's end.",
-            33 => "The list has fewer cells than the filter has tests.",
-            34 => "The list is shorter than the filter's rows.",
-            40 => "The rows are not good for this sheet and this filter.",
-            50 => "A part of the search string is no pair: it has no \"=\", or a % without two hex digits behind it.",
-            51 => "The search string has more than 32 alternatives.",
-            _ => "This number is not known to this version.",
-        }
+        reason::sentence(self.number)
+    }
+
+    /// Whether it is a card's, so that its place is the card's index.
+    #[must_use]
+    pub fn is_of_card(&self) -> bool {
+        matches!(self.reason(), Some(Reason::CardSum | Reason::CardLayout | Reason::CardMisfit))
+    }
+
+    /// The refusal of a run as one of its file, of which so many cards stand before the run: the index of a card counts over the
+    /// file.
+    ///
+    /// ```
+    /// use sirophan::Refusal;
+    ///
+    /// assert_eq!(Refusal { number: 21, place: 5 }.over_file(256), Refusal { number: 21, place: 261 });
+    /// assert_eq!(Refusal { number: 16, place: 5 }.over_file(256), Refusal { number: 16, place: 5 });
+    /// ```
+    #[must_use]
+    pub fn over_file(self, cards_before: u64) -> Refusal {
+        let before = if self.is_of_card() { usize::try_from(cards_before).unwrap_or(usize::MAX) } else { 0 };
+        Refusal { place: self.place.saturating_add(before), ..self }
     }
 
     /// The refusal as a person would want to see it. Where the text is no filter, it is shown with a caret under the
     /// byte up to which it could be one; where a test of the filter is at fault, with a caret under the test's first. In a
     /// search string the caret is under the first byte of the pair.
+    #[must_use]
     pub fn render(&self, filter: &[u8]) -> String {
         match self.number {
             11..=18 | 50 => format!("{}\n{self}", underline(filter, self.place..self.place + 1)),
@@ -74,6 +78,7 @@ impl fmt::Display for Refusal {
 impl Error for Refusal {}
 
 /// Two lines: the filter around the start of a part of it, and carets under the part. Dots stand for what is left out.
+#[must_use]
 pub fn underline(filter: &[u8], part: Range<usize>) -> String {
     let place = part.start.min(filter.len());
     let end = part.end.clamp(place, filter.len());

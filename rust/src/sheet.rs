@@ -16,6 +16,18 @@ pub struct Parameter {
 }
 
 impl Parameter {
+    /// A parameter at the top; [`kind`] has the numbers of the kinds.
+    #[must_use]
+    pub fn new(kind: u8, name: impl Into<Vec<u8>>) -> Parameter {
+        Parameter { kind, bundle: 0, name: name.into() }
+    }
+
+    /// The same as a member of the bundle that stands at a place of the sheet.
+    #[must_use]
+    pub fn in_bundle(self, place: u8) -> Parameter {
+        Parameter { bundle: place.saturating_add(1), ..self }
+    }
+
     fn item(&self) -> Item<'_> {
         Item { byte: self.kind, mark: self.bundle, text: &self.name }
     }
@@ -27,6 +39,7 @@ fn has_bundles(parameters: &[Parameter]) -> bool {
 }
 
 /// How many bytes parameters take on a sheet.
+#[must_use]
 pub fn size(parameters: &[Parameter]) -> usize {
     let marked = has_bundles(parameters);
     parameters.iter().map(|parameter| parameter.item().size(marked)).sum()
@@ -41,6 +54,7 @@ pub struct Sheet {
 
 impl Sheet {
     /// Takes a block apart; what is no sheet has no parameters.
+    #[must_use]
     pub fn read(block: Vec<u8>) -> Sheet {
         let parameter = |item: Item| Parameter { kind: item.byte, bundle: item.mark, name: item.text.to_vec() };
         let is_sheet = block.len() == SIZE && Sort::of(&block) == Sort::Sheet;
@@ -56,16 +70,19 @@ impl Sheet {
     }
 
     /// The library's refusal of the sheet, if it is not sound.
+    #[must_use]
     pub fn refusal(&self) -> Option<Refusal> {
         check(&self.block, b"x pr true").err().filter(|refusal| refusal.number <= 3)
     }
 
     /// The place of the parameter that has this name at the top (0) or in a bundle (its place plus 1).
+    #[must_use]
     pub fn find(&self, bundle: u8, name: &[u8]) -> Option<usize> {
         self.parameters.iter().position(|parameter| parameter.bundle == bundle && parameter.name == name)
     }
 
     /// The bundle of this name, as its members have it: its place plus 1.
+    #[must_use]
     pub fn find_bundle(&self, name: &[u8]) -> Option<u8> {
         let place = self.find(0, name).filter(|&place| self.parameters[place].kind == BUNDLE)?;
         u8::try_from(place + 1).ok()
@@ -77,11 +94,13 @@ impl Sheet {
     }
 
     /// The name of a place's parameter, spelled.
+    #[must_use]
     pub fn name(&self, place: usize) -> String {
         self.parameters.get(place).map_or_else(|| format!("place {place}?"), |parameter| spell(&parameter.name))
     }
 
     /// The path of a place's parameter as a description has it, with the occurrence: `related#1.type`.
+    #[must_use]
     pub fn path(&self, place: usize, occurrence: u8) -> String {
         let number = if occurrence > 0 { format!("#{occurrence}") } else { String::new() };
         match self.parameters.get(place).map_or(0, |parameter| parameter.bundle) {
@@ -91,12 +110,14 @@ impl Sheet {
     }
 
     /// The paths of all parameters that have texts.
+    #[must_use]
     pub fn paths(&self) -> Vec<String> {
         let with_texts = (0..self.parameters.len()).filter(|&place| self.parameters[place].kind != BUNDLE);
         with_texts.map(|place| self.path(place, 0)).collect()
     }
 
     /// A filter that the sheet gives a meaning, if it has a parameter with texts: whether one is there.
+    #[must_use]
     pub fn some_filter(&self) -> Option<String> {
         let place = self.parameters.iter().position(|parameter| parameter.kind != BUNDLE)?;
         let name = self.name(place);
@@ -107,6 +128,7 @@ impl Sheet {
     }
 
     /// What is wrong with the parameter at a place, if it is why the library refuses the sheet.
+    #[must_use]
     pub fn fault(&self, place: usize) -> Option<String> {
         self.own_fault(place).or_else(|| {
             let other = (0..place).find(|&other| self.own_fault(other).is_none() && self.collide(other, place))?;
@@ -154,16 +176,17 @@ impl Sheet {
                 places.push(bundle - 1);
             }
         }
-        let moved = |bundle: u8| places.iter().position(|&place| place + 1 == usize::from(bundle));
+        let moved = |bundle: u8| (1..).zip(&places).find(|(_, place)| **place + 1 == usize::from(bundle));
         let parameters = places.iter().filter_map(|&place| self.parameters.get(place).cloned());
         let parameters = parameters.map(|mut parameter| {
-            parameter.bundle = moved(parameter.bundle).map_or(0, |place| place as u8 + 1);
+            parameter.bundle = moved(parameter.bundle).map_or(0, |(moved, _)| moved);
             parameter
         });
         Sheet::write(parameters.collect()).is_some_and(|sheet| sheet.refusal().is_some())
     }
 
     /// What is wrong with the sheet, in sentences, where the library refuses it with 3.
+    #[must_use]
     pub fn faults(&self) -> Vec<String> {
         let mut found = Vec::new();
         if self.block.len() == SIZE {

@@ -40,6 +40,7 @@ fn spell_byte(byte: u8) -> String {
 }
 
 /// The bytes of a text that a description has, or none where a text in double quotes is not well written.
+#[must_use]
 pub fn read(written: &[u8]) -> Option<Vec<u8>> {
     let Some(rest) = written.strip_prefix(b"\"") else { return Some(written.to_vec()) };
     let mut inside = rest.strip_suffix(b"\"")?;

@@ -15,6 +15,8 @@ use Rattle.report.specs.Operation.{reportedAnswer}
 use Rattle.report.specs.Contracts.{Reports}
 use Rattle.report.specs.declared.Tally.{Tally}
 use Rattle.report.specs.declared.Reported.{Reported}
+use Rattle.sealing.specs.Sealing.{numberedAnswer}
+use Rattle.sealing.specs.declared.Numbered.{Numbered}
 use Rattle.answer.specs.declared.Prepared.{Prepared}
 use Rattle.answer.specs.Preparing.{preparedAnswer}
 use Rattle.answers_c.specs.declared.Answer.{Answer}
@@ -38,6 +40,9 @@ module _ (a : paper.Answer) where
   pub select-told : (s : Selected) (t : Answer) → selectedAnswer s ≡ a → t ≡ cAnswer (selectedAnswer s) → t ≡ cAnswer a
   select-told s t e o = o ∙ ap cAnswer e
 
+  pub numbered-told : (n : Numbered) (t : Answer) → numberedAnswer n ≡ a → t ≡ cAnswer (numberedAnswer n) → t ≡ cAnswer a
+  numbered-told n t e o = o ∙ ap cAnswer e
+
   module _ (s : Spelled) (e : spelledAnswer s ≡ a) where
     pub length-told : (n : ℕ) → s ≡ Spelled.Length n → answer 0 n ≡ cAnswer a
     unfolding cAnswer spelledAnswer
@@ -55,6 +60,15 @@ module _ (a : paper.Answer) where
     pub prepare-refusal-told : (r : Refusal) (t : Answer) → p ≡ Prepared.Refused r → t ≡ cAnswer (refusalAnswer r) → t ≡ cAnswer a
     unfolding preparedAnswer
     prepare-refusal-told r t h o = o ∙ case-told preparedAnswer e h
+
+module _ (n : Numbered) where
+  pub number-told : (k : ℕ) → n ≡ Numbered.Number k → answer 0 k ≡ cAnswer (numberedAnswer n)
+  unfolding cAnswer numberedAnswer
+  number-told k h = rw h
+
+  pub size-refusal-told : (r : Refusal) (t : Answer) → n ≡ Numbered.Refused r → t ≡ cAnswer (refusalAnswer r) → t ≡ cAnswer (numberedAnswer n)
+  unfolding numberedAnswer
+  size-refusal-told r t h o = rw h o
 
 module _ (r : Reported) where
   pub counts-told : (y n : ℕ) → r ≡ Reported.Counts y n → countsOf 0 0 y n ≡ cCounts (reportedAnswer r)

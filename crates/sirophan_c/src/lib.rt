@@ -7,6 +7,7 @@ use answers_c::refused;
 use refusal::number;
 use report::Reported;
 use report::Tally;
+use sealing::Numbered;
 use sirophan::Engine;
 use sirophan::Prepared;
 use spell::Spelled;
@@ -18,6 +19,7 @@ ghost use Rattle.answer.specs.Searching.{checkSearchAnswer, matchSearchAnswer, 
 ghost use Rattle.answer.specs.Preparing.{prepareAnswer, prepareCells, judgeAnswer};
 ghost use Rattle.explain.specs.Operation.{explainAnswer, explainCells};
 ghost use Rattle.report.specs.Operation.{reportedAnswer};
+ghost use Rattle.sealing.specs.Sealing.{numberedAnswer, sealAnswer, sealedBytes, recordAnswer};
 ghost use Rattle.answers_c.specs.Answers.{cAnswer};
 ghost use Rattle.sirophan_c.specs.Answers.{cCounts};
 ghost use Rattle.sirophan_c.specs.Contracts.{TellsReport};
@@ -225,4 +227,36 @@ pub extern "C" fn sirophan_report(
 {
     let reported = report::report(sheet, filter, cards, rows);
     c_reported(reported)
+}
+
+// A block's number in numbers.
+fn c_numbered(numbered: Numbered) -> Answer
+    ensures { λ r. ⌜ r ≡ cAnswer (numberedAnswer numbered) ⌝ }
+{
+    match numbered {
+        Numbered::Number(number) => Answer {
+            refusal: 0,
+            value: number as usize,
+        },
+        Numbered::Refused(refusal) => refused(refusal),
+    }
+}
+
+// The check sum of the block, which stands in its last four bytes, or a refusal.
+#[no_mangle]
+pub extern "C" fn sirophan_seal(block: &mut [u8]) -> Answer
+    ensures { λ r. ⌜ r ≡ cAnswer (sealAnswer (now (block .entry))) ⌝ }
+    ensures { λ _. ⌜ now (block .exit) ≡ sealedBytes (now (block .entry)) ⌝ }
+{
+    let sealed = sealing::seal(block);
+    c_numbered(sealed)
+}
+
+// The record number of the card, or a refusal.
+#[no_mangle]
+pub extern "C" fn sirophan_record(card: &[u8]) -> Answer
+    ensures { λ r. ⌜ r ≡ cAnswer (recordAnswer (now (card .entry))) ⌝ }
+{
+    let numbered = sealing::record(card);
+    c_numbered(numbered)
 }

@@ -39,7 +39,7 @@ fn help_and_version() {
         assert!(help.output.contains(part), "{part}");
     }
     for option in ["--version", "-V", "version"] {
-        folder.run(&[option]).says(0, concat!("sirophan ", env!("CARGO_PKG_VERSION"), "\n"), "");
+        folder.run(&[option]).says(0, concat!("sirophan ", env!("CARGO_PKG_VERSION"), " (unreleased)\n"), "");
     }
     let pick = folder.run(&["pick", "--help"]).output;
     for line in [["help", "pick"], ["--help", "pick"], ["pick", "-h"]] {

@@ -8,14 +8,13 @@ use crate::progress::Progress;
 use crate::report::{Failure, Message};
 use crate::sheet::Sheet;
 use crate::text::{self, counted, grouped};
+pub use sirophan::RUN;
 use sirophan::Refusal;
 use std::collections::BTreeMap;
 use std::num::NonZero;
 use std::sync::{Mutex, MutexGuard, PoisonError};
 use std::thread;
 
-/// How many cards the library selects from at a time.
-pub const RUN: usize = 128;
 /// How many bytes a piece has, a whole number of runs.
 const PIECE: usize = 2 * RUN * SIZE;
 
@@ -142,11 +141,12 @@ pub struct AtFault {
 impl AtFault {
     /// What the library refused in a run that begins with this card; the place of 21 to 23 counts over the file.
     pub fn new(refusal: Refusal, first: u64, run: &[u8]) -> AtFault {
-        let (place, block) = match refusal.number {
-            21..=23 => (refusal.place + first as usize, &run[refusal.place * SIZE..][..SIZE]),
-            _ => (refusal.place, &run[run.len() - run.len() % SIZE..]),
+        let block = if refusal.is_of_card() {
+            &run[refusal.place * SIZE..][..SIZE]
+        } else {
+            &run[run.len() - run.len() % SIZE..]
         };
-        AtFault { refusal: Refusal { place, ..refusal }, block: block.to_vec(), in_text: text::is_text(run) }
+        AtFault { refusal: refusal.over_file(first), block: block.to_vec(), in_text: text::is_text(run) }
     }
 
     /// The refusal as it is told, with the record and the field.

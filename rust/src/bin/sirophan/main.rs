@@ -47,6 +47,7 @@ mod text;
 mod values;
 mod verdicts;
 mod verify;
+mod version;
 mod width;
 mod zero;
 
@@ -302,7 +303,7 @@ fn run() -> Result<(), (Failure, bool)> {
     match (name.as_str(), given) {
         ("--help" | "-h" | "help", []) => return answered(overview()),
         ("--help" | "-h" | "help", [name, ..]) => return answered(command_help(command_by(name)?)),
-        ("--version" | "-V" | "version", _) => return answered(format!("sirophan {}", env!("CARGO_PKG_VERSION"))),
+        ("--version" | "-V" | "version", _) => return answered(version::told()),
         _ => {}
     }
     let command = command_by(name)?;

@@ -1,0 +1,2 @@
+-- The laws that the proofs of seal and record cite.
+mod Sealing

@@ -1,0 +1,2 @@
+-- Blocks as programs make and read them.
+pub mod Sealing

@@ -1,0 +1,268 @@
+/*
+ * What a caller has to know beside the answers: the version, the sentences, blocks that a program makes, pointers that are
+ * NULL, and how much stack a call takes. It is compiled as C and as C++.
+ * The last line is 'N passed, M failed'; the status is 0 exactly when M is 0.
+ */
+#ifndef _XOPEN_SOURCE
+#define _XOPEN_SOURCE 700 /* for pthread_attr_setstack */
+#endif
+#include <pthread.h>
+#include <stdio.h>
+#include <stdlib.h>
+#include <string.h>
+
+#include "sirophan.h"
+
+enum { SHEET_HEAD = 2, CARD_HEAD = 6, SUMMED = 508, STACK = 1 << 18, PAINT = 0xA5, LONGEST_REFUSED = 60 };
+
+static int passed, failed;
+
+static void expect(const char *what, int holds) {
+    if (holds) {
+        passed++;
+        return;
+    }
+    failed++;
+    printf("failed: %s\n", what);
+}
+
+static int is(sirophan_answer answer, uint32_t refusal, size_t value) {
+    return answer.refusal == refusal && answer.value == value;
+}
+
+static int same(sirophan_answer one, sirophan_answer other) {
+    return is(one, other.refusal, other.value);
+}
+
+/* An archive with a parameter of each kind, and a run of as many cards as a run may have. */
+static uint8_t sheet[SIROPHAN_BLOCK];
+static uint8_t cards[SIROPHAN_RUN * SIROPHAN_BLOCK];
+
+/* A block that is being written: its bytes, and where it goes on. */
+typedef struct draft {
+    uint8_t *bytes;
+    size_t end;
+} draft;
+
+static void put(draft *d, int byte) {
+    d->bytes[d->end++] = (uint8_t)byte;
+}
+
+static void put_item(draft *d, int first, int mark, const char *text) {
+    put(d, first);
+    put(d, mark);
+    put(d, (int)strlen(text));
+    while (*text != '\0') put(d, *text++);
+}
+
+static void make_sheet(void) {
+    static const char *const names[] = {"s", "n", "d", "t", "r", "p", "b", "m"};
+    static const int kinds[] = {SIROPHAN_STRING,    SIROPHAN_NUMBER, SIROPHAN_DATE,   SIROPHAN_TOKEN,
+                                SIROPHAN_REFERENCE, SIROPHAN_PERIOD, SIROPHAN_BUNDLE, SIROPHAN_TOKEN};
+    draft d = {sheet, 0};
+    put(&d, SIROPHAN_BUNDLE_SHEET);
+    put(&d, 8);
+    for (int i = 0; i < 8; i++) put_item(&d, kinds[i], i == 7 ? 7 : 0, names[i]);
+    sirophan_seal(sheet, sizeof sheet);
+}
+
+static void make_card(uint8_t *card, int record) {
+    static const char *const texts[] = {"Ward book 4", "12.0", "1974-06", "http://loinc.org|1234-5", "Patient/17", "1974/1975-06"};
+    draft d = {card, 0};
+    put(&d, SIROPHAN_BUNDLE_CARD);
+    put(&d, record);
+    put(&d, 0);
+    put(&d, 0);
+    put(&d, 1);
+    put(&d, 8);
+    for (int i = 0; i < 6; i++) put_item(&d, i, 0, texts[i]);
+    put_item(&d, 7, 1, "x");
+    put_item(&d, 7, 2, "y");
+    sirophan_seal(card, SIROPHAN_BLOCK);
+}
+
+#define ARCHIVE sheet, sizeof sheet
+#define TEXT(text) (const uint8_t *)(text), strlen(text)
+
+static void versions_and_reasons(void) {
+    expect("the library's version is the header's", strcmp(sirophan_version(), SIROPHAN_VERSION) == 0);
+    const char *unknown = sirophan_reason(UINT32_MAX);
+    int known = 0;
+    for (uint32_t number = 0; number < LONGEST_REFUSED; number++) {
+        const char *sentence = sirophan_reason(number);
+        known += strcmp(sentence, unknown) != 0;
+        expect("a sentence ends with a full stop", sentence[strlen(sentence) - 1] == '.');
+    }
+    expect("24 refusals and none", known == 25);
+    expect("16", strcmp(sirophan_reason(SIROPHAN_NO_MEANING), "The operator has no meaning for a parameter of this kind.") == 0);
+}
+
+static void blocks(void) {
+    uint8_t block[SIROPHAN_BLOCK], before[SIROPHAN_BLOCK];
+    for (size_t i = 0; i < sizeof block; i++) block[i] = (uint8_t)(i * i + 7);
+    memcpy(before, block, sizeof block);
+    uint32_t sum = 0;
+    for (uint32_t i = 0; i < SUMMED; i++) sum += block[i] * (i + 1);
+
+    expect("a short block is not sealed", is(sirophan_seal(block, sizeof block - 1), SIROPHAN_CARD_SIZE, 0));
+    expect("and stays as it is", memcmp(block, before, sizeof block) == 0);
+    expect("the check sum", is(sirophan_seal(block, sizeof block), 0, sum));
+    expect("the rest stays", memcmp(block, before, SUMMED) == 0);
+    uint32_t written = block[SUMMED] + 256u * block[SUMMED + 1] + 65536u * block[SUMMED + 2] + 16777216u * block[SUMMED + 3];
+    expect("low byte first", written == sum);
+    expect("sealed again", is(sirophan_seal(block, sizeof block), 0, sum));
+
+    expect("a record number", is(sirophan_record(cards + 5 * SIROPHAN_BLOCK, SIROPHAN_BLOCK), 0, 16777221));
+    expect("no card", is(sirophan_record(cards, SIROPHAN_BLOCK + 1), SIROPHAN_CARD_SIZE, 0));
+    uint8_t largest[SIROPHAN_BLOCK];
+    memset(largest, 0xFF, sizeof largest);
+    expect("the largest", is(sirophan_record(largest, sizeof largest), 0, UINT32_MAX));
+
+    uint32_t list[SIROPHAN_RUN];
+    expect("the archive is sound", is(sirophan_select(ARCHIVE, TEXT("b[m eq y].m pr true"), cards, sizeof cards, list, SIROPHAN_RUN), 0, 128));
+    expect("its last record", list[127] == 16777216 + 127);
+}
+
+/* Each function is asked with NULL for what is empty, and answers what it answers for another pointer. */
+static void nulls(void) {
+    static uint8_t some[1];
+    static uint32_t cells[SIROPHAN_CELLS];
+    const uint8_t *card = cards;
+    sirophan_tally rows[1] = {{9, 9}};
+    sirophan_answer rows_of = sirophan_prepare(ARCHIVE, TEXT("s pr true"), cells, SIROPHAN_CELLS);
+    expect("prepared", rows_of.refusal == 0);
+
+#define BOTH(name, call) expect(name " takes NULL", same(call(NULL), call(some)))
+#define SHEET_OF(f) sirophan_check(f, 0, TEXT("s pr true"))
+    BOTH("check's sheet", SHEET_OF);
+#define CHECK(f) sirophan_check(ARCHIVE, f, 0)
+    BOTH("check's filter", CHECK);
+#define MATCH(f) sirophan_match(ARCHIVE, f, 0, card, SIROPHAN_BLOCK)
+    BOTH("match's filter", MATCH);
+#define MATCH_CARD(c) sirophan_match(ARCHIVE, TEXT("s pr true"), c, 0)
+    BOTH("match's card", MATCH_CARD);
+#define BY_TEXT(c) sirophan_match_by_text(ARCHIVE, TEXT("s pr true"), c, 0)
+    BOTH("match_by_text's card", BY_TEXT);
+#define SELECT(c) sirophan_select(ARCHIVE, TEXT("s pr true"), c, 0, cells, 0)
+    BOTH("select's cards", SELECT);
+#define SEARCH(c) sirophan_match_search(ARCHIVE, c, 0, card, SIROPHAN_BLOCK)
+    BOTH("match_search's string", SEARCH);
+#define CHECK_SEARCH(c) sirophan_check_search(ARCHIVE, c, 0)
+    BOTH("check_search's string", CHECK_SEARCH);
+#define SELECT_SEARCH(c) sirophan_select_search(ARCHIVE, TEXT("s=w"), c, 0, cells, 0)
+    BOTH("select_search's cards", SELECT_SEARCH);
+#define JUDGE(c) sirophan_judge(ARCHIVE, TEXT("s pr true"), cells, rows_of.value, c, 0)
+    BOTH("judge's card", JUDGE);
+#define SPELL(c) sirophan_spell(TEXT("s pr true"), c, 0, 0)
+    BOTH("spell's buffer", SPELL);
+#define EXPLAIN(c) sirophan_explain(ARCHIVE, TEXT("s pr true"), card, SIROPHAN_BLOCK, c, 0)
+    BOTH("explain's cells", EXPLAIN);
+#define RECORD(c) sirophan_record(c, 0)
+    BOTH("record's card", RECORD);
+#define SEAL(c) sirophan_seal(c, 0)
+    BOTH("seal's block", SEAL);
+
+    expect("no cards and no list", is(sirophan_select(ARCHIVE, TEXT("s pr true"), NULL, 0, NULL, 0), 0, 0));
+    expect("no list", is(sirophan_select(ARCHIVE, TEXT("s pr true"), cards, sizeof cards, NULL, 0), SIROPHAN_SHORT_LIST, 128));
+    expect("no list by text", is(sirophan_select_by(SIROPHAN_ENGINE_TEXT, ARCHIVE, TEXT("s pr true"), NULL, 0, NULL, 0), 0, 0));
+    expect("no cells", is(sirophan_prepare(ARCHIVE, TEXT("s pr true"), NULL, 0), SIROPHAN_SHORT_CELLS, rows_of.value));
+    expect("no rows", is(sirophan_judge(ARCHIVE, TEXT("s pr true"), NULL, 0, card, SIROPHAN_BLOCK), SIROPHAN_BAD_ROWS, 0));
+    expect("nothing at all", is(sirophan_select(NULL, 0, NULL, 0, NULL, 0, NULL, 0), SIROPHAN_SHEET_SIZE, 0));
+    sirophan_counts counts = sirophan_report(ARCHIVE, TEXT("s pr true"), NULL, 0, NULL, 0);
+    expect("a report without rows", counts.refusal == SIROPHAN_SHORT_ROWS && counts.place == 8);
+    counts = sirophan_report(NULL, 0, NULL, 0, NULL, 0, rows, 1);
+    expect("a report on nothing", counts.refusal == SIROPHAN_SHEET_SIZE && rows[0].cards == 9);
+}
+
+/* Texts that lead far down: brackets, tests and alternatives to the limits, and texts that are none near their end. */
+static char deep[SIROPHAN_TEXT + 1], wide[SIROPHAN_TEXT + 1], broken[SIROPHAN_TEXT + 1], string[SIROPHAN_TEXT + 1];
+static char long_value[SIROPHAN_TEXT + 1];
+static const char *const texts[] = {deep, wide, broken, long_value};
+
+static void append(char *text, int times, const char *part) {
+    for (int i = 0; i < times; i++) strcat(text, part);
+}
+
+static void make_texts(void) {
+    append(deep, 1, "((((((not (b[m eq x or m eq z].m eq y");
+    append(deep, 29, " or d sa 1974-06-30T23:00:00Z");
+    append(deep, 1, ")))))))");
+    append(wide, 1, "d eq 1974");
+    append(wide, 10, " and b[m eq x].m eq y or t eq loinc|1234-5");
+    append(wide, 1, " and not (n co 12.04)");
+    append(broken, 1, "p po 1974 or ((((((((s eq \"a");
+    append(string, 1, "d=ge1974,sa1970-02-28");
+    append(string, 15, "&s=W%61rd%20book%204&t=loinc|1234-5");
+    append(long_value, 1, "s co \"");
+    append(long_value, 150, "\\\"\\\\\xC3\x96");
+    append(long_value, 1, "\"");
+}
+
+static void *nothing(void *unused) {
+    return unused;
+}
+
+static void *all_calls(void *unused) {
+    static uint32_t cells[SIROPHAN_CELLS];
+    static uint8_t marks[SIROPHAN_TESTS], buffer[SIROPHAN_TEXT];
+    static sirophan_tally rows[SIROPHAN_PARAMETERS];
+    for (size_t i = 0; i < sizeof texts / sizeof *texts; i++) {
+        sirophan_check(ARCHIVE, TEXT(texts[i]));
+        sirophan_match(ARCHIVE, TEXT(texts[i]), cards, SIROPHAN_BLOCK);
+        sirophan_match_by_text(ARCHIVE, TEXT(texts[i]), cards, SIROPHAN_BLOCK);
+        sirophan_select(ARCHIVE, TEXT(texts[i]), cards, sizeof cards, cells, SIROPHAN_RUN);
+        sirophan_select_by(SIROPHAN_ENGINE_TEXT, ARCHIVE, TEXT(texts[i]), cards, sizeof cards, cells, SIROPHAN_RUN);
+        sirophan_report(ARCHIVE, TEXT(texts[i]), cards, sizeof cards, rows, SIROPHAN_PARAMETERS);
+        sirophan_spell(TEXT(texts[i]), buffer, sizeof buffer, 0);
+        sirophan_explain(ARCHIVE, TEXT(texts[i]), cards, SIROPHAN_BLOCK, marks, SIROPHAN_TESTS);
+        sirophan_answer prepared = sirophan_prepare(ARCHIVE, TEXT(texts[i]), cells, SIROPHAN_CELLS);
+        sirophan_judge(ARCHIVE, TEXT(texts[i]), cells, prepared.refusal ? 0 : prepared.value, cards, SIROPHAN_BLOCK);
+    }
+    sirophan_check_search(ARCHIVE, TEXT(string));
+    sirophan_match_search(ARCHIVE, TEXT(string), cards, SIROPHAN_BLOCK);
+    sirophan_select_search(ARCHIVE, TEXT(string), cards, sizeof cards, cells, SIROPHAN_RUN);
+    return unused;
+}
+
+/* How many bytes of a painted stack a thread has written over. */
+static size_t stack_of(void *(*run)(void *)) {
+    uint8_t *stack = (uint8_t *)aligned_alloc(4096, STACK);
+    pthread_attr_t attributes;
+    pthread_t thread;
+    memset(stack, PAINT, STACK);
+    pthread_attr_init(&attributes);
+    pthread_attr_setstack(&attributes, stack, STACK);
+    expect("a thread starts", pthread_create(&thread, &attributes, run, NULL) == 0);
+    pthread_join(thread, NULL);
+    pthread_attr_destroy(&attributes);
+    size_t untouched = 0;
+    while (untouched < STACK && stack[untouched] == PAINT) untouched++;
+    free(stack);
+    return STACK - untouched;
+}
+
+static void stack(void) {
+    make_texts();
+    expect("the deep text is a filter", is(sirophan_check(ARCHIVE, TEXT(deep)), 0, SIROPHAN_TESTS));
+    expect("the wide text is a filter", is(sirophan_check(ARCHIVE, TEXT(wide)), 0, SIROPHAN_TESTS));
+    expect("the broken text is none", sirophan_check(ARCHIVE, TEXT(broken)).refusal == SIROPHAN_NO_FILTER);
+    expect("the long value is a filter's", sirophan_check(ARCHIVE, TEXT(long_value)).refusal == 0);
+    expect("the string is a search string", is(sirophan_check_search(ARCHIVE, TEXT(string)), 0, 32));
+    stack_of(nothing); /* what the first thread takes once */
+    size_t none = stack_of(nothing), taken = stack_of(all_calls);
+    size_t calls = taken - none;
+    printf("stack: %lu bytes at most, of %d\n", (unsigned long)calls, SIROPHAN_STACK);
+    expect("calls take stack", taken > none + 4096);
+    expect("no call takes more stack than the header says", calls <= SIROPHAN_STACK);
+}
+
+int main(void) {
+    make_sheet();
+    for (int i = 0; i < SIROPHAN_RUN; i++) make_card(cards + i * SIROPHAN_BLOCK, i);
+    versions_and_reasons();
+    blocks();
+    nulls();
+    stack();
+    printf("%d passed, %d failed\n", passed, failed);
+    return failed == 0 ? 0 : 1;
+}
