@@ -153,6 +153,9 @@ fn values_that_look_like_dates() {
     // With cards, a value that one of them has is what it seems to be, and four digits among codes are a code.
     let codes = Folder::packed("values-codes", "token code\n", &cards("code", ["4019", "1975", "2910", "V58"]), "");
     codes.pick_by("code eq 1975").says(0, "2\n1 of 4\n", "");
+    let notes = Folder::packed("values-notes", "string note\n", &cards("note", ["came 4.3.1973", "left 1973-04"]), "");
+    notes.pick_by("note co 4.3.1973").says(0, "1\n1 of 2\n", "");
+    notes.pick_by("note co 1973-04").says(0, "2\n1 of 2\n", "");
     codes.pick_by("code eq 1830").says(
         0,
         "0 of 4\n",
@@ -235,6 +238,12 @@ fn texts_that_differ_in_little() {
         "0 of 4\n",
         "warning: no card meets `name eq Ward`: 1 value holds it as a part, such as \"Ward\u{2013}4\".\n\
          \x20 `name co Ward` finds it.\n",
+    );
+    folder.pick_by("name eq \"Dvořák, Antonín\"").says(
+        0,
+        "0 of 4\n",
+        "warning: no card meets `name eq \"Dvořák, Antonín\"`: 1 value has its words in another order, such as \"Antonín Dvořák\".\n\
+         \x20 `name co \"Dvořák\" and name co \"Antonín\"` asks for the words.\n",
     );
     let references =
         Folder::packed("references", "reference subject\n", &cards("subject", ["http://h/Patient/17"]), "");
@@ -384,6 +393,13 @@ fn fields_by_their_values() {
         ("string", &["12", "1,234", "96.5"], "3 of 3 values look like numbers."),
         ("token", &["-3", "12,5", "x"], "2 of 3 values look like numbers; others: \"x\"."),
         ("string", &["http://loinc.org|1234-5"], "1 of 1 value looks like a token."),
+        (
+            "string",
+            &["\"\"", "1973-04", "\"\"", "\" \"", "1974-05"],
+            "2 of 2 values that are not empty look like dates.",
+        ),
+        ("token", &["1973-00-00", "00.03.1973", "Mar-73"], "3 of 3 values look like dates."),
+        ("string", &["250", "12", "96", "4"], "4 of 4 values look like numbers."),
         // Half is not more than half.
         ("token", &["1974-06", "x"], ""),
         ("token", &["32485007", "19730304", "73211009"], ""),
@@ -394,6 +410,8 @@ fn fields_by_their_values() {
         ("token", &["1234-5", "1975-2", "1988-5"], ""),
         ("token", &["291.0", "303.9", "81.54"], ""),
         ("reference", &["17", "18"], ""),
+        ("string", &["4", "12", "7"], ""),
+        ("string", &["5551234", "0301234", "5559876"], ""),
         ("string", &["Ward book 4", "Ward book 1973"], ""),
         ("string", &["555-1234", "+49 30 1234567"], ""),
         ("string", &["May", "June", "August"], ""),

@@ -140,7 +140,9 @@ fn pick_says_what_may_be_meant_otherwise() {
                     \x20 Letters beyond ASCII have other bytes there, and a filter in UTF-8 does not find them.\n";
     let quotes = "warning: the value 'Ward' of title asks for its quotes too.\n  Write \"Ward\" to ask without them.\n";
     let note = |test: &str| format!("note: no card meets `{test}`: 2 of 2 cards have title, such as \"Ward\".\n");
-    folder.pick("title co 'Ward'").says(0, "0 of 2\n", &format!("{quotes}{encoding}{}", note("title co 'Ward'")));
+    let near = "warning: no card meets `title co 'Ward'`: 1 value differs only in points and the like, such as \"Ward\".\n\
+                \x20 Such texts are compared byte by byte: copy it from a card. It stands on record 1.\n";
+    folder.pick("title co 'Ward'").says(0, "0 of 2\n", &format!("{quotes}{encoding}{near}"));
     let joins = "warning: `and` and `or` are read from left to right, with equal rank. The filter asks:\n\
                  \x20 (subject eq loinc|1 or title pr false) and title pr true\n";
     let kind = "warning: subject is a string, and 1 of 1 value looks like a token.\n\

@@ -147,10 +147,15 @@ fn search_says_what_may_be_meant_otherwise() {
          \x20 If it holds dates, the sheet gives it the wrong kind, and a filter asks something else than it seems to.\n",
     );
     let quotes = "asks for its quotes too.\n  A search string has no quotes: leave them out.\n";
-    let note = |pair: &str| format!("note: no card meets `{pair}`: 1 of 1 card has title, such as \"x\".\n");
-    let quoted = format!("warning: the value \"\\\"x\\\"\" of title {quotes}{}", note("title=%22x%22"));
+    let near = |pair: &str| {
+        format!(
+            "warning: no card meets `{pair}`: 1 value differs only in points and the like, such as \"x\".\n\
+             \x20 Such texts are compared byte by byte: copy it from a card. It stands on record 1.\n"
+        )
+    };
+    let quoted = format!("warning: the value \"\\\"x\\\"\" of title {quotes}{}", near("title=%22x%22"));
     folder.search("title=%22x%22").says(0, "0 of 1\n", &quoted);
-    let quoted = format!("warning: the value 'x' of title {quotes}{}", note("title='x'"));
+    let quoted = format!("warning: the value 'x' of title {quotes}{}", near("title='x'"));
     folder.search("title='x'").says(0, "0 of 1\n", &quoted);
     folder.search("title=x\r\n").says(
         0,

@@ -54,7 +54,7 @@ pub fn run(arguments: &Arguments) -> Result<(), Failure> {
         Ok(())
     })?;
     let mut warnings = survey.doubts_of_all(&shown(path), &held);
-    warnings.extend(zero::told(&question, &survey.asked, path, &held, sum.yes)?);
+    warnings.extend(zero::told(&question, &survey.asked, path, &held, sum.yes));
     if arguments.json {
         return show_json(&question.sheet, &sum, &warnings);
     }

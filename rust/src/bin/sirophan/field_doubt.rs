@@ -22,10 +22,11 @@ pub fn of_field(sheet: &Sheet, held: &Held, place: usize) -> Vec<Message> {
     let own = kind::by_number(sheet.parameters[place].kind);
     let kind = field.looks_like().zip(own);
     let kind = kind.map(|((likeness, alike), own)| {
-        let values = format!("{}{of}", counted(field.values, "value"));
+        let filled = if field.blank > 0 { " that are not empty" } else { "" };
+        let values = format!("{}{filled}{of}", counted(field.values - field.blank, "value"));
         let told = format!("{path} is {}, and {} of {values}", own.one, grouped(alike.count));
         kind_doubt(&told, own, likeness, alike).about("looks_like", &path).figures([
-            ("values", field.values),
+            ("values", field.values - field.blank),
             ("alike", alike.count),
             ("unreadable", alike.unreadable),
         ])

@@ -65,7 +65,7 @@ struct Difference {
 }
 
 /// The ways, in the order in which texts are made alike. A further one is another row.
-const DIFFERENCES: [Difference; 7] = [
+const DIFFERENCES: [Difference; 8] = [
     Difference { name: "signs that do not show", alike: |text| text.chars().filter(|c| !is_invisible(*c)).collect() },
     Difference { name: "spaces", alike: |text| text.split_whitespace().collect::<Vec<&str>>().join(" ") },
     Difference { name: "kinds of hyphens", alike: |text| text.chars().map(hyphen).collect() },
@@ -79,10 +79,14 @@ const DIFFERENCES: [Difference; 7] = [
         alike: |text| text.to_uppercase().chars().flat_map(char::to_lowercase).collect(),
     },
     Difference { name: "accents", alike: |text| text.chars().flat_map(without_accent).collect() },
+    Difference {
+        name: "points and the like",
+        alike: |text| text.chars().filter(|c| !c.is_ascii_punctuation()).collect(),
+    },
 ];
 
-/// How many differences are made alike first: in accents texts differ for a reader too.
-const HARDLY_SEEN: usize = DIFFERENCES.len() - 1;
+/// How many differences are made alike first: in accents, and in points and the like, texts differ for a reader too.
+const HARDLY_SEEN: usize = DIFFERENCES.len() - 2;
 
 fn is_invisible(c: char) -> bool {
     matches!(c, '\u{AD}' | '\u{200B}'..='\u{200F}' | '\u{202A}'..='\u{202E}' | '\u{2060}'..='\u{2069}' | '\u{FEFF}')
@@ -137,12 +141,16 @@ fn alike(text: &str, ways: usize, but_for: usize) -> String {
 /// where it would not, or where there is no such way.
 pub fn differences(asked: &[u8], value: &[u8], stands: impl Fn(&str, &str) -> bool) -> Option<Vec<&'static str>> {
     let odd_spaces = |text: &[u8]| text.trim_ascii().len() < text.len() || text.windows(2).any(|pair| pair == b"  ");
-    if asked.is_ascii() && value.is_ascii() && !odd_spaces(asked) && !odd_spaces(value) && !value.contains(&b'`') {
+    let odd = |text: &[u8]| !text.is_ascii() || odd_spaces(text) || text.iter().any(u8::is_ascii_punctuation);
+    if !odd(asked) && !odd(value) {
         return None;
     }
     let (asked, value) = (str::from_utf8(asked).ok()?, str::from_utf8(value).ok()?);
-    let would = |ways, but_for| stands(&alike(asked, ways, but_for), &alike(value, ways, but_for));
-    let ways = [HARDLY_SEEN, DIFFERENCES.len()].into_iter().find(|&ways| would(ways, usize::MAX))?;
+    let would = |ways, but_for| {
+        let asked = alike(asked, ways, but_for);
+        !asked.is_empty() && stands(&asked, &alike(value, ways, but_for))
+    };
+    let ways = (HARDLY_SEEN..=DIFFERENCES.len()).find(|&ways| would(ways, usize::MAX))?;
     let needed: Vec<&str> = (0..ways).filter(|&way| !would(ways, way)).map(|way| DIFFERENCES[way].name).collect();
     (!needed.is_empty()).then_some(needed)
 }
@@ -169,7 +177,10 @@ mod tests {
         assert_eq!(of("STRASSE", "Straße"), ["large and small letters beyond À to Þ"]);
         assert_eq!(of("nguyen", "Nguyễn"), ["accents"]);
         assert_eq!(of("co\u{AD}operation", "cooperation"), ["signs that do not show"]);
+        assert_eq!(of("2910", "291.0"), ["points and the like"]);
+        assert_eq!(of("Smith John", "Smith, John"), ["points and the like"]);
         assert!(of("Smith", "Jones").is_empty());
+        assert!(of(".", "x").is_empty());
         assert!(of("Schmidt", "Smith").is_empty());
     }
 

@@ -30,13 +30,16 @@ pub struct Look {
     pub address: bool,
     /// It is digits alone: a likely year, which only the other values tell from a code.
     pub year: bool,
-    /// It is digits alone, and neither a likely year nor a day.
+    /// It is digits alone, and neither a likely year nor a day; and they are few or many or begin with a zero, as those of wards,
+    /// telephones and records do.
     pub digits: bool,
+    pub label: bool,
 }
 
 impl Look {
     /// A look like nothing.
-    pub const NONE: Look = Look { date: None, period: None, number: None, address: false, year: false, digits: false };
+    pub const NONE: Look =
+        Look { date: None, period: None, number: None, address: false, year: false, digits: false, label: false };
 
     fn date(spelling: Spelling) -> Look {
         Look { date: Some(spelling), ..Look::NONE }
@@ -91,7 +94,8 @@ fn plain_digits(value: &[u8]) -> Look {
         return Look { number, ..Look::date(Other) };
     }
     let year = value.len() == 4 && BARE_YEARS.contains(&read(value));
-    Look { date: year.then_some(Readable), number, year, digits: !year, ..Look::NONE }
+    let label = !(3..=5).contains(&value.len()) || value[0] == b'0';
+    Look { date: year.then_some(Readable), number, year, digits: !year, label, ..Look::NONE }
 }
 
 /// A value with a sign before it.
@@ -124,7 +128,7 @@ fn look_of_others(value: &[u8]) -> Look {
 }
 
 /// Whether a value may be a date or a period in words or in another order of digits: it is short, and has four digits that
-/// may be a year, or three groups of digits.
+/// may be a year, or two at its end.
 fn may_be_spoken(value: &[u8], by_groups: bool) -> bool {
     let (mut run, mut groups, mut year) = (0, 0, false);
     for (at, byte) in value.iter().enumerate() {
@@ -137,7 +141,8 @@ fn may_be_spoken(value: &[u8], by_groups: bool) -> bool {
             run = 0;
         }
     }
-    value.len() <= spoken::LONGEST && (year || (by_groups && matches!(groups, 2 | 3) && run == 2))
+    let short_year = run == 2 && (value.len() <= spoken::SHORT || by_groups && matches!(groups, 2 | 3));
+    value.len() <= spoken::LONGEST && (year || short_year)
 }
 
 /// What a value says in words or in another order of digits.
@@ -305,6 +310,12 @@ mod tests {
                     "1973/03/04",
                     "1973.03.04",
                     "1973-3-4",
+                    "1973-00-00",
+                    "1973-00",
+                    "00.03.1973",
+                    "Mar-73",
+                    "3 de marzo de 1973",
+                    "3 maart 1973",
                     "1973-02-30",
                     "19730304",
                     "3 March 1973",
@@ -402,6 +413,9 @@ mod tests {
                     "March",
                     "June Smith",
                     "Augustine",
+                    "May 12",
+                    "March-12",
+                    "Ward 73",
                     "May Jones 1973 file",
                     "12 Elm Street",
                     "12 Elm Street 1973",

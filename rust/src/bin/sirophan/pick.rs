@@ -43,7 +43,7 @@ fn list(words: Words, arguments: &Arguments) -> Result<(), Failure> {
     let listed: HashSet<u32> =
         if held.repeated.is_empty() { HashSet::new() } else { list.listed.iter().copied().collect() };
     let mut warnings = survey.doubts(&shown(path), &held, |record| listed.contains(&record));
-    warnings.extend(zero::told(&question, &survey.asked, path, &held, list.matching)?);
+    warnings.extend(zero::told(&question, &survey.asked, path, &held, list.matching));
     list.end(&warnings)
 }
 

@@ -181,6 +181,15 @@ fn part_reason(asked: &Asked, clues: &Clues) -> Option<Reason> {
         let help = "A reference is asked by its whole text, as the cards have it.".to_string();
         return Some(("reference_spelling", clues.ending.count, why, help));
     }
+    if clues.holding.count == 0 && clues.words.count > 0 {
+        let has = values(clues.words.count, "has", "have");
+        let why = format!("{has} its words in another order, such as {}", quoted(clues.words.example()));
+        let tests: Vec<String> = String::from_utf8_lossy(&asked.value)
+            .split_whitespace()
+            .map(|word| asked.told("co", word.trim_matches(|c: char| c.is_ascii_punctuation()).as_bytes()))
+            .collect();
+        return Some(("word_order", clues.words.count, why, format!("`{}` asks for the words.", tests.join(" and "))));
+    }
     let count = clues.holding.count;
     let hold = values(count, "holds", "hold");
     let why = format!("{hold} it as a part, such as {}", quoted(clues.holding.example()));

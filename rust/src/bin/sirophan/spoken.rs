@@ -5,6 +5,8 @@ use std::sync::OnceLock;
 
 /// No date and no period that a person writes is longer, in bytes.
 pub const LONGEST: usize = 60;
+/// One with a year of two digits alone is not longer than this.
+pub const SHORT: usize = 14;
 
 /// A piece of such a text.
 #[derive(Debug, PartialEq, Eq)]
@@ -19,20 +21,21 @@ pub enum Token {
 
 use Token::{Digits, Sign, Word};
 
-/// Names of months: English, German, French and Roman numbers. A name may be cut after three letters.
+/// Names of months: English, German, French, Spanish, Italian, Dutch, Swedish, and Roman numbers. A name may be cut after three
+/// letters.
 const MONTHS: [&[&str]; 12] = [
-    &["january", "januar", "janvier", "jaenner", "janner", "i"],
-    &["february", "februar", "feber", "fevrier", "ii"],
-    &["march", "maerz", "marz", "mrz", "mars", "iii"],
-    &["april", "avril", "iv"],
-    &["may", "mai", "v"],
-    &["june", "juni", "juin", "vi"],
-    &["july", "juli", "juillet", "vii"],
-    &["august", "aout", "viii"],
-    &["september", "septembre", "sept", "ix"],
-    &["october", "oktober", "octobre", "x"],
-    &["november", "novembre", "xi"],
-    &["december", "dezember", "decembre", "xii"],
+    &["january", "januar", "janvier", "jaenner", "janner", "enero", "gennaio", "i"],
+    &["february", "februar", "feber", "fevrier", "febrero", "febbraio", "ii"],
+    &["march", "maerz", "marz", "mrz", "mars", "marzo", "maart", "mrt", "iii"],
+    &["april", "avril", "abril", "iv"],
+    &["may", "mai", "mayo", "maggio", "mei", "maj", "v"],
+    &["june", "juni", "juin", "junio", "giugno", "vi"],
+    &["july", "juli", "juillet", "julio", "luglio", "vii"],
+    &["augusti", "augustus", "aout", "agosto", "viii"],
+    &["september", "septembre", "sept", "septiembre", "settembre", "ix"],
+    &["october", "oktober", "octobre", "octubre", "ottobre", "x"],
+    &["november", "noviembre", "novembre", "xi"],
+    &["december", "dezember", "decembre", "diciembre", "dicembre", "xii"],
 ];
 
 /// Days of the week, in the same languages.
@@ -160,7 +163,8 @@ pub fn is_date(tokens: &[Token]) -> bool {
     let said: Vec<&Token> = tokens.iter().filter(|token| !is_beside(token)).collect();
     match said[..] {
         [Digits(year, 4)] => tokens.len() > 1 && YEARS.contains(year),
-        [Digits(month, 2), Sign('.' | '/' | '-'), Digits(year, 4)] => (1..=12).contains(month) && YEARS.contains(year),
+        [Digits(month, 2), Sign('.' | '/' | '-'), Digits(year, 4)] => *month <= 12 && YEARS.contains(year),
+        [Digits(year, 4), Sign('-'), Digits(0, 2)] => YEARS.contains(year),
         [Digits(a, n), Sign(s), Digits(b, m), Sign(t), Digits(c, l)] if s == t && "./-".contains(*s) => {
             is_day([(*a, *n), (*b, *m), (*c, *l)])
         }
@@ -181,7 +185,8 @@ fn is_beside(token: &&Token) -> bool {
 /// Three numbers that are a day, a month and a year, or a year, a month and a day. A short year is two digits.
 fn is_day(parts: [(u32, usize); 3]) -> bool {
     let [(a, n), (b, m), (c, l)] = parts;
-    let day_of = |day: u32, month: u32| (1..=31).contains(&day) && (1..=12).contains(&month);
+    // People write 0 for a day or a month that they do not know.
+    let day_of = |day: u32, month: u32| day <= 31 && month <= 12;
     let short = n <= 2 && m <= 2;
     match (n, l) {
         (4, 1..=2) => m <= 2 && YEARS.contains(&a) && day_of(c, b),
@@ -205,7 +210,7 @@ fn is_day_in_words(said: &[&Token]) -> bool {
     months == 1
         && parts.len() == numbers.len() + 1
         && match &numbers[..] {
-            [year] => is_year(year),
+            [year @ (number, length)] => is_year(year) || (*length == 2 && *number > 31),
             [day, year] if is_year(year) => is_short(day),
             [year, day] if is_year(year) => is_short(day),
             [day, (_, 2)] => is_short(day),

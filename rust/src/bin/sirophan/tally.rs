@@ -65,6 +65,8 @@ pub const LIKENESSES: [Likeness; 5] = [
 
 /// How many of the values that do not look like a kind are shown.
 const OTHERS: usize = 2;
+/// Digits alone may be labels, as those of wards and telephones are: numbers are doubted where one in so many is none.
+const LABELS_TO_NUMBER: u64 = 4;
 /// Bare years count as dates where so many times as many values are years as are other digits alone: else they are codes.
 const YEARS_TO_DIGITS: u64 = 9;
 
@@ -126,6 +128,9 @@ pub struct Field {
     /// How many values are digits alone: likely years, and others.
     years: u64,
     digits: u64,
+    /// How many of them may be labels, and how many values say nothing.
+    labels: u64,
+    pub blank: u64,
     /// How many values seem to be in another encoding, of all of them, and the first card that has one: index, record and why.
     pub strange: u64,
     pub first_strange: Option<(u64, u32, &'static str)>,
@@ -139,6 +144,8 @@ impl Field {
         self.is_there |= other.is_there;
         self.years += other.years;
         self.digits += other.digits;
+        self.labels += other.labels;
+        self.blank += other.blank;
         self.strange += other.strange;
         self.example = first(self.example.take(), other.example, |example| example.0);
         self.first_strange = first(self.first_strange.take(), other.first_strange, |strange| strange.0);
@@ -155,7 +162,9 @@ impl Field {
         let are_codes = self.years < YEARS_TO_DIGITS * self.digits;
         let likely = |likeness: &Likeness, alike: &Alike| {
             let codes = if are_codes && ["date", "period"].contains(&likeness.kind) { self.years } else { 0 };
-            2 * alike.count.saturating_sub(codes) > self.values
+            let are_labels =
+                likeness.kind == "number" && alike.count > LABELS_TO_NUMBER * alike.count.saturating_sub(self.labels);
+            2 * alike.count.saturating_sub(codes) > self.values - self.blank && !are_labels
         };
         LIKENESSES.iter().zip(&self.alike).find(|(likeness, alike)| likely(likeness, alike))
     }
@@ -292,7 +301,7 @@ impl<'a> Counter<'a> {
                 field.first_strange.get_or_insert((index, block::record(card), why));
             }
             for &number in &asked.watched {
-                tally.seen[number] |= is_value(item.text, &self.watched[number]);
+                tally.seen[number] |= is_value(asked.word, item.text, &self.watched[number]);
             }
         }
         if !tally.all_there {
@@ -347,6 +356,10 @@ fn count_value(field: &mut Field, asked: &Asked, index: u64, value: &[u8]) {
     if asked.doubtful.is_empty() {
         return;
     }
+    if value.trim_ascii().is_empty() {
+        field.blank += 1;
+        return;
+    }
     let look = looks::look(value);
     let keeps_others =
         field.values <= OTHERS as u64 || asked.doubtful.iter().any(|&row| field.alike[row].others.len() < OTHERS);
@@ -355,6 +368,7 @@ fn count_value(field: &mut Field, asked: &Asked, index: u64, value: &[u8]) {
     }
     field.years += u64::from(look.year);
     field.digits += u64::from(look.digits);
+    field.labels += u64::from(look.label);
     for &row in &asked.doubtful {
         match (LIKENESSES[row].spelling)(&look, value, asked.word) {
             Some(spelling) => field.alike[row].take(spelling, index, value),
@@ -363,8 +377,11 @@ fn count_value(field: &mut Field, asked: &Asked, index: u64, value: &[u8]) {
     }
 }
 
-/// Whether a card's value is a certain text, as it stands or behind a system.
-fn is_value(value: &[u8], text: &[u8]) -> bool {
+/// Whether a card has a certain text: a string somewhere in it, a token with or without its system, and a reference as it is.
+fn is_value(kind: &str, value: &[u8], text: &[u8]) -> bool {
     let Some(start) = value.len().checked_sub(text.len()) else { return false };
+    if kind == "string" {
+        return text.is_empty() || value.windows(text.len()).any(|part| part.eq_ignore_ascii_case(text));
+    }
     value[start..].eq_ignore_ascii_case(text) && (start == 0 || value[start - 1] == b'|')
 }

@@ -56,8 +56,9 @@ pub struct Clues {
     /// Values that differ in little, and in what the first does.
     pub near: Clue,
     pub differences: Vec<&'static str>,
-    /// Values that hold the text somewhere, or end with it as an address does.
+    /// Values that hold the text somewhere, that hold all its words, and that end with it as an address does.
     pub holding: Clue,
+    pub words: Clue,
     pub ending: Clue,
     /// Tokens with the same code.
     pub same_code: Clue,
@@ -81,6 +82,7 @@ impl Clues {
         self.overlapping.add(other.overlapping);
         self.near.add(other.near);
         self.holding.add(other.holding);
+        self.words.add(other.words);
         self.ending.add(other.ending);
         self.same_code.add(other.same_code);
         for (system, count) in other.systems {
@@ -114,23 +116,16 @@ fn compare(one: &[u8], other: &[u8]) -> std::cmp::Ordering {
 }
 
 /// What can be said of an answer that few cards are on: from a file by a second walk, else by what the first has found.
-pub fn told(
-    question: &Question,
-    asked: &[Asked],
-    path: &str,
-    held: &Held,
-    matching: u64,
-) -> Result<Vec<Message>, Failure> {
+pub fn told(question: &Question, asked: &[Asked], path: &str, held: &Held, matching: u64) -> Vec<Message> {
     if matching >= FEW || held.cards == 0 {
-        return Ok(Vec::new());
+        return Vec::new();
     }
-    let cards = if path == "-" { None } else { Some(Input::open(path)?).filter(|cards| cards.size.is_some()) };
-    let Some(cards) = cards else {
-        return Ok(reason::of_one_walk(question, asked, held, matching));
-    };
-    let walk = Walk::new(question, asked, matching);
-    let clues = walk.pass(cards)?;
-    Ok(reason::of_two_walks(question, asked, held, matching, &clues))
+    // The list stands whether the cards can be read once more or not.
+    let cards = if path == "-" { None } else { Input::open(path).ok().filter(|cards| cards.size.is_some()) };
+    match cards.map(|cards| Walk::new(question, asked, matching).pass(cards)) {
+        Some(Ok(clues)) => reason::of_two_walks(question, asked, held, matching, &clues),
+        _ => reason::of_one_walk(question, asked, held, matching),
+    }
 }
 
 /// A second walk over the cards.
@@ -245,9 +240,23 @@ fn look_at_value(kind: &str, asked: &Asked, clues: &mut Clues, (index, record): 
             if kind == "string" && !asked.is_empty() && low.windows(asked.len()).any(|part| part == asked) {
                 clues.holding.found(index, record, value);
             }
+            if kind == "string" && holds_words(&low, &asked) {
+                clues.words.found(index, record, value);
+            }
         }
         _ => {}
     }
+}
+
+/// Whether a text has all words of another, which has several, in some order. Points and the like are left out at their ends.
+fn holds_words(text: &[u8], words: &[u8]) -> bool {
+    let split = |text: &[u8]| -> Vec<String> {
+        let text = String::from_utf8_lossy(text);
+        let bare = |word: &str| word.trim_matches(|c: char| c.is_ascii_punctuation()).to_string();
+        text.split_whitespace().map(bare).filter(|word| !word.is_empty()).collect()
+    };
+    let words = split(words);
+    words.len() > 1 && words.iter().all(|word| split(text).contains(word))
 }
 
 /// Looks at a token: its system, and whether its code is the one that is asked, or nearly.
