@@ -63,17 +63,64 @@ const WEEKDAYS: [&str; 21] = [
     "dimanche",
 ];
 
-/// Words that stand beside a date and leave it one.
-const BESIDE: [&str; 24] = [
-    "about", "after", "am", "approx", "around", "at", "avant", "before", "c", "ca", "circa", "de", "den", "der",
-    "early", "late", "le", "nach", "of", "on", "the", "um", "vers", "vor",
+/// Words that stand beside a date and leave it one: how certain it is, what happened then, which part of a year.
+const BESIDE: [&str; 49] = [
+    "about",
+    "after",
+    "am",
+    "approx",
+    "around",
+    "at",
+    "automne",
+    "autumn",
+    "avant",
+    "b",
+    "before",
+    "born",
+    "c",
+    "ca",
+    "circa",
+    "d",
+    "de",
+    "den",
+    "der",
+    "died",
+    "early",
+    "ete",
+    "fall",
+    "fruhjahr",
+    "fruhling",
+    "geb",
+    "gest",
+    "half",
+    "herbst",
+    "hiver",
+    "late",
+    "le",
+    "mid",
+    "nach",
+    "ne",
+    "nee",
+    "of",
+    "on",
+    "printemps",
+    "quarter",
+    "sommer",
+    "spring",
+    "summer",
+    "the",
+    "um",
+    "vers",
+    "vor",
+    "winter",
+    "dated",
 ];
 /// Endings of a day's number, and of a decade's.
 const ENDINGS: [&str; 8] = ["st", "nd", "rd", "th", "er", "e", "s", "ten"];
 /// Words that begin a period, words between its ends, and words for an end that is open.
 const BEGINNINGS: [&str; 12] =
     ["ab", "bis", "depuis", "des", "du", "from", "jusqu", "seit", "since", "till", "until", "von"];
-const BETWEEN: [&str; 9] = ["a", "and", "au", "bis", "en", "jusqu", "till", "to", "until"];
+const BETWEEN: [&str; 12] = ["a", "and", "au", "bis", "en", "jusqu", "oder", "or", "ou", "till", "to", "until"];
 const OPEN: [&str; 5] = ["heute", "now", "present", "today", "date"];
 
 /// Whether a word, as a value has it, may begin a date or a period. Nearly all words are told by their first letters.
@@ -163,7 +210,11 @@ pub fn is_date(tokens: &[Token]) -> bool {
     let said: Vec<&Token> = tokens.iter().filter(|token| !is_beside(token)).collect();
     match said[..] {
         [Digits(year, 4)] => tokens.len() > 1 && YEARS.contains(year),
-        [Digits(month, 2), Sign('.' | '/' | '-'), Digits(year, 4)] => *month <= 12 && YEARS.contains(year),
+        [Digits(month, 2), Sign('.' | '/' | '-'), Digits(year, 4)] | [Digits(month, 1), Sign('/'), Digits(year, 4)] => {
+            *month <= 12 && YEARS.contains(year)
+        }
+        [Digits(year, 4), Sign('/'), Digits(month, 2)] => (1..=12).contains(month) && YEARS.contains(year),
+        [Digits(a, n), Digits(b, m), Digits(c, l)] => is_day([(*a, *n), (*b, *m), (*c, *l)]),
         [Digits(year, 4), Sign('-'), Digits(0, 2)] => YEARS.contains(year),
         [Digits(a, n), Sign(s), Digits(b, m), Sign(t), Digits(c, l)] if s == t && "./-".contains(*s) => {
             is_day([(*a, *n), (*b, *m), (*c, *l)])
@@ -177,7 +228,7 @@ fn is_beside(token: &&Token) -> bool {
     match token {
         Word(word) if is_month(word) => false,
         Word(word) => BESIDE.contains(&&word[..]) || ENDINGS.contains(&&word[..]) || is_cut_of(word, &WEEKDAYS),
-        Sign(sign) => " ?~[](),<>\u{B0}".contains(*sign),
+        Sign(sign) => " ?~[](),<>*\u{2020}\u{B0}".contains(*sign),
         Digits(..) => false,
     }
 }
@@ -191,7 +242,7 @@ fn is_day(parts: [(u32, usize); 3]) -> bool {
     match (n, l) {
         (4, 1..=2) => m <= 2 && YEARS.contains(&a) && day_of(c, b),
         (_, 4) if short => YEARS.contains(&c) && (day_of(a, b) || day_of(b, a)),
-        (_, 2) if short => day_of(a, b) || day_of(b, a),
+        (_, 2) if short => day_of(a, b) || day_of(b, a) || (a > 31 && day_of(c, b)),
         _ => false,
     }
 }
@@ -226,32 +277,64 @@ fn trimmed(mut tokens: &[Token]) -> &[Token] {
     tokens
 }
 
-/// Pieces without a time of the day behind them.
+/// Words of a time of the day.
+const CLOCK: [&str; 11] = ["am", "pm", "uhr", "h", "z", "utc", "gmt", "a", "p", "m", "at"];
+
+/// Pieces without a time of the day behind them: one with a colon, or an hour before one of its words.
 fn without_time(tokens: &[Token]) -> &[Token] {
-    let Some(colon) = tokens.iter().position(|token| *token == Sign(':')).filter(|colon| *colon > 1) else {
+    let is_clock = |token: &Token| matches!(token, Word(word) if CLOCK.contains(&&word[..]));
+    let colon = tokens.iter().position(|token| *token == Sign(':'));
+    let word = tokens.iter().position(is_clock).filter(|&at| at + 1 == tokens.len() && at > 2);
+    let Some(hour) = colon.or(word).and_then(|at| (0..at).rev().find(|&at| tokens[at] != Sign(' '))) else {
         return tokens;
     };
-    let behind = &tokens[colon..];
-    let is_time = matches!(tokens[colon - 1], Digits(0..=24, 1..=2))
-        && behind.iter().all(|token| match token {
+    let is_time = matches!(tokens[hour], Digits(0..=24, 1..=2))
+        && tokens[hour..].iter().all(|token| match token {
             Digits(..) => true,
-            Word(word) => ["am", "pm", "uhr", "h", "z", "utc", "gmt", "a", "p", "m"].contains(&&word[..]),
+            Word(_) => is_clock(token),
             Sign(sign) => ": .+-".contains(*sign),
         });
-    let mut date = if is_time { &tokens[..colon - 1] } else { return tokens };
+    if !is_time || hour < 2 {
+        return tokens;
+    }
+    let mut date = &tokens[..hour];
     while let [rest @ .., Sign(' ' | ',') | Word(_)] = date {
         date = rest;
     }
     date
 }
 
+/// Whether pieces are made of parts of dates alone, of which there are several: `1.1.-31.12.1973`, `Jan-Mar 1973`.
+fn are_parts(tokens: &[Token]) -> bool {
+    let is_year = |token: &Token| matches!(token, Digits(year, 4) if YEARS.contains(year));
+    let is_part = |token: &&Token| match token {
+        Digits(number, 1..=2) => *number <= 31,
+        Word(word) => is_month(word),
+        token => is_year(token),
+    };
+    let is_between = |token: &Token| match token {
+        Word(word) => BETWEEN.contains(&&word[..]) || BEGINNINGS.contains(&&word[..]),
+        Sign(sign) => ".-/".contains(*sign),
+        Digits(..) => false,
+    };
+    let all = tokens.iter().all(|token| is_part(&token) || is_between(token) || is_beside(&token));
+    let parts = tokens.iter().filter(is_part).count();
+    let is_joint = |token: &Token| matches!(token, Sign('-')) || matches!(token, Word(word) if is_month(word));
+    all && tokens.iter().any(is_year) && tokens.iter().any(is_joint) && parts > 2
+}
+
 /// Whether pieces are a period: two dates with a dash or a word between, of which one may be missing.
 pub fn is_period(tokens: &[Token]) -> bool {
     let tokens = trimmed(tokens);
+    are_parts(tokens) || is_period_of_two(tokens)
+}
+
+/// A period whose ends are dates.
+fn is_period_of_two(tokens: &[Token]) -> bool {
     if let [Word(first), rest @ ..] = tokens
         && BEGINNINGS.contains(&&first[..])
     {
-        return is_end(after_between(rest)) || is_period(rest);
+        return is_end(after_between(rest)) || is_period_of_two(trimmed(rest));
     }
     (0..tokens.len()).any(|at| {
         let (before, behind) = (trimmed(&tokens[..at]), after_between(&tokens[at + 1..]));
