@@ -42,7 +42,7 @@ enum {
     SIROPHAN_PARAMETERS = 32,  /* the most parameters of a sheet: so many rows are always enough for sirophan_report */
     SIROPHAN_ENTRIES = 64,     /* the most entries of a card */
     SIROPHAN_ENTRY = 255,      /* the most bytes of an entry's text */
-    SIROPHAN_STACK = 49152     /* bytes of stack that are enough for any call; measured by the tests, and not proved */
+    SIROPHAN_STACK = 65536     /* bytes of stack that are enough for any call; measured by the tests, and not proved */
 };
 
 /* The first byte of a block. */

@@ -12,7 +12,7 @@ from sirophan import Archive, Refused
 
 def main(sheet: str, filter: str, cards: str) -> int:
     text = Path(filter).read_bytes()
-    archive = Archive(sheet=sheet, cards=cards)
+    archive = Archive(cards, sheet)
     try:
         records = [record for _, record in archive.select(text[:-1] if text.endswith(b"\n") else text)]
     except Refused as refused:

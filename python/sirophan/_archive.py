@@ -4,7 +4,7 @@ from __future__ import annotations
 
 import os
 from pathlib import Path
-from typing import Any, Iterator, NamedTuple, Optional, Union
+from typing import Any, Iterator, NamedTuple, Union
 
 from ._blocks import BLOCK, RUN, Sheet, record
 from ._library import Bytes, Text, as_bytes
@@ -20,23 +20,19 @@ class Match(NamedTuple):
 
 
 class Archive:
-    """A folder with `sheet.bin` and `cards.bin`, as `sirophan pack` writes it; either may be given by another path.
+    """A folder with `sheet.bin` and `cards.bin`, as `sirophan pack` writes it, or a file of cards with `sheet.bin` beside it. The
+    sheet may be given by another path, or by its bytes.
 
     for index, record in Archive("ward").select("birthdate eq 1974"): ..
     """
 
-    def __init__(
-        self,
-        folder: Union[str, os.PathLike] = ".",
-        *,
-        sheet: Union[str, os.PathLike, Bytes, None] = None,
-        cards: Optional[Union[str, os.PathLike]] = None,
-    ) -> None:
-        self.cards = Path(folder, "cards.bin") if cards is None else Path(cards)
+    def __init__(self, path: Union[str, os.PathLike], sheet: Union[str, os.PathLike, Bytes, None] = None) -> None:
+        self.cards = Path(path, "cards.bin") if Path(path).is_dir() else Path(path)
+        self.cards.stat()  # a file that is missing is told at once
         if isinstance(sheet, (bytes, bytearray, memoryview)):
             self.sheet = bytes(sheet)
         else:
-            self.sheet = (Path(folder, "sheet.bin") if sheet is None else Path(sheet)).read_bytes()
+            self.sheet = (self.cards.with_name("sheet.bin") if sheet is None else Path(sheet)).read_bytes()
         self.read = 0
         """How many cards the last question has read so far."""
 

@@ -1,6 +1,7 @@
 """Tests of the package as it is installed, with the standard library alone."""
 
 import doctest
+import random
 import tempfile
 import unittest
 from pathlib import Path
@@ -25,6 +26,31 @@ CARDS = [
     SHEET.card(300, [("title", "Ström"), ("related#1.type", "sequel-to"), ("related#2.target", b"Observation/5")]),
 ]
 RUN = b"".join(CARDS)
+
+
+def drawn_filter(draw, levels, bundle=False):
+    """Some filter, with up to three items."""
+    items = [drawn_item(draw, levels, bundle) for _ in range(draw.randint(1, 3))]
+    joined = items[0]
+    for item in items[1:]:
+        joined += draw.choice([" and ", " or ", "  or  "]) + item
+    return draw.choice(["", " "]) + joined + draw.choice(["", " "])
+
+
+def drawn_item(draw, levels, bundle):
+    if levels and draw.random() < 0.4:
+        return draw.choice(["(", "not(", "not  ("]) + drawn_filter(draw, levels - 1, bundle) + ")"
+    value = draw.choice(["not", "(", "and", '"]"', '"a\\"b) or"', '""', '"\\\\"', '"not ("', "x[y"])
+    if bundle:
+        return "type eq " + draw.choice(["x", "or", "(", '"]"'])
+    if levels and draw.random() < 0.3:
+        return f"related[{drawn_filter(draw, levels - 1, True)}].target pr true"
+    return f"title {draw.choice(['eq', 'co', 'ne'])}  {value}"
+
+
+def explain_into_nothing(filter):
+    answer = sirophan._library.sirophan_explain(SHEET.block, 512, filter, len(filter), CARDS[0], 512, None, 0)
+    raise Refused(answer.refusal, answer.value)
 
 
 class Operations(unittest.TestCase):
@@ -67,6 +93,18 @@ class Operations(unittest.TestCase):
         )
         for place, test, _ in explanation.tests:
             self.assertEqual(filter.encode()[place : place + len(test)], test)
+
+    def test_tests_are_where_the_library_has_them(self):
+        draw = random.Random(38)
+        drawn = [drawn_filter(draw, 2) for _ in range(2000)]
+        for filter in drawn:
+            if filter.count("title") + filter.count("type") + filter.count("related") > 32:
+                continue
+            tests = sirophan.explain(SHEET.block, filter, CARDS[0]).tests
+            # with no cells there is a refusal that tells how many tests there are
+            self.refused(33, len(tests), explain_into_nothing, filter.encode())
+            for _, test, _ in tests:
+                sirophan.check(SHEET.block, test)
 
     def test_refusals(self):
         refusal = self.refused(16, 17, sirophan.check, SHEET.block, "title pr true or code gt 5")
@@ -148,11 +186,12 @@ class Archives(unittest.TestCase):
             expected = [(index, index // 5) for index in range(0, count, 3)]
             self.assertEqual(list(archive.select("pages gt 50")), expected)
             self.assertEqual(list(archive.search("pages=gt50")), expected)
+            self.assertEqual(list(Archive(str(self.folder / "cards.bin")).select("pages gt 50")), expected)
             self.assertEqual(archive.read, count)
 
     def test_faults(self):
         self.write([SHEET.card(1, {"pages": "7"})] * 200 + [CARDS[0][:-1] + b"\1"])
-        archive = Archive(sheet=SHEET.block, cards=self.folder / "cards.bin")
+        archive = Archive(self.folder / "cards.bin", SHEET.block)
         with self.assertRaises(Refused) as caught:
             list(archive.select("pages pr true"))
         self.assertEqual((caught.exception.number, caught.exception.place), (21, 200))

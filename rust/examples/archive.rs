@@ -28,7 +28,9 @@ fn main() -> ExitCode {
     };
     match matching(sheet, filter, cards) {
         Ok((records, cards)) => {
-            records.iter().for_each(|record| println!("{record}"));
+            for record in &records {
+                println!("{record}");
+            }
             println!("{} of {cards}", records.len());
             ExitCode::SUCCESS
         }

@@ -81,6 +81,8 @@ pub struct Found<R> {
     text: Vec<u8>,
     asked: Asked,
     run: Vec<u8>,
+    /// The record numbers of the run's cards, where some match.
+    numbers: Vec<u32>,
     /// How many cards stand before the run, how many of the run are done, and the record numbers of those that match.
     before: u64,
     done: usize,
@@ -93,9 +95,19 @@ pub struct Found<R> {
 
 impl<R: Read> Found<R> {
     fn new(archive: Archive<R>, text: &[u8], asked: Asked) -> Found<R> {
-        let text = text.into();
-        let list = [0; RUN];
-        Found { archive, text, asked, run: Vec::new(), before: 0, done: 0, list, next: 0, count: 0, ended: false }
+        Found {
+            archive,
+            text: text.into(),
+            asked,
+            run: Vec::new(),
+            numbers: Vec::new(),
+            before: 0,
+            done: 0,
+            list: [0; RUN],
+            next: 0,
+            count: 0,
+            ended: false,
+        }
     }
 
     /// How many cards have been read.
@@ -112,28 +124,32 @@ impl<R: Read> Found<R> {
         let selected = (self.asked.select)(&self.archive.sheet, &self.text, &self.run, &mut self.list);
         self.next = 0;
         self.count = selected.map_err(|refusal| refusal.over_file(self.before))?;
+        if self.count > 0 {
+            self.numbers = self.run.chunks(SIZE).map(record).collect::<Result<_, _>>()?;
+        }
         Ok(!self.run.is_empty())
+    }
+
+    /// Whether a card is the one that the list has next, whose record number it bears. Where a later card bears the same, that may be
+    /// the one, and the library is asked.
+    fn is_match(&self, index: usize) -> Result<bool, Refusal> {
+        let is_last = !self.numbers[index + 1..].contains(&self.numbers[index]);
+        if is_last {
+            return Ok(true);
+        }
+        (self.asked.matches)(&self.archive.sheet, &self.text, &self.run[index * SIZE..][..SIZE])
     }
 
     /// The next match of the run, if there is one.
     fn next_of_run(&mut self) -> Result<Option<(u64, u32)>, Unanswered> {
         while self.next < self.count {
             let index = self.done;
-            let card = &self.run[index * SIZE..][..SIZE];
+            let number = self.numbers[index];
             self.done += 1;
-            let number = record(card)?;
-            if number != self.list[self.next] {
-                continue;
+            if number == self.list[self.next] && self.is_match(index)? {
+                self.next += 1;
+                return Ok(Some((self.before + index as u64, number)));
             }
-            // The list has record numbers. Where a later card has the same, it may be that one which matches.
-            let later = self.run[self.done * SIZE..].chunks(SIZE);
-            if later.clone().any(|other| record(other) == Ok(number))
-                && !(self.asked.matches)(&self.archive.sheet, &self.text, card)?
-            {
-                continue;
-            }
-            self.next += 1;
-            return Ok(Some((self.before + index as u64, number)));
         }
         Ok(None)
     }

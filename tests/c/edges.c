@@ -13,7 +13,10 @@
 
 #include "sirophan.h"
 
-enum { SHEET_HEAD = 2, CARD_HEAD = 6, SUMMED = 508, STACK = 1 << 18, PAINT = 0xA5, LONGEST_REFUSED = 60 };
+enum { SUMMED = 508, STACK = 1 << 18, PAINT = 0xA5, MOST_REASONS = 60 };
+
+/* What a cell of rows says in its lowest three bits, beside the number of rows that it goes over: docs/RULES.md, "Rows". */
+enum { BRACKETS = 1, AND = 3 };
 
 static int passed, failed;
 
@@ -88,7 +91,7 @@ static void versions_and_reasons(void) {
     expect("the library's version is the header's", strcmp(sirophan_version(), SIROPHAN_VERSION) == 0);
     const char *unknown = sirophan_reason(UINT32_MAX);
     int known = 0;
-    for (uint32_t number = 0; number < LONGEST_REFUSED; number++) {
+    for (uint32_t number = 0; number < MOST_REASONS; number++) {
         const char *sentence = sirophan_reason(number);
         known += strcmp(sentence, unknown) != 0;
         expect("a sentence ends with a full stop", sentence[strlen(sentence) - 1] == '.');
@@ -198,6 +201,38 @@ static void make_texts(void) {
     append(long_value, 1, "\"");
 }
 
+/* Rows that no filter has, to lead as far down: connectives or brackets in each other to the end of the rows, */
+static void judge_nested_rows(const char *filter, uint32_t sort) {
+    static uint32_t rows[SIROPHAN_CELLS];
+    sirophan_answer prepared = sirophan_prepare(ARCHIVE, TEXT(filter), rows, SIROPHAN_CELLS);
+    uint32_t test = rows[prepared.value - 1];
+    for (size_t length = 2; length <= SIROPHAN_CELLS; length++) {
+        for (size_t i = 0; i < length; i++) {
+            int is_test = i % 2 == (sort == BRACKETS);
+            rows[i] = is_test || i + 1 == length ? test : 8 * (uint32_t)(length - i - 1 - (sort == BRACKETS)) + sort;
+        }
+        sirophan_judge(ARCHIVE, TEXT(filter), rows, length, cards, SIROPHAN_BLOCK);
+    }
+}
+
+/* and one cell again and again, with a filter's own among them. */
+static void judge_hostile_rows(uint32_t *cells) {
+    static uint32_t rows[SIROPHAN_CELLS];
+    judge_nested_rows("s co a", AND);
+    judge_nested_rows("p po 1974", AND);
+    judge_nested_rows("b[m eq x].m eq y", BRACKETS);
+    judge_nested_rows("b[m eq x].m eq y", AND);
+    sirophan_answer prepared = sirophan_prepare(ARCHIVE, TEXT(deep), cells, SIROPHAN_CELLS);
+    for (uint32_t n = 0; n < 512 + prepared.value; n++) {
+        uint32_t cell = n < 512 ? n : cells[n - 512];
+        for (size_t i = 0; i < SIROPHAN_CELLS; i++) rows[i] = i + 1 < SIROPHAN_CELLS ? cell : cells[0];
+        for (size_t length = SIROPHAN_CELLS; length > 0; length /= 2) {
+            sirophan_judge(ARCHIVE, TEXT(deep), rows + SIROPHAN_CELLS - length, length, cards, SIROPHAN_BLOCK);
+            sirophan_judge(ARCHIVE, TEXT(deep), rows, length, cards, SIROPHAN_BLOCK);
+        }
+    }
+}
+
 static void *nothing(void *unused) {
     return unused;
 }
@@ -218,6 +253,7 @@ static void *all_calls(void *unused) {
         sirophan_answer prepared = sirophan_prepare(ARCHIVE, TEXT(texts[i]), cells, SIROPHAN_CELLS);
         sirophan_judge(ARCHIVE, TEXT(texts[i]), cells, prepared.refusal ? 0 : prepared.value, cards, SIROPHAN_BLOCK);
     }
+    judge_hostile_rows(cells);
     sirophan_check_search(ARCHIVE, TEXT(string));
     sirophan_match_search(ARCHIVE, TEXT(string), cards, SIROPHAN_BLOCK);
     sirophan_select_search(ARCHIVE, TEXT(string), cards, sizeof cards, cells, SIROPHAN_RUN);

@@ -1,2 +1,3 @@
--- The laws that the proofs of seal and record cite.
+-- The laws that the proofs of seal and record cite, and the promises.
 mod Sealing
+pub mod Promises

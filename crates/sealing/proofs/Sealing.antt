@@ -43,6 +43,9 @@ module _ (b : List ℕ) where
     unfolding sealedBytes
     bytes-stay = rw (ne-eqb (length b) 512 n)
 
+    pub no-block-stays : sealedBytes b ≡ b
+    no-block-stays = sym bytes-stay
+
   module _ (h : length b ≡ 512) where
     pub record-read : (r : ℕ) → r ≡ word b 1 → numberedAnswer (Numbered.Number r) ≡ recordAnswer b
     unfolding numberedAnswer recordAnswer

@@ -11,11 +11,12 @@ use std::process::ExitCode;
 use std::{env, fs};
 
 /// The files with the promises.
-const PROMISES: [&str; 4] = [
+const PROMISES: [&str; 5] = [
     "crates/sirophan/proofs/Promises.antt",
     "crates/report/proofs/Promises.antt",
     "crates/explain/proofs/Promises.antt",
     "crates/fields/proofs/Promises.antt",
+    "crates/sealing/proofs/Promises.antt",
 ];
 const PAGE: &str = "docs/DEFINITIONS.md";
 
