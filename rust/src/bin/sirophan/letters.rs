@@ -137,22 +137,50 @@ fn alike(text: &str, ways: usize, but_for: usize) -> String {
     ways.fold(text.chars().map(small).collect(), |text: String, (_, difference)| (difference.alike)(&text))
 }
 
-/// The ways in which a value differs that would stand in a relation to what is asked if it did not differ in them; none
-/// where it would not, or where there is no such way.
-pub fn differences(asked: &[u8], value: &[u8], stands: impl Fn(&str, &str) -> bool) -> Option<Vec<&'static str>> {
-    let odd_spaces = |text: &[u8]| text.trim_ascii().len() < text.len() || text.windows(2).any(|pair| pair == b"  ");
-    let odd = |text: &[u8]| !text.is_ascii() || odd_spaces(text) || text.iter().any(u8::is_ascii_punctuation);
-    if !odd(asked) && !odd(value) {
-        return None;
+/// A text made alike in all ways. Most texts are ASCII, and for them that is little.
+fn bare(text: &str) -> String {
+    if !text.is_ascii() {
+        return alike(text, DIFFERENCES.len(), usize::MAX);
     }
-    let (asked, value) = (str::from_utf8(asked).ok()?, str::from_utf8(value).ok()?);
-    let would = |ways, but_for| {
-        let asked = alike(asked, ways, but_for);
-        !asked.is_empty() && stands(&asked, &alike(value, ways, but_for))
-    };
-    let ways = (HARDLY_SEEN..=DIFFERENCES.len()).find(|&ways| would(ways, usize::MAX))?;
-    let needed: Vec<&str> = (0..ways).filter(|&way| !would(ways, way)).map(|way| DIFFERENCES[way].name).collect();
-    (!needed.is_empty()).then_some(needed)
+    let mut bare = String::with_capacity(text.len());
+    for (number, word) in text.split_whitespace().enumerate() {
+        if number > 0 {
+            bare.push(' ');
+        }
+        bare.extend(word.chars().filter(|c| !c.is_ascii_punctuation()).map(|c| c.to_ascii_lowercase()));
+    }
+    bare
+}
+
+/// A text that is asked for, to be compared with values that may differ from it in little.
+pub struct Near {
+    asked: String,
+    bare: String,
+}
+
+impl Near {
+    /// A text that has anything to compare.
+    pub fn new(asked: &[u8]) -> Option<Near> {
+        let asked = str::from_utf8(asked).ok()?.to_string();
+        let bare = bare(&asked);
+        (!bare.is_empty()).then_some(Near { asked, bare })
+    }
+
+    /// The ways in which a value differs that would stand in a relation to what is asked if it did not differ in them; none
+    /// where it would not, or where there is no such way.
+    pub fn differences(&self, value: &[u8], stands: impl Fn(&str, &str) -> bool) -> Option<Vec<&'static str>> {
+        let value = str::from_utf8(value).ok()?;
+        if !stands(&self.bare, &bare(value)) {
+            return None;
+        }
+        let would = |ways, but_for| {
+            let asked = alike(&self.asked, ways, but_for);
+            !asked.is_empty() && stands(&asked, &alike(value, ways, but_for))
+        };
+        let ways = (HARDLY_SEEN..=DIFFERENCES.len()).find(|&ways| would(ways, usize::MAX))?;
+        let needed: Vec<&str> = (0..ways).filter(|&way| !would(ways, way)).map(|way| DIFFERENCES[way].name).collect();
+        (!needed.is_empty()).then_some(needed)
+    }
 }
 
 #[cfg(test)]
@@ -160,7 +188,9 @@ mod tests {
     use super::*;
 
     fn of(asked: &str, value: &str) -> Vec<&'static str> {
-        differences(asked.as_bytes(), value.as_bytes(), |asked, value| value.contains(asked)).unwrap_or_default()
+        let near = Near::new(asked.as_bytes());
+        near.and_then(|near| near.differences(value.as_bytes(), |asked, value| value.contains(asked)))
+            .unwrap_or_default()
     }
 
     /// What texts differ in, and texts that differ in more.
@@ -182,6 +212,14 @@ mod tests {
         assert!(of("Smith", "Jones").is_empty());
         assert!(of(".", "x").is_empty());
         assert!(of("Schmidt", "Smith").is_empty());
+    }
+
+    /// What is quick is the same as what is not.
+    #[test]
+    fn bare_texts() {
+        for text in ["", " a ", "a - b", "A.B,c", "x\t y", "291.0", "O'Neill  (Jr.)"] {
+            assert_eq!(bare(text), alike(text, DIFFERENCES.len(), usize::MAX), "{text}");
+        }
     }
 
     /// The letters of the table stand beside as many others, and none comes to be itself.

@@ -5,7 +5,8 @@
 //! - the commands: `pick` and `search` (in `pick`), `explain` with `verdicts`, `check`, `report` (in `counts`), `plain`, `fields`, `pack`,
 //!   `show`, `verify`;
 //! - what they say beside their answers: `advice` and `search_advice` on refusals; `survey` has all doubts of a question, from `doubt` about
-//!   what is asked and `field_doubt` about what cards hold; `zero` walks for tests that no card meets, and `reason` tells why;
+//!   what is asked and `field_doubt` about what cards hold; `zero` walks for tests that no card meets, with `clues`, and `reason`
+//!   tells why;
 //! - what that goes by: `tally` counts the cards, `looks` and `spoken` say what a value looks like, `letters` and `system` in what texts
 //!   differ, `asked` what is asked one by one, `values` what a test goes by;
 //! - what they go through: `cards` in blocks, `description` in words;
@@ -17,6 +18,7 @@ mod arguments;
 mod asked;
 mod cards;
 mod check;
+mod clues;
 mod counts;
 mod description;
 mod doubt;

@@ -2,12 +2,12 @@
 
 use crate::advice::Question;
 use crate::asked::Asked;
+use crate::clues::{Clue, Clues};
 use crate::kind;
 use crate::report::Message;
 use crate::system;
 use crate::tally::Held;
 use crate::text::{counted, grouped, quoted, row, spell};
-use crate::zero::{Clue, Clues};
 
 /// How many systems and how many tests are named.
 const NAMED: usize = 3;
