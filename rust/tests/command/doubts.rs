@@ -423,7 +423,7 @@ fn fields_by_their_values() {
     }
 }
 
-/// Of many cards `pick` looks at some, and says so; the figures are the same in every run. What is there at all it knows of all.
+/// Of many values `pick` looks at some, and says so; the figures are the same in every run. Of a field with few it looks at all.
 #[test]
 fn many_cards_are_looked_at_in_part() {
     let texts: Vec<String> = (0..20_000).map(month).collect();
@@ -432,8 +432,8 @@ fn many_cards_are_looked_at_in_part() {
     let folder = Folder::packed("many-dates", "token discharge\nstring note\n", &described, "");
     let said = folder.pick_by("discharge eq 1975 or note eq x");
     let doubt = format!(
-        "warning: discharge is a token, and 4,593 of 4,593 values looked at look like dates.\n{WRONG_KIND}\
-         warning: note: 1 value seems to be in another encoding, first on record 20001: not UTF-8, perhaps Latin-1.\n\
+        "warning: discharge is a token, and 625 of 625 values looked at look like dates.\n{WRONG_KIND}\
+         warning: note: 1 of 1 value seems to be in another encoding, first on record 20001: not UTF-8, perhaps Latin-1.\n\
          \x20 Letters beyond ASCII have other bytes there, and a filter in UTF-8 does not find them.\n\
          note: asked by itself, each is met by so many of 20,001 cards: `discharge eq 1975` 0, `note eq x` 0.\n"
     );

@@ -18,7 +18,7 @@ pub fn of_fields(sheet: &Sheet, held: &Held, places: impl IntoIterator<Item = us
 /// The doubts about one field.
 pub fn of_field(sheet: &Sheet, held: &Held, place: usize) -> Vec<Message> {
     let (path, field) = (sheet.path(place, 0), &held.fields[place]);
-    let of = if held.all_looked_at { "" } else { " looked at" };
+    let of = if field.is_sample { " looked at" } else { "" };
     let own = kind::by_number(sheet.parameters[place].kind);
     let kind = field.looks_like().zip(own);
     let kind = kind.map(|((likeness, alike), own)| {
@@ -32,8 +32,8 @@ pub fn of_field(sheet: &Sheet, held: &Held, place: usize) -> Vec<Message> {
         ])
     });
     let encoding = field.first_strange.map(|(_, record, why)| {
-        let values = counted(if held.all_looked_at { field.values } else { field.strange }, "value");
-        let some = if held.all_looked_at { format!("{} of {values}", grouped(field.strange)) } else { values };
+        let values = counted(if field.is_sample { field.strange } else { field.values }, "value");
+        let some = if field.is_sample { values } else { format!("{} of {values}", grouped(field.strange)) };
         let seem = if field.strange == 1 { "seems" } else { "seem" };
         Message::warning(
             format!("{path}: {some} {seem} to be in another encoding, first on record {record}: {why}."),

@@ -25,12 +25,12 @@ pub fn overlap(kind: &str, operator: &str) -> Option<&'static str> {
 
 /// What one walk tells: that no card has a field, and of a single test that no card meets it.
 pub fn of_one_walk(question: &Question, asked: &[Asked], held: &Held, matching: u64) -> Vec<Message> {
-    let told = |asked: &&Asked| !held.fields[asked.place].is_there;
+    let told = |asked: &&Asked| is_nowhere(held, asked);
     let mut messages: Vec<Message> =
         asked.iter().filter(told).filter_map(|asked| without_field(question, asked)).collect();
     if let ([asked], 0, true) = (asked, matching, messages.is_empty()) {
-        let cards = held.fields[asked.place].cards;
-        messages.extend(plain_zero(question, asked, held, held.all_looked_at.then_some(cards), None));
+        let field = &held.fields[asked.place];
+        messages.extend(plain_zero(question, asked, held, (!field.is_sample).then_some(field.cards), None));
     }
     messages
 }
@@ -47,7 +47,7 @@ pub fn of_two_walks(
     let unmet = |clues: &&Option<Clues>| clues.as_ref().is_some_and(|clues| clues.met == 0);
     let reasons = asked.iter().zip(clues).filter(|(_, clues)| unmet(clues)).filter_map(|(asked, clues)| {
         let clues = clues.as_ref()?;
-        if !held.fields[asked.place].is_there {
+        if is_nowhere(held, asked) {
             return without_field(question, asked);
         }
         let found = reason(question, asked, clues);
@@ -61,6 +61,12 @@ pub fn of_two_walks(
         messages.push(by_themselves(asked, held, clues));
     }
     messages
+}
+
+/// Whether no card has a test's field: where values are enough for a sample there are some.
+fn is_nowhere(held: &Held, asked: &Asked) -> bool {
+    let field = &held.fields[asked.place];
+    field.values == 0 && !field.is_sample
 }
 
 /// No card has the field; that a test asks for just this is no reason.

@@ -70,8 +70,8 @@ const LABELS_TO_NUMBER: u64 = 4;
 /// Bare years count as dates where so many times as many values are years as are other digits alone: else they are codes.
 const YEARS_TO_DIGITS: u64 = 9;
 
-/// Where a list has to come quickly, the values of so many cards are looked at, and behind them those of one in so many.
-const LOOKED_AT: u64 = 4096;
+/// Where a list has to come quickly and a field has more values than so many, only those of one in so many cards are looked at.
+const ENOUGH: u64 = 2048;
 const ONE_IN: u64 = 32;
 
 /// A value with the index of its card.
@@ -115,13 +115,13 @@ impl Alike {
     }
 }
 
-/// What the cards have under one parameter, of those that are looked at.
+/// What the cards have under one parameter, as far as its values are looked at.
 #[derive(Clone, Debug, Default)]
 pub struct Field {
+    /// Whether only some of the values are.
+    pub is_sample: bool,
     pub cards: u64,
     pub values: u64,
-    /// Whether any card has it, of all of them.
-    pub is_there: bool,
     /// The first value.
     pub example: Option<Found>,
     pub alike: [Alike; LIKENESSES.len()],
@@ -141,7 +141,6 @@ impl Field {
     fn add(&mut self, other: Field) {
         self.cards += other.cards;
         self.values += other.values;
-        self.is_there |= other.is_there;
         self.years += other.years;
         self.digits += other.digits;
         self.labels += other.labels;
@@ -178,8 +177,6 @@ fn first<T>(one: Option<T>, other: Option<T>, index: impl Fn(&T) -> u64) -> Opti
 /// What all cards hold.
 pub struct Held {
     pub cards: u64,
-    /// Whether the values of all of them were looked at.
-    pub all_looked_at: bool,
     /// The fields of the sheet, by their places.
     pub fields: Vec<Field>,
     /// The record numbers that several cards bear, in order, each with how many.
@@ -191,11 +188,16 @@ pub struct Held {
 /// What one processor has counted.
 #[derive(Default)]
 pub struct Tally {
+    /// The fields by the values that come first, and by those of the cards that are drawn.
     fields: Vec<Field>,
-    records: Vec<u32>,
+    drawn: Vec<Field>,
+    /// Whether enough values are looked at for each parameter that is counted.
+    is_enough: bool,
     seen: Vec<bool>,
-    /// Whether a card has been seen for each parameter that is counted.
-    all_there: bool,
+    records: Vec<u32>,
+    /// Each piece by the index of its first card, with its first and its last record number, as long as the numbers rise.
+    pieces: Vec<(u64, u32, u32)>,
+    falls: bool,
 }
 
 /// What is counted of a parameter.
@@ -214,7 +216,7 @@ pub struct Counter<'a> {
     sheet: &'a Sheet,
     asked: Vec<Asked>,
     watched: Vec<Vec<u8>>,
-    /// Whether only some of many cards are looked at.
+    /// Whether of many values only some are looked at.
     is_quick: bool,
 }
 
@@ -270,31 +272,34 @@ impl<'a> Counter<'a> {
     /// Counts the cards of a piece.
     pub fn count(&self, tally: &mut Tally, first: u64, piece: &[u8]) {
         tally.fields.resize_with(self.asked.len(), Field::default);
+        tally.drawn.resize_with(self.asked.len(), Field::default);
         tally.seen.resize(self.watched.len(), false);
-        tally.records.reserve(piece.len() / SIZE);
+        let start = tally.records.len();
+        tally.records.extend(piece.chunks_exact(SIZE).map(block::record));
+        tally.note_order(first, start);
         for (card, index) in piece.chunks_exact(SIZE).zip(first..) {
-            tally.records.push(block::record(card));
-            let looked_at = !self.is_quick || index < LOOKED_AT || is_drawn(index);
+            let is_drawn = self.is_quick && is_drawn(index);
             // Letters beyond ASCII may be in another encoding.
-            if looked_at || !tally.all_there || !self.watched.is_empty() || !is_ascii(card) {
-                self.count_card(tally, index, card, looked_at);
+            if is_drawn || !tally.is_enough || !self.watched.is_empty() || !is_ascii(card) {
+                self.count_card(tally, index, card, is_drawn);
             }
         }
     }
 
-    /// Counts a card, whether its values are looked at or not. An entry of a card that does not fit may be of no parameter, and
-    /// is passed over.
-    fn count_card(&self, tally: &mut Tally, index: u64, card: &[u8], looked_at: bool) {
+    /// Counts a card. An entry of a card that does not fit may be of no parameter, and is passed over.
+    fn count_card(&self, tally: &mut Tally, index: u64, card: &[u8], is_drawn: bool) {
         let mut seen = 0_u32;
         for item in block::items(card) {
             let place = usize::from(item.byte);
             let Some(asked) = self.asked.get(place).filter(|asked| asked.asked) else { continue };
+            let is_new = seen & 1 << place == 0;
+            seen |= 1 << place;
             let field = &mut tally.fields[place];
-            field.is_there = true;
-            if looked_at {
-                field.cards += u64::from(seen & 1 << place == 0);
-                seen |= 1 << place;
-                count_value(field, asked, index, item.text);
+            if !self.is_quick || field.values <= ENOUGH {
+                count_value(field, asked, index, item.text, is_new);
+            }
+            if is_drawn {
+                count_value(&mut tally.drawn[place], asked, index, item.text, is_new);
             }
             if let Some(why) = Some(item.text).filter(|text| !text.is_ascii()).and_then(text::other_encoding) {
                 field.strange += 1;
@@ -304,34 +309,65 @@ impl<'a> Counter<'a> {
                 tally.seen[number] |= is_value(asked.word, item.text, &self.watched[number]);
             }
         }
-        if !tally.all_there {
-            tally.all_there = tally.fields.iter().zip(&self.asked).all(|(field, asked)| field.is_there || !asked.asked);
+        let is_enough = |(field, asked): (&Field, &Asked)| field.values > ENOUGH || !asked.asked;
+        if self.is_quick && !tally.is_enough {
+            tally.is_enough = tally.fields.iter().zip(&self.asked).all(is_enough);
         }
     }
 
     /// What all processors have counted.
     pub fn sum(&self, tallies: Vec<Tally>) -> Held {
-        let mut held = Held {
-            all_looked_at: true,
-            cards: 0,
-            fields: vec![Field::default(); self.asked.len()],
-            repeated: Vec::new(),
-            seen: vec![false; self.watched.len()],
-        };
-        let mut records = Vec::new();
+        let mut fields = vec![Field::default(); self.asked.len()];
+        let mut drawn = fields.clone();
+        let mut seen = vec![false; self.watched.len()];
+        let (mut records, mut pieces, mut falls) = (Vec::new(), Vec::new(), false);
         for tally in tallies {
-            records.extend(tally.records);
-            held.fields.iter_mut().zip(tally.fields).for_each(|(field, more)| field.add(more));
-            held.seen.iter_mut().zip(tally.seen).for_each(|(seen, more)| *seen |= more);
+            records.push(tally.records);
+            pieces.extend(tally.pieces);
+            falls |= tally.falls;
+            fields.iter_mut().zip(tally.fields).for_each(|(field, more)| field.add(more));
+            drawn.iter_mut().zip(tally.drawn).for_each(|(field, more)| field.add(more));
+            seen.iter_mut().zip(tally.seen).for_each(|(seen, more)| *seen |= more);
         }
-        held.cards = records.len() as u64;
-        held.all_looked_at = !self.is_quick || held.cards <= LOOKED_AT;
-        // This sort is quick where there are few rising runs, and most archives are in the order of their numbers.
-        records.sort();
-        let runs = records.chunk_by(|one, other| one == other).filter(|run| run.len() > 1);
-        held.repeated = runs.map(|run| (run[0], run.len() as u64)).collect();
-        held
+        let fields = fields.into_iter().zip(drawn).map(|(field, drawn)| self.sampled(field, drawn)).collect();
+        let cards = records.iter().map(|records| records.len() as u64).sum();
+        let repeated = if rises(pieces, falls) { Vec::new() } else { repeated(records.concat()) };
+        Held { cards, fields, repeated, seen }
     }
+
+    /// A field by all its values, or by those of the cards that are drawn: which were looked at before there were enough differs
+    /// from run to run.
+    fn sampled(&self, field: Field, drawn: Field) -> Field {
+        if !self.is_quick || field.values <= ENOUGH {
+            return field;
+        }
+        Field { is_sample: true, strange: field.strange, first_strange: field.first_strange, ..drawn }
+    }
+}
+
+impl Tally {
+    /// Notes whether the record numbers of a piece, which are kept from a place on, rise.
+    fn note_order(&mut self, first: u64, start: usize) {
+        let records = &self.records[start..];
+        self.falls |= !records.is_sorted_by(|one, next| one < next);
+        if let (false, [low, ..], [.., high]) = (self.falls, records, records) {
+            self.pieces.push((first, *low, *high));
+        }
+    }
+}
+
+/// Whether record numbers rise over all pieces: then none is borne twice. In most archives they do.
+fn rises(mut pieces: Vec<(u64, u32, u32)>, falls: bool) -> bool {
+    pieces.sort();
+    !falls && pieces.windows(2).all(|pair| pair[0].2 < pair[1].1)
+}
+
+/// The numbers that stand several times among these, in order, each with how many times.
+fn repeated(mut records: Vec<u32>) -> Vec<(u32, u64)> {
+    // This sort is quick where there are few runs that rise.
+    records.sort();
+    let runs = records.chunk_by(|one, other| one == other).filter(|run| run.len() > 1);
+    runs.map(|run| (run[0], run.len() as u64)).collect()
 }
 
 /// Whether all bytes of a card between its head and its check sum are ASCII: so are its texts then. Most of them are taken
@@ -344,13 +380,14 @@ fn is_ascii(card: &[u8]) -> bool {
     card[first + 10..last - 4].iter().fold(0, |sum, byte| sum | byte) < 0x80 && ends & HIGH_BITS == 0
 }
 
-/// Whether a card is one of those that are looked at behind the first: as good as by lot, and the same in every run.
+/// Whether a card is drawn: as good as by lot, and the same in every run.
 fn is_drawn(index: u64) -> bool {
     index.wrapping_mul(0x9E37_79B9_7F4A_7C15) < u64::MAX / ONE_IN
 }
 
-/// Counts a value, and what it looks like.
-fn count_value(field: &mut Field, asked: &Asked, index: u64, value: &[u8]) {
+/// Counts a value, and what it looks like; its card too, where it is the card's first.
+fn count_value(field: &mut Field, asked: &Asked, index: u64, value: &[u8], is_new: bool) {
+    field.cards += u64::from(is_new);
     field.values += 1;
     field.example.get_or_insert_with(|| (index, value.to_vec()));
     if asked.doubtful.is_empty() {
