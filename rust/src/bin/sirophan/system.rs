@@ -51,6 +51,8 @@ pub fn is_end_of(one: &[u8], other: &[u8]) -> bool {
 #[cfg(test)]
 mod tests {
     use super::*;
+    use crate::block::{self, Item};
+    use crate::sheet::{Parameter, Sheet};
 
     /// Spellings of one system, and other systems.
     #[test]
@@ -69,5 +71,16 @@ mod tests {
         assert_eq!(meant(b"LOINC"), b"http://loinc.org");
         assert!(is_end_of(b"http://server/patient/17", b"patient/17"));
         assert!(!is_end_of(b"patient/117", b"17"));
+    }
+
+    /// The library takes each short name for the system that it is said here to stand for.
+    #[test]
+    fn short_names_are_those_of_the_library() {
+        let sheet = Sheet::write(vec![Parameter { kind: 4, bundle: 0, name: b"x".to_vec() }]).unwrap();
+        for (name, whole) in SHORT {
+            let text = format!("{whole}|1");
+            let card = block::write_card(1, &[Item { byte: 0, mark: 0, text: text.as_bytes() }]).unwrap();
+            assert_eq!(sirophan::matches(&sheet.block, format!("x eq {name}|1").as_bytes(), &card), Ok(true), "{name}");
+        }
     }
 }
