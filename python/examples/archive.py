@@ -21,7 +21,7 @@ def main(sheet: str, filter: str, cards: str) -> int:
         return 2
     for record in records:
         print(record)
-    print(f"{len(records)} of {archive.read}")
+    print(f"{len(records)} of {archive.cards_read}", flush=True)
     return 0
 
 

@@ -33,7 +33,7 @@ class Archive:
             self.sheet = bytes(sheet)
         else:
             self.sheet = (self.cards.with_name("sheet.bin") if sheet is None else Path(sheet)).read_bytes()
-        self.read = 0
+        self.cards_read = 0
         """How many cards the last question has read so far."""
 
     def parameters(self) -> Sheet:
@@ -57,27 +57,30 @@ class Archive:
         return self._found(search, matches_search, text)
 
     def _found(self, selected: Any, matched: Any, text: bytes) -> Iterator[Match]:
-        self.read = 0
+        self.cards_read = 0
         with open(self.cards, "rb") as file:
             while True:
                 run = file.read(RUN * BLOCK)
                 try:
                     records = selected(self.sheet, text, run)
                 except Refused as refused:
-                    raise refused.over_file(self.read) from None
-                before = self.read
-                self.read += len(run) // BLOCK
+                    raise refused.over_file(self.cards_read) from None
+                before = self.cards_read
+                self.cards_read += len(run) // BLOCK
                 if not run:
                     return
                 yield from self._located(records, run, before, lambda card: matched(self.sheet, text, card))
 
     @staticmethod
     def _located(records: list, run: bytes, before: int, matched: Any) -> Iterator[Match]:
-        """The matches of a run. Where several cards have one record number, the library is asked which of them matches."""
+        """The matches of a run. Where a later card has the same record number, the library is asked which of them matches."""
+        if not records:
+            return
         cards = [run[at : at + BLOCK] for at in range(0, len(run), BLOCK)]
         numbers = [record(card) for card in cards]
+        last = {number: index for index, number in enumerate(numbers)}
         left = list(reversed(records))
         for index, number in enumerate(numbers):
-            if left and left[-1] == number and (number not in numbers[index + 1 :] or matched(cards[index])):
+            if left and left[-1] == number and (last[number] == index or matched(cards[index])):
                 left.pop()
                 yield Match(before + index, number)

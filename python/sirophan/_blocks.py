@@ -21,7 +21,8 @@ KINDS = ("string", "number", "date", "token", "reference", "period", "bundle")
 
 def seal(block: Bytes) -> bytes:
     """The block with its check sum in the last four bytes. Refused with 20 where it is not 512 bytes."""
-    buffer = (ctypes.c_uint8 * len(block)).from_buffer_copy(bytes(block)) if len(block) else (ctypes.c_uint8 * 0)()
+    block = bytes(block)
+    buffer = (ctypes.c_uint8 * len(block))(*block)
     answer = library.sirophan_seal(buffer, len(block))
     if answer.refusal:
         raise Refused(answer.refusal, answer.value)
@@ -30,7 +31,8 @@ def seal(block: Bytes) -> bytes:
 
 def record(card: Bytes) -> int:
     """The record number of a card, whatever else is in it. Refused with 20 where it is not 512 bytes."""
-    answer = library.sirophan_record(bytes(card), len(card))
+    card = bytes(card)
+    answer = library.sirophan_record(card, len(card))
     if answer.refusal:
         raise Refused(answer.refusal, answer.value)
     return answer.value

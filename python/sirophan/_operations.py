@@ -20,7 +20,7 @@ def _value(answer: Answer, text: bytes) -> int:
 
 def _inputs(*inputs: Bytes) -> List[Any]:
     """Each input as the library takes it: its bytes, and their number."""
-    return [part for given in inputs for part in (bytes(given), len(given))]
+    return [part for given in map(bytes, inputs) for part in (given, len(given))]
 
 
 def check(sheet: Bytes, filter: Text) -> int:

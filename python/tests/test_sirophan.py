@@ -187,7 +187,7 @@ class Archives(unittest.TestCase):
             self.assertEqual(list(archive.select("pages gt 50")), expected)
             self.assertEqual(list(archive.search("pages=gt50")), expected)
             self.assertEqual(list(Archive(str(self.folder / "cards.bin")).select("pages gt 50")), expected)
-            self.assertEqual(archive.read, count)
+            self.assertEqual(archive.cards_read, count)
 
     def test_faults(self):
         self.write([SHEET.card(1, {"pages": "7"})] * 200 + [CARDS[0][:-1] + b"\1"])

@@ -1,10 +1,12 @@
 //! archive SHEET FILTER CARDS: the record numbers of the matching cards of a file of any size, and how many of how many match.
 //! The list is held back until the last card has passed. The status is 0 where there is an answer, 2 where there is a refusal,
-//! and 3 where a file cannot be read.
+//! and 3 where a file cannot be read or the answer not be written.
 
 use sirophan::{Archive, Refusal, Unanswered};
 use std::env;
+use std::error::Error;
 use std::fs::{self, File};
+use std::io::{self, BufWriter, Write};
 use std::process::ExitCode;
 
 const REFUSED: u8 = 2;
@@ -27,16 +29,19 @@ fn main() -> ExitCode {
         return ExitCode::FAILURE;
     };
     match matching(sheet, filter, cards) {
-        Ok((records, cards)) => {
-            for record in &records {
-                println!("{record}");
-            }
-            println!("{} of {cards}", records.len());
-            ExitCode::SUCCESS
-        }
+        Ok((records, cards)) => tell(&records, cards).map_or_else(|error| unreadable(&error), |()| ExitCode::SUCCESS),
         Err(Unanswered::Refused(refusal)) => refused(&refusal),
         Err(error) => unreadable(&error),
     }
+}
+
+fn tell(records: &[u32], cards: u64) -> io::Result<()> {
+    let mut output = BufWriter::new(io::stdout());
+    for record in records {
+        writeln!(output, "{record}")?;
+    }
+    writeln!(output, "{} of {cards}", records.len())?;
+    output.flush()
 }
 
 /// Tells a refusal; the index of a card at fault counts over the whole file.
@@ -46,7 +51,7 @@ fn refused(refusal: &Refusal) -> ExitCode {
     ExitCode::from(REFUSED)
 }
 
-fn unreadable(error: &Unanswered) -> ExitCode {
+fn unreadable(error: &dyn Error) -> ExitCode {
     eprintln!("{error}");
     ExitCode::from(UNREADABLE)
 }

@@ -6,8 +6,8 @@ use crate::filter::Filter;
 use crate::refusal::printable;
 use std::ops::Range;
 
-/// A filter has at most this many tests.
-const MOST_TESTS: usize = 32;
+/// A filter has at most this many tests, so that as many cells are always enough for [`explain_into`].
+pub const MOST_TESTS: usize = 32;
 /// How many characters of the filter stand on a line of a rendering.
 const WIDTH: usize = 100;
 

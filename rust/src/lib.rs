@@ -50,7 +50,7 @@ use std::ffi::CStr;
 
 pub use archive::{Archive, Found, RUN, Unanswered};
 pub use engine::{Engine, matches_by_text, select_by};
-pub use explained::{Explained, Explanation, Mark, explain, explain_into};
+pub use explained::{Explained, Explanation, MOST_TESTS, Mark, explain, explain_into};
 pub use prepared::{MOST_CELLS, Prepared, judge, prepare, prepare_into};
 pub use reason::Reason;
 pub use refusal::{Refusal, underline};

@@ -126,55 +126,93 @@ static void blocks(void) {
     expect("its last record", list[127] == 16777216 + 127);
 }
 
-/* Each function is asked with NULL for what is empty, and answers what it answers for another pointer. */
+/* An argument: a pointer and a length. What is written is lent as numbers of 32 bits, so that every function may write there. */
+typedef struct argument {
+    uint32_t *start;
+    size_t length;
+} argument;
+
+/* A function over its arguments, and how many it has. */
+typedef struct operation {
+    const char *name;
+    sirophan_answer (*call)(const argument *);
+    int count;
+} operation;
+
+#define IN(i) (const uint8_t *)a[i].start, a[i].length
+#define OUT(i, type) (type *)a[i].start, a[i].length
+#define OPERATION(name, ...) \
+    static sirophan_answer call_##name(const argument *a) { return sirophan_##name(__VA_ARGS__); }
+
+OPERATION(check, IN(0), IN(1))
+OPERATION(match, IN(0), IN(1), IN(2))
+OPERATION(match_by_text, IN(0), IN(1), IN(2))
+OPERATION(select, IN(0), IN(1), IN(2), OUT(3, uint32_t))
+OPERATION(select_by, SIROPHAN_ENGINE_TEXT, IN(0), IN(1), IN(2), OUT(3, uint32_t))
+OPERATION(check_search, IN(0), IN(1))
+OPERATION(match_search, IN(0), IN(1), IN(2))
+OPERATION(select_search, IN(0), IN(1), IN(2), OUT(3, uint32_t))
+OPERATION(explain, IN(0), IN(1), IN(2), OUT(3, uint8_t))
+OPERATION(prepare, IN(0), IN(1), OUT(2, uint32_t))
+OPERATION(judge, IN(0), IN(1), OUT(2, const uint32_t), IN(3))
+OPERATION(spell, IN(0), OUT(1, uint8_t), 0)
+OPERATION(record, IN(0))
+OPERATION(seal, OUT(0, uint8_t))
+
+static sirophan_answer call_report(const argument *a) {
+    sirophan_counts counts = sirophan_report(IN(0), IN(1), IN(2), OUT(3, sirophan_tally));
+    sirophan_answer answer = {counts.refusal, counts.refusal != 0 ? counts.place : counts.yes};
+    return answer;
+}
+
+static const operation operations[] = {
+    {"check", call_check, 2},
+    {"match", call_match, 3},
+    {"match_by_text", call_match_by_text, 3},
+    {"select", call_select, 4},
+    {"select_by", call_select_by, 4},
+    {"check_search", call_check_search, 2},
+    {"match_search", call_match_search, 3},
+    {"select_search", call_select_search, 4},
+    {"explain", call_explain, 4},
+    {"prepare", call_prepare, 3},
+    {"judge", call_judge, 4},
+    {"spell", call_spell, 2},
+    {"record", call_record, 1},
+    {"seal", call_seal, 1},
+    {"report", call_report, 4},
+};
+
+/* Each function is asked with NULL in the place of each argument, and answers what it does for any other pointer of length 0. */
 static void nulls(void) {
-    static uint8_t some[1];
-    static uint32_t cells[SIROPHAN_CELLS];
-    const uint8_t *card = cards;
-    sirophan_tally rows[1] = {{9, 9}};
-    sirophan_answer rows_of = sirophan_prepare(ARCHIVE, TEXT("s pr true"), cells, SIROPHAN_CELLS);
-    expect("prepared", rows_of.refusal == 0);
-
-#define BOTH(name, call) expect(name " takes NULL", same(call(NULL), call(some)))
-#define SHEET_OF(f) sirophan_check(f, 0, TEXT("s pr true"))
-    BOTH("check's sheet", SHEET_OF);
-#define CHECK(f) sirophan_check(ARCHIVE, f, 0)
-    BOTH("check's filter", CHECK);
-#define MATCH(f) sirophan_match(ARCHIVE, f, 0, card, SIROPHAN_BLOCK)
-    BOTH("match's filter", MATCH);
-#define MATCH_CARD(c) sirophan_match(ARCHIVE, TEXT("s pr true"), c, 0)
-    BOTH("match's card", MATCH_CARD);
-#define BY_TEXT(c) sirophan_match_by_text(ARCHIVE, TEXT("s pr true"), c, 0)
-    BOTH("match_by_text's card", BY_TEXT);
-#define SELECT(c) sirophan_select(ARCHIVE, TEXT("s pr true"), c, 0, cells, 0)
-    BOTH("select's cards", SELECT);
-#define SEARCH(c) sirophan_match_search(ARCHIVE, c, 0, card, SIROPHAN_BLOCK)
-    BOTH("match_search's string", SEARCH);
-#define CHECK_SEARCH(c) sirophan_check_search(ARCHIVE, c, 0)
-    BOTH("check_search's string", CHECK_SEARCH);
-#define SELECT_SEARCH(c) sirophan_select_search(ARCHIVE, TEXT("s=w"), c, 0, cells, 0)
-    BOTH("select_search's cards", SELECT_SEARCH);
-#define JUDGE(c) sirophan_judge(ARCHIVE, TEXT("s pr true"), cells, rows_of.value, c, 0)
-    BOTH("judge's card", JUDGE);
-#define SPELL(c) sirophan_spell(TEXT("s pr true"), c, 0, 0)
-    BOTH("spell's buffer", SPELL);
-#define EXPLAIN(c) sirophan_explain(ARCHIVE, TEXT("s pr true"), card, SIROPHAN_BLOCK, c, 0)
-    BOTH("explain's cells", EXPLAIN);
-#define RECORD(c) sirophan_record(c, 0)
-    BOTH("record's card", RECORD);
-#define SEAL(c) sirophan_seal(c, 0)
-    BOTH("seal's block", SEAL);
-
+    static uint32_t some[4 * SIROPHAN_BLOCK], copies[2][SIROPHAN_BLOCK / 4], filter[8], string[8], rows[SIROPHAN_CELLS];
+    memcpy(copies[0], sheet, SIROPHAN_BLOCK);
+    memcpy(copies[1], cards, SIROPHAN_BLOCK);
+    memcpy(filter, "s pr true", 9);
+    memcpy(string, "s=w", 3);
+    sirophan_answer prepared = sirophan_prepare(ARCHIVE, TEXT("s pr true"), rows, SIROPHAN_CELLS);
+    const argument a_sheet = {copies[0], SIROPHAN_BLOCK}, a_card = {copies[1], SIROPHAN_BLOCK}, a_filter = {filter, 9};
+    const argument a_string = {string, 3}, room = {some, SIROPHAN_BLOCK}, a_row = {rows, prepared.value};
+    for (size_t i = 0; i < sizeof operations / sizeof *operations; i++) {
+        operation o = operations[i];
+        int is_search = strstr(o.name, "search") != NULL, is_judge = strcmp(o.name, "judge") == 0;
+        argument given[4] = {a_sheet, is_search ? a_string : a_filter, is_judge ? a_row : a_card, is_judge ? a_card : room};
+        if (strcmp(o.name, "prepare") == 0) given[2] = room;
+        if (strcmp(o.name, "spell") == 0) given[0] = a_filter, given[1] = room;
+        if (o.count == 1) given[0] = a_card;
+        expect(o.name, o.call(given).refusal == 0);
+        for (int missing = 0; missing < o.count; missing++) {
+            argument kept = given[missing];
+            given[missing].length = 0;
+            sirophan_answer answer = o.call(given);
+            given[missing].start = NULL;
+            expect(o.name, same(o.call(given), answer));
+            given[missing] = kept;
+        }
+    }
     expect("no cards and no list", is(sirophan_select(ARCHIVE, TEXT("s pr true"), NULL, 0, NULL, 0), 0, 0));
     expect("no list", is(sirophan_select(ARCHIVE, TEXT("s pr true"), cards, sizeof cards, NULL, 0), SIROPHAN_SHORT_LIST, 128));
-    expect("no list by text", is(sirophan_select_by(SIROPHAN_ENGINE_TEXT, ARCHIVE, TEXT("s pr true"), NULL, 0, NULL, 0), 0, 0));
-    expect("no cells", is(sirophan_prepare(ARCHIVE, TEXT("s pr true"), NULL, 0), SIROPHAN_SHORT_CELLS, rows_of.value));
-    expect("no rows", is(sirophan_judge(ARCHIVE, TEXT("s pr true"), NULL, 0, card, SIROPHAN_BLOCK), SIROPHAN_BAD_ROWS, 0));
     expect("nothing at all", is(sirophan_select(NULL, 0, NULL, 0, NULL, 0, NULL, 0), SIROPHAN_SHEET_SIZE, 0));
-    sirophan_counts counts = sirophan_report(ARCHIVE, TEXT("s pr true"), NULL, 0, NULL, 0);
-    expect("a report without rows", counts.refusal == SIROPHAN_SHORT_ROWS && counts.place == 8);
-    counts = sirophan_report(NULL, 0, NULL, 0, NULL, 0, rows, 1);
-    expect("a report on nothing", counts.refusal == SIROPHAN_SHEET_SIZE && rows[0].cards == 9);
 }
 
 /* Texts that lead far down: brackets, tests and alternatives to the limits, and texts that are none near their end. */

@@ -220,8 +220,10 @@ int main(void) {
     expect("rows of a senseless filter", sirophan_prepare(SHEET, FILTER("code gt 5"), prepared, 0), SIROPHAN_NO_MEANING, 0);
     expect_cells("rows too long", prepared, (const uint32_t[2]){UNTOUCHED, UNTOUCHED}, 2);
     expect("six rows", sirophan_prepare(SHEET, FILTER(joined), prepared, 8), 0, 6);
-    expect_cells("six rows", prepared + 2, (const uint32_t[2]){2, 3}, 2);
-    expect_cells("six rows", prepared + 5, (const uint32_t[3]){4, UNTOUCHED, UNTOUCHED}, 3);
+    /* a test; and over two rows; a test; not; or over one row; a test */
+    expect_cells("six rows", prepared + 1, (const uint32_t[1]){8 * 2 + 3}, 1);
+    expect_cells("six rows", prepared + 3, (const uint32_t[2]){2, 8 * 1 + 4}, 2);
+    expect_cells("six rows", prepared + 6, (const uint32_t[2]){UNTOUCHED, UNTOUCHED}, 2);
     expect("row of a test", (sirophan_answer){0, prepared[0]}, 0, 8 * (0 + 32 * (2 + 32 * 9)));
     expect("card 7 judged", sirophan_judge(SHEET, FILTER(joined), prepared, 6, cards, BLOCK), 0, 1);
     expect("card 19 judged", sirophan_judge(SHEET, FILTER(joined), prepared, 6, cards + BLOCK, BLOCK), 0, 0);
