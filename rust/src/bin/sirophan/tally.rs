@@ -9,6 +9,7 @@ use crate::looks::{self, Look, Spelling};
 use crate::report::Failure;
 use crate::sheet::Sheet;
 use crate::text;
+use std::ops::Range;
 
 /// What values may look like that are of another kind.
 pub struct Likeness {
@@ -195,9 +196,16 @@ pub struct Tally {
     is_enough: bool,
     seen: Vec<bool>,
     records: Vec<u32>,
-    /// Each piece by the index of its first card, with its first and its last record number, as long as the numbers rise.
-    pieces: Vec<(u64, u32, u32)>,
+    /// The runs of cards whose record numbers rise, and whether there is a piece in which they do not.
+    risen: Vec<Risen>,
     falls: bool,
+}
+
+/// A run of cards whose record numbers rise: their indexes, and the first and the last number.
+struct Risen {
+    cards: Range<u64>,
+    first: u32,
+    last: u32,
 }
 
 /// What is counted of a parameter.
@@ -320,10 +328,10 @@ impl<'a> Counter<'a> {
         let mut fields = vec![Field::default(); self.asked.len()];
         let mut drawn = fields.clone();
         let mut seen = vec![false; self.watched.len()];
-        let (mut records, mut pieces, mut falls) = (Vec::new(), Vec::new(), false);
+        let (mut records, mut risen, mut falls) = (Vec::new(), Vec::new(), false);
         for tally in tallies {
             records.push(tally.records);
-            pieces.extend(tally.pieces);
+            risen.extend(tally.risen);
             falls |= tally.falls;
             fields.iter_mut().zip(tally.fields).for_each(|(field, more)| field.add(more));
             drawn.iter_mut().zip(tally.drawn).for_each(|(field, more)| field.add(more));
@@ -331,7 +339,7 @@ impl<'a> Counter<'a> {
         }
         let fields = fields.into_iter().zip(drawn).map(|(field, drawn)| self.sampled(field, drawn)).collect();
         let cards = records.iter().map(|records| records.len() as u64).sum();
-        let repeated = if rises(pieces, falls) { Vec::new() } else { repeated(records.concat()) };
+        let repeated = if rises(risen, falls) { Vec::new() } else { repeated(records.concat()) };
         Held { cards, fields, repeated, seen }
     }
 
@@ -350,16 +358,22 @@ impl Tally {
     fn note_order(&mut self, first: u64, start: usize) {
         let records = &self.records[start..];
         self.falls |= !records.is_sorted_by(|one, next| one < next);
-        if let (false, [low, ..], [.., high]) = (self.falls, records, records) {
-            self.pieces.push((first, *low, *high));
+        let (false, [low, ..], [.., high]) = (self.falls, records, records) else { return };
+        let cards = first..first + records.len() as u64;
+        match self.risen.last_mut() {
+            Some(before) if before.cards.end == first && before.last < *low => {
+                before.cards.end = cards.end;
+                before.last = *high;
+            }
+            _ => self.risen.push(Risen { cards, first: *low, last: *high }),
         }
     }
 }
 
-/// Whether record numbers rise over all pieces: then none is borne twice. In most archives they do.
-fn rises(mut pieces: Vec<(u64, u32, u32)>, falls: bool) -> bool {
-    pieces.sort();
-    !falls && pieces.windows(2).all(|pair| pair[0].2 < pair[1].1)
+/// Whether record numbers rise over all cards: then none is borne twice. In most archives they do.
+fn rises(mut risen: Vec<Risen>, falls: bool) -> bool {
+    risen.sort_by_key(|risen| risen.cards.start);
+    !falls && risen.windows(2).all(|pair| pair[0].last < pair[1].first)
 }
 
 /// The numbers that stand several times among these, in order, each with how many times.
