@@ -400,6 +400,14 @@ fn fields_by_their_values() {
         ),
         ("token", &["1973-00-00", "00.03.1973", "Mar-73"], "3 of 3 values look like dates."),
         ("string", &["250", "12", "96", "4"], "4 of 4 values look like numbers."),
+        (
+            "string",
+            &[
+                "34", "57", "61", "19", "42", "88", "23", "71", "65", "50", "37", "29", "44", "91", "16", "78", "53",
+                "67", "39", "25", "82",
+            ],
+            "21 of 21 values look like numbers.",
+        ),
         // Half is not more than half.
         ("token", &["1974-06", "x"], ""),
         ("token", &["32485007", "19730304", "73211009"], ""),

@@ -30,8 +30,8 @@ pub struct Look {
     pub address: bool,
     /// It is digits alone: a likely year, which only the other values tell from a code.
     pub year: bool,
-    /// It is digits alone, and neither a likely year nor a day; and they are few or many or begin with a zero, as those of wards,
-    /// telephones and records do.
+    /// It is digits alone, and neither a likely year nor a day; and they are many or begin with a zero, as those of telephones
+    /// and records do.
     pub digits: bool,
     pub label: bool,
 }
@@ -94,7 +94,7 @@ fn plain_digits(value: &[u8]) -> Look {
         return Look { number, ..Look::date(Other) };
     }
     let year = value.len() == 4 && BARE_YEARS.contains(&read(value));
-    let label = !(3..=5).contains(&value.len()) || value[0] == b'0';
+    let label = value.len() > 5 || value[0] == b'0';
     Look { date: year.then_some(Readable), number, year, digits: !year, label, ..Look::NONE }
 }
 

@@ -64,7 +64,7 @@ const WEEKDAYS: [&str; 21] = [
 ];
 
 /// Words that stand beside a date and leave it one: how certain it is, what happened then, which part of a year.
-const BESIDE: [&str; 49] = [
+const BESIDE: [&str; 58] = [
     "about",
     "after",
     "am",
@@ -114,6 +114,15 @@ const BESIDE: [&str; 49] = [
     "vor",
     "winter",
     "dated",
+    "ad",
+    "anno",
+    "annee",
+    "im",
+    "in",
+    "jahr",
+    "jahre",
+    "year",
+    "an",
 ];
 /// Endings of a day's number, and of a decade's.
 const ENDINGS: [&str; 8] = ["st", "nd", "rd", "th", "er", "e", "s", "ten"];
@@ -214,6 +223,11 @@ pub fn is_date(tokens: &[Token]) -> bool {
             *month <= 12 && YEARS.contains(year)
         }
         [Digits(year, 4), Sign('/'), Digits(month, 2)] => (1..=12).contains(month) && YEARS.contains(year),
+        [Digits(day, 8), Word(t), Digits(_, 4 | 6)] | [Digits(day, 8), Word(t), Digits(_, 4 | 6), Word(_)]
+            if t == "t" =>
+        {
+            YEARS.contains(&(day / 10_000)) && is_day([(day / 10_000, 4), (day / 100 % 100, 2), (day % 100, 2)])
+        }
         [Digits(a, n), Digits(b, m), Digits(c, l)] => is_day([(*a, *n), (*b, *m), (*c, *l)]),
         [Digits(year, 4), Sign('-'), Digits(0, 2)] => YEARS.contains(year),
         [Digits(a, n), Sign(s), Digits(b, m), Sign(t), Digits(c, l)] if s == t && "./-".contains(*s) => {

@@ -66,8 +66,10 @@ pub const LIKENESSES: [Likeness; 5] = [
 
 /// How many of the values that do not look like a kind are shown.
 const OTHERS: usize = 2;
-/// Digits alone may be labels, as those of wards and telephones are: numbers are doubted where one in so many is none.
+/// Digits alone may be labels, as those of wards and telephones are: numbers are doubted where one in so many is none. Numbers
+/// of one or two digits are those of wards and the like where there are at most so many of them.
 const LABELS_TO_NUMBER: u64 = 4;
+const MOST_WARDS: u32 = 20;
 /// Bare years count as dates where so many times as many values are years as are other digits alone: else they are codes.
 const YEARS_TO_DIGITS: u64 = 9;
 
@@ -129,8 +131,10 @@ pub struct Field {
     /// How many values are digits alone: likely years, and others.
     years: u64,
     digits: u64,
-    /// How many of them may be labels, and how many values say nothing.
+    /// How many of them are labels; how many have one or two digits, and which; and how many values say nothing.
     labels: u64,
+    small: u64,
+    small_numbers: u128,
     pub blank: u64,
     /// How many values seem to be in another encoding, of all of them, and the first card that has one: index, record and why.
     pub strange: u64,
@@ -145,6 +149,8 @@ impl Field {
         self.years += other.years;
         self.digits += other.digits;
         self.labels += other.labels;
+        self.small += other.small;
+        self.small_numbers |= other.small_numbers;
         self.blank += other.blank;
         self.strange += other.strange;
         self.example = first(self.example.take(), other.example, |example| example.0);
@@ -157,13 +163,19 @@ impl Field {
         self.digits > 0
     }
 
+    /// How many values are digits alone that may be labels.
+    fn labels(&self) -> u64 {
+        let are_wards = self.small_numbers.count_ones() <= MOST_WARDS;
+        self.labels + if are_wards { self.small } else { 0 }
+    }
+
     /// What more than half of the values look like, if it is another kind's.
     pub fn looks_like(&self) -> Option<(&'static Likeness, &Alike)> {
         let are_codes = self.years < YEARS_TO_DIGITS * self.digits;
         let likely = |likeness: &Likeness, alike: &Alike| {
             let codes = if are_codes && ["date", "period"].contains(&likeness.kind) { self.years } else { 0 };
-            let are_labels =
-                likeness.kind == "number" && alike.count > LABELS_TO_NUMBER * alike.count.saturating_sub(self.labels);
+            let numbers = alike.count.saturating_sub(self.labels());
+            let are_labels = likeness.kind == "number" && alike.count > LABELS_TO_NUMBER * numbers;
             2 * alike.count.saturating_sub(codes) > self.values - self.blank && !are_labels
         };
         LIKENESSES.iter().zip(&self.alike).find(|(likeness, alike)| likely(likeness, alike))
@@ -420,6 +432,10 @@ fn count_value(field: &mut Field, asked: &Asked, index: u64, value: &[u8], is_ne
     field.years += u64::from(look.year);
     field.digits += u64::from(look.digits);
     field.labels += u64::from(look.label);
+    if let (true, [tens @ .., ones]) = (look.digits && !look.label && value.len() <= 2, value) {
+        field.small += 1;
+        field.small_numbers |= 1 << (tens.first().map_or(0, |tens| 10 * (tens - b'0')) + (ones - b'0'));
+    }
     for &row in &asked.doubtful {
         match (LIKENESSES[row].spelling)(&look, value, asked.word) {
             Some(spelling) => field.alike[row].take(spelling, index, value),
