@@ -263,6 +263,10 @@ fn check_names_dashes_and_addresses() {
     assert!(bare.errors.contains(dash) && !bare.errors.contains("Letters"), "{}", bare.errors);
     let quoted = folder.check("birthdate eq \"1974\u{2013}06\"");
     assert!(quoted.errors.contains(dash), "{}", quoted.errors);
+    let modified = folder.check("birthdate:missing=true");
+    let told = "  :missing is a modifier, and search strings have none here.\n\
+                \x20 The filter `birthdate pr false` asks it: `sirophan pick -e 'birthdate pr false'`.\n";
+    assert!(modified.errors.contains(told), "{}", modified.errors);
     for text in ["_filter=birthdate+lt+1975", "http://h/Patient?_filter=birthdate%20lt%201975"] {
         let said = folder.check(text);
         let told = "  _filter carries a filter, and what stands behind its = is asked by `sirophan pick -e 'birthdate lt 1975'`.\n";

@@ -93,14 +93,9 @@ impl Question {
                 Message { shown, ..told(refusal, &self.text_name, help) }
             }
             _ => {
-                let mut message = text_refused(&self.text_name, &self.text, &self.sheet.parameters, refusal);
-                let is_string = Words::Search.check(&self.sheet.block, &self.text).is_ok();
-                let is_string =
-                    is_string.then(|| "It is a search string, and `sirophan search` takes those.".to_string());
-                if let Some(help) = is_string.or_else(|| search_advice::carried_filter(&self.text)) {
-                    message.help.insert(0, help);
-                }
-                message
+                let message = text_refused(&self.text_name, &self.text, &self.sheet.parameters, refusal);
+                let help = search_advice::of_filter(&self.sheet, &self.text);
+                Message { help: [help, message.help].concat(), ..message }
             }
         }
     }

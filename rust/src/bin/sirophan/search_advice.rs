@@ -129,11 +129,21 @@ fn told_filter(pair: &Pair) -> String {
     format!("{CARRIER} carries a filter, and what stands behind its = is asked by `sirophan pick {filter}`.")
 }
 
-/// What to do with a text for `sirophan pick` that has its filter behind a name, as an address has it.
-pub fn carried_filter(text: &[u8]) -> Option<String> {
+/// What to do with a text for `sirophan pick` that is a search string, carries its filter behind a name, as an address does, or
+/// has a modifier.
+pub fn of_filter(sheet: &Sheet, text: &[u8]) -> Vec<String> {
+    if sirophan::check_search(&sheet.block, text).is_ok() {
+        return vec!["It is a search string, and `sirophan search` takes those.".into()];
+    }
     let start = text.iter().rposition(|&byte| byte == b'?').map_or(0, |mark| mark + 1);
-    let pairs = search::read(&text[start..])?;
-    pairs.iter().find(|pair| pair.name == CARRIER.as_bytes()).map(told_filter)
+    let pairs = search::read(&text[start..]).unwrap_or_default();
+    let carried = pairs.iter().find(|pair| pair.name == CARRIER.as_bytes()).map(|pair| vec![told_filter(pair)]);
+    let modified = pairs.iter().find_map(|pair| {
+        let colon = pair.name.iter().position(|&byte| byte == b':')?;
+        sheet.find(0, &pair.name[..colon])?;
+        Some(modifier_help(sheet, &pair.name[..colon], &pair.name[colon + 1..], pair))
+    });
+    carried.or(modified).unwrap_or_default()
 }
 
 /// A filter as -e takes it in a shell.
