@@ -4,7 +4,7 @@
 use crate::kind;
 use crate::report::Message;
 use crate::sheet::Sheet;
-use crate::tally::{Alike, Held, Likeness};
+use crate::tally::{Alike, Found, Held, Likeness};
 use crate::text::{counted, grouped, quoted, row};
 
 /// How many repeated record numbers are named.
@@ -25,7 +25,7 @@ pub fn of_field(sheet: &Sheet, held: &Held, place: usize) -> Vec<Message> {
         let filled = if field.blank > 0 { " that are not empty" } else { "" };
         let values = format!("{}{filled}{of}", counted(field.values - field.blank, "value"));
         let told = format!("{path} is {}, and {} of {values}", own.one, grouped(alike.count));
-        kind_doubt(&told, own, likeness, alike).about("looks_like", &path).figures([
+        kind_doubt(&told, own, likeness, alike, &field.others(alike)).about("looks_like", &path).figures([
             ("values", field.values - field.blank),
             ("alike", alike.count),
             ("unreadable", alike.unreadable),
@@ -46,10 +46,10 @@ pub fn of_field(sheet: &Sheet, held: &Held, place: usize) -> Vec<Message> {
 }
 
 /// So many of the values look like those of another kind.
-fn kind_doubt(told: &str, own: &'static kind::Kind, likeness: &Likeness, alike: &Alike) -> Message {
+fn kind_doubt(told: &str, own: &'static kind::Kind, likeness: &Likeness, alike: &Alike, others: &[Found]) -> Message {
     let Likeness { one, many, .. } = likeness;
     let look = if alike.count == 1 { format!("looks like {one}") } else { format!("look like {many}") };
-    let others: Vec<String> = alike.others.iter().map(|(_, text)| quoted(text)).collect();
+    let others: Vec<String> = others.iter().map(|(_, text)| quoted(text)).collect();
     let others = if others.is_empty() { String::new() } else { format!("; others: {}", others.join(", ")) };
     let help = format!(
         "If it holds {many}, the sheet gives it the wrong kind, and a filter asks something else than it seems to."

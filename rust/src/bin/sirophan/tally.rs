@@ -87,8 +87,30 @@ pub struct Alike {
     /// How many of them cannot be read as the kind, and the first of those.
     pub unreadable: u64,
     pub first_unreadable: Option<Found>,
-    /// The first values that do not look like it.
-    pub others: Vec<Found>,
+    /// The first values that look like something else.
+    others: Firsts,
+}
+
+/// The first values of some sort, each once.
+#[derive(Clone, Debug, Default)]
+struct Firsts(Vec<Found>);
+
+impl Firsts {
+    /// Keeps a value, if it is one of the first.
+    fn take(&mut self, index: u64, value: &[u8]) {
+        if self.0.len() < OTHERS && self.0.iter().all(|(_, other)| other != value) {
+            self.0.push((index, value.to_vec()));
+        }
+    }
+
+    /// The first of these and of others.
+    fn with(&self, other: &Firsts) -> Firsts {
+        let mut found = [&self.0[..], &other.0].concat();
+        found.sort();
+        let mut firsts = Firsts::default();
+        found.iter().for_each(|(index, value)| firsts.take(*index, value));
+        firsts
+    }
 }
 
 impl Alike {
@@ -96,9 +118,7 @@ impl Alike {
         self.count += other.count;
         self.unreadable += other.unreadable;
         self.first_unreadable = first(self.first_unreadable.take(), other.first_unreadable, |found| found.0);
-        let mut others = [std::mem::take(&mut self.others), other.others].concat();
-        others.sort();
-        others.into_iter().for_each(|(index, text)| self.add_other(index, &text));
+        self.others = self.others.with(&other.others);
     }
 
     /// Counts a value that looks like the kind.
@@ -107,13 +127,6 @@ impl Alike {
         if spelling == Spelling::Other {
             self.unreadable += 1;
             self.first_unreadable.get_or_insert_with(|| (index, value.to_vec()));
-        }
-    }
-
-    /// Keeps a value that does not look like the kind, if it is one of the first.
-    fn add_other(&mut self, index: u64, value: &[u8]) {
-        if self.others.len() < OTHERS && self.others.iter().all(|(_, other)| other != value) {
-            self.others.push((index, value.to_vec()));
         }
     }
 }
@@ -128,6 +141,8 @@ pub struct Field {
     /// The first value.
     pub example: Option<Found>,
     pub alike: [Alike; LIKENESSES.len()],
+    /// The first values that look like nothing.
+    plain: Firsts,
     /// How many values are digits alone: likely years, and others.
     years: u64,
     digits: u64,
@@ -155,7 +170,13 @@ impl Field {
         self.strange += other.strange;
         self.example = first(self.example.take(), other.example, |example| example.0);
         self.first_strange = first(self.first_strange.take(), other.first_strange, |strange| strange.0);
+        self.plain = self.plain.with(&other.plain);
         self.alike.iter_mut().zip(other.alike).for_each(|(alike, more)| alike.add(more));
+    }
+
+    /// The first values that do not look like a kind.
+    pub fn others(&self, alike: &Alike) -> Vec<Found> {
+        self.plain.with(&alike.others).0
     }
 
     /// Whether bare digits under it are codes: they are not all likely years.
@@ -419,14 +440,15 @@ fn count_value(field: &mut Field, asked: &Asked, index: u64, value: &[u8], is_ne
     if asked.doubtful.is_empty() {
         return;
     }
-    if value.trim_ascii().is_empty() {
+    if value.first().is_none_or(u8::is_ascii_whitespace) && value.trim_ascii().is_empty() {
         field.blank += 1;
         return;
     }
-    let look = looks::look(value);
-    let keeps_others =
-        field.values <= OTHERS as u64 || asked.doubtful.iter().any(|&row| field.alike[row].others.len() < OTHERS);
-    if look == Look::NONE && !keeps_others {
+    // Of what can be read as a number only digits alone can be a date.
+    let look = if asked.word == "number" && value.contains(&b'.') { Look::NONE } else { looks::look(value) };
+    let look = Look { address: look.address && asked.word != "token", ..look };
+    if look == Look::NONE {
+        field.plain.take(index, value);
         return;
     }
     field.years += u64::from(look.year);
@@ -439,7 +461,7 @@ fn count_value(field: &mut Field, asked: &Asked, index: u64, value: &[u8], is_ne
     for &row in &asked.doubtful {
         match (LIKENESSES[row].spelling)(&look, value, asked.word) {
             Some(spelling) => field.alike[row].take(spelling, index, value),
-            None => field.alike[row].add_other(index, value),
+            None => field.alike[row].others.take(index, value),
         }
     }
 }
