@@ -15,7 +15,7 @@
  * Threads: the functions keep nothing and may be called from any thread at the same time, also with the same sheet,
  * filter and cards. Memory: they allocate none, and SIROPHAN_STACK bytes of stack are enough for any call.
  *
- * Link with `pkg-config --cflags --libs sirophan` (and --static for libsirophan.a), on x86-64 Linux.
+ * Compile with `pkg-config --cflags --libs sirophan`; for the static library with --static there, and -static. x86-64 Linux.
  */
 #ifndef SIROPHAN_H
 #define SIROPHAN_H

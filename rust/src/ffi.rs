@@ -1,7 +1,6 @@
-//! The C interface of the proved library, as `include/sirophan.h` declares it.
+//! The C interface of the proved library, as `include/sirophan.h` declares it; what of it is plain C is in `texts`.
 
 use crate::{Counts, Refusal, Tally};
-use std::ffi::c_char;
 
 /// `sirophan_answer`: the number of a refusal, or 0 for none, and the count, the yes or no, or the refusal's place.
 #[repr(C)]
@@ -64,10 +63,6 @@ macro_rules! call {
 pub(crate) use call;
 
 unsafe extern "C" {
-    pub fn sirophan_version() -> *const c_char;
-
-    pub fn sirophan_reason(number: u32) -> *const c_char;
-
     pub fn sirophan_record(card: *const u8, card_len: usize) -> Answer;
 
     pub fn sirophan_seal(block: *mut u8, block_len: usize) -> Answer;

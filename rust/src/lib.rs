@@ -44,9 +44,9 @@ mod reason;
 mod refusal;
 pub mod sheet;
 pub mod spelling;
+mod texts;
 
 use ffi::call;
-use std::ffi::CStr;
 
 pub use archive::{Archive, Found, RUN, Unanswered};
 pub use engine::{Engine, matches_by_text, select_by};
@@ -54,17 +54,7 @@ pub use explained::{Explained, Explanation, MOST_TESTS, Mark, explain, explain_i
 pub use prepared::{MOST_CELLS, Prepared, judge, prepare, prepare_into};
 pub use reason::Reason;
 pub use refusal::{Refusal, underline};
-
-/// The version of the library that is linked.
-///
-/// ```
-/// assert_eq!(sirophan::version(), env!("CARGO_PKG_VERSION"));
-/// ```
-#[must_use]
-pub fn version() -> &'static str {
-    // SAFETY: it is a text of the library's own, which stays and ends with a zero.
-    unsafe { CStr::from_ptr(ffi::sirophan_version()) }.to_str().unwrap_or("unknown")
-}
+pub use texts::version;
 
 /// The record number of a card, whatever else is in it.
 ///

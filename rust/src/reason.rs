@@ -1,7 +1,6 @@
 //! Why there is no answer: the numbers of refusal by name.
 
-use crate::ffi;
-use std::ffi::CStr;
+use crate::texts::sentence;
 use std::fmt;
 
 /// Why there is no answer, in the order of the numbers.
@@ -95,13 +94,6 @@ impl fmt::Display for Reason {
     fn fmt(&self, f: &mut fmt::Formatter) -> fmt::Result {
         f.write_str(self.sentence())
     }
-}
-
-/// What the library says of a number, which may be none of the reasons'.
-pub(crate) fn sentence(number: u32) -> &'static str {
-    // SAFETY: for every number it is a text of the library's own, which stays and ends with a zero.
-    let sentence = unsafe { CStr::from_ptr(ffi::sirophan_reason(number)) };
-    sentence.to_str().unwrap_or("The library's sentence is not UTF-8.")
 }
 
 #[cfg(test)]

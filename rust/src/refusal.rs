@@ -1,6 +1,7 @@
 //! A refusal, and how it is told to a person.
 
-use crate::reason::{self, Reason};
+use crate::reason::Reason;
+use crate::texts;
 use std::error::Error;
 use std::fmt;
 use std::ops::Range;
@@ -31,7 +32,7 @@ impl Refusal {
     /// What the number means, in one sentence.
     #[must_use]
     pub fn sentence(&self) -> &'static str {
-        reason::sentence(self.number)
+        texts::sentence(self.number)
     }
 
     /// Whether it is a card's, so that its place is the card's index.
