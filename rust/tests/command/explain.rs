@@ -30,7 +30,8 @@ fn explain_underlines_the_tests_that_decide() {
          {\"place\":34,\"test\":\"related[type eq x].target pr true\",\"mark\":\"spared\"}],\"warnings\":[]}\n\
          {\"card\":2,\"record\":7,\"matches\":true,\"tests\":[{\"place\":0,\"test\":\"title eq x\",\"mark\":\"spared\"},\
          {\"place\":14,\"test\":\"pages gt 5\",\"mark\":\"yes\"},\
-         {\"place\":34,\"test\":\"related[type eq x].target pr true\",\"mark\":\"no\"}],\"warnings\":[{\"level\":\"warning\",\"code\":\"joins\",\"message\":\"`and` and `or` \
+         {\"place\":34,\"test\":\"related[type eq x].target pr true\",\"mark\":\"no\"}],\
+         \"warnings\":[{\"level\":\"warning\",\"code\":\"joins\",\"message\":\"`and` and `or` \
          are read from left to right, with equal rank. The filter asks:\",\"help\":[\"(title eq x or pages gt 5) and not \
          (related[type eq x].target pr true)\"]},{\"level\":\"warning\",\"code\":\"record_repeated\",\"message\":\"cards.bin: a \
          record number is borne by several cards: 7 (2 cards).\",\"help\":[\"A list names them by the number alone, once for each \

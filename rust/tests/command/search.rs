@@ -44,7 +44,8 @@ fn search_helps_with_strings() {
             14,
             0..13,
             unknown,
-            ":exact is a modifier, and search strings have none here.\n  The filter `title eq x` asks it: `sirophan pick -e 'title eq x'`.\n  Large and small letters are alike in it, other than in :exact.",
+            ":exact is a modifier, and search strings have none here.\n  The filter `title eq x` asks it: `sirophan pick -e 'title \
+             eq x'`.\n  Large and small letters are alike in it, other than in :exact.",
         ),
         ("ward=x", 14, 0..6, unknown, "ward is not on the sheet. There are title, pages, birthdate and stay."),
         (

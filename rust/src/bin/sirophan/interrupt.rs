@@ -27,7 +27,7 @@ extern "C" fn remove_and_end(number: c_int) {
     for path in &HALF_WRITTEN {
         let path = path.load(Ordering::SeqCst);
         if !path.is_null() {
-            // Safe: the path is a text that stays, and both calls are allowed in a handler. A folder that is not empty stays.
+            // SAFETY: the path is a text that stays, and both calls are allowed in a handler. A folder that is not empty stays.
             unsafe {
                 if unlink(path) != 0 {
                     rmdir(path);
@@ -35,7 +35,7 @@ extern "C" fn remove_and_end(number: c_int) {
             }
         }
     }
-    // Safe: both calls are allowed in a handler.
+    // SAFETY: both calls are allowed in a handler.
     unsafe {
         signal(number, DEFAULT);
         raise(number);
@@ -45,7 +45,7 @@ extern "C" fn remove_and_end(number: c_int) {
 /// Has a path removed, a file or a folder that is empty then, where a signal ends the program.
 pub fn removes(path: &Path) {
     for number in SIGNALS {
-        // Safe: the handler does only what one may. A signal that is ignored, as under nohup, stays so.
+        // SAFETY: the handler does only what one may. A signal that is ignored, as under nohup, stays so.
         unsafe {
             if signal(number, remove_and_end as *const () as usize) == IGNORED {
                 signal(number, IGNORED);

@@ -26,7 +26,7 @@ static CLOSED: [AtomicBool; 2] = [AtomicBool::new(false), AtomicBool::new(false)
 /// Runs before the runtime begins, and so before it opens anything.
 extern "C" fn note_closed() {
     for (descriptor, closed) in [INPUT, OUTPUT].into_iter().zip(&CLOSED) {
-        // Safe: it changes nothing, whatever the descriptor is.
+        // SAFETY: it changes nothing, whatever the descriptor is.
         closed.store(unsafe { fcntl(descriptor, GET_FLAGS) } < 0, Ordering::Relaxed);
     }
 }
@@ -51,7 +51,7 @@ impl Stream {
     }
 
     fn new(descriptor: c_int) -> Stream {
-        // Safe: the descriptor stays open as long as the program runs, for nothing here closes it.
+        // SAFETY: the descriptor stays open as long as the program runs, for nothing here closes it.
         let file = ManuallyDrop::new(unsafe { File::from_raw_fd(descriptor) });
         Stream { descriptor, file }
     }

@@ -38,7 +38,7 @@ pub fn of_stream(descriptor: c_int) -> Option<usize> {
 /// How many columns a terminal says that it has, which may be none.
 fn of_terminal(descriptor: c_int) -> Option<usize> {
     let mut size = Size::default();
-    // Safe: the system writes a size, for which there is room, and only where the descriptor is a terminal.
+    // SAFETY: the system writes a size, for which there is room, and only where the descriptor is a terminal.
     let is_terminal = unsafe { ioctl(descriptor, GET_WINDOW_SIZE, &mut size as *mut Size) } == 0;
     is_terminal.then_some(usize::from(size.columns))
 }
