@@ -1,5 +1,6 @@
 //! What to do about a refusal: sentences that go below the library's own.
 
+use crate::arguments::Arguments;
 use crate::block::{self, Sort};
 use crate::filter::{Filter, Test};
 use crate::input::{self, shown};
@@ -7,7 +8,7 @@ use crate::kind::{self, BUNDLE, Reader};
 use crate::report::{Failure, Message};
 use crate::search_advice;
 use crate::sheet::{Parameter, Sheet};
-use crate::text::{self, row, spell};
+use crate::text::{self, printable, row, spell};
 use sirophan::Refusal;
 
 /// What to do about a wrong check sum.
@@ -32,6 +33,14 @@ impl Words {
         }
     }
 
+    /// Whether a card matches a text.
+    pub fn matches(self, sheet: &[u8], text: &[u8], card: &[u8]) -> Result<bool, Refusal> {
+        match self {
+            Words::Filter => sirophan::matches(sheet, text, card),
+            Words::Search => sirophan::matches_search(sheet, text, card),
+        }
+    }
+
     /// The record numbers of the cards of a run that match a text.
     pub fn select(self, sheet: &[u8], text: &[u8], run: &[u8], list: &mut [u32]) -> Result<usize, Refusal> {
         match self {
@@ -51,11 +60,12 @@ pub struct Question {
 }
 
 impl Question {
-    /// Reads both files.
-    pub fn read(sheet_name: &str, words: Words, text_name: &str) -> Result<Question, Failure> {
+    /// Reads the sheet and the text, which are the first two of what was given.
+    pub fn read(arguments: &Arguments, words: Words) -> Result<Question, Failure> {
+        let sheet_name = &arguments.paths[0];
         let sheet = Sheet::read(input::read(sheet_name)?);
-        let text = input::read_text(text_name)?;
-        Ok(Question { sheet_name: shown(sheet_name), text_name: shown(text_name), sheet, words, text })
+        let (text_name, text) = arguments.text(1)?;
+        Ok(Question { sheet_name: shown(sheet_name), text_name, sheet, words, text })
     }
 
     /// The number of the text's tests or alternatives, or the refusal with its help.
@@ -83,11 +93,9 @@ impl Question {
                 Message { shown, ..told(refusal, &self.text_name, help) }
             }
             _ => {
-                let mut message = text_refused(&self.text_name, &self.text, &self.sheet.parameters, refusal);
-                if Words::Search.check(&self.sheet.block, &self.text).is_ok() {
-                    message.help.insert(0, "It is a search string, and `sirophan search` takes those.".into());
-                }
-                message
+                let message = text_refused(&self.text_name, &self.text, &self.sheet.parameters, refusal);
+                let help = search_advice::of_filter(&self.sheet, &self.text);
+                Message { help: [help, message.help].concat(), ..message }
             }
         }
     }
@@ -151,9 +159,15 @@ fn size_help(file: &[u8]) -> String {
 
 /// Signs that make a text no filter and are easily overlooked: what the text holds, and what to do.
 const NO_FILTER: [(&[u8], &str); 8] = [
-    (b"\xEF\xBB\xBF", "It has a byte order mark (EF BB BF). Save it as UTF-8 without one."),
+    (
+        b"\xEF\xBB\xBF",
+        "It has a byte order mark (EF BB BF). Save it as UTF-8 without one, or mend it by `tail -c +4 OLD > NEW`.",
+    ),
     (b"\xFF\xFE", "It is UTF-16. Save it as UTF-8 without a byte order mark."),
-    (b"\r", "It has a Windows line end (0x0D). Save it with a line feed alone, or without a line end."),
+    (
+        b"\r",
+        "It has a Windows line end (0x0D). Save it with a line feed alone, or mend it by `tr -d '\\r' < OLD > NEW`.",
+    ),
     (b"\n", "It has more than one line. A filter is one line."),
     (b"\t", "It has a tab. Only spaces may stand between the words."),
     ("\u{201C}".as_bytes(), "It has a curly quote. Texts are quoted with the straight sign \"."),
@@ -165,15 +179,33 @@ const NO_FILTER: [(&[u8], &str); 8] = [
 fn text_help(refusal: Refusal, parameters: &[Parameter], filter: &[u8]) -> Vec<String> {
     let holds = |sign: &[u8]| filter.windows(sign.len()).any(|window| window == sign);
     let sign = NO_FILTER.iter().find(|(sign, _)| holds(sign)).map(|(_, help)| help.to_string());
+    let dash = dash_at(filter, refusal.place);
     let letters = (!filter.is_ascii()).then(|| "Letters beyond ASCII stand between double quotes only.".to_string());
+    let letters = dash.or(letters);
     let (begun, rest) = filter.split_at(refusal.place.min(filter.len()));
     let place = match refusal.number {
         12 => vec!["Round and square brackets together nest at most 8 deep.".into()],
         13 => vec!["A filter has at most 32 tests, those inside square brackets counted too.".into()],
         _ => Beginning { parameters, begun }.help(rest),
     };
-    let word = capitals(filter).or_else(|| foreign(begun, rest));
+    let word = capitals(filter).or_else(|| foreign(begun, rest)).or_else(|| without_brackets(begun, rest));
     sign.or(letters).into_iter().chain(word).chain(place).collect()
+}
+
+/// Help with a dash where a filter stops, in a word that would be a date with hyphens.
+fn dash_at(filter: &[u8], place: usize) -> Option<String> {
+    let start = filter[..place.min(filter.len())].iter().rposition(|byte| b" (".contains(byte)).map_or(0, |at| at + 1);
+    let length = filter[start..].iter().position(|byte| b" )]".contains(byte)).unwrap_or(filter.len() - start);
+    dash_help(&filter[start..start + length], kind::by_word("date")?.number)
+}
+
+/// Help with a `not` that has no brackets behind it.
+fn without_brackets(begun: &[u8], rest: &[u8]) -> Option<String> {
+    let before = begun.trim_ascii_end().strip_suffix(b"not")?;
+    let is_word = before.last().is_none_or(|last| b" ([".contains(last));
+    let whole = [b"not (", rest, b")"].concat();
+    let shown = if sirophan::plain(&whole).is_ok() { printable(&whole) } else { "not (ward eq A)".into() };
+    (is_word && !rest.is_empty()).then(|| format!("Behind not stands a filter in brackets: write `{shown}`."))
 }
 
 /// Words and signs of other languages, and the words of a filter for them.
@@ -312,7 +344,7 @@ fn test_help(number: u32, sheet: &Sheet, filter: &[u8], test: &Test) -> Vec<Stri
         (17, Some(_)) if operator == "pr" => {
             vec!["Behind pr stands true (there is a text) or false (there is none).".into()]
         }
-        (17, Some((path, kind))) => value_help(&path, kind, &spell(&test.decoded(filter))),
+        (17, Some((path, kind))) => value_help(&path, kind, &test.decoded(filter)),
         (18, Some(_)) => vec![bundle_help(sheet, &filter[test.name.clone()])],
         _ => vec![name_help(sheet, filter, test)],
     }
@@ -341,12 +373,34 @@ pub fn for_others(path: &str, operator: &str) -> String {
 }
 
 /// Help with a value that cannot be read.
-pub fn value_help(path: &str, kind: u8, value: &str) -> Vec<String> {
-    kind::by_number(kind).map_or_else(Vec::new, |kind| {
-        let by = kind::asked_by(kind);
-        let asked = if by.number == kind.number { String::new() } else { format!(", which is asked by {}", by.one) };
-        vec![format!("{path} is {}{asked}, and {value} cannot be read as one: {}.", kind.one, by.written)]
-    })
+pub fn value_help(path: &str, kind: u8, value: &[u8]) -> Vec<String> {
+    let Some(known) = kind::by_number(kind) else { return Vec::new() };
+    let by = kind::asked_by(known);
+    let asked = if by.number == kind { String::new() } else { format!(", which is asked by {}", by.one) };
+    let shown = spell(value);
+    let unread = format!("{path} is {}{asked}, and {shown} cannot be read as one: {}.", known.one, by.written);
+    dash_help(value, by.number).into_iter().chain([unread]).collect()
+}
+
+/// Signs that look like a hyphen, and their names.
+const DASHES: [(char, &str); 7] = [
+    ('\u{2013}', "an en dash"),
+    ('\u{2014}', "an em dash"),
+    ('\u{2012}', "a figure dash"),
+    ('\u{2015}', "a horizontal bar"),
+    ('\u{2010}', "another hyphen"),
+    ('\u{2011}', "a no-break hyphen"),
+    ('\u{2212}', "a minus sign"),
+];
+
+/// Help with a value that could be read as a kind if its dashes were hyphens.
+fn dash_help(value: &[u8], kind: u8) -> Option<String> {
+    let text = str::from_utf8(value).ok()?;
+    let (dash, name) = DASHES.into_iter().find(|(dash, _)| text.contains(*dash))?;
+    let mended = text.replace(DASHES.map(|(dash, _)| dash), "-");
+    let readable = Reader::new(kind).reads(mended.as_bytes());
+    let written = format!("It has {name} (U+{:04X}) in the place of a hyphen. Write {mended}.", u32::from(dash));
+    readable.then_some(written)
 }
 
 /// How a bundle is asked.

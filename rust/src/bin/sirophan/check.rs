@@ -1,34 +1,51 @@
-//! `sirophan check`: whether a filter has a meaning on every card that fits a sheet.
+//! `sirophan check`: whether a filter or a search string has a meaning on every card that fits a sheet.
 
 use crate::advice::{Question, Words};
 use crate::arguments::Arguments;
-use crate::doubt;
-use crate::filter::{Filter, Test};
+use crate::asked::Asked;
+use crate::cards::Fit;
+use crate::input::Input;
 use crate::json;
 use crate::kind;
-use crate::report::{Failure, Output};
+use crate::report::{self, Failure, Message, Output};
+use crate::survey::Survey;
 use crate::table;
-use crate::text::{counted, printable};
-use std::ops::Range;
+use crate::text::{counted, printable, spell};
 
-/// Checks, and answers with the number of tests and a row for each.
+/// Checks, and answers with the number of tests or alternatives and a row for each.
 pub fn run(arguments: &Arguments) -> Result<(), Failure> {
-    let question = Question::read(&arguments.paths[0], Words::Filter, &arguments.paths[1])?;
+    let words = if arguments.search { Words::Search } else { Words::Filter };
+    let question = Question::read(arguments, words)?;
+    let cards = arguments.paths.get(2).map(|path| Input::open(path)).transpose()?;
     let count = question.check()?;
-    arguments.say(doubt::of_text(&question));
-    arguments.say(doubt::of_names(&question));
-    let filter = Filter::read(&question.text);
-    let tests = filter.map_or_else(Vec::new, |filter| told(&question, &filter));
+    let survey = Survey::new(&question);
+    let warnings = match cards {
+        Some(cards) => doubts_with_cards(&question, &survey, cards)?,
+        None => survey.doubts_of_text(),
+    };
+    let (one, many) = if arguments.search { ("alternative", "alternatives") } else { ("test", "tests") };
+    let tests: Vec<Told> = survey.asked.iter().map(|asked| Told::new(&question, asked)).collect();
     let mut output = Output::new();
     if arguments.json {
         let tests: Vec<String> = tests.iter().map(Told::json).collect();
-        output.line(json::object(&[("count", count.to_string()), ("tests", json::array(&tests))]))?;
+        let pairs = [("count", count.to_string()), (many, json::array(&tests)), report::warnings(&warnings)];
+        output.line(json::object(&pairs))?;
     } else {
-        output.line(counted(count as u64, "test"))?;
+        output.line(counted(count as u64, one))?;
         let rows: Vec<[String; 4]> = tests.into_iter().map(Told::row).collect();
         table::lines(&rows).iter().try_for_each(|line| output.line(line))?;
     }
-    output.flush()
+    output.flush()?;
+    arguments.warn(&warnings);
+    Ok(())
+}
+
+/// The doubts that cards give too.
+fn doubts_with_cards(question: &Question, survey: &Survey, cards: Input) -> Result<Vec<Message>, Failure> {
+    let name = cards.name.clone();
+    let fit = Fit { sheet: &question.sheet, asked: Some((question.words, question.text.clone())) };
+    let held = survey.counter().pass(cards, |first, piece| fit.select_piece(first, piece), |_, _| Ok(()))?;
+    Ok(survey.doubts(&name, &held, |_| false))
 }
 
 /// A test as it is told.
@@ -36,12 +53,22 @@ struct Told {
     field: String,
     kind: String,
     operator: String,
-    /// The value as the filter has it, and what it stands for.
+    /// The value as the text has it, and what it stands for.
     written: String,
     value: Vec<u8>,
 }
 
 impl Told {
+    fn new(question: &Question, asked: &Asked) -> Told {
+        Told {
+            field: question.sheet.path(asked.place, 0),
+            kind: kind::word_of(question.sheet.parameters[asked.place].kind),
+            operator: asked.operator.clone(),
+            written: if asked.words == Words::Search { spell(&asked.value) } else { printable(&asked.written) },
+            value: asked.value.clone(),
+        }
+    }
+
     /// For people: the value as it was written.
     fn row(self) -> [String; 4] {
         [self.field, self.kind, self.operator, self.written]
@@ -56,20 +83,4 @@ impl Told {
             ("value", json::bytes(&self.value)),
         ])
     }
-}
-
-/// The tests of a filter.
-fn told(question: &Question, filter: &Filter) -> Vec<Told> {
-    let told = |test: &Test| {
-        let place = test.place(&question.sheet, &question.text)?;
-        let part = |range: &Range<usize>| printable(&question.text[range.clone()]);
-        Some(Told {
-            field: question.sheet.path(place, 0),
-            kind: kind::word_of(question.sheet.parameters[place].kind),
-            operator: part(&test.operator),
-            written: part(&test.value),
-            value: test.decoded(&question.text),
-        })
-    };
-    filter.tests.iter().filter_map(told).collect()
 }

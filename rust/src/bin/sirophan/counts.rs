@@ -4,15 +4,15 @@ use crate::advice::{Question, Words};
 use crate::arguments::Arguments;
 use crate::block::SIZE;
 use crate::cards::{AtFault, RUN};
-use crate::doubt;
-use crate::input::Input;
+use crate::input::{Input, shown};
 use crate::json;
 use crate::kind;
-use crate::report::{Failure, Output};
+use crate::report::{self, Failure, Message, Output};
 use crate::sheet::Sheet;
+use crate::survey::Survey;
 use crate::table;
-use crate::tally::Counter;
 use crate::text::{counted, grouped};
+use crate::zero;
 use sirophan::Tally;
 
 /// What was counted so far.
@@ -39,21 +39,28 @@ impl Sum {
 
 /// Reports on all cards, run by run, and answers with the sums.
 pub fn run(arguments: &Arguments) -> Result<(), Failure> {
-    let question = Question::read(&arguments.paths[0], Words::Filter, &arguments.paths[1])?;
-    let cards = Input::open(&arguments.paths[2])?;
+    let question = Question::read(arguments, Words::Filter)?;
+    let path = &arguments.paths[2];
+    let cards = Input::open(path)?;
     question.check()?;
-    arguments.say(doubt::of_text(&question));
-    let asked = doubt::asked(&question);
-    let counter = Counter::new(&question.sheet, asked.iter().copied());
+    let survey = Survey::new(&question);
+    // The table has all fields, and so all of them are doubted.
+    let counter = survey.counter_of_all();
 
     let mut sum = Sum::new(&question.sheet);
     let ask = |first, piece: &[u8]| count_piece(&question, first, piece);
-    let fields = counter.pass(cards, ask, |more, _| {
+    let held = counter.pass(cards, ask, |more, _| {
         sum.add(more);
         Ok(())
     })?;
-    arguments.say(asked.iter().flat_map(|&place| fields[place].doubts(&question.sheet, place)));
-    if arguments.json { show_json(&question.sheet, &sum) } else { show(&question.sheet, &sum) }
+    let mut warnings = survey.doubts_of_all(&shown(path), &held);
+    warnings.extend(zero::told(&question, &survey.asked, path, &held, sum.yes));
+    if arguments.json {
+        return show_json(&question.sheet, &sum, &warnings);
+    }
+    show(&question.sheet, &sum)?;
+    arguments.warn(&warnings);
+    Ok(())
 }
 
 /// What the library reports on the runs of a piece before the first that is refused, and what is refused.
@@ -87,7 +94,7 @@ fn show(sheet: &Sheet, sum: &Sum) -> Result<(), Failure> {
 }
 
 /// The same as JSON.
-fn show_json(sheet: &Sheet, sum: &Sum) -> Result<(), Failure> {
+fn show_json(sheet: &Sheet, sum: &Sum, warnings: &[Message]) -> Result<(), Failure> {
     let object = |(place, &(cards, values)): (usize, &(u64, u64))| {
         json::object(&[
             ("field", json::string(&sheet.path(place, 0))),
@@ -102,6 +109,7 @@ fn show_json(sheet: &Sheet, sum: &Sum) -> Result<(), Failure> {
         ("yes", sum.yes.to_string()),
         ("no", sum.no.to_string()),
         ("fields", json::array(&fields)),
+        report::warnings(warnings),
     ]))?;
     output.flush()
 }

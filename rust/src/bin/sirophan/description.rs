@@ -7,7 +7,7 @@ use crate::cards::{Fit, RUN};
 use crate::input::Input;
 use crate::kind;
 use crate::progress::Progress;
-use crate::report::{Failure, Level, Message};
+use crate::report::{Failure, Message};
 use crate::sheet::{self, Parameter, Sheet};
 use crate::text::{self, counted, grouped, printable, row, spell};
 use sirophan::Prepared;
@@ -155,7 +155,7 @@ impl Description {
             (self.carriage_returns, "its lines end with CR LF; the CR is left out."),
         ];
         let notes = dropped.into_iter().filter(|(holds, _)| *holds);
-        notes.map(|(_, note)| Message::new(Level::Note, format!("{}: {note}", self.name))).collect()
+        notes.map(|(_, note)| Message::note(format!("{}: {note}", self.name))).collect()
     }
 }
 
@@ -336,7 +336,11 @@ impl<'a> Cards<'a> {
     fn record(&mut self, line: &Line) -> u32 {
         let digits = str::from_utf8(&line.text).ok().filter(|text| text.bytes().all(|byte| byte.is_ascii_digit()));
         digits.and_then(|digits| digits.parse().ok()).unwrap_or_else(|| {
-            let fault = format!("{} is no record number: it is a number up to {}.", spell(&line.text), u32::MAX);
+            let fault = format!(
+                "{} is no record number: it is a number up to {}.",
+                spell(&line.text),
+                grouped(u32::MAX.into())
+            );
             self.description.fault(line.number, &fault);
             0
         })

@@ -1,6 +1,7 @@
 //! Files that commands read; `-` is standard input.
 
 use crate::report::Failure;
+use crate::stream::Stream;
 use std::fs::File;
 use std::io::{self, BufReader, Read};
 
@@ -22,7 +23,7 @@ impl Input {
     /// Opens a file.
     pub fn open(path: &str) -> Result<Input, Failure> {
         if path == "-" {
-            return Ok(Input { name: shown(path), size: None, shows_progress: true, from: Box::new(io::stdin()) });
+            return Ok(Input { name: shown(path), size: None, shows_progress: true, from: Box::new(Stream::input()) });
         }
         let file = File::open(path).map_err(|reason| Failure::file(path, "opened", reason))?;
         let size = file.metadata().ok().filter(|data| data.is_file()).map(|data| data.len());
@@ -77,7 +78,7 @@ pub fn read(path: &str) -> Result<Vec<u8>, Failure> {
 pub fn read_text(path: &str) -> Result<Vec<u8>, Failure> {
     let mut text = match Input::open(path) {
         Err(Failure::Unusable(mut message)) if path.contains([' ', '=']) => {
-            let itself = "This is to be a file. The text itself can be given on standard input, with - as the file.";
+            let itself = "This is to be a file. The text itself is given by -e in its place.";
             message.help.push(itself.into());
             return Err(Failure::Unusable(message));
         }

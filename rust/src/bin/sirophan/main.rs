@@ -2,36 +2,56 @@
 //!
 //! Its parts, from the top down:
 //!
-//! - the commands: `pick` and `search` (in `pick`), `explain`, `check`, `report` (in `counts`), `plain`, `fields`, `pack`, `show`, `verify`;
-//! - what they say beside their answers: `advice` and `search_advice` on refusals, `doubt` about what is asked, `tally` of what cards hold;
+//! - the commands: `pick` and `search` (in `pick`), `explain` with `verdicts`, `check`, `report` (in `counts`), `plain`, `fields`, `pack`,
+//!   `show`, `verify`;
+//! - what they say beside their answers: `advice` and `search_advice` on refusals; `survey` has all doubts of a question, from `doubt` about
+//!   what is asked and `field_doubt` about what cards hold; `zero` walks for tests that no card meets, with `clues`, and `reason`
+//!   tells why;
+//! - what that goes by: `tally` counts the cards, `looks` and `spoken` say what a value looks like, `letters` and `system` in what texts
+//!   differ, `asked` what is asked one by one, `values` what a test goes by;
 //! - what they go through: `cards` in blocks, `description` in words;
 //! - what these are made of: `search`, and `sheet`, `filter`, `kind` and `block` of the library's interface;
-//! - in and out: `arguments`, `input`, `report`, `progress`, `table`, `json`, `text`.
+//! - in and out: `arguments`, `input`, `stream`, `interrupt`, `report`, `width`, `progress`, `table`, `json`, `text`.
 
 mod advice;
 mod arguments;
+mod asked;
 mod cards;
 mod check;
+mod clues;
 mod counts;
 mod description;
 mod doubt;
 mod explain;
+mod field_doubt;
 mod fields;
 mod input;
+mod interrupt;
 mod json;
+mod letters;
+mod looks;
 mod pack;
 mod pick;
 mod plain;
 mod progress;
+mod reason;
 mod report;
 mod search;
 mod search_advice;
 mod show;
+mod spoken;
+mod stream;
+mod survey;
+mod system;
 mod table;
 mod tally;
 mod text;
+mod values;
+mod verdicts;
 mod verify;
 mod version;
+mod width;
+mod zero;
 
 use arguments::Arguments;
 use report::{Failure, Output};
@@ -45,11 +65,13 @@ struct Command {
     name: &'static str,
     /// What stands behind its name.
     usage: &'static str,
-    /// How many paths it takes.
+    /// How many paths it takes, and which of them is the text that asks and can be given by -e.
     paths: RangeInclusive<usize>,
+    text: Option<usize>,
     /// The options that not every command has.
     options: &'static [&'static str],
     summary: &'static str,
+    /// Its help. Lines that stand in from the left are kept as they are.
     help: &'static str,
     run: fn(&Arguments) -> Result<(), Failure>,
 }
@@ -60,14 +82,17 @@ const COMMANDS: [Command; 10] = [
         name: "pick",
         usage: "[--stream] SHEET FILTER CARDS",
         paths: 3..=3,
-        options: &["--stream"],
+        text: Some(1),
+        options: &["--stream", "-e"],
         summary: "lists the record numbers of the cards that match a filter",
-        help: "The last line is the count, as in `2 of 3`. The list is held back until the last card has passed: a card that\n\
-               does not fit the sheet refuses it all. With --stream the numbers come as they are found, and only an output\n\
-               that ends with the count is a list. On standard error it warns where the filter may not ask what was meant,\n\
-               such as where all values of a field look like another kind's.\n\n\
+        help: "The last line is the count, as in `2 of 3`. The list is held back until the last card has passed: a card that \
+               does not fit the sheet refuses it all. With --stream the numbers come as they are found, and only an output \
+               that ends with the count is a list.\n\n\
+               Between the list and the count it warns where the filter may not ask what was meant, such as where most \
+               values of a field look like another kind's. Where fewer than 20 cards match, and CARDS is a file, it goes \
+               through the cards once more and says of each test that no card meets what can be found out about it.\n\n\
                Example:\n\n\
-               \x20   $ sirophan pick target/ward/sheet.bin target/ward/filter.txt target/ward/cards.bin\n\
+               \x20   $ sirophan pick ward/sheet.bin ward/filter.txt ward/cards.bin\n\
                \x20   7\n\
                \x20   300\n\
                \x20   2 of 3\n",
@@ -77,62 +102,74 @@ const COMMANDS: [Command; 10] = [
         name: "search",
         usage: "[--stream] SHEET STRING CARDS",
         paths: 3..=3,
-        options: &["--stream"],
+        text: Some(1),
+        options: &["--stream", "-e"],
         summary: "lists the record numbers of the cards that match a search string",
-        help: "STRING is a file with a string such as `birthdate=ge1974&title=ward,book` on one line. The answer, and what is\n\
+        help: "STRING is a file with a string such as `birthdate=ge1974&title=ward,book` on one line. The answer, and what is \
                warned of, is as for `sirophan pick`.\n\n\
                Example:\n\n\
-               \x20   $ echo 'title=admissions&birthdate=lt1975' | sirophan search target/ward/sheet.bin - target/ward/cards.bin\n\
+               \x20   $ sirophan search -e 'title=admissions' ward/sheet.bin ward/cards.bin\n\
                \x20   300\n\
                \x20   1 of 3\n",
         run: pick::search,
     },
     Command {
         name: "explain",
-        usage: "--record N SHEET FILTER CARDS",
+        usage: "[--search] (--record N | --all) SHEET FILTER CARDS",
         paths: 3..=3,
-        options: &["--record"],
-        summary: "says why a filter says yes or no of the cards with a record number",
-        help: "It underlines the tests that decide, with what each says: with these alone the answer stands, no matter what the\n\
-               others say, and none of them can be spared. Of several such sets it shows the one that is left when the tests are\n\
-               tried from the last to the first and each that can be spared is. A test with a condition in square brackets is\n\
-               one.\n\n\
+        text: Some(1),
+        options: &["--search", "--record", "--all", "-e"],
+        summary: "says why a filter says yes or no of a card, or of each that matches",
+        help: "It underlines the tests that decide, with what each says: with these alone the answer stands, no matter what the \
+               others say, and none of them can be spared. Of several such sets it shows the one that is left when the tests are \
+               tried from the last to the first and each that can be spared is. A test with a condition in square brackets is \
+               one. Below stands each of them with the card's values that it went by. With --all every card of the list is \
+               explained.\n\n\
+               With --search FILTER is a search string. Of its pairs and alternatives each is asked by itself, and the verdict \
+               shown: which of them decide is not known.\n\n\
                Example:\n\n\
-               \x20   $ sirophan explain --record 300 target/ward/sheet.bin target/ward/filter.txt target/ward/cards.bin\n\
-               \x20   card 2, record 300: yes\n\
+               \x20   $ sirophan explain --record 19 ward/sheet.bin ward/filter.txt ward/cards.bin\n\
+               \x20   card 1, record 19: no\n\
                \x20   birthdate le 1974-06 and (code eq loinc|1234-5 or title co \"admissions\")\n\
-               \x20   ^^^^^^^^^^^^^^^^^^^^                              ^^^^^^^^^^^^^^^^^^^^^\n\
-               \x20   yes                                               yes\n",
+               \x20   ^^^^^^^^^^^^^^^^^^^^\n\
+               \x20   no\n\
+               \x20     birthdate le 1974-06   no: 1975-01-31\n",
         run: explain::run,
     },
     Command {
         name: "check",
-        usage: "SHEET FILTER",
-        paths: 2..=2,
-        options: &[],
+        usage: "[--search] SHEET FILTER [CARDS]",
+        paths: 2..=3,
+        text: Some(1),
+        options: &["--search", "-e"],
         summary: "says whether a filter has a meaning on every card that fits a sheet",
-        help: "It answers the number of tests and, for each, the field, its kind, the operator and the value; or it refuses the\n\
-               filter and says what to do.\n\n\
+        help: "It answers the number of tests and, for each, the field, its kind, the operator and the value; or it refuses the \
+               filter and says what to do. With --search FILTER is a search string, and its alternatives are told. Where CARDS \
+               are given, it warns of what they hold as `sirophan pick` does; else of values and names that speak of another \
+               kind than the sheet gives their field.\n\n\
                Example:\n\n\
-               \x20   $ echo 'code lt 1974' | sirophan check target/ward/sheet.bin -\n\
+               \x20   $ sirophan check -e 'code lt 1974' ward/sheet.bin\n\
                \x20   code lt 1974\n\
                \x20   ^^^^^^^^^^^^\n\
-               \x20   standard input: refused 16 at 0: The operator has no meaning for a parameter of this kind.\n\
+               \x20   -e: refused 16 at 0: The operator has no meaning for a parameter of this\n\
+               \x20     kind.\n\
                \x20     code is a token, which has the operators eq, ne and pr.\n\
-               \x20     lt is for numbers, dates and periods. If that is what code holds, the sheet gives it the wrong kind.\n",
+               \x20     lt is for numbers, dates and periods. If that is what code holds, the\n\
+               \x20       sheet gives it the wrong kind.\n",
         run: check::run,
     },
     Command {
         name: "report",
         usage: "SHEET FILTER CARDS",
         paths: 3..=3,
-        options: &[],
-        summary: "counts the cards that say yes to a filter and no, and what all of them have under each field",
-        help: "For each field of the sheet: how many of the cards have it, and how many values there are under it, whatever the\n\
-               filter says of the card. A bundle has no values; its members have. A card that does not fit the sheet refuses it\n\
-               all. On standard error it warns as `sirophan pick` does.\n\n\
+        text: Some(1),
+        options: &["-e"],
+        summary: "counts the cards that match, and what all have under each field",
+        help: "For each field of the sheet: how many of the cards have it, and how many values there are under it, whatever the \
+               filter says of the card. A bundle has no values; its members have. A card that does not fit the sheet refuses it \
+               all. It warns as `sirophan pick` does, and of all fields.\n\n\
                Example:\n\n\
-               \x20   $ sirophan report target/ward/sheet.bin target/ward/filter.txt target/ward/cards.bin\n\
+               \x20   $ sirophan report ward/sheet.bin ward/filter.txt ward/cards.bin\n\
                \x20   3 cards: yes 2, no 1\n\
                \x20     field      kind       cards  values\n\
                \x20     title      string     3      3\n\
@@ -144,26 +181,28 @@ const COMMANDS: [Command; 10] = [
         name: "plain",
         usage: "FILTER",
         paths: 1..=1,
-        options: &[],
+        text: Some(0),
+        options: &["-e"],
         summary: "writes a filter in its plain spelling, by which it can be filed",
-        help: "It has one space where one is needed and none elsewhere, no bracket that the reading from left to right makes\n\
-               idle, and each value as a bare word where it can be one. Two filters have the same plain spelling exactly when\n\
+        help: "It has one space where one is needed and none elsewhere, no bracket that the reading from left to right makes \
+               idle, and each value as a bare word where it can be one. Two filters have the same plain spelling exactly when \
                they ask the same tests, joined, negated and grouped the same. No sheet is needed.\n\n\
                Example:\n\n\
-               \x20   $ echo '((title co \"book\")  or pages gt 12)  and (code eq \"x y\")' | sirophan plain -\n\
-               \x20   title co book or pages gt 12 and code eq \"x y\"\n",
+               \x20   $ sirophan plain -e '((title co \"book\")  or pages gt 12)  and (code eq x)'\n\
+               \x20   title co book or pages gt 12 and code eq x\n",
         run: plain::run,
     },
     Command {
         name: "fields",
         usage: "SHEET CARDS",
         paths: 2..=2,
+        text: None,
         options: &[],
         summary: "shows what the cards have under each field of a sheet",
-        help: "For each field: its kind, how many cards have it, how many values there are, and the first of them. Below the\n\
-               table it warns of fields whose values all look like another kind's: they may have the wrong kind.\n\n\
+        help: "For each field: its kind, how many cards have it, how many values there are, and the first of them. Below the \
+               table it warns of fields more than half of whose values look like another kind's: they may have the wrong kind.\n\n\
                Example:\n\n\
-               \x20   $ sirophan fields target/ward/sheet.bin target/ward/cards.bin\n\
+               \x20   $ sirophan fields ward/sheet.bin ward/cards.bin\n\
                \x20   3 cards\n\
                \x20     field      kind       cards  values  example\n\
                \x20     title      string     3      3       Ward book 4\n\
@@ -175,34 +214,37 @@ const COMMANDS: [Command; 10] = [
         name: "pack",
         usage: "DIR OUT",
         paths: 2..=2,
+        text: None,
         options: &[],
         summary: "makes the blocks of an archive from its description",
-        help: "It reads sheet.txt, cards.txt and filter.txt in DIR and writes sheet.bin, cards.bin and filter.txt in OUT. Where\n\
-               anything is wrong it says where, and OUT stays as it was.\n\n\
-               A line has a head and a text; a line that begins with # is left out. A text that begins or ends with a space, is\n\
-               empty, or holds bytes that do not print stands in double quotes, with \\\" \\\\ and \\xHH inside. In sheet.txt the\n\
-               head is a kind (string, number, date, token, reference, period, bundle) and the text a name. In cards.txt the head\n\
-               is `record:` before a record number, or else a name. A bundle's members are named behind it, and on a card those\n\
+        help: "It reads sheet.txt, cards.txt and, if it is there, filter.txt in DIR and writes sheet.bin, cards.bin and filter.txt \
+               in OUT. Where anything is wrong it says where, and OUT stays as it was. It warns of fields whose values look like \
+               another kind's, and of record numbers that several cards bear.\n\n\
+               A line has a head and a text; a line that begins with # is left out. A text that begins or ends with a space, is \
+               empty, or holds bytes that do not print stands in double quotes, with \\\" \\\\ and \\xHH inside. In sheet.txt the \
+               head is a kind (string, number, date, token, reference, period, bundle) and the text a name. In cards.txt the head \
+               is `record:` before a record number, or else a name. A bundle's members are named behind it, and on a card those \
                with the same number, 0 to 255, belong together; without a number it is 0:\n\n\
                \x20   sheet.txt                    cards.txt\n\
                \x20   bundle     related           record:           7\n\
                \x20   token      related.type      related#1.type    has-component\n\
                \x20   reference  related.target    related#1.target  Observation/4\n\n\
                Example:\n\n\
-               \x20   $ sirophan pack examples/ward target/ward\n\
-               \x20   3 cards and a sheet with 5 parameters, in target/ward\n",
+               \x20   $ sirophan pack examples/ward ward\n\
+               \x20   3 cards and a sheet with 5 parameters, in ward\n",
         run: pack::run,
     },
     Command {
         name: "show",
         usage: "[--record N] FILE..",
         paths: 1..=usize::MAX,
+        text: None,
         options: &["--record"],
         summary: "shows the blocks of files as tables",
-        help: "Cards are shown by the names and kinds of the sheet that came before them, or else of sheet.bin beside them. What\n\
+        help: "Cards are shown by the names and kinds of the sheet that came before them, or else of sheet.bin beside them. What \
                is wrong with a block stands below it, behind a !. With --record only the cards of that number are shown.\n\n\
                Example:\n\n\
-               \x20   $ sirophan show --record 300 target/ward/cards.bin\n\
+               \x20   $ sirophan show --record 300 ward/cards.bin\n\
                \x20   card 2, record 300, 4 entries\n\
                \x20     name       kind    text\n\
                \x20     title      string  Admissions, men\n\
@@ -215,24 +257,31 @@ const COMMANDS: [Command; 10] = [
         name: "verify",
         usage: "DIR",
         paths: 1..=1,
+        text: None,
         options: &[],
         summary: "says whether all that is in a folder goes together",
-        help: "It takes the blocks (sheet.bin, cards.bin), the description (sheet.txt, cards.txt), or both, whichever are in DIR,\n\
-               with filter.txt. It goes through all cards and names each that does not fit, with the field and the reason.\n\
-               Where both are there, it says whether the blocks hold what the description says.\n\n\
+        help: "It takes the blocks (sheet.bin, cards.bin), the description (sheet.txt, cards.txt), or both, whichever are in DIR, \
+               with filter.txt if it is there. It goes through all cards and names each that does not fit, with the field and \
+               the reason. Where both are there, it says whether the blocks hold what the description says. It warns as \
+               `sirophan pack` does.\n\n\
                Example:\n\n\
-               \x20   $ sirophan verify target/ward\n\
-               \x20   the blocks: 3 cards, a sheet with 5 parameters, a filter with 3 tests: all go together\n",
+               \x20   $ sirophan verify ward | fold -s -w 70\n\
+               \x20   the blocks: 3 cards, a sheet with 5 parameters, a filter with 3 \n\
+               \x20   tests: all go together\n",
         run: verify::run,
     },
 ];
 
 /// What all commands have in common.
 const COMMON: &str = "\
-A path of - is standard input. The answer goes to standard output, all else to standard error; with --json both are JSON.
+A path of - is standard input. In the place of a filter's or a search string's file -e TEXT gives the text itself. The answer \
+goes to standard output, all else to standard error. With --json both are JSON, and warnings stand in the answer.
 
-Status: 0 answered; 1 the command line is not understood; 2 refused, or something is wrong with what was given;
-        3 a file could not be read, or an output not be written.
+Status:
+  0  answered
+  1  the command line is not understood
+  2  refused, or something is wrong with what was given
+  3  a file could not be read, or an output not be written
 ";
 
 fn main() -> ExitCode {
@@ -280,10 +329,11 @@ fn command_by(name: &str) -> Result<&'static Command, (Failure, bool)> {
 /// Runs a command on its arguments.
 fn run_command(command: &Command, given: &[String]) -> Result<(), Failure> {
     let usage = |what: String| Failure::Usage(format!("{what} Usage: sirophan {} {}", command.name, command.usage));
-    let arguments = Arguments::read(given.iter().cloned(), command.options).map_err(usage)?;
+    let mut arguments = Arguments::read(given.iter().cloned(), command.options).map_err(usage)?;
     if arguments.help {
         return print(&command_help(command));
     }
+    arguments.place_text(command.text);
     if !command.paths.contains(&arguments.paths.len()) {
         return Err(usage(format!("{} given.", text::counted(arguments.paths.len() as u64, "path"))));
     }
@@ -295,29 +345,30 @@ fn usage_failure(what: &str) -> (Failure, bool) {
     (Failure::Usage(format!("{what} `sirophan --help` lists the commands.")), false)
 }
 
-/// Writes a text to standard output.
+/// Writes a text to standard output, wrapped for the terminal.
 fn print(text: &str) -> Result<(), Failure> {
+    let columns = width::of_stream(width::OUTPUT).unwrap_or(width::USUAL);
     let mut output = Output::new();
-    output.line(text.trim_end())?;
+    output.line(width::paragraphs(text.trim_end(), columns))?;
     output.flush()
 }
 
 /// What `sirophan --help` prints.
 fn overview() -> String {
-    let rows: Vec<[String; 2]> = COMMANDS
+    let commands: Vec<String> = COMMANDS
         .iter()
-        .map(|command| [format!("sirophan {} {}", command.name, command.usage), command.summary.into()])
+        .map(|command| format!("  sirophan {} {}\n      {}", command.name, command.usage, command.summary))
         .collect();
     format!(
         "Which catalogue cards of an archive match a FHIR R4 _filter?\n\n{}\n\n\
-         SHEET is a block of 512 bytes, CARDS a file of such blocks, FILTER a file with the filter on one line, STRING\n\
-         one with a search string.\n\
-         `sirophan COMMAND --help` says more, with an example; `sirophan --version` the version.\n\n{COMMON}",
-        table::lines(&rows).join("\n")
+         SHEET is a block of 512 bytes, CARDS a file of such blocks, FILTER a file with the filter on one line, STRING \
+         one with a search string. `sirophan COMMAND --help` says more, with an example; `sirophan --version` the version.\n\n\
+         {COMMON}",
+        commands.join("\n")
     )
 }
 
-/// What `sirophan COMMAND --help` prints.
+/// What `sirophan COMMAND --help` prints. The examples ask the archive that its own example makes of examples/ward.
 fn command_help(command: &Command) -> String {
     format!("sirophan {} {}\n\nIt {}.\n\n{}\n{COMMON}", command.name, command.usage, command.summary, command.help)
 }

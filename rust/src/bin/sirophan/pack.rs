@@ -2,10 +2,13 @@
 
 use crate::arguments::Arguments;
 use crate::description::{self, Cards, Description};
+use crate::field_doubt;
 use crate::input;
+use crate::interrupt;
 use crate::json;
-use crate::report::{Failure, Level, Message, Output};
+use crate::report::{self, Failure, Message, Output};
 use crate::sheet::Sheet;
+use crate::tally::{Counter, Held, Tally};
 use crate::text::counted;
 use std::fs::{self, File};
 use std::io::{BufWriter, Write};
@@ -14,56 +17,75 @@ use std::path::{Path, PathBuf};
 /// Packs a folder. The archive that was there before stays as it was until all of the new one is written.
 pub fn run(arguments: &Arguments) -> Result<(), Failure> {
     let (from, to) = (&arguments.paths[0], &arguments.paths[1]);
-    let filter = read_filter(&path_in(from, "filter.txt"))?;
+    let filter = read_filter(&path_in(from, FILTER))?;
     let made_here = !Path::new(to).exists();
-    let packed = into_folder(arguments, from, to, &filter);
+    let packed = into_folder(arguments, from, to, filter.as_ref());
     if packed.is_err() && made_here {
         // A folder that stays behind does no harm.
         let _ = fs::remove_dir(to);
     }
-    let (sheet, count) = packed?;
-    arguments.say(filter_doubt(&path_in(from, "filter.txt"), &sheet, &filter));
+    let (sheet, held) = packed?;
+    let mut warnings: Vec<Message> =
+        filter.and_then(|filter| filter_doubt(&path_in(from, FILTER), &sheet, &filter)).into_iter().collect();
+    warnings.extend(field_doubt::of_cards(&path_in(from, "cards.txt"), &held, |_| true));
+    warnings.extend(field_doubt::of_fields(&sheet, &held, 0..held.fields.len()));
     let mut output = Output::new();
     let fields = sheet.parameters.len() as u64;
     if arguments.json {
-        output.line(json::object(&[("cards", count.to_string()), ("parameters", fields.to_string())]))?;
+        let pairs =
+            [("cards", held.cards.to_string()), ("parameters", fields.to_string()), report::warnings(&warnings)];
+        output.line(json::object(&pairs))?;
     } else {
         output.line(format_args!(
             "{} and a sheet with {}, in {to}",
-            counted(count, "card"),
+            counted(held.cards, "card"),
             counted(fields, "parameter")
         ))?;
     }
-    output.flush()
+    output.flush()?;
+    arguments.warn(&warnings);
+    Ok(())
 }
 
-/// Reads the description and writes the three files; answers the sheet and the number of cards.
-fn into_folder(arguments: &Arguments, from: &str, to: &str, filter: &Filter) -> Result<(Sheet, u64), Failure> {
-    arguments.say(filter.notes.clone());
+/// The name of a filter's file in a folder.
+pub const FILTER: &str = "filter.txt";
+
+/// Reads the description and writes the files; answers the sheet and what the cards hold.
+fn into_folder(arguments: &Arguments, from: &str, to: &str, filter: Option<&Filter>) -> Result<(Sheet, Held), Failure> {
+    arguments.say(filter.iter().flat_map(|filter| &filter.notes));
     let sheet = read_sheet(arguments, from)?;
     let mut cards = Cards::new(Description::open(&path_in(from, "cards.txt"))?, &sheet);
+    let made_here = !Path::new(to).exists();
     fs::create_dir_all(to).map_err(|reason| Failure::file(to, "made", reason))?;
     let mut files = NewFiles { folder: to, names: Vec::new() };
     files.write("sheet.bin", |put| put(&sheet.block))?;
-    files.write("filter.txt", |put| put(&filter.bytes))?;
+    if let Some(filter) = filter {
+        files.write(FILTER, |put| put(&filter.bytes))?;
+    }
+    let counter = Counter::of_all(&sheet);
+    let mut tally = Tally::default();
     files.write("cards.bin", |put| {
+        if made_here {
+            interrupt::removes(Path::new(to));
+        }
         while let Some(card) = cards.next()? {
+            counter.count(&mut tally, cards.count - 1, &card);
             put(&card)?;
         }
         Ok(())
     })?;
-    arguments.say(cards.description.notes());
-    let count = cards.count;
+    arguments.say(&cards.description.notes());
     cards.description.faults.none()?;
     files.take_their_places()?;
-    Ok((sheet, count))
+    let held = counter.sum(vec![tally]);
+    Ok((sheet, held))
 }
 
 /// The sheet of a folder's description.
 pub fn read_sheet(arguments: &Arguments, from: &str) -> Result<Sheet, Failure> {
     let mut description = Description::open(&path_in(from, "sheet.txt"))?;
     let sheet = description::read_sheet(&mut description)?;
-    arguments.say(description.notes());
+    arguments.say(&description.notes());
     description.faults.none()?;
     sheet.ok_or_else(|| Failure::refused(Message::error(format!("{} is no sheet.", path_in(from, "sheet.txt")))))
 }
@@ -81,10 +103,13 @@ impl Filter {
     }
 }
 
-/// Reads filter.txt, without a byte order mark and without the carriage return of a Windows line end.
-pub fn read_filter(path: &str) -> Result<Filter, Failure> {
+/// Reads filter.txt, if there is one, without a byte order mark and without the carriage return of a Windows line end.
+pub fn read_filter(path: &str) -> Result<Option<Filter>, Failure> {
+    if !Path::new(path).exists() {
+        return Ok(None);
+    }
     let mut filter = Filter { bytes: input::read(path)?, notes: Vec::new() };
-    let mut note = |text: &str| filter.notes.push(Message::new(Level::Note, format!("{path}: {text}")));
+    let mut note = |text: &str| filter.notes.push(Message::note(format!("{path}: {text}")));
     if filter.bytes.starts_with(b"\xEF\xBB\xBF") {
         filter.bytes.drain(..3);
         note("its byte order mark is left out.");
@@ -94,14 +119,14 @@ pub fn read_filter(path: &str) -> Result<Filter, Failure> {
         filter.bytes.push(b'\n');
         note("its line ends with CR LF; the CR is left out.");
     }
-    Ok(filter)
+    Ok(Some(filter))
 }
 
 /// A warning where the filter is refused: the blocks are good without it.
 fn filter_doubt(path: &str, sheet: &Sheet, filter: &Filter) -> Option<Message> {
     let refusal = sirophan::check(&sheet.block, filter.text()).err()?;
     let warning = Message::warning(format!("{path}: {refusal}"), "`sirophan check` says what to do.");
-    Some(Message { refusal: Some(refusal), ..warning })
+    Some(Message { refusal: Some(refusal), ..warning.code("filter_refused") })
 }
 
 /// A file of a folder.
@@ -128,6 +153,7 @@ impl NewFiles<'_> {
     fn write(&mut self, name: &'static str, fill: impl FnOnce(Put) -> Result<(), Failure>) -> Result<(), Failure> {
         let path = path_in(self.folder, name);
         let unwritten = |reason| Failure::file(&path, "written", reason);
+        interrupt::removes(&self.new_path(name));
         let file = File::create(self.new_path(name)).map_err(unwritten)?;
         self.names.push(name);
         let mut file = BufWriter::with_capacity(1 << 16, file);
@@ -143,6 +169,7 @@ impl NewFiles<'_> {
             fs::rename(self.new_path(name), &path).map_err(|reason| Failure::file(&path, "replaced", reason))?;
             self.names.retain(|other| *other != name);
         }
+        interrupt::keeps_all();
         Ok(())
     }
 }

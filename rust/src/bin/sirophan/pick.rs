@@ -3,11 +3,12 @@
 use crate::advice::{Question, Words};
 use crate::arguments::Arguments;
 use crate::cards::Fit;
-use crate::doubt;
-use crate::input::Input;
+use crate::input::{Input, shown};
 use crate::json;
-use crate::report::{Failure, Output};
-use crate::tally::Counter;
+use crate::report::{self, Failure, Message, Output};
+use crate::survey::Survey;
+use crate::zero;
+use std::collections::HashSet;
 use std::io::{self, IsTerminal};
 
 /// By a filter.
@@ -22,30 +23,34 @@ pub fn search(arguments: &Arguments) -> Result<(), Failure> {
 
 /// Selects from all cards. The list is held back until the last card has passed, unless it is to be streamed.
 fn list(words: Words, arguments: &Arguments) -> Result<(), Failure> {
-    let question = Question::read(&arguments.paths[0], words, &arguments.paths[1])?;
-    let mut cards = Input::open(&arguments.paths[2])?;
+    let question = Question::read(arguments, words)?;
+    let path = &arguments.paths[2];
+    let mut cards = Input::open(path)?;
     cards.shows_progress = !(arguments.stream && io::stdout().is_terminal());
     question.check()?;
-    arguments.say(doubt::of_text(&question));
-    let asked = doubt::asked(&question);
-    let counter = Counter::new(&question.sheet, asked.iter().copied());
+    let survey = Survey::new(&question);
+    let counter = survey.quick_counter();
     let fit = Fit { sheet: &question.sheet, asked: Some((words, question.text.clone())) };
 
-    let mut list = List { output: Output::new(), held: Vec::new(), matching: 0, cards: 0, arguments };
+    let mut list = List { output: Output::new(), listed: Vec::new(), matching: 0, cards: 0, arguments };
     let select = |first, piece: &[u8]| fit.select_piece(first, piece);
-    let fields = match counter.pass(cards, select, |found, count| list.add(found, count)) {
-        Ok(fields) => fields,
+    let held = match counter.pass(cards, select, |found, count| list.add(found, count)) {
+        Ok(held) => held,
         // What was streamed before a refusal comes out, without the count that would make it a list.
         Err(failure) => return Err(list.output.flush().err().unwrap_or(failure)),
     };
-    arguments.say(asked.iter().flat_map(|&place| fields[place].doubts(&question.sheet, place)));
-    list.end()
+    // Most archives have no record number twice, and then none is looked for.
+    let listed: HashSet<u32> =
+        if held.repeated.is_empty() { HashSet::new() } else { list.listed.iter().copied().collect() };
+    let mut warnings = survey.doubts(&shown(path), &held, |record| listed.contains(&record));
+    warnings.extend(zero::told(&question, &survey.asked, path, &held, list.matching));
+    list.end(&warnings)
 }
 
 /// The list of record numbers as it grows.
 struct List<'a> {
     output: Output,
-    held: Vec<u32>,
+    listed: Vec<u32>,
     matching: u64,
     cards: u64,
     arguments: &'a Arguments,
@@ -56,11 +61,11 @@ impl List<'_> {
     fn add(&mut self, found: Vec<u32>, cards: u64) -> Result<(), Failure> {
         self.matching += found.len() as u64;
         self.cards += cards;
-        if !self.arguments.stream {
-            self.held.extend(found);
-            return Ok(());
+        if self.arguments.stream {
+            found.iter().try_for_each(|record| self.record(*record))?;
         }
-        found.iter().try_for_each(|record| self.record(*record))
+        self.listed.extend(found);
+        Ok(())
     }
 
     /// Writes a record number by itself.
@@ -71,20 +76,23 @@ impl List<'_> {
         self.output.line(record)
     }
 
-    /// Writes what was held back, and the count.
-    fn end(mut self) -> Result<(), Failure> {
-        let counts = [("matching", self.matching.to_string()), ("cards", self.cards.to_string())];
+    /// Writes what was held back, says the warnings, and writes the count below them.
+    fn end(mut self, warnings: &[Message]) -> Result<(), Failure> {
+        let listed = std::mem::take(&mut self.listed);
+        let held_back = if self.arguments.stream { &[][..] } else { &listed };
         if self.arguments.json {
-            let records: Vec<String> = self.held.iter().map(u32::to_string).collect();
+            let records: Vec<String> = held_back.iter().map(u32::to_string).collect();
             let list = (!self.arguments.stream).then(|| ("records", json::array(&records)));
-            let pairs: Vec<(&str, String)> = list.into_iter().chain(counts).collect();
+            let counts = [("matching", self.matching.to_string()), ("cards", self.cards.to_string())];
+            let pairs: Vec<(&str, String)> =
+                list.into_iter().chain(counts).chain([report::warnings(warnings)]).collect();
             self.output.line(json::object(&pairs))?;
-        } else {
-            for record in std::mem::take(&mut self.held) {
-                self.record(record)?;
-            }
-            self.output.line(format_args!("{} of {}", self.matching, self.cards))?;
+            return self.output.flush();
         }
+        held_back.iter().try_for_each(|record| self.record(*record))?;
+        self.output.flush()?;
+        self.arguments.warn(warnings);
+        self.output.line(format_args!("{} of {}", self.matching, self.cards))?;
         self.output.flush()
     }
 }

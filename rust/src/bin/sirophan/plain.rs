@@ -2,20 +2,18 @@
 
 use crate::advice;
 use crate::arguments::Arguments;
-use crate::input::{self, shown};
 use crate::json;
 use crate::report::{Failure, Output};
 
 /// Spells, and answers with the spelling on a line.
 pub fn run(arguments: &Arguments) -> Result<(), Failure> {
-    let path = &arguments.paths[0];
-    let filter = input::read_text(path)?;
-    let refused = |refusal| Failure::refused(advice::text_refused(&shown(path), &filter, &[], refusal));
+    let (name, filter) = arguments.text(0)?;
+    let refused = |refusal| Failure::refused(advice::text_refused(&name, &filter, &[], refusal));
     let plain = sirophan::plain(&filter).map_err(refused)?;
     let mut output = Output::new();
     if arguments.json {
         let pairs = [
-            ("filter", json::string(&String::from_utf8_lossy(&plain))),
+            ("filter", json::bytes(&plain)),
             ("length", plain.len().to_string()),
             ("changed", (plain != filter).to_string()),
         ];

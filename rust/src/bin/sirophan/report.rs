@@ -1,6 +1,8 @@
 //! What a command says beside its answer, and how it ends.
 
 use crate::json;
+use crate::stream::Stream;
+use crate::width;
 use sirophan::Refusal;
 use std::fmt::Display;
 use std::io::{self, ErrorKind, Write};
@@ -34,11 +36,25 @@ pub struct Message {
     pub help: Vec<String>,
     /// The refusal that it tells of, if it does.
     pub refusal: Option<Refusal>,
+    /// For programs: a word for what it tells, the field that it is about, and its figures by name.
+    pub code: Option<&'static str>,
+    pub field: Option<String>,
+    pub figures: Vec<(&'static str, u64)>,
 }
 
 impl Message {
     pub fn new(level: Level, text: impl Into<String>) -> Message {
-        Message { level, text: text.into(), shown: None, help: Vec::new(), refusal: None }
+        let text = text.into();
+        Message {
+            level,
+            text,
+            shown: None,
+            help: Vec::new(),
+            refusal: None,
+            code: None,
+            field: None,
+            figures: Vec::new(),
+        }
     }
 
     /// An error.
@@ -51,20 +67,45 @@ impl Message {
         Message { help: vec![help.into()], ..Message::new(Level::Warning, text) }
     }
 
-    /// The message as lines for people. An error needs no word before it.
-    pub fn lines(&self) -> String {
+    /// A note.
+    pub fn note(text: impl Into<String>) -> Message {
+        Message::new(Level::Note, text)
+    }
+
+    /// The message with a word for what it tells.
+    pub fn code(self, code: &'static str) -> Message {
+        Message { code: Some(code), ..self }
+    }
+
+    /// The same, with the field that it is about.
+    pub fn about(self, code: &'static str, field: &str) -> Message {
+        Message { code: Some(code), field: Some(field.into()), ..self }
+    }
+
+    /// The message with figures.
+    pub fn figures(self, figures: impl IntoIterator<Item = (&'static str, u64)>) -> Message {
+        Message { figures: figures.into_iter().collect(), ..self }
+    }
+
+    /// The message as lines for people, wrapped for so many columns where there are any. An error needs no word before it.
+    pub fn lines(&self, columns: Option<usize>) -> String {
+        let wrap = |line: String| columns.map_or(line.clone(), |columns| width::wrapped(&line, columns, 2));
         let text = match self.level {
             Level::Error => self.text.clone(),
             level => format!("{}: {}", level.word(), self.text),
         };
-        let help = self.help.iter().map(|line| format!("  {line}"));
-        let lines: Vec<String> = self.shown.iter().cloned().chain([text]).chain(help).collect();
+        let help = self.help.iter().map(|line| wrap(format!("  {line}")));
+        let lines: Vec<String> = self.shown.iter().cloned().chain([wrap(text)]).chain(help).collect();
         lines.join("\n")
     }
 
     /// The message as one line of JSON.
-    fn json(&self) -> String {
-        let mut pairs = vec![("level", json::string(self.level.word())), ("message", json::string(&self.text))];
+    pub fn json(&self) -> String {
+        let code = self.code.map(|code| ("code", json::string(code)));
+        let field = self.field.as_deref().map(|field| ("field", json::string(field)));
+        let mut pairs = vec![("level", json::string(self.level.word()))];
+        pairs.extend(code.into_iter().chain(field));
+        pairs.push(("message", json::string(&self.text)));
         if !self.help.is_empty() {
             let help: Vec<String> = self.help.iter().map(|line| json::string(line)).collect();
             pairs.push(("help", json::array(&help)));
@@ -72,12 +113,17 @@ impl Message {
         if let Some(Refusal { number, place }) = self.refusal {
             pairs.extend([("refused", number.to_string()), ("place", place.to_string())]);
         }
+        if !self.figures.is_empty() {
+            let figures: Vec<(&str, String)> =
+                self.figures.iter().map(|(name, number)| (*name, number.to_string())).collect();
+            pairs.push(("figures", json::object(&figures)));
+        }
         json::object(&pairs)
     }
 
     /// Says the message on standard error. What cannot be said there cannot be said anywhere.
     pub fn say(&self, as_json: bool) {
-        let line = if as_json { self.json() } else { self.lines() };
+        let line = if as_json { self.json() } else { self.lines(width::of_stream(width::ERRORS)) };
         let _ = writeln!(io::stderr(), "{line}");
     }
 }
@@ -90,7 +136,7 @@ pub enum Failure {
     /// What was given is refused, or has faults.
     Refused(Vec<Message>),
     /// A file cannot be read, or an output not be written.
-    Unusable(Message),
+    Unusable(Box<Message>),
     /// Whoever reads standard output has gone, and needs no message.
     Closed,
 }
@@ -105,7 +151,7 @@ impl Failure {
     pub fn file(name: &str, what: &str, reason: io::Error) -> Failure {
         let reason = reason.to_string();
         let words = reason.split(" (os error").next().unwrap_or_default();
-        Failure::Unusable(Message::error(format!("sirophan: {name} cannot be {what}: {words}")))
+        Failure::Unusable(Box::new(Message::error(format!("sirophan: {name} cannot be {what}: {words}"))))
     }
 
     /// The status with which the program ends.
@@ -128,14 +174,19 @@ impl Failure {
     }
 }
 
+/// Warnings as they stand in an answer in JSON.
+pub fn warnings(messages: &[Message]) -> (&'static str, String) {
+    ("warnings", json::array(&messages.iter().map(Message::json).collect::<Vec<String>>()))
+}
+
 /// Standard output. What is written to it comes with the last flush at the latest.
 pub struct Output {
-    to: io::BufWriter<io::Stdout>,
+    to: io::BufWriter<Stream>,
 }
 
 impl Output {
     pub fn new() -> Output {
-        Output { to: io::BufWriter::with_capacity(1 << 16, io::stdout()) }
+        Output { to: io::BufWriter::with_capacity(1 << 16, Stream::output()) }
     }
 
     /// Writes a line.

@@ -1,58 +1,159 @@
-//! What the cards have under each parameter of a sheet: how many, an example, and whether all values of a field look
-//! like those of another kind.
+//! What the cards have under each parameter of a sheet: how many, an example, what the values look like; and which record
+//! numbers there are.
 
 use crate::block::{self, SIZE};
 use crate::cards::{self, AtFault};
 use crate::input::Input;
-use crate::kind::{self, Reader};
-use crate::report::{Failure, Message};
+use crate::kind;
+use crate::looks::{self, Look, Spelling};
+use crate::report::Failure;
 use crate::sheet::Sheet;
 use crate::text;
+use std::ops::Range;
 
-/// A kind that values of another kind may look like. What a text can be read as says the library; that is too wide
-/// where four digits may be a year or a count, and where nearly every text can be read as a token.
-struct Likeness {
+/// What values may look like that are of another kind.
+pub struct Likeness {
     /// The kind that the values look like.
-    kind: &'static str,
-    /// The kinds that this is doubtful for. Codes and references of digits alone are common, and no doubt.
+    pub kind: &'static str,
+    /// One value that does, and several.
+    pub one: &'static str,
+    pub many: &'static str,
+    /// The kinds that this is doubtful for.
     doubtful: &'static [&'static str],
-    /// Whether a text that can be read as the kind also looks like it.
-    looks: fn(&[u8]) -> bool,
+    /// How a value is spelled that looks like it.
+    spelling: fn(&Look, &[u8], own: &str) -> Option<Spelling>,
 }
 
-/// Likenesses, the more telling first. A further one is another row.
-const LIKENESSES: [Likeness; 4] = [
-    Likeness { kind: "date", doubtful: &["string", "number", "token", "reference"], looks: is_likely_date },
-    Likeness { kind: "period", doubtful: &["string", "token", "reference"], looks: |_| true },
-    Likeness { kind: "number", doubtful: &["string"], looks: |_| true },
-    Likeness { kind: "token", doubtful: &["string", "reference"], looks: has_system },
+/// Likenesses, the more telling first. A further one is another row. Numbers under a token are only those that no code is
+/// spelled like: codes of digits alone are common.
+pub const LIKENESSES: [Likeness; 5] = [
+    Likeness {
+        kind: "date",
+        one: "a date",
+        many: "dates",
+        doubtful: &["string", "number", "token", "reference"],
+        spelling: |look, _, _| look.date,
+    },
+    Likeness {
+        kind: "period",
+        one: "a period",
+        many: "periods",
+        doubtful: &["string", "token", "reference"],
+        spelling: |look, _, _| look.period,
+    },
+    Likeness {
+        kind: "period",
+        one: "a date or a period",
+        many: "dates or periods",
+        doubtful: &["string", "token", "reference"],
+        spelling: |look, _, _| look.date.or(look.period),
+    },
+    Likeness {
+        kind: "number",
+        one: "a number",
+        many: "numbers",
+        doubtful: &["string", "token"],
+        spelling: |look, value, own| if own == "token" { look.certain_number(value) } else { look.number },
+    },
+    Likeness {
+        kind: "token",
+        one: "a token",
+        many: "tokens",
+        doubtful: &["string", "reference"],
+        spelling: |look, value, _| (look.address && value.contains(&b'|')).then_some(Spelling::Readable),
+    },
 ];
 
-/// Four digits alone are taken for a year from 1500 to 2099.
-fn is_likely_date(date: &[u8]) -> bool {
-    date.len() > 4 || (&b"1500"[..]..&b"2100"[..]).contains(&date)
+/// How many of the values that do not look like a kind are shown.
+const OTHERS: usize = 2;
+/// Digits alone may be labels, as those of wards and telephones are: numbers are doubted where one in so many is none. Numbers
+/// of one or two digits are those of wards and the like where there are at most so many of them.
+const LABELS_TO_NUMBER: u64 = 4;
+const MOST_WARDS: u32 = 20;
+/// Bare years count as dates where so many times as many values are years as are other digits alone: else they are codes.
+const YEARS_TO_DIGITS: u64 = 9;
+
+/// Where a list has to come quickly and a field has more values than so many, only those of one in so many cards are looked at.
+const ENOUGH: u64 = 2048;
+const ONE_IN: u64 = 32;
+
+/// A value with the index of its card.
+pub type Found = (u64, Vec<u8>);
+
+/// The values that look like one kind.
+#[derive(Clone, Debug, Default)]
+pub struct Alike {
+    pub count: u64,
+    /// How many of them cannot be read as the kind, and the first of those.
+    pub unreadable: u64,
+    pub first_unreadable: Option<Found>,
+    /// The first values that look like something else.
+    others: Firsts,
 }
 
-/// A system is an address before a bar.
-fn has_system(token: &[u8]) -> bool {
-    token
-        .split(|&byte| byte == b'|')
-        .next()
-        .is_some_and(|system| system.len() < token.len() && system.windows(3).any(|window| window == b"://"))
+/// The first values of some sort, each once.
+#[derive(Clone, Debug, Default)]
+struct Firsts(Vec<Found>);
+
+impl Firsts {
+    /// Keeps a value, if it is one of the first.
+    fn take(&mut self, index: u64, value: &[u8]) {
+        if self.0.len() < OTHERS && self.0.iter().all(|(_, other)| other != value) {
+            self.0.push((index, value.to_vec()));
+        }
+    }
+
+    /// The first of these and of others.
+    fn with(&self, other: &Firsts) -> Firsts {
+        let mut found = [&self.0[..], &other.0].concat();
+        found.sort();
+        let mut firsts = Firsts::default();
+        found.iter().for_each(|(index, value)| firsts.take(*index, value));
+        firsts
+    }
 }
 
-/// What the cards have under one parameter.
+impl Alike {
+    fn add(&mut self, other: Alike) {
+        self.count += other.count;
+        self.unreadable += other.unreadable;
+        self.first_unreadable = first(self.first_unreadable.take(), other.first_unreadable, |found| found.0);
+        self.others = self.others.with(&other.others);
+    }
+
+    /// Counts a value that looks like the kind.
+    fn take(&mut self, spelling: Spelling, index: u64, value: &[u8]) {
+        self.count += 1;
+        if spelling == Spelling::Other {
+            self.unreadable += 1;
+            self.first_unreadable.get_or_insert_with(|| (index, value.to_vec()));
+        }
+    }
+}
+
+/// What the cards have under one parameter, as far as its values are looked at.
 #[derive(Clone, Debug, Default)]
 pub struct Field {
+    /// Whether only some of the values are.
+    pub is_sample: bool,
     pub cards: u64,
     pub values: u64,
-    /// The first value, with the index of its card.
-    pub example: Option<(u64, Vec<u8>)>,
-    /// How many values look like those of another kind, as long as all do.
-    alike: [u64; LIKENESSES.len()],
-    /// How many values seem to be in another encoding, and the first card that has one: index, record and why.
-    strange: u64,
-    first_strange: Option<(u64, u32, &'static str)>,
+    /// The first value.
+    pub example: Option<Found>,
+    pub alike: [Alike; LIKENESSES.len()],
+    /// The first values that look like nothing.
+    plain: Firsts,
+    /// How many values are digits alone: likely years, and others.
+    years: u64,
+    digits: u64,
+    /// How many of them are labels; how many have one or two digits, and which; and how many values say nothing.
+    labels: u64,
+    small: u64,
+    small_numbers: u128,
+    pub blank: u64,
+    /// How many values seem to be in another encoding, of all of them, and the first card that has one: index, record and why.
+    pub strange: u64,
+    pub first_strange: Option<(u64, u32, &'static str)>,
 }
 
 impl Field {
@@ -60,50 +161,45 @@ impl Field {
     fn add(&mut self, other: Field) {
         self.cards += other.cards;
         self.values += other.values;
+        self.years += other.years;
+        self.digits += other.digits;
+        self.labels += other.labels;
+        self.small += other.small;
+        self.small_numbers |= other.small_numbers;
+        self.blank += other.blank;
         self.strange += other.strange;
         self.example = first(self.example.take(), other.example, |example| example.0);
         self.first_strange = first(self.first_strange.take(), other.first_strange, |strange| strange.0);
-        for (count, more) in self.alike.iter_mut().zip(other.alike) {
-            *count += more;
-        }
+        self.plain = self.plain.with(&other.plain);
+        self.alike.iter_mut().zip(other.alike).for_each(|(alike, more)| alike.add(more));
     }
 
-    /// The kind that all values look like, if it is another one's.
-    pub fn looks_like(&self) -> Option<&'static kind::Kind> {
-        let all = |count: u64| count > 0 && count == self.values;
-        let likeness = LIKENESSES.iter().zip(self.alike).find(|(_, count)| all(*count))?.0;
-        kind::by_word(likeness.kind)
+    /// The first values that do not look like a kind.
+    pub fn others(&self, alike: &Alike) -> Vec<Found> {
+        self.plain.with(&alike.others).0
     }
 
-    /// The doubts about a field of a sheet, each as a warning.
-    pub fn doubts(&self, sheet: &Sheet, place: usize) -> Vec<Message> {
-        let path = sheet.path(place, 0);
-        let kind = self.looks_like().zip(kind::by_number(sheet.parameters[place].kind));
-        let kind = kind.map(|(like, own)| self.kind_doubt(&path, like, own));
-        let encoding = self.first_strange.map(|(_, record, why)| self.encoding_doubt(&path, record, why));
-        kind.into_iter().chain(encoding).collect()
+    /// Whether bare digits under it are codes: they are not all likely years.
+    pub fn has_codes(&self) -> bool {
+        self.digits > 0
     }
 
-    /// All values look like those of another kind.
-    fn kind_doubt(&self, path: &str, like: &kind::Kind, own: &kind::Kind) -> Message {
-        let (all, values) = (text::grouped(self.values), text::counted(self.values, "value"));
-        let look =
-            if self.values == 1 { format!("looks like {}", like.one) } else { format!("look like {}", like.many) };
-        let help = format!(
-            "If it holds {}, the sheet gives it the wrong kind, and a filter asks something else than it seems to.",
-            like.many
-        );
-        Message::warning(format!("{path} is {}, and {all} of {values} {look}.", own.one), help)
+    /// How many values are digits alone that may be labels.
+    fn labels(&self) -> u64 {
+        let are_wards = self.small_numbers.count_ones() <= MOST_WARDS;
+        self.labels + if are_wards { self.small } else { 0 }
     }
 
-    /// Some values seem to be in another encoding.
-    fn encoding_doubt(&self, path: &str, record: u32, why: &str) -> Message {
-        let (some, values) = (text::grouped(self.strange), text::counted(self.values, "value"));
-        let seem = if self.strange == 1 { "seems" } else { "seem" };
-        Message::warning(
-            format!("{path}: {some} of {values} {seem} to be in another encoding, first on record {record}: {why}."),
-            "Letters beyond ASCII have other bytes there, and a filter in UTF-8 does not find them.",
-        )
+    /// What more than half of the values look like, if it is another kind's.
+    pub fn looks_like(&self) -> Option<(&'static Likeness, &Alike)> {
+        let are_codes = self.years < YEARS_TO_DIGITS * self.digits;
+        let likely = |likeness: &Likeness, alike: &Alike| {
+            let codes = if are_codes && ["date", "period"].contains(&likeness.kind) { self.years } else { 0 };
+            let numbers = alike.count.saturating_sub(self.labels());
+            let are_labels = likeness.kind == "number" && alike.count > LABELS_TO_NUMBER * numbers;
+            2 * alike.count.saturating_sub(codes) > self.values - self.blank && !are_labels
+        };
+        LIKENESSES.iter().zip(&self.alike).find(|(likeness, alike)| likely(likeness, alike))
     }
 }
 
@@ -112,32 +208,80 @@ fn first<T>(one: Option<T>, other: Option<T>, index: impl Fn(&T) -> u64) -> Opti
     one.into_iter().chain(other).min_by_key(index)
 }
 
-/// The fields of a sheet, by their places.
+/// What all cards hold.
+pub struct Held {
+    pub cards: u64,
+    /// The fields of the sheet, by their places.
+    pub fields: Vec<Field>,
+    /// The record numbers that several cards bear, in order, each with how many.
+    pub repeated: Vec<(u32, u64)>,
+    /// For each value that is watched for whether a card has it.
+    pub seen: Vec<bool>,
+}
+
+/// What one processor has counted.
 #[derive(Default)]
-struct Tally {
+pub struct Tally {
+    /// The fields by the values that come first, and by those of the cards that are drawn.
     fields: Vec<Field>,
+    drawn: Vec<Field>,
+    /// Whether enough values are looked at for each parameter that is counted.
+    is_enough: bool,
+    seen: Vec<bool>,
+    records: Vec<u32>,
+    /// The runs of cards whose record numbers rise, and whether there is a piece in which they do not.
+    risen: Vec<Risen>,
+    falls: bool,
+}
+
+/// A run of cards whose record numbers rise: their indexes, and the first and the last number.
+struct Risen {
+    cards: Range<u64>,
+    first: u32,
+    last: u32,
+}
+
+/// What is counted of a parameter.
+#[derive(Clone, Default)]
+struct Asked {
+    asked: bool,
+    /// The word of its kind, and which likenesses are doubtful for it.
+    word: &'static str,
+    doubtful: Vec<usize>,
+    /// The watched values of it, by their numbers.
+    watched: Vec<usize>,
 }
 
 /// Counts what cards have under some parameters.
 pub struct Counter<'a> {
     sheet: &'a Sheet,
-    asked: Vec<bool>,
-    /// For each likeness a reader of its kind, and the numbers of the kinds that it is doubtful for.
-    readers: Vec<(Reader, Vec<u8>)>,
+    asked: Vec<Asked>,
+    watched: Vec<Vec<u8>>,
+    /// Whether of many values only some are looked at.
+    is_quick: bool,
 }
 
 impl<'a> Counter<'a> {
-    /// A counter for the parameters at these places.
-    pub fn new(sheet: &'a Sheet, places: impl IntoIterator<Item = usize>) -> Counter<'a> {
-        let mut asked = vec![false; sheet.parameters.len()];
+    /// A counter for the parameters at these places, which watches for values of theirs.
+    pub fn new(sheet: &'a Sheet, places: impl IntoIterator<Item = usize>, watched: &[(usize, Vec<u8>)]) -> Counter<'a> {
+        let mut asked = vec![Asked::default(); sheet.parameters.len()];
         for place in places {
-            asked[place] = true;
+            let word = kind::by_number(sheet.parameters[place].kind).map_or("", |kind| kind.word);
+            let doubtful = (0..LIKENESSES.len()).filter(|&row| LIKENESSES[row].doubtful.contains(&word)).collect();
+            let watched = (0..watched.len()).filter(|&number| watched[number].0 == place).collect();
+            asked[place] = Asked { asked: true, word, doubtful, watched };
         }
-        let number = |word: &&str| kind::by_word(word).expect("a kind's word").number;
-        let readers = LIKENESSES
-            .iter()
-            .map(|likeness| (Reader::new(number(&likeness.kind)), likeness.doubtful.iter().map(number).collect()));
-        Counter { sheet, asked, readers: readers.collect() }
+        Counter { sheet, asked, watched: watched.iter().map(|(_, value)| value.clone()).collect(), is_quick: false }
+    }
+
+    /// The same counter, for where a list has to come quickly.
+    pub fn quick(self) -> Counter<'a> {
+        Counter { is_quick: true, ..self }
+    }
+
+    /// A counter for all parameters.
+    pub fn of_all(sheet: &'a Sheet) -> Counter<'a> {
+        Counter::new(sheet, 0..sheet.parameters.len(), &[])
     }
 
     /// Goes through cards that all have to fit, and counts them. `ask` asks the library of a piece, given the index of its
@@ -147,7 +291,7 @@ impl<'a> Counter<'a> {
         cards: Input,
         ask: impl Fn(u64, &[u8]) -> (R, Option<AtFault>) + Sync,
         mut take: impl FnMut(R, u64) -> Result<(), Failure> + Send,
-    ) -> Result<Vec<Field>, Failure> {
+    ) -> Result<Held, Failure> {
         let name = cards.name.clone();
         let tallies = cards::pass(
             cards,
@@ -166,87 +310,167 @@ impl<'a> Counter<'a> {
         Ok(self.sum(tallies))
     }
 
-    /// Counts the cards of a piece, which fit the sheet.
-    fn count(&self, tally: &mut Tally, first: u64, piece: &[u8]) {
+    /// Counts the cards of a piece.
+    pub fn count(&self, tally: &mut Tally, first: u64, piece: &[u8]) {
         tally.fields.resize_with(self.asked.len(), Field::default);
+        tally.drawn.resize_with(self.asked.len(), Field::default);
+        tally.seen.resize(self.watched.len(), false);
+        let start = tally.records.len();
+        tally.records.extend(piece.chunks_exact(SIZE).map(block::record));
+        tally.note_order(first, start);
         for (card, index) in piece.chunks_exact(SIZE).zip(first..) {
-            let mut seen = 0_u32;
-            for item in block::items(card) {
-                let place = usize::from(item.byte);
-                if !self.asked[place] {
-                    continue;
-                }
-                let field = &mut tally.fields[place];
-                field.cards += u64::from(seen & 1 << place == 0);
-                seen |= 1 << place;
-                self.count_value(field, self.sheet.parameters[place].kind, item.text);
-                field.values += 1;
-                field.example.get_or_insert_with(|| (index, item.text.to_vec()));
-                if let Some(why) = Some(item.text).filter(|text| !text.is_ascii()).and_then(text::other_encoding) {
-                    field.strange += 1;
-                    field.first_strange.get_or_insert((index, block::record(card), why));
-                }
+            let is_drawn = self.is_quick && is_drawn(index);
+            // Letters beyond ASCII may be in another encoding.
+            if is_drawn || !tally.is_enough || !self.watched.is_empty() || !is_ascii(card) {
+                self.count_card(tally, index, card, is_drawn);
             }
         }
     }
 
-    /// Counts what a value looks like. Once a value does not look like a kind, no further one is tried.
-    fn count_value(&self, field: &mut Field, kind: u8, value: &[u8]) {
-        for ((count, likeness), (reader, doubtful)) in field.alike.iter_mut().zip(&LIKENESSES).zip(&self.readers) {
-            let so_far = *count == field.values && doubtful.contains(&kind);
-            if so_far && (likeness.looks)(value) && reader.reads(value) {
-                *count += 1;
+    /// Counts a card. An entry of a card that does not fit may be of no parameter, and is passed over.
+    fn count_card(&self, tally: &mut Tally, index: u64, card: &[u8], is_drawn: bool) {
+        let mut seen = 0_u32;
+        for item in block::items(card) {
+            let place = usize::from(item.byte);
+            let Some(asked) = self.asked.get(place).filter(|asked| asked.asked) else { continue };
+            let is_new = seen & 1 << place == 0;
+            seen |= 1 << place;
+            let field = &mut tally.fields[place];
+            if !self.is_quick || field.values <= ENOUGH {
+                count_value(field, asked, index, item.text, is_new);
             }
+            if is_drawn {
+                count_value(&mut tally.drawn[place], asked, index, item.text, is_new);
+            }
+            if let Some(why) = Some(item.text).filter(|text| !text.is_ascii()).and_then(text::other_encoding) {
+                field.strange += 1;
+                field.first_strange.get_or_insert((index, block::record(card), why));
+            }
+            for &number in &asked.watched {
+                tally.seen[number] |= is_value(asked.word, item.text, &self.watched[number]);
+            }
+        }
+        let is_enough = |(field, asked): (&Field, &Asked)| field.values > ENOUGH || !asked.asked;
+        if self.is_quick && !tally.is_enough {
+            tally.is_enough = tally.fields.iter().zip(&self.asked).all(is_enough);
         }
     }
 
-    /// What all processors have counted, by the places of the fields.
-    fn sum(&self, tallies: Vec<Tally>) -> Vec<Field> {
+    /// What all processors have counted.
+    pub fn sum(&self, tallies: Vec<Tally>) -> Held {
         let mut fields = vec![Field::default(); self.asked.len()];
+        let mut drawn = fields.clone();
+        let mut seen = vec![false; self.watched.len()];
+        let (mut records, mut risen, mut falls) = (Vec::new(), Vec::new(), false);
         for tally in tallies {
+            records.push(tally.records);
+            risen.extend(tally.risen);
+            falls |= tally.falls;
             fields.iter_mut().zip(tally.fields).for_each(|(field, more)| field.add(more));
+            drawn.iter_mut().zip(tally.drawn).for_each(|(field, more)| field.add(more));
+            seen.iter_mut().zip(tally.seen).for_each(|(seen, more)| *seen |= more);
         }
-        fields
+        let fields = fields.into_iter().zip(drawn).map(|(field, drawn)| self.sampled(field, drawn)).collect();
+        let cards = records.iter().map(|records| records.len() as u64).sum();
+        let repeated = if rises(risen, falls) { Vec::new() } else { repeated(records.concat()) };
+        Held { cards, fields, repeated, seen }
+    }
+
+    /// A field by all its values, or by those of the cards that are drawn: which were looked at before there were enough differs
+    /// from run to run.
+    fn sampled(&self, field: Field, drawn: Field) -> Field {
+        if !self.is_quick || field.values <= ENOUGH {
+            return field;
+        }
+        Field { is_sample: true, strange: field.strange, first_strange: field.first_strange, ..drawn }
     }
 }
 
-#[cfg(test)]
-mod tests {
-    use super::*;
-    use crate::block::Item;
-    use crate::sheet::Parameter;
-
-    /// What a field of a kind looks like that has these values.
-    fn look(word: &str, values: &[&str]) -> Option<&'static str> {
-        let kind = kind::by_word(word).unwrap().number;
-        let sheet = Sheet::write(vec![Parameter { kind, bundle: 0, name: b"x".to_vec() }]).unwrap();
-        let counter = Counter::new(&sheet, [0]);
-        let items: Vec<Item> = values.iter().map(|value| Item { byte: 0, mark: 0, text: value.as_bytes() }).collect();
-        let mut tallies = vec![Tally::default(), Tally::default()];
-        counter.count(&mut tallies[0], 0, &block::write_card(1, &items).unwrap());
-        let fields = counter.sum(tallies);
-        fields[0].looks_like().map(|kind| kind.word)
+impl Tally {
+    /// Notes whether the record numbers of a piece, which are kept from a place on, rise.
+    fn note_order(&mut self, first: u64, start: usize) {
+        let records = &self.records[start..];
+        self.falls |= !records.is_sorted_by(|one, next| one < next);
+        let (false, [low, ..], [.., high]) = (self.falls, records, records) else { return };
+        let cards = first..first + records.len() as u64;
+        match self.risen.last_mut() {
+            Some(before) if before.cards.end == first && before.last < *low => {
+                before.cards.end = cards.end;
+                before.last = *high;
+            }
+            _ => self.risen.push(Risen { cards, first: *low, last: *high }),
+        }
     }
+}
 
-    /// Values that look like another kind's, and values that do not.
-    #[test]
-    fn likenesses() {
-        assert_eq!(look("token", &["1974-06", "1980"]), Some("date"));
-        assert_eq!(look("string", &["1974"]), Some("date"));
-        assert_eq!(look("number", &["1974", "1980"]), Some("date"));
-        assert_eq!(look("string", &["1974-06/1975", "1974/", "/1980"]), Some("period"));
-        assert_eq!(look("token", &["1974/"]), Some("period"));
-        assert_eq!(look("reference", &["1974/", "Patient/17"]), None);
-        assert_eq!(look("period", &["1974/"]), None);
-        assert_eq!(look("string", &["12.0", "250"]), Some("number"));
-        assert_eq!(look("string", &["http://loinc.org|1234-5"]), Some("token"));
-        assert_eq!(look("token", &["1974", "unknown"]), None);
-        assert_eq!(look("token", &["32485007"]), None);
-        assert_eq!(look("reference", &["17"]), None);
-        assert_eq!(look("token", &["1200", "1201"]), None);
-        assert_eq!(look("date", &["1974"]), None);
-        assert_eq!(look("number", &["250", "1974"]), None);
-        assert_eq!(look("string", &["Ward book 4"]), None);
-        assert_eq!(look("string", &[]), None);
+/// Whether record numbers rise over all cards: then none is borne twice. In most archives they do.
+fn rises(mut risen: Vec<Risen>, falls: bool) -> bool {
+    risen.sort_by_key(|risen| risen.cards.start);
+    !falls && risen.windows(2).all(|pair| pair[0].last < pair[1].first)
+}
+
+/// The numbers that stand several times among these, in order, each with how many times.
+fn repeated(mut records: Vec<u32>) -> Vec<(u32, u64)> {
+    // This sort is quick where there are few runs that rise.
+    records.sort();
+    let runs = records.chunk_by(|one, other| one == other).filter(|run| run.len() > 1);
+    runs.map(|run| (run[0], run.len() as u64)).collect()
+}
+
+/// Whether all bytes of a card between its head and its check sum are ASCII: so are its texts then. Most of them are taken
+/// together, sixteen at a time, and those at the ends eight at a time.
+fn is_ascii(card: &[u8]) -> bool {
+    const HIGH_BITS: u64 = 0x8080_8080_8080_8080;
+    let eight = |at: usize| u64::from_ne_bytes(card[at..at + 8].try_into().expect("eight bytes"));
+    let (first, last) = (block::CARD_HEAD, block::SUMMED - 8);
+    let ends = eight(first) | eight(first + 2) | eight(last - 4) | eight(last);
+    card[first + 10..last - 4].iter().fold(0, |sum, byte| sum | byte) < 0x80 && ends & HIGH_BITS == 0
+}
+
+/// Whether a card is drawn: as good as by lot, and the same in every run.
+fn is_drawn(index: u64) -> bool {
+    index.wrapping_mul(0x9E37_79B9_7F4A_7C15) < u64::MAX / ONE_IN
+}
+
+/// Counts a value, and what it looks like; its card too, where it is the card's first.
+fn count_value(field: &mut Field, asked: &Asked, index: u64, value: &[u8], is_new: bool) {
+    field.cards += u64::from(is_new);
+    field.values += 1;
+    field.example.get_or_insert_with(|| (index, value.to_vec()));
+    if asked.doubtful.is_empty() {
+        return;
     }
+    if value.first().is_none_or(u8::is_ascii_whitespace) && value.trim_ascii().is_empty() {
+        field.blank += 1;
+        return;
+    }
+    // Of what can be read as a number only digits alone can be a date.
+    let look = if asked.word == "number" && value.contains(&b'.') { Look::NONE } else { looks::look(value) };
+    let look = Look { address: look.address && asked.word != "token", ..look };
+    if look == Look::NONE {
+        field.plain.take(index, value);
+        return;
+    }
+    field.years += u64::from(look.year);
+    field.digits += u64::from(look.digits);
+    field.labels += u64::from(look.label);
+    if let (true, [tens @ .., ones]) = (look.digits && !look.label && value.len() <= 2, value) {
+        field.small += 1;
+        field.small_numbers |= 1 << (tens.first().map_or(0, |tens| 10 * (tens - b'0')) + (ones - b'0'));
+    }
+    for &row in &asked.doubtful {
+        match (LIKENESSES[row].spelling)(&look, value, asked.word) {
+            Some(spelling) => field.alike[row].take(spelling, index, value),
+            None => field.alike[row].others.take(index, value),
+        }
+    }
+}
+
+/// Whether a card has a certain text: a string somewhere in it, a token with or without its system, and a reference as it is.
+fn is_value(kind: &str, value: &[u8], text: &[u8]) -> bool {
+    let Some(start) = value.len().checked_sub(text.len()) else { return false };
+    if kind == "string" {
+        return text.is_empty() || value.windows(text.len()).any(|part| part.eq_ignore_ascii_case(text));
+    }
+    value[start..].eq_ignore_ascii_case(text) && (start == 0 || value[start - 1] == b'|')
 }

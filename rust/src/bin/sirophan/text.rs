@@ -8,6 +8,12 @@ pub fn printable(text: &[u8]) -> String {
     String::from_utf8_lossy(text).chars().map(mark).collect()
 }
 
+/// A text between double quotes, as a description would have it there.
+pub fn quoted(text: &[u8]) -> String {
+    let spelled = spell(text);
+    if spelled.starts_with('"') { spelled } else { format!("\"{spelled}\"") }
+}
+
 /// Why a text seems to be in an encoding other than UTF-8, if it does.
 pub fn other_encoding(text: &[u8]) -> Option<&'static str> {
     let Ok(plain) = str::from_utf8(text) else {

@@ -5,20 +5,23 @@ use crate::arguments::Arguments;
 use crate::block::{self, SIZE};
 use crate::cards::{self, AtFault, Fit, RUN};
 use crate::description::{Cards, Description, Faults};
-use crate::input::Input;
-use crate::pack::{self, path_in};
-use crate::report::{Failure, Message, Output};
+use crate::field_doubt;
+use crate::input::{self, Input};
+use crate::json;
+use crate::pack::{self, FILTER, path_in};
+use crate::report::{self, Failure, Message, Output};
 use crate::sheet::Sheet;
-use crate::text::counted;
-use crate::{input, json};
+use crate::tally::{Counter, Held, Tally};
+use crate::text::{counted, grouped};
 use std::path::Path;
 
 /// What a folder was found to hold.
 struct Found {
     what: &'static str,
-    cards: u64,
     parameters: u64,
-    tests: u64,
+    /// How many tests its filter has, if it has one.
+    tests: Option<u64>,
+    held: Held,
 }
 
 /// Verifies the blocks, the description, or both, whichever are there.
@@ -28,64 +31,90 @@ pub fn run(arguments: &Arguments) -> Result<(), Failure> {
     let mut found = Vec::new();
     let described = if there("sheet.txt") && there("cards.txt") {
         let (told, sheet) = description(arguments, folder)?;
-        found.push(told);
+        found.push((told, "cards.txt", sheet.clone()));
         Some(sheet)
     } else {
         None
     };
     if found.is_empty() || there("sheet.bin") || there("cards.bin") {
         let (told, packed) = blocks(folder)?;
-        found.push(told);
+        found.push((told, "cards.bin", packed.clone()));
         described.map_or(Ok(()), |described| compare(folder, &described, &packed))?;
     }
+    // Both hold the same, and so one of them is doubted.
+    let warnings = found.last().map_or_else(Vec::new, |(found, cards, sheet)| {
+        let mut warnings = field_doubt::of_cards(&path_in(folder, cards), &found.held, |_| true);
+        warnings.extend(field_doubt::of_fields(sheet, &found.held, 0..found.held.fields.len()));
+        warnings
+    });
+    show(arguments, found.into_iter().map(|(found, ..)| found).collect(), &warnings)
+}
+
+/// Writes what was found; in JSON the warnings stand in the last line.
+fn show(arguments: &Arguments, found: Vec<Found>, warnings: &[Message]) -> Result<(), Failure> {
     let mut output = Output::new();
-    for Found { what, cards, parameters, tests } in found {
+    let last = found.len().saturating_sub(1);
+    for (number, Found { what, parameters, tests, held }) in found.into_iter().enumerate() {
         if arguments.json {
-            let pairs = [("cards", cards), ("parameters", parameters), ("tests", tests)];
-            let pairs: Vec<(&str, String)> = pairs.into_iter().map(|(name, count)| (name, count.to_string())).collect();
-            output.line(json::object(&[&[("verified", json::string(what))], &pairs[..]].concat()))?;
+            output.line(json::object(&[
+                ("verified", json::string(what)),
+                ("cards", held.cards.to_string()),
+                ("parameters", parameters.to_string()),
+                ("tests", tests.map_or("null".into(), |tests| tests.to_string())),
+                report::warnings(if number == last { warnings } else { &[] }),
+            ]))?;
         } else {
-            let [cards, tests] = [counted(cards, "card"), counted(tests, "test")];
-            let parameters = counted(parameters, "parameter");
-            output.line(format_args!(
-                "the {what}: {cards}, a sheet with {parameters}, a filter with {tests}: all go together"
-            ))?;
+            let (cards, parameters) = (counted(held.cards, "card"), counted(parameters, "parameter"));
+            let filter = tests.map_or(String::new(), |tests| format!(", a filter with {}", counted(tests, "test")));
+            output.line(format_args!("the {what}: {cards}, a sheet with {parameters}{filter}: all go together"))?;
         }
     }
-    output.flush()
+    output.flush()?;
+    arguments.warn(warnings);
+    Ok(())
 }
 
 /// Reads a description as for packing, and writes nothing; answers its sheet too.
 fn description(arguments: &Arguments, folder: &str) -> Result<(Found, Sheet), Failure> {
-    let name = path_in(folder, "filter.txt");
+    let name = path_in(folder, FILTER);
     let filter = pack::read_filter(&name)?;
-    arguments.say(filter.notes.clone());
+    arguments.say(filter.iter().flat_map(|filter| &filter.notes));
     let sheet = pack::read_sheet(arguments, folder)?;
     let mut cards = Cards::new(Description::open(&path_in(folder, "cards.txt"))?, &sheet);
-    while cards.next()?.is_some() {}
-    arguments.say(cards.description.notes());
-    let (count, parameters) = (cards.count, sheet.parameters.len() as u64);
+    let counter = Counter::of_all(&sheet);
+    let mut tally = Tally::default();
+    while let Some(card) = cards.next()? {
+        counter.count(&mut tally, cards.count - 1, &card);
+    }
+    arguments.say(&cards.description.notes());
     cards.description.faults.none()?;
-    let sheet_name = path_in(folder, "sheet.txt");
-    let text = filter.text().to_vec();
-    let question = Question { sheet_name, text_name: name, sheet, words: Words::Filter, text };
-    let tests = question.check()? as u64;
-    Ok((Found { what: "description", cards: count, parameters, tests }, question.sheet))
+    let held = counter.sum(vec![tally]);
+    let tests = check_filter(&sheet, path_in(folder, "sheet.txt"), name, filter.map(|filter| filter.text().to_vec()))?;
+    Ok((Found { what: "description", parameters: sheet.parameters.len() as u64, tests, held }, sheet))
+}
+
+/// The number of a filter's tests, where there is a filter, and it has a meaning.
+fn check_filter(
+    sheet: &Sheet,
+    sheet_name: String,
+    text_name: String,
+    text: Option<Vec<u8>>,
+) -> Result<Option<u64>, Failure> {
+    let Some(text) = text else { return Ok(None) };
+    let question = Question { sheet_name, text_name, sheet: sheet.clone(), words: Words::Filter, text };
+    Ok(Some(question.check()? as u64))
 }
 
 /// Asks the library of each block; answers the sheet too.
 fn blocks(folder: &str) -> Result<(Found, Sheet), Failure> {
-    let [sheet_name, text_name, cards_name] =
-        ["sheet.bin", "filter.txt", "cards.bin"].map(|name| path_in(folder, name));
+    let [sheet_name, text_name, cards_name] = ["sheet.bin", FILTER, "cards.bin"].map(|name| path_in(folder, name));
     let sheet = Sheet::read(input::read(&sheet_name)?);
-    let text = input::read_text(&text_name)?;
+    let text = if Path::new(&text_name).exists() { Some(input::read_text(&text_name)?) } else { None };
     let cards = Input::open(&cards_name)?;
     advice::require_sound(&sheet_name, &sheet)?;
-    let question = Question { sheet_name, text_name, sheet, words: Words::Filter, text };
-    let count = verify_cards(&question.sheet, &cards_name, cards)?;
-    let tests = question.check()? as u64;
-    let parameters = question.sheet.parameters.len() as u64;
-    Ok((Found { what: "blocks", cards: count, parameters, tests }, question.sheet))
+    let held = verify_cards(&sheet, &cards_name, cards)?;
+    let tests = check_filter(&sheet, sheet_name, text_name, text)?;
+    Ok((Found { what: "blocks", parameters: sheet.parameters.len() as u64, tests, held }, sheet))
 }
 
 /// Nothing, where sound blocks hold what a sound description says, whichever form they have.
@@ -116,18 +145,25 @@ fn compare(folder: &str, described: &Sheet, packed: &Sheet) -> Result<(), Failur
     }
     match blocks.fill(&mut packed)? {
         0 => Ok(()),
-        _ => differs(format!("{cards_name} has more cards than the {} that {cards_text} describes.", cards.count)),
+        _ => {
+            let count = grouped(cards.count);
+            differs(format!("{cards_name} has more cards than the {count} that {cards_text} describes."))
+        }
     }
 }
 
-/// How many cards there are, where all of them fit; else what is wrong with those that do not.
-fn verify_cards(sheet: &Sheet, name: &str, cards: Input) -> Result<u64, Failure> {
+/// What the cards hold, where all of them fit; else what is wrong with those that do not.
+fn verify_cards(sheet: &Sheet, name: &str, cards: Input) -> Result<Held, Failure> {
     let fit = Fit::new(sheet);
+    let counter = Counter::of_all(sheet);
     let mut faults = Faults::default();
     let mut count = 0;
-    cards::pass(
+    let tallies = cards::pass(
         cards,
-        |_: &mut (), first, piece| (faults_of_piece(&fit, first, piece), piece.len() / SIZE),
+        |tally: &mut Tally, first, piece| {
+            counter.count(tally, first, piece);
+            (faults_of_piece(&fit, first, piece), piece.len() / SIZE)
+        },
         |(found, cards)| {
             found.into_iter().for_each(|fault| faults.add(count, format!("{name}: {fault}")));
             count += cards as u64;
@@ -135,7 +171,7 @@ fn verify_cards(sheet: &Sheet, name: &str, cards: Input) -> Result<u64, Failure>
         },
     )?;
     faults.none()?;
-    Ok(count)
+    Ok(counter.sum(tallies))
 }
 
 /// What is wrong with the cards of a piece. Behind a card that does not fit the others are tried again.
