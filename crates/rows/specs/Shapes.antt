@@ -86,22 +86,21 @@ shapeBy fits (some e) = cond (fits e) (FoundShape.Shape (shapeOf e)) FoundShape.
 pub record Misfit (fits : Expression → Bool) (o : Option Expression) : Type 0 where
   pub each : (e : Expression) → o ≡ some e → fits e ≡ false
 
-module _ (kinds parents xs : List ℕ) where
-  -- an expression that fits, with its shape, is in hand before the next row; what all rows state follows from it and the rows from there on
-  pub record InHand (c k : ℕ) (cs : List ℕ) (next : ℕ) (s : Shape) : Type 0 where
-    pub expression : Expression
-    pub rest : statedIn (suc k) cs ≡ onFrom (λ l. statedIn k l) 0 expression (drop next cs)
-    pub fits : fitsIn kinds parents xs c expression ≡ true
-    pub is : s ≡ shapeOf expression
-    pub within : next ≤ length cs
-    pub few-tests : s .tests ≤ next
-    pub few-levels : s .chain ≤ next
+-- an expression that fits, with its shape, is in hand before the next row; what all rows state follows from it and the rows from there on
+pub record InHand (kinds parents xs : List ℕ) (c k : ℕ) (cs : List ℕ) (next : ℕ) (s : Shape) : Type 0 where
+  pub expression : Expression
+  pub rest : statedIn (suc k) cs ≡ onFrom (λ l. statedIn k l) 0 expression (drop next cs)
+  pub fits : fitsIn kinds parents xs c expression ≡ true
+  pub is : s ≡ shapeOf expression
+  pub within : next ≤ length cs
+  pub few-tests : s .tests ≤ next
+  pub few-levels : s .chain ≤ next
 
-  -- the first test was read, with the brackets before it
-  pub data Began (c k : ℕ) (cs : List ℕ) : Begun → Type 0 where
-    began-at : {s : Shape} {next : ℕ} → InHand c k cs next s → Began c k cs (Begun.At s next)
-    began-nothing : Misfit (fitsIn kinds parents xs c) (statedIn (suc k) cs) → Began c k cs Begun.Nothing
+-- the first test was read, with the brackets before it
+pub data Began (kinds parents xs : List ℕ) (c k : ℕ) (cs : List ℕ) : Begun → Type 0 where
+  began-at : {s : Shape} {next : ℕ} → InHand kinds parents xs c k cs next s → Began kinds parents xs c k cs (Begun.At s next)
+  began-nothing : Misfit (fitsIn kinds parents xs c) (statedIn (suc k) cs) → Began kinds parents xs c k cs Begun.Nothing
 
-  -- of rows that begin with brackets with n rows in them, at the top
-  pub record BeganInBrackets (k : ℕ) (cs : List ℕ) (n : ℕ) (r : Begun) : Type 0 where
-    pub began : rowOf (getD cs 0 0) ≡ Row.Bracket n → 1 ≤ length cs → Began 0 k cs r
+-- of rows that begin with brackets with n rows in them, at the top
+pub record BeganInBrackets (kinds parents xs : List ℕ) (k : ℕ) (cs : List ℕ) (n : ℕ) (r : Begun) : Type 0 where
+  pub began : rowOf (getD cs 0 0) ≡ Row.Bracket n → 1 ≤ length cs → Began kinds parents xs 0 k cs r

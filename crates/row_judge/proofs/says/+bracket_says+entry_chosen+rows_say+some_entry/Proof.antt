@@ -125,30 +125,30 @@ pub +bracket-says+entry-chosen+rows-say+some-entry-spec : {M : Type 1} → state
     )
     (bracket-says-at t)
     bracket-says.Post
-    (λ c. omega (arith, c .before .before .before .before .before .before .pre .1 .some-row))  -- bracket-says-shared-slice-read-probe-of
+    (λ c. search needs)  -- bracket-says-shared-slice-read-probe-of
     (λ c κs. search needs)  -- bracket-says-probe-of-requires
     (λ c. search needs)  -- bracket-says-cast-index
-    (λ c κs. (bracketed-value (c .before .before .before .before .before .before .before .before .pre .1), bracketed-end (c .before .before .before .before .before .before .before .before .pre .1)))  -- bracket-says-opened-at-requires
-    (λ c. omega (arith, c .before .before .before .before .before .before .before .before .before .before .before .pre .1 .each-kind, bracketed-index (c .before .before .before .before .before .before .before .before .before .before .before .pre .1) _ (c .before .before .before .before .probe-of .ensures)))  -- bracket-says-shared-slice-read-meaning-of
+    (λ c κs. search (bracketed-value, bracketed-end, needs))  -- bracket-says-opened-at-requires
+    (λ c. search (bracketed-index, needs))  -- bracket-says-shared-slice-read-meaning-of
     (λ c κs. search needs)  -- bracket-says-meaning-of-requires
-    (λ c. omega (arith, c .before .before .before .before .before .before .before .before .before .before .before .before .pre .1 .some-row, c .before .before .before .before .before .before .before .before .before .before .before .before .pre .1 .opens .room, c .before .before .before .before .before .before .before .before .before .before .before .before .pre .1 .opens .ends-room))  -- bracket-says-sub-some-entry
-    (λ c. omega (arith, c .before .before .before .before .before .before .before .before .before .before .before .before .pre .1 .some-row, c .before .before .before .before .before .before .before .before .before .before .before .before .pre .1 .opens .room, c .before .before .before .before .before .before .before .before .before .before .before .before .pre .1 .opens .ends-room))  -- bracket-says-part-some-entry-start
-    (λ c. omega (arith, c .before .before .before .before .before .before .before .before .before .before .before .before .pre .1 .some-row, c .before .before .before .before .before .before .before .before .before .before .before .before .pre .1 .opens .room, c .before .before .before .before .before .before .before .before .before .before .before .before .pre .1 .opens .ends-room))  -- bracket-says-part-some-entry-end
-    (λ c. omega (arith, c .before .before .before .before .before .before .before .before .before .before .before .before .before .pre .1 .some-row, c .before .before .before .before .before .before .before .before .before .before .before .before .before .pre .1 .opens .room, c .before .before .before .before .before .before .before .before .before .before .before .before .before .pre .1 .opens .ends-room))  -- bracket-says-sub-some-entry-2
-    (λ c. omega (arith, c .before .before .before .before .before .before .before .before .before .before .before .before .before .pre .1 .some-row, c .before .before .before .before .before .before .before .before .before .before .before .before .before .pre .1 .opens .room, c .before .before .before .before .before .before .before .before .before .before .before .before .before .pre .1 .opens .ends-room))  -- bracket-says-part-some-entry-start-2
-    (λ c. omega (arith, c .before .before .before .before .before .before .before .before .before .before .before .before .before .pre .1 .some-row, c .before .before .before .before .before .before .before .before .before .before .before .before .before .pre .1 .opens .room, c .before .before .before .before .before .before .before .before .before .before .before .before .before .pre .1 .opens .ends-room))  -- bracket-says-part-some-entry-end-2
-    (λ c. omega (arith, c .before .before .before .before .before .before .before .before .before .before .before .before .before .before .pre .1 .some-row, c .before .before .before .before .before .before .before .before .before .before .before .before .before .before .pre .1 .opens .room, c .before .before .before .before .before .before .before .before .before .before .before .before .before .before .pre .1 .opens .ends-room))  -- bracket-says-sub-some-entry-3
-    (λ c. omega (arith, c .before .before .before .before .before .before .before .before .before .before .before .before .before .before .pre .1 .some-row, c .before .before .before .before .before .before .before .before .before .before .before .before .before .before .pre .1 .opens .room, c .before .before .before .before .before .before .before .before .before .before .before .before .before .before .pre .1 .opens .ends-room))  -- bracket-says-part-some-entry-start-3
-    (λ c. omega (arith, c .before .before .before .before .before .before .before .before .before .before .before .before .before .before .pre .1 .some-row, c .before .before .before .before .before .before .before .before .before .before .before .before .before .before .pre .1 .opens .room, c .before .before .before .before .before .before .before .before .before .before .before .before .before .before .pre .1 .opens .ends-room))  -- bracket-says-part-some-entry-end-3
+    (λ c. search needs)  -- bracket-says-sub-some-entry
+    (λ c. search needs)  -- bracket-says-part-some-entry-start
+    (λ c. search needs)  -- bracket-says-part-some-entry-end
+    (λ c. search needs)  -- bracket-says-sub-some-entry-2
+    (λ c. search needs)  -- bracket-says-part-some-entry-start-2
+    (λ c. search needs)  -- bracket-says-part-some-entry-end-2
+    (λ c. search needs)  -- bracket-says-sub-some-entry-3
+    (λ c. search needs)  -- bracket-says-part-some-entry-start-3
+    (λ c. search needs)  -- bracket-says-part-some-entry-end-3
     (λ c κs. let start = c .before .before .before .before .before .before .before .before .before .before .before .before .before .before .before in (omega (arith, start .pre .0, start .pre .1 .some-row, length-take-le (length (start .args .rows .now) - 1) (drop 1 (start .args .rows .now)) (omega (arith, length-drop 1 (start .args .rows .now)))), (bracketed-inner (start .pre .1), bracket-known (start .pre .1) _ (c .before .before .before .before .before .before .before .before .probe-of .ensures) _ (c .before .before .before .before .before .before .opened-at .ensures) _ _ (c .before .before .before .before .before .if1 .taken) refl (c .before .before .before .meaning-of .ensures))))  -- bracket-says-some-entry-requires
     (λ c κs. search needs)  -- bracket-says-some-says-requires
-    (λ c. bracket-opened (c .before .before .before .before .before .before .before .before .before .before .before .before .before .before .before .before .before .pre .1) _ (c .before .before .before .before .before .before .before .before .before .before .probe-of .ensures) _ (c .before .before .before .before .before .before .before .before .opened-at .ensures) _ _ _ _ _ _ (c .before .before .before .before .before .before .before .if1 .taken) refl (c .before .before .before .before .before .meaning-of .ensures) (c .before .some-entry .ensures) (c .some-says .ensures))  -- bracket-says-returns
-    (λ c. bracket-closed (c .before .before .before .before .before .before .before .before .before .before .pre .1) _ (c .before .before .before .probe-of .ensures) _ (c .before .opened-at .ensures) _ _ (c .if1 .left)))  -- bracket-says-returns-2
+    (λ c. search (bracket-opened, needs))  -- bracket-says-returns
+    (λ c. search (bracket-closed, needs)))  -- bracket-says-returns-2
     (λ t. entry-chosen-lts.spec
     (rows-say-below t, rows-say.Post)
     (entry-chosen-at t)
     entry-chosen.Post
-    (λ c κs. (omega (arith, c .before .before .before .before .before .before .pre .0), c .before .before .before .before .before .before .pre .1))  -- entry-chosen-rows-say-requires
+    (λ c κs. search needs)  -- entry-chosen-rows-say-requires
     (λ c. search (chosen-inner, needs))  -- entry-chosen-returns
     (λ c. search (chosen-not, needs)))  -- entry-chosen-returns-2
     (λ t. rows-say-lts.spec (
@@ -167,48 +167,48 @@ pub +bracket-says+entry-chosen+rows-say+some-entry-spec : {M : Type 1} → state
     rows-say.Post
     rows-say-Inv-loop
     rows-say-μ-loop
-    (λ c. telling-start _ _ _ _ _ (c .before .before .before .before .before .pre .1 .whole))  -- rows-say-loop-holds
+    (λ c. search (telling-start, needs))  -- rows-say-loop-holds
     (λ c. search needs)  -- rows-say-mul-row-of
     (λ c. search needs)  -- rows-say-shared-slice-read-row-of
     (λ c κs. search needs)  -- rows-say-row-of-requires
     (λ c. search needs)  -- rows-say-enum-known-probe
-    (λ c κs. (ready-value (c .before .before .before .before .before .before .before .before .before .before .before .before .pre .1) _ (c .before .before .before .before .before .loop-test .taken), ready-end (c .before .before .before .before .before .before .before .before .before .before .before .before .pre .1) _ (c .before .before .before .before .before .loop-test .taken)))  -- rows-say-opened-at-requires
+    (λ c κs. search (ready-value, ready-end, needs))  -- rows-say-opened-at-requires
     (λ c κs. let start = c .before .before .before .before .before .before .before .before .before .before .before .before .before in (start .pre .1 .each-kind, (start .pre .1 .short, (start .pre .1 .well-formed, (test-index _ _ _ (c .before .before .before .before .row-of .ensures) (c .before .before .probe .given .1), ready-test (start .pre .1) _ (c .before .before .before .before .before .before .loop-test .taken) _ (c .before .before .before .before .row-of .ensures) _ _ (c .before .before .probe .given .1) (c .opened-at .ensures))))))  -- rows-say-plain-says-requires
     (λ c. search needs)  -- rows-say-add-at
     (λ c. search needs)  -- rows-say-loop-less
-    (λ c. step-test _ _ _ _ _ _ _ _ (c .before .before .before .before .before .before .before .before .loop .inv) (c .before .before .before .before .before .before .before .loop-test .taken) _ (c .before .before .before .before .before .row-of .ensures) _ _ (c .before .before .before .probe .given .1) (c .plain-says .ensures))  -- rows-say-loop-again
+    (λ c. search (step-test, needs))  -- rows-say-loop-again
     (λ c. search needs)  -- rows-say-enum-known-size
-    (λ c. omega (arith, c .before .before .before .before .before .before .before .before .before .before .before .before .pre .1 .opens .room, c .before .before .before .before .before .before .before .before .before .before .before .before .pre .1 .opens .ends-room, bracket-room _ _ _ _ _ _ _ _ (c .before .before .before .before .before .before .loop .inv) (c .before .before .before .before .before .loop-test .taken) _ (c .before .before .before .row-of .ensures) _ (c .before .size .given .1)))  -- rows-say-add-first
+    (λ c. search (bracket-room, needs))  -- rows-say-add-first
     (λ c. omega (arith, c .before .before .before .before .before .before .before .before .before .before .before .before .pre .1 .opens .room, c .before .before .before .before .before .before .before .before .before .before .before .before .pre .1 .opens .ends-room, bracket-room _ _ _ _ _ _ _ _ (c .before .before .before .before .before .before .loop .inv) (c .before .before .before .before .before .loop-test .taken) _ (c .before .before .before .row-of .ensures) _ (c .before .size .given .1)))  -- rows-say-add-end
     (λ c. omega (arith, c .before .before .before .before .before .before .before .before .before .before .before .before .pre .1 .opens .room, c .before .before .before .before .before .before .before .before .before .before .before .before .pre .1 .opens .ends-room, bracket-room _ _ _ _ _ _ _ _ (c .before .before .before .before .before .before .loop .inv) (c .before .before .before .before .before .loop-test .taken) _ (c .before .before .before .row-of .ensures) _ (c .before .size .given .1)))  -- rows-say-add-end-2
-    (λ c. omega (arith, c .before .before .before .before .before .before .before .before .before .before .before .before .pre .1 .opens .room, c .before .before .before .before .before .before .before .before .before .before .before .before .pre .1 .opens .ends-room, bracket-room _ _ _ _ _ _ _ _ (c .before .before .before .before .before .before .loop .inv) (c .before .before .before .before .before .loop-test .taken) _ (c .before .before .before .row-of .ensures) _ (c .before .size .given .1)))  -- rows-say-mul-cell
+    (λ c. search (bracket-room, needs))  -- rows-say-mul-cell
     (λ c. search needs)  -- rows-say-mul-part
-    (λ c. omega (arith, c .before .before .before .before .before .before .before .before .before .before .before .before .pre .1 .opens .room, c .before .before .before .before .before .before .before .before .before .before .before .before .pre .1 .opens .ends-room, bracket-room _ _ _ _ _ _ _ _ (c .before .before .before .before .before .before .loop .inv) (c .before .before .before .before .before .loop-test .taken) _ (c .before .before .before .row-of .ensures) _ (c .before .size .given .1)))  -- rows-say-sub-part
-    (λ c. omega (arith, c .before .before .before .before .before .before .before .before .before .before .before .before .pre .1 .opens .room, c .before .before .before .before .before .before .before .before .before .before .before .before .pre .1 .opens .ends-room, bracket-room _ _ _ _ _ _ _ _ (c .before .before .before .before .before .before .loop .inv) (c .before .before .before .before .before .loop-test .taken) _ (c .before .before .before .row-of .ensures) _ (c .before .size .given .1)))  -- rows-say-part-part-start
-    (λ c. omega (arith, c .before .before .before .before .before .before .before .before .before .before .before .before .pre .1 .opens .room, c .before .before .before .before .before .before .before .before .before .before .before .before .pre .1 .opens .ends-room, bracket-room _ _ _ _ _ _ _ _ (c .before .before .before .before .before .before .loop .inv) (c .before .before .before .before .before .loop-test .taken) _ (c .before .before .before .row-of .ensures) _ (c .before .size .given .1)))  -- rows-say-part-part-end
+    (λ c. search (bracket-room, needs))  -- rows-say-sub-part
+    (λ c. search (bracket-room, needs))  -- rows-say-part-part-start
+    (λ c. search (bracket-room, needs))  -- rows-say-part-part-end
     (λ c. search needs)  -- rows-say-mul-bracket-says
-    (λ c. omega (arith, c .before .before .before .before .before .before .before .before .before .before .before .before .before .pre .1 .opens .room, c .before .before .before .before .before .before .before .before .before .before .before .before .before .pre .1 .opens .ends-room, bracket-room _ _ _ _ _ _ _ _ (c .before .before .before .before .before .before .before .loop .inv) (c .before .before .before .before .before .before .loop-test .taken) _ (c .before .before .before .before .row-of .ensures) _ (c .before .before .size .given .1)))  -- rows-say-sub-bracket-says
-    (λ c. omega (arith, c .before .before .before .before .before .before .before .before .before .before .before .before .before .pre .1 .opens .room, c .before .before .before .before .before .before .before .before .before .before .before .before .before .pre .1 .opens .ends-room, bracket-room _ _ _ _ _ _ _ _ (c .before .before .before .before .before .before .before .loop .inv) (c .before .before .before .before .before .before .loop-test .taken) _ (c .before .before .before .before .row-of .ensures) _ (c .before .before .size .given .1)))  -- rows-say-part-bracket-says-start
-    (λ c. omega (arith, c .before .before .before .before .before .before .before .before .before .before .before .before .before .pre .1 .opens .room, c .before .before .before .before .before .before .before .before .before .before .before .before .before .pre .1 .opens .ends-room, bracket-room _ _ _ _ _ _ _ _ (c .before .before .before .before .before .before .before .loop .inv) (c .before .before .before .before .before .before .loop-test .taken) _ (c .before .before .before .before .row-of .ensures) _ (c .before .before .size .given .1)))  -- rows-say-part-bracket-says-end
+    (λ c. search (bracket-room, needs))  -- rows-say-sub-bracket-says
+    (λ c. search (bracket-room, needs))  -- rows-say-part-bracket-says-start
+    (λ c. search (bracket-room, needs))  -- rows-say-part-bracket-says-end
     (λ c. search needs)  -- rows-say-mul-bracket-says-2
-    (λ c. omega (arith, c .before .before .before .before .before .before .before .before .before .before .before .before .before .before .pre .1 .opens .room, c .before .before .before .before .before .before .before .before .before .before .before .before .before .before .pre .1 .opens .ends-room, bracket-room _ _ _ _ _ _ _ _ (c .before .before .before .before .before .before .before .before .loop .inv) (c .before .before .before .before .before .before .before .loop-test .taken) _ (c .before .before .before .before .before .row-of .ensures) _ (c .before .before .before .size .given .1)))  -- rows-say-sub-bracket-says-2
-    (λ c. omega (arith, c .before .before .before .before .before .before .before .before .before .before .before .before .before .before .pre .1 .opens .room, c .before .before .before .before .before .before .before .before .before .before .before .before .before .before .pre .1 .opens .ends-room, bracket-room _ _ _ _ _ _ _ _ (c .before .before .before .before .before .before .before .before .loop .inv) (c .before .before .before .before .before .before .before .loop-test .taken) _ (c .before .before .before .before .before .row-of .ensures) _ (c .before .before .before .size .given .1)))  -- rows-say-part-bracket-says-start-2
-    (λ c. omega (arith, c .before .before .before .before .before .before .before .before .before .before .before .before .before .before .pre .1 .opens .room, c .before .before .before .before .before .before .before .before .before .before .before .before .before .before .pre .1 .opens .ends-room, bracket-room _ _ _ _ _ _ _ _ (c .before .before .before .before .before .before .before .before .loop .inv) (c .before .before .before .before .before .before .before .loop-test .taken) _ (c .before .before .before .before .before .row-of .ensures) _ (c .before .before .before .size .given .1)))  -- rows-say-part-bracket-says-end-2
+    (λ c. search (bracket-room, needs))  -- rows-say-sub-bracket-says-2
+    (λ c. search (bracket-room, needs))  -- rows-say-part-bracket-says-start-2
+    (λ c. search (bracket-room, needs))  -- rows-say-part-bracket-says-end-2
     (λ c κs. let start = c .before .before .before .before .before .before .before .before .before .before .before .before .before .before .before in (omega (arith, start .pre .0, bracket-room _ _ _ _ _ _ _ _ (c .before .before .before .before .before .before .before .before .before .loop .inv) (c .before .before .before .before .before .before .before .before .loop-test .taken) _ (c .before .before .before .before .before .before .row-of .ensures) _ (c .before .before .before .before .size .given .1), part-size _ _ _ _ _ _ _ _ (c .before .before .before .before .before .before .before .before .before .loop .inv) (c .before .before .before .before .before .before .before .before .loop-test .taken) _ (c .before .before .before .before .before .before .row-of .ensures) _ (c .before .before .before .before .size .given .1)), bracket-ready _ _ _ _ _ _ _ _ (c .before .before .before .before .before .before .before .before .before .loop .inv) (c .before .before .before .before .before .before .before .before .loop-test .taken) _ (c .before .before .before .before .before .before .row-of .ensures) _ (c .before .before .before .before .size .given .1) (start .pre .1)))  -- rows-say-bracket-says-requires
-    (λ c. omega (arith, bracket-room _ _ _ _ _ _ _ _ (c .before .before .before .before .before .before .before .before .before .before .loop .inv) (c .before .before .before .before .before .before .before .before .before .loop-test .taken) _ (c .before .before .before .before .before .before .before .row-of .ensures) _ (c .before .before .before .before .before .size .given .1)))  -- rows-say-loop-less-2
-    (λ c. step-bracket _ _ _ _ _ _ _ _ (c .before .before .before .before .before .before .before .before .before .before .loop .inv) (c .before .before .before .before .before .before .before .before .before .loop-test .taken) _ (c .before .before .before .before .before .before .before .row-of .ensures) _ (c .before .before .before .before .before .size .given .1) _ (c .bracket-says .ensures))  -- rows-say-loop-again-2
+    (λ c. search (bracket-room, needs))  -- rows-say-loop-less-2
+    (λ c. search (step-bracket, needs))  -- rows-say-loop-again-2
     (λ c. search needs)  -- rows-say-enum-told
     (λ c. search needs)  -- rows-say-add-at-2
     (λ c. search needs)  -- rows-say-loop-less-3
-    (λ c. step-not _ _ _ _ _ _ _ _ (c .before .before .before .before .before .loop .inv) (c .before .before .before .before .loop-test .taken) _ (c .before .before .row-of .ensures) (c .enum-told .given .1))  -- rows-say-loop-again-3
+    (λ c. search (step-not, needs))  -- rows-say-loop-again-3
     (λ c. search needs)  -- rows-say-enum-known-connective
     (λ c. search needs)  -- rows-say-add-at-3
     (λ c κs. search needs)  -- rows-say-skipped-requires
     (λ c. omega (arith, (step-connect _ _ _ _ _ _ _ _ (c .before .before .before .before .before .before .before .loop .inv) (c .before .before .before .before .before .before .loop-test .taken) _ (c .before .before .before .before .row-of .ensures) _ _ _ (c .before .before .connective .given .1) (c .skipped .ensures)) .within, c .before .before .before .before .before .before .before .before .before .before .before .before .before .pre .1 .opens .room))  -- rows-say-add-at-4
-    (λ c. omega (arith, c .before .before .before .before .before .before .loop-test .taken, (step-connect _ _ _ _ _ _ _ _ (c .before .before .before .before .before .before .before .loop .inv) (c .before .before .before .before .before .before .loop-test .taken) _ (c .before .before .before .before .row-of .ensures) _ _ _ (c .before .before .connective .given .1) (c .skipped .ensures)) .within))  -- rows-say-loop-less-4
-    (λ c. step-connect _ _ _ _ _ _ _ _ (c .before .before .before .before .before .before .before .loop .inv) (c .before .before .before .before .before .before .loop-test .taken) _ (c .before .before .before .before .row-of .ensures) _ _ _ (c .before .before .connective .given .1) (c .skipped .ensures))  -- rows-say-loop-again-4
+    (λ c. search (step-connect, needs))  -- rows-say-loop-less-4
+    (λ c. search (step-connect, needs))  -- rows-say-loop-again-4
     (λ c. search needs)  -- rows-say-enum-told-2
-    (λ c. step-unknown _ _ _ _ _ _ _ _ (c .before .before .before .before .before .loop .inv) (c .before .before .before .before .loop-test .taken) _ (c .before .before .row-of .ensures) (c .enum-told2 .given .1))  -- rows-say-returns
+    (λ c. search (step-unknown, needs))  -- rows-say-returns
     (λ c. telling-end _ _ _ _ _ _ _ _ (c .before .loop .inv) (c .loop-test .left)))  -- rows-say-returns-2
     λ t. some-entry-lts.spec (
       entry-count-reads.Asked,
@@ -226,17 +226,17 @@ pub +bracket-says+entry-chosen+rows-say+some-entry-spec : {M : Type 1} → state
     some-entry.Post
     some-entry-Inv-loop
     some-entry-μ-loop
-    (λ c κs. c .before .before .before .before .before .pre .1 .0 .well-formed)  -- some-entry-entry-count-requires
+    (λ c κs. search needs)  -- some-entry-entry-count-requires
     (λ c. search (entries-start, needs))  -- some-entry-loop-holds
     (λ c κs. search needs)  -- some-entry-entry-at-requires
     (λ c κs. search needs)  -- some-entry-is-under-requires
     (λ c. search needs)  -- some-entry-sub-entry-counts
     (λ c. search needs)  -- some-entry-part-entry-counts-start
     (λ c. search needs)  -- some-entry-part-entry-counts-end
-    (λ c κs. (c .before .before .before .before .before .before .before .before .before .before .before .before .before .pre .1 .0 .short, c .before .before .before .before .before .before .before .before .before .before .before .before .before .pre .1 .1))  -- some-entry-entry-counts-requires
-    (λ c κs. (omega (arith, c .before .before .before .before .before .before .before .before .before .before .before .before .before .before .pre .0), c .before .before .before .before .before .before .before .before .before .before .before .before .before .before .pre .1 .0))  -- some-entry-entry-chosen-requires
-    (λ c. visited-decides _ _ _ _ _ _ (c .before .before .before .before .before .before .before .before .before .loop .inv) _ _ _ _ (c .before .before .before .before .before .before .before .entry-at .ensures) _ (entry-here _ _ _ _ _ _ _ _ _ _ _ _ (c .before .before .before .before .is-under .ensures) (c .before .before .entry-counts .ensures) (c .before .entry-chosen .ensures) (c .if1 .taken)))  -- some-entry-returns
+    (λ c κs. search needs)  -- some-entry-entry-counts-requires
+    (λ c κs. search needs)  -- some-entry-entry-chosen-requires
+    (λ c. search (visited-decides, entry-here, needs))  -- some-entry-returns
     (λ c. search needs)  -- some-entry-sub-left
     (λ c. search needs)  -- some-entry-loop-less
-    (λ c. visited-next _ _ _ _ _ _ (c .before .before .before .before .before .before .before .before .before .loop .inv) _ _ _ _ (c .before .before .before .before .before .before .before .entry-at .ensures) _ (entry-next _ _ _ _ _ _ _ _ _ _ _ _ (c .before .before .before .before .is-under .ensures) (c .before .before .entry-counts .ensures) (c .before .entry-chosen .ensures) (c .if1 .left)))  -- some-entry-loop-again
+    (λ c. search (visited-next, entry-next, needs))  -- some-entry-loop-again
     (λ c. search (visited-end, entry-end, needs))  -- some-entry-returns-2
