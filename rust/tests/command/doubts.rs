@@ -245,6 +245,7 @@ fn texts_that_differ_in_little() {
         "warning: no card meets `name eq \"Dvořák, Antonín\"`: 1 value has its words in another order, such as \"Antonín Dvořák\".\n\
          \x20 `name co \"Dvořák\" and name co \"Antonín\"` asks for the words.\n",
     );
+    folder.pick_by("name eq Ward or name co smith").says(0, "3\n1 of 4\n", "");
     let references =
         Folder::packed("references", "reference subject\n", &cards("subject", ["http://h/Patient/17"]), "");
     references.pick_by("subject re Patient/17").says(

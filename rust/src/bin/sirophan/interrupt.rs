@@ -18,13 +18,13 @@ const SIGNALS: [c_int; 3] = [1, 2, 15];
 const DEFAULT: usize = 0;
 const IGNORED: usize = 1;
 
-/// The paths that go, in this order. A path that was put here stays in memory, for a signal may come at any time.
+/// The paths that go, the last first. A path that was put here stays in memory, for a signal may come at any time.
 const MOST: usize = 8;
 static HALF_WRITTEN: [AtomicPtr<c_char>; MOST] = [const { AtomicPtr::new(ptr::null_mut()) }; MOST];
 
 /// Removes what is half written, and ends the program as the signal would have. It does only what a handler may.
 extern "C" fn remove_and_end(number: c_int) {
-    for path in &HALF_WRITTEN {
+    for path in HALF_WRITTEN.iter().rev() {
         let path = path.load(Ordering::SeqCst);
         if !path.is_null() {
             // SAFETY: the path is a text that stays, and both calls are allowed in a handler. A folder that is not empty stays.

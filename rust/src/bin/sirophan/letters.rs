@@ -64,6 +64,9 @@ struct Difference {
     alike: fn(&str) -> String,
 }
 
+/// The one that every reader sees.
+pub const POINTS: &str = "points and the like";
+
 /// The ways, in the order in which texts are made alike. A further one is another row.
 const DIFFERENCES: [Difference; 8] = [
     Difference { name: "signs that do not show", alike: |text| text.chars().filter(|c| !is_invisible(*c)).collect() },
@@ -79,10 +82,7 @@ const DIFFERENCES: [Difference; 8] = [
         alike: |text| text.to_uppercase().chars().flat_map(char::to_lowercase).collect(),
     },
     Difference { name: "accents", alike: |text| text.chars().flat_map(without_accent).collect() },
-    Difference {
-        name: "points and the like",
-        alike: |text| text.chars().filter(|c| !c.is_ascii_punctuation()).collect(),
-    },
+    Difference { name: POINTS, alike: |text| text.chars().filter(|c| !c.is_ascii_punctuation()).collect() },
 ];
 
 /// How many differences are made alike first: in accents, and in points and the like, texts differ for a reader too.

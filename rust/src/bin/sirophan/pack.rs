@@ -55,7 +55,9 @@ fn into_folder(arguments: &Arguments, from: &str, to: &str, filter: Option<&Filt
     arguments.say(filter.iter().flat_map(|filter| &filter.notes));
     let sheet = read_sheet(arguments, from)?;
     let mut cards = Cards::new(Description::open(&path_in(from, "cards.txt"))?, &sheet);
-    let made_here = !Path::new(to).exists();
+    if !Path::new(to).exists() {
+        interrupt::removes(Path::new(to));
+    }
     fs::create_dir_all(to).map_err(|reason| Failure::file(to, "made", reason))?;
     let mut files = NewFiles { folder: to, names: Vec::new() };
     files.write("sheet.bin", |put| put(&sheet.block))?;
@@ -65,9 +67,6 @@ fn into_folder(arguments: &Arguments, from: &str, to: &str, filter: Option<&Filt
     let counter = Counter::of_all(&sheet);
     let mut tally = Tally::default();
     files.write("cards.bin", |put| {
-        if made_here {
-            interrupt::removes(Path::new(to));
-        }
         while let Some(card) = cards.next()? {
             counter.count(&mut tally, cards.count - 1, &card);
             put(&card)?;

@@ -4,6 +4,7 @@ use crate::advice::Question;
 use crate::asked::Asked;
 use crate::clues::{Clue, Clues};
 use crate::kind;
+use crate::letters;
 use crate::report::Message;
 use crate::system;
 use crate::tally::Held;
@@ -50,7 +51,7 @@ pub fn of_two_walks(
         if is_nowhere(held, asked) {
             return without_field(question, asked);
         }
-        let found = reason(question, asked, clues);
+        let found = reason(question, asked, clues, matching == 0);
         found.or_else(|| {
             plain_zero(question, asked, held, Some(clues.cards), clues.ends.as_ref())
                 .filter(|_| is_alone && matching == 0)
@@ -78,15 +79,15 @@ fn without_field(question: &Question, asked: &Asked) -> Option<Message> {
     (!asks_for_none).then(|| Message::warning(told, help).about("no_card_has_field", &path))
 }
 
-/// Why a test is met by no card, as far as is known.
-fn reason(question: &Question, asked: &Asked, clues: &Clues) -> Option<Message> {
+/// Why a test is met by no card, as far as is known. Beside a list nothing is told that a reader would see in the texts.
+fn reason(question: &Question, asked: &Asked, clues: &Clues, is_empty: bool) -> Option<Message> {
     let path = question.sheet.path(asked.place, 0);
     let kind = kind::by_number(question.sheet.parameters[asked.place].kind)?.word;
     let of_token = if kind == "token" { token_reason(asked, clues) } else { None };
     let (code, clue, why, help) = of_token
-        .or_else(|| near_reason(clues))
+        .or_else(|| near_reason(clues).filter(|_| is_empty || !clues.differences.contains(&letters::POINTS)))
         .or_else(|| overlap_reason(kind, asked, clues))
-        .or_else(|| part_reason(asked, clues))?;
+        .or_else(|| part_reason(asked, clues).filter(|_| is_empty))?;
     let message = Message::warning(format!("no card meets `{}`: {why}.", asked.shown), help);
     Some(message.about(code, &path).figures([("found", clue)]))
 }
