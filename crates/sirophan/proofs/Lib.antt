@@ -13,4 +13,5 @@ pub mod Operators
 pub mod Trial
 pub mod Searches
 pub mod Seconds
+pub mod AnyList
 pub mod Promises

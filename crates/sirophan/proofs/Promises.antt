@@ -150,6 +150,8 @@ use Rattle.sirophan.proofs.Trial as trial
 use Rattle.sirophan.proofs.Searches as searches
 use Rattle.sirophan.specs.Seconds.{NotSupported, placesSum, TestIn, orders, among}
 use Rattle.sirophan.proofs.Seconds as seconds
+use Rattle.sirophan.specs.AnyList.{MatchIsAnywhere}
+use Rattle.sirophan.proofs.AnyList as any-list
 
 -- ---- demand 1: an answer or a refusal, and a refusal writes nothing
 
@@ -322,6 +324,17 @@ judge-answered = rows-answered.judge-answered
 -- match is the two after each other
 pub match-is : (sheet text card list : List ℕ) → Bytes sheet → 1024 ≤ length list → MatchIs sheet text card list
 match-is = rows-answered.match-is
+
+-- and so for a caller who lends just enough: on whichever list prepare answers, or refuses for another reason than its length
+pub match-is-anywhere : (sheet text card list : List ℕ) → Bytes sheet → MatchIsAnywhere sheet text card list
+match-is-anywhere = any-list.match-anywhere
+
+-- 02: "neither gives 34 or 40": no number of match or select is over 30
+pub match-number-within : (sheet text card : List ℕ) (n p : ℕ) → matchAnswer sheet text card ≡ refused n p → n ≤ 30
+match-number-within = any-list.match-number
+
+pub select-number-within : (sheet text cards : List ℕ) (room n p : ℕ) → selectAnswer sheet text cards room ≡ refused n p → n ≤ 30
+select-number-within = any-list.select-number
 
 -- ---- 02: two engines
 

@@ -6,3 +6,4 @@ pub mod Trial
 pub mod Edges
 pub mod Searches
 pub mod Seconds
+pub mod AnyList
