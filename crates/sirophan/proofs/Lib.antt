@@ -14,4 +14,5 @@ pub mod Trial
 pub mod Searches
 pub mod Seconds
 pub mod AnyList
+pub mod Stating
 pub mod Promises

@@ -152,6 +152,8 @@ use Rattle.sirophan.specs.Seconds.{NotSupported, placesSum, TestIn, orde
 use Rattle.sirophan.proofs.Seconds as seconds
 use Rattle.sirophan.specs.AnyList.{MatchIsAnywhere}
 use Rattle.sirophan.proofs.AnyList as any-list
+use Rattle.sirophan.specs.Stating.{States}
+use Rattle.sirophan.proofs.Stating as states
 
 -- ---- demand 1: an answer or a refusal, and a refusal writes nothing
 
@@ -309,12 +311,19 @@ pub prepare-good : (sheet text : List ℕ) (s : SheetBlock sheet) (f : Tree) →
     → prepareAnswer sheet text (length list) ≡ count n → PreparesGood sheet text list (s .parameters) f n
 prepare-good = rows-answered.prepares-good
 
--- the test for good rows passes exactly where they are good; cells are the rows of one expression at most
+-- the test for good rows passes exactly where they are good; what cells state has them for its rows; good rows are those of one expression
 pub rows-good : (ps : List Parameter) → WellFormedSheet ps → (text cells : List ℕ) → (good (kindsOf ps) (parentsOf ps) text cells ≡ true) ↔ Good ps text cells
 rows-good = rows.good-iff
 
 pub rows-state-one : (cells : List ℕ) (e : Expression) → stated cells ≡ some e → cells ≡ encode e
 rows-state-one = stating.stated-cells
+
+pub good-rows-state-one : (ps : List Parameter) → WellFormedSheet ps → (text cells : List ℕ) (g h : Good ps text cells) → g .expression ≡ h .expression
+good-rows-state-one ps w text cells = states.good-one ps text w
+
+-- what they state, by the sheet and the text: names, values, joins, nots and brackets, so that treeOf need not be believed
+pub good-rows-state : (ps : List Parameter) (text cells : List ℕ) (g : Good ps text cells) → States ps text (g .expression) (treeOf ps text (g .expression))
+good-rows-state ps text cells = states.good-state ps text
 
 -- judge answers the meaning of what good rows state, on each conforming card
 pub judge-answered : (sheet text cells : List ℕ) (s : SheetBlock sheet) → 1 ≤ length text → length text ≤ 1024 → (g : Good (s .parameters) text cells) (card : List ℕ) (es : List Entry)

@@ -7,3 +7,4 @@ pub mod Edges
 pub mod Searches
 pub mod Seconds
 pub mod AnyList
+pub mod Stating

@@ -56,6 +56,7 @@ pub const TWINS: &[Twin] = &[
     twin(PREPARING, "prepareCells", &["prepare-keeps-list", "prepare-answered"]),
     twin(PREPARING, "judgeAnswer", &["judge-refused", "judge-answered"]),
     twin("crates/rows/specs/Shapes.antt", "good", &["rows-good"]),
+    twin("crates/rows/specs/Stated.antt", "treeOf", &["good-rows-state"]),
     twin(REPORT, "reportAnswer", &["report-refused", "report-answered"]),
     twin(REPORT, "reportRows", &["refusal-keeps-rows", "report-answered"]),
     twin("crates/report/specs/Tallies.antt", "tallies", &["row-in-words", "row-for-each"]),
