@@ -1,20 +1,17 @@
 -- What good rows state is what their expression says of the sheet's parameters and the text; and cells are good rows of one expression.
 -- Assumes nothing.
-use Prim.Native.Nat.{ℕ, suc}
-use native.Mathlib.Omega.{arith}
+use Prim.Native.Nat.{ℕ}
 use mathlib.Core.Path.{_≡_, refl, ap, sym, _∙_, subst}
 use mathlib.Core.Option.{some}
 use mathlib.Core.List.{List}
-use lib.ListN.{getD}
 use Rattle.base.specs.Lists.{Listed}
 use Rattle.sheet.specs.Sheet.{Parameter}
-use Rattle.sheet.specs.Find.{parentsOf}
 use Rattle.sheet.specs.Encode.{WellFormedSheet}
 use Rattle.sheet.proofs.Listed.{table-listed}
-use Rattle.syntax.specs.Tree.{Tree, name}
+use Rattle.syntax.specs.Tree.{name}
 use Rattle.rows.specs.Expression.{Expression}
 use Rattle.rows.specs.Good.{ValueFrom, FitsTo, Fits, fits-test, fits-bracket, fits-join, fits-not, Good}
-use Rattle.rows.specs.Stated.{valueBy, testFor, bundleFor, treeOf}
+use Rattle.rows.specs.Stated.{valueBy, testFor, treeOf}
 use Rattle.rows.specs.declared.Probe.{Probe}
 use Rattle.rows.proofs.Good as good
 use Rattle.rows.proofs.Naming.{name-listed, bundle-name}
