@@ -10,12 +10,12 @@ use Rattle.base.specs.Kinds.{bundleKind}
 use Rattle.base.specs.Lists.{Listed, All}
 use Rattle.sheet.specs.Sheet.{Parameter}
 use Rattle.sheet.specs.Encode.{SheetBlock}
-use Rattle.card.specs.Card.{entriesOf}
+use Rattle.card.specs.Card.{Entry, entriesOf}
 use Rattle.judge.specs.Rules.{Conforms}
 use Rattle.refusal.specs.Answers.{refused}
 use Rattle.refusal.specs.Order.{Decides}
 use Rattle.answer.specs.Selection.{Run}
-use Rattle.report.specs.Tallies.{tally}
+use Rattle.report.specs.Tallies.{tally, tallies}
 use Rattle.report.specs.Operation.{reportAnswer, reportRows}
 use Rattle.report.specs.Refusals.{ReportLine}
 use Rattle.report.specs.Reporting.{rowsOf, RowSays, ReportAnswers, ReportsByMatch}
@@ -23,6 +23,7 @@ use Rattle.report.specs.declared.Tally.{Tally}
 use Rattle.report.proofs.Table as table
 use Rattle.report.proofs.Reporting as reporting
 use Rattle.report.proofs.Words as words
+use Rattle.report.proofs.Passes as passes
 
 -- ---- the report: refusals
 
@@ -50,6 +51,10 @@ report-by-match = reporting.reports-by-match
 -- each row says how many cards of the run have its parameter, and how many values stand under it
 pub row-in-words : (ps : List Parameter) (bs : List (List ℕ)) (rows : List Tally) (i : ℕ) → i < length ps → RowSays i bs (rowsOf ps bs rows)
 row-in-words = words.row-says
+
+-- and there are as many rows as parameters
+pub row-for-each : (cs : List (List Entry)) (i n : ℕ) → length (tallies cs i n) ≡ n
+row-for-each = passes.tallies-length
 
 -- a bundle tallies 0 and 0
 pub bundle-tallies-nothing : (ps : List Parameter) (i : ℕ) (p : Parameter) → Listed ps i p → p .kind ≡ bundleKind → (bs : List (List ℕ)) (rows : List Tally)

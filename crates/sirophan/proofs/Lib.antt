@@ -13,4 +13,6 @@ pub mod Operators
 pub mod Trial
 pub mod Searches
 pub mod Seconds
+pub mod AnyList
+pub mod Stating
 pub mod Promises

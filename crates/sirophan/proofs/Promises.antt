@@ -150,6 +150,10 @@ use Rattle.sirophan.proofs.Trial as trial
 use Rattle.sirophan.proofs.Searches as searches
 use Rattle.sirophan.specs.Seconds.{NotSupported, placesSum, TestIn, orders, among}
 use Rattle.sirophan.proofs.Seconds as seconds
+use Rattle.sirophan.specs.AnyList.{MatchIsAnywhere}
+use Rattle.sirophan.proofs.AnyList as any-list
+use Rattle.sirophan.specs.Stating.{States}
+use Rattle.sirophan.proofs.Stating as states
 
 -- ---- demand 1: an answer or a refusal, and a refusal writes nothing
 
@@ -307,12 +311,19 @@ pub prepare-good : (sheet text : List ℕ) (s : SheetBlock sheet) (f : Tree) →
     → prepareAnswer sheet text (length list) ≡ count n → PreparesGood sheet text list (s .parameters) f n
 prepare-good = rows-answered.prepares-good
 
--- the test for good rows passes exactly where they are good; cells are the rows of one expression at most
+-- the test for good rows passes exactly where they are good; what cells state has them for its rows; good rows are those of one expression
 pub rows-good : (ps : List Parameter) → WellFormedSheet ps → (text cells : List ℕ) → (good (kindsOf ps) (parentsOf ps) text cells ≡ true) ↔ Good ps text cells
 rows-good = rows.good-iff
 
 pub rows-state-one : (cells : List ℕ) (e : Expression) → stated cells ≡ some e → cells ≡ encode e
 rows-state-one = stating.stated-cells
+
+pub good-rows-state-one : (ps : List Parameter) → WellFormedSheet ps → (text cells : List ℕ) (g h : Good ps text cells) → g .expression ≡ h .expression
+good-rows-state-one ps w text cells = states.good-one ps text w
+
+-- what they state, by the sheet and the text: names, values, joins, nots and brackets, so that treeOf need not be believed
+pub good-rows-state : (ps : List Parameter) (text cells : List ℕ) (g : Good ps text cells) → States ps text (g .expression) (treeOf ps text (g .expression))
+good-rows-state ps text cells = states.good-state ps text
 
 -- judge answers the meaning of what good rows state, on each conforming card
 pub judge-answered : (sheet text cells : List ℕ) (s : SheetBlock sheet) → 1 ≤ length text → length text ≤ 1024 → (g : Good (s .parameters) text cells) (card : List ℕ) (es : List Entry)
@@ -322,6 +333,17 @@ judge-answered = rows-answered.judge-answered
 -- match is the two after each other
 pub match-is : (sheet text card list : List ℕ) → Bytes sheet → 1024 ≤ length list → MatchIs sheet text card list
 match-is = rows-answered.match-is
+
+-- and so for a caller who lends just enough: on whichever list prepare answers, or refuses for another reason than its length
+pub match-is-anywhere : (sheet text card list : List ℕ) → Bytes sheet → MatchIsAnywhere sheet text card list
+match-is-anywhere = any-list.match-anywhere
+
+-- 02: "neither gives 34 or 40": no number of match or select is over 30
+pub match-number-within : (sheet text card : List ℕ) (n p : ℕ) → matchAnswer sheet text card ≡ refused n p → n ≤ 30
+match-number-within = any-list.match-number
+
+pub select-number-within : (sheet text cards : List ℕ) (room n p : ℕ) → selectAnswer sheet text cards room ≡ refused n p → n ≤ 30
+select-number-within = any-list.select-number
 
 -- ---- 02: two engines
 

@@ -6,3 +6,5 @@ pub mod Trial
 pub mod Edges
 pub mod Searches
 pub mod Seconds
+pub mod AnyList
+pub mod Stating

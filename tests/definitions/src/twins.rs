@@ -22,6 +22,7 @@ const fn twin(file: &'static str, name: &'static str, promises: &'static [&'stat
 
 const OPERATIONS: &str = "crates/answer/specs/Operations.antt";
 const SEARCHING: &str = "crates/answer/specs/Searching.antt";
+const QUERY: &str = "crates/query/specs/Reader.antt";
 const PREPARING: &str = "crates/answer/specs/Preparing.antt";
 const REPORT: &str = "crates/report/specs/Operation.antt";
 const EXPLAIN: &str = "crates/explain/specs/Operation.antt";
@@ -36,14 +37,29 @@ pub const TWINS: &[Twin] = &[
     twin(SEARCHING, "matchSearchAnswer", &["match-search-refused", "check-and-match-search"]),
     twin(SEARCHING, "selectSearchAnswer", &["select-search-refused", "select-search-answered"]),
     twin(SEARCHING, "selectSearchCells", &["search-refusal-keeps-list", "select-search-answered"]),
-    twin("crates/query/specs/Reader.antt", "acceptQuery", &["query-read"]),
+    twin(QUERY, "acceptQuery", &["query-read"]),
+    twin(QUERY, "isSpecial", &["special-bytes"]),
+    twin(QUERY, "cutSigns", &["alternatives-cut"]),
+    twin(QUERY, "splitOf", &["token-split"]),
+    twin("crates/search/specs/Asking.antt", "takesPrefix", &["prefix-kinds"]),
+    twin("crates/judge/specs/Sets.antt", "valuesAt", &["set-holds", "set-empty"]),
+    twin("crates/judge/specs/Sets.antt", "ofOccurrence", &["occurrence-holds"]),
+    twin("crates/judge/specs/Faults.antt", "unsupported", &["unsupported-words"]),
+    twin("crates/block/specs/Sum.antt", "checkSum", &["check-sum-places"]),
+    twin("crates/number/specs/Reading.antt", "read", &["number-read"]),
+    twin("crates/date/specs/Texts.antt", "read", &["date-read"]),
+    twin("crates/period/specs/Texts.antt", "read", &["period-read"]),
+    twin("crates/token/specs/Card.antt", "cardToken", &["token-on-card"]),
+    twin("crates/token/specs/Filter.antt", "filterForm", &["token-in-filter"]),
+    twin("crates/token/specs/Match.antt", "matches", &["token-asked"]),
     twin(PREPARING, "prepareAnswer", &["prepare-refused", "prepare-answered"]),
     twin(PREPARING, "prepareCells", &["prepare-keeps-list", "prepare-answered"]),
     twin(PREPARING, "judgeAnswer", &["judge-refused", "judge-answered"]),
     twin("crates/rows/specs/Shapes.antt", "good", &["rows-good"]),
+    twin("crates/rows/specs/Stated.antt", "treeOf", &["good-rows-state"]),
     twin(REPORT, "reportAnswer", &["report-refused", "report-answered"]),
     twin(REPORT, "reportRows", &["refusal-keeps-rows", "report-answered"]),
-    twin("crates/report/specs/Tallies.antt", "tallies", &["row-in-words"]),
+    twin("crates/report/specs/Tallies.antt", "tallies", &["row-in-words", "row-for-each"]),
     twin(EXPLAIN, "explainAnswer", &["explain-refused", "explain-answered"]),
     twin(EXPLAIN, "explainCells", &["refusal-keeps-cells", "explain-answered"]),
     twin("crates/deciding/specs/Marks.antt", "suffices", &["sufficing"]),
@@ -59,6 +75,6 @@ pub const TWINS: &[Twin] = &[
     twin("crates/date/specs/Arithmetic.antt", "beforeByNumber", &["days-before-month"]),
     twin("crates/number/specs/Billionths.antt", "inside", &["number-held"]),
     twin("crates/sirophan/specs/Spelling.antt", "spellAnswer", &["spell-refused", "spell-answered"]),
-    twin("crates/sirophan/specs/Spelling.antt", "spellBytes", &["refusal-keeps-buffer"]),
+    twin("crates/sirophan/specs/Spelling.antt", "spellBytes", &["refusal-keeps-buffer", "spell-answered"]),
     twin("crates/plain/specs/Plain.antt", "plain", &["plain-spelling", "spell-answered"]),
 ];
