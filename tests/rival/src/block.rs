@@ -7,10 +7,21 @@ pub type Block = [u8; SIZE];
 /// How many bytes are summed side by side.
 const COLUMNS: usize = 32;
 
+/// The sums of each column's bytes, and of these times the number of rows before them.
+type Columns = ([u16; COLUMNS], [u16; COLUMNS]);
+
 /// The sum of the first 508 bytes, each times its place from 1 on.
 pub fn check_sum(block: &Block) -> u32 {
+    let (mut sums, mut by_rows): Columns = Default::default();
+    // Column by column, since the rows of a whole block are known: the compiler unrolls them, side by side.
+    for column in 0..COLUMNS {
+        for row in block.as_chunks::<COLUMNS>().0.iter().rev() {
+            by_rows[column] += sums[column];
+            sums[column] += u16::from(row[column]);
+        }
+    }
     let stored = block.iter().zip(1..).skip(SUMMED).map(|(byte, place)| place * u32::from(*byte));
-    weighted_sum(block.as_chunks().0) - stored.sum::<u32>()
+    weighted_sum((sums, by_rows)) - stored.sum::<u32>()
 }
 
 pub fn has_sum(block: &Block) -> bool {
@@ -23,7 +34,14 @@ pub fn has_sum_before(block: &Block, end: usize) -> bool {
     if end > SIZE - COLUMNS {
         return has_sum(block);
     }
-    weighted_sum(block[..end.next_multiple_of(COLUMNS)].as_chunks().0) == stored_sum(block)
+    let (mut sums, mut by_rows): Columns = Default::default();
+    for row in block[..end.next_multiple_of(COLUMNS)].as_chunks::<COLUMNS>().0.iter().rev() {
+        for column in 0..COLUMNS {
+            by_rows[column] += sums[column];
+            sums[column] += u16::from(row[column]);
+        }
+    }
+    weighted_sum((sums, by_rows)) == stored_sum(block)
 }
 
 /// Whether the bytes from here on to the check sum are zero.
@@ -44,17 +62,10 @@ fn stored_sum(block: &Block) -> u32 {
     u32::from_le_bytes([block[SUMMED], block[SUMMED + 1], block[SUMMED + 2], block[SUMMED + 3]])
 }
 
-/// Each byte times its place from 1 on. A byte's row counts as often as there are rows before it, which adding up the
-/// columns from the last row to the first does without a product; 16 rows of bytes have room in 16 bits.
+/// Each byte times its place from 1 on. A row counts as often as there are rows before it, which adding up the columns from
+/// the last row to the first does without a product; 16 rows of bytes have room in 16 bits.
 #[inline(always)]
-fn weighted_sum(rows: &[[u8; COLUMNS]]) -> u32 {
-    let (mut sums, mut by_rows) = ([0u16; COLUMNS], [0u16; COLUMNS]);
-    for row in rows.iter().rev() {
-        for column in 0..COLUMNS {
-            by_rows[column] += sums[column];
-            sums[column] += u16::from(row[column]);
-        }
-    }
+fn weighted_sum((sums, by_rows): Columns) -> u32 {
     let columns = sums.into_iter().zip(by_rows).zip(1..);
     columns.map(|((sum, by_row), place)| COLUMNS as u32 * u32::from(by_row) + place * u32::from(sum)).sum()
 }

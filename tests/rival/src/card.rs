@@ -102,16 +102,23 @@ impl Card {
         let entry = &mut self.entries[index];
         let text = &block[start..end];
         let fits = match kind {
-            Kind::String => true,
+            Kind::String => {
+                keep_text(text, need, &mut self.folded[start..end]);
+                true
+            }
             Kind::Number => keep(number::read(text), &mut entry.span),
             Kind::Date => keep(date::read(text), &mut entry.span),
             Kind::Period => keep(date::read_period(text), &mut entry.span),
-            Kind::Reference => !text.is_empty(),
+            Kind::Reference => {
+                keep_text(text, need, &mut self.folded[start..end]);
+                !text.is_empty()
+            }
             Kind::Token if SHARPER && need < Need::Values => has_code(text),
             Kind::Token => {
                 let bar = text.iter().position(|&byte| byte == b'|');
                 let (system_end, code) = bar.map_or((start, start), |bar| (start + bar, start + bar + 1));
                 (entry.system_end, entry.code) = (system_end as u16, code as u16);
+                keep_text(text, need, &mut self.folded[start..end]);
                 code < end
             }
         };
@@ -119,9 +126,6 @@ impl Card {
             (entry.start, entry.end) = (start as u16, end as u16);
             (entry.occurrence, entry.next) = (occurrence, self.heads[place]);
             self.heads[place] = index as u8;
-        }
-        if need == Need::Values && matches!(kind, Kind::String | Kind::Token | Kind::Reference) {
-            fold(text, &mut self.folded[start..end]);
         }
         fits
     }
@@ -131,6 +135,14 @@ impl Card {
 #[inline]
 fn keep(read: Option<Span>, span: &mut Span) -> bool {
     read.map(|read| *span = read).is_some()
+}
+
+/// Keeps a text folded, if some test compares it.
+#[inline(always)]
+fn keep_text(text: &[u8], need: Need, folded: &mut [u8]) {
+    if need == Need::Values {
+        fold(text, folded);
+    }
 }
 
 /// Whether a token has a code. A bar that is its last byte and its first bar leaves none: it is sought only there.

@@ -53,7 +53,10 @@ fn read_day(text: &[u8]) -> Option<Span> {
     let [a, b, c, d, _, e, f, _] = shaped(*first, *b"0000-00-")?;
     let (year, month) = (100 * two(a, b) + two(c, d), two(e, f));
     if let [high, low] = *rest {
-        let [high, low, ..] = shaped([high, low, b'0', b'0', b'0', b'0', b'0', b'0'], *b"00000000")?;
+        let (high, low) = (high.wrapping_sub(b'0'), low.wrapping_sub(b'0'));
+        if high > 9 || low > 9 {
+            return None;
+        }
         let low = DAY * start_of(year, month, two(high, low))?;
         return Some(Span { low, high: low + DAY });
     }
@@ -70,7 +73,7 @@ fn read_day(text: &[u8]) -> Option<Span> {
 }
 
 /// A second, and the minutes by which its zone is ahead.
-#[inline]
+#[inline(always)]
 fn read_second(text: &[u8]) -> Option<(i64, i64)> {
     match *text {
         [b':', a, b, b'Z'] => {
@@ -107,7 +110,7 @@ fn two(high: u8, low: u8) -> i64 {
 }
 
 /// The days from 1970-01-01 to this one, if it is one of the calendar.
-#[inline]
+#[inline(always)]
 fn start_of(year: i64, month: i64, day: i64) -> Option<i64> {
     let is_day = year > 0 && (1..=12).contains(&month) && day > 0 && day <= days_of_month(year, month);
     is_day.then(|| days(year, month, day))
