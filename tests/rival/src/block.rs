@@ -62,8 +62,8 @@ fn stored_sum(block: &Block) -> u32 {
     u32::from_le_bytes([block[SUMMED], block[SUMMED + 1], block[SUMMED + 2], block[SUMMED + 3]])
 }
 
-/// Each byte times its place from 1 on. A row counts as often as there are rows before it, which adding up the columns from
-/// the last row to the first does without a product; 16 rows of bytes have room in 16 bits.
+/// Each byte times its place from 1 on. A row counts as often as there are rows before it, which adding up the columns
+/// from the last row to the first does without a product; 16 rows of bytes have room in 16 bits.
 #[inline(always)]
 fn weighted_sum((sums, by_rows): Columns) -> u32 {
     let columns = sums.into_iter().zip(by_rows).zip(1..);

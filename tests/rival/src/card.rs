@@ -115,9 +115,7 @@ impl Card {
             }
             Kind::Token if SHARPER && need < Need::Values => has_code(text),
             Kind::Token => {
-                let bar = text.iter().position(|&byte| byte == b'|');
-                let (system_end, code) = bar.map_or((start, start), |bar| (start + bar, start + bar + 1));
-                (entry.system_end, entry.code) = (system_end as u16, code as u16);
+                let code = entry.split_token(text, start);
                 keep_text(text, need, &mut self.folded[start..end]);
                 code < end
             }
@@ -128,6 +126,17 @@ impl Card {
             self.heads[place] = index as u8;
         }
         fits
+    }
+}
+
+impl Entry {
+    /// Splits a token that begins at this place at its first bar, and tells where its code begins.
+    #[inline(always)]
+    fn split_token(&mut self, token: &[u8], start: usize) -> usize {
+        let bar = token.iter().position(|&byte| byte == b'|');
+        let (system_end, code) = bar.map_or((start, start), |bar| (start + bar, start + bar + 1));
+        (self.system_end, self.code) = (system_end as u16, code as u16);
+        code
     }
 }
 

@@ -1,5 +1,5 @@
-//! What a filter is compiled to: its tests, each with its value read and with the test that comes next on yes and on no,
-//! so that a test whose join is decided is never come to.
+//! What a filter is compiled to: its tests, each with its value read and with the test that comes next on yes and on
+//! no, so that a test whose join is decided is never come to.
 
 use crate::span::Span;
 use second::block::{Kind, MOST_PARAMETERS};

@@ -181,7 +181,7 @@ impl Compiler<'_> {
             }
         };
         if let Err(number) = meaning {
-            // A test with a condition is met before the tests in its brackets, and told after them.
+            // A test with a condition stands before the tests in its brackets, and gets its meaning after them.
             let is_first = self.fault.is_none_or(|fault| place < fault.place);
             self.fault = if is_first { Some(Refusal { number, place }) } else { self.fault };
         }

@@ -93,8 +93,8 @@ fn read_second(text: &[u8]) -> Option<(i64, i64)> {
     }
 }
 
-/// The values of the digits where the pattern has "0", if the other bytes are the pattern's: eight bytes as one number. A
-/// byte is the pattern's where they differ in nothing, and a digit where it differs from "0" by at most 9; more
+/// The values of the digits where the pattern has "0", if the other bytes are the pattern's: eight bytes as one number.
+/// A byte is the pattern's where they differ in nothing, and a digit where it differs from "0" by at most 9; more
 /// carries into the byte's highest bit.
 #[inline]
 fn shaped(text: [u8; 8], pattern: [u8; 8]) -> Option<[u8; 8]> {

@@ -1,8 +1,8 @@
 //! Select as an expert would write it in safe Rust without proofs: what the benchmark measures the proved library by.
 //!
-//! The filter is compiled once for a run to tests with their values read and jumps between them; a card's entries are read
-//! once, into lists that serve every card. The block's layout, the limits and the words of the filter are those of the
-//! second implementation; reading and judging are its own. A text that is no filter is refused with 11 at 0,
+//! The filter is compiled once for a run to tests with their values read and jumps between them; a card's entries are
+//! read once, into lists that serve every card. The block's layout, the limits and the words of the filter are those of
+//! the second implementation; reading and judging are its own. A text that is no filter is refused with 11 at 0,
 //! whichever of 11 to 13 it is.
 
 pub mod block;

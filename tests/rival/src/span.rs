@@ -1,7 +1,7 @@
 //! Spans on a line of whole numbers, as which numbers, dates and periods are compared.
 
-/// From `low` on to before `high`: the seconds of a date or a period; or the range of a number, in halves of billionths,
-/// whose middle is its value.
+/// From `low` on to before `high`: the seconds of a date or a period; or the range of a number, in halves of
+/// billionths, whose middle is its value.
 #[derive(Clone, Copy, Default)]
 pub struct Span {
     pub low: i64,

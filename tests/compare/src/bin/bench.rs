@@ -1,13 +1,13 @@
-//! The benchmark: how many cards per second the proved library selects from, by rows and by the filter's text, beside the
-//! rival and the sharper rival, and beside a lower bound that does nothing but sum the first 508 bytes of each card; and
-//! how many a second it takes one by one, by `judge`, by `match` and by select.
+//! The benchmark: how many cards per second the proved library selects from, by rows and by the filter's text, beside
+//! the rival and the sharper rival, and beside a lower bound that does nothing but sum the first 508 bytes of each card;
+//! and how many a second it takes one by one, by `judge`, by `match` and by select.
 //!
 //! `bench [CARDS [ROUNDS [ROWS]]]` prints a table in Markdown, or those of its rows that begin with ROWS, such as
 //! `full | 32`. The archives are made of a fixed seed. They are measured slice by slice, all taking turns on each,
 //! and for each slice the median time of the rounds counts, so that what else the machine does disturbs little.
 //!
-//! `bench CARDS ROUNDS ROWS ALONE` runs one implementation alone, `sirophan`, `rival`, `sharper` or `sum`, on the rows of
-//! the first table, so that a profiler can count its instructions.
+//! `bench CARDS ROUNDS ROWS ALONE` runs one implementation alone, `sirophan`, `rival`, `sharper` or `sum`, on the rows
+//! of the first table, so that a profiler can count its instructions.
 
 use second::block::{self, BUNDLE, Entry, MARKED_CARD, MARKED_SHEET, SIZE, SUMMED};
 use second::generate::Random;
@@ -253,8 +253,11 @@ fn speed(archive: &[u8], seconds: f64) -> f64 {
     (archive.len() / SIZE) as f64 / seconds / 1e6
 }
 
-/// The implementations that can be run alone, each asked of a run of cards.
-const ALONE: [(&str, fn(&[u8], &[u8], &[u8]) -> usize); 4] = [
+/// Work on cards under a sheet and a filter, which answers a number.
+type Asking = fn(&[u8], &[u8], &[u8]) -> usize;
+
+/// The implementations that can be run alone, by their names.
+const ALONE: [(&str, Asking); 4] = [
     ("sirophan", |sheet, filter, cards| {
         matching(cards, |run, list| sirophan::select(sheet, filter, run, list).expect("a good filter"))
     }),
@@ -274,7 +277,7 @@ fn rows_of<'a>(asked: &'a Asked, rows: &'a str) -> impl Iterator<Item = (String,
 }
 
 /// Runs one implementation alone on the rows of one archive that begin with the text.
-fn run_alone(asked: &Asked, rows: &str, work: fn(&[u8], &[u8], &[u8]) -> usize) {
+fn run_alone(asked: &Asked, rows: &str, work: Asking) {
     for (row, filter) in rows_of(asked, rows) {
         println!("{row}: {}", work(&asked.sheet, filter, &asked.archive));
     }

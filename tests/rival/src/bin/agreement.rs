@@ -1,8 +1,8 @@
 //! Compares the rival and the sharper rival with the second implementation on generated inputs.
 //!
-//! `agreement [SEED [CASES]]` prints how often each answer was given; its last line counts the cases in which both agree
-//! with it in every answer and every cell of the list, and those in which they do not. For 11 to 13, a text that
-//! is no filter, the rivals say 11 at 0.
+//! `agreement [SEED [CASES]]` prints how often each answer was given; its last line counts the cases in which both
+//! agree with it in every answer and every cell of the list, and those in which they do not. For 11 to 13, a text
+//! that is no filter, the rivals say 11 at 0.
 
 use second::differential::SEED;
 use second::generate;
