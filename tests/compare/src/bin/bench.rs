@@ -1,6 +1,6 @@
 //! The benchmark: how many cards per second the proved library selects from, by rows and by the filter's text, beside
-//! the rival and the sharper rival, and beside a lower bound that does nothing but sum the first 508 bytes of each card;
-//! and how many a second it takes one by one, by `judge`, by `match` and by select.
+//! the rival and the sharper rival, and beside a lower bound that does nothing but sum the first 508 bytes of each
+//! card; and how many a second it takes one by one, by `judge`, by `match` and by select.
 //!
 //! `bench [CARDS [ROUNDS [ROWS]]]` prints a table in Markdown, or those of its rows that begin with ROWS, such as
 //! `full | 32`. The archives are made of a fixed seed. They are measured slice by slice, all taking turns on each,
@@ -307,8 +307,8 @@ fn measure(asked: &Asked, rounds: usize, rows: &str) {
     }
 }
 
-/// Prints the rows of one archive, one card at a time, that begin with the text: judge on rows that were prepared before,
-/// match, and select from a run of one card.
+/// Prints the rows of one archive, one card at a time, that begin with the text: judge on rows that were prepared
+/// before, match, and select from a run of one card.
 fn measure_single(Asked { kind, sheet, archive, filters }: &Asked, rounds: usize, rows: &str) {
     for (name, filter) in filters {
         let row = format!("{kind}, one by one | {name}");
