@@ -1,7 +1,5 @@
 //! The proved library, by its Rust interface, in the terms of the second implementation.
 
-pub mod skipping;
-
 use second::operations::{Refusal, Tally};
 
 pub fn refusal(refusal: sirophan::Refusal) -> Refusal {

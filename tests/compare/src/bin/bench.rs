@@ -1,17 +1,20 @@
-//! The benchmark: how many cards per second the proved library selects from, by rows and by the filter's text, beside the
-//! second implementation made to leave out decided tests, and beside a lower bound that does nothing but sum the first
-//! 508 bytes of each card; and how many a second it takes one by one, by `judge`, by `match` and by select.
+//! The benchmark: how many cards per second the proved library selects from, by rows and by the filter's text, beside
+//! the rival and the sharper rival, and beside a lower bound that does nothing but sum the first 508 bytes of each
+//! card; and how many a second it takes one by one, by `judge`, by `match` and by select.
 //!
 //! `bench [CARDS [ROUNDS [ROWS]]]` prints a table in Markdown, or those of its rows that begin with ROWS, such as
 //! `full | 32`. The archives are made of a fixed seed. They are measured slice by slice, all taking turns on each,
 //! and for each slice the median time of the rounds counts, so that what else the machine does disturbs little.
+//!
+//! `bench CARDS ROUNDS ROWS ALONE` runs one implementation alone, `sirophan`, `rival`, `sharper` or `sum`, on the rows
+//! of the first table, so that a profiler can count its instructions.
 
-use compare::skipping;
 use second::block::{self, BUNDLE, Entry, MARKED_CARD, MARKED_SHEET, SIZE, SUMMED};
 use second::generate::Random;
 use second::operations;
 use sirophan::Engine;
 use std::hint::black_box;
+use std::iter;
 use std::process::ExitCode;
 use std::time::Instant;
 
@@ -21,8 +24,6 @@ const ROUNDS: usize = 5;
 const RUN: usize = 128;
 /// How many bytes are measured at a time.
 const SLICE: usize = 8 * RUN * SIZE;
-/// How many bytes of a card stand in a row, where it is summed by columns.
-const COLUMNS: usize = 32;
 
 /// The filters, by the number and kind of their tests.
 fn filters() -> Vec<(&'static str, String)> {
@@ -177,24 +178,12 @@ fn matching(cards: &[u8], select: impl Fn(&[u8], &mut [u32]) -> usize) -> usize 
     cards.chunks(RUN * SIZE).map(|run| select(black_box(run), &mut list)).sum()
 }
 
-/// The sum of the cards' check sums. As in the proved library a card is summed by columns, since the second
-/// implementation's sum is slower than the library's whole work on a card with few entries.
+/// The sum of the cards' check sums, by columns as the rival and the proved library take it.
 fn summed(cards: &[u8]) -> usize {
-    cards.chunks(SIZE).map(|card| check_sum(black_box(card).try_into().expect("whole cards")) as usize).sum()
-}
-
-fn check_sum(card: &[u8; SIZE]) -> u32 {
-    let (mut sums, mut rows) = ([0u16; COLUMNS], [0u16; COLUMNS]);
-    for column in 0..COLUMNS {
-        for row in card.chunks_exact(COLUMNS).rev() {
-            rows[column] += sums[column];
-            sums[column] += u16::from(row[column]);
-        }
-    }
-    let columns = sums.into_iter().zip(rows).zip(1..);
-    let total: u32 = columns.map(|((sum, row), place)| COLUMNS as u32 * u32::from(row) + place * u32::from(sum)).sum();
-    let rest: u32 = card.iter().zip(1..).skip(SUMMED).map(|(byte, place)| place * u32::from(*byte)).sum();
-    total - rest
+    cards
+        .chunks(SIZE)
+        .map(|card| rival::block::check_sum(black_box(card).try_into().expect("whole cards")) as usize)
+        .sum()
 }
 
 /// Work on cards, which answers a number.
@@ -264,46 +253,62 @@ fn speed(archive: &[u8], seconds: f64) -> f64 {
     (archive.len() / SIZE) as f64 / seconds / 1e6
 }
 
-/// Prints the rows of one archive that begin with the text.
-fn measure(Asked { kind, sheet, archive, filters }: &Asked, rounds: usize, rows: &str) {
-    for (name, filter) in filters {
-        let row = format!("{kind} | {name}");
-        if !row.starts_with(rows) {
-            continue;
-        }
-        let filter = filter.as_bytes();
-        let works = [
-            Measured::new(archive, move |cards| {
-                matching(cards, |run, list| sirophan::select(sheet, filter, run, list).expect("a good filter"))
-            }),
-            Measured::new(archive, move |cards| {
-                matching(cards, |run, list| {
-                    sirophan::select_by(Engine::Text, sheet, filter, run, list).expect("a good filter")
-                })
-            }),
-            Measured::new(archive, move |cards| {
-                matching(cards, |run, list| skipping::select(sheet, filter, run, list).expect("a good filter"))
-            }),
-            Measured::new(archive, summed),
-        ];
-        let [(found, proved), (by_text, text), (plain_found, plain), (sums, sum)] =
-            taking_turns(archive, rounds, works);
-        assert_eq!([found, found], [by_text, plain_found], "all select the same number of cards");
-        assert_eq!(sums, archive.chunks(SIZE).map(|card| block::check_sum(&card[..SUMMED]) as usize).sum());
-        println!(
-            "| {row} | {found} | {:.2} | {:.2} | {:.2} | {:.2} | {:.2} | {:.2} |",
-            speed(archive, proved),
-            speed(archive, text),
-            speed(archive, plain),
-            speed(archive, sum),
-            plain / proved,
-            sum / proved,
-        );
+/// Work on cards under a sheet and a filter, which answers a number.
+type Asking = fn(&[u8], &[u8], &[u8]) -> usize;
+
+/// The implementations that can be run alone, by their names.
+const ALONE: [(&str, Asking); 4] = [
+    ("sirophan", |sheet, filter, cards| {
+        matching(cards, |run, list| sirophan::select(sheet, filter, run, list).expect("a good filter"))
+    }),
+    ("rival", |sheet, filter, cards| {
+        matching(cards, |run, list| rival::select(sheet, filter, run, list).expect("a good filter"))
+    }),
+    ("sharper", |sheet, filter, cards| {
+        matching(cards, |run, list| rival::select_sharper(sheet, filter, run, list).expect("a good filter"))
+    }),
+    ("sum", |_, _, cards| summed(cards)),
+];
+
+/// The rows of one archive that begin with the text, each with its filter.
+fn rows_of<'a>(asked: &'a Asked, rows: &'a str) -> impl Iterator<Item = (String, &'a [u8])> {
+    let named = asked.filters.iter().map(|(name, filter)| (format!("{} | {name}", asked.kind), filter.as_bytes()));
+    named.filter(move |(row, _)| row.starts_with(rows))
+}
+
+/// Runs one implementation alone on the rows of one archive that begin with the text.
+fn run_alone(asked: &Asked, rows: &str, work: Asking) {
+    for (row, filter) in rows_of(asked, rows) {
+        println!("{row}: {}", work(&asked.sheet, filter, &asked.archive));
     }
 }
 
-/// Prints the rows of one archive, one card at a time, that begin with the text: judge on rows that were prepared before,
-/// match, and select from a run of one card.
+/// Prints the rows of one archive that begin with the text.
+fn measure(asked: &Asked, rounds: usize, rows: &str) {
+    let Asked { sheet, archive, .. } = asked;
+    for (row, filter) in rows_of(asked, rows) {
+        let alone = ALONE.map(|(_, work)| Measured::new(archive, move |cards| work(sheet, filter, cards)));
+        let by_text = Measured::new(archive, move |cards| {
+            matching(cards, |run, list| {
+                sirophan::select_by(Engine::Text, sheet, filter, run, list).expect("a good filter")
+            })
+        });
+        let [proved, rival, sharper, sum] = alone;
+        let works = [proved, by_text, rival, sharper, sum];
+        let [(found, proved), (by_text, text), (by_rival, rival), (by_sharper, sharper), (sums, sum)] =
+            taking_turns(archive, rounds, works);
+        assert_eq!([found; 3], [by_text, by_rival, by_sharper], "all select the same number of cards");
+        assert_eq!(sums, archive.chunks(SIZE).map(|card| block::check_sum(&card[..SUMMED]) as usize).sum());
+        print!("| {row} | {found} |");
+        for seconds in [proved, text, rival, sharper, sum] {
+            print!(" {:.2} |", speed(archive, seconds));
+        }
+        println!(" {:.2} | {:.2} | {:.2} |", rival / proved, sharper / proved, sum / proved);
+    }
+}
+
+/// Prints the rows of one archive, one card at a time, that begin with the text: judge on rows that were prepared
+/// before, match, and select from a run of one card.
 fn measure_single(Asked { kind, sheet, archive, filters }: &Asked, rounds: usize, rows: &str) {
     for (name, filter) in filters {
         let row = format!("{kind}, one by one | {name}");
@@ -340,13 +345,9 @@ fn strings() -> Vec<(&'static str, String)> {
 }
 
 /// Prints the rows of one archive, asked by search strings, that begin with the text.
-fn measure_search(Asked { kind, sheet, archive, filters }: &Asked, rounds: usize, rows: &str) {
-    for (name, text) in filters {
-        let row = format!("{kind} | {name}");
-        if !row.starts_with(rows) {
-            continue;
-        }
-        let text = text.as_bytes();
+fn measure_search(asked: &Asked, rounds: usize, rows: &str) {
+    let Asked { sheet, archive, .. } = asked;
+    for (row, text) in rows_of(asked, rows) {
         let works = [
             Measured::new(archive, move |cards| {
                 matching(cards, |run, list| sirophan::select_search(sheet, text, run, list).expect("a good string"))
@@ -371,28 +372,36 @@ fn singly(cards: &[u8], says: impl Fn(&[u8]) -> bool) -> usize {
     cards.chunks(SIZE).filter(|card| says(black_box(card))).count()
 }
 
-fn main() -> ExitCode {
-    let arguments: Vec<String> = std::env::args().skip(1).collect();
-    let number = |index: usize, otherwise| arguments.get(index).map_or(Ok(otherwise), |text| text.parse());
-    let (Ok(cards), Ok(rounds)) = (number(0, CARDS), number(1, ROUNDS)) else {
-        eprintln!("usage: bench [CARDS [ROUNDS [ROWS]]]");
-        return ExitCode::FAILURE;
+/// The archives that filters are asked of by select, made one at a time.
+fn archives(cards: usize) -> impl Iterator<Item = Asked> {
+    let plain = [("sparse", 1), ("usual", 6), ("full", 64)].into_iter().map(move |(kind, most_entries)| Asked {
+        kind,
+        sheet: sheet(),
+        archive: archive(cards, most_entries),
+        filters: filters(),
+    });
+    let bundled = move || Asked {
+        kind: "bundled",
+        sheet: bundled_sheet(),
+        archive: bundled_archive(cards),
+        filters: bundled_filters(),
     };
-    let rows = arguments.get(2).map_or("", |text| text);
+    let stays =
+        move || Asked { kind: "stays", sheet: stay_sheet(), archive: stay_archive(cards), filters: stay_filters() };
+    plain.chain(iter::once_with(bundled)).chain(iter::once_with(stays))
+}
+
+/// Prints the tables of everything that is measured by the clock.
+fn print_tables(cards: usize, rounds: usize, rows: &str) {
     println!("{cards} cards in runs of {RUN}; millions of cards per second, the median of {rounds} rounds.\n");
-    println!("| cards | tests | match | Sirophan | by text | plain Rust | sum only | to plain Rust | to sum only |");
-    println!("|---|---|---:|---:|---:|---:|---:|---:|---:|");
-    for (kind, most_entries) in [("sparse", 1), ("usual", 6), ("full", 64)] {
-        let asked = Asked { kind, sheet: sheet(), archive: archive(cards, most_entries), filters: filters() };
+    print!("| cards | tests | match | Sirophan | by text | rival | sharper rival | sum only ");
+    println!("| to rival | to sharper rival | to sum only |");
+    println!("|---|---|---:|---:|---:|---:|---:|---:|---:|---:|---:|");
+    for asked in archives(cards) {
         measure(&asked, rounds, rows);
     }
-    let asked =
-        Asked { kind: "bundled", sheet: bundled_sheet(), archive: bundled_archive(cards), filters: bundled_filters() };
-    measure(&asked, rounds, rows);
-    let asked = Asked { kind: "stays", sheet: stay_sheet(), archive: stay_archive(cards), filters: stay_filters() };
-    measure(&asked, rounds, rows);
     println!("\nBy a search string.\n");
-    println!("| cards | alternatives | match | Sirophan | plain Rust | to plain Rust |");
+    println!("| cards | alternatives | match | Sirophan | second implementation | to second implementation |");
     println!("|---|---|---:|---:|---:|---:|");
     let asked = Asked { kind: "usual", sheet: sheet(), archive: archive(cards, 6), filters: strings() };
     measure_search(&asked, rounds, rows);
@@ -404,6 +413,24 @@ fn main() -> ExitCode {
         let filters = filters().into_iter().filter(|(name, _)| ["1, number", "32, mixed"].contains(name)).collect();
         let asked = Asked { kind, sheet: sheet(), archive: archive(few, most_entries), filters };
         measure_single(&asked, rounds, rows);
+    }
+}
+
+fn main() -> ExitCode {
+    let arguments: Vec<String> = std::env::args().skip(1).collect();
+    let number = |index: usize, otherwise| arguments.get(index).map_or(Ok(otherwise), |text| text.parse());
+    let rows = arguments.get(2).map_or("", |text| text);
+    let alone = arguments.get(3).map(|wanted| ALONE.iter().find(|(name, _)| name == wanted));
+    match (number(0, CARDS), number(1, ROUNDS), alone) {
+        (Ok(cards), Ok(rounds), None) => print_tables(cards, rounds, rows),
+        (Ok(cards), Ok(rounds), Some(Some((_, work)))) => {
+            let run = |_| archives(cards).for_each(|asked| run_alone(&asked, rows, *work));
+            (0..rounds).for_each(run);
+        }
+        _ => {
+            eprintln!("usage: bench [CARDS [ROUNDS [ROWS [sirophan|rival|sharper|sum]]]]");
+            return ExitCode::FAILURE;
+        }
     }
     ExitCode::SUCCESS
 }
