@@ -165,7 +165,9 @@ fn verify_cards(sheet: &Sheet, name: &str, cards: Input) -> Result<Held, Failure
             (faults_of_piece(&fit, first, piece), piece.len() / SIZE)
         },
         |(found, cards)| {
-            found.into_iter().for_each(|fault| faults.add(count, format!("{name}: {fault}")));
+            for fault in found {
+                faults.add(count, format!("{name}: {fault}"));
+            }
             count += cards as u64;
             Ok(())
         },
