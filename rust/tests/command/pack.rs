@@ -217,12 +217,12 @@ fn packed_texts_are_shown_again() {
     let before = folder.read("cards.bin");
     let shown = folder.run(&["show", "cards.bin"]).output;
     let lines = shown.lines().filter(|line| !line.starts_with("  name "));
-    let described = lines.map(|line| match line.strip_prefix("card ") {
-        Some(title) => format!("record: {}\n", title.split(' ').nth(2).unwrap().trim_end_matches(',')),
-        None => {
-            let (head, rest) = line.trim_start().split_once(' ').unwrap();
-            format!("{head} {}\n", rest.trim_start().strip_prefix("string").unwrap())
+    let described = lines.map(|line| {
+        if let Some(title) = line.strip_prefix("card ") {
+            return format!("record: {}\n", title.split(' ').nth(2).unwrap().trim_end_matches(','));
         }
+        let (head, rest) = line.trim_start().split_once(' ').unwrap();
+        format!("{head} {}\n", rest.trim_start().strip_prefix("string").unwrap())
     });
     folder.write("cards.txt", described.collect::<String>());
     assert_eq!(folder.run(&["pack", ".", "."]).status, 0);

@@ -13,6 +13,9 @@
 //! - what these are made of: `search`, and `sheet`, `filter`, `kind` and `block` of the library's interface;
 //! - in and out: `arguments`, `input`, `stream`, `interrupt`, `report`, `width`, `progress`, `table`, `json`, `text`.
 
+// `text` and `test`, `held` and `help`: a word that is used for one thing everywhere is not changed for another that is near it.
+#![allow(clippy::similar_names)]
+
 mod advice;
 mod arguments;
 mod asked;

@@ -143,13 +143,11 @@ fn compare(folder: &str, described: &Sheet, packed: &Sheet) -> Result<(), Failur
             return differs(format!("{cards_name}: card {index} is not record {record} as {cards_text} describes it."));
         }
     }
-    match blocks.fill(&mut packed)? {
-        0 => Ok(()),
-        _ => {
-            let count = grouped(cards.count);
-            differs(format!("{cards_name} has more cards than the {count} that {cards_text} describes."))
-        }
+    if blocks.fill(&mut packed)? == 0 {
+        return Ok(());
     }
+    let count = grouped(cards.count);
+    differs(format!("{cards_name} has more cards than the {count} that {cards_text} describes."))
 }
 
 /// What the cards hold, where all of them fit; else what is wrong with those that do not.
