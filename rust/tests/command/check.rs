@@ -93,6 +93,7 @@ fn check_helps_with_tests() {
 }
 
 #[test]
+#[expect(clippy::too_many_lines, reason = "it is one table")]
 fn check_helps_with_texts_that_are_no_filters() {
     let sheet = "string title\nbundle related\ntoken related.type\nreference related.target\n";
     let folder = Folder::packed("check-texts", sheet, "record: 1\n", "title pr true");

@@ -1,5 +1,8 @@
 //! The command `sirophan` as it is run: what it says on both streams, and its status. Messages are compared whole.
 
+// Descriptions are made line by line and collected, which reads as what it is; none is long or made often.
+#![allow(clippy::format_collect)]
+
 mod check;
 mod doubts;
 mod explain;

@@ -1,6 +1,7 @@
 //! `sirophan pack`.
 
 use crate::folder::{Folder, PROGRAM, REPOSITORY};
+use std::fmt::Write as _;
 use std::fs;
 use std::io::Write;
 use std::os::unix::process::ExitStatusExt;
@@ -190,19 +191,19 @@ fn packed_texts_are_shown_again() {
     let (mut cards, mut expected) = (String::new(), String::new());
     for index in 0..60 {
         let record = [0, 7, u32::MAX][below(3)];
-        cards += &format!("record:  {record}\n");
+        writeln!(cards, "record:  {record}").unwrap();
         let mut entries = Vec::new();
         for _ in 0..below(12) {
             let head = ["a", "b.c", "b#1.c", "d#255.c"][below(4)];
             let text: String = (0..below(12)).map(|_| letters[below(letters.len())]).collect();
             let written: String = text.bytes().map(|byte| format!("\\x{byte:02X}")).collect();
-            cards += &format!("{head} \t \"{written}\" \n");
+            writeln!(cards, "{head} \t \"{written}\" ").unwrap();
             let escaped = text.replace('\\', "\\\\").replace('"', "\\\"").replace('\t', "\\u0009");
             let escaped = escaped.replace('\u{7F}', "\\u007f");
             entries.push(format!("{{\"name\":\"{head}\",\"kind\":\"string\",\"text\":\"{escaped}\"}}"));
         }
         let entries = entries.join(",");
-        expected += &format!("{{\"card\":{index},\"record\":{record},\"entries\":[{entries}],\"faults\":[]}}\n");
+        writeln!(expected, "{{\"card\":{index},\"record\":{record},\"entries\":[{entries}],\"faults\":[]}}").unwrap();
     }
     folder.write("cards.txt", cards);
     folder.run(&["pack", ".", "."]).says(
@@ -216,12 +217,12 @@ fn packed_texts_are_shown_again() {
     let before = folder.read("cards.bin");
     let shown = folder.run(&["show", "cards.bin"]).output;
     let lines = shown.lines().filter(|line| !line.starts_with("  name "));
-    let described = lines.map(|line| match line.strip_prefix("card ") {
-        Some(title) => format!("record: {}\n", title.split(' ').nth(2).unwrap().trim_end_matches(',')),
-        None => {
-            let (head, rest) = line.trim_start().split_once(' ').unwrap();
-            format!("{head} {}\n", rest.trim_start().strip_prefix("string").unwrap())
+    let described = lines.map(|line| {
+        if let Some(title) = line.strip_prefix("card ") {
+            return format!("record: {}\n", title.split(' ').nth(2).unwrap().trim_end_matches(','));
         }
+        let (head, rest) = line.trim_start().split_once(' ').unwrap();
+        format!("{head} {}\n", rest.trim_start().strip_prefix("string").unwrap())
     });
     folder.write("cards.txt", described.collect::<String>());
     assert_eq!(folder.run(&["pack", ".", "."]).status, 0);

@@ -147,16 +147,16 @@ fn search_says_what_may_be_meant_otherwise() {
         "warning: birthdate is a token, and 1 of 1 value looks like a date.\n\
          \x20 If it holds dates, the sheet gives it the wrong kind, and a filter asks something else than it seems to.\n",
     );
-    let quotes = "asks for its quotes too.\n  A search string has no quotes: leave them out.\n";
+    let told = "asks for its quotes too.\n  A search string has no quotes: leave them out.\n";
     let near = |pair: &str| {
         format!(
             "warning: no card meets `{pair}`: 1 value differs only in points and the like, such as \"x\".\n\
              \x20 Such texts are compared byte by byte: copy it from a card. It stands on record 1.\n"
         )
     };
-    let quoted = format!("warning: the value \"\\\"x\\\"\" of title {quotes}{}", near("title=%22x%22"));
+    let quoted = format!("warning: the value \"\\\"x\\\"\" of title {told}{}", near("title=%22x%22"));
     folder.search("title=%22x%22").says(0, "0 of 1\n", &quoted);
-    let quoted = format!("warning: the value 'x' of title {quotes}{}", near("title='x'"));
+    let quoted = format!("warning: the value 'x' of title {told}{}", near("title='x'"));
     folder.search("title='x'").says(0, "0 of 1\n", &quoted);
     folder.search("title=x\r\n").says(
         0,

@@ -57,7 +57,7 @@ fn show_takes_any_bytes() {
     let folder = Folder::new("show-bytes");
     for first in [0x50, 0x51, 0x43, 0x44, 0] {
         for seed in 0..40_u32 {
-            let byte = |at: u32| (at.wrapping_mul(2_654_435_761).wrapping_add(seed * 40_503) >> 13) as u8;
+            let byte = |at: u32| (at.wrapping_mul(2_654_435_761).wrapping_add(seed * 40_503) >> 13).to_le_bytes()[0];
             let noise: Vec<u8> = [first].into_iter().chain((1..512 + seed).map(byte)).collect();
             folder.write("noise.bin", noise);
             let said = folder.run(&["show", "noise.bin"]);

@@ -31,7 +31,7 @@ fn terminal() -> (File, File) {
 
 /// All that was written to a terminal, once its writers have gone; the end of it is an error.
 fn shown(mut reader: File) -> String {
-    let mut bytes = [0; 1 << 16];
+    let mut bytes = vec![0; 1 << 16];
     let mut shown = Vec::new();
     while let Ok(count @ 1..) = reader.read(&mut bytes) {
         shown.extend(&bytes[..count]);

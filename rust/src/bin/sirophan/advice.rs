@@ -86,18 +86,14 @@ impl Question {
     fn tell_filter(&self, refusal: Refusal) -> Message {
         let filter = Filter::read(&self.text);
         let test = filter.as_ref().and_then(|filter| filter.test_at(refusal.place));
-        match (refusal.number, test) {
-            (14..=18, Some(test)) => {
-                let shown = Some(sirophan::underline(&self.text, test.whole.clone()));
-                let help = test_help(refusal.number, &self.sheet, &self.text, test);
-                Message { shown, ..told(refusal, &self.text_name, help) }
-            }
-            _ => {
-                let message = text_refused(&self.text_name, &self.text, &self.sheet.parameters, refusal);
-                let help = search_advice::of_filter(&self.sheet, &self.text);
-                Message { help: [help, message.help].concat(), ..message }
-            }
+        if let (14..=18, Some(test)) = (refusal.number, test) {
+            let shown = Some(sirophan::underline(&self.text, test.whole.clone()));
+            let help = test_help(refusal.number, &self.sheet, &self.text, test);
+            return Message { shown, ..told(refusal, &self.text_name, help) };
         }
+        let message = text_refused(&self.text_name, &self.text, &self.sheet.parameters, refusal);
+        let help = search_advice::of_filter(&self.sheet, &self.text);
+        Message { help: [help, message.help].concat(), ..message }
     }
 }
 

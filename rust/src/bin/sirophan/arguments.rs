@@ -6,6 +6,7 @@ use crate::text::grouped;
 
 /// What was given behind a command's name.
 #[derive(Debug, Default, PartialEq, Eq)]
+#[expect(clippy::struct_excessive_bools, reason = "each is a switch of the command line")]
 pub struct Arguments {
     /// The paths; where a text was given by -e, that stands in the place of its file.
     pub paths: Vec<String>,

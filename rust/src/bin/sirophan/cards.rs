@@ -31,7 +31,7 @@ where
     R: Send,
 {
     let processors = thread::available_parallelism().map_or(1, NonZero::get);
-    let pieces = input.size.map_or(usize::MAX, |size| size as usize / PIECE + 1);
+    let pieces = input.size.map_or(usize::MAX, |size| usize::try_from(size / PIECE as u64 + 1).unwrap_or(usize::MAX));
     let source = Mutex::new(Source::new(input));
     let sink = Mutex::new(Sink { next: 0, waiting: BTreeMap::new(), take, outcome: Ok(()) });
     let worker = || {

@@ -234,10 +234,10 @@ fn parameter(kind: u8, path: &[u8], paths: &[&[u8]]) -> Result<Parameter, String
         return Ok(Parameter { kind, bundle: 0, name: path.to_vec() });
     };
     let bundle = &path[..dot];
-    let Some(place) = paths.iter().position(|path| *path == bundle) else {
+    let Some(place) = (1..).zip(paths).find_map(|(place, path)| (*path == bundle).then_some(place)) else {
         return Err(format!("{} is a member of {}, which is not on the sheet.", spell(path), spell(bundle)));
     };
-    Ok(Parameter { kind, bundle: place as u8 + 1, name: path[dot + 1..].to_vec() })
+    Ok(Parameter { kind, bundle: place, name: path[dot + 1..].to_vec() })
 }
 
 /// The sheet of these parameters, if the library finds it sound; else what is wrong is said at the parameter's line.
@@ -354,7 +354,7 @@ impl<'a> Cards<'a> {
             size => Err(format!("the text has {size} bytes, and an entry has room for {LONGEST_TEXT}. Shorten it.")),
         });
         match found {
-            Ok((place, occurrence)) => Some(Entry { line: number, head, place: place as u8, occurrence, text }),
+            Ok((place, occurrence)) => Some(Entry { line: number, head, place, occurrence, text }),
             Err(fault) => {
                 self.description.fault(number, &format!("record {record}, {head}: {fault}"));
                 None
@@ -363,7 +363,7 @@ impl<'a> Cards<'a> {
     }
 
     /// The place and the occurrence that a head names: `title`, `related.type` or `related#1.type`.
-    fn place(&self, head: &str) -> Result<(usize, u8), String> {
+    fn place(&self, head: &str) -> Result<(u8, u8), String> {
         let (path, number) = match head.split_once('#') {
             None => (head.to_string(), "0"),
             Some((bundle, rest)) => {
@@ -371,8 +371,9 @@ impl<'a> Cards<'a> {
                 (if name.is_empty() { bundle.into() } else { format!("{bundle}.{name}") }, number)
             }
         };
-        let place = self.paths.iter().position(|other| *other == path).ok_or_else(|| self.unknown(&path))?;
-        if head.contains('#') && self.fit.sheet.parameters[place].bundle == 0 {
+        let place = (0..).zip(&self.paths).find_map(|(place, other)| (*other == path).then_some(place));
+        let place: u8 = place.ok_or_else(|| self.unknown(&path))?;
+        if head.contains('#') && self.fit.sheet.parameters[usize::from(place)].bundle == 0 {
             return Err(format!("{path} is no member of a bundle, and takes no number. Leave out #{number}."));
         }
         let is_number = !number.is_empty() && number.bytes().all(|byte| byte.is_ascii_digit());

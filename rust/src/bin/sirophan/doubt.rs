@@ -120,7 +120,7 @@ fn speaks_of_date(name: &str) -> bool {
 /// The places of the parameters that are asked, each once.
 pub fn places(asked: &[Asked]) -> Vec<usize> {
     let mut places: Vec<usize> = asked.iter().map(|asked| asked.place).collect();
-    places.sort();
+    places.sort_unstable();
     places.dedup();
     places
 }

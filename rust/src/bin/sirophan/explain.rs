@@ -112,13 +112,11 @@ impl Walk<'_> {
 
     /// Whether a card is to be explained.
     fn is_wanted(&self, index: u64, card: &[u8]) -> Result<bool, Failure> {
-        match self.arguments.record {
-            Some(record) => Ok(Sort::of(card) == Sort::Card && block::record(card) == record),
-            None => {
-                let Question { words, sheet, text, .. } = self.question;
-                words.matches(&sheet.block, text, card).map_err(|refusal| self.refused(refusal, index, card))
-            }
+        if let Some(record) = self.arguments.record {
+            return Ok(Sort::of(card) == Sort::Card && block::record(card) == record);
         }
+        let Question { words, sheet, text, .. } = self.question;
+        words.matches(&sheet.block, text, card).map_err(|refusal| self.refused(refusal, index, card))
     }
 
     fn refused(&self, refusal: Refusal, index: u64, card: &[u8]) -> Failure {

@@ -26,7 +26,7 @@ impl Input {
             return Ok(Input { name: shown(path), size: None, shows_progress: true, from: Box::new(Stream::input()) });
         }
         let file = File::open(path).map_err(|reason| Failure::file(path, "opened", reason))?;
-        let size = file.metadata().ok().filter(|data| data.is_file()).map(|data| data.len());
+        let size = file.metadata().ok().filter(std::fs::Metadata::is_file).map(|data| data.len());
         let from = Box::new(BufReader::with_capacity(1 << 16, file));
         Ok(Input { name: path.into(), size, shows_progress: true, from })
     }

@@ -61,5 +61,7 @@ pub fn removes(path: &Path) {
 
 /// Leaves all paths where they are from now on.
 pub fn keeps_all() {
-    HALF_WRITTEN.iter().for_each(|place| place.store(ptr::null_mut(), Ordering::SeqCst));
+    for place in &HALF_WRITTEN {
+        place.store(ptr::null_mut(), Ordering::SeqCst);
+    }
 }

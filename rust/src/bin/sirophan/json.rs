@@ -29,13 +29,11 @@ pub fn array(values: &[String]) -> String {
 
 /// A text of a card: a string where it is UTF-8, else an object with its bytes in hexadecimal.
 pub fn bytes(text: &[u8]) -> String {
-    match str::from_utf8(text) {
-        Ok(text) => string(text),
-        Err(_) => {
-            let digits: String = text.iter().map(|byte| format!("{byte:02x}")).collect();
-            object(&[("hex", string(&digits))])
-        }
+    if let Ok(text) = str::from_utf8(text) {
+        return string(text);
     }
+    let digits: Vec<String> = text.iter().map(|byte| format!("{byte:02x}")).collect();
+    object(&[("hex", string(&digits.concat()))])
 }
 
 #[cfg(test)]

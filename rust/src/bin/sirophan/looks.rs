@@ -22,6 +22,7 @@ const DAY_YEARS: std::ops::RangeInclusive<u32> = 1800..=2099;
 
 /// What a value looks like.
 #[derive(Clone, Copy, Debug, Default, PartialEq, Eq)]
+#[expect(clippy::struct_excessive_bools, reason = "a value can look like several of these at once")]
 pub struct Look {
     pub date: Option<Spelling>,
     pub period: Option<Spelling>,
@@ -50,7 +51,7 @@ impl Look {
     }
 
     /// Whether it is a number that no code is spelled like: with a sign, a comma, thousands or a part below one.
-    pub fn certain_number(&self, value: &[u8]) -> Option<Spelling> {
+    pub fn certain_number(self, value: &[u8]) -> Option<Spelling> {
         let certain = self.number == Some(Other) || value.starts_with(b"0.");
         self.number.filter(|_| certain && self.date.is_none())
     }
@@ -291,6 +292,7 @@ mod tests {
 
     /// Values that a clerk types.
     #[test]
+    #[expect(clippy::too_many_lines, reason = "it is one table")]
     fn looks_of_values() {
         let mut wrong = Vec::new();
         for (look, values) in [

@@ -13,6 +13,9 @@
 //! - what these are made of: `search`, and `sheet`, `filter`, `kind` and `block` of the library's interface;
 //! - in and out: `arguments`, `input`, `stream`, `interrupt`, `report`, `width`, `progress`, `table`, `json`, `text`.
 
+// `text` and `test`, `held` and `help`: a word that is used for one thing everywhere is not changed for another that is near it.
+#![allow(clippy::similar_names)]
+
 mod advice;
 mod arguments;
 mod asked;
@@ -296,7 +299,7 @@ fn main() -> ExitCode {
 
 /// Runs the command that was given; a failure comes with whether it is to be told as JSON.
 fn run() -> Result<(), (Failure, bool)> {
-    let given: Result<Vec<String>, _> = env::args_os().skip(1).map(|argument| argument.into_string()).collect();
+    let given: Result<Vec<String>, _> = env::args_os().skip(1).map(std::ffi::OsString::into_string).collect();
     let given = given.map_err(|_| usage_failure("An argument is not UTF-8."))?;
     let Some((name, given)) = given.split_first() else {
         return Err(usage_failure("No command was given."));

@@ -148,6 +148,7 @@ impl Failure {
     }
 
     /// A file that something cannot be done with.
+    #[expect(clippy::needless_pass_by_value, reason = "the reason is given away where an error is mapped")]
     pub fn file(name: &str, what: &str, reason: io::Error) -> Failure {
         let reason = reason.to_string();
         let words = reason.split(" (os error").next().unwrap_or_default();

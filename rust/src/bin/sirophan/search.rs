@@ -100,7 +100,9 @@ mod tests {
     /// Cuts, encodings and backslashes.
     #[test]
     fn parts() {
-        let one = |name: &str, texts: &[&str]| (name.to_string(), texts.iter().map(|text| text.to_string()).collect());
+        let one = |name: &str, texts: &[&str]| {
+            (name.to_string(), texts.iter().map(std::string::ToString::to_string).collect())
+        };
         assert_eq!(texts("a=b&c=d,e"), [one("a", &["b"]), one("c", &["d", "e"])]);
         assert_eq!(texts("a=b%2Cc%5C,d"), [one("a", &["b", "c,d"])]);
         assert_eq!(texts("a%3D=%26+=,"), [one("a=", &["& =", ""])]);

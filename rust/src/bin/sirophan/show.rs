@@ -105,7 +105,7 @@ impl View {
                 0 => break,
                 SIZE => self.block(index, &block, &beside)?,
                 size if self.record.is_none() => {
-                    self.oddity(index, &format!("has only {}", counted(size as u64, "byte")))?
+                    self.oddity(index, &format!("has only {}", counted(size as u64, "byte")))?;
                 }
                 _ => {}
             }

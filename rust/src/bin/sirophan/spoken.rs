@@ -223,22 +223,22 @@ pub fn is_date(tokens: &[Token]) -> bool {
             *month <= 12 && YEARS.contains(year)
         }
         [Digits(year, 4), Sign('/'), Digits(month, 2)] => (1..=12).contains(month) && YEARS.contains(year),
-        [Digits(day, 8), Word(t), Digits(_, 4 | 6)] | [Digits(day, 8), Word(t), Digits(_, 4 | 6), Word(_)]
-            if t == "t" =>
+        [Digits(day, 8), Word(time), Digits(_, 4 | 6)] | [Digits(day, 8), Word(time), Digits(_, 4 | 6), Word(_)]
+            if time == "t" =>
         {
-            YEARS.contains(&(day / 10_000)) && is_day([(day / 10_000, 4), (day / 100 % 100, 2), (day % 100, 2)])
+            YEARS.contains(&(day / 10_000)) && is_day(&[(day / 10_000, 4), (day / 100 % 100, 2), (day % 100, 2)])
         }
-        [Digits(a, n), Digits(b, m), Digits(c, l)] => is_day([(*a, *n), (*b, *m), (*c, *l)]),
+        [Digits(..), Digits(..), Digits(..)] => is_day(&numbers(&said)),
         [Digits(year, 4), Sign('-'), Digits(0, 2)] => YEARS.contains(year),
-        [Digits(a, n), Sign(s), Digits(b, m), Sign(t), Digits(c, l)] if s == t && "./-".contains(*s) => {
-            is_day([(*a, *n), (*b, *m), (*c, *l)])
+        [Digits(..), Sign(sign), Digits(..), Sign(other), Digits(..)] if sign == other && "./-".contains(*sign) => {
+            is_day(&numbers(&said))
         }
         _ => is_day_in_words(&said),
     }
 }
 
 /// Whether a piece may be left out of a date.
-fn is_beside(token: &&Token) -> bool {
+fn is_beside(token: &Token) -> bool {
     match token {
         Word(word) if is_month(word) => false,
         Word(word) => BESIDE.contains(&&word[..]) || ENDINGS.contains(&&word[..]) || is_cut_of(word, &WEEKDAYS),
@@ -247,29 +247,33 @@ fn is_beside(token: &&Token) -> bool {
     }
 }
 
+/// The numbers among pieces, each with how many digits it has.
+fn numbers(tokens: &[&Token]) -> Vec<(u32, usize)> {
+    tokens
+        .iter()
+        .filter_map(|token| if let Digits(number, length) = token { Some((*number, *length)) } else { None })
+        .collect()
+}
+
 /// Three numbers that are a day, a month and a year, or a year, a month and a day. A short year is two digits.
-fn is_day(parts: [(u32, usize); 3]) -> bool {
-    let [(a, n), (b, m), (c, l)] = parts;
+fn is_day(numbers: &[(u32, usize)]) -> bool {
+    let &[(first, first_length), (middle, 1..=2), (last, last_length)] = numbers else { return false };
     // People write 0 for a day or a month that they do not know.
     let day_of = |day: u32, month: u32| day <= 31 && month <= 12;
-    let short = n <= 2 && m <= 2;
-    match (n, l) {
-        (4, 1..=2) => m <= 2 && YEARS.contains(&a) && day_of(c, b),
-        (_, 4) if short => YEARS.contains(&c) && (day_of(a, b) || day_of(b, a)),
-        (_, 2) if short => day_of(a, b) || day_of(b, a) || (a > 31 && day_of(c, b)),
+    match (first_length, last_length) {
+        (4, 1..=2) => YEARS.contains(&first) && day_of(last, middle),
+        (1..=2, 4) => YEARS.contains(&last) && (day_of(first, middle) || day_of(middle, first)),
+        (1..=2, 2) => day_of(first, middle) || day_of(middle, first) || (first > 31 && day_of(last, middle)),
         _ => false,
     }
 }
 
 /// A month's name with a year, and perhaps a day.
 fn is_day_in_words(said: &[&Token]) -> bool {
-    let parts: Vec<&&Token> =
-        said.iter().filter(|token| !matches!(token, Sign('.' | '-' | '/' | '\'' | '\u{2019}'))).collect();
+    let is_sign = |token: &Token| matches!(token, Sign('.' | '-' | '/' | '\'' | '\u{2019}'));
+    let parts: Vec<&Token> = said.iter().copied().filter(|token| !is_sign(token)).collect();
     let months = parts.iter().filter(|token| matches!(token, Word(word) if is_month(word))).count();
-    let numbers: Vec<(u32, usize)> = parts
-        .iter()
-        .filter_map(|token| if let Digits(number, length) = token { Some((*number, *length)) } else { None })
-        .collect();
+    let numbers = numbers(&parts);
     let is_year = |(number, length): &(u32, usize)| *length == 4 && YEARS.contains(number);
     let is_short = |(number, length): &(u32, usize)| *length <= 2 && (1..=31).contains(number);
     months == 1
@@ -331,7 +335,7 @@ fn are_parts(tokens: &[Token]) -> bool {
         Sign(sign) => ".-/".contains(*sign),
         Digits(..) => false,
     };
-    let all = tokens.iter().all(|token| is_part(&token) || is_between(token) || is_beside(&token));
+    let all = tokens.iter().all(|token| is_part(&token) || is_between(token) || is_beside(token));
     let parts = tokens.iter().filter(is_part).count();
     let is_joint = |token: &Token| matches!(token, Sign('-')) || matches!(token, Word(word) if is_month(word));
     all && tokens.iter().any(is_year) && tokens.iter().any(is_joint) && parts > 2
@@ -385,8 +389,7 @@ fn after_between(mut tokens: &[Token]) -> &[Token] {
 /// A year, or a date in any spelling.
 fn is_end(tokens: &[Token]) -> bool {
     match tokens {
-        [Digits(year, 4)] => YEARS.contains(year),
-        [Digits(year, 4), Sign('-'), Digits(1..=12, 2)] => YEARS.contains(year),
+        [Digits(year, 4)] | [Digits(year, 4), Sign('-'), Digits(1..=12, 2)] => YEARS.contains(year),
         _ => is_date(tokens),
     }
 }

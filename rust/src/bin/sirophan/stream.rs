@@ -37,31 +37,28 @@ static BEFORE_MAIN: extern "C" fn() = note_closed;
 
 /// A standard stream, which is not closed when this goes.
 pub struct Stream {
-    descriptor: c_int,
+    was_closed: &'static AtomicBool,
     file: ManuallyDrop<File>,
 }
 
 impl Stream {
     pub fn input() -> Stream {
-        Stream::new(INPUT)
+        Stream::new(INPUT, &CLOSED[0])
     }
 
     pub fn output() -> Stream {
-        Stream::new(OUTPUT)
+        Stream::new(OUTPUT, &CLOSED[1])
     }
 
-    fn new(descriptor: c_int) -> Stream {
+    fn new(descriptor: c_int, was_closed: &'static AtomicBool) -> Stream {
         // SAFETY: the descriptor stays open as long as the program runs, for nothing here closes it.
         let file = ManuallyDrop::new(unsafe { File::from_raw_fd(descriptor) });
-        Stream { descriptor, file }
+        Stream { was_closed, file }
     }
 
     /// An error where the stream was closed when the program began.
     fn open(&self) -> io::Result<()> {
-        match CLOSED[self.descriptor as usize].load(Ordering::Relaxed) {
-            true => Err(io::Error::from_raw_os_error(BAD_DESCRIPTOR)),
-            false => Ok(()),
-        }
+        if self.was_closed.load(Ordering::Relaxed) { Err(io::Error::from_raw_os_error(BAD_DESCRIPTOR)) } else { Ok(()) }
     }
 }
 

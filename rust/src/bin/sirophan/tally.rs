@@ -108,7 +108,9 @@ impl Firsts {
         let mut found = [&self.0[..], &other.0].concat();
         found.sort();
         let mut firsts = Firsts::default();
-        found.iter().for_each(|(index, value)| firsts.take(*index, value));
+        for (index, value) in &found {
+            firsts.take(*index, value);
+        }
         firsts
     }
 }
@@ -244,7 +246,7 @@ struct Risen {
 /// What is counted of a parameter.
 #[derive(Clone, Default)]
 struct Asked {
-    asked: bool,
+    counts: bool,
     /// The word of its kind, and which likenesses are doubtful for it.
     word: &'static str,
     doubtful: Vec<usize>,
@@ -269,7 +271,7 @@ impl<'a> Counter<'a> {
             let word = kind::by_number(sheet.parameters[place].kind).map_or("", |kind| kind.word);
             let doubtful = (0..LIKENESSES.len()).filter(|&row| LIKENESSES[row].doubtful.contains(&word)).collect();
             let watched = (0..watched.len()).filter(|&number| watched[number].0 == place).collect();
-            asked[place] = Asked { asked: true, word, doubtful, watched };
+            asked[place] = Asked { counts: true, word, doubtful, watched };
         }
         Counter { sheet, asked, watched: watched.iter().map(|(_, value)| value.clone()).collect(), is_quick: false }
     }
@@ -332,7 +334,7 @@ impl<'a> Counter<'a> {
         let mut seen = 0_u32;
         for item in block::items(card) {
             let place = usize::from(item.byte);
-            let Some(asked) = self.asked.get(place).filter(|asked| asked.asked) else { continue };
+            let Some(asked) = self.asked.get(place).filter(|asked| asked.counts) else { continue };
             let is_new = seen & 1 << place == 0;
             seen |= 1 << place;
             let field = &mut tally.fields[place];
@@ -350,7 +352,7 @@ impl<'a> Counter<'a> {
                 tally.seen[number] |= is_value(asked.word, item.text, &self.watched[number]);
             }
         }
-        let is_enough = |(field, asked): (&Field, &Asked)| field.values > ENOUGH || !asked.asked;
+        let is_enough = |(field, asked): (&Field, &Asked)| field.values > ENOUGH || !asked.counts;
         if self.is_quick && !tally.is_enough {
             tally.is_enough = tally.fields.iter().zip(&self.asked).all(is_enough);
         }
@@ -412,7 +414,7 @@ fn rises(mut risen: Vec<Risen>, falls: bool) -> bool {
 /// The numbers that stand several times among these, in order, each with how many times.
 fn repeated(mut records: Vec<u32>) -> Vec<(u32, u64)> {
     // This sort is quick where there are few runs that rise.
-    records.sort();
+    records.sort_unstable();
     let runs = records.chunk_by(|one, other| one == other).filter(|run| run.len() > 1);
     runs.map(|run| (run[0], run.len() as u64)).collect()
 }

@@ -10,17 +10,17 @@ use crate::sheet::Sheet;
 pub fn that_meet(sheet: &Sheet, asked: &Asked, words: Words, text: &[u8], card: &[u8]) -> Vec<Vec<u8>> {
     let items: Vec<Item> = block::items(card).collect();
     let bundle = sheet.parameters[asked.place].bundle;
-    let place = asked.place as u8;
+    let is_asked = |item: &Item| usize::from(item.byte) == asked.place;
     let is_member = |item: &&Item| {
         bundle > 0 && sheet.parameters.get(usize::from(item.byte)).is_some_and(|other| other.bundle == bundle)
     };
     let meets = |item: &&Item| {
-        let beside = items.iter().filter(is_member).filter(|other| other.byte != place && other.mark == item.mark);
+        let beside = items.iter().filter(is_member).filter(|other| !is_asked(other) && other.mark == item.mark);
         let alone: Vec<Item> = beside.copied().chain([**item]).collect();
         let card = block::write_card(0, &alone);
         card.is_some_and(|card| words.matches(&sheet.block, text, &card).unwrap_or(false))
     };
-    items.iter().filter(|item| item.byte == place).filter(meets).map(|item| item.text.to_vec()).collect()
+    items.iter().filter(|item| is_asked(item)).filter(meets).map(|item| item.text.to_vec()).collect()
 }
 
 /// All values of a card under a parameter.

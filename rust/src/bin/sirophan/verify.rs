@@ -143,13 +143,11 @@ fn compare(folder: &str, described: &Sheet, packed: &Sheet) -> Result<(), Failur
             return differs(format!("{cards_name}: card {index} is not record {record} as {cards_text} describes it."));
         }
     }
-    match blocks.fill(&mut packed)? {
-        0 => Ok(()),
-        _ => {
-            let count = grouped(cards.count);
-            differs(format!("{cards_name} has more cards than the {count} that {cards_text} describes."))
-        }
+    if blocks.fill(&mut packed)? == 0 {
+        return Ok(());
     }
+    let count = grouped(cards.count);
+    differs(format!("{cards_name} has more cards than the {count} that {cards_text} describes."))
 }
 
 /// What the cards hold, where all of them fit; else what is wrong with those that do not.
@@ -165,7 +163,9 @@ fn verify_cards(sheet: &Sheet, name: &str, cards: Input) -> Result<Held, Failure
             (faults_of_piece(&fit, first, piece), piece.len() / SIZE)
         },
         |(found, cards)| {
-            found.into_iter().for_each(|fault| faults.add(count, format!("{name}: {fault}")));
+            for fault in found {
+                faults.add(count, format!("{name}: {fault}"));
+            }
             count += cards as u64;
             Ok(())
         },

@@ -39,7 +39,7 @@ pub fn of_stream(descriptor: c_int) -> Option<usize> {
 fn of_terminal(descriptor: c_int) -> Option<usize> {
     let mut size = Size::default();
     // SAFETY: the system writes a size, for which there is room, and only where the descriptor is a terminal.
-    let is_terminal = unsafe { ioctl(descriptor, GET_WINDOW_SIZE, &mut size as *mut Size) } == 0;
+    let is_terminal = unsafe { ioctl(descriptor, GET_WINDOW_SIZE, &raw mut size) } == 0;
     is_terminal.then_some(usize::from(size.columns))
 }
 
@@ -56,7 +56,7 @@ pub fn wrapped(line: &str, columns: usize, hanging: usize) -> String {
         if !fresh && last.chars().count() + space + word.chars().count() > columns {
             lines.push(format!("{}{word}", " ".repeat(start + hanging)));
         } else {
-            *last += &format!("{}{word}", " ".repeat(space));
+            last.extend([&" ".repeat(space), word]);
         }
         fresh = false;
     }
@@ -70,7 +70,7 @@ pub fn paragraphs(text: &str, columns: usize) -> String {
     for line in text.lines() {
         let joins = open && !line.is_empty() && !line.starts_with(' ');
         match lines.last_mut().filter(|_| joins) {
-            Some(last) => *last += &format!(" {line}"),
+            Some(last) => last.extend([" ", line]),
             None => lines.push(line.into()),
         }
         open = !line.is_empty() && !line.starts_with(' ');
