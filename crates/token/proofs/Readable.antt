@@ -1,17 +1,18 @@
 -- Laws of readable tokens, as the code tests them.
 -- Assumes nothing.
-use mathlib.Core.Path.{_≡_, refl, sym, ap}
+use mathlib.Core.Path.{_≡_, refl, sym, ap, subst, _∙_}
 use Prim.Native.Nat.{ℕ, _+_, _-_, _≤_, _<_}
 use native.Mathlib.Omega.{arith}
-use mathlib.Core.Bool.{true, false, not}
+use mathlib.Core.Bool.{Bool, true, false, not}
 use mathlib.Core.List.{List, [], _∷_}
 use mathlib.Core.Logic.{inl, inr, ⊎-elim}
 use lib.Dec.{eqb, ltb}
 use lib.ListN.{length, getD, take, drop, length-drop}
 use lib.Seq.{length-take-le}
-use borrow.Author.Tests.{lt-ltb, ltb-true, eqb-true, eqb-false}
+use borrow.Author.Tests.{lt-ltb, ltb-true, ltb-false, eq-eqb, eqb-true, eqb-false}
 use Rattle.base.specs.Options.{isSome}
-use Rattle.base.proofs.Tests.{decided, same-test}
+use Rattle.base.proofs.Tests.{decided, same-test, both-ways}
+use Rattle.base.specs.Runs.{run, differs}
 use Rattle.base.proofs.Lists.{rest}
 use Rattle.text.specs.Bar.{bar}
 use Rattle.base.specs.Split.{firstOf, whole, parts}
@@ -43,6 +44,41 @@ module _ (t : List ℕ) (i : ℕ) (e : i ≡ firstOf bar t) where
   card-readable-at-bar h =
       rw (split-parts bar t i e h, rest t (i + 1), tokenOf-readable (take i t) (drop (i + 1) t), length-drop (i + 1) t)
       (ltb-left (i + 1) (length t))
+
+-- where the first bar is found there is one
+bar-stands : (t : List ℕ) → firstOf bar t < length t → getD t (firstOf bar t) 0 ≡ bar
+unfolding run
+bar-stands [] h = absurd (omega (arith, h))
+bar-stands (x ∷ t) h = by-byte (bar-stands t) (eqb x bar) refl
+  where
+    by-byte : (firstOf bar t < length t → getD t (firstOf bar t) 0 ≡ bar) → (w : Bool) → eqb x bar ≡ w → getD (x ∷ t) (run (differs bar) (x ∷ t)) 0 ≡ bar
+    by-byte later true e = rw e (eqb-true x bar e)
+    by-byte later false e = let k = rw e at h in rw e (later (omega (arith, k)))
+
+-- a text that is not empty and whose last byte is no bar
+module _ (t : List ℕ) (l : (length t ≡ 0) → ⊥) (last : ℕ) (e : last ≡ length t - 1) (n : getD t last 0 ≡ bar → ⊥) where
+  pub card-ends-in-code : true ≡ cardReadable t
+  card-ends-in-code = by-place (ltb (firstOf bar t) (length t)) refl
+    where
+      by-place : (w : Bool) → ltb (firstOf bar t) (length t) ≡ w → true ≡ cardReadable t
+      by-place true p =
+          let inside : firstOf bar t < length t = ltb-true (firstOf bar t) (length t) p in
+          let other : firstOf bar t ≡ last → ⊥ = λ q. n (subst (λ (k : ℕ). getD t k 0 ≡ bar) q (bar-stands t inside)) in
+          sym (lt-ltb (firstOf bar t + 1) (length t) (omega (arith, inside, other, e))) ∙ card-readable-at-bar t (firstOf bar t) refl inside
+      by-place false p =
+          let past : length t ≤ firstOf bar t = ltb-false (firstOf bar t) (length t) p in
+          let some : 0 < length t = omega (arith, l) in
+          sym (lt-ltb 0 (length t) some) ∙ card-readable-no-bar t (firstOf bar t) refl past
+
+pub ends-empty : (t : List ℕ) → false ≡ true → true ≡ cardReadable t
+ends-empty t h = both-ways h refl
+
+pub ends-code : (t : List ℕ) → (length t ≡ 0 → ⊥) → (r : Bool) → r ≡ not (eqb (getD t (length t - 1) 0) bar) → r ≡ true → true ≡ cardReadable t
+ends-code t l r g h =
+    card-ends-in-code t l (length t - 1) refl (λ z. absurd (both-ways h (g ∙ ap not (eq-eqb (getD t (length t - 1) 0) bar z))))
+
+pub code-readable : (t : List ℕ) (r : Bool) → (r ≡ true → true ≡ cardReadable t) → r ≡ true → true ≡ cardReadable t
+code-readable t r h y = h y
 
 -- ---- filters
 

@@ -1,6 +1,7 @@
 // Tokens: system and code on a card, and the four forms that are asked for, matched against each other.
 // A text is split at a bar, and the parts before and after it are handed on as slices.
 ghost use mathlib.Core.Path.{_≡_};
+ghost use mathlib.Core.Bool.{true};
 ghost use mathlib.Core.Option.{some};
 ghost use Rattle.text.specs.Compare.{same};
 ghost use Rattle.base.specs.Split.{parts};
@@ -9,10 +10,24 @@ ghost use Rattle.token.specs.Filter.{splitForm, formAt, readableAt, filt
 ghost use Rattle.token.specs.Namespace.{namespaceOf, systemOf};
 ghost use Rattle.token.specs.Match.{meets, matches, matchesAt};
 
-// Whether a card's text is a token: "system, perhaps empty, and code, not empty".
+// Whether the last byte of a text is no bar: then it ends in a code, wherever a bar stands.
+fn ends_in_code(s: &[u8]) -> bool
+    ensures { λ r. ⌜ (r ≡ true → true ≡ cardReadable (now (s .entry))) ⌝ }
+{
+    if s.len() == 0 {
+        return false;
+    }
+    let last = s.len() - 1;
+    s[last] != b'|'
+}
+
+// Whether a card's text is a token: "system, perhaps empty, and code, not empty". A bar is sought only where one is last.
 pub fn card_readable(s: &[u8]) -> bool
     ensures { λ r. ⌜ r ≡ cardReadable (now (s .entry)) ⌝ }
 {
+    if ends_in_code(s) {
+        return true;
+    }
     let bar = base::first_of(s, b'|');
     if bar < s.len() {
         return bar + 1 < s.len();
