@@ -39,7 +39,8 @@ fn answers(rows: Vec<u32>, both: bool) -> Vec<Result<bool, u32>> {
 fn nested(count: usize) -> [Vec<u32>; 3] {
     let nots = [TEST].into_iter().chain(std::iter::repeat_n(NOT, count - 1)).collect();
     let joins = (0..count).map(|at| if at % 2 == 0 { TEST } else { and(count - 1 - at) }).collect();
-    let conditions = (0..count).map(|at| if at % 2 == 0 { condition(count.saturating_sub(at + 2)) } else { TEST }).collect();
+    let conditions =
+        (0..count).map(|at| if at % 2 == 0 { condition(count.saturating_sub(at + 2)) } else { TEST }).collect();
     [nots, joins, conditions]
 }
 
@@ -72,7 +73,8 @@ fn sizes_that_lie_are_refused() {
     let largest = u32::MAX as usize / 8 - 1;
     for size in [0, 2, 3, 319, 320, 321, largest] {
         for cell in [and(size), condition(size)] {
-            for rows in [vec![cell], vec![cell, TEST], vec![TEST, cell], vec![TEST, cell, TEST], vec![cell, TEST, TEST]] {
+            for rows in [vec![cell], vec![cell, TEST], vec![TEST, cell], vec![TEST, cell, TEST], vec![cell, TEST, TEST]]
+            {
                 assert_eq!(answers(rows, true), [Err(40), Err(40)]);
             }
         }
