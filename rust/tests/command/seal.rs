@@ -50,7 +50,12 @@ fn the_seal_of_pack() {
     folder.run(&["verify", "."]).says(0, &format!("{told}: all go together\n"), "");
     folder.run(&["seal", "."]).says(0, "3 cards and a sheet with 5 parameters, sealed by ./archive.txt\n", "");
     assert_eq!(String::from_utf8(folder.read("archive.txt")).unwrap(), seal);
-    folder.run(&["seal", "."]).says(0, "3 cards and a sheet with 5 parameters, sealed by ./archive.txt\n", "");
+    let hashes: Vec<&str> = seal.lines().skip(1).map(|line| line.split(' ').next().unwrap()).collect();
+    let json = format!(
+        "{{\"cards\":3,\"parameters\":5,\"sheet_sha256\":\"{}\",\"cards_sha256\":\"{}\",\"warnings\":[]}}\n",
+        hashes[0], hashes[1]
+    );
+    folder.run(&["seal", "--json", "."]).says(0, &json, "");
 }
 
 /// A sheet whose two dates are swapped is sound, and its cards fit it.

@@ -286,7 +286,7 @@ const COMMANDS: [Command; 11] = [
         help: "It writes archive.txt, as `sirophan pack` does, for sheet.bin and cards.bin in DIR that another program has made: how \
                many cards there are, and the SHA-256 of both files. It goes through all cards before, and seals none that do not \
                fit. It warns where a seal was there and said something else.\n\n\
-               All commands that are given a sheet or cards with archive.txt beside them give no answer where the sheet is another, \
+               All commands but show that are given a sheet or cards with archive.txt beside them give no answer where the sheet is another, \
                or the cards are fewer or more. Whether each card is as it was says `sirophan verify` alone.\n\n\
                Example:\n\n\
                \x20   $ sirophan seal ward\n\
