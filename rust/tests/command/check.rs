@@ -221,26 +221,26 @@ fn check_helps_with_sheets() {
     let check = |sheet: &str| folder.run(&["check", sheet, "filter.txt"]);
     folder.write("sheet.txt", "string title\n");
     check("sheet.txt").fails(
-        2,
+        4,
         "sheet.txt: refused 1 at 0: The sheet is not 512 bytes long.\n\
          \x20 It is a text. A description becomes a sheet by `sirophan pack DIR OUT`.\n",
     );
     check("cards.bin").fails(
-        2,
+        4,
         "cards.bin: refused 1 at 0: The sheet is not 512 bytes long.\n\
          \x20 It begins as a card does. The sheet is another file, such as sheet.bin.\n",
     );
     folder.write("empty.bin", "");
-    check("empty.bin").fails(2, "empty.bin: refused 1 at 0: The sheet is not 512 bytes long.\n  It has 0 bytes.\n");
+    check("empty.bin").fails(4, "empty.bin: refused 1 at 0: The sheet is not 512 bytes long.\n  It has 0 bytes.\n");
     folder.change("sheet.bin", |sheet| sheet[2] = 9);
     check("sheet.bin").fails(
-        2,
+        4,
         "sheet.bin: refused 2 at 0: The sheet's check sum is wrong.\n\
          \x20 It was changed or damaged since it was written: pack it again from its description.\n",
     );
     folder.change("sheet.bin", |sheet| sum(sheet, 0));
     check("sheet.bin").fails(
-        2,
+        4,
         "sheet.bin: refused 3 at 0: The sheet breaks its layout, or the rules for its names or its bundles.\n\
          \x20 title has kind 9, which no kind has.\n",
     );
@@ -249,7 +249,7 @@ fn check_helps_with_sheets() {
         sum(sheet, 0);
     });
     check("sheet.bin").fails(
-        2,
+        4,
         "sheet.bin: refused 3 at 0: The sheet breaks its layout, or the rules for its names or its bundles.\n\
          \x20 title is a bundle, and a sheet that begins with 0x50 has none: it begins with 0x51.\n",
     );

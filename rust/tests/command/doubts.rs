@@ -53,9 +53,10 @@ fn one_odd_value_does_not_hide_dates() {
         "card 29, record 30: no\ndischarge eq 1975\n^^^^^^^^^^^^^^^^^\nno\n  discharge eq 1975   no: unknown\n",
         &doubt,
     );
-    let found =
-        |what| format!("the {what}: 30 cards, a sheet with 1 parameter, a filter with 1 test: all go together\n");
-    folder.run(&["verify", "."]).says(0, &(found("description") + &found("blocks")), &doubt);
+    let found = |what, seal| {
+        format!("the {what}: 30 cards, a sheet with 1 parameter, a filter with 1 test{seal}: all go together\n")
+    };
+    folder.run(&["verify", "."]).says(0, &(found("description", "") + &found("blocks", ", a seal")), &doubt);
     let fields = "30 cards\n  field      kind   cards  values  example\n  discharge  token  30     30      1973-02\n";
     folder.run(&["fields", files[0], files[2]]).says(0, &format!("{fields}{doubt}"), "");
 }
@@ -346,8 +347,9 @@ fn record_numbers_and_empty_archives() {
     std::fs::remove_file(folder.path.join("filter.txt")).unwrap();
     let packed = "3 cards and a sheet with 1 parameter, in .\n";
     folder.run(&["pack", ".", "."]).says(0, packed, &doubt("./cards.txt"));
-    let told = |what| format!("the {what}: 3 cards, a sheet with 1 parameter: all go together\n");
-    folder.run(&["verify", "."]).says(0, &(told("description") + &told("blocks")), &doubt("./cards.bin"));
+    let told = "the description: 3 cards, a sheet with 1 parameter: all go together\n\
+                the blocks: 3 cards, a sheet with 1 parameter, a seal: all go together\n";
+    folder.run(&["verify", "."]).says(0, told, &doubt("./cards.bin"));
     folder.pick_by("title eq a").says(0, "7\n1 of 3\n", &doubt("cards.bin"));
     folder.pick_by("title eq b").says(0, "8\n1 of 3\n", "");
 

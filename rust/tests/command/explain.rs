@@ -53,12 +53,12 @@ fn explain_refuses() {
         .fails(2, "cards.bin: no card has the record number 3.\n");
     folder.change("cards.bin", |cards| cards[512 + 100] = 1);
     let refused = folder.run(&["explain", "--record", "2", "sheet.bin", "filter.txt", "cards.bin"]);
-    assert_eq!((refused.status, refused.output.as_str()), (2, ""));
+    assert_eq!((refused.status, refused.output.as_str()), (4, ""));
     assert!(refused.errors.starts_with("cards.bin: refused 21 at 1: "), "{}", refused.errors);
     assert_eq!(folder.run(&["explain", "--record", "1", "sheet.bin", "filter.txt", "cards.bin"]).status, 0);
     folder.change("cards.bin", |cards| cards.truncate(600));
     let refused = folder.run(&["explain", "--record", "1", "sheet.bin", "filter.txt", "cards.bin"]);
-    assert_eq!((refused.status, refused.output.as_str()), (2, ""));
+    assert_eq!((refused.status, refused.output.as_str()), (4, ""));
     assert!(refused.errors.starts_with("cards.bin: refused 20 at 0: "), "{}", refused.errors);
 }
 

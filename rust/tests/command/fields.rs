@@ -22,7 +22,7 @@ fn fields_show_what_the_cards_hold() {
     );
     folder.change("cards.bin", |cards| cards.truncate(600));
     folder.run(&["fields", "sheet.bin", "cards.bin"]).fails(
-        2,
+        4,
         "cards.bin: refused 20 at 0: The card is not 512 bytes long, or the run is no whole number of cards or over 128.\n\
          \x20 Behind its last whole card it has 88 bytes.\n",
     );
@@ -101,7 +101,7 @@ fn fields_of_a_sheet_without_fields() {
         sum(cards, 512);
     });
     folder.run(&["fields", "sheet.bin", "cards.bin"]).fails(
-        2,
+        4,
         "cards.bin: refused 23 at 1: The card does not fit the sheet: a text is under a bundle or no parameter, or cannot be read.\n\
          \x20 card 1, record 2: b: a bundle has no texts of its own. Put the text under one of its members.\n\
          \x20 There is no answer until it is put right. `sirophan show --record 2 cards.bin` shows it.\n",

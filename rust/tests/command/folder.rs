@@ -54,6 +54,12 @@ impl Folder {
         fs::read(self.path.join(name)).unwrap()
     }
 
+    /// Takes the seal away, so that blocks can be changed that no seal names.
+    pub fn unsealed(&self) -> &Folder {
+        fs::remove_file(self.path.join("archive.txt")).unwrap();
+        self
+    }
+
     /// The names of the files, in order.
     pub fn files(&self) -> Vec<String> {
         let entries = fs::read_dir(&self.path).unwrap();

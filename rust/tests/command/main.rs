@@ -13,6 +13,7 @@ mod pack;
 mod pick;
 mod plain;
 mod report;
+mod seal;
 mod search;
 mod show;
 mod streams;

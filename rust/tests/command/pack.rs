@@ -16,7 +16,7 @@ fn pack_writes_blocks() {
     for name in ["sheet.bin", "cards.bin"] {
         assert!(folder.read(name) == fs::read(format!("{REPOSITORY}/crates/pick/data/{name}")).unwrap(), "{name}");
     }
-    assert_eq!(folder.files(), ["cards.bin", "filter.txt", "sheet.bin"]);
+    assert_eq!(folder.files(), ["archive.txt", "cards.bin", "filter.txt", "sheet.bin"]);
     let sheet = "token related.type\nbundle related\nstring title\nbundle b\ndate b.type\n";
     let cards = "record: 7\ntitle x\nrelated#1.type a\nb#255.type 1974\nrecord: 8\nrelated.type a\nb#0.type 1974\n";
     let folder = Folder::packed("pack-bundles", sheet, cards, "title pr true");
@@ -70,7 +70,7 @@ fn pack_tells_the_faults_of_cards() {
     folder.run(&["pack", ".", "."]).fails(2, &message);
     folder.run(&["pack", ".", "new"]).fails(2, &message);
     assert_eq!(folder.read("cards.bin"), before);
-    assert_eq!(folder.files(), ["cards.bin", "cards.txt", "filter.txt", "sheet.bin", "sheet.txt"]);
+    assert_eq!(folder.files(), ["archive.txt", "cards.bin", "cards.txt", "filter.txt", "sheet.bin", "sheet.txt"]);
 }
 
 /// A card and a text take what they have room for, and no more.
@@ -262,10 +262,14 @@ fn pack_without_a_filter() {
     fs::remove_file(folder.path.join("filter.txt")).unwrap();
     folder.run(&["pack", ".", "new"]).says(0, "1 card and a sheet with 1 parameter, in new\n", "");
     assert!(!folder.path.join("new/filter.txt").exists());
-    folder.run(&["verify", "new"]).says(0, "the blocks: 1 card, a sheet with 1 parameter: all go together\n", "");
+    folder.run(&["verify", "new"]).says(
+        0,
+        "the blocks: 1 card, a sheet with 1 parameter, a seal: all go together\n",
+        "",
+    );
     folder.run(&["verify", "--json", "new"]).says(
         0,
-        "{\"verified\":\"blocks\",\"cards\":1,\"parameters\":1,\"tests\":null,\"warnings\":[]}\n",
+        "{\"verified\":\"blocks\",\"cards\":1,\"parameters\":1,\"tests\":null,\"sealed\":true,\"warnings\":[]}\n",
         "",
     );
 }

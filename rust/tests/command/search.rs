@@ -19,7 +19,7 @@ fn search_lists_and_counts() {
     );
     folder.change("cards.bin", |cards| cards[600] ^= 1);
     let damaged = folder.search("title=ward");
-    assert_eq!((damaged.status, damaged.output.as_str()), (2, ""));
+    assert_eq!((damaged.status, damaged.output.as_str()), (4, ""));
     assert!(damaged.errors.starts_with("cards.bin: refused 21 at 1: "), "{}", damaged.errors);
 }
 

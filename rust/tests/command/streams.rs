@@ -28,7 +28,7 @@ fn files_that_are_missing() {
          \x20 This is to be a file. The text itself is given by -e in its place.\n",
     );
     folder.run(&["pick", "sheet.bin", "filter.txt", "."]).fails(3, "sirophan: . cannot be read: Is a directory\n");
-    assert_eq!(folder.files(), ["cards.bin", "filter.txt", "sheet.bin"]);
+    assert_eq!(folder.files(), ["archive.txt", "cards.bin", "filter.txt", "sheet.bin"]);
 }
 
 #[test]
@@ -43,7 +43,7 @@ fn folders_that_cannot_be_written() {
     folder.change("cards.bin", |cards| cards.truncate(512));
     std::os::unix::fs::symlink("/dev/full", folder.path.join("cards.bin.new")).unwrap();
     folder.run(&["pack", &ward, "."]).fails(3, "sirophan: ./cards.bin cannot be written: No space left on device\n");
-    assert_eq!(folder.files(), ["cards.bin", "filter.txt", "out", "sheet.bin"]);
+    assert_eq!(folder.files(), ["archive.txt", "cards.bin", "filter.txt", "out", "sheet.bin"]);
     assert_eq!(folder.read("cards.bin").len(), 512);
 }
 

@@ -7,13 +7,14 @@ fn verify_goes_through_all_cards() {
     let sheet = "number pages\nstring title\n";
     let cards: String = (0..3000).map(|record| format!("record: {record}\npages 12\n")).collect();
     let folder = Folder::described("verify", sheet, &cards, "pages eq 12\n");
-    let found =
-        |what| format!("the {what}: 3,000 cards, a sheet with 2 parameters, a filter with 1 test: all go together\n");
-    folder.run(&["verify", "."]).says(0, &found("description"), "");
+    let found = |what, seal| {
+        format!("the {what}: 3,000 cards, a sheet with 2 parameters, a filter with 1 test{seal}: all go together\n")
+    };
+    folder.run(&["verify", "."]).says(0, &found("description", ""), "");
     folder.run(&["pack", ".", "packed"]);
-    folder.run(&["verify", "packed"]).says(0, &found("blocks"), "");
+    folder.run(&["verify", "packed"]).says(0, &found("blocks", ", a seal"), "");
     folder.run(&["pack", ".", "."]);
-    folder.run(&["verify", "."]).says(0, &(found("description") + &found("blocks")), "");
+    folder.run(&["verify", "."]).says(0, &(found("description", "") + &found("blocks", ", a seal")), "");
     let help = "  One of them has changed since it was packed. `sirophan pack` makes the blocks anew.\n";
     for (changed, message) in [
         (
@@ -23,17 +24,17 @@ fn verify_goes_through_all_cards() {
         (cards.replace("record: 2000\n", "record: 7\n"), "card 2000 is not record 7 as ./cards.txt describes it."),
     ] {
         folder.write("cards.txt", changed);
-        folder.run(&["verify", "."]).fails(2, &format!("./cards.bin: {message}\n{help}"));
+        folder.run(&["verify", "."]).fails(4, &format!("./cards.bin: {message}\n{help}"));
     }
     folder.write("cards.txt", format!("{cards}record: 1\n"));
     let message = "./cards.bin has 3,000 cards only, and ./cards.txt describes more.";
-    folder.run(&["verify", "."]).fails(2, &format!("{message}\n{help}"));
+    folder.run(&["verify", "."]).fails(4, &format!("{message}\n{help}"));
     folder.write("cards.txt", "record: 0\npages 12\n");
     let message = "./cards.bin has more cards than the 1 that ./cards.txt describes.";
-    folder.run(&["verify", "."]).fails(2, &format!("{message}\n{help}"));
+    folder.run(&["verify", "."]).fails(4, &format!("{message}\n{help}"));
     folder.write("cards.txt", &cards).write("sheet.txt", "string pages\nstring title\n");
     let message = "./sheet.bin is not the sheet that ./sheet.txt describes.";
-    folder.run(&["verify", "."]).fails(2, &format!("{message}\n{help}"));
+    folder.run(&["verify", "."]).fails(4, &format!("{message}\n{help}"));
     folder.write("sheet.txt", sheet);
     folder.change("packed/cards.bin", |cards| {
         for card in [2, 3, 2500] {
@@ -47,7 +48,7 @@ fn verify_goes_through_all_cards() {
     });
     let number = "x2 cannot be read as a number: 1 to 8 digits, then perhaps a point and 1 to 9 digits.";
     folder.run(&["verify", "packed"]).fails(
-        2,
+        4,
         &format!(
             "packed/cards.bin: card 2, record 2: pages: {number}\n\
              packed/cards.bin: card 3, record 3: pages: {number}\n\

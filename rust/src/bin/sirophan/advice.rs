@@ -3,9 +3,10 @@
 use crate::arguments::Arguments;
 use crate::block::{self, Sort};
 use crate::filter::{Filter, Test};
-use crate::input::{self, shown};
+use crate::input::{self, Input, shown};
 use crate::kind::{self, BUNDLE, Reader};
 use crate::report::{Failure, Message};
+use crate::seal;
 use crate::search_advice;
 use crate::sheet::{Parameter, Sheet};
 use crate::text::{self, printable, row, spell};
@@ -66,6 +67,13 @@ impl Question {
         let sheet = Sheet::read(input::read(sheet_name)?);
         let (text_name, text) = arguments.text(1)?;
         Ok(Question { sheet_name: shown(sheet_name), text_name, sheet, words, text })
+    }
+
+    /// The same, where the sheet and the cards are what the seals beside them say. A sheet is at fault before a text is.
+    pub fn check_sealed(&self, arguments: &Arguments, cards: Option<&Input>) -> Result<usize, Failure> {
+        require_sound(&self.sheet_name, &self.sheet)?;
+        seal::hold(&arguments.paths[0], &self.sheet.block, cards)?;
+        self.check()
     }
 
     /// The number of the text's tests or alternatives, or the refusal with its help.

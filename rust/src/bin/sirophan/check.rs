@@ -17,7 +17,7 @@ pub fn run(arguments: &Arguments) -> Result<(), Failure> {
     let words = if arguments.search { Words::Search } else { Words::Filter };
     let question = Question::read(arguments, words)?;
     let cards = arguments.paths.get(2).map(|path| Input::open(path)).transpose()?;
-    let count = question.check()?;
+    let count = question.check_sealed(arguments, cards.as_ref())?;
     let survey = Survey::new(&question);
     let warnings = match cards {
         Some(cards) => doubts_with_cards(&question, &survey, cards)?,

@@ -42,7 +42,7 @@ pub fn run(arguments: &Arguments) -> Result<(), Failure> {
     let question = Question::read(arguments, Words::Filter)?;
     let path = &arguments.paths[2];
     let cards = Input::open(path)?;
-    question.check()?;
+    question.check_sealed(arguments, Some(&cards))?;
     let survey = Survey::new(&question);
     // The table has all fields, and so all of them are doubted.
     let counter = survey.counter_of_all();

@@ -28,7 +28,7 @@ pub fn run(arguments: &Arguments) -> Result<(), Failure> {
     let question = Question::read(arguments, words)?;
     let path = &arguments.paths[2];
     let cards = Input::open(path)?;
-    question.check()?;
+    question.check_sealed(arguments, Some(&cards))?;
     let survey = Survey::new(&question);
     let counter = survey.counter();
     let mut walk = Walk { question: &question, asked: &survey.asked, counter: &counter, arguments, told: Vec::new() };

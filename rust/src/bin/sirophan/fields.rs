@@ -8,6 +8,7 @@ use crate::input::{self, Input, shown};
 use crate::json;
 use crate::kind;
 use crate::report::{self, Failure, Message, Output};
+use crate::seal;
 use crate::sheet::Sheet;
 use crate::table;
 use crate::tally::{Counter, Field, Held};
@@ -23,6 +24,7 @@ pub fn run(arguments: &Arguments) -> Result<(), Failure> {
     let sheet = Sheet::read(input::read(sheet_name)?);
     let cards = Input::open(cards_name)?;
     advice::require_sound(&shown(sheet_name), &sheet)?;
+    seal::hold(sheet_name, &sheet.block, Some(&cards))?;
     let counter = Counter::of_all(&sheet);
     let fit = Fit::new(&sheet);
     let select = |first, piece: &[u8]| fit.select_piece(first, piece);

@@ -3,7 +3,7 @@
 //! Its parts, from the top down:
 //!
 //! - the commands: `pick` and `search` (in `pick`), `explain` with `verdicts`, `check`, `report` (in `counts`), `plain`, `fields`, `pack`,
-//!   `show`, `verify`;
+//!   `show`, `verify`, `seal`, to which all others hold an archive;
 //! - what they say beside their answers: `advice` and `search_advice` on refusals; `survey` has all doubts of a question, from `doubt` about
 //!   what is asked and `field_doubt` about what cards hold; `zero` walks for tests that no card meets, with `clues`, and `reason`
 //!   tells why;
@@ -11,7 +11,7 @@
 //!   differ, `asked` what is asked one by one, `values` what a test goes by;
 //! - what they go through: `cards` in blocks, `description` in words;
 //! - what these are made of: `search`, and `sheet`, `filter`, `kind` and `block` of the library's interface;
-//! - in and out: `arguments`, `input`, `stream`, `interrupt`, `report`, `width`, `progress`, `table`, `json`, `text`.
+//! - in and out: `arguments`, `input`, `stream`, `interrupt`, `report`, `width`, `progress`, `table`, `json`, `text`, `sha256`.
 
 // `text` and `test`, `held` and `help`: a word that is used for one thing everywhere is not changed for another that is near it.
 #![allow(clippy::similar_names)]
@@ -39,8 +39,10 @@ mod plain;
 mod progress;
 mod reason;
 mod report;
+mod seal;
 mod search;
 mod search_advice;
+mod sha256;
 mod show;
 mod spoken;
 mod stream;
@@ -80,7 +82,7 @@ struct Command {
 }
 
 /// The commands. A later one is another row.
-const COMMANDS: [Command; 10] = [
+const COMMANDS: [Command; 11] = [
     Command {
         name: "pick",
         usage: "[--stream] SHEET FILTER CARDS",
@@ -220,8 +222,8 @@ const COMMANDS: [Command; 10] = [
         text: None,
         options: &[],
         summary: "makes the blocks of an archive from its description",
-        help: "It reads sheet.txt, cards.txt and, if it is there, filter.txt in DIR and writes sheet.bin, cards.bin and filter.txt \
-               in OUT. Where anything is wrong it says where, and OUT stays as it was. It warns of fields whose values look like \
+        help: "It reads sheet.txt, cards.txt and, if it is there, filter.txt in DIR and writes sheet.bin, cards.bin, filter.txt \
+               and the seal archive.txt in OUT. Where anything is wrong it says where, and OUT stays as it was. It warns of fields whose values look like \
                another kind's, and of record numbers that several cards bear.\n\n\
                A line has a head and a text; a line that begins with # is left out. A text that begins or ends with a space, is \
                empty, or holds bytes that do not print stands in double quotes, with \\\" \\\\ and \\xHH inside. In sheet.txt the \
@@ -265,13 +267,31 @@ const COMMANDS: [Command; 10] = [
         summary: "says whether all that is in a folder goes together",
         help: "It takes the blocks (sheet.bin, cards.bin), the description (sheet.txt, cards.txt), or both, whichever are in DIR, \
                with filter.txt if it is there. It goes through all cards and names each that does not fit, with the field and \
-               the reason. Where both are there, it says whether the blocks hold what the description says. It warns as \
+               the reason. Where both are there, it says whether the blocks hold what the description says. Where \
+               archive.txt is there, the sheet and the cards must be those that it names, byte for byte. It warns as \
                `sirophan pack` does.\n\n\
                Example:\n\n\
                \x20   $ sirophan verify ward | fold -s -w 70\n\
                \x20   the blocks: 3 cards, a sheet with 5 parameters, a filter with 3 \n\
-               \x20   tests: all go together\n",
+               \x20   tests, a seal: all go together\n",
         run: verify::run,
+    },
+    Command {
+        name: "seal",
+        usage: "DIR",
+        paths: 1..=1,
+        text: None,
+        options: &[],
+        summary: "seals the blocks of a folder, so that a change of them is told",
+        help: "It writes archive.txt, as `sirophan pack` does, for sheet.bin and cards.bin in DIR that another program has made: how \
+               many cards there are, and the SHA-256 of both files. It goes through all cards before, and seals none that do not \
+               fit. It warns where a seal was there and said something else.\n\n\
+               All commands but show that are given a sheet or cards with archive.txt beside them give no answer where the sheet is another, \
+               or the cards are fewer or more. Whether each card is as it was says `sirophan verify` alone.\n\n\
+               Example:\n\n\
+               \x20   $ sirophan seal ward\n\
+               \x20   3 cards and a sheet with 5 parameters, sealed by ward/archive.txt\n",
+        run: seal::run,
     },
 ];
 
@@ -283,8 +303,9 @@ goes to standard output, all else to standard error. With --json both are JSON, 
 Status:
   0  answered
   1  the command line is not understood
-  2  refused, or something is wrong with what was given
+  2  the question is refused, or a description has faults
   3  a file could not be read, or an output not be written
+  4  the archive is at fault: its blocks, or a seal that does not hold
 ";
 
 fn main() -> ExitCode {

@@ -7,6 +7,8 @@ use crate::input;
 use crate::interrupt;
 use crate::json;
 use crate::report::{self, Failure, Message, Output};
+use crate::seal::{self, Seal};
+use crate::sha256::{Hash, Hasher};
 use crate::sheet::Sheet;
 use crate::tally::{Counter, Held, Tally};
 use crate::text::counted;
@@ -59,22 +61,26 @@ fn into_folder(arguments: &Arguments, from: &str, to: &str, filter: Option<&Filt
         interrupt::removes(Path::new(to));
     }
     fs::create_dir_all(to).map_err(|reason| Failure::file(to, "made", reason))?;
-    let mut files = NewFiles { folder: to, names: Vec::new() };
+    let mut files = NewFiles::new(to);
     files.write("sheet.bin", |put| put(&sheet.block))?;
     if let Some(filter) = filter {
         files.write(FILTER, |put| put(&filter.bytes))?;
     }
     let counter = Counter::of_all(&sheet);
     let mut tally = Tally::default();
+    let mut hasher = Hasher::new();
     files.write("cards.bin", |put| {
         while let Some(card) = cards.next()? {
             counter.count(&mut tally, cards.count - 1, &card);
+            hasher.add(&card);
             put(&card)?;
         }
         Ok(())
     })?;
     arguments.say(&cards.description.notes());
+    let seal = Seal::new(cards.count, Hash::of(&sheet.block), hasher.end());
     cards.description.faults.none()?;
+    files.write(seal::NAME, |put| put(seal.text().as_bytes()))?;
     files.take_their_places()?;
     let held = counter.sum(vec![tally]);
     Ok((sheet, held))
@@ -136,20 +142,24 @@ pub fn path_in(folder: &str, name: &str) -> String {
 /// What puts bytes into a file.
 type Put<'a> = &'a mut dyn FnMut(&[u8]) -> Result<(), Failure>;
 
-/// Files that are written beside the old ones, under names of their own, until they take their places.
-struct NewFiles<'a> {
+/// Files that are written beside the old ones, under names of their own, until they take their places. The last is the seal.
+pub struct NewFiles<'a> {
     folder: &'a str,
     names: Vec<&'static str>,
 }
 
 impl NewFiles<'_> {
+    pub fn new(folder: &str) -> NewFiles<'_> {
+        NewFiles { folder, names: Vec::new() }
+    }
+
     /// The name of a file until it takes its place.
     fn new_path(&self, name: &str) -> PathBuf {
         Path::new(self.folder).join(format!("{name}.new"))
     }
 
     /// Writes a file; `fill` is given what puts bytes into it.
-    fn write(&mut self, name: &'static str, fill: impl FnOnce(Put) -> Result<(), Failure>) -> Result<(), Failure> {
+    pub fn write(&mut self, name: &'static str, fill: impl FnOnce(Put) -> Result<(), Failure>) -> Result<(), Failure> {
         let path = path_in(self.folder, name);
         let unwritten = |reason| Failure::file(&path, "written", reason);
         interrupt::removes(&self.new_path(name));
@@ -161,15 +171,30 @@ impl NewFiles<'_> {
         file.sync_all().map_err(unwritten)
     }
 
-    /// Puts the files in the places of the old ones.
-    fn take_their_places(mut self) -> Result<(), Failure> {
+    /// Puts the files in the places of the old ones. Until the last of several, the seal, has its own, the one that is there says
+    /// that they are not in theirs.
+    pub fn take_their_places(mut self) -> Result<(), Failure> {
+        if self.names.len() > 1 {
+            let seal = path_in(self.folder, seal::NAME);
+            let marked = fs::write(&seal, seal::UNFINISHED).and_then(|()| File::open(&seal)?.sync_all());
+            marked.map_err(|reason| Failure::file(&seal, "written", reason))?;
+            self.settle();
+        }
         for name in self.names.clone() {
             let path = path_in(self.folder, name);
+            if name == seal::NAME {
+                self.settle();
+            }
             fs::rename(self.new_path(name), &path).map_err(|reason| Failure::file(&path, "replaced", reason))?;
             self.names.retain(|other| *other != name);
         }
         interrupt::keeps_all();
         Ok(())
+    }
+
+    /// Has the folder written out, so that the order of what was done outlives the machine's end. Not every system can.
+    fn settle(&self) {
+        let _ = File::open(self.folder).and_then(|folder| folder.sync_all());
     }
 }
 

@@ -27,7 +27,7 @@ fn list(words: Words, arguments: &Arguments) -> Result<(), Failure> {
     let path = &arguments.paths[2];
     let mut cards = Input::open(path)?;
     cards.shows_progress = !(arguments.stream && io::stdout().is_terminal());
-    question.check()?;
+    question.check_sealed(arguments, Some(&cards))?;
     let survey = Survey::new(&question);
     let counter = survey.quick_counter();
     let fit = Fit { sheet: &question.sheet, asked: Some((words, question.text.clone())) };

@@ -133,8 +133,10 @@ impl Message {
 pub enum Failure {
     /// The command line is not understood.
     Usage(String),
-    /// What was given is refused, or has faults.
+    /// The text that asks is refused, or what describes has faults.
     Refused(Vec<Message>),
+    /// The archive is at fault: its blocks, or its seal.
+    AtFault(Vec<Message>),
     /// A file cannot be read, or an output not be written.
     Unusable(Box<Message>),
     /// Whoever reads standard output has gone, and needs no message.
@@ -142,9 +144,25 @@ pub enum Failure {
 }
 
 impl Failure {
-    /// One reason for a refusal.
+    /// One reason for a refusal, which is the archive's where the library refuses its blocks.
     pub fn refused(message: Message) -> Failure {
-        Failure::Refused(vec![message])
+        match message.refusal.map(|refusal| refusal.number) {
+            Some(1..=3 | 20..=23) => Failure::at_fault(message),
+            _ => Failure::Refused(vec![message]),
+        }
+    }
+
+    /// A fault of the archive.
+    pub fn at_fault(message: Message) -> Failure {
+        Failure::AtFault(vec![message])
+    }
+
+    /// The same, as the archive's faults.
+    pub fn of_archive(self) -> Failure {
+        match self {
+            Failure::Refused(messages) => Failure::AtFault(messages),
+            other => other,
+        }
     }
 
     /// A file that something cannot be done with.
@@ -161,6 +179,7 @@ impl Failure {
             Failure::Usage(_) => 1,
             Failure::Refused(_) => 2,
             Failure::Unusable(_) | Failure::Closed => 3,
+            Failure::AtFault(_) => 4,
         }
     }
 
@@ -168,7 +187,11 @@ impl Failure {
     pub fn say(&self, as_json: bool) {
         match self {
             Failure::Usage(text) => Message::error(format!("sirophan: {text}")).say(as_json),
-            Failure::Refused(messages) => messages.iter().for_each(|message| message.say(as_json)),
+            Failure::Refused(messages) | Failure::AtFault(messages) => {
+                for message in messages {
+                    message.say(as_json);
+                }
+            }
             Failure::Unusable(message) => message.say(as_json),
             Failure::Closed => {}
         }

@@ -10,6 +10,7 @@ use crate::input::{self, Input};
 use crate::json;
 use crate::pack::{self, FILTER, path_in};
 use crate::report::{self, Failure, Message, Output};
+use crate::seal;
 use crate::sheet::Sheet;
 use crate::tally::{Counter, Held, Tally};
 use crate::text::{counted, grouped};
@@ -22,6 +23,8 @@ struct Found {
     /// How many tests its filter has, if it has one.
     tests: Option<u64>,
     held: Held,
+    /// Whether there is a seal, which holds.
+    sealed: bool,
 }
 
 /// Verifies the blocks, the description, or both, whichever are there.
@@ -54,19 +57,22 @@ pub fn run(arguments: &Arguments) -> Result<(), Failure> {
 fn show(arguments: &Arguments, found: Vec<Found>, warnings: &[Message]) -> Result<(), Failure> {
     let mut output = Output::new();
     let last = found.len().saturating_sub(1);
-    for (number, Found { what, parameters, tests, held }) in found.into_iter().enumerate() {
+    for (number, Found { what, parameters, tests, held, sealed }) in found.into_iter().enumerate() {
         if arguments.json {
             output.line(json::object(&[
                 ("verified", json::string(what)),
                 ("cards", held.cards.to_string()),
                 ("parameters", parameters.to_string()),
                 ("tests", tests.map_or("null".into(), |tests| tests.to_string())),
+                ("sealed", sealed.to_string()),
                 report::warnings(if number == last { warnings } else { &[] }),
             ]))?;
         } else {
             let (cards, parameters) = (counted(held.cards, "card"), counted(parameters, "parameter"));
             let filter = tests.map_or(String::new(), |tests| format!(", a filter with {}", counted(tests, "test")));
-            output.line(format_args!("the {what}: {cards}, a sheet with {parameters}{filter}: all go together"))?;
+            let seal = if sealed { ", a seal" } else { "" };
+            output
+                .line(format_args!("the {what}: {cards}, a sheet with {parameters}{filter}{seal}: all go together"))?;
         }
     }
     output.flush()?;
@@ -90,7 +96,7 @@ fn description(arguments: &Arguments, folder: &str) -> Result<(Found, Sheet), Fa
     cards.description.faults.none()?;
     let held = counter.sum(vec![tally]);
     let tests = check_filter(&sheet, path_in(folder, "sheet.txt"), name, filter.map(|filter| filter.text().to_vec()))?;
-    Ok((Found { what: "description", parameters: sheet.parameters.len() as u64, tests, held }, sheet))
+    Ok((Found { what: "description", parameters: sheet.parameters.len() as u64, tests, held, sealed: false }, sheet))
 }
 
 /// The number of a filter's tests, where there is a filter, and it has a meaning.
@@ -112,16 +118,29 @@ fn blocks(folder: &str) -> Result<(Found, Sheet), Failure> {
     let text = if Path::new(&text_name).exists() { Some(input::read_text(&text_name)?) } else { None };
     let cards = Input::open(&cards_name)?;
     advice::require_sound(&sheet_name, &sheet)?;
+    seal::hold(&sheet_name, &sheet.block, Some(&cards))?;
+    let is_file = cards.size.is_some();
     let held = verify_cards(&sheet, &cards_name, cards)?;
+    let sealed = is_file && seal::hold_cards(&cards_name)?;
     let tests = check_filter(&sheet, sheet_name, text_name, text)?;
-    Ok((Found { what: "blocks", parameters: sheet.parameters.len() as u64, tests, held }, sheet))
+    Ok((Found { what: "blocks", parameters: sheet.parameters.len() as u64, tests, held, sealed }, sheet))
+}
+
+/// How many parameters the sheet of a folder has, where it and all cards are sound and go together.
+pub fn sound_blocks(folder: &str) -> Result<u64, Failure> {
+    let [sheet_name, cards_name] = ["sheet.bin", "cards.bin"].map(|name| path_in(folder, name));
+    let sheet = Sheet::read(input::read(&sheet_name)?);
+    let cards = Input::open(&cards_name)?;
+    advice::require_sound(&sheet_name, &sheet)?;
+    verify_cards(&sheet, &cards_name, cards)?;
+    Ok(sheet.parameters.len() as u64)
 }
 
 /// Nothing, where sound blocks hold what a sound description says, whichever form they have.
 fn compare(folder: &str, described: &Sheet, packed: &Sheet) -> Result<(), Failure> {
     let differs = |what: String| {
         let help = "One of them has changed since it was packed. `sirophan pack` makes the blocks anew.".into();
-        Err(Failure::refused(Message { help: vec![help], ..Message::error(what) }))
+        Err(Failure::at_fault(Message { help: vec![help], ..Message::error(what) }))
     };
     let [sheet_text, sheet_name] = ["sheet.txt", "sheet.bin"].map(|name| path_in(folder, name));
     if described.parameters != packed.parameters {
@@ -170,7 +189,7 @@ fn verify_cards(sheet: &Sheet, name: &str, cards: Input) -> Result<Held, Failure
             Ok(())
         },
     )?;
-    faults.none()?;
+    faults.none().map_err(Failure::of_archive)?;
     Ok(counter.sum(tallies))
 }
 

@@ -61,9 +61,15 @@ fn run_command(program: &Path, directory: &Path) -> io::Result<Vec<u8>> {
     let refusals: Vec<String> = refusals.collect();
     match (output.status.code(), &refusals[..]) {
         (Some(0), []) => Ok(output.stdout),
-        (Some(2), [refusal]) => Ok([&output.stdout, refusal.as_bytes()].concat()),
+        (Some(status), [refusal]) if status == status_of(refusal) => Ok([&output.stdout, refusal.as_bytes()].concat()),
         (status, refusals) => Ok(format!("status {status:?}, {} refusals\n", refusals.len()).into_bytes()),
     }
+}
+
+/// The command's status for a refusal: 4 for those of the sheet and of cards, 2 for those of the filter.
+fn status_of(refusal: &str) -> i32 {
+    let number = refusal.split(' ').nth(1).and_then(|number| number.parse().ok());
+    if matches!(number, Some(1..=3 | 20..=23)) { 4 } else { 2 }
 }
 
 /// Prints the counts and answers how many archives do not agree.
