@@ -327,8 +327,8 @@ fn run() -> Result<(), (Failure, bool)> {
     };
     let answered = |text: String| print(&text).map_err(|failure| (failure, false));
     match (name.as_str(), given) {
-        ("--help" | "-h" | "help", []) => return answered(overview()),
-        ("--help" | "-h" | "help", [name, ..]) => return answered(command_help(command_by(name)?)),
+        ("--help" | "-h" | "help", []) => return answered(laid_out(&overview())),
+        ("--help" | "-h" | "help", [name, ..]) => return answered(laid_out(&command_help(command_by(name)?))),
         ("--version" | "-V" | "version", _) => return answered(version::told()),
         _ => {}
     }
@@ -355,7 +355,7 @@ fn run_command(command: &Command, given: &[String]) -> Result<(), Failure> {
     let usage = |what: String| Failure::Usage(format!("{what} Usage: sirophan {} {}", command.name, command.usage));
     let mut arguments = Arguments::read(given.iter().cloned(), command.options).map_err(usage)?;
     if arguments.help {
-        return print(&command_help(command));
+        return print(&laid_out(&command_help(command)));
     }
     arguments.place_text(command.text);
     if !command.paths.contains(&arguments.paths.len()) {
@@ -369,12 +369,17 @@ fn usage_failure(what: &str) -> (Failure, bool) {
     (Failure::Usage(format!("{what} `sirophan --help` lists the commands.")), false)
 }
 
-/// Writes a text to standard output, wrapped for the terminal.
+/// Writes a text to standard output.
 fn print(text: &str) -> Result<(), Failure> {
-    let columns = width::of_stream(width::OUTPUT).unwrap_or(width::USUAL);
     let mut output = Output::new();
-    output.line(width::paragraphs(text.trim_end(), columns))?;
+    output.line(text)?;
     output.flush()
+}
+
+/// A help text for the width of standard output.
+fn laid_out(text: &str) -> String {
+    let columns = width::of_stream(width::OUTPUT).unwrap_or(width::USUAL);
+    width::paragraphs(text.trim_end(), columns)
 }
 
 /// What `sirophan --help` prints.
