@@ -239,7 +239,11 @@ fn pack_that_is_interrupted() {
         fs::create_dir(folder.path.join("old")).unwrap();
         folder.write("old/cards.bin", "as it was");
         for to in ["new", "old"] {
-            let mut pack = Command::new(PROGRAM).args(["pack", ".", to]).current_dir(&folder.path).spawn().unwrap();
+            // whoever runs the tests may ignore a signal, as a shell does for what it runs in the background
+            let default = "--default-signal=HUP,INT,TERM";
+            let mut pack = Command::new("env");
+            let pack = pack.args([default, PROGRAM, "pack", ".", to]).current_dir(&folder.path);
+            let mut pack = pack.spawn().unwrap();
             let mut cards = fs::OpenOptions::new().write(true).open(folder.path.join("cards.txt")).unwrap();
             cards.write_all(b"record: 1\nrecord: 2\n").unwrap();
             while !folder.path.join(to).join("cards.bin.new").exists() {
