@@ -39,6 +39,9 @@ pub fn judge_asked(
     match way {
         Way::Rows => judge_by_rows(kinds, text, cells, values, ends, card),
         Way::Text => judge_by_text(sheet, kinds, text, card),
-        Way::Search => judge_by_search(sheet, kinds, text, asked.search, card),
+        Way::Search => {
+            let search = asked.search;
+            judge_by_search(sheet, kinds, text, search, card)
+        }
     }
 }
