@@ -16,7 +16,6 @@ use Rattle.one_card.specs.OneCard.{verdictStep, cellsQuestion}
 use Rattle.searching.specs.SearchPassing.{rowsQuestion}
 use Rattle.selecting.specs.Asking.{askedSays, askedQuestion, Asks, asks-rows, asks-text, asks-search}
 use Rattle.selecting.specs.declared.Way.{Way}
-use Rattle.selecting.specs.declared.Asked.{Asked}
 use Rattle.one_card.specs.declared.CardVerdict.{CardVerdict}
 
 -- ---- what the code knows
@@ -44,16 +43,16 @@ module _ (b xs cs : List ℕ) (rows : Rows) where
 
 -- ---- the verdict
 
-module _ (ps : List Parameter) (xs cs : List ℕ) (a : Asked) (v : CardVerdict) (b : List ℕ) where
-  pub asked-rows : a .way ≡ Way.Rows → (kinds : List ℕ) → kinds ≡ kindsOf ps → ((qs : List Parameter) → kinds ≡ kindsOf qs → (i : ℕ) → verdictStep v i ≡ cardVerdict (cellsQuestion qs xs cs) i b)
-      → (i : ℕ) → verdictStep v i ≡ cardVerdict (askedQuestion a ps xs cs) i b
+module _ (ps : List Parameter) (xs cs : List ℕ) (rows : Rows) (a : Way) (v : CardVerdict) (b : List ℕ) where
+  pub asked-rows : a ≡ Way.Rows → (kinds : List ℕ) → kinds ≡ kindsOf ps → ((qs : List Parameter) → kinds ≡ kindsOf qs → (i : ℕ) → verdictStep v i ≡ cardVerdict (cellsQuestion qs xs cs) i b)
+      → (i : ℕ) → verdictStep v i ≡ cardVerdict (askedQuestion a ps xs cs rows) i b
   unfolding askedSays
   asked-rows h kinds l e i = rw h (e ps l i)
 
-  pub asked-text : a .way ≡ Way.Text → ((i : ℕ) → verdictStep v i ≡ cardVerdict (textQuestion ps (read xs)) i b) → (i : ℕ) → verdictStep v i ≡ cardVerdict (askedQuestion a ps xs cs) i b
+  pub asked-text : a ≡ Way.Text → ((i : ℕ) → verdictStep v i ≡ cardVerdict (textQuestion ps (read xs)) i b) → (i : ℕ) → verdictStep v i ≡ cardVerdict (askedQuestion a ps xs cs rows) i b
   unfolding askedSays
   asked-text h e i = rw h (e i)
 
-  pub asked-search : a .way ≡ Way.Search → ((i : ℕ) → verdictStep v i ≡ cardVerdict (rowsQuestion ps xs (a .search)) i b) → (i : ℕ) → verdictStep v i ≡ cardVerdict (askedQuestion a ps xs cs) i b
+  pub asked-search : a ≡ Way.Search → ((i : ℕ) → verdictStep v i ≡ cardVerdict (rowsQuestion ps xs rows) i b) → (i : ℕ) → verdictStep v i ≡ cardVerdict (askedQuestion a ps xs cs rows) i b
   unfolding askedSays
   asked-search h e i = rw h (e i)

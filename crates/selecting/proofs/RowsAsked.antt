@@ -134,7 +134,7 @@ module _ (sheet text buffer : List ℕ) (r : Prepared) (e : Fills sheet text r b
     filled-asks rows = asks-rows (passed .short) (subst Whole (sym filled-cells) (rows-whole sheet text passed))
 
     pub filled-selects : (rows : Rows) (cards list : List ℕ) (s : Selected) (exit : List ℕ)
-        → Selects (found (askedQuestion (record { way = Way.Rows; search = rows }) (parametersOf sheet) text (part buffer 0 n))) cards list s exit → Selects (filterQuestion sheet text) cards list s exit
+        → Selects (found (askedQuestion Way.Rows (parametersOf sheet) text (part buffer 0 n) rows)) cards list s exit → Selects (filterQuestion sheet text) cards list s exit
     unfolding askedSays
     filled-selects rows cards list s exit g =
         let same : filterQuestion sheet text ≡ found (cellsQuestion (parametersOf sheet) text (part buffer 0 n)) =

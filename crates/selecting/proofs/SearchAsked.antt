@@ -26,6 +26,6 @@ module _ (sheet text bytes : List ℕ) (r : SearchRead) (read : ReadsRows sheet 
     pub search-asks : (cells : List ℕ) → Asks sheet bytes cells (r .rows) Way.Search
     search-asks cells = asks-search (passed-within sheet text bytes r read n h)
 
-    pub search-selects : (cells cards list : List ℕ) (s : Selected) (exit : List ℕ) → Selects (found (askedQuestion (record { way = Way.Search; search = r .rows }) (parametersOf sheet) bytes cells)) cards list s exit → Selects (searchQuestion sheet text) cards list s exit
+    pub search-selects : (cells cards list : List ℕ) (s : Selected) (exit : List ℕ) → Selects (found (askedQuestion Way.Search (parametersOf sheet) bytes cells (r .rows))) cards list s exit → Selects (searchQuestion sheet text) cards list s exit
     unfolding askedSays
     search-selects cells cards list s exit g = subst (λ (a : Step Question). Selects a cards list s exit) (sym (asks sheet text bytes r read n h)) g

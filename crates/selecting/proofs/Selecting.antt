@@ -118,7 +118,7 @@ module _ (sheet text : List ℕ) (p : Passing sheet text) (cells : List ℕ) (ro
   pub text-asks : Asks sheet text cells rows Way.Text
   text-asks = asks-text p
 
-  pub text-selects : (cards list : List ℕ) (s : Selected) (exit : List ℕ) → Selects (found (askedQuestion (record { way = Way.Text; search = rows }) (parametersOf sheet) text cells)) cards list s exit → Selects (filterQuestion sheet text) cards list s exit
+  pub text-selects : (cards list : List ℕ) (s : Selected) (exit : List ℕ) → Selects (found (askedQuestion Way.Text (parametersOf sheet) text cells rows)) cards list s exit → Selects (filterQuestion sheet text) cards list s exit
   unfolding askedSays
   text-selects cards list s exit g = subst (λ (a : Step Question). Selects a cards list s exit) (sym (passing-asks sheet text p)) g
 

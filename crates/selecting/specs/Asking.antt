@@ -15,7 +15,6 @@ use Rattle.query.specs.Rows.{RowsWithin}
 use Rattle.query.specs.declared.Rows.{Rows}
 use Rattle.answer.specs.Operations.{Question}
 use Rattle.answer.specs.Passing.{Passing, textSays}
-use Rattle.selecting.specs.declared.Asked.{Asked}
 use Rattle.selecting.specs.declared.Way.{Way}
 
 -- what is said of entries: by the rows in the cells, by the text as a filter's, or by the rows of a search string over the text
@@ -24,8 +23,8 @@ askedSays Way.Rows ps text cells rows es = rowsSay (kindsOf ps) text es cells
 askedSays Way.Text ps text cells rows es = textSays ps es (read text)
 askedSays Way.Search ps text cells rows es = search.rowsSay (alternativeSays ps es) text rows
 
-abbrev pub askedQuestion : Asked → List Parameter → (text cells : List ℕ) → Question
-askedQuestion a ps text cells = record { parameters = ps; says = λ es. askedSays (a .way) ps text cells (a .search) es }
+abbrev pub askedQuestion : Way → List Parameter → (text cells : List ℕ) → Rows → Question
+askedQuestion way ps text cells rows = record { parameters = ps; says = λ es. askedSays way ps text cells rows es }
 
 -- what the code knows of what it is asked by
 pub data Asks (sheet text cells : List ℕ) (rows : Rows) : Way → Type 0 where

@@ -5,6 +5,7 @@ use block::Validity;
 use one_card::CardVerdict;
 use one_card::judge_by_rows;
 use one_card::judge_by_text;
+use query::Rows;
 use searching::judge_by_search;
 ghost use mathlib.Core.Path.{_≡_};
 ghost use Prim.Native.Nat.{ℕ};
@@ -17,31 +18,29 @@ ghost use Rattle.one_card.specs.OneCard.{verdictStep};
 ghost use Rattle.selecting.specs.Asking.{Asks, askedQuestion};
 
 // The verdict on a card, or why it is refused: by the rows of the text's filter in the cells, which were opened, by the text as a filter's, or by the
-// rows of a search string over the text; `kinds` are those of the sheet.
+// rows of a search string over the text.
 pub fn judge_asked(
     asked: Asked,
     sheet: &[u8],
-    kinds: &[u8],
     text: &[u8],
     cells: &[u32],
     values: &[u64],
     ends: &[i64],
+    search: Rows,
     card: &[u8],
 ) -> CardVerdict
     requires { ⌜ readSheet (now sheet) ≡ Validity.WellFormed ⌝ }
-    requires { ⌜ length (now kinds) ≡ 32 ⌝ }
-    requires { ⌜ now kinds ≡ kindsOf (parametersOf (now sheet)) ⌝ }
-    requires { ⌜ Opens (now kinds) (now text) (now cells) (now values) (now ends) (length (now cells)) ⌝ }
-    requires { ⌜ Asks (now sheet) (now text) (now cells) (asked .search) (asked .way) ⌝ }
-    ensures { λ r. ⌜ ((i : ℕ) → verdictStep r i ≡ cardVerdict (askedQuestion asked (parametersOf (now (sheet .entry))) (now (text .entry)) (now (cells .entry))) i (now (card .entry))) ⌝ }
+    requires { ⌜ length (asked .kinds) ≡ 32 ⌝ }
+    requires { ⌜ asked .kinds ≡ kindsOf (parametersOf (now sheet)) ⌝ }
+    requires { ⌜ Opens (asked .kinds) (now text) (now cells) (now values) (now ends) (length (now cells)) ⌝ }
+    requires { ⌜ Asks (now sheet) (now text) (now cells) search (asked .way) ⌝ }
+    ensures { λ r. ⌜ ((i : ℕ) → verdictStep r i ≡ cardVerdict (askedQuestion (asked .way) (parametersOf (now (sheet .entry))) (now (text .entry)) (now (cells .entry)) search) i (now (card .entry))) ⌝ }
 {
+    let kinds = asked.kinds;
     let way = asked.way;
     match way {
-        Way::Rows => judge_by_rows(kinds, text, cells, values, ends, card),
-        Way::Text => judge_by_text(sheet, kinds, text, card),
-        Way::Search => {
-            let search = asked.search;
-            judge_by_search(sheet, kinds, text, search, card)
-        }
+        Way::Rows => judge_by_rows(&kinds, text, cells, values, ends, card),
+        Way::Text => judge_by_text(sheet, &kinds, text, card),
+        Way::Search => judge_by_search(sheet, &kinds, text, search, card),
     }
 }

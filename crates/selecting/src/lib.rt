@@ -36,41 +36,43 @@ pub enum Way {
     Search,
 }
 
-// What is asked of cards: in which way, and the rows of a search string where it is by them.
+// What each card is asked by, for a run: in which way, and the kinds of the sheet.
 pub struct Asked {
     pub way: Way,
-    pub search: Rows,
+    pub kinds: [u8; 32],
 }
 
 // Gathers the record numbers of the cards that match in the buffer, until a card is refused. The kinds of the sheet are read and the rows are
 // opened once for all cards.
 fn gather(
-    asked: Asked,
+    way: Way,
     sheet: &[u8],
     text: &[u8],
     cells: &[u32],
+    search: Rows,
     cards: &[u8],
     buffer: &mut [u32],
 ) -> Selected
     requires { ⌜ readSheet (now sheet) ≡ Validity.WellFormed ⌝ }
     requires { ⌜ length (now text) ≤ 1024 ⌝ }
     requires { ⌜ length (now cells) ≤ 320 ⌝ }
-    requires { ⌜ Asks (now sheet) (now text) (now cells) (asked .search) (asked .way) ⌝ }
+    requires { ⌜ Asks (now sheet) (now text) (now cells) search way ⌝ }
     requires { ⌜ length (now cards) % 512 ≡ 0 ⌝ }
     requires { ⌜ length (now cards) / 512 ≤ length (now buffer) ⌝ }
     requires { ⌜ length (now buffer) ≤ 128 ⌝ }
-    ensures { λ r. ⌜ Gathers (askedQuestion asked (parametersOf (now (sheet .entry))) (now (text .entry)) (now (cells .entry))) (now (cards .entry)) r (now (buffer .exit)) ⌝ }
+    ensures { λ r. ⌜ Gathers (askedQuestion way (parametersOf (now (sheet .entry))) (now (text .entry)) (now (cells .entry)) search) (now (cards .entry)) r (now (buffer .exit)) ⌝ }
 {
     let kinds = sheet::kinds(sheet);
     let mut values = [0u64; 640];
     let mut ends = [0i64; 640];
     open_rows(&kinds, text, cells, &mut values, &mut ends);
+    let asked = Asked { way, kinds };
     let mut at = 0;
     let mut count = 0;
     while at < cards.len() {
         let end = at + 512;
         let card = &cards[at..end];
-        match judge_asked(asked, sheet, &kinds, text, cells, &values, &ends, card) {
+        match judge_asked(asked, sheet, text, cells, &values, &ends, search, card) {
             CardVerdict::Says(yes) => {
                 if yes {
                     buffer[count] = card::record_number(card);
@@ -91,18 +93,19 @@ fn gather(
 
 // Selects from the cards under a sheet and a question that check has passed.
 pub fn select_cards(
-    asked: Asked,
+    way: Way,
     sheet: &[u8],
     text: &[u8],
     cells: &[u32],
+    search: Rows,
     cards: &[u8],
     list: &mut [u32],
 ) -> Selected
     requires { ⌜ readSheet (now sheet) ≡ Validity.WellFormed ⌝ }
     requires { ⌜ length (now text) ≤ 1024 ⌝ }
     requires { ⌜ length (now cells) ≤ 320 ⌝ }
-    requires { ⌜ Asks (now sheet) (now text) (now cells) (asked .search) (asked .way) ⌝ }
-    ensures { λ r. ⌜ Selects (found (askedQuestion asked (parametersOf (now (sheet .entry))) (now (text .entry)) (now (cells .entry)))) (now (cards .entry)) (now (list .entry)) r (now (list .exit)) ⌝ }
+    requires { ⌜ Asks (now sheet) (now text) (now cells) search way ⌝ }
+    ensures { λ r. ⌜ Selects (found (askedQuestion way (parametersOf (now (sheet .entry))) (now (text .entry)) (now (cells .entry)) search)) (now (cards .entry)) (now (list .entry)) r (now (list .exit)) ⌝ }
 {
     if cards.len() % 512 != 0 {
         return Selected::Refused(Refusal {
@@ -118,7 +121,7 @@ pub fn select_cards(
     }
     // a refusal writes nothing, so the numbers wait here until the last card is judged
     let mut buffer = [0u32; 128];
-    let gathered = gather(asked, sheet, text, cells, cards, &mut buffer);
+    let gathered = gather(way, sheet, text, cells, search, cards, &mut buffer);
     match gathered {
         Selected::Count(matches) => {
             if matches > list.len() {
@@ -142,11 +145,15 @@ fn select_by_rows(sheet: &[u8], filter: &[u8], cards: &[u8], list: &mut [u32]) -
     let filled = fill(sheet, filter, &mut cells);
     match filled {
         Prepared::Cells(n) => {
-            let asked = Asked {
-                way: Way::Rows,
-                search: no_rows(),
-            };
-            select_cards(asked, sheet, filter, &cells[0..n], cards, list)
+            select_cards(
+                Way::Rows,
+                sheet,
+                filter,
+                &cells[0..n],
+                no_rows(),
+                cards,
+                list,
+            )
         }
         Prepared::Refused(refusal) => Selected::Refused(refusal),
     }
@@ -160,11 +167,7 @@ fn select_by_text(sheet: &[u8], filter: &[u8], cards: &[u8], list: &mut [u32]) -
     match checked {
         Checked::Tests(_) => {
             let none = [0u32; 0];
-            let asked = Asked {
-                way: Way::Text,
-                search: no_rows(),
-            };
-            select_cards(asked, sheet, filter, &none, cards, list)
+            select_cards(Way::Text, sheet, filter, &none, no_rows(), cards, list)
         }
         Checked::Refused(refusal) => Selected::Refused(refusal),
     }
@@ -198,11 +201,7 @@ pub fn select_search(sheet: &[u8], text: &[u8], cards: &[u8], list: &mut [u32]) 
     match checked {
         Checked::Tests(_) => {
             let none = [0u32; 0];
-            let asked = Asked {
-                way: Way::Search,
-                search: rows,
-            };
-            select_cards(asked, sheet, &bytes, &none, cards, list)
+            select_cards(Way::Search, sheet, &bytes, &none, rows, cards, list)
         }
         Checked::Refused(refusal) => Selected::Refused(refusal),
     }

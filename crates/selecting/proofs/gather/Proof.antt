@@ -9,10 +9,10 @@ use Rattle.selecting.proofs.gather.Statement.{statement}
 use Rattle.selecting.proofs.gather.Tie as tie
 
 abbrev Inv-loop : tie.InvT-loop
-Inv-loop asked sheet text cells cards buffer₀ kinds values ends at₀ count₀ buffer at count = Gathering (askedQuestion asked (parametersOf sheet) text cells) cards buffer₀ buffer at count
+Inv-loop sheet text cells search cards buffer₀ values ends asked at₀ count₀ buffer at count = Gathering (askedQuestion (asked .way) (parametersOf sheet) text cells search) cards buffer₀ buffer at count
 
 abbrev μ-loop : tie.MeasureT-loop
-μ-loop asked sheet text cells cards buffer₀ kinds values ends at₀ count₀ buffer at count = length cards - at
+μ-loop sheet text cells search cards buffer₀ values ends asked at₀ count₀ buffer at count = length cards - at
 
 kinds-requires : tie.Need-kinds-requires Inv-loop μ-loop
 kinds-requires c κs = search needs
@@ -49,9 +49,6 @@ slice-aggregate-judge-asked c = search needs
 
 slice-aggregate-judge-asked-2 : tie.Need-slice-aggregate-judge-asked-2 Inv-loop μ-loop
 slice-aggregate-judge-asked-2 c = search needs
-
-slice-aggregate-judge-asked-3 : tie.Need-slice-aggregate-judge-asked-3 Inv-loop μ-loop
-slice-aggregate-judge-asked-3 c = search needs
 
 judge-asked-requires : tie.Need-judge-asked-requires Inv-loop μ-loop
 judge-asked-requires c κs = (search needs, (search needs, (search needs, (search needs, search needs))))
@@ -116,7 +113,6 @@ gather-spec =
     part-card-end
     slice-aggregate-judge-asked
     slice-aggregate-judge-asked-2
-    slice-aggregate-judge-asked-3
     judge-asked-requires
     enum-known-yes
     record-number-requires

@@ -47,10 +47,10 @@ select-by-rows-spec =
     slice-aggregate-fill
     fill-requires
     enum-known-filled
-    no-rows-requires
     sub-select-cards
     part-select-cards-start
     part-select-cards-end
+    no-rows-requires
     select-cards-requires
     enum-known-filled-2
     same-length

@@ -38,8 +38,8 @@ select-by-text-spec =
     (tie.spec
     check-requires
     enum-told
-    no-rows-requires
     slice-aggregate-select-cards
+    no-rows-requires
     select-cards-requires
     enum-known-checked
     same-length

@@ -7,17 +7,26 @@ use Rattle.selecting.proofs.asking.judge_asked.Tie as tie
 enum-told : tie.Need-enum-told
 enum-told c = search needs
 
+slice-aggregate-judge-by-rows : tie.Need-slice-aggregate-judge-by-rows
+slice-aggregate-judge-by-rows c = search needs
+
 judge-by-rows-requires : tie.Need-judge-by-rows-requires
 judge-by-rows-requires c κs = (search needs, (search (asks-short, needs), (search (asks-whole, needs), search needs)))
 
 enum-told-2 : tie.Need-enum-told-2
 enum-told-2 c = search needs
 
+slice-aggregate-judge-by-text : tie.Need-slice-aggregate-judge-by-text
+slice-aggregate-judge-by-text c = search needs
+
 judge-by-text-requires : tie.Need-judge-by-text-requires
 judge-by-text-requires c κs = search (asks-passing, needs)
 
 enum-told-3 : tie.Need-enum-told-3
 enum-told-3 c = search needs
+
+slice-aggregate-judge-by-search : tie.Need-slice-aggregate-judge-by-search
+slice-aggregate-judge-by-search c = search needs
 
 judge-by-search-requires : tie.Need-judge-by-search-requires
 judge-by-search-requires c κs = search (asks-within, needs)
@@ -36,10 +45,13 @@ judge-asked-spec =
     tie.close
     (tie.spec
     enum-told
+    slice-aggregate-judge-by-rows
     judge-by-rows-requires
     enum-told-2
+    slice-aggregate-judge-by-text
     judge-by-text-requires
     enum-told-3
+    slice-aggregate-judge-by-search
     judge-by-search-requires
     returns
     returns-2
