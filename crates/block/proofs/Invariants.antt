@@ -8,11 +8,12 @@ use Rattle.block.specs.Sum.{sumFrom}
 use Rattle.block.specs.Columns.{columnSum, columnRows}
 use Rattle.block.specs.Items.{laidOut, items, Walk}
 
--- the rows of the column j from `row` on are summed: `sum` has their bytes, `rows` their bytes each times its row, counted from `row`
-pub record RowsSummed (b : List ℕ) (j sum rows row : ℕ) : Type 0 where
-  pub within : row ≤ 16
-  pub plain : sum ≡ columnSum b (32 * row + j) (16 - row)
-  pub weighted : rows ≡ columnRows b (32 * row + j) (16 - row)
+-- the rows of the column j from `row` to m are summed: `sum` has their bytes, `rows` their bytes each times its row, counted from `row`
+pub record RowsSummed (b : List ℕ) (m j sum rows row : ℕ) : Type 0 where
+  pub within : row ≤ m
+  pub few : m ≤ 16
+  pub plain : sum ≡ columnSum b (32 * row + j) (m - row)
+  pub weighted : rows ≡ columnRows b (32 * row + j) (m - row)
   pub plain-most : sum + 255 * row ≤ 4080
   pub weighted-most : rows + 4080 * row ≤ 65280
 
@@ -21,10 +22,10 @@ unfoldable pub columnsFrom : List ℕ → (p j n : ℕ) → ℕ
 columnsFrom b p j zero = 0
 columnsFrom b p j (suc n) = sumFrom (p + j + 1) (part b (p + j) (p + 32)) + columnsFrom b (p + 32) j n
 
--- the columns before j are summed
-pub record Summed (b : List ℕ) (total j : ℕ) : Type 0 where
+-- the columns before j are summed, in the first m rows
+pub record Summed (b : List ℕ) (m total j : ℕ) : Type 0 where
   pub within : j ≤ 32
-  pub whole : total + columnsFrom b 0 j 16 ≡ sumFrom 1 (part b 0 512)
+  pub whole : total + columnsFrom b 0 j m ≡ sumFrom 1 (part b 0 (32 * m))
   pub most : total ≤ 4194304 * j
 
 -- the items before p are laid out up to p, and those that are left decide

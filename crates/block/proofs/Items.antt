@@ -15,9 +15,24 @@ use borrow.Author.Tests.{eq-eqb, ne-eqb, eqb-true, le-leb, lt-leb, leb-true}
 use Rattle.base.specs.Parts.{part}
 use mathlib.Core.Logic.{⊎-elim}
 use Rattle.base.proofs.Tests.{and-left, and-right, or-either}
-use Rattle.block.specs.Items.{zeros, hasMarks, lengthAt, next, markAt, textAt, laidOut, hasLayout, hasEither, items, ItemAt, Walk, ItemStep}
+use Rattle.block.specs.Items.{zeros, hasMarks, lengthAt, next, markAt, textAt, laidOut, hasLayout, hasEither, items, ItemAt, Walk, ItemStep, LaysOut}
 use Rattle.block.specs.declared.Item.{Item}
+use Rattle.block.specs.declared.Layout.{Layout}
 use Rattle.block.proofs.Invariants.{LaidTo, Visited}
+
+-- ---- what the functions that look at a layout answer
+
+module _ (b : List ℕ) (laid : Bool) where
+  pub lays-wrong : false ≡ laid → LaysOut b laid Layout.Wrong
+  lays-wrong h = record { wrong = λ _. sym h; right = λ e k. absurd (let z : _≡_ {A = ℕ} 0 1 = cc in omega arith); zero = λ e k. absurd (let z : _≡_ {A = ℕ} 0 1 = cc in omega arith) }
+
+  pub lays-right : (p : ℕ) → true ≡ laid → zeros (part b p 508) ≡ true → LaysOut b laid (Layout.EndsAt p)
+  lays-right p h z =
+      record {
+        wrong = λ k. absurd (let z : _≡_ {A = ℕ} 0 1 = cc in omega arith);
+        right = λ e k. sym h;
+        zero = λ e k. let same : p ≡ e = cc in subst (λ (x : ℕ). zeros (part b x 508) ≡ true) same z;
+      }
 
 -- ---- what the loop over the items keeps
 
@@ -35,11 +50,11 @@ module _ (b : List ℕ) (from count : ℕ) where
   laid-to-start h = record { within = h; rest = refl }
 
   module _ (p left end : ℕ) (inv : LaidTo b from count p left) (l : 0 < left) (e : end ≡ next b p) where
-    pub laid-to-past : 508 < end → false ≡ laidOut count b from
+    pub laid-to-past : 508 < end → LaysOut b (laidOut count b from) Layout.Wrong
     laid-to-past h =
         let k : 508 < next b p = omega arith in
         let none : false ≡ laidOut left b p = rw (laid-first left b p l, lt-leb (next b p) 508 k) in
-        none ∙ inv .rest
+        lays-wrong b _ (none ∙ inv .rest)
 
     pub laid-to-next : end ≤ 508 → LaidTo b from count end (left - 1)
     laid-to-next h =
@@ -47,24 +62,34 @@ module _ (b : List ℕ) (from count : ℕ) where
         let rest : laidOut (left - 1) b end ≡ laidOut left b p = rw (e, laid-first left b p l, le-leb (next b p) 508 k) in
         record { within = h; rest = rest ∙ inv .rest }
 
-  pub laid-to-end : (p left : ℕ) → LaidTo b from count p left → left ≤ 0 → (z : Bool) → z ≡ zeros (part b p 508) → z ≡ laidOut count b from
-  laid-to-end p left inv l z e = e ∙ sym (laid-none left b p l) ∙ inv .rest
+  module _ (p left : ℕ) (inv : LaidTo b from count p left) (l : left ≤ 0) (z : Bool) (e : z ≡ zeros (part b p 508)) where
+    padding-decides : z ≡ laidOut count b from
+    padding-decides = e ∙ sym (laid-none left b p l) ∙ inv .rest
+
+    pub laid-to-end : z ≡ true → LaysOut b (laidOut count b from) (Layout.EndsAt p)
+    laid-to-end h = lays-right b _ p (sym h ∙ padding-decides) (sym e ∙ h)
+
+    pub laid-to-bytes : z ≡ false → LaysOut b (laidOut count b from) Layout.Wrong
+    laid-to-bytes h = lays-wrong b _ (sym h ∙ padding-decides)
 
 -- ---- what the tests of a layout decide, and what a layout has
 
 module _ (b : List ℕ) (first at most : ℕ) where
-  pub layout-first-not : (getD b 0 0 ≡ first → ⊥) → false ≡ hasLayout first at most b
+  pub layout-first-not : (getD b 0 0 ≡ first → ⊥) → LaysOut b (hasLayout first at most b) Layout.Wrong
   unfolding hasLayout
-  layout-first-not n = rw (ne-eqb (getD b 0 0) first n)
+  layout-first-not n = lays-wrong b _ (rw (ne-eqb (getD b 0 0) first n))
 
   module _ (f : getD b 0 0 ≡ first) where
-    pub layout-many : most < getD b at 0 → false ≡ hasLayout first at most b
+    pub layout-many : most < getD b at 0 → LaysOut b (hasLayout first at most b) Layout.Wrong
     unfolding hasLayout
-    layout-many n = rw (eq-eqb (getD b 0 0) first f, lt-leb (getD b at 0) most n)
+    layout-many n = lays-wrong b _ (rw (eq-eqb (getD b 0 0) first f, lt-leb (getD b at 0) most n))
 
-    pub layout-laid : getD b at 0 ≤ most → (r : Bool) → r ≡ laidOut (getD b at 0) b (at + 1) → r ≡ hasLayout first at most b
+    pub layout-items-decide : getD b at 0 ≤ most → laidOut (getD b at 0) b (at + 1) ≡ hasLayout first at most b
     unfolding hasLayout
-    layout-laid n r e = rw (eq-eqb (getD b 0 0) first f, le-leb (getD b at 0) most n) e
+    layout-items-decide n = rw (eq-eqb (getD b 0 0) first f, le-leb (getD b at 0) most n)
+
+    pub layout-laid : getD b at 0 ≤ most → (r : Layout) → LaysOut b (laidOut (getD b at 0) b (at + 1)) r → LaysOut b (hasLayout first at most b) r
+    layout-laid n r e = subst (λ (laid : Bool). LaysOut b laid r) (layout-items-decide n) e
 
   module _ (h : hasLayout first at most b ≡ true) where
     after-first : (leb (getD b at 0) most && laidOut (getD b at 0) b (at + 1)) ≡ true
@@ -86,14 +111,24 @@ module _ (b : List ℕ) (first at most : ℕ) where
     walk-start s l = record { size = s; within = omega arith; laid = layout-items }
 
 -- either of two first bytes
-module _ (b : List ℕ) (plain marked at most : ℕ) (r : Bool) (e : r ≡ hasLayout plain at most b) where
-  pub either-plain : r ≡ true → true ≡ hasEither plain marked at most b
+module _ (b : List ℕ) (plain marked at most : ℕ) (r : Layout) (l : LaysOut b (hasLayout plain at most b) r) where
+  pub either-plain : (p : ℕ) → r ≡ Layout.EndsAt p → LaysOut b (hasEither plain marked at most b) (Layout.EndsAt p)
   unfolding hasEither
-  either-plain h = rw (sym e ∙ h)
+  either-plain p h = lays-right b _ p (rw (l .right p h)) (l .zero p h)
 
-  pub either-marked : (t : Bool) → r ≡ false → t ≡ hasLayout marked at most b → t ≡ hasEither plain marked at most b
+  pub either-marked : (t : Layout) → r ≡ Layout.Wrong → LaysOut b (hasLayout marked at most b) t → LaysOut b (hasEither plain marked at most b) t
   unfolding hasEither
-  either-marked t h f = rw (sym e ∙ h) f
+  either-marked t h f = rw (l .wrong h) f
+
+module _ (b : List ℕ) (laid : Bool) (r : Layout) (l : LaysOut b laid r) where
+  pub laid-right : (p : ℕ) → r ≡ Layout.EndsAt p → true ≡ laid
+  laid-right p h = sym (l .right p h)
+
+  pub laid-wrong : r ≡ Layout.Wrong → false ≡ laid
+  laid-wrong h = sym (l .wrong h)
+
+  pub laid-zero : (p : ℕ) → r ≡ Layout.EndsAt p → zeros (part b p 508) ≡ true
+  laid-zero p h = l .zero p h
 
 -- a block with either layout has that of its own first byte
 pub either-own : (b : List ℕ) (plain marked at most : ℕ) → hasEither plain marked at most b ≡ true → hasLayout (getD b 0 0) at most b ≡ true

@@ -27,7 +27,7 @@ use Rattle.block.specs.Seal.{seal}
 use Rattle.block.specs.Items.{zeros, hasMarks, headSize, lengthAt, next, markAt, textAt, laidOut, hasLayout, items, marks, join}
 use Rattle.block.proofs.Contents.{Held, Written}
 use Rattle.block.proofs.Seal.{after, seal-body, seal-bytes, seal-sealed, sealed-seal}
-use Rattle.block.proofs.Items.{layout-laid, layout-first, layout-count, layout-items, items-length}
+use Rattle.block.proofs.Items.{layout-items-decide, layout-first, layout-count, layout-items, items-length}
 
 -- the bytes of one item after the other are bytes
 join-bytes : {X : Type 0} (bytesOf : X → List ℕ) {xs : List X} → All (λ (x : X). Bytes (bytesOf x)) xs → Bytes (join bytesOf xs)
@@ -177,7 +177,7 @@ module _ {X : Type 0} (make : ℕ → ℕ → List ℕ → X) (w : Bool) (bytesO
         layout few =
             let b = seal body in
             let laid : laidOut (getD b at 0) b (at + 1) ≡ true = ap (λ (k : ℕ). laidOut k b (at + 1)) count ∙ back .0 in
-            sym (layout-laid b first at most starts (omega (arith, count)) true (sym laid))
+            sym (layout-items-decide b first at most starts (omega (arith, count))) ∙ laid
 
       pub held : most < 256 → Byte first → hasMarks first ≡ w → All Unmarked xs → Bytes head → Written bytesOf most body (seal body) xs → Held make first at most (seal body) xs
       held small f k u h v =

@@ -3,24 +3,29 @@
 -- weighted by rows, and j + 1 times its plain sum. `column-split`, by induction on the rows (`byte-above` is one row more), takes column j
 -- out of the sum over the columns from j on. `columns-all`, by induction on the rows too, says that all columns make the sum in the order
 -- of the bytes. The invariant `Summed`: the total and the columns to come make that sum. The last four bytes stand in the columns and not
--- in the check sum, so they are taken off at the end (`summed-end`).
+-- in the check sum, so they are taken off at the end (`whole-check-sum`). Where zeros follow the items, the rows behind them are left out (`part-check-sum`).
 -- Assumes nothing.
 use Prim.Native.Nat.{ℕ, zero, suc, _+_, _*_, _-_, _≤_, _<_}
 use native.Mathlib.Nat.{zero-add, add-zero, add-mul, mul-add, mul-comm, mul-le-mul, mul-le-mul-right, eq-or-lt-of-le}
 use native.Mathlib.Numerals.{add-one}
 use native.Mathlib.Omega.{arith}
 use mathlib.Core.Path.{_≡_, refl, ap, sym, _∙_}
+use mathlib.Core.Bool.{true}
 use mathlib.Core.Logic.{⊎-elim}
+use lib.Dec.{eqb}
 use mathlib.Core.List.{List, [], _∷_, _++_}
 use lib.ListN.{length, getD, set, replicate, length-set}
 use lib.Seq.{getD-set-same, getD-set-other}
 use Rattle.base.specs.Bytes.{Bytes}
-use Rattle.base.specs.Lists.{all-empty, all-cons}
+use borrow.Author.Tests.{eqb-true}
+use Rattle.base.specs.Lists.{all-empty, all-cons, every}
 use Rattle.base.specs.Parts.{part}
 use Rattle.base.proofs.Parts.{part-length, part-cons, part-append}
+use Rattle.base.proofs.Tests.{and-left, and-right}
 use Rattle.block.specs.Sum.{sumFrom, checkSum}
 use Rattle.block.specs.Columns.{columnSum, columnRows, ColumnAt, Cells, ColumnsTo, lastFour}
 use Rattle.block.specs.Seal.{HasSize}
+use Rattle.block.specs.Items.{zeros}
 use Rattle.block.specs.declared.columns.Column.{Column}
 use Rattle.block.proofs.Invariants.{RowsSummed, columnsFrom, Summed}
 
@@ -39,30 +44,34 @@ sum-largest {s} h e = rw e at (sum-most 1 h)
 
 -- ---- the rows of a column
 
-module _ (b : List ℕ) (j : ℕ) where
-  pub rows-start : RowsSummed b j 0 0 16
+module _ (b : List ℕ) (m j : ℕ) where
+  pub rows-start : m ≤ 16 → RowsSummed b m j 0 0 m
   unfolding columnSum columnRows
-  rows-start = record { within = omega arith; plain = refl; weighted = refl; plain-most = omega arith; weighted-most = omega arith }
+  rows-start h =
+      let z : m - m ≡ 0 = omega arith in
+      record { within = omega arith; few = h; plain = rw z; weighted = rw z; plain-most = omega arith; weighted-most = omega arith }
 
-  module _ (sum rows row : ℕ) (inv : RowsSummed b j sum rows row) where
+  module _ (sum rows row : ℕ) (inv : RowsSummed b m j sum rows row) where
     -- x is the byte of the row above
-    pub rows-next : (x : ℕ) → 0 < row → x ≡ getD b (32 * (row - 1) + j) 0 → x < 256 → RowsSummed b j (sum + x) (rows + sum) (row - 1)
+    pub rows-next : (x : ℕ) → 0 < row → x ≡ getD b (32 * (row - 1) + j) 0 → x < 256 → RowsSummed b m j (sum + x) (rows + sum) (row - 1)
     unfolding columnSum columnRows
     rows-next x l e small =
-        let n : 16 - (row - 1) ≡ suc (16 - row) = omega (arith, inv .within) in
+        let n : m - (row - 1) ≡ suc (m - row) = omega (arith, inv .within) in
         let p : 32 * (row - 1) + j + 32 ≡ 32 * row + j = omega arith in
         record {
           within = omega (arith, inv .within);
+          few = inv .few;
           plain = rw (n, p) (omega (arith, inv .plain));
           weighted = rw (n, p) (omega (arith, inv .plain, inv .weighted));
           plain-most = omega (arith, inv .plain-most);
           weighted-most = omega (arith, inv .plain-most, inv .weighted-most);
         }
 
-    pub rows-end : row ≤ 0 → ColumnAt b j (record { sum = sum; rows = rows })
+    pub rows-end : row ≤ 0 → ColumnAt b m j (record { sum = sum; rows = rows })
     rows-end l =
         let z : row ≡ 0 = omega arith in
-        record { plain = rw (z, zero-add j) at (inv .plain); weighted = rw (z, zero-add j) at (inv .weighted) }
+        let n : m - 0 ≡ m = omega arith in
+        record { plain = rw (z, zero-add j, n) at (inv .plain); weighted = rw (z, zero-add j, n) at (inv .weighted) }
 
 -- ---- the cells that hold the sums of the columns
 
@@ -79,8 +88,8 @@ cells-next f l n x inv h e =
           (eq-or-lt-of-le {n = k} {m = n} (omega arith));
     }
 
-module _ (b : List ℕ) where
-  pub columns-start : ColumnsTo b (replicate 32 0) (replicate 32 0) 0
+module _ (b : List ℕ) (m : ℕ) where
+  pub columns-start : ColumnsTo b m (replicate 32 0) (replicate 32 0) 0
   columns-start =
       record {
         within = omega arith;
@@ -88,8 +97,8 @@ module _ (b : List ℕ) where
         weighted = record { size = refl; each = λ k z. absurd (omega arith) };
       }
 
-  module _ (sums rows : List ℕ) (j : ℕ) (inv : ColumnsTo b sums rows j) where
-    pub columns-next : (c : Column) → j < 32 → ColumnAt b j c → ColumnsTo b (set sums j (c .sum)) (set rows j (c .rows)) (j + 1)
+  module _ (sums rows : List ℕ) (j : ℕ) (inv : ColumnsTo b m sums rows j) where
+    pub columns-next : (c : Column) → j < 32 → ColumnAt b m j c → ColumnsTo b m (set sums j (c .sum)) (set rows j (c .rows)) (j + 1)
     columns-next c l at =
         record {
           within = omega arith;
@@ -97,7 +106,7 @@ module _ (b : List ℕ) where
           weighted = cells-next _ rows j (c .rows) (inv .weighted) l (at .weighted);
         }
 
-    pub columns-end : 32 ≤ j → ColumnsTo b sums rows 32
+    pub columns-end : 32 ≤ j → ColumnsTo b m sums rows 32
     columns-end l = let z : j ≡ 32 = omega (arith, inv .within) in rw z at inv
 
 -- ---- the sum of a part
@@ -153,37 +162,70 @@ module _ (b : List ℕ) where
   columns-none p zero = refl
   columns-none p (suc n) = let k : p + 32 - (p + 32) ≡ 0 = omega arith in rw k (omega (arith, columns-none (p + 32) n))
 
-module _ (b : List ℕ) (h : HasSize b) where
-  columns-all : (p n : ℕ) → p + 32 * n ≡ 512 → columnsFrom b p 0 n ≡ sumFrom (p + 1) (part b p 512)
+module _ (b : List ℕ) (h : HasSize b) (m : ℕ) (few : m ≤ 16) where
+  columns-all : (p n : ℕ) → p + 32 * n ≡ 32 * m → columnsFrom b p 0 n ≡ sumFrom (p + 1) (part b p (32 * m))
   unfolding columnsFrom sumFrom
-  columns-all p zero e = let k : p ≡ 512 = omega arith in rw k
+  columns-all p zero e = let k : 32 * m - p ≡ 0 = omega arith in rw k
   columns-all p (suc n) e =
       let k : p + 1 + (p + 32 - p) ≡ p + 32 + 1 = omega arith in
-      let rows = rw k at (part-sum-append b (p + 1) p (p + 32) 512 (omega arith) (omega arith) (omega (arith, h))) in
+      let rows = rw k at (part-sum-append b (p + 1) p (p + 32) (32 * m) (omega arith) (omega arith) (omega (arith, h, few))) in
       rw (add-zero p) (omega (arith, rows, columns-all (p + 32) n (omega arith)))
 
-  pub summed-start : Summed b 0 0
-  summed-start = record { within = omega arith; whole = omega (arith, columns-all 0 16 (omega arith)); most = omega arith }
+  pub summed-start : Summed b m 0 0
+  summed-start = record { within = omega arith; whole = omega (arith, columns-all 0 m (omega arith)); most = omega arith }
 
-  module _ (total j : ℕ) (inv : Summed b total j) where
-    pub summed-next : (x : ℕ) (sums rows : List ℕ) → ColumnsTo b sums rows 32 → j < 32 → x ≡ 32 * getD rows j 0 + (j + 1) * getD sums j 0 → x ≤ 4194304 → Summed b (total + x) (j + 1)
+  module _ (total j : ℕ) (inv : Summed b m total j) where
+    pub summed-next : (x : ℕ) (sums rows : List ℕ) → ColumnsTo b m sums rows 32 → j < 32 → x ≡ 32 * getD rows j 0 + (j + 1) * getD sums j 0 → x ≤ 4194304 → Summed b m (total + x) (j + 1)
     summed-next x sums rows of l e small =
-        let split = rw (zero-add j) at (column-split b j l 0 16 (omega (arith, h))) in
+        let split = rw (zero-add j) at (column-split b j l 0 m (omega (arith, h, few))) in
         record {
           within = omega arith;
           whole = omega (arith, inv .whole, split, rw (of .plain .each j l, of .weighted .each j l) at e);
           most = omega (arith, inv .most);
         }
 
-    module _ (rest : ℕ) (l : 32 ≤ j) (e : rest ≡ lastFour b) where
-      summed-all : total ≡ checkSum b + rest
-      unfolding checkSum
-      summed-all =
-          let z : j ≡ 32 = omega (arith, inv .within) in
-          omega (arith, rw z at (inv .whole), columns-none b 0 16, last-four b h, part-sum-append b 1 0 508 512 (omega arith) (omega arith) (omega (arith, h)))
+    pub summed-end : 32 ≤ j → total ≡ sumFrom 1 (part b 0 (32 * m))
+    summed-end l =
+        let z : j ≡ 32 = omega (arith, inv .within) in
+        omega (arith, rw z at (inv .whole), columns-none b 0 m)
 
-      pub summed-rest : rest ≤ total
-      summed-rest = omega (arith, summed-all)
+-- ---- the check sum from the sum over rows
 
-      pub summed-end : total - rest ≡ checkSum b
-      summed-end = omega (arith, summed-all)
+-- all 16 rows, less the last four bytes
+module _ (b : List ℕ) (h : HasSize b) (total rest : ℕ) (t : total ≡ sumFrom 1 (part b 0 (32 * 16))) (e : rest ≡ lastFour b) where
+  whole-sum : total ≡ checkSum b + rest
+  unfolding checkSum
+  whole-sum = omega (arith, t, e, last-four b h, part-sum-append b 1 0 508 512 (omega arith) (omega arith) (omega (arith, h)))
+
+  pub whole-rest : rest ≤ total
+  whole-rest = omega (arith, whole-sum)
+
+  pub whole-check-sum : total - rest ≡ checkSum b
+  whole-check-sum = omega (arith, whole-sum)
+
+-- zeros add nothing
+zeros-sum : (i : ℕ) (xs : List ℕ) → zeros xs ≡ true → sumFrom i xs ≡ 0
+unfolding sumFrom zeros every
+zeros-sum i [] z = refl
+zeros-sum i (x ∷ xs) z =
+    let none : x ≡ 0 = eqb-true x 0 (and-left (eqb x 0) (zeros xs) z) in
+    rw (none, zeros-sum (suc i) xs (and-right (eqb x 0) (zeros xs) z)) (omega arith)
+
+-- so the rows to the end of the items make the check sum
+module _ (b : List ℕ) (h : HasSize b) (m end : ℕ) (few : 32 * m ≤ 508) (within : end ≤ 32 * m) (z : zeros (part b end 508) ≡ true) where
+  part-check-sum : sumFrom 1 (part b 0 (32 * m)) ≡ checkSum b
+  unfolding checkSum
+  part-check-sum =
+      let all = part-sum-append b 1 0 end 508 (omega arith) (omega arith) (omega (arith, h)) in
+      let rows = part-sum-append b 1 0 end (32 * m) (omega arith) within (omega (arith, h)) in
+      let past = part-sum-append b (1 + (end - 0)) end (32 * m) 508 within few (omega (arith, h)) in
+      let none = zeros-sum (1 + (end - 0)) (part b end 508) z in
+      omega (arith, all, rows, past, none)
+
+-- by 4 and by 8 rows
+module _ (b : List ℕ) (h : HasSize b) (end total : ℕ) (z : zeros (part b end 508) ≡ true) where
+  pub four-rows : end ≤ 128 → total ≡ sumFrom 1 (part b 0 (32 * 4)) → total ≡ checkSum b
+  four-rows l t = t ∙ part-check-sum b h 4 end (omega arith) l z
+
+  pub eight-rows : end ≤ 256 → total ≡ sumFrom 1 (part b 0 (32 * 8)) → total ≡ checkSum b
+  eight-rows l t = t ∙ part-check-sum b h 8 end (omega arith) l z

@@ -17,21 +17,21 @@ unfoldable pub columnRows : List ℕ → ℕ → ℕ → ℕ
 columnRows b p zero = 0
 columnRows b p (suc n) = columnSum b (p + 32) n + columnRows b (p + 32) n
 
--- r has the sums of the column j
-pub record ColumnAt (b : List ℕ) (j : ℕ) (r : Column) : Type 0 where
-  pub plain : r .sum ≡ columnSum b j 16
-  pub weighted : r .rows ≡ columnRows b j 16
+-- r has the sums of the column j in the first m rows
+pub record ColumnAt (b : List ℕ) (m j : ℕ) (r : Column) : Type 0 where
+  pub plain : r .sum ≡ columnSum b j m
+  pub weighted : r .rows ≡ columnRows b j m
 
 -- the first n of 32 cells hold what f says of each
 pub record Cells (f : ℕ → ℕ) (cells : List ℕ) (n : ℕ) : Type 0 where
   pub size : length cells ≡ 32
   pub each : (k : ℕ) → k < n → getD cells k 0 ≡ f k
 
--- `sums` and `rows` have the sums of the first n columns
-pub record ColumnsTo (b sums rows : List ℕ) (n : ℕ) : Type 0 where
+-- `sums` and `rows` have the sums of the first n columns in the first m rows
+pub record ColumnsTo (b : List ℕ) (m : ℕ) (sums rows : List ℕ) (n : ℕ) : Type 0 where
   pub within : n ≤ 32
-  pub plain : Cells (λ (j : ℕ). columnSum b j 16) sums n
-  pub weighted : Cells (λ (j : ℕ). columnRows b j 16) rows n
+  pub plain : Cells (λ (j : ℕ). columnSum b j m) sums n
+  pub weighted : Cells (λ (j : ℕ). columnRows b j m) rows n
 
 -- the sum of the bytes 508 to 511, each times its place counted from 1
 abbrev pub lastFour : List ℕ → ℕ

@@ -11,6 +11,7 @@ use Rattle.base.specs.Lists.{every}
 use Rattle.base.specs.Parts.{part}
 use Rattle.block.specs.Seal.{HasSize}
 use Rattle.block.specs.declared.Item.{Item}
+use Rattle.block.specs.declared.Layout.{Layout}
 
 -- ---- reading
 
@@ -55,6 +56,12 @@ hasLayout first at most b = eqb (getD b 0 0) first && (leb (getD b at 0) most &&
 -- the same with either of two first bytes
 unfoldable pub hasEither : (plain marked at most : ℕ) → List ℕ → Bool
 hasEither plain marked at most b = hasLayout plain at most b || hasLayout marked at most b
+
+-- r says whether a block with its size is laid out, and where its items end: zeros follow from there to byte 507
+pub record LaysOut (b : List ℕ) (laid : Bool) (r : Layout) : Type 0 where
+  pub wrong : r ≡ Layout.Wrong → laid ≡ false
+  pub right : (e : ℕ) → r ≡ Layout.EndsAt e → laid ≡ true
+  pub zero : (e : ℕ) → r ≡ Layout.EndsAt e → zeros (part b e 508) ≡ true
 
 -- the k items from p on, each made of its first byte, its mark and its text
 unfoldable pub items : {X : Type 0} → (ℕ → ℕ → List ℕ → X) → ℕ → List ℕ → ℕ → List X

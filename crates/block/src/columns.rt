@@ -1,10 +1,13 @@
 // The check sum of a block. The 512 bytes are taken as 16 rows of 32 and summed column by column: the sums of a column have 16 bits,
-// so that the loop over the columns is compiled to vector instructions of that width.
+// so that the loop over the columns is compiled to vector instructions of that width. Rows that are known to be zero are left out.
 ghost use mathlib.Core.Path.{_≡_};
 ghost use Prim.Native.Nat.{_+_, _*_, _≤_, _<_};
-ghost use Rattle.block.specs.Sum.{checkSum};
+ghost use mathlib.Core.Bool.{true};
+ghost use Rattle.base.specs.Parts.{part};
+ghost use Rattle.block.specs.Sum.{sumFrom, checkSum};
 ghost use Rattle.block.specs.Columns.{ColumnAt, ColumnsTo, lastFour};
 ghost use Rattle.block.specs.Seal.{HasSize};
+ghost use Rattle.block.specs.Items.{zeros};
 
 // The sums of a column: of its bytes, and of its bytes each times its row, counted from 0.
 struct Column {
@@ -25,16 +28,17 @@ fn wide(b: u8) -> u16
     b as u16
 }
 
-// The sums of the column `j`, from the last row to the first. Each row adds the bytes of all rows below it to `rows`, so that a byte
-// is added once for each row above it.
-fn column_at(block: &[u8], j: usize) -> Column
+// The sums of the column `j` in the first rows, from the last of them to the first. Each row adds the bytes of all rows below it to `rows`,
+// so that a byte is added once for each row above it.
+fn column_at(block: &[u8], j: usize, most: usize) -> Column
     requires { ⌜ HasSize (now block) ⌝ }
     requires { ⌜ j < 32 ⌝ }
-    ensures { λ r. ⌜ ColumnAt (now (block .entry)) j r ⌝ }
+    requires { ⌜ most ≤ 16 ⌝ }
+    ensures { λ r. ⌜ ColumnAt (now (block .entry)) most j r ⌝ }
 {
     let mut sum: u16 = 0;
     let mut rows: u16 = 0;
-    let mut row: usize = 16;
+    let mut row = most;
     while row > 0 {
         row -= 1;
         rows += sum;
@@ -43,16 +47,17 @@ fn column_at(block: &[u8], j: usize) -> Column
     Column { sum, rows }
 }
 
-// The sums of all columns.
-fn columns_of(block: &[u8]) -> Columns
+// The sums of all columns in the first rows.
+fn columns_of(block: &[u8], most: usize) -> Columns
     requires { ⌜ HasSize (now block) ⌝ }
-    ensures { λ r. ⌜ ColumnsTo (now (block .entry)) (r .sums) (r .rows) 32 ⌝ }
+    requires { ⌜ most ≤ 16 ⌝ }
+    ensures { λ r. ⌜ ColumnsTo (now (block .entry)) most (r .sums) (r .rows) 32 ⌝ }
 {
     let mut sums = [0u16; 32];
     let mut rows = [0u16; 32];
     let mut j = 0;
     while j < 32 {
-        let column = column_at(block, j);
+        let column = column_at(block, j, most);
         sums[j] = column.sum;
         rows[j] = column.rows;
         j += 1;
@@ -60,7 +65,7 @@ fn columns_of(block: &[u8]) -> Columns
     Columns { sums, rows }
 }
 
-// What the column `j` adds to the sum over all 512 bytes: the place of a byte is 32 times its row, and `j + 1`.
+// What the column `j` adds to the sum over the rows: the place of a byte is 32 times its row, and `j + 1`.
 fn column_total(j: usize, sum: u16, rows: u16) -> u32
     requires { ⌜ j < 32 ⌝ }
     ensures { λ r. ⌜ (r ≡ 32 * rows + (j + 1) * sum) × (r ≤ 4194304) ⌝ }
@@ -80,17 +85,41 @@ fn last_four(block: &[u8]) -> u32
     509 * a + 510 * b + 511 * c + 512 * d
 }
 
-// The sum of the first 508 bytes, each times its place counted from 1.
-pub fn check_sum(block: &[u8]) -> u32
+// The sum of the bytes in the first rows, each times its place counted from 1.
+fn rows_sum(block: &[u8], most: usize) -> u32
     requires { ⌜ HasSize (now block) ⌝ }
-    ensures { λ r. ⌜ r ≡ checkSum (now (block .entry)) ⌝ }
+    requires { ⌜ most ≤ 16 ⌝ }
+    ensures { λ r. ⌜ r ≡ sumFrom 1 (part (now (block .entry)) 0 (32 * most)) ⌝ }
 {
-    let columns = columns_of(block);
+    let columns = columns_of(block, most);
     let mut total: u32 = 0;
     let mut j = 0;
     while j < 32 {
         total += column_total(j, columns.sums[j], columns.rows[j]);
         j += 1;
     }
-    total - last_four(block)
+    total
+}
+
+// The sum of the first 508 bytes, each times its place counted from 1.
+pub fn check_sum(block: &[u8]) -> u32
+    requires { ⌜ HasSize (now block) ⌝ }
+    ensures { λ r. ⌜ r ≡ checkSum (now (block .entry)) ⌝ }
+{
+    rows_sum(block, 16) - last_four(block)
+}
+
+// The same of a block whose bytes from `end` to 507 are zero: rows behind `end` add nothing.
+pub fn check_sum_to(block: &[u8], end: usize) -> u32
+    requires { ⌜ HasSize (now block) ⌝ }
+    requires { ⌜ zeros (part (now block) end 508) ≡ true ⌝ }
+    ensures { λ r. ⌜ r ≡ checkSum (now (block .entry)) ⌝ }
+{
+    if end <= 128 {
+        return rows_sum(block, 4);
+    }
+    if end <= 256 {
+        return rows_sum(block, 8);
+    }
+    check_sum(block)
 }

@@ -2,6 +2,7 @@
 mod columns;
 
 pub use columns::check_sum;
+use columns::check_sum_to;
 ghost use mathlib.Core.Path.{_≡_};
 ghost use mathlib.Core.Bool.{_&&_};
 ghost use Prim.Native.Nat.{_+_, _≤_, _<_};
@@ -9,7 +10,8 @@ ghost use lib.Dec.{eqb};
 ghost use lib.ListN.{length};
 ghost use Rattle.block.specs.Words.{word};
 ghost use Rattle.block.specs.Seal.{HasSize, check};
-ghost use Rattle.block.specs.Items.{zeros, hasMarks, laidOut, hasLayout, hasEither, ItemAt};
+ghost use Rattle.block.specs.Items.{zeros, hasMarks, laidOut, hasLayout, hasEither, ItemAt, LaysOut};
+ghost use Rattle.block.specs.Readings.{reading};
 
 // What the size and the check sum of a block are: both right, or which is wrong.
 pub enum Integrity {
@@ -28,6 +30,12 @@ pub enum Validity {
     WrongSum,
     // The layout is wrong, or a sheet's names are: refusal 3 of a sheet, 22 of a card.
     WrongLayout,
+}
+
+// Where the items of a block end, and zeros follow to byte 507; or that they are not laid out so.
+pub enum Layout {
+    EndsAt(usize),
+    Wrong,
 }
 
 // An item: its first byte, its mark (0 in a block without marks), and where its text starts and ends. The next item starts
@@ -133,10 +141,10 @@ pub fn item_at(block: &[u8], at: usize) -> Item
 }
 
 // Whether `count` items from `from` on end at or before byte 507, and the bytes from there to 507 are zero.
-fn laid_out(block: &[u8], from: usize, count: u8) -> bool
+fn laid_out(block: &[u8], from: usize, count: u8) -> Layout
     requires { ⌜ HasSize (now block) ⌝ }
     requires { ⌜ from ≤ 508 ⌝ }
-    ensures { λ r. ⌜ r ≡ laidOut count (now (block .entry)) from ⌝ }
+    ensures { λ r. ⌜ LaysOut (now (block .entry)) (laidOut count (now (block .entry)) from) r ⌝ }
 {
     let mut at = from;
     let mut left = count;
@@ -144,39 +152,78 @@ fn laid_out(block: &[u8], from: usize, count: u8) -> bool
         let item = item_at(block, at);
         let end = item.end;
         if end > 508 {
-            return false;
+            return Layout::Wrong;
         }
         at = end;
         left -= 1;
     }
-    zeros(&block[at..508])
+    if zeros(&block[at..508]) {
+        return Layout::EndsAt(at);
+    }
+    Layout::Wrong
 }
 
 // Whether the first byte is `first`, the byte at `at` says how many items follow it, `most` or fewer, and they and the padding
 // are laid out.
-pub fn has_layout(block: &[u8], first: u8, at: usize, most: u8) -> bool
+fn layout_from(block: &[u8], first: u8, at: usize, most: u8) -> Layout
     requires { ⌜ HasSize (now block) ⌝ }
     requires { ⌜ at < 508 ⌝ }
-    ensures { λ r. ⌜ r ≡ hasLayout first at most (now (block .entry)) ⌝ }
+    ensures { λ r. ⌜ LaysOut (now (block .entry)) (hasLayout first at most (now (block .entry))) r ⌝ }
 {
     if block[0] != first {
-        return false;
+        return Layout::Wrong;
     }
     let count = block[at];
     if count > most {
-        return false;
+        return Layout::Wrong;
     }
     laid_out(block, at + 1, count)
 }
 
 // The same with either of two first bytes.
+pub fn layout_of(block: &[u8], plain: u8, marked: u8, at: usize, most: u8) -> Layout
+    requires { ⌜ HasSize (now block) ⌝ }
+    requires { ⌜ at < 508 ⌝ }
+    ensures { λ r. ⌜ LaysOut (now (block .entry)) (hasEither plain marked at most (now (block .entry))) r ⌝ }
+{
+    match layout_from(block, plain, at, most) {
+        Layout::EndsAt(end) => Layout::EndsAt(end),
+        Layout::Wrong => layout_from(block, marked, at, most),
+    }
+}
+
+// Whether a block of 512 bytes has either layout.
 pub fn has_either(block: &[u8], plain: u8, marked: u8, at: usize, most: u8) -> bool
     requires { ⌜ HasSize (now block) ⌝ }
     requires { ⌜ at < 508 ⌝ }
     ensures { λ r. ⌜ r ≡ hasEither plain marked at most (now (block .entry)) ⌝ }
 {
-    if has_layout(block, plain, at, most) {
-        return true;
+    match layout_of(block, plain, marked, at, most) {
+        Layout::EndsAt(_) => true,
+        Layout::Wrong => false,
     }
-    has_layout(block, marked, at, most)
+}
+
+// What a block is: size, then check sum, then layout. The layout is looked at first, since the sum needs to go no further than the items.
+pub fn read_block(block: &[u8], plain: u8, marked: u8, at: usize, most: u8) -> Validity
+    requires { ⌜ at < 508 ⌝ }
+    ensures { λ r. ⌜ r ≡ reading (check (now (block .entry))) (hasEither plain marked at most (now (block .entry))) ⌝ }
+{
+    if block.len() != 512 {
+        return Validity::WrongSize;
+    }
+    match layout_of(block, plain, marked, at, most) {
+        Layout::EndsAt(end) => {
+            if check_sum_to(block, end) != word(block, 508) {
+                return Validity::WrongSum;
+            }
+            Validity::WellFormed
+        }
+        Layout::Wrong => {
+            if check_sum(block) != word(block, 508) {
+                return Validity::WrongSum;
+            }
+            Validity::WrongLayout
+        }
+    }
 }

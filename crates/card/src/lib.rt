@@ -1,7 +1,6 @@
 // Cards: blocks of 512 bytes with a record number and entries, each a text under a parameter of the sheet. A reader asks
 // `read_card` first; the record number and the entries of a well-formed card are then at hand, the entries by a walk from
 // `FIRST_ENTRY` on with `entry_at`.
-use block::Integrity;
 use block::Validity;
 ghost use mathlib.Core.Path.{_≡_};
 ghost use Prim.Native.Nat.{_<_};
@@ -25,17 +24,7 @@ pub struct Entry {
 pub fn read_card(card: &[u8]) -> Validity
     ensures { λ r. ⌜ r ≡ readCard (now (card .entry)) ⌝ }
 {
-    match block::check(card) {
-        Integrity::WrongSize => Validity::WrongSize,
-        Integrity::WrongSum => Validity::WrongSum,
-        Integrity::Sealed => {
-            if block::has_either(card, 0x43, 0x44, 5, 64) {
-                Validity::WellFormed
-            } else {
-                Validity::WrongLayout
-            }
-        }
-    }
+    block::read_block(card, 0x43, 0x44, 5, 64)
 }
 
 // The record number of a well-formed card.

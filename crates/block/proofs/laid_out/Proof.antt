@@ -1,7 +1,7 @@
 -- `block::laid_out` meets its contract: the items that are left decide, and after the last the padding. Assumes nothing.
 use borrow.Author.Needs.{needs}
 use Rattle.block.proofs.Invariants.{LaidTo}
-use Rattle.block.proofs.Items.{laid-to-start, laid-to-past, laid-to-next, laid-to-end}
+use Rattle.block.proofs.Items.{laid-to-start, laid-to-past, laid-to-next, laid-to-end, laid-to-bytes}
 use Rattle.block.proofs.laid_out.Statement.{statement}
 use Rattle.block.proofs.laid_out.Tie as tie
 
@@ -44,6 +44,9 @@ zeros-requires c κs = search needs
 returns-2 : tie.Need-returns-2 Inv-loop μ-loop
 returns-2 c = search (laid-to-end, needs)
 
+returns-3 : tie.Need-returns-3 Inv-loop μ-loop
+returns-3 c = search (laid-to-bytes, needs)
+
 pub laid-out-spec : {M : Type 1} → statement M
 laid-out-spec =
     tie.close
@@ -60,4 +63,5 @@ laid-out-spec =
     part-zeros-start
     part-zeros-end
     zeros-requires
-    returns-2)
+    returns-2
+    returns-3)

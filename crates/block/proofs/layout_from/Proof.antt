@@ -1,8 +1,8 @@
--- `block::has_layout` meets its contract: the tests are those of the definition, in its order. Assumes nothing.
+-- `block::layout_from` meets its contract: the tests are those of the definition, in its order. Assumes nothing.
 use borrow.Author.Needs.{needs}
 use Rattle.block.proofs.Items.{layout-first-not, layout-many, layout-laid}
-use Rattle.block.proofs.has_layout.Statement.{statement}
-use Rattle.block.proofs.has_layout.Tie as tie
+use Rattle.block.proofs.layout_from.Statement.{statement}
+use Rattle.block.proofs.layout_from.Tie as tie
 
 shared-slice-read-if1 : tie.Need-shared-slice-read-if1
 shared-slice-read-if1 c = search needs
@@ -25,8 +25,8 @@ laid-out-requires c κs = search needs
 returns-3 : tie.Need-returns-3
 returns-3 c = search (layout-laid, needs)
 
-pub has-layout-spec : {M : Type 1} → statement M
-has-layout-spec =
+pub layout-from-spec : {M : Type 1} → statement M
+layout-from-spec =
     tie.close
     (tie.spec
     shared-slice-read-if1
