@@ -10,6 +10,8 @@ use number::NumberReading;
 pub use readable::card_readable;
 pub use readable::is_true;
 pub use readable::value_readable;
+pub use relate::dates_relate;
+pub use relate::numbers_relate;
 pub use relate::readings_of;
 pub use relate::relates_read;
 pub use relate::unread;

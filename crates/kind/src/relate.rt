@@ -29,7 +29,7 @@ fn strings_relate(relation: StringRelation, text: &[u8], value: &[u8]) -> bool
 }
 
 // A card's number and a filter's.
-fn numbers_relate(relation: NumberRelation, i: Decimal, f: Decimal) -> bool
+pub fn numbers_relate(relation: NumberRelation, i: Decimal, f: Decimal) -> bool
     requires { ⌜ Bounded i ⌝ }
     requires { ⌜ Bounded f ⌝ }
     ensures { λ r. ⌜ r ≡ numbersRelate relation i f ⌝ }
@@ -59,7 +59,7 @@ fn number_readings_relate(relation: NumberRelation, text: &[u8], value: NumberRe
 }
 
 // A card's period, which a date is too, and a filter's date.
-fn dates_relate(relation: DateRelation, i: Period, f: Date) -> bool
+pub fn dates_relate(relation: DateRelation, i: Period, f: Date) -> bool
     ensures { λ r. ⌜ r ≡ datesRelate relation i f ⌝ }
 {
     match relation {
