@@ -8,12 +8,11 @@ use Rattle.block.specs.Sum.{sumFrom}
 use Rattle.block.specs.Columns.{columnSum, columnRows}
 use Rattle.block.specs.Items.{laidOut, items, Walk}
 
--- the rows of the column j from `row` to m are summed: `sum` has their bytes, `rows` their bytes each times its row, counted from `row`
-pub record RowsSummed (b : List ℕ) (m j sum rows row : ℕ) : Type 0 where
-  pub within : row ≤ m
-  pub few : m ≤ 16
-  pub plain : sum ≡ columnSum b (32 * row + j) (m - row)
-  pub weighted : rows ≡ columnRows b (32 * row + j) (m - row)
+-- the rows of the column j from `row` on are summed: `sum` has their bytes, `rows` their bytes each times its row, counted from `row`
+pub record RowsSummed (b : List ℕ) (j sum rows row : ℕ) : Type 0 where
+  pub within : row ≤ 16
+  pub plain : sum ≡ columnSum b (32 * row + j) (16 - row)
+  pub weighted : rows ≡ columnRows b (32 * row + j) (16 - row)
   pub plain-most : sum + 255 * row ≤ 4080
   pub weighted-most : rows + 4080 * row ≤ 65280
 

@@ -3,7 +3,8 @@
 -- weighted by rows, and j + 1 times its plain sum. `column-split`, by induction on the rows (`byte-above` is one row more), takes column j
 -- out of the sum over the columns from j on. `columns-all`, by induction on the rows too, says that all columns make the sum in the order
 -- of the bytes. The invariant `Summed`: the total and the columns to come make that sum. The last four bytes stand in the columns and not
--- in the check sum, so they are taken off at the end (`whole-check-sum`). Where zeros follow the items, the rows behind them are left out (`part-check-sum`).
+-- in the check sum, so they are taken off at the end (`whole-end`). Where zeros follow the items from
+-- byte 128 at the latest, four rows make it (`short-check-sum`).
 -- Assumes nothing.
 use Prim.Native.Nat.{ℕ, zero, suc, _+_, _*_, _-_, _≤_, _<_}
 use native.Mathlib.Nat.{zero-add, add-zero, add-mul, mul-add, mul-comm, mul-le-mul, mul-le-mul-right, eq-or-lt-of-le}
@@ -44,34 +45,30 @@ sum-largest {s} h e = rw e at (sum-most 1 h)
 
 -- ---- the rows of a column
 
-module _ (b : List ℕ) (m j : ℕ) where
-  pub rows-start : m ≤ 16 → RowsSummed b m j 0 0 m
+module _ (b : List ℕ) (j : ℕ) where
+  pub rows-start : RowsSummed b j 0 0 16
   unfolding columnSum columnRows
-  rows-start h =
-      let z : m - m ≡ 0 = omega arith in
-      record { within = omega arith; few = h; plain = rw z; weighted = rw z; plain-most = omega arith; weighted-most = omega arith }
+  rows-start = record { within = omega arith; plain = refl; weighted = refl; plain-most = omega arith; weighted-most = omega arith }
 
-  module _ (sum rows row : ℕ) (inv : RowsSummed b m j sum rows row) where
+  module _ (sum rows row : ℕ) (inv : RowsSummed b j sum rows row) where
     -- x is the byte of the row above
-    pub rows-next : (x : ℕ) → 0 < row → x ≡ getD b (32 * (row - 1) + j) 0 → x < 256 → RowsSummed b m j (sum + x) (rows + sum) (row - 1)
+    pub rows-next : (x : ℕ) → 0 < row → x ≡ getD b (32 * (row - 1) + j) 0 → x < 256 → RowsSummed b j (sum + x) (rows + sum) (row - 1)
     unfolding columnSum columnRows
     rows-next x l e small =
-        let n : m - (row - 1) ≡ suc (m - row) = omega (arith, inv .within) in
+        let n : 16 - (row - 1) ≡ suc (16 - row) = omega (arith, inv .within) in
         let p : 32 * (row - 1) + j + 32 ≡ 32 * row + j = omega arith in
         record {
           within = omega (arith, inv .within);
-          few = inv .few;
           plain = rw (n, p) (omega (arith, inv .plain));
           weighted = rw (n, p) (omega (arith, inv .plain, inv .weighted));
           plain-most = omega (arith, inv .plain-most);
           weighted-most = omega (arith, inv .plain-most, inv .weighted-most);
         }
 
-    pub rows-end : row ≤ 0 → ColumnAt b m j (record { sum = sum; rows = rows })
+    pub rows-end : row ≤ 0 → ColumnAt b 16 j (record { sum = sum; rows = rows })
     rows-end l =
         let z : row ≡ 0 = omega arith in
-        let n : m - 0 ≡ m = omega arith in
-        record { plain = rw (z, zero-add j, n) at (inv .plain); weighted = rw (z, zero-add j, n) at (inv .weighted) }
+        record { plain = rw (z, zero-add j) at (inv .plain); weighted = rw (z, zero-add j) at (inv .weighted) }
 
 -- ---- the cells that hold the sums of the columns
 
@@ -88,8 +85,8 @@ cells-next f l n x inv h e =
           (eq-or-lt-of-le {n = k} {m = n} (omega arith));
     }
 
-module _ (b : List ℕ) (m : ℕ) where
-  pub columns-start : ColumnsTo b m (replicate 32 0) (replicate 32 0) 0
+module _ (b : List ℕ) where
+  pub columns-start : ColumnsTo b (replicate 32 0) (replicate 32 0) 0
   columns-start =
       record {
         within = omega arith;
@@ -97,8 +94,8 @@ module _ (b : List ℕ) (m : ℕ) where
         weighted = record { size = refl; each = λ k z. absurd (omega arith) };
       }
 
-  module _ (sums rows : List ℕ) (j : ℕ) (inv : ColumnsTo b m sums rows j) where
-    pub columns-next : (c : Column) → j < 32 → ColumnAt b m j c → ColumnsTo b m (set sums j (c .sum)) (set rows j (c .rows)) (j + 1)
+  module _ (sums rows : List ℕ) (j : ℕ) (inv : ColumnsTo b sums rows j) where
+    pub columns-next : (c : Column) → j < 32 → ColumnAt b 16 j c → ColumnsTo b (set sums j (c .sum)) (set rows j (c .rows)) (j + 1)
     columns-next c l at =
         record {
           within = omega arith;
@@ -106,7 +103,7 @@ module _ (b : List ℕ) (m : ℕ) where
           weighted = cells-next _ rows j (c .rows) (inv .weighted) l (at .weighted);
         }
 
-    pub columns-end : 32 ≤ j → ColumnsTo b m sums rows 32
+    pub columns-end : 32 ≤ j → ColumnsTo b sums rows 32
     columns-end l = let z : j ≡ 32 = omega (arith, inv .within) in rw z at inv
 
 -- ---- the sum of a part
@@ -175,33 +172,58 @@ module _ (b : List ℕ) (h : HasSize b) (m : ℕ) (few : m ≤ 16) where
   summed-start = record { within = omega arith; whole = omega (arith, columns-all 0 m (omega arith)); most = omega arith }
 
   module _ (total j : ℕ) (inv : Summed b m total j) where
-    pub summed-next : (x : ℕ) (sums rows : List ℕ) → ColumnsTo b m sums rows 32 → j < 32 → x ≡ 32 * getD rows j 0 + (j + 1) * getD sums j 0 → x ≤ 4194304 → Summed b m (total + x) (j + 1)
-    summed-next x sums rows of l e small =
+    -- the column j is summed
+    pub summed-next : (x sum rows : ℕ) → x ≡ 32 * rows + (j + 1) * sum → sum ≡ columnSum b j m → rows ≡ columnRows b j m → j < 32 → x ≤ 4194304 → Summed b m (total + x) (j + 1)
+    summed-next x sum rows e p w l small =
         let split = rw (zero-add j) at (column-split b j l 0 m (omega (arith, h, few))) in
-        record {
-          within = omega arith;
-          whole = omega (arith, inv .whole, split, rw (of .plain .each j l, of .weighted .each j l) at e);
-          most = omega (arith, inv .most);
-        }
+        record { within = omega arith; whole = omega (arith, inv .whole, split, rw (p, w) at e); most = omega (arith, inv .most) }
 
-    pub summed-end : 32 ≤ j → total ≡ sumFrom 1 (part b 0 (32 * m))
-    summed-end l =
+    summed-rows : 32 ≤ j → total ≡ sumFrom 1 (part b 0 (32 * m))
+    summed-rows l =
         let z : j ≡ 32 = omega (arith, inv .within) in
         omega (arith, rw z at (inv .whole), columns-none b 0 m)
 
--- ---- the check sum from the sum over rows
+-- ---- all 16 rows, less the last four bytes
 
--- all 16 rows, less the last four bytes
-module _ (b : List ℕ) (h : HasSize b) (total rest : ℕ) (t : total ≡ sumFrom 1 (part b 0 (32 * 16))) (e : rest ≡ lastFour b) where
-  whole-sum : total ≡ checkSum b + rest
-  unfolding checkSum
-  whole-sum = omega (arith, t, e, last-four b h, part-sum-append b 1 0 508 512 (omega arith) (omega arith) (omega (arith, h)))
+module _ (b : List ℕ) (h : HasSize b) where
+  pub whole-start : Summed b 16 0 0
+  whole-start = summed-start b h 16 (omega arith)
 
-  pub whole-rest : rest ≤ total
-  whole-rest = omega (arith, whole-sum)
+  module _ (total j : ℕ) (inv : Summed b 16 total j) where
+    pub whole-next : (x : ℕ) (sums rows : List ℕ) → ColumnsTo b sums rows 32 → j < 32 → x ≡ 32 * getD rows j 0 + (j + 1) * getD sums j 0 → x ≤ 4194304 → Summed b 16 (total + x) (j + 1)
+    whole-next x sums rows of l e small = summed-next b h 16 (omega arith) total j inv x (getD sums j 0) (getD rows j 0) e (of .plain .each j l) (of .weighted .each j l) l small
 
-  pub whole-check-sum : total - rest ≡ checkSum b
-  whole-check-sum = omega (arith, whole-sum)
+    module _ (rest : ℕ) (l : 32 ≤ j) (e : rest ≡ lastFour b) where
+      whole-sum : total ≡ checkSum b + rest
+      unfolding checkSum
+      whole-sum = omega (arith, summed-rows b h 16 (omega arith) total j inv l, e, last-four b h, part-sum-append b 1 0 508 512 (omega arith) (omega arith) (omega (arith, h)))
+
+      pub whole-rest : rest ≤ total
+      whole-rest = omega (arith, whole-sum)
+
+      pub whole-end : total - rest ≡ checkSum b
+      whole-end = omega (arith, whole-sum)
+
+-- ---- the first four rows
+
+pub short-column : (b : List ℕ) (j a c d e : ℕ) → a ≡ getD b j 0 → c ≡ getD b (j + 32) 0 → d ≡ getD b (j + 64) 0 → e ≡ getD b (j + 96) 0
+    → ColumnAt b 4 j (record { sum = a + c + d + e; rows = c + 2 * d + 3 * e })
+unfolding columnSum columnRows
+short-column b j a c d e p q r s =
+    let two : j + 32 + 32 ≡ j + 64 = omega arith in
+    let three : j + 64 + 32 ≡ j + 96 = omega arith in
+    record { plain = rw (two, three) (omega (arith, p, q, r, s)); weighted = rw (two, three) (omega (arith, p, q, r, s)) }
+
+module _ (b : List ℕ) (h : HasSize b) where
+  pub short-start : Summed b 4 0 0
+  short-start = summed-start b h 4 (omega arith)
+
+  module _ (total j : ℕ) (inv : Summed b 4 total j) where
+    pub short-next : (x : ℕ) (c : Column) → ColumnAt b 4 j c → j < 32 → x ≡ 32 * c .rows + (j + 1) * c .sum → x ≤ 4194304 → Summed b 4 (total + x) (j + 1)
+    short-next x c at l e small = summed-next b h 4 (omega arith) total j inv x (c .sum) (c .rows) e (at .plain) (at .weighted) l small
+
+    pub short-end : 32 ≤ j → total ≡ sumFrom 1 (part b 0 128)
+    short-end l = summed-rows b h 4 (omega arith) total j inv l
 
 -- zeros add nothing
 zeros-sum : (i : ℕ) (xs : List ℕ) → zeros xs ≡ true → sumFrom i xs ≡ 0
@@ -212,20 +234,11 @@ zeros-sum i (x ∷ xs) z =
     rw (none, zeros-sum (suc i) xs (and-right (eqb x 0) (zeros xs) z)) (omega arith)
 
 -- so the rows to the end of the items make the check sum
-module _ (b : List ℕ) (h : HasSize b) (m end : ℕ) (few : 32 * m ≤ 508) (within : end ≤ 32 * m) (z : zeros (part b end 508) ≡ true) where
-  part-check-sum : sumFrom 1 (part b 0 (32 * m)) ≡ checkSum b
-  unfolding checkSum
-  part-check-sum =
-      let all = part-sum-append b 1 0 end 508 (omega arith) (omega arith) (omega (arith, h)) in
-      let rows = part-sum-append b 1 0 end (32 * m) (omega arith) within (omega (arith, h)) in
-      let past = part-sum-append b (1 + (end - 0)) end (32 * m) 508 within few (omega (arith, h)) in
-      let none = zeros-sum (1 + (end - 0)) (part b end 508) z in
-      omega (arith, all, rows, past, none)
-
--- by 4 and by 8 rows
-module _ (b : List ℕ) (h : HasSize b) (end total : ℕ) (z : zeros (part b end 508) ≡ true) where
-  pub four-rows : end ≤ 128 → total ≡ sumFrom 1 (part b 0 (32 * 4)) → total ≡ checkSum b
-  four-rows l t = t ∙ part-check-sum b h 4 end (omega arith) l z
-
-  pub eight-rows : end ≤ 256 → total ≡ sumFrom 1 (part b 0 (32 * 8)) → total ≡ checkSum b
-  eight-rows l t = t ∙ part-check-sum b h 8 end (omega arith) l z
+pub short-check-sum : (b : List ℕ) → HasSize b → (end total : ℕ) → zeros (part b end 508) ≡ true → end ≤ 128 → total ≡ sumFrom 1 (part b 0 128) → total ≡ checkSum b
+unfolding checkSum
+short-check-sum b h end total z l t =
+    let all = part-sum-append b 1 0 end 508 (omega arith) (omega arith) (omega (arith, h)) in
+    let rows = part-sum-append b 1 0 end 128 (omega arith) l (omega (arith, h)) in
+    let past = part-sum-append b (1 + (end - 0)) end 128 508 l (omega arith) (omega (arith, h)) in
+    let none = zeros-sum (1 + (end - 0)) (part b end 508) z in
+    omega (arith, t, all, rows, past, none)

@@ -27,11 +27,11 @@ pub record Cells (f : ℕ → ℕ) (cells : List ℕ) (n : ℕ) : Type 0 where
   pub size : length cells ≡ 32
   pub each : (k : ℕ) → k < n → getD cells k 0 ≡ f k
 
--- `sums` and `rows` have the sums of the first n columns in the first m rows
-pub record ColumnsTo (b : List ℕ) (m : ℕ) (sums rows : List ℕ) (n : ℕ) : Type 0 where
+-- `sums` and `rows` have the sums of the first n columns
+pub record ColumnsTo (b sums rows : List ℕ) (n : ℕ) : Type 0 where
   pub within : n ≤ 32
-  pub plain : Cells (λ (j : ℕ). columnSum b j m) sums n
-  pub weighted : Cells (λ (j : ℕ). columnRows b j m) rows n
+  pub plain : Cells (λ (j : ℕ). columnSum b j 16) sums n
+  pub weighted : Cells (λ (j : ℕ). columnRows b j 16) rows n
 
 -- the sum of the bytes 508 to 511, each times its place counted from 1
 abbrev pub lastFour : List ℕ → ℕ

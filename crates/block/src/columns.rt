@@ -28,17 +28,16 @@ fn wide(b: u8) -> u16
     b as u16
 }
 
-// The sums of the column `j` in the first rows, from the last of them to the first. Each row adds the bytes of all rows below it to `rows`,
-// so that a byte is added once for each row above it.
-fn column_at(block: &[u8], j: usize, most: usize) -> Column
+// The sums of the column `j`, from the last row to the first. Each row adds the bytes of all rows below it to `rows`, so that a byte
+// is added once for each row above it.
+fn column_at(block: &[u8], j: usize) -> Column
     requires { ⌜ HasSize (now block) ⌝ }
     requires { ⌜ j < 32 ⌝ }
-    requires { ⌜ most ≤ 16 ⌝ }
-    ensures { λ r. ⌜ ColumnAt (now (block .entry)) most j r ⌝ }
+    ensures { λ r. ⌜ ColumnAt (now (block .entry)) 16 j r ⌝ }
 {
     let mut sum: u16 = 0;
     let mut rows: u16 = 0;
-    let mut row = most;
+    let mut row: usize = 16;
     while row > 0 {
         row -= 1;
         rows += sum;
@@ -47,17 +46,16 @@ fn column_at(block: &[u8], j: usize, most: usize) -> Column
     Column { sum, rows }
 }
 
-// The sums of all columns in the first rows.
-fn columns_of(block: &[u8], most: usize) -> Columns
+// The sums of all columns.
+fn columns_of(block: &[u8]) -> Columns
     requires { ⌜ HasSize (now block) ⌝ }
-    requires { ⌜ most ≤ 16 ⌝ }
-    ensures { λ r. ⌜ ColumnsTo (now (block .entry)) most (r .sums) (r .rows) 32 ⌝ }
+    ensures { λ r. ⌜ ColumnsTo (now (block .entry)) (r .sums) (r .rows) 32 ⌝ }
 {
     let mut sums = [0u16; 32];
     let mut rows = [0u16; 32];
     let mut j = 0;
     while j < 32 {
-        let column = column_at(block, j, most);
+        let column = column_at(block, j);
         sums[j] = column.sum;
         rows[j] = column.rows;
         j += 1;
@@ -85,41 +83,60 @@ fn last_four(block: &[u8]) -> u32
     509 * a + 510 * b + 511 * c + 512 * d
 }
 
-// The sum of the bytes in the first rows, each times its place counted from 1.
-fn rows_sum(block: &[u8], most: usize) -> u32
+// The sum of the first 508 bytes, each times its place counted from 1.
+pub fn check_sum(block: &[u8]) -> u32
     requires { ⌜ HasSize (now block) ⌝ }
-    requires { ⌜ most ≤ 16 ⌝ }
-    ensures { λ r. ⌜ r ≡ sumFrom 1 (part (now (block .entry)) 0 (32 * most)) ⌝ }
+    ensures { λ r. ⌜ r ≡ checkSum (now (block .entry)) ⌝ }
 {
-    let columns = columns_of(block, most);
+    let columns = columns_of(block);
     let mut total: u32 = 0;
     let mut j = 0;
     while j < 32 {
         total += column_total(j, columns.sums[j], columns.rows[j]);
         j += 1;
     }
+    total - last_four(block)
+}
+
+// The sums of the column `j` in the first four rows.
+fn short_column(block: &[u8], j: usize) -> Column
+    requires { ⌜ HasSize (now block) ⌝ }
+    requires { ⌜ j < 32 ⌝ }
+    ensures { λ r. ⌜ ColumnAt (now (block .entry)) 4 j r ⌝ }
+{
+    let a = wide(block[j]);
+    let b = wide(block[j + 32]);
+    let c = wide(block[j + 64]);
+    let d = wide(block[j + 96]);
+    Column {
+        sum: a + b + c + d,
+        rows: b + 2 * c + 3 * d,
+    }
+}
+
+// The sum of the bytes in the first four rows, each times its place counted from 1.
+fn short_sum(block: &[u8]) -> u32
+    requires { ⌜ HasSize (now block) ⌝ }
+    ensures { λ r. ⌜ r ≡ sumFrom 1 (part (now (block .entry)) 0 128) ⌝ }
+{
+    let mut total: u32 = 0;
+    let mut j = 0;
+    while j < 32 {
+        let column = short_column(block, j);
+        total += column_total(j, column.sum, column.rows);
+        j += 1;
+    }
     total
 }
 
-// The sum of the first 508 bytes, each times its place counted from 1.
-pub fn check_sum(block: &[u8]) -> u32
-    requires { ⌜ HasSize (now block) ⌝ }
-    ensures { λ r. ⌜ r ≡ checkSum (now (block .entry)) ⌝ }
-{
-    rows_sum(block, 16) - last_four(block)
-}
-
-// The same of a block whose bytes from `end` to 507 are zero: rows behind `end` add nothing.
+// The check sum of a block whose bytes from `end` to 507 are zero: rows behind `end` add nothing.
 pub fn check_sum_to(block: &[u8], end: usize) -> u32
     requires { ⌜ HasSize (now block) ⌝ }
     requires { ⌜ zeros (part (now block) end 508) ≡ true ⌝ }
     ensures { λ r. ⌜ r ≡ checkSum (now (block .entry)) ⌝ }
 {
     if end <= 128 {
-        return rows_sum(block, 4);
-    }
-    if end <= 256 {
-        return rows_sum(block, 8);
+        return short_sum(block);
     }
     check_sum(block)
 }

@@ -11,10 +11,10 @@ use mathlib.Core.Path.{_≡_, refl, ap, sym, _∙_, subst}
 use mathlib.Core.Logic.{⊎-elim}
 use mathlib.Core.Bool.{Bool, true, false, _&&_, _||_}
 use mathlib.Core.List.{List, [], _∷_}
-use lib.Dec.{eqb}
+use lib.Dec.{eqb, ltb}
 use lib.IntN.{ℤ}
 use lib.ListN.{length, getD}
-use borrow.Author.Tests.{eq-eqb, ne-eqb}
+use borrow.Author.Tests.{eq-eqb, ne-eqb, lt-ltb}
 use Rattle.base.specs.Parts.{part}
 use Rattle.block.specs.declared.Validity.the-variants.{WellFormed}
 use Rattle.block.proofs.Items.{items-length}
@@ -29,15 +29,11 @@ use Rattle.judge.specs.declared.Chosen.{Chosen}
 use Rattle.judge.proofs.Once.{once-kept, once-counts}
 use Rattle.card_reader.specs.Readings.{Serves}
 use Rattle.card_reader.specs.Lists.{cellOf, readingAt, noEntry, Holds, Last, IsKept, HoldsTo, KeepsCard}
-use Rattle.card_reader.specs.Listed.{entryCounts}
+use Rattle.card_reader.specs.Listed.{entryCounts, someBefore, OnChain, FirstFrom}
 use Rattle.card_reader.specs.declared.TextReading.{TextReading}
 use Rattle.card_reader.proofs.Reading.{card-few}
 
 -- ---- the first n entries, from the last to the first
-
-unfoldable pub someBefore : (Entry → Bool) → ℕ → List Entry → ℕ → Bool
-someBefore f i es zero = false
-someBefore f i es (suc n) = (eqb (getD es n noEntry .index) i && f (getD es n noEntry)) || someBefore f i es n
 
 or-swap : (a b c : Bool) → (a || (b || c)) ≡ (b || (a || c))
 or-swap true true c = refl
@@ -97,76 +93,125 @@ entries-length : (card : List ℕ) → length (entriesOf card) ≡ entryCount ca
 unfolding entriesOf
 entries-length card = items-length entry (entryCount card) card 6
 
--- a walk stands at the entry c, counted from 1, and what is left decides
-pub record Walking (f : Entry → Bool) (i : ℕ) (es : List Entry) (answer : Bool) (most c : ℕ) : Type 0 where
-  pub within : c ≤ most
-  pub few : most ≤ 64
-  pub under : (e : ℕ) → c ≡ e + 1 → getD es e noEntry .index ≡ i
-  pub rest : someBefore f i es c ≡ answer
+-- ---- where a chain begins, and where it goes on
 
--- from the last entry of a chain, by any test of an entry
-module _ (f : Entry → Bool) (card cells : List ℕ) (spans : List ℤ) (h : KeepsCard card cells spans) (i : ℕ) (kept : IsKept cells i) (answer : Bool) where
-  pub walking-begin : readCard card ≡ WellFormed → i < 32 → (n : ℕ) → n ≡ getD cells i 0 → someBefore f i (entriesOf card) (length (entriesOf card)) ≡ answer
-      → Walking f i (entriesOf card) answer (entryCount card) n
-  walking-begin w l n e a =
-      let top : Last (entriesOf card) i (entryCount card) n = subst (Last (entriesOf card) i (entryCount card)) (sym e) (h .holds .heads i l kept) in
-      record {
-        within = top .within;
-        few = card-few card w;
-        under = top .under;
-        rest = sym (before-last f i (entriesOf card) (entryCount card) n top) ∙ ap (someBefore f i (entriesOf card)) (sym (entries-length card)) ∙ a;
-      }
+module _ (card cells : List ℕ) (spans : List ℤ) (h : KeepsCard card cells spans) (i : ℕ) where
+  pub chain-begins : (n : ℕ) → readCard card ≡ WellFormed → i < 32 → IsKept cells i → n ≡ getD cells i 0 → OnChain card cells i n
+  chain-begins n w l k e =
+      let top : Last (entriesOf card) i (entryCount card) n = subst (Last (entriesOf card) i (entryCount card)) (sym e) (h .holds .heads i l k) in
+      record { low = l; kept = k; few = card-few card w; within = top .within; under = top .under }
 
-  module _ (k : ℕ) (inv : Walking f i (entriesOf card) answer (entryCount card) k) (l : 0 < k) where
-    here : getD (entriesOf card) (k - 1) noEntry .index ≡ i
-    here = inv .under (k - 1) (omega (arith, l))
+  -- all entries are asked by the chain from its beginning
+  chain-all : (f : Entry → Bool) (n : ℕ) → i < 32 → IsKept cells i → n ≡ getD cells i 0 → someBefore f i (entriesOf card) (length (entriesOf card)) ≡ someBefore f i (entriesOf card) n
+  chain-all f n l k e =
+      let top : Last (entriesOf card) i (entryCount card) n = subst (Last (entriesOf card) i (entryCount card)) (sym e) (h .holds .heads i l k) in
+      ap (someBefore f i (entriesOf card)) (entries-length card) ∙ before-last f i (entriesOf card) (entryCount card) n top
 
-    here-kept : IsKept cells (getD (entriesOf card) (k - 1) noEntry .index)
-    here-kept = subst (IsKept cells) (sym here) kept
+  module _ (c : ℕ) (o : OnChain card cells i c) (l : 0 < c) where
+    here : getD (entriesOf card) (c - 1) noEntry .index ≡ i
+    here = o .under (c - 1) (omega (arith, l))
 
-    pub walking-holds : Holds card cells spans (k - 1) (getD (entriesOf card) (k - 1) noEntry)
-    walking-holds = h .holds .each (k - 1) (omega (arith, inv .within, l)) here-kept
+    here-kept : IsKept cells (getD (entriesOf card) (c - 1) noEntry .index)
+    here-kept = subst (IsKept cells) (sym here) (o .kept)
 
-    pub walking-room : k - 1 < 64
-    walking-room = omega (arith, inv .within, inv .few, l)
+    pub chain-holds : Holds card cells spans (c - 1) (getD (entriesOf card) (c - 1) noEntry)
+    chain-holds = h .holds .each (c - 1) (omega (arith, o .within, l)) here-kept
 
-    step : answer ≡ (f (getD (entriesOf card) (k - 1) noEntry) || someBefore f i (entriesOf card) (k - 1))
-    step =
-        let e : k ≡ k - 1 + 1 = omega (arith, l) in
-        sym (inv .rest) ∙ ap (someBefore f i (entriesOf card)) e ∙ before-here f i (entriesOf card) (k - 1) here
+    pub chain-room : c - 1 < 64
+    chain-room = omega (arith, o .within, o .few, l)
 
-    last-behind : (n : ℕ) → n ≡ getD cells (cellOf (k - 1)) 0 → Last (entriesOf card) i (k - 1) n
+    pub chain-byte : getD cells (cellOf (c - 1) + 1) 0 < 256
+    chain-byte = omega (arith, chain-holds .occurrence, chain-holds .byte)
+
+    last-behind : (n : ℕ) → n ≡ getD cells (cellOf (c - 1)) 0 → Last (entriesOf card) i (c - 1) n
     last-behind n e =
-        subst (λ (j : ℕ). Last (entriesOf card) j (k - 1) n) here
-        (subst (Last (entriesOf card) (getD (entriesOf card) (k - 1) noEntry .index) (k - 1)) (sym e) (h .holds .behind (k - 1) (omega (arith, inv .within, l)) here-kept))
+        subst (λ (j : ℕ). Last (entriesOf card) j (c - 1) n) here
+        (subst (Last (entriesOf card) (getD (entriesOf card) (c - 1) noEntry .index) (c - 1)) (sym e) (h .holds .behind (c - 1) (omega (arith, o .within, l)) here-kept))
 
-    pub walking-less : (n : ℕ) → n ≡ getD cells (cellOf (k - 1)) 0 → n < k
-    walking-less n e = omega (arith, last-behind n e .within, l)
+    module _ (n : ℕ) (e : n ≡ getD cells (cellOf (c - 1)) 0) where
+      pub chain-less : n < c
+      chain-less = omega (arith, last-behind n e .within, l)
 
-    module _ (r : Bool) (g : r ≡ f (getD (entriesOf card) (k - 1) noEntry)) where
-      pub walking-yes : r ≡ true → true ≡ answer
-      walking-yes y = sym (step ∙ ap (λ (b : Bool). b || someBefore f i (entriesOf card) (k - 1)) (sym g ∙ y))
+      pub chain-on : OnChain card cells i n
+      chain-on = record { low = o .low; kept = o .kept; few = o .few; within = omega (arith, last-behind n e .within, o .within); under = last-behind n e .under }
 
-      pub walking-next : r ≡ false → (n : ℕ) → n ≡ getD cells (cellOf (k - 1)) 0 → Walking f i (entriesOf card) answer (entryCount card) n
-      walking-next y n e =
-          let last = last-behind n e in
+      -- one step
+      pub chain-step : (g : Entry → Bool) → someBefore g i (entriesOf card) c ≡ (g (getD (entriesOf card) (c - 1) noEntry) || someBefore g i (entriesOf card) n)
+      chain-step g =
+          let k : c ≡ c - 1 + 1 = omega (arith, l) in
+          ap (someBefore g i (entriesOf card)) k ∙ before-here g i (entriesOf card) (c - 1) here
+          ∙ ap (λ (b : Bool). g (getD (entriesOf card) (c - 1) noEntry) || b) (before-last g i (entriesOf card) (c - 1) n (last-behind n e))
+
+-- ---- the loop along a chain
+
+-- the walk from c on stands at n, and the entries that it passed over do not count
+pub record Passing (f : Entry → Bool) (card cells : List ℕ) (i c n : ℕ) : Type 0 where
+  pub on : OnChain card cells i n
+  pub less : n ≤ c
+  pub passed : (g : Entry → Bool) → ((x : Entry) → f x ≡ false → g x ≡ false) → someBefore g i (entriesOf card) c ≡ someBefore g i (entriesOf card) n
+
+module _ (f : Entry → Bool) (card cells : List ℕ) (spans : List ℤ) (i c : ℕ) where
+  pub passing-start : OnChain card cells i c → Passing f card cells i c c
+  passing-start o = record { on = o; less = omega arith; passed = λ g d. refl }
+
+  module _ (n : ℕ) (inv : Passing f card cells i c n) where
+    pub passing-holds : KeepsCard card cells spans → 0 < n → Holds card cells spans (n - 1) (getD (entriesOf card) (n - 1) noEntry)
+    passing-holds h l = chain-holds card cells spans h i n (inv .on) l
+
+    pub passing-room : 0 < n → n - 1 < 64
+    passing-room l = omega (arith, inv .on .within, inv .on .few, l)
+
+    module _ (r : Bool) (y : r ≡ f (getD (entriesOf card) (n - 1) noEntry)) where
+      pub passing-found : 0 < n → r ≡ true → FirstFrom f card cells i c n
+      passing-found l t =
           record {
-            within = omega (arith, last .within, inv .within);
-            few = inv .few;
-            under = last .under;
-            rest = sym (step ∙ ap (λ (b : Bool). b || someBefore f i (entriesOf card) (k - 1)) (sym g ∙ y) ∙ before-last f i (entriesOf card) (k - 1) n last);
+            on = inv .on;
+            less = inv .less;
+            counts = λ e k. let same : n - 1 ≡ e = omega (arith, k) in ap (λ (m : ℕ). f (getD (entriesOf card) m noEntry)) (sym same) ∙ sym y ∙ t;
+            passed = inv .passed;
           }
 
-  pub walking-end : (k : ℕ) → Walking f i (entriesOf card) answer (entryCount card) k → k ≤ 0 → false ≡ answer
-  unfolding someBefore
-  walking-end k inv l = let z : k ≡ 0 = omega (arith, l) in rw z at (inv .rest)
+      module _ (h : KeepsCard card cells spans) (l : 0 < n) (m : ℕ) (e : m ≡ getD cells (cellOf (n - 1)) 0) where
+        pub passing-less : m < n
+        passing-less = chain-less card cells spans h i n (inv .on) l m e
 
--- where it starts for the texts that count
-pub walking-start : (card cells : List ℕ) (spans : List ℤ) (h : KeepsCard card cells spans) (i : ℕ) (kept : IsKept cells i) (c : Chosen) (m : Meaning) (v : List ℕ) → readCard card ≡ WellFormed → i < 32 → (j n : ℕ) → j ≡ i → n ≡ getD cells j 0
-    → Walking (entryCounts c m v) i (entriesOf card) (someValue (textCounts m v) (valuesAt i (chosenOf c (entriesOf card)))) (entryCount card) n
-walking-start card cells spans h i kept c m v w l j n same e =
-    walking-begin (entryCounts c m v) card cells spans h i kept (someValue (textCounts m v) (valuesAt i (chosenOf c (entriesOf card)))) w l n (e ∙ ap (λ (k : ℕ). getD cells k 0) same)
-    (before-all c i m v (entriesOf card))
+        pub passing-next : r ≡ false → Passing f card cells i c m
+        passing-next t =
+            record {
+              on = chain-on card cells spans h i n (inv .on) l m e;
+              less = omega (arith, inv .less, passing-less);
+              passed = λ g d.
+                  inv .passed g d ∙ chain-step card cells spans h i n (inv .on) l m e g
+                  ∙ ap (λ (b : Bool). b || someBefore g i (entriesOf card) m) (d (getD (entriesOf card) (n - 1) noEntry) (sym y ∙ t));
+            }
+
+    pub passing-end : n ≤ 0 → FirstFrom f card cells i c 0
+    passing-end l =
+        let z : n ≡ 0 = omega (arith, l) in
+        record {
+          on = subst (OnChain card cells i) z (inv .on);
+          less = omega arith;
+          counts = λ e k. absurd (omega (arith, k));
+          passed = λ g d. inv .passed g d ∙ ap (someBefore g i (entriesOf card)) z;
+        }
+
+-- ---- whether some text counts
+
+module _ (card cells : List ℕ) (spans : List ℤ) (h : KeepsCard card cells spans) (i : ℕ) (l : i < 32) (k : IsKept cells i) (c : Chosen) (m : Meaning) (v : List ℕ) (from r : ℕ) (e : from ≡ getD cells i 0)
+    (first : FirstFrom (entryCounts c m v) card cells i from r) where
+  by-first : (g : Entry → Bool) → ((x : Entry) → entryCounts c m v x ≡ false → g x ≡ false) → someBefore g i (entriesOf card) (length (entriesOf card)) ≡ someBefore g i (entriesOf card) r
+  by-first g d = chain-all card cells spans h i g from l k e ∙ first .passed g d
+
+  found : (n : ℕ) → r ≡ n → someBefore (entryCounts c m v) i (entriesOf card) r ≡ ltb 0 r
+  unfolding someBefore
+  found zero q = ap (someBefore (entryCounts c m v) i (entriesOf card)) q ∙ ap (ltb 0) (sym q)
+  found (suc n) q =
+      let z : r ≡ n + 1 = q ∙ sym (add-one n) in
+      ap (someBefore (entryCounts c m v) i (entriesOf card)) z ∙ before-here (entryCounts c m v) i (entriesOf card) n (first .on .under n z)
+      ∙ ap (λ (b : Bool). b || someBefore (entryCounts c m v) i (entriesOf card) n) (first .counts n z) ∙ sym (lt-ltb 0 r (omega (arith, z)))
+
+  pub some-first : ltb 0 r ≡ someValue (textCounts m v) (valuesAt i (chosenOf c (entriesOf card)))
+  some-first = sym (found r refl) ∙ sym (by-first (entryCounts c m v) (λ x d. d)) ∙ before-all c i m v (entriesOf card)
 
 -- ---- one entry
 
@@ -201,7 +246,6 @@ module _ (card cells : List ℕ) (spans : List ℤ) (e : ℕ) (x : Entry) (h : H
         rw (sym own ∙ y)
         (once-counts m v w k (part card start end) t d ∙ ap (textCounts m v) (same-text ∙ sym (h .text)))
 
--- ---- whether the entries of a parameter are kept
-
-pub kept-here : (cells : List ℕ) (i j : ℕ) → j ≡ i → getD cells j 0 ≤ 64 → IsKept cells i
-kept-here cells i j same h = subst (IsKept cells) same h
+-- the cell of a parameter
+pub cell-is : (cells : List ℕ) (i j n : ℕ) → j ≡ i → n ≡ getD cells j 0 → n ≡ getD cells i 0
+cell-is cells i j n same e = e ∙ ap (λ (k : ℕ). getD cells k 0) same

@@ -30,10 +30,10 @@ use Rattle.kind.specs.Readable.{cardReadable}
 use Rattle.judge.specs.Sets.{conformsTo}
 use Rattle.judge.proofs.Entries.{past-readable, conforms-next, conforms-not, conforms-end}
 use Rattle.card_reader.specs.Readings.{Serves, ReadAs}
-use Rattle.card_reader.specs.Lists.{Lent, cellOf, readingAt, noEntry, Holds, Last, IsKept, HoldsTo, KeepsCard, ReadsCard}
+use Rattle.card_reader.specs.Lists.{Lent, cellOf, readingAt, noEntry, Holds, Last, IsKept, HoldsTo, KeepsCard, BeginsAlike, ReadsCard}
 use Rattle.card_reader.specs.Storing.{Stored, Begun, Takes}
 use Rattle.card_reader.specs.declared.TextReading.{TextReading}
-use Rattle.card_reader.proofs.Storing.{stored-head, stored-behind, stored-others, stored-occurrence, stored-start, stored-end, stored-form, stored-value, stored-unit, stored-first, stored-last, stored-spans, stored-lent, begun-lent}
+use Rattle.card_reader.proofs.Storing.{stored-head, stored-behind, stored-others, stored-occurrence, stored-start, stored-end, stored-form, stored-value, stored-unit, stored-first, stored-last, stored-spans, stored-begins, stored-keeps, stored-lent, begun-lent, begun-begins}
 
 -- ---- chains
 
@@ -113,7 +113,7 @@ module _ (e : ℕ) (x : Span) (h : TextReading) (cells : List ℕ) (spans : List
       by-place false q = subst (λ (c : ℕ). c ≤ 64) (other j (eqb-false j (x .index) q) (inl (omega (arith, z)))) y
 
   module _ (card : List ℕ) (es : List Entry) (w : HoldsTo card es cells spans e) (t : List ℕ) (is : getD es e noEntry ≡ entry (x .index) (x .occurrence) t) (text : t ≡ part card (x .start) (x .end))
-      (order : x .start ≤ x .end) (within : x .end ≤ length card) (serves : Serves t h) where
+      (order : x .start ≤ x .end) (within : x .end ≤ length card) (serves : Serves t h) (byte : x .occurrence < 256) where
     here : getD es e noEntry .index ≡ x .index
     here = ap (λ (y : Entry). y .index) is
 
@@ -121,6 +121,7 @@ module _ (e : ℕ) (x : Span) (h : TextReading) (cells : List ℕ) (spans : List
     old-holds k z o =
         let reading : readingAt cells spans k ≡ readingAt cells′ spans′ k = rw (old-cell k 4 z (omega arith), old-cell k 5 z (omega arith), old-cell k 6 z (omega arith), spans-before (2 * k) (omega (arith, z)), spans-before (2 * k + 1) (omega (arith, z))) in
         record {
+          byte = o .byte;
           occurrence = old-cell k 1 z (omega arith) ∙ o .occurrence;
           order = omega (arith, o .order, old-cell k 2 z (omega arith), old-cell k 3 z (omega arith));
           within = omega (arith, o .within, old-cell k 3 z (omega arith));
@@ -135,6 +136,7 @@ module _ (e : ℕ) (x : Span) (h : TextReading) (cells : List ℕ) (spans : List
         let s : getD cells′ (cellOf e + 2) 0 ≡ x .start = stored-start e x h cells spans cells′ spans′ st size span-size few low in
         let u : getD cells′ (cellOf e + 3) 0 ≡ x .end = stored-end e x h cells spans cells′ spans′ st size span-size few low in
         record {
+          byte = byte;
           occurrence = stored-occurrence e x h cells spans cells′ spans′ st size span-size few low;
           order = omega (arith, order, s, u);
           within = omega (arith, within, u);
@@ -194,7 +196,7 @@ module _ (e : ℕ) (x : Span) (h : TextReading) (cells : List ℕ) (spans : List
 
 module _ (kinds t : List ℕ) (e : ℕ) (x : Span) (cells : List ℕ) (spans : List ℤ) (lent : Lent cells spans) (i : ℕ) (same : i ≡ x .index) where
   pub takes-past : length kinds ≡ 32 → 32 ≤ i → Takes kinds t e x cells spans cells spans false
-  takes-past l p = record { answer = past-readable kinds (x .index) t (omega (arith, l, p, same)); lent = lent; adds = λ y. both-ways y refl }
+  takes-past l p = record { answer = past-readable kinds (x .index) t (omega (arith, l, p, same)); lent = lent; begins = record { same = λ _ _. refl }; keeps = λ _ _ y. y; adds = λ y. both-ways y refl }
 
   module _ (low : i < 32) (kind : ℕ) (k : kind ≡ getD kinds i 0) where
     own-kind : kind ≡ getD kinds (x .index) 0
@@ -205,32 +207,38 @@ module _ (kinds t : List ℕ) (e : ℕ) (x : Span) (cells : List ℕ) (spans : L
         record {
           answer = y ∙ ap (λ (m : ℕ). cardReadable m t) own-kind;
           lent = lent;
+          begins = record { same = λ _ _. refl };
+          keeps = λ _ _ y. y;
           adds = λ _ card es w is text order within.
               holds-more card es cells spans e w (x .index) (ap (λ (z : Entry). z .index) is) (omega (arith, low, same)) (subst (λ (j : ℕ). 64 < getD cells j 0) same n);
         }
 
     module _ (n : getD cells i 0 ≤ 64) (h : TextReading) (a : ReadAs kind t h) where
       pub takes-misfit : h .fits ≡ false → Takes kinds t e x cells spans cells spans false
-      takes-misfit f = record { answer = sym f ∙ a .fits ∙ ap (λ (m : ℕ). cardReadable m t) own-kind; lent = lent; adds = λ y. both-ways y refl }
+      takes-misfit f = record { answer = sym f ∙ a .fits ∙ ap (λ (m : ℕ). cardReadable m t) own-kind; lent = lent; begins = record { same = λ _ _. refl }; keeps = λ _ _ y. y; adds = λ y. both-ways y refl }
 
-      pub takes-stored : h .fits ≡ true → e < 64 → (cells′ : List ℕ) (spans′ : List ℤ) → Stored e x h cells spans cells′ spans′ → Takes kinds t e x cells spans cells′ spans′ true
-      takes-stored f few cells′ spans′ st =
+      pub takes-stored : h .fits ≡ true → e < 64 → x .occurrence < 256 → (cells′ : List ℕ) (spans′ : List ℤ) → Stored e x h cells spans cells′ spans′ → Takes kinds t e x cells spans cells′ spans′ true
+      takes-stored f few byte cells′ spans′ st =
           let own-low : x .index < 32 = omega (arith, low, same) in
           record {
             answer = sym f ∙ a .fits ∙ ap (λ (m : ℕ). cardReadable m t) own-kind;
             lent = stored-lent e x h cells spans cells′ spans′ st (lent .size) (lent .span-size) few own-low lent;
+            begins = stored-begins e x h cells spans cells′ spans′ st (lent .size) (lent .span-size) few own-low;
+            keeps = stored-keeps e x h cells spans cells′ spans′ st (lent .size) (lent .span-size) few own-low;
             adds = λ _ card es w is text order within.
-                holds-stored e x h cells spans cells′ spans′ st lent few own-low (subst (λ (j : ℕ). getD cells j 0 ≤ 64) same n) card es w t is text order within (a .serves f);
+                holds-stored e x h cells spans cells′ spans′ st lent few own-low (subst (λ (j : ℕ). getD cells j 0 ≤ 64) same n) card es w t is text order within (a .serves f) byte;
           }
 
 -- ---- the loop
 
-pub record Progress (kinds card cells : List ℕ) (spans : List ℤ) (at left e : ℕ) : Type 0 where
+pub record Progress (kinds card before cells : List ℕ) (spans : List ℤ) (at left e : ℕ) : Type 0 where
   pub visited : Visited entry (conformsTo kinds) (conformsTo kinds (entriesOf card)) card at left
   pub rest : drop e (entriesOf card) ≡ items entry left card at
   pub count : e + left ≡ entryCount card
   pub few : entryCount card ≤ 64
   pub lent : Lent cells spans
+  pub begins : BeginsAlike before cells
+  pub kept : (i : ℕ) → i < 32 → getD before (544 + i) 0 ≡ 0 → IsKept cells i
   pub holds : HoldsTo card (entriesOf card) cells spans e
 
 pub card-few : (card : List ℕ) → readCard card ≡ WellFormed → entryCount card ≤ 64
@@ -241,14 +249,16 @@ all-rest : (card : List ℕ) (n : ℕ) → n ≡ entryCount card → drop 0 (ent
 unfolding entriesOf
 all-rest card n e = ap (λ (k : ℕ). items entry k card 6) (sym e)
 
-pub progress-start : (kinds card cells₀ cells : List ℕ) (spans : List ℤ) (n : ℕ) → readCard card ≡ WellFormed → n ≡ entryCount card → Lent cells₀ spans → Begun cells₀ cells 32 → Progress kinds card cells spans 6 n 0
-progress-start kinds card cells₀ cells spans n h e w b =
+pub progress-start : (kinds card begun cells : List ℕ) (spans : List ℤ) (n : ℕ) → readCard card ≡ WellFormed → n ≡ entryCount card → Lent begun spans → Begun begun cells 32 → Progress kinds card cells cells spans 6 n 0
+progress-start kinds card begun cells spans n h e w b =
     record {
       visited = entries-start (conformsTo kinds) card n (conformsTo kinds (entriesOf card)) e h refl;
       rest = all-rest card n e;
       count = omega (arith, e);
       few = card-few card h;
-      lent = begun-lent cells₀ cells spans w b;
+      lent = begun-lent begun cells spans w b;
+      begins = record { same = λ _ _. refl };
+      kept = λ i z y. omega (arith, b .front i z, b .others (544 + i) (omega arith), y);
       holds = record {
         low = λ k z. absurd (omega (arith, z));
         each = λ k z y. absurd (omega (arith, z));
@@ -258,7 +268,7 @@ progress-start kinds card cells₀ cells spans n h e w b =
     }
   where
     empty : (i : ℕ) → i < 32 → IsKept cells i → getD cells i 0 ≡ 0
-    empty i z y = ⊎-elim (λ (q : getD cells₀ (544 + i) 0 ≡ 0). b .front i z ∙ q) (λ (q : 64 < getD cells₀ (544 + i) 0). absurd (omega (arith, q, y, b .front i z))) (w .begin i z)
+    empty i z y = ⊎-elim (λ (q : getD begun (544 + i) 0 ≡ 0). b .front i z ∙ q) (λ (q : 64 < getD begun (544 + i) 0). absurd (omega (arith, q, y, b .front i z))) (w .begin i z)
 
 -- the entry at e, and those behind it
 module _ (es : List Entry) (e : ℕ) (x : Entry) (xs : List Entry) (h : drop e es ≡ x ∷ xs) where
@@ -268,7 +278,7 @@ module _ (es : List Entry) (e : ℕ) (x : Entry) (xs : List Entry) (h : drop e e
   entries-behind : drop (e + 1) es ≡ xs
   entries-behind = sym (drop-drop 1 e es) ∙ ap (drop 1) h
 
-module _ (kinds card cells : List ℕ) (spans : List ℤ) (at left e : ℕ) (inv : Progress kinds card cells spans at left e) where
+module _ (kinds card cells₀ cells : List ℕ) (spans : List ℤ) (at left e : ℕ) (inv : Progress kinds card cells₀ cells spans at left e) where
   pub progress-room : 0 < left → e < 64
   progress-room l = omega (arith, inv .count, inv .few, l)
 
@@ -280,15 +290,19 @@ module _ (kinds card cells : List ℕ) (spans : List ℤ) (at left e : ℕ) (inv
     from-here : drop e (entriesOf card) ≡ taken ∷ items entry (left - 1) card (x .end)
     from-here = inv .rest ∙ s .first
 
-    pub progress-misfit : r ≡ false → ReadsCard kinds card cells′ spans′ false
-    progress-misfit f =
+    begins-still : BeginsAlike cells₀ cells′
+    begins-still = record { same = λ i z. tk .begins .same i z ∙ inv .begins .same i z }
+
+    pub progress-misfit : (before : List ℕ) → Begun before cells₀ 32 → r ≡ false → ReadsCard kinds card before cells′ spans′ false
+    progress-misfit before b f =
         record {
           answer = visited-decides entry (conformsTo kinds) card at left (conformsTo kinds (entriesOf card)) (inv .visited) (x .index) (x .occurrence) (x .start) (x .end) s false (conforms-not kinds (x .index) (x .occurrence) (part card (x .start) (x .end)) (items entry (left - 1) card (x .end)) r (tk .answer) f);
           lent = tk .lent;
+          begins = record { same = λ i z. begins-still .same i z ∙ begun-begins before cells₀ b .same i z };
           keeps = λ y. both-ways y refl;
         }
 
-    pub progress-next : r ≡ true → Progress kinds card cells′ spans′ (x .end) (left - 1) (e + 1)
+    pub progress-next : r ≡ true → Progress kinds card cells₀ cells′ spans′ (x .end) (left - 1) (e + 1)
     progress-next y =
         record {
           visited = visited-next entry (conformsTo kinds) card at left (conformsTo kinds (entriesOf card)) (inv .visited) (x .index) (x .occurrence) (x .start) (x .end) s (conformsTo kinds) (conforms-next kinds (x .index) (x .occurrence) (part card (x .start) (x .end)) (items entry (left - 1) card (x .end)) r (tk .answer) y);
@@ -296,14 +310,22 @@ module _ (kinds card cells : List ℕ) (spans : List ℤ) (at left e : ℕ) (inv
           count = omega (arith, inv .count, l);
           few = inv .few;
           lent = tk .lent;
+          begins = begins-still;
+          kept = λ i z y. tk .keeps i z (inv .kept i z y);
           holds = tk .adds y card (entriesOf card) (inv .holds) (entry-here (entriesOf card) e taken (items entry (left - 1) card (x .end)) from-here) refl (s .order) (s .within);
         }
 
-  pub progress-end : left ≤ 0 → ReadsCard kinds card cells spans true
-  progress-end h =
+  pub progress-end : (before : List ℕ) → Begun before cells₀ 32 → left ≤ 0 → ReadsCard kinds card before cells spans true
+  progress-end before b h =
       let all : e ≡ entryCount card = omega (arith, inv .count, h) in
       record {
         answer = visited-end entry (conformsTo kinds) card at left (conformsTo kinds (entriesOf card)) (inv .visited) h true (conforms-end kinds);
         lent = inv .lent;
-        keeps = λ _. record { lent = inv .lent; holds = subst (HoldsTo card (entriesOf card) cells spans) all (inv .holds) };
+        begins = record { same = λ i z. inv .begins .same i z ∙ begun-begins before cells₀ b .same i z };
+        keeps = λ _.
+            record {
+              lent = inv .lent;
+              holds = subst (HoldsTo card (entriesOf card) cells spans) all (inv .holds);
+              kept = λ i z y. inv .kept i z (sym (inv .begins .same i z) ∙ y);
+            };
       }

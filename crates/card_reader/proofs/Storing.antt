@@ -12,7 +12,7 @@ use lib.ListN.{length, getD, set, length-set}
 use lib.Seq.{getD-set-same, getD-set-other}
 use borrow.Author.Tests.{eqb-true, eqb-false}
 use Rattle.card.specs.declared.Entry.{Entry as Span}
-use Rattle.card_reader.specs.Lists.{Lent, cellOf}
+use Rattle.card_reader.specs.Lists.{Lent, cellOf, IsKept, BeginsAlike}
 use Rattle.card_reader.specs.Storing.{Put, Linked, Placed, Valued, Spanned, Stored, Begun}
 use Rattle.card_reader.specs.declared.TextReading.{TextReading}
 
@@ -140,12 +140,22 @@ module _ (e : ℕ) (x : Span) (h : TextReading) (cells : List ℕ) (spans : List
       ap (λ (l : List ℤ). getD l j (pos 0)) (st .spanned .is) ∙ getD-set-other (set spans (2 * e) (h .start)) (2 * e + 1) j (h .end) (pos 0) (λ z. omega (arith, n, z))
       ∙ getD-set-other spans (2 * e) j (h .start) (pos 0) (λ z. omega (arith, n, z))
 
+  pub stored-begins : BeginsAlike cells cells′
+  stored-begins = record { same = λ j n. stored-others (544 + j) (λ z. omega (arith, low, z)) (inr (omega (arith, few))) }
+
+  pub stored-keeps : (j : ℕ) → j < 32 → IsKept cells j → IsKept cells′ j
+  stored-keeps j n y = by-place (eqb j i) refl
+    where
+      by-place : (t : Bool) → eqb j i ≡ t → IsKept cells′ j
+      by-place true q = subst (IsKept cells′) (sym (eqb-true j i q)) (omega (arith, stored-head, few))
+      by-place false q = subst (λ (c : ℕ). c ≤ 64) (sym (stored-others j (eqb-false j i q) (inl (omega (arith, n))))) y
+
   pub stored-lent : Lent cells spans → Lent cells′ spans′
   stored-lent w =
       record {
         size = st .valued .size;
         span-size = st .spanned .size;
-        begin = λ j n. subst (λ (c : ℕ). (c ≡ 0) ⊎ (64 < c)) (sym (stored-others (544 + j) (λ z. omega (arith, low, z)) (inr (omega (arith, few))))) (w .begin j n);
+        begin = λ j n. subst (λ (c : ℕ). (c ≡ 0) ⊎ (64 < c)) (sym (stored-begins .same j n)) (w .begin j n);
       }
 
 -- ---- how a card begins
@@ -182,6 +192,9 @@ begun-lent l m spans w b =
       span-size = w .span-size;
       begin = λ i z. subst (λ (c : ℕ). (c ≡ 0) ⊎ (64 < c)) (sym (b .others (544 + i) (omega arith))) (w .begin i z);
     }
+
+pub begun-begins : (l m : List ℕ) → Begun l m 32 → BeginsAlike l m
+begun-begins l m b = record { same = λ i z. b .others (544 + i) (omega arith) }
 
 -- ---- a parameter whose entries are to be kept
 

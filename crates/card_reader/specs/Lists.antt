@@ -46,6 +46,7 @@ noEntry = entry 0 0 []
 
 -- the cells of the entry e of the card have the entry x
 pub record Holds (card cells : List ℕ) (spans : List ℤ) (e : ℕ) (x : Entry) : Type 0 where
+  pub byte : x .occurrence < 256
   pub occurrence : getD cells (cellOf e + 1) 0 ≡ x .occurrence
   pub order : getD cells (cellOf e + 2) 0 ≤ getD cells (cellOf e + 3) 0
   pub within : getD cells (cellOf e + 3) 0 ≤ length card
@@ -73,9 +74,15 @@ pub record HoldsTo (card : List ℕ) (es : List Entry) (cells : List ℕ) (spans
 pub record KeepsCard (card cells : List ℕ) (spans : List ℤ) : Type 0 where
   pub lent : Lent cells spans
   pub holds : HoldsTo card (entriesOf card) cells spans (entryCount card)
+  pub kept : (i : ℕ) → i < 32 → getD cells (544 + i) 0 ≡ 0 → IsKept cells i
+
+-- cards begin alike before and after
+pub record BeginsAlike (before after : List ℕ) : Type 0 where
+  pub same : (i : ℕ) → i < 32 → getD after (544 + i) 0 ≡ getD before (544 + i) 0
 
 -- the answer of reading a card's entries, and the lists where it is yes
-pub record ReadsCard (kinds card cells : List ℕ) (spans : List ℤ) (r : Bool) : Type 0 where
+pub record ReadsCard (kinds card before cells : List ℕ) (spans : List ℤ) (r : Bool) : Type 0 where
   pub answer : r ≡ conformsTo kinds (entriesOf card)
   pub lent : Lent cells spans
+  pub begins : BeginsAlike before cells
   pub keeps : r ≡ true → KeepsCard card cells spans

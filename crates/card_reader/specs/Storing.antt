@@ -10,7 +10,7 @@ use Rattle.base.specs.Parts.{part}
 use Rattle.card.specs.Card.{Entry, entry}
 use Rattle.card.specs.declared.Entry.{Entry as Span}
 use Rattle.kind.specs.Readable.{cardReadable}
-use Rattle.card_reader.specs.Lists.{Lent, cellOf, noEntry, HoldsTo}
+use Rattle.card_reader.specs.Lists.{Lent, cellOf, noEntry, IsKept, HoldsTo, BeginsAlike}
 use Rattle.card_reader.specs.declared.TextReading.{TextReading}
 
 pub record Put {A : Type 0} (n : ℕ) (l : List A) (at : ℕ) (v : A) (l′ : List A) : Type 0 where
@@ -53,5 +53,7 @@ pub record Begun (l l′ : List ℕ) (n : ℕ) : Type 0 where
 pub record Takes (kinds t : List ℕ) (e : ℕ) (x : Span) (cells : List ℕ) (spans : List ℤ) (cells′ : List ℕ) (spans′ : List ℤ) (r : Bool) : Type 0 where
   pub answer : r ≡ cardReadable (getD kinds (x .index) 0) t
   pub lent : Lent cells′ spans′
+  pub begins : BeginsAlike cells cells′
+  pub keeps : (i : ℕ) → i < 32 → IsKept cells i → IsKept cells′ i
   pub adds : r ≡ true → (card : List ℕ) (es : List Entry) → HoldsTo card es cells spans e → getD es e noEntry ≡ entry (x .index) (x .occurrence) t
       → t ≡ part card (x .start) (x .end) → x .start ≤ x .end → x .end ≤ length card → HoldsTo card es cells′ spans′ (e + 1)

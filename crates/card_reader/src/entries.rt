@@ -36,6 +36,7 @@ fn take_entry(
     requires { ⌜ length (now kinds) ≡ 32 ⌝ }
     requires { ⌜ Lent (now cells) (now spans) ⌝ }
     requires { ⌜ e < 64 ⌝ }
+    requires { ⌜ entry .occurrence < 256 ⌝ }
     ensures { λ r. ⌜ Takes (now (kinds .entry)) (now (text .entry)) e entry (now (cells .entry)) (now (spans .entry)) (now (cells .exit)) (now (spans .exit)) r ⌝ }
 {
     let i = wide(entry.index);
@@ -59,7 +60,7 @@ pub fn read_entries(kinds: &[u8], card: &[u8], cells: &mut [u64], spans: &mut [i
     requires { ⌜ length (now kinds) ≡ 32 ⌝ }
     requires { ⌜ readCard (now card) ≡ Validity.WellFormed ⌝ }
     requires { ⌜ Lent (now cells) (now spans) ⌝ }
-    ensures { λ r. ⌜ ReadsCard (now (kinds .entry)) (now (card .entry)) (now (cells .exit)) (now (spans .exit)) r ⌝ }
+    ensures { λ r. ⌜ ReadsCard (now (kinds .entry)) (now (card .entry)) (now (cells .entry)) (now (cells .exit)) (now (spans .exit)) r ⌝ }
 {
     begin(cells);
     let mut at = card::FIRST_ENTRY;

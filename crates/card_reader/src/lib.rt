@@ -13,7 +13,13 @@ mod store;
 
 pub use entries::keep;
 pub use entries::read_entries;
-pub use listed::some_listed;
+use kind::Meaning;
+use kind::Readings;
+pub use listed::chain_behind;
+pub use listed::chain_of;
+pub use listed::next_counting;
+pub use listed::occurrence_of;
+pub use listed::some_kept;
 
 // What a text on a card reads to: whether it is readable as its kind; in which form it is kept, 0 by its bytes, 1 as a number, 2 as a span of
 // time; a number's digits and, as its unit, its decimals; a span's ends in seconds and, as its unit, 1 where the start is missing and 2 where
@@ -25,4 +31,11 @@ pub struct TextReading {
     pub unit: u64,
     pub start: i64,
     pub end: i64,
+}
+
+// What a test asks of the texts under a parameter: its index, the test's meaning, and what the test's value reads to.
+pub struct Question {
+    pub index: u8,
+    pub meaning: Meaning,
+    pub readings: Readings,
 }

@@ -1,21 +1,19 @@
 // A test judged by the lists of a card: only the entries under its parameter are visited.
+use crate::Question;
 use crate::TextReading;
 use crate::related::reading_counts;
 use crate::store::wide;
 use block::Validity;
 use judge::Chosen;
-use judge::some_counts;
-use kind::Meaning;
-use kind::Readings;
 ghost use mathlib.Core.Path.{_≡_};
-ghost use Prim.Native.Nat.{_<_, _≤_};
+ghost use Prim.Native.Nat.{_+_, _<_, _≤_};
 ghost use lib.ListN.{length, getD};
 ghost use Rattle.card.specs.Card.{entriesOf, readCard};
 ghost use Rattle.judge.specs.Once.{readingsFor};
 ghost use Rattle.judge.specs.Sets.{valuesAt, chosenOf, counts};
 ghost use Rattle.judge.specs.Verdicts.{someValue, textCounts};
-ghost use Rattle.card_reader.specs.Lists.{noEntry, readingAt, Holds, KeepsCard};
-ghost use Rattle.card_reader.specs.Listed.{entryCounts};
+ghost use Rattle.card_reader.specs.Lists.{cellOf, noEntry, readingAt, Holds, IsKept, KeepsCard};
+ghost use Rattle.card_reader.specs.Listed.{entryCounts, OnChain, FirstFrom};
 
 // The byte as a number of 64 bits.
 fn widest(n: u8) -> u64
@@ -59,74 +57,97 @@ fn entry_counts(
     spans: &[i64],
     e: usize,
     chosen: Chosen,
-    meaning: Meaning,
+    question: Question,
     value: &[u8],
-    readings: Readings,
 ) -> bool
     requires { ⌜ (length (now cells) ≡ 576) × (length (now spans) ≡ 128) ⌝ }
     requires { ⌜ e < 64 ⌝ }
     requires { ⌜ Holds (now card) (now cells) (now spans) e (getD (entriesOf (now card)) e noEntry) ⌝ }
-    requires { ⌜ readings ≡ readingsFor meaning (now value) ⌝ }
-    ensures { λ r. ⌜ r ≡ entryCounts chosen meaning (now (value .entry)) (getD (entriesOf (now (card .entry))) e noEntry) ⌝ }
+    requires { ⌜ question .readings ≡ readingsFor (question .meaning) (now value) ⌝ }
+    ensures { λ r. ⌜ r ≡ entryCounts chosen (question .meaning) (now (value .entry)) (getD (entriesOf (now (card .entry))) e noEntry) ⌝ }
 {
     let cell = 32 + 8 * e;
     if is_chosen(chosen, cells[cell + 1]) {
         let start = cells[cell + 2] as usize;
         let end = cells[cell + 3] as usize;
         let read = reading_at(cells, spans, e);
+        let meaning = question.meaning;
+        let readings = question.readings;
         return reading_counts(meaning, &card[start..end], read, value, readings);
     }
     false
 }
 
-// Whether some text under a parameter whose entries are kept counts, among the entries that count: from the last of them to the first.
-fn some_kept(
+// The first entry of a chain from `from` on that counts, counted from 1, or 0 for none. A chain goes from the last entry to the first.
+pub fn next_counting(
     card: &[u8],
     cells: &[u64],
     spans: &[i64],
     chosen: Chosen,
-    index: u8,
-    meaning: Meaning,
+    question: Question,
     value: &[u8],
-    readings: Readings,
-) -> bool
-    requires { ⌜ readCard (now card) ≡ Validity.WellFormed ⌝ }
+    from: usize,
+) -> usize
     requires { ⌜ KeepsCard (now card) (now cells) (now spans) ⌝ }
-    requires { ⌜ index < 32 ⌝ }
-    requires { ⌜ getD (now cells) index 0 ≤ 64 ⌝ }
-    requires { ⌜ readings ≡ readingsFor meaning (now value) ⌝ }
-    ensures { λ r. ⌜ r ≡ someValue (textCounts meaning (now (value .entry))) (valuesAt index (chosenOf chosen (entriesOf (now (card .entry))))) ⌝ }
+    requires { ⌜ OnChain (now card) (now cells) (question .index) from ⌝ }
+    requires { ⌜ question .readings ≡ readingsFor (question .meaning) (now value) ⌝ }
+    ensures { λ r. ⌜ FirstFrom (entryCounts chosen (question .meaning) (now (value .entry))) (now (card .entry)) (now (cells .entry)) (question .index) from r ⌝ }
 {
-    let mut next = cells[wide(index)];
+    let mut next = from;
     while next > 0 {
-        let e = (next - 1) as usize;
-        if entry_counts(card, cells, spans, e, chosen, meaning, value, readings) {
-            return true;
+        let e = next - 1;
+        if entry_counts(card, cells, spans, e, chosen, question, value) {
+            return next;
         }
-        next = cells[32 + 8 * e];
+        next = cells[32 + 8 * e] as usize;
     }
-    false
+    0
 }
 
-// Whether some text under a parameter counts for a meaning and a value that was read, among the entries that count.
-pub fn some_listed(
+// Where the chain of a parameter begins: at its last entry, counted from 1, or 0 for none.
+pub fn chain_of(cells: &[u64], index: u8) -> usize
+    requires { ⌜ length (now cells) ≡ 576 ⌝ }
+    requires { ⌜ index < 32 ⌝ }
+    ensures { λ r. ⌜ r ≡ getD (now (cells .entry)) index 0 ⌝ }
+{
+    cells[wide(index)] as usize
+}
+
+// Where it goes on behind the entry e.
+pub fn chain_behind(cells: &[u64], e: usize) -> usize
+    requires { ⌜ length (now cells) ≡ 576 ⌝ }
+    requires { ⌜ e < 64 ⌝ }
+    ensures { λ r. ⌜ r ≡ getD (now (cells .entry)) (cellOf e) 0 ⌝ }
+{
+    cells[32 + 8 * e] as usize
+}
+
+// The occurrence of the entry e.
+pub fn occurrence_of(cells: &[u64], e: usize) -> u8
+    requires { ⌜ length (now cells) ≡ 576 ⌝ }
+    requires { ⌜ e < 64 ⌝ }
+    requires { ⌜ getD (now cells) (cellOf e + 1) 0 < 256 ⌝ }
+    ensures { λ r. ⌜ r ≡ getD (now (cells .entry)) (cellOf e + 1) 0 ⌝ }
+{
+    cells[32 + 8 * e + 1] as u8
+}
+
+// Whether some text under a parameter whose entries are kept counts for a test, among the entries that count.
+pub fn some_kept(
     card: &[u8],
     cells: &[u64],
     spans: &[i64],
     chosen: Chosen,
-    index: u8,
-    meaning: Meaning,
+    question: Question,
     value: &[u8],
-    readings: Readings,
 ) -> bool
     requires { ⌜ readCard (now card) ≡ Validity.WellFormed ⌝ }
     requires { ⌜ KeepsCard (now card) (now cells) (now spans) ⌝ }
-    requires { ⌜ index < 32 ⌝ }
-    requires { ⌜ readings ≡ readingsFor meaning (now value) ⌝ }
-    ensures { λ r. ⌜ r ≡ someValue (textCounts meaning (now (value .entry))) (valuesAt index (chosenOf chosen (entriesOf (now (card .entry))))) ⌝ }
+    requires { ⌜ question .index < 32 ⌝ }
+    requires { ⌜ IsKept (now cells) (question .index) ⌝ }
+    requires { ⌜ question .readings ≡ readingsFor (question .meaning) (now value) ⌝ }
+    ensures { λ r. ⌜ r ≡ someValue (textCounts (question .meaning) (now (value .entry))) (valuesAt (question .index) (chosenOf chosen (entriesOf (now (card .entry))))) ⌝ }
 {
-    if cells[wide(index)] <= 64 {
-        return some_kept(card, cells, spans, chosen, index, meaning, value, readings);
-    }
-    some_counts(card, chosen, index, meaning, value, true, readings)
+    let from = chain_of(cells, question.index);
+    next_counting(card, cells, spans, chosen, question, value, from) > 0
 }

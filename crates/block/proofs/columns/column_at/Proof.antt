@@ -6,10 +6,10 @@ use Rattle.block.proofs.columns.column_at.Statement.{statement}
 use Rattle.block.proofs.columns.column_at.Tie as tie
 
 abbrev Inv-loop : tie.InvT-loop
-Inv-loop block j most sum₀ rows₀ row₀ sum rows row = RowsSummed block most j sum rows row
+Inv-loop block j sum₀ rows₀ row₀ sum rows row = RowsSummed block j sum rows row
 
 abbrev μ-loop : tie.MeasureT-loop
-μ-loop block j most sum₀ rows₀ row₀ sum rows row = row
+μ-loop block j sum₀ rows₀ row₀ sum rows row = row
 
 loop-holds : tie.Need-loop-holds Inv-loop μ-loop
 loop-holds c = search (rows-start, needs)

@@ -7,10 +7,10 @@ use Rattle.block.proofs.columns.columns_of.Statement.{statement}
 use Rattle.block.proofs.columns.columns_of.Tie as tie
 
 abbrev Inv-loop : tie.InvT-loop
-Inv-loop block most sums₀ rows₀ j₀ sums rows j = ColumnsTo block most sums rows j
+Inv-loop block sums₀ rows₀ j₀ sums rows j = ColumnsTo block sums rows j
 
 abbrev μ-loop : tie.MeasureT-loop
-μ-loop block most sums₀ rows₀ j₀ sums rows j = 32 - j
+μ-loop block sums₀ rows₀ j₀ sums rows j = 32 - j
 
 loop-holds : tie.Need-loop-holds Inv-loop μ-loop
 loop-holds c = search (columns-start, needs)

@@ -5,7 +5,7 @@ use Rattle.card_reader.proofs.entries.read_entries.Statement.{statement
 use Rattle.card_reader.proofs.entries.read_entries.Tie as tie
 
 abbrev Inv-loop : tie.InvT-loop
-Inv-loop kinds card cells₀ spans₀ at₀ left₀ e₀ cells spans at left e = Progress kinds card cells spans at left e
+Inv-loop kinds card cells₀ spans₀ at₀ left₀ e₀ cells spans at left e = Progress kinds card cells₀ cells spans at left e
 
 abbrev μ-loop : tie.MeasureT-loop
 μ-loop kinds card cells₀ spans₀ at₀ left₀ e₀ cells spans at left e = left
@@ -32,7 +32,7 @@ part-take-entry-end : tie.Need-part-take-entry-end Inv-loop μ-loop
 part-take-entry-end c = search needs
 
 take-entry-requires : tie.Need-take-entry-requires Inv-loop μ-loop
-take-entry-requires c κs = search (progress-room, needs)
+take-entry-requires c κs = (search needs, (search needs, (search (progress-room, needs), search needs)))
 
 sub-left : tie.Need-sub-left Inv-loop μ-loop
 sub-left c = search needs

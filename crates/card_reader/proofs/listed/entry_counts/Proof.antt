@@ -1,7 +1,7 @@
 -- `card_reader::listed::entry_counts` meets its contract. Assumes nothing.
 use borrow.Author.Needs.{needs}
 use Rattle.judge.proofs.Once.{once-kept}
-use Rattle.card_reader.proofs.Chains.{holds-order, holds-within, holds-serves, entry-not, entry-text}
+use Rattle.card_reader.proofs.Chains.{holds-serves, entry-not, entry-text}
 use Rattle.card_reader.proofs.listed.entry_counts.Statement.{statement}
 use Rattle.card_reader.proofs.listed.entry_counts.Tie as tie
 
