@@ -196,7 +196,7 @@ module _ (e : ℕ) (x : Span) (h : TextReading) (cells : List ℕ) (spans : List
 
 module _ (kinds t : List ℕ) (e : ℕ) (x : Span) (cells : List ℕ) (spans : List ℤ) (lent : Lent cells spans) (i : ℕ) (same : i ≡ x .index) where
   pub takes-past : length kinds ≡ 32 → 32 ≤ i → Takes kinds t e x cells spans cells spans false
-  takes-past l p = record { answer = past-readable kinds (x .index) t (omega (arith, l, p, same)); lent = lent; begins = record { same = λ _ _. refl }; keeps = λ _ _ y. y; adds = λ y. both-ways y refl }
+  takes-past l p = record { answer = past-readable kinds (x .index) t (omega (arith, l, p, same)); lent = lent; begins = record { size = refl; same = λ _ _. refl }; keeps = λ _ _ y. y; adds = λ y. both-ways y refl }
 
   module _ (low : i < 32) (kind : ℕ) (k : kind ≡ getD kinds i 0) where
     own-kind : kind ≡ getD kinds (x .index) 0
@@ -207,7 +207,7 @@ module _ (kinds t : List ℕ) (e : ℕ) (x : Span) (cells : List ℕ) (spans : L
         record {
           answer = y ∙ ap (λ (m : ℕ). cardReadable m t) own-kind;
           lent = lent;
-          begins = record { same = λ _ _. refl };
+          begins = record { size = refl; same = λ _ _. refl };
           keeps = λ _ _ y. y;
           adds = λ _ card es w is text order within.
               holds-more card es cells spans e w (x .index) (ap (λ (z : Entry). z .index) is) (omega (arith, low, same)) (subst (λ (j : ℕ). 64 < getD cells j 0) same n);
@@ -215,7 +215,7 @@ module _ (kinds t : List ℕ) (e : ℕ) (x : Span) (cells : List ℕ) (spans : L
 
     module _ (n : getD cells i 0 ≤ 64) (h : TextReading) (a : ReadAs kind t h) where
       pub takes-misfit : h .fits ≡ false → Takes kinds t e x cells spans cells spans false
-      takes-misfit f = record { answer = sym f ∙ a .fits ∙ ap (λ (m : ℕ). cardReadable m t) own-kind; lent = lent; begins = record { same = λ _ _. refl }; keeps = λ _ _ y. y; adds = λ y. both-ways y refl }
+      takes-misfit f = record { answer = sym f ∙ a .fits ∙ ap (λ (m : ℕ). cardReadable m t) own-kind; lent = lent; begins = record { size = refl; same = λ _ _. refl }; keeps = λ _ _ y. y; adds = λ y. both-ways y refl }
 
       pub takes-stored : h .fits ≡ true → e < 64 → x .occurrence < 256 → (cells′ : List ℕ) (spans′ : List ℤ) → Stored e x h cells spans cells′ spans′ → Takes kinds t e x cells spans cells′ spans′ true
       takes-stored f few byte cells′ spans′ st =
@@ -257,7 +257,7 @@ progress-start kinds card begun cells spans n h e w b =
       count = omega (arith, e);
       few = card-few card h;
       lent = begun-lent begun cells spans w b;
-      begins = record { same = λ _ _. refl };
+      begins = record { size = refl; same = λ _ _. refl };
       kept = λ i z y. omega (arith, b .front i z, b .others (544 + i) (omega arith), y);
       holds = record {
         low = λ k z. absurd (omega (arith, z));
@@ -279,6 +279,10 @@ module _ (es : List Entry) (e : ℕ) (x : Entry) (xs : List Entry) (h : drop e e
   entries-behind = sym (drop-drop 1 e es) ∙ ap (drop 1) h
 
 module _ (kinds card cells₀ cells : List ℕ) (spans : List ℤ) (at left e : ℕ) (inv : Progress kinds card cells₀ cells spans at left e) where
+  -- since the card was begun with
+  alike : (before : List ℕ) → Begun before cells₀ 32 → {after : List ℕ} → BeginsAlike cells₀ after → BeginsAlike before after
+  alike before b {after} a = record { size = a .size ∙ begun-begins before cells₀ b .size; same = λ j z. a .same j z ∙ begun-begins before cells₀ b .same j z }
+
   pub progress-room : 0 < left → e < 64
   progress-room l = omega (arith, inv .count, inv .few, l)
 
@@ -291,14 +295,14 @@ module _ (kinds card cells₀ cells : List ℕ) (spans : List ℤ) (at left e : 
     from-here = inv .rest ∙ s .first
 
     begins-still : BeginsAlike cells₀ cells′
-    begins-still = record { same = λ i z. tk .begins .same i z ∙ inv .begins .same i z }
+    begins-still = record { size = tk .begins .size ∙ inv .begins .size; same = λ j z. tk .begins .same j z ∙ inv .begins .same j z }
 
     pub progress-misfit : (before : List ℕ) → Begun before cells₀ 32 → r ≡ false → ReadsCard kinds card before cells′ spans′ false
     progress-misfit before b f =
         record {
           answer = visited-decides entry (conformsTo kinds) card at left (conformsTo kinds (entriesOf card)) (inv .visited) (x .index) (x .occurrence) (x .start) (x .end) s false (conforms-not kinds (x .index) (x .occurrence) (part card (x .start) (x .end)) (items entry (left - 1) card (x .end)) r (tk .answer) f);
           lent = tk .lent;
-          begins = record { same = λ i z. begins-still .same i z ∙ begun-begins before cells₀ b .same i z };
+          begins = alike before b begins-still;
           keeps = λ y. both-ways y refl;
         }
 
@@ -321,11 +325,11 @@ module _ (kinds card cells₀ cells : List ℕ) (spans : List ℤ) (at left e : 
       record {
         answer = visited-end entry (conformsTo kinds) card at left (conformsTo kinds (entriesOf card)) (inv .visited) h true (conforms-end kinds);
         lent = inv .lent;
-        begins = record { same = λ i z. inv .begins .same i z ∙ begun-begins before cells₀ b .same i z };
+        begins = alike before b (inv .begins);
         keeps = λ _.
             record {
               lent = inv .lent;
               holds = subst (HoldsTo card (entriesOf card) cells spans) all (inv .holds);
-              kept = λ i z y. inv .kept i z (sym (inv .begins .same i z) ∙ y);
+              kept = λ i z y. inv .kept i z (sym (inv .begins .same (544 + i) (omega arith)) ∙ y);
             };
       }

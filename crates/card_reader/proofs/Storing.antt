@@ -18,13 +18,13 @@ use Rattle.card_reader.specs.declared.TextReading.{TextReading}
 
 -- ---- the stores, one by one
 
-pub linked-put : (l m k : List ℕ) (i e top next : ℕ) → Put 576 l (cellOf e) top m → Put 576 m i next k → top ≡ getD l i 0 → next ≡ e + 1 → Linked l i e k
+pub linked-put : (l m k : List ℕ) (i e top next : ℕ) → Put 608 l (cellOf e) top m → Put 608 m i next k → top ≡ getD l i 0 → next ≡ e + 1 → Linked l i e k
 linked-put l m k i e top next p q f g = record { is = q .is ∙ rw (p .is, f, g); size = q .size }
 
-pub placed-put : (l m n k : List ℕ) (e o s t o′ s′ t′ : ℕ) → Put 576 l (cellOf e + 1) o′ m → Put 576 m (cellOf e + 2) s′ n → Put 576 n (cellOf e + 3) t′ k → o′ ≡ o → s′ ≡ s → t′ ≡ t → Placed l e o s t k
+pub placed-put : (l m n k : List ℕ) (e o s t o′ s′ t′ : ℕ) → Put 608 l (cellOf e + 1) o′ m → Put 608 m (cellOf e + 2) s′ n → Put 608 n (cellOf e + 3) t′ k → o′ ≡ o → s′ ≡ s → t′ ≡ t → Placed l e o s t k
 placed-put l m n k e o s t o′ s′ t′ p q r f g h = record { is = r .is ∙ rw (q .is, p .is, f, g, h); size = r .size }
 
-pub valued-put : (l m n k : List ℕ) (e f v u : ℕ) → Put 576 l (cellOf e + 4) f m → Put 576 m (cellOf e + 5) v n → Put 576 n (cellOf e + 6) u k → Valued l e f v u k
+pub valued-put : (l m n k : List ℕ) (e f v u : ℕ) → Put 608 l (cellOf e + 4) f m → Put 608 m (cellOf e + 5) v n → Put 608 n (cellOf e + 6) u k → Valued l e f v u k
 valued-put l m n k e f v u p q r = record { is = r .is ∙ rw (q .is, p .is); size = r .size }
 
 pub spanned-put : (l m k : List ℤ) (e : ℕ) (a b a′ b′ : ℤ) → Put 128 l (2 * e) a′ m → Put 128 m (2 * e + 1) b′ k → a′ ≡ a → b′ ≡ b → Spanned l e a b k
@@ -38,7 +38,7 @@ stored-is e x h cells m n cells′ spans spans′ i a b l same p v s f g =
 -- ---- what stands in the cells after the stores of one entry
 
 module _ (e : ℕ) (x : Span) (h : TextReading) (cells : List ℕ) (spans : List ℤ) (cells′ : List ℕ) (spans′ : List ℤ) (st : Stored e x h cells spans cells′ spans′)
-    (size : length cells ≡ 576) (span-size : length spans ≡ 128) (few : e < 64) (low : x .index < 32) where
+    (size : length cells ≡ 608) (span-size : length spans ≡ 128) (few : e < 64) (low : x .index < 32) where
   abbrev b : ℕ
   b = cellOf e
 
@@ -77,16 +77,16 @@ module _ (e : ℕ) (x : Span) (h : TextReading) (cells : List ℕ) (spans : List
   stored-others j n (inl s) = after-link j (inl (omega (arith, s))) ∙ by-link j ∙ getD-set-other (set cells b (getD cells i 0)) i j (e + 1) 0 n ∙ getD-set-other cells b j (getD cells i 0) 0 (λ z. omega (arith, s, z))
   stored-others j n (inr s) = after-link j (inr s) ∙ by-link j ∙ getD-set-other (set cells b (getD cells i 0)) i j (e + 1) 0 n ∙ getD-set-other cells b j (getD cells i 0) 0 (λ z. omega (arith, s, z))
 
-  placed-size : length (set (st .first) (b + 1) (x .occurrence)) ≡ 576
+  placed-size : length (set (st .first) (b + 1) (x .occurrence)) ≡ 608
   placed-size = length-set (st .first) (b + 1) (x .occurrence) ∙ st .linked .size
 
-  placed-size-2 : length (set (set (st .first) (b + 1) (x .occurrence)) (b + 2) (x .start)) ≡ 576
+  placed-size-2 : length (set (set (st .first) (b + 1) (x .occurrence)) (b + 2) (x .start)) ≡ 608
   placed-size-2 = length-set (set (st .first) (b + 1) (x .occurrence)) (b + 2) (x .start) ∙ placed-size
 
-  valued-size : length (set (st .second) (b + 4) (h .form)) ≡ 576
+  valued-size : length (set (st .second) (b + 4) (h .form)) ≡ 608
   valued-size = length-set (st .second) (b + 4) (h .form) ∙ st .placed .size
 
-  valued-size-2 : length (set (set (st .second) (b + 4) (h .form)) (b + 5) (h .value)) ≡ 576
+  valued-size-2 : length (set (set (st .second) (b + 4) (h .form)) (b + 5) (h .value)) ≡ 608
   valued-size-2 = length-set (set (st .second) (b + 4) (h .form)) (b + 5) (h .value) ∙ valued-size
 
   pub stored-occurrence : getD cells′ (b + 1) 0 ≡ x .occurrence
@@ -141,7 +141,7 @@ module _ (e : ℕ) (x : Span) (h : TextReading) (cells : List ℕ) (spans : List
       ∙ getD-set-other spans (2 * e) j (h .start) (pos 0) (λ z. omega (arith, n, z))
 
   pub stored-begins : BeginsAlike cells cells′
-  stored-begins = record { same = λ j n. stored-others (544 + j) (λ z. omega (arith, low, z)) (inr (omega (arith, few))) }
+  stored-begins = record { size = st .valued .size ∙ sym size; same = λ j n. stored-others j (λ z. omega (arith, low, n, z)) (inr (omega (arith, few, n))) }
 
   pub stored-keeps : (j : ℕ) → j < 32 → IsKept cells j → IsKept cells′ j
   stored-keeps j n y = by-place (eqb j i) refl
@@ -155,14 +155,15 @@ module _ (e : ℕ) (x : Span) (h : TextReading) (cells : List ℕ) (spans : List
       record {
         size = st .valued .size;
         span-size = st .spanned .size;
-        begin = λ j n. subst (λ (c : ℕ). (c ≡ 0) ⊎ (64 < c)) (sym (stored-begins .same j n)) (w .begin j n);
+        begin = λ j n. subst (λ (c : ℕ). (c ≡ 0) ⊎ (64 < c)) (sym (stored-begins .same (544 + j) (omega arith))) (w .begin j n);
+        bytes = λ j n. subst (λ (c : ℕ). c < 256) (sym (stored-begins .same (576 + j) (omega arith))) (w .bytes j n);
       }
 
 -- ---- how a card begins
 
 module _ (l : List ℕ) where
-  pub begun-none : length l ≡ 576 → Begun l l 0
-  begun-none h = record { size = h; front = λ i n. absurd (omega (arith, n)); others = λ j n. refl }
+  pub begun-none : length l ≡ 608 → Begun l l 0
+  begun-none h = record { long = h; size = h; front = λ i n. absurd (omega (arith, n)); others = λ j n. refl }
 
   module _ (m : List ℕ) (n : ℕ) (inv : Begun l m n) where
     pub begun-room : n < 32 → 544 + n < length m
@@ -171,6 +172,7 @@ module _ (l : List ℕ) where
     pub begun-next : n < 32 → (v : ℕ) → v ≡ getD m (544 + n) 0 → Begun l (set m n v) (n + 1)
     begun-next h v e =
         record {
+          long = inv .long;
           size = length-set m n v ∙ inv .size;
           front = λ i z. by-place i z (eqb i n) refl;
           others = λ j z. getD-set-other m n j v 0 (λ y. omega (arith, h, z, y)) ∙ inv .others j z;
@@ -183,7 +185,7 @@ module _ (l : List ℕ) where
         by-place i z false q = getD-set-other m n i v 0 (eqb-false i n q) ∙ inv .front i (omega (arith, z, eqb-false i n q))
 
     pub begun-all : 32 ≤ n → Begun l m 32
-    begun-all h = record { size = inv .size; front = λ i z. inv .front i (omega (arith, z, h)); others = inv .others }
+    begun-all h = record { long = inv .long; size = inv .size; front = λ i z. inv .front i (omega (arith, z, h)); others = inv .others }
 
 pub begun-lent : (l m : List ℕ) (spans : List ℤ) → Lent l spans → Begun l m 32 → Lent m spans
 begun-lent l m spans w b =
@@ -191,21 +193,8 @@ begun-lent l m spans w b =
       size = b .size;
       span-size = w .span-size;
       begin = λ i z. subst (λ (c : ℕ). (c ≡ 0) ⊎ (64 < c)) (sym (b .others (544 + i) (omega arith))) (w .begin i z);
+      bytes = λ i z. subst (λ (c : ℕ). c < 256) (sym (b .others (576 + i) (omega arith))) (w .bytes i z);
     }
 
 pub begun-begins : (l m : List ℕ) → Begun l m 32 → BeginsAlike l m
-begun-begins l m b = record { same = λ i z. b .others (544 + i) (omega arith) }
-
--- ---- a parameter whose entries are to be kept
-
-pub keep-lent : (l m : List ℕ) (spans : List ℤ) (i n : ℕ) → Lent l spans → n ≡ i → Put 576 l (544 + n) 0 m → Lent m spans
-keep-lent l m spans i n w same p =
-    record { size = p .size; span-size = w .span-size; begin = λ j z. by-place j z (eqb j n) refl }
-  where
-    by-place : (j : ℕ) → j < 32 → (t : Bool) → eqb j n ≡ t → (getD m (544 + j) 0 ≡ 0) ⊎ (64 < getD m (544 + j) 0)
-    by-place j z true q =
-        let k : j ≡ n = eqb-true j n q in
-        inl (ap (λ (l : List ℕ). getD l (544 + j) 0) (p .is) ∙ ap (λ (a : ℕ). getD (set l a 0) (544 + j) 0) (ap (λ (a : ℕ). 544 + a) (sym k)) ∙ getD-set-same l (544 + j) 0 0 (omega (arith, z, w .size)))
-    by-place j z false q =
-        subst (λ (c : ℕ). (c ≡ 0) ⊎ (64 < c)) (sym (ap (λ (l : List ℕ). getD l (544 + j) 0) (p .is) ∙ getD-set-other l (544 + n) (544 + j) 0 0 (λ y. eqb-false j n q (omega (arith, y)))))
-        (w .begin j z)
+begun-begins l m b = record { size = b .size ∙ sym (b .long); same = λ j z. b .others j (omega (arith, z)) }

@@ -3,3 +3,4 @@ pub mod Readings
 pub mod Lists
 pub mod Storing
 pub mod Listed
+pub mod Lending

@@ -6,7 +6,7 @@ use mathlib.Core.Logic.{_⊎_}
 use mathlib.Core.Bool.{Bool, true}
 use mathlib.Core.List.{List, []}
 use lib.IntN.{ℤ, pos}
-use lib.ListN.{length, getD}
+use lib.ListN.{length, getD, take, drop}
 use Rattle.base.specs.Parts.{part}
 use Rattle.card.specs.Card.{Entry, entry, entriesOf, entryCount}
 use Rattle.card.specs.declared.Entry.{Entry as Span}
@@ -18,9 +18,14 @@ use Rattle.card_reader.specs.declared.TextReading.{TextReading}
 
 -- their sizes; and a card begins with a parameter's cell at 0, or above 64 where nothing is kept of its entries
 pub record Lent (cells : List ℕ) (spans : List ℤ) : Type 0 where
-  pub size : length cells ≡ 576
+  pub size : length cells ≡ 608
   pub span-size : length spans ≡ 128
   pub begin : (i : ℕ) → i < 32 → (getD cells (544 + i) 0 ≡ 0) ⊎ (64 < getD cells (544 + i) 0)
+  pub bytes : (i : ℕ) → i < 32 → getD cells (576 + i) 0 < 256
+
+-- the kinds of the parameters
+unfoldable pub kindsIn : List ℕ → List ℕ
+kindsIn cells = take 32 (drop 576 cells)
 
 -- where the cells of the entry e begin
 abbrev pub cellOf : ℕ → ℕ
@@ -76,9 +81,10 @@ pub record KeepsCard (card cells : List ℕ) (spans : List ℤ) : Type 0 where
   pub holds : HoldsTo card (entriesOf card) cells spans (entryCount card)
   pub kept : (i : ℕ) → i < 32 → getD cells (544 + i) 0 ≡ 0 → IsKept cells i
 
--- cards begin alike before and after
+-- how cards begin, and the kinds, are the same before and after
 pub record BeginsAlike (before after : List ℕ) : Type 0 where
-  pub same : (i : ℕ) → i < 32 → getD after (544 + i) 0 ≡ getD before (544 + i) 0
+  pub size : length after ≡ length before
+  pub same : (j : ℕ) → 544 ≤ j → getD after j 0 ≡ getD before j 0
 
 -- the answer of reading a card's entries, and the lists where it is yes
 pub record ReadsCard (kinds card before cells : List ℕ) (spans : List ℤ) (r : Bool) : Type 0 where

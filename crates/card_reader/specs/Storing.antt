@@ -20,15 +20,15 @@ pub record Put {A : Type 0} (n : ℕ) (l : List A) (at : ℕ) (v : A) (l′ : Li
 -- the entry e is put before the others under the parameter i
 pub record Linked (l : List ℕ) (i e : ℕ) (l′ : List ℕ) : Type 0 where
   pub is : l′ ≡ set (set l (cellOf e) (getD l i 0)) i (e + 1)
-  pub size : length l′ ≡ 576
+  pub size : length l′ ≡ 608
 
 pub record Placed (l : List ℕ) (e o s t : ℕ) (l′ : List ℕ) : Type 0 where
   pub is : l′ ≡ set (set (set l (cellOf e + 1) o) (cellOf e + 2) s) (cellOf e + 3) t
-  pub size : length l′ ≡ 576
+  pub size : length l′ ≡ 608
 
 pub record Valued (l : List ℕ) (e f v u : ℕ) (l′ : List ℕ) : Type 0 where
   pub is : l′ ≡ set (set (set l (cellOf e + 4) f) (cellOf e + 5) v) (cellOf e + 6) u
-  pub size : length l′ ≡ 576
+  pub size : length l′ ≡ 608
 
 pub record Spanned (l : List ℤ) (e : ℕ) (a b : ℤ) (l′ : List ℤ) : Type 0 where
   pub is : l′ ≡ set (set l (2 * e) a) (2 * e + 1) b
@@ -45,7 +45,8 @@ pub record Stored (e : ℕ) (x : Span) (h : TextReading) (cells : List ℕ) (spa
 
 -- the first n parameters' cells are those with which a card begins, and all cells behind the parameters' are as they were
 pub record Begun (l l′ : List ℕ) (n : ℕ) : Type 0 where
-  pub size : length l′ ≡ 576
+  pub long : length l ≡ 608
+  pub size : length l′ ≡ 608
   pub front : (i : ℕ) → i < n → getD l′ i 0 ≡ getD l (544 + i) 0
   pub others : (j : ℕ) → 32 ≤ j → getD l′ j 0 ≡ getD l j 0
 

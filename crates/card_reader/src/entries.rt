@@ -1,6 +1,5 @@
 // One pass over a card's entries.
 use crate::readings::text_reading;
-use crate::store::put;
 use crate::store::store_entry;
 use crate::store::wide;
 use block::Validity;
@@ -14,7 +13,7 @@ ghost use Rattle.card_reader.specs.Storing.{Begun, Takes};
 
 // Brings the parameters' cells to where a card begins.
 fn begin(cells: &mut [u64])
-    requires { ⌜ length (now cells) ≡ 576 ⌝ }
+    requires { ⌜ length (now cells) ≡ 608 ⌝ }
     ensures { λ _. ⌜ Begun (now (cells .entry)) (now (cells .exit)) 32 ⌝ }
 {
     let mut i = 0;
@@ -79,13 +78,4 @@ pub fn read_entries(kinds: &[u8], card: &[u8], cells: &mut [u64], spans: &mut [i
         }
     }
     true
-}
-
-// Has the entries of a parameter kept from the next card on.
-pub fn keep(cells: &mut [u64], spans: &[i64], index: u8)
-    requires { ⌜ Lent (now cells) (now spans) ⌝ }
-    requires { ⌜ index < 32 ⌝ }
-    ensures { λ _. ⌜ Lent (now (cells .exit)) (now (spans .entry)) ⌝ }
-{
-    put(cells, 544 + wide(index), 0);
 }

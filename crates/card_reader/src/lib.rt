@@ -1,20 +1,23 @@
 // A card that is read once for many tests. One pass over its entries sees that their texts are readable as the sheet has it, and keeps in
 // lists that are lent for a run what the texts read to, chained by parameter; a test then visits the entries of its own parameter alone.
 //
-// `cells` has 32 cells for the parameters, eight for each of 64 entries, and 32 for how a card begins. That of a parameter has the last entry
-// under it, counted from 1, or 0 for none; above 64 it says that nothing is kept of its entries. Those of an entry have the entry before it
-// under its parameter, in the same way, its occurrence, where its text starts and ends in the card, and what the text reads to. `spans` has
-// the two ends of a date or a period for each entry.
+// `cells` has 32 cells for the parameters, eight for each of 64 entries, 32 for how a card begins, and 32 for the kinds of the parameters. That of
+// a parameter has the last entry under it, counted from 1, or 0 for none; above 64 it says that nothing is kept of its entries. Those of an
+// entry have the entry before it under its parameter, in the same way, its occurrence, where its text starts and ends in the card, and what
+// the text reads to. `spans` has the two ends of a date or a period for each entry.
 mod entries;
+mod lending;
 mod listed;
 mod readings;
 mod related;
 mod store;
 
-pub use entries::keep;
 pub use entries::read_entries;
 use kind::Meaning;
 use kind::Readings;
+pub use lending::keep;
+pub use lending::kind_at;
+pub use lending::lend;
 pub use listed::chain_behind;
 pub use listed::chain_of;
 pub use listed::next_counting;

@@ -1,6 +1,7 @@
 // A test judged by the lists of a card: only the entries under its parameter are visited.
 use crate::Question;
 use crate::TextReading;
+use crate::lending::widest;
 use crate::related::reading_counts;
 use crate::store::wide;
 use block::Validity;
@@ -15,13 +16,6 @@ ghost use Rattle.judge.specs.Verdicts.{someValue, textCounts};
 ghost use Rattle.card_reader.specs.Lists.{cellOf, noEntry, readingAt, Holds, IsKept, KeepsCard};
 ghost use Rattle.card_reader.specs.Listed.{entryCounts, OnChain, FirstFrom};
 
-// The byte as a number of 64 bits.
-fn widest(n: u8) -> u64
-    ensures { λ r. ⌜ (r ≡ n) × (r < 256) ⌝ }
-{
-    n as u64
-}
-
 // Whether entries of an occurrence count.
 fn is_chosen(chosen: Chosen, occurrence: u64) -> bool
     ensures { λ r. ⌜ r ≡ counts chosen occurrence ⌝ }
@@ -34,7 +28,7 @@ fn is_chosen(chosen: Chosen, occurrence: u64) -> bool
 
 // What the text of the entry e reads to.
 fn reading_at(cells: &[u64], spans: &[i64], e: usize) -> TextReading
-    requires { ⌜ length (now cells) ≡ 576 ⌝ }
+    requires { ⌜ length (now cells) ≡ 608 ⌝ }
     requires { ⌜ length (now spans) ≡ 128 ⌝ }
     requires { ⌜ e < 64 ⌝ }
     ensures { λ r. ⌜ r ≡ readingAt (now (cells .entry)) (now (spans .entry)) e ⌝ }
@@ -60,7 +54,7 @@ fn entry_counts(
     question: Question,
     value: &[u8],
 ) -> bool
-    requires { ⌜ (length (now cells) ≡ 576) × (length (now spans) ≡ 128) ⌝ }
+    requires { ⌜ (length (now cells) ≡ 608) × (length (now spans) ≡ 128) ⌝ }
     requires { ⌜ e < 64 ⌝ }
     requires { ⌜ Holds (now card) (now cells) (now spans) e (getD (entriesOf (now card)) e noEntry) ⌝ }
     requires { ⌜ question .readings ≡ readingsFor (question .meaning) (now value) ⌝ }
@@ -106,7 +100,7 @@ pub fn next_counting(
 
 // Where the chain of a parameter begins: at its last entry, counted from 1, or 0 for none.
 pub fn chain_of(cells: &[u64], index: u8) -> usize
-    requires { ⌜ length (now cells) ≡ 576 ⌝ }
+    requires { ⌜ length (now cells) ≡ 608 ⌝ }
     requires { ⌜ index < 32 ⌝ }
     ensures { λ r. ⌜ r ≡ getD (now (cells .entry)) index 0 ⌝ }
 {
@@ -115,7 +109,7 @@ pub fn chain_of(cells: &[u64], index: u8) -> usize
 
 // Where it goes on behind the entry e.
 pub fn chain_behind(cells: &[u64], e: usize) -> usize
-    requires { ⌜ length (now cells) ≡ 576 ⌝ }
+    requires { ⌜ length (now cells) ≡ 608 ⌝ }
     requires { ⌜ e < 64 ⌝ }
     ensures { λ r. ⌜ r ≡ getD (now (cells .entry)) (cellOf e) 0 ⌝ }
 {
@@ -124,7 +118,7 @@ pub fn chain_behind(cells: &[u64], e: usize) -> usize
 
 // The occurrence of the entry e.
 pub fn occurrence_of(cells: &[u64], e: usize) -> u8
-    requires { ⌜ length (now cells) ≡ 576 ⌝ }
+    requires { ⌜ length (now cells) ≡ 608 ⌝ }
     requires { ⌜ e < 64 ⌝ }
     requires { ⌜ getD (now cells) (cellOf e + 1) 0 < 256 ⌝ }
     ensures { λ r. ⌜ r ≡ getD (now (cells .entry)) (cellOf e + 1) 0 ⌝ }

@@ -15,16 +15,16 @@ pub fn wide(n: u8) -> usize
 
 // Stores a number.
 pub fn put(cells: &mut [u64], at: usize, n: u64)
-    requires { ⌜ length (now cells) ≡ 576 ⌝ }
-    requires { ⌜ at < 576 ⌝ }
-    ensures { λ _. ⌜ Put 576 (now (cells .entry)) at n (now (cells .exit)) ⌝ }
+    requires { ⌜ length (now cells) ≡ 608 ⌝ }
+    requires { ⌜ at < 608 ⌝ }
+    ensures { λ _. ⌜ Put 608 (now (cells .entry)) at n (now (cells .exit)) ⌝ }
 {
     cells[at] = n;
 }
 
 // Puts the entry e before the others under its parameter.
 fn link(cells: &mut [u64], i: usize, e: usize)
-    requires { ⌜ length (now cells) ≡ 576 ⌝ }
+    requires { ⌜ length (now cells) ≡ 608 ⌝ }
     requires { ⌜ i < 32 ⌝ }
     requires { ⌜ e < 64 ⌝ }
     ensures { λ _. ⌜ Linked (now (cells .entry)) i e (now (cells .exit)) ⌝ }
@@ -36,7 +36,7 @@ fn link(cells: &mut [u64], i: usize, e: usize)
 
 // Stores where the text of the entry e stands.
 fn place(cells: &mut [u64], e: usize, occurrence: u8, start: usize, end: usize)
-    requires { ⌜ length (now cells) ≡ 576 ⌝ }
+    requires { ⌜ length (now cells) ≡ 608 ⌝ }
     requires { ⌜ e < 64 ⌝ }
     ensures { λ _. ⌜ Placed (now (cells .entry)) e occurrence start end (now (cells .exit)) ⌝ }
 {
@@ -48,7 +48,7 @@ fn place(cells: &mut [u64], e: usize, occurrence: u8, start: usize, end: usize)
 
 // Stores what it reads to, in whole numbers.
 fn value(cells: &mut [u64], e: usize, form: u64, value: u64, unit: u64)
-    requires { ⌜ length (now cells) ≡ 576 ⌝ }
+    requires { ⌜ length (now cells) ≡ 608 ⌝ }
     requires { ⌜ e < 64 ⌝ }
     ensures { λ _. ⌜ Valued (now (cells .entry)) e form value unit (now (cells .exit)) ⌝ }
 {
@@ -79,7 +79,7 @@ fn span(spans: &mut [i64], e: usize, start: i64, end: i64)
 
 // Stores an entry as the entry e, and what its text reads to.
 pub fn store_entry(cells: &mut [u64], spans: &mut [i64], e: usize, entry: Entry, read: TextReading)
-    requires { ⌜ length (now cells) ≡ 576 ⌝ }
+    requires { ⌜ length (now cells) ≡ 608 ⌝ }
     requires { ⌜ length (now spans) ≡ 128 ⌝ }
     requires { ⌜ entry .index < 32 ⌝ }
     requires { ⌜ e < 64 ⌝ }

@@ -1,8 +1,8 @@
--- `card_reader::entries::keep` meets its contract. Assumes nothing.
+-- `card_reader::lending::keep` meets its contract. Assumes nothing.
 use borrow.Author.Needs.{needs}
-use Rattle.card_reader.proofs.Storing.{keep-lent}
-use Rattle.card_reader.proofs.entries.keep.Statement.{statement}
-use Rattle.card_reader.proofs.entries.keep.Tie as tie
+use Rattle.card_reader.proofs.Lends.{keep-keeps}
+use Rattle.card_reader.proofs.lending.keep.Statement.{statement}
+use Rattle.card_reader.proofs.lending.keep.Tie as tie
 
 wide-requires : tie.Need-wide-requires
 wide-requires c κs = search needs
@@ -17,7 +17,7 @@ same-length : tie.Need-same-length
 same-length c = search needs
 
 returns : tie.Need-returns
-returns c = search (keep-lent, needs)
+returns c = search (keep-keeps, needs)
 
 pub keep-spec : {M : Type 1} → statement M
 keep-spec = tie.close (tie.spec wide-requires add-put put-requires same-length returns)
