@@ -28,7 +28,7 @@ use Rattle.judge.specs.Verdicts.{someValue, textCounts}
 use Rattle.judge.specs.declared.Chosen.{Chosen}
 use Rattle.judge.proofs.Once.{once-kept, once-counts}
 use Rattle.card_reader.specs.Readings.{Serves}
-use Rattle.card_reader.specs.Lists.{cellOf, readingAt, noEntry, Holds, Last, IsKept, HoldsTo, KeepsCard}
+use Rattle.card_reader.specs.Lists.{entryCell, readingAt, noEntry, Holds, Last, IsKept, HoldsTo, KeepsCard}
 use Rattle.card_reader.specs.Listed.{entryCounts, someBefore, OnChain, FirstFrom}
 use Rattle.card_reader.specs.declared.TextReading.{TextReading}
 use Rattle.card_reader.proofs.Reading.{card-few}
@@ -41,7 +41,7 @@ or-swap true false c = refl
 or-swap false b c = refl
 
 module _ (f : Entry → Bool) (i : ℕ) where
-  before-cons : (x : Entry) (es : List Entry) (n : ℕ) → someBefore f i (x ∷ es) (suc n) ≡ ((eqb (x .index) i && f x) || someBefore f i es n)
+  pub before-cons : (x : Entry) (es : List Entry) (n : ℕ) → someBefore f i (x ∷ es) (suc n) ≡ ((eqb (x .index) i && f x) || someBefore f i es n)
   unfolding someBefore
   before-cons x es zero = refl
   before-cons x es (suc n) =
@@ -102,7 +102,7 @@ module _ (card cells : List ℕ) (spans : List ℤ) (h : KeepsCard card cells sp
       record { low = l; kept = k; few = card-few card w; within = top .within; under = top .under }
 
   -- all entries are asked by the chain from its beginning
-  chain-all : (f : Entry → Bool) (n : ℕ) → i < 32 → IsKept cells i → n ≡ getD cells i 0 → someBefore f i (entriesOf card) (length (entriesOf card)) ≡ someBefore f i (entriesOf card) n
+  pub chain-all : (f : Entry → Bool) (n : ℕ) → i < 32 → IsKept cells i → n ≡ getD cells i 0 → someBefore f i (entriesOf card) (length (entriesOf card)) ≡ someBefore f i (entriesOf card) n
   chain-all f n l k e =
       let top : Last (entriesOf card) i (entryCount card) n = subst (Last (entriesOf card) i (entryCount card)) (sym e) (h .holds .heads i l k) in
       ap (someBefore f i (entriesOf card)) (entries-length card) ∙ before-last f i (entriesOf card) (entryCount card) n top
@@ -120,15 +120,15 @@ module _ (card cells : List ℕ) (spans : List ℤ) (h : KeepsCard card cells sp
     pub chain-room : c - 1 < 64
     chain-room = omega (arith, o .within, o .few, l)
 
-    pub chain-byte : getD cells (cellOf (c - 1) + 1) 0 < 256
+    pub chain-byte : getD cells (entryCell (c - 1) + 1) 0 < 256
     chain-byte = omega (arith, chain-holds .occurrence, chain-holds .byte)
 
-    last-behind : (n : ℕ) → n ≡ getD cells (cellOf (c - 1)) 0 → Last (entriesOf card) i (c - 1) n
+    last-behind : (n : ℕ) → n ≡ getD cells (entryCell (c - 1)) 0 → Last (entriesOf card) i (c - 1) n
     last-behind n e =
         subst (λ (j : ℕ). Last (entriesOf card) j (c - 1) n) here
         (subst (Last (entriesOf card) (getD (entriesOf card) (c - 1) noEntry .index) (c - 1)) (sym e) (h .holds .behind (c - 1) (omega (arith, o .within, l)) here-kept))
 
-    module _ (n : ℕ) (e : n ≡ getD cells (cellOf (c - 1)) 0) where
+    module _ (n : ℕ) (e : n ≡ getD cells (entryCell (c - 1)) 0) where
       pub chain-less : n < c
       chain-less = omega (arith, last-behind n e .within, l)
 
@@ -171,7 +171,7 @@ module _ (f : Entry → Bool) (card cells : List ℕ) (spans : List ℤ) (i c : 
             passed = inv .passed;
           }
 
-      module _ (h : KeepsCard card cells spans) (l : 0 < n) (m : ℕ) (e : m ≡ getD cells (cellOf (n - 1)) 0) where
+      module _ (h : KeepsCard card cells spans) (l : 0 < n) (m : ℕ) (e : m ≡ getD cells (entryCell (n - 1)) 0) where
         pub passing-less : m < n
         passing-less = chain-less card cells spans h i n (inv .on) l m e
 
@@ -222,16 +222,16 @@ pub chosen-one : (c : Chosen) (o n : ℕ) → c .all ≡ false → n ≡ c .occu
 chosen-one c o n h e = rw (h, e)
 
 module _ (card cells : List ℕ) (spans : List ℤ) (e : ℕ) (x : Entry) (h : Holds card cells spans e x) where
-  pub holds-order : getD cells (cellOf e + 2) 0 ≤ getD cells (cellOf e + 3) 0
+  pub holds-order : getD cells (entryCell e + 2) 0 ≤ getD cells (entryCell e + 3) 0
   holds-order = h .order
 
-  pub holds-within : getD cells (cellOf e + 3) 0 ≤ length card
+  pub holds-within : getD cells (entryCell e + 3) 0 ≤ length card
   holds-within = h .within
 
-  pub holds-serves : (r : TextReading) (start end : ℕ) → start ≡ getD cells (cellOf e + 2) 0 → end ≡ getD cells (cellOf e + 3) 0 → r ≡ readingAt cells spans e → Serves (part card start end) r
+  pub holds-serves : (r : TextReading) (start end : ℕ) → start ≡ getD cells (entryCell e + 2) 0 → end ≡ getD cells (entryCell e + 3) 0 → r ≡ readingAt cells spans e → Serves (part card start end) r
   holds-serves r start end a b k = rw (a, b, k) (subst (λ (t : List ℕ). Serves t (readingAt cells spans e)) (h .text) (h .serves))
 
-  module _ (c : Chosen) (m : Meaning) (v : List ℕ) (w : Readings) (k : w ≡ readingsFor m v) (r : Bool) (g : r ≡ counts c (getD cells (cellOf e + 1) 0)) where
+  module _ (c : Chosen) (m : Meaning) (v : List ℕ) (w : Readings) (k : w ≡ readingsFor m v) (r : Bool) (g : r ≡ counts c (getD cells (entryCell e + 1) 0)) where
     own : r ≡ counts c (x .occurrence)
     own = g ∙ ap (counts c) (h .occurrence)
 
@@ -239,10 +239,10 @@ module _ (card cells : List ℕ) (spans : List ℤ) (e : ℕ) (x : Entry) (h : H
     unfolding entryCounts
     entry-not n = rw (sym own ∙ n)
 
-    pub entry-text : r ≡ true → (t : Bool) (start end : ℕ) → start ≡ getD cells (cellOf e + 2) 0 → end ≡ getD cells (cellOf e + 3) 0 → t ≡ countsRead m v w (part card start end) → t ≡ entryCounts c m v x
+    pub entry-text : r ≡ true → (t : Bool) (start end : ℕ) → start ≡ getD cells (entryCell e + 2) 0 → end ≡ getD cells (entryCell e + 3) 0 → t ≡ countsRead m v w (part card start end) → t ≡ entryCounts c m v x
     unfolding entryCounts
     entry-text y t start end a b d =
-        let same-text : part card start end ≡ part card (getD cells (cellOf e + 2) 0) (getD cells (cellOf e + 3) 0) = rw (a, b) in
+        let same-text : part card start end ≡ part card (getD cells (entryCell e + 2) 0) (getD cells (entryCell e + 3) 0) = rw (a, b) in
         rw (sym own ∙ y)
         (once-counts m v w k (part card start end) t d ∙ ap (textCounts m v) (same-text ∙ sym (h .text)))
 

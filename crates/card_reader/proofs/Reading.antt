@@ -30,7 +30,7 @@ use Rattle.kind.specs.Readable.{cardReadable}
 use Rattle.judge.specs.Sets.{conformsTo}
 use Rattle.judge.proofs.Entries.{past-readable, conforms-next, conforms-not, conforms-end}
 use Rattle.card_reader.specs.Readings.{Serves, ReadAs}
-use Rattle.card_reader.specs.Lists.{Lent, cellOf, readingAt, noEntry, Holds, Last, IsKept, HoldsTo, KeepsCard, BeginsAlike, ReadsCard}
+use Rattle.card_reader.specs.Lists.{Lent, entryCell, readingAt, noEntry, Holds, Last, IsKept, HoldsTo, KeepsCard, BeginsAlike, ReadsCard}
 use Rattle.card_reader.specs.Storing.{Stored, Begun, Takes}
 use Rattle.card_reader.specs.declared.TextReading.{TextReading}
 use Rattle.card_reader.proofs.Storing.{stored-head, stored-behind, stored-others, stored-occurrence, stored-start, stored-end, stored-form, stored-value, stored-unit, stored-first, stored-last, stored-spans, stored-begins, stored-keeps, stored-lent, begun-lent, begun-begins}
@@ -91,7 +91,7 @@ serves-same {t} e s = subst (Serves t) e s
 
 module _ (e : ℕ) (x : Span) (h : TextReading) (cells : List ℕ) (spans : List ℤ) (cells′ : List ℕ) (spans′ : List ℤ) (st : Stored e x h cells spans cells′ spans′)
     (lent : Lent cells spans) (few : e < 64) (low : x .index < 32) (kept : getD cells (x .index) 0 ≤ 64) where
-  other : (j : ℕ) → (j ≡ x .index → ⊥) → (j < cellOf e) ⊎ (cellOf e + 7 ≤ j) → getD cells′ j 0 ≡ getD cells j 0
+  other : (j : ℕ) → (j ≡ x .index → ⊥) → (j < entryCell e) ⊎ (entryCell e + 7 ≤ j) → getD cells′ j 0 ≡ getD cells j 0
   other = stored-others e x h cells spans cells′ spans′ st (lent .size) (lent .span-size) few low
 
   spans-before : (j : ℕ) → j < 2 * e → getD spans′ j (pos 0) ≡ getD spans j (pos 0)
@@ -101,8 +101,8 @@ module _ (e : ℕ) (x : Span) (h : TextReading) (cells : List ℕ) (spans : List
   head-is = stored-head e x h cells spans cells′ spans′ st (lent .size) (lent .span-size) few low
 
   -- a cell of an entry before e
-  old-cell : (k n : ℕ) → k < e → n < 8 → getD cells′ (cellOf k + n) 0 ≡ getD cells (cellOf k + n) 0
-  old-cell k n z m = other (cellOf k + n) (λ q. omega (arith, low, q)) (inl (omega (arith, z, m)))
+  old-cell : (k n : ℕ) → k < e → n < 8 → getD cells′ (entryCell k + n) 0 ≡ getD cells (entryCell k + n) 0
+  old-cell k n z m = other (entryCell k + n) (λ q. omega (arith, low, q)) (inl (omega (arith, z, m)))
 
   -- whether a parameter is kept does not change
   kept-before : (j : ℕ) → j < 32 → IsKept cells′ j → IsKept cells j
@@ -133,8 +133,8 @@ module _ (e : ℕ) (x : Span) (h : TextReading) (cells : List ℕ) (spans : List
     new-holds =
         let size = lent .size in
         let span-size = lent .span-size in
-        let s : getD cells′ (cellOf e + 2) 0 ≡ x .start = stored-start e x h cells spans cells′ spans′ st size span-size few low in
-        let u : getD cells′ (cellOf e + 3) 0 ≡ x .end = stored-end e x h cells spans cells′ spans′ st size span-size few low in
+        let s : getD cells′ (entryCell e + 2) 0 ≡ x .start = stored-start e x h cells spans cells′ spans′ st size span-size few low in
+        let u : getD cells′ (entryCell e + 3) 0 ≡ x .end = stored-end e x h cells spans cells′ spans′ st size span-size few low in
         record {
           byte = byte;
           occurrence = stored-occurrence e x h cells spans cells′ spans′ st size span-size few low;
@@ -169,17 +169,17 @@ module _ (e : ℕ) (x : Span) (h : TextReading) (cells : List ℕ) (spans : List
             subst (Last es j (e + 1)) (sym (other j (eqb-false j (x .index) q) (inl (omega (arith, z)))))
             (last-other es e (x .index) here j (getD cells j 0) (eqb-false j (x .index) q) (w .heads j z (kept-before j z y)))
 
-    next-behind : (k : ℕ) → k < e + 1 → IsKept cells′ (getD es k noEntry .index) → Last es (getD es k noEntry .index) k (getD cells′ (cellOf k) 0)
+    next-behind : (k : ℕ) → k < e + 1 → IsKept cells′ (getD es k noEntry .index) → Last es (getD es k noEntry .index) k (getD cells′ (entryCell k) 0)
     next-behind k z y = by-place (eqb k e) refl
       where
-        by-place : (b : Bool) → eqb k e ≡ b → Last es (getD es k noEntry .index) k (getD cells′ (cellOf k) 0)
+        by-place : (b : Bool) → eqb k e ≡ b → Last es (getD es k noEntry .index) k (getD cells′ (entryCell k) 0)
         by-place true q =
-            subst (λ (m : ℕ). Last es (getD es m noEntry .index) m (getD cells′ (cellOf m) 0)) (sym (eqb-true k e q))
-            (subst (λ (m : ℕ). Last es m e (getD cells′ (cellOf e) 0)) (sym here)
+            subst (λ (m : ℕ). Last es (getD es m noEntry .index) m (getD cells′ (entryCell m) 0)) (sym (eqb-true k e q))
+            (subst (λ (m : ℕ). Last es m e (getD cells′ (entryCell e) 0)) (sym here)
             (subst (Last es (x .index) e) (sym (stored-behind e x h cells spans cells′ spans′ st (lent .size) (lent .span-size) few low)) (w .heads (x .index) low kept)))
         by-place false q =
             let z : k < e = omega (arith, z, eqb-false k e q) in
-            subst (Last es (getD es k noEntry .index) k) (sym (other (cellOf k) (λ r. omega (arith, low, r)) (inl (omega (arith, z)))))
+            subst (Last es (getD es k noEntry .index) k) (sym (other (entryCell k) (λ r. omega (arith, low, r)) (inl (omega (arith, z)))))
             (w .behind k z (kept-before (getD es k noEntry .index) (w .low k z) y))
 
     next-low : (k : ℕ) → k < e + 1 → getD es k noEntry .index < 32

@@ -12,19 +12,19 @@ use lib.ListN.{length, getD, set, length-set}
 use lib.Seq.{getD-set-same, getD-set-other}
 use borrow.Author.Tests.{eqb-true, eqb-false}
 use Rattle.card.specs.declared.Entry.{Entry as Span}
-use Rattle.card_reader.specs.Lists.{Lent, cellOf, IsKept, BeginsAlike}
+use Rattle.card_reader.specs.Lists.{Lent, entryCell, IsKept, BeginsAlike}
 use Rattle.card_reader.specs.Storing.{Put, Linked, Placed, Valued, Spanned, Stored, Begun}
 use Rattle.card_reader.specs.declared.TextReading.{TextReading}
 
 -- ---- the stores, one by one
 
-pub linked-put : (l m k : List ℕ) (i e top next : ℕ) → Put 608 l (cellOf e) top m → Put 608 m i next k → top ≡ getD l i 0 → next ≡ e + 1 → Linked l i e k
+pub linked-put : (l m k : List ℕ) (i e top next : ℕ) → Put 608 l (entryCell e) top m → Put 608 m i next k → top ≡ getD l i 0 → next ≡ e + 1 → Linked l i e k
 linked-put l m k i e top next p q f g = record { is = q .is ∙ rw (p .is, f, g); size = q .size }
 
-pub placed-put : (l m n k : List ℕ) (e o s t o′ s′ t′ : ℕ) → Put 608 l (cellOf e + 1) o′ m → Put 608 m (cellOf e + 2) s′ n → Put 608 n (cellOf e + 3) t′ k → o′ ≡ o → s′ ≡ s → t′ ≡ t → Placed l e o s t k
+pub placed-put : (l m n k : List ℕ) (e o s t o′ s′ t′ : ℕ) → Put 608 l (entryCell e + 1) o′ m → Put 608 m (entryCell e + 2) s′ n → Put 608 n (entryCell e + 3) t′ k → o′ ≡ o → s′ ≡ s → t′ ≡ t → Placed l e o s t k
 placed-put l m n k e o s t o′ s′ t′ p q r f g h = record { is = r .is ∙ rw (q .is, p .is, f, g, h); size = r .size }
 
-pub valued-put : (l m n k : List ℕ) (e f v u : ℕ) → Put 608 l (cellOf e + 4) f m → Put 608 m (cellOf e + 5) v n → Put 608 n (cellOf e + 6) u k → Valued l e f v u k
+pub valued-put : (l m n k : List ℕ) (e f v u : ℕ) → Put 608 l (entryCell e + 4) f m → Put 608 m (entryCell e + 5) v n → Put 608 n (entryCell e + 6) u k → Valued l e f v u k
 valued-put l m n k e f v u p q r = record { is = r .is ∙ rw (q .is, p .is); size = r .size }
 
 pub spanned-put : (l m k : List ℤ) (e : ℕ) (a b a′ b′ : ℤ) → Put 128 l (2 * e) a′ m → Put 128 m (2 * e + 1) b′ k → a′ ≡ a → b′ ≡ b → Spanned l e a b k
@@ -40,7 +40,7 @@ stored-is e x h cells m n cells′ spans spans′ i a b l same p v s f g =
 module _ (e : ℕ) (x : Span) (h : TextReading) (cells : List ℕ) (spans : List ℤ) (cells′ : List ℕ) (spans′ : List ℤ) (st : Stored e x h cells spans cells′ spans′)
     (size : length cells ≡ 608) (span-size : length spans ≡ 128) (few : e < 64) (low : x .index < 32) where
   abbrev b : ℕ
-  b = cellOf e
+  b = entryCell e
 
   abbrev i : ℕ
   i = x .index

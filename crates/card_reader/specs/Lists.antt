@@ -28,17 +28,17 @@ unfoldable pub kindsIn : List ℕ → List ℕ
 kindsIn cells = take 32 (drop 576 cells)
 
 -- where the cells of the entry e begin
-abbrev pub cellOf : ℕ → ℕ
-cellOf e = 32 + 8 * e
+abbrev pub entryCell : ℕ → ℕ
+entryCell e = 32 + 8 * e
 
 -- what the text of the entry e reads to
 abbrev pub readingAt : List ℕ → List ℤ → ℕ → TextReading
 readingAt cells spans e =
     record {
       fits = true;
-      form = getD cells (cellOf e + 4) 0;
-      value = getD cells (cellOf e + 5) 0;
-      unit = getD cells (cellOf e + 6) 0;
+      form = getD cells (entryCell e + 4) 0;
+      value = getD cells (entryCell e + 5) 0;
+      unit = getD cells (entryCell e + 6) 0;
       start = getD spans (2 * e) (pos 0);
       end = getD spans (2 * e + 1) (pos 0);
     }
@@ -52,10 +52,10 @@ noEntry = entry 0 0 []
 -- the cells of the entry e of the card have the entry x
 pub record Holds (card cells : List ℕ) (spans : List ℤ) (e : ℕ) (x : Entry) : Type 0 where
   pub byte : x .occurrence < 256
-  pub occurrence : getD cells (cellOf e + 1) 0 ≡ x .occurrence
-  pub order : getD cells (cellOf e + 2) 0 ≤ getD cells (cellOf e + 3) 0
-  pub within : getD cells (cellOf e + 3) 0 ≤ length card
-  pub text : x .text ≡ part card (getD cells (cellOf e + 2) 0) (getD cells (cellOf e + 3) 0)
+  pub occurrence : getD cells (entryCell e + 1) 0 ≡ x .occurrence
+  pub order : getD cells (entryCell e + 2) 0 ≤ getD cells (entryCell e + 3) 0
+  pub within : getD cells (entryCell e + 3) 0 ≤ length card
+  pub text : x .text ≡ part card (getD cells (entryCell e + 2) 0) (getD cells (entryCell e + 3) 0)
   pub serves : Serves (x .text) (readingAt cells spans e)
 
 -- c is the last of the first n entries that stands under the parameter i, counted from 1; 0 where none does
@@ -73,7 +73,7 @@ pub record HoldsTo (card : List ℕ) (es : List Entry) (cells : List ℕ) (spans
   pub low : (e : ℕ) → e < n → getD es e noEntry .index < 32
   pub each : (e : ℕ) → e < n → IsKept cells (getD es e noEntry .index) → Holds card cells spans e (getD es e noEntry)
   pub heads : (i : ℕ) → i < 32 → IsKept cells i → Last es i n (getD cells i 0)
-  pub behind : (e : ℕ) → e < n → IsKept cells (getD es e noEntry .index) → Last es (getD es e noEntry .index) e (getD cells (cellOf e) 0)
+  pub behind : (e : ℕ) → e < n → IsKept cells (getD es e noEntry .index) → Last es (getD es e noEntry .index) e (getD cells (entryCell e) 0)
 
 -- what is kept of a card
 pub record KeepsCard (card cells : List ℕ) (spans : List ℤ) : Type 0 where

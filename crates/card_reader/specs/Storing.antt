@@ -10,7 +10,7 @@ use Rattle.base.specs.Parts.{part}
 use Rattle.card.specs.Card.{Entry, entry}
 use Rattle.card.specs.declared.Entry.{Entry as Span}
 use Rattle.kind.specs.Readable.{cardReadable}
-use Rattle.card_reader.specs.Lists.{Lent, cellOf, noEntry, IsKept, HoldsTo, BeginsAlike}
+use Rattle.card_reader.specs.Lists.{Lent, entryCell, noEntry, IsKept, HoldsTo, BeginsAlike}
 use Rattle.card_reader.specs.declared.TextReading.{TextReading}
 
 pub record Put {A : Type 0} (n : ℕ) (l : List A) (at : ℕ) (v : A) (l′ : List A) : Type 0 where
@@ -19,15 +19,15 @@ pub record Put {A : Type 0} (n : ℕ) (l : List A) (at : ℕ) (v : A) (l′ : Li
 
 -- the entry e is put before the others under the parameter i
 pub record Linked (l : List ℕ) (i e : ℕ) (l′ : List ℕ) : Type 0 where
-  pub is : l′ ≡ set (set l (cellOf e) (getD l i 0)) i (e + 1)
+  pub is : l′ ≡ set (set l (entryCell e) (getD l i 0)) i (e + 1)
   pub size : length l′ ≡ 608
 
 pub record Placed (l : List ℕ) (e o s t : ℕ) (l′ : List ℕ) : Type 0 where
-  pub is : l′ ≡ set (set (set l (cellOf e + 1) o) (cellOf e + 2) s) (cellOf e + 3) t
+  pub is : l′ ≡ set (set (set l (entryCell e + 1) o) (entryCell e + 2) s) (entryCell e + 3) t
   pub size : length l′ ≡ 608
 
 pub record Valued (l : List ℕ) (e f v u : ℕ) (l′ : List ℕ) : Type 0 where
-  pub is : l′ ≡ set (set (set l (cellOf e + 4) f) (cellOf e + 5) v) (cellOf e + 6) u
+  pub is : l′ ≡ set (set (set l (entryCell e + 4) f) (entryCell e + 5) v) (entryCell e + 6) u
   pub size : length l′ ≡ 608
 
 pub record Spanned (l : List ℤ) (e : ℕ) (a b : ℤ) (l′ : List ℤ) : Type 0 where

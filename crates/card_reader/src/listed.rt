@@ -13,7 +13,7 @@ ghost use Rattle.card.specs.Card.{entriesOf, readCard};
 ghost use Rattle.judge.specs.Once.{readingsFor};
 ghost use Rattle.judge.specs.Sets.{valuesAt, chosenOf, counts};
 ghost use Rattle.judge.specs.Verdicts.{someValue, textCounts};
-ghost use Rattle.card_reader.specs.Lists.{cellOf, noEntry, readingAt, Holds, IsKept, KeepsCard};
+ghost use Rattle.card_reader.specs.Lists.{entryCell, noEntry, readingAt, Holds, IsKept, KeepsCard};
 ghost use Rattle.card_reader.specs.Listed.{entryCounts, OnChain, FirstFrom};
 
 // Whether entries of an occurrence count.
@@ -111,7 +111,7 @@ pub fn chain_of(cells: &[u64], index: u8) -> usize
 pub fn chain_behind(cells: &[u64], e: usize) -> usize
     requires { ⌜ length (now cells) ≡ 608 ⌝ }
     requires { ⌜ e < 64 ⌝ }
-    ensures { λ r. ⌜ r ≡ getD (now (cells .entry)) (cellOf e) 0 ⌝ }
+    ensures { λ r. ⌜ r ≡ getD (now (cells .entry)) (entryCell e) 0 ⌝ }
 {
     cells[32 + 8 * e] as usize
 }
@@ -120,8 +120,8 @@ pub fn chain_behind(cells: &[u64], e: usize) -> usize
 pub fn occurrence_of(cells: &[u64], e: usize) -> u8
     requires { ⌜ length (now cells) ≡ 608 ⌝ }
     requires { ⌜ e < 64 ⌝ }
-    requires { ⌜ getD (now cells) (cellOf e + 1) 0 < 256 ⌝ }
-    ensures { λ r. ⌜ r ≡ getD (now (cells .entry)) (cellOf e + 1) 0 ⌝ }
+    requires { ⌜ getD (now cells) (entryCell e + 1) 0 < 256 ⌝ }
+    ensures { λ r. ⌜ r ≡ getD (now (cells .entry)) (entryCell e + 1) 0 ⌝ }
 {
     cells[32 + 8 * e + 1] as u8
 }

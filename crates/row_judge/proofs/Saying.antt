@@ -10,14 +10,15 @@ use mathlib.Core.Path.{_≡_, refl, sym, ap, ap₂, subst, _∙_}
 use mathlib.Core.Bool.{Bool, true, false, cond, not, _&&_, _||_}
 use mathlib.Core.Option.{Option, none, some, Option·none-ne-some, Option·some-injective}
 use mathlib.Core.List.{List, [], _∷_, _++_, append-nil, append-assoc}
-use lib.Dec.{eqb}
+use lib.Dec.{eqb, ltb}
 use lib.IntN.{ℤ}
-use lib.ListN.{length, getD, take, drop, length-drop}
-use lib.Seq.{take-all, take-append-seam, drop-cons, drop-drop, drop-length}
+use lib.ListN.{length, getD, take, drop, length-take, length-drop}
+use lib.Seq.{getD-take, getD-drop, take-all, take-append-seam, drop-cons, drop-drop, drop-length}
 use Rattle.base.specs.Parts.{part}
 use Rattle.base.proofs.Parts.{part-length}
 use Rattle.base.proofs.Tests.{and-true, and-false, both-ways}
-use Rattle.card.specs.Card.{Entry, entry}
+use Rattle.block.specs.declared.Validity.the-variants.{WellFormed}
+use Rattle.card.specs.Card.{Entry, entriesOf, readCard}
 use Rattle.syntax.specs.Placed.{PlacedValue}
 use Rattle.syntax.specs.declared.Connective.{Connective}
 use Rattle.syntax.specs.Scan.{valueAt, contents, decode, Decoded}
@@ -26,15 +27,13 @@ use Rattle.syntax.specs.declared.FoundValue.{FoundValue}
 use Rattle.syntax.proofs.Places.{value-at-placed}
 use Rattle.kind.specs.Table.{meaningOf}
 use Rattle.kind.specs.Readable.{isTrue}
-use Rattle.kind.specs.Relations.{Kept}
 use Rattle.kind.specs.declared.Readings.{Readings}
 use Rattle.kind.specs.declared.Meaning.{Meaning}
 use Rattle.judge.specs.Sets.{valuesAt, counts, chosenOf, ofOccurrence, keep}
 use Rattle.judge.specs.Verdicts.{someValue, textCounts, someSays, saysOf, joined}
 use Rattle.judge.specs.declared.Chosen.{Chosen}
-use Rattle.judge.specs.Once.{readingsFor, countsRead}
+use Rattle.judge.specs.Once.{readingsFor}
 use Rattle.judge.proofs.Meaning.{says-some, says-by-some}
-use Rattle.judge.proofs.Once.{for-kept, once-counts}
 use Rattle.judge.proofs.Occurrences.{chosen-one, occurrence-whole}
 use Rattle.rows.specs.Expression.{Expression, probing, choosing, joining, negating}
 use Rattle.rows.specs.Cells.{probeOf, rowOf, cellOf, encode, Writable, writable-test, writable-bracket, writable-join, writable-not, stated}
@@ -43,10 +42,13 @@ use Rattle.rows.specs.declared.Probe.{Probe}
 use Rattle.rows.specs.declared.Row.{Row}
 use Rattle.rows.proofs.Cells.{row-test, row-bracket, row-not, row-connect, test-index, cell-probe}
 use Rattle.rows.proofs.Stating.{stated-encode, stated-are}
+use Rattle.card_reader.specs.Lists.{kindsIn, entryCell, noEntry, IsKept, KeepsCard}
+use Rattle.card_reader.specs.Listed.{entryCounts, someBefore, OnChain, FirstFrom}
+use Rattle.card_reader.proofs.Chains.{before-cons, chain-begins, chain-all, chain-holds, chain-room, chain-byte, chain-less, chain-on, chain-step, some-first}
 use Rattle.row_opener.specs.Opening.{openedValue, openedBy, openedFor, openedIn, openedRow, valueOf, Known, openedAt}
 use Rattle.row_opener.specs.declared.Opened.{Opened}
 use Rattle.row_opener.proofs.Opening.{opens-second}
-use Rattle.row_judge.specs.Saying.{probeSaysBy, probeSays, expressionSays, statedSays, rowsSay, Whole, Ready, Bracketed, decides, skipped, someEntry, occurrenceSays, probeSaysEachBy, probeSaysEach, bracketSays}
+use Rattle.row_judge.specs.Saying.{probeSaysBy, probeSays, expressionSays, statedSays, rowsSay, Whole, AllKept, Ready, Bracketed, decides, skipped, someEntry, occurrenceSays, probeSaysEachBy, probeSaysEach, bracketSays}
 
 -- ---- entry by entry is by the set of the entries that are kept
 
@@ -95,32 +97,101 @@ module _ (kinds xs : List ℕ) (k : Chosen) (all : List Entry) (p : Probe) where
       by-value (FoundValue.Value v) = each-is (occurrenceSays kinds xs all cs) kept same (getD kinds (p .index) 0) v
       by-value FoundValue.Nothing = refl
 
--- ---- the loop over entries, and what leads to it
+-- ---- entry by entry from the last to the first
 
-module _ (says : ℕ → Bool) (k : Chosen) (i : ℕ) (m : Meaning) (v : List ℕ) (j o : ℕ) (x : List ℕ) (es : List Entry) (under n r : Bool)
-    (a : under ≡ (counts k o && eqb j i)) (b : n ≡ (under && textCounts m v x)) (d : r ≡ (n && says o)) where
-  entry-step : someEntry says k i m v (entry j o x ∷ es) ≡ (r || someEntry says k i m v es)
-  unfolding someEntry
-  entry-step =
-      let whole : r ≡ (((counts k o && eqb j i) && textCounts m v x) && says o) = d ∙ ap (λ (y : Bool). y && says o) (b ∙ ap (λ (y : Bool). y && textCounts m v x) a) in
-      ap (λ (y : Bool). y || someEntry says k i m v es) (sym whole)
+-- an entry's text counts, and its occurrence says yes
+abbrev pub saysToo : (ℕ → Bool) → Chosen → Meaning → List ℕ → Entry → Bool
+saysToo says k m v x = entryCounts k m v x && says (x .occurrence)
 
-  pub entry-here : r ≡ true → true ≡ someEntry says k i m v (entry j o x ∷ es)
-  entry-here h = sym (entry-step ∙ ap (λ (y : Bool). y || someEntry says k i m v es) h)
+module _ (says : ℕ → Bool) (k : Chosen) (i : ℕ) (m : Meaning) (v : List ℕ) where
+  entries-cons : (x : Entry) (es : List Entry) (a b : Bool) → counts k (x .occurrence) ≡ a → eqb (x .index) i ≡ b
+      → someEntry says k i m v (x ∷ es) ≡ ((eqb (x .index) i && saysToo says k m v x) || someEntry says k i m v es)
+  unfolding someEntry entryCounts
+  entries-cons x es true true p q = rw (p, q)
+  entries-cons x es true false p q = rw (p, q)
+  entries-cons x es false true p q = rw (p, q)
+  entries-cons x es false false p q = rw (p, q)
 
-  pub entry-next : r ≡ false → someEntry says k i m v (entry j o x ∷ es) ≡ someEntry says k i m v es
-  entry-next h = entry-step ∙ ap (λ (y : Bool). y || someEntry says k i m v es) h
+  entries-before : (es : List Entry) → someBefore (saysToo says k m v) i es (length es) ≡ someEntry says k i m v es
+  unfolding someBefore someEntry
+  entries-before [] = refl
+  entries-before (x ∷ es) =
+      before-cons (saysToo says k m v) i x es (length es)
+      ∙ ap (λ (b : Bool). (eqb (x .index) i && saysToo says k m v x) || b) (entries-before es)
+      ∙ sym (entries-cons x es (counts k (x .occurrence)) (eqb (x .index) i) refl refl)
 
-pub entry-end : (says : ℕ → Bool) (k : Chosen) (i : ℕ) (m : Meaning) (v : List ℕ) → false ≡ someEntry says k i m v []
-unfolding someEntry
-entry-end says k i m v = refl
+  -- only entries that count can meet it
+  counts-first : (x : Entry) → entryCounts k m v x ≡ false → saysToo says k m v x ≡ false
+  counts-first x h = rw h
 
-module _ (kinds xs : List ℕ) (all : List Entry) (inner : List ℕ) (o : ℕ) (u : Bool) where
-  pub chosen-inner : (r : Bool) → u ≡ true → r ≡ rowsSay kinds xs (chosenOf (record { all = false; occurrence = o }) all) inner → r ≡ (u && occurrenceSays kinds xs all inner o)
-  chosen-inner r h e = rw h (e ∙ ap (λ (l : List Entry). rowsSay kinds xs l inner) (chosen-one o all))
+-- ---- the loop over the entries of a chain that count
 
-  pub chosen-not : u ≡ false → false ≡ (u && occurrenceSays kinds xs all inner o)
-  chosen-not h = rw h
+-- n is an entry that counts, or 0, and the entries from it on decide
+pub record Choosing (says : ℕ → Bool) (k : Chosen) (i : ℕ) (m : Meaning) (v card cells : List ℕ) (spans : List ℤ) (answer : Bool) (n : ℕ) : Type 0 where
+  pub keeps : KeepsCard card cells spans
+  pub on : OnChain card cells i n
+  pub counts-here : (e : ℕ) → n ≡ e + 1 → entryCounts k m v (getD (entriesOf card) e noEntry) ≡ true
+  pub rest : someBefore (saysToo says k m v) i (entriesOf card) n ≡ answer
+
+module _ (says : ℕ → Bool) (k : Chosen) (i : ℕ) (m : Meaning) (v card cells : List ℕ) (spans : List ℤ) where
+  pub choosing-start : KeepsCard card cells spans → (from r : ℕ) → i < 32 → IsKept cells i → from ≡ getD cells i 0 → FirstFrom (entryCounts k m v) card cells i from r
+      → Choosing says k i m v card cells spans (someEntry says k i m v (entriesOf card)) r
+  choosing-start h from r l kept e f =
+      record {
+        keeps = h;
+        on = f .on;
+        counts-here = f .counts;
+        rest =
+            sym (f .passed (saysToo says k m v) (counts-first says k i m v)) ∙ sym (chain-all card cells spans h i (saysToo says k m v) from l kept e)
+            ∙ entries-before says k i m v (entriesOf card);
+      }
+
+  module _ (answer : Bool) (n : ℕ) (inv : Choosing says k i m v card cells spans answer n) (l : 0 < n) where
+    h : KeepsCard card cells spans
+    h = inv .keeps
+
+    pub choosing-room : n - 1 < 64
+    choosing-room = chain-room card cells spans h i n (inv .on) l
+
+    pub choosing-byte : getD cells (entryCell (n - 1) + 1) 0 < 256
+    choosing-byte = chain-byte card cells spans h i n (inv .on) l
+
+    module _ (o : ℕ) (oe : o ≡ getD cells (entryCell (n - 1) + 1) 0) (r : Bool) (y : r ≡ says o) where
+      here-is : saysToo says k m v (getD (entriesOf card) (n - 1) noEntry) ≡ r
+      here-is =
+          let own : o ≡ getD (entriesOf card) (n - 1) noEntry .occurrence = oe ∙ chain-holds card cells spans h i n (inv .on) l .occurrence in
+          let there : entryCounts k m v (getD (entriesOf card) (n - 1) noEntry) ≡ true = inv .counts-here (n - 1) (omega (arith, l)) in
+          ap (λ (b : Bool). b && says (getD (entriesOf card) (n - 1) noEntry .occurrence)) there ∙ sym (y ∙ ap says own)
+
+      module _ (b : ℕ) (be : b ≡ getD cells (entryCell (n - 1)) 0) where
+        step : answer ≡ (r || someBefore (saysToo says k m v) i (entriesOf card) b)
+        step = sym (inv .rest) ∙ chain-step card cells spans h i n (inv .on) l b be (saysToo says k m v) ∙ ap (λ (x : Bool). x || someBefore (saysToo says k m v) i (entriesOf card) b) here-is
+
+        pub choosing-next : (q : ℕ) → FirstFrom (entryCounts k m v) card cells i b q → r ≡ false → Choosing says k i m v card cells spans answer q
+        choosing-next q f z =
+            record {
+              keeps = h;
+              on = f .on;
+              counts-here = f .counts;
+              rest = sym (f .passed (saysToo says k m v) (counts-first says k i m v)) ∙ sym (step ∙ ap (λ (x : Bool). x || someBefore (saysToo says k m v) i (entriesOf card) b) z);
+            }
+
+      pub choosing-yes : r ≡ true → true ≡ answer
+      choosing-yes z =
+          let b : ℕ = getD cells (entryCell (n - 1)) 0 in
+          sym (step b refl ∙ ap (λ (x : Bool). x || someBefore (saysToo says k m v) i (entriesOf card) b) z)
+
+  pub choosing-end : (answer : Bool) (n : ℕ) → Choosing says k i m v card cells spans answer n → n ≤ 0 → false ≡ answer
+  unfolding someBefore
+  choosing-end answer n inv z = let e : n ≡ 0 = omega (arith, z) in rw e at (inv .rest)
+
+-- what the rows behind a test's say of an occurrence
+unfoldable pub inBrackets : List ℕ → List ℕ → List ℕ → List Entry → ℕ → Bool
+inBrackets kinds xs rows all o = occurrenceSays kinds xs all (take (length rows - 1) (drop 1 rows)) o
+
+pub occurrence-says : (kinds xs rows : List ℕ) (all : List Entry) (o : ℕ) (r : Bool) → r ≡ rowsSay kinds xs (chosenOf (record { all = false; occurrence = o }) all) (take (length rows - 1) (drop 1 rows)) → r ≡ inBrackets kinds xs rows all o
+unfolding inBrackets
+occurrence-says kinds xs rows all o r e = e ∙ ap (λ (l : List Entry). rowsSay kinds xs l (take (length rows - 1) (drop 1 rows))) (chosen-one o all)
 
 module _ (kinds xs : List ℕ) (p : Probe) (o : Opened) (e : o ≡ openedFor kinds xs p) where
   -- what is opened of a value that there is
@@ -194,10 +265,18 @@ module _ (kinds xs : List ℕ) (p : Probe) (o : Opened) (e : o ≡ openedFor kin
 
 -- ---- a value that was opened
 
-module _ (xs : List ℕ) (m : Meaning) (o : Opened) (w : Known xs m o) where
-  pub known-kept : Kept (o .readings .number)
-  known-kept = rw (w .read) (for-kept m (valueOf xs o))
+-- the first entry that counts for a value is that for the same value
+first-same : (k : Chosen) (m : Meaning) (card cells : List ℕ) (i from r : ℕ) {v w : List ℕ} → v ≡ w → FirstFrom (entryCounts k m v) card cells i from r → FirstFrom (entryCounts k m w) card cells i from r
+first-same k m card cells i from r e f = subst (λ (x : List ℕ). FirstFrom (entryCounts k m x) card cells i from r) e f
 
+module _ (raw out : List ℕ) (n : ℕ) (d : Decoded raw out n) where
+  pub decoded-read : (m : Meaning) (w : Readings) → w ≡ readingsFor m (decode false raw) → w ≡ readingsFor m (take n out)
+  decoded-read m w e = e ∙ ap (readingsFor m) (sym (d .is))
+
+  pub decoded-first : (k : Chosen) (m : Meaning) (card cells : List ℕ) (i from r : ℕ) → FirstFrom (entryCounts k m (take n out)) card cells i from r → FirstFrom (entryCounts k m (decode false raw)) card cells i from r
+  decoded-first k m card cells i from r f = first-same k m card cells i from r (d .is) f
+
+module _ (xs : List ℕ) (m : Meaning) (o : Opened) (w : Known xs m o) where
   escaped-value : o .escaped ≡ true → decode false (part xs (o .start) (o .end)) ≡ valueOf xs o
   unfolding valueOf
   escaped-value h = ap (λ (b : Bool). contents b (part xs (o .start) (o .end))) (sym h)
@@ -206,32 +285,34 @@ module _ (xs : List ℕ) (m : Meaning) (o : Opened) (w : Known xs m o) where
   unfolding valueOf
   plain-value h = ap (λ (b : Bool). contents b (part xs (o .start) (o .end))) (sym h)
 
-  -- of one text
-  known-counts : (v x : List ℕ) (t : Bool) → v ≡ valueOf xs o → t ≡ countsRead m v (o .readings) x → t ≡ textCounts m (valueOf xs o) x
-  known-counts v x t h e = once-counts m (valueOf xs o) (o .readings) (w .read) x t (e ∙ ap (λ (y : List ℕ). countsRead m y (o .readings) x) h)
-
-  pub known-escaped : (x : List ℕ) (t : Bool) → o .escaped ≡ true → t ≡ countsRead m (decode false (part xs (o .start) (o .end))) (o .readings) x → t ≡ textCounts m (valueOf xs o) x
-  known-escaped x t h = known-counts (decode false (part xs (o .start) (o .end))) x t (escaped-value h)
-
-  pub known-plain : (x : List ℕ) (t : Bool) → o .escaped ≡ false → t ≡ countsRead m (part xs (o .start) (o .end)) (o .readings) x → t ≡ textCounts m (valueOf xs o) x
-  known-plain x t h = known-counts (part xs (o .start) (o .end)) x t (plain-value h)
-
-  -- of some text
-  pub escaped-read : (out : List ℕ) (n : ℕ) → o .escaped ≡ true → Decoded (part xs (o .start) (o .end)) out n → o .readings ≡ readingsFor m (take n out)
-  escaped-read out n h d = w .read ∙ ap (readingsFor m) (sym (d .is ∙ escaped-value h))
+  pub escaped-read : o .escaped ≡ true → o .readings ≡ readingsFor m (decode false (part xs (o .start) (o .end)))
+  escaped-read h = w .read ∙ ap (readingsFor m) (sym (escaped-value h))
 
   pub plain-read : o .escaped ≡ false → o .readings ≡ readingsFor m (part xs (o .start) (o .end))
   plain-read h = w .read ∙ ap (readingsFor m) (sym (plain-value h))
 
-  module _ (set : List (List ℕ)) (t : Bool) where
-    pub escaped-some : (out : List ℕ) (n : ℕ) → o .escaped ≡ true → Decoded (part xs (o .start) (o .end)) out n → t ≡ someValue (textCounts m (take n out)) set → t ≡ someValue (textCounts m (valueOf xs o)) set
-    escaped-some out n h d e = e ∙ ap (λ (v : List ℕ). someValue (textCounts m v) set) (d .is ∙ escaped-value h)
+  module _ (k : Chosen) (card cells : List ℕ) (i from r : ℕ) where
+    pub escaped-first : o .escaped ≡ true → FirstFrom (entryCounts k m (decode false (part xs (o .start) (o .end)))) card cells i from r → FirstFrom (entryCounts k m (valueOf xs o)) card cells i from r
+    escaped-first h f = first-same k m card cells i from r (escaped-value h) f
 
-    pub plain-some : o .escaped ≡ false → t ≡ someValue (textCounts m (part xs (o .start) (o .end))) set → t ≡ someValue (textCounts m (valueOf xs o)) set
-    plain-some h e = e ∙ ap (λ (v : List ℕ). someValue (textCounts m v) set) (plain-value h)
+    pub plain-first : o .escaped ≡ false → FirstFrom (entryCounts k m (part xs (o .start) (o .end))) card cells i from r → FirstFrom (entryCounts k m (valueOf xs o)) card cells i from r
+    plain-first h f = first-same k m card cells i from r (plain-value h) f
 
-pub decoded-counts : (raw out : List ℕ) (n : ℕ) → Decoded raw out n → (m : Meaning) (r : Readings) (x : List ℕ) (t : Bool) → t ≡ countsRead m (take n out) r x → t ≡ countsRead m (decode false raw) r x
-decoded-counts raw out n d m r x t e = e ∙ ap (λ (v : List ℕ). countsRead m v r x) (d .is)
+-- ---- a test without brackets, by the lists of the card
+
+module _ (card cells : List ℕ) (spans : List ℤ) (h : KeepsCard card cells spans) (i : ℕ) (l : i < 32) (z : getD cells (544 + i) 0 ≡ 0) where
+  is-kept : IsKept cells i
+  is-kept = h .kept i l z
+
+  pub test-chain : readCard card ≡ WellFormed → (from : ℕ) → from ≡ getD cells i 0 → OnChain card cells i from
+  test-chain w from e = chain-begins card cells spans h i from w l is-kept e
+
+  pub test-opened : (xs : List ℕ) (p : Probe) (o : Opened) → o ≡ openedFor (kindsIn cells) xs p → p .index ≡ i → (k : Chosen) (m : Meaning) (kind from first : ℕ) (r : Bool) → o .found ≡ true → kind ≡ getD (kindsIn cells) i 0
+      → m ≡ meaningOf (p .operator) kind → from ≡ getD cells i 0 → FirstFrom (entryCounts k m (valueOf xs o)) card cells i from first → r ≡ someSays m (o .truth) (ltb 0 first)
+      → r ≡ probeSays (kindsIn cells) xs p (chosenOf k (entriesOf card))
+  test-opened xs p o e same k m kind from first r f ke me fe c y =
+      plain-opened (kindsIn cells) xs p o e (chosenOf k (entriesOf card)) m kind (ltb 0 first) r f (ke ∙ ap (λ (n : ℕ). getD (kindsIn cells) n 0) (sym same)) me
+      (some-first card cells spans h i l is-kept k m (valueOf xs o) from first fe c ∙ ap (λ (n : ℕ). someValue (textCounts m (valueOf xs o)) (valuesAt n (chosenOf k (entriesOf card)))) (sym same)) y
 
 -- ---- rows, from left to right with a verdict in hand
 
@@ -345,6 +426,16 @@ module _ (kinds xs : List ℕ) (k : Chosen) (all : List Entry) where
       by-row (Row.Connect o m) i g = absurd (Option·none-ne-some _ g)
       by-row Row.Unknown i g = absurd (Option·none-ne-some _ g)
 
+-- the parameters that a part of the rows asks about
+kept-part : {rows cells : List ℕ} → AllKept rows cells → (m e : ℕ) → e ≤ length rows → AllKept (part rows m e) cells
+kept-part {rows} {cells} w m e h =
+    record {
+      each = λ j l p r.
+          let z : j < e - m = omega (arith, l, length-take (e - m) (drop m rows)) in
+          let same : getD (part rows m e) j 0 ≡ getD rows (m + j) 0 = getD-take (e - m) (drop m rows) j 0 z ∙ getD-drop m rows j 0 in
+          w .each (m + j) (omega (arith, z, h)) p (sym (ap rowOf same) ∙ r);
+    }
+
 -- the loop: what is left decides
 pub record Telling (kinds xs rows : List ℕ) (k : Chosen) (all : List Entry) (r : Bool) (at : ℕ) (v : Bool) : Type 0 where
   pub within : at ≤ length rows
@@ -422,11 +513,10 @@ module _ (kinds xs rows : List ℕ) (k : Chosen) (all : List Entry) where
         pub part-size : length part-rows ≡ n + 1
         part-size = part-length rows (at + 1) (at + 1 + n + 1) bracket-room ∙ (omega arith)
 
-        pub bracket-ready : {values : List ℕ} {ends : List ℤ} {card : List ℕ} → Ready kinds xs rows values ends card
-            → Bracketed kinds xs part-rows (take (length values - 2 * (at + 1)) (drop (2 * (at + 1)) values)) (take (length ends - 2 * (at + 1)) (drop (2 * (at + 1)) ends)) card
+        pub bracket-ready : {values : List ℕ} {ends : List ℤ} {card cells : List ℕ} {spans : List ℤ} → Ready xs rows values ends card cells spans
+            → Bracketed xs part-rows (take (length values - 2 * (at + 1)) (drop (2 * (at + 1)) values)) (take (length ends - 2 * (at + 1)) (drop (2 * (at + 1)) ends)) card cells spans
         bracket-ready w =
             record {
-              each-kind = w .each-kind;
               short = w .short;
               some-row = omega (arith, part-size);
               test = brackets .probe;
@@ -434,6 +524,8 @@ module _ (kinds xs rows : List ℕ) (k : Chosen) (all : List Entry) where
               whole = record { expression = brackets .expression; states = ap stated (inner-of (brackets .first) (take n (brackets .rest)) part-rows part-are) ∙ brackets .states };
               opens = opens-second (w .opens) (at + 1) (at + 1 + n + 1) (omega arith) bracket-room;
               well-formed = w .well-formed;
+              keeps = w .keeps;
+              all-kept = kept-part (w .all-kept) (at + 1) (at + 1 + n + 1) bracket-room;
             }
 
         pub step-bracket : (u : Bool) → u ≡ bracketSays kinds xs part-rows k all → Telling kinds xs rows k all r (at + 1 + n + 1) u
@@ -445,26 +537,38 @@ module _ (kinds xs rows : List ℕ) (k : Chosen) (all : List Entry) where
 
 -- ---- rows that are ready, and a test after brackets
 
-module _ {kinds xs rows values : List ℕ} {ends : List ℤ} {card : List ℕ} (w : Ready kinds xs rows values ends card) (at : ℕ) (l : at < length rows) where
+module _ {xs rows values : List ℕ} {ends : List ℤ} {card cells : List ℕ} {spans : List ℤ} (w : Ready xs rows values ends card cells spans) (at : ℕ) (l : at < length rows) where
   pub ready-value : 2 * at + 1 < length values
   ready-value = omega (arith, l, w .opens .room)
 
   pub ready-end : 2 * at + 1 < length ends
   ready-end = omega (arith, l, w .opens .ends-room)
 
-  pub ready-test : (r : Row) → r ≡ rowOf (getD rows at 0) → (p : Probe) (o : Opened) → r ≡ Row.Test p → o ≡ openedAt values ends at → o ≡ openedFor kinds xs p
-  unfolding openedRow
-  ready-test r e p o j h = h ∙ w .opens .each at l ∙ ap (openedIn kinds xs) (sym e ∙ j)
+  module _ (r : Row) (e : r ≡ rowOf (getD rows at 0)) (p : Probe) (j : r ≡ Row.Test p) where
+    pub ready-test : (o : Opened) → o ≡ openedAt values ends at → o ≡ openedFor (kindsIn cells) xs p
+    unfolding openedRow
+    ready-test o h = h ∙ w .opens .each at l ∙ ap (openedIn (kindsIn cells) xs) (sym e ∙ j)
 
-module _ {kinds xs rows values : List ℕ} {ends : List ℤ} {card : List ℕ} (w : Bracketed kinds xs rows values ends card) where
+    pub ready-kept : getD cells (544 + p .index) 0 ≡ 0
+    ready-kept = w .all-kept .each at l p (sym e ∙ j)
+
+module _ {xs rows values : List ℕ} {ends : List ℤ} {card cells : List ℕ} {spans : List ℤ} (w : Bracketed xs rows values ends card cells spans) where
   pub bracketed-value : 1 < length values
   bracketed-value = omega (arith, w .some-row, w .opens .room)
 
   pub bracketed-end : 1 < length ends
   bracketed-end = omega (arith, w .some-row, w .opens .ends-room)
 
-  pub bracketed-inner : Ready kinds xs (take (length rows - 1) (drop 1 rows)) (take (length values - 2) (drop 2 values)) (take (length ends - 2) (drop 2 ends)) card
-  bracketed-inner = record { each-kind = w .each-kind; short = w .short; whole = w .whole; opens = opens-second (w .opens) 1 (length rows) (w .some-row) (omega arith); well-formed = w .well-formed }
+  pub bracketed-inner : Ready xs (take (length rows - 1) (drop 1 rows)) (take (length values - 2) (drop 2 values)) (take (length ends - 2) (drop 2 ends)) card cells spans
+  bracketed-inner =
+      record {
+        short = w .short;
+        whole = w .whole;
+        opens = opens-second (w .opens) 1 (length rows) (w .some-row) (omega arith);
+        well-formed = w .well-formed;
+        keeps = w .keeps;
+        all-kept = kept-part (w .all-kept) 1 (length rows) (omega arith);
+      }
 
   module _ (p : Probe) (i : p ≡ probeOf (getD rows 0 0 / 8)) where
     test-is : w .test ≡ p
@@ -473,20 +577,100 @@ module _ {kinds xs rows values : List ℕ} {ends : List ℤ} {card : List ℕ} (
     pub bracketed-index : p .index < 32
     bracketed-index = test-index (getD rows 0 0) (Row.Test p) p (sym (w .row ∙ ap Row.Test test-is)) refl
 
-    module _ (o : Opened) (h : o ≡ openedAt values ends 0) where
-      opened-is : o ≡ openedFor kinds xs p
-      unfolding openedRow
-      opened-is = h ∙ w .opens .each 0 (omega (arith, w .some-row)) ∙ ap (openedIn kinds xs) (w .row ∙ ap Row.Test test-is)
+    bracketed-kept : IsKept cells (p .index)
+    bracketed-kept = w .keeps .kept (p .index) bracketed-index (w .all-kept .each 0 (omega (arith, w .some-row)) p (w .row ∙ ap Row.Test test-is))
 
-      pub bracket-known : (m : Meaning) (kind : ℕ) → o .found ≡ true → kind ≡ getD kinds (p .index) 0 → m ≡ meaningOf (p .operator) kind → Known xs m o
-      bracket-known = probe-known kinds xs p o opened-is
+    pub bracketed-chain : (from : ℕ) → from ≡ getD cells (p .index) 0 → OnChain card cells (p .index) from
+    bracketed-chain from e = chain-begins card cells spans (w .keeps) (p .index) from (w .well-formed) bracketed-index bracketed-kept e
+
+    module _ (o : Opened) (h : o ≡ openedAt values ends 0) where
+      opened-is : o ≡ openedFor (kindsIn cells) xs p
+      unfolding openedRow
+      opened-is = h ∙ w .opens .each 0 (omega (arith, w .some-row)) ∙ ap (openedIn (kindsIn cells) xs) (w .row ∙ ap Row.Test test-is)
 
       abbrev inner-rows : List ℕ
       inner-rows = take (length rows - 1) (drop 1 rows)
 
-      pub bracket-closed : (k : Chosen) (all : List Entry) → o .found ≡ false → false ≡ bracketSays kinds xs rows k all
-      bracket-closed k all f = probe-closed kinds xs p o opened-is inner-rows k all f ∙ ap (λ (x : Probe). probeSaysEach kinds xs inner-rows x k all) i
+      pub bracket-closed : (k : Chosen) → o .found ≡ false → false ≡ bracketSays (kindsIn cells) xs rows k (entriesOf card)
+      bracket-closed k f = probe-closed (kindsIn cells) xs p o opened-is inner-rows k (entriesOf card) f ∙ ap (λ (x : Probe). probeSaysEach (kindsIn cells) xs inner-rows x k (entriesOf card)) i
 
-      pub bracket-opened : (k : Chosen) (all : List Entry) (m : Meaning) (kind : ℕ) (s r : Bool) → o .found ≡ true → kind ≡ getD kinds (p .index) 0 → m ≡ meaningOf (p .operator) kind
-          → s ≡ someEntry (occurrenceSays kinds xs all inner-rows) k (p .index) m (valueOf xs o) all → r ≡ someSays m (o .truth) s → r ≡ bracketSays kinds xs rows k all
-      bracket-opened k all m kind s r f a b q y = probe-opened kinds xs p o opened-is inner-rows k all m kind s r f a b q y ∙ ap (λ (x : Probe). probeSaysEach kinds xs inner-rows x k all) i
+      module _ (k : Chosen) (m : Meaning) (kind : ℕ) (f : o .found ≡ true) (a : kind ≡ getD (kindsIn cells) (p .index) 0) (b : m ≡ meaningOf (p .operator) kind) where
+        pub bracket-known : Known xs m o
+        bracket-known = probe-known (kindsIn cells) xs p o opened-is m kind f a b
+
+        -- the answer that the loop over the entries looks for
+        abbrev bracket-some : Bool
+        bracket-some = someEntry (inBrackets (kindsIn cells) xs rows (entriesOf card)) k (p .index) m (valueOf xs o) (entriesOf card)
+
+        pub bracket-start : (from r : ℕ) → from ≡ getD cells (p .index) 0 → FirstFrom (entryCounts k m (valueOf xs o)) card cells (p .index) from r
+            → Choosing (inBrackets (kindsIn cells) xs rows (entriesOf card)) k (p .index) m (valueOf xs o) card cells spans bracket-some r
+        bracket-start from r e c = choosing-start (inBrackets (kindsIn cells) xs rows (entriesOf card)) k (p .index) m (valueOf xs o) card cells spans (w .keeps) from r bracketed-index bracketed-kept e c
+
+        pub bracket-opened : (s r : Bool) → s ≡ bracket-some → r ≡ someSays m (o .truth) s → r ≡ bracketSays (kindsIn cells) xs rows k (entriesOf card)
+        unfolding inBrackets
+        bracket-opened s r q y = probe-opened (kindsIn cells) xs p o opened-is inner-rows k (entriesOf card) m kind s r f a b q y ∙ ap (λ (x : Probe). probeSaysEach (kindsIn cells) xs inner-rows x k (entriesOf card)) i
+
+-- ---- the loop of a test after brackets
+
+-- what it keeps: n is an entry that counts, or 0, and the entries from it on decide
+pub record Brackets (xs rows values : List ℕ) (ends : List ℤ) (card cells : List ℕ) (spans : List ℤ) (k : Chosen) (i : ℕ) (m : Meaning) (o : Opened) (n : ℕ) : Type 0 where
+  pub ready : Bracketed xs rows values ends card cells spans
+  pub known : Known xs m o
+  pub choosing : Choosing (inBrackets (kindsIn cells) xs rows (entriesOf card)) k i m (valueOf xs o) card cells spans (someEntry (inBrackets (kindsIn cells) xs rows (entriesOf card)) k i m (valueOf xs o) (entriesOf card)) n
+  pub answers : (s r : Bool) → s ≡ someEntry (inBrackets (kindsIn cells) xs rows (entriesOf card)) k i m (valueOf xs o) (entriesOf card) → r ≡ someSays m (o .truth) s → r ≡ bracketSays (kindsIn cells) xs rows k (entriesOf card)
+
+module _ (xs rows values : List ℕ) (ends : List ℤ) (card cells : List ℕ) (spans : List ℤ) (k : Chosen) (m : Meaning) (o : Opened) where
+  pub brackets-start : (p : Probe) (kind from r : ℕ) → Bracketed xs rows values ends card cells spans → p ≡ probeOf (getD rows 0 0 / 8) → o ≡ openedAt values ends 0 → o .found ≡ true → kind ≡ getD (kindsIn cells) (p .index) 0
+      → m ≡ meaningOf (p .operator) kind → from ≡ getD cells (p .index) 0 → FirstFrom (entryCounts k m (valueOf xs o)) card cells (p .index) from r → Brackets xs rows values ends card cells spans k (p .index) m o r
+  brackets-start p kind from r w i h f a b e c =
+      record {
+        ready = w;
+        known = bracket-known w p i o h k m kind f a b;
+        choosing = bracket-start w p i o h k m kind f a b from r e c;
+        answers = bracket-opened w p i o h k m kind f a b;
+      }
+
+  module _ (i n : ℕ) (inv : Brackets xs rows values ends card cells spans k i m o n) where
+    pub brackets-end : (r : Bool) → n ≤ 0 → r ≡ someSays m (o .truth) false → r ≡ bracketSays (kindsIn cells) xs rows k (entriesOf card)
+    brackets-end r z y = inv .answers false r (choosing-end (inBrackets (kindsIn cells) xs rows (entriesOf card)) k i m (valueOf xs o) card cells spans (someEntry (inBrackets (kindsIn cells) xs rows (entriesOf card)) k i m (valueOf xs o) (entriesOf card)) n (inv .choosing) z) y
+
+    abbrev says : ℕ → Bool
+    says = inBrackets (kindsIn cells) xs rows (entriesOf card)
+
+    abbrev answer : Bool
+    answer = someEntry says k i m (valueOf xs o) (entriesOf card)
+
+    module _ (l : 0 < n) where
+      pub brackets-size : length cells ≡ 608
+      brackets-size = inv .ready .keeps .lent .size
+
+      pub brackets-room : n - 1 < 64
+      brackets-room = choosing-room says k i m (valueOf xs o) card cells spans answer n (inv .choosing) l
+
+      pub brackets-byte : getD cells (entryCell (n - 1) + 1) 0 < 256
+      brackets-byte = choosing-byte says k i m (valueOf xs o) card cells spans answer n (inv .choosing) l
+
+      module _ (b : ℕ) (be : b ≡ getD cells (entryCell (n - 1)) 0) where
+        pub brackets-behind : OnChain card cells i b
+        brackets-behind = chain-on card cells spans (inv .ready .keeps) i n (inv .choosing .on) l b be
+
+        pub brackets-less : (a : ℕ) → FirstFrom (entryCounts k m (valueOf xs o)) card cells i b a → a < n
+        brackets-less a f = omega (arith, f .less, chain-less card cells spans (inv .ready .keeps) i n (inv .choosing .on) l b be)
+
+      module _ (q : ℕ) (qe : q ≡ getD cells (entryCell (n - 1) + 1) 0) (r : Bool)
+          (y : r ≡ rowsSay (kindsIn cells) xs (chosenOf (record { all = false; occurrence = q }) (entriesOf card)) (take (length rows - 1) (drop 1 rows))) where
+        said : r ≡ says q
+        said = occurrence-says (kindsIn cells) xs rows (entriesOf card) q r y
+
+        pub brackets-yes : (t : Bool) → r ≡ true → t ≡ someSays m (o .truth) true → t ≡ bracketSays (kindsIn cells) xs rows k (entriesOf card)
+        brackets-yes t z g = inv .answers true t (choosing-yes says k i m (valueOf xs o) card cells spans answer n (inv .choosing) l q qe r said z) g
+
+        module _ (b : ℕ) (be : b ≡ getD cells (entryCell (n - 1)) 0) where
+          pub brackets-next : (a : ℕ) → FirstFrom (entryCounts k m (valueOf xs o)) card cells i b a → r ≡ false → Brackets xs rows values ends card cells spans k i m o a
+          brackets-next a f z =
+              record {
+                ready = inv .ready;
+                known = inv .known;
+                choosing = choosing-next says k i m (valueOf xs o) card cells spans answer n (inv .choosing) l q qe r said b be a f z;
+                answers = inv .answers;
+              }

@@ -1,2 +1,3 @@
 -- What rows say of a card.
 pub mod Saying
+pub mod Asking

@@ -1,6 +1,6 @@
 -- What an expression says of a card's entries, as the code goes: by index, and entry by entry. Kinds are a table by index.
 -- Assumes nothing.
-use Prim.Native.Nat.{ℕ, _-_, _/_, _≤_}
+use Prim.Native.Nat.{ℕ, _+_, _-_, _/_, _≤_, _<_}
 use mathlib.Core.Path.{_≡_}
 use mathlib.Core.Bool.{Bool, false, cond, not, _&&_, _||_}
 use mathlib.Core.Option.{Option, none, some}
@@ -24,6 +24,7 @@ use Rattle.rows.specs.Cells.{probeOf, rowOf, stated}
 use Rattle.rows.specs.Shapes.{valueIn}
 use Rattle.rows.specs.declared.Probe.{Probe}
 use Rattle.rows.specs.declared.Row.{Row}
+use Rattle.card_reader.specs.Lists.{kindsIn, KeepsCard}
 use Rattle.row_opener.specs.Opening.{Opens}
 
 -- ---- an expression
@@ -56,24 +57,30 @@ pub record Whole (cs : List ℕ) : Type 0 where
   pub expression : Expression
   pub states : stated cs ≡ some expression
 
--- rows that state an expression, were opened, and are to be judged on a well-formed card
-pub record Ready (kinds xs rows values : List ℕ) (ends : List ℤ) (card : List ℕ) : Type 0 where
-  pub each-kind : length kinds ≡ 32
+-- the entries of every parameter that the rows ask about are kept
+pub record AllKept (rows cells : List ℕ) : Type 0 where
+  pub each : (j : ℕ) → j < length rows → (p : Probe) → rowOf (getD rows j 0) ≡ Row.Test p → getD cells (544 + p .index) 0 ≡ 0
+
+-- rows that state an expression, were opened, and are to be judged on a well-formed card that was read; the kinds are those of its lists
+pub record Ready (xs rows values : List ℕ) (ends : List ℤ) (card cells : List ℕ) (spans : List ℤ) : Type 0 where
   pub short : length xs ≤ 1024
   pub whole : Whole rows
-  pub opens : Opens kinds xs rows values ends (length rows)
+  pub opens : Opens (kindsIn cells) xs rows values ends (length rows)
   pub well-formed : readCard card ≡ Validity.WellFormed
+  pub keeps : KeepsCard card cells spans
+  pub all-kept : AllKept rows cells
 
 -- the row of a test and the rows of its brackets behind it, opened
-pub record Bracketed (kinds xs rows values : List ℕ) (ends : List ℤ) (card : List ℕ) : Type 0 where
-  pub each-kind : length kinds ≡ 32
+pub record Bracketed (xs rows values : List ℕ) (ends : List ℤ) (card cells : List ℕ) (spans : List ℤ) : Type 0 where
   pub short : length xs ≤ 1024
   pub some-row : 1 ≤ length rows
   pub test : Probe
   pub row : rowOf (getD rows 0 0) ≡ Row.Test test
   pub whole : Whole (take (length rows - 1) (drop 1 rows))
-  pub opens : Opens kinds xs rows values ends (length rows)
+  pub opens : Opens (kindsIn cells) xs rows values ends (length rows)
   pub well-formed : readCard card ≡ Validity.WellFormed
+  pub keeps : KeepsCard card cells spans
+  pub all-kept : AllKept rows cells
 
 -- a join is decided by the verdict of its first part
 abbrev pub decides : Connective → Bool → Bool

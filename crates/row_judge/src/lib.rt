@@ -1,7 +1,9 @@
 // Rows that were opened, judged on cards without reading the filter again.
+mod asks;
 mod once;
 mod says;
 
+pub use asks::lend_for;
 use kind::Meaning;
 pub use once::say_once;
 use row_opener::Opened;
