@@ -5,12 +5,14 @@
 -- (`rows-says`). By the text, the tree that the walk reads is the one that check has read (`read-from`), so that the walk's answer is what
 -- the text says (`says-done`). The verdict gives match's answer (`match-answered`).
 -- Assumes nothing.
-use Prim.Native.Nat.{ℕ}
+use Prim.Native.Nat.{ℕ, _≤_}
 use native.Mathlib.Omega.{arith}
 use mathlib.Core.Path.{_≡_, refl, sym, ap, ap₂, _∙_}
 use mathlib.Core.Bool.{Bool, true, false}
 use mathlib.Core.Option.{none, some}
 use mathlib.Core.List.{List}
+use lib.IntN.{ℤ}
+use lib.ListN.{length}
 use Rattle.block.specs.declared.Validity.{Validity}
 use Rattle.sheet.specs.Sheet.{Parameter, parametersOf}
 use Rattle.sheet.specs.Find.{kindsOf}
@@ -27,13 +29,17 @@ use Rattle.filter.specs.declared.Spot.{Spot}
 use Rattle.text_judge.specs.declared.Judged.{Judged}
 use Rattle.filter.proofs.Walk.{top-bundle, top-read, was-filter, was-none}
 use Rattle.text_judge.proofs.Judging.{judged-cases, judging-is}
-use Rattle.row_judge.specs.Saying.{rowsSay}
+use Rattle.card_reader.specs.Lists.{kindsIn, Lent, ReadsCard}
+use Rattle.row_opener.specs.Opening.{Opens}
+use Rattle.row_judge.specs.Saying.{rowsSay, Whole, Ready}
+use Rattle.row_judge.specs.Asking.{LentFor}
+use Rattle.row_judge.proofs.Asking.{lent-on, lent-ready}
 use Rattle.refusal.specs.Answers.{numberOf, yesOrNo, refusalAnswer}
 use Rattle.refusal.specs.Steps.{found, stop, Step, _>>=_, answer}
 use Rattle.refusal.specs.declared.Reason.{Reason}
 use Rattle.answer.specs.Operations.{Card, cardStep, acceptCard, Question, matchBy, filterQuestion, matchAnswer}
 use Rattle.answer.specs.Passing.{Passing, textSays, textQuestion, cardVerdict}
-use Rattle.one_card.specs.OneCard.{verdictStep, AcceptsCard, cellsQuestion, verdictAnswer}
+use Rattle.one_card.specs.OneCard.{verdictStep, AcceptsCard, TakesCard, cellsQuestion, verdictAnswer}
 use Rattle.one_card.specs.declared.CardAcceptance.{CardAcceptance}
 use Rattle.one_card.specs.declared.CardVerdict.{CardVerdict}
 use Rattle.refusal.specs.declared.Refusal.{Refusal}
@@ -123,6 +129,50 @@ module _ (kinds b : List ℕ) (t : CardAcceptance) (e : AcceptsCard kinds b t) w
 
     pub rows-refused : (x : Reason) → t ≡ CardAcceptance.Refused x → (ps : List Parameter) → kinds ≡ kindsOf ps → (i : ℕ) → stop (numberOf x) i ≡ cardVerdict (cellsQuestion ps xs cs) i b
     rows-refused x h ps l = judged-refused (cellsQuestion ps xs cs) l x h
+
+-- ---- and what it holds is kept
+
+module _ (kinds b : List ℕ) (r : Validity) (e : r ≡ readCard b) (cells : List ℕ) (spans : List ℤ) (l : Lent cells spans) where
+  takes-refused : (x : Reason) → AcceptsCard kinds b (CardAcceptance.Refused x) → TakesCard kinds b cells cells spans (CardAcceptance.Refused x)
+  takes-refused x a = record { accepts = a; lent = l; begins = record { size = refl; same = λ _ _. refl }; keeps = λ z. absurd (let y : _≡_ {A = ℕ} 0 1 = cc in omega arith) }
+
+  pub takes-size : r ≡ Validity.WrongSize → TakesCard kinds b cells cells spans (CardAcceptance.Refused Reason.CardSize)
+  takes-size h = takes-refused Reason.CardSize (accepts-size kinds b r e h)
+
+  pub takes-sum : r ≡ Validity.WrongSum → TakesCard kinds b cells cells spans (CardAcceptance.Refused Reason.CardSum)
+  takes-sum h = takes-refused Reason.CardSum (accepts-sum kinds b r e h)
+
+  pub takes-layout : r ≡ Validity.WrongLayout → TakesCard kinds b cells cells spans (CardAcceptance.Refused Reason.CardLayout)
+  takes-layout h = takes-refused Reason.CardLayout (accepts-layout kinds b r e h)
+
+module _ (kinds b : List ℕ) (r : Validity) (e : r ≡ readCard b) (h : r ≡ Validity.WellFormed) (before cells : List ℕ) (spans : List ℤ) (o : Bool) (w : ReadsCard kinds b before cells spans o) where
+  pub takes-misfit : o ≡ false → TakesCard kinds b before cells spans (CardAcceptance.Refused Reason.CardMisfit)
+  takes-misfit n =
+      record {
+        accepts = accepts-misfit kinds b r e o (w .answer) h n;
+        lent = w .lent;
+        begins = w .begins;
+        keeps = λ z. absurd (let y : _≡_ {A = ℕ} 0 1 = cc in omega arith);
+      }
+
+  pub takes-conforming : o ≡ true → TakesCard kinds b before cells spans CardAcceptance.Conforming
+  takes-conforming y = record { accepts = accepts-conforming kinds b r e o (w .answer) h y; lent = w .lent; begins = w .begins; keeps = λ _. w .keeps y }
+
+module _ (kinds xs rows b before cells : List ℕ) (spans₀ spans : List ℤ) (t : CardAcceptance) (l : LentFor kinds rows before spans₀) (w : TakesCard kinds b before cells spans t) where
+  -- the lists stay lent for the rows
+  pub taken-lent : LentFor kinds rows cells spans
+  taken-lent = lent-on kinds rows before cells spans₀ spans l (w .lent) (w .begins)
+
+  -- rows that were opened are ready for the card
+  pub taken-ready : (values : List ℕ) (ends : List ℤ) → length xs ≤ 1024 → Whole rows → Opens kinds xs rows values ends (length rows) → t ≡ CardAcceptance.Conforming → Ready xs rows values ends b cells spans
+  taken-ready values ends h e o c = lent-ready kinds xs rows b cells spans taken-lent values ends h e o (w .accepts .well-formed c) (w .keeps c)
+
+  pub taken-says : (v : Bool) → t ≡ CardAcceptance.Conforming → v ≡ rowsSay (kindsIn cells) xs (chosenOf every (entriesOf b)) rows
+      → (ps : List Parameter) → kinds ≡ kindsOf ps → (i : ℕ) → found v ≡ cardVerdict (cellsQuestion ps xs rows) i b
+  taken-says v c s = rows-says kinds b t (w .accepts) xs rows v c (s ∙ ap (λ (k : List ℕ). rowsSay k xs (chosenOf every (entriesOf b)) rows) (taken-lent .kinds-are))
+
+  pub taken-refused : (x : Reason) → t ≡ CardAcceptance.Refused x → (ps : List Parameter) → kinds ≡ kindsOf ps → (i : ℕ) → stop (numberOf x) i ≡ cardVerdict (cellsQuestion ps xs rows) i b
+  taken-refused x c = rows-refused kinds b t (w .accepts) xs rows x c
 
 -- ---- match
 

@@ -4,10 +4,12 @@ use Prim.Native.Nat.{ℕ}
 use mathlib.Core.Path.{_≡_}
 use mathlib.Core.Bool.{Bool}
 use mathlib.Core.List.{List}
+use lib.IntN.{ℤ}
 use Rattle.block.specs.declared.Validity.{Validity}
 use Rattle.sheet.specs.Sheet.{Parameter}
 use Rattle.sheet.specs.Find.{kindsOf}
 use Rattle.card.specs.Card.{recordNumber, entriesOf, readCard}
+use Rattle.card_reader.specs.Lists.{Lent, KeepsCard, BeginsAlike}
 use Rattle.row_judge.specs.Saying.{rowsSay}
 use Rattle.refusal.specs.Answers.{Answer, yesOrNo, numberOf}
 use Rattle.refusal.specs.Steps.{Step, found, stop, _>>=_, answer}
@@ -26,6 +28,13 @@ acceptanceStep (CardAcceptance.Refused r) b i = stop (numberOf r) i
 pub record AcceptsCard (kinds card : List ℕ) (r : CardAcceptance) : Type 0 where
   pub well-formed : r ≡ CardAcceptance.Conforming → readCard card ≡ Validity.WellFormed
   pub steps : (ps : List Parameter) → kinds ≡ kindsOf ps → (i : ℕ) → acceptanceStep r card i ≡ acceptCard ps i card
+
+-- the same, with what is kept of a card that is accepted in lists that were lent
+pub record TakesCard (kinds card before cells : List ℕ) (spans : List ℤ) (r : CardAcceptance) : Type 0 where
+  pub accepts : AcceptsCard kinds card r
+  pub lent : Lent cells spans
+  pub begins : BeginsAlike before cells
+  pub keeps : r ≡ CardAcceptance.Conforming → KeepsCard card cells spans
 
 -- ---- and judged
 

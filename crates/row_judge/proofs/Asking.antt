@@ -19,7 +19,7 @@ use Rattle.block.specs.declared.Validity.the-variants.{WellFormed}
 use Rattle.card.specs.Card.{entriesOf, readCard}
 use Rattle.judge.specs.Sets.{chosenOf, conformsTo}
 use Rattle.judge.specs.declared.Chosen.{Chosen}
-use Rattle.card_reader.specs.Lists.{Lent, kindsIn, ReadsCard}
+use Rattle.card_reader.specs.Lists.{Lent, kindsIn, KeepsCard, BeginsAlike, ReadsCard}
 use Rattle.card_reader.specs.Lending.{Lends, Keeps}
 use Rattle.card_reader.proofs.Lends.{kinds-alike}
 use Rattle.row_opener.specs.Opening.{Opens}
@@ -79,30 +79,36 @@ pub lent-for : (kinds rows before after : List ℕ) (spans : List ℤ) → Lends
 lent-for kinds rows before after spans l k = record { lent = k .lent; kinds-are = k .kinds-are ∙ l .kinds-are; all-kept = k .all-kept }
 
 -- so they stay from card to card
-pub lent-still : (kinds rows card before cells : List ℕ) (spans₀ spans : List ℤ) (r : Bool) → LentFor kinds rows before spans₀ → ReadsCard kinds card before cells spans r → LentFor kinds rows cells spans
-lent-still kinds rows card before cells spans₀ spans r l w =
+pub lent-on : (kinds rows before cells : List ℕ) (spans₀ spans : List ℤ) → LentFor kinds rows before spans₀ → Lent cells spans → BeginsAlike before cells → LentFor kinds rows cells spans
+lent-on kinds rows before cells spans₀ spans l w a =
     record {
-      lent = w .lent;
-      kinds-are = kinds-alike before cells (l .lent .size) (w .begins) ∙ l .kinds-are;
-      all-kept = record { each = λ j z p y. w .begins .same (544 + p .index) (omega arith) ∙ l .all-kept .each j z p y };
+      lent = w;
+      kinds-are = kinds-alike before cells (l .lent .size) a ∙ l .kinds-are;
+      all-kept = record { each = λ j z p y. a .same (544 + p .index) (omega arith) ∙ l .all-kept .each j z p y };
+    }
+
+-- rows that were opened are ready for a card of which all is kept
+pub lent-ready : (kinds xs rows card cells : List ℕ) (spans : List ℤ) → LentFor kinds rows cells spans → (values : List ℕ) (ends : List ℤ) → length xs ≤ 1024 → Whole rows → Opens kinds xs rows values ends (length rows)
+    → readCard card ≡ WellFormed → KeepsCard card cells spans → Ready xs rows values ends card cells spans
+lent-ready kinds xs rows card cells spans l values ends h e o f k =
+    record {
+      short = h;
+      whole = e;
+      opens = subst (λ (n : List ℕ). Opens n xs rows values ends (length rows)) (sym (l .kinds-are)) o;
+      well-formed = f;
+      keeps = k;
+      all-kept = l .all-kept;
     }
 
 pub read-conforming : (kinds card before cells : List ℕ) (spans : List ℤ) (r : Bool) → ReadsCard kinds card before cells spans r → conformsTo kinds (entriesOf card) ≡ true → r ≡ true
 read-conforming kinds card before cells spans r w h = w .answer ∙ h
 
 module _ (kinds xs rows card before cells : List ℕ) (spans₀ spans : List ℤ) (r : Bool) (l : LentFor kinds rows before spans₀) (w : ReadsCard kinds card before cells spans r) where
-  -- rows that were opened are ready for a card that was read
+  read-lent : LentFor kinds rows cells spans
+  read-lent = lent-on kinds rows before cells spans₀ spans l (w .lent) (w .begins)
+
   pub read-ready : (values : List ℕ) (ends : List ℤ) → length xs ≤ 1024 → Whole rows → Opens kinds xs rows values ends (length rows) → readCard card ≡ WellFormed → r ≡ true → Ready xs rows values ends card cells spans
-  read-ready values ends h e o f y =
-      let still = lent-still kinds rows card before cells spans₀ spans r l w in
-      record {
-        short = h;
-        whole = e;
-        opens = subst (λ (k : List ℕ). Opens k xs rows values ends (length rows)) (sym (still .kinds-are)) o;
-        well-formed = f;
-        keeps = w .keeps y;
-        all-kept = still .all-kept;
-      }
+  read-ready values ends h e o f y = lent-ready kinds xs rows card cells spans read-lent values ends h e o f (w .keeps y)
 
   pub read-says : (k : Chosen) (t : Bool) → t ≡ rowsSay (kindsIn cells) xs (chosenOf k (entriesOf card)) rows → t ≡ rowsSay kinds xs (chosenOf k (entriesOf card)) rows
-  read-says k t e = e ∙ ap (λ (n : List ℕ). rowsSay n xs (chosenOf k (entriesOf card)) rows) (lent-still kinds rows card before cells spans₀ spans r l w .kinds-are)
+  read-says k t e = e ∙ ap (λ (n : List ℕ). rowsSay n xs (chosenOf k (entriesOf card)) rows) (read-lent .kinds-are)
