@@ -18,7 +18,7 @@ use Rattle.rows.specs.declared.Row.{Row}
 use Rattle.row_judge.specs.Saying.{Whole}
 use Rattle.deciding.specs.Deciding.{outerCount}
 use Rattle.deciding.specs.Marks.{Mark, opposite, joinedMarks, markBy, markOf}
-use Rattle.deciding.specs.Rows.{outline, marksIn, Single, single-test, single-bracket, Reading, Starts, FewRows, MarksFrom, MarksWhole}
+use Rattle.deciding.specs.Rows.{outline, marksIn, Single, single-test, single-bracket, Reading, Starts, FewRows, MarksFrom}
 use Rattle.deciding.specs.declared.Marked.{Marked}
 use Rattle.deciding.proofs.Parting.{all-states, no-test, no-bracket, no-unknown, reading-not, second-room, second-whole, second-size, reading-join}
 
@@ -127,6 +127,3 @@ module _ (rows marks : List ℕ) (first at m next : ℕ) (k : Marking rows marks
             most = omega (arith, g .most, k .most, second-size w at e (k .reading) l r i c s j);
             rows-few = k .rows-few;
           }
-
-pub marks-whole : (rows marks : List ℕ) (r : Marked) → MarksFrom rows marks 0 r → MarksWhole rows marks (r .mark)
-marks-whole rows marks r h = record { whole = h .whole }

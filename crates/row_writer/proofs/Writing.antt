@@ -1,9 +1,10 @@
 -- Reading a filter and writing its rows: one law for each answer of an item and of a filter, and for each turn.
 -- `Wrote` says of a call that it answers what the definition reads, and that the cells of the expression stand behind those before its row. A
 -- law takes the `Wrote` of the call inside, if there is one, and what the leaves found around it, and gives the `Wrote` of the whole. A row
--- that is written is one cell more (`put-more`), or was left out before its part and is filled in (`fill`). The items of a filter are a chain: `Chained` has the tree so far, its cells, and that the
--- rest of the chain decides; a turn adds an item and its connective (`chain-takes`). An item takes at least as many bytes as it has cells
--- (`item-cells`, by induction on its derivation), and this bounds every sum.
+-- that is written is one cell more (`put-more`), or was left out before its part and is filled in (`fill`). The items of a filter are a
+-- chain: `Chained` has the tree so far, its cells, and that the rest of the chain decides; a turn adds an item and its connective
+-- (`chain-takes`). An item takes at least as many bytes as it has cells (`item-cells`, by induction on its derivation), and this bounds
+-- every sum. `Room` says so of what is left of the list and the text at each step.
 -- Assumes nothing.
 use Prim.Native.Nat.{ℕ, suc, _+_, _*_, _-_, _≤_, _<_}
 use native.Mathlib.Omega.{arith}
@@ -52,7 +53,7 @@ use Rattle.row_writer.specs.declared.Written.{Written}
 mutual
   unfolding cellCount
 
-  pub item-cells : {xs : List ℕ} {close d p q : ℕ} {f : Tree} → Item xs close d p q f → p + cellCount f ≤ q
+  item-cells : {xs : List ℕ} {close d p q : ℕ} {f : Tree} → Item xs close d p q f → p + cellCount f ≤ q
   item-cells (item-test t) = omega (arith, test-rise t)
   item-cells (item-bracket o f c) = omega (arith, opens-rise o, filter-cells f, closes-rise c)
   item-cells (item-not o f c) = omega (arith, opens-rise o, filter-cells f, closes-rise c)
@@ -228,7 +229,7 @@ module _ (ps : List Parameter) (c : ℕ) (xs : List ℕ) (row close d p : ℕ) (
     pub cells-fit : p + v .cells ≤ q
     pub tests-fit : p + v .summary .tests ≤ q
 
-  pub item-takes : Wrote ps c xs row (itemAt d xs close p) r before after → r ≡ Written.Done q v → Takes
+  item-takes : Wrote ps c xs row (itemAt d xs close p) r before after → r ≡ Written.Done q v → Takes
   item-takes w h =
       let k = was ps c xs row q v w h in
       let i = derived-item k in
