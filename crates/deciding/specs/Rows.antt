@@ -94,8 +94,8 @@ pub record Gathering (kinds xs : List ℕ) (es : List Entry) (rows : List ℕ) (
   pub markable : Markable rows first after
 
 -- the first test is marked, which ends before the row at
-abbrev pub Begun : (kinds xs card rows : List ℕ) → (first at : ℕ) → List ℕ → Type 0
-Begun kinds xs card rows first at marks = Gathering kinds xs (entriesOf card) rows first at (first + 1) marks marks
+abbrev pub FirstMarked : (kinds xs card rows : List ℕ) → (first at : ℕ) → List ℕ → Type 0
+FirstMarked kinds xs card rows first at marks = Gathering kinds xs (entriesOf card) rows first at (first + 1) marks marks
 
 -- the number of the test behind those that the rows state, and in the list, from the number first on, the mark of what each says
 pub record Gathers (kinds xs : List ℕ) (es : List Entry) (rows : List ℕ) (first next : ℕ) (before after : List ℕ) : Type 0 where

@@ -12,7 +12,7 @@ ghost use lib.ListN.{length};
 ghost use Rattle.card.specs.Card.{entriesOf, readCard};
 ghost use Rattle.row_judge.specs.Saying.{rowsSay, Whole};
 ghost use Rattle.deciding.specs.Deciding.{cell};
-ghost use Rattle.deciding.specs.Rows.{Tells, Room, Judgeable, Markable, Begun, Gathers};
+ghost use Rattle.deciding.specs.Rows.{Tells, Room, Judgeable, Markable, FirstMarked, Gathers};
 
 // The mark of what rows say: 1 for yes, 2 for no.
 fn verdict(kinds: &[u8], filter: &[u8], rows: &[u32], card: &[u8]) -> u8
@@ -43,7 +43,7 @@ fn gather_rest(
     first_end: usize,
 ) -> usize
     requires { ⌜ Judgeable (now kinds) (now filter) (now card) ⌝ }
-    requires { ⌜ Begun (now kinds) (now filter) (now card) (now rows) first «first_end» (now marks) ⌝ }
+    requires { ⌜ FirstMarked (now kinds) (now filter) (now card) (now rows) first «first_end» (now marks) ⌝ }
     ensures { λ r. ⌜ Gathers (now (kinds .entry)) (now (filter .entry)) (entriesOf (now (card .entry))) (now (rows .entry)) first r (now (marks .entry)) (now (marks .exit)) ⌝ }
 {
     let mut at = first_end;
