@@ -12,6 +12,7 @@ use Rattle.rows.specs.Expression.{Expression, probing, choosing, joining, negat
 use Rattle.rows.specs.Cells.{Writable, onFrom, stated}
 use Rattle.rows.specs.declared.Probe.{Probe}
 use Rattle.block.specs.declared.Validity.{Validity}
+use Rattle.judge.specs.Sets.{conformsTo}
 use Rattle.row_judge.specs.Saying.{expressionSays, Whole}
 use Rattle.rows.specs.Stated.{treeOf}
 use Rattle.deciding.specs.Deciding.{outerCount, cell, cells}
@@ -75,6 +76,7 @@ pub record Judgeable (kinds xs card : List ℕ) : Type 0 where
   pub each-kind : length kinds ≡ 32
   pub short : length xs ≤ 1024
   pub well-formed : readCard card ≡ Validity.WellFormed
+  pub conforming : conformsTo kinds (entriesOf card) ≡ true
 
 -- rows that state an expression, whose tests have room in the list of marks from the number first on
 pub record Markable (rows : List ℕ) (first : ℕ) (marks : List ℕ) : Type 0 where

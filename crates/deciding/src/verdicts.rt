@@ -10,6 +10,7 @@ ghost use mathlib.Core.Bool.{true};
 ghost use Prim.Native.Nat.{_≤_};
 ghost use lib.ListN.{length};
 ghost use Rattle.card.specs.Card.{entriesOf, readCard};
+ghost use Rattle.judge.specs.Sets.{conformsTo};
 ghost use Rattle.row_judge.specs.Saying.{rowsSay, Whole};
 ghost use Rattle.deciding.specs.Deciding.{cell};
 ghost use Rattle.deciding.specs.Rows.{Tells, Room, Judgeable, Markable, FirstMarked, Gathers};
@@ -73,7 +74,7 @@ fn gather_rest(
     next
 }
 
-// Marks what each test that the rows state says of a well-formed card, from the number `first` on, and answers the number behind them. A test
+// Marks what each test that the rows state says of a card that conforms, from the number `first` on, and answers the number behind them. A test
 // after brackets is judged with the rows in them.
 fn gather_from(
     kinds: &[u8],
@@ -92,7 +93,7 @@ fn gather_from(
     gather_rest(kinds, filter, rows, card, marks, first, end)
 }
 
-// Marks what each test that the rows state says of a well-formed card, and answers how many tests there are.
+// Marks what each test that the rows state says of a card that conforms, and answers how many tests there are.
 pub fn gather_verdicts(
     kinds: &[u8],
     filter: &[u8],
@@ -105,6 +106,7 @@ pub fn gather_verdicts(
     requires { ⌜ Whole (now rows) ⌝ }
     requires { ⌜ length (now rows) ≤ 320 ⌝ }
     requires { ⌜ readCard (now card) ≡ Validity.WellFormed ⌝ }
+    requires { ⌜ conformsTo (now kinds) (entriesOf (now card)) ≡ true ⌝ }
     requires { ⌜ length (now marks) ≡ 32 ⌝ }
     requires { ⌜ Room (now rows) 0 32 ⌝ }
     ensures { λ r. ⌜ Tells (now (kinds .entry)) (now (filter .entry)) (entriesOf (now (card .entry))) (now (rows .entry)) r (now (marks .exit)) ⌝ }

@@ -1,5 +1,6 @@
 // Select: the record numbers of the cards of a run that match.
 mod asking;
+mod by_rows;
 
 use answer::Checked;
 use answer::Engine;
@@ -8,6 +9,7 @@ use answer::Selected;
 use answer::write;
 use asking::judge_asked;
 use block::Validity;
+use by_rows::gather_by_rows;
 use checking::check;
 use one_card::CardVerdict;
 use preparing::fill;
@@ -15,14 +17,11 @@ use query::Rows;
 use query::no_rows;
 use refusal::Reason;
 use refusal::Refusal;
-use row_opener::open_rows;
 use searching::read_search;
 ghost use mathlib.Core.Path.{_≡_};
 ghost use Prim.Native.Nat.{_%_, _/_, _≤_};
 ghost use lib.ListN.{length};
 ghost use Rattle.sheet.specs.Sheet.{parametersOf, readSheet};
-ghost use Rattle.sheet.specs.Find.{kindsOf};
-ghost use Rattle.row_opener.specs.Opening.{Opens};
 ghost use Rattle.refusal.specs.Steps.{found};
 ghost use Rattle.answer.specs.Operations.{filterQuestion};
 ghost use Rattle.answer.specs.Searching.{searchQuestion};
@@ -42,8 +41,7 @@ pub struct Asked {
     pub kinds: [u8; 32],
 }
 
-// Gathers the record numbers of the cards that match in the buffer, until a card is refused. The kinds of the sheet are read and the rows are
-// opened once for all cards.
+// Gathers the record numbers of the cards that match in the buffer, until a card is refused. The kinds of the sheet are read once for all cards.
 fn gather(
     way: Way,
     sheet: &[u8],
@@ -63,16 +61,13 @@ fn gather(
     ensures { λ r. ⌜ Gathers (askedQuestion way (parametersOf (now (sheet .entry))) (now (text .entry)) (now (cells .entry)) search) (now (cards .entry)) r (now (buffer .exit)) ⌝ }
 {
     let kinds = sheet::kinds(sheet);
-    let mut values = [0u64; 640];
-    let mut ends = [0i64; 640];
-    open_rows(&kinds, text, cells, &mut values, &mut ends);
     let asked = Asked { way, kinds };
     let mut at = 0;
     let mut count = 0;
     while at < cards.len() {
         let end = at + 512;
         let card = &cards[at..end];
-        match judge_asked(asked, sheet, text, cells, &values, &ends, search, card) {
+        match judge_asked(asked, sheet, text, cells, search, card) {
             CardVerdict::Says(yes) => {
                 if yes {
                     buffer[count] = card::record_number(card);
@@ -89,6 +84,32 @@ fn gather(
         }
     }
     Selected::Count(count)
+}
+
+// The same, by rows in the way that opens them once for all cards.
+fn gather_asked(
+    way: Way,
+    sheet: &[u8],
+    text: &[u8],
+    cells: &[u32],
+    search: Rows,
+    cards: &[u8],
+    buffer: &mut [u32],
+) -> Selected
+    requires { ⌜ readSheet (now sheet) ≡ Validity.WellFormed ⌝ }
+    requires { ⌜ length (now text) ≤ 1024 ⌝ }
+    requires { ⌜ length (now cells) ≤ 320 ⌝ }
+    requires { ⌜ Asks (now sheet) (now text) (now cells) search way ⌝ }
+    requires { ⌜ length (now cards) % 512 ≡ 0 ⌝ }
+    requires { ⌜ length (now cards) / 512 ≤ length (now buffer) ⌝ }
+    requires { ⌜ length (now buffer) ≤ 128 ⌝ }
+    ensures { λ r. ⌜ Gathers (askedQuestion way (parametersOf (now (sheet .entry))) (now (text .entry)) (now (cells .entry)) search) (now (cards .entry)) r (now (buffer .exit)) ⌝ }
+{
+    match way {
+        Way::Rows => gather_by_rows(sheet, text, cells, cards, buffer),
+        Way::Text => gather(Way::Text, sheet, text, cells, search, cards, buffer),
+        Way::Search => gather(Way::Search, sheet, text, cells, search, cards, buffer),
+    }
 }
 
 // Selects from the cards under a sheet and a question that check has passed.
@@ -121,7 +142,7 @@ pub fn select_cards(
     }
     // a refusal writes nothing, so the numbers wait here until the last card is judged
     let mut buffer = [0u32; 128];
-    let gathered = gather(way, sheet, text, cells, search, cards, &mut buffer);
+    let gathered = gather_asked(way, sheet, text, cells, search, cards, &mut buffer);
     match gathered {
         Selected::Count(matches) => {
             if matches > list.len() {
