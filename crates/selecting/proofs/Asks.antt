@@ -2,7 +2,7 @@
 -- Assumes nothing.
 use Prim.Native.Nat.{ℕ, _≤_}
 use native.Mathlib.Omega.{arith}
-use mathlib.Core.Path.{_≡_}
+use mathlib.Core.Path.{_≡_, subst}
 use mathlib.Core.List.{List}
 use lib.ListN.{length}
 use Rattle.sheet.specs.Sheet.{Parameter}
@@ -15,7 +15,9 @@ use Rattle.answer.specs.Passing.{Passing, textQuestion, cardVerdict}
 use Rattle.one_card.specs.OneCard.{verdictStep, cellsQuestion}
 use Rattle.searching.specs.SearchPassing.{rowsQuestion}
 use Rattle.selecting.specs.Asking.{askedSays, askedQuestion, Asks, asks-rows, asks-text, asks-search}
+use Rattle.selecting.specs.Selecting.{Gathers}
 use Rattle.selecting.specs.declared.Way.{Way}
+use Rattle.answer.specs.declared.Selected.{Selected}
 use Rattle.one_card.specs.declared.CardVerdict.{CardVerdict}
 
 -- ---- what the code knows
@@ -56,3 +58,16 @@ module _ (ps : List Parameter) (xs cs : List ℕ) (rows : Rows) (a : Way) (v : C
   pub asked-search : a ≡ Way.Search → ((i : ℕ) → verdictStep v i ≡ cardVerdict (rowsQuestion ps xs rows) i b) → (i : ℕ) → verdictStep v i ≡ cardVerdict (askedQuestion a ps xs cs rows) i b
   unfolding askedSays
   asked-search h e i = rw h (e i)
+
+-- ---- the way is known
+
+module _ (text cells : List ℕ) (rows : Rows) (way : Way) (ps : List Parameter) (cards : List ℕ) (r : Selected) (buffer : List ℕ) where
+  pub gathered-rows : way ≡ Way.Rows → Gathers (cellsQuestion ps text cells) cards r buffer → Gathers (askedQuestion way ps text cells rows) cards r buffer
+  unfolding askedSays
+  gathered-rows h g = rw h g
+
+  pub gathered-same : (k : Way) → way ≡ k → Gathers (askedQuestion k ps text cells rows) cards r buffer → Gathers (askedQuestion way ps text cells rows) cards r buffer
+  gathered-same k h g = rw h g
+
+pub asks-same : (sheet text cells : List ℕ) (rows : Rows) (way k : Way) → way ≡ k → Asks sheet text cells rows way → Asks sheet text cells rows k
+asks-same sheet text cells rows way k h a = subst (Asks sheet text cells rows) h a

@@ -1,4 +1,4 @@
--- `selecting::gather` meets its contract, whichever way it is asked: the rows are opened, and then the cards are judged one by one. Assumes nothing.
+-- `selecting::gather` meets its contract, whichever way it is asked: the cards are judged one by one. Assumes nothing.
 use borrow.Author.Needs.{needs}
 use Prim.Native.Nat.{_-_}
 use lib.ListN.{length}
@@ -9,25 +9,13 @@ use Rattle.selecting.proofs.gather.Statement.{statement}
 use Rattle.selecting.proofs.gather.Tie as tie
 
 abbrev Inv-loop : tie.InvT-loop
-Inv-loop sheet text cells search cards buffer₀ values ends asked at₀ count₀ buffer at count = Gathering (askedQuestion (asked .way) (parametersOf sheet) text cells search) cards buffer₀ buffer at count
+Inv-loop sheet text cells search cards buffer₀ asked at₀ count₀ buffer at count = Gathering (askedQuestion (asked .way) (parametersOf sheet) text cells search) cards buffer₀ buffer at count
 
 abbrev μ-loop : tie.MeasureT-loop
-μ-loop sheet text cells search cards buffer₀ values ends asked at₀ count₀ buffer at count = length cards - at
+μ-loop sheet text cells search cards buffer₀ asked at₀ count₀ buffer at count = length cards - at
 
 kinds-requires : tie.Need-kinds-requires Inv-loop μ-loop
 kinds-requires c κs = search needs
-
-slice-aggregate-open-rows : tie.Need-slice-aggregate-open-rows Inv-loop μ-loop
-slice-aggregate-open-rows c = search needs
-
-slice-aggregate-open-rows-2 : tie.Need-slice-aggregate-open-rows-2 Inv-loop μ-loop
-slice-aggregate-open-rows-2 c = search needs
-
-slice-aggregate-open-rows-3 : tie.Need-slice-aggregate-open-rows-3 Inv-loop μ-loop
-slice-aggregate-open-rows-3 c = search needs
-
-open-rows-requires : tie.Need-open-rows-requires Inv-loop μ-loop
-open-rows-requires c κs = search needs
 
 loop-holds : tie.Need-loop-holds Inv-loop μ-loop
 loop-holds c = search (gathering-start, needs)
@@ -43,12 +31,6 @@ part-card-start c = search needs
 
 part-card-end : tie.Need-part-card-end Inv-loop μ-loop
 part-card-end c = search (gathering-part, needs)
-
-slice-aggregate-judge-asked : tie.Need-slice-aggregate-judge-asked Inv-loop μ-loop
-slice-aggregate-judge-asked c = search needs
-
-slice-aggregate-judge-asked-2 : tie.Need-slice-aggregate-judge-asked-2 Inv-loop μ-loop
-slice-aggregate-judge-asked-2 c = search needs
 
 judge-asked-requires : tie.Need-judge-asked-requires Inv-loop μ-loop
 judge-asked-requires c κs = (search needs, (search needs, (search needs, (search needs, search needs))))
@@ -102,17 +84,11 @@ gather-spec =
     Inv-loop
     μ-loop
     kinds-requires
-    slice-aggregate-open-rows
-    slice-aggregate-open-rows-2
-    slice-aggregate-open-rows-3
-    open-rows-requires
     loop-holds
     add-end
     sub-card
     part-card-start
     part-card-end
-    slice-aggregate-judge-asked
-    slice-aggregate-judge-asked-2
     judge-asked-requires
     enum-known-yes
     record-number-requires

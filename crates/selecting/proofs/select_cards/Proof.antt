@@ -10,11 +10,11 @@ returns c = search (found-parted, needs)
 returns-2 : tie.Need-returns-2
 returns-2 c = search (found-over, needs)
 
-slice-aggregate-gather : tie.Need-slice-aggregate-gather
-slice-aggregate-gather c = search needs
+slice-aggregate-gather-asked : tie.Need-slice-aggregate-gather-asked
+slice-aggregate-gather-asked c = search needs
 
-gather-requires : tie.Need-gather-requires
-gather-requires c κs = (search needs, (search needs, (search needs, (search needs, (search needs, (search needs, search needs))))))
+gather-asked-requires : tie.Need-gather-asked-requires
+gather-asked-requires c κs = (search needs, (search needs, (search needs, (search needs, (search needs, (search needs, search needs))))))
 
 enum-known-gathered : tie.Need-enum-known-gathered
 enum-known-gathered c = search needs
@@ -52,8 +52,8 @@ select-cards-spec =
     (tie.spec
     returns
     returns-2
-    slice-aggregate-gather
-    gather-requires
+    slice-aggregate-gather-asked
+    gather-asked-requires
     enum-known-gathered
     returns-3
     sub-write

@@ -7,11 +7,11 @@ use Rattle.selecting.proofs.asking.judge_asked.Tie as tie
 enum-told : tie.Need-enum-told
 enum-told c = search needs
 
-slice-aggregate-judge-by-rows : tie.Need-slice-aggregate-judge-by-rows
-slice-aggregate-judge-by-rows c = search needs
+slice-aggregate-judge-once : tie.Need-slice-aggregate-judge-once
+slice-aggregate-judge-once c = search needs
 
-judge-by-rows-requires : tie.Need-judge-by-rows-requires
-judge-by-rows-requires c κs = (search needs, (search (asks-short, needs), (search (asks-whole, needs), search needs)))
+judge-once-requires : tie.Need-judge-once-requires
+judge-once-requires c κs = (search needs, (search (asks-short, needs), (search (asks-whole, needs), search needs)))
 
 enum-told-2 : tie.Need-enum-told-2
 enum-told-2 c = search needs
@@ -45,8 +45,8 @@ judge-asked-spec =
     tie.close
     (tie.spec
     enum-told
-    slice-aggregate-judge-by-rows
-    judge-by-rows-requires
+    slice-aggregate-judge-once
+    judge-once-requires
     enum-told-2
     slice-aggregate-judge-by-text
     judge-by-text-requires
