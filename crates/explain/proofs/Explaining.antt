@@ -26,10 +26,11 @@ use Rattle.sheet.specs.Find.{kindsOf, parentsOf}
 use Rattle.sheet.specs.Encode.{WellFormedSheet, SheetBlock}
 use Rattle.sheet.proofs.RoundTrip.{sheet-well-formed}
 use Rattle.sheet.proofs.Sheets.{sheet-reads-iff}
-use Rattle.card.specs.Card.{entriesOf, readCard}
+use Rattle.card.specs.Card.{entriesOf, readCard, recordNumber}
 use Rattle.syntax.specs.Tree.{Tree, erase}
 use Rattle.syntax.specs.Grammar.{Spells}
-use Rattle.judge.specs.Sets.{conforms}
+use Rattle.judge.specs.Sets.{conforms, conformsTo}
+use Rattle.judge.proofs.Table.{table-conforms}
 use Rattle.judge.specs.Verdicts.{filterSays}
 use Rattle.rows.specs.Expression.{Expression, testCount}
 use Rattle.rows.specs.Cells.{stated}
@@ -133,6 +134,17 @@ module _ (sheet text rows card : List ℕ) (says : Bool) (j : Judged sheet text 
   few-tests e i =
       let same : j .good .expression ≡ e = Option·some-injective _ _ (sym states-it ∙ i) in
       omega (arith, outer-tests e .1, ap testCount same, j .good .few)
+
+  -- the card conforms, by the kinds of the sheet
+  pub mark-conforming : (kinds : List ℕ) → kinds ≡ kindsOf ps → conformsTo kinds (entriesOf card) ≡ true
+  mark-conforming kinds e = ap (λ (k : List ℕ). conformsTo k (entriesOf card)) e ∙ table-conforms ps (entriesOf card) ∙ accepted (conforms ps (entriesOf card)) refl
+    where
+      accepted : (b : Bool) → conforms ps (entriesOf card) ≡ b → b ≡ true
+      accepted true h = refl
+      accepted false h =
+          let c : Card = record { number = recordNumber card; entries = entriesOf card } in
+          let stops : stop 23 0 ≡ found c = (unfold acceptCard in rw (j .card-reads, h) at (j .card-accepted)) in
+          absurd (let z : _≡_ {A = ℕ} 0 1 = cc in omega arith)
 
   -- the tests have room in a list of 32
   pub mark-tests : TestRoom rows 0 32

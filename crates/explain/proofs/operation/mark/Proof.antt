@@ -1,5 +1,5 @@
 -- `explain::operation::mark` meets its contract. Assumes nothing.
-use Rattle.explain.proofs.Explaining.{mark-tests, mark-few, mark-short, mark-part, mark-room, mark-yes, mark-no}
+use Rattle.explain.proofs.Explaining.{mark-conforming, mark-tests, mark-few, mark-short, mark-part, mark-room, mark-yes, mark-no}
 use borrow.Author.Needs.{needs}
 use Rattle.explain.proofs.operation.mark.Statement.{statement}
 use Rattle.explain.proofs.operation.mark.Tie as tie
@@ -14,7 +14,7 @@ slice-aggregate-gather-verdicts-2 : tie.Need-slice-aggregate-gather-verdicts-2
 slice-aggregate-gather-verdicts-2 c = search needs
 
 gather-verdicts-requires : tie.Need-gather-verdicts-requires
-gather-verdicts-requires c κs = (search needs, (search needs, (search needs, (search needs, (search needs, (search needs, search (mark-tests, needs)))))))
+gather-verdicts-requires c κs = (search needs, (search needs, (search needs, (search needs, (search needs, (search (mark-conforming, needs), (search needs, search (mark-tests, needs))))))))
 
 returns : tie.Need-returns
 returns c = search (mark-short, needs)
