@@ -11,7 +11,10 @@ fn examples_of_the_help() {
     folder.run(&["pack", &format!("{REPOSITORY}/examples/ward"), "ward"]);
     std::os::unix::fs::symlink(Path::new(REPOSITORY).join("examples"), folder.path.join("examples")).unwrap();
     let programs = Path::new(PROGRAM).parent().unwrap().to_str().unwrap();
-    for name in ["pick", "search", "explain", "check", "report", "plain", "fields", "pack", "show", "verify", "seal"] {
+    for name in [
+        "pick", "search", "explain", "check", "report", "plain", "fields", "pack", "show", "verify", "seal", "sign",
+        "recheck",
+    ] {
         let help = folder.run(&[name, "--help"]);
         assert_eq!((help.status, help.errors.as_str()), (0, ""), "{name}");
         let example = help.output.split("Example:\n\n    $ ").nth(1).expect(name);

@@ -16,6 +16,7 @@ mod report;
 mod seal;
 mod search;
 mod show;
+mod sign;
 mod streams;
 mod terminal;
 mod verify;

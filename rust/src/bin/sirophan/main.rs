@@ -22,28 +22,39 @@ mod asked;
 mod cards;
 mod check;
 mod clues;
+mod columns;
 mod counts;
+mod day;
 mod description;
 mod doubt;
 mod explain;
 mod field_doubt;
 mod fields;
+mod html;
+mod in_words;
 mod input;
 mod interrupt;
 mod json;
+mod leaf;
 mod letters;
 mod looks;
+mod matching;
+mod might_be;
 mod pack;
+mod page;
 mod pick;
 mod plain;
 mod progress;
 mod reason;
+mod recheck;
 mod report;
 mod seal;
 mod search;
 mod search_advice;
 mod sha256;
 mod show;
+mod sign;
+mod signing;
 mod spoken;
 mod stream;
 mod survey;
@@ -55,6 +66,7 @@ mod values;
 mod verdicts;
 mod verify;
 mod version;
+mod visible;
 mod width;
 mod zero;
 
@@ -82,7 +94,7 @@ struct Command {
 }
 
 /// The commands. A later one is another row.
-const COMMANDS: [Command; 11] = [
+const COMMANDS: [Command; 13] = [
     Command {
         name: "pick",
         usage: "[--stream] SHEET FILTER CARDS",
@@ -292,6 +304,42 @@ const COMMANDS: [Command; 11] = [
                \x20   $ sirophan seal ward\n\
                \x20   3 cards and a sheet with 5 parameters, sealed by ward/archive.txt\n",
         run: seal::run,
+    },
+    Command {
+        name: "sign",
+        usage: "[--text] [--out FILE] [--columns NAMES] [--date DAY] SHEET FILTER CARDS",
+        paths: 3..=3,
+        text: Some(1),
+        options: &["--text", "--out", "--columns", "--date", "-e"],
+        summary: "makes the page that is signed: question, answer, doubts and archive",
+        help: "It asks as `sirophan pick` does, and makes one page of it, in HTML that prints on A4 or with --text in plain text: the \
+               question and how it is read, each test in words, the list, what the archive holds under the fields asked and what is \
+               doubted, what is not on the list and might be, the archive's fingerprints, the version, and a line to sign. With \
+               --columns title,birthdate the list has these fields of each card. What is refused has a page too, without a \
+               list, and the status of the refusal. The page goes to standard output, or with --out to a file.\n\n\
+               The same files give the same page, but for the date: today in UTC, or the day that --date or \
+               SOURCE_DATE_EPOCH says. The page has a fingerprint, the SHA-256 of all its lines but those of the date and of \
+               the fingerprint itself. It goes through the whole cards file and holds it to archive.txt byte for byte.\n\n\
+               Example:\n\n\
+               \x20   $ sirophan sign --out ward/page.html ward/sheet.bin ward/filter.txt ward/cards.bin\n\
+               \x20   2 of 3 cards, in ward/page.html\n",
+        run: sign::run,
+    },
+    Command {
+        name: "recheck",
+        usage: "PAGE SHEET CARDS",
+        paths: 3..=3,
+        text: None,
+        options: &[],
+        summary: "says whether a page that was signed still holds",
+        help: "It reads a page that `sirophan sign` has made, asks its question again, and says whether archive, question and answer \
+               are the same; or what differs, with status 2: the fingerprints and the number of cards, the record numbers that \
+               came and went, and whether the page itself was changed. A page of another version may still hold, and the \
+               version is told beside it.\n\n\
+               Example:\n\n\
+               \x20   $ sirophan recheck ward/page.html ward/sheet.bin ward/cards.bin\n\
+               \x20   same archive, same question, same answer\n",
+        run: recheck::run,
     },
 ];
 

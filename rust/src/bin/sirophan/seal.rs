@@ -132,8 +132,16 @@ pub fn hold(sheet_path: &str, sheet: &[u8], cards: Option<&Input>) -> Result<(),
 
 /// Whether there is a seal beside cards; where there is, they are the sealed ones, byte for byte.
 pub fn hold_cards(path: &str) -> Result<bool, Failure> {
+    if Seal::beside(path)?.is_none() {
+        return Ok(false);
+    }
+    hold_hash(path, hash_file(path)?.0)
+}
+
+/// The same of cards whose hash is known.
+pub fn hold_hash(path: &str, hash: Hash) -> Result<bool, Failure> {
     let Some((seal_name, seal)) = Seal::beside(path)? else { return Ok(false) };
-    if hash_file(path)?.0.to_string() == seal.cards_hash {
+    if hash.to_string() == seal.cards_hash {
         return Ok(true);
     }
     let cards = counted(seal.cards, "card");

@@ -64,8 +64,9 @@ pub const LIKENESSES: [Likeness; 5] = [
     },
 ];
 
-/// How many of the values that do not look like a kind are shown.
+/// How many of the values that do not look like a kind are shown, and how many examples of a field's values.
 const OTHERS: usize = 2;
+const EXAMPLES: usize = 3;
 /// Digits alone may be labels, as those of wards and telephones are: numbers are doubted where one in so many is none. Numbers
 /// of one or two digits are those of wards and the like where there are at most so many of them.
 const LABELS_TO_NUMBER: u64 = 4;
@@ -89,23 +90,23 @@ pub struct Alike {
     pub unreadable: u64,
     pub first_unreadable: Option<Found>,
     /// The first values that look like something else.
-    others: Firsts,
+    others: Firsts<OTHERS>,
 }
 
-/// The first values of some sort, each once.
+/// The first values of some sort, so many of them, each once.
 #[derive(Clone, Debug, Default)]
-struct Firsts(Vec<Found>);
+struct Firsts<const MOST: usize>(Vec<Found>);
 
-impl Firsts {
+impl<const MOST: usize> Firsts<MOST> {
     /// Keeps a value, if it is one of the first.
     fn take(&mut self, index: u64, value: &[u8]) {
-        if self.0.len() < OTHERS && self.0.iter().all(|(_, other)| other != value) {
+        if self.0.len() < MOST && self.0.iter().all(|(_, other)| other != value) {
             self.0.push((index, value.to_vec()));
         }
     }
 
     /// The first of these and of others.
-    fn with(&self, other: &Firsts) -> Firsts {
+    fn with(&self, other: &Firsts<MOST>) -> Firsts<MOST> {
         let mut found = [&self.0[..], &other.0].concat();
         found.sort();
         let mut firsts = Firsts::default();
@@ -141,11 +142,11 @@ pub struct Field {
     pub is_sample: bool,
     pub cards: u64,
     pub values: u64,
-    /// The first value.
-    pub example: Option<Found>,
+    /// The first values.
+    examples: Firsts<EXAMPLES>,
     pub alike: [Alike; LIKENESSES.len()],
     /// The first values that look like nothing.
-    plain: Firsts,
+    plain: Firsts<OTHERS>,
     /// How many values are digits alone: likely years, and others.
     years: u64,
     digits: u64,
@@ -171,10 +172,19 @@ impl Field {
         self.small_numbers |= other.small_numbers;
         self.blank += other.blank;
         self.strange += other.strange;
-        self.example = first(self.example.take(), other.example, |example| example.0);
+        self.examples = self.examples.with(&other.examples);
         self.first_strange = first(self.first_strange.take(), other.first_strange, |strange| strange.0);
         self.plain = self.plain.with(&other.plain);
         self.alike.iter_mut().zip(other.alike).for_each(|(alike, more)| alike.add(more));
+    }
+
+    /// The first values, and the first of all.
+    pub fn examples(&self) -> impl Iterator<Item = &[u8]> {
+        self.examples.0.iter().map(|(_, value)| &value[..])
+    }
+
+    pub fn example(&self) -> Option<&[u8]> {
+        self.examples().next()
     }
 
     /// The first values that do not look like a kind.
@@ -489,7 +499,7 @@ fn turn(lot: u64) -> usize {
 }
 
 /// The record number of a card. It is read from its bytes: to ask the library of every card would take longer than all else here.
-fn record(card: &[u8; SIZE]) -> u32 {
+pub fn record(card: &[u8; SIZE]) -> u32 {
     u32::from_le_bytes([card[1], card[2], card[3], card[4]])
 }
 
@@ -497,7 +507,7 @@ fn record(card: &[u8; SIZE]) -> u32 {
 fn count_value(field: &mut Field, asked: &Asked, index: u64, value: &[u8], is_new: bool) {
     field.cards += u64::from(is_new);
     field.values += 1;
-    field.example.get_or_insert_with(|| (index, value.to_vec()));
+    field.examples.take(index, value);
     if asked.doubtful.is_empty() {
         return;
     }

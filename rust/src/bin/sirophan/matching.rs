@@ -1,0 +1,34 @@
+//! Which cards of a run match, card by card: the library's list has their record numbers, which several cards may bear.
+
+use crate::advice::Words;
+use crate::block::SIZE;
+use crate::cards::RUN;
+use crate::tally::record;
+use sirophan::Refusal;
+
+/// The cards of a run that match a text, as bits; the first card's is the lowest.
+pub fn in_run(words: Words, sheet: &[u8], text: &[u8], run: &[u8]) -> Result<u128, Refusal> {
+    let mut list = [0; RUN];
+    let count = words.select(sheet, text, run, &mut list)?;
+    let (cards, _) = run.as_chunks::<SIZE>();
+    let numbers: Vec<u32> = cards.iter().map(record).collect();
+    let mut listed = list[..count].iter().peekable();
+    let mut bits = 0;
+    for (index, card) in cards.iter().enumerate() {
+        let Some(next) = listed.peek() else { break };
+        // Where a later card bears the same number, that may be the one.
+        let is_it =
+            numbers[index] == **next && (!numbers[index + 1..].contains(*next) || words.matches(sheet, text, card)?);
+        if is_it {
+            bits |= 1 << index;
+            listed.next();
+        }
+    }
+    Ok(bits)
+}
+
+/// The cards of a run that bits name, in order.
+pub fn cards(run: &[u8], bits: u128) -> impl Iterator<Item = &[u8; SIZE]> {
+    let (cards, _) = run.as_chunks::<SIZE>();
+    cards.iter().enumerate().filter(move |(index, _)| bits >> index & 1 == 1).map(|(_, card)| card)
+}
