@@ -38,7 +38,11 @@ fn help_and_version() {
     let folder = Folder::new("help");
     let help = folder.run(&["--help"]);
     assert_eq!((help.status, help.errors.as_str()), (0, ""));
-    for part in ["sirophan pick [--stream] SHEET FILTER CARDS", "sirophan verify DIR", "  0  answered"] {
+    for part in [
+        "sirophan pick [--stream] [--columns NAMES] [--csv] SHEET FILTER CARDS",
+        "sirophan verify DIR",
+        "  0  answered",
+    ] {
         assert!(help.output.contains(part), "{part}");
     }
     for option in ["--version", "-V", "version"] {
@@ -59,14 +63,18 @@ fn command_lines_that_are_not_understood() {
         .fails(1, "sirophan: pik is no command. Is it pick or pack? `sirophan --help` lists the commands.\n");
     folder.run(&["query"]).fails(1, "sirophan: query is no command. `sirophan --help` lists the commands.\n");
     folder.run(&["help", "query"]).fails(1, "sirophan: query is no command. `sirophan --help` lists the commands.\n");
-    folder
-        .run(&["search", "a"])
-        .fails(1, "sirophan: 1 path given. Usage: sirophan search [--stream] SHEET STRING CARDS\n");
+    folder.run(&["search", "a"]).fails(
+        1,
+        "sirophan: 1 path given. Usage: sirophan search [--stream] [--columns NAMES] [--csv] SHEET STRING CARDS\n",
+    );
     folder.run(&["--json", "pick"]).fails(
         1,
         "sirophan: --json stands before the command. Options stand behind it. `sirophan --help` lists the commands.\n",
     );
-    folder.run(&["pick", "a"]).fails(1, "sirophan: 1 path given. Usage: sirophan pick [--stream] SHEET FILTER CARDS\n");
+    folder.run(&["pick", "a"]).fails(
+        1,
+        "sirophan: 1 path given. Usage: sirophan pick [--stream] [--columns NAMES] [--csv] SHEET FILTER CARDS\n",
+    );
     folder
         .run(&["check", "--stream", "a", "b"])
         .fails(1, "sirophan: --stream is no option here. Usage: sirophan check [--search] SHEET FILTER [CARDS]\n");
@@ -76,7 +84,7 @@ fn command_lines_that_are_not_understood() {
     );
     folder.run(&["show", "--record", "x", "a"]).fails(
         1,
-        "sirophan: x is no record number: it is a number up to 4,294,967,295. Usage: sirophan show [--record N] FILE..\n",
+        "sirophan: x is no record number: it is a number up to 4,294,967,295. Usage: sirophan show [--record N] [--description | --csv] FILE..\n",
     );
     folder
         .run(&["verify", "--json"])
@@ -102,14 +110,15 @@ fn texts_on_the_command_line() {
     );
     folder.run(&["pick", "-e"]).fails(
         1,
-        "sirophan: Behind -e stands the text that asks. Usage: sirophan pick [--stream] SHEET FILTER CARDS\n",
+        "sirophan: Behind -e stands the text that asks. Usage: sirophan pick [--stream] [--columns NAMES] [--csv] SHEET FILTER CARDS\n",
     );
     folder
         .run(&["plain", "-e", "a eq b", "-e", "a eq c"])
         .fails(1, "sirophan: -e stands once: a text is one filter or string. Usage: sirophan plain FILTER\n");
-    folder
-        .run(&["pick", "-e", "title co ward", "sheet.bin", "filter.txt", "cards.bin"])
-        .fails(1, "sirophan: 4 paths given. Usage: sirophan pick [--stream] SHEET FILTER CARDS\n");
+    folder.run(&["pick", "-e", "title co ward", "sheet.bin", "filter.txt", "cards.bin"]).fails(
+        1,
+        "sirophan: 4 paths given. Usage: sirophan pick [--stream] [--columns NAMES] [--csv] SHEET FILTER CARDS\n",
+    );
     folder
         .run(&["fields", "-e", "x", "sheet.bin", "cards.bin"])
         .fails(1, "sirophan: -e is no option here. Usage: sirophan fields SHEET CARDS\n");

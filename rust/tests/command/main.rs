@@ -18,5 +18,6 @@ mod search;
 mod show;
 mod sign;
 mod streams;
+mod table;
 mod terminal;
 mod verify;

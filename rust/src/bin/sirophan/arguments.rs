@@ -17,8 +17,10 @@ pub struct Arguments {
     pub search: bool,
     /// Whether all cards of the list are explained.
     pub all: bool,
-    /// Whether a page is made in plain text.
+    /// Whether a page is made in plain text, a list or cards as a table for spreadsheets, cards as a description.
     pub text_form: bool,
+    pub csv: bool,
+    pub description: bool,
     /// The record number whose cards are shown.
     pub record: Option<u32>,
     /// The file that a page goes to, its date, and the columns of a list.
@@ -79,6 +81,8 @@ impl Arguments {
             "--search" => &mut self.search,
             "--all" => &mut self.all,
             "--text" => &mut self.text_form,
+            "--csv" => &mut self.csv,
+            "--description" => &mut self.description,
             _ => &mut self.help,
         }
     }

@@ -1,9 +1,10 @@
 //! Columns of a list: what the cards on it have under some fields.
 
-use crate::block;
+use crate::block::{self, SIZE};
 use crate::kind::BUNDLE;
 use crate::report::Failure;
 use crate::sheet::Sheet;
+use crate::tally::record;
 use crate::text::{nearest, row};
 
 /// The fields that a list has columns for, by their places.
@@ -55,12 +56,12 @@ impl Columns {
     }
 
     /// What a card has in the columns.
-    pub fn row(&self, record: u32, card: &[u8]) -> Row {
+    pub fn row(&self, card: &[u8; SIZE]) -> Row {
         let cell = |&place: &usize| {
             let items = block::items(card).filter(|item| usize::from(item.byte) == place);
             items.map(|item| Value { occurrence: item.mark, text: item.text.to_vec() }).collect()
         };
-        Row { record, cells: self.places.iter().map(cell).collect() }
+        Row { record: record(card), cells: self.places.iter().map(cell).collect() }
     }
 }
 

@@ -24,7 +24,9 @@ mod check;
 mod clues;
 mod columns;
 mod counts;
+mod csv;
 mod day;
+mod describe;
 mod description;
 mod doubt;
 mod explain;
@@ -97,14 +99,16 @@ struct Command {
 const COMMANDS: [Command; 13] = [
     Command {
         name: "pick",
-        usage: "[--stream] SHEET FILTER CARDS",
+        usage: "[--stream] [--columns NAMES] [--csv] SHEET FILTER CARDS",
         paths: 3..=3,
         text: Some(1),
-        options: &["--stream", "-e"],
+        options: &["--stream", "--columns", "--csv", "-e"],
         summary: "lists the record numbers of the cards that match a filter",
         help: "The last line is the count, as in `2 of 3`. The list is held back until the last card has passed: a card that \
                does not fit the sheet refuses it all. With --stream the numbers come as they are found, and only an output \
                that ends with the count is a list.\n\n\
+               With --columns title,birthdate the list has these fields of each card. With --csv it is a table for spreadsheets, \
+               of these fields or else of all, and the count goes to standard error.\n\n\
                Between the list and the count it warns where the filter may not ask what was meant, such as where most \
                values of a field look like another kind's. Where fewer than 20 cards match, and CARDS is a file, it goes \
                through the cards once more and says of each test that no card meets what can be found out about it.\n\n\
@@ -117,10 +121,10 @@ const COMMANDS: [Command; 13] = [
     },
     Command {
         name: "search",
-        usage: "[--stream] SHEET STRING CARDS",
+        usage: "[--stream] [--columns NAMES] [--csv] SHEET STRING CARDS",
         paths: 3..=3,
         text: Some(1),
-        options: &["--stream", "-e"],
+        options: &["--stream", "--columns", "--csv", "-e"],
         summary: "lists the record numbers of the cards that match a search string",
         help: "STRING is a file with a string such as `birthdate=ge1974&title=ward,book` on one line. The answer, and what is \
                warned of, is as for `sirophan pick`.\n\n\
@@ -234,7 +238,7 @@ const COMMANDS: [Command; 13] = [
         text: None,
         options: &[],
         summary: "makes the blocks of an archive from its description",
-        help: "It reads sheet.txt, cards.txt and, if it is there, filter.txt in DIR and writes sheet.bin, cards.bin, filter.txt \
+        help: "It reads sheet.txt, cards.txt or cards.csv, and, if it is there, filter.txt in DIR and writes sheet.bin, cards.bin, filter.txt \
                and the seal archive.txt in OUT. Where anything is wrong it says where, and OUT stays as it was. It warns of fields whose values look like \
                another kind's, and of record numbers that several cards bear.\n\n\
                A line has a head and a text; a line that begins with # is left out. A text that begins or ends with a space, is \
@@ -246,6 +250,9 @@ const COMMANDS: [Command; 13] = [
                \x20   bundle     related           record:           7\n\
                \x20   token      related.type      related#1.type    has-component\n\
                \x20   reference  related.target    related#1.target  Observation/4\n\n\
+               cards.csv is a table as spreadsheets write it, in UTF-8, with commas or semicolons: the first row has the names of the \
+               fields, `record` first, and each further row is a card. A field with several values has several columns of its name, \
+               members of bundles are named as above, and an empty cell is no value.\n\n\
                Example:\n\n\
                \x20   $ sirophan pack examples/ward ward\n\
                \x20   3 cards and a sheet with 5 parameters, in ward\n",
@@ -253,13 +260,16 @@ const COMMANDS: [Command; 13] = [
     },
     Command {
         name: "show",
-        usage: "[--record N] FILE..",
+        usage: "[--record N] [--description | --csv] FILE..",
         paths: 1..=usize::MAX,
         text: None,
-        options: &["--record"],
+        options: &["--record", "--description", "--csv"],
         summary: "shows the blocks of files as tables",
         help: "Cards are shown by the names and kinds of the sheet that came before them, or else of sheet.bin beside them. What \
                is wrong with a block stands below it, behind a !. With --record only the cards of that number are shown.\n\n\
+               With --description a sheet or cards are written as `sirophan pack` reads them in sheet.txt and cards.txt: packed \
+               again they are the same blocks, byte for byte. With --csv cards are written as cards.csv, with the same texts under the \
+               same fields; where that cannot be, it says so and writes nothing.\n\n\
                Example:\n\n\
                \x20   $ sirophan show --record 300 ward/cards.bin\n\
                \x20   card 2, record 300, 4 entries\n\
@@ -277,7 +287,7 @@ const COMMANDS: [Command; 13] = [
         text: None,
         options: &[],
         summary: "says whether all that is in a folder goes together",
-        help: "It takes the blocks (sheet.bin, cards.bin), the description (sheet.txt, cards.txt), or both, whichever are in DIR, \
+        help: "It takes the blocks (sheet.bin, cards.bin), the description (sheet.txt, cards.txt or cards.csv), or both, whichever are in DIR, \
                with filter.txt if it is there. It goes through all cards and names each that does not fit, with the field and \
                the reason. Where both are there, it says whether the blocks hold what the description says. Where \
                archive.txt is there, the sheet and the cards must be those that it names, byte for byte. It warns as \
@@ -307,7 +317,7 @@ const COMMANDS: [Command; 13] = [
     },
     Command {
         name: "sign",
-        usage: "[--text] [--out FILE] [--columns NAMES] [--date DAY] SHEET FILTER CARDS",
+        usage: "[--text] [--out FILE] [--columns NAMES] SHEET FILTER CARDS",
         paths: 3..=3,
         text: Some(1),
         options: &["--text", "--out", "--columns", "--date", "-e"],

@@ -1,8 +1,8 @@
 //! Which cards of a run match, card by card: the library's list has their record numbers, which several cards may bear.
 
-use crate::advice::Words;
+use crate::advice::{Question, Words};
 use crate::block::SIZE;
-use crate::cards::RUN;
+use crate::cards::{AtFault, RUN};
 use crate::tally::record;
 use sirophan::Refusal;
 
@@ -25,6 +25,18 @@ pub fn in_run(words: Words, sheet: &[u8], text: &[u8], run: &[u8]) -> Result<u12
         }
     }
     Ok(bits)
+}
+
+/// Asks a question of the runs of a piece before the first that is refused, and answers what is refused. `take` gets each run, and
+/// which of its cards match.
+pub fn in_piece(question: &Question, first: u64, piece: &[u8], mut take: impl FnMut(&[u8], u128)) -> Option<AtFault> {
+    for (index, run) in piece.chunks(RUN * SIZE).enumerate() {
+        match in_run(question.words, &question.sheet.block, &question.text, run) {
+            Ok(bits) => take(run, bits),
+            Err(refusal) => return Some(AtFault::new(refusal, first + (index * RUN) as u64, run)),
+        }
+    }
+    None
 }
 
 /// The cards of a run that bits name, in order.

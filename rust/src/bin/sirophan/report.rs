@@ -218,9 +218,14 @@ impl Output {
         writeln!(self.to, "{line}").map_err(unwritten)
     }
 
+    /// Writes bytes as they are.
+    pub fn raw(&mut self, bytes: &[u8]) -> Result<(), Failure> {
+        self.to.write_all(bytes).map_err(unwritten)
+    }
+
     /// Writes bytes as a line, whatever they are.
     pub fn bytes(&mut self, line: &[u8]) -> Result<(), Failure> {
-        self.to.write_all(line).and_then(|()| self.to.write_all(b"\n")).map_err(unwritten)
+        self.raw(line).and_then(|()| self.raw(b"\n"))
     }
 
     /// Writes out what is held back so far.

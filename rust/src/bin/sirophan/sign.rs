@@ -59,7 +59,7 @@ fn write(arguments: &Arguments, page: &Page, form: Form) -> Result<String, Failu
         Some(path) => put_in_place(path, &text)?,
         None => {
             let mut output = Output::new();
-            output.bytes(text.trim_end().as_bytes())?;
+            output.raw(text.as_bytes())?;
             output.flush()?;
         }
     }

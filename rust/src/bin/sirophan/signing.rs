@@ -2,7 +2,7 @@
 
 use crate::advice::Question;
 use crate::block::SIZE;
-use crate::cards::{AtFault, RUN};
+use crate::cards::AtFault;
 use crate::columns::{Columns, Row};
 use crate::doubt;
 use crate::in_words;
@@ -86,23 +86,18 @@ impl<'a> Asking<'a> {
 
     /// Asks of the runs of a piece before the first that is refused, and answers what is refused.
     fn ask_piece(&self, first: u64, piece: &[u8]) -> (Piece, Option<AtFault>) {
-        let Question { words, sheet, text, .. } = self.question;
         let might_be = vec![Some(0); self.sorts.len()];
         let mut found = Piece { records: Vec::new(), rows: Vec::new(), might_be };
-        for (index, run) in piece.chunks(RUN * SIZE).enumerate() {
-            let on_list = match matching::in_run(*words, &sheet.block, text, run) {
-                Ok(on_list) => on_list,
-                Err(refusal) => return (found, Some(AtFault::new(refusal, first + (index * RUN) as u64, run))),
-            };
+        let fault = matching::in_piece(self.question, first, piece, |run, on_list| {
             for card in matching::cards(run, on_list) {
                 found.records.push(record(card));
-                found.rows.extend(self.columns.iter().map(|columns| columns.row(record(card), card)));
+                found.rows.extend(self.columns.iter().map(|columns| columns.row(card)));
             }
             let counts: Vec<Option<u64>> =
                 self.sorts.iter().map(|sort| sort.count(self.question, run, on_list)).collect();
             add(&mut found.might_be, &counts);
-        }
-        (found, None)
+        });
+        (found, fault)
     }
 
     /// The page of an answer, in the order in which it is read.
