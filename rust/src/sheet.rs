@@ -64,6 +64,7 @@ impl Sheet {
     }
 
     /// Writes a sheet, if there is room for the parameters.
+    #[must_use]
     pub fn write(parameters: Vec<Parameter>) -> Option<Sheet> {
         let marked = has_bundles(&parameters);
         Sheet::write_as(parameters, marked)

@@ -32,7 +32,9 @@ impl Layout {
     pub fn widen(&mut self, row: &Row) {
         for (column, values) in row.cells.iter().enumerate() {
             let mut counts: BTreeMap<u8, usize> = BTreeMap::new();
-            values.iter().for_each(|value| *counts.entry(value.occurrence).or_default() += 1);
+            for value in values {
+                *counts.entry(value.occurrence).or_default() += 1;
+            }
             for (occurrence, count) in counts {
                 let most = self.most.entry((column, occurrence)).or_default();
                 *most = count.max(*most);
@@ -74,7 +76,7 @@ pub fn separator(head: &[u8]) -> u8 {
 
 /// Whether a row goes on behind its line end, which stands in quotes.
 pub fn goes_on(row: &[u8]) -> bool {
-    row.iter().filter(|byte| **byte == b'"').count() % 2 == 1
+    row.iter().fold(false, |is_open, byte| is_open != (*byte == b'"'))
 }
 
 /// The cells of a row.

@@ -9,7 +9,7 @@ const SECONDS_A_DAY: u64 = 86_400;
 /// A day as it is written: 2026-11-17.
 const WRITTEN: usize = 10;
 
-/// The day that was given, or that of SOURCE_DATE_EPOCH, or else today, in UTC.
+/// The day that was given, or that of `SOURCE_DATE_EPOCH`, or else today, in UTC.
 pub fn of(given: Option<&str>) -> Result<String, Failure> {
     if let Some(day) = given {
         return read(day).ok_or_else(|| Failure::Usage(format!("{day} is no day: one is written 2026-11-17.")));

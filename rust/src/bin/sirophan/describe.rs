@@ -148,7 +148,9 @@ fn row(sheet: &Sheet, columns: &Columns, card: &[u8; SIZE]) -> Row {
     let mut row = columns.row(card);
     for (cell, place) in row.cells.iter_mut().zip(&columns.places) {
         if sheet.parameters[*place].bundle == 0 {
-            cell.iter_mut().for_each(|value| value.occurrence = 0);
+            for value in cell {
+                value.occurrence = 0;
+            }
         }
     }
     row

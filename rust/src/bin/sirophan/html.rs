@@ -112,12 +112,12 @@ pub fn fact_start(mark: Mark) -> String {
 
 /// The values of a cell, each by itself: writing from right to left stays in it.
 fn cell(values: &[Vec<u8>]) -> String {
-    values.iter().map(|value| format!("<bdi>{}</bdi>", visible::html(value))).collect()
+    values.iter().map(|value| format!("<bdi>{}</bdi>", visible::html(value))).collect::<Vec<String>>().concat()
 }
 
 fn head_row(text: &mut String, head: &[String]) {
-    let cells: String = head.iter().map(|cell| format!("<th>{}</th>", visible::html(cell.as_bytes()))).collect();
-    line!(text, "<thead><tr>{cells}</tr></thead>\n<tbody>");
+    let cells = head.iter().map(|cell| format!("<th>{}</th>", visible::html(cell.as_bytes())));
+    line!(text, "<thead><tr>{}</tr></thead>\n<tbody>", cells.collect::<Vec<String>>().concat());
 }
 
 fn put_table(text: &mut String, head: &[String], rows: &[Vec<Vec<Vec<u8>>>]) {
@@ -129,7 +129,7 @@ fn put_table(text: &mut String, head: &[String], rows: &[Vec<Vec<Vec<u8>>>]) {
             let class = if WIDE.contains(&word.as_str()) { " class=\"any\"" } else { "" };
             format!("<td{class}>{}</td>", cell(values))
         });
-        line!(text, "<tr>{}</tr>", cells.collect::<String>());
+        line!(text, "<tr>{}</tr>", cells.collect::<Vec<String>>().concat());
     }
     line!(text, "</tbody>\n</table>");
 }
@@ -156,8 +156,11 @@ fn put_cards(text: &mut String, head: &[String], rows: &[(u32, Vec<Vec<Vec<u8>>>
     let fixed = ["No.", "Record"].map(String::from);
     head_row(text, &[&fixed[..], head].concat());
     for ((record, cells), number) in rows.iter().zip(1..) {
-        let cells: String = cells.iter().map(|values| format!("<td>{}</td>", cell(values))).collect();
-        line!(text, "<tr><th>{}</th><td>{record}</td>{cells}</tr>", grouped(number));
+        let _ = write!(text, "<tr><th>{}</th><td>{record}</td>", grouped(number));
+        for values in cells {
+            let _ = write!(text, "<td>{}</td>", cell(values));
+        }
+        line!(text, "</tr>");
     }
     line!(text, "</tbody>\n</table>");
 }

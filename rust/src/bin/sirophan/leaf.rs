@@ -44,8 +44,9 @@ fn put(lines: &mut Vec<String>, part: &Part) {
         Part::Numbers(records) => {
             lines.push(format!("{HEAD}{BAR}Record numbers, in the order of the cards"));
             for (row, records) in records.chunks(IN_ROW).enumerate() {
-                let records: String = records.iter().map(|record| format!("{record:<RECORD$}")).collect();
-                lines.push(format!("{:>NUMBER$}{BAR}{}", grouped((row * IN_ROW + 1) as u64), records.trim_end()));
+                let records: Vec<String> = records.iter().map(|record| format!("{record:<RECORD$}")).collect();
+                let number = grouped((row * IN_ROW + 1) as u64);
+                lines.push(format!("{number:>NUMBER$}{BAR}{}", records.concat().trim_end()));
             }
         }
         Part::Cards { head, rows } => {

@@ -309,7 +309,7 @@ const COMMANDS: [Command; 13] = [
                many cards there are, and the SHA-256 of both files. It goes through all cards before, and seals none that do not \
                fit. It warns where a seal was there and said something else.\n\n\
                All commands but show that are given a sheet or cards with archive.txt beside them give no answer where the sheet is another, \
-               or the cards are fewer or more. Whether each card is as it was says `sirophan verify` alone.\n\n\
+               or the cards are fewer or more. Whether each card is as it was say verify, sign and recheck alone.\n\n\
                Example:\n\n\
                \x20   $ sirophan seal ward\n\
                \x20   3 cards and a sheet with 5 parameters, sealed by ward/archive.txt\n",

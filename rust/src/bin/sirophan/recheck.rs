@@ -214,7 +214,9 @@ fn list_differs(page: &[u32], now: &[u32]) -> Option<Message> {
 /// The record numbers of one list that another has not, or not so often.
 fn beyond(one: &[u32], other: &[u32]) -> Vec<u32> {
     let mut there: HashMap<u32, usize> = HashMap::new();
-    other.iter().for_each(|record| *there.entry(*record).or_default() += 1);
+    for record in other {
+        *there.entry(*record).or_default() += 1;
+    }
     let mut is_beyond = |record: &u32| match there.get_mut(record) {
         Some(count) if *count > 0 => {
             *count -= 1;

@@ -55,14 +55,13 @@ fn answer<'a>(arguments: &Arguments, question: &'a Question, cards: Input) -> Re
 /// Writes a page to its file, or to standard output, and answers its fingerprint.
 fn write(arguments: &Arguments, page: &Page, form: Form) -> Result<String, Failure> {
     let (text, fingerprint) = page.written(form);
-    match &arguments.out {
-        Some(path) => put_in_place(path, &text)?,
-        None => {
-            let mut output = Output::new();
-            output.raw(text.as_bytes())?;
-            output.flush()?;
-        }
+    if let Some(path) = &arguments.out {
+        put_in_place(path, &text)?;
+        return Ok(fingerprint);
     }
+    let mut output = Output::new();
+    output.raw(text.as_bytes())?;
+    output.flush()?;
     Ok(fingerprint)
 }
 
