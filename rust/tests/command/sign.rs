@@ -249,11 +249,12 @@ fn what_was_changed_is_told() {
         let old_hash = old.split(|c: char| !c.is_ascii_hexdigit()).find(|part| part.len() == 64).unwrap();
         folder.write("changed", changed.replace(old_hash, hash.trim()));
         let number = 1 + page.lines().position(|line| line.contains("Nothing is doubted")).unwrap();
-        folder.recheck("changed").fails(
-            2,
+        folder.recheck("changed").says(
+            0,
+            "same archive, same question, same answer\n",
             &format!(
-                "changed: same archive, same question, same answer, and a page that was changed.\n\
-                 line {number} of the page is not what `sirophan sign` writes for this archive.\n"
+                "warning: line {number} of the page is not what `sirophan sign` writes now.\n\
+                 \x20 Beside archive, question and answer something else was changed, in the page or in the program.\n"
             ),
         );
         // Of another version it holds, and the version is told.
@@ -274,6 +275,33 @@ fn what_was_changed_is_told() {
             ),
         );
     }
+}
+
+/// A page holds wherever its archive lies, however it is sealed, and whether or not its cards came through a pipe.
+#[test]
+fn pages_of_pipes_and_copies() {
+    let folder = Folder::ward("sign-pipe");
+    let cards = folder.read("cards.bin");
+    let asked = ["sign", "--date", DAY, "-e", "title eq Ward and code eq x", "sheet.bin"];
+    let piped = folder.run_with(&[&asked[..], &["-"]].concat(), &cards);
+    assert!(piped.status == 0 && piped.output.contains("<p>The cards came through a pipe"), "{piped:?}");
+    folder.write("piped.html", piped.output);
+    folder.run(&[&asked[..], &["cards.bin", "--out", "page.html"]].concat());
+    folder.unsealed();
+    fs::rename(folder.path.join("cards.bin"), folder.path.join("copy.bin")).unwrap();
+    for name in ["piped.html", "page.html"] {
+        folder.run(&["recheck", name, "sheet.bin", "copy.bin"]).says(
+            0,
+            "same archive, same question, same answer\n",
+            "",
+        );
+    }
+    let json = "{\"same\":true,\"matching\":0,\"cards\":3,\"version\":\"sirophan 0.1.0 (unreleased)\",\
+                \"page_version\":\"sirophan 0.1.0 (unreleased)\",\"warnings\":[]}\n";
+    folder.run(&["recheck", "--json", "page.html", "sheet.bin", "copy.bin"]).says(0, json, "");
+    let over = folder.run(&["sign", "--out", "./copy.bin", "-e", "title eq x", "sheet.bin", "copy.bin"]);
+    over.fails(1, "sirophan: copy.bin is what is asked, and the page would take its place.\n");
+    assert!(folder.read("copy.bin") == cards);
 }
 
 /// An archive that has grown, another sheet, and a card that was changed.

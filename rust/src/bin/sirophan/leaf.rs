@@ -34,7 +34,7 @@ fn put(lines: &mut Vec<String>, part: &Part) {
             if lines.last().is_some_and(|last| last.starts_with(' ')) {
                 lines.push(String::new());
             }
-            lines.push(width::wrapped(&visible::plain(sentence.as_bytes()), COLUMNS, 0));
+            lines.push(self::sentence(sentence));
         }
         Part::Facts(facts) => {
             let fact = |Fact { mark, value }: &Fact| format!("{}{}", fact_start(*mark), visible::plain(value));
@@ -64,6 +64,11 @@ fn put(lines: &mut Vec<String>, part: &Part) {
             lines.extend([format!("{}  {}", "_".repeat(38), "_".repeat(40)), line.trim_end().into()]);
         }
     }
+}
+
+/// A sentence, cut into lines.
+pub fn sentence(words: &str) -> String {
+    width::wrapped(&visible::plain(words.as_bytes()), COLUMNS, 0)
 }
 
 /// How the line of a fact begins.

@@ -3,13 +3,15 @@
 //! Its parts, from the top down:
 //!
 //! - the commands: `pick` and `search` (in `pick`), `explain` with `verdicts`, `check`, `report` (in `counts`), `plain`, `fields`, `pack`,
-//!   `show`, `verify`, `seal`, to which all others hold an archive;
+//!   `show` with `describe`, `verify`, `seal`, to which all others hold an archive, `sign` and `recheck`;
+//! - pages: `signing` asks and puts a `page` together, `html` and `leaf` write it in its two forms, `visible` shows texts, `in_words` tests,
+//!   `might_be` counts what is not on the list, `day` has the date;
 //! - what they say beside their answers: `advice` and `search_advice` on refusals; `survey` has all doubts of a question, from `doubt` about
 //!   what is asked and `field_doubt` about what cards hold; `zero` walks for tests that no card meets, with `clues`, and `reason`
 //!   tells why;
 //! - what that goes by: `tally` counts the cards, `looks` and `spoken` say what a value looks like, `letters` and `system` in what texts
 //!   differ, `asked` what is asked one by one, `values` what a test goes by;
-//! - what they go through: `cards` in blocks, `description` in words;
+//! - what they go through: `cards` in blocks, with `matching` and `columns`, `description` in words, `csv` in tables;
 //! - what these are made of: `search`, and `sheet`, `filter`, `kind` and `block` of the library's interface;
 //! - in and out: `arguments`, `input`, `stream`, `interrupt`, `report`, `width`, `progress`, `table`, `json`, `text`, `sha256`.
 
@@ -361,7 +363,7 @@ goes to standard output, all else to standard error. With --json both are JSON, 
 Status:
   0  answered
   1  the command line is not understood
-  2  the question is refused, or a description has faults
+  2  the question is refused, a description has faults, or a page does not hold
   3  a file could not be read, or an output not be written
   4  the archive is at fault: its blocks, or a seal that does not hold
 ";

@@ -50,7 +50,6 @@ pub const COLUMNS: Mark = Mark { id: "columns", label: "Columns" };
 pub const CARDS: Mark = Mark { id: "cards", label: "Cards" };
 pub const SHEET_HASH: Mark = Mark { id: "sheet-sha256", label: "SHA-256 of the sheet" };
 pub const CARDS_HASH: Mark = Mark { id: "cards-sha256", label: "SHA-256 of the cards" };
-pub const SEAL: Mark = Mark { id: "seal", label: "Seal" };
 pub const VERSION: Mark = Mark { id: "version", label: "Made by" };
 pub const FINGERPRINT: Mark = Mark { id: "fingerprint", label: "Fingerprint" };
 pub const DATE: Mark = Mark { id: "date", label: "Date" };
@@ -68,6 +67,9 @@ pub const SIGNED: &str = "Date and signature";
 /// What stands in the place of the list where there is no answer, and where the answer is that no card matches.
 pub const NO_ANSWER: &str = "There is no answer.";
 pub const EMPTY: &str = "No card is on the list.";
+/// What stands below the doubts where the cards came through a pipe.
+pub const ONE_WALK: &str =
+    "The cards came through a pipe and were gone through once: of tests that no card meets less is known.";
 
 /// The forms of a page.
 #[derive(Clone, Copy, Debug, PartialEq, Eq)]
@@ -144,6 +146,14 @@ impl Form {
             Form::Text => NO_ANSWER.into(),
         };
         page.lines().any(|other| other == line)
+    }
+
+    /// Whether a page's cards came through a pipe.
+    pub fn is_of_pipe(self, page: &str) -> bool {
+        match self {
+            Form::Html => page.lines().any(|line| line == html::sentence(ONE_WALK)),
+            Form::Text => page.contains(&leaf::sentence(ONE_WALK)),
+        }
     }
 
     /// The record numbers of a page's list; none where it cannot be read.

@@ -6,7 +6,7 @@ use crate::columns::Columns;
 use crate::input::{self, Input, shown};
 use crate::json;
 use crate::page::{self, Form, Mark};
-use crate::report::{Failure, Message, Output};
+use crate::report::{self, Failure, Message, Output};
 use crate::seal;
 use crate::sha256::Hash;
 use crate::sheet::Sheet;
@@ -71,6 +71,8 @@ struct Differences {
     question: Vec<Message>,
     answer: Vec<Message>,
     page: Vec<Message>,
+    /// What is doubted of a page that holds.
+    doubts: Vec<Message>,
 }
 
 /// Reads a page, asks its question again, and says whether archive, question and answer are the same.
@@ -96,7 +98,7 @@ pub fn run(arguments: &Arguments) -> Result<(), Failure> {
     };
     let found = match asked_again(&question, &signed) {
         Ok(asking) => {
-            let found = asking.ask(cards_path, cards)?;
+            let found = asking.ask(cards_path, cards, signed.form.is_of_pipe(&signed.text))?;
             differ.find(&signed, &asking, &found);
             Some(found)
         }
@@ -148,9 +150,10 @@ impl Differences {
             let (again, _) = asking.page(found, &signed.date).written(signed.form);
             let same = again.lines().zip(signed.text.lines()).take_while(|(one, other)| one == other).count();
             if again != signed.text {
-                let text =
-                    format!("line {} of the page is not what `sirophan sign` writes for this archive.", same + 1);
-                self.page.push(told("page_changed", &text));
+                let text = format!("line {} of the page is not what `sirophan sign` writes now.", same + 1);
+                let help =
+                    "Beside archive, question and answer something else was changed, in the page or in the program.";
+                self.doubts.push(Message::warning(text, help).code("page_line"));
             }
         }
     }
@@ -183,12 +186,15 @@ impl Differences {
                 ("cards", cards.to_string()),
                 ("version", json::string(&now)),
                 ("page_version", json::string(&signed.version)),
+                report::warnings(&self.doubts),
             ]))?;
         } else {
             output.line(verdict)?;
             other_version.map_or(Ok(()), |version| output.line(version))?;
         }
-        output.flush()
+        output.flush()?;
+        arguments.warn(&self.doubts);
+        Ok(())
     }
 }
 

@@ -19,6 +19,13 @@ pub fn run(arguments: &Arguments) -> Result<(), Failure> {
     if arguments.json && arguments.out.is_none() {
         return Err(Failure::Usage("With --json the page needs a file: --out FILE.".into()));
     }
+    let is_input = |path: &String| {
+        let real = |path: &str| fs::canonicalize(path).ok();
+        arguments.out.as_deref().and_then(real).is_some_and(|out| real(path) == Some(out))
+    };
+    if let Some(path) = arguments.paths.iter().find(|path| is_input(path)) {
+        return Err(Failure::Usage(format!("{path} is what is asked, and the page would take its place.")));
+    }
     let date = day::of(arguments.date.as_deref())?;
     let form = if arguments.text_form { Form::Text } else { Form::Html };
     let mut question = Question::read(arguments, Words::Filter)?;
@@ -48,7 +55,7 @@ fn answer<'a>(arguments: &Arguments, question: &'a Question, cards: Input) -> Re
     question.check_sealed(arguments, Some(&cards))?;
     let columns = arguments.columns.as_deref().map(|names| Columns::read(&question.sheet, names)).transpose()?;
     let asking = Asking::new(question, columns);
-    let found = asking.ask(&arguments.paths[2], cards)?;
+    let found = asking.ask(&arguments.paths[2], cards, false)?;
     Ok((asking, found))
 }
 

@@ -34,7 +34,8 @@ pub struct Found {
     pub held: Held,
     pub sheet_hash: Hash,
     pub cards_hash: Hash,
-    sealed: bool,
+    /// Whether they were gone through once, as cards from a pipe are.
+    one_walk: bool,
     pub warnings: Vec<Message>,
 }
 
@@ -61,9 +62,11 @@ impl<'a> Asking<'a> {
         Asking { question, columns, survey, sorts }
     }
 
-    /// Asks of all cards, hashes them on the way, and holds them to the seal beside them.
-    pub fn ask(&self, path: &str, cards: Input) -> Result<Found, Failure> {
+    /// Asks of all cards, hashes them on the way, and holds them to the seal beside them. Where they come through a pipe, or are to be
+    /// taken as if they did, there is one walk over them.
+    pub fn ask(&self, path: &str, cards: Input, as_pipe: bool) -> Result<Found, Failure> {
         let is_file = cards.size.is_some();
+        let one_walk = as_pipe || !is_file;
         let (cards, hashed) = cards.hashed();
         let (mut records, mut rows) = (Vec::new(), Vec::new());
         let mut might_be = vec![Some(0); self.sorts.len()];
@@ -75,13 +78,16 @@ impl<'a> Asking<'a> {
             Ok(())
         })?;
         let cards_hash = hashed.so_far();
-        let sealed = is_file && seal::hold_hash(path, cards_hash)?;
+        if is_file {
+            seal::hold_hash(path, cards_hash)?;
+        }
         let listed: HashSet<u32> =
             if held.repeated.is_empty() { HashSet::new() } else { records.iter().copied().collect() };
         let mut warnings = self.survey.doubts(CARDS_NAME, &held, |record| listed.contains(&record));
-        warnings.extend(zero::told(self.question, &self.survey.asked, path, &held, records.len() as u64));
+        let second = if one_walk { "-" } else { path };
+        warnings.extend(zero::told(self.question, &self.survey.asked, second, &held, records.len() as u64));
         let sheet_hash = Hash::of(&self.question.sheet.block);
-        Ok(Found { records, rows, might_be, held, sheet_hash, cards_hash, sealed, warnings })
+        Ok(Found { records, rows, might_be, held, sheet_hash, cards_hash, one_walk, warnings })
     }
 
     /// Asks of the runs of a piece before the first that is refused, and answers what is refused.
@@ -116,15 +122,14 @@ impl<'a> Asking<'a> {
         } else {
             Part::Messages(found.warnings.clone())
         });
+        parts.extend(found.one_walk.then(|| Part::Sentence(page::ONE_WALK.into())));
         parts.push(Part::Heading(page::MIGHT_BE));
         parts.extend(self.might_be(found));
         parts.push(Part::Heading(page::ARCHIVE));
-        let sealed = if found.sealed { "holds: these are the files that archive.txt names" } else { "there is none" };
         parts.push(Part::Facts(vec![
             Fact { mark: page::CARDS, value: grouped(cards).into() },
             Fact { mark: page::SHEET_HASH, value: found.sheet_hash.to_string().into() },
             Fact { mark: page::CARDS_HASH, value: found.cards_hash.to_string().into() },
-            Fact { mark: page::SEAL, value: sealed.into() },
         ]));
         parts.extend(made(date, "These are all the cards of this archive that match the question above."));
         Page { title: "Which cards match".into(), parts }
