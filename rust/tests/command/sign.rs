@@ -153,6 +153,13 @@ fn pages_of_refusals() {
     let told = "cards.bin has 3 cards as archive.txt says, and not the same: something was changed.";
     assert!(said.status == 4 && said.errors.starts_with(told), "{said:?}");
     assert!(folder.text("page.html").contains(told) && !folder.text("page.html").contains("class=\"list"));
+    // A page that cannot be written is told, and so is why there is no answer.
+    let said = folder.sign("none/page.html", &question);
+    assert!(said.status == 3 && said.errors.starts_with(why), "{said:?}");
+    assert!(
+        said.errors.ends_with("sirophan: none/page.html cannot be written: No such file or directory\n"),
+        "{said:?}"
+    );
     // What cannot be read has no page.
     let said = folder.run(&["sign", "--out", "none.html", "sheet.bin", "filter.txt", "none.bin"]);
     assert_eq!((said.status, folder.path.join("none.html").exists()), (3, false));

@@ -109,6 +109,14 @@ fn tables_are_packed() {
             note,
         );
     }
+    // A quote inside a cell that does not begin with one is itself.
+    let (folder, said) = pack_table("table-quote", "string name\n", "\"record\";\"name\"\n1;5\" gun\n2;a \"b\" c\n");
+    said.says(0, "2 cards and a sheet with 1 parameter, in .\n", "");
+    folder.run(&["show", "--csv", "cards.bin"]).says(
+        0,
+        "record,name\r\n1,\"5\"\" gun\"\r\n2,\"a \"\"b\"\" c\"\r\n",
+        "",
+    );
     // A field may be called record.
     let (folder, said) = pack_table("table-record", "string record\n", "record,record\n5,five\n");
     assert_eq!(said.status, 0);

@@ -74,9 +74,18 @@ pub fn separator(head: &[u8]) -> u8 {
     head.iter().copied().find(|byte| b",;".contains(byte)).unwrap_or(b',')
 }
 
-/// Whether a row goes on behind its line end, which stands in quotes.
-pub fn goes_on(row: &[u8]) -> bool {
-    row.iter().fold(false, |is_open, byte| is_open != (*byte == b'"'))
+/// Whether a row goes on behind its line end, which stands in quotes. Only a quote at the start of a cell opens one.
+pub fn goes_on(row: &[u8], separator: u8) -> bool {
+    let (mut is_open, mut starts) = (false, true);
+    for byte in row {
+        is_open = match byte {
+            b'"' if is_open || starts => !is_open,
+            _ => is_open,
+        };
+        // Behind the first of two quotes the cell is closed, and the second opens it again.
+        starts = !is_open && (*byte == separator || *byte == b'"');
+    }
+    is_open
 }
 
 /// The cells of a row.
@@ -142,7 +151,12 @@ mod tests {
         assert_eq!(read("\"\"\n", b',').unwrap(), [""]);
         assert_eq!(read("a \"b\" c,d", b',').unwrap(), ["a \"b\" c", "d"]);
         assert!(read("\"x\"y,1\n", b',').is_err() && read("\"x,1\n", b',').is_err());
-        assert!(goes_on(b"1,\"x\n") && !goes_on(b"1,\"x\n\"\n") && !goes_on(b"1\n"));
+        for row in ["1,\"x\n", "\"", "1,\"a\"\"\n", "1,\"a,\"\"b\n"] {
+            assert!(goes_on(row.as_bytes(), b','), "{row}");
+        }
+        for row in ["1,\"x\n\"\n", "1\n", "1,5\" gun\n", "1,\"a\"\"b\"\n", "1,\"\"\n", "1;\"x\n"] {
+            assert!(!goes_on(row.as_bytes(), b','), "{row}");
+        }
         assert_eq!((separator(b"record;a,b"), separator(b"record,a;b"), separator(b"record")), (b';', b',', b','));
     }
 
@@ -153,6 +167,6 @@ mod tests {
             ["", "a", "a,b", "a;b", "\"", "a\"\"b", " a ", "x\r\ny", "Ström"].map(|cell| cell.as_bytes().to_vec());
         let row = line(&cells);
         assert_eq!(super::cells(&row, b',').unwrap(), cells);
-        assert!(!goes_on(&row));
+        assert!(!goes_on(&row, b','));
     }
 }

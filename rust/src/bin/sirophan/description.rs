@@ -155,8 +155,9 @@ impl Description {
         Ok(())
     }
 
-    /// The next row of a table, with the number of its first line; none at the end.
-    fn next_row(&mut self) -> Result<Option<(usize, Vec<u8>)>, Failure> {
+    /// The next row of a table, with the number of its first line; none at the end. The sign between cells is that of the head, if that is
+    /// read already.
+    fn next_row(&mut self, separator: Option<u8>) -> Result<Option<(usize, Vec<u8>)>, Failure> {
         let (mut row, first) = (Vec::new(), self.number + 1);
         loop {
             let (mut bytes, _) = self.read_line().map_err(|reason| Failure::file(&self.name, "read", reason))?;
@@ -167,7 +168,7 @@ impl Description {
             self.drop_mark(&mut bytes)?;
             row.extend(bytes);
             // What is longer is cut, and is no card.
-            if !csv::goes_on(&row) || row.len() >= LONGEST_LINE {
+            if !csv::goes_on(&row, separator.unwrap_or_else(|| csv::separator(&row))) || row.len() >= LONGEST_LINE {
                 return Ok(Some((first, row)));
             }
         }
@@ -418,7 +419,7 @@ impl<'a> Cards<'a> {
 
     /// Reads the head of a table: `record`, and then a field or a member of a bundle for each column.
     fn read_table_head(&mut self) -> Result<(), Failure> {
-        let Some((line, row)) = self.description.next_row()? else {
+        let Some((line, row)) = self.description.next_row(None)? else {
             self.description.fault(1, "there is no head. Its first row has the names of the fields, `record` first.");
             return Ok(());
         };
@@ -441,7 +442,7 @@ impl<'a> Cards<'a> {
     fn next_of_table(&mut self) -> Result<Option<Vec<u8>>, Failure> {
         let Some(TableHead { separator, names }) = self.table.take() else { return Ok(None) };
         let mut card = None;
-        while let Some((line, row)) = self.description.next_row()? {
+        while let Some((line, row)) = self.description.next_row(Some(separator))? {
             let cells = self.description.cells(line, &row, separator).unwrap_or_default();
             if cells.iter().any(|cell| !cell.is_empty()) {
                 card = Some(self.card_of_row(line, &names, cells));

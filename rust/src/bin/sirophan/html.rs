@@ -36,6 +36,7 @@ thead th { border-bottom: 1pt solid #000; font-size: 10.5pt; }
 thead th { white-space: normal; }
 .facts th { width: 48mm; font-weight: normal; color: #333; }
 .facts td, .list td, .any { overflow-wrap: anywhere; }
+.any { min-width: 32mm; }
 .facts td, .list td { font-family: \"DejaVu Sans Mono\", Consolas, Menlo, monospace; font-size: 10.5pt; }
 #sheet-sha256 td, #cards-sha256 td, #fingerprint td { font-size: 8.5pt; letter-spacing: -.01em; }
 .list th:first-child { width: 18mm; color: #333; font-weight: normal; text-align: right; }

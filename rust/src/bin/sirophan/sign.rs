@@ -42,8 +42,11 @@ pub fn run(arguments: &Arguments) -> Result<(), Failure> {
             show(arguments, &found, &fingerprint)
         }
         Err(failure) => {
-            if let Failure::Refused(messages) | Failure::AtFault(messages) = &failure {
-                write(arguments, &refused.page(messages, &date), form)?;
+            if let Failure::Refused(messages) | Failure::AtFault(messages) = &failure
+                && let Err(unwritten) = write(arguments, &refused.page(messages, &date), form)
+            {
+                failure.say(arguments.json);
+                return Err(unwritten);
             }
             Err(failure)
         }
