@@ -7,7 +7,8 @@ use crate::visible;
 use std::fmt::Write;
 
 /// How every page begins.
-pub const START: &str = "<!DOCTYPE html>\n<html lang=\"en\">\n<head>\n<meta charset=\"utf-8\">\n<meta name=\"generator\" content=\"sirophan sign\">\n";
+pub const START: &str = "<!DOCTYPE html>\n<html lang=\"en\">\n<head>\n<meta charset=\"utf-8\">\n<meta name=\"generator\" content=\"sirophan sign\">\n\
+                         <meta http-equiv=\"Content-Security-Policy\" content=\"default-src 'none'; style-src 'unsafe-inline'\">\n";
 /// How the line of a fact ends.
 pub const FACT_END: &str = "</td></tr>";
 /// How the lines of a list begin: of numbers, and of cards with columns.
