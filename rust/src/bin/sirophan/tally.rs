@@ -379,8 +379,7 @@ impl<'a> Counter<'a> {
             // Of a long file nearly all cards are passed over here.
             if lot <= tally.highest_lot {
                 let turn = if self.is_quick { turn(lot) } else { 0 };
-                let wanted = tally.wanted[turn];
-                if block::items(card).any(|item| wanted >> (item.byte % 32) & 1 == 1) {
+                if has_any(card, tally.wanted[turn]) {
                     self.count_card(tally, index, card, turn);
                 }
             }
@@ -483,6 +482,28 @@ fn repeated(mut records: Vec<u32>) -> Vec<(u32, u64)> {
     records.sort_unstable();
     let runs = records.chunk_by(|one, other| one == other).filter(|run| run.len() > 1);
     runs.map(|run| (run[0], run.len() as u64)).collect()
+}
+
+/// Whether a card has a text under one of some places, which are bits. A field that few cards have is looked for on all of them, so that
+/// this goes from length to length and looks at nothing else.
+fn has_any(card: &[u8; SIZE], places: u32) -> bool {
+    if block::is_marked(card) { has_any_behind::<3>(card, places) } else { has_any_behind::<2>(card, places) }
+}
+
+/// The same, where a text has so many bytes before it: its place first, its length last. A card at fault may say that it goes on behind
+/// its end.
+fn has_any_behind<const HEAD: usize>(card: &[u8; SIZE], places: u32) -> bool {
+    let mut at = block::CARD_HEAD;
+    for _ in 0..card[block::CARD_HEAD - 1] {
+        if at + HEAD > SIZE {
+            return false;
+        }
+        if places >> (card[at] % 32) & 1 == 1 {
+            return true;
+        }
+        at += HEAD + usize::from(card[at + HEAD - 1]);
+    }
+    false
 }
 
 /// What the lots of two cards in a row differ by.
