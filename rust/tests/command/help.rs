@@ -128,7 +128,10 @@ fn texts_on_the_command_line() {
 #[test]
 fn help_in_eighty_columns() {
     let folder = Folder::new("columns");
-    for name in ["pick", "search", "explain", "check", "report", "plain", "fields", "pack", "show", "verify"] {
+    for name in [
+        "pick", "search", "explain", "check", "report", "plain", "fields", "pack", "show", "verify", "seal", "sign",
+        "recheck",
+    ] {
         for line in folder.run(&[name, "--help"]).output.lines().chain(folder.run(&["--help"]).output.lines()) {
             assert!(line.chars().count() <= 80, "{name}: {line}");
         }
