@@ -333,8 +333,8 @@ const COMMANDS: [Command; 13] = [
                SOURCE_DATE_EPOCH says. The page has a fingerprint, the SHA-256 of all its lines but those of the date and of \
                the fingerprint itself. It goes through the whole cards file and holds it to archive.txt byte for byte.\n\n\
                Example:\n\n\
-               \x20   $ sirophan sign --out ward/page.html ward/sheet.bin ward/filter.txt ward/cards.bin\n\
-               \x20   2 of 3 cards, in ward/page.html\n",
+               \x20   $ cd ward; sirophan sign --out page.html sheet.bin filter.txt cards.bin\n\
+               \x20   2 of 3 cards, in page.html\n",
         run: sign::run,
     },
     Command {
