@@ -257,6 +257,24 @@ mod tests {
         );
     }
 
+    /// With every bracket the order of joins can be read off, and idle brackets stay as they are.
+    #[test]
+    fn every_bracket() {
+        let read = |text: &str| String::from_utf8(Filter::with_every_bracket(text.as_bytes()).unwrap()).unwrap();
+        for (text, with_brackets) in [
+            ("a eq 1", "a eq 1"),
+            ("a eq 1 and b eq 2", "a eq 1 and b eq 2"),
+            ("a eq 1 and b eq 2 and c eq 3", "(a eq 1 and b eq 2) and c eq 3"),
+            ("a eq 1 and b eq 2 or c eq 3 and d eq 4", "((a eq 1 and b eq 2) or c eq 3) and d eq 4"),
+            ("a eq 1 or (b eq 2 or c eq 3 or d eq 4)", "a eq 1 or ((b eq 2 or c eq 3) or d eq 4)"),
+            ("not (a eq 1 or b eq 2 or c eq 3)", "not ((a eq 1 or b eq 2) or c eq 3)"),
+            ("r[a eq 1 or b eq 2 or c eq 3].d pr true", "r[(a eq 1 or b eq 2) or c eq 3].d pr true"),
+        ] {
+            assert_eq!(read(text), with_brackets);
+        }
+        assert_eq!(Filter::with_every_bracket(b"a eq"), None);
+    }
+
     /// Tests are found with their parts, an outer one before those inside it.
     #[test]
     fn tests_and_their_parts() {

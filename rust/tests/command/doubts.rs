@@ -276,6 +276,11 @@ fn values_that_overlap() {
             "`stay po 1945` finds it",
         ),
         (
+            "birthdate le 1945-01",
+            "1 card has a date that overlaps 1945-01, such as 1945",
+            "`birthdate po 1945-01` finds it",
+        ),
+        (
             "pages eq 12.0",
             "1 card has a less precise number that 12.0 may lie in, such as 12",
             "`pages co 12.0` finds it",
