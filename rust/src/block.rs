@@ -91,7 +91,7 @@ pub fn write_card(record: u32, entries: &[Item]) -> Option<Vec<u8>> {
     write_card_as(record, entries, has_marks(entries))
 }
 
-/// The same in the form that is asked for. Without occurrences in the older form they are lost.
+/// The same in the form that is asked for; the older one has no occurrences, and drops them.
 #[must_use]
 pub fn write_card_as(record: u32, entries: &[Item], marked: bool) -> Option<Vec<u8>> {
     let mut head = vec![if marked { MARKED_CARD } else { CARD }];

@@ -4,7 +4,6 @@
 use crate::advice;
 use crate::block::{self, CARD_HEAD, Item, LONGEST_TEXT, MOST_ENTRIES, MOST_PARAMETERS, SHEET_HEAD, SUMMED};
 use crate::cards::{Fit, RUN};
-use crate::csv;
 use crate::input::Input;
 use crate::kind;
 use crate::progress::Progress;
@@ -13,6 +12,9 @@ use crate::sheet::{self, Parameter, Sheet};
 use crate::text::{self, counted, grouped, printable, row, spell};
 use sirophan::Prepared;
 use std::io::{self, BufRead, BufReader, Read};
+use table::TableHead;
+
+mod table;
 
 /// The most faults that are told one by one.
 const MOST_TOLD: usize = 20;
@@ -155,47 +157,6 @@ impl Description {
         Ok(())
     }
 
-    /// The next row of a table, with the number of its first line; none at the end. The sign between cells is that of the head, if that is
-    /// read already.
-    fn next_row(&mut self, separator: Option<u8>) -> Result<Option<(usize, Vec<u8>)>, Failure> {
-        let (mut row, first) = (Vec::new(), self.number + 1);
-        loop {
-            let (mut bytes, _) = self.read_line().map_err(|reason| Failure::file(&self.name, "read", reason))?;
-            if bytes.is_empty() {
-                return Ok((!row.is_empty()).then_some((first, row)));
-            }
-            self.number += 1;
-            self.drop_mark(&mut bytes)?;
-            row.extend(bytes);
-            // What is longer is cut, and is no card.
-            if !csv::goes_on(&row, separator.unwrap_or_else(|| csv::separator(&row))) || row.len() >= LONGEST_LINE {
-                return Ok(Some((first, row)));
-            }
-        }
-    }
-
-    /// The cells of a row that was read; its faults are kept.
-    fn cells(&mut self, line: usize, row: &[u8], separator: u8) -> Option<Vec<Vec<u8>>> {
-        let fault = match str::from_utf8(row) {
-            _ if row.len() >= LONGEST_LINE => {
-                format!("this row has over {} bytes. Is a quote missing?", grouped(LONGEST_LINE as u64))
-            }
-            _ if row.contains(&0) => "this row has zero bytes, as UTF-16 has. Save the file as UTF-8.".into(),
-            Err(at) => {
-                let byte = row[at.valid_up_to()];
-                format!(
-                    "this row is not UTF-8: it has the byte 0x{byte:02X}, perhaps of Latin-1. Save the file as UTF-8."
-                )
-            }
-            Ok(_) => match csv::cells(row, separator) {
-                Ok(cells) => return Some(cells),
-                Err(fault) => fault.into(),
-            },
-        };
-        self.fault(line, &fault);
-        None
-    }
-
     /// What was dropped, as notes.
     pub fn notes(&self) -> Vec<Message> {
         let dropped = [
@@ -324,9 +285,6 @@ fn sound_sheet(
     None
 }
 
-/// How the name of a table of cards ends.
-const TABLE_END: &str = ".csv";
-
 /// An entry of a card, with its line.
 struct Entry {
     line: usize,
@@ -342,12 +300,6 @@ struct CardHead {
     line: usize,
     record: u32,
     marked: bool,
-}
-
-/// The head of a table of cards: the sign between its cells, and the names of its columns.
-struct TableHead {
-    separator: u8,
-    names: Vec<String>,
 }
 
 /// The cards of cards.txt or cards.csv, as they are read.
@@ -369,7 +321,7 @@ impl<'a> Cards<'a> {
     /// The cards of a description, by a sheet's names.
     pub fn open(path: &str, sheet: &'a Sheet) -> Result<Cards<'a>, Failure> {
         let mut cards = Cards::new(Description::open(path)?, sheet);
-        if path.ends_with(TABLE_END) {
+        if table::is_one(path) {
             cards.read_table_head()?;
         }
         Ok(cards)
@@ -415,66 +367,6 @@ impl<'a> Cards<'a> {
         }
         self.progress.clear();
         Ok(current.map(|current| self.card(current, &entries)))
-    }
-
-    /// Reads the head of a table: `record`, and then a field or a member of a bundle for each column.
-    fn read_table_head(&mut self) -> Result<(), Failure> {
-        let Some((line, row)) = self.description.next_row(None)? else {
-            self.description.fault(1, "there is no head. Its first row has the names of the fields, `record` first.");
-            return Ok(());
-        };
-        let separator = csv::separator(&row);
-        let cells = self.description.cells(line, &row, separator).unwrap_or_default();
-        let names: Vec<String> = cells.iter().map(|cell| printable(cell.trim_ascii())).collect();
-        if names.first().is_none_or(|name| name != csv::RECORD) {
-            self.description.fault(line, "the first column is to be `record`, the record number of each card.");
-        }
-        for name in names.iter().skip(1).filter(|name| !name.is_empty()) {
-            if let Err(fault) = self.place(name, false) {
-                self.description.fault(line, &format!("{name}: {fault}"));
-            }
-        }
-        self.table = Some(TableHead { separator, names });
-        Ok(())
-    }
-
-    /// The next card of a table. Rows without a text are passed over, as spreadsheets may have them behind the last.
-    fn next_of_table(&mut self) -> Result<Option<Vec<u8>>, Failure> {
-        let Some(TableHead { separator, names }) = self.table.take() else { return Ok(None) };
-        let mut card = None;
-        while let Some((line, row)) = self.description.next_row(Some(separator))? {
-            let cells = self.description.cells(line, &row, separator).unwrap_or_default();
-            if cells.iter().any(|cell| !cell.is_empty()) {
-                card = Some(self.card_of_row(line, &names, cells));
-                break;
-            }
-        }
-        if card.is_none() {
-            self.progress.clear();
-        }
-        self.table = Some(TableHead { separator, names });
-        Ok(card)
-    }
-
-    /// The card of a row's cells. An empty cell is no value.
-    fn card_of_row(&mut self, line: usize, names: &[String], cells: Vec<Vec<u8>>) -> Vec<u8> {
-        let mut cells = cells.into_iter();
-        let text = cells.next().unwrap_or_default();
-        let record = self.record(&Line { number: line, head: csv::RECORD.into(), text });
-        let head = CardHead { line, record, marked: false };
-        let mut entries = Vec::new();
-        for (text, column) in cells.zip(1..).filter(|(text, _)| !text.is_empty()) {
-            match names.get(column).filter(|name| !name.is_empty()) {
-                // One too many is enough to tell.
-                Some(_) if entries.len() > MOST_ENTRIES => {}
-                Some(name) => entries.extend(self.entry(head, Line { number: line, head: name.clone(), text })),
-                None => {
-                    let fault = format!("record {record}: {} stands in a column without a name.", spell(&text));
-                    self.description.fault(line, &fault);
-                }
-            }
-        }
-        self.card(head, &entries)
     }
 
     /// Shows how many cards are read.
