@@ -10,6 +10,7 @@ use crate::report::Failure;
 use crate::sheet::Sheet;
 use crate::text;
 use std::ops::Range;
+use std::sync::atomic::{AtomicUsize, Ordering};
 
 /// What values may look like that are of another kind.
 pub struct Likeness {
@@ -262,9 +263,9 @@ impl Sampled {
         self.values > ENOUGH && self.from < HALVINGS
     }
 
-    /// Leaves out the turns that there are enough values without.
-    fn thin(&mut self) {
-        while self.has_enough() {
+    /// Leaves out the turns that there are enough values without, and those before one that is given.
+    fn thin(&mut self, from: usize) {
+        while self.from < from || self.has_enough() {
             self.values -= std::mem::take(&mut self.by_turn[self.from]).values;
             self.from += 1;
         }
@@ -310,8 +311,10 @@ pub struct Counter<'a> {
     sheet: &'a Sheet,
     asked: Vec<Asked>,
     watched: Vec<Vec<u8>>,
-    /// Whether of many values only some are looked at.
+    /// Whether of many values only some are looked at, and from which turn on some processor looks at them, by parameter: with what it has
+    /// the turns before would be left out at the end, so that the others leave them out too.
     is_quick: bool,
+    from: Vec<AtomicUsize>,
 }
 
 impl<'a> Counter<'a> {
@@ -324,7 +327,9 @@ impl<'a> Counter<'a> {
             let watched = (0..watched.len()).filter(|&number| watched[number].0 == place).collect();
             asked[place] = Asked { counts: true, word, doubtful, watched };
         }
-        Counter { sheet, asked, watched: watched.iter().map(|(_, value)| value.clone()).collect(), is_quick: false }
+        let from = asked.iter().map(|_| AtomicUsize::new(0)).collect();
+        let watched = watched.iter().map(|(_, value)| value.clone()).collect();
+        Counter { sheet, asked, watched, is_quick: false, from }
     }
 
     /// The same counter, for where a list has to come quickly.
@@ -370,6 +375,9 @@ impl<'a> Counter<'a> {
             tally.seen = vec![false; self.watched.len()];
             self.note_wanted(tally);
         }
+        if tally.fields.iter().zip(&self.from).any(|(field, from)| field.from < from.load(Ordering::Relaxed)) {
+            self.thin(tally);
+        }
         let start = tally.records.len();
         let (cards, _) = piece.as_chunks::<SIZE>();
         tally.records.extend(cards.iter().map(record));
@@ -414,9 +422,17 @@ impl<'a> Counter<'a> {
             }
         }
         if self.is_quick && changes {
-            tally.fields.iter_mut().for_each(Sampled::thin);
-            self.note_wanted(tally);
+            self.thin(tally);
         }
+    }
+
+    /// Leaves out the turns that there are enough values without.
+    fn thin(&self, tally: &mut Tally) {
+        for (field, from) in tally.fields.iter_mut().zip(&self.from) {
+            field.thin(from.load(Ordering::Relaxed));
+            from.fetch_max(field.from, Ordering::Relaxed);
+        }
+        self.note_wanted(tally);
     }
 
     /// Notes which places are to be looked at on cards of each turn: those that have not enough values without it, and those of watched
@@ -445,7 +461,9 @@ impl<'a> Counter<'a> {
             seen.iter_mut().zip(tally.seen).for_each(|(seen, more)| *seen |= more);
         }
         if self.is_quick {
-            fields.iter_mut().for_each(Sampled::thin);
+            for field in &mut fields {
+                field.thin(0);
+            }
         }
         let cards = records.iter().map(|records| records.len() as u64).sum();
         let repeated = if rises(risen, falls) { Vec::new() } else { repeated(records.concat()) };
@@ -514,9 +532,10 @@ fn lot_of(index: u64) -> u64 {
     index.wrapping_mul(LOT)
 }
 
-/// The turn of a card by its lot: half of the cards have turn 0, half of the others 1, and so on.
+/// The turn of a card by its lot: half of the cards have turn 0, half of the others 1, and so on up to the last.
 fn turn(lot: u64) -> usize {
-    (lot.leading_zeros() as usize).min(HALVINGS)
+    const LAST: u64 = 1 << (63 - HALVINGS);
+    (lot | LAST).leading_zeros() as usize
 }
 
 /// The record number of a card. It is read from its bytes: to ask the library of every card would take longer than all else here.
