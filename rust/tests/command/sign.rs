@@ -101,7 +101,9 @@ fn the_page_of_a_doubt() {
     folder.recheck("page.html").says(0, "same archive, same question, same answer\n", "");
     folder.sign("page.txt", &["--text", FILES[0], FILES[1], FILES[2]]);
     let page = folder.text("page.txt");
-    let wrapped = "\nwarning: birthdate is a token, and 30 of 30 values look like dates.\n  If it holds dates, the sheet gives it the wrong kind, and a filter asks\n    something else than it seems to.\n";
+    let wrapped = "\nwarning: birthdate is a token, and 30 of 30 values look like dates.\n\
+                   \x20 If it holds dates, the sheet gives it the wrong kind, and a filter asks\n\
+                   \x20   something else than it seems to.\n";
     assert!(page.contains(wrapped), "{page}");
     folder.recheck("page.txt").says(0, "same archive, same question, same answer\n", "");
     let json = folder.run(&["sign", "--json", "--date", DAY, "--out", "page.html", FILES[0], FILES[1], FILES[2]]);
