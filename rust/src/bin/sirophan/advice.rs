@@ -11,45 +11,13 @@ use crate::search_advice;
 use crate::sheet::{Parameter, Sheet};
 use crate::text::{self, printable, row, spell};
 use sirophan::Refusal;
+pub use sirophan::Words;
 
 /// What to do about a wrong check sum.
 const DAMAGED: &str = "It was changed or damaged since it was written: pack it again from its description.";
 
 /// What to do about a description in the place of cards.
 pub const TEXT_FOR_CARDS: &str = "It is a text. A description becomes cards by `sirophan pack DIR OUT`.";
-
-/// In which words a text asks.
-#[derive(Clone, Copy, Debug, PartialEq, Eq)]
-pub enum Words {
-    Filter,
-    Search,
-}
-
-impl Words {
-    /// How many tests or alternatives a text has, if it has a meaning.
-    pub fn check(self, sheet: &[u8], text: &[u8]) -> Result<usize, Refusal> {
-        match self {
-            Words::Filter => sirophan::check(sheet, text),
-            Words::Search => sirophan::check_search(sheet, text),
-        }
-    }
-
-    /// Whether a card matches a text.
-    pub fn matches(self, sheet: &[u8], text: &[u8], card: &[u8]) -> Result<bool, Refusal> {
-        match self {
-            Words::Filter => sirophan::matches(sheet, text, card),
-            Words::Search => sirophan::matches_search(sheet, text, card),
-        }
-    }
-
-    /// The record numbers of the cards of a run that match a text.
-    pub fn select(self, sheet: &[u8], text: &[u8], run: &[u8], list: &mut [u32]) -> Result<usize, Refusal> {
-        match self {
-            Words::Filter => sirophan::select(sheet, text, run, list),
-            Words::Search => sirophan::select_search(sheet, text, run, list),
-        }
-    }
-}
 
 /// A sheet and a filter or a search string, with what messages call them.
 pub struct Question {
