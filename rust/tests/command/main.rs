@@ -12,6 +12,7 @@ mod help;
 mod pack;
 mod pick;
 mod plain;
+mod query;
 mod report;
 mod seal;
 mod search;

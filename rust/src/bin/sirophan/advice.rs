@@ -50,7 +50,7 @@ impl Question {
     }
 
     /// A refusal of the sheet or the text as it is told.
-    fn tell(&self, refusal: Refusal) -> Message {
+    pub fn tell(&self, refusal: Refusal) -> Message {
         match (refusal.number, self.words) {
             (1..=3, _) => sheet_refused(&self.sheet_name, &self.sheet, refusal),
             (_, Words::Filter) => self.tell_filter(refusal),

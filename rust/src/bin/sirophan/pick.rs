@@ -7,9 +7,11 @@ use crate::input::{Input, shown};
 use crate::json;
 use crate::report::{self, Failure, Message, Output};
 use crate::survey::Survey;
+use crate::tally::Held;
 use crate::zero;
 use std::collections::HashSet;
 use std::io::{self, IsTerminal};
+use std::slice;
 
 /// By a filter.
 pub fn run(arguments: &Arguments) -> Result<(), Failure> {
@@ -28,37 +30,49 @@ fn list(words: Words, arguments: &Arguments) -> Result<(), Failure> {
     let mut cards = Input::open(path)?;
     cards.shows_progress = !(arguments.stream && io::stdout().is_terminal());
     question.check_sealed(arguments, Some(&cards))?;
-    let survey = Survey::new(&question);
+    let survey = Survey::new(slice::from_ref(&question));
     let counter = survey.quick_counter();
     let fit = Fit { sheet: &question.sheet, asked: Some((words, question.text.clone())) };
 
-    let mut list = List { output: Output::new(), listed: Vec::new(), matching: 0, cards: 0, arguments };
+    let mut list = List::new(arguments, true);
     let select = |first, piece: &[u8]| fit.select_piece(first, piece);
     let held = match counter.pass(cards, select, |found, count| list.add(found, count)) {
         Ok(held) => held,
         // What was streamed before a refusal comes out, without the count that would make it a list.
         Err(failure) => return Err(list.output.flush().err().unwrap_or(failure)),
     };
-    // Most archives have no record number twice, and then none is looked for.
-    let listed: HashSet<u32> =
-        if held.repeated.is_empty() { HashSet::new() } else { list.listed.iter().copied().collect() };
-    let mut warnings = survey.doubts(&shown(path), &held, |record| listed.contains(&record));
-    warnings.extend(zero::told(&question, &survey.asked, path, &held, list.matching));
+    let warnings = warnings(&survey, path, &held, &list.listed);
     list.end(&warnings)
 }
 
+/// All that is warned of beside a list.
+pub fn warnings(survey: &Survey, path: &str, held: &Held, listed: &[u32]) -> Vec<Message> {
+    // Most archives have no record number twice, and then none is looked for.
+    let numbers: HashSet<u32> =
+        if held.repeated.is_empty() { HashSet::new() } else { listed.iter().copied().collect() };
+    let mut warnings = survey.doubts(&shown(path), held, |record| numbers.contains(&record));
+    warnings.extend(zero::told(&survey.questions[0], &survey.asked, path, held, listed.len() as u64));
+    warnings
+}
+
 /// The list of record numbers as it grows.
-struct List<'a> {
-    output: Output,
-    listed: Vec<u32>,
-    matching: u64,
+pub struct List<'a> {
+    pub output: Output,
+    pub listed: Vec<u32>,
+    pub matching: u64,
     cards: u64,
     arguments: &'a Arguments,
+    /// Whether the numbers are shown, or only how many they are.
+    shows_numbers: bool,
 }
 
 impl List<'_> {
+    pub fn new(arguments: &Arguments, shows_numbers: bool) -> List<'_> {
+        List { output: Output::new(), listed: Vec::new(), matching: 0, cards: 0, arguments, shows_numbers }
+    }
+
     /// Adds what was found on so many cards.
-    fn add(&mut self, found: Vec<u32>, cards: u64) -> Result<(), Failure> {
+    pub fn add(&mut self, found: Vec<u32>, cards: u64) -> Result<(), Failure> {
         self.matching += found.len() as u64;
         self.cards += cards;
         if self.arguments.stream {
@@ -77,12 +91,13 @@ impl List<'_> {
     }
 
     /// Writes what was held back, says the warnings, and writes the count below them.
-    fn end(mut self, warnings: &[Message]) -> Result<(), Failure> {
+    pub fn end(mut self, warnings: &[Message]) -> Result<(), Failure> {
         let listed = std::mem::take(&mut self.listed);
-        let held_back = if self.arguments.stream { &[][..] } else { &listed };
+        let is_held_back = self.shows_numbers && !self.arguments.stream;
+        let held_back = if is_held_back { &listed } else { &[][..] };
         if self.arguments.json {
             let records: Vec<String> = held_back.iter().map(u32::to_string).collect();
-            let list = (!self.arguments.stream).then(|| ("records", json::array(&records)));
+            let list = is_held_back.then(|| ("records", json::array(&records)));
             let counts = [("matching", self.matching.to_string()), ("cards", self.cards.to_string())];
             let pairs: Vec<(&str, String)> =
                 list.into_iter().chain(counts).chain([report::warnings(warnings)]).collect();
