@@ -9,6 +9,7 @@ mod explain;
 mod fields;
 mod folder;
 mod help;
+mod json;
 mod pack;
 mod pick;
 mod plain;
