@@ -2,8 +2,8 @@
 \set QUIET on
 TRUNCATE outcomes;
 CREATE EXTENSION postgres_fdw;
-CREATE SERVER first FOREIGN DATA WRAPPER postgres_fdw OPTIONS (host :'socket', port '1', dbname 'cards', extensions 'sirophan', async_capable 'true');
-CREATE SERVER second FOREIGN DATA WRAPPER postgres_fdw OPTIONS (host :'socket', port '2', dbname 'cards', extensions 'sirophan', async_capable 'true');
+CREATE SERVER first FOREIGN DATA WRAPPER postgres_fdw OPTIONS (host :'socket', port '1', dbname 'cards', extensions 'sirophan', async_capable 'true', fetch_size '10000');
+CREATE SERVER second FOREIGN DATA WRAPPER postgres_fdw OPTIONS (host :'socket', port '2', dbname 'cards', extensions 'sirophan', async_capable 'true', fetch_size '10000');
 CREATE USER MAPPING FOR CURRENT_USER SERVER first OPTIONS (user 'sirophan');
 CREATE USER MAPPING FOR CURRENT_USER SERVER second OPTIONS (user 'sirophan');
 \c cards - :socket 1
