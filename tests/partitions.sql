@@ -35,7 +35,8 @@ INSERT INTO outcomes VALUES
     ('a parameter is shipped too', (SELECT count(*)::text FROM regexp_split_to_table(
         planned(format('SELECT FROM parted WHERE sirophan_match((SELECT sheet FROM chosen), %s, card)', :'filter')), E'\n') AS line
         WHERE line ~ 'Remote SQL: .* WHERE \(\(?public\.sirophan_match_each\('), '2'),
-    ('a count is made there', (SELECT count(*)::text FROM regexp_split_to_table(planned(format('SELECT count(*) FROM parted_first WHERE sirophan_match(%s, %s, card)', :'sheet', :'filter')), E'\n') AS line
+    ('a count is made there', (SELECT count(*)::text FROM regexp_split_to_table(
+        planned(format('SELECT count(*) FROM parted_first WHERE sirophan_match(%s, %s, card)', :'sheet', :'filter')), E'\n') AS line
         WHERE line ~ 'Remote SQL: SELECT count\(\*\) FROM'), '1'),
     ('senseless', asked(format('count(*) FROM parted WHERE sirophan_match(%s, ''nowhere eq 1'', card)', :'sheet')), 'refused 14 at 0');
 

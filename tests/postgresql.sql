@@ -92,17 +92,20 @@ SELECT literal(sheet) AS sheet, literal(filter) AS filter, literal(card) AS card
 
 INSERT INTO outcomes VALUES
     ('a refusal, whole', error_of(format('SELECT sirophan_check(%s, ''nowhere eq 1'')', :'sheet')),
-     'SR014; refused 14 at 0: The name is not on the sheet, or cannot stand here: members are named with their bundle''s brackets.; The place counts the bytes of: nowhere eq 1; `sirophan check` says what could stand there in its place.'),
+     'SR014; refused 14 at 0: The name is not on the sheet, or cannot stand here: members are named with their bundle''s brackets.; '
+     'The place counts the bytes of: nowhere eq 1; `sirophan check` says what could stand there in its place.'),
     ('a short card', error_of(format('SELECT sirophan_match(%s, %s, %s)', :'sheet', :'filter', :'short')),
-     'SR020; refused 20 at 0: The card is not 512 bytes long, or the run is no whole number of cards or over 128.; The card has 511 bytes.; There is no answer until the card is put right. `sirophan show` says what is wrong with a card.'),
+     'SR020; refused 20 at 0: The card is not 512 bytes long, or the run is no whole number of cards or over 128.; The card has 511 bytes.; '
+     'There is no answer until the card is put right. `sirophan show` says what is wrong with a card.'),
     ('a damaged card', error_of(format('SELECT sirophan_match(%s, %s, %s)', :'sheet', :'filter', :'damaged')),
-     'SR021; refused 21 at 0: The card''s check sum is wrong.; The card has the record number ' || :'record' || '.; There is no answer until the card is put right. `sirophan show` says what is wrong with a card.'),
+     'SR021; refused 21 at 0: The card''s check sum is wrong.; The card has the record number ' || :'record' ||
+     '.; There is no answer until the card is put right. `sirophan show` says what is wrong with a card.'),
     ('a short sheet', error_of('SELECT sirophan_check(''x'', ''a eq 1'')'),
      'SR001; refused 1 at 0: The sheet is not 512 bytes long.; ; `sirophan show` says what is wrong with a sheet.'),
     ('a filter that cannot be shown', error_of('SELECT sirophan_plain(''\x61ff00'')'),
      'SR011; refused 11 at 1: The text is no filter by the grammar: no filter goes on like this.; ; `sirophan check` says what could stand there in its place.'),
     ('NULL', coalesce(asked(format('sirophan_match(%s, %s, NULL)', :'sheet', :'filter')), 'NULL'), 'NULL'),
-    ('a list by no filter', asked(format('* FROM sirophan_select(%s, NULL, ''empty'', ''card'')', :'sheet')), '22004 an argument of sirophan_select is NULL'),
+    ('a list by no filter', asked(format('* FROM sirophan_select(%s, NULL, ''empty'', ''card'')', :'sheet')), '22004 a list was asked for with an argument that is NULL'),
     ('a list of a NULL card', asked(format('count(found) FROM sirophan_select(%s, %s, ''empty'', ''card'') AS found', :'sheet', :'filter')), '0');
 
 -- No row is looked at: constants, parameters of a plan that does not know them, subselects; and the same where the filter has a meaning.
@@ -123,6 +126,10 @@ $$;
 INSERT INTO outcomes SELECT 'no row, senseless, ' || name, left(substring(answered FROM 'refused.*'), 15), 'refused 14 at 0' FROM without_rows('''nowhere eq 1''');
 INSERT INTO outcomes SELECT 'no row, ' || name, answered, '0' FROM without_rows((SELECT literal(filter) FROM ward));
 INSERT INTO outcomes VALUES
+    ('a list by a search string, no row', asked(format('count(*) FROM sirophan_select_search(%s, ''nowhere=1'', ''empty'', ''card'')', :'sheet')), 'refused 14 at 0'),
+    ('a correlated sheet', asked('count(*) FROM ward w WHERE sirophan_match((SELECT i.sheet FROM ward i WHERE i.card = w.card), filter, card)'), '1'),
+    ('a correlated sheet that is none',
+     asked('count(*) FROM ward w WHERE sirophan_match((SELECT substr(w.card, 1, 5) FROM ward i WHERE i.card = w.card), filter, card)'), 'refused 1 at 0'),
     ('a search string, no row', asked(format('count(*) FROM empty WHERE sirophan_search(%s, ''nowhere=1'', card)', :'sheet')), 'refused 14 at 0'),
     ('a search string of a subselect, no row',
      asked('count(*) FROM empty WHERE sirophan_search((SELECT sheet FROM ward), ''nowhere=1'', card)'), 'refused 14 at 0'),

@@ -55,19 +55,19 @@ CREATE FUNCTION sirophan_search(sheet bytea, string bytea, card bytea) RETURNS b
     AS 'MODULE_PATHNAME', 'sql_search' LANGUAGE C IMMUTABLE STRICT PARALLEL SAFE COST 40 SUPPORT sirophan_support_search;
 COMMENT ON FUNCTION sirophan_search(bytea, bytea, bytea) IS 'whether a card matches a search string';
 
--- The record numbers of a table's cards that match. It is not strict: a sheet, a filter or a card that is NULL is an error, and no list without it.
+-- The record numbers of a table's cards that match, by the function that asks a card. It is not strict: a sheet, a question or a card that is NULL is an
+-- error, and no list without it.
 
-CREATE FUNCTION sirophan_select(sheet bytea, filter bytea, cards regclass, card name) RETURNS SETOF bigint LANGUAGE plpgsql STABLE PARALLEL SAFE AS $$
+CREATE FUNCTION sirophan_listed(sheet bytea, question bytea, cards regclass, card name, asks name, checks name) RETURNS SETOF bigint LANGUAGE plpgsql STABLE PARALLEL SAFE AS $$
 DECLARE
     found bigint;
 BEGIN
-    IF sheet IS NULL OR filter IS NULL OR cards IS NULL OR card IS NULL THEN
-        RAISE null_value_not_allowed USING MESSAGE = 'an argument of sirophan_select is NULL';
+    IF sheet IS NULL OR question IS NULL OR cards IS NULL OR card IS NULL THEN
+        RAISE null_value_not_allowed USING MESSAGE = 'a list was asked for with an argument that is NULL';
     END IF;
-    PERFORM @extschema@.sirophan_check(sheet, filter);
+    EXECUTE format('SELECT @extschema@.%I($1, $2)', checks) USING sheet, question;
     FOR found IN EXECUTE format(
-        'SELECT @extschema@.sirophan_record(%1$I) FROM %2$s WHERE %1$I IS NULL OR @extschema@.sirophan_match($1, $2, %1$I)', card, cards)
-        USING sheet, filter
+        'SELECT @extschema@.sirophan_record(%1$I) FROM %2$s WHERE %1$I IS NULL OR @extschema@.%3$I($1, $2, %1$I)', card, cards, asks) USING sheet, question
     LOOP
         IF found IS NULL THEN
             RAISE null_value_not_allowed USING MESSAGE = format('a card of %s is NULL', cards);
@@ -76,4 +76,11 @@ BEGIN
     END LOOP;
 END
 $$;
+
+CREATE FUNCTION sirophan_select(sheet bytea, filter bytea, cards regclass, card name) RETURNS SETOF bigint LANGUAGE sql STABLE PARALLEL SAFE
+    AS $$SELECT @extschema@.sirophan_listed(sheet, filter, cards, card, 'sirophan_match', 'sirophan_check')$$;
 COMMENT ON FUNCTION sirophan_select(bytea, bytea, regclass, name) IS 'the record numbers of the cards of a table that match a filter';
+
+CREATE FUNCTION sirophan_select_search(sheet bytea, string bytea, cards regclass, card name) RETURNS SETOF bigint LANGUAGE sql STABLE PARALLEL SAFE
+    AS $$SELECT @extschema@.sirophan_listed(sheet, string, cards, card, 'sirophan_search', 'sirophan_check_search')$$;
+COMMENT ON FUNCTION sirophan_select_search(bytea, bytea, regclass, name) IS 'the same by a search string';

@@ -217,9 +217,14 @@ static Expr *call_beside(const FuncExpr *other, const char *name, int count) {
     return (Expr *)makeFuncExpr(function, BOOLOID, arguments, InvalidOid, InvalidOid, COERCE_EXPLICIT_CALL);
 }
 
-/* Whether an argument is the same for all rows of a query, and known when it begins to run. */
+/* Whether an argument is known while a query is planned. NULL is not asked: of a strict function the planner makes NULL before. */
+static bool is_known(Node *argument) {
+    return IsA(argument, Const) && !((Const *)argument)->constisnull;
+}
+
+/* Whether it is the same for all rows of a query, and known when that begins to run. */
 static bool is_known_before_rows(Node *argument) {
-    return !contain_var_clause(argument) && !contain_volatile_functions(argument);
+    return !contain_vars_of_level(argument, 0) && !contain_volatile_functions(argument);
 }
 
 /*
@@ -229,7 +234,7 @@ static bool is_known_before_rows(Node *argument) {
  */
 static Node *simplified(const FuncExpr *call, const twins *twins) {
     Node *sheet = linitial(call->args), *text = lsecond(call->args);
-    if (IsA(sheet, Const) && IsA(text, Const)) {
+    if (is_known(sheet) && is_known(text)) {
         bytes asked = taken(((Const *)text)->constvalue), on = taken(((Const *)sheet)->constvalue);
         value_of(twins->check(on.at, on.length, asked.at, asked.length), asked, NOTHING);
         return NULL;
