@@ -8,14 +8,13 @@ use std::process::Command;
 fn examples(page: &str) -> Vec<(String, String)> {
     let mut found: Vec<(String, String)> = Vec::new();
     for line in page.lines().filter_map(|line| line.strip_prefix("    ")) {
-        match (line.strip_prefix("$ "), line.strip_prefix("  ")) {
+        match (line.strip_prefix("$ "), found.last_mut()) {
             (Some(command), _) => found.push((command.into(), String::new())),
-            (None, Some(more)) => {
-                let output = &mut found.last_mut().unwrap().1;
-                output.pop();
-                output.push_str(&format!("{more}\n"));
-            }
-            (None, None) => found.last_mut().unwrap().1.push_str(&format!("{line}\n")),
+            (None, None) => panic!("before the first command stands {line}"),
+            (None, Some((_, output))) => match line.strip_prefix("  ") {
+                Some(more) => output.insert_str(output.len() - 1, more),
+                None => output.extend([line, "\n"]),
+            },
         }
     }
     found
