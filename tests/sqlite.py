@@ -190,6 +190,7 @@ def encodings() -> None:
     wide = opened("UTF-16le")
     expect("UTF-16", asked("SELECT sirophan_match(?, ?, ?)", SHEET.block, 'title eq "STR\u00d6M"', CARDS[1], of=wide), 1)
     expect("a plain spelling", asked("SELECT sirophan_plain(?)", 'title  eq "\u00d6"', of=wide), 'title eq "\u00d6"')
+    wide.close()
 
 
 cases()
@@ -198,5 +199,6 @@ arguments()
 statements()
 listings()
 encodings()
+db.close()
 print(f"{passed} passed, {failed} failed")
 sys.exit(failed > 0)
