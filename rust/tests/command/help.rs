@@ -4,6 +4,12 @@ use crate::folder::{Folder, PROGRAM, REPOSITORY};
 use std::path::Path;
 use std::process::Command;
 
+/// Every command.
+const COMMANDS: [&str; 14] = [
+    "pick", "search", "query", "explain", "check", "report", "plain", "fields", "pack", "show", "verify", "seal",
+    "sign", "recheck",
+];
+
 /// The examples that the help gives are true. A line of three dots stands for the rest of an output.
 #[test]
 fn examples_of_the_help() {
@@ -11,10 +17,7 @@ fn examples_of_the_help() {
     folder.run(&["pack", &format!("{REPOSITORY}/examples/ward"), "ward"]);
     std::os::unix::fs::symlink(Path::new(REPOSITORY).join("examples"), folder.path.join("examples")).unwrap();
     let programs = Path::new(PROGRAM).parent().unwrap().to_str().unwrap();
-    for name in [
-        "pick", "search", "explain", "check", "report", "plain", "fields", "pack", "show", "verify", "seal", "sign",
-        "recheck",
-    ] {
+    for name in COMMANDS {
         let help = folder.run(&[name, "--help"]);
         assert_eq!((help.status, help.errors.as_str()), (0, ""), "{name}");
         let example = help.output.split("Example:\n\n    $ ").nth(1).expect(name);
@@ -61,8 +64,10 @@ fn command_lines_that_are_not_understood() {
     folder
         .run(&["pik"])
         .fails(1, "sirophan: pik is no command. Is it pick or pack? `sirophan --help` lists the commands.\n");
-    folder.run(&["query"]).fails(1, "sirophan: query is no command. `sirophan --help` lists the commands.\n");
-    folder.run(&["help", "query"]).fails(1, "sirophan: query is no command. `sirophan --help` lists the commands.\n");
+    folder.run(&["inquire"]).fails(1, "sirophan: inquire is no command. `sirophan --help` lists the commands.\n");
+    folder
+        .run(&["help", "inquire"])
+        .fails(1, "sirophan: inquire is no command. `sirophan --help` lists the commands.\n");
     folder.run(&["search", "a"]).fails(
         1,
         "sirophan: 1 path given. Usage: sirophan search [--stream] [--columns NAMES] [--csv] SHEET STRING CARDS\n",
@@ -128,10 +133,7 @@ fn texts_on_the_command_line() {
 #[test]
 fn help_in_eighty_columns() {
     let folder = Folder::new("columns");
-    for name in [
-        "pick", "search", "explain", "check", "report", "plain", "fields", "pack", "show", "verify", "seal", "sign",
-        "recheck",
-    ] {
+    for name in COMMANDS {
         for line in folder.run(&[name, "--help"]).output.lines().chain(folder.run(&["--help"]).output.lines()) {
             assert!(line.chars().count() <= 80, "{name}: {line}");
         }

@@ -11,6 +11,8 @@ pub struct Arguments {
     /// The paths; where a text was given by -e, that stands in the place of its file.
     pub paths: Vec<String>,
     pub json: bool,
+    /// Whether the answer is to be FHIR's.
+    pub fhir: bool,
     pub stream: bool,
     pub help: bool,
     /// Whether the text that asks is a search string.
@@ -77,6 +79,7 @@ impl Arguments {
     fn switch(&mut self, option: &str) -> &mut bool {
         match option {
             "--json" => &mut self.json,
+            "--fhir" => &mut self.fhir,
             "--stream" => &mut self.stream,
             "--search" => &mut self.search,
             "--all" => &mut self.all,

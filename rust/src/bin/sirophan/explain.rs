@@ -14,6 +14,7 @@ use crate::text::{counted, spell};
 use crate::values;
 use crate::verdicts;
 use sirophan::{Explained, Explanation, Mark, Refusal};
+use std::slice;
 
 /// How many values of a card are shown for a test.
 const SHOWN: usize = 8;
@@ -29,7 +30,7 @@ pub fn run(arguments: &Arguments) -> Result<(), Failure> {
     let path = &arguments.paths[2];
     let cards = Input::open(path)?;
     question.check_sealed(arguments, Some(&cards))?;
-    let survey = Survey::new(&question);
+    let survey = Survey::new(slice::from_ref(&question));
     let counter = survey.counter();
     let mut walk = Walk { question: &question, asked: &survey.asked, counter: &counter, arguments, told: Vec::new() };
     // held back until the last card, so that a file that is refused gives no part of an answer

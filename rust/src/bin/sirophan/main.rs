@@ -2,8 +2,8 @@
 //!
 //! Its parts, from the top down:
 //!
-//! - the commands: `pick` and `search` (in `pick`), `explain` with `verdicts`, `check`, `report` (in `counts`), `plain`, `fields`, `pack`,
-//!   `show` with `describe`, `verify`, `seal`, to which all others hold an archive, `sign` and `recheck`;
+//! - the commands: `pick` and `search` (in `pick`), `query` with `fhir`, `explain` with `verdicts`, `check`, `report` (in `counts`), `plain`,
+//!   `fields`, `pack`, `show` with `describe`, `verify`, `seal`, to which all others hold an archive, `sign` and `recheck`;
 //! - pages: `signing` asks and puts a `page` together, `html` and `leaf` write it in its two forms, `visible` shows texts, `in_words` tests,
 //!   `might_be` counts what is not on the list, `day` has the date;
 //! - what they say beside their answers: `advice` and `search_advice` on refusals; `survey` has all doubts of a question, from `doubt` about
@@ -32,6 +32,7 @@ mod describe;
 mod description;
 mod doubt;
 mod explain;
+mod fhir;
 mod field_doubt;
 mod fields;
 mod html;
@@ -49,6 +50,7 @@ mod page;
 mod pick;
 mod plain;
 mod progress;
+mod query;
 mod reason;
 mod recheck;
 mod report;
@@ -75,7 +77,7 @@ mod width;
 mod zero;
 
 use arguments::Arguments;
-use report::{Failure, Output};
+use report::{Failure, Form, Output};
 use sirophan::{block, filter, kind, sheet};
 use std::env;
 use std::ops::RangeInclusive;
@@ -98,7 +100,7 @@ struct Command {
 }
 
 /// The commands. A later one is another row.
-const COMMANDS: [Command; 13] = [
+const COMMANDS: [Command; 14] = [
     Command {
         name: "pick",
         usage: "[--stream] [--columns NAMES] [--csv] SHEET FILTER CARDS",
@@ -135,6 +137,27 @@ const COMMANDS: [Command; 13] = [
                \x20   300\n\
                \x20   1 of 3\n",
         run: pick::search,
+    },
+    Command {
+        name: "query",
+        usage: "[--fhir] SHEET QUERY CARDS",
+        paths: 3..=3,
+        text: Some(1),
+        options: &["--fhir", "-e"],
+        summary: "lists the record numbers of the cards that match a query of FHIR",
+        help: "QUERY is a file with what stands behind the ? of an address, such as `_filter=title%20co%20book&ward=A`: filters \
+               behind _filter, and the pairs of a search string beside them, all to be met. _summary=count asks for the count \
+               alone, _total=accurate and _format=json are understood too, and nothing else that is not on the sheet: no \
+               parameter is left out of an answer, and _count shortens none. A name that is on the sheet is the sheet's, \
+               _filter too.\n\n\
+               Of several faults the first in the query is told, with the part that it is in: the place counts in the filter, \
+               or in the pairs. The answer, and what is warned of, is as for `sirophan pick`. With --fhir, or with _format=json, it \
+               is a Bundle of FHIR, and a refusal an OperationOutcome.\n\n\
+               Example:\n\n\
+               \x20   $ cd ward; sirophan query -e '_filter=code+ne+x&title=a' sheet.bin cards.bin\n\
+               \x20   300\n\
+               \x20   1 of 3\n",
+        run: query::run,
     },
     Command {
         name: "explain",
@@ -357,7 +380,7 @@ const COMMANDS: [Command; 13] = [
 
 /// What all commands have in common.
 const COMMON: &str = "\
-A path of - is standard input. In the place of a filter's or a search string's file -e TEXT gives the text itself. The answer \
+A path of - is standard input. In the place of the file of a filter, a search string or a query -e TEXT gives the text itself. The answer \
 goes to standard output, all else to standard error. With --json both are JSON, and warnings stand in the answer.
 
 Status:
@@ -371,21 +394,21 @@ Status:
 fn main() -> ExitCode {
     match run() {
         Ok(()) => ExitCode::SUCCESS,
-        Err((failure, json)) => {
-            failure.say(json);
+        Err((failure, form)) => {
+            failure.say(form);
             ExitCode::from(failure.status())
         }
     }
 }
 
-/// Runs the command that was given; a failure comes with whether it is to be told as JSON.
-fn run() -> Result<(), (Failure, bool)> {
+/// Runs the command that was given; a failure comes with the form that it is to be told in.
+fn run() -> Result<(), (Failure, Form)> {
     let given: Result<Vec<String>, _> = env::args_os().skip(1).map(std::ffi::OsString::into_string).collect();
     let given = given.map_err(|_| usage_failure("An argument is not UTF-8."))?;
     let Some((name, given)) = given.split_first() else {
         return Err(usage_failure("No command was given."));
     };
-    let answered = |text: String| print(&text).map_err(|failure| (failure, false));
+    let answered = |text: String| print(&text).map_err(|failure| (failure, Form::Words));
     match (name.as_str(), given) {
         ("--help" | "-h" | "help", []) => return answered(laid_out(&overview())),
         ("--help" | "-h" | "help", [name, ..]) => return answered(laid_out(&command_help(command_by(name)?))),
@@ -393,12 +416,17 @@ fn run() -> Result<(), (Failure, bool)> {
         _ => {}
     }
     let command = command_by(name)?;
-    let json = given.iter().any(|argument| argument == "--json");
-    run_command(command, given).map_err(|failure| (failure, json))
+    let has = |option: &str| given.iter().any(|argument| argument == option);
+    let form = match (has("--json"), has("--fhir")) {
+        (true, _) => Form::Json,
+        (false, true) => Form::Fhir,
+        (false, false) => Form::Words,
+    };
+    run_command(command, given).map_err(|failure| (failure, form))
 }
 
 /// The command with a name.
-fn command_by(name: &str) -> Result<&'static Command, (Failure, bool)> {
+fn command_by(name: &str) -> Result<&'static Command, (Failure, Form)> {
     if let Some(command) = COMMANDS.iter().find(|command| command.name == name) {
         return Ok(command);
     }
@@ -425,8 +453,8 @@ fn run_command(command: &Command, given: &[String]) -> Result<(), Failure> {
 }
 
 /// A command line that is not understood.
-fn usage_failure(what: &str) -> (Failure, bool) {
-    (Failure::Usage(format!("{what} `sirophan --help` lists the commands.")), false)
+fn usage_failure(what: &str) -> (Failure, Form) {
+    (Failure::Usage(format!("{what} `sirophan --help` lists the commands.")), Form::Words)
 }
 
 /// Writes a text to standard output.
@@ -451,7 +479,7 @@ fn overview() -> String {
     format!(
         "Which catalogue cards of an archive match a FHIR R4 _filter?\n\n{}\n\n\
          SHEET is a block of 512 bytes, CARDS a file of such blocks, FILTER a file with the filter on one line, STRING \
-         one with a search string. `sirophan COMMAND --help` says more, with an example; `sirophan --version` the version.\n\n\
+         one with a search string, QUERY one with both. `sirophan COMMAND --help` says more, with an example; `sirophan --version` the version.\n\n\
          {COMMON}",
         commands.join("\n")
     )

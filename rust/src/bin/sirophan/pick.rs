@@ -10,13 +10,13 @@ use crate::input::{Input, shown};
 use crate::json;
 use crate::matching;
 use crate::report::{self, Failure, Message, Output};
+use crate::sheet::Sheet;
 use crate::survey::Survey;
 use crate::table;
 use crate::text::spell;
 use crate::visible;
-use crate::zero;
-use std::collections::HashSet;
 use std::io::{self, IsTerminal, Write};
+use std::slice;
 
 /// By a filter.
 pub fn run(arguments: &Arguments) -> Result<(), Failure> {
@@ -37,19 +37,12 @@ fn list(words: Words, arguments: &Arguments) -> Result<(), Failure> {
     cards.shows_progress = !(arguments.stream && io::stdout().is_terminal());
     question.check_sealed(arguments, Some(&cards))?;
     let columns = columns(arguments, &question)?;
-    let survey = Survey::new(&question);
+    let survey = Survey::new(slice::from_ref(&question));
     let counter = survey.quick_counter();
     let fit = Fit { sheet: &question.sheet, asked: Some((words, question.text.clone())) };
 
-    let mut list = List {
-        output: Output::new(),
-        listed: Vec::new(),
-        rows: Vec::new(),
-        cards: 0,
-        columns: columns.as_ref(),
-        form,
-        arguments,
-    };
+    let table = columns.as_ref().map(|columns| (&question.sheet, columns));
+    let mut list = List { table, form, ..List::new(arguments, true) };
     let select = |first, piece: &[u8]| match &columns {
         None => {
             let (found, fault) = fit.select_piece(first, piece);
@@ -62,12 +55,8 @@ fn list(words: Words, arguments: &Arguments) -> Result<(), Failure> {
         // What was streamed before a refusal comes out, without the count that would make it a list.
         Err(failure) => return Err(list.output.flush().err().unwrap_or(failure)),
     };
-    // Most archives have no record number twice, and then none is looked for.
-    let listed: HashSet<u32> =
-        if held.repeated.is_empty() { HashSet::new() } else { list.listed.iter().copied().collect() };
-    let mut warnings = survey.doubts(&shown(path), &held, |record| listed.contains(&record));
-    warnings.extend(zero::told(&question, &survey.asked, path, &held, list.listed.len() as u64));
-    list.end(&question, &warnings)
+    let warnings = survey.warnings(&shown(path), path, &held, &list.listed);
+    list.end(&warnings)
 }
 
 /// The forms of a list.
@@ -102,7 +91,7 @@ fn columns(arguments: &Arguments, question: &Question) -> Result<Option<Columns>
 }
 
 /// What is found on a piece: record numbers, and with columns a row for each.
-type Found = (Vec<u32>, Vec<Row>);
+pub type Found = (Vec<u32>, Vec<Row>);
 
 /// Selects from a piece, with the columns of the cards that match.
 fn select_rows(question: &Question, columns: &Columns, first: u64, piece: &[u8]) -> (Found, Option<AtFault>) {
@@ -114,19 +103,29 @@ fn select_rows(question: &Question, columns: &Columns, first: u64, piece: &[u8])
 }
 
 /// The list of record numbers as it grows.
-struct List<'a> {
-    output: Output,
-    listed: Vec<u32>,
+pub struct List<'a> {
+    pub output: Output,
+    pub listed: Vec<u32>,
     rows: Vec<Row>,
     cards: u64,
-    columns: Option<&'a Columns>,
+    /// The columns of its rows, and the sheet that names them.
+    table: Option<(&'a Sheet, &'a Columns)>,
     form: Form,
     arguments: &'a Arguments,
+    /// Whether the numbers are shown, or only how many they are.
+    shows_numbers: bool,
 }
 
-impl List<'_> {
+impl<'a> List<'a> {
+    /// A list without columns, in lines or JSON.
+    pub fn new(arguments: &'a Arguments, shows_numbers: bool) -> List<'a> {
+        let form = if arguments.json { Form::Json } else { Form::Lines };
+        let (listed, rows) = (Vec::new(), Vec::new());
+        List { output: Output::new(), listed, rows, cards: 0, table: None, form, arguments, shows_numbers }
+    }
+
     /// Adds what was found on so many cards.
-    fn add(&mut self, (found, rows): Found, cards: u64) -> Result<(), Failure> {
+    pub fn add(&mut self, (found, rows): Found, cards: u64) -> Result<(), Failure> {
         self.cards += cards;
         if self.arguments.stream {
             found.iter().try_for_each(|record| self.record(*record))?;
@@ -145,30 +144,31 @@ impl List<'_> {
     }
 
     /// Writes what was held back, says the warnings, and writes the count below them.
-    fn end(mut self, question: &Question, warnings: &[Message]) -> Result<(), Failure> {
+    pub fn end(mut self, warnings: &[Message]) -> Result<(), Failure> {
         let listed = std::mem::take(&mut self.listed);
-        let held_back = if self.arguments.stream { &[][..] } else { &listed };
+        let is_held_back = self.shows_numbers && !self.arguments.stream;
+        let held_back = if is_held_back { &listed } else { &[][..] };
         let matching = listed.len();
         let count = format!("{matching} of {}", self.cards);
-        match (self.form, self.columns) {
-            (Form::Json, columns) => {
+        match (self.form, self.table) {
+            (Form::Json, table) => {
                 let records: Vec<String> = held_back.iter().map(u32::to_string).collect();
-                let list = (!self.arguments.stream).then(|| ("records", json::array(&records)));
-                let rows = columns.map(|columns| ("rows", self.rows_json(columns)));
+                let list = is_held_back.then(|| ("records", json::array(&records)));
+                let rows = table.map(|(_, columns)| ("rows", self.rows_json(columns)));
                 let counts = [("matching", matching.to_string()), ("cards", self.cards.to_string())];
                 let pairs = list.into_iter().chain(rows).chain(counts).chain([report::warnings(warnings)]);
                 self.output.line(json::object(&pairs.collect::<Vec<(&str, String)>>()))?;
                 return self.output.flush();
             }
-            (Form::Csv, Some(columns)) => {
-                self.csv(question, columns)?;
+            (Form::Csv, Some((sheet, columns))) => {
+                self.csv(sheet, columns)?;
                 self.output.flush()?;
                 // The table has cards alone, so that a spreadsheet takes it as it is.
                 self.arguments.warn(warnings);
                 let _ = writeln!(io::stderr(), "{count}");
                 return Ok(());
             }
-            (_, Some(columns)) => self.table(columns)?,
+            (_, Some((_, columns))) => self.lines(columns)?,
             (_, None) => held_back.iter().try_for_each(|record| self.record(*record))?,
         }
         self.output.flush()?;
@@ -178,7 +178,7 @@ impl List<'_> {
     }
 
     /// The list as a table, under the names of its columns.
-    fn table(&mut self, columns: &Columns) -> Result<(), Failure> {
+    fn lines(&mut self, columns: &Columns) -> Result<(), Failure> {
         let head = [&[csv::RECORD.to_string()], &columns.names[..]].concat();
         let cell = |values: &Vec<Vec<u8>>| values.iter().map(|value| spell(value)).collect::<Vec<String>>().join("; ");
         let rows = self.rows.iter().map(|row| {
@@ -201,11 +201,11 @@ impl List<'_> {
     }
 
     /// The list as a table for spreadsheets. Bytes that are no UTF-8 are shown by their numbers.
-    fn csv(&mut self, question: &Question, columns: &Columns) -> Result<(), Failure> {
+    fn csv(&mut self, sheet: &Sheet, columns: &Columns) -> Result<(), Failure> {
         let mut layout = Layout::default();
         self.rows.iter().for_each(|row| layout.widen(row));
         layout.name_all(columns);
-        self.output.raw(&csv::line(&layout.head(&question.sheet, columns)))?;
+        self.output.raw(&csv::line(&layout.head(sheet, columns)))?;
         for row in &self.rows {
             let shown = |cell: Vec<u8>| if str::from_utf8(&cell).is_ok() { cell } else { visible::plain(&cell).into() };
             self.output.raw(&csv::line(&layout.cells(row).into_iter().map(shown).collect::<Vec<Vec<u8>>>()))?;

@@ -45,7 +45,7 @@ pub fn run(arguments: &Arguments) -> Result<(), Failure> {
             if let Failure::Refused(messages) | Failure::AtFault(messages) = &failure
                 && let Err(unwritten) = write(arguments, &refused.page(messages, &date), form)
             {
-                failure.say(arguments.json);
+                arguments.say(messages);
                 return Err(unwritten);
             }
             Err(failure)

@@ -18,9 +18,8 @@ use crate::survey::Survey;
 use crate::tally::{Held, record};
 use crate::text::{counted, grouped};
 use crate::version;
-use crate::zero;
 use sirophan::filter::Filter;
-use std::collections::HashSet;
+use std::slice;
 
 /// What the cards are called on a page, whatever their file is.
 const CARDS_NAME: &str = "cards.bin";
@@ -57,7 +56,7 @@ pub struct Asking<'a> {
 impl<'a> Asking<'a> {
     /// Of a question that has a meaning.
     pub fn new(question: &'a Question, columns: Option<Columns>) -> Asking<'a> {
-        let survey = Survey::new(question);
+        let survey = Survey::new(slice::from_ref(question));
         let sorts = might_be::of(question, &survey.asked);
         Asking { question, columns, survey, sorts }
     }
@@ -81,11 +80,8 @@ impl<'a> Asking<'a> {
         if is_file {
             seal::hold_hash(path, cards_hash)?;
         }
-        let listed: HashSet<u32> =
-            if held.repeated.is_empty() { HashSet::new() } else { records.iter().copied().collect() };
-        let mut warnings = self.survey.doubts(CARDS_NAME, &held, |record| listed.contains(&record));
         let second = if one_walk { "-" } else { path };
-        warnings.extend(zero::told(self.question, &self.survey.asked, second, &held, records.len() as u64));
+        let warnings = self.survey.warnings(CARDS_NAME, second, &held, &records);
         let sheet_hash = Hash::of(&self.question.sheet.block);
         Ok(Found { records, rows, might_be, held, sheet_hash, cards_hash, one_walk, warnings })
     }
