@@ -80,7 +80,9 @@ module _ (ps : List Parameter) (w : WellFormedSheet ps) (xs : List ℕ) (es : Li
   unfolding outerVerdicts outerTests treeOf
   stated-verdicts (fits-test l e f) = ap (λ (b : Bool). b ∷ []) (says-is ps w xs (fits-test l e f) es)
   stated-verdicts (fits-bracket l i m k f g) = ap (λ (b : Bool). b ∷ []) (says-is ps w xs (fits-bracket l i m k f g) es)
-  stated-verdicts {c = c} (fits-join {e = e} {f = f} a b) = ap₂ (λ (x y : List Bool). x ++ y) (stated-verdicts a) (stated-verdicts b) ∙ sym (map-append (filterSays ps c es) (outerTests (treeOf ps xs e)) (outerTests (treeOf ps xs f)))
+  stated-verdicts {c = c} (fits-join {e = e} {f = f} a b) =
+      ap₂ (λ (x y : List Bool). x ++ y) (stated-verdicts a) (stated-verdicts b)
+      ∙ sym (map-append (filterSays ps c es) (outerTests (treeOf ps xs e)) (outerTests (treeOf ps xs f)))
   stated-verdicts (fits-not a) = stated-verdicts a
 
 erased-verdicts : (ps : List Parameter) (c : ℕ) (es : List Entry) (f : Tree) → map (filterSays ps c es) (outerTests (erase f)) ≡ map (filterSays ps c es) (outerTests f)
@@ -102,4 +104,6 @@ module _ (ps : List Parameter) (w : WellFormedSheet ps) (xs : List ℕ) (e : Exp
   same-erased g h i = record { count = ap outerCount i; marks = λ m k. ap (markBy m k) i }
 
   pub filter-alike : Alike (outline e) f
-  filter-alike = alike-through (alike-outline ps xs e) (alike-through (alike-back (alike-erase (treeOf ps xs e))) (alike-through (same-erased (erase (treeOf ps xs e)) (erase f) states) (alike-erase f)))
+  filter-alike =
+      alike-through (alike-outline ps xs e)
+      (alike-through (alike-back (alike-erase (treeOf ps xs e))) (alike-through (same-erased (erase (treeOf ps xs e)) (erase f) states) (alike-erase f)))

@@ -46,7 +46,8 @@ record Tried (f : Tree) (v : ℕ → Bool) (i : ℕ) (k : ℕ → Bool) : Type 0
 -- where the tests after the j-th are the same, and so is what it would lose
 turn-same : (f : Tree) (v k l : ℕ → Bool) (j : ℕ) → ((i : ℕ) → j ≤ i → l i ≡ k i) → (k j ≡ false) ↔ Suffices f v (losing j k) → (l j ≡ false) ↔ Suffices f v (losing j l)
 turn-same f v k l j h t =
-    let same : (i : ℕ) → losing j l i ≡ losing j k i = λ i. ⊎-elim (λ e. let w : i < j = ltb-true i j e in losing-before j i l w ∙ sym (losing-before j i k w)) (λ e. let w = ltb-false i j e in let x = h i w in cc) (decided (ltb i j)) in
+    let same : (i : ℕ) → losing j l i ≡ losing j k i =
+    λ i. ⊎-elim (λ e. let w : i < j = ltb-true i j e in losing-before j i l w ∙ sym (losing-before j i k w)) (λ e. let w = ltb-false i j e in let x = h i w in cc) (decided (ltb i j)) in
     let x = h j (le-refl j) in
     (λ e. suffices-more f v (losing j k) (losing j l) (λ i b c. same i ∙ c) (t .0 (sym x ∙ e)), λ s. x ∙ t .1 (suffices-more f v (losing j l) (losing j k) (λ i b c. sym (same i) ∙ c) s))
 
@@ -105,7 +106,9 @@ module _ (f : Tree) (v : ℕ → Bool) where
   unfolding deciding
   explains =
       let k : ℕ → Bool = spareBelow (outerCount f) f v (λ j. true) in
-      let t : Tried f v 0 k = all-tried (outerCount f) (λ j. true) (le-refl (outerCount f)) (record { stand = λ u h. says-local f 0 u v (λ j a b. h j (omega arith) refl); untried = λ j h. refl; turn = λ j a b. absurd (omega arith) }) in
+      let t : Tried f v 0 k =
+      all-tried (outerCount f) (λ j. true) (le-refl (outerCount f))
+      (record { stand = λ u h. says-local f 0 u v (λ j a b. h j (omega arith) refl); untried = λ j h. refl; turn = λ j a b. absurd (omega arith) }) in
       record {
         stands = t .stand;
         needed = λ i l e s. let x = t .turn i (omega arith) l .1 (without-losing f v k i s) in let z : _≡_ {A = ℕ} 0 1 = cc in omega arith;

@@ -85,7 +85,9 @@ parts Connective.Or a b {z} h =
       right = not (p .right);
       fits-left = fits-back (p .fits-left);
       fits-right = fits-back (p .fits-right);
-      whole = sym (or-by-not (not (p .left)) (not (p .right))) ∙ ap (λ (b : Bool). not b) (ap (λ (b : Bool). b && not (not (p .right))) (Bool·not-not (p .left)) ∙ ap (λ (b : Bool). p .left && b) (Bool·not-not (p .right)) ∙ p .whole) ∙ Bool·not-not z;
+      whole = sym (or-by-not (not (p .left)) (not (p .right)))
+          ∙ ap (λ (b : Bool). not b) (ap (λ (b : Bool). b && not (not (p .right))) (Bool·not-not (p .left)) ∙ ap (λ (b : Bool). p .left && b) (Bool·not-not (p .right)) ∙ p .whole)
+          ∙ Bool·not-not z;
     }
 
 -- ---- three values are exact

@@ -7,6 +7,8 @@ use mathlib.Core.Option.{some, Option·none-ne-some}
 use mathlib.Core.List.{List, [], _∷_, _++_}
 use lib.ListN.{length, getD, take, drop, length-append, length-drop}
 use lib.Seq.{drop-cons, drop-drop, drop-length, take-at}
+use mir.Syntax.{w64}
+use mir.Val.{Fits}
 use Rattle.base.specs.Parts.{part}
 use Rattle.base.proofs.Parts.{part-length}
 use Rattle.syntax.specs.declared.Connective.{Connective}
@@ -69,7 +71,7 @@ module _ {rows : List ℕ} (w : Whole rows) where
         pub second-room : at + 1 + n ≤ length rows
         second-room = let o = on-cells stated stated-are n (joining c e (second .expression)) behind (w .expression) (second .then-is) in omega (arith, l, o .enough, length-drop (suc at) rows)
 
-        abbrev pub second-rows : List ℕ
+        abbrev second-rows : List ℕ
         second-rows = part rows (at + 1) (at + 1 + n)
 
         second-are : second-rows ≡ take n behind
@@ -92,7 +94,8 @@ module _ {rows : List ℕ} (w : Whole rows) where
             record {
               within = second-room;
               writable = writable-join (s .writable) (stated-are (take n behind) f (second .has) .writable);
-              rest = w .states ∙ sym (second .then-is) ∙ on-skip stated n (joining c e f) behind (omega (arith, second-room, length-drop (suc at) rows)) ∙ ap (onFrom stated 0 (joining c e f)) (drop-drop n (suc at) rows ∙ ap (λ (m : ℕ). drop m rows) to);
+              rest = w .states ∙ sym (second .then-is) ∙ on-skip stated n (joining c e f) behind (omega (arith, second-room, length-drop (suc at) rows))
+                  ∙ ap (onFrom stated 0 (joining c e f)) (drop-drop n (suc at) rows ∙ ap (λ (m : ℕ). drop m rows) to);
             }
 
   -- the first test
@@ -116,7 +119,7 @@ module _ {rows : List ℕ} (w : Whole rows) where
         let sayable : Sayable p = subst RowSayable (sym i ∙ j) (row-sayable (getD rows 0 0)) in
         record { expression = probing p; single = single-test; reading = record { within = whole-some; writable = writable-test sayable; rest = first-step (Row.Test p) j }; some-rows = omega arith }
 
-    pub starts-bracket : (n : ℕ) → r ≡ Row.Bracket n → (n + 2 ≤ length rows) × Starts rows (n + 2)
+    starts-bracket : (n : ℕ) → r ≡ Row.Bracket n → (n + 2 ≤ length rows) × Starts rows (n + 2)
     starts-bracket n j = by-rest (drop 1 rows) refl
       where
         by-rest : (ds : List ℕ) → drop 1 rows ≡ ds → (n + 2 ≤ length rows) × Starts rows (n + 2)
@@ -154,3 +157,6 @@ module _ {rows : List ℕ} (w : Whole rows) where
 
     pub starts-behind : (n : ℕ) → r ≡ Row.Bracket n → Starts rows (n + 2)
     starts-behind n j = starts-bracket n j .1
+
+    pub bracket-fits : (n : ℕ) → r ≡ Row.Bracket n → length rows ≤ 320 → Fits w64 (n + 2)
+    bracket-fits n j few = omega (arith, starts-bracket n j .0)

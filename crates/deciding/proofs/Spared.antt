@@ -121,7 +121,8 @@ module _ (rows : List ℕ) (tests : ℕ) (before marks : List ℕ) (left : ℕ) 
   pub sparing-again : i < length (set marks i 0)
   sparing-again = omega (arith, sparing-inside, length-set marks i 0)
 
-  pub sparing-next : (whole old x : ℕ) → MarksWhole rows (set marks i 0) whole → old ≡ getD marks i 0 → x ≡ cond (isDecided (markOf whole)) 0 old → Sparing rows tests before (set (set marks i 0) i x) (left - 1)
+  pub sparing-next : (whole old x : ℕ) → MarksWhole rows (set marks i 0) whole → old ≡ getD marks i 0 → x ≡ cond (isDecided (markOf whole)) 0 old
+      → Sparing rows tests before (set (set marks i 0) i x) (left - 1)
   sparing-next whole old x w o e =
       let up : left ≡ suc i = omega (arith, l, d) in
       rw (← d)

@@ -6,12 +6,13 @@ use mathlib.Core.Bool.{Bool, true, false}
 use mathlib.Core.Option.{some}
 use mathlib.Core.List.{List, [], _∷_, _++_}
 use lib.ListN.{length, getD, take, drop}
-use Rattle.card.specs.Card.{Entry}
+use Rattle.card.specs.Card.{Entry, entriesOf, readCard}
 use Rattle.syntax.specs.Tree.{Tree}
 use Rattle.rows.specs.Expression.{Expression, probing, choosing, joining, negating}
 use Rattle.rows.specs.Cells.{Writable, onFrom, stated}
 use Rattle.rows.specs.declared.Probe.{Probe}
-use Rattle.row_judge.specs.Saying.{expressionSays}
+use Rattle.block.specs.declared.Validity.{Validity}
+use Rattle.row_judge.specs.Saying.{expressionSays, Whole}
 use Rattle.rows.specs.Stated.{treeOf}
 use Rattle.deciding.specs.Deciding.{outerCount, cell, cells}
 use Rattle.deciding.specs.Marks.{Mark, markBy, markOf, deciding}
@@ -50,6 +51,11 @@ pub record Starts (rows : List ℕ) (at : ℕ) : Type 0 where
   pub reading : Reading rows at expression
   pub some-rows : 1 ≤ at
 
+-- rows that state an expression, and few enough to number their tests from first on
+pub record FewRows (rows : List ℕ) (first : ℕ) : Type 0 where
+  pub whole : Whole rows
+  pub few : first + length rows ≤ 320
+
 -- the mark of what the rows state, where the first of their tests has the number first, and the number of the test behind them
 pub record MarksFrom (rows marks : List ℕ) (first : ℕ) (r : Marked) : Type 0 where
   pub whole : (e : Expression) → stated rows ≡ some e → markOf (r .mark) ≡ markBy (marksIn marks) first (outline e)
@@ -63,6 +69,33 @@ pub record MarksWhole (rows marks : List ℕ) (r : ℕ) : Type 0 where
 -- the rows state few enough tests for a list of n, from the number first on
 pub record Room (rows : List ℕ) (first n : ℕ) : Type 0 where
   pub each : (e : Expression) → stated rows ≡ some e → first + outerCount (outline e) ≤ n
+
+-- rows can be judged on the card
+pub record Judgeable (kinds xs card : List ℕ) : Type 0 where
+  pub each-kind : length kinds ≡ 32
+  pub short : length xs ≤ 1024
+  pub well-formed : readCard card ≡ Validity.WellFormed
+
+-- rows that state an expression, whose tests have room in the list of marks from the number first on
+pub record Markable (rows : List ℕ) (first : ℕ) (marks : List ℕ) : Type 0 where
+  pub whole : Whole rows
+  pub few : length rows ≤ 320
+  pub room : Room rows first 32
+  pub size : length marks ≡ 32
+
+-- the tests of the expression in hand before the row at are marked, from the number first on and before next
+pub record Gathering (kinds xs : List ℕ) (es : List Entry) (rows : List ℕ) (first at next : ℕ) (before after : List ℕ) : Type 0 where
+  pub expression : Expression
+  pub reading : Reading rows at expression
+  pub count : next ≡ first + outerCount (outline expression)
+  pub verdicts : (j : ℕ) → j < outerCount (outline expression) → getD after (first + j) 0 ≡ cell true (getD (outerVerdicts kinds xs es expression) j false)
+  pub below : (j : ℕ) → j < first → getD after j 0 ≡ getD before j 0
+  pub same-size : length after ≡ length before
+  pub markable : Markable rows first after
+
+-- the first test is marked, which ends before the row at
+abbrev pub FirstMarked : (kinds xs card rows : List ℕ) → (first at : ℕ) → List ℕ → Type 0
+FirstMarked kinds xs card rows first at marks = Gathering kinds xs (entriesOf card) rows first at (first + 1) marks marks
 
 -- the number of the test behind those that the rows state, and in the list, from the number first on, the mark of what each says
 pub record Gathers (kinds xs : List ℕ) (es : List Entry) (rows : List ℕ) (first next : ℕ) (before after : List ℕ) : Type 0 where

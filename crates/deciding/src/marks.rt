@@ -4,11 +4,11 @@ use rows::Row;
 use rows::row_of;
 use syntax::Connective;
 ghost use mathlib.Core.Path.{_≡_};
-ghost use Prim.Native.Nat.{_+_, _≤_};
+ghost use Prim.Native.Nat.{_≤_};
 ghost use lib.ListN.{length, getD};
 ghost use Rattle.row_judge.specs.Saying.{Whole};
 ghost use Rattle.deciding.specs.Marks.{both, opposite, joinedMarks, markOf};
-ghost use Rattle.deciding.specs.Rows.{Starts, MarksFrom, MarksWhole};
+ghost use Rattle.deciding.specs.Rows.{FewRows, Starts, MarksFrom, MarksWhole};
 
 // The mark of two parts that are to hold both: a no decides, and else what is spared leaves it open.
 fn both(first: u8, second: u8) -> u8
@@ -80,8 +80,7 @@ pub fn after_first(rows: &[u32]) -> usize
 // The mark of what rows state, with these marks of its tests, of which the first has the number `first`. A test after brackets has one mark
 // with them.
 fn mark_from(rows: &[u32], marks: &[u8], first: usize) -> Marked
-    requires { ⌜ Whole (now rows) ⌝ }
-    requires { ⌜ first + length (now rows) ≤ 320 ⌝ }
+    requires { ⌜ FewRows (now rows) first ⌝ }
     ensures { λ r. ⌜ MarksFrom (now (rows .entry)) (now (marks .entry)) first r ⌝ }
 {
     let mut at = after_first(rows);

@@ -69,13 +69,13 @@ fn open_end(first: &[u8]) -> PeriodReading
 fn open_start(second: &[u8]) -> PeriodReading
     ensures { λ r. ⌜ r ≡ openStart (texts.read (now (second .entry))) ⌝ }
 {
-    let DateReading::Readable(b) = date::read(second) else {
-        return PeriodReading::Unreadable;
-    };
-    PeriodReading::Readable(Period {
-        start: End::Open,
-        end: End::At(b.end),
-    })
+    match date::read(second) {
+        DateReading::Readable(b) => PeriodReading::Readable(Period {
+            start: End::Open,
+            end: End::At(b.end),
+        }),
+        DateReading::Unreadable => PeriodReading::Unreadable,
+    }
 }
 
 // What stands before the slash and behind it: "either one missing but not both", since no empty text is a date.

@@ -27,17 +27,17 @@ use Rattle.plain.proofs.Length.{plain-erase, word-length, test-length, 
 
 -- ---- what can be spelled with brackets nested d deep
 
-data SpellableTest : Test → Type 0 where
+pub data SpellableTest : Test → Type 0 where
   spellable-test : {p k : ℕ} {n v : List ℕ} → Name n → k < length operatorWords → SpellableValue v → SpellableTest (record { at = p; path = name n; operator = k; value = v })
 
 mutual
-  data SpellableItem : ℕ → Tree → Type 0 where
+  pub data SpellableItem : ℕ → Tree → Type 0 where
     as-test : {d : ℕ} {t : Test} → SpellableTest t → SpellableItem d (test t)
     as-bracketed : {d p : ℕ} {n : List ℕ} {f : Tree} {t : Test} → Name n → Spellable d f → SpellableTest t → SpellableItem (suc d) (bracketed p n f t)
     as-not : {d : ℕ} {f : Tree} → Spellable d f → SpellableItem (suc d) (negation f)
     as-group : {d : ℕ} {c : Connective} {f g : Tree} → Spellable d (join c f g) → SpellableItem (suc d) (join c f g)
 
-  data Spellable : ℕ → Tree → Type 0 where
+  pub data Spellable : ℕ → Tree → Type 0 where
     by-itself : {d : ℕ} {f : Tree} → isJoin f ≡ false → SpellableItem d f → Spellable d f
     joined : {d : ℕ} {c : Connective} {f g : Tree} → Spellable d f → SpellableItem d g → Spellable d (join c f g)
 
@@ -52,13 +52,13 @@ mutual
   deeper (by-itself e i) = by-itself e (deeper-item i)
   deeper (joined s i) = joined (deeper s) (deeper-item i)
 
-alone : {d : ℕ} {f : Tree} → SpellableItem d f → Spellable d f
+pub alone : {d : ℕ} {f : Tree} → SpellableItem d f → Spellable d f
 alone (as-test t) = by-itself refl (as-test t)
 alone (as-bracketed n s t) = by-itself refl (as-bracketed n s t)
 alone (as-not s) = by-itself refl (as-not s)
 alone (as-group s) = deeper s
 
-grouped : {d : ℕ} {f : Tree} → Spellable d f → SpellableItem (suc d) f
+pub grouped : {d : ℕ} {f : Tree} → Spellable d f → SpellableItem (suc d) f
 grouped (by-itself e i) = deeper-item i
 grouped (joined s i) = as-group (joined s i)
 
@@ -227,15 +227,19 @@ tests-erase (join c f g) =
     ∙ ap (λ (x : ℕ). length (testsOf f) + x) (tests-erase g) ∙ sym (length-append (testsOf f) (testsOf g))
 tests-erase (negation f) = tests-erase f
 
-pub reads-back : (text : List ℕ) (f : Tree) → Spells text f → (g : Tree) × (Spells (plain f) g × (erase g ≡ erase f))
-reads-back text f s =
-    let w : Written (plain f) round deepest 0 f = written (plain f) (filter-spellable (s .filter)) round 0 [] the-end (sym (append-nil (plain f))) in
+-- a tree that can be spelled within both limits is spelled by its plain spelling, but for positions
+pub spelled : (f : Tree) → Spellable deepest f → length (testsOf f) ≤ mostTests → (g : Tree) × (Spells (plain f) g × (erase g ≡ erase f))
+spelled f s n =
+    let w : Written (plain f) round deepest 0 f = written (plain f) s round 0 [] the-end (sym (append-nil (plain f))) in
     let e : erase (w .tree) ≡ erase f = w .same in
     let l : length (testsOf (w .tree)) ≡ length (testsOf f) = sym (tests-erase (w .tree)) ∙ ap (λ (x : Tree). length (testsOf x)) e ∙ tests-erase f in
     let z : 0 + length (plain f) ≡ length (plain f) = omega arith in
     let h : Filter (plain f) round deepest 0 (length (plain f)) (w .tree) = subst (λ (x : ℕ). Filter (plain f) round deepest 0 x (w .tree)) z (w .here) in
-    let few : length (testsOf (w .tree)) ≤ mostTests = subst (λ (x : ℕ). x ≤ mostTests) (sym l) (s .few) in
+    let few : length (testsOf (w .tree)) ≤ mostTests = subst (λ (x : ℕ). x ≤ mostTests) (sym l) n in
     (w .tree, (record { from = 0; to = length (plain f); before = no-space; filter = h; after = no-space; few = few }, e))
+
+pub reads-back : (text : List ℕ) (f : Tree) → Spells text f → (g : Tree) × (Spells (plain f) g × (erase g ≡ erase f))
+reads-back text f s = spelled f (filter-spellable (s .filter)) (s .few)
 
 -- ---- what follows, since a text spells one tree
 

@@ -28,8 +28,9 @@ use Rattle.refusal.specs.declared.Decision.{Decision}
 use Rattle.filter.specs.declared.Summary.{Summary}
 use Rattle.filter.specs.declared.Spot.{Spot}
 use Rattle.filter.specs.Walks.{topSpot}
-use Rattle.filter.proofs.Walk.{top-bundle, top-read}
+use Rattle.filter.proofs.Walk.{top-bundle, top-read, top-within}
 use Rattle.row_writer.specs.Writing.{cellCount, Wrote}
+use Rattle.row_writer.specs.Steps.{Room}
 use Rattle.row_writer.specs.declared.Outcome.{Outcome}
 use Rattle.row_writer.specs.declared.Written.{Written}
 use Rattle.row_writer.proofs.Writing as writing
@@ -102,6 +103,9 @@ one-refused s c r e i =
     stopped-at (decisionStep (s .first)) (λ u. count (s .tests)) (numberOf (r .reason)) (r .place) (λ x y. let z : _≡_ {A = ℕ} 0 1 = cc in omega arith) (sym e ∙ ap checkedAnswer i)
 
 -- ---- the text
+
+pub fill-room : (xs rows : List ℕ) (spot : Spot) → spot ≡ topSpot xs → length xs ≤ 1024 → length rows ≡ 1024 → Room xs rows 0 (spot .at)
+fill-room xs rows spot s short size = record { short = short; size = size; low = omega arith; within = top-within xs spot s }
 
 module _ (ps : List Parameter) (xs : List ℕ) (n : length xs ≡ 0 → ⊥) (l : length xs ≤ 1024) where
   no-tree : (r : Prepared) (buffer : List ℕ) → read xs ≡ none → preparedAnswer r ≡ refusalAnswer (failure deepest mostTests xs) → FillsText ps xs r buffer

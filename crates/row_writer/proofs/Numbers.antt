@@ -14,7 +14,8 @@ use Rattle.base.proofs.Tests.{cond-elim}
 use Rattle.sheet.specs.Sheet.{Parameter}
 use Rattle.sheet.specs.declared.Found.{Found}
 use Rattle.syntax.specs.Strings.{quote, isBare}
-use Rattle.syntax.specs.Scan.{skipAt, has, follows, operatorAt, withOperator, withValue, stringAt, stringValue, valueAt, testValue, testOperator, nameEnd, testAt, testOf, headAt, testOr, choiceAt, choiceOr, openAt, memberAt, afterClose, memberAfter, closeAt}
+use Rattle.syntax.specs.Scan.{skipAt, has, follows, operatorAt, withOperator, withValue, stringAt, stringValue, valueAt, testValue, testOperator, nameEnd, testAt}
+use Rattle.syntax.specs.Scan.{testOf, headAt, testOr, choiceAt, choiceOr, openAt, memberAt, afterClose, memberAfter, closeAt}
 use Rattle.syntax.specs.Grammar.{square}
 use Rattle.syntax.specs.declared.FoundString.{FoundString}
 use Rattle.syntax.specs.declared.FoundValue.{FoundValue}

@@ -63,7 +63,8 @@ kind-clean k kind v p =
     cond-elim (λ f. f ≡ Decision.Passed → (hasMeaning k kind ≡ true) × (valueReadable k kind v ≡ true)) (unsupported k)
     (λ a e. let z : _≡_ {A = ℕ} 0 1 = cc in absurd (omega arith))
     (λ a. cond-elim (λ f. f ≡ Decision.Passed → (hasMeaning k kind ≡ true) × (valueReadable k kind v ≡ true)) (hasMeaning k kind)
-    (λ b. cond-elim (λ f. f ≡ Decision.Passed → (hasMeaning k kind ≡ true) × (valueReadable k kind v ≡ true)) (valueReadable k kind v) (λ c e. (b, c)) (λ c e. let z : _≡_ {A = ℕ} 0 1 = cc in absurd (omega arith)))
+    (λ b. cond-elim (λ f. f ≡ Decision.Passed → (hasMeaning k kind ≡ true) × (valueReadable k kind v ≡ true)) (valueReadable k kind v)
+    (λ c e. (b, c)) (λ c e. let z : _≡_ {A = ℕ} 0 1 = cc in absurd (omega arith)))
     (λ b e. let z : _≡_ {A = ℕ} 0 1 = cc in absurd (omega arith)))
 
 clean-of : (ps : List Parameter) (c : ℕ) (t : Test) → testFault ps c t ≡ Decision.Passed → Clean ps c t
@@ -169,7 +170,8 @@ module _ (ps : List Parameter) (w : WellFormedSheet ps) (xs : List ℕ) where
       let zero : c ≡ 0 = bundle-at-top ps w (b .1) refl in
       let parent : getD (parentsOf ps) (probeFor ps xs z t .index) 0 ≡ suc (b .0) = table-listed (λ r. r .bundle) ps (probeFor ps xs z t .index) (a .named) (a .there) ∙ a .within ∙ inside in
       let named : bundleFor ps (probeFor ps xs z t) ≡ n = bundle-name ps (probeFor ps xs z t) (b .0) parent ∙ name-listed (b .1) in
-      let at-top : Fits ps xs 0 (prepared ps xs c (bracketed p n f t)) = fits-bracket (a .there) (a .within ∙ inside) (b .1) refl (a .fits) (subst (λ (x : ℕ). Fits ps xs x (prepared ps xs z f)) inside (inner .fits)) in
+      let at-top : Fits ps xs 0 (prepared ps xs c (bracketed p n f t)) =
+      fits-bracket (a .there) (a .within ∙ inside) (b .1) refl (a .fits) (subst (λ (x : ℕ). Fits ps xs x (prepared ps xs z f)) inside (inner .fits)) in
       record {
         fits = subst (λ (x : ℕ). Fits ps xs x (prepared ps xs c (bracketed p n f t))) (sym zero) at-top;
         same = ap (λ (x : List ℕ). bracketed 0 x (erase (treeOf ps xs (prepared ps xs z f))) (moved 0 (testFor ps xs (probeFor ps xs z t)))) named ∙ ap₂ (bracketed 0 n) (inner .same) (a .same);

@@ -1,9 +1,10 @@
 -- Reading a filter and writing its rows: one law for each answer of an item and of a filter, and for each turn.
 -- `Wrote` says of a call that it answers what the definition reads, and that the cells of the expression stand behind those before its row. A
 -- law takes the `Wrote` of the call inside, if there is one, and what the leaves found around it, and gives the `Wrote` of the whole. A row
--- that is written is one cell more (`put-more`), or was left out before its part and is filled in (`fill`). The items of a filter are a chain: `Chained` has the tree so far, its cells, and that the
--- rest of the chain decides; a turn adds an item and its connective (`chain-takes`). An item takes at least as many bytes as it has cells
--- (`item-cells`, by induction on its derivation), and this bounds every sum.
+-- that is written is one cell more (`put-more`), or was left out before its part and is filled in (`fill`). The items of a filter are a
+-- chain: `Chained` has the tree so far, its cells, and that the rest of the chain decides; a turn adds an item and its connective
+-- (`chain-takes`). An item takes at least as many bytes as it has cells (`item-cells`, by induction on its derivation), and this bounds
+-- every sum. `Room` says so of what is left of the list and the text at each step.
 -- Assumes nothing.
 use Prim.Native.Nat.{ℕ, suc, _+_, _*_, _-_, _≤_, _<_}
 use native.Mathlib.Omega.{arith}
@@ -30,16 +31,18 @@ use Rattle.syntax.specs.declared.FoundClose.{FoundClose}
 use Rattle.syntax.proofs.Structure.{ConnectiveDerived, connective-derived, opens-rise, chooses-rise, closes-rise, connects-rise}
 use Rattle.syntax.proofs.Sound.{ItemDerived, FilterDerived, item-derived, filter-derived}
 use Rattle.syntax.proofs.Complete.{item-rise, filter-rise, test-step, opened-step, deep-step, chosen-step, deep-choice-step, nothing-step, filter-step, chain-step}
-use Rattle.syntax.proofs.Places.{connective-ahead}
+use Rattle.syntax.proofs.Places.{head-test-placed, head-open-ahead, head-choice-ahead, connective-ahead}
 use Rattle.syntax.proofs.Spelling.{item-count, filter-count}
 use Rattle.syntax.proofs.Tests.{test-rise}
 use Rattle.syntax.specs.Fold.{foldTree}
 use Rattle.filter.specs.Folds.{joinSummaries, summaryOf, reading}
 use Rattle.refusal.specs.declared.Decision.{Decision}
 use Rattle.filter.specs.declared.Summary.{Summary}
+use Rattle.filter.specs.declared.Spot.{Spot}
 use Rattle.filter.proofs.Reading.{fault-append, reading-is, summary-inside}
 use Rattle.rows.specs.Cells.{numberOf, cellOf, encode}
 use Rattle.row_writer.specs.Writing.{probeFor, prepared, cellCount, outcomeOf, writtenOf, Wrote}
+use Rattle.row_writer.specs.Steps.{Room, Joinable, WroteTest, WroteNot, WroteClosed, no-close, closed, closed-not, WrotePair, WroteMember, no-member, a-member, WroteJoin, Inside, Chained}
 use Rattle.rows.specs.declared.Probe.{Probe}
 use Rattle.rows.specs.declared.Row.{Row}
 use Rattle.row_writer.specs.declared.Outcome.{Outcome}
@@ -50,7 +53,7 @@ use Rattle.row_writer.specs.declared.Written.{Written}
 mutual
   unfolding cellCount
 
-  pub item-cells : {xs : List ℕ} {close d p q : ℕ} {f : Tree} → Item xs close d p q f → p + cellCount f ≤ q
+  item-cells : {xs : List ℕ} {close d p q : ℕ} {f : Tree} → Item xs close d p q f → p + cellCount f ≤ q
   item-cells (item-test t) = omega (arith, test-rise t)
   item-cells (item-bracket o f c) = omega (arith, opens-rise o, filter-cells f, closes-rise c)
   item-cells (item-not o f c) = omega (arith, opens-rise o, filter-cells f, closes-rise c)
@@ -65,7 +68,9 @@ unfolding prepared encode cellCount
 cells-counted ps xs c (test t) = refl
 cells-counted ps xs c (bracketed p b f t) = omega (arith, cells-counted ps xs (enter ps c b) f)
 cells-counted ps xs c (join k f g) =
-    omega (arith, length-append (encode (prepared ps xs c f)) (cellOf (Row.Connect k (length (encode (prepared ps xs c g)))) ∷ encode (prepared ps xs c g)), cells-counted ps xs c f, cells-counted ps xs c g)
+    let first : List ℕ = encode (prepared ps xs c f) in
+    let second : List ℕ = encode (prepared ps xs c g) in
+    omega (arith, length-append first (cellOf (Row.Connect k (length second)) ∷ second), cells-counted ps xs c f, cells-counted ps xs c g)
 cells-counted ps xs c (negation f) = omega (arith, length-append (encode (prepared ps xs c f)) (cellOf Row.Not ∷ []), cells-counted ps xs c f)
 
 -- one cell more
@@ -79,7 +84,8 @@ fill a e m x i k v h l low = take-set-lt k m i v low ∙ ap₂ (λ (s : List ℕ
 -- one before cells that were written behind it
 fill-one : (l e m : List ℕ) (i k v : ℕ) → take k m ≡ take (i + 1) l ++ e → i < length l → i < k → take k (set m i v) ≡ take i l ++ (v ∷ e)
 fill-one l e m i k v h s low =
-    let before : take k m ≡ take i l ++ (getD l i 0 ∷ e) = h ∙ ap (λ (n : ℕ). take n l ++ e) (add-one i) ∙ ap (λ (a : List ℕ). a ++ e) (take-suc l i 0 s) ∙ append-assoc (take i l) (getD l i 0 ∷ []) e in
+    let before : take k m ≡ take i l ++ (getD l i 0 ∷ e) =
+    h ∙ ap (λ (n : ℕ). take n l ++ e) (add-one i) ∙ ap (λ (a : List ℕ). a ++ e) (take-suc l i 0 s) ∙ append-assoc (take i l) (getD l i 0 ∷ []) e in
     fill (take i l) e m (getD l i 0) i k v before (length-take-le i l (omega (arith, s))) low
 
 -- and two
@@ -89,11 +95,73 @@ fill-two l e m i k u v h s low =
     let y : ℕ = getD l (i + 1) 0 in
     let two : i + 2 ≡ suc (i + 1) = omega arith in
     let first : take (i + 1) l ≡ take i l ++ (x ∷ []) = ap (λ (n : ℕ). take n l) (add-one i) ∙ take-suc l i 0 (omega (arith, s)) in
-    let both : take (i + 2) l ≡ take i l ++ (x ∷ (y ∷ [])) = ap (λ (n : ℕ). take n l) two ∙ take-suc l (i + 1) 0 s ∙ ap (λ (a : List ℕ). a ++ (y ∷ [])) first ∙ append-assoc (take i l) (x ∷ []) (y ∷ []) in
+    let both : take (i + 2) l ≡ take i l ++ (x ∷ (y ∷ [])) =
+    ap (λ (n : ℕ). take n l) two ∙ take-suc l (i + 1) 0 s ∙ ap (λ (a : List ℕ). a ++ (y ∷ [])) first ∙ append-assoc (take i l) (x ∷ []) (y ∷ []) in
     let before : take k m ≡ take i l ++ (x ∷ (y ∷ e)) = h ∙ ap (λ (a : List ℕ). a ++ e) both ∙ append-assoc (take i l) (x ∷ (y ∷ [])) e in
     let long : length (take i l) ≡ i = length-take-le i l (omega (arith, s)) in
     let one : take k (set m i u) ≡ (take i l ++ (u ∷ [])) ++ (y ∷ e) = fill (take i l) (y ∷ e) m x i k u before long (omega (arith, low)) ∙ sym (append-assoc (take i l) (u ∷ []) (y ∷ e)) in
     fill (take i l ++ (u ∷ [])) e (set m i u) y (i + 1) k v one (length-append (take i l) (u ∷ []) ∙ ap (λ (n : ℕ). n + 1) long) low ∙ append-assoc (take i l) (u ∷ []) (v ∷ e)
+
+-- ---- rows that are written by themselves
+
+module _ (k : Connective) (n : ℕ) where
+  pub connect-and : k ≡ Connective.And → 8 * n + 3 ≡ cellOf (Row.Connect k n)
+  unfolding cellOf
+  connect-and e = rw e
+
+  pub connect-or : k ≡ Connective.Or → 8 * n + 4 ≡ cellOf (Row.Connect k n)
+  unfolding cellOf
+  connect-or e = rw e
+
+module _ (ps : List Parameter) (c : ℕ) (xs : List ℕ) (t : RawTest) (n : ℕ) (k : n ≡ numberOf (probeFor ps xs c (testOf xs t))) where
+  test-cell : 8 * n ≡ cellOf (Row.Test (probeFor ps xs c (testOf xs t)))
+  unfolding cellOf
+  test-cell = ap (λ (x : ℕ). 8 * x) k
+
+  pub test-written : (row : ℕ) (s : Summary) (l : List ℕ) → s ≡ reading ps c .one (testOf xs t) → row < length l
+      → WroteTest ps c xs row t (Written.Done (t .value .next) (record { summary = s; cells = 1 })) l (set l row (8 * n))
+  test-written row s l e room =
+      record { answers = ap (λ (o : Summary). Written.Done (t .value .next) (record { summary = o; cells = 1 })) e; cells = ap (set l row) test-cell; room = room }
+
+  pub pair-written : (at : ℕ) (v : Outcome) (row : ℕ) (o x : Summary) (b : ℕ) (l : List ℕ) → o ≡ reading ps c .one (moved at (testOf xs t)) → x ≡ joinSummaries o (v .summary)
+      → b ≡ cellOf (Row.Bracket (v .cells)) → row + v .cells + 1 < length l
+      → WrotePair ps c xs at t v row (Written.Done (t .value .next) (record { summary = x; cells = v .cells + 2 })) l (set (set l row b) (row + 1) (8 * n))
+  pair-written at v row o x b l e j h room =
+      record {
+        answers = ap (λ (s : Summary). Written.Done (t .value .next) (record { summary = s; cells = v .cells + 2 })) (j ∙ ap (λ (s : Summary). joinSummaries s (v .summary)) e);
+        cells = ap₂ (λ (y z : ℕ). set (set l row y) (row + 1) z) h test-cell;
+        room = omega (arith, room);
+      }
+
+pub join-written : (k : Connective) (v w : Outcome) (row : ℕ) (s : Summary) (y : ℕ) (l : List ℕ) → s ≡ joinSummaries (v .summary) (w .summary) → y ≡ cellOf (Row.Connect k (w .cells))
+    → row + v .cells < length l
+    → WroteJoin k v w row (record { summary = s; cells = v .cells + w .cells + 1 }) l (set l (row + v .cells) y)
+join-written k v w row s y l e h room =
+    record { answers = ap (λ (x : Summary). record { summary = x; cells = v .cells + w .cells + 1 }) e; cells = ap (set l (row + v .cells)) h; room = room }
+
+-- the second of two cells has room, and a test more can be counted
+pub second-room : (l : List ℕ) (row n b : ℕ) → row + n + 1 < length l → row + 1 < length (set l row b)
+second-room l row n b h = omega (arith, length-set l row b)
+
+pub one-test-more : (ps : List Parameter) (c : ℕ) (t : Test) (o : Summary) (n : ℕ) → o ≡ reading ps c .one t → n < 1024 → o .tests + n ≤ 1024
+one-test-more ps c t o n e h = let one : o .tests ≡ 1 = ap (λ (s : Summary). s .tests) e in omega (arith, one)
+
+module _ (xs : List ℕ) (q : ℕ) (b : Bool) (v : Outcome) (row : ℕ) (f : FoundClose) (e : f ≡ closeAt xs round q) where
+  pub close-none : (l : List ℕ) → f ≡ FoundClose.Nothing → WroteClosed xs q b v row Written.Nothing l l
+  close-none l i = no-close (sym e ∙ i)
+
+  pub close-found : (end : ℕ) (l : List ℕ) → f ≡ FoundClose.At end → b ≡ false → WroteClosed xs q b v row (Written.Done end v) l l
+  close-found end l i z = closed (sym e ∙ i) z
+
+  pub close-not : (end : ℕ) (r : Written) (l m : List ℕ) → f ≡ FoundClose.At end → b ≡ true → WroteNot end v row r l m → WroteClosed xs q b v row r l m
+  close-not end r l m i z w = closed-not (sym e ∙ i) z w
+
+module _ (ps : List Parameter) (c : ℕ) (xs : List ℕ) (spot : Spot) (q : ℕ) (v : Outcome) (row : ℕ) (f : FoundTest) (e : f ≡ memberAfter xs (spot .close) q) where
+  pub member-none : (l : List ℕ) → f ≡ FoundTest.Nothing → WroteMember ps c xs spot q v row Written.Nothing l l
+  member-none l i = no-member (sym e ∙ i)
+
+  pub member-found : (t : RawTest) (r : Written) (l m : List ℕ) → f ≡ FoundTest.Test t → WrotePair ps c xs (spot .at) t v row r l m → WroteMember ps c xs spot q v row r l m
+  member-found t r l m i w = a-member (sym e ∙ i) w
 
 -- ---- what an answer tells, and how one is given
 
@@ -161,7 +229,7 @@ module _ (ps : List Parameter) (c : ℕ) (xs : List ℕ) (row close d p : ℕ) (
     pub cells-fit : p + v .cells ≤ q
     pub tests-fit : p + v .summary .tests ≤ q
 
-  pub item-takes : Wrote ps c xs row (itemAt d xs close p) r before after → r ≡ Written.Done q v → Takes
+  item-takes : Wrote ps c xs row (itemAt d xs close p) r before after → r ≡ Written.Done q v → Takes
   item-takes w h =
       let k = was ps c xs row q v w h in
       let i = derived-item k in
@@ -186,16 +254,40 @@ module _ (ps : List Parameter) (c : ℕ) (xs : List ℕ) (row close d p : ℕ) (
   pub filter-within : Wrote ps c xs row (filterAt d xs close p) r before after → r ≡ Written.Done q v → q ≤ length xs
   filter-within w h = filter-takes w h .within
 
-  -- a cell more has room behind a bracket, and so has a test more
-  module _ (w : Wrote ps c xs row (filterAt d xs close p) r before after) (h : r ≡ Written.Done q v) (short : length xs ≤ 1024) where
-    pub cell-room : row < p → row + v .cells < 1024
-    cell-room low = let t = filter-takes w h in omega (arith, t .cells-fit, t .within)
+  -- a cell more has room behind a bracket
+  pub round-room : Wrote ps c xs row (filterAt d xs close p) r before after → r ≡ Written.Done q v → Room xs before row p → row < p → row + v .cells < length after
+  round-room w h room low = let t = filter-takes w h in omega (arith, t .cells-fit, t .within, room .short, room .size, w .size)
 
-    pub test-room : (t : Test) (o : Summary) → 1 ≤ p → o ≡ reading ps c .one t → o .tests + v .summary .tests ≤ 1024
-    test-room t o low e =
-        let k = filter-takes w h in
-        let one : o .tests ≡ 1 = ap (λ (s : Summary). s .tests) e in
-        omega (arith, k .tests-fit, k .within)
+-- a test's row has room
+pub test-room : (xs rows : List ℕ) (row close p : ℕ) (h : Head) (t : RawTest) → h ≡ headAt xs close p → h ≡ Head.Test t → Room xs rows row p → row < length rows
+test-room xs rows row close p h t e i room = let a = head-test-placed xs close p h e (room .within) t i in omega (arith, a .1, a .2, room .short, room .size, room .low)
+
+-- behind an opening bracket
+module _ (xs rows : List ℕ) (row close p : ℕ) (h : Head) (e : h ≡ headAt xs close p) (room : Room xs rows row p) where
+  module _ (q : ℕ) (b : Bool) (i : h ≡ Head.Open q b) where
+    pub open-room : Room xs rows row q
+    open-room = let a = head-open-ahead xs close p h e (room .within) q b i in record { short = room .short; size = room .size; low = omega (arith, a .0, room .low); within = a .1 }
+
+    pub open-low : row < q
+    open-low = let a = head-open-ahead xs close p h e (room .within) q b i in omega (arith, a .0, room .low)
+
+    pub open-less : (t : ℕ) → 4 * (length xs - p) + 1 ≡ t → 4 * (length xs - q) + 3 < t
+    open-less t m = let a = head-open-ahead xs close p h e (room .within) q b i in omega (arith, a .0, a .1)
+
+  module _ (u : ℕ) (i : h ≡ Head.Choice u) where
+    pub choice-low : p < u
+    choice-low = let a = head-choice-ahead xs close p h e (room .within) u i in omega (arith, a .0)
+
+    pub choice-within : u < length xs
+    choice-within = let a = head-choice-ahead xs close p h e (room .within) u i in omega (arith, a .1)
+
+-- in square brackets
+module _ (ps : List Parameter) (xs rows : List ℕ) (row : ℕ) (spot : Spot) (u : ℕ) (inside : Spot) (i : Inside ps xs spot u inside) (low : spot .at < u) where
+  pub inside-room : Room xs rows row (spot .at) → Room xs rows (row + 2) (inside .at)
+  inside-room room = record { short = room .short; size = room .size; low = omega (arith, i .spaces .from, room .low); within = i .spaces .within }
+
+  pub inside-less : (t : ℕ) → u < length xs → 4 * (length xs - spot .at) ≡ t → 4 * (length xs - inside .at) + 2 < t
+  inside-less t h m = omega (arith, i .spaces .from, i .spaces .within)
 
 -- ---- what is read, from what its parts are read as
 
@@ -213,7 +305,8 @@ module _ (xs : List ℕ) where
   none-read d q b r = rw r
 
 module _ (xs : List ℕ) (close d p u q : ℕ) (s : RunEnd isSpace xs (u + 1) q) where
-  chosen-read : (k : ℕ) (f : Tree) (t : RawTest) → filterAt d xs square q ≡ parsed k f → memberAfter xs close k ≡ FoundTest.Test t → chosenAt d xs close p u ≡ parsed (t .value .next) (bracketed p (part xs p u) f (testOf xs t))
+  chosen-read : (k : ℕ) (f : Tree) (t : RawTest) → filterAt d xs square q ≡ parsed k f → memberAfter xs close k ≡ FoundTest.Test t
+      → chosenAt d xs close p u ≡ parsed (t .value .next) (bracketed p (part xs p u) f (testOf xs t))
   unfolding chosenAt
   chosen-read k f t r c = rw (← s .is, r, c)
 
@@ -229,7 +322,8 @@ module _ (xs : List ℕ) (close d p : ℕ) where
   first-read : (q : ℕ) (f : Tree) → itemAt d xs close p ≡ parsed q f → filterAt d xs close p ≡ chainOf (length xs) xs (λ k. itemAt d xs close k) q f
   first-read q f r = rw (filter-step d xs close p, r)
 
-  next-read : (left m q : ℕ) (o : Connective) (n : ℕ) (f g : Tree) → filterAt d xs close p ≡ chainOf left xs (λ k. itemAt d xs close k) m f → 1 ≤ left → connectiveAt xs m ≡ FoundConnective.Next q o → itemAt d xs close q ≡ parsed n g
+  next-read : (left m q : ℕ) (o : Connective) (n : ℕ) (f g : Tree) → filterAt d xs close p ≡ chainOf left xs (λ k. itemAt d xs close k) m f → 1 ≤ left → connectiveAt xs m ≡ FoundConnective.Next q o
+      → itemAt d xs close q ≡ parsed n g
       → filterAt d xs close p ≡ chainOf (left - 1) xs (λ k. itemAt d xs close k) n (join o f g)
   next-read left m q o n f g r l c i = rw (r, chain-step left xs (λ k. itemAt d xs close k) m f l, c, i)
 
@@ -245,13 +339,15 @@ module _ (ps : List Parameter) (c : ℕ) (xs : List ℕ) (row close d p : ℕ) (
   abbrev Item-wrote : Written → List ℕ → List ℕ → Type 0
   Item-wrote r before after = Wrote ps c xs row (itemAt d xs close p) r before after
 
-  pub wrote-test : (t : RawTest) (s : Summary) (n : ℕ) (l : List ℕ) → h ≡ Head.Test t → s ≡ reading ps c .one (testOf xs t) → n ≡ numberOf (probeFor ps xs c (testOf xs t)) → row < length l
-      → Item-wrote (Written.Done (t .value .next) (record { summary = s; cells = 1 })) l (set l row (8 * n))
-  unfolding cellCount prepared encode cellOf testsOf
-  wrote-test t s n l i v w k =
-      give ps c xs row (itemAt d xs close p) (t .value .next) (test (testOf xs t)) (record { summary = s; cells = 1 }) l (set l row (8 * n)) (test-step xs close p d (sym e ∙ i))
-      (outcome-same ps c (test (testOf xs t)) s 1 v refl)
-      (put-more (take row l) [] l row (8 * n) (sym (append-nil (take row l))) k ∙ ap (λ (x : ℕ). take row l ++ ((8 * x) ∷ [])) w) (length-set l row (8 * n))
+  pub wrote-test : (t : RawTest) (r : Written) (l m : List ℕ) → h ≡ Head.Test t → WroteTest ps c xs row t r l m → Item-wrote r l m
+  unfolding cellCount prepared encode testsOf
+  wrote-test t r l m i w =
+      let v : Outcome = record { summary = reading ps c .one (testOf xs t); cells = 1 } in
+      let cell : ℕ = cellOf (Row.Test (probeFor ps xs c (testOf xs t))) in
+      let given : Item-wrote (Written.Done (t .value .next) v) l (set l row cell) =
+      give ps c xs row (itemAt d xs close p) (t .value .next) (test (testOf xs t)) v l (set l row cell) (test-step xs close p d (sym e ∙ i)) refl
+      (put-more (take row l) [] l row cell (sym (append-nil (take row l))) (w .room)) (length-set l row cell) in
+      rw (w .answers, w .cells) given
 
   pub wrote-nothing : (l : List ℕ) → h ≡ Head.Nothing → Item-wrote Written.Nothing l l
   wrote-nothing l i = give-none ps c xs row (itemAt d xs close p) l l (nothing-step xs close p d (sym e ∙ i)) refl
@@ -272,7 +368,8 @@ module _ (ps : List Parameter) (c : ℕ) (xs : List ℕ) (row close d p : ℕ) (
 
 -- ---- a filter in round brackets
 
-module _ (ps : List Parameter) (c : ℕ) (xs : List ℕ) (row close d q : ℕ) (o : close ≡ round) (b : Bool) (l m : List ℕ) (r : Written) (w : Wrote ps c xs row (filterAt d xs close q) r l m) where
+module _ (ps : List Parameter) (c : ℕ) (xs : List ℕ) (row close d q : ℕ) (o : close ≡ round) (b : Bool) (l m : List ℕ) (r : Written)
+    (w : Wrote ps c xs row (filterAt d xs close q) r l m) where
   abbrev Round-wrote : Written → List ℕ → Type 0
   Round-wrote r after = Wrote ps c xs row (bracketAt d xs b q) r l after
 
@@ -283,94 +380,111 @@ module _ (ps : List Parameter) (c : ℕ) (xs : List ℕ) (row close d q : ℕ) (
   round-no-filter j = give-none ps c xs row (bracketAt d xs b q) l m (none-read xs d q b (was-none ps c xs row in-round j)) (w .size)
 
   module _ (k : ℕ) (v : Outcome) (j : r ≡ Written.Done k v) where
-    module _ (f : FoundClose) (g : f ≡ closeAt xs round k) where
-      pub round-open : f ≡ FoundClose.Nothing → Round-wrote Written.Nothing m
-      round-open y =
-          let a = was ps c xs row k v in-round j in
-          give-none ps c xs row (bracketAt d xs b q) l m (open-read xs d q b k (a .tree) (a .read) (sym g ∙ y)) (w .size)
+    closed-as : (end : ℕ) → closeAt xs round k ≡ FoundClose.At end → (x : Bool) → b ≡ x → bracketAt d xs b q ≡ parsed end (negatedIf x (was ps c xs row k v in-round j .tree))
+    closed-as end y x z =
+        let a = was ps c xs row k v in-round j in
+        closed-read xs d q b k end (a .tree) (a .read) y ∙ ap (λ (x : Bool). parsed end (negatedIf x (a .tree))) z
 
-      closed-as : (after : ℕ) → f ≡ FoundClose.At after → (x : Bool) → b ≡ x → bracketAt d xs b q ≡ parsed after (negatedIf x (was ps c xs row k v in-round j .tree))
-      closed-as after y x z =
-          let a = was ps c xs row k v in-round j in
-          closed-read xs d q b k after (a .tree) (a .read) (sym g ∙ y) ∙ ap (λ (x : Bool). parsed after (negatedIf x (a .tree))) z
-
-      pub round-closed : (after : ℕ) → f ≡ FoundClose.At after → b ≡ false → Round-wrote (Written.Done after v) m
-      round-closed after y z =
-          let a = was ps c xs row k v in-round j in
-          give ps c xs row (bracketAt d xs b q) after (a .tree) v l m (closed-as after y false z) (a .value) (a .cells) (w .size)
-
-      pub round-not : (after : ℕ) → f ≡ FoundClose.At after → b ≡ true → row + v .cells < length m
-          → Round-wrote (Written.Done after (record { summary = v .summary; cells = v .cells + 1 })) (set m (row + v .cells) 2)
-      unfolding cellCount prepared encode cellOf testsOf
-      round-not after y z low =
-          let a = was ps c xs row k v in-round j in
-          let same : v .cells ≡ cellCount (a .tree) = ap (λ (o : Outcome). o .cells) (a .value) in
-          let before : take (row + v .cells) m ≡ take row l ++ encode (prepared ps xs c (a .tree)) = ap (λ (x : ℕ). take (row + x) m) same ∙ a .cells in
-          let place : row + suc (cellCount (a .tree)) ≡ row + v .cells + 1 = omega (arith, same) in
-          give ps c xs row (bracketAt d xs b q) after (negation (a .tree)) (record { summary = v .summary; cells = v .cells + 1 }) l (set m (row + v .cells) 2)
-          (closed-as after y true z)
-          (outcome-same ps c (negation (a .tree)) (v .summary) (v .cells + 1) (ap (λ (o : Outcome). o .summary) (a .value)) (omega (arith, same)))
-          (ap (λ (x : ℕ). take x (set m (row + v .cells) 2)) place ∙ put-more (take row l) (encode (prepared ps xs c (a .tree))) m (row + v .cells) 2 before low)
-          (length-set m (row + v .cells) 2 ∙ w .size)
+    pub round-closed : (r2 : Written) (n : List ℕ) → WroteClosed xs k b v row r2 m n → Round-wrote r2 n
+    unfolding cellCount prepared encode testsOf
+    round-closed r2 n (no-close y) =
+        let a = was ps c xs row k v in-round j in
+        give-none ps c xs row (bracketAt d xs b q) l m (open-read xs d q b k (a .tree) (a .read) y) (w .size)
+    round-closed r2 n (closed {end = end} y z) =
+        let a = was ps c xs row k v in-round j in
+        give ps c xs row (bracketAt d xs b q) end (a .tree) v l m (closed-as end y false z) (a .value) (a .cells) (w .size)
+    round-closed r2 n (closed-not {end = end} y z t) =
+        let a = was ps c xs row k v in-round j in
+        let same : v .cells ≡ cellCount (a .tree) = ap (λ (o : Outcome). o .cells) (a .value) in
+        let before : take (row + v .cells) m ≡ take row l ++ encode (prepared ps xs c (a .tree)) = ap (λ (x : ℕ). take (row + x) m) same ∙ a .cells in
+        let place : row + suc (cellCount (a .tree)) ≡ row + v .cells + 1 = omega (arith, same) in
+        let cell : ℕ = cellOf Row.Not in
+        let u : Outcome = record { summary = v .summary; cells = v .cells + 1 } in
+        let given : Round-wrote (Written.Done end u) (set m (row + v .cells) cell) =
+        give ps c xs row (bracketAt d xs b q) end (negation (a .tree)) u l (set m (row + v .cells) cell)
+        (closed-as end y true z)
+        (outcome-same ps c (negation (a .tree)) (v .summary) (v .cells + 1) (ap (λ (o : Outcome). o .summary) (a .value)) (omega (arith, same)))
+        (ap (λ (x : ℕ). take x (set m (row + v .cells) cell)) place ∙ put-more (take row l) (encode (prepared ps xs c (a .tree))) m (row + v .cells) cell before (t .room))
+        (length-set m (row + v .cells) cell ∙ w .size) in
+        rw (t .answers, t .cells) given
 
 -- ---- the test of a member after its bundle's brackets
 
-test-cell : (p : Probe) → cellOf (Row.Test p) ≡ 8 * numberOf p
-unfolding cellOf
-test-cell p = refl
-
-module _ (ps : List Parameter) (c : ℕ) (xs : List ℕ) (row close d p u : ℕ) (z : ℕ) (b : z ≡ enter ps c (part xs p u)) (q : ℕ) (s : RunEnd isSpace xs (u + 1) q) (l m : List ℕ) (r : Written) (w : Wrote ps z xs (row + 2) (filterAt d xs square q) r l m) where
+module _ (ps : List Parameter) (xs : List ℕ) (row : ℕ) (spot : Spot) (u : ℕ) (inside : Spot) (i : Inside ps xs spot u inside) (l m : List ℕ) (r : Written)
+    (w : Wrote ps (inside .bundle) xs (row + 2) (filterAt (inside .levels) xs (inside .close) (inside .at)) r l m) where
   abbrev Chosen-wrote : Written → List ℕ → Type 0
-  Chosen-wrote r after = Wrote ps c xs row (chosenAt d xs close p u) r l after
+  Chosen-wrote r after = Wrote ps (spot .bundle) xs row (chosenAt (spot .levels) xs (spot .close) (spot .at) u) r l after
+
+  in-square : Wrote ps (inside .bundle) xs (row + 2) (filterAt (spot .levels) xs square (inside .at)) r l m
+  in-square =
+      subst (λ (d : ℕ). Wrote ps (inside .bundle) xs (row + 2) (filterAt d xs square (inside .at)) r l m) (i .levels)
+      (subst (λ (close : ℕ). Wrote ps (inside .bundle) xs (row + 2) (filterAt (inside .levels) xs close (inside .at)) r l m) (i .close) w)
+
+  chosen-none : chosenAt (spot .levels) xs (spot .close) (spot .at) u ≡ unparsed → Chosen-wrote Written.Nothing m
+  chosen-none e = give-none ps (spot .bundle) xs row (chosenAt (spot .levels) xs (spot .close) (spot .at) u) l m e (w .size)
 
   pub chosen-no-filter : r ≡ Written.Nothing → Chosen-wrote Written.Nothing m
-  chosen-no-filter j = give-none ps c xs row (chosenAt d xs close p u) l m (no-choice-read xs close d p u q s (was-none ps z xs (row + 2) w j)) (w .size)
+  chosen-no-filter j = chosen-none (no-choice-read xs (spot .close) (spot .levels) (spot .at) u (inside .at) (i .spaces) (was-none ps (inside .bundle) xs (row + 2) in-square j))
 
   module _ (k : ℕ) (v : Outcome) (j : r ≡ Written.Done k v) where
-    module _ (f : FoundTest) (g : f ≡ memberAfter xs close k) where
-      pub chosen-no-member : f ≡ FoundTest.Nothing → Chosen-wrote Written.Nothing m
-      chosen-no-member y =
-          let a = was ps z xs (row + 2) k v w j in
-          give-none ps c xs row (chosenAt d xs close p u) l m (no-member-read xs close d p u q s k (a .tree) (a .read) (sym g ∙ y)) (w .size)
+    takes : Takes ps (inside .bundle) xs (row + 2) (inside .close) (inside .levels) (inside .at) r l m k v
+    takes = filter-takes ps (inside .bundle) xs (row + 2) (inside .close) (inside .levels) (inside .at) r l m k v w j
 
-      pub chosen-member : (t : RawTest) (o x : Summary) (b y : ℕ) → f ≡ FoundTest.Test t → o ≡ reading ps z .one (moved p (testOf xs t)) → x ≡ joinSummaries o (v .summary) → b ≡ cellOf (Row.Bracket (v .cells)) → y ≡ numberOf (probeFor ps xs z (testOf xs t)) → row + 1 < length l
-          → Chosen-wrote (Written.Done (t .value .next) (record { summary = x; cells = v .cells + 2 })) (set (set m row b) (row + 1) (8 * y))
-      unfolding cellCount prepared encode
-      chosen-member t o x cell y i2 k1 k2 k5 k3 k4 =
-          let a = was ps z xs (row + 2) k v w j in
-          let tree : Tree = bracketed p (part xs p u) (a .tree) (testOf xs t) in
-          let inner : List ℕ = encode (prepared ps xs z (a .tree)) in
-          let same : v .cells ≡ cellCount (a .tree) = ap (λ (o : Outcome). o .cells) (a .value) in
-          let said : v .summary ≡ foldTree (reading ps z) (a .tree) = ap (λ (o : Outcome). o .summary) (a .value) ∙ sym (reading-is ps z (a .tree)) in
-          let all : x ≡ summaryOf ps c (testsOf tree) = summary-inside ps c (part xs p u) z p (testOf xs t) o (v .summary) x b k1 k2 (a .tree) said in
-          let place : row + 2 + cellCount (a .tree) ≡ row + suc (suc (cellCount (a .tree))) = omega arith in
-          let before : take (row + suc (suc (cellCount (a .tree)))) m ≡ take (row + 2) l ++ inner = ap (λ (n : ℕ). take n m) (sym place) ∙ a .cells in
-          let first : cell ≡ cellOf (Row.Bracket (length inner)) = k5 ∙ ap (λ (n : ℕ). cellOf (Row.Bracket n)) (same ∙ sym (cells-counted ps xs z (a .tree))) in
-          let second : 8 * y ≡ cellOf (Row.Test (probeFor ps xs z (testOf xs t))) = ap (λ (n : ℕ). 8 * n) k3 ∙ sym (test-cell (probeFor ps xs z (testOf xs t))) in
-          give ps c xs row (chosenAt d xs close p u) (t .value .next) tree (record { summary = x; cells = v .cells + 2 }) l (set (set m row cell) (row + 1) (8 * y))
-          (chosen-read xs close d p u q s k (a .tree) t (a .read) (sym g ∙ i2))
-          (outcome-same ps c tree x (v .cells + 2) all (omega (arith, same)))
-          (fill-two l inner m row (row + suc (suc (cellCount (a .tree)))) cell (8 * y) before k4 (omega arith)
-          ∙ ap₂ (λ (x y : ℕ). take row l ++ (x ∷ (y ∷ inner))) first second
-          ∙ ap (λ (s : ℕ). take row l ++ (cellOf (Row.Bracket (length (encode (prepared ps xs s (a .tree))))) ∷ (cellOf (Row.Test (probeFor ps xs s (testOf xs t))) ∷ encode (prepared ps xs s (a .tree))))) b)
-          (length-set (set m row cell) (row + 1) (8 * y) ∙ length-set m row cell ∙ w .size)
+    -- there is room for both cells, and the sums fit
+    module _ (room : Room xs l row (spot .at)) (low : spot .at < u) where
+      pub chosen-room : row + v .cells + 1 < length m
+      chosen-room = omega (arith, takes .cells-fit, takes .within, i .spaces .from, room .low, room .short, room .size, w .size)
+
+      pub chosen-cells : v .cells ≤ 1024
+      chosen-cells = omega (arith, takes .cells-fit, takes .within, room .short)
+
+      pub chosen-tests : v .summary .tests < 1024
+      chosen-tests = omega (arith, takes .tests-fit, takes .within, i .spaces .from, room .short)
+
+    pub chosen-member : (r2 : Written) (n : List ℕ) → WroteMember ps (inside .bundle) xs spot k v row r2 m n → Chosen-wrote r2 n
+    unfolding cellCount prepared encode
+    chosen-member r2 n (no-member {l = o} y) =
+        let a = was ps (inside .bundle) xs (row + 2) k v in-square j in
+        chosen-none (no-member-read xs (spot .close) (spot .levels) (spot .at) u (inside .at) (i .spaces) k (a .tree) (a .read) y)
+    chosen-member r2 n (a-member {t = t} y x) =
+        let z : ℕ = inside .bundle in
+        let c : ℕ = spot .bundle in
+        let a = was ps z xs (row + 2) k v in-square j in
+        let tree : Tree = bracketed (spot .at) (part xs (spot .at) u) (a .tree) (testOf xs t) in
+        let inner : List ℕ = encode (prepared ps xs z (a .tree)) in
+        let probe : ℕ → ℕ = λ b. cellOf (Row.Test (probeFor ps xs b (testOf xs t))) in
+        let one : Summary = reading ps z .one (moved (spot .at) (testOf xs t)) in
+        let both : Summary = joinSummaries one (v .summary) in
+        let same : v .cells ≡ cellCount (a .tree) = ap (λ (o : Outcome). o .cells) (a .value) in
+        let said : v .summary ≡ foldTree (reading ps z) (a .tree) = ap (λ (o : Outcome). o .summary) (a .value) ∙ sym (reading-is ps z (a .tree)) in
+        let all : both ≡ summaryOf ps c (testsOf tree) =
+        summary-inside ps c (part xs (spot .at) u) z (spot .at) (testOf xs t) one (v .summary) both (i .bundle) refl refl (a .tree) said in
+        let count : ℕ = row + suc (suc (cellCount (a .tree))) in
+        let place : row + 2 + cellCount (a .tree) ≡ count = omega arith in
+        let before : take count m ≡ take (row + 2) l ++ inner = ap (λ (n : ℕ). take n m) (sym place) ∙ a .cells in
+        let cell : ℕ = cellOf (Row.Bracket (v .cells)) in
+        let first : cell ≡ cellOf (Row.Bracket (length inner)) = ap (λ (n : ℕ). cellOf (Row.Bracket n)) (same ∙ sym (cells-counted ps xs z (a .tree))) in
+        let cells : take count (set (set m row cell) (row + 1) (probe z)) ≡ take row l ++ encode (prepared ps xs c tree) =
+        fill-two l inner m row count cell (probe z) before (omega (arith, x .room, w .size)) (omega arith)
+        ∙ ap (λ (x : ℕ). take row l ++ (x ∷ (probe z ∷ inner))) first
+        ∙ ap (λ (b : ℕ). take row l ++ (cellOf (Row.Bracket (length (encode (prepared ps xs b (a .tree))))) ∷ (probe b ∷ encode (prepared ps xs b (a .tree))))) (i .bundle) in
+        let o : Outcome = record { summary = both; cells = v .cells + 2 } in
+        let given : Chosen-wrote (Written.Done (t .value .next) o) (set (set m row cell) (row + 1) (probe z)) =
+        give ps c xs row (chosenAt (spot .levels) xs (spot .close) (spot .at) u) (t .value .next) tree o l (set (set m row cell) (row + 1) (probe z))
+        (chosen-read xs (spot .close) (spot .levels) (spot .at) u (inside .at) (i .spaces) k (a .tree) t (a .read) y)
+        (outcome-same ps c tree both (v .cells + 2) all (omega (arith, same))) cells
+        (length-set (set m row cell) (row + 1) (probe z) ∙ length-set m row cell ∙ w .size) in
+        rw (x .answers, x .cells) given
 
 -- ---- a filter, of which the loop has read the part up to m
 
 -- the cells before the row are as they were
-pub record Kept (row : ℕ) (before after : List ℕ) : Type 0 where
-  pub same : take row after ≡ take row before
-  pub size : length after ≡ length before
+record Kept (row : ℕ) (before after : List ℕ) : Type 0 where
+  same : take row after ≡ take row before
+  size : length after ≡ length before
 
-rebased : (ps : List Parameter) (c : ℕ) (xs : List ℕ) (row : ℕ) (o : Parsed) (r : Written) (first before after : List ℕ) → Kept row first before → Wrote ps c xs row o r before after → Wrote ps c xs row o r first after
-rebased ps c xs row o r first before after k w =
-    record {
-      answers = w .answers;
-      cells = λ q f h. w .cells q f h ∙ ap (λ (l : List ℕ). l ++ encode (prepared ps xs c f)) (k .same);
-      size = w .size ∙ k .size;
-    }
-
-pub wrote-keeps : (ps : List Parameter) (c : ℕ) (xs : List ℕ) (row : ℕ) (o : Parsed) (r : Written) (before after : List ℕ) (q : ℕ) (v : Outcome) → Wrote ps c xs row o r before after → r ≡ Written.Done q v → row ≤ length before → Kept row before after
+wrote-keeps : (ps : List Parameter) (c : ℕ) (xs : List ℕ) (row : ℕ) (o : Parsed) (r : Written) (before after : List ℕ) (q : ℕ) (v : Outcome)
+    → Wrote ps c xs row o r before after → r ≡ Written.Done q v → row ≤ length before → Kept row before after
 wrote-keeps ps c xs row o r before after q v w h low =
     let a = was ps c xs row q v w h in
     let n : ℕ = cellCount (a .tree) in
@@ -380,103 +494,113 @@ wrote-keeps ps c xs row o r before after q v w h low =
       size = w .size;
     }
 
-pub record Chained (ps : List Parameter) (c : ℕ) (xs : List ℕ) (row close d p : ℕ) (before : List ℕ) (m : ℕ) (s : Summary) (k : ℕ) (list : List ℕ) : Type 0 where
-  pub left : ℕ
-  pub tree : Tree
-  pub reads : filterAt d xs close p ≡ chainOf left xs (λ k. itemAt d xs close k) m tree
-  pub enough : length xs - m + 1 ≤ left
-  pub derives : Filter xs close d p m tree
-  pub from : p ≤ m
-  pub within : m ≤ length xs
-  pub summary-is : s ≡ summaryOf ps c (testsOf tree)
-  pub cells-are : k ≡ cellCount tree
-  pub cells : take (row + k) list ≡ take row before ++ encode (prepared ps xs c tree)
-  pub size : length list ≡ length before
-  pub room : row + k ≤ m
-
 module _ (ps : List Parameter) (c : ℕ) (xs : List ℕ) (row close d p : ℕ) (l m : List ℕ) (r : Written) (w : Wrote ps c xs row (itemAt d xs close p) r l m) where
-  pub wrote-no-item : r ≡ Written.Nothing → Wrote ps c xs row (filterAt d xs close p) Written.Nothing l m
-  wrote-no-item h = give-none ps c xs row (filterAt d xs close p) l m (rw (filter-step d xs close p, was-none ps c xs row w h)) (w .size)
+  pub filter-no-item : r ≡ Written.Nothing → Wrote ps c xs row (filterAt d xs close p) Written.Nothing l m
+  filter-no-item h = give-none ps c xs row (filterAt d xs close p) l m (rw (filter-step d xs close p, was-none ps c xs row w h)) (w .size)
 
-  pub chain-starts : (q : ℕ) (v : Outcome) → r ≡ Written.Done q v → row ≤ p → row ≤ length l → Chained ps c xs row close d p m q (v .summary) (v .cells) m
-  chain-starts q v h low short =
-      let a = was ps c xs row q v w h in
-      let i = subst (ItemDerived xs close d p) (a .read) (item-derived d xs close p) in
-      let same : v .cells ≡ cellCount (a .tree) = ap (λ (o : Outcome). o .cells) (a .value) in
-      record {
-        left = length xs;
-        tree = a .tree;
-        reads = first-read xs close d p q (a .tree) (a .read);
-        enough = omega (arith, item-rise i);
-        derives = one-item i;
-        from = omega (arith, item-rise i .0);
-        within = item-rise i .1;
-        summary-is = ap (λ (o : Outcome). o .summary) (a .value);
-        cells-are = same;
-        cells = ap (λ (x : ℕ). take (row + x) m) same ∙ a .cells ∙ ap (λ (b : List ℕ). b ++ encode (prepared ps xs c (a .tree))) (sym (wrote-keeps ps c xs row (itemAt d xs close p) r l m q v w h short .same));
-        size = refl;
-        room = omega (arith, item-cells i, same);
-      }
+  module _ (q : ℕ) (v : Outcome) (h : r ≡ Written.Done q v) (room : Room xs l row p) where
+    kept : Kept row l m
+    kept = wrote-keeps ps c xs row (itemAt d xs close p) r l m q v w h (omega (arith, room .low, room .within, room .short, room .size))
 
-module _ (ps : List Parameter) (c : ℕ) (xs : List ℕ) (row close d p : ℕ) (l : List ℕ) (m : ℕ) (s : Summary) (k : ℕ) (list : List ℕ) (h : Chained ps c xs row close d p l m s k list) (f : FoundConnective) (e : f ≡ connectiveAt xs m) where
-  pub chain-ends : (first : List ℕ) → f ≡ FoundConnective.Nothing → Kept row first l → Wrote ps c xs row (filterAt d xs close p) (Written.Done m (record { summary = s; cells = k })) first list
-  chain-ends first i kept =
-      rebased ps c xs row (filterAt d xs close p) (Written.Done m (record { summary = s; cells = k })) first l list kept
-      (give ps c xs row (filterAt d xs close p) m (h .tree) (record { summary = s; cells = k }) l list
-      (rw (h .reads, chain-step (h .left) xs (λ k. itemAt d xs close k) m (h .tree) (omega (arith, h .enough)), sym e ∙ i))
-      (outcome-same ps c (h .tree) s k (h .summary-is) (h .cells-are))
-      (ap (λ (x : ℕ). take (row + x) list) (sym (h .cells-are)) ∙ h .cells) (h .size))
+    pub chain-starts : Chained ps c xs row close d p m q v m
+    chain-starts =
+        let a = was ps c xs row q v w h in
+        let i = subst (ItemDerived xs close d p) (a .read) (item-derived d xs close p) in
+        let same : v .cells ≡ cellCount (a .tree) = ap (λ (o : Outcome). o .cells) (a .value) in
+        record {
+          left = length xs;
+          tree = a .tree;
+          reads = first-read xs close d p q (a .tree) (a .read);
+          enough = omega (arith, item-rise i);
+          derives = one-item i;
+          value = a .value;
+          cells = ap (λ (x : ℕ). take (row + x) m) same ∙ a .cells ∙ ap (λ (b : List ℕ). b ++ encode (prepared ps xs c (a .tree))) (sym (kept .same));
+          same-size = refl;
+          room = omega (arith, item-cells i, same, room .low);
+          within = item-rise i .1;
+          short = room .short;
+          size = w .size ∙ room .size;
+        }
 
-  module _ (q : ℕ) (o : Connective) (i : f ≡ FoundConnective.Next q o) (r : Written) (list2 : List ℕ) (w : Wrote ps c xs (row + k + 1) (itemAt d xs close q) r list list2) where
-    pub chain-no-item : (first : List ℕ) → r ≡ Written.Nothing → Kept row first l → Wrote ps c xs row (filterAt d xs close p) Written.Nothing first list2
-    chain-no-item first j kept =
-        rebased ps c xs row (filterAt d xs close p) Written.Nothing first l list2 kept
-        (give-none ps c xs row (filterAt d xs close p) l list2
-        (rw (h .reads, chain-step (h .left) xs (λ k. itemAt d xs close k) m (h .tree) (omega (arith, h .enough)), sym e ∙ i, was-none ps c xs (row + k + 1) w j)) (w .size ∙ h .size))
+    -- what the rest writes behind the item stands behind what was there before it
+    pub filter-rest : (r2 : Written) (n : List ℕ) → Wrote ps c xs row (filterAt d xs close p) r2 m n → Wrote ps c xs row (filterAt d xs close p) r2 l n
+    filter-rest r2 n x =
+        record {
+          answers = x .answers;
+          cells = λ q f e. x .cells q f e ∙ ap (λ (k : List ℕ). k ++ encode (prepared ps xs c f)) (kept .same);
+          size = x .size ∙ w .size;
+        }
 
-    module _ (n : ℕ) (v : Outcome) (j : r ≡ Written.Done n v) where
-      pub chain-fits : length xs ≤ 1024 → s .tests + v .summary .tests ≤ 1024
-      chain-fits short =
-          let t = item-takes ps c xs (row + k + 1) close d q r list list2 n v w j in
-          let u = connective-ahead xs m q o f e i in
-          omega (arith, filter-count (h .derives), ap (λ (x : Summary). x .tests) (h .summary-is), t .tests-fit, t .within, u .0)
+module _ (ps : List Parameter) (c : ℕ) (xs : List ℕ) (row close d p : ℕ) (l : List ℕ) (m : ℕ) (v : Outcome) (list : List ℕ) (h : Chained ps c xs row close d p l m v list)
+    (f : FoundConnective) (e : f ≡ connectiveAt xs m) where
+  pub chain-ends : f ≡ FoundConnective.Nothing → Wrote ps c xs row (filterAt d xs close p) (Written.Done m v) l list
+  chain-ends i =
+      let same : v .cells ≡ cellCount (h .tree) = ap (λ (o : Outcome). o .cells) (h .value) in
+      give ps c xs row (filterAt d xs close p) m (h .tree) v l list
+      (rw (h .reads, chain-step (h .left) xs (λ k. itemAt d xs close k) m (h .tree) (omega (arith, h .enough)), sym e ∙ i)) (h .value)
+      (ap (λ (x : ℕ). take (row + x) list) (sym same) ∙ h .cells) (h .same-size)
 
-      pub chain-room : row + k + v .cells < n
-      chain-room =
-          let t = item-takes ps c xs (row + k + 1) close d q r list list2 n v w j in
-          let u = connective-ahead xs m q o f e i in
-          omega (arith, h .room, t .cells-fit, u .0)
+  module _ (q : ℕ) (o : Connective) (i : f ≡ FoundConnective.Next q o) where
+    ahead : (m + 1 ≤ q) × (q ≤ length xs)
+    ahead = connective-ahead xs m q o f e i
 
-      pub chain-cell : length xs ≤ 1024 → row + k + v .cells < 1024
-      chain-cell short = let t = item-takes ps c xs (row + k + 1) close d q r list list2 n v w j in omega (arith, chain-room, t .within)
+    pub chain-room : Room xs list (row + v .cells + 1) q
+    chain-room = record { short = h .short; size = h .size; low = omega (arith, h .room, ahead .0); within = ahead .1 }
 
-      pub chain-takes : (x : Summary) (y : ℕ) → x ≡ joinSummaries s (v .summary) → y ≡ cellOf (Row.Connect o (v .cells)) → length xs ≤ length list2
-          → Chained ps c xs row close d p l n x (k + v .cells + 1) (set list2 (row + k) y)
-      unfolding cellCount prepared encode testsOf
-      chain-takes x y z g short =
-          let a = was ps c xs (row + k + 1) n v w j in
-          let item = subst (ItemDerived xs close d q) (a .read) (item-derived d xs close q) in
-          let rise = item-rise item in
-          let ahead = connective-ahead xs m q o f e i in
-          let conn : ConnectiveDerived xs m (FoundConnective.Next q o) = subst (ConnectiveDerived xs m) (sym e ∙ i) (connective-derived xs m) in
-          let same : v .cells ≡ cellCount (a .tree) = ap (λ (o : Outcome). o .cells) (a .value) in
-          let inner : List ℕ = encode (prepared ps xs c (a .tree)) in
-          let low : row + k < length list = omega (arith, chain-room, rise .1, short, w .size) in
-          let cell : y ≡ cellOf (Row.Connect o (length inner)) = g ∙ ap (λ (n : ℕ). cellOf (Row.Connect o n)) (same ∙ sym (cells-counted ps xs c (a .tree))) in
-          let place : row + k + 1 + cellCount (a .tree) ≡ row + (k + v .cells + 1) = omega (arith, same) in
-          let before : take (row + (k + v .cells + 1)) list2 ≡ take (row + k + 1) list ++ inner = ap (λ (x : ℕ). take x list2) (sym place) ∙ a .cells in
-          record {
-            left = h .left - 1;
-            tree = join o (h .tree) (a .tree);
-            reads = next-read xs close d p (h .left) m q o n (h .tree) (a .tree) (h .reads) (omega (arith, h .enough)) (sym e ∙ i) (a .read);
-            enough = omega (arith, h .enough, ahead .0, rise .0);
-            derives = one-more (h .derives) conn item;
-            from = omega (arith, h .from, ahead .0, rise .0);
-            within = rise .1;
-            summary-is = z ∙ ap₂ joinSummaries (h .summary-is) (ap (λ (o : Outcome). o .summary) (a .value)) ∙ summary-joined ps c (testsOf (h .tree)) (testsOf (a .tree));
-            cells-are = omega (arith, h .cells-are, same);
-            cells = fill-one list inner list2 (row + k) (row + (k + v .cells + 1)) y before low (omega arith)
-                ∙ ap₂ (λ (b : List ℕ) (x : ℕ). b ++ (x ∷ inner)) (h .cells) cell ∙ append-assoc (take row l) (encode (prepared ps xs c (h .tree))) (cellOf (Row.Connect o (length inner)) ∷ inner);
-            size = length-set list2 (row + k) y ∙ w .size ∙ h .size;
-            room = omega (arith, chain-room);
-          }
+    pub chain-falls : (t : ℕ) → 4 * (length xs - p) + 1 ≡ t → 4 * (length xs - q) + 1 < t
+    chain-falls t k = omega (arith, filter-rise (h .derives), ahead .0, ahead .1)
+
+    module _ (r : Written) (list2 : List ℕ) (w : Wrote ps c xs (row + v .cells + 1) (itemAt d xs close q) r list list2) where
+      pub chain-no-item : r ≡ Written.Nothing → Wrote ps c xs row (filterAt d xs close p) Written.Nothing l list2
+      chain-no-item j =
+          give-none ps c xs row (filterAt d xs close p) l list2
+          (rw (h .reads, chain-step (h .left) xs (λ k. itemAt d xs close k) m (h .tree) (omega (arith, h .enough)), sym e ∙ i, was-none ps c xs (row + v .cells + 1) w j)) (w .size ∙ h .same-size)
+
+      module _ (n : ℕ) (x : Outcome) (j : r ≡ Written.Done n x) where
+        takes-item : Takes ps c xs (row + v .cells + 1) close d q r list list2 n x
+        takes-item = item-takes ps c xs (row + v .cells + 1) close d q r list list2 n x w j
+
+        pub chain-joins : Joinable list2 row v x
+        chain-joins =
+            record {
+              place = omega (arith, h .room, h .within, h .short, ahead .0, ahead .1, h .size, w .size);
+              cells = omega (arith, h .room, h .short, ahead .0, takes-item .cells-fit, takes-item .within);
+              tests = omega (arith, filter-count (h .derives), ap (λ (y : Outcome). y .summary .tests) (h .value), takes-item .tests-fit, takes-item .within, ahead .0, h .short);
+            }
+
+        pub chain-less : length xs - n < length xs - m
+        chain-less = omega (arith, takes-item .ahead, takes-item .within, ahead .0)
+
+        pub chain-takes : (r2 : Outcome) (list3 : List ℕ) → WroteJoin o v x row r2 list2 list3 → Chained ps c xs row close d p l n r2 list3
+        unfolding cellCount prepared encode testsOf
+        chain-takes r2 list3 g =
+            let a = was ps c xs (row + v .cells + 1) n x w j in
+            let item = subst (ItemDerived xs close d q) (a .read) (item-derived d xs close q) in
+            let rise = item-rise item in
+            let conn : ConnectiveDerived xs m (FoundConnective.Next q o) = subst (ConnectiveDerived xs m) (sym e ∙ i) (connective-derived xs m) in
+            let first : v .cells ≡ cellCount (h .tree) = ap (λ (y : Outcome). y .cells) (h .value) in
+            let second : x .cells ≡ cellCount (a .tree) = ap (λ (y : Outcome). y .cells) (a .value) in
+            let inner : List ℕ = encode (prepared ps xs c (a .tree)) in
+            let cell : cellOf (Row.Connect o (x .cells)) ≡ cellOf (Row.Connect o (length inner)) = ap (λ (n : ℕ). cellOf (Row.Connect o n)) (second ∙ sym (cells-counted ps xs c (a .tree))) in
+            let place : row + v .cells + 1 + cellCount (a .tree) ≡ row + (v .cells + x .cells + 1) = omega (arith, second) in
+            let before : take (row + (v .cells + x .cells + 1)) list2 ≡ take (row + v .cells + 1) list ++ inner = ap (λ (y : ℕ). take y list2) (sym place) ∙ a .cells in
+            let all : Outcome = record { summary = joinSummaries (v .summary) (x .summary); cells = v .cells + x .cells + 1 } in
+            let sums : joinSummaries (v .summary) (x .summary) ≡ summaryOf ps c (testsOf (h .tree) ++ testsOf (a .tree)) =
+            ap₂ joinSummaries (ap (λ (y : Outcome). y .summary) (h .value)) (ap (λ (y : Outcome). y .summary) (a .value)) ∙ summary-joined ps c (testsOf (h .tree)) (testsOf (a .tree)) in
+            let joined : Chained ps c xs row close d p l n all (set list2 (row + v .cells) (cellOf (Row.Connect o (x .cells)))) =
+            record {
+              left = h .left - 1;
+              tree = join o (h .tree) (a .tree);
+              reads = next-read xs close d p (h .left) m q o n (h .tree) (a .tree) (h .reads) (omega (arith, h .enough)) (sym e ∙ i) (a .read);
+              enough = omega (arith, h .enough, ahead .0, rise .0);
+              derives = one-more (h .derives) conn item;
+              value = outcome-same ps c (join o (h .tree) (a .tree)) (all .summary) (all .cells) sums (omega (arith, first, second));
+              cells = fill-one list inner list2 (row + v .cells) (row + (v .cells + x .cells + 1)) (cellOf (Row.Connect o (x .cells))) before (omega (arith, chain-joins .place, w .size)) (omega arith)
+                  ∙ ap₂ (λ (b : List ℕ) (y : ℕ). b ++ (y ∷ inner)) (h .cells) cell ∙ append-assoc (take row l) (encode (prepared ps xs c (h .tree))) (cellOf (Row.Connect o (length inner)) ∷ inner);
+              same-size = length-set list2 (row + v .cells) (cellOf (Row.Connect o (x .cells))) ∙ w .size ∙ h .same-size;
+              room = omega (arith, h .room, ahead .0, takes-item .cells-fit);
+              within = rise .1;
+              short = h .short;
+              size = length-set list2 (row + v .cells) (cellOf (Row.Connect o (x .cells))) ∙ w .size ∙ h .size;
+            } in
+            rw (g .answers, g .cells) joined

@@ -1,2 +1,3 @@
 -- The rows that reading a filter writes.
 pub mod Writing
+pub mod Steps

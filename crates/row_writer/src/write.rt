@@ -23,15 +23,15 @@ use syntax::read_head;
 use syntax::read_member;
 use syntax::scan::skip;
 ghost use mathlib.Core.Path.{_≡_};
-ghost use Prim.Native.Nat.{_≤_, _<_};
+ghost use Prim.Native.Nat.{_+_, _≤_, _<_};
 ghost use lib.ListN.{length};
 ghost use Rattle.sheet.specs.Sheet.{parametersOf, readSheet};
 ghost use Rattle.syntax.specs.Placed.{Placed};
 ghost use Rattle.syntax.specs.Scan.{testOf};
 ghost use Rattle.syntax.specs.Grammar.{round};
-ghost use Rattle.syntax.specs.Reader.{itemAt, filterAt, bracketAt, chosenAt};
 ghost use Rattle.rows.specs.Cells.{numberOf, cellOf};
-ghost use Rattle.row_writer.specs.Writing.{valuePlace, indexOf, probeFor, Wrote, Read};
+ghost use Rattle.row_writer.specs.Writing.{valuePlace, indexOf, probeFor, Read};
+ghost use Rattle.row_writer.specs.Steps.{Room, Joinable, WroteTest, WroteNot, WroteClosed, WrotePair, WroteMember, WroteJoin, Inside, ChainedAt, WroteItem, WroteFilter, WroteRound, WroteChosen};
 
 // The index of what a test names, and 0 where it names nothing.
 fn index_of(found: Found) -> u32
@@ -69,6 +69,69 @@ fn test_number(sheet: &[u8], bundle: u8, filter: &[u8], test: RawTest) -> u32
     index + 32 * (operator + 32 * place)
 }
 
+// The row of a test, with what is gathered of it.
+fn write_test(
+    sheet: &[u8],
+    filter: &[u8],
+    bundle: u8,
+    test: RawTest,
+    rows: &mut [u32],
+    row: usize,
+) -> Written
+    requires { ⌜ readSheet (now sheet) ≡ Validity.WellFormed ⌝ }
+    requires { ⌜ length (now filter) ≤ 1024 ⌝ }
+    requires { ⌜ Placed (now filter) test ⌝ }
+    requires { ⌜ Read (now filter) test ⌝ }
+    requires { ⌜ row < length (now rows) ⌝ }
+    ensures { λ r. ⌜ WroteTest (parametersOf (now (sheet .entry))) bundle (now (filter .entry)) row test r (now (rows .entry)) (now (rows .exit)) ⌝ }
+{
+    rows[row] = 8 * test_number(sheet, bundle, filter, test);
+    let summary = test_summary(sheet, bundle, filter, test.at, test);
+    let value = test.value;
+    Written::Done(value.next, Outcome { summary, cells: 1 })
+}
+
+// The row of not, behind the rows of a filter that was read up to its bracket.
+fn write_not(end: usize, inner: Outcome, rows: &mut [u32], row: usize) -> Written
+    requires { ⌜ row + inner .cells < length (now rows) ⌝ }
+    ensures { λ r. ⌜ WroteNot end inner row r (now (rows .entry)) (now (rows .exit)) ⌝ }
+{
+    let summary = inner.summary;
+    let cells = inner.cells;
+    let last = row + cells;
+    rows[last] = 2;
+    Written::Done(
+        end,
+        Outcome {
+            summary,
+            cells: cells + 1,
+        },
+    )
+}
+
+// The end of round brackets behind the filter in them, which was read up to `end` and has its rows written from a row on.
+fn close_round(
+    filter: &[u8],
+    end: usize,
+    negate: bool,
+    inner: Outcome,
+    rows: &mut [u32],
+    row: usize,
+) -> Written
+    requires { ⌜ end ≤ length (now filter) ⌝ }
+    requires { ⌜ row + inner .cells < length (now rows) ⌝ }
+    ensures { λ r. ⌜ WroteClosed (now (filter .entry)) end negate inner row r (now (rows .entry)) (now (rows .exit)) ⌝ }
+{
+    let closed = read_close(filter, b')', end);
+    let FoundClose::At(after) = closed else {
+        return Written::Nothing;
+    };
+    if negate {
+        return write_not(after, inner, rows, row);
+    }
+    Written::Done(after, inner)
+}
+
 // The filter in round brackets at a spot inside them, after not where `negate` says so. Its cells are written from a row on.
 fn write_round(
     sheet: &[u8],
@@ -79,35 +142,16 @@ fn write_round(
     row: usize,
 ) -> Written
     requires { ⌜ readSheet (now sheet) ≡ Validity.WellFormed ⌝ }
-    requires { ⌜ length (now filter) ≤ 1024 ⌝ }
-    requires { ⌜ spot .at ≤ length (now filter) ⌝ }
+    requires { ⌜ Room (now filter) (now rows) row (spot .at) ⌝ }
     requires { ⌜ spot .close ≡ round ⌝ }
-    requires { ⌜ length (now rows) ≡ 1024 ⌝ }
     requires { ⌜ row < spot .at ⌝ }
-    ensures { λ r. ⌜ Wrote (parametersOf (now (sheet .entry))) (spot .bundle) (now (filter .entry)) row (bracketAt (spot .levels) (now (filter .entry)) negate (spot .at)) r (now (rows .entry)) (now (rows .exit)) ⌝ }
+    ensures { λ r. ⌜ WroteRound (now (sheet .entry)) (now (filter .entry)) spot negate row r (now (rows .entry)) (now (rows .exit)) ⌝ }
 {
     let inner = write_filter(sheet, filter, spot, rows, row);
     let Written::Done(end, outcome) = inner else {
         return Written::Nothing;
     };
-    let closed = read_close(filter, b')', end);
-    let FoundClose::At(after) = closed else {
-        return Written::Nothing;
-    };
-    if negate {
-        let summary = outcome.summary;
-        let cells = outcome.cells;
-        let last = row + cells;
-        rows[last] = 2;
-        return Written::Done(
-            after,
-            Outcome {
-                summary,
-                cells: cells + 1,
-            },
-        );
-    }
-    Written::Done(after, outcome)
+    close_round(filter, end, negate, outcome, rows, row)
 }
 
 // The cell of brackets with so many rows in them.
@@ -117,6 +161,87 @@ fn bracket_cell(size: usize) -> u32
 {
     let rows = size as u32;
     8 * rows + 1
+}
+
+// The spot in the square brackets of the bundle whose name begins at a spot and ends at `until`.
+fn inside_of(sheet: &[u8], filter: &[u8], spot: Spot, until: usize) -> Spot
+    requires { ⌜ readSheet (now sheet) ≡ Validity.WellFormed ⌝ }
+    requires { ⌜ spot .at ≤ until ⌝ }
+    requires { ⌜ until < length (now filter) ⌝ }
+    ensures { λ r. ⌜ Inside (parametersOf (now (sheet .entry))) (now (filter .entry)) spot until r ⌝ }
+{
+    let at = spot.at;
+    let bundle = sheet::enter(sheet, spot.bundle, &filter[at..until]);
+    Spot {
+        at: skip(filter, until + 1),
+        levels: spot.levels,
+        close: b']',
+        bundle,
+    }
+}
+
+// The rows of brackets and of the test of a member behind them, before the rows in the brackets, which are written; `at` is where the
+// bundle's name begins.
+fn write_pair(
+    sheet: &[u8],
+    filter: &[u8],
+    bundle: u8,
+    at: usize,
+    test: RawTest,
+    inner: Outcome,
+    rows: &mut [u32],
+    row: usize,
+) -> Written
+    requires { ⌜ readSheet (now sheet) ≡ Validity.WellFormed ⌝ }
+    requires { ⌜ length (now filter) ≤ 1024 ⌝ }
+    requires { ⌜ Placed (now filter) test ⌝ }
+    requires { ⌜ Read (now filter) test ⌝ }
+    requires { ⌜ row + inner .cells + 1 < length (now rows) ⌝ }
+    requires { ⌜ inner .cells ≤ 1024 ⌝ }
+    requires { ⌜ inner .summary .tests < 1024 ⌝ }
+    ensures { λ r. ⌜ WrotePair (parametersOf (now (sheet .entry))) bundle (now (filter .entry)) at test inner row r (now (rows .entry)) (now (rows .exit)) ⌝ }
+{
+    let cells = inner.cells;
+    rows[row] = bracket_cell(cells);
+    rows[row + 1] = 8 * test_number(sheet, bundle, filter, test);
+    let outer = test_summary(sheet, bundle, filter, at, test);
+    let summary = join_summaries(outer, inner.summary);
+    let value = test.value;
+    Written::Done(
+        value.next,
+        Outcome {
+            summary,
+            cells: cells + 2,
+        },
+    )
+}
+
+// The test of a member behind the filter in its bundle's brackets, which was read up to `end` and has its rows written; the bundle's name
+// begins at a spot.
+fn write_member(
+    sheet: &[u8],
+    filter: &[u8],
+    spot: Spot,
+    bundle: u8,
+    end: usize,
+    inner: Outcome,
+    rows: &mut [u32],
+    row: usize,
+) -> Written
+    requires { ⌜ readSheet (now sheet) ≡ Validity.WellFormed ⌝ }
+    requires { ⌜ length (now filter) ≤ 1024 ⌝ }
+    requires { ⌜ end ≤ length (now filter) ⌝ }
+    requires { ⌜ row + inner .cells + 1 < length (now rows) ⌝ }
+    requires { ⌜ inner .cells ≤ 1024 ⌝ }
+    requires { ⌜ inner .summary .tests < 1024 ⌝ }
+    ensures { λ r. ⌜ WroteMember (parametersOf (now (sheet .entry))) bundle (now (filter .entry)) spot end inner row r (now (rows .entry)) (now (rows .exit)) ⌝ }
+{
+    let member = read_member(filter, spot.close, end);
+    let FoundTest::Test(test) = member else {
+        return Written::Nothing;
+    };
+    let at = spot.at;
+    write_pair(sheet, filter, bundle, at, test, inner, rows, row)
 }
 
 // The test of a member at a spot, after the filter in square brackets of the bundle whose name ends at `until`; the levels are those in
@@ -130,54 +255,25 @@ fn write_chosen(
     row: usize,
 ) -> Written
     requires { ⌜ readSheet (now sheet) ≡ Validity.WellFormed ⌝ }
-    requires { ⌜ length (now filter) ≤ 1024 ⌝ }
+    requires { ⌜ Room (now filter) (now rows) row (spot .at) ⌝ }
     requires { ⌜ spot .at < until ⌝ }
     requires { ⌜ until < length (now filter) ⌝ }
-    requires { ⌜ length (now rows) ≡ 1024 ⌝ }
-    requires { ⌜ row ≤ spot .at ⌝ }
-    ensures { λ r. ⌜ Wrote (parametersOf (now (sheet .entry))) (spot .bundle) (now (filter .entry)) row (chosenAt (spot .levels) (now (filter .entry)) (spot .close) (spot .at) until) r (now (rows .entry)) (now (rows .exit)) ⌝ }
+    ensures { λ r. ⌜ WroteChosen (now (sheet .entry)) (now (filter .entry)) spot until row r (now (rows .entry)) (now (rows .exit)) ⌝ }
 {
-    let at = spot.at;
-    let levels = spot.levels;
-    let bundle = sheet::enter(sheet, spot.bundle, &filter[at..until]);
-    let inside = Spot {
-        at: skip(filter, until + 1),
-        levels,
-        close: b']',
-        bundle,
-    };
+    let inside = inside_of(sheet, filter, spot, until);
     let inner = write_filter(sheet, filter, inside, rows, row + 2);
     let Written::Done(end, outcome) = inner else {
         return Written::Nothing;
     };
-    let member = read_member(filter, spot.close, end);
-    let FoundTest::Test(test) = member else {
-        return Written::Nothing;
-    };
-    let cells = outcome.cells;
-    rows[row] = bracket_cell(cells);
-    rows[row + 1] = 8 * test_number(sheet, bundle, filter, test);
-    let outer = test_summary(sheet, bundle, filter, at, test);
-    let summary = join_summaries(outer, outcome.summary);
-    let value = test.value;
-    Written::Done(
-        value.next,
-        Outcome {
-            summary,
-            cells: cells + 2,
-        },
-    )
+    write_member(sheet, filter, spot, inside.bundle, end, outcome, rows, row)
 }
 
 // The item at a spot: "a test, a filter in round brackets, or not followed by a filter in round brackets", or the test of a member
 // after its bundle's brackets. Its cells are written from a row on.
 fn write_item(sheet: &[u8], filter: &[u8], spot: Spot, rows: &mut [u32], row: usize) -> Written
     requires { ⌜ readSheet (now sheet) ≡ Validity.WellFormed ⌝ }
-    requires { ⌜ length (now filter) ≤ 1024 ⌝ }
-    requires { ⌜ spot .at ≤ length (now filter) ⌝ }
-    requires { ⌜ length (now rows) ≡ 1024 ⌝ }
-    requires { ⌜ row ≤ spot .at ⌝ }
-    ensures { λ r. ⌜ Wrote (parametersOf (now (sheet .entry))) (spot .bundle) (now (filter .entry)) row (itemAt (spot .levels) (now (filter .entry)) (spot .close) (spot .at)) r (now (rows .entry)) (now (rows .exit)) ⌝ }
+    requires { ⌜ Room (now filter) (now rows) row (spot .at) ⌝ }
+    ensures { λ r. ⌜ WroteItem (now (sheet .entry)) (now (filter .entry)) spot row r (now (rows .entry)) (now (rows .exit)) ⌝ }
 {
     let at = spot.at;
     let levels = spot.levels;
@@ -185,12 +281,7 @@ fn write_item(sheet: &[u8], filter: &[u8], spot: Spot, rows: &mut [u32], row: us
     let bundle = spot.bundle;
     let head = read_head(filter, close, at);
     match head {
-        Head::Test(test) => {
-            let summary = test_summary(sheet, bundle, filter, test.at, test);
-            rows[row] = 8 * test_number(sheet, bundle, filter, test);
-            let value = test.value;
-            Written::Done(value.next, Outcome { summary, cells: 1 })
-        }
+        Head::Test(test) => write_test(sheet, filter, bundle, test, rows, row),
         Head::Open(next, negate) => {
             if levels == 0 {
                 return Written::Nothing;
@@ -231,29 +322,43 @@ fn connect_cell(connective: Connective, size: usize) -> u32
     }
 }
 
-// The filter at a spot: "one or more items joined by and or or", from left to right. Its cells are written from a row on; a connective's
-// is filled in behind its item.
-pub fn write_filter(
+// The row of a connective between the rows of its parts, of which the first begin at a row, and what both parts gather.
+fn write_join(
+    connective: Connective,
+    first: Outcome,
+    second: Outcome,
+    rows: &mut [u32],
+    row: usize,
+) -> Outcome
+    requires { ⌜ Joinable (now rows) row first second ⌝ }
+    ensures { λ r. ⌜ WroteJoin connective first second row r (now (rows .entry)) (now (rows .exit)) ⌝ }
+{
+    let place = row + first.cells;
+    let cells = second.cells;
+    rows[place] = connect_cell(connective, cells);
+    Outcome {
+        summary: join_summaries(first.summary, second.summary),
+        cells: first.cells + cells + 1,
+    }
+}
+
+// The items that follow the one in hand, which begins at a spot, ends at `end` and has its cells from a row on. A connective's cell is
+// filled in behind its item.
+fn write_rest(
     sheet: &[u8],
     filter: &[u8],
     spot: Spot,
     rows: &mut [u32],
     row: usize,
+    first_end: usize,
+    first: Outcome,
 ) -> Written
     requires { ⌜ readSheet (now sheet) ≡ Validity.WellFormed ⌝ }
-    requires { ⌜ length (now filter) ≤ 1024 ⌝ }
-    requires { ⌜ spot .at ≤ length (now filter) ⌝ }
-    requires { ⌜ length (now rows) ≡ 1024 ⌝ }
-    requires { ⌜ row ≤ spot .at ⌝ }
-    ensures { λ r. ⌜ Wrote (parametersOf (now (sheet .entry))) (spot .bundle) (now (filter .entry)) row (filterAt (spot .levels) (now (filter .entry)) (spot .close) (spot .at)) r (now (rows .entry)) (now (rows .exit)) ⌝ }
+    requires { ⌜ ChainedAt (now sheet) (now filter) spot row (now rows) «first_end» first (now rows) ⌝ }
+    ensures { λ r. ⌜ WroteFilter (now (sheet .entry)) (now (filter .entry)) spot row r (now (rows .entry)) (now (rows .exit)) ⌝ }
 {
-    let first = write_item(sheet, filter, spot, rows, row);
-    let Written::Done(first_end, first_outcome) = first else {
-        return Written::Nothing;
-    };
     let mut end = first_end;
-    let mut summary = first_outcome.summary;
-    let mut cells = first_outcome.cells;
+    let mut gathered = first;
     loop {
         let found = read_connective(filter, end);
         match found {
@@ -264,16 +369,12 @@ pub fn write_filter(
                     close: spot.close,
                     bundle: spot.bundle,
                 };
-                let item = write_item(sheet, filter, next_spot, rows, row + cells + 1);
+                let next_row = row + gathered.cells + 1;
+                let item = write_item(sheet, filter, next_spot, rows, next_row);
                 match item {
-                    Written::Done(item_end, item_outcome) => {
-                        let item_summary = item_outcome.summary;
-                        let item_cells = item_outcome.cells;
-                        let place = row + cells;
-                        rows[place] = connect_cell(connective, item_cells);
+                    Written::Done(item_end, second) => {
+                        gathered = write_join(connective, gathered, second, rows, row);
                         end = item_end;
-                        summary = join_summaries(summary, item_summary);
-                        cells = cells + item_cells + 1;
                     }
                     Written::Nothing => {
                         return Written::Nothing;
@@ -281,8 +382,27 @@ pub fn write_filter(
                 }
             }
             FoundConnective::Nothing => {
-                return Written::Done(end, Outcome { summary, cells });
+                return Written::Done(end, gathered);
             }
         }
     }
+}
+
+// The filter at a spot: "one or more items joined by and or or", from left to right. Its cells are written from a row on.
+pub fn write_filter(
+    sheet: &[u8],
+    filter: &[u8],
+    spot: Spot,
+    rows: &mut [u32],
+    row: usize,
+) -> Written
+    requires { ⌜ readSheet (now sheet) ≡ Validity.WellFormed ⌝ }
+    requires { ⌜ Room (now filter) (now rows) row (spot .at) ⌝ }
+    ensures { λ r. ⌜ WroteFilter (now (sheet .entry)) (now (filter .entry)) spot row r (now (rows .entry)) (now (rows .exit)) ⌝ }
+{
+    let first = write_item(sheet, filter, spot, rows, row);
+    let Written::Done(end, outcome) = first else {
+        return Written::Nothing;
+    };
+    write_rest(sheet, filter, spot, rows, row, end, outcome)
 }

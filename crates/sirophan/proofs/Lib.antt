@@ -15,4 +15,5 @@ pub mod Searches
 pub mod Seconds
 pub mod AnyList
 pub mod Stating
+pub mod Limits
 pub mod Promises

@@ -120,7 +120,7 @@ use Rattle.answer.proofs.SearchTable as search-lines
 use Rattle.sheet.specs.Find.{kindsOf, parentsOf}
 use Rattle.rows.specs.Expression.{Expression}
 use Rattle.rows.specs.Cells.{encode, stated}
-use Rattle.rows.specs.Good.{Good}
+use Rattle.rows.specs.Good.{Fits, Good}
 use Rattle.rows.specs.Shapes.{good}
 use Rattle.rows.specs.Stated.{treeOf}
 use Rattle.rows.proofs.Good as rows
@@ -154,6 +154,8 @@ use Rattle.sirophan.specs.AnyList.{MatchIsAnywhere}
 use Rattle.sirophan.proofs.AnyList as any-list
 use Rattle.sirophan.specs.Stating.{States}
 use Rattle.sirophan.proofs.Stating as states
+use Rattle.sirophan.specs.Limits.{SpelledBy}
+use Rattle.sirophan.proofs.Limits as limits
 
 -- ---- demand 1: an answer or a refusal, and a refusal writes nothing
 
@@ -324,6 +326,14 @@ good-rows-state-one ps w text cells = states.good-one ps text w
 -- what they state, by the sheet and the text: names, values, joins, nots and brackets, so that treeOf need not be believed
 pub good-rows-state : (ps : List Parameter) (text cells : List ℕ) (g : Good ps text cells) → States ps text (g .expression) (treeOf ps text (g .expression))
 good-rows-state ps text cells = states.good-state ps text
+
+-- both limits, by texts: what good rows state is spelled within them, by its plain spelling; and what some text spells within them, and whose
+-- tests fit, has good rows, so that Nests need not be believed
+pub good-rows-spelled : (ps : List Parameter) → WellFormedSheet ps → (text cells : List ℕ) (g : Good ps text cells) → SpelledBy ps text (g .expression) (plain (treeOf ps text (g .expression)))
+good-rows-spelled ps w text cells = limits.good-spelled ps text w
+
+pub spelled-rows-good : (ps : List Parameter) (text spelling : List ℕ) (e : Expression) → SpelledBy ps text e spelling → Fits ps text 0 e → (g : Good ps text (encode e)) × (g .expression ≡ e)
+spelled-rows-good ps text spelling e = limits.spelled-good ps text e spelling
 
 -- judge answers the meaning of what good rows state, on each conforming card
 pub judge-answered : (sheet text cells : List ℕ) (s : SheetBlock sheet) → 1 ≤ length text → length text ≤ 1024 → (g : Good (s .parameters) text cells) (card : List ℕ) (es : List Entry)

@@ -20,7 +20,7 @@ use Rattle.syntax.specs.Scan.{valueAt}
 use Rattle.sirophan.specs.Stating.{StatesTest, States, states-test, states-bracket, states-join, states-not}
 
 module _ (ps : List Parameter) (xs : List ℕ) where
-  value-at : (p : Probe) {v : List ℕ} → ValueFrom xs (p .position) v → ValueFrom xs (p .position) (valueBy xs (valueAt xs (p .position)))
+  pub value-at : (p : Probe) {v : List ℕ} → ValueFrom xs (p .position) v → ValueFrom xs (p .position) (valueBy xs (valueAt xs (p .position)))
   value-at p f =
       let r = from-found f in
       subst (ValueFrom xs (p .position)) (sym (ap (valueBy xs) (r .found))) (found-from xs (p .position) (r .raw) (r .found))

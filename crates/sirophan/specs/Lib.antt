@@ -8,3 +8,4 @@ pub mod Searches
 pub mod Seconds
 pub mod AnyList
 pub mod Stating
+pub mod Limits

@@ -1,7 +1,6 @@
 -- `preparing::fill_text` meets its contract. Assumes nothing.
 use borrow.Author.Needs.{needs}
-use Rattle.filter.proofs.Walk.{top-within}
-use Rattle.preparing.proofs.Filled.{fill-empty, fill-long, fill-nothing, fill-within, fill-trails, fill-many, fill-done, fill-fault}
+use Rattle.preparing.proofs.Filled.{fill-room, fill-empty, fill-long, fill-nothing, fill-within, fill-trails, fill-many, fill-done, fill-fault}
 use Rattle.preparing.proofs.fill_text.Statement.{statement}
 use Rattle.preparing.proofs.fill_text.Tie as tie
 
@@ -21,7 +20,7 @@ top-requires : tie.Need-top-requires
 top-requires c κs = search needs
 
 write-filter-requires : tie.Need-write-filter-requires
-write-filter-requires c κs = (search needs, (search needs, (search (top-within, needs), (search needs, search needs))))
+write-filter-requires c κs = (search needs, search (fill-room, needs))
 
 enum-known-written : tie.Need-enum-known-written
 enum-known-written c = search needs

@@ -1,11 +1,11 @@
--- `deciding::marks::mark_from` meets its contract: the loop keeps `Marking`, and a second part has fewer rows. The answers to the needs stand in
--- the order of the code, each with the need's name. Assumes nothing.
+-- `deciding::marks::mark_from` meets its contract. The loop keeps `Marking`: the expression in hand before the row has this mark, and the rows state
+-- an expression. A second part is whole again and has fewer rows, which is the measure. Below the measure stand the callees, the invariant and
+-- the answers to the needs in the order of the code, each with the need's name. Assumes nothing.
 use borrow.Author.Needs.{needs}
 use Prim.Native.Nat.{_-_}
-use native.Mathlib.Omega.{arith}
 use lib.ListN.{length}
-use Rattle.deciding.proofs.Parting.{second-room, second-size, second-whole, no-test, no-bracket, no-unknown}
-use Rattle.deciding.proofs.Marking.{Marking, marking-start, marking-not, marking-join, marking-end}
+use Rattle.deciding.proofs.Marking.{Marking, marking-start, marking-not, marking-room, marking-fits, marking-falls, marking-second, marking-join, marking-test}
+use Rattle.deciding.proofs.Marking.{marking-bracket, marking-unknown, marking-end}
 use Prim.Native.Nat.{ℕ, _<_}
 use borrow.Fn.Kinds.{In}
 use borrow.Fn.PlainCycle.{Measures, is, falls, and}
@@ -55,10 +55,10 @@ pub +mark-from-spec : {M : Type 1} → statement M
     mark-from.Post
     mark-from-Inv-loop
     mark-from-μ-loop
-    (λ c κs. ((c .before .before .pre .1 .0), omega (arith, c .before .before .pre .1 .1)))  -- mark-from-after-first-requires
+    (λ c κs. (search needs, search needs))  -- mark-from-after-first-requires
     (λ c κs. search needs)  -- mark-from-mark-at-requires
-    (λ c. omega (arith, c .before .before .before .before .pre .1 .1))  -- mark-from-add-next
-    (λ c. marking-start (c .before .before .before .before .pre .1 .0) _ _ _ _ (c .before .after-first .ensures) (c .mark-at .ensures))  -- mark-from-loop-holds
+    (λ c. search needs)  -- mark-from-add-next
+    (λ c. search (marking-start, needs))  -- mark-from-loop-holds
     (λ c. search needs)  -- mark-from-mul-row-of
     (λ c. search needs)  -- mark-from-shared-slice-read-row-of
     (λ c κs. search needs)  -- mark-from-row-of-requires
@@ -66,22 +66,22 @@ pub +mark-from-spec : {M : Type 1} → statement M
     (λ c κs. search needs)  -- mark-from-opposite-requires
     (λ c. search needs)  -- mark-from-add-at
     (λ c. search needs)  -- mark-from-loop-less
-    (λ c. marking-not (c .before .before .before .before .before .before .before .before .before .before .before .pre .1 .0) _ _ _ _ _ (c .before .before .before .before .before .before .loop .inv) (c .before .before .before .before .before .loop-test .taken) _ (c .before .before .before .row-of .ensures) _ (c .before .enum-told .given .1) (c .opposite .ensures))  -- mark-from-loop-again
+    (λ c. search (marking-not, needs))  -- mark-from-loop-again
     (λ c. search needs)  -- mark-from-enum-known-connective
-    (λ c. omega (arith, second-room (c .before .before .before .before .before .before .before .before .before .before .before .pre .1 .0) _ _ (c .before .before .before .before .before .before .loop .inv .reading) (c .before .before .before .before .before .loop-test .taken) _ (c .before .before .before .row-of .ensures) _ _ (c .before .connective .given .1), c .before .before .before .before .before .before .before .before .before .before .before .pre .1 .1))  -- mark-from-add-start
-    (λ c. omega (arith, second-room (c .before .before .before .before .before .before .before .before .before .before .before .pre .1 .0) _ _ (c .before .before .before .before .before .before .loop .inv .reading) (c .before .before .before .before .before .loop-test .taken) _ (c .before .before .before .row-of .ensures) _ _ (c .before .connective .given .1), c .before .before .before .before .before .before .before .before .before .before .before .pre .1 .1))  -- mark-from-add-end
+    (λ c. search needs)  -- mark-from-add-start
+    (λ c. search (marking-fits, needs))  -- mark-from-add-end
     (λ c. search needs)  -- mark-from-mul-mark-from
-    (λ c. omega (arith, second-room (c .before .before .before .before .before .before .before .before .before .before .before .pre .1 .0) _ _ (c .before .before .before .before .before .before .loop .inv .reading) (c .before .before .before .before .before .loop-test .taken) _ (c .before .before .before .row-of .ensures) _ _ (c .before .connective .given .1), c .before .before .before .before .before .before .before .before .before .before .before .pre .1 .1))  -- mark-from-sub-mark-from
-    (λ c. omega (arith, second-room (c .before .before .before .before .before .before .before .before .before .before .before .pre .1 .0) _ _ (c .before .before .before .before .before .before .loop .inv .reading) (c .before .before .before .before .before .loop-test .taken) _ (c .before .before .before .row-of .ensures) _ _ (c .before .connective .given .1), c .before .before .before .before .before .before .before .before .before .before .before .pre .1 .1))  -- mark-from-part-mark-from-start
-    (λ c. omega (arith, second-room (c .before .before .before .before .before .before .before .before .before .before .before .pre .1 .0) _ _ (c .before .before .before .before .before .before .loop .inv .reading) (c .before .before .before .before .before .loop-test .taken) _ (c .before .before .before .row-of .ensures) _ _ (c .before .connective .given .1), c .before .before .before .before .before .before .before .before .before .before .before .pre .1 .1))  -- mark-from-part-mark-from-end
-    (λ c κs. (omega (arith, c .before .before .before .before .before .before .before .before .before .before .before .before .pre .0, second-room (c .before .before .before .before .before .before .before .before .before .before .before .before .pre .1 .0) _ _ (c .before .before .before .before .before .before .before .loop .inv .reading) (c .before .before .before .before .before .before .loop-test .taken) _ (c .before .before .before .before .row-of .ensures) _ _ (c .before .before .connective .given .1), second-size (c .before .before .before .before .before .before .before .before .before .before .before .before .pre .1 .0) _ _ (c .before .before .before .before .before .before .before .loop .inv .reading) (c .before .before .before .before .before .before .loop-test .taken) _ (c .before .before .before .before .row-of .ensures) _ _ (c .before .before .connective .given .1)), (second-whole (c .before .before .before .before .before .before .before .before .before .before .before .before .pre .1 .0) _ _ (c .before .before .before .before .before .before .before .loop .inv .reading) (c .before .before .before .before .before .before .loop-test .taken) _ (c .before .before .before .before .row-of .ensures) _ _ (c .before .before .connective .given .1), omega (arith, c .before .before .before .before .before .before .before .before .before .before .before .before .pre .1 .1, c .before .before .before .before .before .before .before .loop .inv .most, second-room (c .before .before .before .before .before .before .before .before .before .before .before .before .pre .1 .0) _ _ (c .before .before .before .before .before .before .before .loop .inv .reading) (c .before .before .before .before .before .before .loop-test .taken) _ (c .before .before .before .before .row-of .ensures) _ _ (c .before .before .connective .given .1), second-size (c .before .before .before .before .before .before .before .before .before .before .before .before .pre .1 .0) _ _ (c .before .before .before .before .before .before .before .loop .inv .reading) (c .before .before .before .before .before .before .loop-test .taken) _ (c .before .before .before .before .row-of .ensures) _ _ (c .before .before .connective .given .1)))))  -- mark-from-mark-from-requires
+    (λ c. search needs)  -- mark-from-sub-mark-from
+    (λ c. search needs)  -- mark-from-part-mark-from-start
+    (λ c. search (marking-room, needs))  -- mark-from-part-mark-from-end
+    (λ c κs. (search (marking-falls, needs), search (marking-second, needs)))  -- mark-from-mark-from-requires
     (λ c κs. search needs)  -- mark-from-join-marks-requires
-    (λ c. omega (arith, c .before .before .before .before .before .before .before .before .loop-test .taken, second-room (c .before .before .before .before .before .before .before .before .before .before .before .before .before .before .pre .1 .0) _ _ (c .before .before .before .before .before .before .before .before .before .loop .inv .reading) (c .before .before .before .before .before .before .before .before .loop-test .taken) _ (c .before .before .before .before .before .before .row-of .ensures) _ _ (c .before .before .before .before .connective .given .1)))  -- mark-from-loop-less-2
-    (λ c. marking-join (c .before .before .before .before .before .before .before .before .before .before .before .before .before .before .pre .1 .0) _ _ _ _ _ (c .before .before .before .before .before .before .before .before .before .loop .inv) (c .before .before .before .before .before .before .before .before .loop-test .taken) _ (c .before .before .before .before .before .before .row-of .ensures) _ _ (c .before .before .before .before .connective .given .1) _ _ (c .before .mark-from .ensures) (c .join-marks .ensures))  -- mark-from-loop-again-2
+    (λ c. search needs)  -- mark-from-loop-less-2
+    (λ c. search (marking-join, needs))  -- mark-from-loop-again-2
     (λ c. search needs)  -- mark-from-enum-told-2
-    (λ c. no-test (c .before .before .before .before .before .before .before .before .before .before .pre .1 .0) _ _ (c .before .before .before .before .before .loop .inv .reading) (c .before .before .before .before .loop-test .taken) _ (c .before .before .row-of .ensures) _ (c .enum-told2 .given .1))  -- mark-from-returns
+    (λ c. search (marking-test, needs))  -- mark-from-returns
     (λ c. search needs)  -- mark-from-enum-told-3
-    (λ c. no-bracket (c .before .before .before .before .before .before .before .before .before .before .pre .1 .0) _ _ (c .before .before .before .before .before .loop .inv .reading) (c .before .before .before .before .loop-test .taken) _ (c .before .before .row-of .ensures) _ (c .enum-told3 .given .1))  -- mark-from-returns-2
+    (λ c. search (marking-bracket, needs))  -- mark-from-returns-2
     (λ c. search needs)  -- mark-from-enum-told-4
-    (λ c. no-unknown (c .before .before .before .before .before .before .before .before .before .before .pre .1 .0) _ _ (c .before .before .before .before .before .loop .inv .reading) (c .before .before .before .before .loop-test .taken) _ (c .before .before .row-of .ensures) (c .enum-told4 .given .1))  -- mark-from-returns-3
-    (λ c. marking-end (c .before .before .before .before .before .before .pre .1 .0) _ _ _ _ _ (c .before .loop .inv) (c .loop-test .left))  -- mark-from-returns-4
+    (λ c. search (marking-unknown, needs))  -- mark-from-returns-3
+    (λ c. search (marking-end, needs))  -- mark-from-returns-4

@@ -5,7 +5,7 @@ use Rattle.deciding.proofs.verdicts.verdict.Statement.{statement}
 use Rattle.deciding.proofs.verdicts.verdict.Tie as tie
 
 say-once-requires : tie.Need-say-once-requires
-say-once-requires c κs = search needs
+say-once-requires c κs = (search needs, (search needs, (search needs, (search needs, search needs))))
 
 returns : tie.Need-returns
 returns c = search (verdict-yes, needs)

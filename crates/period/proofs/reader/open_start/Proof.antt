@@ -14,10 +14,10 @@ enum-told : tie.Need-enum-told
 enum-told c = search needs
 
 returns : tie.Need-returns
-returns c = search (start-unreadable, needs)
+returns c = search (start-open, needs)
 
 returns-2 : tie.Need-returns-2
-returns-2 c = search (start-open, needs)
+returns-2 c = search (start-unreadable, needs)
 
 pub open-start-spec : {M : Type 1} → statement M
 open-start-spec = tie.close (tie.spec read-requires enum-known-b enum-told returns returns-2)

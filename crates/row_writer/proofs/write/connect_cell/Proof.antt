@@ -1,6 +1,6 @@
 -- `row_writer::write::connect_cell` meets its contract. Assumes nothing.
 use borrow.Author.Needs.{needs}
-use Rattle.rows.specs.Cells.{cellOf}
+use Rattle.row_writer.proofs.Writing.{connect-and, connect-or}
 use Rattle.row_writer.proofs.write.connect_cell.Statement.{statement}
 use Rattle.row_writer.proofs.write.connect_cell.Tie as tie
 
@@ -26,12 +26,10 @@ add-result-2 : tie.Need-add-result-2
 add-result-2 c = search needs
 
 returns : tie.Need-returns
-unfolding cellOf
-returns c = rw (c .enum-told .given .1)
+returns c = search (connect-and, needs)
 
 returns-2 : tie.Need-returns-2
-unfolding cellOf
-returns-2 c = rw (c .enum-told2 .given .1)
+returns-2 c = search (connect-or, needs)
 
 pub connect-cell-spec : {M : Type 1} → statement M
 connect-cell-spec =
