@@ -17,7 +17,7 @@ checks what it is given, and answers or raises `Refused`, with a number that say
                      ^
     refused 16 at 17: The operator has no meaning for a parameter of this kind.
 
-`Archive` goes through a file of any size.
+`Archive` goes through a file of any size, and `Query` takes what a registry sends, such as `_filter=title%20co%20book&ward=A`.
 """
 
 from ._archive import Archive, Match
@@ -39,6 +39,7 @@ from ._operations import (
     search,
     select,
 )
+from ._query import Query
 from ._refused import Reason, Refused, sentence
 
 __version__ = _library.sirophan_version().decode()
@@ -54,6 +55,7 @@ __all__ = [
     "Mark",
     "Match",
     "Parameter",
+    "Query",
     "RUN",
     "Reason",
     "Refused",

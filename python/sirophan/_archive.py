@@ -4,11 +4,12 @@ from __future__ import annotations
 
 import os
 from pathlib import Path
-from typing import Any, Iterator, NamedTuple, Union
+from typing import Iterator, NamedTuple, Union
 
 from ._blocks import BLOCK, RUN, Sheet, record
 from ._library import Bytes, Text, as_bytes
-from ._operations import check, check_search, matches, matches_search, search, select
+from ._operations import check, check_search
+from ._query import Part, Query
 from ._refused import Refused
 
 
@@ -48,39 +49,32 @@ class Archive:
         """
         text = as_bytes(filter)
         check(self.sheet, text)
-        return self._found(select, matches, text)
+        return self._found(Part("", True, text, (0,)))
 
     def search(self, text: Text) -> Iterator[Match]:
         """The same by a search string."""
         text = as_bytes(text)
         check_search(self.sheet, text)
-        return self._found(search, matches_search, text)
+        return self._found(Part("", False, text, (0,)))
 
-    def _found(self, selected: Any, matched: Any, text: bytes) -> Iterator[Match]:
+    def query(self, text: Text) -> Iterator[Match]:
+        """The same by a query such as `_filter=title%20co%20book&ward=A`."""
+        query = Query(self.sheet, text)
+        query.check()
+        return self._found(query)
+
+    def _found(self, asked: Union[Part, Query]) -> Iterator[Match]:
         self.cards_read = 0
         with open(self.cards, "rb") as file:
             while True:
                 run = file.read(RUN * BLOCK)
                 try:
-                    records = selected(self.sheet, text, run)
+                    indexes = asked.indexes(run) if isinstance(asked, Query) else asked.indexes(self.sheet, run)
                 except Refused as refused:
                     raise refused.over_file(self.cards_read) from None
                 before = self.cards_read
                 self.cards_read += len(run) // BLOCK
                 if not run:
                     return
-                yield from self._located(records, run, before, lambda card: matched(self.sheet, text, card))
-
-    @staticmethod
-    def _located(records: list, run: bytes, before: int, matched: Any) -> Iterator[Match]:
-        """The matches of a run. Where a later card has the same record number, the library is asked which of them matches."""
-        if not records:
-            return
-        cards = [run[at : at + BLOCK] for at in range(0, len(run), BLOCK)]
-        numbers = [record(card) for card in cards]
-        last = {number: index for index, number in enumerate(numbers)}
-        left = list(reversed(records))
-        for index, number in enumerate(numbers):
-            if left and left[-1] == number and (last[number] == index or matched(cards[index])):
-                left.pop()
-                yield Match(before + index, number)
+                for index in indexes:
+                    yield Match(before + index, record(run[index * BLOCK : (index + 1) * BLOCK]))

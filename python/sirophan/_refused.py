@@ -52,13 +52,15 @@ def sentence(number: int) -> str:
 
 
 class Refused(Exception):
-    """There is no answer: `number` says why, and `place` where. For a card the place is its index, in an archive over the whole file."""
+    """There is no answer: `number` says why, and `place` where. For a card the place is its index, in an archive over the whole file.
+    Of a query `part` says which part is refused, in whose text the place counts."""
 
-    def __init__(self, number: int, place: int, text: Optional[bytes] = None) -> None:
+    def __init__(self, number: int, place: int, text: Optional[bytes] = None, part: Optional[str] = None) -> None:
         super().__init__(number, place)
         self.number = number
         self.place = place
         self.text = text
+        self.part = part
 
     @property
     def reason(self) -> Optional[Reason]:
@@ -70,7 +72,12 @@ class Refused(Exception):
         return sentence(self.number)
 
     def __str__(self) -> str:
-        return f"refused {self.number} at {self.place}: {self.sentence}"
+        part = "" if self.part is None else f"{self.part}: "
+        return f"{part}refused {self.number} at {self.place}: {self.sentence}"
+
+    def of_part(self, name: str) -> Refused:
+        """The refusal of a text as one of a query's part."""
+        return Refused(self.number, self.place, self.text, name)
 
     def over_file(self, cards_before: int) -> Refused:
         """The refusal of a run as one of its file, of which so many cards stand before the run."""

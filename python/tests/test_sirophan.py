@@ -168,6 +168,81 @@ class Blocks(unittest.TestCase):
                 SHEET.entries(bytes([first]) + bytes([filling]) * 511)
 
 
+WARDS = Sheet([("title", "string"), ("ward", "token"), ("pages", "number")])
+
+
+class Queries(unittest.TestCase):
+    # two cards have each record number
+    CARDS = b"".join(WARDS.card(n // 2, {"ward": "ABC"[n % 3], "pages": str(n // 3)}) for n in range(120))
+
+    def selected(self, text):
+        return sirophan.Query(WARDS.block, text).select(self.CARDS)
+
+    def refused(self, text):
+        with self.assertRaises(Refused, msg=text) as caught:
+            sirophan.Query(WARDS.block, text).check()
+        return caught.exception.part, caught.exception.number, caught.exception.place
+
+    def test_all_are_met(self):
+        self.assertEqual(self.selected("ward=A"), [n // 2 for n in range(120) if n % 3 == 0])
+        self.assertEqual(self.selected("_filter=pages+gt+30&ward=A"), [n // 2 for n in range(120) if n % 3 == 0 and n // 3 > 30])
+        self.assertEqual(self.selected("%5Ffilter=pages+gt+30&_filter=pages+lt+32&_summary=count"), [46, 47, 47])
+        query = sirophan.Query(WARDS.block, "_format=json&ward=A&_filter=pages%20eq%200&_total=accurate")
+        self.assertEqual((query.is_for_count, query.is_for_json, query.check()), (False, True, 2))
+        self.assertEqual([query.matches(self.CARDS[at : at + 512]) for at in (0, 512, 1536)], [True, False, False])
+
+    def test_the_first_fault(self):
+        for text, expected in [
+            ("_filter=ward+gt+5&_count=1", ("_filter", 16, 0)),
+            ("_count=1&_filter=ward+gt+5", ("the pairs", 14, 0)),
+            ("ward=A&_filter=ward+gt+5&_count=1", ("_filter", 16, 0)),
+            ("ward=A&_filter=ward+eq+5&_count=1", ("the pairs", 14, 7)),
+            ("_filter=ward+eq+5&_filter=ward+eq+5+and+ward+gt+5", ("_filter 2", 16, 14)),
+            ("_filter=%zz&_filter=x", ("the pairs", 50, 0)),
+            ("_filter=ward+eq+5&", ("the pairs", 10, 0)),
+            ("_summary=count", ("the pairs", 10, 0)),
+            ("_summary=text", ("the pairs", 14, 0)),
+            ("", ("the pairs", 10, 0)),
+        ]:
+            self.assertEqual(self.refused(text), expected, text)
+
+    def test_names_of_the_sheet(self):
+        sheet = Sheet([("_filter", "token"), ("_summary", "token")])
+        query = sirophan.Query(sheet.block, "_filter=x&_summary=count")
+        self.assertEqual((query.check(), query.is_for_count, [part.name for part in query.parts]), (2, False, ["the pairs"]))
+        with self.assertRaises(Refused) as caught:
+            sirophan.Query(b"", "_filter=x").check()
+        self.assertEqual((caught.exception.part, caught.exception.number), (None, 1))
+
+    def test_nothing_is_dropped(self):
+        """Each item of a drawn query asked by itself, and the answers put together."""
+        draw = random.Random(41)
+        filters = ["pages gt 5", "pages lt 30", "ward eq A or ward eq B", "not (ward eq C)", "ward gt 5", "pages"]
+        pairs = ["ward=A,B", "pages=lt30", "pages=ge3", "title=x", "_count=1", "ward", "_summary=count", "_total=accurate"]
+        listed = 0
+        for _ in range(300):
+            items = draw.sample(filters, draw.randint(0, 3)) + draw.sample(pairs, draw.randint(1, 3))
+            draw.shuffle(items)
+            text = "&".join(item if item in pairs else "_filter=" + item.replace(" ", draw.choice(["+", "%20"])) for item in items)
+            alone = [self.alone(item, item in pairs) for item in items if item not in ("_summary=count", "_total=accurate")]
+            try:
+                answer = self.selected(text)
+                listed += len(answer) > 0
+            except Refused:
+                answer = None
+            whole = None if None in alone or not alone else [n // 2 for n in range(120) if all(n in found for found in alone)]
+            self.assertEqual(answer, whole, text)
+        self.assertGreater(listed, 20)
+
+    def alone(self, item, is_pair):
+        """The cards that an item finds by itself, or none where it is refused."""
+        asked = sirophan.matches_search if is_pair else sirophan.matches
+        try:
+            return {n for n in range(120) if asked(WARDS.block, item, self.CARDS[n * 512 : (n + 1) * 512])}
+        except Refused:
+            return None
+
+
 class Archives(unittest.TestCase):
     def setUp(self):
         folder = tempfile.TemporaryDirectory()
@@ -186,6 +261,7 @@ class Archives(unittest.TestCase):
             expected = [(index, index // 5) for index in range(0, count, 3)]
             self.assertEqual(list(archive.select("pages gt 50")), expected)
             self.assertEqual(list(archive.search("pages=gt50")), expected)
+            self.assertEqual(list(archive.query("_filter=pages+gt+50&pages=gt60")), expected)
             self.assertEqual(list(Archive(str(self.folder / "cards.bin")).select("pages gt 50")), expected)
             self.assertEqual(archive.cards_read, count)
 
@@ -204,6 +280,7 @@ class Archives(unittest.TestCase):
 
 def load_tests(loader, tests, pattern):
     tests.addTests(doctest.DocTestSuite(sirophan))
+    tests.addTests(doctest.DocTestSuite(sirophan._query))
     return tests
 
 

@@ -1,7 +1,7 @@
 //! A file of cards of any size, asked run by run.
 
 use crate::block::SIZE;
-use crate::{Refusal, check, check_search, matches, matches_search, record, select, select_search};
+use crate::{Query, QueryRefusal, Refusal, Words, check, check_search, record};
 use std::error::Error;
 use std::fmt;
 use std::io::{self, Read};
@@ -47,7 +47,7 @@ impl<R: Read> Archive<R> {
     /// What [`check`] refuses, before any card is read.
     pub fn select(self, filter: &[u8]) -> Result<Found<R>, Refusal> {
         check(&self.sheet, filter)?;
-        Ok(Found::new(self, filter, Asked { select, matches }))
+        Ok(Found::new(self, Question::Text(Words::Filter, filter.into())))
     }
 
     /// The cards that match a search string.
@@ -57,18 +57,19 @@ impl<R: Read> Archive<R> {
     /// What [`check_search`] refuses, before any card is read.
     pub fn search(self, text: &[u8]) -> Result<Found<R>, Refusal> {
         check_search(&self.sheet, text)?;
-        Ok(Found::new(self, text, Asked { select: select_search, matches: matches_search }))
+        Ok(Found::new(self, Question::Text(Words::Search, text.into())))
     }
-}
 
-type Select = fn(&[u8], &[u8], &[u8], &mut [u32]) -> Result<usize, Refusal>;
-type Matches = fn(&[u8], &[u8], &[u8]) -> Result<bool, Refusal>;
-
-/// How cards are asked: by a filter, or by a search string.
-#[derive(Clone, Copy, Debug)]
-struct Asked {
-    select: Select,
-    matches: Matches,
+    /// The cards that match a query such as `_filter=title%20co%20book&ward=A`.
+    ///
+    /// # Errors
+    ///
+    /// What [`Query::check`] refuses, before any card is read.
+    pub fn query(self, text: &[u8]) -> Result<Found<R>, QueryRefusal> {
+        let query = Query::read(&self.sheet, text);
+        query.check()?;
+        Ok(Found::new(self, Question::Query(query)))
+    }
 }
 
 /// The matching cards, in the order of the file: each by its index there, counted from 0, and its record number.
@@ -78,36 +79,25 @@ struct Asked {
 #[derive(Debug)]
 pub struct Found<R> {
     archive: Archive<R>,
-    text: Vec<u8>,
-    asked: Asked,
+    question: Question,
     run: Vec<u8>,
-    /// The record numbers of the run's cards, where some match.
-    numbers: Vec<u32>,
-    /// How many cards stand before the run, how many of the run are done, and the record numbers of those that match.
+    /// How many cards stand before the run.
     before: u64,
-    done: usize,
-    list: [u32; RUN],
-    /// Which part of the list is still to come.
-    next: usize,
-    count: usize,
+    /// The indexes of its cards that match and are still to come.
+    matching: std::vec::IntoIter<usize>,
     ended: bool,
 }
 
+/// What is asked: one text, or a query of several.
+#[derive(Debug)]
+enum Question {
+    Text(Words, Vec<u8>),
+    Query(Query),
+}
+
 impl<R: Read> Found<R> {
-    fn new(archive: Archive<R>, text: &[u8], asked: Asked) -> Found<R> {
-        Found {
-            archive,
-            text: text.into(),
-            asked,
-            run: Vec::new(),
-            numbers: Vec::new(),
-            before: 0,
-            done: 0,
-            list: [0; RUN],
-            next: 0,
-            count: 0,
-            ended: false,
-        }
+    fn new(archive: Archive<R>, question: Question) -> Found<R> {
+        Found { archive, question, run: Vec::new(), before: 0, matching: Vec::new().into_iter(), ended: false }
     }
 
     /// How many cards have been read.
@@ -118,47 +108,22 @@ impl<R: Read> Found<R> {
     /// Reads the next run and selects from it; answers whether there is one.
     fn read_run(&mut self) -> Result<bool, Unanswered> {
         self.before = self.cards();
-        self.done = 0;
         self.run.clear();
         (&mut self.archive.cards).take((RUN * SIZE) as u64).read_to_end(&mut self.run)?;
-        let selected = (self.asked.select)(&self.archive.sheet, &self.text, &self.run, &mut self.list);
-        self.next = 0;
-        self.count = selected.map_err(|refusal| refusal.over_file(self.before))?;
-        if self.count > 0 {
-            self.numbers = self.run.chunks(SIZE).map(record).collect::<Result<_, _>>()?;
-        }
+        let selected = match &self.question {
+            Question::Text(words, text) => words.indexes(&self.archive.sheet, text, &self.run),
+            Question::Query(query) => query.indexes(&self.run),
+        };
+        self.matching = selected.map_err(|refusal| refusal.over_file(self.before))?.into_iter();
         Ok(!self.run.is_empty())
-    }
-
-    /// Whether a card is the one that the list has next, whose record number it bears. Where a later card bears the same, that may be
-    /// the one, and the library is asked.
-    fn is_match(&self, index: usize) -> Result<bool, Refusal> {
-        let is_last = !self.numbers[index + 1..].contains(&self.numbers[index]);
-        if is_last {
-            return Ok(true);
-        }
-        (self.asked.matches)(&self.archive.sheet, &self.text, &self.run[index * SIZE..][..SIZE])
-    }
-
-    /// The next match of the run, if there is one.
-    fn next_of_run(&mut self) -> Result<Option<(u64, u32)>, Unanswered> {
-        while self.next < self.count {
-            let index = self.done;
-            let number = self.numbers[index];
-            self.done += 1;
-            if number == self.list[self.next] && self.is_match(index)? {
-                self.next += 1;
-                return Ok(Some((self.before + index as u64, number)));
-            }
-        }
-        Ok(None)
     }
 
     /// The next match, if there is one.
     fn next_match(&mut self) -> Result<Option<(u64, u32)>, Unanswered> {
         loop {
-            if let Some(found) = self.next_of_run()? {
-                return Ok(Some(found));
+            if let Some(index) = self.matching.next() {
+                let number = record(&self.run[index * SIZE..][..SIZE])?;
+                return Ok(Some((self.before + index as u64, number)));
             }
             if !self.read_run()? {
                 return Ok(None);
@@ -252,6 +217,8 @@ mod tests {
         let short = cards[..1000].chain(&cards[1000..]);
         let by_parts = Archive::new(&sheet(), short).search(b"pages=gt50").unwrap();
         assert_eq!(by_parts.collect::<Result<Vec<_>, _>>().unwrap(), expected);
+        let by_query = Archive::new(&sheet(), &cards[..]).query(b"_filter=pages+gt+50&pages=gt60").unwrap();
+        assert_eq!(by_query.collect::<Result<Vec<_>, _>>().unwrap(), expected);
     }
 
     /// A run is whole, or one card too many; nothing is an answer too.

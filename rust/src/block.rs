@@ -88,7 +88,12 @@ pub fn write_sheet(parameters: &[Item], marked: bool) -> Option<Vec<u8>> {
 /// A card with these entries, if a card has room for them. Without occurrences it is written in the older form.
 #[must_use]
 pub fn write_card(record: u32, entries: &[Item]) -> Option<Vec<u8>> {
-    let marked = has_marks(entries);
+    write_card_as(record, entries, has_marks(entries))
+}
+
+/// The same in the form that is asked for; the older one has no occurrences, and drops them.
+#[must_use]
+pub fn write_card_as(record: u32, entries: &[Item], marked: bool) -> Option<Vec<u8>> {
     let mut head = vec![if marked { MARKED_CARD } else { CARD }];
     head.extend(record.to_le_bytes());
     head.push(u8::try_from(entries.len()).ok().filter(|&count| usize::from(count) <= MOST_ENTRIES)?);

@@ -70,12 +70,16 @@ impl Filter {
     /// Reads a text that is a filter; none where it turns out not to be one.
     #[must_use]
     pub fn read(text: &[u8]) -> Option<Filter> {
-        let mut walk = Walk { text, at: 0, tests: Vec::new(), brackets_added: false };
-        let read = walk.items(None)?;
-        (walk.at == text.len()).then_some(())?;
+        let (walk, read) = Walk::over(text, false)?;
         let mut tests = walk.tests;
         tests.sort_by_key(|test| test.whole.start);
         Some(Filter { tests, bracketed: walk.brackets_added.then_some(read) })
+    }
+
+    /// A text that is a filter with a bracket around all that is joined before each `and` and `or`, as it is read from left to right.
+    #[must_use]
+    pub fn with_every_bracket(text: &[u8]) -> Option<Vec<u8>> {
+        Walk::over(text, true).map(|(_, read)| read)
     }
 
     /// The test that begins at a place.
@@ -91,14 +95,23 @@ struct Walk<'a> {
     at: usize,
     tests: Vec<Test>,
     brackets_added: bool,
+    /// Whether all that is joined gets brackets.
+    every: bool,
 }
 
-impl Walk<'_> {
+impl<'a> Walk<'a> {
+    /// A walk over a whole text, and how it is read.
+    fn over(text: &'a [u8], every: bool) -> Option<(Walk<'a>, Vec<u8>)> {
+        let mut walk = Walk { text, at: 0, tests: Vec::new(), brackets_added: false, every };
+        let read = walk.items(None)?;
+        (walk.at == text.len()).then_some((walk, read))
+    }
+
     /// The items up to a closing bracket or the end, as they are read: an `or` before an `and` gets brackets.
     fn items(&mut self, inside: Option<&Range<usize>>) -> Option<Vec<u8>> {
         self.spaces();
         let mut read = self.item(inside)?;
-        let mut has_or = false;
+        let (mut has_or, mut is_joined) = (false, false);
         loop {
             self.spaces();
             let join = match self.rest() {
@@ -106,12 +119,13 @@ impl Walk<'_> {
                 [b'o', b'r', b' ', ..] => b" or ",
                 _ => return Some(read),
             };
-            if join == b" and " && has_or {
+            if (join == b" and " && has_or) || (self.every && is_joined) {
                 read = [b"(", &read[..], b")"].concat();
                 self.brackets_added = true;
                 has_or = false;
             }
             has_or |= join == b" or ";
+            is_joined = true;
             self.at += join.len() - 2;
             self.spaces();
             let item = self.item(inside)?;
@@ -241,6 +255,24 @@ mod tests {
             bracketed("r[a eq 1 or b eq 2 and c eq 3].d pr true").unwrap(),
             "r[(a eq 1 or b eq 2) and c eq 3].d pr true"
         );
+    }
+
+    /// With every bracket the order of joins can be read off, and idle brackets stay as they are.
+    #[test]
+    fn every_bracket() {
+        let read = |text: &str| String::from_utf8(Filter::with_every_bracket(text.as_bytes()).unwrap()).unwrap();
+        for (text, with_brackets) in [
+            ("a eq 1", "a eq 1"),
+            ("a eq 1 and b eq 2", "a eq 1 and b eq 2"),
+            ("a eq 1 and b eq 2 and c eq 3", "(a eq 1 and b eq 2) and c eq 3"),
+            ("a eq 1 and b eq 2 or c eq 3 and d eq 4", "((a eq 1 and b eq 2) or c eq 3) and d eq 4"),
+            ("a eq 1 or (b eq 2 or c eq 3 or d eq 4)", "a eq 1 or ((b eq 2 or c eq 3) or d eq 4)"),
+            ("not (a eq 1 or b eq 2 or c eq 3)", "not ((a eq 1 or b eq 2) or c eq 3)"),
+            ("r[a eq 1 or b eq 2 or c eq 3].d pr true", "r[(a eq 1 or b eq 2) or c eq 3].d pr true"),
+        ] {
+            assert_eq!(read(text), with_brackets);
+        }
+        assert_eq!(Filter::with_every_bracket(b"a eq"), None);
     }
 
     /// Tests are found with their parts, an outer one before those inside it.

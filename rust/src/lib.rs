@@ -28,7 +28,7 @@
 //! );
 //! ```
 //!
-//! [`Archive`] goes through a file of any size. What answers and refuses is proved; this crate, which calls it, is plain Rust.
+//! [`Archive`] goes through a file of any size, and [`Query`] takes what a registry sends. What answers and refuses is proved; this crate, which calls it, is plain Rust.
 
 #![warn(clippy::pedantic)]
 
@@ -39,12 +39,15 @@ mod explained;
 mod ffi;
 pub mod filter;
 pub mod kind;
+pub mod percent;
 mod prepared;
+pub mod query;
 mod reason;
 mod refusal;
 pub mod sheet;
 pub mod spelling;
 mod texts;
+mod words;
 
 use ffi::call;
 
@@ -52,9 +55,11 @@ pub use archive::{Archive, Found, RUN, Unanswered};
 pub use engine::{Engine, matches_by_text, select_by};
 pub use explained::{Explained, Explanation, MOST_TESTS, Mark, explain, explain_into};
 pub use prepared::{MOST_CELLS, Prepared, judge, prepare, prepare_into};
+pub use query::{Query, QueryRefusal};
 pub use reason::Reason;
 pub use refusal::{Refusal, underline};
 pub use texts::version;
+pub use words::Words;
 
 /// The record number of a card, whatever else is in it.
 ///

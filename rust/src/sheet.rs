@@ -34,7 +34,8 @@ impl Parameter {
 }
 
 /// Whether a sheet of these parameters needs the newer form.
-fn has_bundles(parameters: &[Parameter]) -> bool {
+#[must_use]
+pub fn has_bundles(parameters: &[Parameter]) -> bool {
     parameters.iter().any(|parameter| parameter.kind == BUNDLE || parameter.bundle > 0)
 }
 
@@ -63,9 +64,16 @@ impl Sheet {
     }
 
     /// Writes a sheet, if there is room for the parameters.
+    #[must_use]
     pub fn write(parameters: Vec<Parameter>) -> Option<Sheet> {
+        let marked = has_bundles(&parameters);
+        Sheet::write_as(parameters, marked)
+    }
+
+    /// Writes a sheet in the form that may have bundles, or in the older one.
+    pub fn write_as(parameters: Vec<Parameter>, marked: bool) -> Option<Sheet> {
         let items: Vec<Item> = parameters.iter().map(Parameter::item).collect();
-        let block = block::write_sheet(&items, has_bundles(&parameters))?;
+        let block = block::write_sheet(&items, marked)?;
         Some(Sheet { block, parameters })
     }
 

@@ -3,17 +3,23 @@
 use std::ops::RangeInclusive;
 
 /// Characters that print nothing, so that a reader would not see them.
-const INVISIBLE: [RangeInclusive<char>; 6] = [
+const INVISIBLE: [RangeInclusive<char>; 11] = [
     '\u{AD}'..='\u{AD}',
+    '\u{34F}'..='\u{34F}',
+    '\u{61C}'..='\u{61C}',
+    '\u{115F}'..='\u{1160}',
+    '\u{180B}'..='\u{180F}',
     '\u{200B}'..='\u{200F}',
     '\u{202A}'..='\u{202E}',
-    '\u{2060}'..='\u{2069}',
+    '\u{2060}'..='\u{206F}',
     '\u{FEFF}'..='\u{FEFF}',
-    '\u{FFF9}'..='\u{FFFB}',
+    '\u{FFF0}'..='\u{FFFB}',
+    '\u{E0000}'..='\u{E0FFF}',
 ];
 
 /// Whether a character is seen as what it is: no control character, no blank but the space, none that is invisible.
-fn prints(c: char) -> bool {
+#[must_use]
+pub fn prints(c: char) -> bool {
     c == ' ' || !(c.is_control() || c.is_whitespace() || INVISIBLE.iter().any(|range| range.contains(&c)))
 }
 

@@ -270,7 +270,7 @@ fn check_names_dashes_and_addresses() {
     assert!(modified.errors.contains(told), "{}", modified.errors);
     for text in ["_filter=birthdate+lt+1975", "http://h/Patient?_filter=birthdate%20lt%201975"] {
         let said = folder.check(text);
-        let told = "  _filter carries a filter, and what stands behind its = is asked by `sirophan pick -e 'birthdate lt 1975'`.\n";
+        let told = "  _filter carries a filter. `sirophan query` asks it with the pairs beside it, and `sirophan pick -e 'birthdate lt 1975'` alone.\n";
         assert!(said.status == 2 && said.errors.contains(told), "{}", said.errors);
     }
 }

@@ -276,6 +276,11 @@ fn values_that_overlap() {
             "`stay po 1945` finds it",
         ),
         (
+            "birthdate le 1945-01",
+            "1 card has a date that overlaps 1945-01, such as 1945",
+            "`birthdate po 1945-01` finds it",
+        ),
+        (
             "pages eq 12.0",
             "1 card has a less precise number that 12.0 may lie in, such as 12",
             "`pages co 12.0` finds it",
@@ -443,12 +448,20 @@ fn many_cards_are_looked_at_in_part() {
     let folder = Folder::packed("many-dates", "token discharge\nstring note\n", &described, "");
     let said = folder.pick_by("discharge eq 1975 or note eq x");
     let doubt = format!(
-        "warning: discharge is a token, and 625 of 625 values looked at look like dates.\n{WRONG_KIND}\
+        "warning: discharge is a token, and 313 of 313 values looked at look like dates.\n{WRONG_KIND}\
          warning: note: 1 of 1 value seems to be in another encoding, first on record 20001: not UTF-8, perhaps Latin-1.\n\
          \x20 Letters beyond ASCII have other bytes there, and a filter in UTF-8 does not find them.\n\
          note: asked by itself, each is met by so many of 20,001 cards: `discharge eq 1975` 0, `note eq x` 0.\n"
     );
     said.says(0, "0 of 20001\n", &doubt);
+    // Six in ten, beside a list of many.
+    let texts: Vec<String> = (0..3000).map(|n| if n % 10 < 6 { month(n) } else { format!("none {n}") }).collect();
+    let described = cards("discharge", texts.iter().map(String::as_str));
+    let folder = Folder::packed("most-dates", "token discharge\n", &described, "");
+    let said = folder.pick_by("discharge ne x");
+    assert!(said.output.ends_with("\n3000 of 3000\n"), "{}", said.output);
+    let doubt = "warning: discharge is a token, and 224 of 376 values looked at look like dates; others: \"none 18\", \"none 26\".\n";
+    assert_eq!(said.errors, format!("{doubt}{WRONG_KIND}"));
 }
 
 /// An archive with nothing to doubt: every command is silent beside its answer.

@@ -25,12 +25,12 @@ fn explain_underlines_the_tests_that_decide() {
     let both = folder.run(&["explain", "--record=7", "--json", "sheet.bin", "filter.txt", "cards.bin"]);
     both.says(
         0,
-        "{\"card\":1,\"record\":7,\"matches\":false,\"tests\":[{\"place\":0,\"test\":\"title eq x\",\"mark\":\"no\"},\
-         {\"place\":14,\"test\":\"pages gt 5\",\"mark\":\"no\"},\
+        "{\"card\":1,\"record\":7,\"matches\":false,\"tests\":[{\"place\":0,\"test\":\"title eq x\",\"mark\":\"no\",\
+         \"values\":[\"Ward\"]},{\"place\":14,\"test\":\"pages gt 5\",\"mark\":\"no\",\"values\":[]},\
          {\"place\":34,\"test\":\"related[type eq x].target pr true\",\"mark\":\"spared\"}],\"warnings\":[]}\n\
          {\"card\":2,\"record\":7,\"matches\":true,\"tests\":[{\"place\":0,\"test\":\"title eq x\",\"mark\":\"spared\"},\
-         {\"place\":14,\"test\":\"pages gt 5\",\"mark\":\"yes\"},\
-         {\"place\":34,\"test\":\"related[type eq x].target pr true\",\"mark\":\"no\"}],\
+         {\"place\":14,\"test\":\"pages gt 5\",\"mark\":\"yes\",\"values\":[\"300\"]},\
+         {\"place\":34,\"test\":\"related[type eq x].target pr true\",\"mark\":\"no\",\"values\":[]}],\
          \"warnings\":[{\"level\":\"warning\",\"code\":\"joins\",\"message\":\"`and` and `or` \
          are read from left to right, with equal rank. The filter asks:\",\"help\":[\"(title eq x or pages gt 5) and not \
          (related[type eq x].target pr true)\"]},{\"level\":\"warning\",\"code\":\"record_repeated\",\"message\":\"cards.bin: a \
@@ -110,8 +110,9 @@ fn explain_with_values() {
     folder.run(&["explain", "--search", "--record", "2", "--json", "-e", search, files[0], files[2]]).says(
         0,
         "{\"card\":1,\"record\":2,\"matches\":false,\"verdicts\":[{\"pair\":\"discharge=lt1975,1980\",\"says\":false,\
-         \"alternatives\":[{\"alternative\":\"discharge=lt1975\",\"says\":false},{\"alternative\":\"discharge=1980\",\"says\":false}]},\
-         {\"pair\":\"title=ward\",\"says\":true,\"alternatives\":[{\"alternative\":\"title=ward\",\"says\":true}]}],\"warnings\":[]}\n",
+         \"alternatives\":[{\"alternative\":\"discharge=lt1975\",\"says\":false,\"values\":[]},\
+         {\"alternative\":\"discharge=1980\",\"says\":false,\"values\":[]}]},{\"pair\":\"title=ward\",\"says\":true,\
+         \"alternatives\":[{\"alternative\":\"title=ward\",\"says\":true,\"values\":[\"Ward\"]}]}],\"warnings\":[]}\n",
         "",
     );
     folder.run(&["check", "--search", "-e", search, files[0]]).says(

@@ -4,6 +4,12 @@ use crate::folder::{Folder, PROGRAM, REPOSITORY};
 use std::path::Path;
 use std::process::Command;
 
+/// Every command.
+const COMMANDS: [&str; 14] = [
+    "pick", "search", "query", "explain", "check", "report", "plain", "fields", "pack", "show", "verify", "seal",
+    "sign", "recheck",
+];
+
 /// The examples that the help gives are true. A line of three dots stands for the rest of an output.
 #[test]
 fn examples_of_the_help() {
@@ -11,7 +17,7 @@ fn examples_of_the_help() {
     folder.run(&["pack", &format!("{REPOSITORY}/examples/ward"), "ward"]);
     std::os::unix::fs::symlink(Path::new(REPOSITORY).join("examples"), folder.path.join("examples")).unwrap();
     let programs = Path::new(PROGRAM).parent().unwrap().to_str().unwrap();
-    for name in ["pick", "search", "explain", "check", "report", "plain", "fields", "pack", "show", "verify", "seal"] {
+    for name in COMMANDS {
         let help = folder.run(&[name, "--help"]);
         assert_eq!((help.status, help.errors.as_str()), (0, ""), "{name}");
         let example = help.output.split("Example:\n\n    $ ").nth(1).expect(name);
@@ -35,7 +41,11 @@ fn help_and_version() {
     let folder = Folder::new("help");
     let help = folder.run(&["--help"]);
     assert_eq!((help.status, help.errors.as_str()), (0, ""));
-    for part in ["sirophan pick [--stream] SHEET FILTER CARDS", "sirophan verify DIR", "  0  answered"] {
+    for part in [
+        "sirophan pick [--stream] [--columns NAMES] [--csv] SHEET FILTER CARDS",
+        "sirophan verify DIR",
+        "  0  answered",
+    ] {
         assert!(help.output.contains(part), "{part}");
     }
     for option in ["--version", "-V", "version"] {
@@ -54,16 +64,22 @@ fn command_lines_that_are_not_understood() {
     folder
         .run(&["pik"])
         .fails(1, "sirophan: pik is no command. Is it pick or pack? `sirophan --help` lists the commands.\n");
-    folder.run(&["query"]).fails(1, "sirophan: query is no command. `sirophan --help` lists the commands.\n");
-    folder.run(&["help", "query"]).fails(1, "sirophan: query is no command. `sirophan --help` lists the commands.\n");
+    folder.run(&["inquire"]).fails(1, "sirophan: inquire is no command. `sirophan --help` lists the commands.\n");
     folder
-        .run(&["search", "a"])
-        .fails(1, "sirophan: 1 path given. Usage: sirophan search [--stream] SHEET STRING CARDS\n");
+        .run(&["help", "inquire"])
+        .fails(1, "sirophan: inquire is no command. `sirophan --help` lists the commands.\n");
+    folder.run(&["search", "a"]).fails(
+        1,
+        "sirophan: 1 path given. Usage: sirophan search [--stream] [--columns NAMES] [--csv] SHEET STRING CARDS\n",
+    );
     folder.run(&["--json", "pick"]).fails(
         1,
         "sirophan: --json stands before the command. Options stand behind it. `sirophan --help` lists the commands.\n",
     );
-    folder.run(&["pick", "a"]).fails(1, "sirophan: 1 path given. Usage: sirophan pick [--stream] SHEET FILTER CARDS\n");
+    folder.run(&["pick", "a"]).fails(
+        1,
+        "sirophan: 1 path given. Usage: sirophan pick [--stream] [--columns NAMES] [--csv] SHEET FILTER CARDS\n",
+    );
     folder
         .run(&["check", "--stream", "a", "b"])
         .fails(1, "sirophan: --stream is no option here. Usage: sirophan check [--search] SHEET FILTER [CARDS]\n");
@@ -73,7 +89,7 @@ fn command_lines_that_are_not_understood() {
     );
     folder.run(&["show", "--record", "x", "a"]).fails(
         1,
-        "sirophan: x is no record number: it is a number up to 4,294,967,295. Usage: sirophan show [--record N] FILE..\n",
+        "sirophan: x is no record number: it is a number up to 4,294,967,295. Usage: sirophan show [--record N] [--description | --csv] FILE..\n",
     );
     folder
         .run(&["verify", "--json"])
@@ -99,14 +115,15 @@ fn texts_on_the_command_line() {
     );
     folder.run(&["pick", "-e"]).fails(
         1,
-        "sirophan: Behind -e stands the text that asks. Usage: sirophan pick [--stream] SHEET FILTER CARDS\n",
+        "sirophan: Behind -e stands the text that asks. Usage: sirophan pick [--stream] [--columns NAMES] [--csv] SHEET FILTER CARDS\n",
     );
     folder
         .run(&["plain", "-e", "a eq b", "-e", "a eq c"])
         .fails(1, "sirophan: -e stands once: a text is one filter or string. Usage: sirophan plain FILTER\n");
-    folder
-        .run(&["pick", "-e", "title co ward", "sheet.bin", "filter.txt", "cards.bin"])
-        .fails(1, "sirophan: 4 paths given. Usage: sirophan pick [--stream] SHEET FILTER CARDS\n");
+    folder.run(&["pick", "-e", "title co ward", "sheet.bin", "filter.txt", "cards.bin"]).fails(
+        1,
+        "sirophan: 4 paths given. Usage: sirophan pick [--stream] [--columns NAMES] [--csv] SHEET FILTER CARDS\n",
+    );
     folder
         .run(&["fields", "-e", "x", "sheet.bin", "cards.bin"])
         .fails(1, "sirophan: -e is no option here. Usage: sirophan fields SHEET CARDS\n");
@@ -116,7 +133,7 @@ fn texts_on_the_command_line() {
 #[test]
 fn help_in_eighty_columns() {
     let folder = Folder::new("columns");
-    for name in ["pick", "search", "explain", "check", "report", "plain", "fields", "pack", "show", "verify"] {
+    for name in COMMANDS {
         for line in folder.run(&[name, "--help"]).output.lines().chain(folder.run(&["--help"]).output.lines()) {
             assert!(line.chars().count() <= 80, "{name}: {line}");
         }

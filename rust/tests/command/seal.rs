@@ -181,3 +181,17 @@ fn pack_that_ends_in_between() {
     let message = format!("archive.txt is no seal as `sirophan pack` and `sirophan seal` write it.\n{HELP}");
     folder.run(&["fields", "sheet.bin", "cards.bin"]).fails(4, &message);
 }
+
+/// Blocks that are pipes are read once, and are not sealed; nothing waits for what they might give.
+#[test]
+fn pipes_are_not_sealed() {
+    for name in ["sheet.bin", "cards.bin", "archive.txt"] {
+        let folder = Folder::ward(&format!("seal-pipe-{name}"));
+        fs::remove_file(folder.path.join(name)).unwrap();
+        assert!(Command::new("mkfifo").arg(folder.path.join(name)).status().unwrap().success());
+        folder.run(&["seal", "."]).fails(3, &format!("sirophan: ./{name} cannot be sealed: it is no file.\n"));
+    }
+    let folder = Folder::ward("seal-pipe");
+    assert!(Command::new("mkfifo").arg(folder.unsealed().path.join("archive.txt")).status().unwrap().success());
+    all_refuse(&folder, "archive.txt is no seal as `sirophan pack` and `sirophan seal` write it.");
+}

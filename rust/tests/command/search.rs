@@ -209,7 +209,7 @@ fn search_names_what_it_does_not_take() {
         ("titel:not=x", "titel is not on the sheet. Is it title?".into()),
         (
             "_filter=title+co+x",
-            "_filter carries a filter, and what stands behind its = is asked by `sirophan pick -e 'title co x'`.".into(),
+            "_filter carries a filter. `sirophan query` asks it with the pairs beside it, and `sirophan pick -e 'title co x'` alone.".into(),
         ),
         (
             "_count=10",

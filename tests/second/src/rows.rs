@@ -255,7 +255,8 @@ mod tests {
         assert!(is_good(&deep(8)) && !is_good(&deep(9)));
         let many = |count: usize| [&[a][..], &[or, a].repeat(count - 1)].concat();
         assert!(is_good(&many(32)) && !is_good(&many(33)));
-        let right = |count: u32| (0..count).rev().flat_map(|left| [8 * (2 * left + 1) + OR, a]).skip(1).collect::<Vec<_>>();
+        let right =
+            |count: u32| (0..count).rev().flat_map(|left| [8 * (2 * left + 1) + OR, a]).skip(1).collect::<Vec<_>>();
         assert!(is_good(&right(10)) && !is_good(&right(11)));
     }
 

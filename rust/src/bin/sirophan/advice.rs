@@ -11,45 +11,13 @@ use crate::search_advice;
 use crate::sheet::{Parameter, Sheet};
 use crate::text::{self, printable, row, spell};
 use sirophan::Refusal;
+pub use sirophan::Words;
 
 /// What to do about a wrong check sum.
 const DAMAGED: &str = "It was changed or damaged since it was written: pack it again from its description.";
 
 /// What to do about a description in the place of cards.
 pub const TEXT_FOR_CARDS: &str = "It is a text. A description becomes cards by `sirophan pack DIR OUT`.";
-
-/// In which words a text asks.
-#[derive(Clone, Copy, Debug, PartialEq, Eq)]
-pub enum Words {
-    Filter,
-    Search,
-}
-
-impl Words {
-    /// How many tests or alternatives a text has, if it has a meaning.
-    pub fn check(self, sheet: &[u8], text: &[u8]) -> Result<usize, Refusal> {
-        match self {
-            Words::Filter => sirophan::check(sheet, text),
-            Words::Search => sirophan::check_search(sheet, text),
-        }
-    }
-
-    /// Whether a card matches a text.
-    pub fn matches(self, sheet: &[u8], text: &[u8], card: &[u8]) -> Result<bool, Refusal> {
-        match self {
-            Words::Filter => sirophan::matches(sheet, text, card),
-            Words::Search => sirophan::matches_search(sheet, text, card),
-        }
-    }
-
-    /// The record numbers of the cards of a run that match a text.
-    pub fn select(self, sheet: &[u8], text: &[u8], run: &[u8], list: &mut [u32]) -> Result<usize, Refusal> {
-        match self {
-            Words::Filter => sirophan::select(sheet, text, run, list),
-            Words::Search => sirophan::select_search(sheet, text, run, list),
-        }
-    }
-}
 
 /// A sheet and a filter or a search string, with what messages call them.
 pub struct Question {
@@ -82,7 +50,7 @@ impl Question {
     }
 
     /// A refusal of the sheet or the text as it is told.
-    fn tell(&self, refusal: Refusal) -> Message {
+    pub fn tell(&self, refusal: Refusal) -> Message {
         match (refusal.number, self.words) {
             (1..=3, _) => sheet_refused(&self.sheet_name, &self.sheet, refusal),
             (_, Words::Filter) => self.tell_filter(refusal),

@@ -11,14 +11,24 @@ pub struct Arguments {
     /// The paths; where a text was given by -e, that stands in the place of its file.
     pub paths: Vec<String>,
     pub json: bool,
+    /// Whether the answer is to be FHIR's.
+    pub fhir: bool,
     pub stream: bool,
     pub help: bool,
     /// Whether the text that asks is a search string.
     pub search: bool,
     /// Whether all cards of the list are explained.
     pub all: bool,
+    /// Whether a page is made in plain text, a list or cards as a table for spreadsheets, cards as a description.
+    pub text_form: bool,
+    pub csv: bool,
+    pub description: bool,
     /// The record number whose cards are shown.
     pub record: Option<u32>,
+    /// The file that a page goes to, its date, and the columns of a list.
+    pub out: Option<String>,
+    pub date: Option<String>,
+    pub columns: Option<String>,
     /// The text that asks, in the place of its file.
     text: Option<String>,
 }
@@ -51,6 +61,11 @@ impl Arguments {
                     let text = attached.or_else(|| given.next());
                     arguments.text = Some(text.ok_or("Behind -e stands the text that asks.")?);
                 }
+                "--out" | "--date" | "--columns" => {
+                    let given = attached.or_else(|| given.next());
+                    *arguments.value(option) =
+                        Some(given.ok_or_else(|| format!("Behind {option} {}.", stands(option)))?);
+                }
                 _ => *arguments.switch(option) = true,
             }
         }
@@ -64,11 +79,29 @@ impl Arguments {
     fn switch(&mut self, option: &str) -> &mut bool {
         match option {
             "--json" => &mut self.json,
+            "--fhir" => &mut self.fhir,
             "--stream" => &mut self.stream,
             "--search" => &mut self.search,
             "--all" => &mut self.all,
+            "--text" => &mut self.text_form,
+            "--csv" => &mut self.csv,
+            "--description" => &mut self.description,
             _ => &mut self.help,
         }
+    }
+
+    /// What an option that has a value gives.
+    fn value(&mut self, option: &str) -> &mut Option<String> {
+        match option {
+            "--out" => &mut self.out,
+            "--date" => &mut self.date,
+            _ => &mut self.columns,
+        }
+    }
+
+    /// Whether the text that asks was given by -e.
+    pub fn has_text(&self) -> bool {
+        self.text.is_some()
     }
 
     /// Puts a text that was given by -e in the place of its file, which the command has there.
@@ -103,9 +136,18 @@ impl Arguments {
 /// An option, and what is attached to it: `--record=7`, `-etext`.
 fn split(argument: &str) -> (&str, Option<String>) {
     match argument.split_once('=') {
-        Some((option @ "--record", attached)) => (option, Some(attached.into())),
+        Some((option @ ("--record" | "--out" | "--date" | "--columns"), attached)) => (option, Some(attached.into())),
         _ if argument.len() > TEXT.len() && argument.starts_with(TEXT) => (TEXT, Some(argument[TEXT.len()..].into())),
         _ => (argument, None),
+    }
+}
+
+/// What stands behind an option that has a value.
+fn stands(option: &str) -> &'static str {
+    match option {
+        "--out" => "stands the file that the page goes to",
+        "--date" => "stands a day, such as 2026-11-17",
+        _ => "stand names of fields, with commas between",
     }
 }
 

@@ -11,6 +11,7 @@ use crate::report::{self, Failure, Message, Output};
 use crate::survey::Survey;
 use crate::table;
 use crate::text::{counted, printable, spell};
+use std::slice;
 
 /// Checks, and answers with the number of tests or alternatives and a row for each.
 pub fn run(arguments: &Arguments) -> Result<(), Failure> {
@@ -18,7 +19,7 @@ pub fn run(arguments: &Arguments) -> Result<(), Failure> {
     let question = Question::read(arguments, words)?;
     let cards = arguments.paths.get(2).map(|path| Input::open(path)).transpose()?;
     let count = question.check_sealed(arguments, cards.as_ref())?;
-    let survey = Survey::new(&question);
+    let survey = Survey::new(slice::from_ref(&question));
     let warnings = match cards {
         Some(cards) => doubts_with_cards(&question, &survey, cards)?,
         None => survey.doubts_of_text(),

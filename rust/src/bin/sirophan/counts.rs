@@ -14,6 +14,7 @@ use crate::table;
 use crate::text::{counted, grouped};
 use crate::zero;
 use sirophan::Tally;
+use std::slice;
 
 /// What was counted so far.
 struct Sum {
@@ -43,7 +44,7 @@ pub fn run(arguments: &Arguments) -> Result<(), Failure> {
     let path = &arguments.paths[2];
     let cards = Input::open(path)?;
     question.check_sealed(arguments, Some(&cards))?;
-    let survey = Survey::new(&question);
+    let survey = Survey::new(slice::from_ref(&question));
     // The table has all fields, and so all of them are doubted.
     let counter = survey.counter_of_all();
 

@@ -1,5 +1,5 @@
-//! Descriptions: sheet.txt and cards.txt, read line by line. Only a line feed ends a line, and only spaces and tabs
-//! separate its head from its text.
+//! Descriptions: sheet.txt and cards.txt, read line by line, and cards.csv, row by row. Only a line feed ends a line, and only spaces
+//! and tabs separate its head from its text.
 
 use crate::advice;
 use crate::block::{self, CARD_HEAD, Item, LONGEST_TEXT, MOST_ENTRIES, MOST_PARAMETERS, SHEET_HEAD, SUMMED};
@@ -12,6 +12,9 @@ use crate::sheet::{self, Parameter, Sheet};
 use crate::text::{self, counted, grouped, printable, row, spell};
 use sirophan::Prepared;
 use std::io::{self, BufRead, BufReader, Read};
+use table::TableHead;
+
+mod table;
 
 /// The most faults that are told one by one.
 const MOST_TOLD: usize = 20;
@@ -128,8 +131,21 @@ impl Description {
         Ok((bytes, left_out > 0))
     }
 
-    /// Takes off the line's end, and signs of other systems: a byte order mark, a carriage return. UTF-16 ends all.
+    /// Takes off the line's end, and signs of other systems: a byte order mark, a carriage return.
     fn drop_signs(&mut self, bytes: &mut Vec<u8>) -> Result<(), Failure> {
+        self.drop_mark(bytes)?;
+        if bytes.last() == Some(&b'\n') {
+            bytes.pop();
+        }
+        if bytes.last() == Some(&b'\r') {
+            bytes.pop();
+            self.carriage_returns = true;
+        }
+        Ok(())
+    }
+
+    /// Takes a byte order mark off the first line. UTF-16 ends all.
+    fn drop_mark(&mut self, bytes: &mut Vec<u8>) -> Result<(), Failure> {
         if self.number == 1 && (bytes.starts_with(b"\xFF\xFE") || bytes.starts_with(b"\xFE\xFF")) {
             let fault = format!("{}:1: this file is UTF-16. Save it as UTF-8.", self.name);
             return Err(Failure::refused(Message::error(fault)));
@@ -137,13 +153,6 @@ impl Description {
         if self.number == 1 && bytes.starts_with(b"\xEF\xBB\xBF") {
             bytes.drain(..3);
             self.byte_order_mark = true;
-        }
-        if bytes.last() == Some(&b'\n') {
-            bytes.pop();
-        }
-        if bytes.last() == Some(&b'\r') {
-            bytes.pop();
-            self.carriage_returns = true;
         }
         Ok(())
     }
@@ -194,11 +203,20 @@ fn split(line: &[u8]) -> Result<Option<(String, Vec<u8>)>, String> {
     }
 }
 
+/// A line of sheet.txt by which a sheet has the form for bundles though it has none; and the heads of a card, of which the second gives
+/// it the form with occurrences though it needs none. Other programs write such blocks.
+pub const SHEET: &str = "sheet:";
+pub const WITH_BUNDLES: &str = "with-bundles";
+pub const CARD: &str = "record:";
+pub const MARKED_CARD: &str = "record#:";
+
 /// Reads sheet.txt. A sheet with faults is none.
 pub fn read_sheet(description: &mut Description) -> Result<Option<Sheet>, Failure> {
     let mut lines = Vec::new();
+    let mut marked = false;
     while let Some(line) = description.next()? {
         match kind::by_word(&line.head) {
+            _ if line.head == SHEET && line.text == WITH_BUNDLES.as_bytes() => marked = true,
             // One too many is enough to tell.
             Some(_) if lines.len() > MOST_PARAMETERS => {}
             Some(kind) => lines.push((line.number, kind.number, line.text)),
@@ -225,7 +243,7 @@ pub fn read_sheet(description: &mut Description) -> Result<Option<Sheet>, Failur
     if parameters.len() < lines.len() {
         return Ok(None);
     }
-    Ok(sound_sheet(description, &numbers, parameters))
+    Ok(sound_sheet(description, &numbers, parameters, marked))
 }
 
 /// A parameter by its path: a member has its bundle's name and a dot before its own.
@@ -241,9 +259,15 @@ fn parameter(kind: u8, path: &[u8], paths: &[&[u8]]) -> Result<Parameter, String
 }
 
 /// The sheet of these parameters, if the library finds it sound; else what is wrong is said at the parameter's line.
-fn sound_sheet(description: &mut Description, numbers: &[usize], parameters: Vec<Parameter>) -> Option<Sheet> {
+fn sound_sheet(
+    description: &mut Description,
+    numbers: &[usize],
+    parameters: Vec<Parameter>,
+    marked: bool,
+) -> Option<Sheet> {
     let size = sheet::size(&parameters);
-    let Some(sheet) = Sheet::write(parameters) else {
+    let marked = marked || sheet::has_bundles(&parameters);
+    let Some(sheet) = Sheet::write_as(parameters, marked) else {
         let last = numbers.last().copied().unwrap_or(1);
         let fault =
             format!("the names take {size} bytes with their heads, and a sheet has room for {}.", SUMMED - SHEET_HEAD);
@@ -270,38 +294,60 @@ struct Entry {
     text: Vec<u8>,
 }
 
-/// The cards of cards.txt, as they are read.
+/// The head of a card: its line, its record number, and whether it has the form with occurrences in any case.
+#[derive(Clone, Copy)]
+struct CardHead {
+    line: usize,
+    record: u32,
+    marked: bool,
+}
+
+/// The cards of cards.txt or cards.csv, as they are read.
 pub struct Cards<'a> {
     pub description: Description,
+    /// The head, where it is a table.
+    table: Option<TableHead>,
     fit: Fit<'a>,
     /// What is asked of each card, read once.
     prepared: Option<Prepared>,
     paths: Vec<String>,
-    /// The line of the next card's record number, and the number.
-    next: Option<(usize, u32)>,
+    /// The head of the next card.
+    next: Option<CardHead>,
     pub count: u64,
     progress: Progress,
 }
 
 impl<'a> Cards<'a> {
     /// The cards of a description, by a sheet's names.
-    pub fn new(description: Description, sheet: &'a Sheet) -> Cards<'a> {
+    pub fn open(path: &str, sheet: &'a Sheet) -> Result<Cards<'a>, Failure> {
+        let mut cards = Cards::new(Description::open(path)?, sheet);
+        if table::is_one(path) {
+            cards.read_table_head()?;
+        }
+        Ok(cards)
+    }
+
+    fn new(description: Description, sheet: &'a Sheet) -> Cards<'a> {
         let paths = (0..sheet.parameters.len()).map(|place| sheet.path(place, 0)).collect();
         let fit = Fit::new(sheet);
         let prepared = sheet.some_filter().and_then(|filter| sirophan::prepare(&sheet.block, filter.as_bytes()).ok());
-        Cards { description, fit, prepared, paths, next: None, count: 0, progress: Progress::new() }
+        Cards { description, table: None, fit, prepared, paths, next: None, count: 0, progress: Progress::new() }
     }
 
     /// The next card. Where it has faults, they are kept, and the card is empty.
     pub fn next(&mut self) -> Result<Option<Vec<u8>>, Failure> {
         self.show_progress();
+        if self.table.is_some() {
+            return self.next_of_table();
+        }
         let mut entries = Vec::new();
         let mut current = self.next.take();
         while let Some(line) = self.description.next()? {
-            if line.head == "record:" {
-                let record = (line.number, self.record(&line));
-                if let Some(current) = current.replace(record) {
-                    self.next = Some(record);
+            if [CARD, MARKED_CARD].contains(&line.head.as_str()) {
+                let marked = line.head == MARKED_CARD;
+                let head = CardHead { line: line.number, record: self.record(&line), marked };
+                if let Some(current) = current.replace(head) {
+                    self.next = Some(head);
                     return Ok(Some(self.card(current, &entries)));
                 }
                 continue;
@@ -309,7 +355,7 @@ impl<'a> Cards<'a> {
             match current {
                 // One too many is enough to tell.
                 Some(_) if entries.len() > MOST_ENTRIES => {}
-                Some((_, record)) => entries.extend(self.entry(record, line)),
+                Some(head) => entries.extend(self.entry(head, line)),
                 None => self.description.fault(
                     line.number,
                     &format!(
@@ -347,9 +393,9 @@ impl<'a> Cards<'a> {
     }
 
     /// An entry, if its head is on the sheet and its text has room.
-    fn entry(&mut self, record: u32, line: Line) -> Option<Entry> {
+    fn entry(&mut self, CardHead { record, marked, .. }: CardHead, line: Line) -> Option<Entry> {
         let Line { number, head, text } = line;
-        let found = self.place(&head).and_then(|found| match text.len() {
+        let found = self.place(&head, marked).and_then(|found| match text.len() {
             0..=LONGEST_TEXT => Ok(found),
             size => Err(format!("the text has {size} bytes, and an entry has room for {LONGEST_TEXT}. Shorten it.")),
         });
@@ -362,8 +408,9 @@ impl<'a> Cards<'a> {
         }
     }
 
-    /// The place and the occurrence that a head names: `title`, `related.type` or `related#1.type`.
-    fn place(&self, head: &str) -> Result<(u8, u8), String> {
+    /// The place and the occurrence that a head names: `title`, `related.type` or `related#1.type`. On a card of the form with occurrences
+    /// any field may have one.
+    fn place(&self, head: &str, marked: bool) -> Result<(u8, u8), String> {
         let (path, number) = match head.split_once('#') {
             None => (head.to_string(), "0"),
             Some((bundle, rest)) => {
@@ -373,7 +420,7 @@ impl<'a> Cards<'a> {
         };
         let place = (0..).zip(&self.paths).find_map(|(place, other)| (*other == path).then_some(place));
         let place: u8 = place.ok_or_else(|| self.unknown(&path))?;
-        if head.contains('#') && self.fit.sheet.parameters[usize::from(place)].bundle == 0 {
+        if head.contains('#') && !marked && self.fit.sheet.parameters[usize::from(place)].bundle == 0 {
             return Err(format!("{path} is no member of a bundle, and takes no number. Leave out #{number}."));
         }
         let is_number = !number.is_empty() && number.bytes().all(|byte| byte.is_ascii_digit());
@@ -405,12 +452,13 @@ impl<'a> Cards<'a> {
     }
 
     /// The card of these entries; its faults are kept. The library is asked of each text only where the card does not fit.
-    fn card(&mut self, (line, record): (usize, u32), entries: &[Entry]) -> Vec<u8> {
+    fn card(&mut self, CardHead { line, record, marked }: CardHead, entries: &[Entry]) -> Vec<u8> {
         self.count += 1;
         let items = entries.iter().map(|entry| Item { byte: entry.place, mark: entry.occurrence, text: &entry.text });
         let items: Vec<Item> = items.collect();
-        let card = block::write_card(record, &items).unwrap_or_else(|| {
-            let (line, fault) = overfull(line, entries, &items);
+        let marked = marked || block::has_marks(&items);
+        let card = block::write_card_as(record, &items, marked).unwrap_or_else(|| {
+            let (line, fault) = overfull(line, entries, &items, marked);
             self.description.fault(line, &format!("record {record}: {fault}"));
             Vec::new()
         });
@@ -426,11 +474,10 @@ impl<'a> Cards<'a> {
 }
 
 /// Which line of a card has no room any more, and why.
-fn overfull(line: usize, entries: &[Entry], items: &[Item]) -> (usize, String) {
+fn overfull(line: usize, entries: &[Entry], items: &[Item], marked: bool) -> (usize, String) {
     if let Some(entry) = entries.get(MOST_ENTRIES) {
         return (entry.line, format!("a card has room for {MOST_ENTRIES} entries, and this is one more."));
     }
-    let marked = block::has_marks(items);
     let mut taken = CARD_HEAD;
     for (entry, item) in entries.iter().zip(items) {
         taken += item.size(marked);

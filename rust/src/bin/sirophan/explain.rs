@@ -14,6 +14,7 @@ use crate::text::{counted, spell};
 use crate::values;
 use crate::verdicts;
 use sirophan::{Explained, Explanation, Mark, Refusal};
+use std::slice;
 
 /// How many values of a card are shown for a test.
 const SHOWN: usize = 8;
@@ -29,7 +30,7 @@ pub fn run(arguments: &Arguments) -> Result<(), Failure> {
     let path = &arguments.paths[2];
     let cards = Input::open(path)?;
     question.check_sealed(arguments, Some(&cards))?;
-    let survey = Survey::new(&question);
+    let survey = Survey::new(slice::from_ref(&question));
     let counter = survey.counter();
     let mut walk = Walk { question: &question, asked: &survey.asked, counter: &counter, arguments, told: Vec::new() };
     // held back until the last card, so that a file that is refused gives no part of an answer
@@ -133,7 +134,7 @@ impl Walk<'_> {
             Words::Filter => {
                 let explanation = sirophan::explain(&sheet.block, text, card).map_err(refused)?;
                 let lines = [explanation.render(text), self.deciding(&explanation, card)].join("\n");
-                (explanation.matches, lines.trim_end().to_string(), ("tests", tests_json(&explanation, text)))
+                (explanation.matches, lines.trim_end().to_string(), ("tests", self.tests_json(&explanation, card)))
             }
             Words::Search => {
                 let matches = sirophan::matches_search(&sheet.block, text, card).map_err(refused)?;
@@ -151,13 +152,43 @@ impl Walk<'_> {
     /// The deciding tests, each with the values that it went by.
     fn deciding(&self, explanation: &Explanation, card: &[u8]) -> String {
         let outer = self.asked.iter().filter(|asked| !asked.is_inside());
-        let rows = outer.zip(&explanation.tests).filter_map(|(asked, Explained { mark, .. })| match mark {
-            Mark::Spared => None,
-            Mark::Yes => Some((asked.shown.clone(), told(self.question, asked, true, card))),
-            Mark::No => Some((asked.shown.clone(), told(self.question, asked, false, card))),
+        let rows = outer.zip(&explanation.tests).filter_map(|(asked, Explained { mark, .. })| {
+            let says = says(*mark)?;
+            Some((asked.shown.clone(), told(self.question, asked, says, card)))
         });
         columns(&rows.collect::<Vec<(String, String)>>())
     }
+
+    /// All tests as JSON, those that decide with the values that they went by.
+    fn tests_json(&self, explanation: &Explanation, card: &[u8]) -> String {
+        let outer = self.asked.iter().filter(|asked| !asked.is_inside());
+        let tests = outer.zip(&explanation.tests).map(|(asked, Explained { place, mark })| {
+            let says = says(*mark);
+            let word = says.map_or("spared", |says| if says { "yes" } else { "no" });
+            let values = says.map(|says| ("values", values_json(&went_by(self.question, asked, says, card))));
+            let pairs = [
+                ("place", place.start.to_string()),
+                ("test", json::bytes(&self.question.text[place.clone()])),
+                ("mark", json::string(word)),
+            ];
+            json::object(&pairs.into_iter().chain(values).collect::<Vec<(&str, String)>>())
+        });
+        json::array(&tests.collect::<Vec<String>>())
+    }
+}
+
+/// What a test that decides says.
+fn says(mark: Mark) -> Option<bool> {
+    match mark {
+        Mark::Spared => None,
+        Mark::Yes => Some(true),
+        Mark::No => Some(false),
+    }
+}
+
+/// Values as JSON; an empty list where there are none.
+pub fn values_json(values: &[Vec<u8>]) -> String {
+    json::array(&values.iter().map(|value| json::bytes(value)).collect::<Vec<String>>())
 }
 
 /// Texts and what is said of each, in two columns.
@@ -166,16 +197,20 @@ pub fn columns(rows: &[(String, String)]) -> String {
     rows.iter().map(|(text, said)| format!("  {text:width$}   {said}")).collect::<Vec<String>>().join("\n")
 }
 
-/// What a test says of a card, with the values that it goes by: those that make it yes, or all that do not.
+/// The values of a card that a test goes by: those that make it yes, or all that do not.
+pub fn went_by(question: &Question, asked: &Asked, says: bool, card: &[u8]) -> Vec<Vec<u8>> {
+    let there = asked.with("pr", b"true");
+    let set = || values::that_meet(&question.sheet, asked, Words::Filter, &there, card);
+    let met = values::that_meet(&question.sheet, asked, asked.words, &asked.alone, card);
+    // Whether there is a value says no value by itself.
+    if says && !met.is_empty() && asked.operator != "pr" { met } else { set() }
+}
+
+/// What a test says of a card, with the values that it goes by.
 pub fn told(question: &Question, asked: &Asked, says: bool, card: &[u8]) -> String {
     let answer = if says { "yes" } else { "no" };
     let path = question.sheet.path(asked.place, 0);
-    let there = asked.with("pr", b"true");
-    let set = values::that_meet(&question.sheet, asked, Words::Filter, &there, card);
-    let met = values::that_meet(&question.sheet, asked, asked.words, &asked.alone, card);
-    // Whether there is a value says no value by itself.
-    let shown = if says && !met.is_empty() && asked.operator != "pr" { met } else { set };
-    match &shown[..] {
+    match &went_by(question, asked, says, card)[..] {
         [] if asked.has_condition() && !values::under(card, asked.place).is_empty() => {
             format!("{answer}: no {path} on this card meets the condition")
         }
@@ -187,21 +222,4 @@ pub fn told(question: &Question, asked: &Asked, says: bool, card: &[u8]) -> Stri
             format!("{answer}: {}{more}", values.join(", "))
         }
     }
-}
-
-/// The tests as JSON.
-fn tests_json(explanation: &Explanation, filter: &[u8]) -> String {
-    let test = |Explained { place, mark }: &Explained| {
-        let mark = match mark {
-            Mark::Spared => "spared",
-            Mark::Yes => "yes",
-            Mark::No => "no",
-        };
-        json::object(&[
-            ("place", place.start.to_string()),
-            ("test", json::bytes(&filter[place.clone()])),
-            ("mark", json::string(mark)),
-        ])
-    };
-    json::array(&explanation.tests.iter().map(test).collect::<Vec<String>>())
 }

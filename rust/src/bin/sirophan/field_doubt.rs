@@ -32,8 +32,7 @@ pub fn of_field(sheet: &Sheet, held: &Held, place: usize) -> Vec<Message> {
         ])
     });
     let encoding = field.first_strange.map(|(_, record, why)| {
-        let values = counted(if field.is_sample { field.strange } else { field.values }, "value");
-        let some = if field.is_sample { values } else { format!("{} of {values}", grouped(field.strange)) };
+        let some = format!("{} of {}{of}", grouped(field.strange), counted(field.values, "value"));
         let seem = if field.strange == 1 { "seems" } else { "seem" };
         Message::warning(
             format!("{path}: {some} {seem} to be in another encoding, first on record {record}: {why}."),

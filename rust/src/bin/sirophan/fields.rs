@@ -52,7 +52,7 @@ fn show(sheet: &Sheet, held: &Held, warnings: &[Message]) -> Result<(), Failure>
 
 /// An example, cut where it is long.
 fn example(field: &Field) -> String {
-    let Some((_, text)) = &field.example else { return String::new() };
+    let Some(text) = field.example() else { return String::new() };
     let spelled = spell(text);
     match spelled.char_indices().nth(SHOWN) {
         Some((end, _)) => format!("{}...", &spelled[..end]),
@@ -70,7 +70,7 @@ fn show_json(sheet: &Sheet, held: &Held, warnings: &[Message]) -> Result<(), Fai
             ("kind", json::string(&kind::word_of(sheet.parameters[place].kind))),
             ("cards", field.cards.to_string()),
             ("values", field.values.to_string()),
-            ("example", field.example.as_ref().map_or("null".into(), |(_, text)| json::bytes(text))),
+            ("example", field.example().map_or("null".into(), json::bytes)),
             ("looks_like", field.looks_like().map_or("null".into(), |(likeness, _)| json::string(likeness.kind))),
             ("warnings", json::array(&doubts)),
         ])

@@ -1,9 +1,11 @@
 //! Files that commands read; `-` is standard input.
 
 use crate::report::Failure;
+use crate::sha256::{Hash, Hasher};
 use crate::stream::Stream;
 use std::fs::File;
 use std::io::{self, BufReader, Read};
+use std::sync::{Arc, Mutex, PoisonError};
 
 /// No sheet and no filter is near this size: what is longer need not be read to its end.
 pub const MOST_BYTES: usize = 1 << 20;
@@ -54,6 +56,22 @@ impl Input {
         }
     }
 
+    /// A file as a whole, however long it is.
+    pub fn all(mut self) -> Result<Vec<u8>, Failure> {
+        let mut bytes = Vec::new();
+        match self.from.read_to_end(&mut bytes) {
+            Ok(_) => Ok(bytes),
+            Err(reason) => Err(self.unread(reason)),
+        }
+    }
+
+    /// The same file, and the hash of what is read of it, so that what is judged is what is hashed.
+    pub fn hashed(self) -> (Input, Hashed) {
+        let hashed = Hashed(Arc::new(Mutex::new(Hasher::new())));
+        let from = Box::new(HashedReader { from: self.from, hashed: hashed.clone() });
+        (Input { from, ..self }, hashed)
+    }
+
     /// The file as a reader of bytes.
     pub fn into_reader(self) -> Box<dyn Read + Send> {
         self.from
@@ -61,6 +79,30 @@ impl Input {
 
     fn unread(&self, reason: io::Error) -> Failure {
         Failure::file(&self.name, "read", reason)
+    }
+}
+
+/// The hash of what is read of a file, as far as that is.
+#[derive(Clone)]
+pub struct Hashed(Arc<Mutex<Hasher>>);
+
+impl Hashed {
+    pub fn so_far(&self) -> Hash {
+        self.0.lock().unwrap_or_else(PoisonError::into_inner).clone().end()
+    }
+}
+
+/// Reads a file and hashes what it reads.
+struct HashedReader {
+    from: Box<dyn Read + Send>,
+    hashed: Hashed,
+}
+
+impl Read for HashedReader {
+    fn read(&mut self, buffer: &mut [u8]) -> io::Result<usize> {
+        let count = self.from.read(buffer)?;
+        self.hashed.0.lock().unwrap_or_else(PoisonError::into_inner).add(&buffer[..count]);
+        Ok(count)
     }
 }
 

@@ -29,7 +29,7 @@ pub fn run(arguments: &Arguments) -> Result<(), Failure> {
     let (sheet, held) = packed?;
     let mut warnings: Vec<Message> =
         filter.and_then(|filter| filter_doubt(&path_in(from, FILTER), &sheet, &filter)).into_iter().collect();
-    warnings.extend(field_doubt::of_cards(&path_in(from, "cards.txt"), &held, |_| true));
+    warnings.extend(field_doubt::of_cards(&cards_path(from)?, &held, |_| true));
     warnings.extend(field_doubt::of_fields(&sheet, &held, 0..held.fields.len()));
     let mut output = Output::new();
     let fields = sheet.parameters.len() as u64;
@@ -56,7 +56,7 @@ pub const FILTER: &str = "filter.txt";
 fn into_folder(arguments: &Arguments, from: &str, to: &str, filter: Option<&Filter>) -> Result<(Sheet, Held), Failure> {
     arguments.say(filter.iter().flat_map(|filter| &filter.notes));
     let sheet = read_sheet(arguments, from)?;
-    let mut cards = Cards::new(Description::open(&path_in(from, "cards.txt"))?, &sheet);
+    let mut cards = Cards::open(&cards_path(from)?, &sheet)?;
     if !Path::new(to).exists() {
         interrupt::removes(Path::new(to));
     }
@@ -93,6 +93,19 @@ pub fn read_sheet(arguments: &Arguments, from: &str) -> Result<Sheet, Failure> {
     arguments.say(&description.notes());
     description.faults.none()?;
     sheet.ok_or_else(|| Failure::refused(Message::error(format!("{} is no sheet.", path_in(from, "sheet.txt")))))
+}
+
+/// The file that describes the cards of a folder: cards.txt, or else cards.csv, and not both.
+pub fn cards_path(folder: &str) -> Result<String, Failure> {
+    let [text, table] = ["cards.txt", "cards.csv"].map(|name| path_in(folder, name));
+    match [&text, &table].map(|path| Path::new(path).exists()) {
+        [true, true] => {
+            let told = format!("{text} and {table} are both there, and one of them is packed: take the other away.");
+            Err(Failure::refused(Message::error(told)))
+        }
+        [false, true] => Ok(table),
+        _ => Ok(text),
+    }
 }
 
 /// A filter's file as it is packed, and what was dropped from it.

@@ -18,7 +18,7 @@ const TESTS_NAMED: usize = 8;
 /// numbers that are less precise.
 pub fn overlap(kind: &str, operator: &str) -> Option<&'static str> {
     match (kind, operator) {
-        ("date" | "period", "eq" | "co" | "sa" | "eb") => Some("po"),
+        ("date" | "period", "eq" | "co" | "sa" | "eb" | "ge" | "le") => Some("po"),
         ("number", "eq") => Some("co"),
         _ => None,
     }
@@ -224,9 +224,9 @@ fn plain_zero(
         Some(cards) => format!("{} of {} have {path}", grouped(cards), counted(held.cards, "card")),
         None => format!("cards have {path}"),
     };
-    let values = match (ends, &field.example) {
+    let values = match (ends, field.example()) {
         (Some((least, greatest)), _) => format!(", with values from {} to {}", spell(least), spell(greatest)),
-        (None, Some((_, example))) => format!(", such as {}", quoted(example)),
+        (None, Some(example)) => format!(", such as {}", quoted(example)),
         (None, None) => String::new(),
     };
     let told = format!("no card meets `{}`: {have}{values}.", asked.shown);

@@ -1,5 +1,6 @@
 //! What a command says beside its answer, and how it ends.
 
+use crate::fhir;
 use crate::json;
 use crate::stream::Stream;
 use crate::width;
@@ -25,6 +26,21 @@ impl Level {
     }
 }
 
+/// In which form a failure is told.
+#[derive(Clone, Copy, Debug, PartialEq, Eq)]
+pub enum Form {
+    Words,
+    Json,
+    Fhir,
+}
+
+/// What of a query a refusal is about: the part, in whose text its place counts, and the parameter, if it is one's.
+#[derive(Clone, Debug)]
+pub struct Concern {
+    pub part: String,
+    pub parameter: Option<String>,
+}
+
 /// A message for standard error.
 #[derive(Clone, Debug)]
 pub struct Message {
@@ -36,6 +52,8 @@ pub struct Message {
     pub help: Vec<String>,
     /// The refusal that it tells of, if it does.
     pub refusal: Option<Refusal>,
+    /// Where it is one of a query, what it is about.
+    pub concern: Option<Concern>,
     /// For programs: a word for what it tells, the field that it is about, and its figures by name.
     pub code: Option<&'static str>,
     pub field: Option<String>,
@@ -51,6 +69,7 @@ impl Message {
             shown: None,
             help: Vec::new(),
             refusal: None,
+            concern: None,
             code: None,
             field: None,
             figures: Vec::new(),
@@ -113,6 +132,10 @@ impl Message {
         if let Some(Refusal { number, place }) = self.refusal {
             pairs.extend([("refused", number.to_string()), ("place", place.to_string())]);
         }
+        if let Some(Concern { part, parameter }) = &self.concern {
+            pairs.push(("part", json::string(part)));
+            pairs.extend(parameter.as_deref().map(|name| ("parameter", json::string(name))));
+        }
         if !self.figures.is_empty() {
             let figures: Vec<(&str, String)> =
                 self.figures.iter().map(|(name, number)| (*name, number.to_string())).collect();
@@ -141,6 +164,8 @@ pub enum Failure {
     Unusable(Box<Message>),
     /// Whoever reads standard output has gone, and needs no message.
     Closed,
+    /// Any of them, told as FHIR though the command line does not ask for it.
+    AsFhir(Box<Failure>),
 }
 
 impl Failure {
@@ -180,12 +205,26 @@ impl Failure {
             Failure::Refused(_) => 2,
             Failure::Unusable(_) | Failure::Closed => 3,
             Failure::AtFault(_) => 4,
+            Failure::AsFhir(failure) => failure.status(),
         }
     }
 
+    /// The same, told as FHIR.
+    pub fn told_as_fhir(self) -> Failure {
+        Failure::AsFhir(Box::new(self))
+    }
+
     /// Says why on standard error.
-    pub fn say(&self, as_json: bool) {
+    pub fn say(&self, form: Form) {
+        let as_json = form == Form::Json;
+        if form == Form::Fhir {
+            if let Some(outcome) = fhir::refused(self) {
+                let _ = writeln!(io::stderr(), "{outcome}");
+            }
+            return;
+        }
         match self {
+            Failure::AsFhir(failure) => failure.say(Form::Fhir),
             Failure::Usage(text) => Message::error(format!("sirophan: {text}")).say(as_json),
             Failure::Refused(messages) | Failure::AtFault(messages) => {
                 for message in messages {
@@ -218,9 +257,14 @@ impl Output {
         writeln!(self.to, "{line}").map_err(unwritten)
     }
 
+    /// Writes bytes as they are.
+    pub fn raw(&mut self, bytes: &[u8]) -> Result<(), Failure> {
+        self.to.write_all(bytes).map_err(unwritten)
+    }
+
     /// Writes bytes as a line, whatever they are.
     pub fn bytes(&mut self, line: &[u8]) -> Result<(), Failure> {
-        self.to.write_all(line).and_then(|()| self.to.write_all(b"\n")).map_err(unwritten)
+        self.raw(line).and_then(|()| self.raw(b"\n"))
     }
 
     /// Writes out what is held back so far.

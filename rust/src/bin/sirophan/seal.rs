@@ -67,8 +67,9 @@ impl Seal {
         if path == "-" || !name.exists() {
             return Ok(None);
         }
+        let is_file = name.is_file();
         let name = name.to_string_lossy().into_owned();
-        let text = input::read(&name)?;
+        let text = if is_file { input::read(&name)? } else { Vec::new() };
         if text == UNFINISHED.as_bytes() {
             return Err(unfinished(&name));
         }
@@ -131,8 +132,16 @@ pub fn hold(sheet_path: &str, sheet: &[u8], cards: Option<&Input>) -> Result<(),
 
 /// Whether there is a seal beside cards; where there is, they are the sealed ones, byte for byte.
 pub fn hold_cards(path: &str) -> Result<bool, Failure> {
+    if Seal::beside(path)?.is_none() {
+        return Ok(false);
+    }
+    hold_hash(path, hash_file(path)?.0)
+}
+
+/// The same of cards whose hash is known.
+pub fn hold_hash(path: &str, hash: Hash) -> Result<bool, Failure> {
     let Some((seal_name, seal)) = Seal::beside(path)? else { return Ok(false) };
-    if hash_file(path)?.0.to_string() == seal.cards_hash {
+    if hash.to_string() == seal.cards_hash {
         return Ok(true);
     }
     let cards = counted(seal.cards, "card");
@@ -155,10 +164,23 @@ fn hash_file(path: &str) -> Result<(Hash, u64), Failure> {
     }
 }
 
+/// Nothing, where a path is a file or nothing: the blocks are read twice, and a pipe that is opened a second time may never end.
+fn require_file(path: &str) -> Result<(), Failure> {
+    match Path::new(path).metadata() {
+        Ok(data) if !data.is_file() => Err(Failure::Unusable(Box::new(Message::error(format!(
+            "sirophan: {path} cannot be sealed: it is no file."
+        ))))),
+        _ => Ok(()),
+    }
+}
+
 /// Seals the blocks of a folder, where they go together. A seal that was there and does not hold is told.
 pub fn run(arguments: &Arguments) -> Result<(), Failure> {
     let folder = &arguments.paths[0];
     let path = path_in(folder, NAME);
+    for path in ["sheet.bin", "cards.bin", NAME].map(|name| path_in(folder, name)) {
+        require_file(&path)?;
+    }
     let before = input::read(&path).unwrap_or_default();
     if before == UNFINISHED.as_bytes() {
         return Err(unfinished(&path));

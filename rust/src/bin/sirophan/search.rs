@@ -1,6 +1,7 @@
 //! Where the parts of a search string stand, so that they can be shown, and what they say. Whether a text is a search
 //! string, and what it means, is never decided here.
 
+use sirophan::percent::{self, decoded};
 use std::ops::Range;
 
 /// A pair: `birthdate=ge1974,1980`.
@@ -43,28 +44,8 @@ pub fn part_at(text: &[u8], place: usize) -> Range<usize> {
 
 fn read_pair(whole: Range<usize>, part: &[u8]) -> Option<Pair> {
     let cut = part.iter().position(|&byte| byte == b'=')?;
-    let name = decoded(&part[..cut])?.into_iter().map(|(_, byte)| byte).collect();
+    let name = percent::bytes(&part[..cut])?;
     Some(Pair { whole, name, alternatives: alternatives(&decoded(&part[cut + 1..])?) })
-}
-
-/// The bytes that a name or a value stands for, each with how it is written.
-fn decoded(raw: &[u8]) -> Option<Vec<(&[u8], u8)>> {
-    let mut rest = raw;
-    let mut bytes = Vec::new();
-    while let Some(&first) = rest.first() {
-        let (written, behind) = rest.split_at_checked(if first == b'%' { 3 } else { 1 })?;
-        let byte = match written {
-            b"+" => b' ',
-            [b'%', digits @ ..] if digits.iter().all(u8::is_ascii_hexdigit) => {
-                u8::from_str_radix(str::from_utf8(digits).ok()?, 16).ok()?
-            }
-            [b'%', ..] => return None,
-            _ => first,
-        };
-        bytes.push((written, byte));
-        rest = behind;
-    }
-    Some(bytes)
 }
 
 /// The parts of a value: a comma cuts, unless it has a backslash before it that makes it plain.

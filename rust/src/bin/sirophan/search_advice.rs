@@ -8,6 +8,7 @@ use crate::search::{self, Alternative, Pair};
 use crate::sheet::Sheet;
 use crate::text::{printable, row, spell};
 use sirophan::Refusal;
+use sirophan::query::FILTER;
 
 /// A refusal of the text as it is told: the pair underlined, the library's sentence, and help.
 pub fn told(question: &Question, refusal: Refusal) -> Message {
@@ -109,7 +110,7 @@ const ABOUT_ANSWERS: [(&str, &str); 12] = [
 /// Help with a parameter of FHIR that is no field: one that carries a filter, and those about the answer.
 fn parameter_help(pair: &Pair) -> Option<Vec<String>> {
     let name = String::from_utf8_lossy(&pair.name);
-    if name == CARRIER {
+    if name == FILTER {
         return Some(vec![told_filter(pair)]);
     }
     let bare = name.split(':').next().unwrap_or_default();
@@ -119,14 +120,13 @@ fn parameter_help(pair: &Pair) -> Option<Vec<String>> {
     )])
 }
 
-/// The parameter of FHIR that carries a filter.
-const CARRIER: &str = "_filter";
-
 /// What to do with a pair that carries a filter.
 fn told_filter(pair: &Pair) -> String {
     let written: Vec<&[u8]> = pair.alternatives.iter().map(|alternative| &alternative.text[..]).collect();
     let filter = shell_quoted(&written.join(&b","[..]));
-    format!("{CARRIER} carries a filter, and what stands behind its = is asked by `sirophan pick {filter}`.")
+    format!(
+        "{FILTER} carries a filter. `sirophan query` asks it with the pairs beside it, and `sirophan pick {filter}` alone."
+    )
 }
 
 /// What to do with a text for `sirophan pick` that is a search string, carries its filter behind a name, as an address does, or
@@ -137,7 +137,7 @@ pub fn of_filter(sheet: &Sheet, text: &[u8]) -> Vec<String> {
     }
     let start = text.iter().rposition(|&byte| byte == b'?').map_or(0, |mark| mark + 1);
     let pairs = search::read(&text[start..]).unwrap_or_default();
-    let carried = pairs.iter().find(|pair| pair.name == CARRIER.as_bytes()).map(|pair| vec![told_filter(pair)]);
+    let carried = pairs.iter().find(|pair| pair.name == FILTER.as_bytes()).map(|pair| vec![told_filter(pair)]);
     let modified = pairs.iter().find_map(|pair| {
         let colon = pair.name.iter().position(|&byte| byte == b':')?;
         sheet.find(0, &pair.name[..colon])?;

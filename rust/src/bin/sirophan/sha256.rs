@@ -98,6 +98,7 @@ impl fmt::Display for Hash {
 }
 
 /// Takes in bytes piece by piece.
+#[derive(Clone)]
 pub struct Hasher {
     state: [u32; 8],
     /// The bytes behind the last whole block, and how many bytes there were in all.
@@ -119,9 +120,9 @@ impl Hasher {
             mix(&mut self.state, &self.rest);
             self.rest.clear();
         }
-        let blocks = bytes.chunks_exact(BLOCK);
-        self.rest.extend(blocks.remainder());
-        blocks.for_each(|block| mix(&mut self.state, block));
+        let (blocks, rest) = bytes.split_at(bytes.len() - bytes.len() % BLOCK);
+        mix(&mut self.state, blocks);
+        self.rest.extend(rest);
     }
 
     /// The hash of all bytes: behind them come a 1 bit, zeros, and how many bits there were.
@@ -133,8 +134,19 @@ impl Hasher {
     }
 }
 
+/// Mixes whole blocks into the state, by the processor's own instructions where it has them.
+fn mix(state: &mut [u32; 8], blocks: &[u8]) {
+    #[cfg(target_arch = "x86_64")]
+    if is_x86_feature_detected!("sha") && is_x86_feature_detected!("sse4.1") {
+        // SAFETY: it asks for nothing but these instructions, and they are there.
+        unsafe { by_instructions::mix(state, blocks) };
+        return;
+    }
+    blocks.chunks_exact(BLOCK).for_each(|block| mix_block(state, block));
+}
+
 /// Mixes a block into the state.
-fn mix(state: &mut [u32; 8], block: &[u8]) {
+fn mix_block(state: &mut [u32; 8], block: &[u8]) {
     let mut words = [0_u32; 64];
     for (word, bytes) in words.iter_mut().zip(block.chunks_exact(4)) {
         *word = bytes.iter().fold(0, |word, byte| word << 8 | u32::from(*byte));
@@ -160,6 +172,72 @@ fn turned([a, b, c, d, e, f, g, h]: [u32; 8], word: u32) -> [u32; 8] {
     let most = (a & b) ^ (a & c) ^ (b & c);
     let turned_a = a.rotate_right(2) ^ a.rotate_right(13) ^ a.rotate_right(22);
     [first.wrapping_add(turned_a).wrapping_add(most), a, b, c, d.wrapping_add(first), e, f, g]
+}
+
+/// The same by the instructions for it of many processors, several times as fast.
+#[cfg(target_arch = "x86_64")]
+mod by_instructions {
+    use super::{BLOCK, ROUNDS};
+    use std::arch::x86_64::{
+        __m128i, _mm_add_epi32, _mm_alignr_epi8, _mm_blend_epi16, _mm_extract_epi32, _mm_set_epi32, _mm_set_epi64x,
+        _mm_sha256msg1_epu32, _mm_sha256msg2_epu32, _mm_sha256rnds2_epu32, _mm_shuffle_epi8, _mm_shuffle_epi32,
+    };
+
+    /// Four words, the first in the lowest place.
+    #[target_feature(enable = "sha,sse4.1")]
+    fn four(words: &[u32]) -> __m128i {
+        let word = |at: usize| words[at].cast_signed();
+        _mm_set_epi32(word(3), word(2), word(1), word(0))
+    }
+
+    /// Four words of a block, whose bytes come the highest first.
+    #[target_feature(enable = "sha,sse4.1")]
+    fn four_of(bytes: &[u8]) -> __m128i {
+        let half = |at: usize| i64::from_le_bytes(bytes[at..at + 8].try_into().expect("eight bytes"));
+        let turned = _mm_set_epi64x(0x0C0D_0E0F_0809_0A0B, 0x0405_0607_0001_0203);
+        _mm_shuffle_epi8(_mm_set_epi64x(half(8), half(0)), turned)
+    }
+
+    /// Mixes blocks into a state, which the instructions take as two halves: words 0, 1, 4, 5 and words 2, 3, 6, 7.
+    #[target_feature(enable = "sha,sse4.1")]
+    pub fn mix(state: &mut [u32; 8], blocks: &[u8]) {
+        let low = _mm_shuffle_epi32(four(&state[..4]), 0xB1);
+        let high = _mm_shuffle_epi32(four(&state[4..]), 0x1B);
+        let (mut one, mut other) = (_mm_alignr_epi8(low, high, 8), _mm_blend_epi16(high, low, 0xF0));
+        for block in blocks.chunks_exact(BLOCK) {
+            let before = (one, other);
+            let mut words = [four_of(block), four_of(&block[16..]), four_of(&block[32..]), four_of(&block[48..])];
+            for (step, rounds) in ROUNDS.chunks_exact(4).enumerate() {
+                if step >= 4 {
+                    let [first, second, third, last] = words;
+                    let near = _mm_sha256msg1_epu32(first, second);
+                    let sum = _mm_add_epi32(near, _mm_alignr_epi8(last, third, 4));
+                    words = [second, third, last, _mm_sha256msg2_epu32(sum, last)];
+                }
+                let sum = _mm_add_epi32(words[step.min(3)], four(rounds));
+                other = _mm_sha256rnds2_epu32(other, one, sum);
+                one = _mm_sha256rnds2_epu32(one, other, _mm_shuffle_epi32(sum, 0x0E));
+            }
+            (one, other) = (_mm_add_epi32(one, before.0), _mm_add_epi32(other, before.1));
+        }
+        let halves = [
+            [
+                _mm_extract_epi32(one, 3),
+                _mm_extract_epi32(one, 2),
+                _mm_extract_epi32(other, 3),
+                _mm_extract_epi32(other, 2),
+            ],
+            [
+                _mm_extract_epi32(one, 1),
+                _mm_extract_epi32(one, 0),
+                _mm_extract_epi32(other, 1),
+                _mm_extract_epi32(other, 0),
+            ],
+        ];
+        for (word, mixed) in state.iter_mut().zip(halves.as_flattened()) {
+            *word = mixed.cast_unsigned();
+        }
+    }
 }
 
 #[cfg(test)]
@@ -198,6 +276,18 @@ mod tests {
                 bytes[..length].chunks(piece).for_each(|piece| hasher.add(piece));
                 assert_eq!(hasher.end(), whole, "{length} by {piece}");
             }
+        }
+    }
+
+    /// The instructions and the plain form agree on blocks of all sorts.
+    #[test]
+    fn by_instructions_and_plain() {
+        let bytes: Vec<u8> = (0..100 * BLOCK).map(|at| (at * at % 251).to_le_bytes()[0]).collect();
+        for blocks in 0..100 {
+            let (mut one, mut other) = (START, START);
+            mix(&mut one, &bytes[..blocks * BLOCK]);
+            bytes[..blocks * BLOCK].chunks_exact(BLOCK).for_each(|block| mix_block(&mut other, block));
+            assert_eq!(one, other, "{blocks}");
         }
     }
 }

@@ -4,6 +4,7 @@ use crate::advice;
 use crate::arguments::Arguments;
 use crate::block::{self, Item, SIZE, Sort};
 use crate::cards;
+use crate::describe;
 use crate::input::{self, Input};
 use crate::json;
 use crate::kind;
@@ -16,14 +17,22 @@ use std::path::Path;
 
 /// Shows files one after the other. Cards are shown by the sheet that came before them, or by sheet.bin beside them.
 pub fn run(arguments: &Arguments) -> Result<(), Failure> {
+    if arguments.csv || arguments.description {
+        return describe::run(arguments);
+    }
     let mut view =
         View { output: Output::new(), record: arguments.record, json: arguments.json, sheet: None, shown: 0 };
     for path in &arguments.paths {
         view.file(path)?;
     }
     view.output.flush()?;
+    require_shown(arguments, view.shown)
+}
+
+/// Nothing, where the record number that is asked for is on a card.
+pub fn require_shown(arguments: &Arguments, shown: u64) -> Result<(), Failure> {
     match arguments.record {
-        Some(record) if view.shown == 0 => {
+        Some(record) if shown == 0 => {
             Err(Failure::refused(Message::error(format!("no card has the record number {record}."))))
         }
         _ => Ok(()),
@@ -198,7 +207,7 @@ fn explained(text: &[u8], words: Option<String>) -> String {
 }
 
 /// The sheet.bin beside a file, or an empty sheet where there is none.
-fn sheet_beside(path: &str) -> Sheet {
+pub fn sheet_beside(path: &str) -> Sheet {
     let beside = Path::new(path).with_file_name("sheet.bin");
     Sheet::read(input::read(&beside.to_string_lossy()).unwrap_or_default())
 }

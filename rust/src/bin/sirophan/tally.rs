@@ -10,6 +10,7 @@ use crate::report::Failure;
 use crate::sheet::Sheet;
 use crate::text;
 use std::ops::Range;
+use std::sync::atomic::{AtomicUsize, Ordering};
 
 /// What values may look like that are of another kind.
 pub struct Likeness {
@@ -64,8 +65,9 @@ pub const LIKENESSES: [Likeness; 5] = [
     },
 ];
 
-/// How many of the values that do not look like a kind are shown.
+/// How many of the values that do not look like a kind are shown, and how many examples of a field's values.
 const OTHERS: usize = 2;
+const EXAMPLES: usize = 3;
 /// Digits alone may be labels, as those of wards and telephones are: numbers are doubted where one in so many is none. Numbers
 /// of one or two digits are those of wards and the like where there are at most so many of them.
 const LABELS_TO_NUMBER: u64 = 4;
@@ -73,9 +75,10 @@ const MOST_WARDS: u32 = 20;
 /// Bare years count as dates where so many times as many values are years as are other digits alone: else they are codes.
 const YEARS_TO_DIGITS: u64 = 9;
 
-/// Where a list has to come quickly and a field has more values than so many, only those of one in so many cards are looked at.
-const ENOUGH: u64 = 2048;
-const ONE_IN: u64 = 32;
+/// Where a list has to come quickly and a field has more values than so many, only those of half of the cards are looked at; where
+/// these are still more, of half of them; and so on, up to one card in 64. So a share is that of 256 values at least.
+const ENOUGH: u64 = 512;
+const HALVINGS: usize = 6;
 
 /// A value with the index of its card.
 pub type Found = (u64, Vec<u8>);
@@ -88,23 +91,23 @@ pub struct Alike {
     pub unreadable: u64,
     pub first_unreadable: Option<Found>,
     /// The first values that look like something else.
-    others: Firsts,
+    others: Firsts<OTHERS>,
 }
 
-/// The first values of some sort, each once.
+/// The first values of some sort, so many of them, each once.
 #[derive(Clone, Debug, Default)]
-struct Firsts(Vec<Found>);
+struct Firsts<const MOST: usize>(Vec<Found>);
 
-impl Firsts {
+impl<const MOST: usize> Firsts<MOST> {
     /// Keeps a value, if it is one of the first.
     fn take(&mut self, index: u64, value: &[u8]) {
-        if self.0.len() < OTHERS && self.0.iter().all(|(_, other)| other != value) {
+        if self.0.len() < MOST && self.0.iter().all(|(_, other)| other != value) {
             self.0.push((index, value.to_vec()));
         }
     }
 
     /// The first of these and of others.
-    fn with(&self, other: &Firsts) -> Firsts {
+    fn with(&self, other: &Firsts<MOST>) -> Firsts<MOST> {
         let mut found = [&self.0[..], &other.0].concat();
         found.sort();
         let mut firsts = Firsts::default();
@@ -140,11 +143,11 @@ pub struct Field {
     pub is_sample: bool,
     pub cards: u64,
     pub values: u64,
-    /// The first value.
-    pub example: Option<Found>,
+    /// The first values.
+    examples: Firsts<EXAMPLES>,
     pub alike: [Alike; LIKENESSES.len()],
     /// The first values that look like nothing.
-    plain: Firsts,
+    plain: Firsts<OTHERS>,
     /// How many values are digits alone: likely years, and others.
     years: u64,
     digits: u64,
@@ -153,7 +156,7 @@ pub struct Field {
     small: u64,
     small_numbers: u128,
     pub blank: u64,
-    /// How many values seem to be in another encoding, of all of them, and the first card that has one: index, record and why.
+    /// How many values seem to be in another encoding, and the first card that has one: index, record and why.
     pub strange: u64,
     pub first_strange: Option<(u64, u32, &'static str)>,
 }
@@ -170,10 +173,19 @@ impl Field {
         self.small_numbers |= other.small_numbers;
         self.blank += other.blank;
         self.strange += other.strange;
-        self.example = first(self.example.take(), other.example, |example| example.0);
+        self.examples = self.examples.with(&other.examples);
         self.first_strange = first(self.first_strange.take(), other.first_strange, |strange| strange.0);
         self.plain = self.plain.with(&other.plain);
         self.alike.iter_mut().zip(other.alike).for_each(|(alike, more)| alike.add(more));
+    }
+
+    /// The first values, and the first of all.
+    pub fn examples(&self) -> impl Iterator<Item = &[u8]> {
+        self.examples.0.iter().map(|(_, value)| &value[..])
+    }
+
+    pub fn example(&self) -> Option<&[u8]> {
+        self.examples().next()
     }
 
     /// The first values that do not look like a kind.
@@ -224,16 +236,56 @@ pub struct Held {
 /// What one processor has counted.
 #[derive(Default)]
 pub struct Tally {
-    /// The fields by the values that come first, and by those of the cards that are drawn.
-    fields: Vec<Field>,
-    drawn: Vec<Field>,
-    /// Whether enough values are looked at for each parameter that is counted.
-    is_enough: bool,
+    fields: Vec<Sampled>,
+    /// The places whose values are looked at on every card of each turn, as bits.
+    wanted: [u32; HALVINGS + 1],
+    /// The highest lot of a card that is looked at.
+    highest_lot: u64,
     seen: Vec<bool>,
     records: Vec<u32>,
     /// The runs of cards whose record numbers rise, and whether there is a piece in which they do not.
     risen: Vec<Risen>,
     falls: bool,
+}
+
+/// A field by the turns of the cards that are looked at for it: those before some turn no longer are.
+#[derive(Clone, Default)]
+struct Sampled {
+    by_turn: [Field; HALVINGS + 1],
+    from: usize,
+    /// How many values there are from that turn on.
+    values: u64,
+}
+
+impl Sampled {
+    /// Whether a turn more can be left out.
+    fn has_enough(&self) -> bool {
+        self.values > ENOUGH && self.from < HALVINGS
+    }
+
+    /// Leaves out the turns that there are enough values without, and those before one that is given.
+    fn thin(&mut self, from: usize) {
+        while self.from < from || self.has_enough() {
+            self.values -= std::mem::take(&mut self.by_turn[self.from]).values;
+            self.from += 1;
+        }
+    }
+
+    /// Adds what another processor has counted, which may have left out fewer turns. None leaves out one that all values together would
+    /// not: so the same turns are left in every run.
+    fn add(&mut self, other: Sampled) {
+        self.from = self.from.max(other.from);
+        self.by_turn.iter_mut().zip(other.by_turn).for_each(|(field, more)| field.add(more));
+        self.by_turn[..self.from].fill(Field::default());
+        self.values = self.by_turn.iter().map(|field| field.values).sum();
+    }
+
+    /// The field by all cards that are looked at.
+    fn field(self) -> Field {
+        let mut sum = Field { is_sample: self.from > 0, ..Field::default() };
+        self.by_turn.into_iter().for_each(|field| sum.add(field));
+        sum
+    }
 }
 
 /// A run of cards whose record numbers rise: their indexes, and the first and the last number.
@@ -259,8 +311,10 @@ pub struct Counter<'a> {
     sheet: &'a Sheet,
     asked: Vec<Asked>,
     watched: Vec<Vec<u8>>,
-    /// Whether of many values only some are looked at.
+    /// Whether of many values only some are looked at, and from which turn on some processor looks at them, by parameter: with what it has
+    /// the turns before would be left out at the end, so that the others leave them out too.
     is_quick: bool,
+    from: Vec<AtomicUsize>,
 }
 
 impl<'a> Counter<'a> {
@@ -273,7 +327,9 @@ impl<'a> Counter<'a> {
             let watched = (0..watched.len()).filter(|&number| watched[number].0 == place).collect();
             asked[place] = Asked { counts: true, word, doubtful, watched };
         }
-        Counter { sheet, asked, watched: watched.iter().map(|(_, value)| value.clone()).collect(), is_quick: false }
+        let from = asked.iter().map(|_| AtomicUsize::new(0)).collect();
+        let watched = watched.iter().map(|(_, value)| value.clone()).collect();
+        Counter { sheet, asked, watched, is_quick: false, from }
     }
 
     /// The same counter, for where a list has to come quickly.
@@ -314,54 +370,87 @@ impl<'a> Counter<'a> {
 
     /// Counts the cards of a piece.
     pub fn count(&self, tally: &mut Tally, first: u64, piece: &[u8]) {
-        tally.fields.resize_with(self.asked.len(), Field::default);
-        tally.drawn.resize_with(self.asked.len(), Field::default);
-        tally.seen.resize(self.watched.len(), false);
+        if tally.fields.is_empty() {
+            tally.fields = vec![Sampled::default(); self.asked.len()];
+            tally.seen = vec![false; self.watched.len()];
+            self.note_wanted(tally);
+        }
+        if tally.fields.iter().zip(&self.from).any(|(field, from)| field.from < from.load(Ordering::Relaxed)) {
+            self.thin(tally);
+        }
         let start = tally.records.len();
-        tally.records.extend(piece.chunks_exact(SIZE).map(block::record));
+        let (cards, _) = piece.as_chunks::<SIZE>();
+        tally.records.extend(cards.iter().map(record));
         tally.note_order(first, start);
-        for (card, index) in piece.chunks_exact(SIZE).zip(first..) {
-            let is_drawn = self.is_quick && is_drawn(index);
-            // Letters beyond ASCII may be in another encoding.
-            if is_drawn || !tally.is_enough || !self.watched.is_empty() || !is_ascii(card) {
-                self.count_card(tally, index, card, is_drawn);
+        let mut lot = lot_of(first);
+        for (card, index) in cards.iter().zip(first..) {
+            // Of a long file nearly all cards are passed over here.
+            if lot <= tally.highest_lot {
+                let turn = if self.is_quick { turn(lot) } else { 0 };
+                if has_any(card, tally.wanted[turn]) {
+                    self.count_card(tally, index, card, turn);
+                }
             }
+            lot = lot.wrapping_add(LOT);
         }
     }
 
     /// Counts a card. An entry of a card that does not fit may be of no parameter, and is passed over.
-    fn count_card(&self, tally: &mut Tally, index: u64, card: &[u8], is_drawn: bool) {
-        let mut seen = 0_u32;
+    fn count_card(&self, tally: &mut Tally, index: u64, card: &[u8; SIZE], turn: usize) {
+        let (mut seen, mut changes) = (0_u32, false);
         for item in block::items(card) {
             let place = usize::from(item.byte);
             let Some(asked) = self.asked.get(place).filter(|asked| asked.counts) else { continue };
             let is_new = seen & 1 << place == 0;
             seen |= 1 << place;
-            let field = &mut tally.fields[place];
-            if !self.is_quick || field.values <= ENOUGH {
+            let sampled = &mut tally.fields[place];
+            if turn >= sampled.from {
+                let field = &mut sampled.by_turn[turn];
                 count_value(field, asked, index, item.text, is_new);
+                if let Some(why) = Some(item.text).filter(|text| !text.is_ascii()).and_then(text::other_encoding) {
+                    field.strange += 1;
+                    field.first_strange.get_or_insert((index, record(card), why));
+                }
+                sampled.values += 1;
+                changes |= sampled.has_enough();
             }
-            if is_drawn {
-                count_value(&mut tally.drawn[place], asked, index, item.text, is_new);
-            }
-            if let Some(why) = Some(item.text).filter(|text| !text.is_ascii()).and_then(text::other_encoding) {
-                field.strange += 1;
-                field.first_strange.get_or_insert((index, block::record(card), why));
-            }
-            for &number in &asked.watched {
-                tally.seen[number] |= is_value(asked.word, item.text, &self.watched[number]);
+            for &number in
+                asked.watched.iter().filter(|&&number| is_value(asked.word, item.text, &self.watched[number]))
+            {
+                changes |= !tally.seen[number];
+                tally.seen[number] = true;
             }
         }
-        let is_enough = |(field, asked): (&Field, &Asked)| field.values > ENOUGH || !asked.counts;
-        if self.is_quick && !tally.is_enough {
-            tally.is_enough = tally.fields.iter().zip(&self.asked).all(is_enough);
+        if self.is_quick && changes {
+            self.thin(tally);
         }
+    }
+
+    /// Leaves out the turns that there are enough values without.
+    fn thin(&self, tally: &mut Tally) {
+        for (field, from) in tally.fields.iter_mut().zip(&self.from) {
+            field.thin(from.load(Ordering::Relaxed));
+            from.fetch_max(field.from, Ordering::Relaxed);
+        }
+        self.note_wanted(tally);
+    }
+
+    /// Notes which places are to be looked at on cards of each turn: those that have not enough values without it, and those of watched
+    /// values that are not seen yet.
+    fn note_wanted(&self, tally: &mut Tally) {
+        let Tally { fields, seen, wanted, highest_lot, .. } = tally;
+        for (turn, wanted) in wanted.iter_mut().enumerate() {
+            let is_wanted = |(place, asked): &(usize, &Asked)| {
+                asked.counts && (fields[*place].from <= turn || asked.watched.iter().any(|&number| !seen[number]))
+            };
+            *wanted = self.asked.iter().enumerate().filter(is_wanted).fold(0, |bits, (place, _)| bits | 1 << place);
+        }
+        *highest_lot = u64::MAX >> wanted.iter().take_while(|wanted| self.is_quick && **wanted == 0).count();
     }
 
     /// What all processors have counted.
     pub fn sum(&self, tallies: Vec<Tally>) -> Held {
-        let mut fields = vec![Field::default(); self.asked.len()];
-        let mut drawn = fields.clone();
+        let mut fields = vec![Sampled::default(); self.asked.len()];
         let mut seen = vec![false; self.watched.len()];
         let (mut records, mut risen, mut falls) = (Vec::new(), Vec::new(), false);
         for tally in tallies {
@@ -369,22 +458,16 @@ impl<'a> Counter<'a> {
             risen.extend(tally.risen);
             falls |= tally.falls;
             fields.iter_mut().zip(tally.fields).for_each(|(field, more)| field.add(more));
-            drawn.iter_mut().zip(tally.drawn).for_each(|(field, more)| field.add(more));
             seen.iter_mut().zip(tally.seen).for_each(|(seen, more)| *seen |= more);
         }
-        let fields = fields.into_iter().zip(drawn).map(|(field, drawn)| self.sampled(field, drawn)).collect();
+        if self.is_quick {
+            for field in &mut fields {
+                field.thin(0);
+            }
+        }
         let cards = records.iter().map(|records| records.len() as u64).sum();
         let repeated = if rises(risen, falls) { Vec::new() } else { repeated(records.concat()) };
-        Held { cards, fields, repeated, seen }
-    }
-
-    /// A field by all its values, or by those of the cards that are drawn: which were looked at before there were enough differs
-    /// from run to run.
-    fn sampled(&self, field: Field, drawn: Field) -> Field {
-        if !self.is_quick || field.values <= ENOUGH {
-            return field;
-        }
-        Field { is_sample: true, strange: field.strange, first_strange: field.first_strange, ..drawn }
+        Held { cards, fields: fields.into_iter().map(Sampled::field).collect(), repeated, seen }
     }
 }
 
@@ -419,26 +502,52 @@ fn repeated(mut records: Vec<u32>) -> Vec<(u32, u64)> {
     runs.map(|run| (run[0], run.len() as u64)).collect()
 }
 
-/// Whether all bytes of a card between its head and its check sum are ASCII: so are its texts then. Most of them are taken
-/// together, sixteen at a time, and those at the ends eight at a time.
-fn is_ascii(card: &[u8]) -> bool {
-    const HIGH_BITS: u64 = 0x8080_8080_8080_8080;
-    let eight = |at: usize| u64::from_ne_bytes(card[at..at + 8].try_into().expect("eight bytes"));
-    let (first, last) = (block::CARD_HEAD, block::SUMMED - 8);
-    let ends = eight(first) | eight(first + 2) | eight(last - 4) | eight(last);
-    card[first + 10..last - 4].iter().fold(0, |sum, byte| sum | byte) < 0x80 && ends & HIGH_BITS == 0
+/// Whether a card has a text under one of some places, which are bits. A field that few cards have is looked for on all of them, so that
+/// this goes from length to length and looks at nothing else.
+fn has_any(card: &[u8; SIZE], places: u32) -> bool {
+    if block::is_marked(card) { has_any_behind::<3>(card, places) } else { has_any_behind::<2>(card, places) }
 }
 
-/// Whether a card is drawn: as good as by lot, and the same in every run.
-fn is_drawn(index: u64) -> bool {
-    index.wrapping_mul(0x9E37_79B9_7F4A_7C15) < u64::MAX / ONE_IN
+/// The same, where a text has so many bytes before it: its place first, its length last. A card at fault may say that it goes on behind
+/// its end.
+fn has_any_behind<const HEAD: usize>(card: &[u8; SIZE], places: u32) -> bool {
+    let mut at = block::CARD_HEAD;
+    for _ in 0..card[block::CARD_HEAD - 1] {
+        if at + HEAD > SIZE {
+            return false;
+        }
+        if places >> (card[at] % 32) & 1 == 1 {
+            return true;
+        }
+        at += HEAD + usize::from(card[at + HEAD - 1]);
+    }
+    false
+}
+
+/// What the lots of two cards in a row differ by.
+const LOT: u64 = 0x9E37_79B9_7F4A_7C15;
+
+/// The lot of a card, by its index: as good as drawn, and the same in every run.
+fn lot_of(index: u64) -> u64 {
+    index.wrapping_mul(LOT)
+}
+
+/// The turn of a card by its lot: half of the cards have turn 0, half of the others 1, and so on up to the last.
+fn turn(lot: u64) -> usize {
+    const LAST: u64 = 1 << (63 - HALVINGS);
+    (lot | LAST).leading_zeros() as usize
+}
+
+/// The record number of a card. It is read from its bytes: to ask the library of every card would take longer than all else here.
+pub fn record(card: &[u8; SIZE]) -> u32 {
+    u32::from_le_bytes([card[1], card[2], card[3], card[4]])
 }
 
 /// Counts a value, and what it looks like; its card too, where it is the card's first.
 fn count_value(field: &mut Field, asked: &Asked, index: u64, value: &[u8], is_new: bool) {
     field.cards += u64::from(is_new);
     field.values += 1;
-    field.example.get_or_insert_with(|| (index, value.to_vec()));
+    field.examples.take(index, value);
     if asked.doubtful.is_empty() {
         return;
     }

@@ -12,8 +12,9 @@ use crate::text::printable;
 struct Verdict {
     text: Vec<u8>,
     says: bool,
-    /// Its answer with the values that it goes by.
+    /// Its answer with the values that it goes by, and these, where it is an alternative.
     told: String,
+    values: Option<Vec<Vec<u8>>>,
 }
 
 /// A pair with its alternatives.
@@ -31,12 +32,13 @@ pub fn of_card(question: &Question, asked: &[Asked], card: &[u8]) -> Vec<PairVer
         let text = question.text[pair.whole.clone()].to_vec();
         let alternatives = asked.by_ref().take(pair.alternatives.len()).map(|asked| {
             let says = says(&asked.alone);
-            Verdict { text: asked.alone.clone(), says, told: explain::told(question, asked, says, card) }
+            let values = Some(explain::went_by(question, asked, says, card));
+            Verdict { text: asked.alone.clone(), says, told: explain::told(question, asked, says, card), values }
         });
         let alternatives: Vec<Verdict> = alternatives.collect();
         let says = says(&text);
         let told = if says { "yes" } else { "no" }.to_string();
-        PairVerdict { pair: Verdict { text, says, told }, alternatives }
+        PairVerdict { pair: Verdict { text, says, told, values: None }, alternatives }
     });
     pairs.collect()
 }
@@ -57,8 +59,9 @@ pub fn lines(verdicts: &[PairVerdict]) -> String {
 pub fn json(verdicts: &[PairVerdict]) -> String {
     let object = |name: &'static str, verdict: &Verdict, rest: Option<String>| {
         let pairs = [(name, json::bytes(&verdict.text)), ("says", verdict.says.to_string())];
+        let values = verdict.values.as_ref().map(|values| ("values", explain::values_json(values)));
         let rest = rest.map(|rest| ("alternatives", rest));
-        json::object(&pairs.into_iter().chain(rest).collect::<Vec<(&str, String)>>())
+        json::object(&pairs.into_iter().chain(values).chain(rest).collect::<Vec<(&str, String)>>())
     };
     let pair = |verdict: &PairVerdict| {
         let alternatives: Vec<String> =

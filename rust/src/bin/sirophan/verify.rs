@@ -4,7 +4,7 @@ use crate::advice::{self, Question, Words};
 use crate::arguments::Arguments;
 use crate::block::{self, SIZE};
 use crate::cards::{self, AtFault, Fit, RUN};
-use crate::description::{Cards, Description, Faults};
+use crate::description::{Cards, Faults};
 use crate::field_doubt;
 use crate::input::{self, Input};
 use crate::json;
@@ -32,21 +32,21 @@ pub fn run(arguments: &Arguments) -> Result<(), Failure> {
     let folder = &arguments.paths[0];
     let there = |name: &str| Path::new(&path_in(folder, name)).exists();
     let mut found = Vec::new();
-    let described = if there("sheet.txt") && there("cards.txt") {
+    let described = if there("sheet.txt") && (there("cards.txt") || there("cards.csv")) {
         let (told, sheet) = description(arguments, folder)?;
-        found.push((told, "cards.txt", sheet.clone()));
+        found.push((told, pack::cards_path(folder)?, sheet.clone()));
         Some(sheet)
     } else {
         None
     };
     if found.is_empty() || there("sheet.bin") || there("cards.bin") {
         let (told, packed) = blocks(folder)?;
-        found.push((told, "cards.bin", packed.clone()));
+        found.push((told, path_in(folder, "cards.bin"), packed.clone()));
         described.map_or(Ok(()), |described| compare(folder, &described, &packed))?;
     }
     // Both hold the same, and so one of them is doubted.
     let warnings = found.last().map_or_else(Vec::new, |(found, cards, sheet)| {
-        let mut warnings = field_doubt::of_cards(&path_in(folder, cards), &found.held, |_| true);
+        let mut warnings = field_doubt::of_cards(cards, &found.held, |_| true);
         warnings.extend(field_doubt::of_fields(sheet, &found.held, 0..found.held.fields.len()));
         warnings
     });
@@ -86,7 +86,7 @@ fn description(arguments: &Arguments, folder: &str) -> Result<(Found, Sheet), Fa
     let filter = pack::read_filter(&name)?;
     arguments.say(filter.iter().flat_map(|filter| &filter.notes));
     let sheet = pack::read_sheet(arguments, folder)?;
-    let mut cards = Cards::new(Description::open(&path_in(folder, "cards.txt"))?, &sheet);
+    let mut cards = Cards::open(&pack::cards_path(folder)?, &sheet)?;
     let counter = Counter::of_all(&sheet);
     let mut tally = Tally::default();
     while let Some(card) = cards.next()? {
@@ -146,8 +146,8 @@ fn compare(folder: &str, described: &Sheet, packed: &Sheet) -> Result<(), Failur
     if described.parameters != packed.parameters {
         return differs(format!("{sheet_name} is not the sheet that {sheet_text} describes."));
     }
-    let [cards_text, cards_name] = ["cards.txt", "cards.bin"].map(|name| path_in(folder, name));
-    let mut cards = Cards::new(Description::open(&cards_text)?, described);
+    let (cards_text, cards_name) = (pack::cards_path(folder)?, path_in(folder, "cards.bin"));
+    let mut cards = Cards::open(&cards_text, described)?;
     let mut blocks = Input::open(&cards_name)?;
     let mut packed = [0; SIZE];
     while let Some(card) = cards.next()? {
