@@ -128,6 +128,7 @@ impl<'a> Book<'a> {
                 }
                 Part::Operations(names) => self.write_contracts(&mut text, names),
                 Part::Statements(names) => self.write_statements(&mut text, names),
+                Part::Ties if self.ties.is_empty() => text.push_str("There are none.\n"),
                 Part::Ties => {
                     let names: Vec<&str> = self.ties.iter().map(|promise| promise.name.as_str()).collect();
                     self.write_statements(&mut text, &names);
@@ -157,7 +158,7 @@ impl<'a> Book<'a> {
         let wanted = self.contracts.iter().filter(|contract| names.contains(&contract.name.as_str()));
         let quotes = wanted.clone().map(|contract| quote::function(self.library.repository, contract));
         let files: BTreeSet<&str> = wanted.map(|contract| contract.file.as_str()).collect();
-        write_quote(text, &listed(quotes, "\n"), files);
+        write_quote(text, &listed(quotes, "\n"), &files);
     }
 
     fn write_statements(&self, text: &mut String, names: &[&str]) {
@@ -166,7 +167,7 @@ impl<'a> Book<'a> {
             let here: Vec<&str> =
                 wanted().filter(|promise| promise.file == *file).map(|promise| promise.name.as_str()).collect();
             if !here.is_empty() {
-                write_quote(text, &quote::statements(self.library.repository, file, here), [*file].into());
+                write_quote(text, &quote::statements(self.library.repository, file, here), &[*file].into());
             }
         }
     }
@@ -217,7 +218,9 @@ impl<'a> Library<'a> {
             let mut headings: Vec<&str> = self.promises.iter().map(|promise| promise.heading.as_str()).collect();
             headings.dedup();
             let headings = listed(headings.iter().map(|heading| format!("  {heading}")), "\n");
-            return Err(format!("no statement is called {words}, and no heading of the promises has it. These are:\n{headings}"));
+            return Err(format!(
+                "no statement is called {words}, and no heading of the promises has it. These are:\n{headings}"
+            ));
         }
         Ok(include_str!("../one.md").replace("NAMES", &names.join(" ")).replace("WORDS", words))
     }
@@ -229,7 +232,7 @@ fn write_chapters(text: &mut String, chapters: &Chapters, places: &Places) -> Re
 }
 
 /// A quote, with links to its files behind it.
-fn write_quote(text: &mut String, quote: &str, files: BTreeSet<&str>) {
+fn write_quote(text: &mut String, quote: &str, files: &BTreeSet<&str>) {
     let links = listed(files.iter().map(|file| format!("[{file}](../{file})")), ", ");
     let _ = writeln!(text, "```\n{quote}```\n{links}");
 }

@@ -116,6 +116,7 @@ impl<'a> Chapters<'a> {
 pub fn index(places: &Places) -> String {
     let mut names: Vec<_> = places.iter().collect();
     names.sort_by_key(|(id, _)| (id.name.to_lowercase(), &id.name, &id.file));
-    let entry = |(id, (anchor, chapter)): (&&Id, &(String, String))| format!("{} [{chapter}](#{anchor})", quoted(&id.name));
+    let entry =
+        |(id, (anchor, chapter)): (&&Id, &(String, String))| format!("{} [{chapter}](#{anchor})", quoted(&id.name));
     listed(names.into_iter().map(entry), ",\n") + ".\n"
 }

@@ -21,7 +21,8 @@ pub fn contract(
     let files = repository.files().iter().filter(|(file, _)| here(file));
     let found: Vec<_> = files.filter_map(|(file, text)| Some((file, text, lines(text, name)?))).collect();
     let [(file, text, lines)] = found.as_slice() else {
-        let what = format!("{} public functions {name} are in the crates with promises, and there has to be one", found.len());
+        let what =
+            format!("{} public functions {name} are in the crates with promises, and there has to be one", found.len());
         return Err(Fault::new(promises.first().unwrap_or(&""), 0, what));
     };
     let names = names(repository, file, text, lines)?;
