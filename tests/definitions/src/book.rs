@@ -162,13 +162,16 @@ impl<'a> Book<'a> {
     }
 
     fn write_statements(&self, text: &mut String, names: &[&str]) {
-        let wanted = || self.library.promises.iter().filter(|promise| names.contains(&promise.name.as_str()));
-        for file in self.library.files {
-            let here: Vec<&str> =
-                wanted().filter(|promise| promise.file == *file).map(|promise| promise.name.as_str()).collect();
-            if !here.is_empty() {
-                write_quote(text, &quote::statements(self.library.repository, file, here), &[*file].into());
+        let wanted = |file: &str| {
+            let here = self.library.promises.iter().filter(move |promise| promise.file == file);
+            here.map(|promise| promise.name.as_str()).filter(|name| names.contains(name)).collect::<Vec<_>>()
+        };
+        let by_file = self.library.files.iter().map(|file| (*file, wanted(file)));
+        for (place, (file, names)) in by_file.filter(|(_, names)| !names.is_empty()).enumerate() {
+            if place > 0 {
+                text.push('\n');
             }
+            write_quote(text, &quote::statements(self.library.repository, file, names), &[file].into());
         }
     }
 

@@ -7,6 +7,9 @@ use crate::repository::{Id, Repository, Target};
 use std::collections::{BTreeMap, BTreeSet};
 use std::fmt::Write;
 
+/// How wide a line is made.
+const WIDTH: usize = 170;
+
 /// Where each definition of a book stands: what to link to, and how the chapter is called.
 pub type Places<'a> = BTreeMap<&'a Id, (String, String)>;
 
@@ -108,7 +111,7 @@ impl<'a> Chapters<'a> {
             .iter()
             .map(|(link, names)| format!("{link} {}", listed(names.iter().map(|name| quoted(name)), ", ")))
             .collect();
-        Ok(if groups.is_empty() { String::new() } else { format!("From {}.\n\n", groups.join("; ")) })
+        Ok(if groups.is_empty() { String::new() } else { format!("From {}.\n\n", filled(&groups, ";")) })
     }
 }
 
@@ -118,5 +121,21 @@ pub fn index(places: &Places) -> String {
     names.sort_by_key(|(id, _)| (id.name.to_lowercase(), &id.name, &id.file));
     let entry =
         |(id, (anchor, chapter)): (&&Id, &(String, String))| format!("{} [{chapter}](#{anchor})", quoted(&id.name));
-    listed(names.into_iter().map(entry), ",\n") + ".\n"
+    filled(&names.into_iter().map(entry).collect::<Vec<_>>(), ",") + ".\n"
+}
+
+/// Words one behind the other with a mark between, in lines that are not wider than the page.
+fn filled(words: &[String], mark: &str) -> String {
+    let mut text = String::new();
+    let mut room = WIDTH;
+    for (place, word) in words.iter().enumerate() {
+        let size = word.chars().count() + mark.len() + 1;
+        if place > 0 {
+            text.push_str(mark);
+            text.push(if size > room { '\n' } else { ' ' });
+        }
+        room = if size > room { WIDTH } else { room }.saturating_sub(size);
+        text.push_str(word);
+    }
+    text
 }
