@@ -4,15 +4,22 @@
 //! - `source`: a file's imports and definitions; `words`: the names in a definition, and those that it binds;
 //! - `repository`: what a name refers to; `reach`: all that stands behind a statement;
 //! - `twins`: the definitions that a promise makes it needless to believe;
-//! - `page`: the page made of it.
+//! - `page`: the page docs/DEFINITIONS.md, which lists them;
+//! - `book`: docs/BOOK.md, which has them word for word, by `template`; `operations`: the code's contracts; `quote`: parts of files;
+//!   `chapters`: the order in which they are read.
 //!
 //! Files are read as text, and what cannot be read or resolved is an error with its line: nothing is left out silently.
 
+pub mod book;
+pub mod chapters;
 pub mod files;
+pub mod operations;
 pub mod page;
+pub mod quote;
 pub mod reach;
 pub mod repository;
 pub mod source;
+pub mod template;
 pub mod twins;
 pub mod words;
 

@@ -118,17 +118,17 @@ fn by_file<'a>(ids: impl Iterator<Item = &'a Id>) -> BTreeMap<&'a str, BTreeSet<
     files
 }
 
-fn listed(words: impl Iterator<Item = String>, between: &str) -> String {
+pub fn listed(words: impl Iterator<Item = String>, between: &str) -> String {
     words.collect::<Vec<_>>().join(between)
 }
 
 /// A name as it stands in a table: a bar would end the cell.
-fn quoted(name: &str) -> String {
+pub fn quoted(name: &str) -> String {
     format!("`{}`", name.replace('|', "\\|"))
 }
 
 /// `crates/refusal/specs/Order.antt` as `refusal/Order`.
-fn short(file: &str) -> String {
+pub fn short(file: &str) -> String {
     let parts: Vec<&str> = file.split('/').collect();
     match parts.as_slice() {
         [_, folder, _, name] => format!("{folder}/{}", name.split('.').next().unwrap_or(name)),

@@ -9,6 +9,8 @@ use std::collections::BTreeSet;
 #[derive(Debug)]
 pub struct Promise {
     pub name: String,
+    /// The file that it stands in.
+    pub file: String,
     /// The heading that it stands under.
     pub heading: String,
     /// What its own text names.
@@ -33,16 +35,7 @@ pub fn promises(repository: &Repository, files: &[&str], twins: &[Twin]) -> Resu
     for (file, definition) in statements {
         let statement = Id { file: file.into(), name: definition.name.clone() };
         let names = repository.statement_references(&statement)?;
-        let mut promise = Promise {
-            name: definition.name.clone(),
-            heading: definition.heading.clone(),
-            names: names.clone(),
-            behind: BTreeSet::new(),
-            kit: BTreeSet::new(),
-            twins: BTreeSet::new(),
-        };
-        promise.follow(repository, names, &ids)?;
-        promises.push(promise);
+        promises.push(Promise::of(repository, statement, &definition.heading, names, &ids)?);
     }
     for twin in twins {
         check_twin(repository, &promises, twin)?;
@@ -51,6 +44,27 @@ pub fn promises(repository: &Repository, files: &[&str], twins: &[Twin]) -> Resu
 }
 
 impl Promise {
+    /// A promise with the names in its text.
+    pub fn of(
+        repository: &Repository,
+        id: Id,
+        heading: &str,
+        names: BTreeSet<Target>,
+        twins: &BTreeSet<Id>,
+    ) -> Result<Promise, Fault> {
+        let mut promise = Promise {
+            name: id.name,
+            file: id.file,
+            heading: heading.into(),
+            names: names.clone(),
+            behind: BTreeSet::new(),
+            kit: BTreeSet::new(),
+            twins: BTreeSet::new(),
+        };
+        promise.follow(repository, names, twins)?;
+        Ok(promise)
+    }
+
     /// Adds all that is behind these.
     fn follow(&mut self, repository: &Repository, names: BTreeSet<Target>, twins: &BTreeSet<Id>) -> Result<(), Fault> {
         let mut left: Vec<Target> = names.into_iter().collect();

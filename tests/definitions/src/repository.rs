@@ -3,7 +3,7 @@
 use crate::Fault;
 use crate::files::Files;
 use crate::source::{Definition, Source, is_called};
-use crate::words;
+use crate::words::{self, Word};
 use std::collections::{BTreeMap, BTreeSet};
 
 /// Words of the language, and names that every file has without an import. Others that a statement comes to use go here.
@@ -74,6 +74,11 @@ impl Repository {
         self.sources.get(file)
     }
 
+    /// The files with the texts, by their paths.
+    pub fn files(&self) -> &Files {
+        &self.files
+    }
+
     /// The definition, unless it is a type of the code.
     pub fn definition(&self, id: &Id) -> Option<&Definition> {
         self.source(&id.file)?.definition(&id.name)
@@ -87,10 +92,26 @@ impl Repository {
         }
     }
 
+    /// The number of its first line.
+    pub fn line(&self, id: &Id) -> usize {
+        match self.definition(id) {
+            Some(definition) => definition.line,
+            None => self.type_of(&id.file, &id.name).map_or(0, |lines| lines[0].0),
+        }
+    }
+
     /// What a definition refers to.
     pub fn references(&self, id: &Id) -> Result<BTreeSet<Target>, Fault> {
+        Ok(self.names(id)?.into_iter().map(|(_, target)| target).collect())
+    }
+
+    /// The names in a definition that refer to something, as they are written and in their order, and what they refer to.
+    pub fn names(&self, id: &Id) -> Result<Vec<(String, Target)>, Fault> {
         match self.source(&id.file).zip(self.definition(id)) {
-            Some((source, definition)) => self.named(source, definition, &definition.equations),
+            Some((source, definition)) => {
+                let named = self.named(source, definition, &definition.equations)?;
+                Ok(named.into_iter().map(|(word, target)| (word.text, target)).collect())
+            }
             None => self.type_references(id),
         }
     }
@@ -98,7 +119,9 @@ impl Repository {
     /// What a statement refers to: its type, without its proof.
     pub fn statement_references(&self, id: &Id) -> Result<BTreeSet<Target>, Fault> {
         match self.source(&id.file).zip(self.definition(id)) {
-            Some((source, definition)) => self.named(source, definition, &[]),
+            Some((source, definition)) => {
+                Ok(self.named(source, definition, &[])?.into_iter().map(|(_, target)| target).collect())
+            }
             None => Err(Fault::new(&id.file, 0, format!("there is no statement {}", id.name))),
         }
     }
@@ -110,8 +133,8 @@ impl Repository {
         source: &Source,
         definition: &Definition,
         equations: &[(usize, String)],
-    ) -> Result<BTreeSet<Target>, Fault> {
-        let mut found = BTreeSet::new();
+    ) -> Result<Vec<(Word, Target)>, Fault> {
+        let mut found = Vec::new();
         for (word, bound) in words::names(&definition.signature, equations) {
             let name = word.text.as_str();
             let itself = definition.is_called(name) || definition.constructors.iter().any(|own| is_called(own, name));
@@ -119,9 +142,7 @@ impl Repository {
                 continue;
             }
             match self.resolve(source, word.line, name)? {
-                Some(target) => {
-                    found.insert(target);
-                }
+                Some(target) => found.push((word, target)),
                 None if bound => {}
                 None => {
                     let what = format!("{name} in {} is not imported, defined here or bound", definition.name);
@@ -138,19 +159,20 @@ impl Repository {
             return Ok(Some(own(&source.file, &definition.name)));
         }
         if let Some((module, theirs)) = imported(source, name) {
-            return self.lookup(source, line, module, theirs).map(Some);
+            return self.lookup(&source.file, line, module, theirs).map(Some);
         }
         // A name behind that of a module, or behind that of its type.
         let Some((before, behind)) = name.split_once('.') else { return Ok(None) };
         if let Some(module) = source.modules.get(before) {
-            return self.lookup(source, line, module, behind).map(Some);
+            return self.lookup(&source.file, line, module, behind).map(Some);
         }
         self.resolve(source, line, before)
     }
 
-    /// A name in a module, which is called `Rattle.CRATE.ROOM.FILE`, or `Rattle·CRATE·ROOM.ROOM.FILE` in its own crate.
-    fn lookup(&self, source: &Source, line: usize, module: &str, name: &str) -> Result<Target, Fault> {
-        let fault = |what: String| Fault::new(&source.file, line, what);
+    /// A name in a module, which is called `Rattle.CRATE.ROOM.FILE`, or `Rattle·CRATE·ROOM.ROOM.FILE` in its own crate;
+    /// it stands in a line of the file `from`.
+    pub fn lookup(&self, from: &str, line: usize, module: &str, name: &str) -> Result<Target, Fault> {
+        let fault = |what: String| Fault::new(from, line, what);
         let Some(path) = module.strip_prefix("Rattle·") else {
             return Ok(Target::Kit { module: module.into(), name: name.into() });
         };
@@ -183,7 +205,7 @@ impl Repository {
     }
 
     /// The lines of a type of the code, comments left out.
-    fn type_of(&self, file: &str, name: &str) -> Option<Vec<(usize, String)>> {
+    pub fn type_of(&self, file: &str, name: &str) -> Option<Vec<(usize, String)>> {
         let begins = |line: &str| {
             let mut words = line.split_whitespace().skip_while(|word| *word == "pub");
             matches!(words.next(), Some("struct" | "enum")) && words.next() == Some(name)
@@ -215,8 +237,8 @@ impl Repository {
     }
 
     /// The types that a type of the code has inside: what stands in brackets or behind a colon.
-    fn type_references(&self, id: &Id) -> Result<BTreeSet<Target>, Fault> {
-        let mut found = BTreeSet::new();
+    fn type_references(&self, id: &Id) -> Result<Vec<(String, Target)>, Fault> {
+        let mut found = Vec::new();
         for (number, line) in self.type_of(&id.file, &id.name).unwrap_or_default().iter().skip(1) {
             let Some(place) = line.find([':', '(']) else { continue };
             // a word with a colon behind it is a field's name
@@ -230,7 +252,7 @@ impl Repository {
                     );
                     return Err(Fault::new(&id.file, *number, what));
                 };
-                found.insert(own(&file, name));
+                found.push((name.into(), own(&file, name)));
             }
         }
         Ok(found)
