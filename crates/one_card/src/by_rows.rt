@@ -74,6 +74,50 @@ pub fn judge_by_rows(
     }
 }
 
+// The same of one card alone: the lists are lent for it.
+fn judge_opened(
+    kinds: &[u8],
+    filter: &[u8],
+    rows: &[u32],
+    values: &[u64],
+    ends: &[i64],
+    card: &[u8],
+) -> CardVerdict
+    requires { ⌜ length (now kinds) ≡ 32 ⌝ }
+    requires { ⌜ length (now filter) ≤ 1024 ⌝ }
+    requires { ⌜ Whole (now rows) ⌝ }
+    requires { ⌜ Opens (now kinds) (now filter) (now rows) (now values) (now ends) (length (now rows)) ⌝ }
+    ensures { λ r. ⌜ ((ps : List Parameter) → now (kinds .entry) ≡ kindsOf ps → (i : ℕ) → verdictStep r i ≡ cardVerdict (cellsQuestion ps (now (filter .entry)) (now (rows .entry))) i (now (card .entry))) ⌝ }
+{
+    let mut cells = [0u64; 608];
+    let mut spans = [0i64; 128];
+    lend_for(kinds, rows, &mut cells, &spans);
+    judge_by_rows(
+        kinds,
+        filter,
+        rows,
+        values,
+        ends,
+        card,
+        &mut cells,
+        &mut spans,
+    )
+}
+
+// The same of a few rows that are opened for this card alone: their lists take less time to clear.
+fn judge_few(kinds: &[u8], filter: &[u8], rows: &[u32], card: &[u8]) -> CardVerdict
+    requires { ⌜ length (now kinds) ≡ 32 ⌝ }
+    requires { ⌜ length (now filter) ≤ 1024 ⌝ }
+    requires { ⌜ Whole (now rows) ⌝ }
+    requires { ⌜ length (now rows) ≤ 32 ⌝ }
+    ensures { λ r. ⌜ ((ps : List Parameter) → now (kinds .entry) ≡ kindsOf ps → (i : ℕ) → verdictStep r i ≡ cardVerdict (cellsQuestion ps (now (filter .entry)) (now (rows .entry))) i (now (card .entry))) ⌝ }
+{
+    let mut values = [0u64; 64];
+    let mut ends = [0i64; 64];
+    open_rows(kinds, filter, rows, &mut values, &mut ends);
+    judge_opened(kinds, filter, rows, &values, &ends, card)
+}
+
 // The same of rows that are opened for this card alone; good rows are that few.
 pub fn judge_once(kinds: &[u8], filter: &[u8], rows: &[u32], card: &[u8]) -> CardVerdict
     requires { ⌜ length (now kinds) ≡ 32 ⌝ }
@@ -82,20 +126,11 @@ pub fn judge_once(kinds: &[u8], filter: &[u8], rows: &[u32], card: &[u8]) -> Car
     requires { ⌜ length (now rows) ≤ 320 ⌝ }
     ensures { λ r. ⌜ ((ps : List Parameter) → now (kinds .entry) ≡ kindsOf ps → (i : ℕ) → verdictStep r i ≡ cardVerdict (cellsQuestion ps (now (filter .entry)) (now (rows .entry))) i (now (card .entry))) ⌝ }
 {
+    if rows.len() <= 32 {
+        return judge_few(kinds, filter, rows, card);
+    }
     let mut values = [0u64; 640];
     let mut ends = [0i64; 640];
     open_rows(kinds, filter, rows, &mut values, &mut ends);
-    let mut cells = [0u64; 608];
-    let mut spans = [0i64; 128];
-    lend_for(kinds, rows, &mut cells, &spans);
-    judge_by_rows(
-        kinds,
-        filter,
-        rows,
-        &values,
-        &ends,
-        card,
-        &mut cells,
-        &mut spans,
-    )
+    judge_opened(kinds, filter, rows, &values, &ends, card)
 }
