@@ -5,14 +5,14 @@ pub use list::write;
 use refusal::Refusal;
 
 // What check answers: the number of tests, or a refusal.
-#[derive(Drop)]
+#[derive(Clone, Copy)]
 pub enum Checked {
     Tests(usize),
     Refused(Refusal),
 }
 
 // What match answers.
-#[derive(Drop)]
+#[derive(Clone, Copy)]
 pub enum Matched {
     Yes,
     No,
@@ -20,21 +20,21 @@ pub enum Matched {
 }
 
 // What select answers: how many record numbers it has written into the list, or a refusal.
-#[derive(Drop)]
+#[derive(Clone, Copy)]
 pub enum Selected {
     Count(usize),
     Refused(Refusal),
 }
 
 // What prepare answers: how many cells of rows it has written into the list, or a refusal.
-#[derive(Drop)]
+#[derive(Clone, Copy)]
 pub enum Prepared {
     Cells(usize),
     Refused(Refusal),
 }
 
 // Which way a filter is judged: by its rows, or by its text, which is slower and shares no evaluation with the rows. Both answer the same.
-#[derive(Drop)]
+#[derive(Clone, Copy)]
 pub enum Engine {
     Rows,
     Text,

@@ -8,14 +8,14 @@ ghost use Rattle.block.specs.Seal.{HasSize};
 ghost use Rattle.block.specs.Items.{zeros};
 
 // The sums of a column: of its bytes, and of its bytes each times its row, counted from 0.
-#[derive(Drop)]
+#[derive(Clone, Copy)]
 struct Column {
     sum: u16,
     rows: u16,
 }
 
 // The sums of all columns.
-#[derive(Drop)]
+#[derive(Clone, Copy)]
 struct Columns {
     sums: [u16; 32],
     rows: [u16; 32],

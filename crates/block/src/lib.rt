@@ -11,7 +11,7 @@ pub use columns::check_sum;
 use columns::check_sum_to;
 
 // What the size and the check sum of a block are: both right, or which is wrong.
-#[derive(Drop)]
+#[derive(Clone, Copy)]
 pub enum Integrity {
     Sealed,
     WrongSize,
@@ -19,7 +19,7 @@ pub enum Integrity {
 }
 
 // What reading a sheet or a card answers.
-#[derive(Drop)]
+#[derive(Clone, Copy)]
 pub enum Validity {
     // 01: sound.
     WellFormed,
@@ -32,7 +32,7 @@ pub enum Validity {
 }
 
 // Where the items of a block end, and zeros follow to byte 507; or that they are not laid out so.
-#[derive(Drop)]
+#[derive(Clone, Copy)]
 pub enum Layout {
     EndsAt(usize),
     Wrong,
@@ -40,7 +40,7 @@ pub enum Layout {
 
 // An item: its first byte, its mark (0 in a block without marks), and where its text starts and ends. The next item starts
 // where the text ends.
-#[derive(Drop)]
+#[derive(Clone, Copy)]
 pub struct Item {
     pub tag: u8,
     pub mark: u8,

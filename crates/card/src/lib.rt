@@ -12,7 +12,7 @@ pub const FIRST_ENTRY: usize = 6;
 
 // An entry: the index of its parameter, the number of its occurrence (0 on a card without them), and where its text starts and
 // ends in the card. The next entry starts where the text ends.
-#[derive(Drop)]
+#[derive(Clone, Copy)]
 pub struct Entry {
     pub index: u8,
     pub occurrence: u8,

@@ -20,7 +20,7 @@ pub use listed::{chain_behind, chain_of, next_counting, occurrence_of, some_kept
 // What a text on a card reads to: whether it is readable as its kind; in which form it is kept, 0 by its bytes, 1 as a number, 2 as a span of
 // time; a number's digits and, as its unit, its decimals; a span's ends in seconds and, as its unit, 1 where the start is missing and 2 where
 // the end is.
-#[derive(Drop)]
+#[derive(Clone, Copy)]
 pub struct TextReading {
     pub fits: bool,
     pub form: u64,
@@ -31,7 +31,7 @@ pub struct TextReading {
 }
 
 // What a test asks of the texts under a parameter: its index, the test's meaning, and what the test's value reads to.
-#[derive(Drop)]
+#[derive(Clone, Copy)]
 pub struct Question {
     pub index: u8,
     pub meaning: Meaning,

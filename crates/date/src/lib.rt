@@ -7,14 +7,14 @@ mod seconds;
 pub use reader::{read, readable};
 
 // A date: the seconds from `start` up to but without `end`, counted from 1970-01-01T00:00:00Z and negative before it.
-#[derive(Drop)]
+#[derive(Clone, Copy)]
 pub struct Date {
     pub start: i64,
     pub end: i64,
 }
 
 // What a text reads to: a date, where it is readable as one.
-#[derive(Drop)]
+#[derive(Clone, Copy)]
 pub enum DateReading {
     Readable(Date),
     Unreadable,

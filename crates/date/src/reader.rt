@@ -7,7 +7,7 @@ ghost use Rattle.date.specs.Texts.{digitOf, pair, twoAt, fourAt, field_at, signe
 use crate::{DateReading, days, seconds};
 
 // What the end of a text reads to: the zone's offset in minutes, negative west of UTC.
-#[derive(Drop)]
+#[derive(Clone, Copy)]
 enum Zone {
     Offset(i64),
     Unreadable,

@@ -7,7 +7,7 @@ pub use sparing::spare;
 pub use verdicts::gather_verdicts;
 
 // The mark of a part of the rows, and the number of the test behind it.
-#[derive(Drop)]
+#[derive(Clone, Copy)]
 pub struct Marked {
     pub mark: u8,
     pub next: usize,

@@ -10,7 +10,7 @@ use syntax::scan::skip;
 
 // A position in the filter's text, how many brackets may still open around it, the byte that closes the one around it, and where
 // names are looked up: 0 at the top of the sheet, or a bundle's index plus 1.
-#[derive(Drop)]
+#[derive(Clone, Copy)]
 pub struct Spot {
     pub at: usize,
     pub levels: usize,
@@ -19,14 +19,14 @@ pub struct Spot {
 }
 
 // What reading gathers: the number of tests, and the first refusal among them.
-#[derive(Drop)]
+#[derive(Clone, Copy)]
 pub struct Summary {
     pub tests: usize,
     pub first: Decision,
 }
 
 // Where a filter or an item that was read ends, and what was gathered; or that there is none.
-#[derive(Drop)]
+#[derive(Clone, Copy)]
 pub enum Walked {
     Done(usize, Summary),
     Nothing,

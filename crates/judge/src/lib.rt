@@ -12,7 +12,7 @@ pub use values::{counts_read, readings_for};
 pub use verdicts::{says_of, some_says};
 
 // Which entries of a card count: all, or those of one occurrence.
-#[derive(Drop)]
+#[derive(Clone, Copy)]
 pub struct Chosen {
     pub all: bool,
     pub occurrence: u8,

@@ -11,7 +11,7 @@ pub use readable::{card_readable, is_true, value_readable};
 pub use relate::{dates_relate, numbers_relate, readings_of, relates_read, unread};
 
 // The relations of strings: same, holds it somewhere, at the start, at the end.
-#[derive(Drop)]
+#[derive(Clone, Copy)]
 pub enum StringRelation {
     Same,
     Contains,
@@ -20,7 +20,7 @@ pub enum StringRelation {
 }
 
 // The relations of numbers, the card's against the filter's.
-#[derive(Drop)]
+#[derive(Clone, Copy)]
 pub enum NumberRelation {
     Inside,
     Greater,
@@ -31,7 +31,7 @@ pub enum NumberRelation {
 }
 
 // The relations of a card's date or period and a filter's date.
-#[derive(Drop)]
+#[derive(Clone, Copy)]
 pub enum DateRelation {
     Inside,
     Later,
@@ -45,7 +45,7 @@ pub enum DateRelation {
 }
 
 // A relation of a card's text and a filter's value.
-#[derive(Drop)]
+#[derive(Clone, Copy)]
 pub enum Relation {
     Strings(StringRelation),
     Numbers(NumberRelation),
@@ -55,7 +55,7 @@ pub enum Relation {
 }
 
 // What a filter's value reads to as a number and as a date, where a relation asks for that.
-#[derive(Drop)]
+#[derive(Clone, Copy)]
 pub struct Readings {
     pub number: NumberReading,
     pub date: DateReading,
@@ -63,7 +63,7 @@ pub struct Readings {
 
 // What an operator means for a kind: whether there is a text at all; that some text stands in the relation, or that
 // some text does not; or nothing.
-#[derive(Drop)]
+#[derive(Clone, Copy)]
 pub enum Meaning {
     Present,
     Relates(Relation),

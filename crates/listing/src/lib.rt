@@ -9,7 +9,7 @@ pub use lines::{put_count, put_failure, put_lines, put_refusal, wide};
 pub use runs::{add_run, place_in_file};
 
 // What the runs so far come to.
-#[derive(Drop)]
+#[derive(Clone, Copy)]
 pub struct Totals {
     pub matches: u64,
     pub cards: u64,

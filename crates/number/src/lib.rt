@@ -8,14 +8,14 @@ ghost use Rattle.number.specs.Reading.{DigitText, valueFrom, readFraction, read,
 ghost use Rattle.number.specs.Billionths.{unit, billionths, inside};
 
 // A number as it is written: its digits as one integer, and how many of them are decimals.
-#[derive(Drop)]
+#[derive(Clone, Copy)]
 pub struct Decimal {
     pub digits: u64,
     pub decimals: usize,
 }
 
 // What a text reads to.
-#[derive(Drop)]
+#[derive(Clone, Copy)]
 pub enum NumberReading {
     Number(Decimal),
     Unreadable,

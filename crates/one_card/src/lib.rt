@@ -14,14 +14,14 @@ use judge::conforms;
 use refusal::{Reason, Refusal};
 
 // Whether a card is well formed and conforms to a sheet; or why it is refused.
-#[derive(Drop)]
+#[derive(Clone, Copy)]
 pub enum CardAcceptance {
     Conforming,
     Refused(Reason),
 }
 
 // What judging one card answers: a yes or no, or why the card is refused.
-#[derive(Drop)]
+#[derive(Clone, Copy)]
 pub enum CardVerdict {
     Says(bool),
     Refused(Reason),

@@ -18,14 +18,14 @@ const FULL_RUN: usize = 65536;
 const MOST_CARDS: u64 = 1 << 54;
 
 // What a run leads to: the totals with it, or the end of the output.
-#[derive(Drop)]
+#[derive(Clone, Copy)]
 enum Turn {
     More(Totals),
     Ended,
 }
 
 // What a run's text takes of a buffer, and what the run leads to.
-#[derive(Drop)]
+#[derive(Clone, Copy)]
 struct RunText {
     size: usize,
     turn: Turn,

@@ -11,7 +11,7 @@ use refusal::{Reason, Refusal};
 use step::advance;
 
 // What the bytes so far end in.
-#[derive(Drop)]
+#[derive(Clone, Copy)]
 pub enum Mode {
     // An item may begin, after spaces.
     Item,
@@ -47,7 +47,7 @@ pub enum Mode {
 
 // A mode; the open brackets, as the binary digits behind a leading 1, the outermost first, 0 for a round one and 1 for a square
 // one; and the tests begun or due.
-#[derive(Drop)]
+#[derive(Clone, Copy)]
 pub struct Reached {
     pub mode: Mode,
     pub brackets: usize,
@@ -55,7 +55,7 @@ pub struct Reached {
 }
 
 // A filter may go on with the byte; or only beyond the limit on nesting, or beyond that on tests; or not at all.
-#[derive(Drop)]
+#[derive(Clone, Copy)]
 pub enum Outcome {
     Live(Reached),
     Deep,
@@ -65,7 +65,7 @@ pub enum Outcome {
 
 // What a text is: a filter, or none, and where it fails to be one: by the length of its longest beginning that begins some filter
 // within both limits.
-#[derive(Drop)]
+#[derive(Clone, Copy)]
 pub enum Found {
     Filter,
     Failed(Refusal),

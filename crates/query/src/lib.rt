@@ -8,21 +8,21 @@ pub use query::{accept_query, no_rows};
 use refusal::Decision;
 
 // A byte that a name or a value stands for, and where the text goes on; or a bad %.
-#[derive(Drop)]
+#[derive(Clone, Copy)]
 pub enum Read {
     Byte(u8, usize),
     Bad,
 }
 
 // How many bytes a name or a value stands for; or a bad %.
-#[derive(Drop)]
+#[derive(Clone, Copy)]
 pub enum Decoded {
     Bytes(usize),
     Bad,
 }
 
 // What stands at a position of a decoded value, and where the value goes on: a byte, a comma that cuts, a bar that splits.
-#[derive(Drop)]
+#[derive(Clone, Copy)]
 pub enum Mark {
     Byte(u8, usize),
     Cut(usize),
@@ -30,7 +30,7 @@ pub enum Mark {
 }
 
 // An alternative that was written: its length, where a token is split, where the value goes on, and whether another alternative follows.
-#[derive(Drop)]
+#[derive(Clone, Copy)]
 pub struct Piece {
     pub len: usize,
     pub split: usize,
@@ -39,14 +39,14 @@ pub struct Piece {
 }
 
 // How many bytes the name and the value of a pair stand for; or that there is no "=" or a bad %.
-#[derive(Drop)]
+#[derive(Clone, Copy)]
 pub enum PairRead {
     Lengths(usize, usize),
     Bad,
 }
 
 // An alternative as it is kept: its pair's first byte, its name and its text in the buffer, where a token is split, and whether its pair ends with it.
-#[derive(Drop)]
+#[derive(Clone, Copy)]
 pub struct Row {
     pub at: usize,
     pub name: usize,
@@ -58,14 +58,14 @@ pub struct Row {
 }
 
 // The alternatives so far: how many, and the first 32.
-#[derive(Drop)]
+#[derive(Clone, Copy)]
 pub struct Rows {
     pub count: usize,
     pub rows: [Row; 32],
 }
 
 // The rows, and where their bytes end.
-#[derive(Drop)]
+#[derive(Clone, Copy)]
 pub struct Held {
     pub rows: Rows,
     pub used: usize,
@@ -73,7 +73,7 @@ pub struct Held {
 
 // The alternatives that were read, or why a search string is refused: 10 for its size, 50 with the place of the pair, 51 for too many
 // alternatives.
-#[derive(Drop)]
+#[derive(Clone, Copy)]
 pub struct QueryRead {
     pub rows: Rows,
     pub decision: Decision,

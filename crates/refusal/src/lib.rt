@@ -6,7 +6,7 @@ pub use decide::{or_else, refuse};
 pub use numbers::number;
 
 // Why an operation refuses, in the order of the numbers of refusal.
-#[derive(Drop)]
+#[derive(Clone, Copy)]
 pub enum Reason {
     // 1: the sheet is not 512 bytes.
     SheetSize,
@@ -58,14 +58,14 @@ pub enum Reason {
 
 // A refusal: why, and where. The place is the length of the longest beginning that also begins some filter, a test's or a pair's first
 // byte, a card's index, the number of matches, of rows, of tests or of cells needed, the length of the plain spelling, or 0.
-#[derive(Drop)]
+#[derive(Clone, Copy)]
 pub struct Refusal {
     pub reason: Reason,
     pub place: usize,
 }
 
 // What is decided of a test, a filter or a search string: it passes, or it is refused.
-#[derive(Drop)]
+#[derive(Clone, Copy)]
 pub enum Decision {
     Passed,
     Refused(Refusal),

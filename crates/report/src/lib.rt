@@ -9,14 +9,14 @@ use refusal::Refusal;
 
 // A row of the report, for one parameter: the cards of the run that have it, and the values under it.
 #[repr(C)]
-#[derive(Drop)]
+#[derive(Clone, Copy)]
 pub struct Tally {
     pub cards: u32,
     pub values: u32,
 }
 
 // What a report answers: how many cards say yes and how many no, or a refusal.
-#[derive(Drop)]
+#[derive(Clone, Copy)]
 pub enum Reported {
     Counts(usize, usize),
     Refused(Refusal),

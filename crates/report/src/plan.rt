@@ -7,7 +7,7 @@ use refusal::{Reason, Refusal};
 use sirophan::Selected;
 
 // How many rows there are, how many steps raise them (none on a refusal), and what the report answers.
-#[derive(Drop)]
+#[derive(Clone, Copy)]
 pub struct Plan {
     pub rows: usize,
     pub steps: usize,

@@ -10,7 +10,7 @@ use row_opener::Opened;
 pub use says::rows_say;
 
 // What a test asks of a text: the index of its parameter, its meaning, and its value.
-#[derive(Drop)]
+#[derive(Clone, Copy)]
 pub struct Asked {
     pub index: u8,
     pub meaning: Meaning,

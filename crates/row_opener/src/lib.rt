@@ -6,7 +6,7 @@ pub use store::{open_rows, opened_at};
 
 // What the value of a test reads to: whether there is one and it has escapes; whether it is true, for pr; where its bytes stand in the
 // text; and what they read to.
-#[derive(Drop)]
+#[derive(Clone, Copy)]
 pub struct Opened {
     pub found: bool,
     pub escaped: bool,

@@ -5,14 +5,14 @@ use filter::Summary;
 pub use write::write_filter;
 
 // What reading gathers: the tests and the first refusal among them, and how many cells it has written.
-#[derive(Drop)]
+#[derive(Clone, Copy)]
 pub struct Outcome {
     pub summary: Summary,
     pub cells: usize,
 }
 
 // Where a filter or an item that was read ends, and what was gathered; or that there is none.
-#[derive(Drop)]
+#[derive(Clone, Copy)]
 pub enum Written {
     Done(usize, Outcome),
     Nothing,

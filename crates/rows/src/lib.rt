@@ -10,7 +10,7 @@ use syntax::Connective;
 pub use whole::are_good;
 
 // A probe is a test as a row has it: the index of its parameter, its operator's number, and the position of its value's first byte in the text.
-#[derive(Drop)]
+#[derive(Clone, Copy)]
 pub struct Probe {
     pub index: u8,
     pub operator: u8,
@@ -19,7 +19,7 @@ pub struct Probe {
 
 // What a cell says: a test, brackets with the number of rows in them (which stand behind the row of the test after them), not, a connective
 // with the number of rows of its second part, or nothing.
-#[derive(Drop)]
+#[derive(Clone, Copy)]
 pub enum Row {
     Test(Probe),
     Bracket(usize),
@@ -29,7 +29,7 @@ pub enum Row {
 }
 
 // The number of an expression's tests, and how deep the brackets nest that it needs: as a filter, and as an item of one.
-#[derive(Drop)]
+#[derive(Clone, Copy)]
 pub struct Shape {
     pub tests: usize,
     pub chain: usize,
@@ -37,14 +37,14 @@ pub struct Shape {
 }
 
 // The shape of what rows state, where its tests fit; or that rows state nothing, or a test that does not fit.
-#[derive(Drop)]
+#[derive(Clone, Copy)]
 pub enum FoundShape {
     Shape(Shape),
     Nothing,
 }
 
 // The same of the first test of rows, with the brackets before it, and the row behind.
-#[derive(Drop)]
+#[derive(Clone, Copy)]
 pub enum Begun {
     At(Shape, usize),
     Nothing,

@@ -9,7 +9,7 @@ use block::{check_sum, word};
 use refusal::{Reason, Refusal};
 
 // A block's check sum or a card's record number, or a refusal.
-#[derive(Drop)]
+#[derive(Clone, Copy)]
 pub enum Numbered {
     Number(u32),
     Refused(Refusal),

@@ -7,7 +7,7 @@ pub use faults::first_fault;
 pub use says::rows_say;
 
 // What a text asks under a kind: the number of an operator, and how many bytes stand before the value.
-#[derive(Drop)]
+#[derive(Clone, Copy)]
 pub struct Prefixed {
     pub operator: u8,
     pub skip: usize,

@@ -19,7 +19,7 @@ use refusal::{Decision, Reason};
 use search::{first_fault, rows_say};
 
 // What check answers to a search string, and the rows of one that it passes.
-#[derive(Drop)]
+#[derive(Clone, Copy)]
 pub struct SearchRead {
     pub checked: Checked,
     pub rows: Rows,

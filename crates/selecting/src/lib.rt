@@ -22,7 +22,7 @@ use refusal::{Reason, Refusal};
 use searching::read_search;
 
 // What is asked of a card: the rows of a filter, a filter's text, or the rows of a search string.
-#[derive(Drop)]
+#[derive(Clone, Copy)]
 pub enum Way {
     Rows,
     Text,
@@ -30,7 +30,7 @@ pub enum Way {
 }
 
 // What each card is asked by, for a run: in which way, and the kinds of the sheet.
-#[derive(Drop)]
+#[derive(Clone, Copy)]
 pub struct Asked {
     pub way: Way,
     pub kinds: [u8; 32],

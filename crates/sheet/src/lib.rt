@@ -14,7 +14,7 @@ use block::{Integrity, Validity};
 
 // A parameter: its kind (1 string, 2 number, 3 date, 4 token, 5 reference, 6 period, 7 bundle), its bundle (0, or a bundle's index plus 1),
 // and where its name starts and ends in the sheet. The next parameter starts where the name ends.
-#[derive(Drop)]
+#[derive(Clone, Copy)]
 struct Parameter {
     kind: u8,
     bundle: u8,
@@ -23,7 +23,7 @@ struct Parameter {
 }
 
 // What a name is on a sheet: a parameter's, with its index and kind, or none's.
-#[derive(Drop)]
+#[derive(Clone, Copy)]
 pub enum Found {
     At { index: u8, kind: u8 },
     Missing,

@@ -21,7 +21,7 @@ use spell::Spelled;
 
 // What a report answers: the number of the refusal, 0 where there is none, and its place; and how many cards say yes, and how many no.
 #[repr(C)]
-#[derive(Drop)]
+#[derive(Clone, Copy)]
 pub struct Counts {
     pub refusal: u32,
     pub place: usize,

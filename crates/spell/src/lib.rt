@@ -10,7 +10,7 @@ use syntax::scan::skip;
 use walk::write_filter;
 
 // A position in the filter's text, how many brackets may still open around it, and the byte that closes the one around it.
-#[derive(Drop)]
+#[derive(Clone, Copy)]
 pub struct Spot {
     pub at: usize,
     pub levels: usize,
@@ -18,7 +18,7 @@ pub struct Spot {
 }
 
 // Where a filter or an item that was written ends, the length of what was written, and whether it is a join.
-#[derive(Drop)]
+#[derive(Clone, Copy)]
 pub struct Written {
     pub end: usize,
     pub length: usize,
@@ -26,7 +26,7 @@ pub struct Written {
 }
 
 // What spell answers: the length of the plain spelling that it has written into the buffer, or a refusal.
-#[derive(Drop)]
+#[derive(Clone, Copy)]
 pub enum Spelled {
     Length(usize),
     Refused(Refusal),

@@ -12,7 +12,7 @@ use test::{is_name_run, read_test};
 
 // A value as it stands in the text: its bytes from start up to end, whether an escape is among them, and where the
 // text goes on.
-#[derive(Drop)]
+#[derive(Clone, Copy)]
 pub struct RawValue {
     pub start: usize,
     pub end: usize,
@@ -22,7 +22,7 @@ pub struct RawValue {
 
 // A test as it stands in the text: its name from `at` up to `until`, its operator's number, its value. The operator stands
 // second, as a bracket's `not` does in `Head`: a byte there, so that no number is written in pieces.
-#[derive(Drop)]
+#[derive(Clone, Copy)]
 pub struct RawTest {
     pub at: usize,
     pub operator: u8,
@@ -31,7 +31,7 @@ pub struct RawTest {
 }
 
 // What a byte does in a string: the string goes on, after a backslash or not; it ends; it is none.
-#[derive(Drop)]
+#[derive(Clone, Copy)]
 pub enum StringStep {
     More(bool),
     Close,
@@ -39,35 +39,35 @@ pub enum StringStep {
 }
 
 // The position of a string's closing quote, and whether an escape stands before it.
-#[derive(Drop)]
+#[derive(Clone, Copy)]
 pub enum FoundString {
     Closed(usize, bool),
     Nothing,
 }
 
 // What a byte of a string adds to the value: a byte, or nothing where a backslash begins an escape.
-#[derive(Drop)]
+#[derive(Clone, Copy)]
 pub enum Piece {
     Byte(u8),
     Backslash,
 }
 
 // The value at a position, if there is one.
-#[derive(Drop)]
+#[derive(Clone, Copy)]
 pub enum FoundValue {
     Value(RawValue),
     Nothing,
 }
 
 // The number of an operator.
-#[derive(Drop)]
+#[derive(Clone, Copy)]
 pub enum FoundOperator {
     Is(u8),
     Nothing,
 }
 
 // The test at a position, if there is one.
-#[derive(Drop)]
+#[derive(Clone, Copy)]
 pub enum FoundTest {
     Test(RawTest),
     Nothing,
@@ -75,7 +75,7 @@ pub enum FoundTest {
 
 // What an item begins with: a whole test; a bracket, whose filter begins at the position, with not or without; or a name, which
 // ends at the position, and a square bracket.
-#[derive(Drop)]
+#[derive(Clone, Copy)]
 pub enum Head {
     Test(RawTest),
     Open(usize, bool),
@@ -84,28 +84,28 @@ pub enum Head {
 }
 
 // Where the name before a square bracket ends.
-#[derive(Drop)]
+#[derive(Clone, Copy)]
 pub enum FoundChoice {
     At(usize),
     Nothing,
 }
 
 // 01: a joining word.
-#[derive(Drop)]
+#[derive(Clone, Copy)]
 pub enum Connective {
     And,
     Or,
 }
 
 // Where the item after a connective begins, and the connective.
-#[derive(Drop)]
+#[derive(Clone, Copy)]
 pub enum FoundConnective {
     Next(usize, Connective),
     Nothing,
 }
 
 // Where the text goes on after the byte that closes a bracket.
-#[derive(Drop)]
+#[derive(Clone, Copy)]
 pub enum FoundClose {
     At(usize),
     Nothing,

@@ -25,7 +25,7 @@ use syntax::{
 };
 
 // Where a filter or an item that was judged ends, and what it says; or that there is none.
-#[derive(Drop)]
+#[derive(Clone, Copy)]
 pub enum Judged {
     Done(usize, bool),
     Nothing,

@@ -6,7 +6,7 @@ use crate::ask::ask;
 use crate::write::write;
 
 // What a case asks, and where its parts end in the bytes that follow its numbers.
-#[derive(Drop)]
+#[derive(Clone, Copy)]
 struct Head {
     operation: u32,
     label: usize,
