@@ -1,6 +1,7 @@
 #!/usr/bin/env python3
 """Spells this repository's own definitions and lemmas as today's Rattle does: words in snake case, types and modules in camel case, a dash only
-between the names of two definitions. usage, once, at the top, after port.py: python3 tools/port_names.py. It writes crates/, docs/ and README.md."""
+between the names of two definitions. What port.py had respelled, beside this file in port_names.tsv, is turned in must-fail edits and pages as well.
+Usage, once, at the top, after port.py: python3 tools/port_names.py. It writes crates/, docs/ and README.md."""
 import collections
 import glob
 import os
@@ -13,7 +14,7 @@ BLOCK = re.compile(r"^(\s*)(?:abbrev |unfoldable |pub )*(record|data) ([A-Za-z]\
 # Modules that Rattle now makes itself: `specs.contracts` is its own.
 MOVED = {"Contracts": "Operations"}
 # Words of the kit's library that a dash joins to another name.
-LIBRARY = set("length take drop append replicate map fold sum set get_or eqb leb ltb cond not and or min max repeat reverse filter all any pred suc".split())
+LIBRARY = set("length take drop append replicate map fold get_or eqb leb ltb cond".split())
 # Rust names have no dash and no capital inside: such a word in src/ is one of specs/.
 RUST = re.compile(r"[A-Za-z_][A-Za-z0-9_]*$")
 
@@ -121,6 +122,8 @@ def antt(text, table, keep=(), steps=False):
 
 
 def quoted(text, table):
+    """A comment or a page: what stands between backticks, and words with a capital inside."""
+    text = re.sub(r"(?<![\w`.-])[a-z][a-z0-9]*[A-Z]\w*(?![\w-])", lambda m: table.get(m.group(0), m.group(0)), text)
     return re.sub(r"`([^`\n]+)`", lambda m: "`" + code(m.group(1), table) + "`", text)
 
 
@@ -155,6 +158,9 @@ def main():
     for new, olds in sorted(clashes(names, table).items()):
         print("fall together:", new, sorted(olds), [sorted(names[o]) for o in sorted(olds)])
     move_modules()
+    here = os.path.join(os.path.dirname(os.path.abspath(__file__)), "port_names.tsv")
+    by_port = dict(line.split("\t") for line in read(here).splitlines())
+    older = table | {old: table.get(new, new) for old, new in by_port.items()}
     paths = sorted(p for p in glob.glob("crates/**/*", recursive=True) if os.path.isfile(p) and "/out/" not in p)
     for path in paths:
         if path.endswith(".antt"):
@@ -170,13 +176,10 @@ def main():
             text = read(path)
             for old, new in MOVED.items():
                 text = text.replace(f".specs.{old}.", f".specs.{new}.").replace(f"specs/{old}.antt", f"specs/{new}.antt")
-            write(path, rt(text, table) if path.endswith(".rt") else edit(text, table))
+            write(path, rt(text, table) if path.endswith(".rt") else edit(text, older))
     for path in ["README.md", *sorted(glob.glob("docs/*.md"))]:
         if path != "docs/PORT.md":
-            write(path, quoted(read(path), table))
-    with open("/tmp/port-names.tsv", "w", encoding="utf-8") as f:
-        for old in sorted(table):
-            f.write(f"{old}\t{table[old]}\n")
+            write(path, quoted(read(path), older))
     print(len(names), "names,", len(table), "spelled anew")
 
 
