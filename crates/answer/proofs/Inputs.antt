@@ -1,8 +1,8 @@
 -- What the operations take, which is the parameters of a well-formed sheet and the tree that a text spells, and which test is refused.
 -- The definition takes sheet, text and tests one after the other. For a sheet block, and a text of at most 1,024 bytes that spells a tree,
--- the first two steps are known, so that the tests' step is what is left (`inputs-accepted`). `tests-outcome` is by induction on the tests:
+-- the first two steps are known, so that the tests' step is what is left (`inputs_accepted`). `tests_outcome` is by induction on the tests:
 -- all have a meaning, or a first one is refused and those before it have one (`outcome-next`). No step is refused with a number above 18,
--- and so neither is one step after another (`at-most-then`). So these refusals are apart from those of cards and lists (`question-number`).
+-- and so neither is one step after another (`at_most_then`). So these refusals are apart from those of cards and lists (`question_number`).
 -- Assumes nothing.
 use Prim.Native.Nat.{ℕ, ◌≤◌}
 use native.Mathlib.Omega.{arith}
@@ -13,150 +13,150 @@ use mathlib.Core.List.{List, [], ◌∷◌}
 use lib.Dec.{eqb, ltb}
 use lib.ListN.{length}
 use borrow.Author.Tests.{ne_eqb, le-ltb}
-use Rattle.base.specs.Lists.{all-empty, all_cons}
-use Rattle.base.specs.Kinds.{bundleKind}
+use Rattle.base.specs.Lists.{all_empty, all_cons}
+use Rattle.base.specs.Kinds.{bundle_kind}
 use Rattle.base.proofs.Tests.{cond-elim}
 use Rattle.block.specs.declared.Validity.{Validity}
-use Rattle.sheet.specs.Sheet.{Parameter, parametersOf, readSheet}
+use Rattle.sheet.specs.Sheet.{Parameter, parameters_of, read_sheet}
 use Rattle.sheet.specs.Encode.{WellFormedSheet, SheetBlock}
 use Rattle.sheet.specs.declared.Found.{Found}
-use Rattle.sheet.proofs.Sheets.{sheet-reads-iff}
-use Rattle.syntax.specs.Tree.{Test, Tree, testsOf}
-use Rattle.syntax.specs.Grammar.{deepest, mostTests, Spells}
+use Rattle.sheet.proofs.Sheets.{sheet_reads_iff}
+use Rattle.syntax.specs.Tree.{Test, Tree, tests_of}
+use Rattle.syntax.specs.Grammar.{deepest, most_tests, Spells}
 use Rattle.syntax.specs.Reader.{read}
-use Rattle.syntax.proofs.Spelling.{read-iff, spells-not-empty}
+use Rattle.syntax.proofs.Spelling.{read_iff, spells_not_empty}
 use Rattle.place.specs.Machine.{failure}
-use Rattle.place.proofs.Place.{text-number, number_bound}
-use Rattle.kind.specs.Table.{hasMeaning}
-use Rattle.kind.specs.Readable.{valueReadable}
+use Rattle.place.proofs.Place.{text_number, number_bound}
+use Rattle.kind.specs.Table.{has_meaning}
+use Rattle.kind.specs.Readable.{value_readable}
 use Rattle.judge.specs.Sets.{lookup}
-use Rattle.judge.specs.Faults.{unsupported, kindFault, faultAt, testFault, firstFault}
+use Rattle.judge.specs.Faults.{unsupported, kind_fault, fault_at, test_fault, first_fault}
 use Rattle.refusal.specs.declared.Decision.{Decision}
 use Rattle.refusal.specs.Decisions.{or_else}
-use Rattle.refusal.specs.Answers.{yesOrNo, count, number_of}
+use Rattle.refusal.specs.Answers.{yes_or_no, count, number_of}
 use Rattle.refusal.specs.Steps.{Step, found, stop, ◌>>=◌, answer}
-use Rattle.answer.specs.Operations.{sheetStep, acceptSheet, treeStep, acceptFilter, decisionStep, testsStep, Inputs, acceptInputs, acceptCard, checkAnswer, Question, questionOf, matchBy, filterQuestion}
-use Rattle.answer.specs.Demand.{TestRules, filterTests}
-use Rattle.answer.proofs.Outcomes.{TestOutcome, test-means, test-refused, TestsOutcome, all-mean, one-refused, AtMost, found-at-most, stop-at-most}
+use Rattle.answer.specs.Operations.{sheet_step, accept_sheet, tree_step, accept_filter, decision_step, tests_step, Inputs, accept_inputs, accept_card, check_answer, Question, question_of, match_by, filter_question}
+use Rattle.answer.specs.Demand.{TestRules, filter_tests}
+use Rattle.answer.proofs.Outcomes.{TestOutcome, test_means, test_refused, TestsOutcome, all_mean, one_refused, AtMost, found_at_most, stop_at_most}
 use Rattle.answer.proofs.Faults.{outcome}
 
 -- ---- tests
 
 -- the first of two decisions, as a step
-pub step-or-else : (first rest : Decision) → decisionStep (or_else first rest) ≡ (decisionStep first >>= λ u. decisionStep rest)
-step-or-else Decision.Passed rest = refl
-step-or-else (Decision.Refused r) rest = refl
+pub step_or_else : (first rest : Decision) → decision_step (or_else first rest) ≡ (decision_step first >>= λ u. decision_step rest)
+step_or_else Decision.Passed rest = refl
+step_or_else (Decision.Refused r) rest = refl
 
 -- what one test comes to, and then those after it
 pub outcome-next : {T : Type 0} (rules : TestRules T) {t : T} {ts : List T} {first rest : Step (Unit {0})} → TestOutcome rules t first → TestsOutcome rules ts rest
     → TestsOutcome rules (t ∷ ts) (first >>= λ u. rest)
-outcome-next rules {t = t} {ts = ts} (test-refused {n = n} r) s = one-refused [] t ts n refl all-empty r
-outcome-next rules (test-means m _) (all-mean ms) = all-mean (all_cons m ms)
-outcome-next {T} rules {t = t} (test-means m _) (one-refused before u after n e ms r) = one-refused (t ∷ before) u after n (ap (λ (l : List T). t ∷ l) e) (all_cons m ms) r
+outcome-next rules {t = t} {ts = ts} (test_refused {n = n} r) s = one_refused [] t ts n refl all_empty r
+outcome-next rules (test_means m _) (all_mean ms) = all_mean (all_cons m ms)
+outcome-next {T} rules {t = t} (test_means m _) (one_refused before u after n e ms r) = one_refused (t ∷ before) u after n (ap (λ (l : List T). t ∷ l) e) (all_cons m ms) r
 
 module _ (ps : List Parameter) where
-  pub tests-next : (t : Test) (ts : List Test) → testsStep ps (t ∷ ts) ≡ (decisionStep (testFault ps 0 t) >>= λ u. testsStep ps ts)
-  unfolding testsStep firstFault
-  tests-next t ts = step-or-else (testFault ps 0 t) (firstFault ps 0 ts)
+  pub tests_next : (t : Test) (ts : List Test) → tests_step ps (t ∷ ts) ≡ (decision_step (test_fault ps 0 t) >>= λ u. tests_step ps ts)
+  unfolding tests_step first_fault
+  tests_next t ts = step_or_else (test_fault ps 0 t) (first_fault ps 0 ts)
 
-  pub tests-outcome : WellFormedSheet ps → (ts : List Test) → TestsOutcome (filterTests ps) ts (testsStep ps ts)
-  tests-outcome w [] = unfold testsStep firstFault in all-mean all-empty
-  tests-outcome w (t ∷ ts) = rw (tests-next t ts) (outcome-next (filterTests ps) (outcome ps w t) (tests-outcome w ts))
+  pub tests_outcome : WellFormedSheet ps → (ts : List Test) → TestsOutcome (filter_tests ps) ts (tests_step ps ts)
+  tests_outcome w [] = unfold tests_step first_fault in all_mean all_empty
+  tests_outcome w (t ∷ ts) = rw (tests_next t ts) (outcome-next (filter_tests ps) (outcome ps w t) (tests_outcome w ts))
 
 -- ---- check and match, by what is accepted
 
-pub match_by : (asked : Step Question) (r : Step Question) → asked ≡ r → (card : List ℕ)
-    → matchBy asked card ≡ answer (r >>= λ q. acceptCard q.parameters 0 card >>= λ c. found (yesOrNo (q.says c.entries)))
-unfolding matchBy
-match_by asked r e card = rw e
+pub match_by_lem : (asked : Step Question) (r : Step Question) → asked ≡ r → (card : List ℕ)
+    → match_by asked card ≡ answer (r >>= λ q. accept_card q.parameters 0 card >>= λ c. found (yes_or_no (q.says c.entries)))
+unfolding match_by
+match_by_lem asked r e card = rw e
 
-module _ (sheet text : List ℕ) (r : Step Inputs) (e : acceptInputs sheet text ≡ r) where
-  pub check-by : checkAnswer sheet text ≡ answer (r >>= λ p. found (count (length (testsOf p.filter))))
-  unfolding checkAnswer
-  check-by = rw e
+module _ (sheet text : List ℕ) (r : Step Inputs) (e : accept_inputs sheet text ≡ r) where
+  pub check_by : check_answer sheet text ≡ answer (r >>= λ p. found (count (length (tests_of p.filter))))
+  unfolding check_answer
+  check_by = rw e
 
-  pub question-by : filterQuestion sheet text ≡ (r >>= λ p. found (questionOf p))
-  unfolding filterQuestion
-  question-by = rw e
+  pub question_by : filter_question sheet text ≡ (r >>= λ p. found (question_of p))
+  unfolding filter_question
+  question_by = rw e
 
 -- ---- sheet and text
 
-pub sheet-accepted : (sheet : List ℕ) (s : SheetBlock sheet) → acceptSheet sheet ≡ found s.parameters
-unfolding acceptSheet
-sheet-accepted sheet s =
-    let r = (sheet-reads-iff sheet s.marked s.parameters).1 (s.well-formed, s.form, s.encoded) in
+pub sheet_accepted : (sheet : List ℕ) (s : SheetBlock sheet) → accept_sheet sheet ≡ found s.parameters
+unfolding accept_sheet
+sheet_accepted sheet s =
+    let r = (sheet_reads_iff sheet s.marked s.parameters).1 (s.well_formed, s.form, s.encoded) in
     rw (r.reading, r.parameters)
 
-spells-length : (text : List ℕ) (f : Tree) → Spells text f → length text ≡ 0 → ⊥
-spells-length [] f s e = spells-not-empty f s
-spells-length (x ∷ xs) f s e = omega arith
+spells_length : (text : List ℕ) (f : Tree) → Spells text f → length text ≡ 0 → ⊥
+spells_length [] f s e = spells_not_empty f s
+spells_length (x ∷ xs) f s e = omega arith
 
 -- a text that is neither empty nor too long is accepted as what it reads to
-pub text-read : (xs : List ℕ) → (length xs ≡ 0 → ⊥) → length xs ≤ 1024 → (o : Option Tree) → read xs ≡ o → acceptFilter xs ≡ treeStep xs o
-unfolding acceptFilter
-text-read xs n l o e = rw (ne_eqb (length xs) 0 n, le-ltb 1024 (length xs) l, e)
+pub text_read : (xs : List ℕ) → (length xs ≡ 0 → ⊥) → length xs ≤ 1024 → (o : Option Tree) → read xs ≡ o → accept_filter xs ≡ tree_step xs o
+unfolding accept_filter
+text_read xs n l o e = rw (ne_eqb (length xs) 0 n, le-ltb 1024 (length xs) l, e)
 
-filter-accepted : (text : List ℕ) (f : Tree) → length text ≤ 1024 → Spells text f → acceptFilter text ≡ found f
-filter-accepted text f short s = text-read text (spells-length text f s) short (some f) ((read-iff text f).1 s)
+filter_accepted : (text : List ℕ) (f : Tree) → length text ≤ 1024 → Spells text f → accept_filter text ≡ found f
+filter_accepted text f short s = text_read text (spells_length text f s) short (some f) ((read_iff text f).1 s)
 
-pub inputs-accepted : (sheet text : List ℕ) (s : SheetBlock sheet) (f : Tree) → length text ≤ 1024 → Spells text f
-    → acceptInputs sheet text ≡ (testsStep s.parameters (testsOf f) >>= λ u. found (record { parameters = s.parameters; filter = f }))
-unfolding acceptInputs
-inputs-accepted sheet text s f short spells = rw (sheet-accepted sheet s, filter-accepted text f short spells)
+pub inputs_accepted : (sheet text : List ℕ) (s : SheetBlock sheet) (f : Tree) → length text ≤ 1024 → Spells text f
+    → accept_inputs sheet text ≡ (tests_step s.parameters (tests_of f) >>= λ u. found (record { parameters = s.parameters; filter = f }))
+unfolding accept_inputs
+inputs_accepted sheet text s f short spells = rw (sheet_accepted sheet s, filter_accepted text f short spells)
 
 -- ---- the numbers of these refusals
 
-pub at-most-then : {A B : Type 0} {most : ℕ} {s : Step A} {next : A → Step B} → AtMost most s → ((x : A) → AtMost most (next x)) → AtMost most (s >>= next)
-at-most-then (found-at-most {x = x}) h = h x
-at-most-then (stop-at-most n p l) h = stop-at-most n p l
+pub at_most_then : {A B : Type 0} {most : ℕ} {s : Step A} {next : A → Step B} → AtMost most s → ((x : A) → AtMost most (next x)) → AtMost most (s >>= next)
+at_most_then (found_at_most {x = x}) h = h x
+at_most_then (stop_at_most n p l) h = stop_at_most n p l
 
-pub at-most-number : {A : Type 0} {most : ℕ} {s : Step A} → AtMost most s → (n p : ℕ) → s ≡ stop n p → n ≤ most
-at-most-number found-at-most n p e = absurd (let z : ◌≡◌ {A = ℕ} 0 1 = cc in omega arith)
-at-most-number (stop-at-most m q l) n p e = let z : m ≡ n = cc in omega arith
+pub at_most_number : {A : Type 0} {most : ℕ} {s : Step A} → AtMost most s → (n p : ℕ) → s ≡ stop n p → n ≤ most
+at_most_number found_at_most n p e = absurd (let z : ◌≡◌ {A = ℕ} 0 1 = cc in omega arith)
+at_most_number (stop_at_most m q l) n p e = let z : m ≡ n = cc in omega arith
 
-pub sheet-at-most : (r : Validity) (ps : List Parameter) → AtMost 18 (sheetStep r ps)
-sheet-at-most Validity.WellFormed ps = found-at-most
-sheet-at-most Validity.WrongSize ps = stop-at-most 1 0 (omega arith)
-sheet-at-most Validity.WrongSum ps = stop-at-most 2 0 (omega arith)
-sheet-at-most Validity.WrongLayout ps = stop-at-most 3 0 (omega arith)
+pub sheet_at_most : (r : Validity) (ps : List Parameter) → AtMost 18 (sheet_step r ps)
+sheet_at_most Validity.WellFormed ps = found_at_most
+sheet_at_most Validity.WrongSize ps = stop_at_most 1 0 (omega arith)
+sheet_at_most Validity.WrongSum ps = stop_at_most 2 0 (omega arith)
+sheet_at_most Validity.WrongLayout ps = stop_at_most 3 0 (omega arith)
 
-tree-at-most : (text : List ℕ) (o : Option Tree) → AtMost 18 (treeStep text o)
-tree-at-most text (some f) = found-at-most
-tree-at-most text none =
-    stop-at-most (number_of (failure deepest mostTests text).reason) (failure deepest mostTests text).place (omega (arith, number_bound (text-number text)))
+tree_at_most : (text : List ℕ) (o : Option Tree) → AtMost 18 (tree_step text o)
+tree_at_most text (some f) = found_at_most
+tree_at_most text none =
+    stop_at_most (number_of (failure deepest most_tests text).reason) (failure deepest most_tests text).place (omega (arith, number_bound (text_number text)))
 
-pub kind-at-most : (k kind : ℕ) (v : List ℕ) (p : ℕ) → AtMost 18 (decisionStep (kindFault k kind v p))
-unfolding kindFault
-kind-at-most k kind v p =
-    cond-elim (λ f. AtMost 18 (decisionStep f)) (unsupported k) (λ _. stop-at-most 15 p (omega arith))
-    (λ _. cond-elim (λ f. AtMost 18 (decisionStep f)) (hasMeaning k kind)
-    (λ _. cond-elim (λ f. AtMost 18 (decisionStep f)) (valueReadable k kind v) (λ _. found-at-most) (λ _. stop-at-most 17 p (omega arith)))
-    (λ _. stop-at-most 16 p (omega arith)))
+pub kind_at_most : (k kind : ℕ) (v : List ℕ) (p : ℕ) → AtMost 18 (decision_step (kind_fault k kind v p))
+unfolding kind_fault
+kind_at_most k kind v p =
+    cond-elim (λ f. AtMost 18 (decision_step f)) (unsupported k) (λ _. stop_at_most 15 p (omega arith))
+    (λ _. cond-elim (λ f. AtMost 18 (decision_step f)) (has_meaning k kind)
+    (λ _. cond-elim (λ f. AtMost 18 (decision_step f)) (value_readable k kind v) (λ _. found_at_most) (λ _. stop_at_most 17 p (omega arith)))
+    (λ _. stop_at_most 16 p (omega arith)))
 
-fault-at-most : (o : Found) (k : ℕ) (v : List ℕ) (p : ℕ) → AtMost 18 (decisionStep (faultAt o k v p))
-fault-at-most Found.Missing k v p = stop-at-most 14 p (omega arith)
-fault-at-most (Found.At i kind) k v p =
-    cond-elim (λ f. AtMost 18 (decisionStep f)) (eqb kind bundleKind) (λ _. stop-at-most 18 p (omega arith)) (λ _. kind-at-most k kind v p)
+fault_at_most : (o : Found) (k : ℕ) (v : List ℕ) (p : ℕ) → AtMost 18 (decision_step (fault_at o k v p))
+fault_at_most Found.Missing k v p = stop_at_most 14 p (omega arith)
+fault_at_most (Found.At i kind) k v p =
+    cond-elim (λ f. AtMost 18 (decision_step f)) (eqb kind bundle_kind) (λ _. stop_at_most 18 p (omega arith)) (λ _. kind_at_most k kind v p)
 
-tests-at-most : (ps : List Parameter) (ts : List Test) → AtMost 18 (testsStep ps ts)
-unfolding testFault
-tests-at-most ps [] = unfold testsStep firstFault in found-at-most
-tests-at-most ps (t ∷ ts) = rw (tests-next ps t ts) (at-most-then (fault-at-most (lookup ps 0 t.path) t.operator t.value t.at) (λ u. tests-at-most ps ts))
+tests_at_most : (ps : List Parameter) (ts : List Test) → AtMost 18 (tests_step ps ts)
+unfolding test_fault
+tests_at_most ps [] = unfold tests_step first_fault in found_at_most
+tests_at_most ps (t ∷ ts) = rw (tests_next ps t ts) (at_most_then (fault_at_most (lookup ps 0 t.path) t.operator t.value t.at) (λ u. tests_at_most ps ts))
 
-pub inputs-number : (sheet text : List ℕ) (n p : ℕ) → acceptInputs sheet text ≡ stop n p → n ≤ 18
-unfolding acceptInputs acceptSheet acceptFilter
-inputs-number sheet text =
-    at-most-number
-    (at-most-then (sheet-at-most (readSheet sheet) (parametersOf sheet))
-    (λ ps. at-most-then
-    (cond-elim (AtMost 18) (eqb (length text) 0 || ltb 1024 (length text)) (λ _. stop-at-most 10 0 (omega arith)) (λ _. tree-at-most text (read text)))
-    (λ f. at-most-then (tests-at-most ps (testsOf f)) (λ u. found-at-most))))
+pub inputs_number : (sheet text : List ℕ) (n p : ℕ) → accept_inputs sheet text ≡ stop n p → n ≤ 18
+unfolding accept_inputs accept_sheet accept_filter
+inputs_number sheet text =
+    at_most_number
+    (at_most_then (sheet_at_most (read_sheet sheet) (parameters_of sheet))
+    (λ ps. at_most_then
+    (cond-elim (AtMost 18) (eqb (length text) 0 || ltb 1024 (length text)) (λ _. stop_at_most 10 0 (omega arith)) (λ _. tree_at_most text (read text)))
+    (λ f. at_most_then (tests_at_most ps (tests_of f)) (λ u. found_at_most))))
 
 -- a filter is refused with none of the numbers that cards and lists are refused with
-pub question-number : (sheet text : List ℕ) (n p : ℕ) → filterQuestion sheet text ≡ stop n p → n ≤ 18
-unfolding filterQuestion
-question-number sheet text n p e = by (acceptInputs sheet text) refl e
+pub question_number : (sheet text : List ℕ) (n p : ℕ) → filter_question sheet text ≡ stop n p → n ≤ 18
+unfolding filter_question
+question_number sheet text n p e = by (accept_inputs sheet text) refl e
   where
-    by : (r : Step Inputs) → acceptInputs sheet text ≡ r → (r >>= λ p. found (questionOf p)) ≡ stop n p → n ≤ 18
+    by : (r : Step Inputs) → accept_inputs sheet text ≡ r → (r >>= λ p. found (question_of p)) ≡ stop n p → n ≤ 18
     by (found q) f g = absurd (let z : ◌≡◌ {A = ℕ} 0 1 = cc in omega arith)
-    by (stop m q) f g = let same : m ≡ n = cc in omega (arith, inputs-number sheet text m q f)
+    by (stop m q) f g = let same : m ≡ n = cc in omega (arith, inputs_number sheet text m q f)

@@ -6,7 +6,7 @@ use Rattle.base.specs.Lists.{All}
 use Rattle.sheet.specs.Sheet.{Parameter}
 use Rattle.sheet.specs.Encode.{SheetBlock}
 use Rattle.card.specs.Card.{Entry}
-use Rattle.syntax.specs.Tree.{Test, Tree, testsOf}
+use Rattle.syntax.specs.Tree.{Test, Tree, tests_of}
 use Rattle.syntax.specs.Grammar.{Spells}
 use Rattle.refusal.specs.Answers.{Answer, count, refused}
 use Rattle.answer.specs.Verdicts.{Verdict}
@@ -71,12 +71,12 @@ pub record Agree {T : Type 0} (rules : TestRules T) (tests : List T) (check chec
 -- ---- over the tests of a filter
 
 -- a test is refused at its first byte
-abbrev pub filterTests : List Parameter → TestRules Test
-filterTests ps = record { parameters = ps; place = λ t. t.at; Lacks = LacksMeaning ps; Line = TestLine ps }
+abbrev pub filter_tests : List Parameter → TestRules Test
+filter_tests ps = record { parameters = ps; place = λ t. t.at; Lacks = LacksMeaning ps; Line = TestLine ps }
 
 -- what check answers to a filter f, and match of each card, on a sheet with the parameters ps
 abbrev pub FilterDemand : List Parameter → Tree → (check : Answer) → (match : List ℕ → Answer) → Type 0
-FilterDemand ps f = Demand (filterTests ps) (testsOf f) (λ es. FilterSays ps 0 es f)
+FilterDemand ps f = Demand (filter_tests ps) (tests_of f) (λ es. FilterSays ps 0 es f)
 
 -- a check and a match meet it: "Take any sound sheet and any text of at most 1,024 bytes that is a filter by the grammar."
 abbrev pub MeetsDemand : (check : List ℕ → List ℕ → Answer) → (match : List ℕ → List ℕ → List ℕ → Answer) → Type 0

@@ -2,7 +2,7 @@
 -- Assumes nothing.
 use Rattle.std.specs.Prelude.{ℕ, ◌≤◌, ◌≡◌, true, false, List}
 use Rattle.refusal.specs.Order.{rank}
-use Rattle.base.specs.Kinds.{bundleKind}
+use Rattle.base.specs.Kinds.{bundle_kind}
 use Rattle.sheet.specs.Sheet.{Parameter}
 use Rattle.syntax.specs.Tree.{Test}
 use Rattle.judge.specs.Faults.{unsupported}
@@ -12,15 +12,15 @@ use Rattle.judge.specs.Rules.{Names, NotOnSheet}
 -- the line with the number holds for the test
 pub data TestLine (ps : List Parameter) (t : Test) : ℕ → Type 0 where
   -- "name not on the sheet"
-  line-14 : NotOnSheet ps t.path → TestLine ps t 14
+  line_14 : NotOnSheet ps t.path → TestLine ps t 14
   -- 02: "a bundle's name with no bracket"
-  line-18 : {i : ℕ} → Names ps t.path i bundleKind → TestLine ps t 18
+  line_18 : {i : ℕ} → Names ps t.path i bundle_kind → TestLine ps t 18
   -- "word is ap, ss, sb, in or ni"
-  line-15 : unsupported t.operator ≡ true → TestLine ps t 15
+  line_15 : unsupported t.operator ≡ true → TestLine ps t 15
   -- "another word without a meaning for the kind"
-  line-16 : {i k : ℕ} → Names ps t.path i k → unsupported t.operator ≡ false → (HasOperator k t.operator → ⊥) → TestLine ps t 16
+  line_16 : {i k : ℕ} → Names ps t.path i k → unsupported t.operator ≡ false → (HasOperator k t.operator → ⊥) → TestLine ps t 16
   -- "value unreadable"
-  line-17 : {i k : ℕ} → Names ps t.path i k → (ReadableValue k t.value t.operator → ⊥) → TestLine ps t 17
+  line_17 : {i k : ℕ} → Names ps t.path i k → (ReadableValue k t.value t.operator → ⊥) → TestLine ps t 17
 
 -- of the lines that hold of a test, the table gives it the number n: "within it the lower number"
 pub record Numbered (Line : ℕ → Type 0) (n : ℕ) : Type 0 where

@@ -3,56 +3,56 @@
 use Rattle.std.specs.Prelude.{ℕ, zero, suc, ◌/◌, ◌%◌, Bool, true, false, cond, ◌&&◌, ◌||◌, List, [], ◌∷◌, ◌++◌, leb, eqb, ltb, length, take, drop}
 use Rattle.std.proofs.Math.Option.{Option, none, some}
 use Rattle.block.specs.declared.Validity.{Validity}
-use Rattle.sheet.specs.Sheet.{Parameter, parametersOf, readSheet}
-use Rattle.card.specs.Card.{Entry, recordNumber, entriesOf, readCard}
-use Rattle.syntax.specs.Tree.{Test, Tree, testsOf}
-use Rattle.syntax.specs.Grammar.{deepest, mostTests}
+use Rattle.sheet.specs.Sheet.{Parameter, parameters_of, read_sheet}
+use Rattle.card.specs.Card.{Entry, record_number, entries_of, read_card}
+use Rattle.syntax.specs.Tree.{Test, Tree, tests_of}
+use Rattle.syntax.specs.Grammar.{deepest, most_tests}
 use Rattle.syntax.specs.Reader.{read}
 use Rattle.place.specs.Machine.{failure}
 use Rattle.judge.specs.Sets.{conforms}
-use Rattle.judge.specs.Faults.{firstFault}
-use Rattle.judge.specs.Verdicts.{filterSays}
+use Rattle.judge.specs.Faults.{first_fault}
+use Rattle.judge.specs.Verdicts.{filter_says}
 use Rattle.refusal.specs.declared.Decision.{Decision}
-use Rattle.refusal.specs.Answers.{Answer, yesOrNo, count}
-use Rattle.refusal.specs.Steps.{Step, found, stop, refusalStep, ◌>>=◌, answer}
+use Rattle.refusal.specs.Answers.{Answer, yes_or_no, count}
+use Rattle.refusal.specs.Steps.{Step, found, stop, refusal_step, ◌>>=◌, answer}
 
 -- ---- the sheet: 1, 2, 3
 
-abbrev pub sheetStep : Validity → List Parameter → Step (List Parameter)
-sheetStep Validity.WellFormed ps = found ps
-sheetStep Validity.WrongSize ps = stop 1 0
-sheetStep Validity.WrongSum ps = stop 2 0
-sheetStep Validity.WrongLayout ps = stop 3 0
+abbrev pub sheet_step : Validity → List Parameter → Step (List Parameter)
+sheet_step Validity.WellFormed ps = found ps
+sheet_step Validity.WrongSize ps = stop 1 0
+sheet_step Validity.WrongSum ps = stop 2 0
+sheet_step Validity.WrongLayout ps = stop 3 0
 
-unfoldable pub acceptSheet : List ℕ → Step (List Parameter)
-acceptSheet sheet = sheetStep (readSheet sheet) (parametersOf sheet)
+unfoldable pub accept_sheet : List ℕ → Step (List Parameter)
+accept_sheet sheet = sheet_step (read_sheet sheet) (parameters_of sheet)
 
 -- ---- the filter: 10, 11 to 13, and 14 to 18 for the first test at fault; names are looked up at the top
 
-abbrev pub treeStep : List ℕ → Option Tree → Step Tree
-treeStep text (some f) = found f
-treeStep text none = refusalStep (failure deepest mostTests text)
+abbrev pub tree_step : List ℕ → Option Tree → Step Tree
+tree_step text (some f) = found f
+tree_step text none = refusal_step (failure deepest most_tests text)
 
-unfoldable pub acceptFilter : List ℕ → Step Tree
-acceptFilter text = cond (eqb (length text) 0 || ltb 1024 (length text)) (stop 10 0) (treeStep text (read text))
+unfoldable pub accept_filter : List ℕ → Step Tree
+accept_filter text = cond (eqb (length text) 0 || ltb 1024 (length text)) (stop 10 0) (tree_step text (read text))
 
-abbrev pub decisionStep : Decision → Step (Unit {0})
-decisionStep Decision.Passed = found tt
-decisionStep (Decision.Refused r) = refusalStep r
+abbrev pub decision_step : Decision → Step (Unit {0})
+decision_step Decision.Passed = found tt
+decision_step (Decision.Refused r) = refusal_step r
 
-unfoldable pub testsStep : List Parameter → List Test → Step (Unit {0})
-testsStep ps ts = decisionStep (firstFault ps 0 ts)
+unfoldable pub tests_step : List Parameter → List Test → Step (Unit {0})
+tests_step ps ts = decision_step (first_fault ps 0 ts)
 
 -- the parameters of the sheet and the tree of the filter
 pub record Inputs : Type 0 where
   pub parameters : List Parameter
   pub filter : Tree
 
-unfoldable pub acceptInputs : List ℕ → List ℕ → Step Inputs
-acceptInputs sheet text = do
-  ps ← acceptSheet sheet
-  f ← acceptFilter text
-  u ← testsStep ps (testsOf f)
+unfoldable pub accept_inputs : List ℕ → List ℕ → Step Inputs
+accept_inputs sheet text = do
+  ps ← accept_sheet sheet
+  f ← accept_filter text
+  u ← tests_step ps (tests_of f)
   found (record { parameters = ps; filter = f })
 
 -- ---- cards: 20 to 23
@@ -62,30 +62,30 @@ pub record Card : Type 0 where
   pub number : ℕ
   pub entries : List Entry
 
-abbrev pub cardStep : Validity → Bool → Card → ℕ → Step Card
-cardStep Validity.WrongSize fits c i = stop 20 i
-cardStep Validity.WrongSum fits c i = stop 21 i
-cardStep Validity.WrongLayout fits c i = stop 22 i
-cardStep Validity.WellFormed true c i = found c
-cardStep Validity.WellFormed false c i = stop 23 i
+abbrev pub card_step : Validity → Bool → Card → ℕ → Step Card
+card_step Validity.WrongSize fits c i = stop 20 i
+card_step Validity.WrongSum fits c i = stop 21 i
+card_step Validity.WrongLayout fits c i = stop 22 i
+card_step Validity.WellFormed true c i = found c
+card_step Validity.WellFormed false c i = stop 23 i
 
 -- the card with the index i in its run
-unfoldable pub acceptCard : List Parameter → ℕ → List ℕ → Step Card
-acceptCard ps i b = cardStep (readCard b) (conforms ps (entriesOf b)) (record { number = recordNumber b; entries = entriesOf b }) i
+unfoldable pub accept_card : List Parameter → ℕ → List ℕ → Step Card
+accept_card ps i b = card_step (read_card b) (conforms ps (entries_of b)) (record { number = record_number b; entries = entries_of b }) i
 
 -- ---- check and match
 
 -- the answer of check for a filter on a well-formed sheet
-unfoldable pub filterAnswer : List Parameter → List ℕ → Answer
-filterAnswer ps text = answer (do
-  f ← acceptFilter text
-  u ← testsStep ps (testsOf f)
-  found (count (length (testsOf f))))
+unfoldable pub filter_answer : List Parameter → List ℕ → Answer
+filter_answer ps text = answer (do
+  f ← accept_filter text
+  u ← tests_step ps (tests_of f)
+  found (count (length (tests_of f))))
 
-unfoldable pub checkAnswer : List ℕ → List ℕ → Answer
-checkAnswer sheet text = answer (do
-  p ← acceptInputs sheet text
-  found (count (length (testsOf p.filter))))
+unfoldable pub check_answer : List ℕ → List ℕ → Answer
+check_answer sheet text = answer (do
+  p ← accept_inputs sheet text
+  found (count (length (tests_of p.filter))))
 
 -- what is asked of cards: the parameters of the sheet, and what is said of a card's entries
 pub record Question : Type 0 where
@@ -93,23 +93,23 @@ pub record Question : Type 0 where
   pub says : List Entry → Bool
 
 -- the answer of match to a question, or why there is none
-unfoldable pub matchBy : Step Question → List ℕ → Answer
-matchBy asked card = answer (do
+unfoldable pub match_by : Step Question → List ℕ → Answer
+match_by asked card = answer (do
   q ← asked
-  c ← acceptCard q.parameters 0 card
-  found (yesOrNo (q.says c.entries)))
+  c ← accept_card q.parameters 0 card
+  found (yes_or_no (q.says c.entries)))
 
 -- what a filter asks
-abbrev pub questionOf : Inputs → Question
-questionOf p = record { parameters = p.parameters; says = λ es. filterSays p.parameters 0 es p.filter }
+abbrev pub question_of : Inputs → Question
+question_of p = record { parameters = p.parameters; says = λ es. filter_says p.parameters 0 es p.filter }
 
-unfoldable pub filterQuestion : List ℕ → List ℕ → Step Question
-filterQuestion sheet text = do
-  p ← acceptInputs sheet text
-  found (questionOf p)
+unfoldable pub filter_question : List ℕ → List ℕ → Step Question
+filter_question sheet text = do
+  p ← accept_inputs sheet text
+  found (question_of p)
 
-abbrev pub matchAnswer : List ℕ → List ℕ → List ℕ → Answer
-matchAnswer sheet text = matchBy (filterQuestion sheet text)
+abbrev pub match_answer : List ℕ → List ℕ → List ℕ → Answer
+match_answer sheet text = match_by (filter_question sheet text)
 
 -- ---- select
 
@@ -119,16 +119,16 @@ blocks zero bytes = []
 blocks (suc n) bytes = take 512 bytes ∷ blocks n (drop 512 bytes)
 
 -- "no whole number of blocks, or over 128": 20
-unfoldable pub acceptRun : List ℕ → Step (List (List ℕ))
-acceptRun cards =
+unfoldable pub accept_run : List ℕ → Step (List (List ℕ))
+accept_run cards =
     cond (eqb (length cards % 512) 0 && leb (length cards) 65536) (found (blocks (length cards / 512) cards)) (stop 20 0)
 
 -- "for 21 to 23 the first faulty card decides, and on it the lower number"; i is the index of the first
-unfoldable pub acceptCards : List Parameter → ℕ → List (List ℕ) → Step (List Card)
-acceptCards ps i [] = found []
-acceptCards ps i (b ∷ bs) = do
-  c ← acceptCard ps i b
-  cs ← acceptCards ps (suc i) bs
+unfoldable pub accept_cards : List Parameter → ℕ → List (List ℕ) → Step (List Card)
+accept_cards ps i [] = found []
+accept_cards ps i (b ∷ bs) = do
+  c ← accept_card ps i b
+  cs ← accept_cards ps (suc i) bs
   found (c ∷ cs)
 
 -- the record numbers of the cards of which yes is said, in card order and repeats kept
@@ -137,20 +137,20 @@ matching says [] = []
 matching says (c ∷ cs) = cond (says c.entries) (c.number ∷ matching says cs) (matching says cs)
 
 -- 30: "list shorter than the matches", place the number of matches
-unfoldable pub acceptRoom : ℕ → List ℕ → Step (List ℕ)
-acceptRoom room numbers = cond (leb (length numbers) room) (found numbers) (stop 30 (length numbers))
+unfoldable pub accept_room : ℕ → List ℕ → Step (List ℕ)
+accept_room room numbers = cond (leb (length numbers) room) (found numbers) (stop 30 (length numbers))
 
 -- the numbers that a selection writes, for a list of `room` cells
 unfoldable pub selection : Step Question → List ℕ → ℕ → Step (List ℕ)
 selection asked cards room = do
   q ← asked
-  bs ← acceptRun cards
-  cs ← acceptCards q.parameters 0 bs
-  acceptRoom room (matching q.says cs)
+  bs ← accept_run cards
+  cs ← accept_cards q.parameters 0 bs
+  accept_room room (matching q.says cs)
 
 -- the answer of select to a question, or why there is none
-unfoldable pub selectBy : Step Question → List ℕ → ℕ → Answer
-selectBy asked cards room = answer (do
+unfoldable pub select_by : Step Question → List ℕ → ℕ → Answer
+select_by asked cards room = answer (do
   ns ← selection asked cards room
   found (count (length ns)))
 
@@ -159,12 +159,12 @@ abbrev pub written : Step (List ℕ) → List ℕ → List ℕ
 written (found ns) list = ns ++ drop (length ns) list
 written (stop n p) list = list
 
-unfoldable pub cellsBy : Step Question → List ℕ → List ℕ → List ℕ
-cellsBy asked cards list = written (selection asked cards (length list)) list
+unfoldable pub cells_by : Step Question → List ℕ → List ℕ → List ℕ
+cells_by asked cards list = written (selection asked cards (length list)) list
 
 -- by a filter
-abbrev pub selectAnswer : List ℕ → List ℕ → List ℕ → ℕ → Answer
-selectAnswer sheet text = selectBy (filterQuestion sheet text)
+abbrev pub select_answer : List ℕ → List ℕ → List ℕ → ℕ → Answer
+select_answer sheet text = select_by (filter_question sheet text)
 
-abbrev pub selectCells : List ℕ → List ℕ → List ℕ → List ℕ → List ℕ
-selectCells sheet text = cellsBy (filterQuestion sheet text)
+abbrev pub select_cells : List ℕ → List ℕ → List ℕ → List ℕ → List ℕ
+select_cells sheet text = cells_by (filter_question sheet text)

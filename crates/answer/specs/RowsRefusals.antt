@@ -8,8 +8,8 @@ use Rattle.syntax.specs.Grammar.{Spells}
 use Rattle.rows.specs.Good.{Good}
 use Rattle.rows.specs.Stated.{tree_of}
 use Rattle.refusal.specs.Answers.{count, refused}
-use Rattle.answer.specs.Operations.{matchAnswer}
-use Rattle.answer.specs.Preparing.{rowCells, prepareAnswer, prepareCells, judgeAnswer}
+use Rattle.answer.specs.Operations.{match_answer}
+use Rattle.answer.specs.Preparing.{row_cells, prepare_answer, prepare_cells, judge_answer}
 use Rattle.answer.specs.Refusals.{SheetLine, CheckLine, OneCardLine}
 
 -- ---- prepare, into a list of `room` cells
@@ -17,8 +17,8 @@ use Rattle.answer.specs.Refusals.{SheetLine, CheckLine, OneCardLine}
 -- the line about the list
 pub data CellsLine (sheet text : List ℕ) (room : ℕ) : ℕ → ℕ → Type 0 where
   -- 34 "when the list is too short", at "the cells needed"
-  line-34 : (s : SheetBlock sheet) {f : Tree} → Spells text f → room < length (rowCells s.parameters text f)
-      → CellsLine sheet text room 34 (length (rowCells s.parameters text f))
+  line_34 : (s : SheetBlock sheet) {f : Tree} → Spells text f → room < length (row_cells s.parameters text f)
+      → CellsLine sheet text room 34 (length (row_cells s.parameters text f))
 
 -- "prepare as check, then 34"
 abbrev pub PrepareLine : (sheet text : List ℕ) → (room : ℕ) → ℕ → ℕ → Type 0
@@ -28,11 +28,11 @@ PrepareLine sheet text room n p = CheckLine sheet text n p ⊎ CellsLine sheet t
 
 -- "filter is empty or over 1,024 bytes", whatever else the text is
 pub data SizeLine (text : List ℕ) : ℕ → ℕ → Type 0 where
-  line-10-judge : (length text ≡ 0) ⊎ (1024 < length text) → SizeLine text 10 0
+  line_10_judge : (length text ≡ 0) ⊎ (1024 < length text) → SizeLine text 10 0
 
 -- 40 "exactly when the rows are not good"
 pub data RowsLine (sheet text cells : List ℕ) : ℕ → ℕ → Type 0 where
-  line-40 : (s : SheetBlock sheet) → (Good s.parameters text cells → ⊥) → RowsLine sheet text cells 40 0
+  line_40 : (s : SheetBlock sheet) → (Good s.parameters text cells → ⊥) → RowsLine sheet text cells 40 0
 
 -- "judge, in this order, 1 to 3, 10, 40 .., 20 to 23"
 abbrev pub JudgeLine : (sheet text cells card : List ℕ) → ℕ → ℕ → Type 0
@@ -41,16 +41,16 @@ JudgeLine sheet text cells card n p = SheetLine sheet n p ⊎ (SizeLine text n p
 -- ---- what prepare answers where no line holds: the cells of the filter's rows, written before what the list held
 
 pub record PrepareAnswers (sheet text list : List ℕ) (ps : List Parameter) (f : Tree) : Type 0 where
-  pub counts : prepareAnswer sheet text (length list) ≡ count (length (rowCells ps text f))
-  pub writes : prepareCells sheet text list ≡ rowCells ps text f ++ drop (length (rowCells ps text f)) list
+  pub counts : prepare_answer sheet text (length list) ≡ count (length (row_cells ps text f))
+  pub writes : prepare_cells sheet text list ≡ row_cells ps text f ++ drop (length (row_cells ps text f)) list
 
 -- the n cells that prepare has filled are good rows, and state the filter: the same tests, joined, negated and bracketed the same
 pub record PreparesGood (sheet text list : List ℕ) (ps : List Parameter) (f : Tree) (n : ℕ) : Type 0 where
-  pub rows : Good ps text (take n (prepareCells sheet text list))
+  pub rows : Good ps text (take n (prepare_cells sheet text list))
   pub states : erase (tree_of ps text rows.expression) ≡ erase f
 
 -- "match stays as the two after each other": with a list that is long enough, what prepare refuses match refuses alike, and else match is
 -- judge on the rows that prepare has written
 pub record MatchIs (sheet text card list : List ℕ) : Type 0 where
-  pub refused-alike : (n p : ℕ) → prepareAnswer sheet text (length list) ≡ refused n p → matchAnswer sheet text card ≡ refused n p
-  pub judged : (n : ℕ) → prepareAnswer sheet text (length list) ≡ count n → matchAnswer sheet text card ≡ judgeAnswer sheet text (take n (prepareCells sheet text list)) card
+  pub refused_alike : (n p : ℕ) → prepare_answer sheet text (length list) ≡ refused n p → match_answer sheet text card ≡ refused n p
+  pub judged : (n : ℕ) → prepare_answer sheet text (length list) ≡ count n → match_answer sheet text card ≡ judge_answer sheet text (take n (prepare_cells sheet text list)) card

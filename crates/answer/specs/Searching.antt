@@ -2,49 +2,49 @@
 -- Assumes nothing.
 use Rattle.std.specs.Prelude.{ℕ, List, length}
 use Rattle.sheet.specs.Sheet.{Parameter}
-use Rattle.query.specs.Spelling.{Alternative, Query, alternativesOf}
-use Rattle.query.specs.Reader.{acceptQuery}
-use Rattle.search.specs.Meaning.{firstAlternativeFault, querySays}
+use Rattle.query.specs.Spelling.{Alternative, Query, alternatives_of}
+use Rattle.query.specs.Reader.{accept_query}
+use Rattle.search.specs.Meaning.{first_alternative_fault, query_says}
 use Rattle.refusal.specs.Answers.{Answer, count}
 use Rattle.refusal.specs.Steps.{Step, found, ◌>>=◌, answer}
-use Rattle.answer.specs.Operations.{decisionStep, acceptSheet, Question, matchBy, selectBy, cellsBy}
+use Rattle.answer.specs.Operations.{decision_step, accept_sheet, Question, match_by, select_by, cells_by}
 
 -- 14, 16 and 17 for the first alternative at fault
-unfoldable pub alternativesStep : List Parameter → List Alternative → Step (Unit {0})
-alternativesStep ps list = decisionStep (firstAlternativeFault ps list)
+unfoldable pub alternatives_step : List Parameter → List Alternative → Step (Unit {0})
+alternatives_step ps list = decision_step (first_alternative_fault ps list)
 
 -- the parameters of the sheet and the pairs of the search string
 pub record QueryInputs : Type 0 where
   pub parameters : List Parameter
   pub query : Query
 
-unfoldable pub acceptQueryInputs : List ℕ → List ℕ → Step QueryInputs
-acceptQueryInputs sheet text = do
-  ps ← acceptSheet sheet
-  q ← acceptQuery text
-  u ← alternativesStep ps (alternativesOf q)
+unfoldable pub accept_query_inputs : List ℕ → List ℕ → Step QueryInputs
+accept_query_inputs sheet text = do
+  ps ← accept_sheet sheet
+  q ← accept_query text
+  u ← alternatives_step ps (alternatives_of q)
   found (record { parameters = ps; query = q })
 
 -- "check's count take alternatives for tests"
-unfoldable pub checkSearchAnswer : List ℕ → List ℕ → Answer
-checkSearchAnswer sheet text = answer (do
-  p ← acceptQueryInputs sheet text
-  found (count (length (alternativesOf p.query))))
+unfoldable pub check_search_answer : List ℕ → List ℕ → Answer
+check_search_answer sheet text = answer (do
+  p ← accept_query_inputs sheet text
+  found (count (length (alternatives_of p.query))))
 
 -- what a search string asks
-abbrev pub questionOfQuery : QueryInputs → Question
-questionOfQuery p = record { parameters = p.parameters; says = λ es. querySays p.parameters es p.query }
+abbrev pub question_of_query : QueryInputs → Question
+question_of_query p = record { parameters = p.parameters; says = λ es. query_says p.parameters es p.query }
 
-unfoldable pub searchQuestion : List ℕ → List ℕ → Step Question
-searchQuestion sheet text = do
-  p ← acceptQueryInputs sheet text
-  found (questionOfQuery p)
+unfoldable pub search_question : List ℕ → List ℕ → Step Question
+search_question sheet text = do
+  p ← accept_query_inputs sheet text
+  found (question_of_query p)
 
-abbrev pub matchSearchAnswer : List ℕ → List ℕ → List ℕ → Answer
-matchSearchAnswer sheet text = matchBy (searchQuestion sheet text)
+abbrev pub match_search_answer : List ℕ → List ℕ → List ℕ → Answer
+match_search_answer sheet text = match_by (search_question sheet text)
 
-abbrev pub selectSearchAnswer : List ℕ → List ℕ → List ℕ → ℕ → Answer
-selectSearchAnswer sheet text = selectBy (searchQuestion sheet text)
+abbrev pub select_search_answer : List ℕ → List ℕ → List ℕ → ℕ → Answer
+select_search_answer sheet text = select_by (search_question sheet text)
 
-abbrev pub selectSearchCells : List ℕ → List ℕ → List ℕ → List ℕ → List ℕ
-selectSearchCells sheet text = cellsBy (searchQuestion sheet text)
+abbrev pub select_search_cells : List ℕ → List ℕ → List ℕ → List ℕ → List ℕ
+select_search_cells sheet text = cells_by (search_question sheet text)

@@ -9,10 +9,10 @@ abbrev pub answer : ℕ → ℕ → Answer
 answer refusal value = record { refusal = refusal; value = value }
 
 -- the number of the refusal, 0 where there is none; and the count, 1 for yes and 0 for no, or the refusal's place
-unfoldable pub cAnswer : paper.Answer → Answer
-cAnswer yes = answer 0 1
-cAnswer no = answer 0 0
-cAnswer (count n) = answer 0 n
+unfoldable pub c_answer : paper.Answer → Answer
+c_answer yes = answer 0 1
+c_answer no = answer 0 0
+c_answer (count n) = answer 0 n
 -- a report's answer, which has a struct of its own
-cAnswer (counts y n) = answer 0 y
-cAnswer (refused n p) = answer n p
+c_answer (counts y n) = answer 0 y
+c_answer (refused n p) = answer n p

@@ -1,8 +1,8 @@
 // An answer as two numbers, for C. No enum crosses to C, so a struct of numbers stands for an answer.
 ghost use Rattle.std.specs.Prelude.{◌≡◌};
-ghost use Rattle.refusal.specs.Answers.{refusalAnswer};
-ghost use Rattle.answer.specs.Answers.{checkedAnswer, matchedAnswer, selectedAnswer};
-ghost use Rattle.answers_c.specs.Answers.{cAnswer};
+ghost use Rattle.refusal.specs.Answers.{refusal_answer};
+ghost use Rattle.answer.specs.Answers.{checked_answer, matched_answer, selected_answer};
+ghost use Rattle.answers_c.specs.Answers.{c_answer};
 
 use answer::{Checked, Matched, Selected};
 use refusal::{Refusal, number};
@@ -17,7 +17,7 @@ pub struct Answer {
 
 // A refusal by its number and its place.
 pub fn refused(refusal: Refusal) -> Answer
-    ensures { result ≡ cAnswer (refusalAnswer refusal) }
+    ensures { result ≡ c_answer (refusal_answer refusal) }
 {
     let reason = refusal.reason;
     Answer {
@@ -28,7 +28,7 @@ pub fn refused(refusal: Refusal) -> Answer
 
 // Check's answer in numbers.
 pub fn c_checked(checked: Checked) -> Answer
-    ensures { result ≡ cAnswer (checkedAnswer checked) }
+    ensures { result ≡ c_answer (checked_answer checked) }
 {
     match checked {
         Checked::Tests(tests) => Answer {
@@ -41,7 +41,7 @@ pub fn c_checked(checked: Checked) -> Answer
 
 // Match's answer in numbers.
 pub fn c_matched(matched: Matched) -> Answer
-    ensures { result ≡ cAnswer (matchedAnswer matched) }
+    ensures { result ≡ c_answer (matched_answer matched) }
 {
     match matched {
         Matched::Yes => Answer {
@@ -58,7 +58,7 @@ pub fn c_matched(matched: Matched) -> Answer
 
 // Select's answer in numbers.
 pub fn c_selected(selected: Selected) -> Answer
-    ensures { result ≡ cAnswer (selectedAnswer selected) }
+    ensures { result ≡ c_answer (selected_answer selected) }
 {
     match selected {
         Selected::Count(count) => Answer {

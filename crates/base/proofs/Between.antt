@@ -7,13 +7,13 @@ use borrow.Author.Tests.{le-leb, leb-true}
 use Rattle.base.specs.Between.{between}
 use Rattle.base.proofs.Tests.{and_left, and_right, and_both}
 
-pub between-low : (low high n : ℕ) → between low high n ≡ true → low ≤ n
+pub between_low : (low high n : ℕ) → between low high n ≡ true → low ≤ n
 unfolding between
-between-low low high n h = leb-true low n (and_left (leb low n) (leb n high) h)
+between_low low high n h = leb-true low n (and_left (leb low n) (leb n high) h)
 
-pub between-high : (low high n : ℕ) → between low high n ≡ true → n ≤ high
+pub between_high : (low high n : ℕ) → between low high n ≡ true → n ≤ high
 unfolding between
-between-high low high n h = leb-true n high (and_right (leb low n) (leb n high) h)
+between_high low high n h = leb-true n high (and_right (leb low n) (leb n high) h)
 
 pub between-passes : {low high n : ℕ} → low ≤ n → n ≤ high → between low high n ≡ true
 unfolding between

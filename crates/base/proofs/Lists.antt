@@ -4,7 +4,7 @@ use mathlib.Core.Path.{◌≡◌, refl, ap, sym, ◌∙◌}
 use Prim.Native.Nat.{ℕ, suc, ◌+◌, ◌-◌, ◌<◌}
 use native.Mathlib.Numerals.{add-one}
 use native.Mathlib.Omega.{arith}
-use mathlib.Core.Bool.{Bool, true, false, false≢true, and-false}
+use mathlib.Core.Bool.{Bool, true, false, false≢true, and_false}
 use mathlib.Core.Logic.{◌⊎◌, inl, inr, ⊎_elim, ite}
 use mathlib.Core.List.{List, [], ◌∷◌, ◌++◌, map, filter}
 use lib.Dec.{eqb}
@@ -12,8 +12,8 @@ use lib.ListN.{length, get_or, take, drop, length-drop, drop_of_length-le, lengt
 use lib.Seq.{take_all, drop-cons}
 use types.Run.{OneOf}
 use borrow.Author.Tests.{eq-eqb, ne_eqb, eqb-true}
-use Rattle.base.specs.Lists.{Listed, All, all-empty, all_cons, every, equal, member}
-use Rattle.base.proofs.Tests.{and_left, and_right, and_both, or-either, or_right, decided}
+use Rattle.base.specs.Lists.{Listed, All, all_empty, all_cons, every, equal, member}
+use Rattle.base.proofs.Tests.{and_left, and_right, and_both, or_either, or_right, decided}
 
 -- ---- parts
 
@@ -24,8 +24,8 @@ rest s j = take_all (length s - j) (drop j s) (omega (arith, length-drop j s))
 pub cons_same : {x y : ℕ} {xs ys : List ℕ} → x ≡ y → xs ≡ ys → x ∷ xs ≡ y ∷ ys
 cons_same e t = cc
 
-pub length-zero : (s : List ℕ) → length s ≡ 0 → s ≡ []
-length-zero s h = drop_of_length-le s {i = 0} (omega arith)
+pub length_zero : (s : List ℕ) → length s ≡ 0 → s ≡ []
+length_zero s h = drop_of_length-le s {i = 0} (omega arith)
 
 -- the rest from an index: the element there, and the rest from the next index
 pub drop-next : (s : List ℕ) (i : ℕ) → i < length s → drop i s ≡ get_or s i 0 ∷ drop (i + 1) s
@@ -33,15 +33,15 @@ drop-next s i h = rw (add-one i) (drop-cons s i 0 h)
 
 -- ---- every element
 
-pub every-all : (p : ℕ → Bool) (l : List ℕ) → every p l ≡ true → All (λ (x : ℕ). p x ≡ true) l
+pub every_all : (p : ℕ → Bool) (l : List ℕ) → every p l ≡ true → All (λ (x : ℕ). p x ≡ true) l
 unfolding every
-every-all p [] h = all-empty
-every-all p (x ∷ xs) h = all_cons (and_left (p x) (every p xs) h) (every-all p xs (and_right (p x) (every p xs) h))
+every_all p [] h = all_empty
+every_all p (x ∷ xs) h = all_cons (and_left (p x) (every p xs) h) (every_all p xs (and_right (p x) (every p xs) h))
 
-pub all-every : (p : ℕ → Bool) (l : List ℕ) → All (λ (x : ℕ). p x ≡ true) l → every p l ≡ true
+pub all_every : (p : ℕ → Bool) (l : List ℕ) → All (λ (x : ℕ). p x ≡ true) l → every p l ≡ true
 unfolding every
-all-every p [] h = refl
-all-every p (x ∷ xs) (all_cons e h) = and_both (p x) (every p xs) e (all-every p xs h)
+all_every p [] h = refl
+all_every p (x ∷ xs) (all_cons e h) = and_both (p x) (every p xs) e (all_every p xs h)
 
 -- ---- equality
 
@@ -53,37 +53,37 @@ equal-same (x ∷ xs) [] h = absurd (false≢true h)
 equal-same (x ∷ xs) (y ∷ ys) h =
     cons_same (eqb-true x y (and_left (eqb x y) (equal xs ys) h)) (equal-same xs ys (and_right (eqb x y) (equal xs ys) h))
 
-pub equal-refl : (a : List ℕ) → equal a a ≡ true
+pub equal_refl : (a : List ℕ) → equal a a ≡ true
 unfolding equal
-equal-refl [] = refl
-equal-refl (x ∷ xs) = rw (eq-eqb x x refl) (equal-refl xs)
+equal_refl [] = refl
+equal_refl (x ∷ xs) = rw (eq-eqb x x refl) (equal_refl xs)
 
-pub equal-lengths : (a b : List ℕ) → (length a ≡ length b → ⊥) → false ≡ equal a b
+pub equal_lengths : (a b : List ℕ) → (length a ≡ length b → ⊥) → false ≡ equal a b
 unfolding equal
-equal-lengths [] [] n = absurd (n refl)
-equal-lengths [] (y ∷ ys) n = refl
-equal-lengths (x ∷ xs) [] n = refl
-equal-lengths (x ∷ xs) (y ∷ ys) n =
-    let t : false ≡ equal xs ys = equal-lengths xs ys (λ e. n (ap suc e)) in
-    rw (← t) (sym (and-false (eqb x y)))
+equal_lengths [] [] n = absurd (n refl)
+equal_lengths [] (y ∷ ys) n = refl
+equal_lengths (x ∷ xs) [] n = refl
+equal_lengths (x ∷ xs) (y ∷ ys) n =
+    let t : false ≡ equal xs ys = equal_lengths xs ys (λ e. n (ap suc e)) in
+    rw (← t) (sym (and_false (eqb x y)))
 
-pub equal-not : (a b : List ℕ) → (a ≡ b → ⊥) → equal a b ≡ false
-equal-not a b n = ⊎_elim (λ t. absurd (n (equal-same a b t))) (λ f. f) (decided (equal a b))
+pub equal_not : (a b : List ℕ) → (a ≡ b → ⊥) → equal a b ≡ false
+equal_not a b n = ⊎_elim (λ t. absurd (n (equal-same a b t))) (λ f. f) (decided (equal a b))
 
 -- ---- membership, as an arm of a `match` tells it of its keys
 
-pub member-arm : (ks : List ℕ) (x : ℕ) → OneOf ks x → true ≡ member x ks
+pub member_arm : (ks : List ℕ) (x : ℕ) → OneOf ks x → true ≡ member x ks
 unfolding member
-member-arm [] x h = absurd h
-member-arm (k ∷ []) x e = rw (eq-eqb x k e)
-member-arm (k ∷ j ∷ ks) x (inl e) = rw (eq-eqb x k e)
-member-arm (k ∷ j ∷ ks) x (inr h) = sym (or_right (eqb x k) (member x (j ∷ ks)) (sym (member-arm (j ∷ ks) x h)))
+member_arm [] x h = absurd h
+member_arm (k ∷ []) x e = rw (eq-eqb x k e)
+member_arm (k ∷ j ∷ ks) x (inl e) = rw (eq-eqb x k e)
+member_arm (k ∷ j ∷ ks) x (inr h) = sym (or_right (eqb x k) (member x (j ∷ ks)) (sym (member_arm (j ∷ ks) x h)))
 
-pub member-rest : (ks : List ℕ) (x : ℕ) → (OneOf ks x → ⊥) → false ≡ member x ks
+pub member_rest : (ks : List ℕ) (x : ℕ) → (OneOf ks x → ⊥) → false ≡ member x ks
 unfolding member
-member-rest [] x h = refl
-member-rest (k ∷ []) x h = rw (ne_eqb x k h)
-member-rest (k ∷ j ∷ ks) x h = rw (ne_eqb x k (λ e. h (inl e))) (member-rest (j ∷ ks) x (λ r. h (inr r)))
+member_rest [] x h = refl
+member_rest (k ∷ []) x h = rw (ne_eqb x k h)
+member_rest (k ∷ j ∷ ks) x h = rw (ne_eqb x k (λ e. h (inl e))) (member_rest (j ∷ ks) x (λ r. h (inr r)))
 
 -- what every element passes, a member passes
 pub every-member : (p : ℕ → Bool) (ks : List ℕ) (x : ℕ) → every p ks ≡ true → member x ks ≡ true → p x ≡ true
@@ -93,20 +93,20 @@ every-member p (k ∷ ks) x h m =
     ⊎_elim
     (λ e. ap p (eqb-true x k e) ∙ and_left (p k) (every p ks) h)
     (λ r. every-member p ks x (and_right (p k) (every p ks) h) r)
-    (or-either (eqb x k) (member x ks) m)
+    (or_either (eqb x k) (member x ks) m)
 
 -- ---- what passes a decision
 
 module _ {A B : Type 0} {P : B → Type 0} (d : (y : B) → Dec (P y)) (f : A → B) where
-  filter-next : (x : A) (ys : List B) (xs : List A) → length ys ≡ length xs → (c : Dec (P (f x)))
+  filter_next : (x : A) (ys : List B) (xs : List A) → length ys ≡ length xs → (c : Dec (P (f x)))
       → length (ite {C = List B} c (f x ∷ ys) ys) ≡ length (ite {C = List A} c (x ∷ xs) xs)
-  filter-next x ys xs e (yes p) = ap suc e
-  filter-next x ys xs e (no n) = e
+  filter_next x ys xs e (yes p) = ap suc e
+  filter_next x ys xs e (no n) = e
 
   -- as many pass before a map as after it
   pub filter_map : (xs : List A) → length (filter d (map f xs)) ≡ length (filter (λ x. d (f x)) xs)
   filter_map [] = refl
-  filter_map (x ∷ xs) = filter-next x (filter d (map f xs)) (filter (λ x. d (f x)) xs) (filter_map xs) (d (f x))
+  filter_map (x ∷ xs) = filter_next x (filter d (map f xs)) (filter (λ x. d (f x)) xs) (filter_map xs) (d (f x))
 
 -- ---- an element by its index
 
@@ -114,15 +114,15 @@ module _ {A : Type 0} where
   pub listed_nil : {i : ℕ} {x : A} → Listed [] i x → ⊥
   listed_nil {x = x} l = omega (arith, ap length l.split, length-append l.before (x ∷ l.after))
 
-  pub listed-first : (x : A) (xs : List A) → Listed (x ∷ xs) 0 x
-  listed-first x xs = record { before = []; after = xs; split = refl; index = refl }
+  pub listed_first : (x : A) (xs : List A) → Listed (x ∷ xs) 0 x
+  listed_first x xs = record { before = []; after = xs; split = refl; index = refl }
 
-  pub listed-later : (y : A) {xs : List A} {i : ℕ} {x : A} → Listed xs i x → Listed (y ∷ xs) (suc i) x
-  listed-later y l = record { before = y ∷ l.before; after = l.after; split = ap (λ (t : List A). y ∷ t) l.split; index = ap suc l.index }
+  pub listed_later : (y : A) {xs : List A} {i : ℕ} {x : A} → Listed xs i x → Listed (y ∷ xs) (suc i) x
+  listed_later y l = record { before = y ∷ l.before; after = l.after; split = ap (λ (t : List A). y ∷ t) l.split; index = ap suc l.index }
 
   -- the first element, or one of the rest
-  pub listed-cases : (y : A) (xs : List A) (i : ℕ) (x : A) → Listed (y ∷ xs) i x → ((i ≡ 0) × (x ≡ y)) ⊎ ((k : ℕ) × (i ≡ suc k) × Listed xs k x)
-  listed-cases y xs i x l = by_before l.before l.split l.index
+  pub listed_cases : (y : A) (xs : List A) (i : ℕ) (x : A) → Listed (y ∷ xs) i x → ((i ≡ 0) × (x ≡ y)) ⊎ ((k : ℕ) × (i ≡ suc k) × Listed xs k x)
+  listed_cases y xs i x l = by_before l.before l.split l.index
     where
       by_before : (before : List A) → y ∷ xs ≡ before ++ (x ∷ l.after) → length before ≡ i → ((i ≡ 0) × (x ≡ y)) ⊎ ((k : ℕ) × (i ≡ suc k) × Listed xs k x)
       by_before [] e h = let same : x ≡ y = cc in inl (sym h, same)

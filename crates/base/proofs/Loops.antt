@@ -4,7 +4,7 @@ use Prim.Native.Nat.{ℕ, ◌+◌, ◌≤◌, ◌<◌}
 use native.Mathlib.Numerals.{add-one}
 use native.Mathlib.Omega.{arith}
 use mathlib.Core.Path.{◌≡◌, refl, ap, sym, ◌∙◌}
-use mathlib.Core.Bool.{Bool, true, false, ◌&&◌, and-true, and_assoc}
+use mathlib.Core.Bool.{Bool, true, false, ◌&&◌, and_true, and_assoc}
 use mathlib.Core.List.{List}
 use lib.ListN.{length, drop, get_or, drop_of_length-le}
 use lib.Seq.{drop-cons}
@@ -18,21 +18,21 @@ module _ (p : ℕ → Bool) (s : List ℕ) where
   pub passed_start : Passed p s 0
   passed_start = record { within = omega arith; left = refl }
 
-  pub passed-next : (i : ℕ) → Passed p s i → i < length s → p (get_or s i 0) ≡ true → Passed p s (i + 1)
+  pub passed_next : (i : ℕ) → Passed p s i → i < length s → p (get_or s i 0) ≡ true → Passed p s (i + 1)
   unfolding every
-  passed-next i inv h e =
+  passed_next i inv h e =
       let left : every p (drop (i + 1) s) ≡ every p (drop i s) = rw (add-one, drop-cons s i 0, e) in
       record { within = omega arith; left = left ∙ inv.left }
 
-  pub passed-not : (i : ℕ) → Passed p s i → i < length s → p (get_or s i 0) ≡ false → false ≡ every p s
+  pub passed_not : (i : ℕ) → Passed p s i → i < length s → p (get_or s i 0) ≡ false → false ≡ every p s
   unfolding every
-  passed-not i inv h e =
+  passed_not i inv h e =
       let left : false ≡ every p (drop i s) = rw (drop-cons s i 0, e) in
       left ∙ inv.left
 
-  pub passed-end : (i : ℕ) → Passed p s i → length s ≤ i → true ≡ every p s
+  pub passed_end : (i : ℕ) → Passed p s i → length s ≤ i → true ≡ every p s
   unfolding every
-  passed-end i inv h = ap (every p) (sym (drop_of_length-le s h)) ∙ inv.left
+  passed_end i inv h = ap (every p) (sym (drop_of_length-le s h)) ∙ inv.left
 
 -- ---- the same, for a loop that goes on to the end
 
@@ -50,33 +50,33 @@ module _ (p : ℕ → Bool) (s : List ℕ) where
           left = ap (λ (b : Bool). b && every p (drop (i + 1) s)) e ∙ and_assoc all (p (get_or s i 0)) (every p (drop (i + 1) s)) ∙ ap (λ (b : Bool). all && b) left ∙ inv.left;
         }
 
-    pub counted-end : length s ≤ i → all ≡ every p s
+    pub counted_end : length s ≤ i → all ≡ every p s
     unfolding every
-    counted-end h = sym (and-true all) ∙ ap (λ (l : List ℕ). all && every p l) (sym (drop_of_length-le s h)) ∙ inv.left
+    counted_end h = sym (and_true all) ∙ ap (λ (l : List ℕ). all && every p l) (sym (drop_of_length-le s h)) ∙ inv.left
 
 -- ---- two lists
 
 module _ (a b : List ℕ) where
-  pub agreed-start : length a ≡ length b → Agreed a b 0
-  agreed-start e = record { within = omega arith; lengths = e; left = refl }
+  pub agreed_start : length a ≡ length b → Agreed a b 0
+  agreed_start e = record { within = omega arith; lengths = e; left = refl }
 
-  pub agreed-next : (i : ℕ) → Agreed a b i → i < length a → get_or a i 0 ≡ get_or b i 0 → Agreed a b (i + 1)
+  pub agreed_next : (i : ℕ) → Agreed a b i → i < length a → get_or a i 0 ≡ get_or b i 0 → Agreed a b (i + 1)
   unfolding equal
-  agreed-next i inv h e =
+  agreed_next i inv h e =
       let k : i < length b = omega (arith, inv.lengths) in
       let left : equal (drop (i + 1) a) (drop (i + 1) b) ≡ equal (drop i a) (drop i b) = rw (add-one, drop-cons a i 0, drop-cons b i 0, eq-eqb _ _ e) in
       record { within = omega arith; lengths = inv.lengths; left = left ∙ inv.left }
 
-  pub agreed-not : (i : ℕ) → Agreed a b i → i < length a → (get_or a i 0 ≡ get_or b i 0 → ⊥) → false ≡ equal a b
+  pub agreed_not : (i : ℕ) → Agreed a b i → i < length a → (get_or a i 0 ≡ get_or b i 0 → ⊥) → false ≡ equal a b
   unfolding equal
-  agreed-not i inv h n =
+  agreed_not i inv h n =
       let k : i < length b = omega (arith, inv.lengths) in
       let left : false ≡ equal (drop i a) (drop i b) = rw (drop-cons a i 0, drop-cons b i 0, ne_eqb _ _ n) in
       left ∙ inv.left
 
-  pub agreed-end : (i : ℕ) → Agreed a b i → length a ≤ i → true ≡ equal a b
+  pub agreed_end : (i : ℕ) → Agreed a b i → length a ≤ i → true ≡ equal a b
   unfolding equal
-  agreed-end i inv h =
+  agreed_end i inv h =
       let k : length b ≤ i = omega (arith, inv.lengths) in
       let left : true ≡ equal (drop i a) (drop i b) = rw (drop_of_length-le a {i = i} h, drop_of_length-le b {i = i} k) in
       left ∙ inv.left

@@ -7,6 +7,6 @@ use mathlib.Core.Option.{Option, none, some}
 use Rattle.base.specs.Options.{is_some}
 
 -- there is a value exactly when something has the property that says which value it is
-pub isSome-iff : {A : Type 0} (P : A → Type 0) (o : Option A) → ((x : A) → (o ≡ some x) ↔ P x) → (is_some o ≡ true) ↔ ((x : A) × P x)
-isSome-iff P none f = (λ h. absurd (false≢true h), λ w. ap is_some ((f w.0).1 w.1))
-isSome-iff P (some x) f = (λ h. (x, (f x).0 refl), λ w. refl)
+pub is_some_iff : {A : Type 0} (P : A → Type 0) (o : Option A) → ((x : A) → (o ≡ some x) ↔ P x) → (is_some o ≡ true) ↔ ((x : A) × P x)
+is_some_iff P none f = (λ h. absurd (false≢true h), λ w. ap is_some ((f w.0).1 w.1))
+is_some_iff P (some x) f = (λ h. (x, (f x).0 refl), λ w. refl)

@@ -23,8 +23,8 @@ module _ (s : List ℕ) where
   pub part_length : (a e : ℕ) → e ≤ length s → length (part s a e) ≡ e - a
   part_length a e h = length-take-le (e - a) (drop a s) (rw (length-drop a s) (omega arith))
 
-  pub part-cons : (a e : ℕ) → a < e → e ≤ length s → part s a e ≡ get_or s a 0 ∷ part s (a + 1) e
-  part-cons a e h k =
+  pub part_cons : (a e : ℕ) → a < e → e ≤ length s → part s a e ≡ get_or s a 0 ∷ part s (a + 1) e
+  part_cons a e h k =
       let l : a < length s = omega arith in
       let n : e - a ≡ suc (e - (a + 1)) = omega arith in
       ap (λ (m : ℕ). take m (drop a s)) n ∙ rw (add-one a, drop-cons s a 0 l)

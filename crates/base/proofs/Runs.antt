@@ -11,8 +11,8 @@ use mathlib.Core.Logic.{⊎_elim}
 use lib.ListN.{length, get_or, take, drop, drop_of_length-le}
 use lib.Seq.{drop-cons}
 use borrow.Author.Tests.{eq-eqb, ne_eqb}
-use Rattle.base.specs.Lists.{All, all-empty, all_cons, every}
-use Rattle.base.specs.Runs.{run, runEnd, differs, RunEnd}
+use Rattle.base.specs.Lists.{All, all_empty, all_cons, every}
+use Rattle.base.specs.Runs.{run, run_end, differs, RunEnd}
 use Rattle.base.proofs.Tests.{and_left, and_right, and_both, decided}
 
 -- ---- counting from i on, where the run is what has been passed and the run of what is left
@@ -24,9 +24,9 @@ module _ (p : ℕ → Bool) (s : List ℕ) (i : ℕ) (inv : run p s ≡ i + run 
       let d : run p (drop i s) ≡ suc (run p (drop (i + 1) s)) = rw (add-one, drop-cons s i 0, sym e ∙ t) in
       omega arith
 
-  pub run-stops : (r : Bool) → r ≡ p (get_or s i 0) → r ≡ false → i < length s → i ≡ run p s
+  pub run_stops : (r : Bool) → r ≡ p (get_or s i 0) → r ≡ false → i < length s → i ≡ run p s
   unfolding run
-  run-stops r e t h =
+  run_stops r e t h =
       let d : run p (drop i s) ≡ 0 = rw (drop-cons s i 0, sym e ∙ t) in
       omega arith
 
@@ -73,45 +73,45 @@ module _ (p : ℕ → Bool) where
   run-append [] x f h d = rw d
   run-append (y ∷ w) x f h d = rw (and_left (p y) (every p w) h, run-append w x f (and_right (p y) (every p w) h) d)
 
-  pub run-then : (w t : List ℕ) → All (λ (x : ℕ). p x ≡ true) w → run p t ≡ 0 → run p (w ++ t) ≡ length w
+  pub run_then : (w t : List ℕ) → All (λ (x : ℕ). p x ≡ true) w → run p t ≡ 0 → run p (w ++ t) ≡ length w
   unfolding run
-  run-then [] t all-empty z = z
-  run-then (x ∷ w) t (all_cons h all) z = rw h (ap suc (run-then w t all z))
+  run_then [] t all_empty z = z
+  run_then (x ∷ w) t (all_cons h all) z = rw h (ap suc (run_then w t all z))
 
 -- ---- a scan from an index on, which has come to i: what is left decides where it ends
 
 pub record Scanned (p : ℕ → Bool) (s : List ℕ) (at i : ℕ) : Type 0 where
   pub from : at ≤ i
   pub within : i ≤ length s
-  pub left : runEnd p s at ≡ runEnd p s i
+  pub left : run_end p s at ≡ run_end p s i
 
 module _ (p : ℕ → Bool) (s : List ℕ) (at : ℕ) where
-  pub scan-starts : at ≤ length s → Scanned p s at at
-  scan-starts h = record { from = omega arith; within = h; left = refl }
+  pub scan_starts : at ≤ length s → Scanned p s at at
+  scan_starts h = record { from = omega arith; within = h; left = refl }
 
   module _ (i : ℕ) (a : Scanned p s at i) where
-    pub scan-on : (r : Bool) → r ≡ p (get_or s i 0) → r ≡ true → i < length s → Scanned p s at (i + 1)
-    unfolding run runEnd
-    scan-on r e t h =
+    pub scan_on : (r : Bool) → r ≡ p (get_or s i 0) → r ≡ true → i < length s → Scanned p s at (i + 1)
+    unfolding run run_end
+    scan_on r e t h =
         let d : run p (drop i s) ≡ suc (run p (drop (i + 1) s)) = rw (add-one, drop-cons s i 0, sym e ∙ t) in
         record { from = omega arith; within = omega arith; left = omega arith }
 
-    pub scan-stops : (r : Bool) → r ≡ p (get_or s i 0) → r ≡ false → i < length s → RunEnd p s at i
-    unfolding run runEnd
-    scan-stops r e t h =
+    pub scan_stops : (r : Bool) → r ≡ p (get_or s i 0) → r ≡ false → i < length s → RunEnd p s at i
+    unfolding run run_end
+    scan_stops r e t h =
         let d : run p (drop i s) ≡ 0 = rw (drop-cons s i 0, sym e ∙ t) in
         record { is = omega arith; from = a.from; within = a.within }
 
-    pub scan-ends : length s ≤ i → RunEnd p s at i
-    unfolding run runEnd
-    scan-ends h =
+    pub scan_ends : length s ≤ i → RunEnd p s at i
+    unfolding run run_end
+    scan_ends h =
         let d : run p (drop i s) ≡ 0 = rw (drop_of_length-le s h) in
         record { is = omega arith; from = a.from; within = a.within }
 
 -- a scan for x
 module _ (x : ℕ) (s : List ℕ) (at i : ℕ) (a : Scanned (differs x) s at i) (h : i < length s) where
-  pub scan-finds : get_or s i 0 ≡ x → RunEnd (differs x) s at i
-  scan-finds e = scan-stops (differs x) s at i a false (rw (eq-eqb _ _ e)) refl h
+  pub scan_finds : get_or s i 0 ≡ x → RunEnd (differs x) s at i
+  scan_finds e = scan_stops (differs x) s at i a false (rw (eq-eqb _ _ e)) refl h
 
-  pub scan-passes : (get_or s i 0 ≡ x → ⊥) → Scanned (differs x) s at (i + 1)
-  scan-passes n = scan-on (differs x) s at i a true (rw (ne_eqb _ _ n)) refl h
+  pub scan_passes : (get_or s i 0 ≡ x → ⊥) → Scanned (differs x) s at (i + 1)
+  scan_passes n = scan_on (differs x) s at i a true (rw (ne_eqb _ _ n)) refl h

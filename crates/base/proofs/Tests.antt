@@ -20,25 +20,25 @@ and_right false b h = absurd (false≢true h)
 pub and_both : (a b : Bool) → a ≡ true → b ≡ true → (a && b) ≡ true
 and_both a b p q = rw (p, q)
 
-pub and-true : (b : Bool) → (b && true) ≡ b
-and-true true = refl
-and-true false = refl
+pub and_true : (b : Bool) → (b && true) ≡ b
+and_true true = refl
+and_true false = refl
 
-pub and-false : (b : Bool) → (b && false) ≡ false
-and-false true = refl
-and-false false = refl
+pub and_false : (b : Bool) → (b && false) ≡ false
+and_false true = refl
+and_false false = refl
 
-pub and-holds : (a b r : Bool) → a ≡ true → r ≡ b → r ≡ (a && b)
-and-holds a b r h e = rw h e
+pub and_holds : (a b r : Bool) → a ≡ true → r ≡ b → r ≡ (a && b)
+and_holds a b r h e = rw h e
 
-pub and-fails : (a b : Bool) → a ≡ false → false ≡ (a && b)
-and-fails a b h = rw h
+pub and_fails : (a b : Bool) → a ≡ false → false ≡ (a && b)
+and_fails a b h = rw h
 
 -- ---- disjunction
 
-pub or-either : (a b : Bool) → (a || b) ≡ true → (a ≡ true) ⊎ (b ≡ true)
-or-either true b h = inl refl
-or-either false b h = inr h
+pub or_either : (a b : Bool) → (a || b) ≡ true → (a ≡ true) ⊎ (b ≡ true)
+or_either true b h = inl refl
+or_either false b h = inr h
 
 pub or_left : (a b : Bool) → a ≡ true → (a || b) ≡ true
 or_left a b p = rw p
@@ -89,14 +89,14 @@ cond-first false x y other e = absurd (other e)
 pub answered : {a p : Bool} → p ≡ a → p ≡ true → a ≡ true
 answered e h = sym e ∙ h
 
-pub and-on : {a b p q : Bool} → p ≡ a → p ≡ true → q ≡ b → q ≡ (a && b)
-and-on e h f = rw (← e, h) f
+pub and_on : {a b p q : Bool} → p ≡ a → p ≡ true → q ≡ b → q ≡ (a && b)
+and_on e h f = rw (← e, h) f
 
-pub and-off : {a p : Bool} (b : Bool) → p ≡ a → p ≡ false → p ≡ (a && b)
-and-off b e h = rw (← e, h)
+pub and_off : {a p : Bool} (b : Bool) → p ≡ a → p ≡ false → p ≡ (a && b)
+and_off b e h = rw (← e, h)
 
-pub or-on : {a p : Bool} (b : Bool) → p ≡ a → p ≡ true → p ≡ (a || b)
-or-on b e h = rw (← e, h)
+pub or_on : {a p : Bool} (b : Bool) → p ≡ a → p ≡ true → p ≡ (a || b)
+or_on b e h = rw (← e, h)
 
 pub or_off : {a b p q : Bool} → p ≡ a → p ≡ false → q ≡ b → q ≡ (a || b)
 or_off e h f = rw (← e, h) f

@@ -1,7 +1,7 @@
 -- Writing into a part of a buffer: a word, byte by byte, and one text after another.
 -- Two invariants carry it. `Writing`: after i bytes of a word the buffer has the word's first i bytes, and from i on what it had before; a
--- store at i keeps that (`writing-next`). `Wrote`: of a text that is put piece by piece, what stands and what is to come make the whole. So
--- a piece has room because the whole had (`wrote-room`), and putting it leaves the rest to come (`wrote-next`, by `puts-append`). The laws
+-- store at i keeps that (`writing_next`). `Wrote`: of a text that is put piece by piece, what stands and what is to come make the whole. So
+-- a piece has room because the whole had (`wrote_room`), and putting it leaves the rest to come (`wrote_next`, by `puts_append`). The laws
 -- of two and of three texts are instances of it.
 -- Assumes nothing.
 use Prim.Native.Nat.{ℕ, ◌+◌, ◌-◌, ◌≤◌, ◌<◌, zero-le}
@@ -22,19 +22,19 @@ pub record Writing (word entry out : List ℕ) (i : ℕ) : Type 0 where
   pub front : take i out ≡ take i word
   pub rest : drop i out ≡ drop i entry
 
-pub writing-fits : (word out : List ℕ) → length word ≤ length out → Writing word out out 0
-writing-fits word out h = record { few = zero-le; room = h; long = refl; front = refl; rest = refl }
+pub writing_fits : (word out : List ℕ) → length word ≤ length out → Writing word out out 0
+writing_fits word out h = record { few = zero-le; room = h; long = refl; front = refl; rest = refl }
 
 pub writing_start : (word out : List ℕ) → Room word out → Writing word out out 0
-writing_start word out h = writing-fits word out h.fits
+writing_start word out h = writing_fits word out h.fits
 
 module _ {word entry out : List ℕ} {i : ℕ} (w : Writing word entry out i) where
-  pub writing-room : i < length word → i < length out
-  writing-room h = omega (arith, w.long, w.room)
+  pub writing_room : i < length word → i < length out
+  writing_room h = omega (arith, w.long, w.room)
 
-  pub writing-next : i < length word → Writing word entry (set out i (get_or word i 0)) (i + 1)
-  writing-next h =
-      let l : i < length out = writing-room h in
+  pub writing_next : i < length word → Writing word entry (set out i (get_or word i 0)) (i + 1)
+  writing_next h =
+      let l : i < length out = writing_room h in
       record {
         few = omega arith;
         room = w.room;
@@ -43,23 +43,23 @@ module _ {word entry out : List ℕ} {i : ℕ} (w : Writing word entry out i) wh
         rest = drop-set-lt (i + 1) out i (get_or word i 0) (omega arith) ∙ sym (drop-drop 1 i out) ∙ ap (drop 1) w.rest ∙ drop-drop 1 i entry;
       }
 
-  pub writing-whole : length word ≤ i → out ≡ word ++ drop (length word) entry
-  writing-whole h =
+  pub writing_whole : length word ≤ i → out ≡ word ++ drop (length word) entry
+  writing_whole h =
       let n : i ≡ length word = omega (arith, w.few) in
       sym (take-append-drop i out) ∙ rw (w.front, w.rest, take_all i word h, n)
 
-  pub writing-end : length word ≤ i → Puts word entry out i
-  writing-end h =
+  pub writing_end : length word ≤ i → Puts word entry out i
+  writing_end h =
       let n : i ≡ length word = omega (arith, w.few) in
-      record { long = n; bytes = writing-whole h ∙ ap (λ (k : ℕ). word ++ drop k entry) (sym n) }
+      record { long = n; bytes = writing_whole h ∙ ap (λ (k : ℕ). word ++ drop k entry) (sym n) }
 
 -- ---- a text that is another's
 
-pub room-same : {w v part : List ℕ} → w ≡ v → Room w part → Room v part
-room-same e h = record { fits = omega (arith, h.fits, ap length e) }
+pub room_same : {w v part : List ℕ} → w ≡ v → Room w part → Room v part
+room_same e h = record { fits = omega (arith, h.fits, ap length e) }
 
-pub puts-same : {w v part exit : List ℕ} {n : ℕ} → w ≡ v → Puts w part exit n → Puts v part exit n
-puts-same {part = part} {n = n} e p = record { long = p.long ∙ ap length e; bytes = p.bytes ∙ ap (λ (x : List ℕ). x ++ drop n part) e }
+pub puts_same : {w v part exit : List ℕ} {n : ℕ} → w ≡ v → Puts w part exit n → Puts v part exit n
+puts_same {part = part} {n = n} e p = record { long = p.long ∙ ap length e; bytes = p.bytes ∙ ap (λ (x : List ℕ). x ++ drop n part) e }
 
 -- ---- one text after another: of the text `all`, n bytes stand, and `left` is to come
 
@@ -80,20 +80,20 @@ pub record Wrote (all left entry out : List ℕ) (n : ℕ) : Type 0 where
 lent_is : (out : List ℕ) (n : ℕ) → lent out n ≡ drop n out
 lent_is out n = take_all (length out - n) (drop n out) (omega (arith, length-drop n out))
 
-nothing-after : (out : List ℕ) (n : ℕ) → drop (length out - n) (drop n out) ≡ []
-nothing-after out n = drop_of_length-le (drop n out) {i = length out - n} (omega (arith, length-drop n out))
+nothing_after : (out : List ℕ) (n : ℕ) → drop (length out - n) (drop n out) ≡ []
+nothing_after out n = drop_of_length-le (drop n out) {i = length out - n} (omega (arith, length-drop n out))
 
-pub puts-length : {w part exit : List ℕ} {n : ℕ} → Puts w part exit n → n ≤ length part → length exit ≡ length part
-puts-length {w} {part} {exit} {n} p h = omega (arith, ap length p.bytes, length-append w (drop n part), length-drop n part, p.long)
+pub puts_length : {w part exit : List ℕ} {n : ℕ} → Puts w part exit n → n ≤ length part → length exit ≡ length part
+puts_length {w} {part} {exit} {n} p h = omega (arith, ap length p.bytes, length-append w (drop n part), length-drop n part, p.long)
 
 -- a text that stands may be put once more
-pub puts-stay : {w part out : List ℕ} {n : ℕ} → Puts w part out n → Puts w out out n
-puts-stay {w} {part} {out} {n} p =
+pub puts_stay : {w part out : List ℕ} {n : ℕ} → Puts w part out n → Puts w out out n
+puts_stay {w} {part} {out} {n} p =
     record { long = p.long; bytes = p.bytes ∙ ap (λ (x : List ℕ). w ++ x) (sym (ap (drop n) p.bytes ∙ drop_at w (drop n part) n (sym p.long))) }
 
 -- a text over another that is no longer
-pub puts-over : {w v part out exit : List ℕ} {n k : ℕ} → Puts w part out n → length w ≤ length v → Puts v out exit k → Puts v part exit k
-puts-over {w} {v} {part} {out} {exit} {n} {k} p h q =
+pub puts_over : {w v part out exit : List ℕ} {n k : ℕ} → Puts w part out n → length w ≤ length v → Puts v out exit k → Puts v part exit k
+puts_over {w} {v} {part} {out} {exit} {n} {k} p h q =
     let m : ℕ = k - n in
     let sum : k ≡ n + m = omega (arith, p.long, q.long) in
     let rest : drop k out ≡ drop k part =
@@ -101,77 +101,77 @@ puts-over {w} {v} {part} {out} {exit} {n} {k} p h q =
     record { long = q.long; bytes = q.bytes ∙ ap (λ (x : List ℕ). v ++ x) rest }
 
 -- two texts, one after the other
-pub puts-append : {w v part out exit : List ℕ} {n k : ℕ} → Puts w part out n → Puts v (lent out n) exit k → Puts (w ++ v) part (back out n exit) (n + k)
-puts-append {w} {v} {part} {out} {exit} {n} {k} p q =
+pub puts_append : {w v part out exit : List ℕ} {n k : ℕ} → Puts w part out n → Puts v (lent out n) exit k → Puts (w ++ v) part (back out n exit) (n + k)
+puts_append {w} {v} {part} {out} {exit} {n} {k} p q =
     let front : take n out ≡ w = ap (take n) p.bytes ∙ take_at w (drop n part) n (sym p.long) in
     let rest : drop n out ≡ drop n part = ap (drop n) p.bytes ∙ drop_at w (drop n part) n (sym p.long) in
     let given : drop k (lent out n) ≡ drop (n + k) part = ap (drop k) (lent_is out n ∙ rest) ∙ drop-drop k n part in
     record {
       long = omega (arith, p.long, q.long, length-append w v);
-      bytes = rw (nothing-after out n, front, q.bytes, given, append-nil) (sym (append_assoc w v (drop (n + k) part)));
+      bytes = rw (nothing_after out n, front, q.bytes, given, append-nil) (sym (append_assoc w v (drop (n + k) part)));
     }
 
-pub wrote-start : (all out : List ℕ) → Room all out → Wrote all all out out 0
-wrote-start all out h = record { done = []; whole = refl; puts = record { long = refl; bytes = refl }; long = refl; within = omega (arith, h.fits) }
+pub wrote_start : (all out : List ℕ) → Room all out → Wrote all all out out 0
+wrote_start all out h = record { done = []; whole = refl; puts = record { long = refl; bytes = refl }; long = refl; within = omega (arith, h.fits) }
 
 module _ {all left entry out : List ℕ} {n : ℕ} (w : Wrote all left entry out n) where
   -- there is room for the next text
-  pub wrote-room : (v left' : List ℕ) → left ≡ v ++ left' → Room v (lent out n)
-  wrote-room v left' e = record { fits = rw (lent_is out n, length-drop) (omega (arith, w.within, ap length e, length-append v left')) }
+  pub wrote_room : (v left' : List ℕ) → left ≡ v ++ left' → Room v (lent out n)
+  wrote_room v left' e = record { fits = rw (lent_is out n, length-drop) (omega (arith, w.within, ap length e, length-append v left')) }
 
-  pub wrote-next : (v left' : List ℕ) → left ≡ v ++ left' → {exit : List ℕ} {k : ℕ} → Puts v (lent out n) exit k → Wrote all left' entry (back out n exit) (n + k)
-  wrote-next v left' e {exit} {k} q =
-      let room : length v ≤ length (lent out n) = (wrote-room v left' e).fits in
-      let same : length exit ≡ length (lent out n) = puts-length q (omega (arith, q.long)) in
+  pub wrote_next : (v left' : List ℕ) → left ≡ v ++ left' → {exit : List ℕ} {k : ℕ} → Puts v (lent out n) exit k → Wrote all left' entry (back out n exit) (n + k)
+  wrote_next v left' e {exit} {k} q =
+      let room : length v ≤ length (lent out n) = (wrote_room v left' e).fits in
+      let same : length exit ≡ length (lent out n) = puts_length q (omega (arith, q.long)) in
       let size : length (lent out n) ≡ length out - n = ap length (lent_is out n) ∙ length-drop n out in
-      let total : length (back out n exit) ≡ length out = omega (arith, length-append (take n out) (exit ++ drop (length out - n) (drop n out)), length-append exit (drop (length out - n) (drop n out)), ap length (nothing-after out n), length-take-le n out (omega (arith, w.within)), w.within) in
+      let total : length (back out n exit) ≡ length out = omega (arith, length-append (take n out) (exit ++ drop (length out - n) (drop n out)), length-append exit (drop (length out - n) (drop n out)), ap length (nothing_after out n), length-take-le n out (omega (arith, w.within)), w.within) in
       record {
         done = w.done ++ v;
         whole = w.whole ∙ ap (λ (x : List ℕ). w.done ++ x) e ∙ sym (append_assoc w.done v left');
-        puts = puts-append w.puts q;
+        puts = puts_append w.puts q;
         long = total ∙ w.long;
         within = omega (arith, w.within, ap length e, length-append v left', q.long, total);
       }
 
-  pub wrote-fits : (v left' : List ℕ) → left ≡ v ++ left' → {exit : List ℕ} {k : ℕ} → Puts v (lent out n) exit k → n + k ≤ length out
-  wrote-fits v left' e q = omega (arith, w.within, ap length e, length-append v left', q.long)
+  pub wrote_fits : (v left' : List ℕ) → left ≡ v ++ left' → {exit : List ℕ} {k : ℕ} → Puts v (lent out n) exit k → n + k ≤ length out
+  wrote_fits v left' e q = omega (arith, w.within, ap length e, length-append v left', q.long)
 
-  pub wrote-end : left ≡ [] → Puts all entry out n
-  wrote-end e = puts-same (sym (w.whole ∙ ap (λ (x : List ℕ). w.done ++ x) e ∙ append-nil w.done)) w.puts
+  pub wrote_end : left ≡ [] → Puts all entry out n
+  wrote_end e = puts_same (sym (w.whole ∙ ap (λ (x : List ℕ). w.done ++ x) e ∙ append-nil w.done)) w.puts
 
 -- ---- two texts, as a writer puts them: room for each, the sum, and the whole
 
 module _ (a b out : List ℕ) (h : Room (a ++ b) out) where
-  pub first-room : Room a out
-  first-room = record { fits = omega (arith, h.fits, length-append a b) }
+  pub first_room : Room a out
+  first_room = record { fits = omega (arith, h.fits, length-append a b) }
 
   module _ {out₁ : List ℕ} {n : ℕ} (p : Puts a out out₁ n) where
-    pub first-wrote : Wrote (a ++ b) b out out₁ n
-    first-wrote =
-        let long : length out₁ ≡ length out = puts-length p (omega (arith, h.fits, p.long, length-append a b)) in
+    pub first_wrote : Wrote (a ++ b) b out out₁ n
+    first_wrote =
+        let long : length out₁ ≡ length out = puts_length p (omega (arith, h.fits, p.long, length-append a b)) in
         record { done = a; whole = refl; puts = p; long = long; within = omega (arith, h.fits, p.long, length-append a b) }
 
     pub first-within : n ≤ length out₁
-    first-within = omega (arith, first-wrote.within)
+    first-within = omega (arith, first_wrote.within)
 
-    pub last-room : Room b (lent out₁ n)
-    last-room = wrote-room first-wrote b [] (sym (append-nil b))
+    pub last_room : Room b (lent out₁ n)
+    last_room = wrote_room first_wrote b [] (sym (append-nil b))
 
-    pub last-wrote : {exit : List ℕ} {k : ℕ} → Puts b (lent out₁ n) exit k → Wrote (a ++ b) [] out (back out₁ n exit) (n + k)
-    last-wrote q = wrote-next first-wrote b [] (sym (append-nil b)) q
+    pub last_wrote : {exit : List ℕ} {k : ℕ} → Puts b (lent out₁ n) exit k → Wrote (a ++ b) [] out (back out₁ n exit) (n + k)
+    last_wrote q = wrote_next first_wrote b [] (sym (append-nil b)) q
 
 -- ---- and three
 
 module _ (a b c out : List ℕ) (h : Room (a ++ (b ++ c)) out) {out₁ : List ℕ} {n : ℕ} (p : Puts a out out₁ n) where
-  pub second-room : Room b (lent out₁ n)
-  second-room = wrote-room (first-wrote a (b ++ c) out h p) b c refl
+  pub second_room : Room b (lent out₁ n)
+  second_room = wrote_room (first_wrote a (b ++ c) out h p) b c refl
 
   module _ {exit : List ℕ} {k : ℕ} (q : Puts b (lent out₁ n) exit k) where
-    pub second-wrote : Wrote (a ++ (b ++ c)) c out (back out₁ n exit) (n + k)
-    second-wrote = wrote-next (first-wrote a (b ++ c) out h p) b c refl q
+    pub second_wrote : Wrote (a ++ (b ++ c)) c out (back out₁ n exit) (n + k)
+    second_wrote = wrote_next (first_wrote a (b ++ c) out h p) b c refl q
 
-    pub third-room : Room c (lent (back out₁ n exit) (n + k))
-    third-room = wrote-room second-wrote c [] (sym (append-nil c))
+    pub third_room : Room c (lent (back out₁ n exit) (n + k))
+    third_room = wrote_room second_wrote c [] (sym (append-nil c))
 
-    pub third-wrote : {exit₂ : List ℕ} {m : ℕ} → Puts c (lent (back out₁ n exit) (n + k)) exit₂ m → Wrote (a ++ (b ++ c)) [] out (back (back out₁ n exit) (n + k) exit₂) (n + k + m)
-    third-wrote r = wrote-next second-wrote c [] (sym (append-nil c)) r
+    pub third_wrote : {exit₂ : List ℕ} {m : ℕ} → Puts c (lent (back out₁ n exit) (n + k)) exit₂ m → Wrote (a ++ (b ++ c)) [] out (back (back out₁ n exit) (n + k) exit₂) (n + k + m)
+    third_wrote r = wrote_next second_wrote c [] (sym (append-nil c)) r

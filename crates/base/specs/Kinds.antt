@@ -22,5 +22,5 @@ abbrev pub period : ℕ
 period = 6
 
 -- 02: "kind 7 is a bundle"
-abbrev pub bundleKind : ℕ
-bundleKind = 7
+abbrev pub bundle_kind : ℕ
+bundle_kind = 7

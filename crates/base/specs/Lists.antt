@@ -11,7 +11,7 @@ pub record Listed {A : Type 0} (xs : List A) (i : ℕ) (x : A) : Type 0 where
 
 -- P holds of every element
 pub data All {A : Type 0} (P : A → Type 0) : List A → Type 0 where
-  all-empty : All P []
+  all_empty : All P []
   all_cons : {x : A} {xs : List A} → P x → All P xs → All P (x ∷ xs)
 
 -- the test p passes on every element

@@ -4,37 +4,37 @@ use Rattle.std.specs.Prelude.{ℕ, ◌≡◌, Bool, true, false, not, ◌&&◌, 
 use Prim.Native.Char.{code}
 use Rattle.base.specs.Between.{between}
 use Rattle.base.specs.Ascii.{ascii}
-use Rattle.base.specs.Digits.{isDigit}
+use Rattle.base.specs.Digits.{is_digit}
 use Rattle.base.specs.Lists.{All, every, equal}
 
 -- an ASCII letter
-unfoldable pub isLetter : ℕ → Bool
-isLetter b = between (code "A") (code "Z") b || between (code "a") (code "z") b
+unfoldable pub is_letter : ℕ → Bool
+is_letter b = between (code "A") (code "Z") b || between (code "a") (code "z") b
 
 -- "a name begins with "_" or an ASCII letter"
-unfoldable pub isNameStart : ℕ → Bool
-isNameStart b = eqb b (code "_") || isLetter b
+unfoldable pub is_name_start : ℕ → Bool
+is_name_start b = eqb b (code "_") || is_letter b
 
 -- "and goes on with those, "-" or digits"
-unfoldable pub isNamePart : ℕ → Bool
-isNamePart b = isNameStart b || (eqb b (code "-") || isDigit b)
+unfoldable pub is_name_part : ℕ → Bool
+is_name_part b = is_name_start b || (eqb b (code "-") || is_digit b)
 
 -- and, or, not
-unfoldable pub isReserved : List ℕ → Bool
-isReserved n = equal n (ascii "and") || (equal n (ascii "or") || equal n (ascii "not"))
+unfoldable pub is_reserved : List ℕ → Bool
+is_reserved n = equal n (ascii "and") || (equal n (ascii "or") || equal n (ascii "not"))
 
 -- the bytes are a name; case counts
-unfoldable pub isName : List ℕ → Bool
-isName [] = false
-isName (x ∷ xs) = isNameStart x && (every isNamePart xs && not (isReserved (x ∷ xs)))
+unfoldable pub is_name : List ℕ → Bool
+is_name [] = false
+is_name (x ∷ xs) = is_name_start x && (every is_name_part xs && not (is_reserved (x ∷ xs)))
 
 -- the same, part by part
 pub record Name (n : List ℕ) : Type 0 where
   pub first : ℕ
   pub rest : List ℕ
   pub spelt : n ≡ first ∷ rest
-  pub starts : isNameStart first ≡ true
-  pub goes_on : All (λ (b : ℕ). isNamePart b ≡ true) rest
-  pub not-and : n ≡ ascii "and" → ⊥
-  pub not-or : n ≡ ascii "or" → ⊥
-  pub not-not : n ≡ ascii "not" → ⊥
+  pub starts : is_name_start first ≡ true
+  pub goes_on : All (λ (b : ℕ). is_name_part b ≡ true) rest
+  pub not_and : n ≡ ascii "and" → ⊥
+  pub not_or : n ≡ ascii "or" → ⊥
+  pub not_not : n ≡ ascii "not" → ⊥

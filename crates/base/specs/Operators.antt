@@ -4,8 +4,8 @@ use Rattle.std.specs.Prelude.{ℕ, List, [], ◌∷◌}
 use Rattle.base.specs.Ascii.{ascii}
 
 -- the word of an operator stands at its number
-unfoldable pub operatorWords : List (List ℕ)
-operatorWords =
+unfoldable pub operator_words : List (List ℕ)
+operator_words =
     ascii "eq" ∷ ascii "ne" ∷ ascii "co" ∷ ascii "sw" ∷ ascii "ew" ∷ ascii "gt" ∷ ascii "lt" ∷ ascii "ge" ∷ ascii "le" ∷ ascii "ap" ∷
     ascii "sa" ∷ ascii "eb" ∷ ascii "pr" ∷ ascii "po" ∷ ascii "ss" ∷ ascii "sb" ∷ ascii "in" ∷ ascii "ni" ∷ ascii "re" ∷ []
 

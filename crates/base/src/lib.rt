@@ -5,7 +5,7 @@ pub mod name;
 pub mod operator;
 
 ghost use Rattle.std.specs.Prelude.{◌≡◌, ◌≤◌, ◌<◌, length};
-ghost use Rattle.base.specs.Digits.{isDigit};
+ghost use Rattle.base.specs.Digits.{is_digit};
 ghost use Rattle.base.specs.Lists.{equal};
 ghost use Rattle.base.specs.Runs.{differs, RunEnd};
 ghost use Rattle.base.specs.Split.{first_of};
@@ -20,7 +20,7 @@ pub fn wide(b: u8) -> u64
 
 // Whether a byte is one of the digits 0 to 9.
 pub fn is_digit(b: u8) -> bool
-    ensures { result ≡ isDigit b }
+    ensures { result ≡ is_digit b }
 {
     48 <= b && b <= 57
 }

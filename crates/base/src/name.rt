@@ -3,7 +3,7 @@
 ghost use Rattle.std.specs.Prelude.{◌≡◌};
 ghost use Rattle.base.specs.Lists.{every};
 ghost use Rattle.base.specs.Between.{between};
-ghost use Rattle.base.specs.Names.{isLetter, isNameStart, isNamePart, isReserved, isName};
+ghost use Rattle.base.specs.Names.{is_letter, is_name_start, is_name_part, is_reserved, is_name};
 
 use crate::{equal, is_digit};
 
@@ -16,7 +16,7 @@ fn between(low: u8, high: u8, b: u8) -> bool
 
 // Whether a byte is an ASCII letter.
 fn is_letter(b: u8) -> bool
-    ensures { result ≡ isLetter b }
+    ensures { result ≡ is_letter b }
 {
     if between(b'A', b'Z', b) {
         return true;
@@ -26,7 +26,7 @@ fn is_letter(b: u8) -> bool
 
 // Whether a name may begin with the byte.
 pub fn is_name_start(b: u8) -> bool
-    ensures { result ≡ isNameStart b }
+    ensures { result ≡ is_name_start b }
 {
     if b == b'_' {
         return true;
@@ -36,7 +36,7 @@ pub fn is_name_start(b: u8) -> bool
 
 // Whether a name may go on with the byte.
 pub fn is_name_part(b: u8) -> bool
-    ensures { result ≡ isNamePart b }
+    ensures { result ≡ is_name_part b }
 {
     if is_name_start(b) {
         return true;
@@ -49,7 +49,7 @@ pub fn is_name_part(b: u8) -> bool
 
 // Whether a name may go on with each of the bytes.
 fn all_name_parts(s: &[u8]) -> bool
-    ensures { result ≡ every isNamePart s.now }
+    ensures { result ≡ every is_name_part s.now }
 {
     let mut i = 0;
     while i < s.len() {
@@ -64,7 +64,7 @@ fn all_name_parts(s: &[u8]) -> bool
 
 // Whether the bytes are one of the words and, or, not.
 pub fn is_reserved(n: &[u8]) -> bool
-    ensures { result ≡ isReserved n.now }
+    ensures { result ≡ is_reserved n.now }
 {
     if equal(n, b"and") {
         return true;
@@ -77,7 +77,7 @@ pub fn is_reserved(n: &[u8]) -> bool
 
 // Whether the bytes are a name.
 pub fn is_name(n: &[u8]) -> bool
-    ensures { result ≡ isName n.now }
+    ensures { result ≡ is_name n.now }
 {
     if n.len() == 0 {
         return false;

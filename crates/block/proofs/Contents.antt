@@ -8,13 +8,13 @@ use lib.ListN.{length, get_or}
 use Rattle.base.specs.Bytes.{Bytes}
 use Rattle.base.specs.Lists.{All}
 use Rattle.block.specs.Seal.{IsSealed, seal}
-use Rattle.block.specs.Items.{hasLayout, items}
+use Rattle.block.specs.Items.{has_layout, items}
 
 -- b is read as a block whose first byte is `first`, with the items xs after the byte at `at`
 pub record Held {X : Type 0} (make : ℕ → ℕ → List ℕ → X) (first at most : ℕ) (b : List ℕ) (xs : List X) : Type 0 where
   pub bytes : Bytes b
   pub sealed : IsSealed b
-  pub layout : hasLayout first at most b ≡ true
+  pub layout : has_layout first at most b ≡ true
   pub same : items make (get_or b at 0) b (at + 1) ≡ xs
 
 -- b is written as the seal of a body that ends with the items xs

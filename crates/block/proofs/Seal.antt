@@ -15,58 +15,58 @@ use Rattle.base.proofs.Tests.{cond-first}
 use Rattle.base.proofs.All.{all_append, all_replicate}
 use Rattle.base.specs.Parts.{padded}
 use Rattle.block.specs.Words.{word, word_bytes}
-use Rattle.block.specs.Sum.{sumFrom, checkSum}
+use Rattle.block.specs.Sum.{sum_from, check_sum}
 use Rattle.block.specs.Seal.{check, IsSealed, seal}
 use Rattle.block.specs.declared.Integrity.{Integrity}
 use Rattle.block.specs.declared.Integrity.TheVariants.{Sealed, WrongSize, WrongSum}
 use Rattle.block.proofs.Words.{word-bytes, word-length, word-written, word_read}
-use Rattle.block.proofs.Sum.{sum-largest}
+use Rattle.block.proofs.Sum.{sum_largest}
 
 -- ---- what the tests decide
 
-pub check-size-wrong : (b : List ℕ) → (length b ≡ 512 → ⊥) → WrongSize ≡ check b
+pub check-size_wrong : (b : List ℕ) → (length b ≡ 512 → ⊥) → WrongSize ≡ check b
 unfolding check
-check-size-wrong b n = rw (ne_eqb (length b) 512 n)
+check-size_wrong b n = rw (ne_eqb (length b) 512 n)
 
-module _ (b : List ℕ) (h : length b ≡ 512) (s w : ℕ) (es : s ≡ checkSum b) (ew : w ≡ word b 508) where
-  pub check-sum-wrong : (s ≡ w → ⊥) → WrongSum ≡ check b
+module _ (b : List ℕ) (h : length b ≡ 512) (s w : ℕ) (es : s ≡ check_sum b) (ew : w ≡ word b 508) where
+  pub check_sum_wrong : (s ≡ w → ⊥) → WrongSum ≡ check b
   unfolding check
-  check-sum-wrong n = rw (eq-eqb (length b) 512 h, ne_eqb (checkSum b) (word b 508) (λ e. n (es ∙ e ∙ sym ew)))
+  check_sum_wrong n = rw (eq-eqb (length b) 512 h, ne_eqb (check_sum b) (word b 508) (λ e. n (es ∙ e ∙ sym ew)))
 
-  pub check-right : s ≡ w → Sealed ≡ check b
+  pub check_right : s ≡ w → Sealed ≡ check b
   unfolding check
-  check-right e = rw (eq-eqb (length b) 512 h, eq-eqb (checkSum b) (word b 508) (sym es ∙ e ∙ ew))
+  check_right e = rw (eq-eqb (length b) 512 h, eq-eqb (check_sum b) (word b 508) (sym es ∙ e ∙ ew))
 
-sum-not-sealed : WrongSum ≡ Sealed → ⊥
-sum-not-sealed e = let z : ◌≡◌ {A = ℕ} 0 1 = cc in omega arith
+sum_not_sealed : WrongSum ≡ Sealed → ⊥
+sum_not_sealed e = let z : ◌≡◌ {A = ℕ} 0 1 = cc in omega arith
 
-size-not-sealed : WrongSize ≡ Sealed → ⊥
-size-not-sealed e = let z : ◌≡◌ {A = ℕ} 0 1 = cc in omega arith
+size_not_sealed : WrongSize ≡ Sealed → ⊥
+size_not_sealed e = let z : ◌≡◌ {A = ℕ} 0 1 = cc in omega arith
 
-check-sealed : (b : List ℕ) → check b ≡ Sealed → IsSealed b
+check_sealed : (b : List ℕ) → check b ≡ Sealed → IsSealed b
 unfolding check
-check-sealed b h =
-    let p = cond-first (eqb (length b) 512) (cond (eqb (checkSum b) (word b 508)) Sealed WrongSum) WrongSize size-not-sealed h in
-    let q = cond-first (eqb (checkSum b) (word b 508)) Sealed WrongSum sum-not-sealed p.1 in
-    record { size = eqb-true (length b) 512 p.0; sum = eqb-true (checkSum b) (word b 508) q.0 }
+check_sealed b h =
+    let p = cond-first (eqb (length b) 512) (cond (eqb (check_sum b) (word b 508)) Sealed WrongSum) WrongSize size_not_sealed h in
+    let q = cond-first (eqb (check_sum b) (word b 508)) Sealed WrongSum sum_not_sealed p.1 in
+    record { size = eqb-true (length b) 512 p.0; sum = eqb-true (check_sum b) (word b 508) q.0 }
 
 -- the test says so exactly where the size and the sum are right
-pub check-iff : (b : List ℕ) → (check b ≡ Sealed) ↔ IsSealed b
-check-iff b = (check-sealed b, (λ s. sym (check-right b s.size (checkSum b) (word b 508) refl refl s.sum)))
+pub check_iff : (b : List ℕ) → (check b ≡ Sealed) ↔ IsSealed b
+check_iff b = (check_sealed b, (λ s. sym (check_right b s.size (check_sum b) (word b 508) refl refl s.sum)))
 
 -- the size of a block that was checked
 pub check-length : (b : List ℕ) (r : Integrity) → r ≡ check b → r ≡ Sealed → length b ≡ 512
-check-length b r e k = (check-sealed b (sym e ∙ k)).size
+check-length b r e k = (check_sealed b (sym e ∙ k)).size
 
 -- ---- the seal of a body
 
 -- what follows a body in its seal
 abbrev pub after : List ℕ → List ℕ
-after body = replicate (508 - length body) 0 ++ word_bytes (sumFrom 1 (padded 508 body))
+after body = replicate (508 - length body) 0 ++ word_bytes (sum_from 1 (padded 508 body))
 
 pub seal-body : (body : List ℕ) → seal body ≡ body ++ after body
 unfolding seal padded
-seal-body body = append_assoc body (replicate (508 - length body) 0) (word_bytes (sumFrom 1 (padded 508 body)))
+seal-body body = append_assoc body (replicate (508 - length body) 0) (word_bytes (sum_from 1 (padded 508 body)))
 
 module _ (body : List ℕ) (room : length body ≤ 508) where
   padded-length : length (padded 508 body) ≡ 508
@@ -75,7 +75,7 @@ module _ (body : List ℕ) (room : length body ≤ 508) where
 
   take-seal : take 508 (seal body) ≡ padded 508 body
   unfolding seal
-  take-seal = take_at (padded 508 body) (word_bytes (sumFrom 1 (padded 508 body))) 508 padded-length
+  take-seal = take_at (padded 508 body) (word_bytes (sum_from 1 (padded 508 body))) 508 padded-length
 
   module _ (h : Bytes body) where
     padded-bytes : Bytes (padded 508 body)
@@ -85,30 +85,30 @@ module _ (body : List ℕ) (room : length body ≤ 508) where
     -- a seal is a list of bytes
     pub seal-bytes : Bytes (seal body)
     unfolding seal
-    seal-bytes = all_append Byte padded-bytes (word-bytes (sumFrom 1 (padded 508 body)))
+    seal-bytes = all_append Byte padded-bytes (word-bytes (sum_from 1 (padded 508 body)))
 
     -- with the size and the check sum of a block
-    pub seal-sealed : IsSealed (seal body)
-    unfolding seal checkSum
-    seal-sealed =
-        let n = sumFrom 1 (padded 508 body) in
-        let small : n < 2 ^ 32 = omega (arith, sum-largest padded-bytes padded-length) in
+    pub seal_sealed : IsSealed (seal body)
+    unfolding seal check_sum
+    seal_sealed =
+        let n = sum_from 1 (padded 508 body) in
+        let small : n < 2 ^ 32 = omega (arith, sum_largest padded-bytes padded-length) in
         let last : drop 508 (seal body) ≡ word_bytes n ++ [] = drop_at (padded 508 body) (word_bytes n) 508 padded-length ∙ sym (append-nil (word_bytes n)) in
         record {
           size = length-append (padded 508 body) (word_bytes n) ∙ omega (arith, padded-length, word-length n);
-          sum = ap (sumFrom 1) take-seal ∙ sym (word-written (seal body) 508 n [] small last);
+          sum = ap (sum_from 1) take-seal ∙ sym (word-written (seal body) 508 n [] small last);
         }
 
 -- ---- the body of a sealed block
 
 module _ (b : List ℕ) (h : Bytes b) (s : IsSealed b) where
-  last-four : drop 508 b ≡ word_bytes (checkSum b)
-  last-four =
+  last_four_lem : drop 508 b ≡ word_bytes (check_sum b)
+  last_four_lem =
       let all : length (drop 508 b) ≤ 4 = omega (arith, length-drop 508 b, s.size) in
       sym (take_all 4 (drop 508 b) all) ∙ sym (word_read b 508 h (omega (arith, s.size))) ∙ ap word_bytes (sym s.sum)
 
   -- a sealed block is the seal of the body that its first 508 bytes pad
-  pub sealed-seal : (body : List ℕ) → take 508 b ≡ padded 508 body → b ≡ seal body
-  unfolding seal checkSum
-  sealed-seal body e =
-      sym (take-append-drop 508 b) ∙ ap₂ (λ (x y : List ℕ). x ++ y) e (last-four ∙ ap (λ (l : List ℕ). word_bytes (sumFrom 1 l)) e)
+  pub sealed_seal : (body : List ℕ) → take 508 b ≡ padded 508 body → b ≡ seal body
+  unfolding seal check_sum
+  sealed_seal body e =
+      sym (take-append-drop 508 b) ∙ ap₂ (λ (x y : List ℕ). x ++ y) e (last_four_lem ∙ ap (λ (l : List ℕ). word_bytes (sum_from 1 l)) e)

@@ -7,10 +7,10 @@ use mathlib.Core.Path.{◌≡◌, refl, ap, ap₂, sym, ◌∙◌}
 use mathlib.Core.List.{List, [], ◌∷◌, ◌++◌}
 use lib.ListN.{length, get_or, take, drop}
 use Rattle.base.specs.Bytes.{Bytes}
-use Rattle.base.specs.Lists.{all-empty, all_cons}
+use Rattle.base.specs.Lists.{all_empty, all_cons}
 use Rattle.base.specs.Parts.{part}
 use Rattle.base.proofs.All.{bytes-at}
-use Rattle.base.proofs.Parts.{drop-at-index, drop-first, part-cons}
+use Rattle.base.proofs.Parts.{drop-at-index, drop-first, part_cons}
 use Rattle.block.specs.Words.{word, word_bytes}
 
 low_byte : (n : ℕ) → n % 256 < 256
@@ -19,7 +19,7 @@ low_byte n = omega arith
 pub word-bytes : (n : ℕ) → Bytes (word_bytes n)
 unfolding word_bytes
 word-bytes n =
-    all_cons (low_byte n) (all_cons (low_byte (n / 256)) (all_cons (low_byte (n / 256 / 256)) (all_cons (low_byte (n / 256 / 256 / 256)) all-empty)))
+    all_cons (low_byte n) (all_cons (low_byte (n / 256)) (all_cons (low_byte (n / 256 / 256)) (all_cons (low_byte (n / 256 / 256 / 256)) all_empty)))
 
 pub word-length : (n : ℕ) → length (word_bytes n) ≡ 4
 unfolding word_bytes
@@ -51,7 +51,7 @@ module _ (b : List ℕ) (p : ℕ) where
   byte-first : (k : ℕ) → k < 4 → p + 4 ≤ length b → part b (p + k) (p + 4) ≡ get_or b (p + k) 0 ∷ part b (p + (k + 1)) (p + 4)
   byte-first k m l =
       let e : p + k + 1 ≡ p + (k + 1) = omega arith in
-      part-cons b (p + k) (p + 4) (omega arith) (omega arith) ∙ ap (λ (j : ℕ). get_or b (p + k) 0 ∷ part b j (p + 4)) e
+      part_cons b (p + k) (p + 4) (omega arith) (omega arith) ∙ ap (λ (j : ℕ). get_or b (p + k) 0 ∷ part b j (p + 4)) e
 
   four_bytes : p + 4 ≤ length b → part b p (p + 4) ≡ get_or b p 0 ∷ get_or b (p + 1) 0 ∷ get_or b (p + 2) 0 ∷ get_or b (p + 3) 0 ∷ []
   four_bytes l =

@@ -15,42 +15,42 @@ unfoldable pub zeros : List ℕ → Bool
 zeros = every (λ (x : ℕ). eqb x 0)
 
 -- 02: the blocks whose items have a mark, a second byte before the length, by their first byte: 0x44 of a card, 0x51 of a sheet
-unfoldable pub hasMarks : ℕ → Bool
-hasMarks first = eqb first 0x44 || eqb first 0x51
+unfoldable pub has_marks : ℕ → Bool
+has_marks first = eqb first 0x44 || eqb first 0x51
 
 -- as many bytes stand before the length of an item's text
-abbrev pub headSize : Bool → ℕ
-headSize true = 2
-headSize false = 1
+abbrev pub head_size : Bool → ℕ
+head_size true = 2
+head_size false = 1
 
 -- where the length of the text of the item at p stands
 unfoldable pub length_at : List ℕ → ℕ → ℕ
-length_at b p = p + headSize (hasMarks (get_or b 0 0))
+length_at b p = p + head_size (has_marks (get_or b 0 0))
 
 -- where the item after the one at p starts
 unfoldable pub next : List ℕ → ℕ → ℕ
 next b p = length_at b p + 1 + get_or b (length_at b p) 0
 
 -- the mark of the item at p, 0 where the block has none
-unfoldable pub markAt : List ℕ → ℕ → ℕ
-markAt b p = cond (hasMarks (get_or b 0 0)) (get_or b (p + 1) 0) 0
+unfoldable pub mark_at : List ℕ → ℕ → ℕ
+mark_at b p = cond (has_marks (get_or b 0 0)) (get_or b (p + 1) 0) 0
 
 -- the text of the item at p
-unfoldable pub textAt : List ℕ → ℕ → List ℕ
-textAt b p = part b (length_at b p + 1) (next b p)
+unfoldable pub text_at : List ℕ → ℕ → List ℕ
+text_at b p = part b (length_at b p + 1) (next b p)
 
 -- "entries end at or before byte 507; bytes from there to 507 are zero": so it is with the k items from p on
-unfoldable pub laidOut : ℕ → List ℕ → ℕ → Bool
-laidOut zero b p = zeros (part b p 508)
-laidOut (suc k) b p = leb (next b p) 508 && laidOut k b (next b p)
+unfoldable pub laid_out : ℕ → List ℕ → ℕ → Bool
+laid_out zero b p = zeros (part b p 508)
+laid_out (suc k) b p = leb (next b p) 508 && laid_out k b (next b p)
 
 -- the first byte is `first`, the byte at `at` says how many items follow it, `most` or fewer, and they and the padding are laid out
-unfoldable pub hasLayout : (first at most : ℕ) → List ℕ → Bool
-hasLayout first at most b = eqb (get_or b 0 0) first && (leb (get_or b at 0) most && laidOut (get_or b at 0) b (at + 1))
+unfoldable pub has_layout : (first at most : ℕ) → List ℕ → Bool
+has_layout first at most b = eqb (get_or b 0 0) first && (leb (get_or b at 0) most && laid_out (get_or b at 0) b (at + 1))
 
 -- the same with either of two first bytes
-unfoldable pub hasEither : (plain marked at most : ℕ) → List ℕ → Bool
-hasEither plain marked at most b = hasLayout plain at most b || hasLayout marked at most b
+unfoldable pub has_either : (plain marked at most : ℕ) → List ℕ → Bool
+has_either plain marked at most b = has_layout plain at most b || has_layout marked at most b
 
 -- r says whether a block with its size is laid out, and where its items end: zeros follow from there to byte 507
 pub record LaysOut (b : List ℕ) (laid : Bool) (r : Layout) : Type 0 where
@@ -61,12 +61,12 @@ pub record LaysOut (b : List ℕ) (laid : Bool) (r : Layout) : Type 0 where
 -- the k items from p on, each made of its first byte, its mark and its text
 unfoldable pub items : {X : Type 0} → (ℕ → ℕ → List ℕ → X) → ℕ → List ℕ → ℕ → List X
 items make zero b p = []
-items make (suc k) b p = make (get_or b p 0) (markAt b p) (textAt b p) ∷ items make k b (next b p)
+items make (suc k) b p = make (get_or b p 0) (mark_at b p) (text_at b p) ∷ items make k b (next b p)
 
 -- r says where the item at p of b stands
 pub record ItemAt (b : List ℕ) (p : ℕ) (r : Item) : Type 0 where
   pub tag : r.tag ≡ get_or b p 0
-  pub mark : r.mark ≡ markAt b p
+  pub mark : r.mark ≡ mark_at b p
   pub start : r.start ≡ length_at b p + 1
   pub ahead : p < r.start
   pub end : r.end ≡ next b p
@@ -76,7 +76,7 @@ pub record ItemAt (b : List ℕ) (p : ℕ) (r : Item) : Type 0 where
 pub record Walk (b : List ℕ) (p left : ℕ) : Type 0 where
   pub size : HasSize b
   pub within : p ≤ 508
-  pub laid : laidOut left b p ≡ true
+  pub laid : laid_out left b p ≡ true
 
 -- what a step of the walk learns: the item at p has the first byte `tag`, a mark, and its text from `start` to `end`, where the
 -- walk goes on

@@ -2,8 +2,8 @@
 // so that the loop over the columns is compiled to vector instructions of that width. Rows that are known to be zero are left out.
 ghost use Rattle.std.specs.Prelude.{◌≡◌, ◌+◌, ◌*◌, ◌≤◌, ◌<◌, true};
 ghost use Rattle.base.specs.Parts.{part};
-ghost use Rattle.block.specs.Sum.{sumFrom, checkSum};
-ghost use Rattle.block.specs.Columns.{ColumnAt, ColumnsTo, lastFour};
+ghost use Rattle.block.specs.Sum.{sum_from, check_sum};
+ghost use Rattle.block.specs.Columns.{ColumnAt, ColumnsTo, last_four};
 ghost use Rattle.block.specs.Seal.{HasSize};
 ghost use Rattle.block.specs.Items.{zeros};
 
@@ -74,7 +74,7 @@ fn column_total(j: usize, sum: u16, rows: u16) -> u32
 // What the bytes 508 to 511 add to it.
 fn last_four(block: &[u8]) -> u32
     requires { HasSize block.now }
-    ensures { result ≡ lastFour block.now }
+    ensures { result ≡ last_four block.now }
 {
     let a = crate::wide(block[508]);
     let b = crate::wide(block[509]);
@@ -86,7 +86,7 @@ fn last_four(block: &[u8]) -> u32
 // The sum of the first 508 bytes, each times its place counted from 1.
 pub fn check_sum(block: &[u8]) -> u32
     requires { HasSize block.now }
-    ensures { result ≡ checkSum block.now }
+    ensures { result ≡ check_sum block.now }
 {
     let columns = columns_of(block);
     let mut total: u32 = 0;
@@ -117,7 +117,7 @@ fn short_column(block: &[u8], j: usize) -> Column
 // The sum of the bytes in the first four rows, each times its place counted from 1.
 fn short_sum(block: &[u8]) -> u32
     requires { HasSize block.now }
-    ensures { result ≡ sumFrom 1 (part block.now 0 128) }
+    ensures { result ≡ sum_from 1 (part block.now 0 128) }
 {
     let mut total: u32 = 0;
     let mut j = 0;
@@ -133,7 +133,7 @@ fn short_sum(block: &[u8]) -> u32
 pub fn check_sum_to(block: &[u8], end: usize) -> u32
     requires has_size { HasSize block.now }
     requires end_value { zeros (part block.now end 508) ≡ true }
-    ensures { result ≡ checkSum block.now }
+    ensures { result ≡ check_sum block.now }
 {
     if end <= 128 {
         return short_sum(block);

@@ -4,7 +4,7 @@ mod columns;
 ghost use Rattle.std.specs.Prelude.{◌≡◌, ◌&&◌, ◌+◌, ◌≤◌, ◌<◌, eqb, length};
 ghost use Rattle.block.specs.Words.{word};
 ghost use Rattle.block.specs.Seal.{HasSize, check};
-ghost use Rattle.block.specs.Items.{zeros, hasMarks, laidOut, hasLayout, hasEither, ItemAt, LaysOut};
+ghost use Rattle.block.specs.Items.{zeros, has_marks, laid_out, has_layout, has_either, ItemAt, LaysOut};
 ghost use Rattle.block.specs.Readings.{reading};
 
 pub use columns::check_sum;
@@ -103,7 +103,7 @@ fn zeros(s: &[u8]) -> bool
 
 // Whether the items of a block with this first byte have marks: 0x44 of a card, 0x51 of a sheet.
 pub fn has_marks(first: u8) -> bool
-    ensures { result ≡ hasMarks first }
+    ensures { result ≡ has_marks first }
 {
     if first == 0x44 {
         return true;
@@ -145,7 +145,7 @@ pub fn item_at(block: &[u8], at: usize) -> Item
 fn laid_out(block: &[u8], from: usize, count: u8) -> Layout
     requires has_size { HasSize block.now }
     requires from_bound { from ≤ 508 }
-    ensures { LaysOut block.now (laidOut count block.now from) result }
+    ensures { LaysOut block.now (laid_out count block.now from) result }
 {
     let mut at = from;
     let mut left = count;
@@ -169,7 +169,7 @@ fn laid_out(block: &[u8], from: usize, count: u8) -> Layout
 fn layout_from(block: &[u8], first: u8, at: usize, most: u8) -> Layout
     requires has_size { HasSize block.now }
     requires at_bound { at < 508 }
-    ensures { LaysOut block.now (hasLayout first at most block.now) result }
+    ensures { LaysOut block.now (has_layout first at most block.now) result }
 {
     if block[0] != first {
         return Layout::Wrong;
@@ -185,7 +185,7 @@ fn layout_from(block: &[u8], first: u8, at: usize, most: u8) -> Layout
 pub fn layout_of(block: &[u8], plain: u8, marked: u8, at: usize, most: u8) -> Layout
     requires has_size { HasSize block.now }
     requires at_bound { at < 508 }
-    ensures { LaysOut block.now (hasEither plain marked at most block.now) result }
+    ensures { LaysOut block.now (has_either plain marked at most block.now) result }
 {
     match layout_from(block, plain, at, most) {
         Layout::EndsAt(end) => Layout::EndsAt(end),
@@ -197,7 +197,7 @@ pub fn layout_of(block: &[u8], plain: u8, marked: u8, at: usize, most: u8) -> La
 pub fn has_either(block: &[u8], plain: u8, marked: u8, at: usize, most: u8) -> bool
     requires has_size { HasSize block.now }
     requires at_bound { at < 508 }
-    ensures { result ≡ hasEither plain marked at most block.now }
+    ensures { result ≡ has_either plain marked at most block.now }
 {
     match layout_of(block, plain, marked, at, most) {
         Layout::EndsAt(_) => true,
@@ -208,7 +208,7 @@ pub fn has_either(block: &[u8], plain: u8, marked: u8, at: usize, most: u8) -> b
 // What a block is: size, then check sum, then layout. The layout is looked at first, since the sum needs to go no further than the items.
 pub fn read_block(block: &[u8], plain: u8, marked: u8, at: usize, most: u8) -> Validity
     requires { at < 508 }
-    ensures { result ≡ reading (check block.now) (hasEither plain marked at most block.now) }
+    ensures { result ≡ reading (check block.now) (has_either plain marked at most block.now) }
 {
     if block.len() != 512 {
         return Validity::WrongSize;

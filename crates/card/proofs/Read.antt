@@ -6,30 +6,30 @@ use mathlib.Core.Bool.{Bool, true}
 use mathlib.Core.List.{List}
 use lib.ListN.{length, get_or}
 use Rattle.base.specs.Bytes.{Bytes}
-use Rattle.block.specs.Items.{hasLayout, hasEither}
+use Rattle.block.specs.Items.{has_layout, has_either}
 use Rattle.block.specs.declared.Validity.TheVariants.{WellFormed}
 use Rattle.block.proofs.Contents.{Held}
-use Rattle.block.proofs.Items.{either-own, either-form}
-use Rattle.block.proofs.Readings.{reading-iff}
-use Rattle.card.specs.Encode.{cardFirst}
-use Rattle.card.specs.Card.{entry, entryCount, entriesOf, readCard}
+use Rattle.block.proofs.Items.{either_own, either_form}
+use Rattle.block.proofs.Readings.{reading_iff}
+use Rattle.card.specs.Encode.{card_first}
+use Rattle.card.specs.Card.{entry, entry_count, entries_of, read_card}
 
-module _ (b : List ℕ) (h : readCard b ≡ WellFormed) where
+module _ (b : List ℕ) (h : read_card b ≡ WellFormed) where
   pub card-length : length b ≡ 512
-  unfolding readCard
-  card-length = ((reading-iff b (hasEither 0x43 0x44 5 64 b)).0 h).0.size
+  unfolding read_card
+  card-length = ((reading_iff b (has_either 0x43 0x44 5 64 b)).0 h).0.size
 
-  card-either : hasEither 0x43 0x44 5 64 b ≡ true
-  unfolding readCard
-  card-either = ((reading-iff b (hasEither 0x43 0x44 5 64 b)).0 h).1
+  card-either : has_either 0x43 0x44 5 64 b ≡ true
+  unfolding read_card
+  card-either = ((reading_iff b (has_either 0x43 0x44 5 64 b)).0 h).1
 
-  pub card-layout : hasLayout (get_or b 0 0) 5 64 b ≡ true
-  card-layout = either-own b 0x43 0x44 5 64 card-either
+  pub card_layout : has_layout (get_or b 0 0) 5 64 b ≡ true
+  card_layout = either_own b 0x43 0x44 5 64 card-either
 
   -- the form that the first byte tells
-  pub card-form : (marked : Bool) × (get_or b 0 0 ≡ cardFirst marked)
-  card-form = either-form b 0x43 0x44 5 64 card-either
+  pub card_form : (marked : Bool) × (get_or b 0 0 ≡ card_first marked)
+  card_form = either_form b 0x43 0x44 5 64 card-either
 
-  pub card-held : Bytes b → Held entry (get_or b 0 0) 5 64 b (entriesOf b)
-  unfolding readCard entriesOf entryCount
-  card-held bytes = record { bytes = bytes; sealed = ((reading-iff b (hasEither 0x43 0x44 5 64 b)).0 h).0; layout = card-layout; same = refl }
+  pub card_held : Bytes b → Held entry (get_or b 0 0) 5 64 b (entries_of b)
+  unfolding read_card entries_of entry_count
+  card_held bytes = record { bytes = bytes; sealed = ((reading_iff b (has_either 0x43 0x44 5 64 b)).0 h).0; layout = card_layout; same = refl }

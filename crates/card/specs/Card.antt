@@ -3,7 +3,7 @@
 use Rattle.std.specs.Prelude.{ℕ, List, get_or}
 use Rattle.block.specs.Words.{word}
 use Rattle.block.specs.Seal.{check}
-use Rattle.block.specs.Items.{hasEither, items, ItemStep}
+use Rattle.block.specs.Items.{has_either, items, ItemStep}
 use Rattle.block.specs.Readings.{reading}
 use Rattle.block.specs.declared.Validity.{Validity}
 use Rattle.card.specs.declared.Entry.{Entry as Span}
@@ -19,21 +19,21 @@ abbrev pub entry : ℕ → ℕ → List ℕ → Entry
 entry i o t = record { index = i; occurrence = o; text = t }
 
 -- "bytes 1 to 4 the record number, low byte first"
-unfoldable pub recordNumber : List ℕ → ℕ
-recordNumber b = word b 1
+unfoldable pub record_number : List ℕ → ℕ
+record_number b = word b 1
 
 -- "byte 5 the number of entries"
-unfoldable pub entryCount : List ℕ → ℕ
-entryCount b = get_or b 5 0
+unfoldable pub entry_count : List ℕ → ℕ
+entry_count b = get_or b 5 0
 
 -- "from byte 6, for each: parameter place on the sheet (from 0), length 0 to 255, text"; 02: "an occurrence number, a byte between
 -- the place and the length", where byte 0 is 0x44, and 0 where it is 0x43
-unfoldable pub entriesOf : List ℕ → List Entry
-entriesOf b = items entry (entryCount b) b 6
+unfoldable pub entries_of : List ℕ → List Entry
+entries_of b = items entry (entry_count b) b 6
 
 -- what the bytes are, as a card: "byte 0 is 0x43" or 0x44, and byte 5 says that 0 to 64 entries follow it
-unfoldable pub readCard : List ℕ → Validity
-readCard b = reading (check b) (hasEither 0x43 0x44 5 64 b)
+unfoldable pub read_card : List ℕ → Validity
+read_card b = reading (check b) (has_either 0x43 0x44 5 64 b)
 
 -- r says where the entry at `at` stands, with `left` entries to come
 abbrev pub EntryAt : List ℕ → (at left : ℕ) → Span → Type 0

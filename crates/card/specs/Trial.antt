@@ -4,8 +4,8 @@ use Rattle.std.specs.Prelude.{ℕ, List, [], ◌∷◌, ◌++◌, replicate}
 use Rattle.base.specs.Ascii.{ascii}
 use Rattle.card.specs.Card.{Entry, entry}
 
-unfoldable pub trialEntries : List Entry
-trialEntries =
+unfoldable pub trial_entries : List Entry
+trial_entries =
     entry 0 0 (ascii "Ward book 4")
     ∷ entry 1 0 (ascii "1974-06")
     ∷ entry 1 0 (ascii "1980")
@@ -15,8 +15,8 @@ trialEntries =
     ∷ []
 
 -- its 512 bytes: the number 7, 6 entries, 431 zeros and the check sum
-unfoldable pub trialCard : List ℕ
-trialCard =
+unfoldable pub trial_card : List ℕ
+trial_card =
     (0x43 ∷ 7 ∷ 0 ∷ 0 ∷ 0 ∷ 6 ∷ [])
     ++ (0 ∷ 11 ∷ ascii "Ward book 4")
     ++ (1 ∷ 7 ∷ ascii "1974-06")
@@ -28,8 +28,8 @@ trialCard =
     ++ (247 ∷ 2 ∷ 3 ∷ 0 ∷ [])
 
 -- a card with occurrences, number 8: three relations, two marriages and a title
-unfoldable pub bundleEntries : List Entry
-bundleEntries =
+unfoldable pub bundle_entries : List Entry
+bundle_entries =
     entry 1 1 (ascii "has-component")
     ∷ entry 2 1 (ascii "Observation/3")
     ∷ entry 1 2 (ascii "derived-from")
@@ -44,8 +44,8 @@ bundleEntries =
     ∷ []
 
 -- its 512 bytes: the number 8, 11 entries, 362 zeros and the check sum
-unfoldable pub bundleCard : List ℕ
-bundleCard =
+unfoldable pub bundle_card : List ℕ
+bundle_card =
     (0x44 ∷ 8 ∷ 0 ∷ 0 ∷ 0 ∷ 11 ∷ [])
     ++ (1 ∷ 1 ∷ 13 ∷ ascii "has-component")
     ++ (2 ∷ 1 ∷ 13 ∷ ascii "Observation/3")
@@ -62,16 +62,16 @@ bundleCard =
     ++ (169 ∷ 40 ∷ 11 ∷ 0 ∷ [])
 
 -- a card with periods, number 9: one with both ends, one without its end and one without its start
-unfoldable pub stayEntries : List Entry
-stayEntries =
+unfoldable pub stay_entries : List Entry
+stay_entries =
     entry 0 0 (ascii "1974-06/1974")
     ∷ entry 1 0 (ascii "1974/")
     ∷ entry 2 0 (ascii "/1974-06")
     ∷ []
 
 -- its 512 bytes: the number 9, 3 entries, 471 zeros and the check sum
-unfoldable pub stayCard : List ℕ
-stayCard =
+unfoldable pub stay_card : List ℕ
+stay_card =
     (0x43 ∷ 9 ∷ 0 ∷ 0 ∷ 0 ∷ 3 ∷ [])
     ++ (0 ∷ 12 ∷ ascii "1974-06/1974")
     ++ (1 ∷ 5 ∷ ascii "1974/")

@@ -3,7 +3,7 @@
 // `FIRST_ENTRY` on with `entry_at`.
 ghost use Rattle.std.specs.Prelude.{◌≡◌, ◌<◌};
 ghost use Rattle.block.specs.Items.{Walk};
-ghost use Rattle.card.specs.Card.{recordNumber, entryCount, readCard, EntryAt};
+ghost use Rattle.card.specs.Card.{record_number, entry_count, read_card, EntryAt};
 
 use block::Validity;
 
@@ -23,23 +23,23 @@ pub struct Entry {
 // What any bytes are, as a card: well formed (01: sound), or one of the refusals 20, 21 and 22. "Byte 0 is 0x43" or, with
 // occurrences, 0x44; "bytes 1 to 4 the record number, low byte first; byte 5 the number of entries, 0 to 64".
 pub fn read_card(card: &[u8]) -> Validity
-    ensures { result ≡ readCard card.now }
+    ensures { result ≡ read_card card.now }
 {
     block::read_block(card, 0x43, 0x44, 5, 64)
 }
 
 // The record number of a well-formed card.
 pub fn record_number(card: &[u8]) -> u32
-    requires { readCard card.now ≡ Validity.WellFormed }
-    ensures { result ≡ recordNumber card.now }
+    requires { read_card card.now ≡ Validity.WellFormed }
+    ensures { result ≡ record_number card.now }
 {
     block::word(card, 1)
 }
 
 // The number of entries of a well-formed card.
 pub fn entry_count(card: &[u8]) -> u8
-    requires { readCard card.now ≡ Validity.WellFormed }
-    ensures { result ≡ entryCount card.now }
+    requires { read_card card.now ≡ Validity.WellFormed }
+    ensures { result ≡ entry_count card.now }
 {
     card[5]
 }

@@ -1,6 +1,6 @@
 -- A card's entries read once: the entries so far stand in the lists, and those to come decide.
 -- The loop keeps `Progress`: the entries from e on are those that the walk has before it (`rest`), and the lists hold the first e entries
--- (`HoldsTo`). A turn takes one entry more (`progress-next`): its own cells are those just stored, all others are as they were. A chain
+-- (`HoldsTo`). A turn takes one entry more (`progress_next`): its own cells are those just stored, all others are as they were. A chain
 -- begins at the last entry under its parameter; what stood there before stands behind it now (`Last`). Of a parameter whose entries are not
 -- kept nothing changes but the number of entries (`holds_more`).
 -- Assumes nothing.
@@ -21,52 +21,52 @@ use Rattle.base.proofs.Tests.{both_ways}
 use Rattle.block.specs.Items.{items, ItemStep}
 use Rattle.block.specs.declared.Validity.TheVariants.{WellFormed}
 use Rattle.block.proofs.Invariants.{Visited}
-use Rattle.block.proofs.Items.{layout-count, visited-next, visited-decides, visited-end}
-use Rattle.card.specs.Card.{Entry, entry, entriesOf, entryCount, readCard}
+use Rattle.block.proofs.Items.{layout_count, visited_next, visited_decides, visited_end}
+use Rattle.card.specs.Card.{Entry, entry, entries_of, entry_count, read_card}
 use Rattle.card.specs.declared.Entry.{Entry as Span}
-use Rattle.card.proofs.Read.{card-layout}
-use Rattle.card.proofs.Entries.{entries-start}
-use Rattle.kind.specs.Readable.{cardReadable}
-use Rattle.judge.specs.Sets.{conformsTo}
-use Rattle.judge.proofs.Entries.{past-readable, conforms-next, conforms-not, conforms-end}
+use Rattle.card.proofs.Read.{card_layout}
+use Rattle.card.proofs.Entries.{entries_start}
+use Rattle.kind.specs.Readable.{card_readable}
+use Rattle.judge.specs.Sets.{conforms_to}
+use Rattle.judge.proofs.Entries.{past_readable, conforms-next, conforms_not, conforms_end}
 use Rattle.card_reader.specs.Readings.{Serves, ReadAs}
-use Rattle.card_reader.specs.Lists.{Lent, entryCell, readingAt, noEntry, Holds, Last, IsKept, HoldsTo, KeepsCard, BeginsAlike, ReadsCard}
+use Rattle.card_reader.specs.Lists.{Lent, entry_cell, reading_at, no_entry, Holds, Last, IsKept, HoldsTo, KeepsCard, BeginsAlike, ReadsCard}
 use Rattle.card_reader.specs.Storing.{Stored, Begun, Takes}
 use Rattle.card_reader.specs.declared.TextReading.{TextReading}
-use Rattle.card_reader.proofs.Storing.{stored-head, stored-behind, stored-others, stored-occurrence, stored-start, stored-end, stored-form, stored-value, stored-unit, stored-first, stored_last, stored-spans, stored-begins, stored-keeps, stored-lent, begun-lent, begun-begins}
+use Rattle.card_reader.proofs.Storing.{stored_head, stored-behind, stored_others, stored_occurrence, stored-start, stored_end, stored_form, stored-value, stored-unit, stored-first, stored_last, stored_spans, stored_begins, stored_keeps, stored-lent, begun_lent, begun_begins}
 
 -- ---- chains
 
 none_last : (es : List Entry) (i : ℕ) → Last es i 0 0
 none_last es i = record { within = omega arith; under = λ e h. absurd (omega (arith, h)); others = λ e h k z. absurd (omega (arith, k)) }
 
-module _ (es : List Entry) (e i : ℕ) (here : (get_or es e noEntry).index ≡ i) where
-  last-here : Last es i (e + 1) (e + 1)
-  last-here =
+module _ (es : List Entry) (e i : ℕ) (here : (get_or es e no_entry).index ≡ i) where
+  last_here : Last es i (e + 1) (e + 1)
+  last_here =
       record {
         within = omega arith;
-        under = λ k h. let same : k ≡ e = omega (arith, h) in ap (λ (n : ℕ). (get_or es n noEntry).index) same ∙ here;
+        under = λ k h. let same : k ≡ e = omega (arith, h) in ap (λ (n : ℕ). (get_or es n no_entry).index) same ∙ here;
         others = λ k h z n. absurd (omega (arith, h, z));
       }
 
-  last-other : (j c : ℕ) → (j ≡ i → ⊥) → Last es j e c → Last es j (e + 1) c
-  last-other j c n l =
+  last_other : (j c : ℕ) → (j ≡ i → ⊥) → Last es j e c → Last es j (e + 1) c
+  last_other j c n l =
       record { within = omega (arith, l.within); under = l.under; others = λ k h z u. by_place k h z u (eqb k e) refl }
     where
-      by_place : (k : ℕ) → c ≤ k → k < e + 1 → (get_or es k noEntry).index ≡ j → (t : Bool) → eqb k e ≡ t → ⊥
-      by_place k h z u true q = n (sym u ∙ ap (λ (m : ℕ). (get_or es m noEntry).index) (eqb-true k e q) ∙ here)
+      by_place : (k : ℕ) → c ≤ k → k < e + 1 → (get_or es k no_entry).index ≡ j → (t : Bool) → eqb k e ≡ t → ⊥
+      by_place k h z u true q = n (sym u ∙ ap (λ (m : ℕ). (get_or es m no_entry).index) (eqb-true k e q) ∙ here)
       by_place k h z u false q = l.others k h (omega (arith, z, eqb-false k e q)) u
 
 -- ---- one entry more, of a parameter whose entries are not kept
 
-module _ (card : List ℕ) (es : List Entry) (cells : List ℕ) (spans : List ℤ) (e : ℕ) (w : HoldsTo card es cells spans e) (i : ℕ) (here : (get_or es e noEntry).index ≡ i) (low : i < 32) (not-kept : 64 < get_or cells i 0) where
+module _ (card : List ℕ) (es : List Entry) (cells : List ℕ) (spans : List ℤ) (e : ℕ) (w : HoldsTo card es cells spans e) (i : ℕ) (here : (get_or es e no_entry).index ≡ i) (low : i < 32) (not-kept : 64 < get_or cells i 0) where
   -- an entry whose parameter is kept is none of the new ones
-  before : (k : ℕ) → k < e + 1 → IsKept cells (get_or es k noEntry).index → k < e
+  before : (k : ℕ) → k < e + 1 → IsKept cells (get_or es k no_entry).index → k < e
   before k z h = by_place (eqb k e) refl
     where
       by_place : (t : Bool) → eqb k e ≡ t → k < e
       by_place true q =
-          let same : (get_or es k noEntry).index ≡ i = ap (λ (m : ℕ). (get_or es m noEntry).index) (eqb-true k e q) ∙ here in
+          let same : (get_or es k no_entry).index ≡ i = ap (λ (m : ℕ). (get_or es m no_entry).index) (eqb-true k e q) ∙ here in
           let kept : IsKept cells i = subst (IsKept cells) same h in
           absurd (omega (arith, kept, not-kept))
       by_place false q = omega (arith, z, eqb-false k e q)
@@ -76,136 +76,136 @@ module _ (card : List ℕ) (es : List Entry) (cells : List ℕ) (spans : List �
       record {
         low = λ k z. by_place k z (eqb k e) refl;
         each = λ k z h. w.each k (before k z h) h;
-        heads = λ j z h. last-other es e i here j (get_or cells j 0) (λ same. let kept : IsKept cells i = subst (IsKept cells) same h in omega (arith, kept, not-kept)) (w.heads j z h);
+        heads = λ j z h. last_other es e i here j (get_or cells j 0) (λ same. let kept : IsKept cells i = subst (IsKept cells) same h in omega (arith, kept, not-kept)) (w.heads j z h);
         behind = λ k z h. w.behind k (before k z h) h;
       }
     where
-      by_place : (k : ℕ) → k < e + 1 → (t : Bool) → eqb k e ≡ t → (get_or es k noEntry).index < 32
-      by_place k z true q = subst (λ (n : ℕ). n < 32) (sym (ap (λ (m : ℕ). (get_or es m noEntry).index) (eqb-true k e q) ∙ here)) low
+      by_place : (k : ℕ) → k < e + 1 → (t : Bool) → eqb k e ≡ t → (get_or es k no_entry).index < 32
+      by_place k z true q = subst (λ (n : ℕ). n < 32) (sym (ap (λ (m : ℕ). (get_or es m no_entry).index) (eqb-true k e q) ∙ here)) low
       by_place k z false q = w.low k (omega (arith, z, eqb-false k e q))
 
 -- ---- one entry more, stored
 
-serves-same : {t : List ℕ} {h g : TextReading} → h ≡ g → Serves t h → Serves t g
-serves-same {t} e s = subst (Serves t) e s
+serves_same : {t : List ℕ} {h g : TextReading} → h ≡ g → Serves t h → Serves t g
+serves_same {t} e s = subst (Serves t) e s
 
 module _ (e : ℕ) (x : Span) (h : TextReading) (cells : List ℕ) (spans : List ℤ) (cells' : List ℕ) (spans' : List ℤ) (st : Stored e x h cells spans cells' spans')
     (lent : Lent cells spans) (few : e < 64) (low : x.index < 32) (kept : get_or cells x.index 0 ≤ 64) where
-  other : (j : ℕ) → (j ≡ x.index → ⊥) → (j < entryCell e) ⊎ (entryCell e + 7 ≤ j) → get_or cells' j 0 ≡ get_or cells j 0
-  other = stored-others e x h cells spans cells' spans' st lent.size lent.span-size few low
+  other : (j : ℕ) → (j ≡ x.index → ⊥) → (j < entry_cell e) ⊎ (entry_cell e + 7 ≤ j) → get_or cells' j 0 ≡ get_or cells j 0
+  other = stored_others e x h cells spans cells' spans' st lent.size lent.span_size few low
 
-  spans-before : (j : ℕ) → j < 2 * e → get_or spans' j (pos 0) ≡ get_or spans j (pos 0)
-  spans-before = stored-spans e x h cells spans cells' spans' st lent.size lent.span-size few low
+  spans_before : (j : ℕ) → j < 2 * e → get_or spans' j (pos 0) ≡ get_or spans j (pos 0)
+  spans_before = stored_spans e x h cells spans cells' spans' st lent.size lent.span_size few low
 
-  head-is : get_or cells' x.index 0 ≡ e + 1
-  head-is = stored-head e x h cells spans cells' spans' st lent.size lent.span-size few low
+  head_is : get_or cells' x.index 0 ≡ e + 1
+  head_is = stored_head e x h cells spans cells' spans' st lent.size lent.span_size few low
 
   -- a cell of an entry before e
-  old-cell : (k n : ℕ) → k < e → n < 8 → get_or cells' (entryCell k + n) 0 ≡ get_or cells (entryCell k + n) 0
-  old-cell k n z m = other (entryCell k + n) (λ q. omega (arith, low, q)) (inl (omega (arith, z, m)))
+  old_cell : (k n : ℕ) → k < e → n < 8 → get_or cells' (entry_cell k + n) 0 ≡ get_or cells (entry_cell k + n) 0
+  old_cell k n z m = other (entry_cell k + n) (λ q. omega (arith, low, q)) (inl (omega (arith, z, m)))
 
   -- whether a parameter is kept does not change
-  kept-before : (j : ℕ) → j < 32 → IsKept cells' j → IsKept cells j
-  kept-before j z y = by_place (eqb j x.index) refl
+  kept_before : (j : ℕ) → j < 32 → IsKept cells' j → IsKept cells j
+  kept_before j z y = by_place (eqb j x.index) refl
     where
       by_place : (t : Bool) → eqb j x.index ≡ t → IsKept cells j
       by_place true q = subst (IsKept cells) (sym (eqb-true j x.index q)) kept
       by_place false q = subst (λ (c : ℕ). c ≤ 64) (other j (eqb-false j x.index q) (inl (omega (arith, z)))) y
 
-  module _ (card : List ℕ) (es : List Entry) (w : HoldsTo card es cells spans e) (t : List ℕ) (is : get_or es e noEntry ≡ entry x.index x.occurrence t) (text : t ≡ part card x.start x.end)
+  module _ (card : List ℕ) (es : List Entry) (w : HoldsTo card es cells spans e) (t : List ℕ) (is : get_or es e no_entry ≡ entry x.index x.occurrence t) (text : t ≡ part card x.start x.end)
       (order : x.start ≤ x.end) (within : x.end ≤ length card) (serves : Serves t h) (byte : x.occurrence < 256) where
-    here : (get_or es e noEntry).index ≡ x.index
+    here : (get_or es e no_entry).index ≡ x.index
     here = ap (λ (y : Entry). y.index) is
 
-    old-holds : (k : ℕ) → k < e → Holds card cells spans k (get_or es k noEntry) → Holds card cells' spans' k (get_or es k noEntry)
-    old-holds k z o =
-        let reading : readingAt cells spans k ≡ readingAt cells' spans' k = rw (old-cell k 4 z (omega arith), old-cell k 5 z (omega arith), old-cell k 6 z (omega arith), spans-before (2 * k) (omega (arith, z)), spans-before (2 * k + 1) (omega (arith, z))) in
+    old_holds : (k : ℕ) → k < e → Holds card cells spans k (get_or es k no_entry) → Holds card cells' spans' k (get_or es k no_entry)
+    old_holds k z o =
+        let reading : reading_at cells spans k ≡ reading_at cells' spans' k = rw (old_cell k 4 z (omega arith), old_cell k 5 z (omega arith), old_cell k 6 z (omega arith), spans_before (2 * k) (omega (arith, z)), spans_before (2 * k + 1) (omega (arith, z))) in
         record {
           byte = o.byte;
-          occurrence = old-cell k 1 z (omega arith) ∙ o.occurrence;
-          order = omega (arith, o.order, old-cell k 2 z (omega arith), old-cell k 3 z (omega arith));
-          within = omega (arith, o.within, old-cell k 3 z (omega arith));
-          text = rw (old-cell k 2 z (omega arith), old-cell k 3 z (omega arith)) o.text;
-          serves = serves-same reading o.serves;
+          occurrence = old_cell k 1 z (omega arith) ∙ o.occurrence;
+          order = omega (arith, o.order, old_cell k 2 z (omega arith), old_cell k 3 z (omega arith));
+          within = omega (arith, o.within, old_cell k 3 z (omega arith));
+          text = rw (old_cell k 2 z (omega arith), old_cell k 3 z (omega arith)) o.text;
+          serves = serves_same reading o.serves;
         }
 
-    new-holds : Holds card cells' spans' e (entry x.index x.occurrence t)
-    new-holds =
+    new_holds : Holds card cells' spans' e (entry x.index x.occurrence t)
+    new_holds =
         let size = lent.size in
-        let span-size = lent.span-size in
-        let s : get_or cells' (entryCell e + 2) 0 ≡ x.start = stored-start e x h cells spans cells' spans' st size span-size few low in
-        let u : get_or cells' (entryCell e + 3) 0 ≡ x.end = stored-end e x h cells spans cells' spans' st size span-size few low in
+        let span_size = lent.span_size in
+        let s : get_or cells' (entry_cell e + 2) 0 ≡ x.start = stored-start e x h cells spans cells' spans' st size span_size few low in
+        let u : get_or cells' (entry_cell e + 3) 0 ≡ x.end = stored_end e x h cells spans cells' spans' st size span_size few low in
         record {
           byte = byte;
-          occurrence = stored-occurrence e x h cells spans cells' spans' st size span-size few low;
+          occurrence = stored_occurrence e x h cells spans cells' spans' st size span_size few low;
           order = omega (arith, order, s, u);
           within = omega (arith, within, u);
           text = rw (s, u) text;
           serves =
               let served = serves in
               record {
-                number = λ f. rw (stored-value e x h cells spans cells' spans' st size span-size few low, stored-unit e x h cells spans cells' spans' st size span-size few low) (served.number (sym (stored-form e x h cells spans cells' spans' st size span-size few low) ∙ f));
-                span = λ f. rw (stored-unit e x h cells spans cells' spans' st size span-size few low, stored-first e x h cells spans cells' spans' st size span-size few low, stored_last e x h cells spans cells' spans' st size span-size few low) (served.span (sym (stored-form e x h cells spans cells' spans' st size span-size few low) ∙ f));
+                number = λ f. rw (stored-value e x h cells spans cells' spans' st size span_size few low, stored-unit e x h cells spans cells' spans' st size span_size few low) (served.number (sym (stored_form e x h cells spans cells' spans' st size span_size few low) ∙ f));
+                span = λ f. rw (stored-unit e x h cells spans cells' spans' st size span_size few low, stored-first e x h cells spans cells' spans' st size span_size few low, stored_last e x h cells spans cells' spans' st size span_size few low) (served.span (sym (stored_form e x h cells spans cells' spans' st size span_size few low) ∙ f));
               };
         }
 
-    next-each : (k : ℕ) → k < e + 1 → IsKept cells' (get_or es k noEntry).index → Holds card cells' spans' k (get_or es k noEntry)
-    next-each k z y = by_place (eqb k e) refl
+    next_each : (k : ℕ) → k < e + 1 → IsKept cells' (get_or es k no_entry).index → Holds card cells' spans' k (get_or es k no_entry)
+    next_each k z y = by_place (eqb k e) refl
       where
-        by_place : (b : Bool) → eqb k e ≡ b → Holds card cells' spans' k (get_or es k noEntry)
-        by_place true q = subst (λ (m : ℕ). Holds card cells' spans' m (get_or es m noEntry)) (sym (eqb-true k e q)) (subst (Holds card cells' spans' e) (sym is) new-holds)
+        by_place : (b : Bool) → eqb k e ≡ b → Holds card cells' spans' k (get_or es k no_entry)
+        by_place true q = subst (λ (m : ℕ). Holds card cells' spans' m (get_or es m no_entry)) (sym (eqb-true k e q)) (subst (Holds card cells' spans' e) (sym is) new_holds)
         by_place false q =
             let z : k < e = omega (arith, z, eqb-false k e q) in
-            old-holds k z (w.each k z (kept-before (get_or es k noEntry).index (w.low k z) y))
+            old_holds k z (w.each k z (kept_before (get_or es k no_entry).index (w.low k z) y))
 
-    next-heads : (j : ℕ) → j < 32 → IsKept cells' j → Last es j (e + 1) (get_or cells' j 0)
-    next-heads j z y = by_place (eqb j x.index) refl
+    next_heads : (j : ℕ) → j < 32 → IsKept cells' j → Last es j (e + 1) (get_or cells' j 0)
+    next_heads j z y = by_place (eqb j x.index) refl
       where
         by_place : (b : Bool) → eqb j x.index ≡ b → Last es j (e + 1) (get_or cells' j 0)
         by_place true q =
             subst (λ (m : ℕ). Last es m (e + 1) (get_or cells' m 0)) (sym (eqb-true j x.index q))
-            (subst (Last es x.index (e + 1)) (sym head-is) (last-here es e x.index here))
+            (subst (Last es x.index (e + 1)) (sym head_is) (last_here es e x.index here))
         by_place false q =
             subst (Last es j (e + 1)) (sym (other j (eqb-false j x.index q) (inl (omega (arith, z)))))
-            (last-other es e x.index here j (get_or cells j 0) (eqb-false j x.index q) (w.heads j z (kept-before j z y)))
+            (last_other es e x.index here j (get_or cells j 0) (eqb-false j x.index q) (w.heads j z (kept_before j z y)))
 
-    next-behind : (k : ℕ) → k < e + 1 → IsKept cells' (get_or es k noEntry).index → Last es (get_or es k noEntry).index k (get_or cells' (entryCell k) 0)
+    next-behind : (k : ℕ) → k < e + 1 → IsKept cells' (get_or es k no_entry).index → Last es (get_or es k no_entry).index k (get_or cells' (entry_cell k) 0)
     next-behind k z y = by_place (eqb k e) refl
       where
-        by_place : (b : Bool) → eqb k e ≡ b → Last es (get_or es k noEntry).index k (get_or cells' (entryCell k) 0)
+        by_place : (b : Bool) → eqb k e ≡ b → Last es (get_or es k no_entry).index k (get_or cells' (entry_cell k) 0)
         by_place true q =
-            subst (λ (m : ℕ). Last es (get_or es m noEntry).index m (get_or cells' (entryCell m) 0)) (sym (eqb-true k e q))
-            (subst (λ (m : ℕ). Last es m e (get_or cells' (entryCell e) 0)) (sym here)
-            (subst (Last es x.index e) (sym (stored-behind e x h cells spans cells' spans' st lent.size lent.span-size few low)) (w.heads x.index low kept)))
+            subst (λ (m : ℕ). Last es (get_or es m no_entry).index m (get_or cells' (entry_cell m) 0)) (sym (eqb-true k e q))
+            (subst (λ (m : ℕ). Last es m e (get_or cells' (entry_cell e) 0)) (sym here)
+            (subst (Last es x.index e) (sym (stored-behind e x h cells spans cells' spans' st lent.size lent.span_size few low)) (w.heads x.index low kept)))
         by_place false q =
             let z : k < e = omega (arith, z, eqb-false k e q) in
-            subst (Last es (get_or es k noEntry).index k) (sym (other (entryCell k) (λ r. omega (arith, low, r)) (inl (omega (arith, z)))))
-            (w.behind k z (kept-before (get_or es k noEntry).index (w.low k z) y))
+            subst (Last es (get_or es k no_entry).index k) (sym (other (entry_cell k) (λ r. omega (arith, low, r)) (inl (omega (arith, z)))))
+            (w.behind k z (kept_before (get_or es k no_entry).index (w.low k z) y))
 
-    next_low : (k : ℕ) → k < e + 1 → (get_or es k noEntry).index < 32
+    next_low : (k : ℕ) → k < e + 1 → (get_or es k no_entry).index < 32
     next_low k z = by_place (eqb k e) refl
       where
-        by_place : (b : Bool) → eqb k e ≡ b → (get_or es k noEntry).index < 32
-        by_place true q = subst (λ (n : ℕ). n < 32) (sym (ap (λ (m : ℕ). (get_or es m noEntry).index) (eqb-true k e q) ∙ here)) low
+        by_place : (b : Bool) → eqb k e ≡ b → (get_or es k no_entry).index < 32
+        by_place true q = subst (λ (n : ℕ). n < 32) (sym (ap (λ (m : ℕ). (get_or es m no_entry).index) (eqb-true k e q) ∙ here)) low
         by_place false q = w.low k (omega (arith, z, eqb-false k e q))
 
-    holds-stored : HoldsTo card es cells' spans' (e + 1)
-    holds-stored = record { low = next_low; each = next-each; heads = next-heads; behind = next-behind }
+    holds_stored : HoldsTo card es cells' spans' (e + 1)
+    holds_stored = record { low = next_low; each = next_each; heads = next_heads; behind = next-behind }
 
 -- ---- the text of an entry is read
 
 module _ (kinds t : List ℕ) (e : ℕ) (x : Span) (cells : List ℕ) (spans : List ℤ) (lent : Lent cells spans) (i : ℕ) (same : i ≡ x.index) where
-  pub takes-past : length kinds ≡ 32 → 32 ≤ i → Takes kinds t e x cells spans cells spans false
-  takes-past l p = record { answer = past-readable kinds x.index t (omega (arith, l, p, same)); lent = lent; begins = record { size = refl; same = λ _ _. refl }; keeps = λ _ _ y. y; adds = λ y. both_ways y refl }
+  pub takes_past : length kinds ≡ 32 → 32 ≤ i → Takes kinds t e x cells spans cells spans false
+  takes_past l p = record { answer = past_readable kinds x.index t (omega (arith, l, p, same)); lent = lent; begins = record { size = refl; same = λ _ _. refl }; keeps = λ _ _ y. y; adds = λ y. both_ways y refl }
 
   module _ (low : i < 32) (kind : ℕ) (k : kind ≡ get_or kinds i 0) where
-    own-kind : kind ≡ get_or kinds x.index 0
-    own-kind = k ∙ ap (λ (n : ℕ). get_or kinds n 0) same
+    own_kind : kind ≡ get_or kinds x.index 0
+    own_kind = k ∙ ap (λ (n : ℕ). get_or kinds n 0) same
 
-    pub takes-over : 64 < get_or cells i 0 → (r : Bool) → r ≡ cardReadable kind t → Takes kinds t e x cells spans cells spans r
-    takes-over n r y =
+    pub takes_over : 64 < get_or cells i 0 → (r : Bool) → r ≡ card_readable kind t → Takes kinds t e x cells spans cells spans r
+    takes_over n r y =
         record {
-          answer = y ∙ ap (λ (m : ℕ). cardReadable m t) own-kind;
+          answer = y ∙ ap (λ (m : ℕ). card_readable m t) own_kind;
           lent = lent;
           begins = record { size = refl; same = λ _ _. refl };
           keeps = λ _ _ y. y;
@@ -214,55 +214,55 @@ module _ (kinds t : List ℕ) (e : ℕ) (x : Span) (cells : List ℕ) (spans : L
         }
 
     module _ (n : get_or cells i 0 ≤ 64) (h : TextReading) (a : ReadAs kind t h) where
-      pub takes-misfit : h.fits ≡ false → Takes kinds t e x cells spans cells spans false
-      takes-misfit f = record { answer = sym f ∙ a.fits ∙ ap (λ (m : ℕ). cardReadable m t) own-kind; lent = lent; begins = record { size = refl; same = λ _ _. refl }; keeps = λ _ _ y. y; adds = λ y. both_ways y refl }
+      pub takes_misfit : h.fits ≡ false → Takes kinds t e x cells spans cells spans false
+      takes_misfit f = record { answer = sym f ∙ a.fits ∙ ap (λ (m : ℕ). card_readable m t) own_kind; lent = lent; begins = record { size = refl; same = λ _ _. refl }; keeps = λ _ _ y. y; adds = λ y. both_ways y refl }
 
-      pub takes-stored : h.fits ≡ true → e < 64 → x.occurrence < 256 → (cells' : List ℕ) (spans' : List ℤ) → Stored e x h cells spans cells' spans' → Takes kinds t e x cells spans cells' spans' true
-      takes-stored f few byte cells' spans' st =
+      pub takes_stored : h.fits ≡ true → e < 64 → x.occurrence < 256 → (cells' : List ℕ) (spans' : List ℤ) → Stored e x h cells spans cells' spans' → Takes kinds t e x cells spans cells' spans' true
+      takes_stored f few byte cells' spans' st =
           let own-low : x.index < 32 = omega (arith, low, same) in
           record {
-            answer = sym f ∙ a.fits ∙ ap (λ (m : ℕ). cardReadable m t) own-kind;
-            lent = stored-lent e x h cells spans cells' spans' st lent.size lent.span-size few own-low lent;
-            begins = stored-begins e x h cells spans cells' spans' st lent.size lent.span-size few own-low;
-            keeps = stored-keeps e x h cells spans cells' spans' st lent.size lent.span-size few own-low;
+            answer = sym f ∙ a.fits ∙ ap (λ (m : ℕ). card_readable m t) own_kind;
+            lent = stored-lent e x h cells spans cells' spans' st lent.size lent.span_size few own-low lent;
+            begins = stored_begins e x h cells spans cells' spans' st lent.size lent.span_size few own-low;
+            keeps = stored_keeps e x h cells spans cells' spans' st lent.size lent.span_size few own-low;
             adds = λ _ card es w is text order within.
-                holds-stored e x h cells spans cells' spans' st lent few own-low (subst (λ (j : ℕ). get_or cells j 0 ≤ 64) same n) card es w t is text order within (a.serves f) byte;
+                holds_stored e x h cells spans cells' spans' st lent few own-low (subst (λ (j : ℕ). get_or cells j 0 ≤ 64) same n) card es w t is text order within (a.serves f) byte;
           }
 
 -- ---- the loop
 
 pub record Progress (kinds card before cells : List ℕ) (spans : List ℤ) (at left e : ℕ) : Type 0 where
-  pub visited : Visited entry (conformsTo kinds) (conformsTo kinds (entriesOf card)) card at left
-  pub rest : drop e (entriesOf card) ≡ items entry left card at
-  pub count : e + left ≡ entryCount card
-  pub few : entryCount card ≤ 64
+  pub visited : Visited entry (conforms_to kinds) (conforms_to kinds (entries_of card)) card at left
+  pub rest : drop e (entries_of card) ≡ items entry left card at
+  pub count : e + left ≡ entry_count card
+  pub few : entry_count card ≤ 64
   pub lent : Lent cells spans
   pub begins : BeginsAlike before cells
   pub kept : (i : ℕ) → i < 32 → get_or before (544 + i) 0 ≡ 0 → IsKept cells i
-  pub holds : HoldsTo card (entriesOf card) cells spans e
+  pub holds : HoldsTo card (entries_of card) cells spans e
 
-pub card-few : (card : List ℕ) → readCard card ≡ WellFormed → entryCount card ≤ 64
-unfolding entryCount
-card-few card h = layout-count card (get_or card 0 0) 5 64 (card-layout card h)
+pub card_few : (card : List ℕ) → read_card card ≡ WellFormed → entry_count card ≤ 64
+unfolding entry_count
+card_few card h = layout_count card (get_or card 0 0) 5 64 (card_layout card h)
 
-all_rest : (card : List ℕ) (n : ℕ) → n ≡ entryCount card → drop 0 (entriesOf card) ≡ items entry n card 6
-unfolding entriesOf
+all_rest : (card : List ℕ) (n : ℕ) → n ≡ entry_count card → drop 0 (entries_of card) ≡ items entry n card 6
+unfolding entries_of
 all_rest card n e = ap (λ (k : ℕ). items entry k card 6) (sym e)
 
-pub progress_start : (kinds card begun cells : List ℕ) (spans : List ℤ) (n : ℕ) → readCard card ≡ WellFormed → n ≡ entryCount card → Lent begun spans → Begun begun cells 32 → Progress kinds card cells cells spans 6 n 0
+pub progress_start : (kinds card begun cells : List ℕ) (spans : List ℤ) (n : ℕ) → read_card card ≡ WellFormed → n ≡ entry_count card → Lent begun spans → Begun begun cells 32 → Progress kinds card cells cells spans 6 n 0
 progress_start kinds card begun cells spans n h e w b =
     record {
-      visited = entries-start (conformsTo kinds) card n (conformsTo kinds (entriesOf card)) e h refl;
+      visited = entries_start (conforms_to kinds) card n (conforms_to kinds (entries_of card)) e h refl;
       rest = all_rest card n e;
       count = omega (arith, e);
-      few = card-few card h;
-      lent = begun-lent begun cells spans w b;
+      few = card_few card h;
+      lent = begun_lent begun cells spans w b;
       begins = record { size = refl; same = λ _ _. refl };
       kept = λ i z y. omega (arith, b.front i z, b.others (544 + i) (omega arith), y);
       holds = record {
         low = λ k z. absurd (omega (arith, z));
         each = λ k z y. absurd (omega (arith, z));
-        heads = λ i z y. subst (Last (entriesOf card) i 0) (sym (empty i z y)) (none_last (entriesOf card) i);
+        heads = λ i z y. subst (Last (entries_of card) i 0) (sym (empty i z y)) (none_last (entries_of card) i);
         behind = λ k z y. absurd (omega (arith, z));
       };
     }
@@ -272,64 +272,64 @@ progress_start kinds card begun cells spans n h e w b =
 
 -- the entry at e, and those behind it
 module _ (es : List Entry) (e : ℕ) (x : Entry) (xs : List Entry) (h : drop e es ≡ x ∷ xs) where
-  entry_here : get_or es e noEntry ≡ x
-  entry_here = rw (add-zero e) at (sym (get_or-drop e es 0 noEntry) ∙ ap (λ (l : List Entry). get_or l 0 noEntry) h)
+  entry_here : get_or es e no_entry ≡ x
+  entry_here = rw (add-zero e) at (sym (get_or-drop e es 0 no_entry) ∙ ap (λ (l : List Entry). get_or l 0 no_entry) h)
 
-  entries-behind : drop (e + 1) es ≡ xs
-  entries-behind = sym (drop-drop 1 e es) ∙ ap (drop 1) h
+  entries_behind : drop (e + 1) es ≡ xs
+  entries_behind = sym (drop-drop 1 e es) ∙ ap (drop 1) h
 
 module _ (kinds card cells₀ cells : List ℕ) (spans : List ℤ) (at left e : ℕ) (inv : Progress kinds card cells₀ cells spans at left e) where
   -- since the card was begun with
   alike : (before : List ℕ) → Begun before cells₀ 32 → {after : List ℕ} → BeginsAlike cells₀ after → BeginsAlike before after
-  alike before b {after} a = record { size = a.size ∙ (begun-begins before cells₀ b).size; same = λ j z. a.same j z ∙ (begun-begins before cells₀ b).same j z }
+  alike before b {after} a = record { size = a.size ∙ (begun_begins before cells₀ b).size; same = λ j z. a.same j z ∙ (begun_begins before cells₀ b).same j z }
 
-  pub progress-room : 0 < left → e < 64
-  progress-room l = omega (arith, inv.count, inv.few, l)
+  pub progress_room : 0 < left → e < 64
+  progress_room l = omega (arith, inv.count, inv.few, l)
 
   module _ (l : 0 < left) (x : Span) (s : ItemStep entry card at left x.index x.occurrence x.start x.end) (cells' : List ℕ) (spans' : List ℤ) (r : Bool)
       (tk : Takes kinds (part card x.start x.end) e x cells spans cells' spans' r) where
     abbrev taken : Entry
     taken = entry x.index x.occurrence (part card x.start x.end)
 
-    from-here : drop e (entriesOf card) ≡ taken ∷ items entry (left - 1) card x.end
+    from-here : drop e (entries_of card) ≡ taken ∷ items entry (left - 1) card x.end
     from-here = inv.rest ∙ s.first
 
-    begins-still : BeginsAlike cells₀ cells'
-    begins-still = record { size = tk.begins.size ∙ inv.begins.size; same = λ j z. tk.begins.same j z ∙ inv.begins.same j z }
+    begins_still : BeginsAlike cells₀ cells'
+    begins_still = record { size = tk.begins.size ∙ inv.begins.size; same = λ j z. tk.begins.same j z ∙ inv.begins.same j z }
 
-    pub progress-misfit : (before : List ℕ) → Begun before cells₀ 32 → r ≡ false → ReadsCard kinds card before cells' spans' false
-    progress-misfit before b f =
+    pub progress_misfit : (before : List ℕ) → Begun before cells₀ 32 → r ≡ false → ReadsCard kinds card before cells' spans' false
+    progress_misfit before b f =
         record {
-          answer = visited-decides entry (conformsTo kinds) card at left (conformsTo kinds (entriesOf card)) inv.visited x.index x.occurrence x.start x.end s false (conforms-not kinds x.index x.occurrence (part card x.start x.end) (items entry (left - 1) card x.end) r tk.answer f);
+          answer = visited_decides entry (conforms_to kinds) card at left (conforms_to kinds (entries_of card)) inv.visited x.index x.occurrence x.start x.end s false (conforms_not kinds x.index x.occurrence (part card x.start x.end) (items entry (left - 1) card x.end) r tk.answer f);
           lent = tk.lent;
-          begins = alike before b begins-still;
+          begins = alike before b begins_still;
           keeps = λ y. both_ways y refl;
         }
 
-    pub progress-next : r ≡ true → Progress kinds card cells₀ cells' spans' x.end (left - 1) (e + 1)
-    progress-next y =
+    pub progress_next : r ≡ true → Progress kinds card cells₀ cells' spans' x.end (left - 1) (e + 1)
+    progress_next y =
         record {
-          visited = visited-next entry (conformsTo kinds) card at left (conformsTo kinds (entriesOf card)) inv.visited x.index x.occurrence x.start x.end s (conformsTo kinds) (conforms-next kinds x.index x.occurrence (part card x.start x.end) (items entry (left - 1) card x.end) r tk.answer y);
-          rest = entries-behind (entriesOf card) e taken (items entry (left - 1) card x.end) from-here;
+          visited = visited_next entry (conforms_to kinds) card at left (conforms_to kinds (entries_of card)) inv.visited x.index x.occurrence x.start x.end s (conforms_to kinds) (conforms-next kinds x.index x.occurrence (part card x.start x.end) (items entry (left - 1) card x.end) r tk.answer y);
+          rest = entries_behind (entries_of card) e taken (items entry (left - 1) card x.end) from-here;
           count = omega (arith, inv.count, l);
           few = inv.few;
           lent = tk.lent;
-          begins = begins-still;
+          begins = begins_still;
           kept = λ i z y. tk.keeps i z (inv.kept i z y);
-          holds = tk.adds y card (entriesOf card) inv.holds (entry_here (entriesOf card) e taken (items entry (left - 1) card x.end) from-here) refl s.order s.within;
+          holds = tk.adds y card (entries_of card) inv.holds (entry_here (entries_of card) e taken (items entry (left - 1) card x.end) from-here) refl s.order s.within;
         }
 
-  pub progress-end : (before : List ℕ) → Begun before cells₀ 32 → left ≤ 0 → ReadsCard kinds card before cells spans true
-  progress-end before b h =
-      let all : e ≡ entryCount card = omega (arith, inv.count, h) in
+  pub progress_end : (before : List ℕ) → Begun before cells₀ 32 → left ≤ 0 → ReadsCard kinds card before cells spans true
+  progress_end before b h =
+      let all : e ≡ entry_count card = omega (arith, inv.count, h) in
       record {
-        answer = visited-end entry (conformsTo kinds) card at left (conformsTo kinds (entriesOf card)) inv.visited h true (conforms-end kinds);
+        answer = visited_end entry (conforms_to kinds) card at left (conforms_to kinds (entries_of card)) inv.visited h true (conforms_end kinds);
         lent = inv.lent;
         begins = alike before b inv.begins;
         keeps = λ _.
             record {
               lent = inv.lent;
-              holds = subst (HoldsTo card (entriesOf card) cells spans) all inv.holds;
+              holds = subst (HoldsTo card (entries_of card) cells spans) all inv.holds;
               kept = λ i z y. inv.kept i z (sym (inv.begins.same (544 + i) (omega arith)) ∙ y);
             };
       }

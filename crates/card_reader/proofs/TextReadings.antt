@@ -15,14 +15,14 @@ use Rattle.date.specs.Texts as dates
 use Rattle.date.specs.declared.DateReading.{DateReading}
 use Rattle.date.specs.declared.Date.{Date}
 use Rattle.period.specs.Texts as periods
-use Rattle.period.specs.Spelling.{span-of-period}
+use Rattle.period.specs.Spelling.{span_of_period}
 use Rattle.period.specs.declared.End.{End}
 use Rattle.period.specs.declared.Period.{Period}
 use Rattle.period.specs.declared.PeriodReading.{PeriodReading}
 use Rattle.period.proofs.Spelling as spelling
-use Rattle.kind.specs.Readable.{cardReadable}
+use Rattle.kind.specs.Readable.{card_readable}
 use Rattle.kind.specs.Table as table
-use Rattle.card_reader.specs.Readings.{openBit, instantOf, endFrom, periodFrom, decimal, Serves, ReadAs}
+use Rattle.card_reader.specs.Readings.{open_bit, instant_of, end_from, period_from, decimal, Serves, ReadAs}
 use Rattle.card_reader.specs.declared.TextReading.{TextReading}
 
 abbrev reading : Bool → ℕ → ℕ → ℕ → ℤ → ℤ → TextReading
@@ -31,10 +31,10 @@ reading fits form value unit start end = record { fits = fits; form = form; valu
 -- ---- a text that does not fit, or is kept by its bytes
 
 module _ (kind : ℕ) (t : List ℕ) (h : TextReading) where
-  pub read-misfit : h.fits ≡ false → false ≡ cardReadable kind t → ReadAs kind t h
-  read-misfit f e = record { fits = f ∙ e; serves = λ y. both_ways y f }
+  pub read_misfit : h.fits ≡ false → false ≡ card_readable kind t → ReadAs kind t h
+  read_misfit f e = record { fits = f ∙ e; serves = λ y. both_ways y f }
 
-  pub read_plain : (r : Bool) → h.fits ≡ r → h.form ≡ 0 → r ≡ cardReadable kind t → ReadAs kind t h
+  pub read_plain : (r : Bool) → h.fits ≡ r → h.form ≡ 0 → r ≡ card_readable kind t → ReadAs kind t h
   read_plain r f z e =
       record {
         fits = f ∙ e;
@@ -44,8 +44,8 @@ module _ (kind : ℕ) (t : List ℕ) (h : TextReading) where
 -- ---- a number
 
 module _ (t : List ℕ) (r : NumberReading) (e : r ≡ numbers.read t) where
-  number-readable : numbers.is_number r ≡ cardReadable number t
-  unfolding cardReadable table.ofKind table.kinds numbers.readable
+  number-readable : numbers.is_number r ≡ card_readable number t
+  unfolding card_readable table.of_kind table.kinds numbers.readable
   number-readable = ap numbers.is_number e
 
   pub number_read : (n : Decimal) → r ≡ NumberReading.Number n → ReadAs number t (reading true 1 n.digits n.decimals (pos 0) (pos 0))
@@ -56,79 +56,79 @@ module _ (t : List ℕ) (r : NumberReading) (e : r ≡ numbers.read t) where
       }
 
   pub number-unread : (h : TextReading) → r ≡ NumberReading.Unreadable → h.fits ≡ false → ReadAs number t h
-  number-unread h k f = read-misfit number t h f (sym (ap numbers.is_number k) ∙ number-readable)
+  number-unread h k f = read_misfit number t h f (sym (ap numbers.is_number k) ∙ number-readable)
 
 -- ---- a date
 
 module _ (t : List ℕ) (r : DateReading) (e : r ≡ dates.read t) where
-  date-readable : dates.isDate r ≡ cardReadable date t
-  unfolding cardReadable table.ofKind table.kinds dates.readable
-  date-readable = ap dates.isDate e
+  date-readable : dates.is_date r ≡ card_readable date t
+  unfolding card_readable table.of_kind table.kinds dates.readable
+  date-readable = ap dates.is_date e
 
-  date-span : (d : Date) → r ≡ DateReading.Readable d → periods.readSpan t ≡ PeriodReading.Readable (periodFrom 0 d.start d.end)
-  unfolding periods.readSpan periods.spanOr periods.known periodFrom endFrom
-  date-span d h = ap (λ (x : DateReading). periods.spanOr x (periods.read t)) (sym e ∙ h)
+  date_span : (d : Date) → r ≡ DateReading.Readable d → periods.read_span t ≡ PeriodReading.Readable (period_from 0 d.start d.end)
+  unfolding periods.read_span periods.span_or periods.known period_from end_from
+  date_span d h = ap (λ (x : DateReading). periods.span_or x (periods.read t)) (sym e ∙ h)
 
   pub date-read : (d : Date) (a b : ℤ) → r ≡ DateReading.Readable d → a ≡ d.start → b ≡ d.end → ReadAs date t (reading true 2 0 0 a b)
-  unfolding dates.isDate
+  unfolding dates.is_date
   date-read d a b h p q =
       record {
-        fits = sym (ap dates.isDate h) ∙ date-readable;
-        serves = λ _. record { number = λ z. absurd (omega (arith, z)); span = λ _. date-span d h ∙ rw (p, q) };
+        fits = sym (ap dates.is_date h) ∙ date-readable;
+        serves = λ _. record { number = λ z. absurd (omega (arith, z)); span = λ _. date_span d h ∙ rw (p, q) };
       }
 
   pub date-unread : (h : TextReading) → r ≡ DateReading.Unreadable → h.fits ≡ false → ReadAs date t h
-  unfolding dates.isDate
-  date-unread h k f = read-misfit date t h f (sym (ap dates.isDate k) ∙ date-readable)
+  unfolding dates.is_date
+  date-unread h k f = read_misfit date t h f (sym (ap dates.is_date k) ∙ date-readable)
 
 -- ---- a period
 
-pub bit-open : (e : End) → e ≡ End.Open → (1 ≡ openBit e) × (1 ≤ 1)
-unfolding openBit
-bit-open e h = (rw h, omega arith)
+pub bit_open : (e : End) → e ≡ End.Open → (1 ≡ open_bit e) × (1 ≤ 1)
+unfolding open_bit
+bit_open e h = (rw h, omega arith)
 
-pub bit-known : (e : End) (t : ℤ) → e ≡ End.At t → (0 ≡ openBit e) × (0 ≤ 1)
-unfolding openBit
+pub bit-known : (e : End) (t : ℤ) → e ≡ End.At t → (0 ≡ open_bit e) × (0 ≤ 1)
+unfolding open_bit
 bit-known e t h = (rw h, omega arith)
 
-pub instant-open : (e : End) → e ≡ End.Open → pos 0 ≡ instantOf e
-unfolding instantOf
-instant-open e h = rw h
+pub instant_open : (e : End) → e ≡ End.Open → pos 0 ≡ instant_of e
+unfolding instant_of
+instant_open e h = rw h
 
-pub instant-known : (e : End) (t : ℤ) → e ≡ End.At t → t ≡ instantOf e
-unfolding instantOf
+pub instant-known : (e : End) (t : ℤ) → e ≡ End.At t → t ≡ instant_of e
+unfolding instant_of
 instant-known e t h = rw h
 
-ends-back : (s t : End) → periods.period s t ≡ periodFrom (openBit s + 2 * openBit t) (instantOf s) (instantOf t)
-unfolding openBit instantOf periodFrom endFrom
+ends-back : (s t : End) → periods.period s t ≡ period_from (open_bit s + 2 * open_bit t) (instant_of s) (instant_of t)
+unfolding open_bit instant_of period_from end_from
 ends-back End.Open End.Open = refl
 ends-back End.Open (End.At y) = refl
 ends-back (End.At x) End.Open = refl
 ends-back (End.At x) (End.At y) = refl
 
 module _ (t : List ℕ) (r : PeriodReading) (e : r ≡ periods.read t) where
-  period-readable : periods.isPeriod r ≡ cardReadable period t
-  unfolding cardReadable table.ofKind table.kinds periods.readable
-  period-readable = ap periods.isPeriod e
+  period-readable : periods.is_period r ≡ card_readable period t
+  unfolding card_readable table.of_kind table.kinds periods.readable
+  period-readable = ap periods.is_period e
 
-  period-span : (p : Period) → r ≡ PeriodReading.Readable p → periods.readSpan t ≡ PeriodReading.Readable p
-  period-span p h = (spelling.span-iff t p).1 (span-of-period ((spelling.read-iff t p).0 (sym e ∙ h)))
+  period_span : (p : Period) → r ≡ PeriodReading.Readable p → periods.read_span t ≡ PeriodReading.Readable p
+  period_span p h = (spelling.span_iff t p).1 (span_of_period ((spelling.read_iff t p).0 (sym e ∙ h)))
 
-  pub period-read : (p : Period) (m n : ℕ) (a b : ℤ) → r ≡ PeriodReading.Readable p → m ≡ openBit p.start → n ≡ openBit p.end → a ≡ instantOf p.start → b ≡ instantOf p.end
+  pub period-read : (p : Period) (m n : ℕ) (a b : ℤ) → r ≡ PeriodReading.Readable p → m ≡ open_bit p.start → n ≡ open_bit p.end → a ≡ instant_of p.start → b ≡ instant_of p.end
       → ReadAs period t (reading true 2 0 (m + 2 * n) a b)
-  unfolding periods.isPeriod
+  unfolding periods.is_period
   period-read p m n a b h i j k l =
       record {
-        fits = sym (ap periods.isPeriod h) ∙ period-readable;
+        fits = sym (ap periods.is_period h) ∙ period-readable;
         serves = λ _. record {
           number = λ z. absurd (omega (arith, z));
-          span = λ _. period-span p h ∙ ap PeriodReading.Readable (ends-back p.start p.end ∙ rw (i, j, k, l));
+          span = λ _. period_span p h ∙ ap PeriodReading.Readable (ends-back p.start p.end ∙ rw (i, j, k, l));
         };
       }
 
   pub period-unread : (h : TextReading) → r ≡ PeriodReading.Unreadable → h.fits ≡ false → ReadAs period t h
-  unfolding periods.isPeriod
-  period-unread h k f = read-misfit period t h f (sym (ap periods.isPeriod k) ∙ period-readable)
+  unfolding periods.is_period
+  period-unread h k f = read_misfit period t h f (sym (ap periods.is_period k) ∙ period-readable)
 
 -- ---- by kind
 

@@ -2,9 +2,9 @@
 -- Assumes nothing.
 use Rattle.std.specs.Prelude.{ℕ, ◌+◌, ◌*◌, ◌≤◌, ◌<◌, ◌≡◌, ◌⊎◌, Bool, true, List, [], ℤ, pos, length, get_or, take, drop}
 use Rattle.base.specs.Parts.{part}
-use Rattle.card.specs.Card.{Entry, entry, entriesOf, entryCount}
+use Rattle.card.specs.Card.{Entry, entry, entries_of, entry_count}
 use Rattle.card.specs.declared.Entry.{Entry as Span}
-use Rattle.judge.specs.Sets.{conformsTo}
+use Rattle.judge.specs.Sets.{conforms_to}
 use Rattle.card_reader.specs.Readings.{Serves}
 use Rattle.card_reader.specs.declared.TextReading.{TextReading}
 
@@ -13,26 +13,26 @@ use Rattle.card_reader.specs.declared.TextReading.{TextReading}
 -- their sizes; and a card begins with a parameter's cell at 0, or above 64 where nothing is kept of its entries
 pub record Lent (cells : List ℕ) (spans : List ℤ) : Type 0 where
   pub size : length cells ≡ 608
-  pub span-size : length spans ≡ 128
+  pub span_size : length spans ≡ 128
   pub begin : (i : ℕ) → i < 32 → (get_or cells (544 + i) 0 ≡ 0) ⊎ (64 < get_or cells (544 + i) 0)
   pub bytes : (i : ℕ) → i < 32 → get_or cells (576 + i) 0 < 256
 
 -- the kinds of the parameters
-unfoldable pub kindsIn : List ℕ → List ℕ
-kindsIn cells = take 32 (drop 576 cells)
+unfoldable pub kinds_in : List ℕ → List ℕ
+kinds_in cells = take 32 (drop 576 cells)
 
 -- where the cells of the entry e begin
-abbrev pub entryCell : ℕ → ℕ
-entryCell e = 32 + 8 * e
+abbrev pub entry_cell : ℕ → ℕ
+entry_cell e = 32 + 8 * e
 
 -- what the text of the entry e reads to
-abbrev pub readingAt : List ℕ → List ℤ → ℕ → TextReading
-readingAt cells spans e =
+abbrev pub reading_at : List ℕ → List ℤ → ℕ → TextReading
+reading_at cells spans e =
     record {
       fits = true;
-      form = get_or cells (entryCell e + 4) 0;
-      value = get_or cells (entryCell e + 5) 0;
-      unit = get_or cells (entryCell e + 6) 0;
+      form = get_or cells (entry_cell e + 4) 0;
+      value = get_or cells (entry_cell e + 5) 0;
+      unit = get_or cells (entry_cell e + 6) 0;
       start = get_or spans (2 * e) (pos 0);
       end = get_or spans (2 * e + 1) (pos 0);
     }
@@ -40,23 +40,23 @@ readingAt cells spans e =
 -- ---- the lists of a card
 
 -- an entry that is not there
-abbrev pub noEntry : Entry
-noEntry = entry 0 0 []
+abbrev pub no_entry : Entry
+no_entry = entry 0 0 []
 
 -- the cells of the entry e of the card have the entry x
 pub record Holds (card cells : List ℕ) (spans : List ℤ) (e : ℕ) (x : Entry) : Type 0 where
   pub byte : x.occurrence < 256
-  pub occurrence : get_or cells (entryCell e + 1) 0 ≡ x.occurrence
-  pub order : get_or cells (entryCell e + 2) 0 ≤ get_or cells (entryCell e + 3) 0
-  pub within : get_or cells (entryCell e + 3) 0 ≤ length card
-  pub text : x.text ≡ part card (get_or cells (entryCell e + 2) 0) (get_or cells (entryCell e + 3) 0)
-  pub serves : Serves x.text (readingAt cells spans e)
+  pub occurrence : get_or cells (entry_cell e + 1) 0 ≡ x.occurrence
+  pub order : get_or cells (entry_cell e + 2) 0 ≤ get_or cells (entry_cell e + 3) 0
+  pub within : get_or cells (entry_cell e + 3) 0 ≤ length card
+  pub text : x.text ≡ part card (get_or cells (entry_cell e + 2) 0) (get_or cells (entry_cell e + 3) 0)
+  pub serves : Serves x.text (reading_at cells spans e)
 
 -- c is the last of the first n entries that stands under the parameter i, counted from 1; 0 where none does
 pub record Last (es : List Entry) (i n c : ℕ) : Type 0 where
   pub within : c ≤ n
-  pub under : (e : ℕ) → c ≡ e + 1 → (get_or es e noEntry).index ≡ i
-  pub others : (e : ℕ) → c ≤ e → e < n → (get_or es e noEntry).index ≡ i → ⊥
+  pub under : (e : ℕ) → c ≡ e + 1 → (get_or es e no_entry).index ≡ i
+  pub others : (e : ℕ) → c ≤ e → e < n → (get_or es e no_entry).index ≡ i → ⊥
 
 -- the entries under a parameter are kept
 abbrev pub IsKept : List ℕ → ℕ → Type 0
@@ -64,15 +64,15 @@ IsKept cells i = get_or cells i 0 ≤ 64
 
 -- the lists have the first n entries, of parameters whose entries are kept
 pub record HoldsTo (card : List ℕ) (es : List Entry) (cells : List ℕ) (spans : List ℤ) (n : ℕ) : Type 0 where
-  pub low : (e : ℕ) → e < n → (get_or es e noEntry).index < 32
-  pub each : (e : ℕ) → e < n → IsKept cells (get_or es e noEntry).index → Holds card cells spans e (get_or es e noEntry)
+  pub low : (e : ℕ) → e < n → (get_or es e no_entry).index < 32
+  pub each : (e : ℕ) → e < n → IsKept cells (get_or es e no_entry).index → Holds card cells spans e (get_or es e no_entry)
   pub heads : (i : ℕ) → i < 32 → IsKept cells i → Last es i n (get_or cells i 0)
-  pub behind : (e : ℕ) → e < n → IsKept cells (get_or es e noEntry).index → Last es (get_or es e noEntry).index e (get_or cells (entryCell e) 0)
+  pub behind : (e : ℕ) → e < n → IsKept cells (get_or es e no_entry).index → Last es (get_or es e no_entry).index e (get_or cells (entry_cell e) 0)
 
 -- what is kept of a card
 pub record KeepsCard (card cells : List ℕ) (spans : List ℤ) : Type 0 where
   pub lent : Lent cells spans
-  pub holds : HoldsTo card (entriesOf card) cells spans (entryCount card)
+  pub holds : HoldsTo card (entries_of card) cells spans (entry_count card)
   pub kept : (i : ℕ) → i < 32 → get_or cells (544 + i) 0 ≡ 0 → IsKept cells i
 
 -- how cards begin, and the kinds, are the same before and after
@@ -82,7 +82,7 @@ pub record BeginsAlike (before after : List ℕ) : Type 0 where
 
 -- the answer of reading a card's entries, and the lists where it is yes
 pub record ReadsCard (kinds card before cells : List ℕ) (spans : List ℤ) (r : Bool) : Type 0 where
-  pub answer : r ≡ conformsTo kinds (entriesOf card)
+  pub answer : r ≡ conforms_to kinds (entries_of card)
   pub lent : Lent cells spans
   pub begins : BeginsAlike before cells
   pub keeps : r ≡ true → KeepsCard card cells spans

@@ -4,8 +4,8 @@ use Rattle.std.specs.Prelude.{ℕ, ◌+◌, ◌*◌, ◌≤◌, ◌<◌, ◌≡�
 use Rattle.base.specs.Parts.{part}
 use Rattle.card.specs.Card.{Entry, entry}
 use Rattle.card.specs.declared.Entry.{Entry as Span}
-use Rattle.kind.specs.Readable.{cardReadable}
-use Rattle.card_reader.specs.Lists.{Lent, entryCell, noEntry, IsKept, HoldsTo, BeginsAlike}
+use Rattle.kind.specs.Readable.{card_readable}
+use Rattle.card_reader.specs.Lists.{Lent, entry_cell, no_entry, IsKept, HoldsTo, BeginsAlike}
 use Rattle.card_reader.specs.declared.TextReading.{TextReading}
 
 pub record Put {A : Type 0} (n : ℕ) (l : List A) (at : ℕ) (v : A) (l' : List A) : Type 0 where
@@ -14,15 +14,15 @@ pub record Put {A : Type 0} (n : ℕ) (l : List A) (at : ℕ) (v : A) (l' : List
 
 -- the entry e is put before the others under the parameter i
 pub record Linked (l : List ℕ) (i e : ℕ) (l' : List ℕ) : Type 0 where
-  pub is : l' ≡ set (set l (entryCell e) (get_or l i 0)) i (e + 1)
+  pub is : l' ≡ set (set l (entry_cell e) (get_or l i 0)) i (e + 1)
   pub size : length l' ≡ 608
 
 pub record Placed (l : List ℕ) (e o s t : ℕ) (l' : List ℕ) : Type 0 where
-  pub is : l' ≡ set (set (set l (entryCell e + 1) o) (entryCell e + 2) s) (entryCell e + 3) t
+  pub is : l' ≡ set (set (set l (entry_cell e + 1) o) (entry_cell e + 2) s) (entry_cell e + 3) t
   pub size : length l' ≡ 608
 
 pub record Valued (l : List ℕ) (e f v u : ℕ) (l' : List ℕ) : Type 0 where
-  pub is : l' ≡ set (set (set l (entryCell e + 4) f) (entryCell e + 5) v) (entryCell e + 6) u
+  pub is : l' ≡ set (set (set l (entry_cell e + 4) f) (entry_cell e + 5) v) (entry_cell e + 6) u
   pub size : length l' ≡ 608
 
 pub record Spanned (l : List ℤ) (e : ℕ) (a b : ℤ) (l' : List ℤ) : Type 0 where
@@ -47,9 +47,9 @@ pub record Begun (l l' : List ℕ) (n : ℕ) : Type 0 where
 
 -- the text of an entry is read, and where it is readable the lists have one entry more
 pub record Takes (kinds t : List ℕ) (e : ℕ) (x : Span) (cells : List ℕ) (spans : List ℤ) (cells' : List ℕ) (spans' : List ℤ) (r : Bool) : Type 0 where
-  pub answer : r ≡ cardReadable (get_or kinds x.index 0) t
+  pub answer : r ≡ card_readable (get_or kinds x.index 0) t
   pub lent : Lent cells' spans'
   pub begins : BeginsAlike cells cells'
   pub keeps : (i : ℕ) → i < 32 → IsKept cells i → IsKept cells' i
-  pub adds : r ≡ true → (card : List ℕ) (es : List Entry) → HoldsTo card es cells spans e → get_or es e noEntry ≡ entry x.index x.occurrence t
+  pub adds : r ≡ true → (card : List ℕ) (es : List Entry) → HoldsTo card es cells spans e → get_or es e no_entry ≡ entry x.index x.occurrence t
       → t ≡ part card x.start x.end → x.start ≤ x.end → x.end ≤ length card → HoldsTo card es cells' spans' (e + 1)

@@ -1,6 +1,6 @@
 // The lists as they are lent for a run.
 ghost use Rattle.std.specs.Prelude.{◌≡◌, ◌<◌, ◌≤◌, length, get_or};
-ghost use Rattle.card_reader.specs.Lists.{Lent, kindsIn};
+ghost use Rattle.card_reader.specs.Lists.{Lent, kinds_in};
 ghost use Rattle.card_reader.specs.Lending.{Prepares, Lends, Keeps};
 
 use crate::store::{put, wide};
@@ -49,7 +49,7 @@ pub fn keep(cells: &mut [u64], spans: &[i64], index: u8)
 pub fn kind_at(cells: &[u64], spans: &[i64], index: u8) -> u8
     requires lent { Lent cells.now spans.now }
     requires index_bound { index < 32 }
-    ensures { result ≡ get_or (kindsIn cells.now) index 0 }
+    ensures { result ≡ get_or (kinds_in cells.now) index 0 }
 {
     let i = wide(index);
     cells[576 + i] as u8

@@ -1,11 +1,11 @@
 // A test judged by the lists of a card: only the entries under its parameter are visited.
 ghost use Rattle.std.specs.Prelude.{◌≡◌, ◌+◌, ◌<◌, ◌≤◌, length, get_or};
-ghost use Rattle.card.specs.Card.{entriesOf, readCard};
-ghost use Rattle.judge.specs.Once.{readingsFor};
-ghost use Rattle.judge.specs.Sets.{valuesAt, chosen_of, counts};
-ghost use Rattle.judge.specs.Verdicts.{someValue, textCounts};
-ghost use Rattle.card_reader.specs.Lists.{entryCell, noEntry, readingAt, Holds, IsKept, KeepsCard};
-ghost use Rattle.card_reader.specs.Listed.{entryCounts, OnChain, FirstFrom};
+ghost use Rattle.card.specs.Card.{entries_of, read_card};
+ghost use Rattle.judge.specs.Once.{readings_for};
+ghost use Rattle.judge.specs.Sets.{values_at, chosen_of, counts};
+ghost use Rattle.judge.specs.Verdicts.{some_value, text_counts};
+ghost use Rattle.card_reader.specs.Lists.{entry_cell, no_entry, reading_at, Holds, IsKept, KeepsCard};
+ghost use Rattle.card_reader.specs.Listed.{entry_counts, OnChain, FirstFrom};
 
 use crate::lending::widest;
 use crate::related::reading_counts;
@@ -29,7 +29,7 @@ fn reading_at(cells: &[u64], spans: &[i64], e: usize) -> TextReading
     requires cells_len { length cells.now ≡ 608 }
     requires spans_len { length spans.now ≡ 128 }
     requires e_bound { e < 64 }
-    ensures { result ≡ readingAt cells.now spans.now e }
+    ensures { result ≡ reading_at cells.now spans.now e }
 {
     let cell = 32 + 8 * e;
     TextReading {
@@ -54,9 +54,9 @@ fn entry_counts(
 ) -> bool
     requires cells_len { (length cells.now ≡ 608) × (length spans.now ≡ 128) }
     requires e_bound { e < 64 }
-    requires holds { Holds card.now cells.now spans.now e (get_or (entriesOf card.now) e noEntry) }
-    requires readings_value { question.readings ≡ readingsFor question.meaning value.now }
-    ensures { result ≡ entryCounts chosen question.meaning value.now (get_or (entriesOf card.now) e noEntry) }
+    requires holds { Holds card.now cells.now spans.now e (get_or (entries_of card.now) e no_entry) }
+    requires readings_value { question.readings ≡ readings_for question.meaning value.now }
+    ensures { result ≡ entry_counts chosen question.meaning value.now (get_or (entries_of card.now) e no_entry) }
 {
     let cell = 32 + 8 * e;
     if is_chosen(chosen, cells[cell + 1]) {
@@ -82,8 +82,8 @@ pub fn next_counting(
 ) -> usize
     requires keeps_card { KeepsCard card.now cells.now spans.now }
     requires on_chain { OnChain card.now cells.now question.index from }
-    requires readings_value { question.readings ≡ readingsFor question.meaning value.now }
-    ensures { FirstFrom (entryCounts chosen question.meaning value.now) card.now cells.now question.index from result }
+    requires readings_value { question.readings ≡ readings_for question.meaning value.now }
+    ensures { FirstFrom (entry_counts chosen question.meaning value.now) card.now cells.now question.index from result }
 {
     let mut next = from;
     while next > 0 {
@@ -109,7 +109,7 @@ pub fn chain_of(cells: &[u64], index: u8) -> usize
 pub fn chain_behind(cells: &[u64], e: usize) -> usize
     requires cells_len { length cells.now ≡ 608 }
     requires e_bound { e < 64 }
-    ensures { result ≡ get_or cells.now (entryCell e) 0 }
+    ensures { result ≡ get_or cells.now (entry_cell e) 0 }
 {
     cells[32 + 8 * e] as usize
 }
@@ -118,8 +118,8 @@ pub fn chain_behind(cells: &[u64], e: usize) -> usize
 pub fn occurrence_of(cells: &[u64], e: usize) -> u8
     requires cells_len { length cells.now ≡ 608 }
     requires e_bound { e < 64 }
-    requires e_bound_2 { get_or cells.now (entryCell e + 1) 0 < 256 }
-    ensures { result ≡ get_or cells.now (entryCell e + 1) 0 }
+    requires e_bound_2 { get_or cells.now (entry_cell e + 1) 0 < 256 }
+    ensures { result ≡ get_or cells.now (entry_cell e + 1) 0 }
 {
     cells[32 + 8 * e + 1] as u8
 }
@@ -133,12 +133,12 @@ pub fn some_kept(
     question: Question,
     value: &[u8],
 ) -> bool
-    requires card_value { readCard card.now ≡ Validity.WellFormed }
+    requires card_value { read_card card.now ≡ Validity.WellFormed }
     requires keeps_card { KeepsCard card.now cells.now spans.now }
     requires index_bound { question.index < 32 }
     requires kept { IsKept cells.now question.index }
-    requires readings_value { question.readings ≡ readingsFor question.meaning value.now }
-    ensures { result ≡ someValue (textCounts question.meaning value.now) (valuesAt question.index (chosen_of chosen (entriesOf card.now))) }
+    requires readings_value { question.readings ≡ readings_for question.meaning value.now }
+    ensures { result ≡ some_value (text_counts question.meaning value.now) (values_at question.index (chosen_of chosen (entries_of card.now))) }
 {
     let from = chain_of(cells, question.index);
     next_counting(card, cells, spans, chosen, question, value, from) > 0

@@ -1,7 +1,7 @@
 // What a text on a card reads to as its kind.
 ghost use Rattle.std.specs.Prelude.{◌≡◌, false, ◌≤◌};
 ghost use Rattle.base.specs.Kinds.{number, date, period};
-ghost use Rattle.card_reader.specs.Readings.{openBit, instantOf, ReadAs};
+ghost use Rattle.card_reader.specs.Readings.{open_bit, instant_of, ReadAs};
 
 use crate::TextReading;
 use base::kind::{DATE, NUMBER, PERIOD};
@@ -59,7 +59,7 @@ fn date_reading(text: &[u8]) -> TextReading
 
 // 1 where an end is missing.
 fn open_bit(end: End) -> u64
-    ensures { (result ≡ openBit end) × (result ≤ 1) }
+    ensures { (result ≡ open_bit end) × (result ≤ 1) }
 {
     match end {
         End::Open => 1,
@@ -69,7 +69,7 @@ fn open_bit(end: End) -> u64
 
 // The instant of an end, and 0 where it is missing.
 fn instant_of(end: End) -> i64
-    ensures { result ≡ instantOf end }
+    ensures { result ≡ instant_of end }
 {
     match end {
         End::Open => 0,

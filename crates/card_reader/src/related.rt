@@ -3,9 +3,9 @@ ghost use Rattle.std.specs.Prelude.{◌≡◌};
 ghost use Rattle.number.specs.Value.{Bounded};
 ghost use Rattle.number.specs.declared.NumberReading as number-reading;
 ghost use Rattle.period.specs.declared.PeriodReading as period-reading;
-ghost use Rattle.kind.specs.Relations.{Kept, numberReadingsRelate, dateReadingsRelate, relatesRead};
-ghost use Rattle.judge.specs.Once.{countsRead};
-ghost use Rattle.card_reader.specs.Readings.{endFrom, periodFrom, decimal, Serves};
+ghost use Rattle.kind.specs.Relations.{Kept, number_readings_relate, date_readings_relate, relates_read};
+ghost use Rattle.judge.specs.Once.{counts_read};
+ghost use Rattle.card_reader.specs.Readings.{end_from, period_from, decimal, Serves};
 
 use crate::TextReading;
 use date::DateReading;
@@ -18,7 +18,7 @@ use period::{End, Period};
 
 // An end from its numbers.
 fn end_from(missing: bool, t: i64) -> End
-    ensures { result ≡ endFrom missing t }
+    ensures { result ≡ end_from missing t }
 {
     if missing {
         return End::Open;
@@ -28,7 +28,7 @@ fn end_from(missing: bool, t: i64) -> End
 
 // A period from its numbers.
 fn period_from(unit: u64, start: i64, end: i64) -> Period
-    ensures { result ≡ periodFrom unit start end }
+    ensures { result ≡ period_from unit start end }
 {
     Period {
         start: end_from(unit % 2 == 1, start),
@@ -40,7 +40,7 @@ fn period_from(unit: u64, start: i64, end: i64) -> Period
 fn number_relates(relation: NumberRelation, digits: u64, unit: u64, value: NumberReading) -> bool
     requires bounded { Bounded (decimal digits unit) }
     requires kept { Kept value }
-    ensures { result ≡ numberReadingsRelate relation (number-reading.NumberReading.Number (decimal digits unit)) value }
+    ensures { result ≡ number_readings_relate relation (number-reading.NumberReading.Number (decimal digits unit)) value }
 {
     let NumberReading::Number(f) = value else {
         return false;
@@ -54,7 +54,7 @@ fn number_relates(relation: NumberRelation, digits: u64, unit: u64, value: Numbe
 
 // A card's span and what a filter's value reads to.
 fn span_relates(relation: DateRelation, unit: u64, start: i64, end: i64, value: DateReading) -> bool
-    ensures { result ≡ dateReadingsRelate relation (period-reading.PeriodReading.Readable (periodFrom unit start end)) value }
+    ensures { result ≡ date_readings_relate relation (period-reading.PeriodReading.Readable (period_from unit start end)) value }
 {
     let DateReading::Readable(f) = value else {
         return false;
@@ -72,7 +72,7 @@ fn reading_relates(
 ) -> bool
     requires serves { Serves text.now read }
     requires kept { Kept readings.number }
-    ensures { result ≡ relatesRead relation text.now value.now readings }
+    ensures { result ≡ relates_read relation text.now value.now readings }
 {
     let number = readings.number;
     let date = readings.date;
@@ -105,7 +105,7 @@ pub fn reading_counts(
 ) -> bool
     requires serves { Serves text.now read }
     requires kept { Kept readings.number }
-    ensures { result ≡ countsRead meaning value.now readings text.now }
+    ensures { result ≡ counts_read meaning value.now readings text.now }
 {
     match meaning {
         Meaning::Present => true,

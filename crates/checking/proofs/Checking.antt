@@ -9,117 +9,117 @@ use lib.ListN.{length}
 use borrow.Author.Tests.{eq-eqb, ne_eqb, lt-ltb}
 use Rattle.base.specs.Runs.{RunEnd}
 use Rattle.block.specs.declared.Validity.{Validity}
-use Rattle.sheet.specs.Sheet.{Parameter, parametersOf, readSheet}
-use Rattle.syntax.specs.Tree.{Tree, testsOf}
-use Rattle.syntax.specs.Scan.{isSpace}
-use Rattle.syntax.specs.Grammar.{deepest, mostTests}
-use Rattle.syntax.specs.Reader.{parsed, filterAt, whole, read}
-use Rattle.syntax.proofs.Whole.{whole-trails, whole-many, whole-few}
+use Rattle.sheet.specs.Sheet.{Parameter, parameters_of, read_sheet}
+use Rattle.syntax.specs.Tree.{Tree, tests_of}
+use Rattle.syntax.specs.Scan.{is_space}
+use Rattle.syntax.specs.Grammar.{deepest, most_tests}
+use Rattle.syntax.specs.Reader.{parsed, filter_at, whole, read}
+use Rattle.syntax.proofs.Whole.{whole_trails, whole_many, whole_few}
 use Rattle.place.specs.Machine.{failure}
 use Rattle.refusal.specs.declared.Decision.{Decision}
-use Rattle.filter.specs.Folds.{summaryOf, reading}
-use Rattle.filter.specs.Walks.{topSpot, answer_of}
+use Rattle.filter.specs.Folds.{summary_of, reading}
+use Rattle.filter.specs.Walks.{top_spot, answer_of}
 use Rattle.filter.specs.declared.Spot.{Spot}
 use Rattle.filter.specs.declared.Summary.{Summary}
 use Rattle.filter.specs.declared.Walked.{Walked}
-use Rattle.filter.proofs.Walk.{top-bundle, top_read, WasFilter, was-filter, was-none}
-use Rattle.filter.proofs.Reading.{walked-cases, reading-is}
+use Rattle.filter.proofs.Walk.{top-bundle, top_read, WasFilter, was_filter, was_none}
+use Rattle.filter.proofs.Reading.{walked_cases, reading_is}
 use Rattle.refusal.specs.declared.Reason.{Reason}
 use Rattle.refusal.specs.declared.Refusal.{Refusal}
 use Rattle.answer.specs.declared.Checked.{Checked}
-use Rattle.refusal.specs.Answers.{Answer, count, refused, number_of, refusalAnswer}
-use Rattle.answer.specs.Answers.{checkedAnswer}
+use Rattle.refusal.specs.Answers.{Answer, count, refused, number_of, refusal_answer}
+use Rattle.answer.specs.Answers.{checked_answer}
 use Rattle.refusal.specs.Steps.{Step, found, stop, ◌>>=◌, answer}
-use Rattle.answer.specs.Operations.{acceptFilter, decisionStep, testsStep, sheetStep, acceptSheet, filterAnswer, Inputs, acceptInputs, checkAnswer}
-use Rattle.answer.specs.Passing.{summaryAnswer}
-use Rattle.answer.proofs.Inputs.{text-read}
+use Rattle.answer.specs.Operations.{accept_filter, decision_step, tests_step, sheet_step, accept_sheet, filter_answer, Inputs, accept_inputs, check_answer}
+use Rattle.answer.specs.Passing.{summary_answer}
+use Rattle.answer.proofs.Inputs.{text_read}
 
 -- ---- the answer for a text that is a filter
 
-pub outcome-refused : (s : Summary) (r : Refusal) → s.first ≡ Decision.Refused r → checkedAnswer (Checked.Refused r) ≡ summaryAnswer s
-unfolding summaryAnswer checkedAnswer refusalAnswer
-outcome-refused s r e = rw e
+pub outcome_refused : (s : Summary) (r : Refusal) → s.first ≡ Decision.Refused r → checked_answer (Checked.Refused r) ≡ summary_answer s
+unfolding summary_answer checked_answer refusal_answer
+outcome_refused s r e = rw e
 
-pub outcome-tests : (s : Summary) → s.first ≡ Decision.Passed → checkedAnswer (Checked.Tests s.tests) ≡ summaryAnswer s
-unfolding summaryAnswer checkedAnswer
-outcome-tests s e = rw e
+pub outcome_tests : (s : Summary) → s.first ≡ Decision.Passed → checked_answer (Checked.Tests s.tests) ≡ summary_answer s
+unfolding summary_answer checked_answer
+outcome_tests s e = rw e
 
 -- ---- the answer for a text that is none
 
-pub failure-answered : (r f : Refusal) → f ≡ r → checkedAnswer (Checked.Refused f) ≡ refusalAnswer r
-unfolding checkedAnswer
+pub failure-answered : (r f : Refusal) → f ≡ r → checked_answer (Checked.Refused f) ≡ refusal_answer r
+unfolding checked_answer
 failure-answered r f e = rw e
 
 -- ---- the filter's text
 
 module _ (ps : List Parameter) (xs : List ℕ) (c : Checked) where
-  pub text-empty : length xs ≡ 0 → checkedAnswer c ≡ refused (number_of Reason.FilterSize) 0 → checkedAnswer c ≡ filterAnswer ps xs
-  unfolding filterAnswer acceptFilter
-  text-empty h e = e ∙ rw (eq-eqb (length xs) 0 h)
+  pub text_empty : length xs ≡ 0 → checked_answer c ≡ refused (number_of Reason.FilterSize) 0 → checked_answer c ≡ filter_answer ps xs
+  unfolding filter_answer accept_filter
+  text_empty h e = e ∙ rw (eq-eqb (length xs) 0 h)
 
-  pub text-long : 1024 < length xs → checkedAnswer c ≡ refused (number_of Reason.FilterSize) 0 → checkedAnswer c ≡ filterAnswer ps xs
-  unfolding filterAnswer acceptFilter
-  text-long h e =
+  pub text_long : 1024 < length xs → checked_answer c ≡ refused (number_of Reason.FilterSize) 0 → checked_answer c ≡ filter_answer ps xs
+  unfolding filter_answer accept_filter
+  text_long h e =
       let n : length xs ≡ 0 → ⊥ = λ z. omega arith in
       e ∙ rw (ne_eqb (length xs) 0 n, lt-ltb 1024 (length xs) h)
 
 module _ (ps : List Parameter) (xs : List ℕ) (n : length xs ≡ 0 → ⊥) (l : length xs ≤ 1024) where
-  text-none : (c : Checked) → read xs ≡ none → checkedAnswer c ≡ refusalAnswer (failure deepest mostTests xs) → checkedAnswer c ≡ filterAnswer ps xs
-  unfolding filterAnswer refusalAnswer
-  text-none c e h = h ∙ rw (text-read xs n l none e)
+  text_none : (c : Checked) → read xs ≡ none → checked_answer c ≡ refusal_answer (failure deepest most_tests xs) → checked_answer c ≡ filter_answer ps xs
+  unfolding filter_answer refusal_answer
+  text_none c e h = h ∙ rw (text_read xs n l none e)
 
-  module _ (spot : Spot) (s : spot ≡ topSpot xs) (w : Walked) (e : w ≡ answer_of Walked.Done Walked.Nothing (reading ps spot.bundle) (filterAt spot.levels xs spot.close spot.at)) where
-    pub text-nothing : (c : Checked) → w ≡ Walked.Nothing → checkedAnswer c ≡ refusalAnswer (failure deepest mostTests xs) → checkedAnswer c ≡ filterAnswer ps xs
-    text-nothing c h = text-none c (top_read xs spot s ∙ ap (whole xs) (was-none Walked.Done Walked.Nothing walked-cases (reading ps spot.bundle) xs spot.close spot.levels spot.at w e h))
+  module _ (spot : Spot) (s : spot ≡ top_spot xs) (w : Walked) (e : w ≡ answer_of Walked.Done Walked.Nothing (reading ps spot.bundle) (filter_at spot.levels xs spot.close spot.at)) where
+    pub text_nothing : (c : Checked) → w ≡ Walked.Nothing → checked_answer c ≡ refusal_answer (failure deepest most_tests xs) → checked_answer c ≡ filter_answer ps xs
+    text_nothing c h = text_none c (top_read xs spot s ∙ ap (whole xs) (was_none Walked.Done Walked.Nothing walked_cases (reading ps spot.bundle) xs spot.close spot.levels spot.at w e h))
 
-    module _ (end : ℕ) (a : Summary) (h : w ≡ Walked.Done end a) (after : ℕ) (t : RunEnd isSpace xs end after) where
-      was : WasFilter Walked.Done Walked.Nothing walked-cases (reading ps spot.bundle) xs spot.close spot.levels spot.at end a
-      was = was-filter Walked.Done Walked.Nothing walked-cases (reading ps spot.bundle) xs spot.close spot.levels spot.at w end a e h
+    module _ (end : ℕ) (a : Summary) (h : w ≡ Walked.Done end a) (after : ℕ) (t : RunEnd is_space xs end after) where
+      was : WasFilter Walked.Done Walked.Nothing walked_cases (reading ps spot.bundle) xs spot.close spot.levels spot.at end a
+      was = was_filter Walked.Done Walked.Nothing walked_cases (reading ps spot.bundle) xs spot.close spot.levels spot.at w end a e h
 
-      gathered : a ≡ summaryOf ps 0 (testsOf was.tree)
-      gathered = was.value ∙ reading-is ps spot.bundle was.tree ∙ ap (λ (c : ℕ). summaryOf ps c (testsOf was.tree)) (top-bundle xs spot s)
+      gathered : a ≡ summary_of ps 0 (tests_of was.tree)
+      gathered = was.value ∙ reading_is ps spot.bundle was.tree ∙ ap (λ (c : ℕ). summary_of ps c (tests_of was.tree)) (top-bundle xs spot s)
 
-      tests-are : a.tests ≡ length (testsOf was.tree)
-      tests-are = ap (λ (x : Summary). x.tests) gathered
+      tests_are : a.tests ≡ length (tests_of was.tree)
+      tests_are = ap (λ (x : Summary). x.tests) gathered
 
       read_whole : read xs ≡ whole xs (parsed end was.tree)
       read_whole = top_read xs spot s ∙ ap (whole xs) was.read
 
-      pub text-trails : (c : Checked) → (after ≡ length xs → ⊥) → checkedAnswer c ≡ refusalAnswer (failure deepest mostTests xs) → checkedAnswer c ≡ filterAnswer ps xs
-      text-trails c k = text-none c (read_whole ∙ whole-trails xs end after t was.tree k)
+      pub text_trails : (c : Checked) → (after ≡ length xs → ⊥) → checked_answer c ≡ refusal_answer (failure deepest most_tests xs) → checked_answer c ≡ filter_answer ps xs
+      text_trails c k = text_none c (read_whole ∙ whole_trails xs end after t was.tree k)
 
       module _ (k : after ≡ length xs) where
-        pub text-many : (c : Checked) → 32 < a.tests → checkedAnswer c ≡ refusalAnswer (failure deepest mostTests xs) → checkedAnswer c ≡ filterAnswer ps xs
-        text-many c m = text-none c (read_whole ∙ whole-many xs end after t was.tree k (omega (arith, tests-are)))
+        pub text_many : (c : Checked) → 32 < a.tests → checked_answer c ≡ refusal_answer (failure deepest most_tests xs) → checked_answer c ≡ filter_answer ps xs
+        text_many c m = text_none c (read_whole ∙ whole_many xs end after t was.tree k (omega (arith, tests_are)))
 
-        pub text-answered : (c : Checked) → a.tests ≤ 32 → checkedAnswer c ≡ summaryAnswer a → checkedAnswer c ≡ filterAnswer ps xs
-        unfolding filterAnswer summaryAnswer testsStep
-        text-answered c m g =
-            let r : read xs ≡ some was.tree = read_whole ∙ whole-few xs end after t was.tree k (omega (arith, tests-are)) in
-            g ∙ rw (text-read xs n l (some was.tree) r) (ap (λ (x : Summary). answer (decisionStep x.first >>= λ u. found (count x.tests))) gathered)
+        pub text_answered : (c : Checked) → a.tests ≤ 32 → checked_answer c ≡ summary_answer a → checked_answer c ≡ filter_answer ps xs
+        unfolding filter_answer summary_answer tests_step
+        text_answered c m g =
+            let r : read xs ≡ some was.tree = read_whole ∙ whole_few xs end after t was.tree k (omega (arith, tests_are)) in
+            g ∙ rw (text_read xs n l (some was.tree) r) (ap (λ (x : Summary). answer (decision_step x.first >>= λ u. found (count x.tests))) gathered)
 
 -- ---- the sheet
 
-abbrev inputs-as : List Parameter → Tree → Inputs
-inputs-as ps f = record { parameters = ps; filter = f }
+abbrev inputs_as : List Parameter → Tree → Inputs
+inputs_as ps f = record { parameters = ps; filter = f }
 
 abbrev counted : Inputs → Step Answer
-counted p = found (count (length (testsOf p.filter)))
+counted p = found (count (length (tests_of p.filter)))
 
 -- counting after all is read is counting where the tests are read
-count-tests : (ps : List Parameter) (f : Tree) (t : Step (Unit {0})) → (t >>= λ u. found (inputs-as ps f)) >>= counted ≡ t >>= λ u. found (count (length (testsOf f)))
-count-tests ps f (found u) = refl
-count-tests ps f (stop n p) = refl
+count_tests : (ps : List Parameter) (f : Tree) (t : Step (Unit {0})) → (t >>= λ u. found (inputs_as ps f)) >>= counted ≡ t >>= λ u. found (count (length (tests_of f)))
+count_tests ps f (found u) = refl
+count_tests ps f (stop n p) = refl
 
-count-filter : (ps : List Parameter) (t : Step Tree) → (t >>= λ f. testsStep ps (testsOf f) >>= λ u. found (inputs-as ps f)) >>= counted ≡ t >>= λ f. testsStep ps (testsOf f) >>= λ u. found (count (length (testsOf f)))
-count-filter ps (found f) = count-tests ps f (testsStep ps (testsOf f))
-count-filter ps (stop n p) = refl
+count_filter : (ps : List Parameter) (t : Step Tree) → (t >>= λ f. tests_step ps (tests_of f) >>= λ u. found (inputs_as ps f)) >>= counted ≡ t >>= λ f. tests_step ps (tests_of f) >>= λ u. found (count (length (tests_of f)))
+count_filter ps (found f) = count_tests ps f (tests_step ps (tests_of f))
+count_filter ps (stop n p) = refl
 
-module _ (b xs : List ℕ) (r : Validity) (e : r ≡ readSheet b) (c : Checked) where
-  pub check-sheet : (k : Validity) (n : ℕ) → ((ps : List Parameter) → sheetStep k ps ≡ stop n 0) → r ≡ k → checkedAnswer c ≡ refused n 0 → checkedAnswer c ≡ checkAnswer b xs
-  unfolding checkAnswer acceptInputs acceptSheet
-  check-sheet k n t i h = h ∙ rw (sym e ∙ i, t (parametersOf b))
+module _ (b xs : List ℕ) (r : Validity) (e : r ≡ read_sheet b) (c : Checked) where
+  pub check_sheet : (k : Validity) (n : ℕ) → ((ps : List Parameter) → sheet_step k ps ≡ stop n 0) → r ≡ k → checked_answer c ≡ refused n 0 → checked_answer c ≡ check_answer b xs
+  unfolding check_answer accept_inputs accept_sheet
+  check_sheet k n t i h = h ∙ rw (sym e ∙ i, t (parameters_of b))
 
-  pub check-filter : r ≡ Validity.WellFormed → checkedAnswer c ≡ filterAnswer (parametersOf b) xs → checkedAnswer c ≡ checkAnswer b xs
-  unfolding checkAnswer acceptInputs acceptSheet filterAnswer
-  check-filter h g = g ∙ rw (sym e ∙ h) (sym (ap answer (count-filter (parametersOf b) (acceptFilter xs))))
+  pub check_filter : r ≡ Validity.WellFormed → checked_answer c ≡ filter_answer (parameters_of b) xs → checked_answer c ≡ check_answer b xs
+  unfolding check_answer accept_inputs accept_sheet filter_answer
+  check_filter h g = g ∙ rw (sym e ∙ h) (sym (ap answer (count_filter (parameters_of b) (accept_filter xs))))

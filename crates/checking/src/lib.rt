@@ -1,12 +1,12 @@
 // Check: a sheet and a filter are read, and the first refusal in the order of the table decides.
 ghost use Rattle.std.specs.Prelude.{◌≡◌};
-ghost use Rattle.sheet.specs.Sheet.{parametersOf, readSheet};
-ghost use Rattle.syntax.specs.Grammar.{deepest, mostTests};
+ghost use Rattle.sheet.specs.Sheet.{parameters_of, read_sheet};
+ghost use Rattle.syntax.specs.Grammar.{deepest, most_tests};
 ghost use Rattle.place.specs.Machine.{failure};
-ghost use Rattle.refusal.specs.Answers.{refused, number_of, refusalAnswer};
-ghost use Rattle.answer.specs.Answers.{checkedAnswer};
-ghost use Rattle.answer.specs.Passing.{summaryAnswer};
-ghost use Rattle.answer.specs.Operations.{filterAnswer, checkAnswer};
+ghost use Rattle.refusal.specs.Answers.{refused, number_of, refusal_answer};
+ghost use Rattle.answer.specs.Answers.{checked_answer};
+ghost use Rattle.answer.specs.Passing.{summary_answer};
+ghost use Rattle.answer.specs.Operations.{filter_answer, check_answer};
 
 use answer::Checked;
 use block::Validity;
@@ -17,14 +17,14 @@ use syntax::scan::skip;
 
 // A refusal as check's answer.
 pub fn refuse(reason: Reason, place: usize) -> Checked
-    ensures { checkedAnswer result ≡ refused (number_of reason) place }
+    ensures { checked_answer result ≡ refused (number_of reason) place }
 {
     Checked::Refused(Refusal { reason, place })
 }
 
 // The answer for a text that is a filter: the first refusal among its tests, or their number.
 pub fn outcome(summary: Summary) -> Checked
-    ensures { checkedAnswer result ≡ summaryAnswer summary }
+    ensures { checked_answer result ≡ summary_answer summary }
 {
     let first = summary.first;
     match first {
@@ -35,15 +35,15 @@ pub fn outcome(summary: Summary) -> Checked
 
 // The answer for a text that is no filter.
 fn no_filter(filter: &[u8]) -> Checked
-    ensures { checkedAnswer result ≡ refusalAnswer (failure deepest mostTests filter.now) }
+    ensures { checked_answer result ≡ refusal_answer (failure deepest most_tests filter.now) }
 {
     Checked::Refused(find_failure(filter))
 }
 
 // The filter on a well-formed sheet.
 fn check_text(sheet: &[u8], filter: &[u8]) -> Checked
-    requires { readSheet sheet.now ≡ Validity.WellFormed }
-    ensures { checkedAnswer result ≡ filterAnswer (parametersOf sheet.now) filter.now }
+    requires { read_sheet sheet.now ≡ Validity.WellFormed }
+    ensures { checked_answer result ≡ filter_answer (parameters_of sheet.now) filter.now }
 {
     if filter.len() == 0 {
         return refuse(Reason::FilterSize, 0);
@@ -70,7 +70,7 @@ fn check_text(sheet: &[u8], filter: &[u8]) -> Checked
 
 // How many tests a filter has, where every test has a meaning on every card that fits the sheet; or why not, and where.
 pub fn check(sheet: &[u8], filter: &[u8]) -> Checked
-    ensures { checkedAnswer result ≡ checkAnswer sheet.now filter.now }
+    ensures { checked_answer result ≡ check_answer sheet.now filter.now }
 {
     let reading = sheet::read_sheet(sheet);
     match reading {

@@ -7,87 +7,87 @@ use native.Mathlib.Omega.{arith}
 use lib.ListN.{length}
 use lib.IntN.{ℤ}
 use Rattle.date.specs.Fields.{ValidYear, ValidMonth, ValidDay, ValidTime, ValidZone}
-use Rattle.date.specs.Spans.{yearDate, monthDate, dayDate, secondDate}
-use Rattle.date.specs.Marks.{hyphen, colon, plus, letterT}
-use Rattle.date.specs.Texts.{signed, zoneAt, readYear, readMonth, readDay, readLocal, zoned, read}
-use Rattle.date.specs.Spelling.{two, four, yearText, monthText, dayText, localText, signedText, SpellsZone, spells-utc, spells-east, spells-west, Spells, spells-year, spells-month, spells-day, spells-second}
+use Rattle.date.specs.Spans.{year_date, month_date, day_date, second_date}
+use Rattle.date.specs.Marks.{hyphen, colon, plus, letter_t}
+use Rattle.date.specs.Texts.{signed, zone_at, read_year, read_month, read_day, read_local, zoned, read}
+use Rattle.date.specs.Spelling.{two, four, year_text, month_text, day_text, local_text, signed_text, SpellsZone, spells_utc, spells_east, spells_west, Spells, spells_year, spells_month, spells_day, spells_second}
 use Rattle.date.specs.declared.Date.{Date}
 use Rattle.date.specs.declared.DateReading.TheVariants.{Readable}
 use Rattle.date.specs.declared.reader.Zone.TheVariants.{Offset}
-use Rattle.date.proofs.Calendar.{day-below}
-use Rattle.date.proofs.Fields.{year-passes, month-passes, day-passes, time-passes, zone-passes}
-use Rattle.date.proofs.Texts.{read-year, read-month, read-day, read-long}
-use Rattle.date.proofs.Positions.{two-reads, field-reads, four-reads}
+use Rattle.date.proofs.Calendar.{day_below}
+use Rattle.date.proofs.Fields.{year_passes, month_passes, day_passes, time_passes, zone_passes}
+use Rattle.date.proofs.Texts.{read_year_lem, read_month_lem, read_day_lem, read_long}
+use Rattle.date.proofs.Positions.{two_reads, field_reads, four_reads}
 
 -- ---- a year, a month, a day
 
-year-reads : {y : ℕ} → ValidYear y → Readable (yearDate y) ≡ read (yearText y)
-unfolding yearText four two readYear
-year-reads {y} v = read-year (yearText y) refl (rw (four-reads y [] (omega arith), year-passes v))
+year_reads : {y : ℕ} → ValidYear y → Readable (year_date y) ≡ read (year_text y)
+unfolding year_text four two read_year
+year_reads {y} v = read_year_lem (year_text y) refl (rw (four_reads y [] (omega arith), year_passes v))
 
-month-reads : {y m : ℕ} → ValidMonth y m → Readable (monthDate y m) ≡ read (monthText y m)
-unfolding yearText monthText four two readMonth
-month-reads {y} {m} v =
-    let s : List ℕ = monthText y m in
+month_reads : {y m : ℕ} → ValidMonth y m → Readable (month_date y m) ≡ read (month_text y m)
+unfolding year_text month_text four two read_month
+month_reads {y} {m} v =
+    let s : List ℕ = month_text y m in
     let not4 : length s ≡ 4 → ⊥ = omega arith in
-    read-month s not4 refl
-    (rw (four-reads y (hyphen ∷ two m) (omega arith), field-reads s 4 hyphen m (omega arith) refl refl refl, month-passes v))
+    read_month_lem s not4 refl
+    (rw (four_reads y (hyphen ∷ two m) (omega arith), field_reads s 4 hyphen m (omega arith) refl refl refl, month_passes v))
 
-day-reads : {y m d : ℕ} → ValidDay y m d → Readable (dayDate y m d) ≡ read (dayText y m d)
-unfolding yearText monthText dayText four two readDay
-day-reads {y} {m} {d} v =
-    let s : List ℕ = dayText y m d in
+day_reads : {y m d : ℕ} → ValidDay y m d → Readable (day_date y m d) ≡ read (day_text y m d)
+unfolding year_text month_text day_text four two read_day
+day_reads {y} {m} {d} v =
+    let s : List ℕ = day_text y m d in
     let not4 : length s ≡ 4 → ⊥ = omega arith in
     let not7 : length s ≡ 7 → ⊥ = omega arith in
-    read-day s not4 not7 refl
-    (rw (four-reads y ((hyphen ∷ two m) ++ (hyphen ∷ two d)) (omega arith), field-reads s 4 hyphen m (omega arith) refl refl refl, field-reads s 7 hyphen d (day-below v) refl refl refl, day-passes v))
+    read_day_lem s not4 not7 refl
+    (rw (four_reads y ((hyphen ∷ two m) ++ (hyphen ∷ two d)) (omega arith), field_reads s 4 hyphen m (omega arith) refl refl refl, field_reads s 7 hyphen d (day_below v) refl refl refl, day_passes v))
 
 -- ---- a second, before its zone
 
 module _ {y m d hour minute second : ℕ} (v : ValidDay y m d) (t : ValidTime hour minute second) (zone : List ℕ) where
   abbrev whole : List ℕ
-  whole = localText y m d hour minute second ++ zone
+  whole = local_text y m d hour minute second ++ zone
 
-  local-reads : (offset : ℤ) → readLocal whole offset ≡ Readable (secondDate y m d hour minute second offset)
-  unfolding yearText monthText dayText localText four two readLocal
-  local-reads offset =
-      rw (four-reads y ((hyphen ∷ two m) ++ (hyphen ∷ two d) ++ (letterT ∷ two hour) ++ (colon ∷ two minute) ++ (colon ∷ two second) ++ zone) (omega arith), field-reads whole 4 hyphen m (omega arith) refl refl refl, field-reads whole 7 hyphen d (day-below v) refl refl refl, field-reads whole 10 letterT hour (omega arith) refl refl refl, field-reads whole 13 colon minute (omega arith) refl refl refl, field-reads whole 16 colon second (omega arith) refl refl refl, day-passes v, time-passes t)
+  local_reads : (offset : ℤ) → read_local whole offset ≡ Readable (second_date y m d hour minute second offset)
+  unfolding year_text month_text day_text local_text four two read_local
+  local_reads offset =
+      rw (four_reads y ((hyphen ∷ two m) ++ (hyphen ∷ two d) ++ (letter_t ∷ two hour) ++ (colon ∷ two minute) ++ (colon ∷ two second) ++ zone) (omega arith), field_reads whole 4 hyphen m (omega arith) refl refl refl, field_reads whole 7 hyphen d (day_below v) refl refl refl, field_reads whole 10 letter_t hour (omega arith) refl refl refl, field_reads whole 13 colon minute (omega arith) refl refl refl, field_reads whole 16 colon second (omega arith) refl refl refl, day_passes v, time_passes t)
 
 -- ---- its zone
 
 module _ (y m d hour minute second : ℕ) where
-  signed_reads : (sign : ℕ) {h k : ℕ} → ValidZone h k → zoneAt (localText y m d hour minute second ++ signedText sign h k) 19 ≡ signed sign h k
-  unfolding yearText monthText dayText localText signedText four two zoneAt
+  signed_reads : (sign : ℕ) {h k : ℕ} → ValidZone h k → zone_at (local_text y m d hour minute second ++ signed_text sign h k) 19 ≡ signed sign h k
+  unfolding year_text month_text day_text local_text signed_text four two zone_at
   signed_reads sign {h} {k} v =
-      let s : List ℕ = localText y m d hour minute second ++ signedText sign h k in
-      rw (two-reads s 20 h (omega arith) refl refl, field-reads s 22 colon k (omega arith) refl refl refl)
+      let s : List ℕ = local_text y m d hour minute second ++ signed_text sign h k in
+      rw (two_reads s 20 h (omega arith) refl refl, field_reads s 22 colon k (omega arith) refl refl refl)
 
-  zone-reads : {zone : List ℕ} {offset : ℤ} → SpellsZone zone offset → zoneAt (localText y m d hour minute second ++ zone) 19 ≡ Offset offset
-  unfolding yearText monthText dayText localText four two zoneAt signed
-  zone-reads spells-utc = refl
-  zone-reads (spells-east v) = signed_reads plus v ∙ rw (zone-passes v)
-  zone-reads (spells-west v) = signed_reads hyphen v ∙ rw (zone-passes v)
+  zone_reads : {zone : List ℕ} {offset : ℤ} → SpellsZone zone offset → zone_at (local_text y m d hour minute second ++ zone) 19 ≡ Offset offset
+  unfolding year_text month_text day_text local_text four two zone_at signed
+  zone_reads spells_utc = refl
+  zone_reads (spells_east v) = signed_reads plus v ∙ rw (zone_passes v)
+  zone_reads (spells_west v) = signed_reads hyphen v ∙ rw (zone_passes v)
 
-  zone-length : {zone : List ℕ} {offset : ℤ} → SpellsZone zone offset → 20 ≤ length (localText y m d hour minute second ++ zone)
-  unfolding yearText monthText dayText localText signedText four two
-  zone-length spells-utc = omega arith
-  zone-length (spells-east v) = omega arith
-  zone-length (spells-west v) = omega arith
+  zone_length : {zone : List ℕ} {offset : ℤ} → SpellsZone zone offset → 20 ≤ length (local_text y m d hour minute second ++ zone)
+  unfolding year_text month_text day_text local_text signed_text four two
+  zone_length spells_utc = omega arith
+  zone_length (spells_east v) = omega arith
+  zone_length (spells_west v) = omega arith
 
-second_reads : {y m d hour minute second : ℕ} {zone : List ℕ} {offset : ℤ} → ValidDay y m d → ValidTime hour minute second → SpellsZone zone offset → Readable (secondDate y m d hour minute second offset) ≡ read (localText y m d hour minute second ++ zone)
+second_reads : {y m d hour minute second : ℕ} {zone : List ℕ} {offset : ℤ} → ValidDay y m d → ValidTime hour minute second → SpellsZone zone offset → Readable (second_date y m d hour minute second offset) ≡ read (local_text y m d hour minute second ++ zone)
 unfolding zoned
 second_reads {y} {m} {d} {hour} {minute} {second} {zone} {offset} v t z =
-    let s : List ℕ = localText y m d hour minute second ++ zone in
-    let l : 20 ≤ length s = zone-length y m d hour minute second z in
+    let s : List ℕ = local_text y m d hour minute second ++ zone in
+    let l : 20 ≤ length s = zone_length y m d hour minute second z in
     let not4 : length s ≡ 4 → ⊥ = omega arith in
     let not7 : length s ≡ 7 → ⊥ = omega arith in
     let not10 : length s ≡ 10 → ⊥ = omega arith in
-    sym (local-reads v t zone offset) ∙ read-long s not4 not7 not10 l (sym (zone-reads y m d hour minute second z))
+    sym (local_reads v t zone offset) ∙ read_long s not4 not7 not10 l (sym (zone_reads y m d hour minute second z))
 
 -- ---- every spelling
 
-pub spells-reads : {s : List ℕ} {d : Date} → Spells s d → read s ≡ Readable d
-spells-reads (spells-year v) = sym (year-reads v)
-spells-reads (spells-month v) = sym (month-reads v)
-spells-reads (spells-day v) = sym (day-reads v)
-spells-reads (spells-second v t z) = sym (second_reads v t z)
+pub spells_reads : {s : List ℕ} {d : Date} → Spells s d → read s ≡ Readable d
+spells_reads (spells_year v) = sym (year_reads v)
+spells_reads (spells_month v) = sym (month_reads v)
+spells_reads (spells_day v) = sym (day_reads v)
+spells_reads (spells_second v t z) = sym (second_reads v t z)

@@ -7,53 +7,53 @@ use native.Mathlib.Omega.{arith}
 use lib.Dec.{lit≤}
 use lib.IntN.{ℤ, pos}
 use lib.Signed.{≤ℤ_refl}
-use Rattle.base.proofs.Integers.{natAbs-neg, ltZ-iff}
-use Rattle.date.specs.Calendar.{yearLength}
+use Rattle.base.proofs.Integers.{nat_abs_neg, lt_z_iff}
+use Rattle.date.specs.Calendar.{year_length}
 use Rattle.date.specs.Fields.{ValidDay, ValidTime, ValidOffset}
-use Rattle.date.specs.Spans.{dateOf, daysFrom, secondFrom, yearDate, monthDate, dayDate, secondDate, Proper}
+use Rattle.date.specs.Spans.{date_of, days_from, second_from, year_date, month_date, day_date, second_date, Proper}
 use Rattle.date.specs.Texts.{read}
 use Rattle.date.specs.Instants.{InRange}
-use Rattle.date.specs.Spelling.{SpellsZone, spells-utc, spells-east, spells-west, Spells, spells-year, spells-month, spells-day, spells-second}
+use Rattle.date.specs.Spelling.{SpellsZone, spells_utc, spells_east, spells_west, Spells, spells_year, spells_month, spells_day, spells_second}
 use Rattle.date.specs.declared.Date.{Date}
 use Rattle.date.specs.declared.DateReading.TheVariants.{Readable}
-use Rattle.date.proofs.Calendar.{day-bound, day-small, month-first, month-small, year-small}
-use Rattle.date.proofs.Fields.{time-bound}
-use Rattle.date.proofs.Spans.{instant-mag, instant-order}
-use Rattle.date.proofs.Sound.{reads-spells}
+use Rattle.date.proofs.Calendar.{day_bound, day_small, month_first, month_small, year_small}
+use Rattle.date.proofs.Fields.{time_bound}
+use Rattle.date.proofs.Spans.{instant_mag, instant_order}
+use Rattle.date.proofs.Sound.{reads_spells}
 
-date-proper : (from to : ℕ) (z : ℤ) → from < to → to < 2 ^ 40 → ValidOffset z → Proper (dateOf from to z)
-unfolding dateOf
-date-proper from to z h k q =
+date_proper : (from to : ℕ) (z : ℤ) → from < to → to < 2 ^ 40 → ValidOffset z → Proper (date_of from to z)
+unfolding date_of
+date_proper from to z h k q =
     record {
-      order = instant-order from to z h;
-      start_small = instant-mag from z (omega arith) q;
-      end-small = instant-mag to z k q;
+      order = instant_order from to z h;
+      start_small = instant_mag from z (omega arith) q;
+      end_small = instant_mag to z k q;
     }
 
-days-proper : (first count : ℕ) → 1 ≤ count → first + count < 4000000 → Proper (daysFrom first count)
-unfolding daysFrom
-days-proper first count h k = date-proper _ _ (pos 0) (omega arith) (omega arith) (lit≤ tt)
+days_proper : (first count : ℕ) → 1 ≤ count → first + count < 4000000 → Proper (days_from first count)
+unfolding days_from
+days_proper first count h k = date_proper _ _ (pos 0) (omega arith) (omega arith) (lit≤ tt)
 
-spells-offset : {zone : List ℕ} {offset : ℤ} → SpellsZone zone offset → ValidOffset offset
-spells-offset spells-utc = lit≤ tt
-spells-offset (spells-east v) = v.most
-spells-offset (spells-west {h} {m} v) = rw (natAbs-neg (pos (h * 60 + m))) v.most
+spells_offset : {zone : List ℕ} {offset : ℤ} → SpellsZone zone offset → ValidOffset offset
+spells_offset spells_utc = lit≤ tt
+spells_offset (spells_east v) = v.most
+spells_offset (spells_west {h} {m} v) = rw (nat_abs_neg (pos (h * 60 + m))) v.most
 
-second-proper : {y m d hour minute second : ℕ} (offset : ℤ) → ValidDay y m d → ValidTime hour minute second → ValidOffset offset → Proper (secondDate y m d hour minute second offset)
-unfolding secondDate secondFrom
-second-proper offset v t q =
-    date-proper _ _ offset (omega arith) (omega (arith, day-bound v refl, time-bound t refl)) q
+second_proper : {y m d hour minute second : ℕ} (offset : ℤ) → ValidDay y m d → ValidTime hour minute second → ValidOffset offset → Proper (second_date y m d hour minute second offset)
+unfolding second_date second_from
+second_proper offset v t q =
+    date_proper _ _ offset (omega arith) (omega (arith, day_bound v refl, time_bound t refl)) q
 
-spells-proper : {s : List ℕ} {d : Date} → Spells s d → Proper d
-unfolding yearDate monthDate dayDate yearLength
-spells-proper (spells-year v) = days-proper _ _ (omega arith) (year-small v refl refl)
-spells-proper (spells-month v) = days-proper _ _ (month-first v) (month-small v refl refl)
-spells-proper (spells-day v) = days-proper _ _ (lit≤ tt) (day-small v refl)
-spells-proper (spells-second v t z) = second-proper _ v t (spells-offset z)
+spells_proper : {s : List ℕ} {d : Date} → Spells s d → Proper d
+unfolding year_date month_date day_date year_length
+spells_proper (spells_year v) = days_proper _ _ (omega arith) (year_small v refl refl)
+spells_proper (spells_month v) = days_proper _ _ (month_first v) (month_small v refl refl)
+spells_proper (spells_day v) = days_proper _ _ (lit≤ tt) (day_small v refl)
+spells_proper (spells_second v t z) = second_proper _ v t (spells_offset z)
 
-pub read-proper : (s : List ℕ) {d : Date} → read s ≡ Readable d → Proper d
-read-proper s e = spells-proper (reads-spells s e)
+pub read_proper : (s : List ℕ) {d : Date} → read s ≡ Readable d → Proper d
+read_proper s e = spells_proper (reads_spells s e)
 
 -- its start is one of its instants
 pub read_first : (s : List ℕ) {d : Date} → read s ≡ Readable d → InRange d d.start
-read_first s {d} e = record { from = ≤ℤ_refl d.start; before = (ltZ-iff d.start d.end).0 (read-proper s e).order }
+read_first s {d} e = record { from = ≤ℤ_refl d.start; before = (lt_z_iff d.start d.end).0 (read_proper s e).order }

@@ -1,7 +1,7 @@
 -- Laws of reading: each way through the code gives what the definition says.
 -- One law for each way through the code, over plain variables: it takes the facts that the code has found there (a digit or none, a length,
 -- a mark) and rewrites the definition by them; there is no induction. Beside these laws stand the bounds that machine words ask for: two
--- digits read to at most 100 (`two-most`), and an offset that was read is at most 840 minutes either way (`zone-within`, by the cases of
+-- digits read to at most 100 (`two_most`), and an offset that was read is at most 840 minutes either way (`zone_within`, by the cases of
 -- the reading).
 -- Assumes nothing.
 use Prim.Native.Nat.{ℕ, ◌+◌, ◌*◌, ◌-◌, ◌≤◌, ◌<◌}
@@ -17,48 +17,48 @@ use mir.Syntax.{w64}
 use mir.Val.{Fits, SFits, to_z, of_z}
 use mir.ValLaws.{to_z-of_z, to_z_pos}
 use borrow.Author.Tests.{eq-eqb, ne_eqb, lt-ltb, le-ltb, le-leb, lt-leb, ltb-true}
-use Rattle.base.specs.Digits.{isDigit}
+use Rattle.base.specs.Digits.{is_digit}
 use Rattle.base.proofs.Digits.{digit_low}
-use Rattle.base.proofs.Integers.{natAbs-neg, mag_less}
+use Rattle.base.proofs.Integers.{nat_abs_neg, mag_less}
 use Rattle.base.proofs.Tests.{answered, cond-elim}
-use Rattle.date.specs.Calendar.{leapYear, yearLength, monthLength, dayNumber}
-use Rattle.date.specs.Fields.{validYear, validMonth, validDay, validTime, validZone, ValidOffset}
-use Rattle.date.specs.Spans.{daysFrom, secondOfDay, secondFrom, yearDate, monthDate, dayDate, secondDate}
-use Rattle.date.specs.Marks.{hyphen, colon, plus, letterT, letterZ}
-use Rattle.date.specs.Texts.{digitOf, pair, twoAt, fourAt, field_at, signed, zoneAt, readYear, readMonth, readDay, readLocal, zoned, read, isDate, readable}
+use Rattle.date.specs.Calendar.{leap_year, year_length, month_length, day_number}
+use Rattle.date.specs.Fields.{valid_year, valid_month, valid_day, valid_time, valid_zone, ValidOffset}
+use Rattle.date.specs.Spans.{days_from, second_of_day, second_from, year_date, month_date, day_date, second_date}
+use Rattle.date.specs.Marks.{hyphen, colon, plus, letter_t, letter_z}
+use Rattle.date.specs.Texts.{digit_of, pair, two_at, four_at, field_at, signed, zone_at, read_year, read_month, read_day, read_local, zoned, read, is_date, readable}
 use Rattle.date.specs.declared.Date.{Date}
 use Rattle.date.specs.declared.DateReading.{DateReading}
 use Rattle.date.specs.declared.DateReading.TheVariants.{Readable}
 use Rattle.date.specs.declared.reader.Zone.{Zone}
 use Rattle.date.specs.declared.reader.Zone.TheVariants.{Offset}
-use Rattle.date.proofs.Fields.{zone-says}
-use Rattle.date.proofs.Spans.{offset-back}
+use Rattle.date.proofs.Fields.{zone_says}
+use Rattle.date.proofs.Spans.{offset_back}
 
 -- ---- digits
 
-module _ (b : ℕ) {p : Bool} (e : p ≡ isDigit b) where
+module _ (b : ℕ) {p : Bool} (e : p ≡ is_digit b) where
   module _ {n : ℕ} (h : p ≡ true) (f : n ≡ b) where
-    pub digit-least : 48 ≤ n
-    digit-least = rw f (digit_low b (answered e h))
+    pub digit_least : 48 ≤ n
+    digit_least = rw f (digit_low b (answered e h))
 
-    pub digit_value : n - 48 ≡ digitOf b
-    unfolding digitOf
+    pub digit_value : n - 48 ≡ digit_of b
+    unfolding digit_of
     digit_value = rw (← e, h, f)
 
-  pub digit-missing : p ≡ false → 10 ≡ digitOf b
-  unfolding digitOf
-  digit-missing h = rw (← e, h)
+  pub digit_missing : p ≡ false → 10 ≡ digit_of b
+  unfolding digit_of
+  digit_missing h = rw (← e, h)
 
 -- ---- pairs
 
-product-bound : {radix a : ℕ} → radix ≤ 100 → a ≤ radix → a * radix ≤ 10000
-product-bound h p = le_trans (mul-le-mul (le_trans p h) h) (lit≤ tt)
+product_bound : {radix a : ℕ} → radix ≤ 100 → a ≤ radix → a * radix ≤ 10000
+product_bound h p = le_trans (mul-le-mul (le_trans p h) h) (lit≤ tt)
 
-pub product-fits : (radix a : ℕ) → radix ≤ 100 → a ≤ radix → Fits w64 (a * radix)
-product-fits radix a h p = record { fits = omega (arith, product-bound h p) }
+pub product_fits : (radix a : ℕ) → radix ≤ 100 → a ≤ radix → Fits w64 (a * radix)
+product_fits radix a h p = record { fits = omega (arith, product_bound h p) }
 
 pub value-fits : (radix a b : ℕ) → radix ≤ 100 → a < radix → b < radix → Fits w64 (a * radix + b)
-value-fits radix a b h p q = record { fits = omega (arith, product-bound h (le_of_lt p)) }
+value-fits radix a b h p q = record { fits = omega (arith, product_bound h (le_of_lt p)) }
 
 module _ (radix a b : ℕ) where
   pub pair-first : radix ≤ a → radix * radix ≡ pair radix a b
@@ -66,227 +66,227 @@ module _ (radix a b : ℕ) where
   pair-first h = rw (le-ltb a radix h)
 
   module _ (h : a < radix) where
-    pub pair-last : radix ≤ b → radix * radix ≡ pair radix a b
+    pub pair_last : radix ≤ b → radix * radix ≡ pair radix a b
     unfolding pair
-    pair-last k = rw (lt-ltb a radix h, le-ltb b radix k)
+    pair_last k = rw (lt-ltb a radix h, le-ltb b radix k)
 
     pub pair-value : b < radix → a * radix + b ≡ pair radix a b
     unfolding pair
     pair-value k = rw (lt-ltb a radix h, lt-ltb b radix k)
 
 module _ (s : List ℕ) (at : ℕ) {a b n : ℕ} where
-  pub two_is : a ≡ digitOf (get_or s at 0) → b ≡ digitOf (get_or s (at + 1) 0) → n ≡ pair 10 a b → n ≡ twoAt s at
-  unfolding twoAt
+  pub two_is : a ≡ digit_of (get_or s at 0) → b ≡ digit_of (get_or s (at + 1) 0) → n ≡ pair 10 a b → n ≡ two_at s at
+  unfolding two_at
   two_is e f g = rw (← e, ← f) g
 
-  pub four_is : a ≡ twoAt s at → b ≡ twoAt s (at + 2) → n ≡ pair 100 a b → n ≡ fourAt s at
-  unfolding fourAt
+  pub four_is : a ≡ two_at s at → b ≡ two_at s (at + 2) → n ≡ pair 100 a b → n ≡ four_at s at
+  unfolding four_at
   four_is e f g = rw (← e, ← f) g
 
-value-most : {radix a b : ℕ} → a < radix → b < radix → a * radix + b ≤ radix * radix
-value-most {radix} {a} {b} p q = omega (arith, mul-le-mul_right radix p, suc-mul a radix)
+value_most : {radix a b : ℕ} → a < radix → b < radix → a * radix + b ≤ radix * radix
+value_most {radix} {a} {b} p q = omega (arith, mul-le-mul_right radix p, suc-mul a radix)
 
-pair-most : (radix a b : ℕ) → pair radix a b ≤ radix * radix
+pair_most : (radix a b : ℕ) → pair radix a b ≤ radix * radix
 unfolding pair
-pair-most radix a b =
+pair_most radix a b =
     cond-elim (λ (n : ℕ). n ≤ radix * radix) (ltb a radix)
-    (λ e. cond-elim (λ (n : ℕ). n ≤ radix * radix) (ltb b radix) (λ f. value-most (ltb-true a radix e) (ltb-true b radix f)) (λ f. le_refl (radix * radix)))
+    (λ e. cond-elim (λ (n : ℕ). n ≤ radix * radix) (ltb b radix) (λ f. value_most (ltb-true a radix e) (ltb-true b radix f)) (λ f. le_refl (radix * radix)))
     (λ e. le_refl (radix * radix))
 
-pub two-most : (s : List ℕ) (at : ℕ) {n : ℕ} → n ≡ twoAt s at → n ≤ 100
-unfolding twoAt
-two-most s at e = rw e (pair-most 10 (digitOf (get_or s at 0)) (digitOf (get_or s (at + 1) 0)))
+pub two_most : (s : List ℕ) (at : ℕ) {n : ℕ} → n ≡ two_at s at → n ≤ 100
+unfolding two_at
+two_most s at e = rw e (pair_most 10 (digit_of (get_or s at 0)) (digit_of (get_or s (at + 1) 0)))
 
 -- ---- a field
 
 module _ (s : List ℕ) (at mark : ℕ) where
-  pub field-digits : {n : ℕ} → get_or s at 0 ≡ mark → n ≡ twoAt s (at + 1) → n ≡ field_at s at mark
+  pub field_digits : {n : ℕ} → get_or s at 0 ≡ mark → n ≡ two_at s (at + 1) → n ≡ field_at s at mark
   unfolding field_at
-  field-digits h e = rw (eq-eqb (get_or s at 0) mark h) e
+  field_digits h e = rw (eq-eqb (get_or s at 0) mark h) e
 
-  pub field-mark : (get_or s at 0 ≡ mark → ⊥) → 100 ≡ field_at s at mark
+  pub field_mark : (get_or s at 0 ≡ mark → ⊥) → 100 ≡ field_at s at mark
   unfolding field_at
-  field-mark h = rw (ne_eqb (get_or s at 0) mark h)
+  field_mark h = rw (ne_eqb (get_or s at 0) mark h)
 
-pub field-most : (s : List ℕ) (at mark : ℕ) {n : ℕ} → n ≡ field_at s at mark → n ≤ 100
+pub field_most : (s : List ℕ) (at mark : ℕ) {n : ℕ} → n ≡ field_at s at mark → n ≤ 100
 unfolding field_at
-field-most s at mark e =
+field_most s at mark e =
     rw e
-    (cond-elim (λ (n : ℕ). n ≤ 100) (eqb (get_or s at 0) mark) (λ f. two-most s (at + 1) refl) (λ f. le_refl 100))
+    (cond-elim (λ (n : ℕ). n ≤ 100) (eqb (get_or s at 0) mark) (λ f. two_most s (at + 1) refl) (λ f. le_refl 100))
 
 -- ---- the zone
 
 module _ (sign h m : ℕ) where
-  pub signed-minute : 59 < m → Zone.Unreadable ≡ signed sign h m
-  unfolding signed validZone
-  signed-minute p = rw (lt-leb m 59 p)
+  pub signed_minute : 59 < m → Zone.Unreadable ≡ signed sign h m
+  unfolding signed valid_zone
+  signed_minute p = rw (lt-leb m 59 p)
 
   module _ (p : m ≤ 59) where
-    pub signed-most : 840 < h * 60 + m → Zone.Unreadable ≡ signed sign h m
-    unfolding signed validZone
-    signed-most q = rw (le-leb m 59 p, lt-leb (h * 60 + m) 840 q)
+    pub signed_most : 840 < h * 60 + m → Zone.Unreadable ≡ signed sign h m
+    unfolding signed valid_zone
+    signed_most q = rw (le-leb m 59 p, lt-leb (h * 60 + m) 840 q)
 
     module _ (q : h * 60 + m ≤ 840) where
-      minutes-read : to_z w64 (h * 60 + m) ≡ pos (h * 60 + m)
-      minutes-read = to_z_pos w64 (h * 60 + m) (omega arith)
+      minutes_read : to_z w64 (h * 60 + m) ≡ pos (h * 60 + m)
+      minutes_read = to_z_pos w64 (h * 60 + m) (omega arith)
 
-      pub west-fits : SFits w64 (pos 0 -ℤ to_z w64 (h * 60 + m))
-      west-fits = rw minutes-read (record { sfits = omega (arith, mag_less (pos 0) (pos (h * 60 + m)) {h = 1} {k = 841} (lit< tt) (omega arith)) })
+      pub west_fits : SFits w64 (pos 0 -ℤ to_z w64 (h * 60 + m))
+      west_fits = rw minutes_read (record { sfits = omega (arith, mag_less (pos 0) (pos (h * 60 + m)) {h = 1} {k = 841} (lit< tt) (omega arith)) })
 
-      pub signed-east : sign ≡ plus → Offset (to_z w64 (h * 60 + m)) ≡ signed sign h m
-      unfolding signed validZone
-      signed-east e = rw (le-leb m 59 p, le-leb (h * 60 + m) 840 q, eq-eqb sign plus e, minutes-read)
+      pub signed_east : sign ≡ plus → Offset (to_z w64 (h * 60 + m)) ≡ signed sign h m
+      unfolding signed valid_zone
+      signed_east e = rw (le-leb m 59 p, le-leb (h * 60 + m) 840 q, eq-eqb sign plus e, minutes_read)
 
       module _ (e : sign ≡ plus → ⊥) where
-        pub signed-west : sign ≡ hyphen → Offset (to_z w64 (of_z w64 (pos 0 -ℤ to_z w64 (h * 60 + m)))) ≡ signed sign h m
-        unfolding signed validZone
-        signed-west f =
+        pub signed_west : sign ≡ hyphen → Offset (to_z w64 (of_z w64 (pos 0 -ℤ to_z w64 (h * 60 + m)))) ≡ signed sign h m
+        unfolding signed valid_zone
+        signed_west f =
             let back : to_z w64 (of_z w64 (pos 0 -ℤ to_z w64 (h * 60 + m))) ≡ neg_ℤ (pos (h * 60 + m)) =
-            to_z-of_z w64 _ west-fits ∙ ap (λ (x : ℤ). pos 0 -ℤ x) minutes-read ∙ +ℤ_idl (neg_ℤ (pos (h * 60 + m))) in
+            to_z-of_z w64 _ west_fits ∙ ap (λ (x : ℤ). pos 0 -ℤ x) minutes_read ∙ +ℤ_idl (neg_ℤ (pos (h * 60 + m))) in
             rw (le-leb m 59 p, le-leb (h * 60 + m) 840 q, ne_eqb sign plus e, eq-eqb sign hyphen f) (ap Offset back)
 
-        pub signed-neither : (sign ≡ hyphen → ⊥) → Zone.Unreadable ≡ signed sign h m
-        unfolding signed validZone
-        signed-neither f =
+        pub signed_neither : (sign ≡ hyphen → ⊥) → Zone.Unreadable ≡ signed sign h m
+        unfolding signed valid_zone
+        signed_neither f =
             rw (le-leb m 59 p, le-leb (h * 60 + m) 840 q, ne_eqb sign plus e, ne_eqb sign hyphen f)
 
 module _ (s : List ℕ) (at : ℕ) where
   module _ (h : length s ≡ at + 1) where
-    pub zone-utc : get_or s at 0 ≡ letterZ → Offset (pos 0) ≡ zoneAt s at
-    unfolding zoneAt
-    zone-utc e = rw (eq-eqb _ _ h, eq-eqb _ _ e)
+    pub zone_utc : get_or s at 0 ≡ letter_z → Offset (pos 0) ≡ zone_at s at
+    unfolding zone_at
+    zone_utc e = rw (eq-eqb _ _ h, eq-eqb _ _ e)
 
-    pub zone-letter : (get_or s at 0 ≡ letterZ → ⊥) → Zone.Unreadable ≡ zoneAt s at
-    unfolding zoneAt
-    zone-letter e = rw (eq-eqb _ _ h, ne_eqb _ _ e)
+    pub zone_letter : (get_or s at 0 ≡ letter_z → ⊥) → Zone.Unreadable ≡ zone_at s at
+    unfolding zone_at
+    zone_letter e = rw (eq-eqb _ _ h, ne_eqb _ _ e)
 
   module _ (h : length s ≡ at + 1 → ⊥) where
-    pub zone-signed : {a b : ℕ} {z : Zone} → length s ≡ at + 6 → a ≡ twoAt s (at + 1) → b ≡ field_at s (at + 3) colon → z ≡ signed (get_or s at 0) a b → z ≡ zoneAt s at
-    unfolding zoneAt
-    zone-signed k e f g = rw (ne_eqb _ _ h, eq-eqb _ _ k, ← e, ← f) g
+    pub zone_signed : {a b : ℕ} {z : Zone} → length s ≡ at + 6 → a ≡ two_at s (at + 1) → b ≡ field_at s (at + 3) colon → z ≡ signed (get_or s at 0) a b → z ≡ zone_at s at
+    unfolding zone_at
+    zone_signed k e f g = rw (ne_eqb _ _ h, eq-eqb _ _ k, ← e, ← f) g
 
-    pub zone-length : (length s ≡ at + 6 → ⊥) → Zone.Unreadable ≡ zoneAt s at
-    unfolding zoneAt
-    zone-length k = rw (ne_eqb _ _ h, ne_eqb _ _ k)
+    pub zone_length : (length s ≡ at + 6 → ⊥) → Zone.Unreadable ≡ zone_at s at
+    unfolding zone_at
+    zone_length k = rw (ne_eqb _ _ h, ne_eqb _ _ k)
 
 -- an offset that was read is at most 840 minutes either way
 data Within : Zone → Type 0 where
-  within-offset : {z : ℤ} → ValidOffset z → Within (Offset z)
+  within_offset : {z : ℤ} → ValidOffset z → Within (Offset z)
   within_none : Within Zone.Unreadable
 
-within-bound : {z : ℤ} → Within (Offset z) → ValidOffset z
-within-bound (within-offset p) = p
+within_bound : {z : ℤ} → Within (Offset z) → ValidOffset z
+within_bound (within_offset p) = p
 
 signed-within : (sign h m : ℕ) → Within (signed sign h m)
 unfolding signed
 signed-within sign h m =
-    cond-elim Within (validZone h m)
-    (λ e. let most : h * 60 + m ≤ 840 = (zone-says e).most in
-    let west : ValidOffset (neg_ℤ (pos (h * 60 + m))) = rw (natAbs-neg (pos (h * 60 + m))) most in
-    cond-elim Within (eqb sign plus) (λ f. within-offset most)
-    (λ f. cond-elim Within (eqb sign hyphen) (λ g. within-offset west) (λ g. within_none)))
+    cond-elim Within (valid_zone h m)
+    (λ e. let most : h * 60 + m ≤ 840 = (zone_says e).most in
+    let west : ValidOffset (neg_ℤ (pos (h * 60 + m))) = rw (nat_abs_neg (pos (h * 60 + m))) most in
+    cond-elim Within (eqb sign plus) (λ f. within_offset most)
+    (λ f. cond-elim Within (eqb sign hyphen) (λ g. within_offset west) (λ g. within_none)))
     (λ e. within_none)
 
-zone-within : (s : List ℕ) (at : ℕ) → Within (zoneAt s at)
-unfolding zoneAt
-zone-within s at =
+zone_within : (s : List ℕ) (at : ℕ) → Within (zone_at s at)
+unfolding zone_at
+zone_within s at =
     cond-elim Within (eqb (length s) (at + 1))
-    (λ e. cond-elim Within (eqb (get_or s at 0) letterZ) (λ f. within-offset (lit≤ tt)) (λ f. within_none))
-    (λ e. cond-elim Within (eqb (length s) (at + 6)) (λ f. signed-within (get_or s at 0) (twoAt s (at + 1)) (field_at s (at + 3) colon)) (λ f. within_none))
+    (λ e. cond-elim Within (eqb (get_or s at 0) letter_z) (λ f. within_offset (lit≤ tt)) (λ f. within_none))
+    (λ e. cond-elim Within (eqb (length s) (at + 6)) (λ f. signed-within (get_or s at 0) (two_at s (at + 1)) (field_at s (at + 3) colon)) (λ f. within_none))
 
-module _ (s : List ℕ) (at : ℕ) {r : Zone} {z : ℤ} (e : r ≡ zoneAt s at) (f : r ≡ Offset z) where
-  zone-small : ValidOffset z
-  zone-small = within-bound (subst Within (sym e ∙ f) (zone-within s at))
+module _ (s : List ℕ) (at : ℕ) {r : Zone} {z : ℤ} (e : r ≡ zone_at s at) (f : r ≡ Offset z) where
+  zone_small : ValidOffset z
+  zone_small = within_bound (subst Within (sym e ∙ f) (zone_within s at))
 
-  zone-back : to_z w64 (of_z w64 z) ≡ z
-  zone-back = offset-back z zone-small
+  zone_back : to_z w64 (of_z w64 z) ≡ z
+  zone_back = offset_back z zone_small
 
-  pub zone-bound : ValidOffset (to_z w64 (of_z w64 z))
-  zone-bound = rw zone-back zone-small
+  pub zone_bound : ValidOffset (to_z w64 (of_z w64 z))
+  zone_bound = rw zone_back zone_small
 
 -- ---- the spellings
 
-module _ (s : List ℕ) {y : ℕ} {p : Bool} (e : y ≡ fourAt s 0) (f : p ≡ validYear y) where
-  pub year-on : {first count : ℕ} {d : Date} → p ≡ true → first ≡ dayNumber y 1 1 → count ≡ yearLength y → d ≡ daysFrom first count → Readable d ≡ readYear s
-  unfolding readYear yearDate
-  year-on t a b g = rw (← e, ← f, t, ← a, ← b) (ap Readable g)
+module _ (s : List ℕ) {y : ℕ} {p : Bool} (e : y ≡ four_at s 0) (f : p ≡ valid_year y) where
+  pub year_on : {first count : ℕ} {d : Date} → p ≡ true → first ≡ day_number y 1 1 → count ≡ year_length y → d ≡ days_from first count → Readable d ≡ read_year s
+  unfolding read_year year_date
+  year_on t a b g = rw (← e, ← f, t, ← a, ← b) (ap Readable g)
 
-  pub year-off : p ≡ false → DateReading.Unreadable ≡ readYear s
-  unfolding readYear
-  year-off t = rw (← e, ← f, t)
+  pub year_off : p ≡ false → DateReading.Unreadable ≡ read_year s
+  unfolding read_year
+  year_off t = rw (← e, ← f, t)
 
-module _ (s : List ℕ) {y m : ℕ} {p : Bool} (e : y ≡ fourAt s 0) (i : m ≡ field_at s 4 hyphen) (f : p ≡ validMonth y m) where
-  pub month-on : {first count : ℕ} {d : Date} → p ≡ true → first ≡ dayNumber y m 1 → count ≡ monthLength (leapYear y) m → d ≡ daysFrom first count → Readable d ≡ readMonth s
-  unfolding readMonth monthDate
-  month-on t a b g = rw (← e, ← i, ← f, t, ← a, ← b) (ap Readable g)
+module _ (s : List ℕ) {y m : ℕ} {p : Bool} (e : y ≡ four_at s 0) (i : m ≡ field_at s 4 hyphen) (f : p ≡ valid_month y m) where
+  pub month_on : {first count : ℕ} {d : Date} → p ≡ true → first ≡ day_number y m 1 → count ≡ month_length (leap_year y) m → d ≡ days_from first count → Readable d ≡ read_month s
+  unfolding read_month month_date
+  month_on t a b g = rw (← e, ← i, ← f, t, ← a, ← b) (ap Readable g)
 
-  pub month-off : p ≡ false → DateReading.Unreadable ≡ readMonth s
-  unfolding readMonth
-  month-off t = rw (← e, ← i, ← f, t)
+  pub month_off : p ≡ false → DateReading.Unreadable ≡ read_month s
+  unfolding read_month
+  month_off t = rw (← e, ← i, ← f, t)
 
-module _ (s : List ℕ) {y m d : ℕ} {p : Bool} (e : y ≡ fourAt s 0) (i : m ≡ field_at s 4 hyphen) (j : d ≡ field_at s 7 hyphen) (f : p ≡ validDay y m d) where
-  pub day-on : {first : ℕ} {x : Date} → p ≡ true → first ≡ dayNumber y m d → x ≡ daysFrom first 1 → Readable x ≡ readDay s
-  unfolding readDay dayDate
-  day-on t a g = rw (← e, ← i, ← j, ← f, t, ← a) (ap Readable g)
+module _ (s : List ℕ) {y m d : ℕ} {p : Bool} (e : y ≡ four_at s 0) (i : m ≡ field_at s 4 hyphen) (j : d ≡ field_at s 7 hyphen) (f : p ≡ valid_day y m d) where
+  pub day_on : {first : ℕ} {x : Date} → p ≡ true → first ≡ day_number y m d → x ≡ days_from first 1 → Readable x ≡ read_day s
+  unfolding read_day day_date
+  day_on t a g = rw (← e, ← i, ← j, ← f, t, ← a) (ap Readable g)
 
-  pub day-off : p ≡ false → DateReading.Unreadable ≡ readDay s
-  unfolding readDay
-  day-off t = rw (← e, ← i, ← j, ← f, t)
+  pub day_off : p ≡ false → DateReading.Unreadable ≡ read_day s
+  unfolding read_day
+  day_off t = rw (← e, ← i, ← j, ← f, t)
 
-  pub local-day : (offset : ℤ) → p ≡ false → DateReading.Unreadable ≡ readLocal s offset
-  unfolding readLocal
-  local-day offset t = rw (← e, ← i, ← j, ← f, t)
+  pub local_day : (offset : ℤ) → p ≡ false → DateReading.Unreadable ≡ read_local s offset
+  unfolding read_local
+  local_day offset t = rw (← e, ← i, ← j, ← f, t)
 
-  module _ {hour minute second : ℕ} {q : Bool} (t : p ≡ true) (a : hour ≡ field_at s 10 letterT) (b : minute ≡ field_at s 13 colon) (c : second ≡ field_at s 16 colon) (g : q ≡ validTime hour minute second) where
-    pub local-time : (offset : ℤ) → q ≡ false → DateReading.Unreadable ≡ readLocal s offset
-    unfolding readLocal
-    local-time offset u = rw (← e, ← i, ← j, ← f, t, ← a, ← b, ← c, ← g, u)
+  module _ {hour minute second : ℕ} {q : Bool} (t : p ≡ true) (a : hour ≡ field_at s 10 letter_t) (b : minute ≡ field_at s 13 colon) (c : second ≡ field_at s 16 colon) (g : q ≡ valid_time hour minute second) where
+    pub local_time : (offset : ℤ) → q ≡ false → DateReading.Unreadable ≡ read_local s offset
+    unfolding read_local
+    local_time offset u = rw (← e, ← i, ← j, ← f, t, ← a, ← b, ← c, ← g, u)
 
-    pub local-on : {first from : ℕ} {x : Date} {offset : ℤ} → q ≡ true → first ≡ dayNumber y m d → from ≡ secondOfDay hour minute second → x ≡ secondFrom first from (to_z w64 (of_z w64 offset)) → SFits w64 offset → Readable x ≡ readLocal s offset
-    unfolding readLocal secondDate
-    local-on {offset = offset} u k l h fits =
+    pub local_on : {first from : ℕ} {x : Date} {offset : ℤ} → q ≡ true → first ≡ day_number y m d → from ≡ second_of_day hour minute second → x ≡ second_from first from (to_z w64 (of_z w64 offset)) → SFits w64 offset → Readable x ≡ read_local s offset
+    unfolding read_local second_date
+    local_on {offset = offset} u k l h fits =
         rw (← e, ← i, ← j, ← f, t, ← a, ← b, ← c, ← g, u, ← k, ← l, ← to_z-of_z w64 offset fits) (ap Readable h)
 
 -- ---- a text
 
 module _ (s : List ℕ) where
-  pub read-year : {r : DateReading} → length s ≡ 4 → r ≡ readYear s → r ≡ read s
+  pub read_year_lem : {r : DateReading} → length s ≡ 4 → r ≡ read_year s → r ≡ read s
   unfolding read
-  read-year h e = rw (eq-eqb _ _ h) e
+  read_year_lem h e = rw (eq-eqb _ _ h) e
 
   module _ (not4 : length s ≡ 4 → ⊥) where
-    pub read-month : {r : DateReading} → length s ≡ 7 → r ≡ readMonth s → r ≡ read s
+    pub read_month_lem : {r : DateReading} → length s ≡ 7 → r ≡ read_month s → r ≡ read s
     unfolding read
-    read-month h e = rw (ne_eqb _ _ not4, eq-eqb _ _ h) e
+    read_month_lem h e = rw (ne_eqb _ _ not4, eq-eqb _ _ h) e
 
     module _ (not7 : length s ≡ 7 → ⊥) where
-      pub read-day : {r : DateReading} → length s ≡ 10 → r ≡ readDay s → r ≡ read s
+      pub read_day_lem : {r : DateReading} → length s ≡ 10 → r ≡ read_day s → r ≡ read s
       unfolding read
-      read-day h e = rw (ne_eqb _ _ not4, ne_eqb _ _ not7, eq-eqb _ _ h) e
+      read_day_lem h e = rw (ne_eqb _ _ not4, ne_eqb _ _ not7, eq-eqb _ _ h) e
 
       module _ (not10 : length s ≡ 10 → ⊥) where
         pub read_short : length s < 20 → DateReading.Unreadable ≡ read s
         unfolding read
         read_short h = rw (ne_eqb _ _ not4, ne_eqb _ _ not7, ne_eqb _ _ not10, lt-ltb _ _ h)
 
-        module _ {zone : Zone} (h : 20 ≤ length s) (e : zone ≡ zoneAt s 19) where
-          pub read-long : zoned s zone ≡ read s
+        module _ {zone : Zone} (h : 20 ≤ length s) (e : zone ≡ zone_at s 19) where
+          pub read_long : zoned s zone ≡ read s
           unfolding read
-          read-long = rw (ne_eqb _ _ not4, ne_eqb _ _ not7, ne_eqb _ _ not10, le-ltb _ _ h, ← e)
+          read_long = rw (ne_eqb _ _ not4, ne_eqb _ _ not7, ne_eqb _ _ not10, le-ltb _ _ h, ← e)
 
-          pub read-second : {r : DateReading} {z : ℤ} → zone ≡ Offset z → r ≡ readLocal s (to_z w64 (of_z w64 z)) → r ≡ read s
+          pub read-second : {r : DateReading} {z : ℤ} → zone ≡ Offset z → r ≡ read_local s (to_z w64 (of_z w64 z)) → r ≡ read s
           unfolding zoned
-          read-second f g = g ∙ ap (readLocal s) (zone-back s 19 e f) ∙ ap (zoned s) (sym f) ∙ read-long
+          read-second f g = g ∙ ap (read_local s) (zone_back s 19 e f) ∙ ap (zoned s) (sym f) ∙ read_long
 
-          pub read-no-zone : zone ≡ Zone.Unreadable → DateReading.Unreadable ≡ read s
+          pub read_no_zone : zone ≡ Zone.Unreadable → DateReading.Unreadable ≡ read s
           unfolding zoned
-          read-no-zone f = ap (zoned s) (sym f) ∙ read-long
+          read_no_zone f = ap (zoned s) (sym f) ∙ read_long
 
 module _ (s : List ℕ) {r : DateReading} (e : r ≡ read s) where
   pub readable-on : {d : Date} → r ≡ Readable d → true ≡ readable s
-  unfolding readable isDate
+  unfolding readable is_date
   readable-on f = rw (← e, f)
 
-  pub readable-off : r ≡ DateReading.Unreadable → false ≡ readable s
-  unfolding readable isDate
-  readable-off f = rw (← e, f)
+  pub readable_off : r ≡ DateReading.Unreadable → false ≡ readable s
+  unfolding readable is_date
+  readable_off f = rw (← e, f)

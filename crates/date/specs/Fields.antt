@@ -2,7 +2,7 @@
 -- Assumes nothing.
 use Rattle.std.specs.Prelude.{ℕ, ◌+◌, ◌*◌, ◌≤◌, Bool, ◌&&◌, leb, ℤ, nat_abs}
 use Rattle.base.specs.Between.{between}
-use Rattle.date.specs.Calendar.{leapYear, monthLength}
+use Rattle.date.specs.Calendar.{leap_year, month_length}
 
 -- ---- records
 
@@ -21,7 +21,7 @@ pub record ValidMonth (y m : ℕ) : Type 0 where
 pub record ValidDay (y m d : ℕ) : Type 0 where
   pub month : ValidMonth y m
   pub low : 1 ≤ d
-  pub high : d ≤ monthLength (leapYear y) m
+  pub high : d ≤ month_length (leap_year y) m
 
 -- 00:00:00 to 23:59:59
 pub record ValidTime (h m s : ℕ) : Type 0 where
@@ -40,17 +40,17 @@ ValidOffset offset = nat_abs offset ≤ 840
 
 -- ---- tests
 
-abbrev pub validYear : ℕ → Bool
-validYear y = between 1 9999 y
+abbrev pub valid_year : ℕ → Bool
+valid_year y = between 1 9999 y
 
-unfoldable pub validMonth : ℕ → ℕ → Bool
-validMonth y m = validYear y && between 1 12 m
+unfoldable pub valid_month : ℕ → ℕ → Bool
+valid_month y m = valid_year y && between 1 12 m
 
-unfoldable pub validDay : ℕ → ℕ → ℕ → Bool
-validDay y m d = validMonth y m && between 1 (monthLength (leapYear y) m) d
+unfoldable pub valid_day : ℕ → ℕ → ℕ → Bool
+valid_day y m d = valid_month y m && between 1 (month_length (leap_year y) m) d
 
-unfoldable pub validTime : ℕ → ℕ → ℕ → Bool
-validTime h m s = leb h 23 && (leb m 59 && leb s 59)
+unfoldable pub valid_time : ℕ → ℕ → ℕ → Bool
+valid_time h m s = leb h 23 && (leb m 59 && leb s 59)
 
-unfoldable pub validZone : ℕ → ℕ → Bool
-validZone h m = leb m 59 && leb (h * 60 + m) 840
+unfoldable pub valid_zone : ℕ → ℕ → Bool
+valid_zone h m = leb m 59 && leb (h * 60 + m) 840

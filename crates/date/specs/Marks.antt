@@ -11,8 +11,8 @@ colon = 58
 abbrev pub plus : ℕ
 plus = 43
 
-abbrev pub letterT : ℕ
-letterT = 84
+abbrev pub letter_t : ℕ
+letter_t = 84
 
-abbrev pub letterZ : ℕ
-letterZ = 90
+abbrev pub letter_z : ℕ
+letter_z = 90

@@ -2,12 +2,12 @@
 -- Assumes nothing.
 use Rattle.std.specs.Prelude.{ℕ, ◌+◌, ◌*◌, ◌^◌, ◌<◌, true, ◌≡◌, ℤ, pos, ◌-ℤ◌, ◌*ℤ◌}
 use Rattle.std.specs.Int.Signed.{lt_z, mag}
-use Rattle.date.specs.Calendar.{leapYear, yearLength, monthLength, dayNumber}
+use Rattle.date.specs.Calendar.{leap_year, year_length, month_length, day_number}
 use Rattle.date.specs.declared.Date.{Date}
 
 -- the seconds from 0001-01-01T00:00:00 to 1970-01-01T00:00:00
 unfoldable pub epoch : ℕ
-epoch = dayNumber 1970 1 1 * 86400
+epoch = day_number 1970 1 1 * 86400
 
 -- the instant, in seconds from 1970-01-01T00:00:00Z, of the local second n, which counts from 0001-01-01T00:00:00 on a
 -- clock with this zone offset in minutes: the offset is subtracted with its sign
@@ -15,38 +15,38 @@ unfoldable pub instant : ℕ → ℤ → ℤ
 instant n offset = pos n -ℤ pos epoch -ℤ offset *ℤ pos 60
 
 -- the local seconds from one up to another, at a zone offset
-unfoldable pub dateOf : ℕ → ℕ → ℤ → Date
-dateOf from to offset = record { start = instant from offset; end = instant to offset }
+unfoldable pub date_of : ℕ → ℕ → ℤ → Date
+date_of from to offset = record { start = instant from offset; end = instant to offset }
 
 -- some days from a day on, in UTC
-unfoldable pub daysFrom : ℕ → ℕ → Date
-daysFrom first count = dateOf (first * 86400) ((first + count) * 86400) (pos 0)
+unfoldable pub days_from : ℕ → ℕ → Date
+days_from first count = date_of (first * 86400) ((first + count) * 86400) (pos 0)
 
 -- the second of the day at which a time of the day starts
-abbrev pub secondOfDay : ℕ → ℕ → ℕ → ℕ
-secondOfDay hour minute second = hour * 3600 + minute * 60 + second
+abbrev pub second_of_day : ℕ → ℕ → ℕ → ℕ
+second_of_day hour minute second = hour * 3600 + minute * 60 + second
 
 -- one second of a day, at a zone offset
-unfoldable pub secondFrom : ℕ → ℕ → ℤ → Date
-secondFrom day second offset = dateOf (day * 86400 + second) (day * 86400 + second + 1) offset
+unfoldable pub second_from : ℕ → ℕ → ℤ → Date
+second_from day second offset = date_of (day * 86400 + second) (day * 86400 + second + 1) offset
 
 -- ---- a year, a month, a day, a second
 
 -- 1974 is the whole year
-unfoldable pub yearDate : ℕ → Date
-yearDate y = daysFrom (dayNumber y 1 1) (yearLength y)
+unfoldable pub year_date : ℕ → Date
+year_date y = days_from (day_number y 1 1) (year_length y)
 
 -- 1974-06 is the whole month
-unfoldable pub monthDate : ℕ → ℕ → Date
-monthDate y m = daysFrom (dayNumber y m 1) (monthLength (leapYear y) m)
+unfoldable pub month_date : ℕ → ℕ → Date
+month_date y m = days_from (day_number y m 1) (month_length (leap_year y) m)
 
 -- 1974-06-01 is the whole day
-unfoldable pub dayDate : ℕ → ℕ → ℕ → Date
-dayDate y m d = daysFrom (dayNumber y m d) 1
+unfoldable pub day_date : ℕ → ℕ → ℕ → Date
+day_date y m d = days_from (day_number y m d) 1
 
 -- a time of day is its one second, moved by the zone's offset
-unfoldable pub secondDate : ℕ → ℕ → ℕ → ℕ → ℕ → ℕ → ℤ → Date
-secondDate y m d hour minute second offset = secondFrom (dayNumber y m d) (secondOfDay hour minute second) offset
+unfoldable pub second_date : ℕ → ℕ → ℕ → ℕ → ℕ → ℕ → ℤ → Date
+second_date y m d hour minute second offset = second_from (day_number y m d) (second_of_day hour minute second) offset
 
 -- ---- a law of every date that is read
 
@@ -54,4 +54,4 @@ secondDate y m d hour minute second offset = secondFrom (dayNumber y m d) (secon
 pub record Proper (d : Date) : Type 0 where
   pub order : lt_z d.start d.end ≡ true
   pub start_small : mag d.start < 2 ^ 42
-  pub end-small : mag d.end < 2 ^ 42
+  pub end_small : mag d.end < 2 ^ 42

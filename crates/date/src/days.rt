@@ -1,20 +1,20 @@
 // The Gregorian calendar, used throughout: lengths of years and months and numbers of days, by arithmetic. And which
 // numbers may stand in the fields of a date's text.
 ghost use Rattle.std.specs.Prelude.{◌≡◌};
-ghost use Rattle.date.specs.Calendar.{leapYear, yearLength, monthLength, daysBeforeMonth, dayNumber};
+ghost use Rattle.date.specs.Calendar.{leap_year, year_length, month_length, days_before_month, day_number};
 ghost use Rattle.base.specs.Between.{between};
-ghost use Rattle.date.specs.Fields.{validYear, validMonth, validDay, validTime, ValidMonth, ValidDay};
+ghost use Rattle.date.specs.Fields.{valid_year, valid_month, valid_day, valid_time, ValidMonth, ValidDay};
 
 // Whether a year is a leap year.
 fn leap_year(y: u64) -> bool
-    ensures { result ≡ leapYear y }
+    ensures { result ≡ leap_year y }
 {
     y % 4 == 0 && (y % 100 != 0 || y % 400 == 0)
 }
 
 // The days of a year.
 pub fn year_length(y: u64) -> u64
-    ensures { result ≡ yearLength y }
+    ensures { result ≡ year_length y }
 {
     if leap_year(y) {
         return 366;
@@ -25,7 +25,7 @@ pub fn year_length(y: u64) -> u64
 // The days of a month: February's by the kind of year, the others' 30 or 31 by turns, July and August both 31.
 pub fn month_length(y: u64, m: u64) -> u64
     requires { ValidMonth y m }
-    ensures { result ≡ monthLength (leapYear y) m }
+    ensures { result ≡ month_length (leap_year y) m }
 {
     if m == 2 {
         if leap_year(y) {
@@ -40,7 +40,7 @@ pub fn month_length(y: u64, m: u64) -> u64
 // days are taken off.
 fn days_before_month(y: u64, m: u64) -> u64
     requires { ValidMonth y m }
-    ensures { result ≡ daysBeforeMonth (leapYear y) m }
+    ensures { result ≡ days_before_month (leap_year y) m }
 {
     let n = (367 * m - 362) / 12;
     if m <= 2 {
@@ -56,7 +56,7 @@ fn days_before_month(y: u64, m: u64) -> u64
 // this month before it.
 pub fn day_number(y: u64, m: u64, d: u64) -> u64
     requires { ValidDay y m d }
-    ensures { result ≡ dayNumber y m d }
+    ensures { result ≡ day_number y m d }
 {
     let p = y - 1;
     365 * p + (p / 4 - p / 100 + p / 400) + days_before_month(y, m) + (d - 1)
@@ -71,28 +71,28 @@ fn between(low: u64, n: u64, high: u64) -> bool
 
 // Whether a year can be written: "Years 0001 to 9999".
 pub fn valid_year(y: u64) -> bool
-    ensures { result ≡ validYear y }
+    ensures { result ≡ valid_year y }
 {
     between(1, y, 9999)
 }
 
 // Whether it is a month of such a year: "months 01 to 12".
 pub fn valid_month(y: u64, m: u64) -> bool
-    ensures { result ≡ validMonth y m }
+    ensures { result ≡ valid_month y m }
 {
     valid_year(y) && between(1, m, 12)
 }
 
 // Whether it is a day of such a month: "only days which that month has".
 pub fn valid_day(y: u64, m: u64, d: u64) -> bool
-    ensures { result ≡ validDay y m d }
+    ensures { result ≡ valid_day y m d }
 {
     valid_month(y, m) && between(1, d, month_length(y, m))
 }
 
 // Whether it is a time of the day: "hours 00 to 23, seconds 00 to 59".
 pub fn valid_time(h: u64, m: u64, s: u64) -> bool
-    ensures { result ≡ validTime h m s }
+    ensures { result ≡ valid_time h m s }
 {
     h <= 23 && (m <= 59 && s <= 59)
 }

@@ -2,7 +2,7 @@
 // of the fields refuse it.
 ghost use Rattle.std.specs.Prelude.{◌≡◌, ◌+◌, ◌≤◌, length};
 ghost use Rattle.date.specs.Fields.{ValidOffset};
-ghost use Rattle.date.specs.Texts.{digitOf, pair, twoAt, fourAt, field_at, signed, zoneAt, readYear, readMonth, readDay, readLocal, read, readable};
+ghost use Rattle.date.specs.Texts.{digit_of, pair, two_at, four_at, field_at, signed, zone_at, read_year, read_month, read_day, read_local, read, readable};
 
 use crate::{DateReading, days, seconds};
 
@@ -15,7 +15,7 @@ enum Zone {
 
 // The number that a digit writes; 10 where the byte is no digit.
 fn digit_of(b: u8) -> u64
-    ensures { result ≡ digitOf b }
+    ensures { result ≡ digit_of b }
 {
     if base::is_digit(b) {
         return base::wide(b) - 48;
@@ -40,7 +40,7 @@ fn pair(radix: u64, a: u64, b: u64) -> u64
 // The number of the two digits at a position; 100 where one is no digit.
 fn two_at(s: &[u8], at: usize) -> u64
     requires { at + 2 ≤ length s.now }
-    ensures { result ≡ twoAt s.now at }
+    ensures { result ≡ two_at s.now at }
 {
     pair(10, digit_of(s[at]), digit_of(s[at + 1]))
 }
@@ -48,7 +48,7 @@ fn two_at(s: &[u8], at: usize) -> u64
 // The number of the four digits at a position; 10000 where one is no digit.
 fn four_at(s: &[u8], at: usize) -> u64
     requires { at + 4 ≤ length s.now }
-    ensures { result ≡ fourAt s.now at }
+    ensures { result ≡ four_at s.now at }
 {
     pair(100, two_at(s, at), two_at(s, at + 2))
 }
@@ -87,7 +87,7 @@ fn signed(sign: u8, h: u64, m: u64) -> Zone
 // The zone from a position to the end of the text: "Z or a zone".
 fn zone_at(s: &[u8], at: usize) -> Zone
     requires { at + 1 ≤ length s.now }
-    ensures { result ≡ zoneAt s.now at }
+    ensures { result ≡ zone_at s.now at }
 {
     if s.len() == at + 1 {
         if s[at] == b'Z' {
@@ -104,7 +104,7 @@ fn zone_at(s: &[u8], at: usize) -> Zone
 // YYYY: the year.
 fn read_year(s: &[u8]) -> DateReading
     requires { 4 ≤ length s.now }
-    ensures { result ≡ readYear s.now }
+    ensures { result ≡ read_year s.now }
 {
     let y = four_at(s, 0);
     if days::valid_year(y) {
@@ -119,7 +119,7 @@ fn read_year(s: &[u8]) -> DateReading
 // YYYY-MM: the month.
 fn read_month(s: &[u8]) -> DateReading
     requires { 7 ≤ length s.now }
-    ensures { result ≡ readMonth s.now }
+    ensures { result ≡ read_month s.now }
 {
     let y = four_at(s, 0);
     let m = field_at(s, 4, b'-');
@@ -135,7 +135,7 @@ fn read_month(s: &[u8]) -> DateReading
 // YYYY-MM-DD: the day.
 fn read_day(s: &[u8]) -> DateReading
     requires { 10 ≤ length s.now }
-    ensures { result ≡ readDay s.now }
+    ensures { result ≡ read_day s.now }
 {
     let y = four_at(s, 0);
     let m = field_at(s, 4, b'-');
@@ -150,7 +150,7 @@ fn read_day(s: &[u8]) -> DateReading
 fn read_local(s: &[u8], offset: i64) -> DateReading
     requires in_bounds { 19 ≤ length s.now }
     requires valid_offset { ValidOffset offset }
-    ensures { result ≡ readLocal s.now offset }
+    ensures { result ≡ read_local s.now offset }
 {
     let y = four_at(s, 0);
     let m = field_at(s, 4, b'-');

@@ -1,7 +1,7 @@
 // Dates from numbers of days and seconds. Local seconds are counted from 0001-01-01T00:00:00 on the clock of the date's
 // own zone; a zone offset is in minutes, negative west of UTC.
 ghost use Rattle.std.specs.Prelude.{◌≡◌, ◌+◌, ◌^◌, ◌<◌};
-ghost use Rattle.date.specs.Spans.{instant, dateOf, daysFrom, secondOfDay, secondFrom};
+ghost use Rattle.date.specs.Spans.{instant, date_of, days_from, second_of_day, second_from};
 ghost use Rattle.date.specs.Fields.{ValidTime, ValidOffset};
 
 use crate::Date;
@@ -23,7 +23,7 @@ fn instant(local: u64, offset: i64) -> i64
 pub fn date_of(from: u64, to: u64, offset: i64) -> Date
     requires from_bound { (from < 2 ^ 40) × (to < 2 ^ 40) }
     requires valid_offset { ValidOffset offset }
-    ensures { result ≡ dateOf from to offset }
+    ensures { result ≡ date_of from to offset }
 {
     Date {
         start: instant(from, offset),
@@ -34,7 +34,7 @@ pub fn date_of(from: u64, to: u64, offset: i64) -> Date
 // The date of some days from a day on, in UTC.
 pub fn days_from(first: u64, count: u64) -> Date
     requires { first + count < 4000000 }
-    ensures { result ≡ daysFrom first count }
+    ensures { result ≡ days_from first count }
 {
     date_of(first * 86400, (first + count) * 86400, 0)
 }
@@ -42,7 +42,7 @@ pub fn days_from(first: u64, count: u64) -> Date
 // The second of the day at which a time of the day starts.
 pub fn second_of_day(hour: u64, minute: u64, second: u64) -> u64
     requires { ValidTime hour minute second }
-    ensures { result ≡ secondOfDay hour minute second }
+    ensures { result ≡ second_of_day hour minute second }
 {
     hour * 3600 + minute * 60 + second
 }
@@ -51,7 +51,7 @@ pub fn second_of_day(hour: u64, minute: u64, second: u64) -> u64
 pub fn second_from(day: u64, second: u64, offset: i64) -> Date
     requires day_bound { (day < 4000000) × (second < 86400) }
     requires valid_offset { ValidOffset offset }
-    ensures { result ≡ secondFrom day second offset }
+    ensures { result ≡ second_from day second offset }
 {
     let from = day * 86400 + second;
     date_of(from, from + 1, offset)

@@ -16,11 +16,11 @@ use Rattle.rows.specs.Stated.{tree_of}
 use Rattle.rows.specs.declared.Probe.{Probe}
 use Rattle.rows.specs.declared.Row.{Row}
 use Rattle.row_judge.specs.Saying.{Whole}
-use Rattle.deciding.specs.Deciding.{outerCount}
-use Rattle.deciding.specs.Marks.{Mark, opposite, joinedMarks, markBy, mark_of}
-use Rattle.deciding.specs.Rows.{outline, marksIn, Single, single-test, single-bracket, Reading, Starts, FewRows, MarksFrom}
+use Rattle.deciding.specs.Deciding.{outer_count}
+use Rattle.deciding.specs.Marks.{Mark, opposite, joined_marks, mark_by, mark_of}
+use Rattle.deciding.specs.Rows.{outline, marks_in, Single, single_test, single_bracket, Reading, Starts, FewRows, MarksFrom}
 use Rattle.deciding.specs.declared.Marked.{Marked}
-use Rattle.deciding.proofs.Parting.{all-states, no_test, no-bracket, no-unknown, reading-not, second-room, second-whole, second-size, reading-join}
+use Rattle.deciding.proofs.Parting.{all_states, no_test, no_bracket, no_unknown, reading_not, second_room, second-whole, second-size, reading-join}
 
 pub mark-behind : (marks : List ℕ) (i : ℕ) → length marks ≤ i → 0 ≡ get_or marks i 0
 mark-behind marks i l = sym (get_or-eq_default marks 0 l)
@@ -29,29 +29,29 @@ mark-behind marks i l = sym (get_or-eq_default marks 0 l)
 pub record Marking (rows marks : List ℕ) (first at m next : ℕ) : Type 0 where
   pub expression : Expression
   pub reading : Reading rows at expression
-  pub mark : mark_of m ≡ markBy (marksIn marks) first (outline expression)
-  pub count : next ≡ first + outerCount (outline expression)
+  pub mark : mark_of m ≡ mark_by (marks_in marks) first (outline expression)
+  pub count : next ≡ first + outer_count (outline expression)
   pub most : next ≤ first + at
   pub rows_few : FewRows rows first
 
-pub single-count : {e : Expression} → Single e → outerCount (outline e) ≡ 1
-unfolding tree_of outerCount
-single-count single-test = refl
-single-count single-bracket = refl
+pub single_count : {e : Expression} → Single e → outer_count (outline e) ≡ 1
+unfolding tree_of outer_count
+single_count single_test = refl
+single_count single_bracket = refl
 
-single-mark : {e : Expression} → Single e → (m : ℕ → Mark) (i : ℕ) → markBy m i (outline e) ≡ m i
-unfolding tree_of markBy
-single-mark single-test m i = refl
-single-mark single-bracket m i = refl
+single_mark : {e : Expression} → Single e → (m : ℕ → Mark) (i : ℕ) → mark_by m i (outline e) ≡ m i
+unfolding tree_of mark_by
+single_mark single_test m i = refl
+single_mark single_bracket m i = refl
 
-pub marking-start : (rows marks : List ℕ) (first at m : ℕ) → FewRows rows first → Starts rows at → m ≡ get_or marks first 0 → Marking rows marks first at m (first + 1)
-marking-start rows marks first at m w s h =
+pub marking_start : (rows marks : List ℕ) (first at m : ℕ) → FewRows rows first → Starts rows at → m ≡ get_or marks first 0 → Marking rows marks first at m (first + 1)
+marking_start rows marks first at m w s h =
     record {
       expression = s.expression;
       reading = s.reading;
-      mark = ap mark_of h ∙ sym (single-mark s.single (marksIn marks) first);
-      count = omega (arith, single-count s.single);
-      most = omega (arith, s.some-rows);
+      mark = ap mark_of h ∙ sym (single_mark s.single (marks_in marks) first);
+      count = omega (arith, single_count s.single);
+      most = omega (arith, s.some_rows);
       rows_few = w;
     }
 
@@ -59,32 +59,32 @@ module _ (rows marks : List ℕ) (first at m next : ℕ) (k : Marking rows marks
   abbrev w : Whole rows
   w = k.rows_few.whole
 
-  pub marking-end : length rows ≤ at → MarksFrom rows marks first (record { mark = m; next = next })
-  marking-end h =
-      let states : stated rows ≡ some k.expression = all-states w at k.expression k.reading h in
+  pub marking_end : length rows ≤ at → MarksFrom rows marks first (record { mark = m; next = next })
+  marking_end h =
+      let states : stated rows ≡ some k.expression = all_states w at k.expression k.reading h in
       record {
-        whole = λ f i. subst (λ (x : Expression). mark_of m ≡ markBy (marksIn marks) first (outline x)) (some-injective _ _ (sym states ∙ i)) k.mark;
-        next = λ f i. subst (λ (x : Expression). next ≡ first + outerCount (outline x)) (some-injective _ _ (sym states ∙ i)) k.count;
+        whole = λ f i. subst (λ (x : Expression). mark_of m ≡ mark_by (marks_in marks) first (outline x)) (some-injective _ _ (sym states ∙ i)) k.mark;
+        next = λ f i. subst (λ (x : Expression). next ≡ first + outer_count (outline x)) (some-injective _ _ (sym states ∙ i)) k.count;
         most = omega (arith, k.most, k.reading.within);
       }
 
   module _ (l : at < length rows) (r : Row) (i : r ≡ row_of (get_or rows at 0)) where
     -- rows that nothing joins are not there
-    pub marking-test : (p : Probe) → r ≡ Row.Test p → MarksFrom rows marks first (record { mark = m; next = next })
-    marking-test p j = no_test w at k.expression k.reading l r i p j
+    pub marking_test : (p : Probe) → r ≡ Row.Test p → MarksFrom rows marks first (record { mark = m; next = next })
+    marking_test p j = no_test w at k.expression k.reading l r i p j
 
-    pub marking-bracket : (n : ℕ) → r ≡ Row.Bracket n → MarksFrom rows marks first (record { mark = m; next = next })
-    marking-bracket n j = no-bracket w at k.expression k.reading l r i n j
+    pub marking_bracket : (n : ℕ) → r ≡ Row.Bracket n → MarksFrom rows marks first (record { mark = m; next = next })
+    marking_bracket n j = no_bracket w at k.expression k.reading l r i n j
 
-    pub marking-unknown : r ≡ Row.Unknown → MarksFrom rows marks first (record { mark = m; next = next })
-    marking-unknown j = no-unknown w at k.expression k.reading l r i j
+    pub marking_unknown : r ≡ Row.Unknown → MarksFrom rows marks first (record { mark = m; next = next })
+    marking_unknown j = no_unknown w at k.expression k.reading l r i j
 
-    pub marking-not : (n : ℕ) → r ≡ Row.Not → mark_of n ≡ opposite (mark_of m) → Marking rows marks first (at + 1) n next
-    unfolding tree_of markBy outerCount
-    marking-not n j h =
+    pub marking_not : (n : ℕ) → r ≡ Row.Not → mark_of n ≡ opposite (mark_of m) → Marking rows marks first (at + 1) n next
+    unfolding tree_of mark_by outer_count
+    marking_not n j h =
         record {
           expression = negating k.expression;
-          reading = reading-not w at k.expression k.reading l r i j;
+          reading = reading_not w at k.expression k.reading l r i j;
           mark = h ∙ ap opposite k.mark;
           count = k.count;
           most = omega (arith, k.most);
@@ -93,36 +93,36 @@ module _ (rows marks : List ℕ) (first at m next : ℕ) (k : Marking rows marks
 
     module _ (c : Connective) (s : ℕ) (j : r ≡ Row.Connect c s) where
       room : at + 1 + s ≤ length rows
-      room = second-room w at k.expression k.reading l r i c s j
+      room = second_room w at k.expression k.reading l r i c s j
 
-      pub marking-room : at + 1 + s ≤ length rows
-      marking-room = room
+      pub marking_room : at + 1 + s ≤ length rows
+      marking_room = room
 
-      pub marking-fits : Fits w64 (at + 1 + s)
-      marking-fits = omega (arith, room, k.rows_few.few)
+      pub marking_fits : Fits w64 (at + 1 + s)
+      marking_fits = omega (arith, room, k.rows_few.few)
 
-      pub marking-falls : (t : ℕ) → length rows ≡ t → length (part rows (at + 1) (at + 1 + s)) < t
-      marking-falls t e = omega (arith, room, second-size w at k.expression k.reading l r i c s j)
+      pub marking_falls : (t : ℕ) → length rows ≡ t → length (part rows (at + 1) (at + 1 + s)) < t
+      marking_falls t e = omega (arith, room, second-size w at k.expression k.reading l r i c s j)
 
-      pub marking-second : FewRows (part rows (at + 1) (at + 1 + s)) next
-      marking-second =
+      pub marking_second : FewRows (part rows (at + 1) (at + 1 + s)) next
+      marking_second =
           record {
             whole = second-whole w at k.expression k.reading l r i c s j;
             few = omega (arith, room, k.most, k.rows_few.few, second-size w at k.expression k.reading l r i c s j);
           }
 
-      pub marking-join : (b : Marked) (n : ℕ) → MarksFrom (part rows (at + 1) (at + 1 + s)) marks next b → mark_of n ≡ joinedMarks c (mark_of m) (mark_of b.mark)
+      pub marking_join : (b : Marked) (n : ℕ) → MarksFrom (part rows (at + 1) (at + 1 + s)) marks next b → mark_of n ≡ joined_marks c (mark_of m) (mark_of b.mark)
           → Marking rows marks first (at + 1 + s) n b.next
-      unfolding tree_of markBy outerCount
-      marking-join b n g h =
+      unfolding tree_of mark_by outer_count
+      marking_join b n g h =
           let e : Expression = k.expression in
           let f = second-whole w at e k.reading l r i c s j in
-          let mark-is : mark_of b.mark ≡ markBy (marksIn marks) (first + outerCount (outline e)) (outline f.expression) =
-          g.whole f.expression f.states ∙ ap (λ (x : ℕ). markBy (marksIn marks) x (outline f.expression)) k.count in
+          let mark-is : mark_of b.mark ≡ mark_by (marks_in marks) (first + outer_count (outline e)) (outline f.expression) =
+          g.whole f.expression f.states ∙ ap (λ (x : ℕ). mark_by (marks_in marks) x (outline f.expression)) k.count in
           record {
             expression = joining c e f.expression;
             reading = reading-join w at e k.reading l r i c s j;
-            mark = h ∙ ap₂ (joinedMarks c) k.mark mark-is;
+            mark = h ∙ ap₂ (joined_marks c) k.mark mark-is;
             count = omega (arith, g.next f.expression f.states, k.count);
             most = omega (arith, g.most, k.most, second-size w at e k.reading l r i c s j);
             rows_few = k.rows_few;

@@ -10,22 +10,22 @@ use Rattle.base.specs.Lists.{All, all_cons}
 use Rattle.sheet.specs.Sheet.{Parameter}
 use Rattle.card.specs.Card.{Entry}
 use Rattle.syntax.specs.Tree.{Tree, test, bracketed, join, negation}
-use Rattle.syntax.specs.Fold.{foldTree}
-use Rattle.judge.specs.Verdicts.{joined, filterSays}
-use Rattle.deciding.specs.Deciding.{outerTests, outerCount, verdicts, saysBy, cells}
+use Rattle.syntax.specs.Fold.{fold_tree}
+use Rattle.judge.specs.Verdicts.{joined, filter_says}
+use Rattle.deciding.specs.Deciding.{outer_tests, outer_count, verdicts, says_by, cells}
 use Rattle.deciding.specs.Marks.{deciding, explanation}
 
 -- ---- how many
 
-pub tests-counted : (f : Tree) → length (outerTests f) ≡ outerCount f
-unfolding outerTests outerCount
-tests-counted (test t) = refl
-tests-counted (bracketed p b f t) = refl
-tests-counted (join c f g) = omega (arith, length-append (outerTests f) (outerTests g), tests-counted f, tests-counted g)
-tests-counted (negation f) = tests-counted f
+pub tests_counted : (f : Tree) → length (outer_tests f) ≡ outer_count f
+unfolding outer_tests outer_count
+tests_counted (test t) = refl
+tests_counted (bracketed p b f t) = refl
+tests_counted (join c f g) = omega (arith, length-append (outer_tests f) (outer_tests g), tests_counted f, tests_counted g)
+tests_counted (negation f) = tests_counted f
 
-pub some_tests : (f : Tree) → 0 < outerCount f
-unfolding outerCount
+pub some_tests : (f : Tree) → 0 < outer_count f
+unfolding outer_count
 some_tests (test t) = omega arith
 some_tests (bracketed p b f t) = omega arith
 some_tests (join c f g) = omega (arith, some_tests f)
@@ -42,9 +42,9 @@ same-verdicts : (says other : Tree → Bool) (ts : List Tree) → All (λ (t : T
 same-verdicts says other [] h = refl
 same-verdicts says other (t ∷ ts) (all_cons h hs) = ap₂ (λ (b : Bool) (l : List Bool). b ∷ l) h (same-verdicts says other ts hs)
 
-pub explanation-same : (says other : Tree → Bool) (f : Tree) → All (λ (t : Tree). says t ≡ other t) (outerTests f) → explanation says f ≡ explanation other f
+pub explanation-same : (says other : Tree → Bool) (f : Tree) → All (λ (t : Tree). says t ≡ other t) (outer_tests f) → explanation says f ≡ explanation other f
 unfolding explanation
-explanation-same says other f h = ap (λ (l : List Bool). cells (λ i. get_or l i false) (deciding f (λ i. get_or l i false)) 0 (outerCount f)) (same-verdicts says other (outerTests f) h)
+explanation-same says other f h = ap (λ (l : List Bool). cells (λ i. get_or l i false) (deciding f (λ i. get_or l i false)) 0 (outer_count f)) (same-verdicts says other (outer_tests f) h)
 
 -- ---- what the filter says, by its tests' numbers
 
@@ -58,30 +58,30 @@ get_d_after (x ∷ xs) ys n j e = let z : n + j ≡ suc (length xs + j) = omega 
 
 module _ (ps : List Parameter) (c : ℕ) (es : List Entry) where
   abbrev says : Tree → Bool
-  says = filterSays ps c es
+  says = filter_says ps c es
 
   -- where u says from i on what the tests say
-  says-tests : (f : Tree) (u : ℕ → Bool) (i : ℕ) → ((j : ℕ) → j < outerCount f → u (i + j) ≡ verdicts says f j) → saysBy u i f ≡ says f
-  unfolding outerCount outerTests saysBy filterSays foldTree
-  says-tests (test t) u i h = let z : i ≡ i + 0 = omega arith in ap u z ∙ h 0 (omega arith)
-  says-tests (bracketed p b f t) u i h = let z : i ≡ i + 0 = omega arith in ap u z ∙ h 0 (omega arith)
-  says-tests (join k f g) u i h =
-      ap₂ (joined k) (says-tests f u i (λ j b. h j (omega arith) ∙ left j b))
-      (says-tests g u (i + outerCount f) (λ j b. let z : i + outerCount f + j ≡ i + (outerCount f + j) = omega arith in ap u z ∙ h (outerCount f + j) (omega arith) ∙ right j))
+  says_tests : (f : Tree) (u : ℕ → Bool) (i : ℕ) → ((j : ℕ) → j < outer_count f → u (i + j) ≡ verdicts says f j) → says_by u i f ≡ says f
+  unfolding outer_count outer_tests says_by filter_says fold_tree
+  says_tests (test t) u i h = let z : i ≡ i + 0 = omega arith in ap u z ∙ h 0 (omega arith)
+  says_tests (bracketed p b f t) u i h = let z : i ≡ i + 0 = omega arith in ap u z ∙ h 0 (omega arith)
+  says_tests (join k f g) u i h =
+      ap₂ (joined k) (says_tests f u i (λ j b. h j (omega arith) ∙ left j b))
+      (says_tests g u (i + outer_count f) (λ j b. let z : i + outer_count f + j ≡ i + (outer_count f + j) = omega arith in ap u z ∙ h (outer_count f + j) (omega arith) ∙ right j))
     where
-      split : map says (outerTests f ++ outerTests g) ≡ map says (outerTests f) ++ map says (outerTests g)
-      split = map-append says (outerTests f) (outerTests g)
+      split : map says (outer_tests f ++ outer_tests g) ≡ map says (outer_tests f) ++ map says (outer_tests g)
+      split = map-append says (outer_tests f) (outer_tests g)
 
-      size : length (map says (outerTests f)) ≡ outerCount f
-      size = length-map (outerTests f) says ∙ tests-counted f
+      size : length (map says (outer_tests f)) ≡ outer_count f
+      size = length-map (outer_tests f) says ∙ tests_counted f
 
-      left : (j : ℕ) → j < outerCount f → verdicts says (join k f g) j ≡ verdicts says f j
-      left j b = ap (λ (x : List Bool). get_or x j false) split ∙ get_or-append (map says (outerTests f)) (map says (outerTests g)) false j (omega (arith, size))
+      left : (j : ℕ) → j < outer_count f → verdicts says (join k f g) j ≡ verdicts says f j
+      left j b = ap (λ (x : List Bool). get_or x j false) split ∙ get_or-append (map says (outer_tests f)) (map says (outer_tests g)) false j (omega (arith, size))
 
-      right : (j : ℕ) → verdicts says (join k f g) (outerCount f + j) ≡ verdicts says g j
-      right j = ap (λ (x : List Bool). get_or x (outerCount f + j) false) split ∙ get_d_after (map says (outerTests f)) (map says (outerTests g)) (outerCount f) j (sym size)
-  says-tests (negation f) u i h = ap not (says-tests f u i h)
+      right : (j : ℕ) → verdicts says (join k f g) (outer_count f + j) ≡ verdicts says g j
+      right j = ap (λ (x : List Bool). get_or x (outer_count f + j) false) split ∙ get_d_after (map says (outer_tests f)) (map says (outer_tests g)) (outer_count f) j (sym size)
+  says_tests (negation f) u i h = ap not (says_tests f u i h)
 
   -- the filter's verdict
-  pub says-by-verdicts : (f : Tree) → saysBy (verdicts says f) 0 f ≡ says f
-  says-by-verdicts f = says-tests f (verdicts says f) 0 (λ j b. let z : 0 + j ≡ j = omega arith in ap (verdicts says f) z)
+  pub says_by_verdicts : (f : Tree) → says_by (verdicts says f) 0 f ≡ says f
+  says_by_verdicts f = says_tests f (verdicts says f) 0 (λ j b. let z : 0 + j ≡ j = omega arith in ap (verdicts says f) z)

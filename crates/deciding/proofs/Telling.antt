@@ -12,7 +12,7 @@ use lib.ListN.{length, get_or, set, take, drop, length-set, get_or-append}
 use lib.Seq.{get_or-set_same, get_or-set_other, length-take-le}
 use borrow.Author.Tests.{ltb-true, ltb-false}
 use Rattle.base.proofs.Tests.{decided}
-use Rattle.card.specs.Card.{Entry, entriesOf}
+use Rattle.card.specs.Card.{Entry, entries_of}
 use mir.Syntax.{w64}
 use mir.Val.{Fits}
 use Rattle.base.specs.Parts.{part}
@@ -20,91 +20,91 @@ use Rattle.syntax.specs.declared.Connective.{Connective}
 use Rattle.judge.specs.Sets.{chosen_of}
 use Rattle.judge.proofs.Entries.{every, chosen-every}
 use Rattle.rows.specs.Expression.{Expression, joining, negating}
-use Rattle.rows.specs.Cells.{row_of, nextRow, onFrom, stated}
+use Rattle.rows.specs.Cells.{row_of, next_row, on_from, stated}
 use Rattle.rows.specs.Stated.{tree_of}
 use Rattle.rows.specs.declared.Probe.{Probe}
 use Rattle.rows.specs.declared.Row.{Row}
 use Rattle.rows.proofs.Stating.{then_some}
-use Rattle.row_judge.specs.Saying.{expressionSays, statedSays, rowsSay, Whole}
-use Rattle.deciding.specs.Deciding.{outerCount, cell}
-use Rattle.deciding.specs.Rows.{outline, outerVerdicts, Single, single-test, single-bracket, Reading, Starts, Judgeable, Markable, Gathering, Gathers, Tells}
+use Rattle.row_judge.specs.Saying.{expression_says, stated_says, rows_say, Whole}
+use Rattle.deciding.specs.Deciding.{outer_count, cell}
+use Rattle.deciding.specs.Rows.{outline, outer_verdicts, Single, single_test, single_bracket, Reading, Starts, Judgeable, Markable, Gathering, Gathers, Tells}
 use Rattle.deciding.proofs.Numbered.{get_d_after}
-use Rattle.deciding.proofs.Outer.{outer-tests, verdicts-size}
-use Rattle.deciding.proofs.Marking.{single-count}
-use Rattle.deciding.proofs.Parting.{part-states, part-whole, all-states, no_test, no-bracket, no-unknown, reading-not, second-room, second-whole, second-size, reading-join}
+use Rattle.deciding.proofs.Outer.{outer_tests_lem, verdicts-size}
+use Rattle.deciding.proofs.Marking.{single_count}
+use Rattle.deciding.proofs.Parting.{part_states, part-whole, all_states, no_test, no_bracket, no_unknown, reading_not, second_room, second-whole, second-size, reading-join}
 
 -- ---- what rows say
 
-module _ (kinds xs : List ℕ) (es : List Entry) (rows : List ℕ) (says : Bool) (h : says ≡ rowsSay kinds xs (chosen_of every es) rows) where
-  said : says ≡ rowsSay kinds xs es rows
-  said = h ∙ ap (λ (l : List Entry). rowsSay kinds xs l rows) (chosen-every es)
+module _ (kinds xs : List ℕ) (es : List Entry) (rows : List ℕ) (says : Bool) (h : says ≡ rows_say kinds xs (chosen_of every es) rows) where
+  said : says ≡ rows_say kinds xs es rows
+  said = h ∙ ap (λ (l : List Entry). rows_say kinds xs l rows) (chosen-every es)
 
-  pub verdict-yes : says ≡ true → 1 ≡ cell true (rowsSay kinds xs es rows)
-  verdict-yes e = ap (cell true) (sym e ∙ said)
+  pub verdict_yes : says ≡ true → 1 ≡ cell true (rows_say kinds xs es rows)
+  verdict_yes e = ap (cell true) (sym e ∙ said)
 
-  pub verdict-no : says ≡ false → 2 ≡ cell true (rowsSay kinds xs es rows)
-  verdict-no e = ap (cell true) (sym e ∙ said)
+  pub verdict_no : says ≡ false → 2 ≡ cell true (rows_say kinds xs es rows)
+  verdict_no e = ap (cell true) (sym e ∙ said)
 
 -- ---- from left to right
 
 -- what is in hand is part of what is stated, so that it has no more tests
-on-grows : (inner : List ℕ → Option Expression) (n : ℕ) (e : Expression) (cs : List ℕ) (g : Expression) → onFrom inner n e cs ≡ some g → outerCount (outline e) ≤ outerCount (outline g)
-unfolding onFrom tree_of outerCount
-on-grows inner zero e [] g h = let same : e ≡ g = some-injective _ _ h in subst (λ (x : Expression). outerCount (outline e) ≤ outerCount (outline x)) same (omega arith)
-on-grows inner (suc n) e [] g h = absurd (none-ne-some _ h)
-on-grows inner zero e (x ∷ cs) g h = by_row (row_of x) (λ n f i. on-grows inner n f cs g i) h
+on_grows : (inner : List ℕ → Option Expression) (n : ℕ) (e : Expression) (cs : List ℕ) (g : Expression) → on_from inner n e cs ≡ some g → outer_count (outline e) ≤ outer_count (outline g)
+unfolding on_from tree_of outer_count
+on_grows inner zero e [] g h = let same : e ≡ g = some-injective _ _ h in subst (λ (x : Expression). outer_count (outline e) ≤ outer_count (outline x)) same (omega arith)
+on_grows inner (suc n) e [] g h = absurd (none-ne-some _ h)
+on_grows inner zero e (x ∷ cs) g h = by_row (row_of x) (λ n f i. on_grows inner n f cs g i) h
   where
-    by_row : (r : Row) → ((n : ℕ) (f : Expression) → onFrom inner n f cs ≡ some g → outerCount (outline f) ≤ outerCount (outline g)) → nextRow (λ n f. onFrom inner n f cs) inner e cs r ≡ some g
-        → outerCount (outline e) ≤ outerCount (outline g)
+    by_row : (r : Row) → ((n : ℕ) (f : Expression) → on_from inner n f cs ≡ some g → outer_count (outline f) ≤ outer_count (outline g)) → next_row (λ n f. on_from inner n f cs) inner e cs r ≡ some g
+        → outer_count (outline e) ≤ outer_count (outline g)
     by_row (Row.Test p) s i = absurd (none-ne-some _ i)
     by_row (Row.Bracket n) s i = absurd (none-ne-some _ i)
     by_row Row.Not s i = s 0 (negating e) i
-    by_row (Row.Connect k n) s i = let t = then_some (inner (take n cs)) (λ f. onFrom inner n (joining k e f) cs) g i in omega (arith, s n (joining k e t.expression) t.then_is)
+    by_row (Row.Connect k n) s i = let t = then_some (inner (take n cs)) (λ f. on_from inner n (joining k e f) cs) g i in omega (arith, s n (joining k e t.expression) t.then_is)
     by_row Row.Unknown s i = absurd (none-ne-some _ i)
-on-grows inner (suc n) e (x ∷ cs) g h = on-grows inner n e cs g h
+on_grows inner (suc n) e (x ∷ cs) g h = on_grows inner n e cs g h
 
 -- what is gathered behind the first test stands behind what was there before it
 module _ (kinds xs : List ℕ) (es : List Entry) (rows : List ℕ) (first next v : ℕ) (marks after : List ℕ) (g : Gathers kinds xs es rows first next (set marks first v) after) where
-  pub gathered-size : length after ≡ length marks
-  gathered-size = g.size ∙ length-set marks first v
+  pub gathered_size : length after ≡ length marks
+  gathered_size = g.size ∙ length-set marks first v
 
-  pub gathered-from : Gathers kinds xs es rows first next marks after
-  gathered-from =
+  pub gathered_from : Gathers kinds xs es rows first next marks after
+  gathered_from =
       record {
         count = g.count;
         verdicts = g.verdicts;
         below = λ j k. g.below j k ∙ get_or-set_other marks first j v 0 (λ z. omega (arith, k, z));
-        size = gathered-size;
+        size = gathered_size;
       }
 
-single-verdicts : (kinds xs : List ℕ) (es : List Entry) {e : Expression} → Single e → outerVerdicts kinds xs es e ≡ expressionSays kinds xs es e ∷ []
-unfolding outerVerdicts
-single-verdicts kinds xs es single-test = refl
-single-verdicts kinds xs es single-bracket = refl
+single_verdicts : (kinds xs : List ℕ) (es : List Entry) {e : Expression} → Single e → outer_verdicts kinds xs es e ≡ expression_says kinds xs es e ∷ []
+unfolding outer_verdicts
+single_verdicts kinds xs es single_test = refl
+single_verdicts kinds xs es single_bracket = refl
 
 module _ (rows : List ℕ) (first : ℕ) (marks : List ℕ) (m : Markable rows first marks) where
-  pub room-here : first < length marks
-  room-here = omega (arith, m.room.each m.whole.expression m.whole.states, (outer-tests m.whole.expression).0, m.size)
+  pub room_here : first < length marks
+  room_here = omega (arith, m.room.each m.whole.expression m.whole.states, (outer_tests_lem m.whole.expression).0, m.size)
 
   -- what is in hand has room
-  in-room : (at : ℕ) (e : Expression) → Reading rows at e → first + outerCount (outline e) ≤ 32
-  in-room at e s =
-      omega (arith, m.room.each m.whole.expression m.whole.states, on-grows stated 0 e (drop at rows) m.whole.expression (sym s.rest ∙ m.whole.states))
+  in_room : (at : ℕ) (e : Expression) → Reading rows at e → first + outer_count (outline e) ≤ 32
+  in_room at e s =
+      omega (arith, m.room.each m.whole.expression m.whole.states, on_grows stated 0 e (drop at rows) m.whole.expression (sym s.rest ∙ m.whole.states))
 
   module _ (at : ℕ) (s : Starts rows at) where
     pub first-whole : Whole (take at rows)
     first-whole = part-whole m.whole at s.expression s.reading
 
-    pub first-few : length (take at rows) ≤ 320
-    first-few = omega (arith, length-take-le at rows s.reading.within, s.reading.within, m.few)
+    pub first_few : length (take at rows) ≤ 320
+    first_few = omega (arith, length-take-le at rows s.reading.within, s.reading.within, m.few)
 
-    pub gathering-start : (kinds xs : List ℕ) (es : List Entry) (v : ℕ) → v ≡ cell true (rowsSay kinds xs es (take at rows))
+    pub gathering_start : (kinds xs : List ℕ) (es : List Entry) (v : ℕ) → v ≡ cell true (rows_say kinds xs es (take at rows))
         → Gathering kinds xs es rows first at (first + 1) (set marks first v) (set marks first v)
-    unfolding rowsSay
-    gathering-start kinds xs es v h =
+    unfolding rows_say
+    gathering_start kinds xs es v h =
         let e : Expression = s.expression in
-        let one = single-count s.single in
-        let says : rowsSay kinds xs es (take at rows) ≡ expressionSays kinds xs es e = ap (statedSays kinds xs es) (part-states m.whole at e s.reading) in
+        let one = single_count s.single in
+        let says : rows_say kinds xs es (take at rows) ≡ expression_says kinds xs es e = ap (stated_says kinds xs es) (part_states m.whole at e s.reading) in
         record {
           expression = e;
           reading = s.reading;
@@ -112,8 +112,8 @@ module _ (rows : List ℕ) (first : ℕ) (marks : List ℕ) (m : Markable rows f
           verdicts = λ j k.
               let z : j ≡ 0 = omega (arith, k, one) in
               let same : first + j ≡ first = omega (arith, z) in
-              ap (λ (x : ℕ). get_or (set marks first v) x 0) same ∙ get_or-set_same marks first v 0 room-here ∙ h ∙ ap (cell true) says
-              ∙ sym (ap (λ (x : ℕ). cell true (get_or (outerVerdicts kinds xs es e) x false)) z ∙ ap (λ (bs : List Bool). cell true (get_or bs 0 false)) (single-verdicts kinds xs es s.single));
+              ap (λ (x : ℕ). get_or (set marks first v) x 0) same ∙ get_or-set_same marks first v 0 room_here ∙ h ∙ ap (cell true) says
+              ∙ sym (ap (λ (x : ℕ). cell true (get_or (outer_verdicts kinds xs es e) x false)) z ∙ ap (λ (bs : List Bool). cell true (get_or bs 0 false)) (single_verdicts kinds xs es s.single));
           below = λ j k. refl;
           same_size = refl;
           markable = record { whole = m.whole; few = m.few; room = m.room; size = length-set marks first v ∙ m.size };
@@ -123,38 +123,38 @@ module _ (kinds xs : List ℕ) (es : List Entry) (rows : List ℕ) (first at nex
   abbrev w : Whole rows
   w = g.markable.whole
 
-  pub begun-fits : Fits w64 (first + 1)
-  begun-fits = omega (arith, room-here rows first between g.markable, g.markable.size)
+  pub begun_fits : Fits w64 (first + 1)
+  begun_fits = omega (arith, room_here rows first between g.markable, g.markable.size)
 
-  pub gathering-end : length rows ≤ at → Gathers kinds xs es rows first next before between
-  gathering-end h =
-      let states : stated rows ≡ some g.expression = all-states w at g.expression g.reading h in
+  pub gathering_end : length rows ≤ at → Gathers kinds xs es rows first next before between
+  gathering_end h =
+      let states : stated rows ≡ some g.expression = all_states w at g.expression g.reading h in
       let same : (f : Expression) → stated rows ≡ some f → g.expression ≡ f = λ f i. some-injective _ _ (sym states ∙ i) in
       record {
-        count = λ f i. subst (λ (x : Expression). next ≡ first + outerCount (outline x)) (same f i) g.count;
+        count = λ f i. subst (λ (x : Expression). next ≡ first + outer_count (outline x)) (same f i) g.count;
         verdicts = λ f i.
-            subst (λ (x : Expression). (k : ℕ) → k < outerCount (outline x) → get_or between (first + k) 0 ≡ cell true (get_or (outerVerdicts kinds xs es x) k false)) (same f i) g.verdicts;
+            subst (λ (x : Expression). (k : ℕ) → k < outer_count (outline x) → get_or between (first + k) 0 ≡ cell true (get_or (outer_verdicts kinds xs es x) k false)) (same f i) g.verdicts;
         below = g.below;
         size = g.same_size;
       }
 
   module _ (l : at < length rows) (r : Row) (i : r ≡ row_of (get_or rows at 0)) where
     -- rows that nothing joins are not there
-    pub gathering-test : (p : Probe) → r ≡ Row.Test p → Gathers kinds xs es rows first next before between
-    gathering-test p j = no_test w at g.expression g.reading l r i p j
+    pub gathering_test : (p : Probe) → r ≡ Row.Test p → Gathers kinds xs es rows first next before between
+    gathering_test p j = no_test w at g.expression g.reading l r i p j
 
-    pub gathering-bracket : (n : ℕ) → r ≡ Row.Bracket n → Gathers kinds xs es rows first next before between
-    gathering-bracket n j = no-bracket w at g.expression g.reading l r i n j
+    pub gathering_bracket : (n : ℕ) → r ≡ Row.Bracket n → Gathers kinds xs es rows first next before between
+    gathering_bracket n j = no_bracket w at g.expression g.reading l r i n j
 
-    pub gathering-unknown : r ≡ Row.Unknown → Gathers kinds xs es rows first next before between
-    gathering-unknown j = no-unknown w at g.expression g.reading l r i j
+    pub gathering_unknown : r ≡ Row.Unknown → Gathers kinds xs es rows first next before between
+    gathering_unknown j = no_unknown w at g.expression g.reading l r i j
 
-    pub gathering-not : r ≡ Row.Not → Gathering kinds xs es rows first (at + 1) next before between
-    unfolding tree_of outerCount outerVerdicts
-    gathering-not j =
+    pub gathering_not : r ≡ Row.Not → Gathering kinds xs es rows first (at + 1) next before between
+    unfolding tree_of outer_count outer_verdicts
+    gathering_not j =
         record {
           expression = negating g.expression;
-          reading = reading-not w at g.expression g.reading l r i j;
+          reading = reading_not w at g.expression g.reading l r i j;
           count = g.count;
           verdicts = g.verdicts;
           below = g.below;
@@ -163,37 +163,37 @@ module _ (kinds xs : List ℕ) (es : List Entry) (rows : List ℕ) (first at nex
         }
 
     module _ (c : Connective) (s : ℕ) (j : r ≡ Row.Connect c s) where
-      abbrev second-part : List ℕ
-      second-part = part rows (at + 1) (at + 1 + s)
+      abbrev second_part : List ℕ
+      second_part = part rows (at + 1) (at + 1 + s)
 
-      abbrev second : Whole second-part
+      abbrev second : Whole second_part
       second = second-whole w at g.expression g.reading l r i c s j
 
-      pub gathering-room : at + 1 + s ≤ length rows
-      gathering-room = second-room w at g.expression g.reading l r i c s j
+      pub gathering_room : at + 1 + s ≤ length rows
+      gathering_room = second_room w at g.expression g.reading l r i c s j
 
-      pub gathering-fits : Fits w64 (at + 1 + s)
-      gathering-fits = omega (arith, gathering-room, g.markable.few)
+      pub gathering_fits : Fits w64 (at + 1 + s)
+      gathering_fits = omega (arith, gathering_room, g.markable.few)
 
-      pub gathering-falls : (t : ℕ) → 2 * length rows ≡ t → 2 * length second-part + 1 < t
-      gathering-falls t e = omega (arith, gathering-room, second-size w at g.expression g.reading l r i c s j)
+      pub gathering_falls : (t : ℕ) → 2 * length rows ≡ t → 2 * length second_part + 1 < t
+      gathering_falls t e = omega (arith, gathering_room, second-size w at g.expression g.reading l r i c s j)
 
-      pub gathering-second : Markable second-part next between
-      unfolding tree_of outerCount
-      gathering-second =
-          let all = in-room rows first between g.markable (at + 1 + s) (joining c g.expression second.expression) (reading-join w at g.expression g.reading l r i c s j) in
+      pub gathering_second : Markable second_part next between
+      unfolding tree_of outer_count
+      gathering_second =
+          let all = in_room rows first between g.markable (at + 1 + s) (joining c g.expression second.expression) (reading-join w at g.expression g.reading l r i c s j) in
           record {
             whole = second;
-            few = omega (arith, gathering-room, g.markable.few, second-size w at g.expression g.reading l r i c s j);
+            few = omega (arith, gathering_room, g.markable.few, second-size w at g.expression g.reading l r i c s j);
             room = record {
-              each = λ h k. subst (λ (x : Expression). next + outerCount (outline x) ≤ 32) (some-injective _ _ (sym second.states ∙ k)) (omega (arith, g.count, all));
+              each = λ h k. subst (λ (x : Expression). next + outer_count (outline x) ≤ 32) (some-injective _ _ (sym second.states ∙ k)) (omega (arith, g.count, all));
             };
             size = g.markable.size;
           }
 
-      pub gathering-join : (last : ℕ) (after : List ℕ) → Gathers kinds xs es second-part next last between after → Gathering kinds xs es rows first (at + 1 + s) last before after
-      unfolding tree_of outerCount outerVerdicts
-      gathering-join last after h =
+      pub gathering_join : (last : ℕ) (after : List ℕ) → Gathers kinds xs es second_part next last between after → Gathering kinds xs es rows first (at + 1 + s) last before after
+      unfolding tree_of outer_count outer_verdicts
+      gathering_join last after h =
           let f = second in
           record {
             expression = joining c g.expression f.expression;
@@ -205,40 +205,40 @@ module _ (kinds xs : List ℕ) (es : List Entry) (rows : List ℕ) (first at nex
             markable = record { whole = w; few = g.markable.few; room = g.markable.room; size = h.size ∙ g.markable.size };
           }
         where
-          at_place : (a b : Expression) → next ≡ first + outerCount (outline a) → ((k : ℕ) → k < outerCount (outline a)
-              → get_or between (first + k) 0 ≡ cell true (get_or (outerVerdicts kinds xs es a) k false))
-              → ((k : ℕ) → k < outerCount (outline b) → get_or after (next + k) 0 ≡ cell true (get_or (outerVerdicts kinds xs es b) k false)) → (k : ℕ)
-              → k < outerCount (outline a) + outerCount (outline b)
-              → get_or after (first + k) 0 ≡ cell true (get_or (outerVerdicts kinds xs es a ++ outerVerdicts kinds xs es b) k false)
-          at_place a b n p q k z = ⊎_elim (λ y. earlier (ltb-true k (outerCount (outline a)) y)) (λ y. later (ltb-false k (outerCount (outline a)) y)) (decided (ltb k (outerCount (outline a))))
+          at_place : (a b : Expression) → next ≡ first + outer_count (outline a) → ((k : ℕ) → k < outer_count (outline a)
+              → get_or between (first + k) 0 ≡ cell true (get_or (outer_verdicts kinds xs es a) k false))
+              → ((k : ℕ) → k < outer_count (outline b) → get_or after (next + k) 0 ≡ cell true (get_or (outer_verdicts kinds xs es b) k false)) → (k : ℕ)
+              → k < outer_count (outline a) + outer_count (outline b)
+              → get_or after (first + k) 0 ≡ cell true (get_or (outer_verdicts kinds xs es a ++ outer_verdicts kinds xs es b) k false)
+          at_place a b n p q k z = ⊎_elim (λ y. earlier (ltb-true k (outer_count (outline a)) y)) (λ y. later (ltb-false k (outer_count (outline a)) y)) (decided (ltb k (outer_count (outline a))))
             where
               va : List Bool
-              va = outerVerdicts kinds xs es a
+              va = outer_verdicts kinds xs es a
 
               vb : List Bool
-              vb = outerVerdicts kinds xs es b
+              vb = outer_verdicts kinds xs es b
 
-              earlier : k < outerCount (outline a) → get_or after (first + k) 0 ≡ cell true (get_or (va ++ vb) k false)
+              earlier : k < outer_count (outline a) → get_or after (first + k) 0 ≡ cell true (get_or (va ++ vb) k false)
               earlier y =
                   h.below (first + k) (omega (arith, y, n)) ∙ p k y
                   ∙ ap (cell true) (sym (get_or-append va vb false k (omega (arith, y, verdicts-size kinds xs es a))))
 
-              later : outerCount (outline a) ≤ k → get_or after (first + k) 0 ≡ cell true (get_or (va ++ vb) k false)
+              later : outer_count (outline a) ≤ k → get_or after (first + k) 0 ≡ cell true (get_or (va ++ vb) k false)
               later y =
-                  let d : ℕ = k - outerCount (outline a) in
+                  let d : ℕ = k - outer_count (outline a) in
                   let place : first + k ≡ next + d = omega (arith, y, n) in
-                  let shift : k ≡ outerCount (outline a) + d = omega (arith, y) in
+                  let shift : k ≡ outer_count (outline a) + d = omega (arith, y) in
                   ap (λ (x : ℕ). get_or after x 0) place ∙ q d (omega (arith, y, z))
-                  ∙ sym (ap (λ (x : ℕ). cell true (get_or (va ++ vb) x false)) shift ∙ ap (cell true) (get_d_after va vb (outerCount (outline a)) d (sym (verdicts-size kinds xs es a))))
+                  ∙ sym (ap (λ (x : ℕ). cell true (get_or (va ++ vb) x false)) shift ∙ ap (cell true) (get_d_after va vb (outer_count (outline a)) d (sym (verdicts-size kinds xs es a))))
 
 -- the loop's invariant, with what a call needs of the card
 pub record Going (kinds xs card rows : List ℕ) (first at next : ℕ) (before after : List ℕ) : Type 0 where
   pub ready : Judgeable kinds xs card
-  pub gathering : Gathering kinds xs (entriesOf card) rows first at next before after
+  pub gathering : Gathering kinds xs (entries_of card) rows first at next before after
 
-pub gathered-all : (kinds xs : List ℕ) (es : List Entry) (rows : List ℕ) (tests : ℕ) (before after : List ℕ) → Gathers kinds xs es rows 0 tests before after → length before ≡ 32
+pub gathered_all : (kinds xs : List ℕ) (es : List Entry) (rows : List ℕ) (tests : ℕ) (before after : List ℕ) → Gathers kinds xs es rows 0 tests before after → length before ≡ 32
     → Tells kinds xs es rows tests after
-gathered-all kinds xs es rows tests before after g h =
+gathered_all kinds xs es rows tests before after g h =
     record {
       count = λ e i. g.count e i ∙ (omega arith);
       verdicts = λ e i j l.

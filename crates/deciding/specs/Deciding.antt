@@ -8,35 +8,35 @@ use Rattle.judge.specs.Verdicts.{joined}
 -- ---- the tests that count
 
 -- each as a filter of its own: a test, or the test of a member with its brackets
-unfoldable pub outerTests : Tree → List Tree
-outerTests (test t) = test t ∷ []
-outerTests (bracketed p b f t) = bracketed p b f t ∷ []
-outerTests (join c f g) = outerTests f ++ outerTests g
-outerTests (negation f) = outerTests f
+unfoldable pub outer_tests : Tree → List Tree
+outer_tests (test t) = test t ∷ []
+outer_tests (bracketed p b f t) = bracketed p b f t ∷ []
+outer_tests (join c f g) = outer_tests f ++ outer_tests g
+outer_tests (negation f) = outer_tests f
 
 -- how many they are
-unfoldable pub outerCount : Tree → ℕ
-outerCount (test t) = 1
-outerCount (bracketed p b f t) = 1
-outerCount (join c f g) = outerCount f + outerCount g
-outerCount (negation f) = outerCount f
+unfoldable pub outer_count : Tree → ℕ
+outer_count (test t) = 1
+outer_count (bracketed p b f t) = 1
+outer_count (join c f g) = outer_count f + outer_count g
+outer_count (negation f) = outer_count f
 
 -- what each says, by its number
 abbrev pub verdicts : (Tree → Bool) → Tree → ℕ → Bool
-verdicts says f i = get_or (map says (outerTests f)) i false
+verdicts says f i = get_or (map says (outer_tests f)) i false
 
 -- what the filter says where its j-th test says v (i + j)
-unfoldable pub saysBy : (ℕ → Bool) → ℕ → Tree → Bool
-saysBy v i (test t) = v i
-saysBy v i (bracketed p b f t) = v i
-saysBy v i (join c f g) = joined c (saysBy v i f) (saysBy v (i + outerCount f) g)
-saysBy v i (negation f) = not (saysBy v i f)
+unfoldable pub says_by : (ℕ → Bool) → ℕ → Tree → Bool
+says_by v i (test t) = v i
+says_by v i (bracketed p b f t) = v i
+says_by v i (join c f g) = joined c (says_by v i f) (says_by v (i + outer_count f) g)
+says_by v i (negation f) = not (says_by v i f)
 
 -- ---- those that decide, where kept says which tests are among them and v what each says
 
 -- "with their verdicts alone the filter's answer stands, no matter what the others say"
 abbrev pub Suffices : Tree → (v kept : ℕ → Bool) → Type 0
-Suffices f v kept = (u : ℕ → Bool) → ((i : ℕ) → i < outerCount f → kept i ≡ true → u i ≡ v i) → saysBy u 0 f ≡ saysBy v 0 f
+Suffices f v kept = (u : ℕ → Bool) → ((i : ℕ) → i < outer_count f → kept i ≡ true → u i ≡ v i) → says_by u 0 f ≡ says_by v 0 f
 
 -- the same tests without the i-th
 abbrev pub without : ℕ → (ℕ → Bool) → ℕ → Bool
@@ -50,9 +50,9 @@ losing i kept j = cond (ltb j i) true (without i kept j)
 pub record Explains (f : Tree) (v kept : ℕ → Bool) : Type 0 where
   pub stands : Suffices f v kept
   -- "none of them can be spared"
-  pub needed : (i : ℕ) → i < outerCount f → kept i ≡ true → Suffices f v (without i kept) → ⊥
+  pub needed : (i : ℕ) → i < outer_count f → kept i ≡ true → Suffices f v (without i kept) → ⊥
   -- "going from the last test to the first and sparing each whose loss lets the answer still stand"
-  pub in-turn : (i : ℕ) → i < outerCount f → (kept i ≡ false) ↔ Suffices f v (losing i kept)
+  pub in_turn : (i : ℕ) → i < outer_count f → (kept i ≡ false) ↔ Suffices f v (losing i kept)
 
 -- ---- the cells
 

@@ -3,7 +3,7 @@
 use Rattle.std.specs.Prelude.{ℕ, zero, suc, ◌+◌, Bool, true, false, cond, List, eqb}
 use Rattle.syntax.specs.Tree.{Tree, test, bracketed, join, negation}
 use Rattle.syntax.specs.declared.Connective.{Connective}
-use Rattle.deciding.specs.Deciding.{outerCount, verdicts, without, cells}
+use Rattle.deciding.specs.Deciding.{outer_count, verdicts, without, cells}
 
 pub data Mark : Type 0 where
   spared yes no : Mark
@@ -29,40 +29,40 @@ opposite no = yes
 abbrev pub either : Mark → Mark → Mark
 either a b = opposite (both (opposite a) (opposite b))
 
-abbrev pub joinedMarks : Connective → Mark → Mark → Mark
-joinedMarks Connective.And a b = both a b
-joinedMarks Connective.Or a b = either a b
+abbrev pub joined_marks : Connective → Mark → Mark → Mark
+joined_marks Connective.And a b = both a b
+joined_marks Connective.Or a b = either a b
 
 -- the mark of the filter where its j-th test has the mark m (i + j)
-unfoldable pub markBy : (ℕ → Mark) → ℕ → Tree → Mark
-markBy m i (test t) = m i
-markBy m i (bracketed p b f t) = m i
-markBy m i (join c f g) = joinedMarks c (markBy m i f) (markBy m (i + outerCount f) g)
-markBy m i (negation f) = opposite (markBy m i f)
+unfoldable pub mark_by : (ℕ → Mark) → ℕ → Tree → Mark
+mark_by m i (test t) = m i
+mark_by m i (bracketed p b f t) = m i
+mark_by m i (join c f g) = joined_marks c (mark_by m i f) (mark_by m (i + outer_count f) g)
+mark_by m i (negation f) = opposite (mark_by m i f)
 
-abbrev pub isDecided : Mark → Bool
-isDecided spared = false
-isDecided yes = true
-isDecided no = true
+abbrev pub is_decided : Mark → Bool
+is_decided spared = false
+is_decided yes = true
+is_decided no = true
 
 abbrev pub masked : (kept v : ℕ → Bool) → ℕ → Mark
 masked kept v i = mark (kept i) (v i)
 
 -- the answer stands
 unfoldable pub suffices : Tree → (v kept : ℕ → Bool) → Bool
-suffices f v kept = isDecided (markBy (masked kept v) 0 f)
+suffices f v kept = is_decided (mark_by (masked kept v) 0 f)
 
 -- the tests below the i-th are still to be tried, the last of them first
-unfoldable pub spareBelow : ℕ → Tree → (v kept : ℕ → Bool) → ℕ → Bool
-spareBelow zero f v kept = kept
-spareBelow (suc i) f v kept = spareBelow i f v (cond (suffices f v (without i kept)) (without i kept) kept)
+unfoldable pub spare_below : ℕ → Tree → (v kept : ℕ → Bool) → ℕ → Bool
+spare_below zero f v kept = kept
+spare_below (suc i) f v kept = spare_below i f v (cond (suffices f v (without i kept)) (without i kept) kept)
 
 unfoldable pub deciding : Tree → (v : ℕ → Bool) → ℕ → Bool
-deciding f v = spareBelow (outerCount f) f v (λ j. true)
+deciding f v = spare_below (outer_count f) f v (λ j. true)
 
 -- the cells of a filter whose tests say `says`
 unfoldable pub explanation : (Tree → Bool) → Tree → List ℕ
-explanation says f = cells (verdicts says f) (deciding f (verdicts says f)) 0 (outerCount f)
+explanation says f = cells (verdicts says f) (deciding f (verdicts says f)) 0 (outer_count f)
 
 -- ---- as numbers
 

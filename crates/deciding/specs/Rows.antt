@@ -2,17 +2,17 @@
 -- Assumes nothing.
 use Rattle.std.specs.Prelude.{ℕ, ◌+◌, ◌≤◌, ◌<◌, ◌≡◌, Bool, true, false, List, [], ◌∷◌, ◌++◌, length, get_or, take, drop}
 use Rattle.std.proofs.Math.Option.{some}
-use Rattle.card.specs.Card.{Entry, entriesOf, readCard}
+use Rattle.card.specs.Card.{Entry, entries_of, read_card}
 use Rattle.syntax.specs.Tree.{Tree}
 use Rattle.rows.specs.Expression.{Expression, probing, choosing, joining, negating}
-use Rattle.rows.specs.Cells.{Writable, onFrom, stated}
+use Rattle.rows.specs.Cells.{Writable, on_from, stated}
 use Rattle.rows.specs.declared.Probe.{Probe}
 use Rattle.block.specs.declared.Validity.{Validity}
-use Rattle.judge.specs.Sets.{conformsTo}
-use Rattle.row_judge.specs.Saying.{expressionSays, Whole}
+use Rattle.judge.specs.Sets.{conforms_to}
+use Rattle.row_judge.specs.Saying.{expression_says, Whole}
 use Rattle.rows.specs.Stated.{tree_of}
-use Rattle.deciding.specs.Deciding.{outerCount, cell, cells}
-use Rattle.deciding.specs.Marks.{Mark, markBy, mark_of, deciding}
+use Rattle.deciding.specs.Deciding.{outer_count, cell, cells}
+use Rattle.deciding.specs.Marks.{Mark, mark_by, mark_of, deciding}
 use Rattle.deciding.specs.declared.Marked.{Marked}
 
 -- the tree that an expression states, with no names: which tests decide goes by joins, negations and brackets alone
@@ -20,33 +20,33 @@ abbrev pub outline : Expression → Tree
 outline = tree_of [] []
 
 -- what each of its tests says, one after brackets with them
-unfoldable pub outerVerdicts : List ℕ → List ℕ → List Entry → Expression → List Bool
-outerVerdicts kinds xs es (probing p) = expressionSays kinds xs es (probing p) ∷ []
-outerVerdicts kinds xs es (choosing e p) = expressionSays kinds xs es (choosing e p) ∷ []
-outerVerdicts kinds xs es (joining k e f) = outerVerdicts kinds xs es e ++ outerVerdicts kinds xs es f
-outerVerdicts kinds xs es (negating e) = outerVerdicts kinds xs es e
+unfoldable pub outer_verdicts : List ℕ → List ℕ → List Entry → Expression → List Bool
+outer_verdicts kinds xs es (probing p) = expression_says kinds xs es (probing p) ∷ []
+outer_verdicts kinds xs es (choosing e p) = expression_says kinds xs es (choosing e p) ∷ []
+outer_verdicts kinds xs es (joining k e f) = outer_verdicts kinds xs es e ++ outer_verdicts kinds xs es f
+outer_verdicts kinds xs es (negating e) = outer_verdicts kinds xs es e
 
 -- the marks in a list, by their numbers
-abbrev pub marksIn : List ℕ → ℕ → Mark
-marksIn marks j = mark_of (get_or marks j 0)
+abbrev pub marks_in : List ℕ → ℕ → Mark
+marks_in marks j = mark_of (get_or marks j 0)
 
 -- one test, alone or after brackets
 pub data Single : Expression → Type 0 where
-  single-test : {p : Probe} → Single (probing p)
-  single-bracket : {e : Expression} {p : Probe} → Single (choosing e p)
+  single_test : {p : Probe} → Single (probing p)
+  single_bracket : {e : Expression} {p : Probe} → Single (choosing e p)
 
 -- an expression that is in hand before the row at
 pub record Reading (rows : List ℕ) (at : ℕ) (e : Expression) : Type 0 where
   pub within : at ≤ length rows
   pub writable : Writable e
-  pub rest : stated rows ≡ onFrom stated 0 e (drop at rows)
+  pub rest : stated rows ≡ on_from stated 0 e (drop at rows)
 
 -- the first test is read, with its brackets
 pub record Starts (rows : List ℕ) (at : ℕ) : Type 0 where
   pub expression : Expression
   pub single : Single expression
   pub reading : Reading rows at expression
-  pub some-rows : 1 ≤ at
+  pub some_rows : 1 ≤ at
 
 -- rows that state an expression, and few enough to number their tests from first on
 pub record FewRows (rows : List ℕ) (first : ℕ) : Type 0 where
@@ -55,24 +55,24 @@ pub record FewRows (rows : List ℕ) (first : ℕ) : Type 0 where
 
 -- the mark of what the rows state, where the first of their tests has the number first, and the number of the test behind them
 pub record MarksFrom (rows marks : List ℕ) (first : ℕ) (r : Marked) : Type 0 where
-  pub whole : (e : Expression) → stated rows ≡ some e → mark_of r.mark ≡ markBy (marksIn marks) first (outline e)
-  pub next : (e : Expression) → stated rows ≡ some e → r.next ≡ first + outerCount (outline e)
+  pub whole : (e : Expression) → stated rows ≡ some e → mark_of r.mark ≡ mark_by (marks_in marks) first (outline e)
+  pub next : (e : Expression) → stated rows ≡ some e → r.next ≡ first + outer_count (outline e)
   pub most : r.next ≤ first + length rows
 
 -- the mark of what the rows state
 pub record MarksWhole (rows marks : List ℕ) (r : ℕ) : Type 0 where
-  pub whole : (e : Expression) → stated rows ≡ some e → mark_of r ≡ markBy (marksIn marks) 0 (outline e)
+  pub whole : (e : Expression) → stated rows ≡ some e → mark_of r ≡ mark_by (marks_in marks) 0 (outline e)
 
 -- the rows state few enough tests for a list of n, from the number first on
 pub record Room (rows : List ℕ) (first n : ℕ) : Type 0 where
-  pub each : (e : Expression) → stated rows ≡ some e → first + outerCount (outline e) ≤ n
+  pub each : (e : Expression) → stated rows ≡ some e → first + outer_count (outline e) ≤ n
 
 -- rows can be judged on the card
 pub record Judgeable (kinds xs card : List ℕ) : Type 0 where
-  pub each-kind : length kinds ≡ 32
+  pub each_kind : length kinds ≡ 32
   pub short : length xs ≤ 1024
-  pub well-formed : readCard card ≡ Validity.WellFormed
-  pub conforming : conformsTo kinds (entriesOf card) ≡ true
+  pub well_formed : read_card card ≡ Validity.WellFormed
+  pub conforming : conforms_to kinds (entries_of card) ≡ true
 
 -- rows that state an expression, whose tests have room in the list of marks from the number first on
 pub record Markable (rows : List ℕ) (first : ℕ) (marks : List ℕ) : Type 0 where
@@ -85,31 +85,31 @@ pub record Markable (rows : List ℕ) (first : ℕ) (marks : List ℕ) : Type 0 
 pub record Gathering (kinds xs : List ℕ) (es : List Entry) (rows : List ℕ) (first at next : ℕ) (before after : List ℕ) : Type 0 where
   pub expression : Expression
   pub reading : Reading rows at expression
-  pub count : next ≡ first + outerCount (outline expression)
-  pub verdicts : (j : ℕ) → j < outerCount (outline expression) → get_or after (first + j) 0 ≡ cell true (get_or (outerVerdicts kinds xs es expression) j false)
+  pub count : next ≡ first + outer_count (outline expression)
+  pub verdicts : (j : ℕ) → j < outer_count (outline expression) → get_or after (first + j) 0 ≡ cell true (get_or (outer_verdicts kinds xs es expression) j false)
   pub below : (j : ℕ) → j < first → get_or after j 0 ≡ get_or before j 0
   pub same_size : length after ≡ length before
   pub markable : Markable rows first after
 
 -- the first test is marked, which ends before the row at
 abbrev pub FirstMarked : (kinds xs card rows : List ℕ) → (first at : ℕ) → List ℕ → Type 0
-FirstMarked kinds xs card rows first at marks = Gathering kinds xs (entriesOf card) rows first at (first + 1) marks marks
+FirstMarked kinds xs card rows first at marks = Gathering kinds xs (entries_of card) rows first at (first + 1) marks marks
 
 -- the number of the test behind those that the rows state, and in the list, from the number first on, the mark of what each says
 pub record Gathers (kinds xs : List ℕ) (es : List Entry) (rows : List ℕ) (first next : ℕ) (before after : List ℕ) : Type 0 where
-  pub count : (e : Expression) → stated rows ≡ some e → next ≡ first + outerCount (outline e)
-  pub verdicts : (e : Expression) → stated rows ≡ some e → (j : ℕ) → j < outerCount (outline e) → get_or after (first + j) 0 ≡ cell true (get_or (outerVerdicts kinds xs es e) j false)
+  pub count : (e : Expression) → stated rows ≡ some e → next ≡ first + outer_count (outline e)
+  pub verdicts : (e : Expression) → stated rows ≡ some e → (j : ℕ) → j < outer_count (outline e) → get_or after (first + j) 0 ≡ cell true (get_or (outer_verdicts kinds xs es e) j false)
   pub below : (j : ℕ) → j < first → get_or after j 0 ≡ get_or before j 0
   pub size : length after ≡ length before
 
 -- the number of tests that the rows state, and in the list the mark of what each says
 pub record Tells (kinds xs : List ℕ) (es : List Entry) (rows : List ℕ) (tests : ℕ) (marks : List ℕ) : Type 0 where
-  pub count : (e : Expression) → stated rows ≡ some e → tests ≡ outerCount (outline e)
-  pub verdicts : (e : Expression) → stated rows ≡ some e → (j : ℕ) → j < tests → get_or marks j 0 ≡ cell true (get_or (outerVerdicts kinds xs es e) j false)
+  pub count : (e : Expression) → stated rows ≡ some e → tests ≡ outer_count (outline e)
+  pub verdicts : (e : Expression) → stated rows ≡ some e → (j : ℕ) → j < tests → get_or marks j 0 ≡ cell true (get_or (outer_verdicts kinds xs es e) j false)
   pub size : length marks ≡ 32
 
 -- where the list has what each test says, it has the cells at exit
 pub record Spares (rows : List ℕ) (tests : ℕ) (before after : List ℕ) : Type 0 where
-  pub decides : (e : Expression) (v : ℕ → Bool) → stated rows ≡ some e → tests ≡ outerCount (outline e) → ((j : ℕ) → j < tests → get_or before j 0 ≡ cell true (v j))
+  pub decides : (e : Expression) (v : ℕ → Bool) → stated rows ≡ some e → tests ≡ outer_count (outline e) → ((j : ℕ) → j < tests → get_or before j 0 ≡ cell true (v j))
       → take tests after ≡ cells v (deciding (outline e) v) 0 tests
   pub size : length after ≡ length before

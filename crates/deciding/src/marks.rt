@@ -1,7 +1,7 @@
 // Marks of tests, 0 spared, 1 yes and 2 no, and the mark that rows come to with them.
 ghost use Rattle.std.specs.Prelude.{◌≡◌, ◌≤◌, length, get_or};
 ghost use Rattle.row_judge.specs.Saying.{Whole};
-ghost use Rattle.deciding.specs.Marks.{both, opposite, joinedMarks, mark_of};
+ghost use Rattle.deciding.specs.Marks.{both, opposite, joined_marks, mark_of};
 ghost use Rattle.deciding.specs.Rows.{FewRows, Starts, MarksFrom, MarksWhole};
 
 use crate::Marked;
@@ -39,7 +39,7 @@ fn opposite(mark: u8) -> u8
 
 // The mark of two parts that are joined by and or or.
 fn join_marks(connective: Connective, first: u8, second: u8) -> u8
-    ensures { mark_of result ≡ joinedMarks connective (mark_of first) (mark_of second) }
+    ensures { mark_of result ≡ joined_marks connective (mark_of first) (mark_of second) }
 {
     match connective {
         Connective::And => both(first, second),

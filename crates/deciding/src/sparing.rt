@@ -1,14 +1,14 @@
 // Sparing: from the last test to the first, each whose loss lets the answer still stand.
 ghost use Rattle.std.specs.Prelude.{◌≡◌, cond, ◌≤◌, length};
 ghost use Rattle.row_judge.specs.Saying.{Whole};
-ghost use Rattle.deciding.specs.Marks.{mark_of, isDecided};
+ghost use Rattle.deciding.specs.Marks.{mark_of, is_decided};
 ghost use Rattle.deciding.specs.Rows.{Spares};
 
 use crate::marks::mark_of;
 
 // What remains of a test's mark, where the whole has its mark without it: nothing, where that is a yes or a no.
 fn remains(whole: u8, mark: u8) -> u8
-    ensures { result ≡ cond (isDecided (mark_of whole)) 0 mark }
+    ensures { result ≡ cond (is_decided (mark_of whole)) 0 mark }
 {
     if whole == 1 {
         return 0;

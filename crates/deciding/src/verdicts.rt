@@ -1,8 +1,8 @@
 // What the tests that rows state say of a card.
 ghost use Rattle.std.specs.Prelude.{◌≡◌, true, ◌≤◌, length};
-ghost use Rattle.card.specs.Card.{entriesOf, readCard};
-ghost use Rattle.judge.specs.Sets.{conformsTo};
-ghost use Rattle.row_judge.specs.Saying.{rowsSay, Whole};
+ghost use Rattle.card.specs.Card.{entries_of, read_card};
+ghost use Rattle.judge.specs.Sets.{conforms_to};
+ghost use Rattle.row_judge.specs.Saying.{rows_say, Whole};
 ghost use Rattle.deciding.specs.Deciding.{cell};
 ghost use Rattle.deciding.specs.Rows.{Tells, Room, Judgeable, Markable, FirstMarked, Gathers};
 
@@ -17,7 +17,7 @@ fn verdict(kinds: &[u8], filter: &[u8], rows: &[u32], card: &[u8]) -> u8
     requires judgeable { Judgeable kinds.now filter.now card.now }
     requires whole { Whole rows.now }
     requires rows_len_bound { length rows.now ≤ 320 }
-    ensures { result ≡ cell true (rowsSay kinds.now filter.now (entriesOf card.now) rows.now) }
+    ensures { result ≡ cell true (rows_say kinds.now filter.now (entries_of card.now) rows.now) }
 {
     let every = Chosen {
         all: true,
@@ -43,7 +43,7 @@ fn gather_rest(
 ) -> usize
     requires judgeable { Judgeable kinds.now filter.now card.now }
     requires first_marked { FirstMarked kinds.now filter.now card.now rows.now first first_end marks.old }
-    ensures { Gathers kinds.now filter.now (entriesOf card.now) rows.now first result marks.old marks.new }
+    ensures { Gathers kinds.now filter.now (entries_of card.now) rows.now first result marks.old marks.new }
 {
     let mut at = first_end;
     let mut next = first + 1;
@@ -85,7 +85,7 @@ fn gather_from(
 ) -> usize
     requires judgeable { Judgeable kinds.now filter.now card.now }
     requires markable { Markable rows.now first marks.old }
-    ensures { Gathers kinds.now filter.now (entriesOf card.now) rows.now first result marks.old marks.new }
+    ensures { Gathers kinds.now filter.now (entries_of card.now) rows.now first result marks.old marks.new }
 {
     let end = after_first(rows);
     marks[first] = verdict(kinds, filter, &rows[..end], card);
@@ -104,11 +104,11 @@ pub fn gather_verdicts(
     requires filter_len_bound { length filter.now ≤ 1024 }
     requires whole { Whole rows.now }
     requires rows_len_bound { length rows.now ≤ 320 }
-    requires card_value { readCard card.now ≡ Validity.WellFormed }
-    requires card_value_2 { conformsTo kinds.now (entriesOf card.now) ≡ true }
+    requires card_value { read_card card.now ≡ Validity.WellFormed }
+    requires card_value_2 { conforms_to kinds.now (entries_of card.now) ≡ true }
     requires marks_len { length marks.old ≡ 32 }
     requires room { Room rows.now 0 32 }
-    ensures { Tells kinds.now filter.now (entriesOf card.now) rows.now result marks.new }
+    ensures { Tells kinds.now filter.now (entries_of card.now) rows.now result marks.new }
 {
     gather_from(kinds, filter, rows, card, marks, 0)
 }

@@ -18,8 +18,8 @@ abbrev pub lent : List ℕ
 lent = 9 ∷ 9 ∷ 9 ∷ []
 
 -- "0 spared, 1 decides by its yes, 2 decides by its no", "going from the last test to the first"; "later cells stay"
-unfoldable pub explainRows : List Row
-explainRows =
+unfoldable pub explain_rows : List Row
+explain_rows =
     row (ascii "title co book") yes (1 ∷ 9 ∷ 9 ∷ [])
     ∷ row (ascii "pages gt 20") no (2 ∷ 9 ∷ 9 ∷ [])
     ∷ row (ascii "not (title co book)") no (1 ∷ 9 ∷ 9 ∷ [])

@@ -1,5 +1,5 @@
 // Explain, with all that is promised of it. A slice holds bytes, so that nothing is asked of the caller.
-ghost use Rattle.explain.specs.Contracts.{Marks, ExplainsInto, Judged};
+ghost use Rattle.explain.specs.Operations.{Marks, ExplainsInto, Judged};
 
 use base::write_word;
 use deciding::{gather_verdicts, spare};

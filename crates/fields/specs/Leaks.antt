@@ -2,7 +2,7 @@
 -- Assumes nothing.
 use Rattle.std.specs.Prelude.{ℕ, zero, suc, length}
 use mathlib.Core.List.{List, [], ◌++◌, map, Memᴰ}
-use Rattle.base.specs.Kinds.{bundleKind}
+use Rattle.base.specs.Kinds.{bundle_kind}
 use Rattle.base.specs.Lists.{Listed, All}
 use Rattle.sheet.specs.Sheet.{Parameter, parameter}
 use Rattle.card.specs.Card.{Entry, entry}
@@ -26,7 +26,7 @@ AllTextsSay ps es f = FilterSays ps 0 (spread (length ps) es) f
 -- some entry stands under a member of the bundle with the name b
 pub record Occurs (ps : List Parameter) (es : List Entry) (b : List ℕ) : Type 0 where
   pub bundle : ℕ
-  pub is-bundle : Listed ps bundle (parameter bundleKind 0 b)
+  pub is_bundle : Listed ps bundle (parameter bundle_kind 0 b)
   pub index : ℕ
   pub occurrence : ℕ
   pub text : List ℕ
@@ -37,7 +37,7 @@ pub record Occurs (ps : List Parameter) (es : List Entry) (b : List ℕ) : Type 
 
 -- every bundle on the path occurs on the card
 pub data Occurring (ps : List Parameter) (es : List Entry) : Path → Type 0 where
-  no-bundle : {n : List ℕ} → Occurring ps es (name n)
+  no_bundle : {n : List ℕ} → Occurring ps es (name n)
   occurring : {b : List ℕ} {path : Path} → Occurs ps es b → Occurring ps es (member b path)
 
 -- the filter says yes, and every bundle that it names occurs

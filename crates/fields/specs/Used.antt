@@ -6,24 +6,24 @@ use Rattle.base.specs.Lists.{All}
 use Rattle.sheet.specs.Sheet.{Parameter}
 use Rattle.sheet.specs.Encode.{WellFormedSheet}
 use Rattle.card.specs.Card.{Entry, entry}
-use Rattle.syntax.specs.Tree.{Path, name, member, Test, Tree, testsOf}
+use Rattle.syntax.specs.Tree.{Path, name, member, Test, Tree, tests_of}
 use Rattle.syntax.specs.Grammar.{Spells}
 use Rattle.judge.specs.Rules.{Names, Conforms, LacksMeaning}
-use Rattle.query.specs.Spelling.{Alternative, Query, alternativesOf}
+use Rattle.query.specs.Spelling.{Alternative, Query, alternatives_of}
 
 -- ---- names
 
 -- "the names a filter uses": those of its tests; of `b[f].m` the member m of the bundle b and the members that f names, no others
 abbrev pub names_of : Tree → List Path
-names_of f = map (λ (t : Test). t.path) (testsOf f)
+names_of f = map (λ (t : Test). t.path) (tests_of f)
 
 -- and those that a search string uses
-abbrev pub alternativeNames : List Alternative → List Path
-alternativeNames list = map (λ (a : Alternative). name a.name) list
+abbrev pub alternative_names : List Alternative → List Path
+alternative_names list = map (λ (a : Alternative). name a.name) list
 
 -- the names that a search string uses: those of all its alternatives
-abbrev pub queryNames : Query → List Path
-queryNames q = alternativeNames (alternativesOf q)
+abbrev pub query_names : Query → List Path
+query_names q = alternative_names (alternatives_of q)
 
 -- ---- cards
 
@@ -42,7 +42,7 @@ SameOccurrences es es' i = (o : ℕ) (x : List ℕ) → Holds es i o x ↔ Holds
 -- the same texts under what the path names, "bundles and occurrences included"; a path that names nothing asks for nothing
 pub data SameUnder (ps : List Parameter) (es es' : List Entry) : Path → Type 0 where
   same_name : {n : List ℕ} → ((i k : ℕ) → Names ps (name n) i k → SameTexts es es' i) → SameUnder ps es es' (name n)
-  same-member : {b : List ℕ} {path : Path} → ((i k : ℕ) → Names ps (member b path) i k → SameOccurrences es es' i) → SameUnder ps es es' (member b path)
+  same_member : {b : List ℕ} {path : Path} → ((i k : ℕ) → Names ps (member b path) i k → SameOccurrences es es' i) → SameUnder ps es es' (member b path)
 
 -- under each of the names
 abbrev pub Alike : List Parameter → List Path → (es es' : List Entry) → Type 0
@@ -53,7 +53,7 @@ Alike ps paths es es' = All (SameUnder ps es es') paths
 abbrev pub ByNames : (List Parameter → List Entry → Tree → Type 0) → Type 0
 ByNames Says =
     (ps : List Parameter) → WellFormedSheet ps → (card card' : List ℕ) (es es' : List Entry) → Conforms ps card es → Conforms ps card' es'
-    → (f : Tree) → All (λ t. LacksMeaning ps es t → ⊥) (testsOf f) → Alike ps (names_of f) es es' → Says ps es f ↔ Says ps es' f
+    → (f : Tree) → All (λ t. LacksMeaning ps es t → ⊥) (tests_of f) → Alike ps (names_of f) es es' → Says ps es f ↔ Says ps es' f
 
 -- the text is a filter that uses none but these names, or no filter
 abbrev pub UsesOnly : List Path → List ℕ → Type 0

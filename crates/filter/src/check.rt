@@ -1,12 +1,12 @@
 // Reading a filter: its tests are counted, and the first refusal among them is kept.
 ghost use Rattle.std.specs.Prelude.{◌≡◌, Bool, ◌+◌, ◌≤◌, ◌<◌, length};
-ghost use Rattle.sheet.specs.Sheet.{parametersOf, readSheet};
+ghost use Rattle.sheet.specs.Sheet.{parameters_of, read_sheet};
 ghost use Rattle.syntax.specs.Placed.{Placed};
 ghost use Rattle.syntax.specs.Scan.{test_of};
 ghost use Rattle.syntax.specs.Tree.{moved};
 ghost use Rattle.syntax.specs.Grammar.{round};
-ghost use Rattle.syntax.specs.Reader.{item_at, filterAt, bracketAt, chosenAt};
-ghost use Rattle.filter.specs.Folds.{joinSummaries, reading};
+ghost use Rattle.syntax.specs.Reader.{item_at, filter_at, bracket_at, chosen_at};
+ghost use Rattle.filter.specs.Folds.{join_summaries, reading};
 ghost use Rattle.filter.specs.Walks.{answer_of};
 
 use crate::{Spot, Summary, Walked};
@@ -27,10 +27,10 @@ pub fn test_summary(
     position: usize,
     test: RawTest,
 ) -> Summary
-    requires sheet_value { readSheet sheet.now ≡ Validity.WellFormed }
+    requires sheet_value { read_sheet sheet.now ≡ Validity.WellFormed }
     requires filter_len_bound { length filter.now ≤ 1024 }
     requires placed { Placed filter.now test }
-    ensures { result ≡ (reading (parametersOf sheet.now) bundle).one (moved position (test_of filter.now test)) }
+    ensures { result ≡ (reading (parameters_of sheet.now) bundle).one (moved position (test_of filter.now test)) }
 {
     Summary {
         tests: 1,
@@ -41,7 +41,7 @@ pub fn test_summary(
 // What two parts gather together, the first part's refusal before the second's.
 pub fn join_summaries(a: Summary, b: Summary) -> Summary
     requires { a.tests + b.tests ≤ 1024 }
-    ensures { result ≡ joinSummaries a b }
+    ensures { result ≡ join_summaries a b }
 {
     let one = a.first;
     let two = b.first;
@@ -54,11 +54,11 @@ pub fn join_summaries(a: Summary, b: Summary) -> Summary
 // The filter in round brackets at a spot inside them, after not or without.
 #[cycle(check_chosen_check_filter_check_item_check_round)]
 fn check_round(sheet: &[u8], filter: &[u8], spot: Spot) -> Walked
-    requires sheet_value { readSheet sheet.now ≡ Validity.WellFormed }
+    requires sheet_value { read_sheet sheet.now ≡ Validity.WellFormed }
     requires filter_len_bound { length filter.now ≤ 1024 }
     requires at_in_bounds { spot.at ≤ length filter.now }
     requires close_value { spot.close ≡ round }
-    ensures { (negated : Bool) → result ≡ answer_of Walked.Done Walked.Nothing (reading (parametersOf sheet.now) spot.bundle) (bracketAt spot.levels filter.now negated spot.at) }
+    ensures { (negated : Bool) → result ≡ answer_of Walked.Done Walked.Nothing (reading (parameters_of sheet.now) spot.bundle) (bracket_at spot.levels filter.now negated spot.at) }
 {
     let inner = check_filter(sheet, filter, spot);
     let Walked::Done(end, summary) = inner else {
@@ -75,11 +75,11 @@ fn check_round(sheet: &[u8], filter: &[u8], spot: Spot) -> Walked
 // the brackets.
 #[cycle(check_chosen_check_filter_check_item_check_round)]
 fn check_chosen(sheet: &[u8], filter: &[u8], spot: Spot, until: usize) -> Walked
-    requires sheet_value { readSheet sheet.now ≡ Validity.WellFormed }
+    requires sheet_value { read_sheet sheet.now ≡ Validity.WellFormed }
     requires filter_len_bound { length filter.now ≤ 1024 }
     requires at_le_until { spot.at ≤ until }
     requires until_in_bounds { until < length filter.now }
-    ensures { result ≡ answer_of Walked.Done Walked.Nothing (reading (parametersOf sheet.now) spot.bundle) (chosenAt spot.levels filter.now spot.close spot.at until) }
+    ensures { result ≡ answer_of Walked.Done Walked.Nothing (reading (parameters_of sheet.now) spot.bundle) (chosen_at spot.levels filter.now spot.close spot.at until) }
 {
     let at = spot.at;
     let levels = spot.levels;
@@ -111,10 +111,10 @@ fn check_chosen(sheet: &[u8], filter: &[u8], spot: Spot, until: usize) -> Walked
 // after its bundle's brackets.
 #[cycle(check_chosen_check_filter_check_item_check_round)]
 fn check_item(sheet: &[u8], filter: &[u8], spot: Spot) -> Walked
-    requires sheet_value { readSheet sheet.now ≡ Validity.WellFormed }
+    requires sheet_value { read_sheet sheet.now ≡ Validity.WellFormed }
     requires filter_len_bound { length filter.now ≤ 1024 }
     requires at_in_bounds { spot.at ≤ length filter.now }
-    ensures { result ≡ answer_of Walked.Done Walked.Nothing (reading (parametersOf sheet.now) spot.bundle) (item_at spot.levels filter.now spot.close spot.at) }
+    ensures { result ≡ answer_of Walked.Done Walked.Nothing (reading (parameters_of sheet.now) spot.bundle) (item_at spot.levels filter.now spot.close spot.at) }
 {
     let at = spot.at;
     let levels = spot.levels;
@@ -158,10 +158,10 @@ fn check_item(sheet: &[u8], filter: &[u8], spot: Spot) -> Walked
 // The filter at a spot: "one or more items joined by and or or", from left to right.
 #[cycle(check_chosen_check_filter_check_item_check_round)]
 pub fn check_filter(sheet: &[u8], filter: &[u8], spot: Spot) -> Walked
-    requires sheet_value { readSheet sheet.now ≡ Validity.WellFormed }
+    requires sheet_value { read_sheet sheet.now ≡ Validity.WellFormed }
     requires filter_len_bound { length filter.now ≤ 1024 }
     requires at_in_bounds { spot.at ≤ length filter.now }
-    ensures { result ≡ answer_of Walked.Done Walked.Nothing (reading (parametersOf sheet.now) spot.bundle) (filterAt spot.levels filter.now spot.close spot.at) }
+    ensures { result ≡ answer_of Walked.Done Walked.Nothing (reading (parameters_of sheet.now) spot.bundle) (filter_at spot.levels filter.now spot.close spot.at) }
 {
     let first = check_item(sheet, filter, spot);
     let Walked::Done(first_end, first_summary) = first else {

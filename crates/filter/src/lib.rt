@@ -2,7 +2,7 @@
 mod check;
 
 ghost use Rattle.std.specs.Prelude.{◌≡◌};
-ghost use Rattle.filter.specs.Walks.{topSpot};
+ghost use Rattle.filter.specs.Walks.{top_spot};
 
 pub use check::{check_filter, join_summaries, test_summary};
 use refusal::Decision;
@@ -34,7 +34,7 @@ pub enum Walked {
 
 // Where the whole filter begins: behind leading spaces, with 8 levels of brackets below it, at the top of the sheet.
 pub fn top(filter: &[u8]) -> Spot
-    ensures { result ≡ topSpot filter.now }
+    ensures { result ≡ top_spot filter.now }
 {
     Spot {
         at: skip(filter, 0),

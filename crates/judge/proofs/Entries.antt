@@ -9,35 +9,35 @@ use lib.ListN.{length, get_or, get_or-eq_default}
 use borrow.Author.Tests.{eq-eqb, ne_eqb}
 use Rattle.base.proofs.Tests.{both_ways, and_left, and_right}
 use Rattle.card.specs.Card.{Entry, entry}
-use Rattle.kind.specs.Readable.{cardReadable}
+use Rattle.kind.specs.Readable.{card_readable}
 use Rattle.kind.specs.Table as table
 use Rattle.kind.specs.declared.Meaning.{Meaning}
-use Rattle.judge.specs.Sets.{valuesAt, counts, chosen_of, conformsTo, keep}
+use Rattle.judge.specs.Sets.{values_at, counts, chosen_of, conforms_to, keep}
 use Rattle.judge.specs.declared.Chosen.{Chosen}
-use Rattle.judge.specs.Verdicts.{someValue, textCounts}
+use Rattle.judge.specs.Verdicts.{some_value, text_counts}
 
 -- ---- conforming
 
 -- 0 is no kind
-none-readable : (t : List ℕ) → false ≡ cardReadable 0 t
-unfolding cardReadable table.ofKind table.kinds
-none-readable t = refl
+none_readable : (t : List ℕ) → false ≡ card_readable 0 t
+unfolding card_readable table.of_kind table.kinds
+none_readable t = refl
 
-pub past-readable : (kinds : List ℕ) (i : ℕ) (t : List ℕ) → length kinds ≤ i → false ≡ cardReadable (get_or kinds i 0) t
-past-readable kinds i t h = rw (get_or-eq_default kinds 0 {n = i} h) (none-readable t)
+pub past_readable : (kinds : List ℕ) (i : ℕ) (t : List ℕ) → length kinds ≤ i → false ≡ card_readable (get_or kinds i 0) t
+past_readable kinds i t h = rw (get_or-eq_default kinds 0 {n = i} h) (none_readable t)
 
-module _ (kinds : List ℕ) (i o : ℕ) (t : List ℕ) (es : List Entry) (r : Bool) (e : r ≡ cardReadable (get_or kinds i 0) t) where
-  pub conforms-next : r ≡ true → conformsTo kinds (entry i o t ∷ es) ≡ conformsTo kinds es
-  unfolding conformsTo
+module _ (kinds : List ℕ) (i o : ℕ) (t : List ℕ) (es : List Entry) (r : Bool) (e : r ≡ card_readable (get_or kinds i 0) t) where
+  pub conforms-next : r ≡ true → conforms_to kinds (entry i o t ∷ es) ≡ conforms_to kinds es
+  unfolding conforms_to
   conforms-next h = rw (sym e ∙ h)
 
-  pub conforms-not : r ≡ false → false ≡ conformsTo kinds (entry i o t ∷ es)
-  unfolding conformsTo
-  conforms-not h = rw (sym e ∙ h)
+  pub conforms_not : r ≡ false → false ≡ conforms_to kinds (entry i o t ∷ es)
+  unfolding conforms_to
+  conforms_not h = rw (sym e ∙ h)
 
-pub conforms-end : (kinds : List ℕ) → true ≡ conformsTo kinds []
-unfolding conformsTo
-conforms-end kinds = refl
+pub conforms_end : (kinds : List ℕ) → true ≡ conforms_to kinds []
+unfolding conforms_to
+conforms_end kinds = refl
 
 -- ---- entries that count
 
@@ -49,8 +49,8 @@ module _ (c : Chosen) (o : ℕ) (same : Bool) where
     pub under_one : o ≡ c.occurrence → same ≡ (counts c o && same)
     under_one e = rw (n, eq-eqb o c.occurrence e)
 
-    pub under-other : (o ≡ c.occurrence → ⊥) → false ≡ (counts c o && same)
-    under-other e = rw (n, ne_eqb o c.occurrence e)
+    pub under_other : (o ≡ c.occurrence → ⊥) → false ≡ (counts c o && same)
+    under_other e = rw (n, ne_eqb o c.occurrence e)
 
 -- all entries of a card
 abbrev pub every : Chosen
@@ -63,32 +63,32 @@ chosen-every (e ∷ es) = ap (λ (l : List Entry). e ∷ l) (chosen-every es)
 
 -- ---- whether some text counts
 
-abbrev pub someCounts : Chosen → ℕ → Meaning → List ℕ → List Entry → Bool
-someCounts c i m v es = someValue (textCounts m v) (valuesAt i (chosen_of c es))
+abbrev pub some_counts : Chosen → ℕ → Meaning → List ℕ → List Entry → Bool
+some_counts c i m v es = some_value (text_counts m v) (values_at i (chosen_of c es))
 
 module _ (c : Chosen) (i : ℕ) (m : Meaning) (v : List ℕ) (j o : ℕ) (t : List ℕ) (es : List Entry) (under : Bool) (k : under ≡ (counts c o && eqb j i)) where
-  pub some-other : under ≡ false → someCounts c i m v (entry j o t ∷ es) ≡ someCounts c i m v es
-  unfolding chosen_of valuesAt someValue keep
-  some-other h = go (counts c o) (eqb j i) refl refl
+  pub some_other : under ≡ false → some_counts c i m v (entry j o t ∷ es) ≡ some_counts c i m v es
+  unfolding chosen_of values_at some_value keep
+  some_other h = go (counts c o) (eqb j i) refl refl
     where
-      go : (u w : Bool) → counts c o ≡ u → eqb j i ≡ w → someCounts c i m v (entry j o t ∷ es) ≡ someCounts c i m v es
+      go : (u w : Bool) → counts c o ≡ u → eqb j i ≡ w → some_counts c i m v (entry j o t ∷ es) ≡ some_counts c i m v es
       go true true p q = both_ways (k ∙ rw (p, q)) h
       go true false p q = rw (p, q)
       go false w p q = rw p
 
-  module _ (b : Bool) (h : under ≡ true) (g : b ≡ textCounts m v t) where
-    some-step : someCounts c i m v (entry j o t ∷ es) ≡ (b || someCounts c i m v es)
-    unfolding chosen_of valuesAt someValue keep
-    some-step =
+  module _ (b : Bool) (h : under ≡ true) (g : b ≡ text_counts m v t) where
+    some_step : some_counts c i m v (entry j o t ∷ es) ≡ (b || some_counts c i m v es)
+    unfolding chosen_of values_at some_value keep
+    some_step =
         let both : (counts c o && eqb j i) ≡ true = sym k ∙ h in
         rw (and_left (counts c o) (eqb j i) both, and_right (counts c o) (eqb j i) both, ← g)
 
-    pub some-here : b ≡ true → true ≡ someCounts c i m v (entry j o t ∷ es)
-    some-here f = sym (some-step ∙ ap (λ (y : Bool). y || someCounts c i m v es) f)
+    pub some_here : b ≡ true → true ≡ some_counts c i m v (entry j o t ∷ es)
+    some_here f = sym (some_step ∙ ap (λ (y : Bool). y || some_counts c i m v es) f)
 
-    pub some_next : b ≡ false → someCounts c i m v (entry j o t ∷ es) ≡ someCounts c i m v es
-    some_next f = some-step ∙ ap (λ (y : Bool). y || someCounts c i m v es) f
+    pub some_next : b ≡ false → some_counts c i m v (entry j o t ∷ es) ≡ some_counts c i m v es
+    some_next f = some_step ∙ ap (λ (y : Bool). y || some_counts c i m v es) f
 
-pub some_end : (c : Chosen) (i : ℕ) (m : Meaning) (v : List ℕ) → false ≡ someCounts c i m v []
-unfolding chosen_of valuesAt someValue keep
+pub some_end : (c : Chosen) (i : ℕ) (m : Meaning) (v : List ℕ) → false ≡ some_counts c i m v []
+unfolding chosen_of values_at some_value keep
 some_end c i m v = refl

@@ -5,65 +5,65 @@ use mathlib.Core.Path.{◌≡◌, refl, ap, ◌∙◌}
 use mathlib.Core.Bool.{Bool, true, false, not}
 use mathlib.Core.List.{List}
 use Rattle.base.proofs.Tests.{both_ways}
-use Rattle.kind.specs.Relations.{Kept, relatesRead}
+use Rattle.kind.specs.Relations.{Kept, relates_read}
 use Rattle.kind.specs.declared.Readings.{Readings}
 use Rattle.kind.specs.declared.Relation.{Relation}
 use Rattle.kind.specs.declared.Meaning.{Meaning}
-use Rattle.kind.proofs.Values.{relates-is, unread-kept, readings-kept}
-use Rattle.judge.specs.Verdicts.{textCounts}
-use Rattle.judge.specs.Once.{readingsFor, countsRead, Given}
+use Rattle.kind.proofs.Values.{relates_is, unread_kept, readings_kept}
+use Rattle.judge.specs.Verdicts.{text_counts}
+use Rattle.judge.specs.Once.{readings_for, counts_read, Given}
 
-pub counts-once : (m : Meaning) (v x : List ℕ) → countsRead m v (readingsFor m v) x ≡ textCounts m v x
-unfolding readingsFor countsRead textCounts
-counts-once Meaning.Present v x = refl
-counts-once (Meaning.Relates r) v x = relates-is r x v
-counts-once (Meaning.Differs r) v x = ap not (relates-is r x v)
-counts-once Meaning.Nothing v x = refl
+pub counts_once : (m : Meaning) (v x : List ℕ) → counts_read m v (readings_for m v) x ≡ text_counts m v x
+unfolding readings_for counts_read text_counts
+counts_once Meaning.Present v x = refl
+counts_once (Meaning.Relates r) v x = relates_is r x v
+counts_once (Meaning.Differs r) v x = ap not (relates_is r x v)
+counts_once Meaning.Nothing v x = refl
 
-pub for-kept : (m : Meaning) (v : List ℕ) → Kept (readingsFor m v).number
-unfolding readingsFor
-for-kept Meaning.Present v = unread-kept
-for-kept (Meaning.Relates r) v = readings-kept r v
-for-kept (Meaning.Differs r) v = readings-kept r v
-for-kept Meaning.Nothing v = unread-kept
+pub for_kept : (m : Meaning) (v : List ℕ) → Kept (readings_for m v).number
+unfolding readings_for
+for_kept Meaning.Present v = unread_kept
+for_kept (Meaning.Relates r) v = readings_kept r v
+for_kept (Meaning.Differs r) v = readings_kept r v
+for_kept Meaning.Nothing v = unread_kept
 
 -- ---- the arms of `counts_read`
 
 module _ (m : Meaning) (v : List ℕ) (w : Readings) (x : List ℕ) where
-  pub read-present : m ≡ Meaning.Present → true ≡ countsRead m v w x
-  unfolding countsRead
-  read-present h = rw h
+  pub read_present : m ≡ Meaning.Present → true ≡ counts_read m v w x
+  unfolding counts_read
+  read_present h = rw h
 
-  pub read-relates : (r : Relation) (t : Bool) → m ≡ Meaning.Relates r → t ≡ relatesRead r x v w → t ≡ countsRead m v w x
-  unfolding countsRead
-  read-relates r t h e = rw h e
+  pub read_relates : (r : Relation) (t : Bool) → m ≡ Meaning.Relates r → t ≡ relates_read r x v w → t ≡ counts_read m v w x
+  unfolding counts_read
+  read_relates r t h e = rw h e
 
-  pub read-differs : (r : Relation) (t : Bool) → m ≡ Meaning.Differs r → t ≡ relatesRead r x v w → not t ≡ countsRead m v w x
-  unfolding countsRead
+  pub read-differs : (r : Relation) (t : Bool) → m ≡ Meaning.Differs r → t ≡ relates_read r x v w → not t ≡ counts_read m v w x
+  unfolding counts_read
   read-differs r t h e = rw h (ap not e)
 
-  pub read-nothing : m ≡ Meaning.Nothing → false ≡ countsRead m v w x
-  unfolding countsRead
-  read-nothing h = rw h
+  pub read_nothing : m ≡ Meaning.Nothing → false ≡ counts_read m v w x
+  unfolding counts_read
+  read_nothing h = rw h
 
 -- ---- a value that was read for the meaning counts as before
 
-module _ (m : Meaning) (v : List ℕ) (w : Readings) (e : w ≡ readingsFor m v) where
-  pub once-kept : Kept w.number
-  once-kept = rw e (for-kept m v)
+module _ (m : Meaning) (v : List ℕ) (w : Readings) (e : w ≡ readings_for m v) where
+  pub once_kept : Kept w.number
+  once_kept = rw e (for_kept m v)
 
-  pub once-counts : (x : List ℕ) (t : Bool) → t ≡ countsRead m v w x → t ≡ textCounts m v x
-  once-counts x t h = h ∙ ap (λ (y : Readings). countsRead m v y x) e ∙ counts-once m v x
+  pub once_counts : (x : List ℕ) (t : Bool) → t ≡ counts_read m v w x → t ≡ text_counts m v x
+  once_counts x t h = h ∙ ap (λ (y : Readings). counts_read m v y x) e ∙ counts_once m v x
 
 module _ {known : Bool} {m : Meaning} {v : List ℕ} {w : Readings} (g : Given known m v w) (h : known ≡ true) where
   pub known_kept : Kept w.number
-  known_kept = once-kept m v w (g.readings h)
+  known_kept = once_kept m v w (g.readings h)
 
-  pub known-counts : (x : List ℕ) (t : Bool) → t ≡ countsRead m v w x → t ≡ textCounts m v x
-  known-counts = once-counts m v w (g.readings h)
+  pub known-counts : (x : List ℕ) (t : Bool) → t ≡ counts_read m v w x → t ≡ text_counts m v x
+  known-counts = once_counts m v w (g.readings h)
 
-pub not-given : (m : Meaning) (v : List ℕ) (w : Readings) → Given false m v w
-not-given m v w = record { readings = λ e. both_ways e refl }
+pub not_given : (m : Meaning) (v : List ℕ) (w : Readings) → Given false m v w
+not_given m v w = record { readings = λ e. both_ways e refl }
 
-pub is-given : (m : Meaning) (v : List ℕ) (w : Readings) → w ≡ readingsFor m v → Given true m v w
-is-given m v w e = record { readings = λ h. e }
+pub is_given : (m : Meaning) (v : List ℕ) (w : Readings) → w ≡ readings_for m v → Given true m v w
+is_given m v w e = record { readings = λ h. e }

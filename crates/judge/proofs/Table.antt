@@ -3,12 +3,12 @@
 use mathlib.Core.Path.{◌≡◌, refl}
 use mathlib.Core.List.{List, [], ◌∷◌}
 use Rattle.sheet.specs.Sheet.{Parameter}
-use Rattle.sheet.specs.Find.{kindsOf}
-use Rattle.sheet.proofs.Listed.{table-kind}
+use Rattle.sheet.specs.Find.{kinds_of}
+use Rattle.sheet.proofs.Listed.{table_kind}
 use Rattle.card.specs.Card.{Entry}
-use Rattle.judge.specs.Sets.{entryConforms, conforms, conformsTo}
+use Rattle.judge.specs.Sets.{entry_conforms, conforms, conforms_to}
 
-pub table-conforms : (ps : List Parameter) (es : List Entry) → conformsTo (kindsOf ps) es ≡ conforms ps es
-unfolding conformsTo conforms entryConforms
-table-conforms ps [] = refl
-table-conforms ps (e ∷ es) = rw (table-kind ps e.index, table-conforms ps es)
+pub table_conforms : (ps : List Parameter) (es : List Entry) → conforms_to (kinds_of ps) es ≡ conforms ps es
+unfolding conforms_to conforms entry_conforms
+table_conforms ps [] = refl
+table_conforms ps (e ∷ es) = rw (table_kind ps e.index, table_conforms ps es)

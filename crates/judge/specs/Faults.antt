@@ -3,12 +3,12 @@
 use Rattle.std.specs.Prelude.{ℕ, Bool, cond, List, [], ◌∷◌, eqb}
 use Rattle.base.specs.Lists.{member}
 use Rattle.base.specs.Operators.{ap, ss, sb, «in», ni}
-use Rattle.base.specs.Kinds.{bundleKind}
+use Rattle.base.specs.Kinds.{bundle_kind}
 use Rattle.sheet.specs.Sheet.{Parameter}
 use Rattle.sheet.specs.declared.Found.{Found}
 use Rattle.syntax.specs.Tree.{Test}
-use Rattle.kind.specs.Table.{hasMeaning}
-use Rattle.kind.specs.Readable.{valueReadable}
+use Rattle.kind.specs.Table.{has_meaning}
+use Rattle.kind.specs.Readable.{value_readable}
 use Rattle.refusal.specs.declared.Reason.{Reason}
 use Rattle.refusal.specs.declared.Decision.{Decision}
 use Rattle.refusal.specs.Decisions.{refuse, or_else}
@@ -19,24 +19,24 @@ unfoldable pub unsupported : ℕ → Bool
 unsupported k = member k (ap ∷ ss ∷ sb ∷ «in» ∷ ni ∷ [])
 
 -- what is decided of an operator and a value for a kind, with the place of their test: the line with the lowest number
-unfoldable pub kindFault : (operator kind : ℕ) → List ℕ → (place : ℕ) → Decision
-kindFault k kind v p =
+unfoldable pub kind_fault : (operator kind : ℕ) → List ℕ → (place : ℕ) → Decision
+kind_fault k kind v p =
     cond (unsupported k) (refuse Reason.Unsupported p)
-    (cond (hasMeaning k kind)
-    (cond (valueReadable k kind v) Decision.Passed (refuse Reason.Unreadable p))
+    (cond (has_meaning k kind)
+    (cond (value_readable k kind v) Decision.Passed (refuse Reason.Unreadable p))
     (refuse Reason.NoMeaning p))
 
 -- the same at what the path names
 -- 02: 18 "for a bundle's name with no bracket"
-abbrev pub faultAt : Found → (operator : ℕ) → List ℕ → (place : ℕ) → Decision
-faultAt Found.Missing k v p = refuse Reason.UnknownName p
-faultAt (Found.At i kind) k v p = cond (eqb kind bundleKind) (refuse Reason.BareBundle p) (kindFault k kind v p)
+abbrev pub fault_at : Found → (operator : ℕ) → List ℕ → (place : ℕ) → Decision
+fault_at Found.Missing k v p = refuse Reason.UnknownName p
+fault_at (Found.At i kind) k v p = cond (eqb kind bundle_kind) (refuse Reason.BareBundle p) (kind_fault k kind v p)
 
 -- of a test whose path is looked up in c: its place is its first byte
-unfoldable pub testFault : List Parameter → ℕ → Test → Decision
-testFault ps c t = faultAt (lookup ps c t.path) t.operator t.value t.at
+unfoldable pub test_fault : List Parameter → ℕ → Test → Decision
+test_fault ps c t = fault_at (lookup ps c t.path) t.operator t.value t.at
 
 -- "the first test in the text decides"
-unfoldable pub firstFault : List Parameter → ℕ → List Test → Decision
-firstFault ps c [] = Decision.Passed
-firstFault ps c (t ∷ ts) = or_else (testFault ps c t) (firstFault ps c ts)
+unfoldable pub first_fault : List Parameter → ℕ → List Test → Decision
+first_fault ps c [] = Decision.Passed
+first_fault ps c (t ∷ ts) = or_else (test_fault ps c t) (first_fault ps c ts)

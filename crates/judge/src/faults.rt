@@ -1,9 +1,9 @@
 // The fault of a test on a sheet, whatever the card.
 ghost use Rattle.std.specs.Prelude.{◌≡◌, cond, eqb};
-ghost use Rattle.base.specs.Kinds.{bundleKind};
-ghost use Rattle.kind.specs.Table.{hasMeaning};
+ghost use Rattle.base.specs.Kinds.{bundle_kind};
+ghost use Rattle.kind.specs.Table.{has_meaning};
 ghost use Rattle.refusal.specs.Decisions.{refuse};
-ghost use Rattle.judge.specs.Faults.{unsupported, kindFault, faultAt};
+ghost use Rattle.judge.specs.Faults.{unsupported, kind_fault, fault_at};
 
 use base::kind::BUNDLE;
 use base::operator::{AP, IN, NI, SB, SS};
@@ -23,7 +23,7 @@ fn unsupported(operator: u8) -> bool
 
 // Whether an operator has a meaning for a kind.
 pub fn has_meaning(operator: u8, kind: u8) -> bool
-    ensures { result ≡ hasMeaning operator kind }
+    ensures { result ≡ has_meaning operator kind }
 {
     match kind::meaning_of(operator, kind) {
         Meaning::Present => true,
@@ -35,7 +35,7 @@ pub fn has_meaning(operator: u8, kind: u8) -> bool
 
 // What is decided of an operator and a value for a kind, at the place of their test: the lowest number.
 pub fn kind_fault(operator: u8, kind: u8, value: &[u8], place: usize) -> Decision
-    ensures { result ≡ kindFault operator kind value.now place }
+    ensures { result ≡ kind_fault operator kind value.now place }
 {
     if unsupported(operator) {
         return refuse(Reason::Unsupported, place);
@@ -51,7 +51,7 @@ pub fn kind_fault(operator: u8, kind: u8, value: &[u8], place: usize) -> Decisio
 
 // The same at a parameter: a bundle's is refused.
 fn parameter_fault(operator: u8, kind: u8, value: &[u8], place: usize) -> Decision
-    ensures { result ≡ cond (eqb kind bundleKind) (refuse Reason.BareBundle place) (kindFault operator kind value.now place) }
+    ensures { result ≡ cond (eqb kind bundle_kind) (refuse Reason.BareBundle place) (kind_fault operator kind value.now place) }
 {
     if kind == BUNDLE {
         return refuse(Reason::BareBundle, place);
@@ -61,7 +61,7 @@ fn parameter_fault(operator: u8, kind: u8, value: &[u8], place: usize) -> Decisi
 
 // The same at what the test's name is on the sheet.
 pub fn fault_at(found: Found, operator: u8, value: &[u8], place: usize) -> Decision
-    ensures { result ≡ faultAt found operator value.now place }
+    ensures { result ≡ fault_at found operator value.now place }
 {
     match found {
         Found::At { index: _, kind } => parameter_fault(operator, kind, value, place),

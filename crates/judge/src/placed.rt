@@ -1,14 +1,14 @@
 // Tests as they stand in the filter's text: a value without escapes is judged where it stands, one with escapes in a buffer.
 ghost use Rattle.std.specs.Prelude.{◌≡◌, ◌≤◌, length};
-ghost use Rattle.sheet.specs.Sheet.{parametersOf, readSheet};
-ghost use Rattle.card.specs.Card.{entriesOf, readCard};
+ghost use Rattle.sheet.specs.Sheet.{parameters_of, read_sheet};
+ghost use Rattle.card.specs.Card.{entries_of, read_card};
 ghost use Rattle.syntax.specs.Scan.{test_of};
 ghost use Rattle.syntax.specs.Tree.{moved};
-ghost use Rattle.judge.specs.Faults.{testFault};
-ghost use Rattle.judge.specs.Verdicts.{textCounts, testSays};
+ghost use Rattle.judge.specs.Faults.{test_fault};
+ghost use Rattle.judge.specs.Verdicts.{text_counts, test_says};
 ghost use Rattle.judge.specs.Sets.{lookup, chosen_of};
 ghost use Rattle.syntax.specs.Placed.{Placed};
-ghost use Rattle.kind.specs.Readable.{isTrue};
+ghost use Rattle.kind.specs.Readable.{is_true};
 
 use crate::Chosen;
 use crate::faults::fault_at;
@@ -23,9 +23,9 @@ use syntax::value::decode;
 
 // The parameter that a test of the filter names, on a well-formed sheet, looked up in a bundle.
 pub fn test_found(sheet: &[u8], bundle: u8, filter: &[u8], test: RawTest) -> Found
-    requires sheet_value { readSheet sheet.now ≡ Validity.WellFormed }
+    requires sheet_value { read_sheet sheet.now ≡ Validity.WellFormed }
     requires placed { Placed filter.now test }
-    ensures { result ≡ lookup (parametersOf sheet.now) bundle (test_of filter.now test).path }
+    ensures { result ≡ lookup (parameters_of sheet.now) bundle (test_of filter.now test).path }
 {
     let at = test.at;
     let until = test.until;
@@ -34,10 +34,10 @@ pub fn test_found(sheet: &[u8], bundle: u8, filter: &[u8], test: RawTest) -> Fou
 
 // What is decided of a test of the filter on a well-formed sheet; its place is given.
 pub fn test_fault(sheet: &[u8], bundle: u8, filter: &[u8], place: usize, test: RawTest) -> Decision
-    requires sheet_value { readSheet sheet.now ≡ Validity.WellFormed }
+    requires sheet_value { read_sheet sheet.now ≡ Validity.WellFormed }
     requires filter_len_bound { length filter.now ≤ 1024 }
     requires placed { Placed filter.now test }
-    ensures { result ≡ testFault (parametersOf sheet.now) bundle (moved place (test_of filter.now test)) }
+    ensures { result ≡ test_fault (parameters_of sheet.now) bundle (moved place (test_of filter.now test)) }
 {
     let found = test_found(sheet, bundle, filter, test);
     let value = test.value;
@@ -60,11 +60,11 @@ pub fn test_says(
     filter: &[u8],
     test: RawTest,
 ) -> bool
-    requires sheet_value { readSheet sheet.now ≡ Validity.WellFormed }
-    requires card_value { readCard card.now ≡ Validity.WellFormed }
+    requires sheet_value { read_sheet sheet.now ≡ Validity.WellFormed }
+    requires card_value { read_card card.now ≡ Validity.WellFormed }
     requires filter_len_bound { length filter.now ≤ 1024 }
     requires placed { Placed filter.now test }
-    ensures { result ≡ testSays (parametersOf sheet.now) bundle (chosen_of chosen (entriesOf card.now)) (test_of filter.now test) }
+    ensures { result ≡ test_says (parameters_of sheet.now) bundle (chosen_of chosen (entries_of card.now)) (test_of filter.now test) }
 {
     let found = test_found(sheet, bundle, filter, test);
     let value = test.value;
@@ -82,7 +82,7 @@ pub fn test_says(
 pub fn member_counts(filter: &[u8], test: RawTest, meaning: Meaning, text: &[u8]) -> bool
     requires filter_len_bound { length filter.now ≤ 1024 }
     requires placed { Placed filter.now test }
-    ensures { result ≡ textCounts meaning (test_of filter.now test).value text.now }
+    ensures { result ≡ text_counts meaning (test_of filter.now test).value text.now }
 {
     let value = test.value;
     let start = value.start;
@@ -99,7 +99,7 @@ pub fn member_counts(filter: &[u8], test: RawTest, meaning: Meaning, text: &[u8]
 pub fn member_truth(filter: &[u8], test: RawTest) -> bool
     requires filter_len_bound { length filter.now ≤ 1024 }
     requires placed { Placed filter.now test }
-    ensures { result ≡ isTrue (test_of filter.now test).value }
+    ensures { result ≡ is_true (test_of filter.now test).value }
 {
     let value = test.value;
     let start = value.start;

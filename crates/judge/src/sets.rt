@@ -1,9 +1,9 @@
 // The texts of a card: whether they conform to a sheet, and those under one parameter.
 ghost use Rattle.std.specs.Prelude.{◌≡◌, ◌&&◌, get_or};
-ghost use Rattle.card.specs.Card.{entriesOf, readCard};
-ghost use Rattle.kind.specs.Readable.{cardReadable};
-ghost use Rattle.judge.specs.Sets.{valuesAt, counts, chosen_of, conformsTo};
-ghost use Rattle.judge.specs.Verdicts.{someValue, textCounts};
+ghost use Rattle.card.specs.Card.{entries_of, read_card};
+ghost use Rattle.kind.specs.Readable.{card_readable};
+ghost use Rattle.judge.specs.Sets.{values_at, counts, chosen_of, conforms_to};
+ghost use Rattle.judge.specs.Verdicts.{some_value, text_counts};
 ghost use Rattle.judge.specs.Once.{Given};
 
 use crate::Chosen;
@@ -13,7 +13,7 @@ use kind::{Meaning, Readings};
 
 // Whether the text of an entry is readable as the kind of its parameter.
 fn entry_conforms(kinds: &[u8], index: u8, text: &[u8]) -> bool
-    ensures { result ≡ cardReadable (get_or kinds.now index 0) text.now }
+    ensures { result ≡ card_readable (get_or kinds.now index 0) text.now }
 {
     let i = index as usize;
     if i < kinds.len() {
@@ -24,8 +24,8 @@ fn entry_conforms(kinds: &[u8], index: u8, text: &[u8]) -> bool
 
 // Whether a well-formed card conforms to a sheet with these kinds (01: fits).
 pub fn conforms(kinds: &[u8], card: &[u8]) -> bool
-    requires { readCard card.now ≡ Validity.WellFormed }
-    ensures { result ≡ conformsTo kinds.now (entriesOf card.now) }
+    requires { read_card card.now ≡ Validity.WellFormed }
+    ensures { result ≡ conforms_to kinds.now (entries_of card.now) }
 {
     let mut at = card::FIRST_ENTRY;
     let mut left = card::entry_count(card);
@@ -65,9 +65,9 @@ pub fn some_counts(
     known: bool,
     readings: Readings,
 ) -> bool
-    requires card_value { readCard card.now ≡ Validity.WellFormed }
+    requires card_value { read_card card.now ≡ Validity.WellFormed }
     requires given { Given known meaning value.now readings }
-    ensures { result ≡ someValue (textCounts meaning value.now) (valuesAt index (chosen_of chosen (entriesOf card.now))) }
+    ensures { result ≡ some_value (text_counts meaning value.now) (values_at index (chosen_of chosen (entries_of card.now))) }
 {
     let mut at = card::FIRST_ENTRY;
     let mut left = card::entry_count(card);

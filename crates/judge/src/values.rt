@@ -1,14 +1,14 @@
 // A filter's value that is read once for many texts.
 ghost use Rattle.std.specs.Prelude.{◌≡◌};
 ghost use Rattle.kind.specs.Relations.{Kept};
-ghost use Rattle.judge.specs.Once.{readingsFor, countsRead, Given};
-ghost use Rattle.judge.specs.Verdicts.{textCounts};
+ghost use Rattle.judge.specs.Once.{readings_for, counts_read, Given};
+ghost use Rattle.judge.specs.Verdicts.{text_counts};
 
 use kind::{Meaning, Readings};
 
 // What a value reads to for a meaning.
 pub fn readings_for(meaning: Meaning, value: &[u8]) -> Readings
-    ensures { result ≡ readingsFor meaning value.now }
+    ensures { result ≡ readings_for meaning value.now }
 {
     match meaning {
         Meaning::Present => kind::unread(),
@@ -21,7 +21,7 @@ pub fn readings_for(meaning: Meaning, value: &[u8]) -> Readings
 // Whether a text counts for a meaning and a value that was read.
 pub fn counts_read(meaning: Meaning, value: &[u8], readings: Readings, text: &[u8]) -> bool
     requires { Kept readings.number }
-    ensures { result ≡ countsRead meaning value.now readings text.now }
+    ensures { result ≡ counts_read meaning value.now readings text.now }
 {
     match meaning {
         Meaning::Present => true,
@@ -33,7 +33,7 @@ pub fn counts_read(meaning: Meaning, value: &[u8], readings: Readings, text: &[u
 
 // Whether a text counts for a meaning and a value: for pr each does.
 pub fn text_counts(meaning: Meaning, value: &[u8], text: &[u8]) -> bool
-    ensures { result ≡ textCounts meaning value.now text.now }
+    ensures { result ≡ text_counts meaning value.now text.now }
 {
     counts_read(meaning, value, readings_for(meaning, value), text)
 }
@@ -47,7 +47,7 @@ pub fn text_counts_by(
     text: &[u8],
 ) -> bool
     requires { Given known meaning value.now readings }
-    ensures { result ≡ textCounts meaning value.now text.now }
+    ensures { result ≡ text_counts meaning value.now text.now }
 {
     if known {
         return counts_read(meaning, value, readings, text);

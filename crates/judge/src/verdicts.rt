@@ -1,8 +1,8 @@
 // What a test says of a card.
 ghost use Rattle.std.specs.Prelude.{◌≡◌};
-ghost use Rattle.card.specs.Card.{entriesOf, readCard};
-ghost use Rattle.judge.specs.Sets.{valuesAt, chosen_of};
-ghost use Rattle.judge.specs.Verdicts.{someSays, says_of, saysAt};
+ghost use Rattle.card.specs.Card.{entries_of, read_card};
+ghost use Rattle.judge.specs.Sets.{values_at, chosen_of};
+ghost use Rattle.judge.specs.Verdicts.{some_says, says_of, says_at};
 
 use crate::Chosen;
 use crate::sets::some_counts;
@@ -12,8 +12,8 @@ use sheet::Found;
 
 // What a test with this meaning and value says of the texts under a parameter.
 pub fn says_of(card: &[u8], chosen: Chosen, index: u8, meaning: Meaning, value: &[u8]) -> bool
-    requires { readCard card.now ≡ Validity.WellFormed }
-    ensures { result ≡ says_of meaning value.now (valuesAt index (chosen_of chosen (entriesOf card.now))) }
+    requires { read_card card.now ≡ Validity.WellFormed }
+    ensures { result ≡ says_of meaning value.now (values_at index (chosen_of chosen (entries_of card.now))) }
 {
     let some = some_counts(card, chosen, index, meaning, value, false, kind::unread());
     some_says(meaning, kind::is_true(value), some)
@@ -21,8 +21,8 @@ pub fn says_of(card: &[u8], chosen: Chosen, index: u8, meaning: Meaning, value: 
 
 // What a test with this operator and value says of a well-formed card, at what its name is on the sheet.
 pub fn says_at(found: Found, card: &[u8], chosen: Chosen, operator: u8, value: &[u8]) -> bool
-    requires { readCard card.now ≡ Validity.WellFormed }
-    ensures { result ≡ saysAt found operator value.now (chosen_of chosen (entriesOf card.now)) }
+    requires { read_card card.now ≡ Validity.WellFormed }
+    ensures { result ≡ says_at found operator value.now (chosen_of chosen (entries_of card.now)) }
 {
     match found {
         Found::At { index, kind } => says_of(
@@ -38,7 +38,7 @@ pub fn says_at(found: Found, card: &[u8], chosen: Chosen, operator: u8, value: &
 
 // What a test of this meaning says, where `some` says that some text counts: pr false asks that none does. Its value is true or not.
 pub fn some_says(meaning: Meaning, truth: bool, some: bool) -> bool
-    ensures { result ≡ someSays meaning truth some }
+    ensures { result ≡ some_says meaning truth some }
 {
     match meaning {
         Meaning::Present => {

@@ -15,64 +15,64 @@ use Rattle.period.specs.declared.Period.{Period}
 use Rattle.period.specs.declared.PeriodReading.{PeriodReading}
 use Rattle.kind.specs.declared.NumberRelation.{NumberRelation}
 use Rattle.kind.specs.declared.DateRelation.{DateRelation}
-use Rattle.number.proofs.Spelling.{number-bounded}
+use Rattle.number.proofs.Spelling.{number_bounded}
 use Rattle.kind.specs.declared.Relation.{Relation}
 use Rattle.kind.specs.declared.Readings.{Readings}
-use Rattle.kind.specs.Relations.{Kept, numbersRelate, numberReadingsRelate, datesRelate, dateReadingsRelate, relatesTo, unread, readingsOf, relatesRead}
+use Rattle.kind.specs.Relations.{Kept, numbers_relate, number_readings_relate, dates_relate, date_readings_relate, relates_to, unread, readings_of, relates_read}
 
 -- ---- numbers
 
 module _ (relation : NumberRelation) (i : List ℕ) (v : NumberReading) (r : NumberReading) (e : r ≡ numbers.read i) where
-  pub numbers-unreadable : r ≡ NumberReading.Unreadable → false ≡ numberReadingsRelate relation (numbers.read i) v
-  numbers-unreadable h = rw (sym e ∙ h)
+  pub numbers_unreadable : r ≡ NumberReading.Unreadable → false ≡ number_readings_relate relation (numbers.read i) v
+  numbers_unreadable h = rw (sym e ∙ h)
 
   module _ (a : Decimal) (h : r ≡ NumberReading.Number a) where
-    pub value-unreadable : v ≡ NumberReading.Unreadable → false ≡ numberReadingsRelate relation (numbers.read i) v
-    value-unreadable j = rw (sym e ∙ h, j)
+    pub value_unreadable : v ≡ NumberReading.Unreadable → false ≡ number_readings_relate relation (numbers.read i) v
+    value_unreadable j = rw (sym e ∙ h, j)
 
-    pub numbers-relate : (b : Decimal) (t : Bool) → v ≡ NumberReading.Number b → t ≡ numbersRelate relation a b → t ≡ numberReadingsRelate relation (numbers.read i) v
+    pub numbers-relate : (b : Decimal) (t : Bool) → v ≡ NumberReading.Number b → t ≡ numbers_relate relation a b → t ≡ number_readings_relate relation (numbers.read i) v
     numbers-relate b t j l = rw (sym e ∙ h, j) l
 
 -- ---- dates
 
-module _ (relation : DateRelation) (i : List ℕ) (v : DateReading) (r : PeriodReading) (e : r ≡ periods.readSpan i) where
-  pub dates-unreadable : r ≡ PeriodReading.Unreadable → false ≡ dateReadingsRelate relation (periods.readSpan i) v
-  dates-unreadable h = rw (sym e ∙ h)
+module _ (relation : DateRelation) (i : List ℕ) (v : DateReading) (r : PeriodReading) (e : r ≡ periods.read_span i) where
+  pub dates_unreadable : r ≡ PeriodReading.Unreadable → false ≡ date_readings_relate relation (periods.read_span i) v
+  dates_unreadable h = rw (sym e ∙ h)
 
   module _ (a : Period) (h : r ≡ PeriodReading.Readable a) where
-    pub date-unreadable : v ≡ DateReading.Unreadable → false ≡ dateReadingsRelate relation (periods.readSpan i) v
-    date-unreadable j = rw (sym e ∙ h, j)
+    pub date_unreadable : v ≡ DateReading.Unreadable → false ≡ date_readings_relate relation (periods.read_span i) v
+    date_unreadable j = rw (sym e ∙ h, j)
 
-    pub dates-relate : (b : Date) (t : Bool) → v ≡ DateReading.Readable b → t ≡ datesRelate relation a b → t ≡ dateReadingsRelate relation (periods.readSpan i) v
+    pub dates-relate : (b : Date) (t : Bool) → v ≡ DateReading.Readable b → t ≡ dates_relate relation a b → t ≡ date_readings_relate relation (periods.read_span i) v
     dates-relate b t j l = rw (sym e ∙ h, j) l
 
 -- ---- a value that was read already
 
-pub relates-is : (relation : Relation) (i f : List ℕ) → relatesRead relation i f (readingsOf relation f) ≡ relatesTo relation i f
-unfolding relatesTo relatesRead readingsOf
-relates-is (Relation.Strings r) i f = refl
-relates-is (Relation.Numbers r) i f = refl
-relates-is (Relation.Dates r) i f = refl
-relates-is Relation.Tokens i f = refl
-relates-is Relation.References i f = refl
+pub relates_is : (relation : Relation) (i f : List ℕ) → relates_read relation i f (readings_of relation f) ≡ relates_to relation i f
+unfolding relates_to relates_read readings_of
+relates_is (Relation.Strings r) i f = refl
+relates_is (Relation.Numbers r) i f = refl
+relates_is (Relation.Dates r) i f = refl
+relates_is Relation.Tokens i f = refl
+relates_is Relation.References i f = refl
 
-number-kept : (f : List ℕ) (v : NumberReading) → v ≡ numbers.read f → Kept v
-number-kept f v e = record { bounded = λ d h. number-bounded f v d e h }
+number_kept : (f : List ℕ) (v : NumberReading) → v ≡ numbers.read f → Kept v
+number_kept f v e = record { bounded = λ d h. number_bounded f v d e h }
 
-pub unread-kept : Kept unread.number
-unread-kept = record { bounded = λ d h. absurd (two d h) }
+pub unread_kept : Kept unread.number
+unread_kept = record { bounded = λ d h. absurd (two d h) }
   where
     two : (d : Decimal) → NumberReading.Unreadable ≡ NumberReading.Number d → ⊥
     two d h = let z : ◌≡◌ {A = ℕ} 0 1 = cc in omega arith
 
-pub readings-kept : (relation : Relation) (f : List ℕ) → Kept (readingsOf relation f).number
-unfolding readingsOf
-readings-kept (Relation.Strings r) f = unread-kept
-readings-kept (Relation.Numbers r) f = number-kept f (numbers.read f) refl
-readings-kept (Relation.Dates r) f = unread-kept
-readings-kept Relation.Tokens f = unread-kept
-readings-kept Relation.References f = unread-kept
+pub readings_kept : (relation : Relation) (f : List ℕ) → Kept (readings_of relation f).number
+unfolding readings_of
+readings_kept (Relation.Strings r) f = unread_kept
+readings_kept (Relation.Numbers r) f = number_kept f (numbers.read f) refl
+readings_kept (Relation.Dates r) f = unread_kept
+readings_kept Relation.Tokens f = unread_kept
+readings_kept Relation.References f = unread_kept
 
-pub dates-read : (relation : Relation) (i f : List ℕ) (v : Readings) (r : DateRelation) (t : Bool) → relation ≡ Relation.Dates r → t ≡ dateReadingsRelate r (periods.readSpan i) v.date → t ≡ relatesRead relation i f v
-unfolding relatesRead
-dates-read relation i f v r t h e = rw h e
+pub dates_read : (relation : Relation) (i f : List ℕ) (v : Readings) (r : DateRelation) (t : Bool) → relation ≡ Relation.Dates r → t ≡ date_readings_relate r (periods.read_span i) v.date → t ≡ relates_read relation i f v
+unfolding relates_read
+dates_read relation i f v r t h e = rw h e

@@ -22,50 +22,50 @@ use Rattle.kind.specs.declared.Relation.{Relation}
 use Rattle.kind.specs.declared.Readings.{Readings}
 
 -- i is the card's text, f the filter's value
-unfoldable pub stringsRelate : StringRelation → List ℕ → List ℕ → Bool
-stringsRelate StringRelation.Same i f = texts.same i f
-stringsRelate StringRelation.Contains i f = texts.contains i f
-stringsRelate StringRelation.Starts i f = texts.starts i f
-stringsRelate StringRelation.Ends i f = texts.ends i f
+unfoldable pub strings_relate : StringRelation → List ℕ → List ℕ → Bool
+strings_relate StringRelation.Same i f = texts.same i f
+strings_relate StringRelation.Contains i f = texts.contains i f
+strings_relate StringRelation.Starts i f = texts.starts i f
+strings_relate StringRelation.Ends i f = texts.ends i f
 
 -- i is the card's number, f the filter's
-unfoldable pub numbersRelate : NumberRelation → Decimal → Decimal → Bool
-numbersRelate NumberRelation.Inside i f = billionths.inside i f
-numbersRelate NumberRelation.Greater i f = number.greater i f
-numbersRelate NumberRelation.Less i f = number.less i f
-numbersRelate NumberRelation.AtLeast i f = number.at_least i f
-numbersRelate NumberRelation.AtMost i f = number.at_most i f
-numbersRelate NumberRelation.Covers i f = number.covers i f
+unfoldable pub numbers_relate : NumberRelation → Decimal → Decimal → Bool
+numbers_relate NumberRelation.Inside i f = billionths.inside i f
+numbers_relate NumberRelation.Greater i f = number.greater i f
+numbers_relate NumberRelation.Less i f = number.less i f
+numbers_relate NumberRelation.AtLeast i f = number.at_least i f
+numbers_relate NumberRelation.AtMost i f = number.at_most i f
+numbers_relate NumberRelation.Covers i f = number.covers i f
 
-abbrev pub numberReadingsRelate : NumberRelation → NumberReading → NumberReading → Bool
-numberReadingsRelate r (NumberReading.Number i) (NumberReading.Number f) = numbersRelate r i f
-numberReadingsRelate r (NumberReading.Number i) NumberReading.Unreadable = false
-numberReadingsRelate r NumberReading.Unreadable f = false
+abbrev pub number_readings_relate : NumberRelation → NumberReading → NumberReading → Bool
+number_readings_relate r (NumberReading.Number i) (NumberReading.Number f) = numbers_relate r i f
+number_readings_relate r (NumberReading.Number i) NumberReading.Unreadable = false
+number_readings_relate r NumberReading.Unreadable f = false
 
 -- i is the card's period, f the filter's date
-unfoldable pub datesRelate : DateRelation → Period → Date → Bool
-datesRelate DateRelation.Inside i f = period.inside i f
-datesRelate DateRelation.Later i f = period.later i f
-datesRelate DateRelation.Earlier i f = period.earlier i f
-datesRelate DateRelation.LaterOrInside i f = period.laterOrInside i f
-datesRelate DateRelation.EarlierOrInside i f = period.earlierOrInside i f
-datesRelate DateRelation.StartsAfter i f = period.startsAfter i f
-datesRelate DateRelation.EndsBefore i f = period.endsBefore i f
-datesRelate DateRelation.Overlaps i f = period.overlaps i f
-datesRelate DateRelation.Covers i f = period.covers i f
+unfoldable pub dates_relate : DateRelation → Period → Date → Bool
+dates_relate DateRelation.Inside i f = period.inside i f
+dates_relate DateRelation.Later i f = period.later i f
+dates_relate DateRelation.Earlier i f = period.earlier i f
+dates_relate DateRelation.LaterOrInside i f = period.later_or_inside i f
+dates_relate DateRelation.EarlierOrInside i f = period.earlier_or_inside i f
+dates_relate DateRelation.StartsAfter i f = period.starts_after i f
+dates_relate DateRelation.EndsBefore i f = period.ends_before i f
+dates_relate DateRelation.Overlaps i f = period.overlaps i f
+dates_relate DateRelation.Covers i f = period.covers i f
 
-abbrev pub dateReadingsRelate : DateRelation → PeriodReading → DateReading → Bool
-dateReadingsRelate r (PeriodReading.Readable i) (DateReading.Readable f) = datesRelate r i f
-dateReadingsRelate r (PeriodReading.Readable i) DateReading.Unreadable = false
-dateReadingsRelate r PeriodReading.Unreadable f = false
+abbrev pub date_readings_relate : DateRelation → PeriodReading → DateReading → Bool
+date_readings_relate r (PeriodReading.Readable i) (DateReading.Readable f) = dates_relate r i f
+date_readings_relate r (PeriodReading.Readable i) DateReading.Unreadable = false
+date_readings_relate r PeriodReading.Unreadable f = false
 
 -- i is the card's text, f the filter's value; a card's date and period are both spans
-unfoldable pub relatesTo : Relation → List ℕ → List ℕ → Bool
-relatesTo (Relation.Strings r) i f = stringsRelate r i f
-relatesTo (Relation.Numbers r) i f = numberReadingsRelate r (numbers.read i) (numbers.read f)
-relatesTo (Relation.Dates r) i f = dateReadingsRelate r (periods.readSpan i) (dates.read f)
-relatesTo Relation.Tokens i f = tokens.matches i f
-relatesTo Relation.References i f = texts.same i f
+unfoldable pub relates_to : Relation → List ℕ → List ℕ → Bool
+relates_to (Relation.Strings r) i f = strings_relate r i f
+relates_to (Relation.Numbers r) i f = number_readings_relate r (numbers.read i) (numbers.read f)
+relates_to (Relation.Dates r) i f = date_readings_relate r (periods.read_span i) (dates.read f)
+relates_to Relation.Tokens i f = tokens.matches i f
+relates_to Relation.References i f = texts.same i f
 
 -- ---- a value that is read once for many texts
 
@@ -78,16 +78,16 @@ abbrev pub unread : Readings
 unread = record { number = NumberReading.Unreadable; date = DateReading.Unreadable }
 
 -- what a value reads to, where the relation compares what texts read to
-unfoldable pub readingsOf : Relation → List ℕ → Readings
-readingsOf (Relation.Strings r) f = unread
-readingsOf (Relation.Numbers r) f = record { number = numbers.read f; date = DateReading.Unreadable }
-readingsOf (Relation.Dates r) f = record { number = NumberReading.Unreadable; date = dates.read f }
-readingsOf Relation.Tokens f = unread
-readingsOf Relation.References f = unread
+unfoldable pub readings_of : Relation → List ℕ → Readings
+readings_of (Relation.Strings r) f = unread
+readings_of (Relation.Numbers r) f = record { number = numbers.read f; date = DateReading.Unreadable }
+readings_of (Relation.Dates r) f = record { number = NumberReading.Unreadable; date = dates.read f }
+readings_of Relation.Tokens f = unread
+readings_of Relation.References f = unread
 
-unfoldable pub relatesRead : Relation → List ℕ → List ℕ → Readings → Bool
-relatesRead (Relation.Strings r) i f v = stringsRelate r i f
-relatesRead (Relation.Numbers r) i f v = numberReadingsRelate r (numbers.read i) v.number
-relatesRead (Relation.Dates r) i f v = dateReadingsRelate r (periods.readSpan i) v.date
-relatesRead Relation.Tokens i f v = tokens.matches i f
-relatesRead Relation.References i f v = texts.same i f
+unfoldable pub relates_read : Relation → List ℕ → List ℕ → Readings → Bool
+relates_read (Relation.Strings r) i f v = strings_relate r i f
+relates_read (Relation.Numbers r) i f v = number_readings_relate r (numbers.read i) v.number
+relates_read (Relation.Dates r) i f v = date_readings_relate r (periods.read_span i) v.date
+relates_read Relation.Tokens i f v = tokens.matches i f
+relates_read Relation.References i f v = texts.same i f

@@ -3,7 +3,7 @@
 use Rattle.std.specs.Prelude.{ℕ, ◌≡◌, List, [], ◌++◌, ◌⊎◌}
 use Rattle.base.specs.Ascii.{ascii}
 use Rattle.base.specs.Operators.{eq, ne, co, sw, ew, gt, lt, ge, le, sa, eb, pr, po, re}
-use Rattle.text.specs.Fold.{foldText}
+use Rattle.text.specs.Fold.{fold_text}
 use Rattle.number.specs.declared.Decimal.{Decimal}
 use Rattle.date.specs.declared.Date.{Date}
 use Rattle.token.specs.Card.{Token}
@@ -16,7 +16,7 @@ use Rattle.kind.specs.declared.StringRelation.{StringRelation}
 use Rattle.kind.specs.declared.NumberRelation.{NumberRelation}
 use Rattle.kind.specs.declared.DateRelation.{DateRelation}
 use Rattle.number.specs.Spelling as numbers
-use Rattle.number.specs.Value.{exactValue}
+use Rattle.number.specs.Value.{exact_value}
 use Rattle.number.specs.Range as ranges
 use Rattle.date.specs.Spelling as dates
 use Rattle.period.specs.Spelling as periods
@@ -27,12 +27,12 @@ use Rattle.period.specs.declared.Period.{Period}
 
 -- a text of each kind, where IsToken and IsPeriod say which texts are tokens and periods; "reference: not empty. String: every text."
 pub data Readable (IsToken IsPeriod : List ℕ → Type 0) : ℕ → List ℕ → Type 0 where
-  readable-string : {t : List ℕ} → Readable IsToken IsPeriod string t
-  readable-number : {t : List ℕ} {d : Decimal} → numbers.Spells t d → Readable IsToken IsPeriod number t
-  readable-date : {t : List ℕ} {d : Date} → dates.Spells t d → Readable IsToken IsPeriod date t
-  readable-token : {t : List ℕ} → IsToken t → Readable IsToken IsPeriod token t
-  readable-reference : {t : List ℕ} → (t ≡ [] → ⊥) → Readable IsToken IsPeriod reference t
-  readable-period : {t : List ℕ} → IsPeriod t → Readable IsToken IsPeriod period t
+  readable_string : {t : List ℕ} → Readable IsToken IsPeriod string t
+  readable_number : {t : List ℕ} {d : Decimal} → numbers.Spells t d → Readable IsToken IsPeriod number t
+  readable_date : {t : List ℕ} {d : Date} → dates.Spells t d → Readable IsToken IsPeriod date t
+  readable_token : {t : List ℕ} → IsToken t → Readable IsToken IsPeriod token t
+  readable_reference : {t : List ℕ} → (t ≡ [] → ⊥) → Readable IsToken IsPeriod reference t
+  readable_period : {t : List ℕ} → IsPeriod t → Readable IsToken IsPeriod period t
 
 -- "token on a card": a code, or a system and a code
 abbrev pub CardToken : List ℕ → Type 0
@@ -60,101 +60,101 @@ ReadableInFilter = Readable FilterToken FilterPeriod
 
 -- true or false, case ignored, and nothing else
 pub data TrueOrFalse (v : List ℕ) : Type 0 where
-  spells-true : foldText v ≡ ascii "true" → TrueOrFalse v
-  spells-false : foldText v ≡ ascii "false" → TrueOrFalse v
+  spells_true : fold_text v ≡ ascii "true" → TrueOrFalse v
+  spells_false : fold_text v ≡ ascii "false" → TrueOrFalse v
 
 -- a filter's value under a kind and an operator; "for pr, under every kind, the filter's text is true or false"
 pub data ReadableValue (kind : ℕ) (v : List ℕ) : ℕ → Type 0 where
-  value-of-pr : TrueOrFalse v → ReadableValue kind v pr
-  value-of-kind : {k : ℕ} → (k ≡ pr → ⊥) → ReadableInFilter kind v → ReadableValue kind v k
+  value_of_pr : TrueOrFalse v → ReadableValue kind v pr
+  value_of_kind : {k : ℕ} → (k ≡ pr → ⊥) → ReadableInFilter kind v → ReadableValue kind v k
 
 -- ---- operators
 
 -- the kinds with the row of dates; 02: of a period "the operations are those of dates"
 pub data HasDates : ℕ → Type 0 where
-  dates-of-date : HasDates date
-  dates-of-period : HasDates period
+  dates_of_date : HasDates date
+  dates_of_period : HasDates period
 
 -- document 01's table: an operator that the kind's row has, and the relation that it asks for
 pub data Row : ℕ → ℕ → Relation → Type 0 where
   -- "eq same; co holds it somewhere; sw, ew at the start, at the end"
   string_eq : Row string eq (Relation.Strings StringRelation.Same)
-  string-co : Row string co (Relation.Strings StringRelation.Contains)
-  string-sw : Row string sw (Relation.Strings StringRelation.Starts)
-  string-ew : Row string ew (Relation.Strings StringRelation.Ends)
+  string_co : Row string co (Relation.Strings StringRelation.Contains)
+  string_sw : Row string sw (Relation.Strings StringRelation.Starts)
+  string_ew : Row string ew (Relation.Strings StringRelation.Ends)
   -- "eq; gt lt ge le by exact value; co: F lies in I's range"
-  number-eq : Row number eq (Relation.Numbers NumberRelation.Inside)
-  number-gt : Row number gt (Relation.Numbers NumberRelation.Greater)
+  number_eq : Row number eq (Relation.Numbers NumberRelation.Inside)
+  number_gt : Row number gt (Relation.Numbers NumberRelation.Greater)
   number_lt : Row number lt (Relation.Numbers NumberRelation.Less)
-  number-ge : Row number ge (Relation.Numbers NumberRelation.AtLeast)
-  number-le : Row number le (Relation.Numbers NumberRelation.AtMost)
-  number-co : Row number co (Relation.Numbers NumberRelation.Covers)
+  number_ge : Row number ge (Relation.Numbers NumberRelation.AtLeast)
+  number_le : Row number le (Relation.Numbers NumberRelation.AtMost)
+  number_co : Row number co (Relation.Numbers NumberRelation.Covers)
   -- "eq; gt; lt; ge; le; sa; eb; po; co"
-  date-eq : {kind : ℕ} → HasDates kind → Row kind eq (Relation.Dates DateRelation.Inside)
-  date-gt : {kind : ℕ} → HasDates kind → Row kind gt (Relation.Dates DateRelation.Later)
-  date-lt : {kind : ℕ} → HasDates kind → Row kind lt (Relation.Dates DateRelation.Earlier)
-  date-ge : {kind : ℕ} → HasDates kind → Row kind ge (Relation.Dates DateRelation.LaterOrInside)
-  date-le : {kind : ℕ} → HasDates kind → Row kind le (Relation.Dates DateRelation.EarlierOrInside)
-  date-sa : {kind : ℕ} → HasDates kind → Row kind sa (Relation.Dates DateRelation.StartsAfter)
-  date-eb : {kind : ℕ} → HasDates kind → Row kind eb (Relation.Dates DateRelation.EndsBefore)
-  date-po : {kind : ℕ} → HasDates kind → Row kind po (Relation.Dates DateRelation.Overlaps)
-  date-co : {kind : ℕ} → HasDates kind → Row kind co (Relation.Dates DateRelation.Covers)
+  date_eq : {kind : ℕ} → HasDates kind → Row kind eq (Relation.Dates DateRelation.Inside)
+  date_gt : {kind : ℕ} → HasDates kind → Row kind gt (Relation.Dates DateRelation.Later)
+  date_lt : {kind : ℕ} → HasDates kind → Row kind lt (Relation.Dates DateRelation.Earlier)
+  date_ge : {kind : ℕ} → HasDates kind → Row kind ge (Relation.Dates DateRelation.LaterOrInside)
+  date_le : {kind : ℕ} → HasDates kind → Row kind le (Relation.Dates DateRelation.EarlierOrInside)
+  date_sa : {kind : ℕ} → HasDates kind → Row kind sa (Relation.Dates DateRelation.StartsAfter)
+  date_eb : {kind : ℕ} → HasDates kind → Row kind eb (Relation.Dates DateRelation.EndsBefore)
+  date_po : {kind : ℕ} → HasDates kind → Row kind po (Relation.Dates DateRelation.Overlaps)
+  date_co : {kind : ℕ} → HasDates kind → Row kind co (Relation.Dates DateRelation.Covers)
   -- "eq by the four forms"
-  token-eq : Row token eq Relation.Tokens
+  token_eq : Row token eq Relation.Tokens
   -- "re same"
-  reference-re : Row reference re Relation.References
+  reference_re : Row reference re Relation.References
 
 -- a kind has an operator: "it has its row's, pr, and ne if the row has eq"
 pub data HasOperator (kind : ℕ) : ℕ → Type 0 where
-  operator-of-row : {k : ℕ} {r : Relation} → Row kind k r → HasOperator kind k
-  operator-pr : HasOperator kind pr
-  operator-ne : {r : Relation} → Row kind eq r → HasOperator kind ne
+  operator_of_row : {k : ℕ} {r : Relation} → Row kind k r → HasOperator kind k
+  operator_pr : HasOperator kind pr
+  operator_ne : {r : Relation} → Row kind eq r → HasOperator kind ne
 
 -- ---- relations
 
 -- the card's number i stands in the relation to the filter's f
 pub data NumbersRelate (i f : Decimal) : NumberRelation → Type 0 where
   -- 02: eq "means that the filter's range holds the card's range whole": every point of it
-  number-inside : ranges.Held i f → NumbersRelate i f NumberRelation.Inside
+  number_inside : ranges.Held i f → NumbersRelate i f NumberRelation.Inside
   -- "gt lt ge le by exact value, card against filter"
-  number-greater : ranges.Less (exactValue f) (exactValue i) → NumbersRelate i f NumberRelation.Greater
-  number-less : ranges.Less (exactValue i) (exactValue f) → NumbersRelate i f NumberRelation.Less
-  number-at-least : ranges.AtMost (exactValue f) (exactValue i) → NumbersRelate i f NumberRelation.AtLeast
-  number-at-most : ranges.AtMost (exactValue i) (exactValue f) → NumbersRelate i f NumberRelation.AtMost
+  number_greater : ranges.Less (exact_value f) (exact_value i) → NumbersRelate i f NumberRelation.Greater
+  number_less : ranges.Less (exact_value i) (exact_value f) → NumbersRelate i f NumberRelation.Less
+  number_at_least : ranges.AtMost (exact_value f) (exact_value i) → NumbersRelate i f NumberRelation.AtLeast
+  number_at_most : ranges.AtMost (exact_value i) (exact_value f) → NumbersRelate i f NumberRelation.AtMost
   -- "co: F lies in I's range"
-  number-covers : ranges.InRange i (ranges.above (exactValue f)) → NumbersRelate i f NumberRelation.Covers
+  number_covers : ranges.InRange i (ranges.above (exact_value f)) → NumbersRelate i f NumberRelation.Covers
 
 -- the card's period i, from i0 to i1, stands in the relation to the filter's date f, from f0 to f1, by their instants; a card's date is
 -- the period with both ends known. So the R4 prefixes have it: gt where the range above the filter's meets the card's
 pub data DatesRelate (i : Period) (f : Date) : DateRelation → Type 0 where
   -- 02: eq "means that the filter's range holds the card's range whole": every instant of I lies in F, so "a stay open at an end is never eq"
-  date-inside : instants.Held i f → DatesRelate i f DateRelation.Inside
+  date_inside : instants.Held i f → DatesRelate i f DateRelation.Inside
   -- "gt i1>f1; lt i0<f0": some instant of I comes after all of F, or before
-  date-later : instants.SomeAfter i f → DatesRelate i f DateRelation.Later
-  date-earlier : instants.SomeBefore i f → DatesRelate i f DateRelation.Earlier
+  date_later : instants.SomeAfter i f → DatesRelate i f DateRelation.Later
+  date_earlier : instants.SomeBefore i f → DatesRelate i f DateRelation.Earlier
   -- "ge gt or I inside F; le lt or I inside F"
-  date-later-or-inside : instants.SomeAfter i f ⊎ instants.Held i f → DatesRelate i f DateRelation.LaterOrInside
-  date-earlier-or-inside : instants.SomeBefore i f ⊎ instants.Held i f → DatesRelate i f DateRelation.EarlierOrInside
+  date_later_or_inside : instants.SomeAfter i f ⊎ instants.Held i f → DatesRelate i f DateRelation.LaterOrInside
+  date_earlier_or_inside : instants.SomeBefore i f ⊎ instants.Held i f → DatesRelate i f DateRelation.EarlierOrInside
   -- "sa i0>=f1; eb i1<=f0": every instant of I comes after all of F, or before
-  date-starts-after : instants.EveryAfter i f → DatesRelate i f DateRelation.StartsAfter
-  date-ends-before : instants.EveryBefore i f → DatesRelate i f DateRelation.EndsBefore
+  date_starts_after : instants.EveryAfter i f → DatesRelate i f DateRelation.StartsAfter
+  date_ends_before : instants.EveryBefore i f → DatesRelate i f DateRelation.EndsBefore
   -- "po i0<f1 and f0<i1": some instant lies in both
-  date-overlaps : instants.Meets i f → DatesRelate i f DateRelation.Overlaps
+  date_overlaps : instants.Meets i f → DatesRelate i f DateRelation.Overlaps
   -- "co F inside I": every instant of F lies in I
-  date-covers : instants.Holds i f → DatesRelate i f DateRelation.Covers
+  date_covers : instants.Holds i f → DatesRelate i f DateRelation.Covers
 
 -- the card's text x stands in the relation to the filter's value v; "text comparisons ignore the case of A to Z", and that of the letters
 -- U+00C0 to U+00DE without U+00D7: "each text is folded whole before it is compared"
 pub data RelatesTo : Relation → List ℕ → List ℕ → Type 0 where
   -- "eq same; co holds it somewhere; sw, ew at the start, at the end"
-  string-same : {x v : List ℕ} → foldText x ≡ foldText v → RelatesTo (Relation.Strings StringRelation.Same) x v
-  string-contains : {x v : List ℕ} (p q : List ℕ) → foldText x ≡ p ++ (foldText v ++ q) → RelatesTo (Relation.Strings StringRelation.Contains) x v
-  string-starts : {x v : List ℕ} (q : List ℕ) → foldText x ≡ foldText v ++ q → RelatesTo (Relation.Strings StringRelation.Starts) x v
-  string-ends : {x v : List ℕ} (p : List ℕ) → foldText x ≡ p ++ foldText v → RelatesTo (Relation.Strings StringRelation.Ends) x v
+  string_same : {x v : List ℕ} → fold_text x ≡ fold_text v → RelatesTo (Relation.Strings StringRelation.Same) x v
+  string_contains : {x v : List ℕ} (p q : List ℕ) → fold_text x ≡ p ++ (fold_text v ++ q) → RelatesTo (Relation.Strings StringRelation.Contains) x v
+  string_starts : {x v : List ℕ} (q : List ℕ) → fold_text x ≡ fold_text v ++ q → RelatesTo (Relation.Strings StringRelation.Starts) x v
+  string_ends : {x v : List ℕ} (p : List ℕ) → fold_text x ≡ p ++ fold_text v → RelatesTo (Relation.Strings StringRelation.Ends) x v
   -- two numbers; a card's date or period and a filter's date
   numbers-relate : {r : NumberRelation} {x v : List ℕ} {i f : Decimal} → numbers.Spells x i → numbers.Spells v f → NumbersRelate i f r → RelatesTo (Relation.Numbers r) x v
   dates-relate : {r : DateRelation} {x v : List ℕ} {i : Period} {f : Date} → periods.SpellsSpan x i → dates.Spells v f → DatesRelate i f r → RelatesTo (Relation.Dates r) x v
   -- "eq by the four forms"
-  tokens-relate : {x v : List ℕ} {i : Token} {f : Form} → CardSpells x i → FilterSpells v f → Asks f i → RelatesTo Relation.Tokens x v
+  tokens_relate : {x v : List ℕ} {i : Token} {f : Form} → CardSpells x i → FilterSpells v f → Asks f i → RelatesTo Relation.Tokens x v
   -- "re same"
-  references-same : {x v : List ℕ} → foldText x ≡ foldText v → RelatesTo Relation.References x v
+  references_same : {x v : List ℕ} → fold_text x ≡ fold_text v → RelatesTo Relation.References x v

@@ -1,6 +1,6 @@
 // The one decision over operator and kind: document 01's table, a row for each kind.
 ghost use Rattle.std.specs.Prelude.{◌≡◌};
-ghost use Rattle.kind.specs.Table.{stringRow, numberRow, dateRow, tokenRow, referenceRow, rowMeaning, meaningOf};
+ghost use Rattle.kind.specs.Table.{string_row, number_row, date_row, token_row, reference_row, row_meaning, meaning_of};
 
 use crate::{DateRelation, Meaning, NumberRelation, Relation, StringRelation};
 use base::kind;
@@ -8,7 +8,7 @@ use base::operator::{CO, EB, EQ, EW, GE, GT, LE, LT, NE, PO, PR, RE, SA, SW};
 
 // The row of strings.
 fn string_meaning(operator: u8) -> Meaning
-    ensures { result ≡ rowMeaning stringRow operator }
+    ensures { result ≡ row_meaning string_row operator }
 {
     match operator {
         EQ => Meaning::Relates(Relation::Strings(StringRelation::Same)),
@@ -22,7 +22,7 @@ fn string_meaning(operator: u8) -> Meaning
 
 // The row of numbers.
 fn number_meaning(operator: u8) -> Meaning
-    ensures { result ≡ rowMeaning numberRow operator }
+    ensures { result ≡ row_meaning number_row operator }
 {
     match operator {
         EQ => Meaning::Relates(Relation::Numbers(NumberRelation::Inside)),
@@ -38,7 +38,7 @@ fn number_meaning(operator: u8) -> Meaning
 
 // The row of dates, which periods have too.
 fn date_meaning(operator: u8) -> Meaning
-    ensures { result ≡ rowMeaning dateRow operator }
+    ensures { result ≡ row_meaning date_row operator }
 {
     match operator {
         EQ => Meaning::Relates(Relation::Dates(DateRelation::Inside)),
@@ -57,7 +57,7 @@ fn date_meaning(operator: u8) -> Meaning
 
 // The row of tokens.
 fn token_meaning(operator: u8) -> Meaning
-    ensures { result ≡ rowMeaning tokenRow operator }
+    ensures { result ≡ row_meaning token_row operator }
 {
     match operator {
         EQ => Meaning::Relates(Relation::Tokens),
@@ -68,7 +68,7 @@ fn token_meaning(operator: u8) -> Meaning
 
 // The row of references.
 fn reference_meaning(operator: u8) -> Meaning
-    ensures { result ≡ rowMeaning referenceRow operator }
+    ensures { result ≡ row_meaning reference_row operator }
 {
     match operator {
         RE => Meaning::Relates(Relation::References),
@@ -78,7 +78,7 @@ fn reference_meaning(operator: u8) -> Meaning
 
 // What an operator means for a kind.
 pub fn meaning_of(operator: u8, kind: u8) -> Meaning
-    ensures { result ≡ meaningOf operator kind }
+    ensures { result ≡ meaning_of operator kind }
 {
     if operator == PR {
         return Meaning::Present;

@@ -1,7 +1,7 @@
 // Whether a card's text stands in a relation to a filter's value.
 ghost use Rattle.std.specs.Prelude.{◌≡◌};
 ghost use Rattle.number.specs.Value.{Bounded};
-ghost use Rattle.kind.specs.Relations.{Kept, stringsRelate, numbersRelate, datesRelate, numberReadingsRelate, dateReadingsRelate, unread, readingsOf, relatesRead};
+ghost use Rattle.kind.specs.Relations.{Kept, strings_relate, numbers_relate, dates_relate, number_readings_relate, date_readings_relate, unread, readings_of, relates_read};
 ghost use Rattle.number.specs.Reading as numbers;
 ghost use Rattle.period.specs.Texts as periods;
 
@@ -12,7 +12,7 @@ use period::{Period, PeriodReading};
 
 // A card's text and a filter's value, as they are written.
 fn strings_relate(relation: StringRelation, text: &[u8], value: &[u8]) -> bool
-    ensures { result ≡ stringsRelate relation text.now value.now }
+    ensures { result ≡ strings_relate relation text.now value.now }
 {
     match relation {
         StringRelation::Same => text::same(text, value),
@@ -26,7 +26,7 @@ fn strings_relate(relation: StringRelation, text: &[u8], value: &[u8]) -> bool
 pub fn numbers_relate(relation: NumberRelation, i: Decimal, f: Decimal) -> bool
     requires bounded { Bounded i }
     requires bounded_2 { Bounded f }
-    ensures { result ≡ numbersRelate relation i f }
+    ensures { result ≡ numbers_relate relation i f }
 {
     match relation {
         NumberRelation::Inside => number::inside(i, f),
@@ -41,7 +41,7 @@ pub fn numbers_relate(relation: NumberRelation, i: Decimal, f: Decimal) -> bool
 // A card's text and a filter's number that was read.
 fn number_readings_relate(relation: NumberRelation, text: &[u8], value: NumberReading) -> bool
     requires { Kept value }
-    ensures { result ≡ numberReadingsRelate relation (numbers.read text.now) value }
+    ensures { result ≡ number_readings_relate relation (numbers.read text.now) value }
 {
     let NumberReading::Number(i) = number::read(text) else {
         return false;
@@ -54,7 +54,7 @@ fn number_readings_relate(relation: NumberRelation, text: &[u8], value: NumberRe
 
 // A card's period, which a date is too, and a filter's date.
 pub fn dates_relate(relation: DateRelation, i: Period, f: Date) -> bool
-    ensures { result ≡ datesRelate relation i f }
+    ensures { result ≡ dates_relate relation i f }
 {
     match relation {
         DateRelation::Inside => period::inside(i, f),
@@ -71,7 +71,7 @@ pub fn dates_relate(relation: DateRelation, i: Period, f: Date) -> bool
 
 // A card's text and a filter's date that was read.
 fn date_readings_relate(relation: DateRelation, text: &[u8], value: DateReading) -> bool
-    ensures { result ≡ dateReadingsRelate relation (periods.readSpan text.now) value }
+    ensures { result ≡ date_readings_relate relation (periods.read_span text.now) value }
 {
     let PeriodReading::Readable(i) = period::read_span(text) else {
         return false;
@@ -94,7 +94,7 @@ pub fn unread() -> Readings
 
 // What a filter's value reads to, where the relation compares what texts read to.
 pub fn readings_of(relation: Relation, value: &[u8]) -> Readings
-    ensures { result ≡ readingsOf relation value.now }
+    ensures { result ≡ readings_of relation value.now }
 {
     match relation {
         Relation::Strings(_) => unread(),
@@ -114,7 +114,7 @@ pub fn readings_of(relation: Relation, value: &[u8]) -> Readings
 // Whether the card's text stands in the relation to the filter's value, which was read already.
 pub fn relates_read(relation: Relation, text: &[u8], value: &[u8], readings: Readings) -> bool
     requires { Kept readings.number }
-    ensures { result ≡ relatesRead relation text.now value.now readings }
+    ensures { result ≡ relates_read relation text.now value.now readings }
 {
     let number = readings.number;
     let date = readings.date;

@@ -3,14 +3,14 @@
 use mathlib.Core.Path.{◌≡◌, refl}
 use mathlib.Core.List.{[], ◌∷◌, ◌++◌}
 use Rattle.base.specs.Ascii.{ascii}
-use Rattle.listing.specs.Lines.{digitsOf, decimal, lineFeed, lines, refusalLine, countLine}
+use Rattle.listing.specs.Lines.{digits_of, decimal, line_feed, lines, refusal_line, count_line}
 
 -- "it prints `7`, `300`, `2 of 3`, each with a line feed"
-pub printed : lines (7 ∷ 300 ∷ []) ++ countLine 2 3 ≡ ascii "7" ++ (lineFeed ++ (ascii "300" ++ (lineFeed ++ (ascii "2 of 3" ++ lineFeed))))
-unfolding lines decimal digitsOf
+pub printed : lines (7 ∷ 300 ∷ []) ++ count_line 2 3 ≡ ascii "7" ++ (line_feed ++ (ascii "300" ++ (line_feed ++ (ascii "2 of 3" ++ line_feed))))
+unfolding lines decimal digits_of
 printed = refl
 
 -- "a refusal prints `refused 16 at 0`"
-pub refusal-printed : refusalLine 16 0 ≡ ascii "refused 16 at 0" ++ lineFeed
-unfolding decimal digitsOf
-refusal-printed = refl
+pub refusal_printed : refusal_line 16 0 ≡ ascii "refused 16 at 0" ++ line_feed
+unfolding decimal digits_of
+refusal_printed = refl

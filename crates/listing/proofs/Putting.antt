@@ -9,8 +9,8 @@ use lib.ListN.{length, get_or, drop, length-append, drop_of_length-le}
 use lib.Seq.{drop-cons}
 use Rattle.base.specs.Ascii.{ascii}
 use Rattle.base.specs.Writing.{Room, Puts}
-use Rattle.base.proofs.Writing.{lent, back, Wrote, wrote-start, wrote-room, wrote-next, wrote-fits, wrote-end, last-wrote, second-wrote, third-wrote}
-use Rattle.listing.specs.Lines.{decimal, lineFeed, labelled, numberLine, lines, refusalLine, countLine, failureLine}
+use Rattle.base.proofs.Writing.{lent, back, Wrote, wrote_start, wrote_room, wrote_next, wrote_fits, wrote_end, last_wrote, second_wrote, third_wrote}
+use Rattle.listing.specs.Lines.{decimal, line_feed, labelled, number_line, lines, refusal_line, count_line, failure_line}
 use Rattle.listing.proofs.Decimal.{decimal-length}
 
 -- ---- room for the lines
@@ -22,44 +22,44 @@ pub lines-length : (ns : List ℕ) → ((i : ℕ) → get_or ns i 0 < 2 ^ 64) �
 unfolding lines
 lines-length [] h = omega arith
 lines-length (n ∷ ns) h =
-    omega (arith, length-append (decimal n ++ lineFeed) (lines ns), length-append (decimal n) lineFeed, decimal-length n (h 0), lines-length ns (λ i. h (suc i)))
+    omega (arith, length-append (decimal n ++ line_feed) (lines ns), length-append (decimal n) line_feed, decimal-length n (h 0), lines-length ns (λ i. h (suc i)))
 
 module _ (out : List ℕ) where
-  pub refusal-room : (number place : ℕ) → number < 2 ^ 64 → place < 2 ^ 64 → 64 ≤ length out → Room (refusalLine number place) out
-  refusal-room number place h k l =
-      record { fits = omega (arith, length-append (labelled (ascii "refused ") number) (labelled (ascii " at ") place ++ lineFeed), length-append (labelled (ascii " at ") place) lineFeed, labelled-length (ascii "refused ") number h, labelled-length (ascii " at ") place k) }
+  pub refusal_room : (number place : ℕ) → number < 2 ^ 64 → place < 2 ^ 64 → 64 ≤ length out → Room (refusal_line number place) out
+  refusal_room number place h k l =
+      record { fits = omega (arith, length-append (labelled (ascii "refused ") number) (labelled (ascii " at ") place ++ line_feed), length-append (labelled (ascii " at ") place) line_feed, labelled-length (ascii "refused ") number h, labelled-length (ascii " at ") place k) }
 
-  pub count_room : (matches cards : ℕ) → matches < 2 ^ 64 → cards < 2 ^ 64 → 64 ≤ length out → Room (countLine matches cards) out
+  pub count_room : (matches cards : ℕ) → matches < 2 ^ 64 → cards < 2 ^ 64 → 64 ≤ length out → Room (count_line matches cards) out
   count_room matches cards h k l =
-      record { fits = omega (arith, length-append (decimal matches) (labelled (ascii " of ") cards ++ lineFeed), length-append (labelled (ascii " of ") cards) lineFeed, decimal-length matches h, labelled-length (ascii " of ") cards k) }
+      record { fits = omega (arith, length-append (decimal matches) (labelled (ascii " of ") cards ++ line_feed), length-append (labelled (ascii " of ") cards) line_feed, decimal-length matches h, labelled-length (ascii " of ") cards k) }
 
-  pub failure-room : (file done : List ℕ) → length file + length done + 12 ≤ length out → Room (failureLine file done) out
-  failure-room file done h =
-      record { fits = omega (arith, length-append (file ++ ascii " cannot be ") (done ++ lineFeed), length-append file (ascii " cannot be "), length-append done lineFeed) }
+  pub failure_room : (file done : List ℕ) → length file + length done + 12 ≤ length out → Room (failure_line file done) out
+  failure_room file done h =
+      record { fits = omega (arith, length-append (file ++ ascii " cannot be ") (done ++ line_feed), length-append file (ascii " cannot be "), length-append done line_feed) }
 
 -- a text that stands is no longer than the buffer
-pub puts-within : {w part exit : List ℕ} {n : ℕ} → Puts w part exit n → n ≤ length exit
-puts-within {w} {part} {exit} {n} p = omega (arith, p.long, ap length p.bytes, length-append w (drop n part))
+pub puts_within : {w part exit : List ℕ} {n : ℕ} → Puts w part exit n → n ≤ length exit
+puts_within {w} {part} {exit} {n} p = omega (arith, p.long, ap length p.bytes, length-append w (drop n part))
 
 -- ---- two texts, and three: what stands when the last is put
 
 module _ (a b out : List ℕ) (h : Room (a ++ b) out) {out₁ : List ℕ} {n : ℕ} (p : Puts a out out₁ n) {exit : List ℕ} {k : ℕ} (q : Puts b (lent out₁ n) exit k) where
   pub two-within : n + k ≤ length out
-  two-within = let w = last-wrote a b out h p q in omega (arith, w.within, w.long)
+  two-within = let w = last_wrote a b out h p q in omega (arith, w.within, w.long)
 
-  pub two-puts : Puts (a ++ b) out (back out₁ n exit) (n + k)
-  two-puts = wrote-end (last-wrote a b out h p q) refl
+  pub two_puts : Puts (a ++ b) out (back out₁ n exit) (n + k)
+  two_puts = wrote_end (last_wrote a b out h p q) refl
 
 module _ (a b c out : List ℕ) (h : Room (a ++ (b ++ c)) out) {out₁ : List ℕ} {n : ℕ} (p : Puts a out out₁ n) {exit : List ℕ} {k : ℕ} (q : Puts b (lent out₁ n) exit k) where
-  pub middle-within : n + k ≤ length (back out₁ n exit)
-  middle-within = omega (arith, (second-wrote a b c out h p q).within)
+  pub middle_within : n + k ≤ length (back out₁ n exit)
+  middle_within = omega (arith, (second_wrote a b c out h p q).within)
 
   module _ {exit₂ : List ℕ} {m : ℕ} (r : Puts c (lent (back out₁ n exit) (n + k)) exit₂ m) where
-    pub three-within : n + k + m ≤ length out
-    three-within = let w = third-wrote a b c out h p q r in omega (arith, w.within, w.long)
+    pub three_within : n + k + m ≤ length out
+    three_within = let w = third_wrote a b c out h p q r in omega (arith, w.within, w.long)
 
-    pub three-puts : Puts (a ++ (b ++ c)) out (back (back out₁ n exit) (n + k) exit₂) (n + k + m)
-    three-puts = wrote-end (third-wrote a b c out h p q r) refl
+    pub three_puts : Puts (a ++ (b ++ c)) out (back (back out₁ n exit) (n + k) exit₂) (n + k + m)
+    three_puts = wrote_end (third_wrote a b c out h p q r) refl
 
 -- ---- the numbers of a list: i lines stand, in `at` bytes
 
@@ -67,13 +67,13 @@ pub record LinesPut (ns entry out : List ℕ) (at i : ℕ) : Type 0 where
   pub few : i ≤ length ns
   pub wrote : Wrote (lines ns) (lines (drop i ns)) entry out at
 
-pub lines-begin : (ns out : List ℕ) → ((i : ℕ) → get_or ns i 0 < 2 ^ 64) → 21 * length ns ≤ length out → LinesPut ns out out 0 0
-lines-begin ns out h k = record { few = zero-le; wrote = wrote-start (lines ns) out (record { fits = omega (arith, lines-length ns h) }) }
+pub lines_begin : (ns out : List ℕ) → ((i : ℕ) → get_or ns i 0 < 2 ^ 64) → 21 * length ns ≤ length out → LinesPut ns out out 0 0
+lines_begin ns out h k = record { few = zero-le; wrote = wrote_start (lines ns) out (record { fits = omega (arith, lines-length ns h) }) }
 
 -- the numbers from i on begin with the line of the next one
-next-line : (ns : List ℕ) (i : ℕ) → i < length ns → lines (drop i ns) ≡ numberLine (get_or ns i 0) ++ lines (drop (i + 1) ns)
+next_line : (ns : List ℕ) (i : ℕ) → i < length ns → lines (drop i ns) ≡ number_line (get_or ns i 0) ++ lines (drop (i + 1) ns)
 unfolding lines
-next-line ns i h = ap lines (drop-cons ns i 0 h) ∙ rw (add-one i)
+next_line ns i h = ap lines (drop-cons ns i 0 h) ∙ rw (add-one i)
 
 module _ {ns entry out : List ℕ} {at i : ℕ} (l : LinesPut ns entry out at i) where
   pub lines-within : at ≤ length out
@@ -83,19 +83,19 @@ module _ {ns entry out : List ℕ} {at i : ℕ} (l : LinesPut ns entry out at i)
   lines_long = l.wrote.long
 
   module _ (h : i < length ns) {x : ℕ} (e : x ≡ get_or ns i 0) where
-    next : lines (drop i ns) ≡ numberLine x ++ lines (drop (i + 1) ns)
-    next = next-line ns i h ∙ ap (λ (n : ℕ). numberLine n ++ lines (drop (i + 1) ns)) (sym e)
+    next : lines (drop i ns) ≡ number_line x ++ lines (drop (i + 1) ns)
+    next = next_line ns i h ∙ ap (λ (n : ℕ). number_line n ++ lines (drop (i + 1) ns)) (sym e)
 
-    pub line-room : Room (numberLine x) (lent out at)
-    line-room = wrote-room l.wrote (numberLine x) (lines (drop (i + 1) ns)) next
+    pub line_room : Room (number_line x) (lent out at)
+    line_room = wrote_room l.wrote (number_line x) (lines (drop (i + 1) ns)) next
 
-    module _ {exit : List ℕ} {k : ℕ} (p : Puts (numberLine x) (lent out at) exit k) where
-      pub line-within : at + k ≤ length out
-      line-within = wrote-fits l.wrote (numberLine x) (lines (drop (i + 1) ns)) next p
+    module _ {exit : List ℕ} {k : ℕ} (p : Puts (number_line x) (lent out at) exit k) where
+      pub line_within : at + k ≤ length out
+      line_within = wrote_fits l.wrote (number_line x) (lines (drop (i + 1) ns)) next p
 
-      pub line-put : LinesPut ns entry (back out at exit) (at + k) (i + 1)
-      line-put = record { few = omega arith; wrote = wrote-next l.wrote (numberLine x) (lines (drop (i + 1) ns)) next p }
+      pub line_put : LinesPut ns entry (back out at exit) (at + k) (i + 1)
+      line_put = record { few = omega arith; wrote = wrote_next l.wrote (number_line x) (lines (drop (i + 1) ns)) next p }
 
   pub lines_end : length ns ≤ i → Puts (lines ns) entry out at
   unfolding lines
-  lines_end h = wrote-end l.wrote (ap lines (drop_of_length-le ns {i = i} h))
+  lines_end h = wrote_end l.wrote (ap lines (drop_of_length-le ns {i = i} h))

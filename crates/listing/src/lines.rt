@@ -1,7 +1,7 @@
 // Lines of the output. Each is put over the first bytes of a part of a buffer.
 ghost use Rattle.std.specs.Prelude.{◌+◌, ◌*◌, ◌≤◌, ◌≡◌, ◌++◌, length};
 ghost use Rattle.base.specs.Writing.{Room, Puts};
-ghost use Rattle.listing.specs.Lines.{decimal, labelled, numberLine, lines, refusalLine, countLine, failureLine};
+ghost use Rattle.listing.specs.Lines.{decimal, labelled, number_line, lines, refusal_line, count_line, failure_line};
 
 use base::write_word;
 
@@ -42,8 +42,8 @@ pub fn wide(x: u32) -> u64
 
 // Puts a number on a line.
 fn put_line(n: u64, out: &mut [u8]) -> usize
-    requires { Room (numberLine n) out.old }
-    ensures { Puts (numberLine n) out.old out.new result }
+    requires { Room (number_line n) out.old }
+    ensures { Puts (number_line n) out.old out.new result }
 {
     let end = put_number(n, out);
     end + write_word(b"\n", &mut out[end..])
@@ -65,8 +65,8 @@ pub fn put_lines(numbers: &[u32], out: &mut [u8]) -> usize
 
 // Puts a refusal, as `refused 16 at 0`.
 pub fn put_refusal(number: u64, place: u64, out: &mut [u8]) -> usize
-    requires { Room (refusalLine number place) out.old }
-    ensures { Puts (refusalLine number place) out.old out.new result }
+    requires { Room (refusal_line number place) out.old }
+    ensures { Puts (refusal_line number place) out.old out.new result }
 {
     let first = put_labelled(b"refused ", number, out);
     let second = first + put_labelled(b" at ", place, &mut out[first..]);
@@ -75,8 +75,8 @@ pub fn put_refusal(number: u64, place: u64, out: &mut [u8]) -> usize
 
 // Puts the last line, as `2 of 3`.
 pub fn put_count(matches: u64, cards: u64, out: &mut [u8]) -> usize
-    requires { Room (countLine matches cards) out.old }
-    ensures { Puts (countLine matches cards) out.old out.new result }
+    requires { Room (count_line matches cards) out.old }
+    ensures { Puts (count_line matches cards) out.old out.new result }
 {
     let first = put_number(matches, out);
     let second = first + put_labelled(b" of ", cards, &mut out[first..]);
@@ -85,8 +85,8 @@ pub fn put_count(matches: u64, cards: u64, out: &mut [u8]) -> usize
 
 // Puts what cannot be done with a file, as `cards.bin cannot be read`.
 pub fn put_failure(file: &[u8], done: &[u8], out: &mut [u8]) -> usize
-    requires { Room (failureLine file.now done.now) out.old }
-    ensures { Puts (failureLine file.now done.now) out.old out.new result }
+    requires { Room (failure_line file.now done.now) out.old }
+    ensures { Puts (failure_line file.now done.now) out.old out.new result }
 {
     let end = put_words(file, b" cannot be ", out);
     end + put_words(done, b"\n", &mut out[end..])

@@ -1,8 +1,8 @@
 // The runs of a file of cards: the totals over them, and a refusal's place among all their cards.
 ghost use Rattle.std.specs.Prelude.{◌≤◌, ◌<◌, ◌≡◌};
 ghost use Rattle.refusal.specs.Answers.{PlaceBound};
-ghost use Rattle.listing.specs.Places.{placeInFile};
-ghost use Rattle.listing.specs.Totals.{mostCards, Countable, Added};
+ghost use Rattle.listing.specs.Places.{place_in_file};
+ghost use Rattle.listing.specs.Totals.{most_cards, Countable, Added};
 
 use crate::Totals;
 
@@ -22,8 +22,8 @@ pub fn add_run(totals: Totals, count: usize, size: usize) -> Totals
 // A refusal's place in the file: a card's index, the place of 21 to 23, counts over the runs before as well.
 pub fn place_in_file(number: u32, place: usize, cards_before: u64) -> u64
     requires place_bound { PlaceBound number place }
-    requires cards_before_lt_most_cards { cards_before < mostCards }
-    ensures { result ≡ placeInFile number place cards_before }
+    requires cards_before_lt_most_cards { cards_before < most_cards }
+    ensures { result ≡ place_in_file number place cards_before }
 {
     let place = place as u64;
     if number < 21 {

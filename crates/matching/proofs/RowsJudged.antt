@@ -8,98 +8,98 @@ use mathlib.Core.List.{List}
 use lib.ListN.{length}
 use borrow.Author.Tests.{eq-eqb, ne_eqb, lt-ltb, le-ltb}
 use Rattle.block.specs.declared.Validity.{Validity}
-use Rattle.sheet.specs.Sheet.{Parameter, parametersOf, readSheet}
-use Rattle.sheet.specs.Find.{kindsOf, parentsOf}
-use Rattle.sheet.proofs.RoundTrip.{sheet-well-formed}
-use Rattle.judge.specs.Verdicts.{filterSays}
+use Rattle.sheet.specs.Sheet.{Parameter, parameters_of, read_sheet}
+use Rattle.sheet.specs.Find.{kinds_of, parents_of}
+use Rattle.sheet.proofs.RoundTrip.{sheet_well_formed}
+use Rattle.judge.specs.Verdicts.{filter_says}
 use Rattle.rows.specs.Shapes.{good}
-use Rattle.row_judge.specs.Saying.{rowsSay, Whole}
+use Rattle.row_judge.specs.Saying.{rows_say, Whole}
 use Rattle.rows.specs.Stated.{tree_of}
-use Rattle.rows.proofs.Good.{good-few}
-use Rattle.row_judge.proofs.Meaning.{good-whole, rows-mean}
+use Rattle.rows.proofs.Good.{good_few}
+use Rattle.row_judge.proofs.Meaning.{good-whole, rows_mean}
 use Rattle.refusal.specs.declared.Reason.{Reason}
-use Rattle.refusal.specs.Answers.{yesOrNo, refused, number_of}
+use Rattle.refusal.specs.Answers.{yes_or_no, refused, number_of}
 use Rattle.refusal.specs.Steps.{found, stop, ◌>>=◌, answer}
-use Rattle.answer.specs.Answers.{matchedAnswer}
-use Rattle.answer.specs.Operations.{sheetStep, acceptSheet, Card, acceptCard}
-use Rattle.answer.specs.Passing.{cardVerdict}
-use Rattle.one_card.specs.OneCard.{verdictStep, verdictAnswer, cellsQuestion}
-use Rattle.answer.specs.Preparing.{acceptSize, acceptRows, rowsAnswer, judgeAnswer}
+use Rattle.answer.specs.Answers.{matched_answer}
+use Rattle.answer.specs.Operations.{sheet_step, accept_sheet, Card, accept_card}
+use Rattle.answer.specs.Passing.{card_verdict}
+use Rattle.one_card.specs.OneCard.{verdict_step, verdict_answer, cells_question}
+use Rattle.answer.specs.Preparing.{accept_size, accept_rows, rows_answer, judge_answer}
 use Rattle.one_card.specs.declared.CardVerdict.{CardVerdict}
-use Rattle.answer.proofs.Passing.{yes-or-no-after, same-verdicts}
+use Rattle.answer.proofs.Passing.{yes_or_no_after, same-verdicts}
 use Rattle.answer.specs.declared.Matched.{Matched}
 
 -- ---- the text's size
 
 module _ (ps : List Parameter) (xs cs card : List ℕ) (r : Matched) where
-  pub judge-empty : length xs ≡ 0 → matchedAnswer r ≡ refused (number_of Reason.FilterSize) 0 → matchedAnswer r ≡ rowsAnswer ps xs cs card
-  unfolding rowsAnswer acceptSize
-  judge-empty z e = e ∙ rw (eq-eqb (length xs) 0 z)
+  pub judge_empty : length xs ≡ 0 → matched_answer r ≡ refused (number_of Reason.FilterSize) 0 → matched_answer r ≡ rows_answer ps xs cs card
+  unfolding rows_answer accept_size
+  judge_empty z e = e ∙ rw (eq-eqb (length xs) 0 z)
 
-  pub judge-long : 1024 < length xs → matchedAnswer r ≡ refused (number_of Reason.FilterSize) 0 → matchedAnswer r ≡ rowsAnswer ps xs cs card
-  unfolding rowsAnswer acceptSize
-  judge-long l e =
+  pub judge_long : 1024 < length xs → matched_answer r ≡ refused (number_of Reason.FilterSize) 0 → matched_answer r ≡ rows_answer ps xs cs card
+  unfolding rows_answer accept_size
+  judge_long l e =
       let n : length xs ≡ 0 → ⊥ = λ z. omega arith in
       e ∙ rw (ne_eqb (length xs) 0 n, lt-ltb 1024 (length xs) l)
 
 -- ---- the rows
 
-module _ (b xs cs card : List ℕ) (ok : readSheet b ≡ Validity.WellFormed) (n : length xs ≡ 0 → ⊥) (l : length xs ≤ 1024) (kinds parents : List ℕ) (ek : kinds ≡ kindsOf (parametersOf b)) (ep : parents ≡ parentsOf (parametersOf b))
+module _ (b xs cs card : List ℕ) (ok : read_sheet b ≡ Validity.WellFormed) (n : length xs ≡ 0 → ⊥) (l : length xs ≤ 1024) (kinds parents : List ℕ) (ek : kinds ≡ kinds_of (parameters_of b)) (ep : parents ≡ parents_of (parameters_of b))
     (sound : Bool) (g : sound ≡ good kinds parents xs cs) where
   abbrev ps : List Parameter
-  ps = parametersOf b
+  ps = parameters_of b
 
-  tested : sound ≡ good (kindsOf ps) (parentsOf ps) xs cs
+  tested : sound ≡ good (kinds_of ps) (parents_of ps) xs cs
   tested = g ∙ ap₂ (λ (k p : List ℕ). good k p xs cs) ek ep
 
-  sized : acceptSize xs ≡ found tt
-  unfolding acceptSize
+  sized : accept_size xs ≡ found tt
+  unfolding accept_size
   sized = rw (ne_eqb (length xs) 0 n, le-ltb 1024 (length xs) l)
 
-  pub judge-bad : (r : Matched) → sound ≡ false → matchedAnswer r ≡ refused (number_of Reason.BadRows) 0 → matchedAnswer r ≡ rowsAnswer ps xs cs card
-  unfolding rowsAnswer acceptRows
-  judge-bad r h e = e ∙ rw (sized, sym tested ∙ h)
+  pub judge_bad : (r : Matched) → sound ≡ false → matched_answer r ≡ refused (number_of Reason.BadRows) 0 → matched_answer r ≡ rows_answer ps xs cs card
+  unfolding rows_answer accept_rows
+  judge_bad r h e = e ∙ rw (sized, sym tested ∙ h)
 
   module _ (h : sound ≡ true) where
-    pub judge-whole : Whole cs
-    judge-whole = good-whole kinds parents xs cs (sym g ∙ h)
+    pub judge_whole : Whole cs
+    judge_whole = good-whole kinds parents xs cs (sym g ∙ h)
 
-    pub judge-few : length cs ≤ 320
-    judge-few = good-few kinds parents xs cs (sym g ∙ h)
+    pub judge_few : length cs ≤ 320
+    judge_few = good_few kinds parents xs cs (sym g ∙ h)
 
     -- the tree that the rows state is judged on the card
-    stated-answer : rowsAnswer ps xs cs card ≡ answer (acceptCard ps 0 card >>= λ c. found (yesOrNo (filterSays ps 0 c.entries (tree_of ps xs judge-whole.expression))))
-    unfolding rowsAnswer acceptRows
-    stated-answer = rw (sized, sym tested ∙ h, judge-whole.states)
+    stated-answer : rows_answer ps xs cs card ≡ answer (accept_card ps 0 card >>= λ c. found (yes_or_no (filter_says ps 0 c.entries (tree_of ps xs judge_whole.expression))))
+    unfolding rows_answer accept_rows
+    stated-answer = rw (sized, sym tested ∙ h, judge_whole.states)
 
     -- as the code has judged it
-    pub judge-verdict : (v : CardVerdict) → ((qs : List Parameter) → kinds ≡ kindsOf qs → (i : ℕ) → verdictStep v i ≡ cardVerdict (cellsQuestion qs xs cs) i card)
-        → (m : Matched) → matchedAnswer m ≡ verdictAnswer v → matchedAnswer m ≡ rowsAnswer ps xs cs card
-    judge-verdict v e m a =
-        let verdict : verdictAnswer v ≡ answer (acceptCard ps 0 card >>= λ c. found (yesOrNo (rowsSay (kindsOf ps) xs c.entries cs))) =
-        (unfold verdictAnswer cardVerdict in (rw (e ps ek 0) (ap answer (sym (yes-or-no-after (acceptCard ps 0 card) (λ c. rowsSay (kindsOf ps) xs c.entries cs))))))
+    pub judge_verdict : (v : CardVerdict) → ((qs : List Parameter) → kinds ≡ kinds_of qs → (i : ℕ) → verdict_step v i ≡ card_verdict (cells_question qs xs cs) i card)
+        → (m : Matched) → matched_answer m ≡ verdict_answer v → matched_answer m ≡ rows_answer ps xs cs card
+    judge_verdict v e m a =
+        let verdict : verdict_answer v ≡ answer (accept_card ps 0 card >>= λ c. found (yes_or_no (rows_say (kinds_of ps) xs c.entries cs))) =
+        (unfold verdict_answer card_verdict in (rw (e ps ek 0) (ap answer (sym (yes_or_no_after (accept_card ps 0 card) (λ c. rows_say (kinds_of ps) xs c.entries cs))))))
         in
-        let meant : (c : Card) → rowsSay (kindsOf ps) xs c.entries cs ≡ filterSays ps 0 c.entries (tree_of ps xs judge-whole.expression) =
-        λ c. rows-mean ps (sheet-well-formed b ok) xs cs judge-whole.expression (sym tested ∙ h) judge-whole.states c.entries
+        let meant : (c : Card) → rows_say (kinds_of ps) xs c.entries cs ≡ filter_says ps 0 c.entries (tree_of ps xs judge_whole.expression) =
+        λ c. rows_mean ps (sheet_well_formed b ok) xs cs judge_whole.expression (sym tested ∙ h) judge_whole.states c.entries
         in
-        a ∙ verdict ∙ same-verdicts (acceptCard ps 0 card) (λ c. rowsSay (kindsOf ps) xs c.entries cs) (λ c. filterSays ps 0 c.entries (tree_of ps xs judge-whole.expression)) meant ∙ sym stated-answer
+        a ∙ verdict ∙ same-verdicts (accept_card ps 0 card) (λ c. rows_say (kinds_of ps) xs c.entries cs) (λ c. filter_says ps 0 c.entries (tree_of ps xs judge_whole.expression)) meant ∙ sym stated-answer
 
 -- ---- the sheet
 
-module _ (b xs cs card : List ℕ) (k : Validity) (e : k ≡ readSheet b) (r : Matched) where
-  judge-sheet : (j : Validity) (n : ℕ) → ((ps : List Parameter) → sheetStep j ps ≡ stop n 0) → k ≡ j → matchedAnswer r ≡ refused n 0 → matchedAnswer r ≡ judgeAnswer b xs cs card
-  unfolding judgeAnswer acceptSheet
-  judge-sheet j n t i h = h ∙ rw (sym e ∙ i, t (parametersOf b))
+module _ (b xs cs card : List ℕ) (k : Validity) (e : k ≡ read_sheet b) (r : Matched) where
+  judge_sheet : (j : Validity) (n : ℕ) → ((ps : List Parameter) → sheet_step j ps ≡ stop n 0) → k ≡ j → matched_answer r ≡ refused n 0 → matched_answer r ≡ judge_answer b xs cs card
+  unfolding judge_answer accept_sheet
+  judge_sheet j n t i h = h ∙ rw (sym e ∙ i, t (parameters_of b))
 
-  pub judge-size : k ≡ Validity.WrongSize → matchedAnswer r ≡ refused (number_of Reason.SheetSize) 0 → matchedAnswer r ≡ judgeAnswer b xs cs card
-  judge-size = judge-sheet Validity.WrongSize 1 (λ ps. refl)
+  pub judge_size : k ≡ Validity.WrongSize → matched_answer r ≡ refused (number_of Reason.SheetSize) 0 → matched_answer r ≡ judge_answer b xs cs card
+  judge_size = judge_sheet Validity.WrongSize 1 (λ ps. refl)
 
-  pub judge-sum : k ≡ Validity.WrongSum → matchedAnswer r ≡ refused (number_of Reason.SheetSum) 0 → matchedAnswer r ≡ judgeAnswer b xs cs card
-  judge-sum = judge-sheet Validity.WrongSum 2 (λ ps. refl)
+  pub judge_sum : k ≡ Validity.WrongSum → matched_answer r ≡ refused (number_of Reason.SheetSum) 0 → matched_answer r ≡ judge_answer b xs cs card
+  judge_sum = judge_sheet Validity.WrongSum 2 (λ ps. refl)
 
-  pub judge-layout : k ≡ Validity.WrongLayout → matchedAnswer r ≡ refused (number_of Reason.SheetLayout) 0 → matchedAnswer r ≡ judgeAnswer b xs cs card
-  judge-layout = judge-sheet Validity.WrongLayout 3 (λ ps. refl)
+  pub judge_layout : k ≡ Validity.WrongLayout → matched_answer r ≡ refused (number_of Reason.SheetLayout) 0 → matched_answer r ≡ judge_answer b xs cs card
+  judge_layout = judge_sheet Validity.WrongLayout 3 (λ ps. refl)
 
-  pub judge-right : k ≡ Validity.WellFormed → matchedAnswer r ≡ rowsAnswer (parametersOf b) xs cs card → matchedAnswer r ≡ judgeAnswer b xs cs card
-  unfolding judgeAnswer acceptSheet rowsAnswer
-  judge-right i h = h ∙ sym (rw (sym e ∙ i))
+  pub judge_right : k ≡ Validity.WellFormed → matched_answer r ≡ rows_answer (parameters_of b) xs cs card → matched_answer r ≡ judge_answer b xs cs card
+  unfolding judge_answer accept_sheet rows_answer
+  judge_right i h = h ∙ sym (rw (sym e ∙ i))

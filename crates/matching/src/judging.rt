@@ -1,9 +1,9 @@
 // Judge: a card under a sheet and rows that are good for a filter's text.
 ghost use Rattle.std.specs.Prelude.{◌≡◌};
-ghost use Rattle.sheet.specs.Sheet.{parametersOf, readSheet};
+ghost use Rattle.sheet.specs.Sheet.{parameters_of, read_sheet};
 ghost use Rattle.refusal.specs.Answers.{refused, number_of};
-ghost use Rattle.answer.specs.Answers.{matchedAnswer};
-ghost use Rattle.answer.specs.Preparing.{rowsAnswer, judgeAnswer};
+ghost use Rattle.answer.specs.Answers.{matched_answer};
+ghost use Rattle.answer.specs.Preparing.{rows_answer, judge_answer};
 
 use answer::Matched;
 use block::Validity;
@@ -13,15 +13,15 @@ use rows::are_good;
 
 // A refusal at 0 as judge's answer.
 fn refuse(reason: Reason) -> Matched
-    ensures { matchedAnswer result ≡ refused (number_of reason) 0 }
+    ensures { matched_answer result ≡ refused (number_of reason) 0 }
 {
     Matched::Refused(Refusal { reason, place: 0 })
 }
 
 // The verdict of rows on a card, under a well-formed sheet.
 fn judge_rows(sheet: &[u8], filter: &[u8], rows: &[u32], card: &[u8]) -> Matched
-    requires { readSheet sheet.now ≡ Validity.WellFormed }
-    ensures { matchedAnswer result ≡ rowsAnswer (parametersOf sheet.now) filter.now rows.now card.now }
+    requires { read_sheet sheet.now ≡ Validity.WellFormed }
+    ensures { matched_answer result ≡ rows_answer (parameters_of sheet.now) filter.now rows.now card.now }
 {
     if filter.len() == 0 {
         return refuse(Reason::FilterSize);
@@ -40,7 +40,7 @@ fn judge_rows(sheet: &[u8], filter: &[u8], rows: &[u32], card: &[u8]) -> Matched
 
 // Whether a card matches what rows state on a sheet and a filter's text, or why there is no answer.
 pub fn judge(sheet: &[u8], filter: &[u8], rows: &[u32], card: &[u8]) -> Matched
-    ensures { matchedAnswer result ≡ judgeAnswer sheet.now filter.now rows.now card.now }
+    ensures { matched_answer result ≡ judge_answer sheet.now filter.now rows.now card.now }
 {
     let reading = sheet::read_sheet(sheet);
     match reading {

@@ -2,9 +2,9 @@
 mod judging;
 
 ghost use Rattle.std.specs.Prelude.{◌≡◌};
-ghost use Rattle.answer.specs.Answers.{matchedAnswer};
-ghost use Rattle.answer.specs.Operations.{matchAnswer};
-ghost use Rattle.matching.specs.HandedBack.{handedBack};
+ghost use Rattle.answer.specs.Answers.{matched_answer};
+ghost use Rattle.answer.specs.Operations.{match_answer};
+ghost use Rattle.matching.specs.HandedBack.{handed_back};
 
 use answer::{Checked, Matched, Prepared};
 use checking::check;
@@ -15,7 +15,7 @@ use refusal::{Reason, Refusal};
 
 // Prepare's refusal as match's answer. Cells are not handed back: they would be refused as rows that are not good, never answered.
 fn hand_back(prepared: Prepared) -> Matched
-    ensures { matchedAnswer result ≡ handedBack prepared }
+    ensures { matched_answer result ≡ handed_back prepared }
 {
     match prepared {
         Prepared::Refused(refusal) => Matched::Refused(refusal),
@@ -28,7 +28,7 @@ fn hand_back(prepared: Prepared) -> Matched
 
 // Whether a card matches a filter on a sheet, or why there is no answer, and where.
 pub fn match_card(sheet: &[u8], filter: &[u8], card: &[u8]) -> Matched
-    ensures { matchedAnswer result ≡ matchAnswer sheet.now filter.now card.now }
+    ensures { matched_answer result ≡ match_answer sheet.now filter.now card.now }
 {
     let mut cells = [0u32; 1024];
     let prepared = prepare(sheet, filter, &mut cells);
@@ -40,7 +40,7 @@ pub fn match_card(sheet: &[u8], filter: &[u8], card: &[u8]) -> Matched
 
 // The same by the filter's text, without rows.
 pub fn match_by_text(sheet: &[u8], filter: &[u8], card: &[u8]) -> Matched
-    ensures { matchedAnswer result ≡ matchAnswer sheet.now filter.now card.now }
+    ensures { matched_answer result ≡ match_answer sheet.now filter.now card.now }
 {
     let checked = check(sheet, filter);
     match checked {

@@ -1,7 +1,7 @@
 -- The order of exact fractions, the range of a number, and what it is that one number's range holds another's.
 -- Assumes nothing.
 use Rattle.std.specs.Prelude.{◌*◌, ◌≤◌, ◌<◌}
-use Rattle.number.specs.Value.{Fraction, plus, exactValue, halfUnit}
+use Rattle.number.specs.Value.{Fraction, plus, exact_value, half_unit}
 use Rattle.number.specs.declared.Decimal.{Decimal}
 
 -- ---- the order of two fractions, by cross multiplication
@@ -29,8 +29,8 @@ size (below x) = x
 -- the point lies in the number's range, "half a unit of its last digit to either side, lower end in and upper out". No point below zero
 -- reaches the upper end.
 abbrev pub InRange : Decimal → Point → Type 0
-InRange d (above x) = AtMost (exactValue d) (plus x (halfUnit d)) × Less x (plus (exactValue d) (halfUnit d))
-InRange d (below x) = AtMost (plus (exactValue d) x) (halfUnit d)
+InRange d (above x) = AtMost (exact_value d) (plus x (half_unit d)) × Less x (plus (exact_value d) (half_unit d))
+InRange d (below x) = AtMost (plus (exact_value d) x) (half_unit d)
 
 -- every point of the range of a lies in that of b
 abbrev pub Held : Decimal → Decimal → Type 0

@@ -2,7 +2,7 @@
 -- Assumes nothing.
 use Prim.Native.Char.{code}
 use Rattle.std.specs.Prelude.{ℕ, ◌+◌, ◌*◌, ◌-◌, ◌≤◌, ◌≡◌, Bool, true, false, cond, List, [], ◌∷◌, eqb, leb, length, get_or, take, drop}
-use Rattle.base.specs.Digits.{isDigit}
+use Rattle.base.specs.Digits.{is_digit}
 use Rattle.base.specs.Lists.{every}
 use Rattle.base.specs.Runs.{run}
 use Rattle.number.specs.declared.NumberReading.{NumberReading}
@@ -14,32 +14,32 @@ point = code "."
 
 -- a text of digits alone, short enough to be a number's whole part or its decimals
 pub record DigitText (s : List ℕ) : Type 0 where
-  pub digits : every isDigit s ≡ true
+  pub digits : every is_digit s ≡ true
   pub short : length s ≤ 9
 
 -- the digits of the text written after the number before, as one number
-unfoldable pub valueFrom : ℕ → List ℕ → ℕ
-valueFrom before [] = before
-valueFrom before (x ∷ xs) = valueFrom (before * 10 + (x - code "0")) xs
+unfoldable pub value_from : ℕ → List ℕ → ℕ
+value_from before [] = before
+value_from before (x ∷ xs) = value_from (before * 10 + (x - code "0")) xs
 
 -- the text f of decimals after the whole part
-unfoldable pub readFraction : ℕ → List ℕ → NumberReading
-readFraction whole f =
+unfoldable pub read_fraction : ℕ → List ℕ → NumberReading
+read_fraction whole f =
     cond (leb 1 (length f))
     (cond (leb (length f) 9)
-    (cond (eqb (run isDigit f) (length f)) (Number (record { digits = valueFrom whole f; decimals = length f })) Unreadable)
+    (cond (eqb (run is_digit f) (length f)) (Number (record { digits = value_from whole f; decimals = length f })) Unreadable)
     Unreadable)
     Unreadable
 
 -- 1 to 8 digits, then perhaps "." and 1 to 9 digits
 unfoldable pub read : List ℕ → NumberReading
 read s =
-    cond (leb 1 (run isDigit s))
-    (cond (leb (run isDigit s) 8)
-    (cond (eqb (run isDigit s) (length s))
-    (Number (record { digits = valueFrom 0 s; decimals = 0 }))
-    (cond (eqb (get_or s (run isDigit s) 0) point)
-    (readFraction (valueFrom 0 (take (run isDigit s) s)) (drop (run isDigit s + 1) s))
+    cond (leb 1 (run is_digit s))
+    (cond (leb (run is_digit s) 8)
+    (cond (eqb (run is_digit s) (length s))
+    (Number (record { digits = value_from 0 s; decimals = 0 }))
+    (cond (eqb (get_or s (run is_digit s) 0) point)
+    (read_fraction (value_from 0 (take (run is_digit s) s)) (drop (run is_digit s + 1) s))
     Unreadable))
     Unreadable)
     Unreadable

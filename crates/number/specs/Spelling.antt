@@ -3,7 +3,7 @@
 use Rattle.std.specs.Prelude.{ℕ, ◌≤◌, ◌≡◌, List, ◌∷◌, ◌++◌, length}
 use Rattle.base.specs.Digits.{Digit}
 use Rattle.base.specs.Lists.{All}
-use Rattle.number.specs.Reading.{point, valueFrom}
+use Rattle.number.specs.Reading.{point, value_from}
 use Rattle.number.specs.declared.Decimal.{Decimal}
 
 -- between low and high digits, and nothing else
@@ -14,5 +14,5 @@ pub record Digits (low high : ℕ) (s : List ℕ) : Type 0 where
 
 -- 1 to 8 digits w; or w, "." and 1 to 9 digits f, which are the decimals
 pub data Spells (s : List ℕ) (d : Decimal) : Type 0 where
-  whole : Digits 1 8 s → d ≡ record { digits = valueFrom 0 s; decimals = 0 } → Spells s d
-  fraction : (w f : List ℕ) → s ≡ w ++ point ∷ f → Digits 1 8 w → Digits 1 9 f → d ≡ record { digits = valueFrom 0 (w ++ f); decimals = length f } → Spells s d
+  whole : Digits 1 8 s → d ≡ record { digits = value_from 0 s; decimals = 0 } → Spells s d
+  fraction : (w f : List ℕ) → s ≡ w ++ point ∷ f → Digits 1 8 w → Digits 1 9 f → d ≡ record { digits = value_from 0 (w ++ f); decimals = length f } → Spells s d

@@ -5,8 +5,8 @@ use Rattle.number.specs.declared.Decimal.{Decimal}
 
 -- what every number that can be read keeps to: at most nine decimals, and at most eight digits before them
 pub record Bounded (d : Decimal) : Type 0 where
-  pub few-decimals : d.decimals ≤ 9
-  pub few-digits : d.digits < 10 ^ (8 + d.decimals)
+  pub few_decimals : d.decimals ≤ 9
+  pub few_digits : d.digits < 10 ^ (8 + d.decimals)
 
 -- ---- exact fractions, of denominators above zero
 
@@ -16,11 +16,11 @@ pub record Fraction : Type 0 where
   pub denominator : ℕ
 
 -- the order of two fractions, by cross multiplication
-unfoldable pub isLess : Fraction → Fraction → Bool
-isLess a b = ltb (a.numerator * b.denominator) (b.numerator * a.denominator)
+unfoldable pub is_less : Fraction → Fraction → Bool
+is_less a b = ltb (a.numerator * b.denominator) (b.numerator * a.denominator)
 
-unfoldable pub isAtMost : Fraction → Fraction → Bool
-isAtMost a b = leb (a.numerator * b.denominator) (b.numerator * a.denominator)
+unfoldable pub is_at_most : Fraction → Fraction → Bool
+is_at_most a b = leb (a.numerator * b.denominator) (b.numerator * a.denominator)
 
 -- the sum, over the product of the denominators
 unfoldable pub plus : Fraction → Fraction → Fraction
@@ -31,34 +31,34 @@ plus a b =
     }
 
 -- the digits over ten to the count of decimals
-unfoldable pub exactValue : Decimal → Fraction
-exactValue d = record { numerator = d.digits; denominator = 10 ^ d.decimals }
+unfoldable pub exact_value : Decimal → Fraction
+exact_value d = record { numerator = d.digits; denominator = 10 ^ d.decimals }
 
 -- half a unit of the last digit
-unfoldable pub halfUnit : Decimal → Fraction
-halfUnit d = record { numerator = 1; denominator = 2 * 10 ^ d.decimals }
+unfoldable pub half_unit : Decimal → Fraction
+half_unit d = record { numerator = 1; denominator = 2 * 10 ^ d.decimals }
 
 -- ---- the operations: i is the card's number, f the filter's
 
 -- gt
 unfoldable pub greater : Decimal → Decimal → Bool
-greater i f = isLess (exactValue f) (exactValue i)
+greater i f = is_less (exact_value f) (exact_value i)
 
 -- lt
 unfoldable pub less : Decimal → Decimal → Bool
-less i f = isLess (exactValue i) (exactValue f)
+less i f = is_less (exact_value i) (exact_value f)
 
 -- ge
 unfoldable pub at_least : Decimal → Decimal → Bool
-at_least i f = isAtMost (exactValue f) (exactValue i)
+at_least i f = is_at_most (exact_value f) (exact_value i)
 
 -- le
 unfoldable pub at_most : Decimal → Decimal → Bool
-at_most i f = isAtMost (exactValue i) (exactValue f)
+at_most i f = is_at_most (exact_value i) (exact_value f)
 
 -- co: f lies in i's range, half a unit of i's last digit below to the same above, the lower end in, the upper out.
 -- The lower end may lie below zero, so that i - half ≤ f stands as i ≤ f + half.
 unfoldable pub covers : Decimal → Decimal → Bool
 covers i f =
-    isAtMost (exactValue i) (plus (exactValue f) (halfUnit i))
-    && isLess (exactValue f) (plus (exactValue i) (halfUnit i))
+    is_at_most (exact_value i) (plus (exact_value f) (half_unit i))
+    && is_less (exact_value f) (plus (exact_value i) (half_unit i))

@@ -1,10 +1,10 @@
 // Numbers: texts of 1 to 8 digits, perhaps with "." and 1 to 9 decimals, and their relations by exact value.
 // Every number that can be written is a whole count of billionths below ten to the seventeenth, which a u64 holds.
 ghost use Rattle.std.specs.Prelude.{◌≡◌, ◌^◌, ◌≤◌, ◌<◌, length};
-ghost use Rattle.base.specs.Digits.{isDigit};
+ghost use Rattle.base.specs.Digits.{is_digit};
 ghost use Rattle.base.specs.Runs.{run};
 ghost use Rattle.number.specs.Value.{Bounded, greater, less, at_least, at_most, covers};
-ghost use Rattle.number.specs.Reading.{DigitText, valueFrom, readFraction, read, readable};
+ghost use Rattle.number.specs.Reading.{DigitText, value_from, read_fraction, read, readable};
 ghost use Rattle.number.specs.Billionths.{unit, billionths, inside};
 
 // A number as it is written: its digits as one integer, and how many of them are decimals.
@@ -23,7 +23,7 @@ pub enum NumberReading {
 
 // How many digits the text begins with.
 fn digit_run(s: &[u8]) -> usize
-    ensures { (result ≡ run isDigit s.now) × (result ≤ length s.now) }
+    ensures { (result ≡ run is_digit s.now) × (result ≤ length s.now) }
 {
     let mut i = 0;
     while i < s.len() {
@@ -40,7 +40,7 @@ fn digit_run(s: &[u8]) -> usize
 fn value_from(before: u64, s: &[u8]) -> u64
     requires before_bound { before < 10 ^ 8 }
     requires digit_text { DigitText s.now }
-    ensures { result ≡ valueFrom before s.now }
+    ensures { result ≡ value_from before s.now }
 {
     let mut value = before;
     let mut i = 0;
@@ -54,7 +54,7 @@ fn value_from(before: u64, s: &[u8]) -> u64
 // The decimals that a text writes after the whole part.
 fn read_fraction(whole: u64, f: &[u8]) -> NumberReading
     requires { whole < 10 ^ 8 }
-    ensures { result ≡ readFraction whole f.now }
+    ensures { result ≡ read_fraction whole f.now }
 {
     if f.len() < 1 {
         return NumberReading::Unreadable;

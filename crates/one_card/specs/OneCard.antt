@@ -3,27 +3,27 @@
 use Rattle.std.specs.Prelude.{ℕ, ◌≡◌, Bool, List, ℤ}
 use Rattle.block.specs.declared.Validity.{Validity}
 use Rattle.sheet.specs.Sheet.{Parameter}
-use Rattle.sheet.specs.Find.{kindsOf}
-use Rattle.card.specs.Card.{recordNumber, entriesOf, readCard}
+use Rattle.sheet.specs.Find.{kinds_of}
+use Rattle.card.specs.Card.{record_number, entries_of, read_card}
 use Rattle.card_reader.specs.Lists.{Lent, KeepsCard, BeginsAlike}
-use Rattle.row_judge.specs.Saying.{rowsSay}
-use Rattle.refusal.specs.Answers.{Answer, yesOrNo, number_of}
+use Rattle.row_judge.specs.Saying.{rows_say}
+use Rattle.refusal.specs.Answers.{Answer, yes_or_no, number_of}
 use Rattle.refusal.specs.Steps.{Step, found, stop, ◌>>=◌, answer}
-use Rattle.answer.specs.Operations.{Card, acceptCard, Question}
+use Rattle.answer.specs.Operations.{Card, accept_card, Question}
 use Rattle.one_card.specs.declared.CardAcceptance.{CardAcceptance}
 use Rattle.one_card.specs.declared.CardVerdict.{CardVerdict}
 
 -- ---- it is accepted
 
 -- what each case of the code's answer states of the card with the index i
-abbrev pub acceptanceStep : CardAcceptance → List ℕ → ℕ → Step Card
-acceptanceStep CardAcceptance.Conforming b i = found (record { number = recordNumber b; entries = entriesOf b })
-acceptanceStep (CardAcceptance.Refused r) b i = stop (number_of r) i
+abbrev pub acceptance_step : CardAcceptance → List ℕ → ℕ → Step Card
+acceptance_step CardAcceptance.Conforming b i = found (record { number = record_number b; entries = entries_of b })
+acceptance_step (CardAcceptance.Refused r) b i = stop (number_of r) i
 
 -- what accepting a card answers, by the kinds of the sheet
 pub record AcceptsCard (kinds card : List ℕ) (r : CardAcceptance) : Type 0 where
-  pub well-formed : r ≡ CardAcceptance.Conforming → readCard card ≡ Validity.WellFormed
-  pub steps : (ps : List Parameter) → kinds ≡ kindsOf ps → (i : ℕ) → acceptanceStep r card i ≡ acceptCard ps i card
+  pub well_formed : r ≡ CardAcceptance.Conforming → read_card card ≡ Validity.WellFormed
+  pub steps : (ps : List Parameter) → kinds ≡ kinds_of ps → (i : ℕ) → acceptance_step r card i ≡ accept_card ps i card
 
 -- the same, with what is kept of a card that is accepted in lists that were lent
 pub record TakesCard (kinds card before cells : List ℕ) (spans : List ℤ) (r : CardAcceptance) : Type 0 where
@@ -35,14 +35,14 @@ pub record TakesCard (kinds card before cells : List ℕ) (spans : List ℤ) (r 
 -- ---- and judged
 
 -- what each case of the code's verdict states of the card with the index i
-abbrev pub verdictStep : CardVerdict → ℕ → Step Bool
-verdictStep (CardVerdict.Says b) i = found b
-verdictStep (CardVerdict.Refused r) i = stop (number_of r) i
+abbrev pub verdict_step : CardVerdict → ℕ → Step Bool
+verdict_step (CardVerdict.Says b) i = found b
+verdict_step (CardVerdict.Refused r) i = stop (number_of r) i
 
 -- the answer of match that a verdict makes
-unfoldable pub verdictAnswer : CardVerdict → Answer
-verdictAnswer v = answer (verdictStep v 0 >>= λ y. found (yesOrNo y))
+unfoldable pub verdict_answer : CardVerdict → Answer
+verdict_answer v = answer (verdict_step v 0 >>= λ y. found (yes_or_no y))
 
 -- what rows ask over a text
-abbrev pub cellsQuestion : List Parameter → List ℕ → List ℕ → Question
-cellsQuestion ps text cells = record { parameters = ps; says = λ es. rowsSay (kindsOf ps) text es cells }
+abbrev pub cells_question : List Parameter → List ℕ → List ℕ → Question
+cells_question ps text cells = record { parameters = ps; says = λ es. rows_say (kinds_of ps) text es cells }

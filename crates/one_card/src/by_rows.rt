@@ -1,14 +1,14 @@
 // The first engine: rows that are whole say what a filter says, without its text being read again, of a card that is read once.
 ghost use Rattle.std.specs.Prelude.{◌≡◌, List, ℕ, ◌≤◌, length};
 ghost use Rattle.sheet.specs.Sheet.{Parameter};
-ghost use Rattle.sheet.specs.Find.{kindsOf};
+ghost use Rattle.sheet.specs.Find.{kinds_of};
 ghost use Rattle.card_reader.specs.Lists.{Lent};
 ghost use Rattle.row_judge.specs.Saying.{Whole};
 ghost use Rattle.row_judge.specs.Asking.{LentFor};
 ghost use Rattle.row_opener.specs.Opening.{Opens};
-ghost use Rattle.answer.specs.Passing.{cardVerdict};
-ghost use Rattle.one_card.specs.OneCard.{verdictStep};
-ghost use Rattle.one_card.specs.OneCard.{cellsQuestion, TakesCard};
+ghost use Rattle.answer.specs.Passing.{card_verdict};
+ghost use Rattle.one_card.specs.OneCard.{verdict_step};
+ghost use Rattle.one_card.specs.OneCard.{cells_question, TakesCard};
 
 use crate::{CardAcceptance, CardVerdict};
 use block::Validity;
@@ -54,7 +54,7 @@ pub fn judge_by_rows(
     requires whole { Whole rows.now }
     requires opens { Opens kinds.now filter.now rows.now values.now ends.now (length rows.now) }
     requires lent_for { LentFor kinds.now rows.now cells.old spans.old }
-    ensures i_value { (ps : List Parameter) → kinds.now ≡ kindsOf ps → (i : ℕ) → verdictStep result i ≡ cardVerdict (cellsQuestion ps filter.now rows.now) i card.now }
+    ensures i_value { (ps : List Parameter) → kinds.now ≡ kinds_of ps → (i : ℕ) → verdict_step result i ≡ card_verdict (cells_question ps filter.now rows.now) i card.now }
     ensures lent_for_2 { LentFor kinds.now rows.now cells.new spans.new }
 {
     let accepted = take_card(kinds, card, cells, spans);
@@ -83,7 +83,7 @@ fn judge_opened(
     requires filter_len_bound { length filter.now ≤ 1024 }
     requires whole { Whole rows.now }
     requires opens { Opens kinds.now filter.now rows.now values.now ends.now (length rows.now) }
-    ensures { (ps : List Parameter) → kinds.now ≡ kindsOf ps → (i : ℕ) → verdictStep result i ≡ cardVerdict (cellsQuestion ps filter.now rows.now) i card.now }
+    ensures { (ps : List Parameter) → kinds.now ≡ kinds_of ps → (i : ℕ) → verdict_step result i ≡ card_verdict (cells_question ps filter.now rows.now) i card.now }
 {
     let mut cells = [0u64; 608];
     let mut spans = [0i64; 128];
@@ -99,7 +99,7 @@ fn judge_few(kinds: &[u8], filter: &[u8], rows: &[u32], card: &[u8]) -> CardVerd
     requires filter_len_bound { length filter.now ≤ 1024 }
     requires whole { Whole rows.now }
     requires rows_len_bound { length rows.now ≤ 32 }
-    ensures { (ps : List Parameter) → kinds.now ≡ kindsOf ps → (i : ℕ) → verdictStep result i ≡ cardVerdict (cellsQuestion ps filter.now rows.now) i card.now }
+    ensures { (ps : List Parameter) → kinds.now ≡ kinds_of ps → (i : ℕ) → verdict_step result i ≡ card_verdict (cells_question ps filter.now rows.now) i card.now }
 {
     let mut values = [0u64; 64];
     let mut ends = [0i64; 64];
@@ -113,7 +113,7 @@ pub fn judge_once(kinds: &[u8], filter: &[u8], rows: &[u32], card: &[u8]) -> Car
     requires filter_len_bound { length filter.now ≤ 1024 }
     requires whole { Whole rows.now }
     requires rows_len_bound { length rows.now ≤ 320 }
-    ensures { (ps : List Parameter) → kinds.now ≡ kindsOf ps → (i : ℕ) → verdictStep result i ≡ cardVerdict (cellsQuestion ps filter.now rows.now) i card.now }
+    ensures { (ps : List Parameter) → kinds.now ≡ kinds_of ps → (i : ℕ) → verdict_step result i ≡ card_verdict (cells_question ps filter.now rows.now) i card.now }
 {
     if rows.len() <= 32 {
         return judge_few(kinds, filter, rows, card);

@@ -1,11 +1,11 @@
 // The second engine: it walks the filter's text for each card, without rows, and decides as it reads. It is held against the first.
 ghost use Rattle.std.specs.Prelude.{◌≡◌, ℕ};
-ghost use Rattle.sheet.specs.Sheet.{parametersOf};
-ghost use Rattle.sheet.specs.Find.{kindsOf};
-ghost use Rattle.card.specs.Card.{entriesOf, readCard};
+ghost use Rattle.sheet.specs.Sheet.{parameters_of};
+ghost use Rattle.sheet.specs.Find.{kinds_of};
+ghost use Rattle.card.specs.Card.{entries_of, read_card};
 ghost use Rattle.syntax.specs.Reader.{read};
-ghost use Rattle.answer.specs.Passing.{Passing, textSays, textQuestion, cardVerdict};
-ghost use Rattle.one_card.specs.OneCard.{verdictStep};
+ghost use Rattle.answer.specs.Passing.{Passing, text_says, text_question, card_verdict};
+ghost use Rattle.one_card.specs.OneCard.{verdict_step};
 
 use crate::{CardAcceptance, CardVerdict, accept_card};
 use block::Validity;
@@ -16,8 +16,8 @@ use text_judge::{Judged, judge_filter};
 // What a filter that check has passed says of a well-formed card.
 fn text_says(sheet: &[u8], filter: &[u8], card: &[u8]) -> bool
     requires passing { Passing sheet.now filter.now }
-    requires card_value { readCard card.now ≡ Validity.WellFormed }
-    ensures { result ≡ textSays (parametersOf sheet.now) (entriesOf card.now) (read filter.now) }
+    requires card_value { read_card card.now ≡ Validity.WellFormed }
+    ensures { result ≡ text_says (parameters_of sheet.now) (entries_of card.now) (read filter.now) }
 {
     let spot = top(filter);
     let every = Chosen {
@@ -34,8 +34,8 @@ fn text_says(sheet: &[u8], filter: &[u8], card: &[u8]) -> bool
 // The verdict of a filter's text on a card, or why the card is refused; `kinds` are those of the sheet.
 pub fn judge_by_text(sheet: &[u8], kinds: &[u8], filter: &[u8], card: &[u8]) -> CardVerdict
     requires passing { Passing sheet.now filter.now }
-    requires kinds_value { kinds.now ≡ kindsOf (parametersOf sheet.now) }
-    ensures { (i : ℕ) → verdictStep result i ≡ cardVerdict (textQuestion (parametersOf sheet.now) (read filter.now)) i card.now }
+    requires kinds_value { kinds.now ≡ kinds_of (parameters_of sheet.now) }
+    ensures { (i : ℕ) → verdict_step result i ≡ card_verdict (text_question (parameters_of sheet.now) (read filter.now)) i card.now }
 {
     let accepted = accept_card(kinds, card);
     match accepted {

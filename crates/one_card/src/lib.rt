@@ -3,8 +3,8 @@ mod by_rows;
 mod by_text;
 
 ghost use Rattle.std.specs.Prelude.{◌≡◌};
-ghost use Rattle.answer.specs.Answers.{matchedAnswer};
-ghost use Rattle.one_card.specs.OneCard.{AcceptsCard, verdictAnswer};
+ghost use Rattle.answer.specs.Answers.{matched_answer};
+ghost use Rattle.one_card.specs.OneCard.{AcceptsCard, verdict_answer};
 
 use answer::Matched;
 use block::Validity;
@@ -47,7 +47,7 @@ pub fn accept_card(kinds: &[u8], card: &[u8]) -> CardAcceptance
 
 // The verdict on one card as match's answer.
 pub fn answered(verdict: CardVerdict) -> Matched
-    ensures { matchedAnswer result ≡ verdictAnswer verdict }
+    ensures { matched_answer result ≡ verdict_answer verdict }
 {
     match verdict {
         CardVerdict::Says(yes) => {

@@ -1,6 +1,6 @@
 -- The relations by their ends are those by their instants.
--- Most rest on a witness: a period that starts before an instant has an instant before it (`start-witness`), and one that ends after an
--- instant has an instant at it or behind it (`end-witness`). For `overlaps` the witness has to lie in the date as well (`common`). The other
+-- Most rest on a witness: a period that starts before an instant has an instant before it (`start_witness`), and one that ends after an
+-- instant has an instant at it or behind it (`end_witness`). For `overlaps` the witness has to lie in the date as well (`common`). The other
 -- directions are laws of the order: an instant of the period lies between its ends. `covers` takes no witness in the period: if the period
 -- ended within the date, its end would be an instant of the date and none of the period (`ends-within`). It is asked that the period has an
 -- instant, and that the date's start is one of the date's.
@@ -13,124 +13,124 @@ use mathlib.Core.Logic.{◌↔◌, ◌⊎◌, ⊎_elim}
 use lib.IntN.{ℤ, pos, negsuc}
 use lib.Signed.{lt_z, ◌≤ℤ◌, ◌<ℤ◌, ≤ℤ_refl, <ℤ-≤ℤ_trans, <ℤ_irrefl, clash_ℤ}
 use borrow.Author.Tests.{lt-ltb, not-true}
-use Rattle.base.proofs.Integers.{leZ-iff, ltZ-iff, ltZ-false, <ℤ-≤ℤ, ≤ℤ-trans}
+use Rattle.base.proofs.Integers.{le_z_iff, lt_z_iff, lt_z_false, <ℤ-≤ℤ, ≤ℤ-trans}
 use Rattle.base.proofs.Tests.{and_left, and_right, and_both, decided, both_ways}
 use Rattle.date.specs.declared.Date.{Date}
 use Rattle.date.specs.Instants.{InRange}
-use Rattle.period.specs.Instants.{From, from-open, from-known, Until, until_open, until-known, InPeriod, Inhabited, AfterAll, BeforeAll, Held, Holds, Meets, SomeAfter, SomeBefore, EveryAfter, EveryBefore}
-use Rattle.period.specs.Relations.{startsBefore, startsNoLater, endsAfter, endsNoEarlier, inside, later, earlier, startsAfter, endsBefore, overlaps, covers}
+use Rattle.period.specs.Instants.{From, from_open, from_known, Until, until_open, until_known, InPeriod, Inhabited, AfterAll, BeforeAll, Held, Holds, Meets, SomeAfter, SomeBefore, EveryAfter, EveryBefore}
+use Rattle.period.specs.Relations.{starts_before, starts_no_later, ends_after, ends_no_earlier, inside, later, earlier, starts_after, ends_before, overlaps, covers}
 use Rattle.period.specs.declared.End.{End}
 use Rattle.period.specs.declared.Period.{Period}
 
 -- ---- order
 
 ≤ℤ-<ℤ-trans : {a b c : ℤ} → a ≤ℤ b → b <ℤ c → a <ℤ c
-≤ℤ-<ℤ-trans {a} {b} {c} h k = ⊎_elim (λ e. (ltZ-iff a c).0 e) (λ e. clash_ℤ k (≤ℤ-trans (ltZ-false a c e) h)) (decided (lt_z a c))
+≤ℤ-<ℤ-trans {a} {b} {c} h k = ⊎_elim (λ e. (lt_z_iff a c).0 e) (λ e. clash_ℤ k (≤ℤ-trans (lt_z_false a c e) h)) (decided (lt_z a c))
 
 -- an instant before another
 pub less : (z : ℤ) → (y : ℤ) × (y <ℤ z)
-less (pos zero) = (negsuc 0, (ltZ-iff (negsuc 0) (pos zero)).0 refl)
-less (pos (suc n)) = (pos n, (ltZ-iff (pos n) (pos (suc n))).0 (lt-ltb n (suc n) (omega arith)))
-less (negsuc n) = (negsuc (suc n), (ltZ-iff (negsuc (suc n)) (negsuc n)).0 (lt-ltb n (suc n) (omega arith)))
+less (pos zero) = (negsuc 0, (lt_z_iff (negsuc 0) (pos zero)).0 refl)
+less (pos (suc n)) = (pos n, (lt_z_iff (pos n) (pos (suc n))).0 (lt-ltb n (suc n) (omega arith)))
+less (negsuc n) = (negsuc (suc n), (lt_z_iff (negsuc (suc n)) (negsuc n)).0 (lt-ltb n (suc n) (omega arith)))
 
 -- what is not before lies at or behind
 no_less : (a b : ℤ) → (a <ℤ b → ⊥) → b ≤ℤ a
-no_less a b n = ⊎_elim (λ e. absurd (n ((ltZ-iff a b).0 e))) (λ e. ltZ-false a b e) (decided (lt_z a b))
+no_less a b n = ⊎_elim (λ e. absurd (n ((lt_z_iff a b).0 e))) (λ e. lt_z_false a b e) (decided (lt_z a b))
 
 -- ---- an end and an instant
 
 -- an end lies behind the instants before it
-until-there : (e : End) (t : ℤ) → endsAfter e t ≡ true → Until e t
-unfolding endsAfter
-until-there End.Open t h = until_open
-until-there (End.At e) t h = until-known ((ltZ-iff t e).0 h)
+until_there : (e : End) (t : ℤ) → ends_after e t ≡ true → Until e t
+unfolding ends_after
+until_there End.Open t h = until_open
+until_there (End.At e) t h = until_known ((lt_z_iff t e).0 h)
 
-until-back : (e : End) (t u : ℤ) → u ≤ℤ t → Until e t → endsAfter e u ≡ true
-unfolding endsAfter
-until-back End.Open t u l until_open = refl
-until-back (End.At e) t u l (until-known h) = (ltZ-iff u e).1 (≤ℤ-<ℤ-trans l h)
+until_back : (e : End) (t u : ℤ) → u ≤ℤ t → Until e t → ends_after e u ≡ true
+unfolding ends_after
+until_back End.Open t u l until_open = refl
+until_back (End.At e) t u l (until_known h) = (lt_z_iff u e).1 (≤ℤ-<ℤ-trans l h)
 
-until-down : (e : End) (t u : ℤ) → u ≤ℤ t → Until e t → Until e u
-until-down e t u l h = until-there e u (until-back e t u l h)
+until_down : (e : End) (t u : ℤ) → u ≤ℤ t → Until e t → Until e u
+until_down e t u l h = until_there e u (until_back e t u l h)
 
 -- a start lies before what lies behind its instants
-from_back : (s : End) (t b : ℤ) → From s t → t <ℤ b → startsBefore s b ≡ true
-unfolding startsBefore
-from_back End.Open t b from-open l = refl
-from_back (End.At s) t b (from-known h) l = (ltZ-iff s b).1 (≤ℤ-<ℤ-trans h l)
+from_back : (s : End) (t b : ℤ) → From s t → t <ℤ b → starts_before s b ≡ true
+unfolding starts_before
+from_back End.Open t b from_open l = refl
+from_back (End.At s) t b (from_known h) l = (lt_z_iff s b).1 (≤ℤ-<ℤ-trans h l)
 
 from_up : (s : End) (t u : ℤ) → From s t → t ≤ℤ u → From s u
-from_up End.Open t u from-open l = from-open
-from_up (End.At s) t u (from-known h) l = from-known (≤ℤ-trans h l)
+from_up End.Open t u from_open l = from_open
+from_up (End.At s) t u (from_known h) l = from_known (≤ℤ-trans h l)
 
-from-there : (s : End) (t : ℤ) → startsNoLater s t ≡ true → From s t
-unfolding startsNoLater
-from-there End.Open t h = from-open
-from-there (End.At s) t h = from-known ((leZ-iff s t).0 h)
+from_there : (s : End) (t : ℤ) → starts_no_later s t ≡ true → From s t
+unfolding starts_no_later
+from_there End.Open t h = from_open
+from_there (End.At s) t h = from_known ((le_z_iff s t).0 h)
 
-from-test : (s : End) (t : ℤ) → From s t → startsNoLater s t ≡ true
-unfolding startsNoLater
-from-test End.Open t from-open = refl
-from-test (End.At s) t (from-known h) = (leZ-iff s t).1 h
+from_test : (s : End) (t : ℤ) → From s t → starts_no_later s t ≡ true
+unfolding starts_no_later
+from_test End.Open t from_open = refl
+from_test (End.At s) t (from_known h) = (le_z_iff s t).1 h
 
 -- before an end there is an instant that lies before another, too
-until-less : (e : End) (b : ℤ) → (t : ℤ) × Until e t × (t <ℤ b)
-until-less End.Open b = let y = less b in (y.0, until_open, y.1)
-until-less (End.At e) b =
+until_less : (e : End) (b : ℤ) → (t : ℤ) × Until e t × (t <ℤ b)
+until_less End.Open b = let y = less b in (y.0, until_open, y.1)
+until_less (End.At e) b =
     ⊎_elim
-    (λ h. let y = less e in (y.0, until-known y.1, <ℤ-≤ℤ_trans y.1 (<ℤ-≤ℤ ((ltZ-iff e b).0 h))))
-    (λ h. let y = less b in (y.0, until-known (<ℤ-≤ℤ_trans y.1 (ltZ-false e b h)), y.1))
+    (λ h. let y = less e in (y.0, until_known y.1, <ℤ-≤ℤ_trans y.1 (<ℤ-≤ℤ ((lt_z_iff e b).0 h))))
+    (λ h. let y = less b in (y.0, until_known (<ℤ-≤ℤ_trans y.1 (lt_z_false e b h)), y.1))
     (decided (lt_z e b))
 
 -- ---- the two witnesses
 
 -- a period that starts before an instant has an instant before it
-start-witness : (s e : End) (b t : ℤ) → From s t → Until e t → startsBefore s b ≡ true → (u : ℤ) × From s u × Until e u × (u <ℤ b)
-unfolding startsBefore
-start-witness End.Open e b t from-open h l = let y = until-less e b in (y.0, from-open, y.1, y.2)
-start-witness (End.At s) e b t (from-known g) h l = (s, from-known (≤ℤ_refl s), until-down e t s g h, (ltZ-iff s b).0 l)
+start_witness : (s e : End) (b t : ℤ) → From s t → Until e t → starts_before s b ≡ true → (u : ℤ) × From s u × Until e u × (u <ℤ b)
+unfolding starts_before
+start_witness End.Open e b t from_open h l = let y = until_less e b in (y.0, from_open, y.1, y.2)
+start_witness (End.At s) e b t (from_known g) h l = (s, from_known (≤ℤ_refl s), until_down e t s g h, (lt_z_iff s b).0 l)
 
 -- a period that ends after an instant has one at it or behind it: the instant itself, or else its own start
-end-witness : (s e : End) (b t : ℤ) → From s t → Until e t → endsAfter e b ≡ true → (u : ℤ) × From s u × Until e u × (b ≤ℤ u)
-end-witness End.Open e b t from-open h l = (b, from-open, until-there e b l, ≤ℤ_refl b)
-end-witness (End.At s) e b t (from-known g) h l =
+end_witness : (s e : End) (b t : ℤ) → From s t → Until e t → ends_after e b ≡ true → (u : ℤ) × From s u × Until e u × (b ≤ℤ u)
+end_witness End.Open e b t from_open h l = (b, from_open, until_there e b l, ≤ℤ_refl b)
+end_witness (End.At s) e b t (from_known g) h l =
     ⊎_elim
-    (λ k. (b, from-known (<ℤ-≤ℤ ((ltZ-iff s b).0 k)), until-there e b l, ≤ℤ_refl b))
-    (λ k. (s, from-known (≤ℤ_refl s), until-down e t s g h, ltZ-false s b k))
+    (λ k. (b, from_known (<ℤ-≤ℤ ((lt_z_iff s b).0 k)), until_there e b l, ≤ℤ_refl b))
+    (λ k. (s, from_known (≤ℤ_refl s), until_down e t s g h, lt_z_false s b k))
     (decided (lt_z s b))
 
 refuted : (t : Bool) → (t ≡ true → ⊥) → not t ≡ true
 refuted t n = ⊎_elim (λ e. absurd (n e)) (λ e. rw e) (decided t)
 
 module _ (i : Period) (some : Inhabited i) (f : Date) (first : InRange f f.start) where
-  starts-there : (b : ℤ) → startsBefore i.start b ≡ true → (t : ℤ) × InPeriod i t × (t <ℤ b)
-  starts-there b h =
-      let w = start-witness i.start i.end b some.0 some.1.from some.1.before h in
+  starts_there : (b : ℤ) → starts_before i.start b ≡ true → (t : ℤ) × InPeriod i t × (t <ℤ b)
+  starts_there b h =
+      let w = start_witness i.start i.end b some.0 some.1.from some.1.before h in
       (w.0, record { from = w.1; before = w.2 }, w.3)
 
-  ends_there : (b : ℤ) → endsAfter i.end b ≡ true → (t : ℤ) × InPeriod i t × (b ≤ℤ t)
+  ends_there : (b : ℤ) → ends_after i.end b ≡ true → (t : ℤ) × InPeriod i t × (b ≤ℤ t)
   ends_there b h =
-      let w = end-witness i.start i.end b some.0 some.1.from some.1.before h in
+      let w = end_witness i.start i.end b some.0 some.1.from some.1.before h in
       (w.0, record { from = w.1; before = w.2 }, w.3)
 
-  starts-back : (b t : ℤ) → InPeriod i t → t <ℤ b → startsBefore i.start b ≡ true
+  starts-back : (b t : ℤ) → InPeriod i t → t <ℤ b → starts_before i.start b ≡ true
   starts-back b t p l = from_back i.start t b p.from l
 
-  ends-back : (b t : ℤ) → InPeriod i t → b ≤ℤ t → endsAfter i.end b ≡ true
-  ends-back b t p l = until-back i.end t b l p.before
+  ends-back : (b t : ℤ) → InPeriod i t → b ≤ℤ t → ends_after i.end b ≡ true
+  ends-back b t p l = until_back i.end t b l p.before
 
   -- the same where the test fails
-  starts-not : (b : ℤ) → not (startsBefore i.start b) ≡ true → (t : ℤ) → InPeriod i t → b ≤ℤ t
-  starts-not b h t p = no_less t b (λ l. both_ways (starts-back b t p l) (not-true (startsBefore i.start b) h))
+  starts_not : (b : ℤ) → not (starts_before i.start b) ≡ true → (t : ℤ) → InPeriod i t → b ≤ℤ t
+  starts_not b h t p = no_less t b (λ l. both_ways (starts-back b t p l) (not-true (starts_before i.start b) h))
 
-  ends-not : (b : ℤ) → not (endsAfter i.end b) ≡ true → (t : ℤ) → InPeriod i t → t <ℤ b
-  ends-not b h t p =
-      ⊎_elim (λ e. (ltZ-iff t b).0 e) (λ e. both_ways (ends-back b t p (ltZ-false t b e)) (not-true (endsAfter i.end b) h)) (decided (lt_z t b))
+  ends_not : (b : ℤ) → not (ends_after i.end b) ≡ true → (t : ℤ) → InPeriod i t → t <ℤ b
+  ends_not b h t p =
+      ⊎_elim (λ e. (lt_z_iff t b).0 e) (λ e. both_ways (ends-back b t p (lt_z_false t b e)) (not-true (ends_after i.end b) h)) (decided (lt_z t b))
 
   -- ---- an instant and the date
 
-  after-end : (t : ℤ) → AfterAll f t → f.end ≤ℤ t
-  after-end t a = no_less t f.end (λ l. <ℤ_irrefl (a t (record { from = <ℤ-≤ℤ (a f.start first); before = l })))
+  after_end : (t : ℤ) → AfterAll f t → f.end ≤ℤ t
+  after_end t a = no_less t f.end (λ l. <ℤ_irrefl (a t (record { from = <ℤ-≤ℤ (a f.start first); before = l })))
 
   end_after : (t : ℤ) → f.end ≤ℤ t → AfterAll f t
   end_after t l u r = <ℤ-≤ℤ_trans r.before l
@@ -140,98 +140,98 @@ module _ (i : Period) (some : Inhabited i) (f : Date) (first : InRange f f.start
 
   -- ---- the relations
 
-  pub inside-iff : (inside i f ≡ true) ↔ Held i f
+  pub inside_iff : (inside i f ≡ true) ↔ Held i f
   unfolding inside
-  inside-iff = (
+  inside_iff = (
     (λ h t p. record {
-      from = starts-not f.start (and_left (not (startsBefore i.start f.start)) (not (endsAfter i.end f.end)) h) t p;
-      before = ends-not f.end (and_right (not (startsBefore i.start f.start)) (not (endsAfter i.end f.end)) h) t p;
+      from = starts_not f.start (and_left (not (starts_before i.start f.start)) (not (ends_after i.end f.end)) h) t p;
+      before = ends_not f.end (and_right (not (starts_before i.start f.start)) (not (ends_after i.end f.end)) h) t p;
     }),
-    (λ h. and_both (not (startsBefore i.start f.start)) (not (endsAfter i.end f.end))
-        (refuted (startsBefore i.start f.start) (λ e. let w = starts-there f.start e in clash_ℤ w.2 (h w.0 w.1).from))
-        (refuted (endsAfter i.end f.end) (λ e. let w = ends_there f.end e in clash_ℤ (h w.0 w.1).before w.2))),
+    (λ h. and_both (not (starts_before i.start f.start)) (not (ends_after i.end f.end))
+        (refuted (starts_before i.start f.start) (λ e. let w = starts_there f.start e in clash_ℤ w.2 (h w.0 w.1).from))
+        (refuted (ends_after i.end f.end) (λ e. let w = ends_there f.end e in clash_ℤ (h w.0 w.1).before w.2))),
   )
 
   -- a period open at an end has instants beyond every date
-  pub open-never-held : (i.start ≡ End.Open) ⊎ (i.end ≡ End.Open) → Held i f → ⊥
-  unfolding startsBefore endsAfter
-  open-never-held o h =
+  pub open_never_held : (i.start ≡ End.Open) ⊎ (i.end ≡ End.Open) → Held i f → ⊥
+  unfolding starts_before ends_after
+  open_never_held o h =
       ⊎_elim
-      (λ (e : i.start ≡ End.Open). let w = starts-there f.start (rw e) in clash_ℤ w.2 (h w.0 w.1).from)
+      (λ (e : i.start ≡ End.Open). let w = starts_there f.start (rw e) in clash_ℤ w.2 (h w.0 w.1).from)
       (λ (e : i.end ≡ End.Open). let w = ends_there f.end (rw e) in clash_ℤ (h w.0 w.1).before w.2)
       o
 
-  pub later-iff : (later i f ≡ true) ↔ SomeAfter i f
-  later-iff = (
+  pub later_iff : (later i f ≡ true) ↔ SomeAfter i f
+  later_iff = (
     (λ h. let w = ends_there f.end h in (w.0, w.1, end_after w.0 w.2)),
-    (λ w. ends-back f.end w.0 w.1 (after-end w.0 w.2)),
+    (λ w. ends-back f.end w.0 w.1 (after_end w.0 w.2)),
   )
 
-  pub earlier-iff : (earlier i f ≡ true) ↔ SomeBefore i f
-  earlier-iff = (
-    (λ h. let w = starts-there f.start h in (w.0, w.1, start-before w.0 w.2)),
+  pub earlier_iff : (earlier i f ≡ true) ↔ SomeBefore i f
+  earlier_iff = (
+    (λ h. let w = starts_there f.start h in (w.0, w.1, start-before w.0 w.2)),
     (λ w. starts-back f.start w.0 w.1 (w.2 f.start first)),
   )
 
-  pub starts-after-iff : (startsAfter i f ≡ true) ↔ EveryAfter i f
-  starts-after-iff = (
-    (λ h t p. end_after t (starts-not f.end h t p)),
-    (λ h. refuted (startsBefore i.start f.end) (λ e. let w = starts-there f.end e in clash_ℤ w.2 (after-end w.0 (h w.0 w.1)))),
+  pub starts-after_iff : (starts_after i f ≡ true) ↔ EveryAfter i f
+  starts-after_iff = (
+    (λ h t p. end_after t (starts_not f.end h t p)),
+    (λ h. refuted (starts_before i.start f.end) (λ e. let w = starts_there f.end e in clash_ℤ w.2 (after_end w.0 (h w.0 w.1)))),
   )
 
-  pub ends-before-iff : (endsBefore i f ≡ true) ↔ EveryBefore i f
-  ends-before-iff = (
-    (λ h t p. start-before t (ends-not f.start h t p)),
-    (λ h. refuted (endsAfter i.end f.start) (λ e. let w = ends_there f.start e in clash_ℤ (h w.0 w.1 f.start first) w.2)),
+  pub ends-before_iff : (ends_before i f ≡ true) ↔ EveryBefore i f
+  ends-before_iff = (
+    (λ h t p. start-before t (ends_not f.start h t p)),
+    (λ h. refuted (ends_after i.end f.start) (λ e. let w = ends_there f.start e in clash_ℤ (h w.0 w.1 f.start first) w.2)),
   )
 
   -- an instant of the period at the date's start or behind it, but before its end
-  common : (s e : End) (t : ℤ) → From s t → Until e t → startsBefore s f.end ≡ true → endsAfter e f.start ≡ true → (u : ℤ) × From s u × Until e u × InRange f u
-  unfolding startsBefore
-  common End.Open e t g h l k = (f.start, from-open, until-there e f.start k, first)
-  common (End.At s) e t (from-known g) h l k =
+  common : (s e : End) (t : ℤ) → From s t → Until e t → starts_before s f.end ≡ true → ends_after e f.start ≡ true → (u : ℤ) × From s u × Until e u × InRange f u
+  unfolding starts_before
+  common End.Open e t g h l k = (f.start, from_open, until_there e f.start k, first)
+  common (End.At s) e t (from_known g) h l k =
       ⊎_elim
-      (λ m. (f.start, from-known (<ℤ-≤ℤ ((ltZ-iff s f.start).0 m)), until-there e f.start k, first))
-      (λ m. (s, from-known (≤ℤ_refl s), until-down e t s g h, record { from = ltZ-false s f.start m; before = (ltZ-iff s f.end).0 l }))
+      (λ m. (f.start, from_known (<ℤ-≤ℤ ((lt_z_iff s f.start).0 m)), until_there e f.start k, first))
+      (λ m. (s, from_known (≤ℤ_refl s), until_down e t s g h, record { from = lt_z_false s f.start m; before = (lt_z_iff s f.end).0 l }))
       (decided (lt_z s f.start))
 
-  pub overlaps-iff : (overlaps i f ≡ true) ↔ Meets i f
+  pub overlaps_iff : (overlaps i f ≡ true) ↔ Meets i f
   unfolding overlaps
-  overlaps-iff = (
+  overlaps_iff = (
     (λ h.
-        let low = startsBefore i.start f.end in
-        let high = endsAfter i.end f.start in
+        let low = starts_before i.start f.end in
+        let high = ends_after i.end f.start in
         let w = common i.start i.end some.0 some.1.from some.1.before (and_left low high h) (and_right low high h) in
         (w.0, record { from = w.1; before = w.2 }, w.3)),
-    (λ w. and_both (startsBefore i.start f.end) (endsAfter i.end f.start) (starts-back f.end w.0 w.1 w.2.before) (ends-back f.start w.0 w.1 w.2.from)),
+    (λ w. and_both (starts_before i.start f.end) (ends_after i.end f.start) (starts-back f.end w.0 w.1 w.2.before) (ends-back f.start w.0 w.1 w.2.from)),
   )
 
   -- the date ends no later than the period: else the period's end would be an instant of the date
-  ends-within : (e : End) → Until e f.start → ((t : ℤ) → InRange f t → Until e t) → endsNoEarlier e f.end ≡ true
-  unfolding endsNoEarlier
+  ends-within : (e : End) → Until e f.start → ((t : ℤ) → InRange f t → Until e t) → ends_no_earlier e f.end ≡ true
+  unfolding ends_no_earlier
   ends-within End.Open u h = refl
-  ends-within (End.At e) (until-known u) h =
-      (leZ-iff f.end e).1 (no_less e f.end (λ l. own-end (h e (record { from = <ℤ-≤ℤ u; before = l }))))
+  ends-within (End.At e) (until_known u) h =
+      (le_z_iff f.end e).1 (no_less e f.end (λ l. own_end (h e (record { from = <ℤ-≤ℤ u; before = l }))))
     where
-      own-end : Until (End.At e) e → ⊥
-      own-end (until-known k) = <ℤ_irrefl k
+      own_end : Until (End.At e) e → ⊥
+      own_end (until_known k) = <ℤ_irrefl k
 
-  ends-within-back : (e : End) (t : ℤ) → endsNoEarlier e f.end ≡ true → t <ℤ f.end → Until e t
-  unfolding endsNoEarlier
+  ends-within-back : (e : End) (t : ℤ) → ends_no_earlier e f.end ≡ true → t <ℤ f.end → Until e t
+  unfolding ends_no_earlier
   ends-within-back End.Open t h l = until_open
-  ends-within-back (End.At e) t h l = until-known (<ℤ-≤ℤ_trans l ((leZ-iff f.end e).0 h))
+  ends-within-back (End.At e) t h l = until_known (<ℤ-≤ℤ_trans l ((le_z_iff f.end e).0 h))
 
-  pub covers-iff : (covers i f ≡ true) ↔ Holds i f
+  pub covers_iff : (covers i f ≡ true) ↔ Holds i f
   unfolding covers
-  covers-iff = (
+  covers_iff = (
     (λ h t r.
-        let low = startsNoLater i.start f.start in
-        let high = endsNoEarlier i.end f.end in
+        let low = starts_no_later i.start f.start in
+        let high = ends_no_earlier i.end f.end in
         record {
-          from = from_up i.start f.start t (from-there i.start f.start (and_left low high h)) r.from;
+          from = from_up i.start f.start t (from_there i.start f.start (and_left low high h)) r.from;
           before = ends-within-back i.end t (and_right low high h) r.before;
         }),
-    (λ h. and_both (startsNoLater i.start f.start) (endsNoEarlier i.end f.end)
-        (from-test i.start f.start (h f.start first).from)
+    (λ h. and_both (starts_no_later i.start f.start) (ends_no_earlier i.end f.end)
+        (from_test i.start f.start (h f.start first).from)
         (ends-within i.end (h f.start first).before (λ t r. (h t r).before))),
   )

@@ -1,8 +1,8 @@
 -- A text reads to a period exactly where it is a spelling of it, since no date has a slash; and what is read has an instant.
--- The reader cuts the text at its first slash. From the reading to the spelling `parts-there` goes by whether the part on either side is
--- empty, as the reader does. The other direction goes by the cases of the spelling (`spells-reads`): what stands before its slash is a date
+-- The reader cuts the text at its first slash. From the reading to the spelling `parts_there` goes by whether the part on either side is
+-- empty, as the reader does. The other direction goes by the cases of the spelling (`spells_reads`): what stands before its slash is a date
 -- or nothing, and has no slash (`date-plain`), so that the cut gives back its parts. A period has a slash (`not_plain`), so that no text is
--- both a date and a period. The instant is the start, or one before the end where the start is open (`spells-inhabited`).
+-- both a date and a period. The instant is the start, or one before the end where the start is open (`spells_inhabited`).
 -- Assumes nothing.
 use Prim.Native.Nat.{ℕ, ◌+◌, ◌/◌, ◌%◌}
 use native.Mathlib.Omega.{arith}
@@ -12,27 +12,27 @@ use mathlib.Core.List.{List, [], ◌∷◌, ◌++◌}
 use mathlib.Core.Logic.{◌↔◌}
 use lib.IntN.{ℤ}
 use lib.Signed.{lt_z, ≤ℤ_refl}
-use Rattle.base.specs.Lists.{all-empty, all_cons}
+use Rattle.base.specs.Lists.{all_empty, all_cons}
 use Rattle.base.specs.Split.{Without}
 use Rattle.base.proofs.All.{all_head, all_append, all_right}
-use Rattle.base.proofs.Integers.{ltZ-iff}
-use Rattle.base.proofs.Split.{split-whole, split_at, split-cases}
+use Rattle.base.proofs.Integers.{lt_z_iff}
+use Rattle.base.proofs.Split.{split-whole, split_at_lem, split_cases}
 use Rattle.base.proofs.Tests.{cond-first}
 use Rattle.date.specs.declared.Date.{Date}
 use Rattle.date.specs.declared.DateReading.{DateReading}
-use Rattle.date.specs.Marks.{hyphen, colon, plus, letterT, letterZ}
+use Rattle.date.specs.Marks.{hyphen, colon, plus, letter_t, letter_z}
 use Rattle.date.specs.Spelling as date-spelling
 use Rattle.date.specs.Texts as texts
 use Rattle.date.proofs.Spelling as date-reading
 use Rattle.date.proofs.Readings.{read_first}
-use Rattle.period.specs.Instants.{Inhabited, from-open, from-known, until_open, until-known}
-use Rattle.period.specs.Texts.{slash, period, known, fromTo, bothEnds, openEnd, openStart, read_parts, read, isPeriod, readable, spanOr, readSpan}
-use Rattle.period.specs.Spelling.{Spells, spells-both, spells-first, spells-second, SpellsSpan, span-of-date, span-of-period}
+use Rattle.period.specs.Instants.{Inhabited, from_open, from_known, until_open, until_known}
+use Rattle.period.specs.Texts.{slash, period, known, from_to, both_ends, open_end, open_start, read_parts, read, is_period, readable, span_or, read_span}
+use Rattle.period.specs.Spelling.{Spells, spells_both, spells_first, spells_second, SpellsSpan, span_of_date, span_of_period}
 use Rattle.period.specs.declared.End.{End}
 use Rattle.period.specs.declared.Period.{Period}
 use Rattle.period.specs.declared.PeriodReading.{PeriodReading}
 use Rattle.period.proofs.Relations.{less}
-use Rattle.period.proofs.Texts.{parts_first, parts-both}
+use Rattle.period.proofs.Texts.{parts_first, parts_both}
 
 -- ---- no date has a slash
 
@@ -44,171 +44,171 @@ plain-next x h k = all_cons h k
 
 two-plain : (n : ℕ) → Plain (date-spelling.two n)
 unfolding date-spelling.two
-two-plain n = plain-next (48 + n / 10) (λ e. omega arith) (plain-next (48 + n % 10) (λ e. omega arith) all-empty)
+two-plain n = plain-next (48 + n / 10) (λ e. omega arith) (plain-next (48 + n % 10) (λ e. omega arith) all_empty)
 
-year-plain : (y : ℕ) → Plain (date-spelling.yearText y)
-unfolding date-spelling.yearText date-spelling.four
-year-plain y = all_append _ (two-plain (y / 100)) (two-plain (y % 100))
+year_plain : (y : ℕ) → Plain (date-spelling.year_text y)
+unfolding date-spelling.year_text date-spelling.four
+year_plain y = all_append _ (two-plain (y / 100)) (two-plain (y % 100))
 
 -- a mark that is no slash, and two digits
 mark-plain : (mark n : ℕ) → (mark ≡ slash → ⊥) → Plain (mark ∷ date-spelling.two n)
 mark-plain mark n h = all_cons h (two-plain n)
 
-month-plain : (y m : ℕ) → Plain (date-spelling.monthText y m)
-unfolding date-spelling.monthText
-month-plain y m = all_append _ (year-plain y) (mark-plain hyphen m (λ e. omega arith))
+month_plain : (y m : ℕ) → Plain (date-spelling.month_text y m)
+unfolding date-spelling.month_text
+month_plain y m = all_append _ (year_plain y) (mark-plain hyphen m (λ e. omega arith))
 
-day-plain : (y m d : ℕ) → Plain (date-spelling.dayText y m d)
-unfolding date-spelling.dayText
-day-plain y m d = all_append _ (month-plain y m) (mark-plain hyphen d (λ e. omega arith))
+day_plain : (y m d : ℕ) → Plain (date-spelling.day_text y m d)
+unfolding date-spelling.day_text
+day_plain y m d = all_append _ (month_plain y m) (mark-plain hyphen d (λ e. omega arith))
 
-local-plain : (y m d hour minute second : ℕ) → Plain (date-spelling.localText y m d hour minute second)
-unfolding date-spelling.localText
-local-plain y m d hour minute second =
+local_plain : (y m d hour minute second : ℕ) → Plain (date-spelling.local_text y m d hour minute second)
+unfolding date-spelling.local_text
+local_plain y m d hour minute second =
     all_append _
-    (all_append _ (all_append _ (day-plain y m d) (mark-plain letterT hour (λ e. omega arith))) (mark-plain colon minute (λ e. omega arith)))
+    (all_append _ (all_append _ (day_plain y m d) (mark-plain letter_t hour (λ e. omega arith))) (mark-plain colon minute (λ e. omega arith)))
     (mark-plain colon second (λ e. omega arith))
 
-zone-plain : {zone : List ℕ} {offset : ℤ} → date-spelling.SpellsZone zone offset → Plain zone
-unfolding date-spelling.signedText
-zone-plain date-spelling.spells-utc = plain-next letterZ (λ e. omega arith) all-empty
-zone-plain (date-spelling.spells-east {h} {m} v) = all_append _ (mark-plain plus h (λ e. omega arith)) (mark-plain colon m (λ e. omega arith))
-zone-plain (date-spelling.spells-west {h} {m} v) = all_append _ (mark-plain hyphen h (λ e. omega arith)) (mark-plain colon m (λ e. omega arith))
+zone_plain : {zone : List ℕ} {offset : ℤ} → date-spelling.SpellsZone zone offset → Plain zone
+unfolding date-spelling.signed_text
+zone_plain date-spelling.spells_utc = plain-next letter_z (λ e. omega arith) all_empty
+zone_plain (date-spelling.spells_east {h} {m} v) = all_append _ (mark-plain plus h (λ e. omega arith)) (mark-plain colon m (λ e. omega arith))
+zone_plain (date-spelling.spells_west {h} {m} v) = all_append _ (mark-plain hyphen h (λ e. omega arith)) (mark-plain colon m (λ e. omega arith))
 
 date-plain : {t : List ℕ} {d : Date} → date-spelling.Spells t d → Plain t
-date-plain (date-spelling.spells-year {y} v) = year-plain y
-date-plain (date-spelling.spells-month {y} {m} v) = month-plain y m
-date-plain (date-spelling.spells-day {y} {m} {d} v) = day-plain y m d
-date-plain (date-spelling.spells-second {y} {m} {d} {hour} {minute} {second} v t z) = all_append _ (local-plain y m d hour minute second) (zone-plain z)
+date-plain (date-spelling.spells_year {y} v) = year_plain y
+date-plain (date-spelling.spells_month {y} {m} v) = month_plain y m
+date-plain (date-spelling.spells_day {y} {m} {d} v) = day_plain y m d
+date-plain (date-spelling.spells_second {y} {m} {d} {hour} {minute} {second} v t z) = all_append _ (local_plain y m d hour minute second) (zone_plain z)
 
 -- ---- a text that reads to a period spells it
 
-second-there : (b : List ℕ) (p : Period) (r : DateReading) → texts.read b ≡ r → openStart r ≡ PeriodReading.Readable p → Spells (slash ∷ b) p
-unfolding openStart
-second-there b p (DateReading.Readable e) h k =
+second_there : (b : List ℕ) (p : Period) (r : DateReading) → texts.read b ≡ r → open_start r ≡ PeriodReading.Readable p → Spells (slash ∷ b) p
+unfolding open_start
+second_there b p (DateReading.Readable e) h k =
     let z : period End.Open (End.At e.end) ≡ p = cc in
-    subst (Spells (slash ∷ b)) z (spells-second ((date-reading.read-iff b e).0 h))
-second-there b p DateReading.Unreadable h k = let z : ◌≡◌ {A = ℕ} 0 1 = cc in absurd (omega arith)
+    subst (Spells (slash ∷ b)) z (spells_second ((date-reading.read_iff b e).0 h))
+second_there b p DateReading.Unreadable h k = let z : ◌≡◌ {A = ℕ} 0 1 = cc in absurd (omega arith)
 
-first-there : (a : List ℕ) (p : Period) (r : DateReading) → texts.read a ≡ r → openEnd r ≡ PeriodReading.Readable p → Spells (a ++ (slash ∷ [])) p
-unfolding openEnd
-first-there a p (DateReading.Readable d) h k =
+first_there : (a : List ℕ) (p : Period) (r : DateReading) → texts.read a ≡ r → open_end r ≡ PeriodReading.Readable p → Spells (a ++ (slash ∷ [])) p
+unfolding open_end
+first_there a p (DateReading.Readable d) h k =
     let z : period (End.At d.start) End.Open ≡ p = cc in
-    subst (Spells (a ++ (slash ∷ []))) z (spells-first ((date-reading.read-iff a d).0 h))
-first-there a p DateReading.Unreadable h k = let z : ◌≡◌ {A = ℕ} 0 1 = cc in absurd (omega arith)
+    subst (Spells (a ++ (slash ∷ []))) z (spells_first ((date-reading.read_iff a d).0 h))
+first_there a p DateReading.Unreadable h k = let z : ◌≡◌ {A = ℕ} 0 1 = cc in absurd (omega arith)
 
-not-readable : (p : Period) → PeriodReading.Unreadable ≡ PeriodReading.Readable p → ⊥
-not-readable p e = let z : ◌≡◌ {A = ℕ} 0 1 = cc in omega arith
+not_readable : (p : Period) → PeriodReading.Unreadable ≡ PeriodReading.Readable p → ⊥
+not_readable p e = let z : ◌≡◌ {A = ℕ} 0 1 = cc in omega arith
 
-both-there : (a b : List ℕ) (p : Period) (r s : DateReading) → texts.read a ≡ r → texts.read b ≡ s → bothEnds r s ≡ PeriodReading.Readable p → Spells (a ++ (slash ∷ b)) p
-unfolding bothEnds fromTo
-both-there a b p (DateReading.Readable d) (DateReading.Readable e) h g k =
-    let w = cond-first (lt_z d.start e.end) (PeriodReading.Readable (period (End.At d.start) (End.At e.end))) PeriodReading.Unreadable (not-readable p) k in
+both_there : (a b : List ℕ) (p : Period) (r s : DateReading) → texts.read a ≡ r → texts.read b ≡ s → both_ends r s ≡ PeriodReading.Readable p → Spells (a ++ (slash ∷ b)) p
+unfolding both_ends from_to
+both_there a b p (DateReading.Readable d) (DateReading.Readable e) h g k =
+    let w = cond-first (lt_z d.start e.end) (PeriodReading.Readable (period (End.At d.start) (End.At e.end))) PeriodReading.Unreadable (not_readable p) k in
     let same = w.1 in
     let z : period (End.At d.start) (End.At e.end) ≡ p = cc in
-    subst (Spells (a ++ (slash ∷ b))) z (spells-both ((date-reading.read-iff a d).0 h) ((date-reading.read-iff b e).0 g) ((ltZ-iff d.start e.end).0 w.0))
-both-there a b p (DateReading.Readable d) DateReading.Unreadable h g k = absurd (not-readable p k)
-both-there a b p DateReading.Unreadable s h g k = absurd (not-readable p k)
+    subst (Spells (a ++ (slash ∷ b))) z (spells_both ((date-reading.read_iff a d).0 h) ((date-reading.read_iff b e).0 g) ((lt_z_iff d.start e.end).0 w.0))
+both_there a b p (DateReading.Readable d) DateReading.Unreadable h g k = absurd (not_readable p k)
+both_there a b p DateReading.Unreadable s h g k = absurd (not_readable p k)
 
-parts-there : (p : Period) (a b : List ℕ) → read_parts a b ≡ PeriodReading.Readable p → Spells (a ++ (slash ∷ b)) p
+parts_there : (p : Period) (a b : List ℕ) → read_parts a b ≡ PeriodReading.Readable p → Spells (a ++ (slash ∷ b)) p
 unfolding read_parts
-parts-there p [] b h = second-there b p (texts.read b) refl h
-parts-there p (x ∷ a) [] h = first-there (x ∷ a) p (texts.read (x ∷ a)) refl (parts_first (x ∷ a) [] _ (λ e. omega arith) refl refl ∙ h)
-parts-there p (x ∷ a) (y ∷ b) h =
-    both-there (x ∷ a) (y ∷ b) p (texts.read (x ∷ a)) (texts.read (y ∷ b)) refl refl
-    (parts-both (x ∷ a) (y ∷ b) _ (λ e. omega arith) (λ e. omega arith) refl ∙ h)
+parts_there p [] b h = second_there b p (texts.read b) refl h
+parts_there p (x ∷ a) [] h = first_there (x ∷ a) p (texts.read (x ∷ a)) refl (parts_first (x ∷ a) [] _ (λ e. omega arith) refl refl ∙ h)
+parts_there p (x ∷ a) (y ∷ b) h =
+    both_there (x ∷ a) (y ∷ b) p (texts.read (x ∷ a)) (texts.read (y ∷ b)) refl refl
+    (parts_both (x ∷ a) (y ∷ b) _ (λ e. omega arith) (λ e. omega arith) refl ∙ h)
 
-reads-spells : (p : Period) (t : List ℕ) → read t ≡ PeriodReading.Readable p → Spells t p
+reads_spells : (p : Period) (t : List ℕ) → read t ≡ PeriodReading.Readable p → Spells t p
 unfolding read
-reads-spells p =
-    split-cases slash (λ (t : List ℕ). read t ≡ PeriodReading.Readable p → Spells t p)
-    (λ c h e. absurd (not-readable p (rw (split-whole slash c h) at e)))
-    (λ a b h e. parts-there p a b (rw (split_at slash a b h) at e))
+reads_spells p =
+    split_cases slash (λ (t : List ℕ). read t ≡ PeriodReading.Readable p → Spells t p)
+    (λ c h e. absurd (not_readable p (rw (split-whole slash c h) at e)))
+    (λ a b h e. parts_there p a b (rw (split_at_lem slash a b h) at e))
 
 -- ---- and the other way round
 
 -- no date is empty
-empty-unreadable : (d : Date) → texts.read [] ≡ DateReading.Readable d → ⊥
+empty_unreadable : (d : Date) → texts.read [] ≡ DateReading.Readable d → ⊥
 unfolding texts.read
-empty-unreadable d e = let z : ◌≡◌ {A = ℕ} 0 1 = cc in omega arith
+empty_unreadable d e = let z : ◌≡◌ {A = ℕ} 0 1 = cc in omega arith
 
-both-back : (a b : List ℕ) {d e : Date} → texts.read a ≡ DateReading.Readable d → texts.read b ≡ DateReading.Readable e → read_parts a b ≡ fromTo d e
-unfolding bothEnds
-both-back [] b {d} h g = absurd (empty-unreadable d h)
-both-back (x ∷ a) [] {d} {e} h g = absurd (empty-unreadable e g)
-both-back (x ∷ a) (y ∷ b) h g = sym (parts-both (x ∷ a) (y ∷ b) _ (λ e. omega arith) (λ e. omega arith) (rw (h, g)))
+both-back : (a b : List ℕ) {d e : Date} → texts.read a ≡ DateReading.Readable d → texts.read b ≡ DateReading.Readable e → read_parts a b ≡ from_to d e
+unfolding both_ends
+both-back [] b {d} h g = absurd (empty_unreadable d h)
+both-back (x ∷ a) [] {d} {e} h g = absurd (empty_unreadable e g)
+both-back (x ∷ a) (y ∷ b) h g = sym (parts_both (x ∷ a) (y ∷ b) _ (λ e. omega arith) (λ e. omega arith) (rw (h, g)))
 
 first_back : (a : List ℕ) {d : Date} → texts.read a ≡ DateReading.Readable d → read_parts a [] ≡ PeriodReading.Readable (period (End.At d.start) End.Open)
-unfolding openEnd
-first_back [] {d} h = absurd (empty-unreadable d h)
+unfolding open_end
+first_back [] {d} h = absurd (empty_unreadable d h)
 first_back (x ∷ a) h = sym (parts_first (x ∷ a) [] _ (λ e. omega arith) refl (rw h))
 
-spells-reads : {t : List ℕ} {p : Period} → Spells t p → read t ≡ PeriodReading.Readable p
-unfolding read fromTo read_parts openStart
-spells-reads (spells-both {a = a} {b = b} {d = d} {e = e} s r l) =
-    rw (split_at slash a b (date-plain s), both-back a b ((date-reading.read-iff a d).1 s) ((date-reading.read-iff b e).1 r), (ltZ-iff d.start e.end).1 l)
-spells-reads (spells-first {a = a} {d = d} s) =
-    rw (split_at slash a [] (date-plain s)) (first_back a ((date-reading.read-iff a d).1 s))
-spells-reads (spells-second {b = b} {e = e} s) =
-    rw (split_at slash [] b all-empty, (date-reading.read-iff b e).1 s)
+spells_reads : {t : List ℕ} {p : Period} → Spells t p → read t ≡ PeriodReading.Readable p
+unfolding read from_to read_parts open_start
+spells_reads (spells_both {a = a} {b = b} {d = d} {e = e} s r l) =
+    rw (split_at_lem slash a b (date-plain s), both-back a b ((date-reading.read_iff a d).1 s) ((date-reading.read_iff b e).1 r), (lt_z_iff d.start e.end).1 l)
+spells_reads (spells_first {a = a} {d = d} s) =
+    rw (split_at_lem slash a [] (date-plain s)) (first_back a ((date-reading.read_iff a d).1 s))
+spells_reads (spells_second {b = b} {e = e} s) =
+    rw (split_at_lem slash [] b all_empty, (date-reading.read_iff b e).1 s)
 
 -- the theorem: a text reads to a period exactly where it is a spelling of it
-pub read-iff : (t : List ℕ) (p : Period) → (read t ≡ PeriodReading.Readable p) ↔ Spells t p
-read-iff t p = (reads-spells p t, spells-reads)
+pub read_iff : (t : List ℕ) (p : Period) → (read t ≡ PeriodReading.Readable p) ↔ Spells t p
+read_iff t p = (reads_spells p t, spells_reads)
 
 -- so a text spells one period at most
-pub spells-unique : {t : List ℕ} {p q : Period} → Spells t p → Spells t q → p ≡ q
-spells-unique {t} {p} {q} s r =
-    let e : PeriodReading.Readable p ≡ PeriodReading.Readable q = sym (spells-reads s) ∙ spells-reads r in cc
+pub spells_unique : {t : List ℕ} {p q : Period} → Spells t p → Spells t q → p ≡ q
+spells_unique {t} {p} {q} s r =
+    let e : PeriodReading.Readable p ≡ PeriodReading.Readable q = sym (spells_reads s) ∙ spells_reads r in cc
 
 -- and it is readable exactly where it spells one
-readable-there : (t : List ℕ) (r : PeriodReading) → read t ≡ r → isPeriod r ≡ true → (p : Period) × Spells t p
-unfolding isPeriod
-readable-there t (PeriodReading.Readable p) e h = (p, reads-spells p t e)
-readable-there t PeriodReading.Unreadable e h = absurd (false≢true h)
+readable_there : (t : List ℕ) (r : PeriodReading) → read t ≡ r → is_period r ≡ true → (p : Period) × Spells t p
+unfolding is_period
+readable_there t (PeriodReading.Readable p) e h = (p, reads_spells p t e)
+readable_there t PeriodReading.Unreadable e h = absurd (false≢true h)
 
-pub readable-iff : (t : List ℕ) → (readable t ≡ true) ↔ ((p : Period) × Spells t p)
-unfolding readable isPeriod
-readable-iff t = (readable-there t (read t) refl, λ w. rw (spells-reads w.1))
+pub readable_iff : (t : List ℕ) → (readable t ≡ true) ↔ ((p : Period) × Spells t p)
+unfolding readable is_period
+readable_iff t = (readable_there t (read t) refl, λ w. rw (spells_reads w.1))
 
 -- ---- a date or a period
 
 not_plain : {t : List ℕ} {p : Period} → Spells t p → Plain t → ⊥
-not_plain (spells-both {a = a} s r l) h = all_head _ (all_right _ a h) refl
-not_plain (spells-first {a = a} s) h = all_head _ (all_right _ a h) refl
-not_plain (spells-second s) h = all_head _ h refl
+not_plain (spells_both {a = a} s r l) h = all_head _ (all_right _ a h) refl
+not_plain (spells_first {a = a} s) h = all_head _ (all_right _ a h) refl
+not_plain (spells_second s) h = all_head _ h refl
 
 -- no period is a date
-period-no-date : (t : List ℕ) {p : Period} → Spells t p → (r : DateReading) → texts.read t ≡ r → r ≡ DateReading.Unreadable
-period-no-date t s (DateReading.Readable d) e = absurd (not_plain s (date-plain ((date-reading.read-iff t d).0 e)))
-period-no-date t s DateReading.Unreadable e = refl
+period_no_date : (t : List ℕ) {p : Period} → Spells t p → (r : DateReading) → texts.read t ≡ r → r ≡ DateReading.Unreadable
+period_no_date t s (DateReading.Readable d) e = absurd (not_plain s (date-plain ((date-reading.read_iff t d).0 e)))
+period_no_date t s DateReading.Unreadable e = refl
 
-span-there : (t : List ℕ) (p : Period) (r : DateReading) → texts.read t ≡ r → spanOr r (read t) ≡ PeriodReading.Readable p → SpellsSpan t p
-unfolding spanOr
-span-there t p (DateReading.Readable d) e h =
+span_there : (t : List ℕ) (p : Period) (r : DateReading) → texts.read t ≡ r → span_or r (read t) ≡ PeriodReading.Readable p → SpellsSpan t p
+unfolding span_or
+span_there t p (DateReading.Readable d) e h =
     let z : known d ≡ p = cc in
-    subst (SpellsSpan t) z (span-of-date ((date-reading.read-iff t d).0 e))
-span-there t p DateReading.Unreadable e h = span-of-period (reads-spells p t h)
+    subst (SpellsSpan t) z (span_of_date ((date-reading.read_iff t d).0 e))
+span_there t p DateReading.Unreadable e h = span_of_period (reads_spells p t h)
 
-span-back : {t : List ℕ} {p : Period} → SpellsSpan t p → readSpan t ≡ PeriodReading.Readable p
-unfolding readSpan spanOr
-span-back (span-of-date {t = t} {d = d} s) = rw ((date-reading.read-iff t d).1 s)
-span-back (span-of-period {t = t} s) = rw (period-no-date t s (texts.read t) refl) (spells-reads s)
+span_back : {t : List ℕ} {p : Period} → SpellsSpan t p → read_span t ≡ PeriodReading.Readable p
+unfolding read_span span_or
+span_back (span_of_date {t = t} {d = d} s) = rw ((date-reading.read_iff t d).1 s)
+span_back (span_of_period {t = t} s) = rw (period_no_date t s (texts.read t) refl) (spells_reads s)
 
-pub span-iff : (t : List ℕ) (p : Period) → (readSpan t ≡ PeriodReading.Readable p) ↔ SpellsSpan t p
-unfolding readSpan
-span-iff t p = (span-there t p (texts.read t) refl, span-back)
+pub span_iff : (t : List ℕ) (p : Period) → (read_span t ≡ PeriodReading.Readable p) ↔ SpellsSpan t p
+unfolding read_span
+span_iff t p = (span_there t p (texts.read t) refl, span_back)
 
 -- ---- what is read has an instant
 
-spells-inhabited : {t : List ℕ} {p : Period} → Spells t p → Inhabited p
-spells-inhabited (spells-both {d = d} s r l) = (d.start, record { from = from-known (≤ℤ_refl d.start); before = until-known l })
-spells-inhabited (spells-first {d = d} s) = (d.start, record { from = from-known (≤ℤ_refl d.start); before = until_open })
-spells-inhabited (spells-second {e = e} s) = let y = less e.end in (y.0, record { from = from-open; before = until-known y.1 })
+spells_inhabited : {t : List ℕ} {p : Period} → Spells t p → Inhabited p
+spells_inhabited (spells_both {d = d} s r l) = (d.start, record { from = from_known (≤ℤ_refl d.start); before = until_known l })
+spells_inhabited (spells_first {d = d} s) = (d.start, record { from = from_known (≤ℤ_refl d.start); before = until_open })
+spells_inhabited (spells_second {e = e} s) = let y = less e.end in (y.0, record { from = from_open; before = until_known y.1 })
 
-pub span-inhabited : {t : List ℕ} {p : Period} → SpellsSpan t p → Inhabited p
+pub span_inhabited : {t : List ℕ} {p : Period} → SpellsSpan t p → Inhabited p
 unfolding known
-span-inhabited (span-of-date {t = t} {d = d} s) =
-    let first = read_first t ((date-reading.read-iff t d).1 s) in
-    (d.start, record { from = from-known first.from; before = until-known first.before })
-span-inhabited (span-of-period s) = spells-inhabited s
+span_inhabited (span_of_date {t = t} {d = d} s) =
+    let first = read_first t ((date-reading.read_iff t d).1 s) in
+    (d.start, record { from = from_known first.from; before = until_known first.before })
+span_inhabited (span_of_period s) = spells_inhabited s

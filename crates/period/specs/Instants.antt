@@ -11,13 +11,13 @@ use Rattle.period.specs.declared.Period.{Period}
 
 -- 02: "a missing end lying beyond every date that can be written": every instant lies behind a missing start
 pub data From : End → ℤ → Type 0 where
-  from-open : {t : ℤ} → From End.Open t
-  from-known : {s t : ℤ} → s ≤ℤ t → From (End.At s) t
+  from_open : {t : ℤ} → From End.Open t
+  from_known : {s t : ℤ} → s ≤ℤ t → From (End.At s) t
 
 -- and before a missing end
 pub data Until : End → ℤ → Type 0 where
   until_open : {t : ℤ} → Until End.Open t
-  until-known : {e t : ℤ} → t <ℤ e → Until (End.At e) t
+  until_known : {e t : ℤ} → t <ℤ e → Until (End.At e) t
 
 -- the instant t lies in the period: start in, end out
 pub record InPeriod (p : Period) (t : ℤ) : Type 0 where

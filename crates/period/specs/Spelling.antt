@@ -10,11 +10,11 @@ use Rattle.period.specs.declared.Period.{Period}
 -- 02: "two dates with a slash between, either one missing but not both, the span running from the start of the first to the end of the
 -- second"; it ends after it starts
 pub data Spells : List ℕ → Period → Type 0 where
-  spells-both : {a b : List ℕ} {d e : Date} → dates.Spells a d → dates.Spells b e → d.start <ℤ e.end → Spells (a ++ (slash ∷ b)) (period (End.At d.start) (End.At e.end))
-  spells-first : {a : List ℕ} {d : Date} → dates.Spells a d → Spells (a ++ (slash ∷ [])) (period (End.At d.start) End.Open)
-  spells-second : {b : List ℕ} {e : Date} → dates.Spells b e → Spells (slash ∷ b) (period End.Open (End.At e.end))
+  spells_both : {a b : List ℕ} {d e : Date} → dates.Spells a d → dates.Spells b e → d.start <ℤ e.end → Spells (a ++ (slash ∷ b)) (period (End.At d.start) (End.At e.end))
+  spells_first : {a : List ℕ} {d : Date} → dates.Spells a d → Spells (a ++ (slash ∷ [])) (period (End.At d.start) End.Open)
+  spells_second : {b : List ℕ} {e : Date} → dates.Spells b e → Spells (slash ∷ b) (period End.Open (End.At e.end))
 
 -- a card's text under a date or a period, and its span
 pub data SpellsSpan : List ℕ → Period → Type 0 where
-  span-of-date : {t : List ℕ} {d : Date} → dates.Spells t d → SpellsSpan t (known d)
-  span-of-period : {t : List ℕ} {p : Period} → Spells t p → SpellsSpan t p
+  span_of_date : {t : List ℕ} {d : Date} → dates.Spells t d → SpellsSpan t (known d)
+  span_of_period : {t : List ℕ} {p : Period} → Spells t p → SpellsSpan t p

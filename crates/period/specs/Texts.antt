@@ -24,52 +24,52 @@ unfoldable pub known : Date → Period
 known d = period (End.At d.start) (End.At d.end)
 
 -- "the span running from the start of the first to the end of the second"; "a span that would not end after it starts is unreadable"
-unfoldable pub fromTo : Date → Date → PeriodReading
-fromTo a b = cond (lt_z a.start b.end) (PeriodReading.Readable (period (End.At a.start) (End.At b.end))) PeriodReading.Unreadable
+unfoldable pub from_to : Date → Date → PeriodReading
+from_to a b = cond (lt_z a.start b.end) (PeriodReading.Readable (period (End.At a.start) (End.At b.end))) PeriodReading.Unreadable
 
 -- two dates
-unfoldable pub bothEnds : DateReading → DateReading → PeriodReading
-bothEnds (DateReading.Readable a) (DateReading.Readable b) = fromTo a b
-bothEnds (DateReading.Readable a) DateReading.Unreadable = PeriodReading.Unreadable
-bothEnds DateReading.Unreadable b = PeriodReading.Unreadable
+unfoldable pub both_ends : DateReading → DateReading → PeriodReading
+both_ends (DateReading.Readable a) (DateReading.Readable b) = from_to a b
+both_ends (DateReading.Readable a) DateReading.Unreadable = PeriodReading.Unreadable
+both_ends DateReading.Unreadable b = PeriodReading.Unreadable
 
 -- the first alone
-unfoldable pub openEnd : DateReading → PeriodReading
-openEnd (DateReading.Readable a) = PeriodReading.Readable (period (End.At a.start) End.Open)
-openEnd DateReading.Unreadable = PeriodReading.Unreadable
+unfoldable pub open_end : DateReading → PeriodReading
+open_end (DateReading.Readable a) = PeriodReading.Readable (period (End.At a.start) End.Open)
+open_end DateReading.Unreadable = PeriodReading.Unreadable
 
 -- the second alone
-unfoldable pub openStart : DateReading → PeriodReading
-openStart (DateReading.Readable b) = PeriodReading.Readable (period End.Open (End.At b.end))
-openStart DateReading.Unreadable = PeriodReading.Unreadable
+unfoldable pub open_start : DateReading → PeriodReading
+open_start (DateReading.Readable b) = PeriodReading.Readable (period End.Open (End.At b.end))
+open_start DateReading.Unreadable = PeriodReading.Unreadable
 
 -- what stands before the slash, and behind it: "either one missing but not both", since no empty text is a date
 unfoldable pub read_parts : List ℕ → List ℕ → PeriodReading
 read_parts a b =
-    cond (eqb (length a) 0) (openStart (texts.read b))
-    (cond (eqb (length b) 0) (openEnd (texts.read a)) (bothEnds (texts.read a) (texts.read b)))
+    cond (eqb (length a) 0) (open_start (texts.read b))
+    (cond (eqb (length b) 0) (open_end (texts.read a)) (both_ends (texts.read a) (texts.read b)))
 
-abbrev pub readSplit : Split → PeriodReading
-readSplit (whole t) = PeriodReading.Unreadable
-readSplit (parts a b) = read_parts a b
+abbrev pub read_split : Split → PeriodReading
+read_split (whole t) = PeriodReading.Unreadable
+read_split (parts a b) = read_parts a b
 
 -- "two dates with a slash between"; no date has a slash
 unfoldable pub read : List ℕ → PeriodReading
-read t = readSplit (split slash t)
+read t = read_split (split slash t)
 
 -- the reading is a period
-unfoldable pub isPeriod : PeriodReading → Bool
-isPeriod (PeriodReading.Readable p) = true
-isPeriod PeriodReading.Unreadable = false
+unfoldable pub is_period : PeriodReading → Bool
+is_period (PeriodReading.Readable p) = true
+is_period PeriodReading.Unreadable = false
 
 -- 01: readable
 unfoldable pub readable : List ℕ → Bool
-readable t = isPeriod (read t)
+readable t = is_period (read t)
 
 -- the span of a card's date or period; no text is both, since a date has no slash
-unfoldable pub spanOr : DateReading → PeriodReading → PeriodReading
-spanOr (DateReading.Readable d) r = PeriodReading.Readable (known d)
-spanOr DateReading.Unreadable r = r
+unfoldable pub span_or : DateReading → PeriodReading → PeriodReading
+span_or (DateReading.Readable d) r = PeriodReading.Readable (known d)
+span_or DateReading.Unreadable r = r
 
-unfoldable pub readSpan : List ℕ → PeriodReading
-readSpan t = spanOr (texts.read t) (read t)
+unfoldable pub read_span : List ℕ → PeriodReading
+read_span t = span_or (texts.read t) (read t)

@@ -1,14 +1,14 @@
 // The relations of a card's period `i` and a filter's date `f`. Over each stand the operation that asks for it and the rule;
 // the period runs from i0 to i1, and the date from f0 to f1.
 ghost use Rattle.std.specs.Prelude.{◌≡◌};
-ghost use Rattle.period.specs.Relations.{startsBefore, startsNoLater, endsAfter, endsNoEarlier, inside, later, earlier, laterOrInside, earlierOrInside, startsAfter, endsBefore, overlaps, covers};
+ghost use Rattle.period.specs.Relations.{starts_before, starts_no_later, ends_after, ends_no_earlier, inside, later, earlier, later_or_inside, earlier_or_inside, starts_after, ends_before, overlaps, covers};
 
 use crate::{End, Period};
 use date::Date;
 
 // Whether a start lies before an instant; a missing one does.
 fn starts_before(start: End, t: i64) -> bool
-    ensures { result ≡ startsBefore start t }
+    ensures { result ≡ starts_before start t }
 {
     match start {
         End::Open => true,
@@ -18,7 +18,7 @@ fn starts_before(start: End, t: i64) -> bool
 
 // Whether an end lies behind an instant; a missing one does.
 fn ends_after(end: End, t: i64) -> bool
-    ensures { result ≡ endsAfter end t }
+    ensures { result ≡ ends_after end t }
 {
     match end {
         End::Open => true,
@@ -51,21 +51,21 @@ pub fn inside(i: Period, f: Date) -> bool
 
 // ge: "gt or I inside F".
 pub fn later_or_inside(i: Period, f: Date) -> bool
-    ensures { result ≡ laterOrInside i f }
+    ensures { result ≡ later_or_inside i f }
 {
     later(i, f) || inside(i, f)
 }
 
 // le: "lt or I inside F".
 pub fn earlier_or_inside(i: Period, f: Date) -> bool
-    ensures { result ≡ earlierOrInside i f }
+    ensures { result ≡ earlier_or_inside i f }
 {
     earlier(i, f) || inside(i, f)
 }
 
 // Whether i starts before f ends: "i0<f1".
 fn starts_before_end(i: Period, f: Date) -> bool
-    ensures { result ≡ startsBefore i.start f.end }
+    ensures { result ≡ starts_before i.start f.end }
 {
     let start = i.start;
     starts_before(start, f.end)
@@ -73,7 +73,7 @@ fn starts_before_end(i: Period, f: Date) -> bool
 
 // Whether i ends after f starts: "f0<i1".
 fn ends_after_start(i: Period, f: Date) -> bool
-    ensures { result ≡ endsAfter i.end f.start }
+    ensures { result ≡ ends_after i.end f.start }
 {
     let end = i.end;
     ends_after(end, f.start)
@@ -81,14 +81,14 @@ fn ends_after_start(i: Period, f: Date) -> bool
 
 // sa: "i0>=f1".
 pub fn starts_after(i: Period, f: Date) -> bool
-    ensures { result ≡ startsAfter i f }
+    ensures { result ≡ starts_after i f }
 {
     !starts_before_end(i, f)
 }
 
 // eb: "i1<=f0".
 pub fn ends_before(i: Period, f: Date) -> bool
-    ensures { result ≡ endsBefore i f }
+    ensures { result ≡ ends_before i f }
 {
     !ends_after_start(i, f)
 }
@@ -102,7 +102,7 @@ pub fn overlaps(i: Period, f: Date) -> bool
 
 // Whether i starts no later than f; with a missing start it does.
 fn starts_no_later(i: Period, f: Date) -> bool
-    ensures { result ≡ startsNoLater i.start f.start }
+    ensures { result ≡ starts_no_later i.start f.start }
 {
     let start = i.start;
     match start {
@@ -113,7 +113,7 @@ fn starts_no_later(i: Period, f: Date) -> bool
 
 // Whether i ends no earlier than f; with a missing end it does.
 fn ends_no_earlier(i: Period, f: Date) -> bool
-    ensures { result ≡ endsNoEarlier i.end f.end }
+    ensures { result ≡ ends_no_earlier i.end f.end }
 {
     let end = i.end;
     match end {

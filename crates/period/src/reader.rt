@@ -2,7 +2,7 @@
 ghost use Rattle.std.specs.Prelude.{◌≡◌};
 ghost use Rattle.std.specs.Int.Signed.{lt_z};
 ghost use Rattle.date.specs.Texts as texts;
-ghost use Rattle.period.specs.Texts.{known, fromTo, bothEnds, openEnd, openStart, read_parts, read, readable, readSpan};
+ghost use Rattle.period.specs.Texts.{known, from_to, both_ends, open_end, open_start, read_parts, read, readable, read_span};
 
 use crate::{End, Period, PeriodReading};
 use date::{Date, DateReading};
@@ -26,7 +26,7 @@ fn in_order(a: Date, b: Date) -> bool
 
 // "From the start of the first to the end of the second"; "a span that would not end after it starts is unreadable".
 fn from_to(a: Date, b: Date) -> PeriodReading
-    ensures { result ≡ fromTo a b }
+    ensures { result ≡ from_to a b }
 {
     if in_order(a, b) {
         return PeriodReading::Readable(Period {
@@ -39,7 +39,7 @@ fn from_to(a: Date, b: Date) -> PeriodReading
 
 // Two dates.
 fn both_ends(first: &[u8], second: &[u8]) -> PeriodReading
-    ensures { result ≡ bothEnds (texts.read first.now) (texts.read second.now) }
+    ensures { result ≡ both_ends (texts.read first.now) (texts.read second.now) }
 {
     let DateReading::Readable(a) = date::read(first) else {
         return PeriodReading::Unreadable;
@@ -52,7 +52,7 @@ fn both_ends(first: &[u8], second: &[u8]) -> PeriodReading
 
 // The first alone: the end is missing.
 fn open_end(first: &[u8]) -> PeriodReading
-    ensures { result ≡ openEnd (texts.read first.now) }
+    ensures { result ≡ open_end (texts.read first.now) }
 {
     let DateReading::Readable(a) = date::read(first) else {
         return PeriodReading::Unreadable;
@@ -65,7 +65,7 @@ fn open_end(first: &[u8]) -> PeriodReading
 
 // The second alone: the start is missing.
 fn open_start(second: &[u8]) -> PeriodReading
-    ensures { result ≡ openStart (texts.read second.now) }
+    ensures { result ≡ open_start (texts.read second.now) }
 {
     match date::read(second) {
         DateReading::Readable(b) => PeriodReading::Readable(Period {
@@ -113,7 +113,7 @@ pub fn readable(s: &[u8]) -> bool
 
 // The span of a card's text, a date or a period.
 pub fn read_span(s: &[u8]) -> PeriodReading
-    ensures { result ≡ readSpan s.now }
+    ensures { result ≡ read_span s.now }
 {
     match date::read(s) {
         DateReading::Readable(d) => PeriodReading::Readable(known(d)),

@@ -11,7 +11,7 @@ use Rattle.listing.specs.declared.Totals.{Totals}
 use Rattle.listing.specs.Totals.{Added}
 use Rattle.pick.specs.declared.files.Filled.{Filled}
 use Rattle.pick.specs.declared.runs.Turn.{Turn}
-use Rattle.pick.specs.Bounds.{Fills, endedBy, RunAdded, RunAdds, FullRunAdded}
+use Rattle.pick.specs.Bounds.{Fills, ended_by, RunAdded, RunAdds, FullRunAdded}
 
 -- what was read fits the buffer
 pub bytes-within : {r : Filled} {n room : ℕ} → r ≡ Filled.Bytes n → Fills r room → n ≤ room
@@ -31,18 +31,18 @@ more_added t e h = subst (FullRunAdded t) e h
 
 -- what a read that gave nothing more leaves
 module _ (t : Bool) (at : ℕ) (got z : ℤ) (e : t ≡ lt_z z (pos 0)) (same : z ≡ got) where
-  failed-is : t ≡ lt_z got (pos 0)
-  failed-is = e ∙ ap (λ (x : ℤ). lt_z x (pos 0)) same
+  failed_is : t ≡ lt_z got (pos 0)
+  failed_is = e ∙ ap (λ (x : ℤ). lt_z x (pos 0)) same
 
-  pub ended-failed : t ≡ true → Filled.Failed ≡ endedBy at got
-  unfolding endedBy
-  ended-failed h = rw (sym failed-is ∙ h)
+  pub ended_failed : t ≡ true → Filled.Failed ≡ ended_by at got
+  unfolding ended_by
+  ended_failed h = rw (sym failed_is ∙ h)
 
-  pub ended-bytes : t ≡ false → Filled.Bytes at ≡ endedBy at got
-  unfolding endedBy
-  ended-bytes h = rw (sym failed-is ∙ h)
+  pub ended-bytes : t ≡ false → Filled.Bytes at ≡ ended_by at got
+  unfolding ended_by
+  ended-bytes h = rw (sym failed_is ∙ h)
 
 -- it fits the buffer
-pub ended-within : (r : Filled) (got : ℤ) (at room : ℕ) → r ≡ endedBy at got → at ≤ room → Fills r room
-unfolding endedBy
+pub ended-within : (r : Filled) (got : ℤ) (at room : ℕ) → r ≡ ended_by at got → at ≤ room → Fills r room
+unfolding ended_by
 ended-within r got at room e h = subst (λ (x : Filled). Fills x room) (sym e) (cond-elim (λ (x : Filled). Fills x room) (lt_z got (pos 0)) (λ _. tt) (λ _. h))

@@ -13,27 +13,27 @@ use borrow.Author.Tests.{lt-ltb, le-ltb}
 use Rattle.base.specs.Parts.{part}
 use Rattle.base.specs.Writing.{Room, Puts}
 use Rattle.base.proofs.Writing.{lent, back}
-use Rattle.listing.proofs.Putting.{lines-length, count_room, two-within, two-puts}
+use Rattle.listing.proofs.Putting.{lines-length, count_room, two-within, two_puts}
 use Rattle.refusal.specs.declared.Refusal.{Refusal}
 use Rattle.answer.specs.declared.Selected.{Selected}
-use Rattle.refusal.specs.Answers.{Answer, count, refused, number_of, refusalAnswer, PlaceBound}
+use Rattle.refusal.specs.Answers.{Answer, count, refused, number_of, refusal_answer, PlaceBound}
 use Rattle.refusal.specs.Steps.{Step, found, stop, answer, ◌>>=◌}
-use Rattle.answer.specs.Answers.{selectedAnswer}
-use Rattle.sirophan.specs.Contracts.{SelectsInto}
-use Rattle.answer.specs.Operations.{filterQuestion, selection, selectBy, cellsBy, written, selectAnswer}
-use Rattle.sirophan.proofs.Promises.{select-count-within, select-place-within}
+use Rattle.answer.specs.Answers.{selected_answer}
+use Rattle.sirophan.specs.Operations.{SelectsInto}
+use Rattle.answer.specs.Operations.{filter_question, selection, select_by, cells_by, written, select_answer}
+use Rattle.sirophan.proofs.Promises.{select_count_within, select_place_within}
 use Rattle.listing.specs.declared.Totals.{Totals}
 use Rattle.listing.specs.Totals.{Added}
-use Rattle.listing.specs.Lines.{lines, refusalLine, countLine}
-use Rattle.listing.specs.Places.{placeInFile}
+use Rattle.listing.specs.Lines.{lines, refusal_line, count_line}
+use Rattle.listing.specs.Places.{place_in_file}
 use Rattle.pick.specs.declared.runs.Turn.{Turn}
 use Rattle.pick.specs.declared.runs.RunText.{RunText}
 use Rattle.pick.specs.Bounds.{RunAdded, RunAdds}
-use Rattle.pick.specs.Runs.{EndPut, ListedPut, lastLine, selectionText, runText, TurnAfter, TurnOf, RunPut}
+use Rattle.pick.specs.Runs.{EndPut, ListedPut, last_line, selection_text, run_text, TurnAfter, TurnOf, RunPut}
 
 -- the answer of a selection
-abbrev runAnswer : Step (List ℕ) → Answer
-runAnswer x = answer (do
+abbrev run_answer : Step (List ℕ) → Answer
+run_answer x = answer (do
   ns ← x
   found (count (length ns)))
 
@@ -44,108 +44,108 @@ pub record Listed (x : Step (List ℕ)) (n : ℕ) (list : List ℕ) : Type 0 whe
   pub many : length numbers ≡ n
   pub first : take n (written x list) ≡ numbers
 
-listed : (x : Step (List ℕ)) (n : ℕ) (list : List ℕ) → runAnswer x ≡ count n → Listed x n list
+listed : (x : Step (List ℕ)) (n : ℕ) (list : List ℕ) → run_answer x ≡ count n → Listed x n list
 listed (found ns) n list e =
     let l : length ns ≡ n = cc in
     record { numbers = ns; finds = refl; many = l; first = take_at ns (drop (length ns) list) n l }
 listed (stop k p) n list e = let z : ◌≡◌ {A = ℕ} 0 1 = cc in absurd (omega arith)
 
 -- one that is refused has stopped there
-stopped : (x : Step (List ℕ)) (k p : ℕ) → runAnswer x ≡ refused k p → x ≡ stop k p
+stopped : (x : Step (List ℕ)) (k p : ℕ) → run_answer x ≡ refused k p → x ≡ stop k p
 stopped (found ns) k p e = let z : ◌≡◌ {A = ℕ} 0 1 = cc in absurd (omega arith)
 stopped (stop k' p') k p e = cc
 
 -- ---- the end of a run
 
 module _ (t : Totals) (size : ℕ) (entry : List ℕ) where
-  pub end-last : (exit : List ℕ) (n : ℕ) → size < 65536 → Puts (countLine t.matches t.cards) entry exit n → EndPut t size entry exit (record { size = n; turn = Turn.Ended })
-  unfolding lastLine
-  end-last exit n h p = record { text = rw (lt-ltb size 65536 h) p; turn = h }
+  pub end_last : (exit : List ℕ) (n : ℕ) → size < 65536 → Puts (count_line t.matches t.cards) entry exit n → EndPut t size entry exit (record { size = n; turn = Turn.Ended })
+  unfolding last_line
+  end_last exit n h p = record { text = rw (lt-ltb size 65536 h) p; turn = h }
 
-  pub end-full : 65536 ≤ size → EndPut t size entry entry (record { size = 0; turn = Turn.More t })
-  unfolding lastLine
-  end-full h = record { text = rw (le-ltb size 65536 h) (record { long = refl; bytes = refl }); turn = (h, refl) }
+  pub end_full : 65536 ≤ size → EndPut t size entry entry (record { size = 0; turn = Turn.More t })
+  unfolding last_line
+  end_full h = record { text = rw (le-ltb size 65536 h) (record { long = refl; bytes = refl }); turn = (h, refl) }
 
-  pub last-room : size < 65536 → Room (lastLine size t.matches t.cards) entry → Room (countLine t.matches t.cards) entry
-  unfolding lastLine
-  last-room h r = record { fits = rw (lt-ltb size 65536 h) at r.fits }
+  pub last_room : size < 65536 → Room (last_line size t.matches t.cards) entry → Room (count_line t.matches t.cards) entry
+  unfolding last_line
+  last_room h r = record { fits = rw (lt-ltb size 65536 h) at r.fits }
 
 -- the numbers, and the end of the run behind them
-module _ (ns : List ℕ) (t : Totals) (size : ℕ) (out : List ℕ) (h : Room (lines ns ++ lastLine size t.matches t.cards) out) {out₁ : List ℕ} {n : ℕ} (p : Puts (lines ns) out out₁ n)
+module _ (ns : List ℕ) (t : Totals) (size : ℕ) (out : List ℕ) (h : Room (lines ns ++ last_line size t.matches t.cards) out) {out₁ : List ℕ} {n : ℕ} (p : Puts (lines ns) out out₁ n)
     {exit : List ℕ} {x : RunText} (q : EndPut t size (lent out₁ n) exit x) where
-  pub listed-within : n + x.size ≤ length out
-  listed-within = two-within (lines ns) (lastLine size t.matches t.cards) out h p q.text
+  pub listed_within : n + x.size ≤ length out
+  listed_within = two-within (lines ns) (last_line size t.matches t.cards) out h p q.text
 
-  pub listed-puts : ListedPut ns t size out (back out₁ n exit) (record { size = n + x.size; turn = x.turn })
-  listed-puts = record { text = two-puts (lines ns) (lastLine size t.matches t.cards) out h p q.text; turn = q.turn }
+  pub listed_puts : ListedPut ns t size out (back out₁ n exit) (record { size = n + x.size; turn = x.turn })
+  listed_puts = record { text = two_puts (lines ns) (last_line size t.matches t.cards) out h p q.text; turn = q.turn }
 
 -- there is room for the numbers of a run and the count
-pub listed-room : (ns : List ℕ) (t : Totals) (size : ℕ) (out : List ℕ) → ((i : ℕ) → get_or ns i 0 < 2 ^ 64) → length ns ≤ 128 → t.matches < 2 ^ 64 → t.cards < 2 ^ 64 → 2752 ≤ length out
-    → Room (lines ns ++ lastLine size t.matches t.cards) out
-unfolding lastLine
-listed-room ns t size out h few m c l =
-    record { fits = omega (arith, length-append (lines ns) (lastLine size t.matches t.cards), lines-length ns h, line (ltb size 65536)) }
+pub listed_room : (ns : List ℕ) (t : Totals) (size : ℕ) (out : List ℕ) → ((i : ℕ) → get_or ns i 0 < 2 ^ 64) → length ns ≤ 128 → t.matches < 2 ^ 64 → t.cards < 2 ^ 64 → 2752 ≤ length out
+    → Room (lines ns ++ last_line size t.matches t.cards) out
+unfolding last_line
+listed_room ns t size out h few m c l =
+    record { fits = omega (arith, length-append (lines ns) (last_line size t.matches t.cards), lines-length ns h, line (ltb size 65536)) }
   where
-    line : (b : Bool) → length (cond b (countLine t.matches t.cards) []) ≤ 64
+    line : (b : Bool) → length (cond b (count_line t.matches t.cards) []) ≤ 64
     line true = omega (arith, (count_room (replicate 64 0) t.matches t.cards m c (omega arith)).fits)
     line false = omega arith
 
 -- what a run comes to, by what its selection is
 module _ (sheet text cards : List ℕ) (t : Totals) {entry out : List ℕ} {size : ℕ} where
-  pub run-listed : (ns : List ℕ) → selection (filterQuestion sheet text) cards 128 ≡ found ns → (u : Totals) → Added t (length ns) (length cards) u
-      → Puts (lines ns ++ lastLine (length cards) u.matches u.cards) entry out size → (turn : Turn) → TurnOf (length cards) u turn
+  pub run_listed : (ns : List ℕ) → selection (filter_question sheet text) cards 128 ≡ found ns → (u : Totals) → Added t (length ns) (length cards) u
+      → Puts (lines ns ++ last_line (length cards) u.matches u.cards) entry out size → (turn : Turn) → TurnOf (length cards) u turn
       → RunPut sheet text cards t entry out (record { size = size; turn = turn })
-  unfolding runText selectionText
-  run-listed ns e u a p turn o = record { text = rw (e, ← a.matches, ← a.cards) p; turn = rw e (after turn o) }
+  unfolding run_text selection_text
+  run_listed ns e u a p turn o = record { text = rw (e, ← a.matches, ← a.cards) p; turn = rw e (after turn o) }
     where
       after : (turn : Turn) → TurnOf (length cards) u turn → TurnAfter (found ns) (length cards) t turn
       after (Turn.More v) (l, same) = (l, subst (λ (x : Totals). Added t (length ns) (length cards) x) (sym same) a)
       after Turn.Ended l = l
 
-  pub run-stopped : (k p : ℕ) → selection (filterQuestion sheet text) cards 128 ≡ stop k p → Puts (refusalLine k (placeInFile k p t.cards)) entry out size
+  pub run_stopped : (k p : ℕ) → selection (filter_question sheet text) cards 128 ≡ stop k p → Puts (refusal_line k (place_in_file k p t.cards)) entry out size
       → RunPut sheet text cards t entry out (record { size = size; turn = Turn.Ended })
-  unfolding runText selectionText
-  run-stopped k p e q = record { text = rw e q; turn = rw e tt }
+  unfolding run_text selection_text
+  run_stopped k p e q = record { text = rw e q; turn = rw e tt }
 
 -- unless the output has ended, the run is added with the count that select answers
-turn-added : (sheet text cards : List ℕ) → length cards ≤ 65536 → (t : Totals) (x : Step (List ℕ)) → selection (filterQuestion sheet text) cards 128 ≡ x → (turn : Turn)
+turn_added : (sheet text cards : List ℕ) → length cards ≤ 65536 → (t : Totals) (x : Step (List ℕ)) → selection (filter_question sheet text) cards 128 ≡ x → (turn : Turn)
     → TurnAfter x (length cards) t turn → RunAdded sheet text cards t turn
-unfolding selectBy
-turn-added sheet text cards most t (found ns) e (Turn.More u) (l, a) =
+unfolding select_by
+turn_added sheet text cards most t (found ns) e (Turn.More u) (l, a) =
     let room : List ℕ = replicate 128 0 in
-    let few : selectAnswer sheet text cards (length room) ≡ count (length ns) → length ns ≤ length room = select-count-within sheet text cards room (length ns) in
-    (length ns, ap runAnswer e, omega (arith, few (ap runAnswer e)), omega (arith, l), a)
-turn-added sheet text cards most t (found ns) e Turn.Ended a = tt
-turn-added sheet text cards most t (stop k p) e (Turn.More u) a = absurd a
-turn-added sheet text cards most t (stop k p) e Turn.Ended a = a
+    let few : select_answer sheet text cards (length room) ≡ count (length ns) → length ns ≤ length room = select_count_within sheet text cards room (length ns) in
+    (length ns, ap run_answer e, omega (arith, few (ap run_answer e)), omega (arith, l), a)
+turn_added sheet text cards most t (found ns) e Turn.Ended a = tt
+turn_added sheet text cards most t (stop k p) e (Turn.More u) a = absurd a
+turn_added sheet text cards most t (stop k p) e Turn.Ended a = a
 
-pub run-added : (sheet text cards : List ℕ) (t : Totals) {entry out : List ℕ} {r : RunText} → RunPut sheet text cards t entry out r → length cards ≤ 65536 → RunAdds sheet text cards t r.turn
-run-added sheet text cards t {r = r} p most = record { added = turn-added sheet text cards most t (selection (filterQuestion sheet text) cards 128) refl r.turn p.turn }
+pub run_added : (sheet text cards : List ℕ) (t : Totals) {entry out : List ℕ} {r : RunText} → RunPut sheet text cards t entry out r → length cards ≤ 65536 → RunAdds sheet text cards t r.turn
+run_added sheet text cards t {r = r} p most = record { added = turn_added sheet text cards most t (selection (filter_question sheet text) cards 128) refl r.turn p.turn }
 
 module _ (sheet text cards list : List ℕ) {r : Selected} {exit : List ℕ} (s : SelectsInto sheet text cards list r exit) where
-  pub selected-count : (n : ℕ) → r ≡ Selected.Count n → n ≤ length list
-  unfolding selectedAnswer
-  selected-count n e = select-count-within sheet text cards list n (sym s.answers ∙ rw e)
+  pub selected_count : (n : ℕ) → r ≡ Selected.Count n → n ≤ length list
+  unfolding selected_answer
+  selected_count n e = select_count_within sheet text cards list n (sym s.answers ∙ rw e)
 
-  pub selected-place : (x : Refusal) → r ≡ Selected.Refused x → PlaceBound (number_of x.reason) x.place
-  unfolding selectedAnswer refusalAnswer
-  selected-place x e = record { within = select-place-within sheet text cards list (number_of x.reason) x.place (sym s.answers ∙ rw e) }
+  pub selected_place : (x : Refusal) → r ≡ Selected.Refused x → PlaceBound (number_of x.reason) x.place
+  unfolding selected_answer refusal_answer
+  selected_place x e = record { within = select_place_within sheet text cards list (number_of x.reason) x.place (sym s.answers ∙ rw e) }
 
   module _ (h : length list ≡ 128) (t : Totals) {entry out : List ℕ} where
     -- the part of the list that select filled, line by line
-    pub selected-run : {n : ℕ} → r ≡ Selected.Count n → (u : Totals) → Added t n (length cards) u → (x : RunText) → ListedPut (part exit 0 n) u (length cards) entry out x
+    pub selected_run : {n : ℕ} → r ≡ Selected.Count n → (u : Totals) → Added t n (length cards) u → (x : RunText) → ListedPut (part exit 0 n) u (length cards) entry out x
         → RunPut sheet text cards t entry out x
-    unfolding selectedAnswer selectBy cellsBy
-    selected-run {n} e u a x p =
-        let l : Listed (selection (filterQuestion sheet text) cards 128) n list = rw (← h) (listed (selection (filterQuestion sheet text) cards (length list)) n list (sym s.answers ∙ rw e)) in
-        let cells : exit ≡ written (selection (filterQuestion sheet text) cards 128) list = rw (← h) s.cells in
+    unfolding selected_answer select_by cells_by
+    selected_run {n} e u a x p =
+        let l : Listed (selection (filter_question sheet text) cards 128) n list = rw (← h) (listed (selection (filter_question sheet text) cards (length list)) n list (sym s.answers ∙ rw e)) in
+        let cells : exit ≡ written (selection (filter_question sheet text) cards 128) list = rw (← h) s.cells in
         let same : part exit 0 n ≡ l.numbers = ap (λ (k : ℕ). take k exit) (sub-zero n) ∙ ap (take n) cells ∙ l.first in
-        run-listed sheet text cards t l.numbers l.finds u (rw l.many a) (rw (← same) p.text) x.turn p.turn
+        run_listed sheet text cards t l.numbers l.finds u (rw l.many a) (rw (← same) p.text) x.turn p.turn
 
     -- the line of the refusal, with its place in the file
-    pub refused-run : (x : Refusal) → r ≡ Selected.Refused x → {k number place : ℕ} → k ≡ number_of x.reason → number ≡ k → place ≡ placeInFile k x.place t.cards
-        → {size : ℕ} → Puts (refusalLine number place) entry out size → RunPut sheet text cards t entry out (record { size = size; turn = Turn.Ended })
-    unfolding selectedAnswer refusalAnswer selectBy
-    refused-run x e {k} {number} {place} ek en ep p =
-        let stops : selection (filterQuestion sheet text) cards 128 ≡ stop (number_of x.reason) x.place = rw (← h) (stopped (selection (filterQuestion sheet text) cards (length list)) (number_of x.reason) x.place (sym s.answers ∙ rw e)) in
-        run-stopped sheet text cards t (number_of x.reason) x.place stops (rw (← ek, ← ep, ← en) p)
+    pub refused_run : (x : Refusal) → r ≡ Selected.Refused x → {k number place : ℕ} → k ≡ number_of x.reason → number ≡ k → place ≡ place_in_file k x.place t.cards
+        → {size : ℕ} → Puts (refusal_line number place) entry out size → RunPut sheet text cards t entry out (record { size = size; turn = Turn.Ended })
+    unfolding selected_answer refusal_answer select_by
+    refused_run x e {k} {number} {place} ek en ep p =
+        let stops : selection (filter_question sheet text) cards 128 ≡ stop (number_of x.reason) x.place = rw (← h) (stopped (selection (filter_question sheet text) cards (length list)) (number_of x.reason) x.place (sym s.answers ∙ rw e)) in
+        run_stopped sheet text cards t (number_of x.reason) x.place stops (rw (← ek, ← ep, ← en) p)

@@ -3,7 +3,7 @@
 use Rattle.std.specs.Prelude.{ℕ, ◌≤◌, ◌≡◌, cond, List, length, ℤ, pos}
 use Rattle.std.specs.Int.Signed.{lt_z}
 use Rattle.refusal.specs.Answers.{count}
-use Rattle.answer.specs.Operations.{selectAnswer}
+use Rattle.answer.specs.Operations.{select_answer}
 use Rattle.listing.specs.declared.Totals.{Totals}
 use Rattle.listing.specs.Totals.{Added}
 use Rattle.pick.specs.declared.files.Filled.{Filled}
@@ -15,12 +15,12 @@ Fills (Filled.Bytes n) room = n ≤ room
 Fills Filled.Failed room = Unit {0}
 
 -- what a buffer has after a read that gave nothing more, by what that read answered: less than 0 is a failure
-unfoldable pub endedBy : ℕ → ℤ → Filled
-endedBy at got = cond (lt_z got (pos 0)) Filled.Failed (Filled.Bytes at)
+unfoldable pub ended_by : ℕ → ℤ → Filled
+ended_by at got = cond (lt_z got (pos 0)) Filled.Failed (Filled.Bytes at)
 
 -- unless the output has ended, the run was full, its cards are added to the totals t, and as many matches as select counts among them
 abbrev pub RunAdded : (sheet filter cards : List ℕ) → Totals → Turn → Type 0
-RunAdded sheet filter cards t (Turn.More u) = (n : ℕ) × (selectAnswer sheet filter cards 128 ≡ count n) × (n ≤ 128) × (length cards ≡ 65536) × Added t n (length cards) u
+RunAdded sheet filter cards t (Turn.More u) = (n : ℕ) × (select_answer sheet filter cards 128 ≡ count n) × (n ≤ 128) × (length cards ≡ 65536) × Added t n (length cards) u
 RunAdded sheet filter cards t Turn.Ended = Unit {0}
 
 pub record RunAdds (sheet filter cards : List ℕ) (t : Totals) (r : Turn) : Type 0 where

@@ -1,7 +1,7 @@
 // Reading files: a read that fails is told from the end of a file.
 ghost use Rattle.std.specs.Prelude.{◌≡◌, pos, length};
 ghost use Rattle.std.specs.Int.Signed.{lt_z};
-ghost use Rattle.pick.specs.Bounds.{Fills, endedBy};
+ghost use Rattle.pick.specs.Bounds.{Fills, ended_by};
 
 // What filling a buffer gives: how many bytes stand at its start, or that a read failed.
 #[derive(Clone, Copy)]
@@ -19,7 +19,7 @@ fn has_failed(got: isize) -> bool
 
 // What a buffer has where a read gave nothing more: a read that fails is no end of the file.
 fn ended(at: usize, got: isize) -> Filled
-    ensures { result ≡ endedBy at got }
+    ensures { result ≡ ended_by at got }
 {
     if has_failed(got) {
         return Filled::Failed;

@@ -3,7 +3,7 @@ ghost use Rattle.std.specs.Prelude.{◌≤◌, ◌≡◌, length};
 ghost use Rattle.base.specs.Writing.{Room};
 ghost use Rattle.listing.specs.Totals.{Countable};
 ghost use Rattle.pick.specs.Bounds.{RunAdds, FullRunAdded};
-ghost use Rattle.pick.specs.Runs.{lastLine, EndPut, ListedPut, RunPut};
+ghost use Rattle.pick.specs.Runs.{last_line, EndPut, ListedPut, RunPut};
 
 use crate::files::{Filled, fill};
 use crate::printing::{print, print_failure};
@@ -33,7 +33,7 @@ struct RunText {
 
 // Puts the count behind the last run, where the totals are those with it; behind a full run the output goes on.
 fn end_run(totals: Totals, bytes: usize, out: &mut [u8]) -> RunText
-    requires { Room (lastLine bytes totals.matches totals.cards) out.old }
+    requires { Room (last_line bytes totals.matches totals.cards) out.old }
     ensures { EndPut totals bytes out.old out.new result }
 {
     if bytes < FULL_RUN {

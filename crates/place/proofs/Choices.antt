@@ -13,16 +13,16 @@ module _ {A : Type 0} (z x y : A) where
   pub no : (c r : Bool) → r ≡ c → r ≡ false → z ≡ y → z ≡ cond c x y
   no c r e h i = rw (sym e ∙ h) i
 
-  pub less-yes : (a b : ℕ) → a < b → z ≡ x → z ≡ cond (ltb a b) x y
-  less-yes a b h i = rw (lt-ltb a b h) i
+  pub less_yes : (a b : ℕ) → a < b → z ≡ x → z ≡ cond (ltb a b) x y
+  less_yes a b h i = rw (lt-ltb a b h) i
 
-  pub less-no : (a b : ℕ) → b ≤ a → z ≡ y → z ≡ cond (ltb a b) x y
-  less-no a b h i = rw (le-ltb a b h) i
+  pub less_no : (a b : ℕ) → b ≤ a → z ≡ y → z ≡ cond (ltb a b) x y
+  less_no a b h i = rw (le-ltb a b h) i
 
-  pub same-yes : (a b : ℕ) → a ≡ b → z ≡ x → z ≡ cond (eqb a b) x y
-  same-yes a b h i = rw (eq-eqb a b h) i
+  pub same_yes : (a b : ℕ) → a ≡ b → z ≡ x → z ≡ cond (eqb a b) x y
+  same_yes a b h i = rw (eq-eqb a b h) i
 
-  pub same-no : (a b : ℕ) → (a ≡ b → ⊥) → z ≡ y → z ≡ cond (eqb a b) x y
-  same-no a b h i = rw (ne_eqb a b h) i
+  pub same_no : (a b : ℕ) → (a ≡ b → ⊥) → z ≡ y → z ≡ cond (eqb a b) x y
+  same_no a b h i = rw (ne_eqb a b h) i
 
-pub ruleset choices = (yes, no, less-yes, less-no, same-yes, same-no)
+pub ruleset choices = (yes, no, less_yes, less_no, same_yes, same_no)

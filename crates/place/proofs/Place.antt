@@ -9,51 +9,51 @@ use lib.Dec.{eqb, ltb}
 use borrow.Author.Tests.{ltb-true, ltb-false}
 use Rattle.base.specs.Ascii.{ascii}
 use Rattle.base.specs.Lists.{every, equal, member}
-use Rattle.base.specs.Digits.{isDigit}
+use Rattle.base.specs.Digits.{is_digit}
 use Rattle.base.specs.Between.{between}
-use Rattle.base.specs.Names.{isLetter, isNameStart, isNamePart, isReserved, isName}
-use Rattle.base.specs.Operators.{operatorWords}
-use Rattle.syntax.specs.Strings.{is_bare, isEscape}
-use Rattle.syntax.specs.Grammar.{deepest, mostTests}
+use Rattle.base.specs.Names.{is_letter, is_name_start, is_name_part, is_reserved, is_name}
+use Rattle.base.specs.Operators.{operator_words}
+use Rattle.syntax.specs.Strings.{is_bare, is_escape}
+use Rattle.syntax.specs.Grammar.{deepest, most_tests}
 use Rattle.syntax.specs.Scan.{step_of}
-use Rattle.place.specs.Begins.{Begins, Longest, Number, number-11, number-12, number-13}
-use Rattle.place.specs.Machine.{someWord, beginsOperator, isOperator, step, failureFrom, failure}
+use Rattle.place.specs.Begins.{Begins, Longest, Number, number_11, number_12, number_13}
+use Rattle.place.specs.Machine.{some_word, begins_operator, is_operator, step, failure_from, failure}
 use Rattle.refusal.specs.Answers.{number_of}
-use Rattle.place.proofs.Longest.{failure-longest, failure-number}
+use Rattle.place.proofs.Longest.{failure_longest, failure-number}
 
 -- ---- a text's place and number
 
-pub text-place : (xs : List ℕ) → Longest (Begins deepest mostTests) xs (failure deepest mostTests xs).place
-text-place xs = failure-longest deepest mostTests xs (omega arith)
+pub text_place : (xs : List ℕ) → Longest (Begins deepest most_tests) xs (failure deepest most_tests xs).place
+text_place xs = failure_longest deepest most_tests xs (omega arith)
 
-pub text-number : (xs : List ℕ) → Number deepest mostTests xs (failure deepest mostTests xs).place (number_of (failure deepest mostTests xs).reason)
-text-number xs = failure-number deepest mostTests xs (omega arith)
+pub text_number : (xs : List ℕ) → Number deepest most_tests xs (failure deepest most_tests xs).place (number_of (failure deepest most_tests xs).reason)
+text_number xs = failure-number deepest most_tests xs (omega arith)
 
 -- ---- there is one of each
 
-pub longest-unique : {P : List ℕ → Type 0} {xs : List ℕ} {p q : ℕ} → Longest P xs p → Longest P xs q → p ≡ q
-longest-unique {P} {xs} {p} {q} a b = go (ltb p q) refl (ltb q p) refl
+pub longest_unique : {P : List ℕ → Type 0} {xs : List ℕ} {p q : ℕ} → Longest P xs p → Longest P xs q → p ≡ q
+longest_unique {P} {xs} {p} {q} a b = go (ltb p q) refl (ltb q p) refl
   where
     go : (c : Bool) → ltb p q ≡ c → (e : Bool) → ltb q p ≡ e → p ≡ q
-    go true h e i = absurd (a.none-longer q (ltb-true p q h) b.within b.begins)
-    go false h true i = absurd (b.none-longer p (ltb-true q p i) a.within a.begins)
+    go true h e i = absurd (a.none_longer q (ltb-true p q h) b.within b.begins)
+    go false h true i = absurd (b.none_longer p (ltb-true q p i) a.within a.begins)
     go false h false i = let u = ltb-false p q h in let v = ltb-false q p i in omega arith
 
-pub number-unique : {d m : ℕ} {xs : List ℕ} {p a b : ℕ} → Number d m xs p a → Number d m xs p b → a ≡ b
-number-unique (number-12 x) (number-12 y) = refl
-number-unique (number-12 x) (number-13 y n) = absurd (n x)
-number-unique (number-12 x) (number-11 y z) = absurd (y x)
-number-unique (number-13 x n) (number-12 y) = absurd (n y)
-number-unique (number-13 x n) (number-13 y z) = refl
-number-unique (number-13 x n) (number-11 y z) = absurd (z x)
-number-unique (number-11 x n) (number-12 y) = absurd (x y)
-number-unique (number-11 x n) (number-13 y z) = absurd (n y)
-number-unique (number-11 x n) (number-11 y z) = refl
+pub number_unique : {d m : ℕ} {xs : List ℕ} {p a b : ℕ} → Number d m xs p a → Number d m xs p b → a ≡ b
+number_unique (number_12 x) (number_12 y) = refl
+number_unique (number_12 x) (number_13 y n) = absurd (n x)
+number_unique (number_12 x) (number_11 y z) = absurd (y x)
+number_unique (number_13 x n) (number_12 y) = absurd (n y)
+number_unique (number_13 x n) (number_13 y z) = refl
+number_unique (number_13 x n) (number_11 y z) = absurd (z x)
+number_unique (number_11 x n) (number_12 y) = absurd (x y)
+number_unique (number_11 x n) (number_13 y z) = absurd (n y)
+number_unique (number_11 x n) (number_11 y z) = refl
 
 pub number_bound : {d m : ℕ} {xs : List ℕ} {p n : ℕ} → Number d m xs p n → n ≤ 13
-number_bound (number-12 x) = omega arith
-number_bound (number-13 x n) = omega arith
-number_bound (number-11 x n) = omega arith
+number_bound (number_12 x) = omega arith
+number_bound (number_13 x n) = omega arith
+number_bound (number_11 x n) = omega arith
 
 -- ---- vectors
 
@@ -66,11 +66,11 @@ row : List ℕ → ℕ → ℕ → Row
 row t n p = record { text = t; number = n; place = p }
 
 agrees : Row → Bool
-agrees r = eqb (number_of (failure deepest mostTests r.text).reason) r.number && eqb (failure deepest mostTests r.text).place r.place
+agrees r = eqb (number_of (failure deepest most_tests r.text).reason) r.number && eqb (failure deepest most_tests r.text).place r.place
 
-all-agree : List Row → Bool
-all-agree [] = true
-all-agree (r ∷ rs) = agrees r && all-agree rs
+all_agree : List Row → Bool
+all_agree [] = true
+all_agree (r ∷ rs) = agrees r && all_agree rs
 
 vectors : List Row
 vectors =
@@ -81,6 +81,6 @@ vectors =
     row (ascii "b[]") 11 2 ∷ row (ascii "b [") 11 2 ∷ row (ascii "not[") 11 3 ∷ row (ascii "b[a eq 1)") 11 8 ∷ row (ascii "(a eq 1]") 11 7 ∷
     row (ascii "b[a eq 1] ") 11 9 ∷ row (ascii "b[a eq 1].") 11 10 ∷ row (ascii "b[a eq 1].not ") 11 13 ∷ row (ascii "((((((((b[") 12 9 ∷ []
 
-vectors-agree : all-agree vectors ≡ true
-unfolding row agrees all-agree vectors failure failureFrom step step_of is_bare isEscape member someWord beginsOperator isOperator operatorWords equal every isName isReserved isNamePart isNameStart isLetter between isDigit
-vectors-agree = refl
+vectors_agree : all_agree vectors ≡ true
+unfolding row agrees all_agree vectors failure failure_from step step_of is_bare is_escape member some_word begins_operator is_operator operator_words equal every is_name is_reserved is_name_part is_name_start is_letter between is_digit
+vectors_agree = refl

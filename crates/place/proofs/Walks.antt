@@ -7,7 +7,7 @@ use mathlib.Core.Path.{◌≡◌, refl, sym, ap, subst, ◌∙◌}
 use mathlib.Core.List.{List, [], ◌∷◌, ◌++◌}
 use lib.ListN.{length, drop}
 use lib.Seq.{drop-drop, drop-length}
-use Rattle.syntax.specs.Grammar.{Stands, Spaces, no-space, space, Gap, gap}
+use Rattle.syntax.specs.Grammar.{Stands, Spaces, no_space, space, Gap, gap}
 use Rattle.place.specs.Machine.{State, live, step}
 
 -- the byte stands at p
@@ -30,14 +30,14 @@ pub data Runs (d m : ℕ) : State → List ℕ → State → Type 0 where
 pub drop-next : (xs : List ℕ) (p y : ℕ) (ys : List ℕ) → drop p xs ≡ y ∷ ys → drop (p + 1) xs ≡ ys
 drop-next xs p y ys e = sym (drop-drop 1 p xs) ∙ ap (drop 1) e
 
-pub stands-first : (xs : List ℕ) (p b : ℕ) (w : List ℕ) → Stands xs p (b ∷ w) → At xs p b
-stands-first xs p b w s = record { tail = w ++ s.0; is = s.1 }
+pub stands_first : (xs : List ℕ) (p b : ℕ) (w : List ℕ) → Stands xs p (b ∷ w) → At xs p b
+stands_first xs p b w s = record { tail = w ++ s.0; is = s.1 }
 
-pub stands-rest : (xs : List ℕ) (p b : ℕ) (w : List ℕ) → Stands xs p (b ∷ w) → Stands xs (p + 1) w
-stands-rest xs p b w s = (s.0, drop-next xs p b (w ++ s.0) s.1)
+pub stands_rest : (xs : List ℕ) (p b : ℕ) (w : List ℕ) → Stands xs p (b ∷ w) → Stands xs (p + 1) w
+stands_rest xs p b w s = (s.0, drop-next xs p b (w ++ s.0) s.1)
 
-pub at-stands : {xs : List ℕ} {p b : ℕ} → At xs p b → (w : List ℕ) → Stands xs (p + 1) w → Stands xs p (b ∷ w)
-at-stands {xs} {p} {b} a w s = (s.0, a.is ∙ ap (λ (l : List ℕ). b ∷ l) (sym (drop-next xs p b a.tail a.is) ∙ s.1))
+pub at_stands : {xs : List ℕ} {p b : ℕ} → At xs p b → (w : List ℕ) → Stands xs (p + 1) w → Stands xs p (b ∷ w)
+at_stands {xs} {p} {b} a w s = (s.0, a.is ∙ ap (λ (l : List ℕ). b ∷ l) (sym (drop-next xs p b a.tail a.is) ∙ s.1))
 
 pub at_only : {xs : List ℕ} {p b : ℕ} → At xs p b → Stands xs p (b ∷ [])
 at_only a = (a.tail, a.is)
@@ -45,33 +45,33 @@ at_only a = (a.tail, a.is)
 -- ---- walks join
 
 module _ {d m : ℕ} {xs : List ℕ} where
-  pub then-walk : {p q r : ℕ} {s t u : State} → Walk d m xs p s q t → Walk d m xs q t r u → Walk d m xs p s r u
-  then-walk stay k = k
-  then-walk (go h e w) k = go h e (then-walk w k)
+  pub then_walk : {p q r : ℕ} {s t u : State} → Walk d m xs p s q t → Walk d m xs q t r u → Walk d m xs p s r u
+  then_walk stay k = k
+  then_walk (go h e w) k = go h e (then_walk w k)
 
-  pub one-step : {p b : ℕ} {s t : State} → At xs p b → step d m s b ≡ live t → Walk d m xs p s (p + 1) t
-  one-step h e = go h e stay
+  pub one_step : {p b : ℕ} {s t : State} → At xs p b → step d m s b ≡ live t → Walk d m xs p s (p + 1) t
+  one_step h e = go h e stay
 
-  pub over-spaces : {p q : ℕ} {s : State} → step d m s 0x20 ≡ live s → Spaces xs p q → Walk d m xs p s q s
-  over-spaces e no-space = stay
-  over-spaces e (space h r) = go (stands-first xs _ 0x20 [] h) e (over-spaces e r)
+  pub over_spaces : {p q : ℕ} {s : State} → step d m s 0x20 ≡ live s → Spaces xs p q → Walk d m xs p s q s
+  over_spaces e no_space = stay
+  over_spaces e (space h r) = go (stands_first xs _ 0x20 [] h) e (over_spaces e r)
 
-  pub over-gap : {p q : ℕ} {s t : State} → step d m s 0x20 ≡ live t → step d m t 0x20 ≡ live t → Gap xs p q → Walk d m xs p s q t
-  over-gap e f (gap h r) = go (stands-first xs _ 0x20 [] h) e (over-spaces f r)
+  pub over_gap : {p q : ℕ} {s t : State} → step d m s 0x20 ≡ live t → step d m t 0x20 ≡ live t → Gap xs p q → Walk d m xs p s q t
+  over_gap e f (gap h r) = go (stands_first xs _ 0x20 [] h) e (over_spaces f r)
 
   -- a run over the bytes that stand at p
-  pub runs-walk : {p : ℕ} {ws : List ℕ} {s t : State} → Runs d m s ws t → Stands xs p ws → Walk d m xs p s (p + length ws) t
-  runs-walk {p = p} (rests {s = s}) h = subst (λ (q : ℕ). Walk d m xs p s q s) (sym (add-zero p)) stay
-  runs-walk {p = p} (goes {b = b} {ws = ws} {t = t} {u = u} e r) h =
+  pub runs_walk : {p : ℕ} {ws : List ℕ} {s t : State} → Runs d m s ws t → Stands xs p ws → Walk d m xs p s (p + length ws) t
+  runs_walk {p = p} (rests {s = s}) h = subst (λ (q : ℕ). Walk d m xs p s q s) (sym (add-zero p)) stay
+  runs_walk {p = p} (goes {b = b} {ws = ws} {t = t} {u = u} e r) h =
       let z : p + 1 + length ws ≡ p + length (b ∷ ws) = omega arith in
-      go (stands-first xs p b ws h) e (subst (λ (q : ℕ). Walk d m xs (p + 1) t q u) z (runs-walk r (stands-rest xs p b ws h)))
+      go (stands_first xs p b ws h) e (subst (λ (q : ℕ). Walk d m xs (p + 1) t q u) z (runs_walk r (stands_rest xs p b ws h)))
 
   -- a walk up to the end
-  pub walk-runs : {p q : ℕ} {s t : State} → Walk d m xs p s q t → q ≡ length xs → Runs d m s (drop p xs) t
-  walk-runs (stay {p = p} {s = s}) e = rw (e, drop-length xs) rests
-  walk-runs (go {p = p} {b = b} h f w) e =
+  pub walk_runs : {p q : ℕ} {s t : State} → Walk d m xs p s q t → q ≡ length xs → Runs d m s (drop p xs) t
+  walk_runs (stay {p = p} {s = s}) e = rw (e, drop-length xs) rests
+  walk_runs (go {p = p} {b = b} h f w) e =
       let n : drop (p + 1) xs ≡ h.tail = drop-next xs p b h.tail h.is in
-      rw h.is (goes f (subst (λ (l : List ℕ). Runs d m _ l _) n (walk-runs w e)))
+      rw h.is (goes f (subst (λ (l : List ℕ). Runs d m _ l _) n (walk_runs w e)))
 
 -- ---- runs
 
@@ -84,9 +84,9 @@ module _ {d m : ℕ} where
   then_runs (goes e r) k = goes e (then_runs r k)
 
   -- a run over more bytes is a run over fewer
-  pub runs-fewer : (v w : List ℕ) {s u : State} → Runs d m s (v ++ w) u → (t : State) × Runs d m s v t × Runs d m t w u
-  runs-fewer [] w {s} r = (s, rests, r)
-  runs-fewer (b ∷ v) w (goes e r) = let k = runs-fewer v w r in (k.0, goes e k.1, k.2)
+  pub runs_fewer : (v w : List ℕ) {s u : State} → Runs d m s (v ++ w) u → (t : State) × Runs d m s v t × Runs d m t w u
+  runs_fewer [] w {s} r = (s, rests, r)
+  runs_fewer (b ∷ v) w (goes e r) = let k = runs_fewer v w r in (k.0, goes e k.1, k.2)
 
   pub runs_same : {s t u : State} {v : List ℕ} → Runs d m s v t → Runs d m s v u → t ≡ u
   runs_same rests rests = refl

@@ -25,7 +25,7 @@ AnyTests d xs = (m : ℕ) × Begins d m xs
 pub record Longest (P : List ℕ → Type 0) (xs : List ℕ) (p : ℕ) : Type 0 where
   pub within : p ≤ length xs
   pub begins : P (take p xs)
-  pub none-longer : (q : ℕ) → p < q → q ≤ length xs → P (take q xs) → ⊥
+  pub none_longer : (q : ℕ) → p < q → q ≤ length xs → P (take q xs) → ⊥
 
 -- a beginning longer than p has P
 pub record Longer (P : List ℕ → Type 0) (xs : List ℕ) (p : ℕ) : Type 0 where
@@ -37,8 +37,8 @@ pub record Longer (P : List ℕ → Type 0) (xs : List ℕ) (p : ℕ) : Type 0 w
 -- the number of a text whose longest beginning has the length p
 pub data Number (d m : ℕ) (xs : List ℕ) (p : ℕ) : ℕ → Type 0 where
   -- "12 when lifting the nesting limit alone would make it longer"
-  number-12 : Longer (AnyDepth m) xs p → Number d m xs p 12
+  number_12 : Longer (AnyDepth m) xs p → Number d m xs p 12
   -- "13 when lifting the limit on tests alone would"
-  number-13 : Longer (AnyTests d) xs p → (Longer (AnyDepth m) xs p → ⊥) → Number d m xs p 13
+  number_13 : Longer (AnyTests d) xs p → (Longer (AnyDepth m) xs p → ⊥) → Number d m xs p 13
   -- "else 11"
-  number-11 : (Longer (AnyDepth m) xs p → ⊥) → (Longer (AnyTests d) xs p → ⊥) → Number d m xs p 11
+  number_11 : (Longer (AnyDepth m) xs p → ⊥) → (Longer (AnyTests d) xs p → ⊥) → Number d m xs p 11

@@ -4,22 +4,22 @@ use Rattle.std.specs.Prelude.{ℕ, ◌+◌, ◌*◌, ◌/◌, ◌%◌, Bool, tru
 use Prim.Native.Char.{code}
 use Rattle.base.specs.Ascii.{ascii}
 use Rattle.base.specs.Lists.{equal}
-use Rattle.base.specs.Names.{isNameStart, isNamePart, isName}
+use Rattle.base.specs.Names.{is_name_start, is_name_part, is_name}
 use Rattle.base.specs.Parts.{part}
 use Rattle.syntax.specs.Strings.{quote, is_bare}
 use Rattle.syntax.specs.Grammar.{round, square}
-use Rattle.syntax.specs.Scan.{isSpace, step_of}
+use Rattle.syntax.specs.Scan.{is_space, step_of}
 use Rattle.syntax.specs.declared.StringStep.{StringStep}
 use Rattle.place.specs.declared.Mode.{Mode}
 use Rattle.place.specs.declared.Reached.{Reached}
 use Rattle.place.specs.declared.Outcome.{Outcome}
-use Rattle.place.specs.Machine.{Phase, at_item, in-name, after-not, after-name, in-operator, after-operator, at_value, in-bare, in-string, after-item, after-space, in-connective, after-square, at-member, in-member, Bracket, round-open, square-open, beginsOperator, isOperator}
+use Rattle.place.specs.Machine.{Phase, at_item, in_name, after_not, after-name, in_operator, after_operator, at_value, in_bare, in-string, after_item, after-space, in_connective, after_square, at_member, in_member, Bracket, round_open, square-open, begins_operator, is_operator}
 
 -- ---- the open brackets: a 1, then a 0 for a round one and a 1 for a square one, from the outermost to the innermost
 
 unfoldable pub digits : List Bracket → ℕ
 digits [] = 1
-digits (round-open ∷ k) = 2 * digits k
+digits (round_open ∷ k) = 2 * digits k
 digits (square-open ∷ k) = 2 * digits k + 1
 
 -- eight digits behind the first: no bracket more may open
@@ -37,161 +37,161 @@ opened k n = cond (ltb k full) (on Mode.Item (2 * k) n) Outcome.Deep
 abbrev pub chosen : ℕ → ℕ → Outcome
 chosen k n = cond (ltb k full) (cond (ltb n 32) (on Mode.Item (2 * k + 1) (n + 1)) Outcome.Many) (cond (ltb n 32) Outcome.Deep Outcome.Wrong)
 
-abbrev pub closedRound : (b k n : ℕ) → Outcome
-closedRound b k n = cond (eqb b round) (on Mode.AfterItem (k / 2) n) Outcome.Wrong
+abbrev pub closed_round : (b k n : ℕ) → Outcome
+closed_round b k n = cond (eqb b round) (on Mode.AfterItem (k / 2) n) Outcome.Wrong
 
-abbrev pub closedSquare : (b k n : ℕ) → Outcome
-closedSquare b k n = cond (eqb b square) (on Mode.AfterSquare (k / 2) n) Outcome.Wrong
+abbrev pub closed_square : (b k n : ℕ) → Outcome
+closed_square b k n = cond (eqb b square) (on Mode.AfterSquare (k / 2) n) Outcome.Wrong
 
 abbrev pub closed : (b k n : ℕ) → Outcome
-closed b k n = cond (eqb k 1) Outcome.Wrong (cond (eqb (k % 2) 0) (closedRound b k n) (closedSquare b k n))
+closed b k n = cond (eqb k 1) Outcome.Wrong (cond (eqb (k % 2) 0) (closed_round b k n) (closed_square b k n))
 
 abbrev pub joined : Mode → ℕ → ℕ → Outcome
 joined f k n = cond (ltb n 32) (on f k (n + 1)) Outcome.Many
 
 abbrev pub ended : ℕ → ℕ → ℕ → Outcome
-ended b k n = cond (isSpace b) (on Mode.AfterSpace k n) (closed b k n)
+ended b k n = cond (is_space b) (on Mode.AfterSpace k n) (closed b k n)
 
-abbrev pub itemStep : ℕ → ℕ → ℕ → ℕ → Outcome
-itemStep b p k n =
-    cond (isSpace b) (on Mode.Item k n) (cond (eqb b (code "(")) (opened k n) (cond (isNameStart b) (on (Mode.Name p) k n) Outcome.Wrong))
+abbrev pub item_step : ℕ → ℕ → ℕ → ℕ → Outcome
+item_step b p k n =
+    cond (is_space b) (on Mode.Item k n) (cond (eqb b (code "(")) (opened k n) (cond (is_name_start b) (on (Mode.Name p) k n) Outcome.Wrong))
 
-abbrev pub notStep : ℕ → ℕ → ℕ → Outcome
-notStep b k n = cond (isSpace b) (cond (ltb k full) (on Mode.AfterNot k n) Outcome.Deep) (cond (eqb b (code "(")) (opened k n) Outcome.Wrong)
+abbrev pub not_step : ℕ → ℕ → ℕ → Outcome
+not_step b k n = cond (is_space b) (cond (ltb k full) (on Mode.AfterNot k n) Outcome.Deep) (cond (eqb b (code "(")) (opened k n) Outcome.Wrong)
 
-abbrev pub nameEnds : ℕ → ℕ → ℕ → Outcome
-nameEnds b k n = cond (isSpace b) (on Mode.AfterName k n) (cond (eqb b (code "[")) (chosen k n) Outcome.Wrong)
+abbrev pub name_ends : ℕ → ℕ → ℕ → Outcome
+name_ends b k n = cond (is_space b) (on Mode.AfterName k n) (cond (eqb b (code "[")) (chosen k n) Outcome.Wrong)
 
-abbrev pub nameStep : List ℕ → ℕ → ℕ → ℕ → ℕ → Outcome
-nameStep xs from p k n =
-    cond (isNamePart (get_or xs p 0)) (on (Mode.Name from) k n)
-    (cond (isName (part xs from p)) (nameEnds (get_or xs p 0) k n)
-    (cond (equal (part xs from p) (ascii "not")) (notStep (get_or xs p 0) k n) Outcome.Wrong))
+abbrev pub name_step : List ℕ → ℕ → ℕ → ℕ → ℕ → Outcome
+name_step xs from p k n =
+    cond (is_name_part (get_or xs p 0)) (on (Mode.Name from) k n)
+    (cond (is_name (part xs from p)) (name_ends (get_or xs p 0) k n)
+    (cond (equal (part xs from p) (ascii "not")) (not_step (get_or xs p 0) k n) Outcome.Wrong))
 
-abbrev pub memberStep : List ℕ → ℕ → ℕ → ℕ → ℕ → Outcome
-memberStep xs from p k n =
-    cond (isNamePart (get_or xs p 0)) (on (Mode.MemberName from) k n)
-    (cond (isName (part xs from p)) (cond (isSpace (get_or xs p 0)) (on Mode.AfterName k n) Outcome.Wrong) Outcome.Wrong)
+abbrev pub member_step : List ℕ → ℕ → ℕ → ℕ → ℕ → Outcome
+member_step xs from p k n =
+    cond (is_name_part (get_or xs p 0)) (on (Mode.MemberName from) k n)
+    (cond (is_name (part xs from p)) (cond (is_space (get_or xs p 0)) (on Mode.AfterName k n) Outcome.Wrong) Outcome.Wrong)
 
-abbrev pub memberStart : ℕ → ℕ → ℕ → ℕ → Outcome
-memberStart b p k n = cond (isNameStart b) (on (Mode.MemberName p) k n) Outcome.Wrong
+abbrev pub member_start : ℕ → ℕ → ℕ → ℕ → Outcome
+member_start b p k n = cond (is_name_start b) (on (Mode.MemberName p) k n) Outcome.Wrong
 
-abbrev pub afterName : ℕ → ℕ → ℕ → Outcome
-afterName b k n = cond (isSpace b) (on Mode.AfterName k n) (cond (beginsOperator b) (on (Mode.Letter b) k n) Outcome.Wrong)
+abbrev pub after_name : ℕ → ℕ → ℕ → Outcome
+after_name b k n = cond (is_space b) (on Mode.AfterName k n) (cond (begins_operator b) (on (Mode.Letter b) k n) Outcome.Wrong)
 
 abbrev pub letter : ℕ → ℕ → ℕ → ℕ → Outcome
-letter x b k n = cond (isOperator (x ∷ b ∷ [])) (on Mode.AfterOperator k n) Outcome.Wrong
+letter x b k n = cond (is_operator (x ∷ b ∷ [])) (on Mode.AfterOperator k n) Outcome.Wrong
 
-abbrev pub valueStep : ℕ → ℕ → ℕ → Outcome
-valueStep b k n = cond (isSpace b) (on Mode.Value k n) (cond (eqb b quote) (on (Mode.Quoted false) k n) (cond (is_bare b) (on Mode.Bare k n) Outcome.Wrong))
+abbrev pub value_step : ℕ → ℕ → ℕ → Outcome
+value_step b k n = cond (is_space b) (on Mode.Value k n) (cond (eqb b quote) (on (Mode.Quoted false) k n) (cond (is_bare b) (on Mode.Bare k n) Outcome.Wrong))
 
-abbrev pub bareStep : ℕ → ℕ → ℕ → Outcome
-bareStep b k n = cond (is_bare b) (on Mode.Bare k n) (ended b k n)
+abbrev pub bare_step : ℕ → ℕ → ℕ → Outcome
+bare_step b k n = cond (is_bare b) (on Mode.Bare k n) (ended b k n)
 
-abbrev pub onQuoted : ℕ → ℕ → StringStep → Outcome
-onQuoted k n (StringStep.More pending) = on (Mode.Quoted pending) k n
-onQuoted k n StringStep.Close = on Mode.AfterItem k n
-onQuoted k n StringStep.Wrong = Outcome.Wrong
+abbrev pub on_quoted : ℕ → ℕ → StringStep → Outcome
+on_quoted k n (StringStep.More pending) = on (Mode.Quoted pending) k n
+on_quoted k n StringStep.Close = on Mode.AfterItem k n
+on_quoted k n StringStep.Wrong = Outcome.Wrong
 
 abbrev pub quoted : Bool → ℕ → ℕ → ℕ → Outcome
-quoted pending b k n = onQuoted k n (step_of pending b)
+quoted pending b k n = on_quoted k n (step_of pending b)
 
-abbrev pub afterSpace : ℕ → ℕ → ℕ → Outcome
-afterSpace b k n =
-    cond (isSpace b) (on Mode.AfterSpace k n)
+abbrev pub after_space : ℕ → ℕ → ℕ → Outcome
+after_space b k n =
+    cond (is_space b) (on Mode.AfterSpace k n)
     (cond (eqb b (code "a")) (joined Mode.AfterA k n)
     (cond (eqb b (code "o")) (joined Mode.AfterO k n) (closed b k n)))
 
 abbrev pub expect : ℕ → Mode → ℕ → ℕ → ℕ → Outcome
 expect want f b k n = cond (eqb b want) (on f k n) Outcome.Wrong
 
-abbrev pub byMode : List ℕ → ℕ → Mode → ℕ → ℕ → Outcome
-byMode xs p Mode.Item k n = itemStep (get_or xs p 0) p k n
-byMode xs p (Mode.Name from) k n = nameStep xs from p k n
-byMode xs p Mode.AfterNot k n = notStep (get_or xs p 0) k n
-byMode xs p Mode.AfterName k n = afterName (get_or xs p 0) k n
-byMode xs p (Mode.Letter x) k n = letter x (get_or xs p 0) k n
-byMode xs p Mode.AfterOperator k n = expect 0x20 Mode.Value (get_or xs p 0) k n
-byMode xs p Mode.Value k n = valueStep (get_or xs p 0) k n
-byMode xs p Mode.Bare k n = bareStep (get_or xs p 0) k n
-byMode xs p (Mode.Quoted pending) k n = quoted pending (get_or xs p 0) k n
-byMode xs p Mode.AfterItem k n = ended (get_or xs p 0) k n
-byMode xs p Mode.AfterSpace k n = afterSpace (get_or xs p 0) k n
-byMode xs p Mode.AfterA k n = expect (code "n") Mode.AfterAn (get_or xs p 0) k n
-byMode xs p Mode.AfterAn k n = expect (code "d") Mode.WantsSpace (get_or xs p 0) k n
-byMode xs p Mode.AfterO k n = expect (code "r") Mode.WantsSpace (get_or xs p 0) k n
-byMode xs p Mode.WantsSpace k n = expect 0x20 Mode.Item (get_or xs p 0) k n
-byMode xs p Mode.AfterSquare k n = expect (code ".") Mode.Member (get_or xs p 0) k n
-byMode xs p Mode.Member k n = memberStart (get_or xs p 0) p k n
-byMode xs p (Mode.MemberName from) k n = memberStep xs from p k n
+abbrev pub by_mode : List ℕ → ℕ → Mode → ℕ → ℕ → Outcome
+by_mode xs p Mode.Item k n = item_step (get_or xs p 0) p k n
+by_mode xs p (Mode.Name from) k n = name_step xs from p k n
+by_mode xs p Mode.AfterNot k n = not_step (get_or xs p 0) k n
+by_mode xs p Mode.AfterName k n = after_name (get_or xs p 0) k n
+by_mode xs p (Mode.Letter x) k n = letter x (get_or xs p 0) k n
+by_mode xs p Mode.AfterOperator k n = expect 0x20 Mode.Value (get_or xs p 0) k n
+by_mode xs p Mode.Value k n = value_step (get_or xs p 0) k n
+by_mode xs p Mode.Bare k n = bare_step (get_or xs p 0) k n
+by_mode xs p (Mode.Quoted pending) k n = quoted pending (get_or xs p 0) k n
+by_mode xs p Mode.AfterItem k n = ended (get_or xs p 0) k n
+by_mode xs p Mode.AfterSpace k n = after_space (get_or xs p 0) k n
+by_mode xs p Mode.AfterA k n = expect (code "n") Mode.AfterAn (get_or xs p 0) k n
+by_mode xs p Mode.AfterAn k n = expect (code "d") Mode.WantsSpace (get_or xs p 0) k n
+by_mode xs p Mode.AfterO k n = expect (code "r") Mode.WantsSpace (get_or xs p 0) k n
+by_mode xs p Mode.WantsSpace k n = expect 0x20 Mode.Item (get_or xs p 0) k n
+by_mode xs p Mode.AfterSquare k n = expect (code ".") Mode.Member (get_or xs p 0) k n
+by_mode xs p Mode.Member k n = member_start (get_or xs p 0) p k n
+by_mode xs p (Mode.MemberName from) k n = member_step xs from p k n
 
 unfoldable pub advance : List ℕ → ℕ → Reached → Outcome
-advance xs p r = byMode xs p r.mode r.brackets r.tests
+advance xs p r = by_mode xs p r.mode r.brackets r.tests
 
 -- where the name begins that is being read
-abbrev pub nameFrom : Mode → ℕ
-nameFrom Mode.Item = 0
-nameFrom (Mode.Name from) = from
-nameFrom Mode.AfterNot = 0
-nameFrom Mode.AfterName = 0
-nameFrom (Mode.Letter x) = 0
-nameFrom Mode.AfterOperator = 0
-nameFrom Mode.Value = 0
-nameFrom Mode.Bare = 0
-nameFrom (Mode.Quoted pending) = 0
-nameFrom Mode.AfterItem = 0
-nameFrom Mode.AfterSpace = 0
-nameFrom Mode.AfterA = 0
-nameFrom Mode.AfterAn = 0
-nameFrom Mode.AfterO = 0
-nameFrom Mode.WantsSpace = 0
-nameFrom Mode.AfterSquare = 0
-nameFrom Mode.Member = 0
-nameFrom (Mode.MemberName from) = from
+abbrev pub name_from : Mode → ℕ
+name_from Mode.Item = 0
+name_from (Mode.Name from) = from
+name_from Mode.AfterNot = 0
+name_from Mode.AfterName = 0
+name_from (Mode.Letter x) = 0
+name_from Mode.AfterOperator = 0
+name_from Mode.Value = 0
+name_from Mode.Bare = 0
+name_from (Mode.Quoted pending) = 0
+name_from Mode.AfterItem = 0
+name_from Mode.AfterSpace = 0
+name_from Mode.AfterA = 0
+name_from Mode.AfterAn = 0
+name_from Mode.AfterO = 0
+name_from Mode.WantsSpace = 0
+name_from Mode.AfterSquare = 0
+name_from Mode.Member = 0
+name_from (Mode.MemberName from) = from
 
 -- the phase that a mode stands for
-abbrev pub phaseOf : List ℕ → ℕ → Mode → Phase
-phaseOf xs p Mode.Item = at_item
-phaseOf xs p (Mode.Name from) = in-name (part xs from p)
-phaseOf xs p Mode.AfterNot = after-not
-phaseOf xs p Mode.AfterName = after-name
-phaseOf xs p (Mode.Letter x) = in-operator x
-phaseOf xs p Mode.AfterOperator = after-operator
-phaseOf xs p Mode.Value = at_value
-phaseOf xs p Mode.Bare = in-bare
-phaseOf xs p (Mode.Quoted pending) = in-string pending
-phaseOf xs p Mode.AfterItem = after-item
-phaseOf xs p Mode.AfterSpace = after-space
-phaseOf xs p Mode.AfterA = in-connective (ascii "nd ")
-phaseOf xs p Mode.AfterAn = in-connective (ascii "d ")
-phaseOf xs p Mode.AfterO = in-connective (ascii "r ")
-phaseOf xs p Mode.WantsSpace = in-connective (ascii " ")
-phaseOf xs p Mode.AfterSquare = after-square
-phaseOf xs p Mode.Member = at-member
-phaseOf xs p (Mode.MemberName from) = in-member (part xs from p)
+abbrev pub phase_of : List ℕ → ℕ → Mode → Phase
+phase_of xs p Mode.Item = at_item
+phase_of xs p (Mode.Name from) = in_name (part xs from p)
+phase_of xs p Mode.AfterNot = after_not
+phase_of xs p Mode.AfterName = after-name
+phase_of xs p (Mode.Letter x) = in_operator x
+phase_of xs p Mode.AfterOperator = after_operator
+phase_of xs p Mode.Value = at_value
+phase_of xs p Mode.Bare = in_bare
+phase_of xs p (Mode.Quoted pending) = in-string pending
+phase_of xs p Mode.AfterItem = after_item
+phase_of xs p Mode.AfterSpace = after-space
+phase_of xs p Mode.AfterA = in_connective (ascii "nd ")
+phase_of xs p Mode.AfterAn = in_connective (ascii "d ")
+phase_of xs p Mode.AfterO = in_connective (ascii "r ")
+phase_of xs p Mode.WantsSpace = in_connective (ascii " ")
+phase_of xs p Mode.AfterSquare = after_square
+phase_of xs p Mode.Member = at_member
+phase_of xs p (Mode.MemberName from) = in_member (part xs from p)
 
 -- ---- the end of the text
 
-abbrev pub itemOver : Mode → Bool
-itemOver Mode.Item = false
-itemOver (Mode.Name from) = false
-itemOver Mode.AfterNot = false
-itemOver Mode.AfterName = false
-itemOver (Mode.Letter x) = false
-itemOver Mode.AfterOperator = false
-itemOver Mode.Value = false
-itemOver Mode.Bare = true
-itemOver (Mode.Quoted pending) = false
-itemOver Mode.AfterItem = true
-itemOver Mode.AfterSpace = true
-itemOver Mode.AfterA = false
-itemOver Mode.AfterAn = false
-itemOver Mode.AfterO = false
-itemOver Mode.WantsSpace = false
-itemOver Mode.AfterSquare = false
-itemOver Mode.Member = false
-itemOver (Mode.MemberName from) = false
+abbrev pub item_over : Mode → Bool
+item_over Mode.Item = false
+item_over (Mode.Name from) = false
+item_over Mode.AfterNot = false
+item_over Mode.AfterName = false
+item_over (Mode.Letter x) = false
+item_over Mode.AfterOperator = false
+item_over Mode.Value = false
+item_over Mode.Bare = true
+item_over (Mode.Quoted pending) = false
+item_over Mode.AfterItem = true
+item_over Mode.AfterSpace = true
+item_over Mode.AfterA = false
+item_over Mode.AfterAn = false
+item_over Mode.AfterO = false
+item_over Mode.WantsSpace = false
+item_over Mode.AfterSquare = false
+item_over Mode.Member = false
+item_over (Mode.MemberName from) = false
 
 -- an item has ended, and no bracket is open
 unfoldable pub over : Reached → Bool
-over r = itemOver r.mode && eqb r.brackets 1
+over r = item_over r.mode && eqb r.brackets 1

@@ -3,9 +3,9 @@
 mod step;
 
 ghost use Rattle.std.specs.Prelude.{◌≡◌};
-ghost use Rattle.syntax.specs.Grammar.{deepest, mostTests};
+ghost use Rattle.syntax.specs.Grammar.{deepest, most_tests};
 ghost use Rattle.place.specs.Machine.{failure, found};
-ghost use Rattle.place.specs.Code.{itemOver, over};
+ghost use Rattle.place.specs.Code.{item_over, over};
 
 use refusal::{Reason, Refusal};
 use step::advance;
@@ -73,7 +73,7 @@ pub enum Found {
 
 // Whether an item has ended, perhaps with a space.
 fn item_over(mode: Mode) -> bool
-    ensures { result ≡ itemOver mode }
+    ensures { result ≡ item_over mode }
 {
     match mode {
         Mode::Item => false,
@@ -110,7 +110,7 @@ fn is_over(reached: Reached) -> bool
 
 // Whether a text is a filter, or where it stops being the beginning of one.
 pub fn find(s: &[u8]) -> Found
-    ensures { result ≡ found deepest mostTests s.now }
+    ensures { result ≡ found deepest most_tests s.now }
 {
     let mut reached = Reached {
         mode: Mode::Item,
@@ -155,7 +155,7 @@ pub fn find(s: &[u8]) -> Found
 
 // Where a text that is no filter stops being the beginning of one.
 pub fn find_failure(s: &[u8]) -> Refusal
-    ensures { result ≡ failure deepest mostTests s.now }
+    ensures { result ≡ failure deepest most_tests s.now }
 {
     match find(s) {
         Found::Filter => Refusal {

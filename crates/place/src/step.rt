@@ -2,8 +2,8 @@
 ghost use Rattle.std.specs.Prelude.{◌≡◌, [], ◌∷◌, ◌≤◌, ◌<◌, eqb, length};
 ghost use Rattle.base.specs.Ascii.{ascii};
 ghost use Rattle.base.specs.Lists.{member};
-ghost use Rattle.place.specs.Machine.{beginsOperator, isOperator};
-ghost use Rattle.place.specs.Code.{on, opened, chosen, closedRound, closedSquare, closed, joined, ended, itemStep, notStep, nameEnds, nameStep, memberStart, memberStep, afterName, letter, quoted, valueStep, bareStep, afterSpace, expect, advance, nameFrom};
+ghost use Rattle.place.specs.Machine.{begins_operator, is_operator};
+ghost use Rattle.place.specs.Code.{on, opened, chosen, closed_round, closed_square, closed, joined, ended, item_step, not_step, name_ends, name_step, member_start, member_step, after_name, letter, quoted, value_step, bare_step, after_space, expect, advance, name_from};
 
 use crate::{Mode, Outcome, Reached};
 use base::name::{is_name, is_name_part, is_name_start};
@@ -58,7 +58,7 @@ fn chooses(brackets: usize, tests: usize) -> Outcome
 
 // A byte that may close the innermost bracket, which is a round one.
 fn closes_round(b: u8, brackets: usize, tests: usize) -> Outcome
-    ensures { result ≡ closedRound b brackets tests }
+    ensures { result ≡ closed_round b brackets tests }
 {
     if is(b, b')') {
         return live(Mode::AfterItem, brackets / 2, tests);
@@ -68,7 +68,7 @@ fn closes_round(b: u8, brackets: usize, tests: usize) -> Outcome
 
 // A square one.
 fn closes_square(b: u8, brackets: usize, tests: usize) -> Outcome
-    ensures { result ≡ closedSquare b brackets tests }
+    ensures { result ≡ closed_square b brackets tests }
 {
     if is(b, b']') {
         return live(Mode::AfterSquare, brackets / 2, tests);
@@ -111,7 +111,7 @@ fn ends(b: u8, brackets: usize, tests: usize) -> Outcome
 
 // The byte where an item is due.
 fn item_byte(b: u8, at: usize, brackets: usize, tests: usize) -> Outcome
-    ensures { result ≡ itemStep b at brackets tests }
+    ensures { result ≡ item_step b at brackets tests }
 {
     if is_space(b) {
         return live(Mode::Item, brackets, tests);
@@ -127,7 +127,7 @@ fn item_byte(b: u8, at: usize, brackets: usize, tests: usize) -> Outcome
 
 // The byte after not, or after not and spaces.
 fn not_byte(b: u8, brackets: usize, tests: usize) -> Outcome
-    ensures { result ≡ notStep b brackets tests }
+    ensures { result ≡ not_step b brackets tests }
 {
     if is_space(b) {
         if brackets < 256 {
@@ -143,7 +143,7 @@ fn not_byte(b: u8, brackets: usize, tests: usize) -> Outcome
 
 // The byte after a name.
 fn name_ends(b: u8, brackets: usize, tests: usize) -> Outcome
-    ensures { result ≡ nameEnds b brackets tests }
+    ensures { result ≡ name_ends b brackets tests }
 {
     if is_space(b) {
         return live(Mode::AfterName, brackets, tests);
@@ -158,7 +158,7 @@ fn name_ends(b: u8, brackets: usize, tests: usize) -> Outcome
 fn name_byte(s: &[u8], from: usize, at: usize, brackets: usize, tests: usize) -> Outcome
     requires from_le_at { from ≤ at }
     requires at_in_bounds { at < length s.now }
-    ensures { result ≡ nameStep s.now from at brackets tests }
+    ensures { result ≡ name_step s.now from at brackets tests }
 {
     let b = s[at];
     if is_name_part(b) {
@@ -175,7 +175,7 @@ fn name_byte(s: &[u8], from: usize, at: usize, brackets: usize, tests: usize) ->
 
 // The first byte of a member's name.
 fn member_start(b: u8, at: usize, brackets: usize, tests: usize) -> Outcome
-    ensures { result ≡ memberStart b at brackets tests }
+    ensures { result ≡ member_start b at brackets tests }
 {
     if is_name_start(b) {
         return live(Mode::MemberName(at), brackets, tests);
@@ -187,7 +187,7 @@ fn member_start(b: u8, at: usize, brackets: usize, tests: usize) -> Outcome
 fn member_byte(s: &[u8], from: usize, at: usize, brackets: usize, tests: usize) -> Outcome
     requires from_le_at { from ≤ at }
     requires at_in_bounds { at < length s.now }
-    ensures { result ≡ memberStep s.now from at brackets tests }
+    ensures { result ≡ member_step s.now from at brackets tests }
 {
     let b = s[at];
     if is_name_part(b) {
@@ -224,7 +224,7 @@ fn is_other(b: u8) -> bool
 
 // Whether an operator begins with the letter.
 fn begins_operator(b: u8) -> bool
-    ensures { result ≡ beginsOperator b }
+    ensures { result ≡ begins_operator b }
 {
     if is_first(b) {
         return true;
@@ -234,7 +234,7 @@ fn begins_operator(b: u8) -> bool
 
 // Whether two letters are an operator.
 fn is_operator(first: u8, second: u8) -> bool
-    ensures { result ≡ isOperator (first ∷ second ∷ []) }
+    ensures { result ≡ is_operator (first ∷ second ∷ []) }
 {
     match read_operator(&[first, second], 0) {
         FoundOperator::Is(_) => true,
@@ -244,7 +244,7 @@ fn is_operator(first: u8, second: u8) -> bool
 
 // The byte after a test's name and a space.
 fn after_name_byte(b: u8, brackets: usize, tests: usize) -> Outcome
-    ensures { result ≡ afterName b brackets tests }
+    ensures { result ≡ after_name b brackets tests }
 {
     if is_space(b) {
         return live(Mode::AfterName, brackets, tests);
@@ -267,7 +267,7 @@ fn letter_byte(first: u8, b: u8, brackets: usize, tests: usize) -> Outcome
 
 // The byte where a value is due.
 fn value_byte(b: u8, brackets: usize, tests: usize) -> Outcome
-    ensures { result ≡ valueStep b brackets tests }
+    ensures { result ≡ value_step b brackets tests }
 {
     if is_space(b) {
         return live(Mode::Value, brackets, tests);
@@ -283,7 +283,7 @@ fn value_byte(b: u8, brackets: usize, tests: usize) -> Outcome
 
 // The byte in or after a bare word.
 fn bare_byte(b: u8, brackets: usize, tests: usize) -> Outcome
-    ensures { result ≡ bareStep b brackets tests }
+    ensures { result ≡ bare_step b brackets tests }
 {
     if is_bare(b) {
         return live(Mode::Bare, brackets, tests);
@@ -304,7 +304,7 @@ fn quoted_byte(pending: bool, b: u8, brackets: usize, tests: usize) -> Outcome
 
 // The byte after an item and a space.
 fn after_space_byte(b: u8, brackets: usize, tests: usize) -> Outcome
-    ensures { result ≡ afterSpace b brackets tests }
+    ensures { result ≡ after_space b brackets tests }
 {
     if is_space(b) {
         return live(Mode::AfterSpace, brackets, tests);
@@ -331,7 +331,7 @@ fn expect(want: u8, mode: Mode, b: u8, brackets: usize, tests: usize) -> Outcome
 // What the byte at a position does.
 pub fn advance(s: &[u8], at: usize, reached: Reached) -> Outcome
     requires at_in_bounds { at < length s.now }
-    requires mode_bound { nameFrom reached.mode ≤ at }
+    requires mode_bound { name_from reached.mode ≤ at }
     ensures { result ≡ advance s.now at reached }
 {
     let mode = reached.mode;

@@ -11,7 +11,7 @@ use lib.ListN.{length, get_or, take, drop, set, length-set, length-append, take-
 use lib.Seq.{take-suc, take-suc-set, drop-set-lt, drop-drop, length-take-le}
 use Rattle.base.specs.Ascii.{ascii}
 use Rattle.base.proofs.Parts.{drop-first}
-use Rattle.plain.specs.Plain.{inRound, inRoundIf}
+use Rattle.plain.specs.Plain.{in_round, in_round_if}
 use Rattle.base.specs.Writing.{Room, Puts}
 
 -- the first i bytes are moved, and the next is kept aside
@@ -22,19 +22,19 @@ pub record Moving (entry out : List ℕ) (count i kept : ℕ) : Type 0 where
   pub front : take i out ++ (kept ∷ []) ≡ code "(" ∷ take i entry
   pub rest : drop i out ≡ drop i entry
 
-pub moving-start : (out : List ℕ) (count : ℕ) → count + 2 ≤ length out → Moving out out count 0 (code "(")
-moving-start out count h = record { few = zero-le; room = h; long = refl; front = refl; rest = refl }
+pub moving_start : (out : List ℕ) (count : ℕ) → count + 2 ≤ length out → Moving out out count 0 (code "(")
+moving_start out count h = record { few = zero-le; room = h; long = refl; front = refl; rest = refl }
 
 module _ {entry out : List ℕ} {count i kept : ℕ} (m : Moving entry out count i kept) where
-  pub moving-within : i + 2 ≤ length out
-  moving-within = omega (arith, m.few, m.room, m.long)
+  pub moving_within : i + 2 ≤ length out
+  moving_within = omega (arith, m.few, m.room, m.long)
 
-  pub moving-last : (x : ℕ) → i + 1 < length (set out i x)
-  moving-last x = rw length-set (omega (arith, moving-within))
+  pub moving_last : (x : ℕ) → i + 1 < length (set out i x)
+  moving_last x = rw length-set (omega (arith, moving_within))
 
-  pub moving-next : i < count → Moving entry (set out i kept) count (i + 1) (get_or out i 0)
-  moving-next h =
-      let l : i < length out = omega (arith, moving-within) in
+  pub moving_next : i < count → Moving entry (set out i kept) count (i + 1) (get_or out i 0)
+  moving_next h =
+      let l : i < length out = omega (arith, moving_within) in
       let l' : i < length entry = omega (arith, m.long) in
       let same : get_or out i 0 ≡ get_or entry i 0 = drop-first out i (drop i entry) m.rest ∙ sym (drop-first entry i (drop i entry) refl) in
       record {
@@ -45,17 +45,17 @@ module _ {entry out : List ℕ} {count i kept : ℕ} (m : Moving entry out count
         rest = drop-set-lt (i + 1) out i kept (omega arith) ∙ sym (drop-drop 1 i out) ∙ ap (drop 1) m.rest ∙ drop-drop 1 i entry;
       }
 
-  pub moving-long : (x y : ℕ) → length (set (set out i x) (i + 1) y) ≡ length entry
-  moving-long x y = length-set (set out i x) (i + 1) y ∙ length-set out i x ∙ m.long
+  pub moving_long : (x y : ℕ) → length (set (set out i x) (i + 1) y) ≡ length entry
+  moving_long x y = length-set (set out i x) (i + 1) y ∙ length-set out i x ∙ m.long
 
-  pub moving-ends : count ≤ i → Puts (inRound (take count entry)) entry (set (set out i kept) (i + 1) (code ")")) (i + 2)
-  moving-ends h =
+  pub moving_ends : count ≤ i → Puts (in_round (take count entry)) entry (set (set out i kept) (i + 1) (code ")")) (i + 2)
+  moving_ends h =
       let e : i ≡ count = omega (arith, m.few) in
-      let within : i + 2 ≤ length out = moving-within in
+      let within : i + 2 ≤ length out = moving_within in
       let last : i + 1 < length (set out i kept) = rw length-set (omega arith) in
       let two : i + 2 ≡ i + 1 + 1 = omega arith in
       let exit : List ℕ = set (set out i kept) (i + 1) (code ")") in
-      let front : take (i + 2) exit ≡ inRound (take count entry) = rw (two, add-one (i + 1), take-suc-set (set out i kept) (i + 1) (code ")") last, add-one i, take-suc-set out i kept (omega arith), m.front, e) in
+      let front : take (i + 2) exit ≡ in_round (take count entry) = rw (two, add-one (i + 1), take-suc-set (set out i kept) (i + 1) (code ")") last, add-one i, take-suc-set out i kept (omega arith), m.front, e) in
       let rest : drop (i + 2) exit ≡ drop (i + 2) entry =
       drop-set-lt (i + 2) (set out i kept) (i + 1) (code ")") (omega arith) ∙ drop-set-lt (i + 2) out i kept (omega arith)
       ∙ sym (drop-drop 2 i out) ∙ ap (drop 2) m.rest ∙ drop-drop 2 i entry in
@@ -66,14 +66,14 @@ module _ {entry out : List ℕ} {count i kept : ℕ} (m : Moving entry out count
 
 -- ---- where there is a join, and where there is none
 
-module _ (join : Bool) (count : ℕ) (out : List ℕ) (h : Room (inRoundIf join (take count out)) out) (l : count ≤ length out) where
-  pub join-room : join ≡ true → count + 2 ≤ length out
-  join-room e =
-      let r : Room (inRound (take count out)) out = rw e at h in
+module _ (join : Bool) (count : ℕ) (out : List ℕ) (h : Room (in_round_if join (take count out)) out) (l : count ≤ length out) where
+  pub join_room : join ≡ true → count + 2 ≤ length out
+  join_room e =
+      let r : Room (in_round (take count out)) out = rw e at h in
       omega (arith, r.fits, length-append (take count out) (ascii ")"), length-take-le count out l)
 
-  pub join-puts : join ≡ true → {exit : List ℕ} {n : ℕ} → Puts (inRound (take count out)) out exit n → Puts (inRoundIf join (take count out)) out exit n
-  join-puts e p = rw e p
+  pub join_puts : join ≡ true → {exit : List ℕ} {n : ℕ} → Puts (in_round (take count out)) out exit n → Puts (in_round_if join (take count out)) out exit n
+  join_puts e p = rw e p
 
-  pub no-join-puts : join ≡ false → Puts (inRoundIf join (take count out)) out out count
-  no-join-puts e = rw e (record { long = sym (length-take-le count out l); bytes = sym (take-append-drop count out) })
+  pub no_join_puts : join ≡ false → Puts (in_round_if join (take count out)) out out count
+  no_join_puts e = rw e (record { long = sym (length-take-le count out l); bytes = sym (take-append-drop count out) })

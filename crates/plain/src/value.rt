@@ -5,9 +5,9 @@ ghost use Rattle.base.specs.Lists.{every};
 ghost use Rattle.syntax.specs.Strings.{is_bare, is_plain};
 ghost use Rattle.syntax.specs.Scan.{decode as decoded};
 ghost use Rattle.syntax.specs.Placed.{PlacedValue};
-ghost use Rattle.plain.specs.Plain.{isWord, escapeOf, escaped, plainValue};
+ghost use Rattle.plain.specs.Plain.{is_word, escape_of, escaped, plain_value};
 ghost use Rattle.base.specs.Writing.{Room, Puts};
-ghost use Rattle.plain.specs.Writing.{escapedByte, quoted, value_of};
+ghost use Rattle.plain.specs.Writing.{escaped_byte, quoted, value_of};
 
 use base::write_word;
 use syntax::RawValue;
@@ -30,7 +30,7 @@ fn all_bare(value: &[u8]) -> bool
 
 // Whether a value can be a bare word.
 fn is_word(value: &[u8]) -> bool
-    ensures { result ≡ isWord value.now }
+    ensures { result ≡ is_word value.now }
 {
     if value.len() == 0 {
         return false;
@@ -53,7 +53,7 @@ fn is_plain(b: u8) -> bool
 
 // The byte that stands after a backslash for one that may not.
 fn escape_of(b: u8) -> u8
-    ensures { result ≡ escapeOf b }
+    ensures { result ≡ escape_of b }
 {
     match b {
         0x08 => b'b',
@@ -67,8 +67,8 @@ fn escape_of(b: u8) -> u8
 
 // Writes a byte of a value as it stands in a string, and answers how many bytes that takes.
 fn write_escaped_byte(b: u8, out: &mut [u8]) -> usize
-    requires { Room (escapedByte b) out.old }
-    ensures { Puts (escapedByte b) out.old out.new result }
+    requires { Room (escaped_byte b) out.old }
+    ensures { Puts (escaped_byte b) out.old out.new result }
 {
     if is_plain(b) {
         return write_word(&[b], out);
@@ -103,8 +103,8 @@ fn write_string(value: &[u8], out: &mut [u8]) -> usize
 
 // Writes a value in its plain spelling, and answers its length.
 fn write_plain(value: &[u8], out: &mut [u8]) -> usize
-    requires { Room (plainValue value.now) out.old }
-    ensures { Puts (plainValue value.now) out.old out.new result }
+    requires { Room (plain_value value.now) out.old }
+    ensures { Puts (plain_value value.now) out.old out.new result }
 {
     if is_word(value) {
         return write_word(value, out);
@@ -115,8 +115,8 @@ fn write_plain(value: &[u8], out: &mut [u8]) -> usize
 // Writes the value of a string's bytes that have escapes.
 fn write_decoded(raw: &[u8], out: &mut [u8]) -> usize
     requires raw_len_bound { length raw.now ≤ 1024 }
-    requires room { Room (plainValue (decoded false raw.now)) out.old }
-    ensures { Puts (plainValue (decoded false raw.now)) out.old out.new result }
+    requires room { Room (plain_value (decoded false raw.now)) out.old }
+    ensures { Puts (plain_value (decoded false raw.now)) out.old out.new result }
 {
     let mut value = [0u8; 1024];
     let n = decode(raw, &mut value);
@@ -127,8 +127,8 @@ fn write_decoded(raw: &[u8], out: &mut [u8]) -> usize
 pub fn write_value(filter: &[u8], value: RawValue, out: &mut [u8]) -> usize
     requires filter_len_bound { length filter.now ≤ 1024 }
     requires placed_value { PlacedValue filter.now value }
-    requires room { Room (plainValue (value_of filter.now value)) out.old }
-    ensures { Puts (plainValue (value_of filter.now value)) out.old out.new result }
+    requires room { Room (plain_value (value_of filter.now value)) out.old }
+    ensures { Puts (plain_value (value_of filter.now value)) out.old out.new result }
 {
     let start = value.start;
     let end = value.end;

@@ -2,8 +2,8 @@
 -- It is put together from the inside out, and no law takes an induction. `FillsText` says what the buffer has after the text, with a law for
 -- each way in which the code leaves it (size, no filter, bytes behind it, too many tests, a fault, done); `Fills` says it after sheet and
 -- text, whatever the room of the list. Where the code refuses sheet or text, that is the
--- refusal (`text-refused`, `fill-sheet`). The room is tested last of all (`preparation-is`), which leaves the laws of the list: refused
--- before, too short, or filled (`prepare-refused`, `prepare-short`, `prepare-done`).
+-- refusal (`text_refused`, `fill_sheet`). The room is tested last of all (`preparation_is`), which leaves the laws of the list: refused
+-- before, too short, or filled (`prepare_refused`, `prepare_short`, `prepare_done`).
 -- Assumes nothing.
 use Prim.Native.Nat.{ℕ, ◌+◌, ◌-◌, ◌≤◌, ◌<◌}
 use native.Mathlib.Omega.{arith}
@@ -16,226 +16,226 @@ use borrow.Author.Tests.{eq-eqb, ne_eqb, lt-ltb, le-leb, lt-leb}
 use Rattle.base.specs.Runs.{RunEnd}
 use Rattle.base.specs.Parts.{part}
 use Rattle.block.specs.declared.Validity.{Validity}
-use Rattle.sheet.specs.Sheet.{Parameter, parametersOf, readSheet}
-use Rattle.syntax.specs.Tree.{Tree, testsOf}
-use Rattle.syntax.specs.Scan.{isSpace}
-use Rattle.syntax.specs.Grammar.{deepest, mostTests}
-use Rattle.syntax.specs.Reader.{parsed, filterAt, whole, read}
-use Rattle.syntax.proofs.Whole.{whole-trails, whole-many, whole-few}
+use Rattle.sheet.specs.Sheet.{Parameter, parameters_of, read_sheet}
+use Rattle.syntax.specs.Tree.{Tree, tests_of}
+use Rattle.syntax.specs.Scan.{is_space}
+use Rattle.syntax.specs.Grammar.{deepest, most_tests}
+use Rattle.syntax.specs.Reader.{parsed, filter_at, whole, read}
+use Rattle.syntax.proofs.Whole.{whole_trails, whole_many, whole_few}
 use Rattle.place.specs.Machine.{failure}
-use Rattle.judge.specs.Faults.{firstFault}
+use Rattle.judge.specs.Faults.{first_fault}
 use Rattle.refusal.specs.declared.Decision.{Decision}
 use Rattle.filter.specs.declared.Summary.{Summary}
 use Rattle.filter.specs.declared.Spot.{Spot}
-use Rattle.filter.specs.Walks.{topSpot}
+use Rattle.filter.specs.Walks.{top_spot}
 use Rattle.filter.proofs.Walk.{top-bundle, top_read, top_within}
-use Rattle.row_writer.specs.Writing.{cellCount, Wrote}
+use Rattle.row_writer.specs.Writing.{cell_count, Wrote}
 use Rattle.row_writer.specs.Steps.{Room}
 use Rattle.row_writer.specs.declared.Outcome.{Outcome}
 use Rattle.row_writer.specs.declared.Written.{Written}
 use Rattle.row_writer.proofs.Writing as writing
 use Rattle.refusal.specs.declared.Reason.{Reason}
 use Rattle.refusal.specs.declared.Refusal.{Refusal}
-use Rattle.refusal.specs.Answers.{Answer, count, refused, number_of, refusalAnswer}
-use Rattle.refusal.specs.Steps.{Step, found, stop, refusalStep, ◌>>=◌, answer}
-use Rattle.answer.specs.Answers.{checkedAnswer}
-use Rattle.answer.specs.Operations.{acceptFilter, decisionStep, testsStep, sheetStep, acceptSheet, Inputs, acceptInputs, written}
-use Rattle.answer.specs.Passing.{summaryAnswer}
-use Rattle.answer.specs.Preparing.{rowCells, acceptCells, preparation, prepareAnswer, prepareCells, preparedAnswer, filledStep, textRows, FillsText, Fills, Prepares}
+use Rattle.refusal.specs.Answers.{Answer, count, refused, number_of, refusal_answer}
+use Rattle.refusal.specs.Steps.{Step, found, stop, refusal_step, ◌>>=◌, answer}
+use Rattle.answer.specs.Answers.{checked_answer}
+use Rattle.answer.specs.Operations.{accept_filter, decision_step, tests_step, sheet_step, accept_sheet, Inputs, accept_inputs, written}
+use Rattle.answer.specs.Passing.{summary_answer}
+use Rattle.answer.specs.Preparing.{row_cells, accept_cells, preparation, prepare_answer, prepare_cells, prepared_answer, filled_step, text_rows, FillsText, Fills, Prepares}
 use Rattle.answer.specs.declared.Checked.{Checked}
 use Rattle.answer.specs.declared.Prepared.{Prepared}
-use Rattle.answer.proofs.Inputs.{text-read}
+use Rattle.answer.proofs.Inputs.{text_read}
 
 -- ---- refusals
 
-pub failure-prepared : (xs : List ℕ) (r : Refusal) → r ≡ failure deepest mostTests xs → preparedAnswer (Prepared.Refused r) ≡ refusalAnswer (failure deepest mostTests xs)
-unfolding preparedAnswer
-failure-prepared xs r e = ap refusalAnswer e
+pub failure-prepared : (xs : List ℕ) (r : Refusal) → r ≡ failure deepest most_tests xs → prepared_answer (Prepared.Refused r) ≡ refusal_answer (failure deepest most_tests xs)
+unfolding prepared_answer
+failure-prepared xs r e = ap refusal_answer e
 
-refused-step : (r : Prepared) (buffer : List ℕ) (n p : ℕ) → preparedAnswer r ≡ refused n p → filledStep r buffer ≡ stop n p
-unfolding preparedAnswer refusalAnswer
-refused-step (Prepared.Cells k) buffer n p e = let z : ◌≡◌ {A = ℕ} 0 1 = cc in absurd (omega arith)
-refused-step (Prepared.Refused r) buffer n p e =
+refused_step : (r : Prepared) (buffer : List ℕ) (n p : ℕ) → prepared_answer r ≡ refused n p → filled_step r buffer ≡ stop n p
+unfolding prepared_answer refusal_answer
+refused_step (Prepared.Cells k) buffer n p e = let z : ◌≡◌ {A = ℕ} 0 1 = cc in absurd (omega arith)
+refused_step (Prepared.Refused r) buffer n p e =
     let number : number_of r.reason ≡ n = cc in
     let where-at : r.place ≡ p = cc in
     rw (number, where-at)
 
-refused-room : (r : Prepared) (n p : ℕ) → preparedAnswer r ≡ refused n p → (k : ℕ) → r ≡ Prepared.Cells k → ⊥
-unfolding preparedAnswer
-refused-room r n p e k h =
-    let c : count k ≡ refused n p = sym (ap preparedAnswer h) ∙ e in
+refused_room : (r : Prepared) (n p : ℕ) → prepared_answer r ≡ refused n p → (k : ℕ) → r ≡ Prepared.Cells k → ⊥
+unfolding prepared_answer
+refused_room r n p e k h =
+    let c : count k ≡ refused n p = sym (ap prepared_answer h) ∙ e in
     let z : ◌≡◌ {A = ℕ} 0 1 = cc in omega arith
 
 module _ (ps : List Parameter) (xs : List ℕ) (r : Prepared) (buffer : List ℕ) where
-  text-refused : (n p : ℕ) → preparedAnswer r ≡ refused n p → textRows ps xs ≡ stop n p → FillsText ps xs r buffer
-  text-refused n p e s = record { rows = refused-step r buffer n p e ∙ sym s; room = λ k i. absurd (refused-room r n p e k i) }
+  text_refused : (n p : ℕ) → prepared_answer r ≡ refused n p → text_rows ps xs ≡ stop n p → FillsText ps xs r buffer
+  text_refused n p e s = record { rows = refused_step r buffer n p e ∙ sym s; room = λ k i. absurd (refused_room r n p e k i) }
 
-  pub fill-empty : length xs ≡ 0 → preparedAnswer r ≡ refused (number_of Reason.FilterSize) 0 → FillsText ps xs r buffer
-  unfolding textRows acceptFilter
-  fill-empty z e = text-refused 10 0 e (rw (eq-eqb (length xs) 0 z))
+  pub fill_empty : length xs ≡ 0 → prepared_answer r ≡ refused (number_of Reason.FilterSize) 0 → FillsText ps xs r buffer
+  unfolding text_rows accept_filter
+  fill_empty z e = text_refused 10 0 e (rw (eq-eqb (length xs) 0 z))
 
-  pub fill-long : 1024 < length xs → preparedAnswer r ≡ refused (number_of Reason.FilterSize) 0 → FillsText ps xs r buffer
-  unfolding textRows acceptFilter
-  fill-long l e =
+  pub fill_long : 1024 < length xs → prepared_answer r ≡ refused (number_of Reason.FilterSize) 0 → FillsText ps xs r buffer
+  unfolding text_rows accept_filter
+  fill_long l e =
       let n : length xs ≡ 0 → ⊥ = λ z. omega arith in
-      text-refused 10 0 e (rw (ne_eqb (length xs) 0 n, lt-ltb 1024 (length xs) l))
+      text_refused 10 0 e (rw (ne_eqb (length xs) 0 n, lt-ltb 1024 (length xs) l))
 
 -- check's answer to a text that is a filter tells whether one of its tests is refused
-none-refused : (s : Summary) (c : Checked) (n : ℕ) → checkedAnswer c ≡ summaryAnswer s → c ≡ Checked.Tests n → decisionStep s.first ≡ found tt
-unfolding checkedAnswer summaryAnswer
-none-refused s c n e i = by_first s.first (sym (ap checkedAnswer i) ∙ e)
+none_refused : (s : Summary) (c : Checked) (n : ℕ) → checked_answer c ≡ summary_answer s → c ≡ Checked.Tests n → decision_step s.first ≡ found tt
+unfolding checked_answer summary_answer
+none_refused s c n e i = by_first_lem s.first (sym (ap checked_answer i) ∙ e)
   where
-    by_first : (d : Decision) → count n ≡ answer (decisionStep d >>= λ u. found (count s.tests)) → decisionStep d ≡ found tt
-    by_first Decision.Passed h = refl
-    by_first (Decision.Refused r) h = let z : ◌≡◌ {A = ℕ} 0 1 = cc in absurd (omega arith)
+    by_first_lem : (d : Decision) → count n ≡ answer (decision_step d >>= λ u. found (count s.tests)) → decision_step d ≡ found tt
+    by_first_lem Decision.Passed h = refl
+    by_first_lem (Decision.Refused r) h = let z : ◌≡◌ {A = ℕ} 0 1 = cc in absurd (omega arith)
 
 -- an answer that is a refusal comes of a step that stopped there
-stopped-at : {A : Type 0} (q : Step A) (a : A → Answer) (n p : ℕ) → ((x : A) → a x ≡ refused n p → ⊥) → answer (q >>= λ x. found (a x)) ≡ refused n p → q ≡ stop n p
-stopped-at (found x) a n p k e = absurd (k x e)
-stopped-at (stop m o) a n p k e =
+stopped_at : {A : Type 0} (q : Step A) (a : A → Answer) (n p : ℕ) → ((x : A) → a x ≡ refused n p → ⊥) → answer (q >>= λ x. found (a x)) ≡ refused n p → q ≡ stop n p
+stopped_at (found x) a n p k e = absurd (k x e)
+stopped_at (stop m o) a n p k e =
     let number : m ≡ n = cc in
     let where-at : o ≡ p = cc in
     rw (number, where-at)
 
-one-refused : (s : Summary) (c : Checked) (r : Refusal) → checkedAnswer c ≡ summaryAnswer s → c ≡ Checked.Refused r → decisionStep s.first ≡ refusalStep r
-unfolding checkedAnswer summaryAnswer refusalAnswer
-one-refused s c r e i =
-    stopped-at (decisionStep s.first) (λ u. count s.tests) (number_of r.reason) r.place (λ x y. let z : ◌≡◌ {A = ℕ} 0 1 = cc in omega arith) (sym e ∙ ap checkedAnswer i)
+one_refused : (s : Summary) (c : Checked) (r : Refusal) → checked_answer c ≡ summary_answer s → c ≡ Checked.Refused r → decision_step s.first ≡ refusal_step r
+unfolding checked_answer summary_answer refusal_answer
+one_refused s c r e i =
+    stopped_at (decision_step s.first) (λ u. count s.tests) (number_of r.reason) r.place (λ x y. let z : ◌≡◌ {A = ℕ} 0 1 = cc in omega arith) (sym e ∙ ap checked_answer i)
 
 -- ---- the text
 
-pub fill-room : (xs rows : List ℕ) (spot : Spot) → spot ≡ topSpot xs → length xs ≤ 1024 → length rows ≡ 1024 → Room xs rows 0 spot.at
-fill-room xs rows spot s short size = record { short = short; size = size; low = omega arith; within = top_within xs spot s }
+pub fill_room : (xs rows : List ℕ) (spot : Spot) → spot ≡ top_spot xs → length xs ≤ 1024 → length rows ≡ 1024 → Room xs rows 0 spot.at
+fill_room xs rows spot s short size = record { short = short; size = size; low = omega arith; within = top_within xs spot s }
 
 module _ (ps : List Parameter) (xs : List ℕ) (n : length xs ≡ 0 → ⊥) (l : length xs ≤ 1024) where
-  no-tree : (r : Prepared) (buffer : List ℕ) → read xs ≡ none → preparedAnswer r ≡ refusalAnswer (failure deepest mostTests xs) → FillsText ps xs r buffer
-  unfolding textRows refusalAnswer
-  no-tree r buffer e h =
-      text-refused ps xs r buffer (number_of (failure deepest mostTests xs).reason) (failure deepest mostTests xs).place h (rw (text-read xs n l none e))
+  no_tree : (r : Prepared) (buffer : List ℕ) → read xs ≡ none → prepared_answer r ≡ refusal_answer (failure deepest most_tests xs) → FillsText ps xs r buffer
+  unfolding text_rows refusal_answer
+  no_tree r buffer e h =
+      text_refused ps xs r buffer (number_of (failure deepest most_tests xs).reason) (failure deepest most_tests xs).place h (rw (text_read xs n l none e))
 
-  module _ (spot : Spot) (s : spot ≡ topSpot xs) (v : Written) (before after : List ℕ) (w : Wrote ps spot.bundle xs 0 (filterAt spot.levels xs spot.close spot.at) v before after) where
-    at_top : Wrote ps 0 xs 0 (filterAt spot.levels xs spot.close spot.at) v before after
-    at_top = subst (λ (c : ℕ). Wrote ps c xs 0 (filterAt spot.levels xs spot.close spot.at) v before after) (top-bundle xs spot s) w
+  module _ (spot : Spot) (s : spot ≡ top_spot xs) (v : Written) (before after : List ℕ) (w : Wrote ps spot.bundle xs 0 (filter_at spot.levels xs spot.close spot.at) v before after) where
+    at_top : Wrote ps 0 xs 0 (filter_at spot.levels xs spot.close spot.at) v before after
+    at_top = subst (λ (c : ℕ). Wrote ps c xs 0 (filter_at spot.levels xs spot.close spot.at) v before after) (top-bundle xs spot s) w
 
-    pub fill-nothing : (r : Prepared) → v ≡ Written.Nothing → preparedAnswer r ≡ refusalAnswer (failure deepest mostTests xs) → FillsText ps xs r after
-    fill-nothing r h = no-tree r after (top_read xs spot s ∙ ap (whole xs) (writing.was-none ps 0 xs 0 at_top h))
+    pub fill_nothing : (r : Prepared) → v ≡ Written.Nothing → prepared_answer r ≡ refusal_answer (failure deepest most_tests xs) → FillsText ps xs r after
+    fill_nothing r h = no_tree r after (top_read xs spot s ∙ ap (whole xs) (writing.was_none ps 0 xs 0 at_top h))
 
     module _ (end : ℕ) (a : Outcome) (h : v ≡ Written.Done end a) where
       takes : writing.Takes ps 0 xs 0 spot.close spot.levels spot.at v before after end a
       takes = writing.filter_takes ps 0 xs 0 spot.close spot.levels spot.at v before after end a at_top h
 
-      pub fill-within : end ≤ length xs
-      fill-within = takes.within
+      pub fill_within : end ≤ length xs
+      fill_within = takes.within
 
-      module _ (behind : ℕ) (t : RunEnd isSpace xs end behind) where
-        was : writing.Was ps 0 xs 0 (filterAt spot.levels xs spot.close spot.at) end a before after
+      module _ (behind : ℕ) (t : RunEnd is_space xs end behind) where
+        was : writing.Was ps 0 xs 0 (filter_at spot.levels xs spot.close spot.at) end a before after
         was = writing.was ps 0 xs 0 end a at_top h
 
         read_whole : read xs ≡ whole xs (parsed end was.tree)
         read_whole = top_read xs spot s ∙ ap (whole xs) was.read
 
-        pub fill-trails : (r : Prepared) → (behind ≡ length xs → ⊥) → preparedAnswer r ≡ refusalAnswer (failure deepest mostTests xs) → FillsText ps xs r after
-        fill-trails r k = no-tree r after (read_whole ∙ whole-trails xs end behind t was.tree k)
+        pub fill_trails : (r : Prepared) → (behind ≡ length xs → ⊥) → prepared_answer r ≡ refusal_answer (failure deepest most_tests xs) → FillsText ps xs r after
+        fill_trails r k = no_tree r after (read_whole ∙ whole_trails xs end behind t was.tree k)
 
-        tests-are : a.summary.tests ≡ length (testsOf was.tree)
-        tests-are = ap (λ (o : Outcome). o.summary.tests) was.value
+        tests_are : a.summary.tests ≡ length (tests_of was.tree)
+        tests_are = ap (λ (o : Outcome). o.summary.tests) was.value
 
-        pub fill-many : (r : Prepared) → behind ≡ length xs → 32 < a.summary.tests → preparedAnswer r ≡ refusalAnswer (failure deepest mostTests xs) → FillsText ps xs r after
-        fill-many r k m = no-tree r after (read_whole ∙ whole-many xs end behind t was.tree k (omega (arith, tests-are)))
+        pub fill_many : (r : Prepared) → behind ≡ length xs → 32 < a.summary.tests → prepared_answer r ≡ refusal_answer (failure deepest most_tests xs) → FillsText ps xs r after
+        fill_many r k m = no_tree r after (read_whole ∙ whole_many xs end behind t was.tree k (omega (arith, tests_are)))
 
         -- the text is a filter: its tests decide
         module _ (k : behind ≡ length xs) (m : a.summary.tests ≤ 32) where
-          rows-by : textRows ps xs ≡ (decisionStep a.summary.first >>= λ u. found (rowCells ps xs was.tree))
-          unfolding textRows testsStep
-          rows-by =
-              let r : acceptFilter xs ≡ found was.tree = text-read xs n l (some was.tree) (read_whole ∙ whole-few xs end behind t was.tree k (omega (arith, tests-are))) in
-              ap (λ (q : Step Tree). q >>= λ f. decisionStep (firstFault ps 0 (testsOf f)) >>= λ u. found (rowCells ps xs f)) r
-              ∙ ap (λ (o : Outcome). decisionStep o.summary.first >>= λ u. found (rowCells ps xs was.tree)) (sym was.value)
+          rows_by : text_rows ps xs ≡ (decision_step a.summary.first >>= λ u. found (row_cells ps xs was.tree))
+          unfolding text_rows tests_step
+          rows_by =
+              let r : accept_filter xs ≡ found was.tree = text_read xs n l (some was.tree) (read_whole ∙ whole_few xs end behind t was.tree k (omega (arith, tests_are))) in
+              ap (λ (q : Step Tree). q >>= λ f. decision_step (first_fault ps 0 (tests_of f)) >>= λ u. found (row_cells ps xs f)) r
+              ∙ ap (λ (o : Outcome). decision_step o.summary.first >>= λ u. found (row_cells ps xs was.tree)) (sym was.value)
 
-          pub fill_done : (c : Checked) (n : ℕ) → checkedAnswer c ≡ summaryAnswer a.summary → c ≡ Checked.Tests n → length before ≡ 1024 → FillsText ps xs (Prepared.Cells a.cells) after
+          pub fill_done : (c : Checked) (n : ℕ) → checked_answer c ≡ summary_answer a.summary → c ≡ Checked.Tests n → length before ≡ 1024 → FillsText ps xs (Prepared.Cells a.cells) after
           fill_done c n e i size =
-              let clean : decisionStep a.summary.first ≡ found tt = none-refused a.summary c n e i in
-              let same : a.cells ≡ cellCount was.tree = ap (λ (o : Outcome). o.cells) was.value in
-              let at_first : a.cells ≡ 0 + cellCount was.tree = omega (arith, same) in
-              let cells : take a.cells after ≡ rowCells ps xs was.tree = ap (λ (x : ℕ). take x after) at_first ∙ was.cells in
+              let clean : decision_step a.summary.first ≡ found tt = none_refused a.summary c n e i in
+              let same : a.cells ≡ cell_count was.tree = ap (λ (o : Outcome). o.cells) was.value in
+              let at_first : a.cells ≡ 0 + cell_count was.tree = omega (arith, same) in
+              let cells : take a.cells after ≡ row_cells ps xs was.tree = ap (λ (x : ℕ). take x after) at_first ∙ was.cells in
               record {
-                rows = ap found cells ∙ sym (rows-by ∙ ap (λ (q : Step (Unit {0})). q >>= λ u. found (rowCells ps xs was.tree)) clean);
+                rows = ap found cells ∙ sym (rows_by ∙ ap (λ (q : Step (Unit {0})). q >>= λ u. found (row_cells ps xs was.tree)) clean);
                 room = λ j g. let x : a.cells ≡ j = cc in omega (arith, takes.cells_fit, takes.within, w.size, size);
               }
 
-          pub fill-fault : (c : Checked) (r : Refusal) → checkedAnswer c ≡ summaryAnswer a.summary → c ≡ Checked.Refused r → FillsText ps xs (Prepared.Refused r) after
-          fill-fault c r e i =
-              let fault : decisionStep a.summary.first ≡ refusalStep r = one-refused a.summary c r e i in
+          pub fill_fault : (c : Checked) (r : Refusal) → checked_answer c ≡ summary_answer a.summary → c ≡ Checked.Refused r → FillsText ps xs (Prepared.Refused r) after
+          fill_fault c r e i =
+              let fault : decision_step a.summary.first ≡ refusal_step r = one_refused a.summary c r e i in
               record {
-                rows = sym (rows-by ∙ ap (λ (q : Step (Unit {0})). q >>= λ u. found (rowCells ps xs was.tree)) fault);
+                rows = sym (rows_by ∙ ap (λ (q : Step (Unit {0})). q >>= λ u. found (row_cells ps xs was.tree)) fault);
                 room = λ j g. let z : ◌≡◌ {A = ℕ} 0 1 = cc in absurd (omega arith);
               }
 
 -- ---- the sheet
 
 -- rows after all is read are rows where the tests are read
-rows-tests : (ps : List Parameter) (xs : List ℕ) (f : Tree) (t : Step (Unit {0})) → (t >>= λ u. found (record { parameters = ps; filter = f })) >>= (λ (p : Inputs). found (rowCells p.parameters xs p.filter)) ≡ t >>= λ u. found (rowCells ps xs f)
-rows-tests ps xs f (found u) = refl
-rows-tests ps xs f (stop n p) = refl
+rows_tests : (ps : List Parameter) (xs : List ℕ) (f : Tree) (t : Step (Unit {0})) → (t >>= λ u. found (record { parameters = ps; filter = f })) >>= (λ (p : Inputs). found (row_cells p.parameters xs p.filter)) ≡ t >>= λ u. found (row_cells ps xs f)
+rows_tests ps xs f (found u) = refl
+rows_tests ps xs f (stop n p) = refl
 
-rows-filter : (ps : List Parameter) (xs : List ℕ) (t : Step Tree)
-    → (t >>= λ f. testsStep ps (testsOf f) >>= λ u. found (record { parameters = ps; filter = f })) >>= (λ (p : Inputs). found (rowCells p.parameters xs p.filter)) ≡ t >>= λ f. testsStep ps (testsOf f) >>= λ u. found (rowCells ps xs f)
-rows-filter ps xs (found f) = rows-tests ps xs f (testsStep ps (testsOf f))
-rows-filter ps xs (stop n p) = refl
+rows_filter : (ps : List Parameter) (xs : List ℕ) (t : Step Tree)
+    → (t >>= λ f. tests_step ps (tests_of f) >>= λ u. found (record { parameters = ps; filter = f })) >>= (λ (p : Inputs). found (row_cells p.parameters xs p.filter)) ≡ t >>= λ f. tests_step ps (tests_of f) >>= λ u. found (row_cells ps xs f)
+rows_filter ps xs (found f) = rows_tests ps xs f (tests_step ps (tests_of f))
+rows_filter ps xs (stop n p) = refl
 
-module _ (b xs : List ℕ) (k : Validity) (e : k ≡ readSheet b) (r : Prepared) (buffer : List ℕ) where
-  fill-sheet : (j : Validity) (n : ℕ) → ((ps : List Parameter) → sheetStep j ps ≡ stop n 0) → k ≡ j → preparedAnswer r ≡ refused n 0 → Fills b xs r buffer
-  unfolding acceptInputs acceptSheet
-  fill-sheet j n t i h =
-      record { rows = refused-step r buffer n 0 h ∙ sym (rw (sym e ∙ i, t (parametersOf b))); room = λ m q. absurd (refused-room r n 0 h m q) }
+module _ (b xs : List ℕ) (k : Validity) (e : k ≡ read_sheet b) (r : Prepared) (buffer : List ℕ) where
+  fill_sheet : (j : Validity) (n : ℕ) → ((ps : List Parameter) → sheet_step j ps ≡ stop n 0) → k ≡ j → prepared_answer r ≡ refused n 0 → Fills b xs r buffer
+  unfolding accept_inputs accept_sheet
+  fill_sheet j n t i h =
+      record { rows = refused_step r buffer n 0 h ∙ sym (rw (sym e ∙ i, t (parameters_of b))); room = λ m q. absurd (refused_room r n 0 h m q) }
 
-  pub fill-size : k ≡ Validity.WrongSize → preparedAnswer r ≡ refused (number_of Reason.SheetSize) 0 → Fills b xs r buffer
-  fill-size = fill-sheet Validity.WrongSize 1 (λ ps. refl)
+  pub fill_size : k ≡ Validity.WrongSize → prepared_answer r ≡ refused (number_of Reason.SheetSize) 0 → Fills b xs r buffer
+  fill_size = fill_sheet Validity.WrongSize 1 (λ ps. refl)
 
-  pub fill-sum : k ≡ Validity.WrongSum → preparedAnswer r ≡ refused (number_of Reason.SheetSum) 0 → Fills b xs r buffer
-  fill-sum = fill-sheet Validity.WrongSum 2 (λ ps. refl)
+  pub fill_sum : k ≡ Validity.WrongSum → prepared_answer r ≡ refused (number_of Reason.SheetSum) 0 → Fills b xs r buffer
+  fill_sum = fill_sheet Validity.WrongSum 2 (λ ps. refl)
 
-  pub fill-layout : k ≡ Validity.WrongLayout → preparedAnswer r ≡ refused (number_of Reason.SheetLayout) 0 → Fills b xs r buffer
-  fill-layout = fill-sheet Validity.WrongLayout 3 (λ ps. refl)
+  pub fill_layout : k ≡ Validity.WrongLayout → prepared_answer r ≡ refused (number_of Reason.SheetLayout) 0 → Fills b xs r buffer
+  fill_layout = fill_sheet Validity.WrongLayout 3 (λ ps. refl)
 
-  pub fill-right : k ≡ Validity.WellFormed → FillsText (parametersOf b) xs r buffer → Fills b xs r buffer
-  unfolding acceptInputs acceptSheet textRows
-  fill-right i f = record { rows = f.rows ∙ sym (rw (sym e ∙ i) (rows-filter (parametersOf b) xs (acceptFilter xs))); room = f.room }
+  pub fill_right : k ≡ Validity.WellFormed → FillsText (parameters_of b) xs r buffer → Fills b xs r buffer
+  unfolding accept_inputs accept_sheet text_rows
+  fill_right i f = record { rows = f.rows ∙ sym (rw (sym e ∙ i) (rows_filter (parameters_of b) xs (accept_filter xs))); room = f.room }
 
 -- ---- the list
 
 -- the room decides after all else
-rows-room : {A : Type 0} (t : Step A) (g : A → List ℕ) (room : ℕ) → (t >>= λ p. acceptCells room (g p)) ≡ (t >>= λ p. found (g p)) >>= λ cs. acceptCells room cs
-rows-room (found a) g room = refl
-rows-room (stop n p) g room = refl
+rows_room : {A : Type 0} (t : Step A) (g : A → List ℕ) (room : ℕ) → (t >>= λ p. accept_cells room (g p)) ≡ (t >>= λ p. found (g p)) >>= λ cs. accept_cells room cs
+rows_room (found a) g room = refl
+rows_room (stop n p) g room = refl
 
 module _ (b xs list : List ℕ) (r : Prepared) (buffer : List ℕ) (f : Fills b xs r buffer) where
-  preparation-is : preparation b xs (length list) ≡ filledStep r buffer >>= λ cs. acceptCells (length list) cs
+  preparation_is : preparation b xs (length list) ≡ filled_step r buffer >>= λ cs. accept_cells (length list) cs
   unfolding preparation
-  preparation-is = rows-room (acceptInputs b xs) (λ p. rowCells p.parameters xs p.filter) (length list) ∙ ap (λ (q : Step (List ℕ)). q >>= λ cs. acceptCells (length list) cs) (sym f.rows)
+  preparation_is = rows_room (accept_inputs b xs) (λ p. row_cells p.parameters xs p.filter) (length list) ∙ ap (λ (q : Step (List ℕ)). q >>= λ cs. accept_cells (length list) cs) (sym f.rows)
 
-  pub prepare-refused : (q : Refusal) → r ≡ Prepared.Refused q → Prepares b xs list (Prepared.Refused q) list
-  unfolding prepareAnswer prepareCells preparedAnswer refusalAnswer
-  prepare-refused q i =
-      let s : preparation b xs (length list) ≡ stop (number_of q.reason) q.place = preparation-is ∙ ap (λ (x : Prepared). filledStep x buffer >>= λ cs. acceptCells (length list) cs) i in
+  pub prepare_refused : (q : Refusal) → r ≡ Prepared.Refused q → Prepares b xs list (Prepared.Refused q) list
+  unfolding prepare_answer prepare_cells prepared_answer refusal_answer
+  prepare_refused q i =
+      let s : preparation b xs (length list) ≡ stop (number_of q.reason) q.place = preparation_is ∙ ap (λ (x : Prepared). filled_step x buffer >>= λ cs. accept_cells (length list) cs) i in
       record { answers = sym (ap (λ (x : Step (List ℕ)). answer (x >>= λ cs. found (count (length cs)))) s); cells = sym (ap (λ (x : Step (List ℕ)). written x list) s) }
 
   module _ (n : ℕ) (i : r ≡ Prepared.Cells n) where
     taken-length : length (take n buffer) ≡ n
     taken-length = length-take-le n buffer (f.room n i)
 
-    filled : preparation b xs (length list) ≡ acceptCells (length list) (take n buffer)
-    filled = preparation-is ∙ ap (λ (x : Prepared). filledStep x buffer >>= λ cs. acceptCells (length list) cs) i
+    filled : preparation b xs (length list) ≡ accept_cells (length list) (take n buffer)
+    filled = preparation_is ∙ ap (λ (x : Prepared). filled_step x buffer >>= λ cs. accept_cells (length list) cs) i
 
-    pub prepare-short : length list < n → Prepares b xs list (Prepared.Refused (record { reason = Reason.ShortCells; place = n })) list
-    unfolding prepareAnswer prepareCells preparedAnswer refusalAnswer acceptCells
-    prepare-short l =
+    pub prepare_short : length list < n → Prepares b xs list (Prepared.Refused (record { reason = Reason.ShortCells; place = n })) list
+    unfolding prepare_answer prepare_cells prepared_answer refusal_answer accept_cells
+    prepare_short l =
         let s : preparation b xs (length list) ≡ stop 34 n = filled ∙ rw (taken-length, lt-leb n (length list) l) in
         record { answers = sym (ap (λ (x : Step (List ℕ)). answer (x >>= λ cs. found (count (length cs)))) s); cells = sym (ap (λ (x : Step (List ℕ)). written x list) s) }
 
-    pub prepare-done : (exit : List ℕ) → n ≤ length list → exit ≡ part buffer 0 n ++ drop (length (part buffer 0 n)) list → Prepares b xs list (Prepared.Cells n) exit
-    unfolding prepareAnswer prepareCells preparedAnswer acceptCells
-    prepare-done exit l e =
+    pub prepare_done : (exit : List ℕ) → n ≤ length list → exit ≡ part buffer 0 n ++ drop (length (part buffer 0 n)) list → Prepares b xs list (Prepared.Cells n) exit
+    unfolding prepare_answer prepare_cells prepared_answer accept_cells
+    prepare_done exit l e =
         let all : n - 0 ≡ n = omega arith in
         let whole_part : part buffer 0 n ≡ take n buffer = ap (λ (k : ℕ). take k buffer) all in
         let s : preparation b xs (length list) ≡ found (take n buffer) = filled ∙ rw (taken-length, le-leb n (length list) l) in

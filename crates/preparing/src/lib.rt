@@ -1,10 +1,10 @@
 // Prepare: a sheet and a filter are read, and the rows of the filter are written; the first refusal in the order of the table decides.
 ghost use Rattle.std.specs.Prelude.{◌≡◌, length};
-ghost use Rattle.sheet.specs.Sheet.{parametersOf, readSheet};
-ghost use Rattle.syntax.specs.Grammar.{deepest, mostTests};
+ghost use Rattle.sheet.specs.Sheet.{parameters_of, read_sheet};
+ghost use Rattle.syntax.specs.Grammar.{deepest, most_tests};
 ghost use Rattle.place.specs.Machine.{failure};
-ghost use Rattle.refusal.specs.Answers.{refused, number_of, refusalAnswer};
-ghost use Rattle.answer.specs.Preparing.{preparedAnswer, FillsText, Fills, Prepares};
+ghost use Rattle.refusal.specs.Answers.{refused, number_of, refusal_answer};
+ghost use Rattle.answer.specs.Preparing.{prepared_answer, FillsText, Fills, Prepares};
 
 use answer::{Checked, Prepared, write};
 use block::Validity;
@@ -17,23 +17,23 @@ use syntax::scan::skip;
 
 // A refusal as prepare's answer.
 fn refuse(reason: Reason, place: usize) -> Prepared
-    ensures { preparedAnswer result ≡ refused (number_of reason) place }
+    ensures { prepared_answer result ≡ refused (number_of reason) place }
 {
     Prepared::Refused(Refusal { reason, place })
 }
 
 // The answer for a text that is no filter.
 fn no_filter(filter: &[u8]) -> Prepared
-    ensures { preparedAnswer result ≡ refusalAnswer (failure deepest mostTests filter.now) }
+    ensures { prepared_answer result ≡ refusal_answer (failure deepest most_tests filter.now) }
 {
     Prepared::Refused(find_failure(filter))
 }
 
 // Writes the rows of a filter on a well-formed sheet into a buffer, which has a cell for each byte of the longest filter.
 fn fill_text(sheet: &[u8], filter: &[u8], buffer: &mut [u32]) -> Prepared
-    requires sheet_value { readSheet sheet.now ≡ Validity.WellFormed }
+    requires sheet_value { read_sheet sheet.now ≡ Validity.WellFormed }
     requires buffer_len { length buffer.old ≡ 1024 }
-    ensures { FillsText (parametersOf sheet.now) filter.now result buffer.new }
+    ensures { FillsText (parameters_of sheet.now) filter.now result buffer.new }
 {
     if filter.len() == 0 {
         return refuse(Reason::FilterSize, 0);

@@ -9,41 +9,41 @@ use lib.ListN.{take}
 use Rattle.base.proofs.All.{all_map}
 use Rattle.refusal.specs.declared.Decision.{Decision}
 use Rattle.refusal.specs.declared.Refusal.{Refusal}
-use Rattle.refusal.specs.Steps.{refusalStep}
-use Rattle.query.specs.Spelling.{Alternative, Query, alternativesOf}
-use Rattle.query.specs.Reader.{acceptQuery}
-use Rattle.query.specs.Rows.{Kept, keepPair, keepAll, keptIn, keptSays, RowWithin, alternativeIn, alternativesIn, rowsSay, AcceptsQuery, accepted-query, accepted-none, RowsOf}
+use Rattle.refusal.specs.Steps.{refusal_step}
+use Rattle.query.specs.Spelling.{Alternative, Query, alternatives_of}
+use Rattle.query.specs.Reader.{accept_query}
+use Rattle.query.specs.Rows.{Kept, keep_pair, keep_all, kept_in, kept_says, RowWithin, alternative_in, alternatives_in, rows_say, AcceptsQuery, accepted_query, accepted_none, RowsOf}
 use Rattle.query.specs.declared.QueryRead.{QueryRead}
 use Rattle.query.specs.declared.Row.{Row}
-use Rattle.query.proofs.Keeping.{kept-says, map-append}
-use Rattle.query.proofs.Reading.{query-there}
+use Rattle.query.proofs.Keeping.{kept_says_lem, map-append}
+use Rattle.query.proofs.Reading.{query_there}
 use Rattle.query.proofs.Accepting.{keep-length}
 
-abbrev alternativeOf : Kept → Alternative
-alternativeOf k = k.alternative
+abbrev alternative_of : Kept → Alternative
+alternative_of k = k.alternative
 
 -- the alternatives that are kept
-pair-alternatives : (p : List Alternative) → map alternativeOf (keepPair p) ≡ p
-unfolding keepPair
+pair-alternatives : (p : List Alternative) → map alternative_of (keep_pair p) ≡ p
+unfolding keep_pair
 pair-alternatives [] = refl
 pair-alternatives (a ∷ []) = refl
 pair-alternatives (a ∷ b ∷ rest) = ap (λ (l : List Alternative). a ∷ l) (pair-alternatives (b ∷ rest))
 
-all-alternatives : (q : Query) → map alternativeOf (keepAll q) ≡ alternativesOf q
-unfolding keepAll flatten
-all-alternatives [] = refl
-all-alternatives (p ∷ q) =
-    map-append alternativeOf (keepPair p) (keepAll q) ∙ ap (λ (l : List Alternative). l ++ map alternativeOf (keepAll q)) (pair-alternatives p)
-    ∙ ap (λ (l : List Alternative). p ++ l) (all-alternatives q)
+all_alternatives : (q : Query) → map alternative_of (keep_all q) ≡ alternatives_of q
+unfolding keep_all flatten
+all_alternatives [] = refl
+all_alternatives (p ∷ q) =
+    map-append alternative_of (keep_pair p) (keep_all q) ∙ ap (λ (l : List Alternative). l ++ map alternative_of (keep_all q)) (pair-alternatives p)
+    ∙ ap (λ (l : List Alternative). p ++ l) (all_alternatives q)
 
-kept-alternatives : (bytes : List ℕ) (rs : List Row) → map (alternativeIn bytes) rs ≡ map alternativeOf (map (keptIn bytes) rs)
-kept-alternatives bytes [] = refl
-kept-alternatives bytes (r ∷ rs) = ap (λ (l : List Alternative). alternativeIn bytes r ∷ l) (kept-alternatives bytes rs)
+kept_alternatives : (bytes : List ℕ) (rs : List Row) → map (alternative_in bytes) rs ≡ map alternative_of (map (kept_in bytes) rs)
+kept_alternatives bytes [] = refl
+kept_alternatives bytes (r ∷ rs) = ap (λ (l : List Alternative). alternative_in bytes r ∷ l) (kept_alternatives bytes rs)
 
 module _ {text bytes : List ℕ} where
-  pub accepted-rows : {r : QueryRead} → AcceptsQuery text bytes r → r.decision ≡ Decision.Passed → (q : Query) × RowsOf text bytes r.rows q
-  unfolding alternativesIn rowsSay
-  accepted-rows (accepted-query {q = q} {rows = rows} used u e few k) o = (
+  pub accepted_rows : {r : QueryRead} → AcceptsQuery text bytes r → r.decision ≡ Decision.Passed → (q : Query) × RowsOf text bytes r.rows q
+  unfolding alternatives_in rows_say
+  accepted_rows (accepted_query {q = q} {rows = rows} used u e few k) o = (
     q,
     record {
       accepted = e;
@@ -52,14 +52,14 @@ module _ {text bytes : List ℕ} where
         cells = k.cells;
         within = all_map (λ (r : Row) (w : RowWithin used r). record { name = w.name; until = omega (arith, w.until); text = w.text; end = omega (arith, w.end) }) (k.ends few);
       };
-      alternatives = kept-alternatives bytes (take rows.count rows.rows) ∙ ap (map alternativeOf) (k.kept few) ∙ all-alternatives q;
+      alternatives = kept_alternatives bytes (take rows.count rows.rows) ∙ ap (map alternative_of) (k.kept few) ∙ all_alternatives q;
       count = k.count ∙ keep-length q;
-      says = λ says. ap (keptSays says false) (k.kept few) ∙ kept-says says (query-there text q e).pairs;
+      says = λ says. ap (kept_says says false) (k.kept few) ∙ kept_says_lem says (query_there text q e).pairs;
     },
   )
-  accepted-rows (accepted-none e) o = absurd (let z : ◌≡◌ {A = ℕ} 0 1 = cc in omega arith)
+  accepted_rows (accepted_none e) o = absurd (let z : ◌≡◌ {A = ℕ} 0 1 = cc in omega arith)
 
   -- why one was not accepted
-  pub accepted-refused : {r : QueryRead} (x : Refusal) → AcceptsQuery text bytes r → r.decision ≡ Decision.Refused x → acceptQuery text ≡ refusalStep x
-  accepted-refused x (accepted-none {r = y} e) o = let z : y ≡ x = cc in e ∙ ap (λ (w : Refusal). refusalStep w) z
-  accepted-refused x (accepted-query used u e few k) o = absurd (let z : ◌≡◌ {A = ℕ} 0 1 = cc in omega arith)
+  pub accepted_refused : {r : QueryRead} (x : Refusal) → AcceptsQuery text bytes r → r.decision ≡ Decision.Refused x → accept_query text ≡ refusal_step x
+  accepted_refused x (accepted_none {r = y} e) o = let z : y ≡ x = cc in e ∙ ap (λ (w : Refusal). refusal_step w) z
+  accepted_refused x (accepted_query used u e few k) o = absurd (let z : ◌≡◌ {A = ℕ} 0 1 = cc in omega arith)

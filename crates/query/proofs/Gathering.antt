@@ -3,8 +3,8 @@
 -- from the next position on are the others (`mark-outcome`, by the cases of the bytes there). The invariant `Gathering`: the alternative's
 -- text is what was written and then the text of the first alternative of the signs left; the place of its bar is that of the bar already
 -- met, or else its place in the signs left, counted behind what was written; the alternatives after it are those after the first of the
--- signs left. A turn takes one sign off, and the position grows. A comma or the end of the bytes ends the alternative (`gathering-cut`,
--- `gathering-ends`).
+-- signs left. A turn takes one sign off, and the position grows. A comma or the end of the bytes ends the alternative (`gathering_cut`,
+-- `gathering_ends`).
 -- Assumes nothing.
 use Prim.Native.Nat.{ℕ, suc, ◌+◌, ◌-◌, ◌≤◌, ◌<◌}
 use native.Mathlib.Numerals.{add-one}
@@ -21,159 +21,159 @@ use Rattle.base.proofs.Tests.{cond-elim}
 use Rattle.text.specs.Bar.{bar}
 use Rattle.syntax.specs.Strings.{backslash}
 use Rattle.query.specs.Spelling.{comma, Sign, byte, cut, split}
-use Rattle.query.specs.Reader.{signsOf, isSpecial, beginsSpecial, cutSigns, text_of, splitOf}
-use Rattle.query.specs.Scan.{markAt, first_of, rest_of, signsFrom, PieceOf}
+use Rattle.query.specs.Reader.{signs_of, is_special, begins_special, cut_signs, text_of, split_of}
+use Rattle.query.specs.Scan.{mark_at, first_of, rest_of, signs_from, PieceOf}
 use Rattle.query.specs.declared.Mark.{Mark}
-use Rattle.query.proofs.Signs.{signs-of-byte, signs-kept}
+use Rattle.query.proofs.Signs.{signs_of_byte, signs_kept}
 
 -- the alternatives of signs: the first, and the rest
-pub cut-first : (v : List Sign) → cutSigns v ≡ first_of v ∷ rest_of v
-unfolding cutSigns first_of rest_of
-cut-first [] = refl
-cut-first (cut ∷ v) = refl
-cut-first (byte b ∷ v) = rw (cut-first v)
-cut-first (split ∷ v) = rw (cut-first v)
+pub cut_first : (v : List Sign) → cut_signs v ≡ first_of v ∷ rest_of v
+unfolding cut_signs first_of rest_of
+cut_first [] = refl
+cut_first (cut ∷ v) = refl
+cut_first (byte b ∷ v) = rw (cut_first v)
+cut_first (split ∷ v) = rw (cut_first v)
 
 -- ---- what stands at a position
 
 data MarkIs (s : List ℕ) (i : ℕ) : Mark → Type 0 where
-  mark-is-byte : {b next : ℕ} → i < next → next ≤ length s → signsFrom s i ≡ byte b ∷ signsFrom s next → MarkIs s i (Mark.Byte b next)
-  mark-is-cut : {next : ℕ} → i < next → next ≤ length s → signsFrom s i ≡ cut ∷ signsFrom s next → MarkIs s i (Mark.Cut next)
-  mark-is-split : {next : ℕ} → i < next → next ≤ length s → signsFrom s i ≡ split ∷ signsFrom s next → MarkIs s i (Mark.Split next)
+  mark_is_byte : {b next : ℕ} → i < next → next ≤ length s → signs_from s i ≡ byte b ∷ signs_from s next → MarkIs s i (Mark.Byte b next)
+  mark_is_cut : {next : ℕ} → i < next → next ≤ length s → signs_from s i ≡ cut ∷ signs_from s next → MarkIs s i (Mark.Cut next)
+  mark_is_split : {next : ℕ} → i < next → next ≤ length s → signs_from s i ≡ split ∷ signs_from s next → MarkIs s i (Mark.Split next)
 
-after-backslash : (t : List ℕ) → signsOf false (backslash ∷ t) ≡ signsOf true t
-unfolding signsOf
-after-backslash t = refl
+after_backslash : (t : List ℕ) → signs_of false (backslash ∷ t) ≡ signs_of true t
+unfolding signs_of
+after_backslash t = refl
 
-plain-signs : (c : ℕ) (u : List ℕ) → isSpecial c ≡ true → signsOf true (c ∷ u) ≡ byte c ∷ signsOf false u
-unfolding signsOf
+plain-signs : (c : ℕ) (u : List ℕ) → is_special c ≡ true → signs_of true (c ∷ u) ≡ byte c ∷ signs_of false u
+unfolding signs_of
 plain-signs c u e = rw e
 
-cut-signs : (t : List ℕ) → signsOf false (comma ∷ t) ≡ cut ∷ signsOf false t
-unfolding signsOf
-cut-signs t = refl
+cut_signs_lem : (t : List ℕ) → signs_of false (comma ∷ t) ≡ cut ∷ signs_of false t
+unfolding signs_of
+cut_signs_lem t = refl
 
-split-signs : (t : List ℕ) → signsOf false (bar ∷ t) ≡ split ∷ signsOf false t
-unfolding signsOf
+split-signs : (t : List ℕ) → signs_of false (bar ∷ t) ≡ split ∷ signs_of false t
+unfolding signs_of
 split-signs t = refl
 
 module _ (s : List ℕ) (i : ℕ) (h : i < length s) where
   abbrev here : ℕ
   here = get_or s i 0
 
-  from-here : (b : ℕ) → here ≡ b → signsFrom s i ≡ signsOf false (b ∷ drop (i + 1) s)
-  from-here b e = ap (signsOf false) (drop-next s i h ∙ ap (λ (x : ℕ). x ∷ drop (i + 1) s) e)
+  from-here : (b : ℕ) → here ≡ b → signs_from s i ≡ signs_of false (b ∷ drop (i + 1) s)
+  from-here b e = ap (signs_of false) (drop-next s i h ∙ ap (λ (x : ℕ). x ∷ drop (i + 1) s) e)
 
-  lone : beginsSpecial (drop (i + 1) s) ≡ false → here ≡ backslash → signsFrom s i ≡ byte backslash ∷ signsFrom s (i + 1)
-  lone n e = from-here backslash e ∙ after-backslash (drop (i + 1) s) ∙ signs-kept (drop (i + 1) s) (signsFrom s (i + 1)) n refl
+  lone : begins_special (drop (i + 1) s) ≡ false → here ≡ backslash → signs_from s i ≡ byte backslash ∷ signs_from s (i + 1)
+  lone n e = from-here backslash e ∙ after_backslash (drop (i + 1) s) ∙ signs_kept (drop (i + 1) s) (signs_from s (i + 1)) n refl
 
-  plain : i + 1 < length s → isSpecial (get_or s (i + 1) 0) ≡ true → here ≡ backslash → signsFrom s i ≡ byte (get_or s (i + 1) 0) ∷ signsFrom s (i + 2)
+  plain : i + 1 < length s → is_special (get_or s (i + 1) 0) ≡ true → here ≡ backslash → signs_from s i ≡ byte (get_or s (i + 1) 0) ∷ signs_from s (i + 2)
   plain l t e =
       let two : i + 1 + 1 ≡ i + 2 = omega arith in
       let next : drop (i + 1) s ≡ get_or s (i + 1) 0 ∷ drop (i + 2) s = drop-next s (i + 1) l ∙ ap (λ (n : ℕ). get_or s (i + 1) 0 ∷ drop n s) two in
-      from-here backslash e ∙ after-backslash (drop (i + 1) s) ∙ ap (signsOf true) next ∙ plain-signs (get_or s (i + 1) 0) (drop (i + 2) s) t
+      from-here backslash e ∙ after_backslash (drop (i + 1) s) ∙ ap (signs_of true) next ∙ plain-signs (get_or s (i + 1) 0) (drop (i + 2) s) t
 
-  begins : i + 1 < length s → isSpecial (get_or s (i + 1) 0) ≡ false → beginsSpecial (drop (i + 1) s) ≡ false
-  begins l t = ap beginsSpecial (drop-next s (i + 1) l) ∙ t
+  begins : i + 1 < length s → is_special (get_or s (i + 1) 0) ≡ false → begins_special (drop (i + 1) s) ≡ false
+  begins l t = ap begins_special (drop-next s (i + 1) l) ∙ t
 
-  mark-outcome : MarkIs s i (markAt s i)
-  unfolding markAt
+  mark-outcome : MarkIs s i (mark_at s i)
+  unfolding mark_at
   mark-outcome =
       cond-elim (MarkIs s i) (eqb here backslash)
       (λ p. let e : here ≡ backslash = eqb-true here backslash p in
       cond-elim (MarkIs s i) (ltb (i + 1) (length s))
       (λ t. let l : i + 1 < length s = ltb-true (i + 1) (length s) t in
-      cond-elim (MarkIs s i) (isSpecial (get_or s (i + 1) 0))
-      (λ x. mark-is-byte (omega arith) (omega arith) (plain l x e))
-      (λ x. mark-is-byte (omega arith) (omega arith) (lone (begins l x) e)))
+      cond-elim (MarkIs s i) (is_special (get_or s (i + 1) 0))
+      (λ x. mark_is_byte (omega arith) (omega arith) (plain l x e))
+      (λ x. mark_is_byte (omega arith) (omega arith) (lone (begins l x) e)))
       (λ t. let l : length s ≤ i + 1 = ltb-false (i + 1) (length s) t in
-      mark-is-byte (omega arith) (omega arith) (lone (ap beginsSpecial (drop_of_length-le s l)) e)))
+      mark_is_byte (omega arith) (omega arith) (lone (ap begins_special (drop_of_length-le s l)) e)))
       (λ p. cond-elim (MarkIs s i) (eqb here comma)
-      (λ t. mark-is-cut (omega arith) (omega arith) (from-here comma (eqb-true here comma t) ∙ cut-signs (drop (i + 1) s)))
+      (λ t. mark_is_cut (omega arith) (omega arith) (from-here comma (eqb-true here comma t) ∙ cut_signs_lem (drop (i + 1) s)))
       (λ q. cond-elim (MarkIs s i) (eqb here bar)
-      (λ t. mark-is-split (omega arith) (omega arith) (from-here bar (eqb-true here bar t) ∙ split-signs (drop (i + 1) s)))
-      (λ r. mark-is-byte (omega arith) (omega arith)
-      (from-here here refl ∙ signs-of-byte here (drop (i + 1) s) (eqb-false here backslash p) (eqb-false here comma q) (eqb-false here bar r)))))
+      (λ t. mark_is_split (omega arith) (omega arith) (from-here bar (eqb-true here bar t) ∙ split-signs (drop (i + 1) s)))
+      (λ r. mark_is_byte (omega arith) (omega arith)
+      (from-here here refl ∙ signs_of_byte here (drop (i + 1) s) (eqb-false here backslash p) (eqb-false here comma q) (eqb-false here bar r)))))
 
 -- branch by branch
 module _ (s : List ℕ) (i : ℕ) where
-  pub mark-last : get_or s i 0 ≡ backslash → length s ≤ i + 1 → Mark.Byte (get_or s i 0) (i + 1) ≡ markAt s i
-  unfolding markAt
-  mark-last e h = rw (eq-eqb (get_or s i 0) backslash e, le-ltb (i + 1) (length s) h, e)
+  pub mark_last : get_or s i 0 ≡ backslash → length s ≤ i + 1 → Mark.Byte (get_or s i 0) (i + 1) ≡ mark_at s i
+  unfolding mark_at
+  mark_last e h = rw (eq-eqb (get_or s i 0) backslash e, le-ltb (i + 1) (length s) h, e)
 
-  pub mark-plain : (t : Bool) → t ≡ isSpecial (get_or s (i + 1) 0) → t ≡ true → get_or s i 0 ≡ backslash → i + 1 < length s → Mark.Byte (get_or s (i + 1) 0) (i + 2) ≡ markAt s i
-  unfolding markAt
+  pub mark-plain : (t : Bool) → t ≡ is_special (get_or s (i + 1) 0) → t ≡ true → get_or s i 0 ≡ backslash → i + 1 < length s → Mark.Byte (get_or s (i + 1) 0) (i + 2) ≡ mark_at s i
+  unfolding mark_at
   mark-plain t x y e h = rw (eq-eqb (get_or s i 0) backslash e, lt-ltb (i + 1) (length s) h, sym x ∙ y)
 
-  pub mark-lone : (t : Bool) → t ≡ isSpecial (get_or s (i + 1) 0) → t ≡ false → get_or s i 0 ≡ backslash → i + 1 < length s → Mark.Byte (get_or s i 0) (i + 1) ≡ markAt s i
-  unfolding markAt
-  mark-lone t x y e h = rw (eq-eqb (get_or s i 0) backslash e, lt-ltb (i + 1) (length s) h, sym x ∙ y, e)
+  pub mark_lone : (t : Bool) → t ≡ is_special (get_or s (i + 1) 0) → t ≡ false → get_or s i 0 ≡ backslash → i + 1 < length s → Mark.Byte (get_or s i 0) (i + 1) ≡ mark_at s i
+  unfolding mark_at
+  mark_lone t x y e h = rw (eq-eqb (get_or s i 0) backslash e, lt-ltb (i + 1) (length s) h, sym x ∙ y, e)
 
-  pub mark-cut : get_or s i 0 ≡ comma → Mark.Cut (i + 1) ≡ markAt s i
-  unfolding markAt
-  mark-cut e = rw (ne_eqb (get_or s i 0) backslash (λ z. omega arith), eq-eqb (get_or s i 0) comma e)
+  pub mark_cut : get_or s i 0 ≡ comma → Mark.Cut (i + 1) ≡ mark_at s i
+  unfolding mark_at
+  mark_cut e = rw (ne_eqb (get_or s i 0) backslash (λ z. omega arith), eq-eqb (get_or s i 0) comma e)
 
-  pub mark-split : get_or s i 0 ≡ bar → Mark.Split (i + 1) ≡ markAt s i
-  unfolding markAt
+  pub mark-split : get_or s i 0 ≡ bar → Mark.Split (i + 1) ≡ mark_at s i
+  unfolding mark_at
   mark-split e = rw (ne_eqb (get_or s i 0) backslash (λ z. omega arith), ne_eqb (get_or s i 0) comma (λ z. omega arith), eq-eqb (get_or s i 0) bar e)
 
-  pub mark-byte : (get_or s i 0 ≡ backslash → ⊥) → (get_or s i 0 ≡ comma → ⊥) → (get_or s i 0 ≡ bar → ⊥) → Mark.Byte (get_or s i 0) (i + 1) ≡ markAt s i
-  unfolding markAt
+  pub mark-byte : (get_or s i 0 ≡ backslash → ⊥) → (get_or s i 0 ≡ comma → ⊥) → (get_or s i 0 ≡ bar → ⊥) → Mark.Byte (get_or s i 0) (i + 1) ≡ mark_at s i
+  unfolding mark_at
   mark-byte x y z = rw (ne_eqb (get_or s i 0) backslash x, ne_eqb (get_or s i 0) comma y, ne_eqb (get_or s i 0) bar z)
 
 -- ---- the loop
 
 -- the alternative that begins at a position
 abbrev pub first : List ℕ → ℕ → List Sign
-first s i = first_of (signsFrom s i)
+first s i = first_of (signs_from s i)
 
 pub record Gathering (s : List ℕ) (at : ℕ) (out : List ℕ) (i n split : ℕ) (whole : Bool) : Type 0 where
   pub within : i ≤ length s
   pub written : at + n ≤ i
   pub room : length s ≤ at + length out
   pub text : text_of (first s at) ≡ take n out ++ text_of (first s i)
-  pub splits : splitOf (first s at) ≡ cond whole (n + splitOf (first s i)) split
-  pub rest : rest_of (signsFrom s at) ≡ rest_of (signsFrom s i)
+  pub splits : split_of (first s at) ≡ cond whole (n + split_of (first s i)) split
+  pub rest : rest_of (signs_from s at) ≡ rest_of (signs_from s i)
 
-pub gathering-starts : (s : List ℕ) (at : ℕ) (out : List ℕ) → at ≤ length s → length s - at ≤ length out → Gathering s at out at 0 0 true
-gathering-starts s at out h k =
-    record { within = h; written = omega arith; room = omega arith; text = refl; splits = sym (zero-sum (splitOf (first s at))); rest = refl }
+pub gathering_starts : (s : List ℕ) (at : ℕ) (out : List ℕ) → at ≤ length s → length s - at ≤ length out → Gathering s at out at 0 0 true
+gathering_starts s at out h k =
+    record { within = h; written = omega arith; room = omega arith; text = refl; splits = sym (zero_sum (split_of (first s at))); rest = refl }
   where
-    zero-sum : (n : ℕ) → 0 + n ≡ n
-    zero-sum n = omega arith
+    zero_sum : (n : ℕ) → 0 + n ≡ n
+    zero_sum n = omega arith
 
 -- the first of signs that begin so
-byte-text : (b : ℕ) (v : List Sign) → text_of (first_of (byte b ∷ v)) ≡ b ∷ text_of (first_of v)
+byte_text : (b : ℕ) (v : List Sign) → text_of (first_of (byte b ∷ v)) ≡ b ∷ text_of (first_of v)
 unfolding text_of first_of
-byte-text b v = refl
+byte_text b v = refl
 
-byte_split : (b : ℕ) (v : List Sign) → splitOf (first_of (byte b ∷ v)) ≡ suc (splitOf (first_of v))
-unfolding splitOf first_of
+byte_split : (b : ℕ) (v : List Sign) → split_of (first_of (byte b ∷ v)) ≡ suc (split_of (first_of v))
+unfolding split_of first_of
 byte_split b v = refl
 
-byte-rest : (b : ℕ) (v : List Sign) → rest_of (byte b ∷ v) ≡ rest_of v
+byte_rest : (b : ℕ) (v : List Sign) → rest_of (byte b ∷ v) ≡ rest_of v
 unfolding rest_of
-byte-rest b v = refl
+byte_rest b v = refl
 
 split_text : (v : List Sign) → text_of (first_of (split ∷ v)) ≡ bar ∷ text_of (first_of v)
 unfolding text_of first_of
 split_text v = refl
 
-split-split : (v : List Sign) → splitOf (first_of (split ∷ v)) ≡ 0
-unfolding splitOf first_of
+split-split : (v : List Sign) → split_of (first_of (split ∷ v)) ≡ 0
+unfolding split_of first_of
 split-split v = refl
 
 split_rest : (v : List Sign) → rest_of (split ∷ v) ≡ rest_of v
 unfolding rest_of
 split_rest v = refl
 
-cut-text : (v : List Sign) → (text_of (first_of (cut ∷ v)) ≡ []) × (splitOf (first_of (cut ∷ v)) ≡ 0) × (rest_of (cut ∷ v) ≡ cutSigns v)
-unfolding text_of splitOf first_of rest_of
-cut-text v = (refl, refl, refl)
+cut_text : (v : List Sign) → (text_of (first_of (cut ∷ v)) ≡ []) × (split_of (first_of (cut ∷ v)) ≡ 0) × (rest_of (cut ∷ v) ≡ cut_signs v)
+unfolding text_of split_of first_of rest_of
+cut_text v = (refl, refl, refl)
 
-end-text : (text_of (first_of (signsOf false [])) ≡ []) × (splitOf (first_of (signsOf false [])) ≡ 0) × (rest_of (signsOf false []) ≡ [])
-unfolding text_of splitOf first_of rest_of signsOf
-end-text = (refl, refl, refl)
+end_text : (text_of (first_of (signs_of false [])) ≡ []) × (split_of (first_of (signs_of false [])) ≡ 0) × (rest_of (signs_of false []) ≡ [])
+unfolding text_of split_of first_of rest_of signs_of
+end_text = (refl, refl, refl)
 
 split-on : (whole : Bool) (n m k k' : ℕ) → m ≡ suc k → cond whole (n + m) k' ≡ cond whole (n + 1 + k) k'
 split-on true n m k k' e = omega arith
@@ -184,68 +184,68 @@ split-here true n m k' e = omega arith
 split-here false n m k' e = refl
 
 module _ {s : List ℕ} {at : ℕ} {out : List ℕ} {i n split : ℕ} {whole : Bool} (g : Gathering s at out i n split whole) where
-  pub gathering-room : i < length s → n < length out
-  gathering-room h = omega (arith, g.written, g.room)
+  pub gathering_room : i < length s → n < length out
+  gathering_room h = omega (arith, g.written, g.room)
 
   -- a byte more
   put : (b next : ℕ) (rest : List ℕ) → i < length s → text_of (first s i) ≡ b ∷ rest → text_of (first s at) ≡ take (n + 1) (set out n b) ++ rest
   put b next rest h e =
-      let cells : take (n + 1) (set out n b) ≡ take n out ++ (b ∷ []) = rw (add-one n, take-suc-set out n b (gathering-room h)) in
+      let cells : take (n + 1) (set out n b) ≡ take n out ++ (b ∷ []) = rw (add-one n, take-suc-set out n b (gathering_room h)) in
       g.text ∙ ap (λ (t : List ℕ). take n out ++ t) e ∙ sym (append_assoc (take n out) (b ∷ []) rest) ∙ ap (λ (t : List ℕ). t ++ rest) (sym cells)
 
-  module _ (m : Mark) (e : m ≡ markAt s i) (h : i < length s) where
+  module _ (m : Mark) (e : m ≡ mark_at s i) (h : i < length s) where
     is : {x : Mark} → m ≡ x → MarkIs s i x
     is k = subst (MarkIs s i) (sym e ∙ k) (mark-outcome s i h)
 
-    pub gathering-byte : (b next : ℕ) → m ≡ Mark.Byte b next → Gathering s at (set out n b) next (n + 1) split whole
-    gathering-byte b next k = by-mark (is k)
+    pub gathering_byte : (b next : ℕ) → m ≡ Mark.Byte b next → Gathering s at (set out n b) next (n + 1) split whole
+    gathering_byte b next k = by_mark (is k)
       where
-        by-mark : MarkIs s i (Mark.Byte b next) → Gathering s at (set out n b) next (n + 1) split whole
-        by-mark (mark-is-byte x y z) =
+        by_mark : MarkIs s i (Mark.Byte b next) → Gathering s at (set out n b) next (n + 1) split whole
+        by_mark (mark_is_byte x y z) =
             record {
               within = y;
               written = omega (arith, g.written);
               room = rw length-set g.room;
-              text = put b next (text_of (first s next)) h (ap (λ (v : List Sign). text_of (first_of v)) z ∙ byte-text b (signsFrom s next));
-              splits = g.splits ∙ split-on whole n (splitOf (first s i)) (splitOf (first s next)) split (ap (λ (v : List Sign). splitOf (first_of v)) z ∙ byte_split b (signsFrom s next));
-              rest = g.rest ∙ ap rest_of z ∙ byte-rest b (signsFrom s next);
+              text = put b next (text_of (first s next)) h (ap (λ (v : List Sign). text_of (first_of v)) z ∙ byte_text b (signs_from s next));
+              splits = g.splits ∙ split-on whole n (split_of (first s i)) (split_of (first s next)) split (ap (λ (v : List Sign). split_of (first_of v)) z ∙ byte_split b (signs_from s next));
+              rest = g.rest ∙ ap rest_of z ∙ byte_rest b (signs_from s next);
             }
 
-    pub gathering-split : (next r : ℕ) → m ≡ Mark.Split next → r ≡ cond whole n split → Gathering s at (set out n 124) next (n + 1) r false
-    gathering-split next r k u = by-mark (is k)
+    pub gathering_split : (next r : ℕ) → m ≡ Mark.Split next → r ≡ cond whole n split → Gathering s at (set out n 124) next (n + 1) r false
+    gathering_split next r k u = by_mark (is k)
       where
-        by-mark : MarkIs s i (Mark.Split next) → Gathering s at (set out n 124) next (n + 1) r false
-        by-mark (mark-is-split x y z) =
+        by_mark : MarkIs s i (Mark.Split next) → Gathering s at (set out n 124) next (n + 1) r false
+        by_mark (mark_is_split x y z) =
             record {
               within = y;
               written = omega (arith, g.written);
               room = rw length-set g.room;
-              text = put 124 next (text_of (first s next)) h (ap (λ (v : List Sign). text_of (first_of v)) z ∙ split_text (signsFrom s next));
-              splits = g.splits ∙ split-here whole n (splitOf (first s i)) split (ap (λ (v : List Sign). splitOf (first_of v)) z ∙ split-split (signsFrom s next)) ∙ sym u;
-              rest = g.rest ∙ ap rest_of z ∙ split_rest (signsFrom s next);
+              text = put 124 next (text_of (first s next)) h (ap (λ (v : List Sign). text_of (first_of v)) z ∙ split_text (signs_from s next));
+              splits = g.splits ∙ split-here whole n (split_of (first s i)) split (ap (λ (v : List Sign). split_of (first_of v)) z ∙ split-split (signs_from s next)) ∙ sym u;
+              rest = g.rest ∙ ap rest_of z ∙ split_rest (signs_from s next);
             }
 
-    pub gathering-less : (b next : ℕ) → m ≡ Mark.Byte b next → length s - next < length s - i
-    gathering-less b next k = by-mark (is k)
+    pub gathering_less : (b next : ℕ) → m ≡ Mark.Byte b next → length s - next < length s - i
+    gathering_less b next k = by_mark (is k)
       where
-        by-mark : MarkIs s i (Mark.Byte b next) → length s - next < length s - i
-        by-mark (mark-is-byte x y z) = omega arith
+        by_mark : MarkIs s i (Mark.Byte b next) → length s - next < length s - i
+        by_mark (mark_is_byte x y z) = omega arith
 
-    pub gathering-less-split : (next : ℕ) → m ≡ Mark.Split next → length s - next < length s - i
-    gathering-less-split next k = by-mark (is k)
+    pub gathering_less-split : (next : ℕ) → m ≡ Mark.Split next → length s - next < length s - i
+    gathering_less-split next k = by_mark (is k)
       where
-        by-mark : MarkIs s i (Mark.Split next) → length s - next < length s - i
-        by-mark (mark-is-split x y z) = omega arith
+        by_mark : MarkIs s i (Mark.Split next) → length s - next < length s - i
+        by_mark (mark_is_split x y z) = omega arith
 
-    pub gathering-cut : (next r : ℕ) → m ≡ Mark.Cut next → r ≡ cond whole n split → PieceOf s at out (record { len = n; split = r; next = next; more = true })
-    gathering-cut next r k u = by-mark (is k)
+    pub gathering_cut : (next r : ℕ) → m ≡ Mark.Cut next → r ≡ cond whole n split → PieceOf s at out (record { len = n; split = r; next = next; more = true })
+    gathering_cut next r k u = by_mark (is k)
       where
-        by-mark : MarkIs s i (Mark.Cut next) → PieceOf s at out (record { len = n; split = r; next = next; more = true })
-        by-mark (mark-is-cut x y z) =
-            let c = cut-text (signsFrom s next) in
+        by_mark : MarkIs s i (Mark.Cut next) → PieceOf s at out (record { len = n; split = r; next = next; more = true })
+        by_mark (mark_is_cut x y z) =
+            let c = cut_text (signs_from s next) in
             record {
               text = sym (append-nil (take n out)) ∙ ap (λ (t : List ℕ). take n out ++ t) (sym (ap (λ (v : List Sign). text_of (first_of v)) z ∙ c.0)) ∙ sym g.text;
-              splits = u ∙ sym (g.splits ∙ split-here whole n (splitOf (first s i)) split (ap (λ (v : List Sign). splitOf (first_of v)) z ∙ c.1));
+              splits = u ∙ sym (g.splits ∙ split-here whole n (split_of (first s i)) split (ap (λ (v : List Sign). split_of (first_of v)) z ∙ c.1));
               rest = g.rest ∙ ap rest_of z ∙ c.2;
               within = y;
               few = omega (arith, g.written);
@@ -253,13 +253,13 @@ module _ {s : List ℕ} {at : ℕ} {out : List ℕ} {i n split : ℕ} {whole : B
               on = λ t. omega (arith, g.written);
             }
 
-  pub gathering-ends : (r : ℕ) → length s ≤ i → r ≡ cond whole n split → PieceOf s at out (record { len = n; split = r; next = i; more = false })
-  gathering-ends r h u =
-      let z : signsFrom s i ≡ signsOf false [] = ap (signsOf false) (drop_of_length-le s h) in
+  pub gathering_ends : (r : ℕ) → length s ≤ i → r ≡ cond whole n split → PieceOf s at out (record { len = n; split = r; next = i; more = false })
+  gathering_ends r h u =
+      let z : signs_from s i ≡ signs_of false [] = ap (signs_of false) (drop_of_length-le s h) in
       record {
-        text = sym (append-nil (take n out)) ∙ ap (λ (t : List ℕ). take n out ++ t) (sym (ap (λ (v : List Sign). text_of (first_of v)) z ∙ end-text.0)) ∙ sym g.text;
-        splits = u ∙ sym (g.splits ∙ split-here whole n (splitOf (first s i)) split (ap (λ (v : List Sign). splitOf (first_of v)) z ∙ end-text.1));
-        rest = g.rest ∙ ap rest_of z ∙ end-text.2;
+        text = sym (append-nil (take n out)) ∙ ap (λ (t : List ℕ). take n out ++ t) (sym (ap (λ (v : List Sign). text_of (first_of v)) z ∙ end_text.0)) ∙ sym g.text;
+        splits = u ∙ sym (g.splits ∙ split-here whole n (split_of (first s i)) split (ap (λ (v : List Sign). split_of (first_of v)) z ∙ end_text.1));
+        rest = g.rest ∙ ap rest_of z ∙ end_text.2;
         within = g.within;
         few = g.written;
         fits = omega (arith, g.written, g.room, g.within);

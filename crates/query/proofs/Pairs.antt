@@ -10,8 +10,8 @@ use borrow.Author.Tests.{lt-ltb, le-ltb}
 use Rattle.base.specs.Runs.{differs, RunEnd}
 use Rattle.base.proofs.Lists.{rest}
 use Rattle.refusal.specs.Steps.{stop}
-use Rattle.query.specs.Reader.{decoded, pair_of, readPair}
-use Rattle.query.specs.Scan.{DecodesTo, decodes-bytes, decodes-bad, PairOf, pair-of, pair-of-none}
+use Rattle.query.specs.Reader.{decoded, pair_of, read_pair}
+use Rattle.query.specs.Scan.{DecodesTo, decodes_bytes, decodes_bad, PairOf, pair-of, pair_of_none}
 use Rattle.query.specs.declared.Decoded.{Decoded}
 use Rattle.query.specs.declared.PairRead.{PairRead}
 
@@ -20,37 +20,37 @@ pub front_fits : (s out : List ℕ) (n : ℕ) → n ≤ length s → length s �
 front_fits s out n h k = omega (arith, length-take-le n s h)
 
 module _ (pair : List ℕ) (cut : ℕ) (e : RunEnd (differs 61) pair 0 cut) where
-  uncut : length pair ≤ cut → (p : ℕ) → readPair p pair ≡ stop 50 p
-  unfolding readPair
+  uncut : length pair ≤ cut → (p : ℕ) → read_pair p pair ≡ stop 50 p
+  unfolding read_pair
   uncut h p = rw (← e.is, le-ltb cut (length pair) h)
 
-  pub pair-uncut : (name value : List ℕ) → length pair ≤ cut → PairOf pair name value PairRead.Bad
-  pair-uncut name value h = pair-of-none (uncut h)
+  pub pair_uncut : (name value : List ℕ) → length pair ≤ cut → PairOf pair name value PairRead.Bad
+  pair_uncut name value h = pair_of_none (uncut h)
 
-  by_parts : cut < length pair → (p : ℕ) → readPair p pair ≡ pair_of p (decoded (take cut pair)) (decoded (drop (cut + 1) pair))
-  unfolding readPair
+  by_parts : cut < length pair → (p : ℕ) → read_pair p pair ≡ pair_of p (decoded (take cut pair)) (decoded (drop (cut + 1) pair))
+  unfolding read_pair
   by_parts h p = rw (← e.is, lt-ltb cut (length pair) h)
 
   module _ (h : cut < length pair) (name : List ℕ) (r : Decoded) (d : DecodesTo (take cut pair) name r) where
-    pub pair-name-bad : (value : List ℕ) → r ≡ Decoded.Bad → PairOf pair name value PairRead.Bad
-    pair-name-bad value k = by-case (subst (DecodesTo (take cut pair) name) k d)
+    pub pair-name_bad : (value : List ℕ) → r ≡ Decoded.Bad → PairOf pair name value PairRead.Bad
+    pair-name_bad value k = by_case (subst (DecodesTo (take cut pair) name) k d)
       where
-        by-case : DecodesTo (take cut pair) name Decoded.Bad → PairOf pair name value PairRead.Bad
-        by-case (decodes-bad z) = pair-of-none (λ p. by_parts h p ∙ rw z)
+        by_case : DecodesTo (take cut pair) name Decoded.Bad → PairOf pair name value PairRead.Bad
+        by_case (decodes_bad z) = pair_of_none (λ p. by_parts h p ∙ rw z)
 
     module _ (n : ℕ) (k : r ≡ Decoded.Bytes n) (value : List ℕ) (r' : Decoded) (d' : DecodesTo (take (length pair - (cut + 1)) (drop (cut + 1) pair)) value r') where
       whole : DecodesTo (drop (cut + 1) pair) value r'
       whole = subst (λ (l : List ℕ). DecodesTo l value r') (rest pair (cut + 1)) d'
 
-      pub pair-value-bad : r' ≡ Decoded.Bad → PairOf pair name value PairRead.Bad
-      pair-value-bad k' = by-case (subst (DecodesTo (take cut pair) name) k d) (subst (DecodesTo (drop (cut + 1) pair) value) k' whole)
+      pub pair-value_bad : r' ≡ Decoded.Bad → PairOf pair name value PairRead.Bad
+      pair-value_bad k' = by_case (subst (DecodesTo (take cut pair) name) k d) (subst (DecodesTo (drop (cut + 1) pair) value) k' whole)
         where
-          by-case : DecodesTo (take cut pair) name (Decoded.Bytes n) → DecodesTo (drop (cut + 1) pair) value Decoded.Bad → PairOf pair name value PairRead.Bad
-          by-case (decodes-bytes x l) (decodes-bad z) = pair-of-none (λ p. by_parts h p ∙ rw (x, z))
+          by_case : DecodesTo (take cut pair) name (Decoded.Bytes n) → DecodesTo (drop (cut + 1) pair) value Decoded.Bad → PairOf pair name value PairRead.Bad
+          by_case (decodes_bytes x l) (decodes_bad z) = pair_of_none (λ p. by_parts h p ∙ rw (x, z))
 
       pub pair_read : (m : ℕ) → r' ≡ Decoded.Bytes m → PairOf pair name value (PairRead.Lengths n m)
-      pair_read m k' = by-case (subst (DecodesTo (take cut pair) name) k d) (subst (DecodesTo (drop (cut + 1) pair) value) k' whole)
+      pair_read m k' = by_case (subst (DecodesTo (take cut pair) name) k d) (subst (DecodesTo (drop (cut + 1) pair) value) k' whole)
         where
-          by-case : DecodesTo (take cut pair) name (Decoded.Bytes n) → DecodesTo (drop (cut + 1) pair) value (Decoded.Bytes m) → PairOf pair name value (PairRead.Lengths n m)
-          by-case (decodes-bytes x l) (decodes-bytes y l') =
+          by_case : DecodesTo (take cut pair) name (Decoded.Bytes n) → DecodesTo (drop (cut + 1) pair) value (Decoded.Bytes m) → PairOf pair name value (PairRead.Lengths n m)
+          by_case (decodes_bytes x l) (decodes_bytes y l') =
               pair-of {n = n} {m = m} (λ p. by_parts h p ∙ rw (x, y)) (omega (arith, l, l', length-take-le cut pair (omega arith), length-drop (cut + 1) pair))

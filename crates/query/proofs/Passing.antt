@@ -2,7 +2,7 @@
 -- The invariant `Pass`: the rows keep the pairs so far, and the definition, from the start of the text, comes to these pairs and then to
 -- what it reads from the position reached on (`left`), or to these pairs alone where nothing is left (`all`). A turn takes the part up to
 -- the next ampersand, which is the definition's own cut (`read_next`). Either it is no pair, and the definition stops there with 50
--- (`pass-bad`), or its alternatives are kept (file Holding) and one pair more is done (`pass-next`).
+-- (`pass_bad`), or its alternatives are kept (file Holding) and one pair more is done (`pass-next`).
 -- Assumes nothing.
 use Prim.Native.Nat.{ℕ, zero, suc, ◌+◌, ◌-◌, ◌≤◌, ◌<◌}
 use native.Mathlib.Nat.{zero-add}
@@ -14,18 +14,18 @@ use lib.Dec.{ltb}
 use lib.ListN.{length, take, drop, length-append, length-drop, drop_of_length-le}
 use lib.Seq.{take-append_seam, length-take-le, drop-append-add, drop-drop}
 use borrow.Author.Tests.{lt-ltb, le-ltb, ltb-true, ltb-false}
-use Rattle.base.specs.Lists.{all-empty}
+use Rattle.base.specs.Lists.{all_empty}
 use Rattle.base.specs.Parts.{part}
-use Rattle.base.specs.Runs.{run, runEnd, differs, RunEnd}
+use Rattle.base.specs.Runs.{run, run_end, differs, RunEnd}
 use Rattle.base.proofs.Parts.{part_length}
 use Rattle.refusal.specs.declared.Decision.{Decision}
 use Rattle.refusal.specs.declared.Reason.{Reason}
 use Rattle.refusal.specs.Decisions.{refuse}
 use Rattle.refusal.specs.Steps.{Step, found, stop, ◌>>=◌}
 use Rattle.query.specs.Spelling.{Alternative, Query}
-use Rattle.query.specs.Reader.{signsOf, readPair, readPairs, cutSigns, alternative}
-use Rattle.query.specs.Scan.{PairOf, pair-of, pair-of-none}
-use Rattle.query.specs.Rows.{Kept, keepPair, keepAll, Keeps, PairHeld, QueryOf, query-of, query-of-none}
+use Rattle.query.specs.Reader.{signs_of, read_pair, read_pairs, cut_signs, alternative}
+use Rattle.query.specs.Scan.{PairOf, pair-of, pair_of_none}
+use Rattle.query.specs.Rows.{Kept, keep_pair, keep_all, Keeps, PairHeld, QueryOf, query_of, query_of_none}
 use Rattle.query.specs.declared.PairRead.{PairRead}
 use Rattle.query.specs.declared.Rows.{Rows}
 use Rattle.query.specs.declared.Held.{Held}
@@ -44,48 +44,48 @@ after_none : (r : Step Query) → r ≡ after [] r
 after_none (found q) = refl
 after_none (stop n p) = refl
 
-keep-more : (done : Query) (a : List Alternative) → keepAll (done ++ (a ∷ [])) ≡ keepAll done ++ keepPair a
-unfolding keepAll
-keep-more [] a = append-nil (keepPair a)
-keep-more (p ∷ done) a = ap (λ (l : List Kept). keepPair p ++ l) (keep-more done a) ∙ sym (append_assoc (keepPair p) (keepAll done) (keepPair a))
+keep_more : (done : Query) (a : List Alternative) → keep_all (done ++ (a ∷ [])) ≡ keep_all done ++ keep_pair a
+unfolding keep_all
+keep_more [] a = append-nil (keep_pair a)
+keep_more (p ∷ done) a = ap (λ (l : List Kept). keep_pair p ++ l) (keep_more done a) ∙ sym (append_assoc (keep_pair p) (keep_all done) (keep_pair a))
 
 -- ---- one pair of the text
 
 module _ (text : List ℕ) (at end : ℕ) (e : RunEnd (differs 38) text at end) where
-  here : runEnd (differs 38) (drop at text) 0 ≡ end - at
-  unfolding runEnd
+  here : run_end (differs 38) (drop at text) 0 ≡ end - at
+  unfolding run_end
   here = zero-add (run (differs 38) (drop at text)) ∙ omega (arith, e.is)
 
   next_place : at + (end - at) + 1 ≡ end + 1
   next_place = omega (arith, e.from)
 
-  next-rest : drop (end - at + 1) (drop at text) ≡ drop (end + 1) text
-  next-rest =
+  next_rest : drop (end - at + 1) (drop at text) ≡ drop (end + 1) text
+  next_rest =
       let n : at + (end - at + 1) ≡ end + 1 = omega (arith, e.from) in
       drop-drop (end - at + 1) at text ∙ ap (λ (j : ℕ). drop j text) n
 
   same_test : ltb (end - at) (length (drop at text)) ≡ ltb end (length text)
-  same_test = by-test (ltb end (length text)) refl
+  same_test = by_test (ltb end (length text)) refl
     where
-      by-test : (t : Bool) → ltb end (length text) ≡ t → ltb (end - at) (length (drop at text)) ≡ t
-      by-test true k = lt-ltb (end - at) (length (drop at text)) (omega (arith, ltb-true end (length text) k, e.from, length-drop at text))
-      by-test false k = le-ltb (end - at) (length (drop at text)) (omega (arith, ltb-false end (length text) k, e.from, length-drop at text))
+      by_test : (t : Bool) → ltb end (length text) ≡ t → ltb (end - at) (length (drop at text)) ≡ t
+      by_test true k = lt-ltb (end - at) (length (drop at text)) (omega (arith, ltb-true end (length text) k, e.from, length-drop at text))
+      by_test false k = le-ltb (end - at) (length (drop at text)) (omega (arith, ltb-false end (length text) k, e.from, length-drop at text))
 
-  read_next : (n : ℕ) → readPairs (suc n) at (drop at text)
-      ≡ (readPair at (part text at end) >>= λ a. cond (ltb end (length text)) (readPairs n (end + 1) (drop (end + 1) text)) (found []) >>= λ q. found (a ∷ q))
-  unfolding readPairs
-  read_next n = rw (here, same_test, next_place, next-rest)
+  read_next : (n : ℕ) → read_pairs (suc n) at (drop at text)
+      ≡ (read_pair at (part text at end) >>= λ a. cond (ltb end (length text)) (read_pairs n (end + 1) (drop (end + 1) text)) (found []) >>= λ q. found (a ∷ q))
+  unfolding read_pairs
+  read_next n = rw (here, same_test, next_place, next_rest)
 
 -- ---- the loop
 
 pub record Pass (text bytes₀ bytes : List ℕ) (rows : Rows) (used at : ℕ) (more : Bool) : Type 0 where
   pub done : Query
   pub fuel : ℕ
-  pub keeps : Keeps rows bytes used (keepAll done)
+  pub keeps : Keeps rows bytes used (keep_all done)
   pub enough : more ≡ true → length text < at + fuel
   pub within : more ≡ true → at ≤ length text
-  pub left : more ≡ true → readPairs (suc (length text)) 0 text ≡ after done (readPairs fuel at (drop at text))
-  pub all : more ≡ false → readPairs (suc (length text)) 0 text ≡ found done
+  pub left : more ≡ true → read_pairs (suc (length text)) 0 text ≡ after done (read_pairs fuel at (drop at text))
+  pub all : more ≡ false → read_pairs (suc (length text)) 0 text ≡ found done
   pub behind : used ≤ at
   pub inside : used ≤ length text
   pub counted : rows.count ≤ at
@@ -96,15 +96,15 @@ never : {X : Type 0} → true ≡ false → X
 never e = absurd (let z : ◌≡◌ {A = ℕ} 0 1 = cc in omega arith)
 
 pub pass-starts : (text bytes : List ℕ) (rows : Rows) → (rows.count ≡ 0) × (length rows.rows ≡ 32) → length text ≤ 1024 → length text ≤ length bytes → Pass text bytes bytes rows 0 0 true
-unfolding keepAll
+unfolding keep_all
 pass-starts text bytes rows h s r =
     record {
       done = [];
       fuel = suc (length text);
-      keeps = record { count = h.0; cells = h.1; kept = λ n. rw h.0 refl; ends = λ n. rw h.0 all-empty };
+      keeps = record { count = h.0; cells = h.1; kept = λ n. rw h.0 refl; ends = λ n. rw h.0 all_empty };
       enough = λ m. omega arith;
       within = λ m. omega arith;
-      left = λ m. after_none (readPairs (suc (length text)) 0 text);
+      left = λ m. after_none (read_pairs (suc (length text)) 0 text);
       all = λ m. never m;
       behind = omega arith;
       inside = omega arith;
@@ -115,7 +115,7 @@ pass-starts text bytes rows h s r =
 
 module _ {text bytes₀ bytes : List ℕ} {rows : Rows} {used at : ℕ} {more : Bool} (h : Pass text bytes₀ bytes rows used at more) where
   pub pass-ends : more ≡ false → length bytes ≡ length bytes₀ → QueryOf text bytes (record { rows = rows; decision = Decision.Passed })
-  pass-ends m long = query-of used (omega (arith, h.inside, h.room)) (h.all m) h.keeps
+  pass-ends m long = query_of used (omega (arith, h.inside, h.room)) (h.all m) h.keeps
 
   module _ (m : more ≡ true) where
     pub pass-within : at ≤ length text
@@ -126,48 +126,48 @@ module _ {text bytes₀ bytes : List ℕ} {rows : Rows} {used at : ℕ} {more : 
       size = part_length text at end e.within
 
       pub pass-less : cond (ltb end (length text)) (length text + 1 - (end + 1)) 0 < cond more (length text + 1 - at) 0
-      pass-less = rw m (by-test (ltb end (length text)) refl)
+      pass-less = rw m (by_test (ltb end (length text)) refl)
         where
-          by-test : (t : Bool) → ltb end (length text) ≡ t → cond t (length text + 1 - (end + 1)) 0 < length text + 1 - at
-          by-test true k = omega (arith, ltb-true end (length text) k, e.from)
-          by-test false k = omega (arith, h.within m)
+          by_test : (t : Bool) → ltb end (length text) ≡ t → cond t (length text + 1 - (end + 1)) 0 < length text + 1 - at
+          by_test true k = omega (arith, ltb-true end (length text) k, e.from)
+          by_test false k = omega (arith, h.within m)
 
-      pub pair-in-value : (value : List ℕ) → length value ≡ 1024 → length (part text at end) ≤ length value
-      pair-in-value value v = omega (arith, size, e.within, h.short)
+      pub pair_in_value : (value : List ℕ) → length value ≡ 1024 → length (part text at end) ≤ length value
+      pair_in_value value v = omega (arith, size, e.within, h.short)
 
       module _ (long : length bytes ≡ length bytes₀) where
-        pub pass-used : used ≤ length bytes
-        pass-used = omega (arith, h.behind, h.within m, h.room, long)
+        pub pass_used : used ≤ length bytes
+        pass_used = omega (arith, h.behind, h.within m, h.room, long)
 
-        pub pair-in-bytes : length (part text at end) ≤ length (take (length bytes - used) (drop used bytes))
-        pair-in-bytes = omega (arith, size, e.within, h.behind, h.room, long, length-take-le (length bytes - used) (drop used bytes) (omega (arith, length-drop used bytes)))
+        pub pair_in_bytes : length (part text at end) ≤ length (take (length bytes - used) (drop used bytes))
+        pair_in_bytes = omega (arith, size, e.within, h.behind, h.room, long, length-take-le (length bytes - used) (drop used bytes) (omega (arith, length-drop used bytes)))
 
       -- the part is no pair
-      pub pass-bad : (out value : List ℕ) (r : PairRead) → PairOf (part text at end) out value r → r ≡ PairRead.Bad → (bytes' : List ℕ) (d : Decision) → d ≡ refuse Reason.NoPair at → QueryOf text bytes' (record { rows = rows; decision = d })
-      pass-bad out value r p k bytes' d g = rw g (by-case (subst (PairOf (part text at end) out value) k p))
+      pub pass_bad : (out value : List ℕ) (r : PairRead) → PairOf (part text at end) out value r → r ≡ PairRead.Bad → (bytes' : List ℕ) (d : Decision) → d ≡ refuse Reason.NoPair at → QueryOf text bytes' (record { rows = rows; decision = d })
+      pass_bad out value r p k bytes' d g = rw g (by_case (subst (PairOf (part text at end) out value) k p))
         where
-          by-fuel : (n : ℕ) → length text < at + n → readPair at (part text at end) ≡ stop 50 at → readPairs n at (drop at text) ≡ stop 50 at
-          by-fuel zero l z = absurd (let w : at ≤ length text = h.within m in omega arith)
-          by-fuel (suc n) l z = read_next text at end e n ∙ rw z
+          by_fuel : (n : ℕ) → length text < at + n → read_pair at (part text at end) ≡ stop 50 at → read_pairs n at (drop at text) ≡ stop 50 at
+          by_fuel zero l z = absurd (let w : at ≤ length text = h.within m in omega arith)
+          by_fuel (suc n) l z = read_next text at end e n ∙ rw z
 
-          by-case : PairOf (part text at end) out value PairRead.Bad → QueryOf text bytes' (record { rows = rows; decision = refuse Reason.NoPair at })
-          by-case (pair-of-none z) = query-of-none (h.left m ∙ ap (after h.done) (by-fuel h.fuel (h.enough m) (z at)))
+          by_case : PairOf (part text at end) out value PairRead.Bad → QueryOf text bytes' (record { rows = rows; decision = refuse Reason.NoPair at })
+          by_case (pair_of_none z) = query_of_none (h.left m ∙ ap (after h.done) (by_fuel h.fuel (h.enough m) (z at)))
 
-      pub pass-until : (out value : List ℕ) (n k : ℕ) (r : PairRead) → PairOf (part text at end) out value r → r ≡ PairRead.Lengths n k → used + n < 18446744073709551616
-      pass-until out value n k r p is = by-case (subst (PairOf (part text at end) out value) is p)
+      pub pass_until : (out value : List ℕ) (n k : ℕ) (r : PairRead) → PairOf (part text at end) out value r → r ≡ PairRead.Lengths n k → used + n < 18446744073709551616
+      pass_until out value n k r p is = by_case (subst (PairOf (part text at end) out value) is p)
         where
-          by-case : PairOf (part text at end) out value (PairRead.Lengths n k) → used + n < 18446744073709551616
-          by-case (pair-of z l) = omega (arith, size, l, e.within, h.behind, h.short)
+          by_case : PairOf (part text at end) out value (PairRead.Lengths n k) → used + n < 18446744073709551616
+          by_case (pair-of z l) = omega (arith, size, l, e.within, h.behind, h.short)
 
       module _ (long : length bytes ≡ length bytes₀) (out value : List ℕ) (n k : ℕ) (r : PairRead) (p : PairOf (part text at end) out value r) (is : r ≡ PairRead.Lengths n k) where
         lengths : n + k < end - at
-        lengths = by-case (subst (PairOf (part text at end) out value) is p)
+        lengths = by_case (subst (PairOf (part text at end) out value) is p)
           where
-            by-case : PairOf (part text at end) out value (PairRead.Lengths n k) → n + k < end - at
-            by-case (pair-of z l) = omega (arith, size, l)
+            by_case : PairOf (part text at end) out value (PairRead.Lengths n k) → n + k < end - at
+            by_case (pair-of z l) = omega (arith, size, l)
 
-        pub pass-count : length value ≡ 1024 → length (take k value) ≡ k
-        pass-count v = length-take-le k value (omega (arith, lengths, e.within, h.short))
+        pub pass_count : length value ≡ 1024 → length (take k value) ≡ k
+        pass_count v = length-take-le k value (omega (arith, lengths, e.within, h.short))
 
         pub pass-value : length value ≡ 1024 → k ≤ length value
         pass-value v = omega (arith, lengths, e.within, h.short)
@@ -175,52 +175,52 @@ module _ {text bytes₀ bytes : List ℕ} {rows : Rows} {used at : ℕ} {more : 
         abbrev named : List ℕ
         named = take used bytes ++ (out ++ drop (length bytes - used) (drop used bytes))
 
-        pub pass-room : length value ≡ 1024 → length out ≡ length (take (length bytes - used) (drop used bytes)) → length (take k value) + (used + n) ≤ length named
-        pass-room v l =
+        pub pass_room : length value ≡ 1024 → length out ≡ length (take (length bytes - used) (drop used bytes)) → length (take k value) + (used + n) ≤ length named
+        pass_room v l =
             let rest = drop (length bytes - used) (drop used bytes) in
-            omega (arith, length-append (take used bytes) (out ++ rest), length-append out rest, l, length-take-le (length bytes - used) (drop used bytes) (omega (arith, length-drop used bytes)), length-take-le used bytes (pass-used long), length-drop used bytes, lengths, e.within, h.behind, h.room, long, length-take-le k value (pass-value v))
+            omega (arith, length-append (take used bytes) (out ++ rest), length-append out rest, l, length-take-le (length bytes - used) (drop used bytes) (omega (arith, length-drop used bytes)), length-take-le used bytes (pass_used long), length-drop used bytes, lengths, e.within, h.behind, h.room, long, length-take-le k value (pass-value v))
 
-        pub pass-few : length value ≡ 1024 → rows.count + length (take k value) < 4000
-        pass-few v = omega (arith, lengths, e.within, h.counted, h.within m, h.short, length-take-le k value (pass-value v))
+        pub pass_few : length value ≡ 1024 → rows.count + length (take k value) < 4000
+        pass_few v = omega (arith, lengths, e.within, h.counted, h.within m, h.short, length-take-le k value (pass-value v))
 
         width : length (take used bytes) ≡ used
-        width = length-take-le used bytes (pass-used long)
+        width = length-take-le used bytes (pass_used long)
 
-        same-front : take used named ≡ take used bytes
-        same-front = ap (λ (j : ℕ). take j named) (sym width) ∙ take-append_seam (take used bytes) (out ++ drop (length bytes - used) (drop used bytes))
+        same_front : take used named ≡ take used bytes
+        same_front = ap (λ (j : ℕ). take j named) (sym width) ∙ take-append_seam (take used bytes) (out ++ drop (length bytes - used) (drop used bytes))
 
-        nothing-more : drop (length bytes - used) (drop used bytes) ≡ []
-        nothing-more = drop_of_length-le (drop used bytes) {i = length bytes - used} (omega (arith, length-drop used bytes))
+        nothing_more : drop (length bytes - used) (drop used bytes) ≡ []
+        nothing_more = drop_of_length-le (drop used bytes) {i = length bytes - used} (omega (arith, length-drop used bytes))
 
-        name-there : part named used (used + n) ≡ take n out
-        name-there =
+        name_there : part named used (used + n) ≡ take n out
+        name_there =
             let w : used + n - used ≡ n = omega arith in
             ap (λ (j : ℕ). take j (drop used named)) w
-            ∙ ap (λ (j : ℕ). take n (drop j named)) (sym width ∙ plus-zero (length (take used bytes)))
+            ∙ ap (λ (j : ℕ). take n (drop j named)) (sym width ∙ plus_zero (length (take used bytes)))
             ∙ ap (take n) (drop-append-add (take used bytes) (out ++ drop (length bytes - used) (drop used bytes)) 0)
-            ∙ ap (λ (l : List ℕ). take n (out ++ l)) nothing-more ∙ ap (take n) (append-nil out)
+            ∙ ap (λ (l : List ℕ). take n (out ++ l)) nothing_more ∙ ap (take n) (append-nil out)
           where
-            plus-zero : (j : ℕ) → j ≡ j + 0
-            plus-zero j = omega arith
+            plus_zero : (j : ℕ) → j ≡ j + 0
+            plus_zero j = omega arith
 
         abbrev alternatives : List Alternative
-        alternatives = map (alternative at (take n out)) (cutSigns (signsOf false (take k value)))
+        alternatives = map (alternative at (take n out)) (cut_signs (signs_of false (take k value)))
 
-        read_here : readPair at (part text at end) ≡ found alternatives
-        read_here = by-case (subst (PairOf (part text at end) out value) is p)
+        read_here : read_pair at (part text at end) ≡ found alternatives
+        read_here = by_case (subst (PairOf (part text at end) out value) is p)
           where
-            by-case : PairOf (part text at end) out value (PairRead.Lengths n k) → readPair at (part text at end) ≡ found alternatives
-            by-case (pair-of z l) = z at
+            by_case : PairOf (part text at end) out value (PairRead.Lengths n k) → read_pair at (part text at end) ≡ found alternatives
+            by_case (pair-of z l) = z at
 
         read-on : (fuel : ℕ) → length text < at + fuel → (f : ℕ) × (fuel ≡ suc f)
         read-on zero l = absurd (let w : at ≤ length text = h.within m in omega arith)
         read-on (suc f) l = (f, refl)
 
-        whole : readPairs (suc (length text)) 0 text ≡ after h.done (cond (ltb end (length text)) (readPairs (read-on h.fuel (h.enough m)).0 (end + 1) (drop (end + 1) text)) (found []) >>= λ q. found (alternatives ∷ q))
+        whole : read_pairs (suc (length text)) 0 text ≡ after h.done (cond (ltb end (length text)) (read_pairs (read-on h.fuel (h.enough m)).0 (end + 1) (drop (end + 1) text)) (found []) >>= λ q. found (alternatives ∷ q))
         whole =
             let f = (read-on h.fuel (h.enough m)).0 in
-            let step : readPairs (suc f) at (drop at text) ≡ (cond (ltb end (length text)) (readPairs f (end + 1) (drop (end + 1) text)) (found []) >>= λ q. found (alternatives ∷ q)) = read_next text at end e f ∙ rw read_here in
-            h.left m ∙ ap (λ (f : ℕ). after h.done (readPairs f at (drop at text))) (read-on h.fuel (h.enough m)).1
+            let step : read_pairs (suc f) at (drop at text) ≡ (cond (ltb end (length text)) (read_pairs f (end + 1) (drop (end + 1) text)) (found []) >>= λ q. found (alternatives ∷ q)) = read_next text at end e f ∙ rw read_here in
+            h.left m ∙ ap (λ (f : ℕ). after h.done (read_pairs f at (drop at text))) (read-on h.fuel (h.enough m)).1
             ∙ ap (after h.done) step
 
         pub pass-next : length value ≡ 1024 → (bytes' : List ℕ) (held : Held) → PairHeld (take k value) at used (used + n) (used + n) named rows bytes' held
@@ -228,15 +228,15 @@ module _ {text bytes₀ bytes : List ℕ} {rows : Rows} {used at : ℕ} {more : 
         pass-next v bytes' held p' =
             let f = (read-on h.fuel (h.enough m)).0 in
             let fe : h.fuel ≡ suc f = (read-on h.fuel (h.enough m)).1 in
-            let kept = p'.keeps (keepAll h.done) (keeps_on named (used + n) h.keeps same-front (omega arith)) in
+            let kept = p'.keeps (keep_all h.done) (keeps_on named (used + n) h.keeps same_front (omega arith)) in
             record {
               done = h.done ++ (alternatives ∷ []);
               fuel = f;
-              keeps = subst (Keeps held.rows bytes' held.used) (sym (keep-more h.done alternatives))
-                  (subst (λ (l : List ℕ). Keeps held.rows bytes' held.used (keepAll h.done ++ keepPair (map (alternative at l) (cutSigns (signsOf false (take k value)))))) name-there kept);
+              keeps = subst (Keeps held.rows bytes' held.used) (sym (keep_more h.done alternatives))
+                  (subst (λ (l : List ℕ). Keeps held.rows bytes' held.used (keep_all h.done ++ keep_pair (map (alternative at l) (cut_signs (signs_of false (take k value)))))) name_there kept);
               enough = λ t. omega (arith, e.from, h.enough m, fe);
               within = λ t. omega (arith, ltb-true end (length text) t);
-              left = λ t. whole ∙ rw t (after_next h.done alternatives (readPairs f (end + 1) (drop (end + 1) text)));
+              left = λ t. whole ∙ rw t (after_next h.done alternatives (read_pairs f (end + 1) (drop (end + 1) text)));
               all = λ t. whole ∙ rw t;
               behind = omega (arith, p'.upper, lengths, h.behind, e.from, length-take-le k value (pass-value v));
               inside = omega (arith, p'.upper, lengths, h.behind, e.within, length-take-le k value (pass-value v));

@@ -6,7 +6,7 @@ use Rattle.text.specs.Bar.{bar}
 use Rattle.syntax.specs.Strings.{backslash}
 use Rattle.query.specs.Spelling.{percent, plus, comma, Sign, byte, cut, split}
 use Rattle.refusal.specs.Steps.{found, stop}
-use Rattle.query.specs.Reader.{hexValue, decoded, signsOf, readPair, isSpecial, cutSigns, text_of, splitOf, alternative}
+use Rattle.query.specs.Reader.{hex_value, decoded, signs_of, read_pair, is_special, cut_signs, text_of, split_of, alternative}
 use Rattle.query.specs.declared.Read.{Read}
 use Rattle.query.specs.declared.Decoded.{Decoded}
 use Rattle.query.specs.declared.Mark.{Mark}
@@ -17,29 +17,29 @@ use Rattle.query.specs.declared.PairRead.{PairRead}
 
 -- r is a hex digit's value, or 16
 pub record HexValue (b r : ℕ) : Type 0 where
-  pub is : r ≡ hexValue b
+  pub is : r ≡ hex_value b
   pub most : r ≤ 16
 
-unfoldable pub hexPair : ℕ → ℕ → ℕ → Read
-hexPair h l next =
-    cond (ltb (hexValue h) 16) (cond (ltb (hexValue l) 16) (Read.Byte (hexValue h * 16 + hexValue l) next) Read.Bad) Read.Bad
+unfoldable pub hex_pair : ℕ → ℕ → ℕ → Read
+hex_pair h l next =
+    cond (ltb (hex_value h) 16) (cond (ltb (hex_value l) 16) (Read.Byte (hex_value h * 16 + hex_value l) next) Read.Bad) Read.Bad
 
 unfoldable pub unit_at : List ℕ → ℕ → Read
 unit_at raw i =
-    cond (eqb (get_or raw i 0) percent) (cond (ltb (i + 2) (length raw)) (hexPair (get_or raw (i + 1) 0) (get_or raw (i + 2) 0) (i + 3)) Read.Bad)
+    cond (eqb (get_or raw i 0) percent) (cond (ltb (i + 2) (length raw)) (hex_pair (get_or raw (i + 1) 0) (get_or raw (i + 2) 0) (i + 3)) Read.Bad)
     (cond (eqb (get_or raw i 0) plus) (Read.Byte 0x20 (i + 1)) (Read.Byte (get_or raw i 0) (i + 1)))
 
 -- what `decode` leaves: the first bytes of out are the decoded ones
 pub data DecodesTo (raw out : List ℕ) : Decoded → Type 0 where
-  decodes-bytes : {n : ℕ} → decoded raw ≡ some (take n out) → n ≤ length raw → DecodesTo raw out (Decoded.Bytes n)
-  decodes-bad : decoded raw ≡ none → DecodesTo raw out Decoded.Bad
+  decodes_bytes : {n : ℕ} → decoded raw ≡ some (take n out) → n ≤ length raw → DecodesTo raw out (Decoded.Bytes n)
+  decodes_bad : decoded raw ≡ none → DecodesTo raw out Decoded.Bad
 
 -- ---- alternatives
 
-unfoldable pub markAt : List ℕ → ℕ → Mark
-markAt s i =
+unfoldable pub mark_at : List ℕ → ℕ → Mark
+mark_at s i =
     cond (eqb (get_or s i 0) backslash)
-    (cond (ltb (i + 1) (length s)) (cond (isSpecial (get_or s (i + 1) 0)) (Mark.Byte (get_or s (i + 1) 0) (i + 2)) (Mark.Byte backslash (i + 1))) (Mark.Byte backslash (i + 1)))
+    (cond (ltb (i + 1) (length s)) (cond (is_special (get_or s (i + 1) 0)) (Mark.Byte (get_or s (i + 1) 0) (i + 2)) (Mark.Byte backslash (i + 1))) (Mark.Byte backslash (i + 1)))
     (cond (eqb (get_or s i 0) comma) (Mark.Cut (i + 1)) (cond (eqb (get_or s i 0) bar) (Mark.Split (i + 1)) (Mark.Byte (get_or s i 0) (i + 1))))
 
 -- the signs up to the first cut, and the alternatives after it
@@ -51,19 +51,19 @@ first_of (split ∷ v) = split ∷ first_of v
 
 unfoldable pub rest_of : List Sign → List (List Sign)
 rest_of [] = []
-rest_of (cut ∷ v) = cutSigns v
+rest_of (cut ∷ v) = cut_signs v
 rest_of (byte b ∷ v) = rest_of v
 rest_of (split ∷ v) = rest_of v
 
 -- the signs of the value from a position on
-abbrev pub signsFrom : List ℕ → ℕ → List Sign
-signsFrom s i = signsOf false (drop i s)
+abbrev pub signs_from : List ℕ → ℕ → List Sign
+signs_from s i = signs_of false (drop i s)
 
 -- what `next_alternative` leaves: the first bytes of out are the alternative's text
 pub record PieceOf (s : List ℕ) (at : ℕ) (out : List ℕ) (r : Piece) : Type 0 where
-  pub text : take r.len out ≡ text_of (first_of (signsFrom s at))
-  pub splits : r.split ≡ splitOf (first_of (signsFrom s at))
-  pub rest : rest_of (signsFrom s at) ≡ cond r.more (cutSigns (signsFrom s r.next)) []
+  pub text : take r.len out ≡ text_of (first_of (signs_from s at))
+  pub splits : r.split ≡ split_of (first_of (signs_from s at))
+  pub rest : rest_of (signs_from s at) ≡ cond r.more (cut_signs (signs_from s r.next)) []
   pub within : r.next ≤ length s
   pub few : at + r.len ≤ r.next
   pub fits : r.len ≤ length out
@@ -73,5 +73,5 @@ pub record PieceOf (s : List ℕ) (at : ℕ) (out : List ℕ) (r : Piece) : Type
 
 -- what `read_pair` leaves, wherever the pair begins
 pub data PairOf (pair name value : List ℕ) : PairRead → Type 0 where
-  pair-of : {n m : ℕ} → ((p : ℕ) → readPair p pair ≡ found (map (alternative p (take n name)) (cutSigns (signsOf false (take m value))))) → n + m < length pair → PairOf pair name value (PairRead.Lengths n m)
-  pair-of-none : ((p : ℕ) → readPair p pair ≡ stop 50 p) → PairOf pair name value PairRead.Bad
+  pair-of : {n m : ℕ} → ((p : ℕ) → read_pair p pair ≡ found (map (alternative p (take n name)) (cut_signs (signs_of false (take m value))))) → n + m < length pair → PairOf pair name value (PairRead.Lengths n m)
+  pair_of_none : ((p : ℕ) → read_pair p pair ≡ stop 50 p) → PairOf pair name value PairRead.Bad

@@ -26,16 +26,16 @@ comma = code ","
 
 -- a hex digit and its value, in either case
 pub data HexDigit : ℕ → ℕ → Type 0 where
-  hex-digit : {n : ℕ} → n < 10 → HexDigit (code "0" + n) n
-  hex-capital : {n : ℕ} → n < 6 → HexDigit (code "A" + n) (10 + n)
-  hex-small : {n : ℕ} → n < 6 → HexDigit (code "a" + n) (10 + n)
+  hex_digit : {n : ℕ} → n < 10 → HexDigit (code "0" + n) n
+  hex_capital : {n : ℕ} → n < 6 → HexDigit (code "A" + n) (10 + n)
+  hex_small : {n : ℕ} → n < 6 → HexDigit (code "a" + n) (10 + n)
 
 -- what a name or a value stands for: "in names and values "+" is a space and % with two hex digits a byte"
 pub data Encodes : List ℕ → List ℕ → Type 0 where
-  encodes-end : Encodes [] []
-  encodes-byte : {b : ℕ} {s v : List ℕ} → (b ≡ plus → ⊥) → (b ≡ percent → ⊥) → Encodes s v → Encodes (b ∷ s) (b ∷ v)
-  encodes-space : {s v : List ℕ} → Encodes s v → Encodes (plus ∷ s) (0x20 ∷ v)
-  encodes-percent : {h l x y : ℕ} {s v : List ℕ} → HexDigit h x → HexDigit l y → Encodes s v → Encodes (percent ∷ h ∷ l ∷ s) ((x * 16 + y) ∷ v)
+  encodes_end : Encodes [] []
+  encodes_byte : {b : ℕ} {s v : List ℕ} → (b ≡ plus → ⊥) → (b ≡ percent → ⊥) → Encodes s v → Encodes (b ∷ s) (b ∷ v)
+  encodes_space : {s v : List ℕ} → Encodes s v → Encodes (plus ∷ s) (0x20 ∷ v)
+  encodes_percent : {h l x y : ℕ} {s v : List ℕ} → HexDigit h x → HexDigit l y → Encodes s v → Encodes (percent ∷ h ∷ l ∷ s) ((x * 16 + y) ∷ v)
 
 -- what a decoded value is made of: bytes, and the commas and bars that no backslash makes plain
 pub data Sign : Type 0 where
@@ -45,10 +45,10 @@ pub data Sign : Type 0 where
 
 -- "a comma, "|", "$" or backslash"
 pub data Special : ℕ → Type 0 where
-  special-comma : Special (code ",")
-  special-bar : Special (code "|")
-  special-dollar : Special (code "$")
-  special-backslash : Special (code "\\")
+  special_comma : Special (code ",")
+  special_bar : Special (code "|")
+  special_dollar : Special (code "$")
+  special_backslash : Special (code "\\")
 
 -- the bytes begin with one of them
 pub data BeginsSpecial : List ℕ → Type 0 where
@@ -56,14 +56,14 @@ pub data BeginsSpecial : List ℕ → Type 0 where
 
 -- a decoded value as signs
 pub data Signs : List ℕ → List Sign → Type 0 where
-  signs-end : Signs [] []
+  signs_end : Signs [] []
   -- "a comma, "|", "$" or backslash after a backslash is plain"
-  signs-plain : {b : ℕ} {s : List ℕ} {v : List Sign} → Special b → Signs s v → Signs (backslash ∷ b ∷ s) (byte b ∷ v)
+  signs_plain : {b : ℕ} {s : List ℕ} {v : List Sign} → Special b → Signs s v → Signs (backslash ∷ b ∷ s) (byte b ∷ v)
   -- "any other backslash is itself"
-  signs-backslash : {s : List ℕ} {v : List Sign} → (BeginsSpecial s → ⊥) → Signs s v → Signs (backslash ∷ s) (byte backslash ∷ v)
-  signs-cut : {s : List ℕ} {v : List Sign} → Signs s v → Signs (comma ∷ s) (cut ∷ v)
-  signs-split : {s : List ℕ} {v : List Sign} → Signs s v → Signs (bar ∷ s) (split ∷ v)
-  signs-byte : {b : ℕ} {s : List ℕ} {v : List Sign} → (b ≡ backslash → ⊥) → (b ≡ comma → ⊥) → (b ≡ bar → ⊥) → Signs s v → Signs (b ∷ s) (byte b ∷ v)
+  signs_backslash : {s : List ℕ} {v : List Sign} → (BeginsSpecial s → ⊥) → Signs s v → Signs (backslash ∷ s) (byte backslash ∷ v)
+  signs_cut : {s : List ℕ} {v : List Sign} → Signs s v → Signs (comma ∷ s) (cut ∷ v)
+  signs_split : {s : List ℕ} {v : List Sign} → Signs s v → Signs (bar ∷ s) (split ∷ v)
+  signs_byte : {b : ℕ} {s : List ℕ} {v : List Sign} → (b ≡ backslash → ⊥) → (b ≡ comma → ⊥) → (b ≡ bar → ⊥) → Signs s v → Signs (b ∷ s) (byte b ∷ v)
 
 -- no comma cuts the signs
 abbrev pub Uncut : List Sign → Type 0
@@ -71,14 +71,14 @@ Uncut w = All (λ (x : Sign). x ≡ cut → ⊥) w
 
 -- "commas in the value give alternatives": what joins back to the signs, none with a cut in it
 pub data Pieces : List Sign → List (List Sign) → Type 0 where
-  last-piece : {w : List Sign} → Uncut w → Pieces w (w ∷ [])
-  next-piece : {w v : List Sign} {ws : List (List Sign)} → Uncut w → Pieces v ws → Pieces (w ++ (cut ∷ v)) (w ∷ ws)
+  last_piece : {w : List Sign} → Uncut w → Pieces w (w ∷ [])
+  next_piece : {w v : List Sign} {ws : List (List Sign)} → Uncut w → Pieces v ws → Pieces (w ++ (cut ∷ v)) (w ∷ ws)
 
 -- the bytes of an alternative: each sign's own, and a bar for one that splits
 pub data TextIs : List Sign → List ℕ → Type 0 where
-  text-end : TextIs [] []
-  text-byte : {b : ℕ} {w : List Sign} {t : List ℕ} → TextIs w t → TextIs (byte b ∷ w) (b ∷ t)
-  text-bar : {w : List Sign} {t : List ℕ} → TextIs w t → TextIs (split ∷ w) (bar ∷ t)
+  text_end : TextIs [] []
+  text_byte : {b : ℕ} {w : List Sign} {t : List ℕ} → TextIs w t → TextIs (byte b ∷ w) (b ∷ t)
+  text_bar : {w : List Sign} {t : List ℕ} → TextIs w t → TextIs (split ∷ w) (bar ∷ t)
 
 -- no bar splits the signs
 abbrev pub Unsplit : List Sign → Type 0
@@ -86,8 +86,8 @@ Unsplit w = All (λ (x : Sign). x ≡ split → ⊥) w
 
 -- where a token is split: at the first bar that is not plain, so that what is before it has none; or at the end
 pub data SplitAt : List Sign → ℕ → Type 0 where
-  split-none : {w : List Sign} → Unsplit w → SplitAt w (length w)
-  split-first : {w : List Sign} (rest : List Sign) → Unsplit w → SplitAt (w ++ (split ∷ rest)) (length w)
+  split_none : {w : List Sign} → Unsplit w → SplitAt w (length w)
+  split_first : {w : List Sign} (rest : List Sign) → Unsplit w → SplitAt (w ++ (split ∷ rest)) (length w)
 
 -- no bar of the signs is made plain by a backslash
 abbrev pub NoPlainBar : List Sign → Type 0
@@ -102,8 +102,8 @@ pub record Alternative : Type 0 where
 
 -- the alternatives of the pair at p, by their parameter's name and their signs
 pub data AlternativesAre (p : ℕ) (n : List ℕ) : List (List Sign) → List Alternative → Type 0 where
-  alternatives-end : AlternativesAre p n [] []
-  alternatives-next : {w : List Sign} {ws : List (List Sign)} {t : List ℕ} {i : ℕ} {rest : List Alternative} → TextIs w t → SplitAt w i → AlternativesAre p n ws rest
+  alternatives_end : AlternativesAre p n [] []
+  alternatives_next : {w : List Sign} {ws : List (List Sign)} {t : List ℕ} {i : ℕ} {rest : List Alternative} → TextIs w t → SplitAt w i → AlternativesAre p n ws rest
       → AlternativesAre p n (w ∷ ws) (record { at = p; name = n; text = t; split = i } ∷ rest)
 
 -- a pair is the list of its alternatives, which is not empty
@@ -111,8 +111,8 @@ abbrev pub Query : Type 0
 Query = List (List Alternative)
 
 -- all alternatives, in the order of the text
-abbrev pub alternativesOf : Query → List Alternative
-alternativesOf = flatten
+abbrev pub alternatives_of : Query → List Alternative
+alternatives_of = flatten
 
 -- "each cut at its first "=""; "decoded after those cuts and before the one at commas"
 pub data PairAt : ℕ → List ℕ → List Alternative → Type 0 where
@@ -121,12 +121,12 @@ pub data PairAt : ℕ → List ℕ → List Alternative → Type 0 where
 
 -- "pairs joined by "&""
 pub data PairsAt : ℕ → List ℕ → Query → Type 0 where
-  last-pair : {p : ℕ} {s : List ℕ} {a : List Alternative} → PairAt p s a → PairsAt p s (a ∷ [])
-  next-pair : {p : ℕ} {s xs : List ℕ} {a : List Alternative} {q : Query} → PairAt p s a → PairsAt (p + length s + 1) xs q → PairsAt p (s ++ (ampersand ∷ xs)) (a ∷ q)
+  last_pair : {p : ℕ} {s : List ℕ} {a : List Alternative} → PairAt p s a → PairsAt p s (a ∷ [])
+  next_pair : {p : ℕ} {s xs : List ℕ} {a : List Alternative} {q : Query} → PairAt p s a → PairsAt (p + length s + 1) xs q → PairsAt p (s ++ (ampersand ∷ xs)) (a ∷ q)
 
 -- the whole string; "at most 1,024 bytes and 32 alternatives in all"
 pub record SpellsQuery (xs : List ℕ) (q : Query) : Type 0 where
   pub not-empty : xs ≡ [] → ⊥
   pub short : length xs ≤ 1024
   pub pairs : PairsAt 0 xs q
-  pub few : length (alternativesOf q) ≤ 32
+  pub few : length (alternatives_of q) ≤ 32

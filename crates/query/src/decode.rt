@@ -1,6 +1,6 @@
 // The encoding of names and values: "+" is a space and % with two hex digits a byte.
 ghost use Rattle.std.specs.Prelude.{◌≡◌, ◌≤◌, ◌<◌, length};
-ghost use Rattle.query.specs.Scan.{HexValue, hexPair, unit_at, DecodesTo};
+ghost use Rattle.query.specs.Scan.{HexValue, hex_pair, unit_at, DecodesTo};
 
 use crate::{Decoded, Read};
 
@@ -31,7 +31,7 @@ fn hex_value(b: u8) -> u8
 
 // The byte of two hex digits.
 fn hex_pair(high: u8, low: u8, next: usize) -> Read
-    ensures { result ≡ hexPair high low next }
+    ensures { result ≡ hex_pair high low next }
 {
     let h = hex_value(high);
     if h >= 16 {

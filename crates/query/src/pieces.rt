@@ -1,13 +1,13 @@
 // Alternatives of a decoded value: a comma cuts, a bar splits a token, and a backslash makes them plain.
 ghost use Rattle.std.specs.Prelude.{cond, ◌≡◌, ◌≤◌, ◌<◌, ◌-◌, length};
-ghost use Rattle.query.specs.Reader.{isSpecial};
-ghost use Rattle.query.specs.Scan.{markAt, PieceOf};
+ghost use Rattle.query.specs.Reader.{is_special};
+ghost use Rattle.query.specs.Scan.{mark_at, PieceOf};
 
 use crate::{Mark, Piece};
 
 // Whether a backslash makes the byte plain.
 fn is_special(b: u8) -> bool
-    ensures { result ≡ isSpecial b }
+    ensures { result ≡ is_special b }
 {
     match b {
         b',' | b'|' | b'$' | b'\\' => true,
@@ -18,7 +18,7 @@ fn is_special(b: u8) -> bool
 // What stands at a position of a decoded value.
 fn mark_at(s: &[u8], at: usize) -> Mark
     requires { at < length s.now }
-    ensures { result ≡ markAt s.now at }
+    ensures { result ≡ mark_at s.now at }
 {
     let b = s[at];
     if b == b'\\' {

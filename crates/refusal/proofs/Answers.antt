@@ -6,25 +6,25 @@ use native.Mathlib.Omega.{arith}
 use mathlib.Core.Path.{◌≡◌, ap, sym}
 use mathlib.Core.Bool.{Bool, true, false}
 use Rattle.refusal.specs.declared.Reason.{Reason}
-use Rattle.refusal.specs.Answers.{Answer, yesOrNo, count, counts, refused, number_of}
+use Rattle.refusal.specs.Answers.{Answer, yes_or_no, count, counts, refused, number_of}
 use Rattle.refusal.proofs.Deciding.{NotRefused}
 
-pub count-not-refused : (m : ℕ) → NotRefused (count m)
-count-not-refused m n p e = let z : ◌≡◌ {A = ℕ} 0 1 = cc in omega arith
+pub count_not_refused : (m : ℕ) → NotRefused (count m)
+count_not_refused m n p e = let z : ◌≡◌ {A = ℕ} 0 1 = cc in omega arith
 
-pub counts-not-refused : (y z : ℕ) → NotRefused (counts y z)
-counts-not-refused y z n p e = let z : ◌≡◌ {A = ℕ} 0 1 = cc in omega arith
+pub counts_not_refused : (y z : ℕ) → NotRefused (counts y z)
+counts_not_refused y z n p e = let z : ◌≡◌ {A = ℕ} 0 1 = cc in omega arith
 
-pub verdict-not-refused : (v : Bool) → NotRefused (yesOrNo v)
-verdict-not-refused true n p e = let z : ◌≡◌ {A = ℕ} 0 1 = cc in omega arith
-verdict-not-refused false n p e = let z : ◌≡◌ {A = ℕ} 0 1 = cc in omega arith
+pub verdict_not_refused : (v : Bool) → NotRefused (yes_or_no v)
+verdict_not_refused true n p e = let z : ◌≡◌ {A = ℕ} 0 1 = cc in omega arith
+verdict_not_refused false n p e = let z : ◌≡◌ {A = ℕ} 0 1 = cc in omega arith
 
-pub is-count : (a : Answer) (n : ℕ) → Dec (a ≡ count n)
-is-count Answer.yes n = no (λ h. let z : ◌≡◌ {A = ℕ} 0 1 = cc in omega arith)
-is-count Answer.no n = no (λ h. let z : ◌≡◌ {A = ℕ} 0 1 = cc in omega arith)
-is-count (counts x y) n = no (λ h. let z : ◌≡◌ {A = ℕ} 0 1 = cc in omega arith)
-is-count (refused m p) n = no (λ h. let z : ◌≡◌ {A = ℕ} 0 1 = cc in omega arith)
-is-count (count m) n = same (ℕ_discrete m n)
+pub is_count : (a : Answer) (n : ℕ) → Dec (a ≡ count n)
+is_count Answer.yes n = no (λ h. let z : ◌≡◌ {A = ℕ} 0 1 = cc in omega arith)
+is_count Answer.no n = no (λ h. let z : ◌≡◌ {A = ℕ} 0 1 = cc in omega arith)
+is_count (counts x y) n = no (λ h. let z : ◌≡◌ {A = ℕ} 0 1 = cc in omega arith)
+is_count (refused m p) n = no (λ h. let z : ◌≡◌ {A = ℕ} 0 1 = cc in omega arith)
+is_count (count m) n = same (ℕ_discrete m n)
   where
     same : Dec (m ≡ n) → Dec (count m ≡ count n)
     same (yes e) = yes (ap count e)

@@ -9,14 +9,14 @@ use lib.Dec.{eqb}
 use lib.ListN.{length}
 use borrow.Author.Tests.{eqb-true}
 use Rattle.base.specs.Lists.{member}
-use Rattle.refusal.specs.Order.{lines, numbers, index, group, rank, Before, lower-group, earlier-place, lower-rank, Decides}
+use Rattle.refusal.specs.Order.{lines, numbers, index, group, rank, Before, lower_group, earlier_place, lower_rank, Decides}
 
 -- ---- where a number stands
 
 -- a number's index is that of no other
-index-unique : (ks : List ℕ) (m n : ℕ) → index (eqb m) m ks ≡ index (eqb n) n ks → m ≡ n
-index-unique [] m n e = e
-index-unique (k ∷ ks) m n e = go (index-unique ks m n) (eqb m k) (eqb n k) refl refl e
+index_unique : (ks : List ℕ) (m n : ℕ) → index (eqb m) m ks ≡ index (eqb n) n ks → m ≡ n
+index_unique [] m n e = e
+index_unique (k ∷ ks) m n e = go (index_unique ks m n) (eqb m k) (eqb n k) refl refl e
   where
     go : {i j : ℕ} → (i ≡ j → m ≡ n) → (a b : Bool) → eqb m k ≡ a → eqb n k ≡ b → cond a 0 (suc i) ≡ cond b 0 (suc j) → m ≡ n
     go more true true p q e = eqb-true m k p ∙ sym (eqb-true n k q)
@@ -44,9 +44,9 @@ index-behind (k ∷ ks) rest m h = go (length ks) (index (eqb m) m rest) (index-
     go l j more true h = let z : ◌≡◌ {A = ℕ} 0 1 = cc in absurd (omega arith)
     go l j more false h = omega (arith, more h)
 
-index-rises : (ls : List (List ℕ)) (m n : ℕ) → index (member m) m ls < index (member n) n ls → index (eqb m) m (numbers ls) < index (eqb n) n (numbers ls)
-index-rises [] m n h = h
-index-rises (l ∷ ls) m n h = go (index-rises ls m n) (member m l) (member n l) refl refl h
+index_rises : (ls : List (List ℕ)) (m n : ℕ) → index (member m) m ls < index (member n) n ls → index (eqb m) m (numbers ls) < index (eqb n) n (numbers ls)
+index_rises [] m n h = h
+index_rises (l ∷ ls) m n h = go (index_rises ls m n) (member m l) (member n l) refl refl h
   where
     go : {i j : ℕ} → (i < j → index (eqb m) m (numbers ls) < index (eqb n) n (numbers ls)) → (a b : Bool) → member m l ≡ a → member n l ≡ b
         → cond a 0 (suc i) < cond b 0 (suc j) → index (eqb m) m (l ++ numbers ls) < index (eqb n) n (l ++ numbers ls)
@@ -56,69 +56,69 @@ index-rises (l ∷ ls) m n h = go (index-rises ls m n) (member m l) (member n l)
     go more false false p q h = omega (arith, more (omega arith), index-behind l (numbers ls) m p, index-behind l (numbers ls) n q)
 
 -- a rank is that of one number
-pub rank-unique : (m n : ℕ) → rank m ≡ rank n → m ≡ n
+pub rank_unique : (m n : ℕ) → rank m ≡ rank n → m ≡ n
 unfolding rank
-rank-unique = index-unique (numbers lines)
+rank_unique = index_unique (numbers lines)
 
 -- a number of an earlier line ranks lower
 pub rank_rises : (m n : ℕ) → group m < group n → rank m < rank n
 unfolding rank group
-rank_rises = index-rises lines
+rank_rises = index_rises lines
 
 -- 02: 18 is "ranking between 14 and 15"
-pub ranks-between : (rank 14 < rank 18) × (rank 18 < rank 15)
+pub ranks_between : (rank 14 < rank 18) × (rank 18 < rank 15)
 unfolding rank
-ranks-between = (omega arith, omega arith)
+ranks_between = (omega arith, omega arith)
 
 -- ---- which line comes first
 
 -- of two lines one comes first, unless they are the same
-before-total : (m q n p : ℕ) → (Before m q n p → ⊥) → (Before n p m q → ⊥) → (m ≡ n) × (q ≡ p)
-before-total m q n p a b =
-    let gl : group m < group n → ⊥ = λ h. a (lower-group h) in
-    let gr : group n < group m → ⊥ = λ h. b (lower-group h) in
+before_total : (m q n p : ℕ) → (Before m q n p → ⊥) → (Before n p m q → ⊥) → (m ≡ n) × (q ≡ p)
+before_total m q n p a b =
+    let gl : group m < group n → ⊥ = λ h. a (lower_group h) in
+    let gr : group n < group m → ⊥ = λ h. b (lower_group h) in
     let g : group m ≡ group n = omega arith in
-    let pl : q < p → ⊥ = λ h. a (earlier-place g h) in
-    let pr : p < q → ⊥ = λ h. b (earlier-place (sym g) h) in
+    let pl : q < p → ⊥ = λ h. a (earlier_place g h) in
+    let pr : p < q → ⊥ = λ h. b (earlier_place (sym g) h) in
     let e : q ≡ p = omega arith in
-    let nl : rank m < rank n → ⊥ = λ h. a (lower-rank g e h) in
-    let nr : rank n < rank m → ⊥ = λ h. b (lower-rank (sym g) (sym e) h) in
-    (rank-unique m n (omega arith), e)
+    let nl : rank m < rank n → ⊥ = λ h. a (lower_rank g e h) in
+    let nr : rank n < rank m → ⊥ = λ h. b (lower_rank (sym g) (sym e) h) in
+    (rank_unique m n (omega arith), e)
 
-pub decides-unique : (Line : ℕ → ℕ → Type 0) (m q n p : ℕ) → Decides Line m q → Decides Line n p → (m ≡ n) × (q ≡ p)
-decides-unique Line m q n p d e = before-total m q n p (e.first m q d.holds) (d.first n p e.holds)
+pub decides_unique : (Line : ℕ → ℕ → Type 0) (m q n p : ℕ) → Decides Line m q → Decides Line n p → (m ≡ n) × (q ≡ p)
+decides_unique Line m q n p d e = before_total m q n p (e.first m q d.holds) (d.first n p e.holds)
 
 -- no line comes before itself
-pub before-itself : {n p : ℕ} → Before n p n p → ⊥
-before-itself (lower-group h) = omega arith
-before-itself (earlier-place g h) = omega arith
-before-itself (lower-rank g e h) = omega arith
+pub before_itself : {n p : ℕ} → Before n p n p → ⊥
+before_itself (lower_group h) = omega arith
+before_itself (earlier_place g h) = omega arith
+before_itself (lower_rank g e h) = omega arith
 
 -- of two lines at one place, the one that comes before ranks lower
-pub before-ranks : {m n p : ℕ} → Before m p n p → rank m < rank n
-before-ranks {m} {n} (lower-group h) = rank_rises m n h
-before-ranks (earlier-place g h) = absurd (omega arith)
-before-ranks (lower-rank g e h) = h
+pub before_ranks : {m n p : ℕ} → Before m p n p → rank m < rank n
+before_ranks {m} {n} (lower_group h) = rank_rises m n h
+before_ranks (earlier_place g h) = absurd (omega arith)
+before_ranks (lower_rank g e h) = h
 
 -- a line of a higher group does not come before
 pub later-group : {m q n p : ℕ} → group n < group m → Before m q n p → ⊥
-later-group h (lower-group k) = omega arith
-later-group h (earlier-place k l) = omega arith
-later-group h (lower-rank k l r) = omega arith
+later-group h (lower_group k) = omega arith
+later-group h (earlier_place k l) = omega arith
+later-group h (lower_rank k l r) = omega arith
 
 -- nor one of the same group at a later place
-pub later-place : {m q n p : ℕ} → group m ≡ group n → p < q → Before m q n p → ⊥
-later-place h l (lower-group k) = omega arith
-later-place h l (earlier-place k j) = omega arith
-later-place h l (lower-rank k j r) = omega arith
+pub later_place : {m q n p : ℕ} → group m ≡ group n → p < q → Before m q n p → ⊥
+later_place h l (lower_group k) = omega arith
+later_place h l (earlier_place k j) = omega arith
+later_place h l (lower_rank k j r) = omega arith
 
 -- nor, at the same place of the same group, one that ranks no lower
-pub no-lower-rank : {m q n p : ℕ} → group m ≡ group n → p ≤ q → rank n ≤ rank m → Before m q n p → ⊥
-no-lower-rank h l r (lower-group k) = omega arith
-no-lower-rank h l r (earlier-place k j) = omega arith
-no-lower-rank h l r (lower-rank k j i) = omega arith
+pub no_lower_rank : {m q n p : ℕ} → group m ≡ group n → p ≤ q → rank n ≤ rank m → Before m q n p → ⊥
+no_lower_rank h l r (lower_group k) = omega arith
+no_lower_rank h l r (earlier_place k j) = omega arith
+no_lower_rank h l r (lower_rank k j i) = omega arith
 
 -- two kinds of lines, one of groups up to g and the other of groups above it
-pub apart-at : (Line Line' : ℕ → ℕ → Type 0) (g : ℕ) → ((n p : ℕ) → Line n p → group n ≤ g) → ((n p : ℕ) → Line' n p → g < group n)
+pub apart_at : (Line Line' : ℕ → ℕ → Type 0) (g : ℕ) → ((n p : ℕ) → Line n p → group n ≤ g) → ((n p : ℕ) → Line' n p → g < group n)
     → (m q n p : ℕ) → Line' m q → Line n p → Before m q n p → ⊥
-apart-at Line Line' g up above m q n p l k = let a = up n p k in let b = above m q l in later-group (omega arith)
+apart_at Line Line' g up above m q n p l k = let a = up n p k in let b = above m q l in later-group (omega arith)

@@ -11,9 +11,9 @@ pub data Answer : Type 0 where
   counts : (yes no : ℕ) → Answer
   refused : ℕ → ℕ → Answer
 
-abbrev pub yesOrNo : Bool → Answer
-yesOrNo true = yes
-yesOrNo false = no
+abbrev pub yes_or_no : Bool → Answer
+yes_or_no true = yes
+yes_or_no false = no
 
 -- the numbers of refusal
 abbrev pub number_of : Reason → ℕ
@@ -43,8 +43,8 @@ number_of Reason.NoPair = 50
 number_of Reason.ManyAlternatives = 51
 
 -- what is answered for a refusal: its number and its place
-unfoldable pub refusalAnswer : Refusal → Answer
-refusalAnswer r = refused (number_of r.reason) r.place
+unfoldable pub refusal_answer : Refusal → Answer
+refusal_answer r = refused (number_of r.reason) r.place
 
 -- the place of the refusals 21 to 23 is the index of a card of the run
 pub record PlaceBound (number place : ℕ) : Type 0 where

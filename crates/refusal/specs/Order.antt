@@ -47,9 +47,9 @@ rank n = index (eqb n) n (numbers lines)
 -- decides, and within it the lower number", with 18 among them (02); "for 21 to 23 the first faulty card decides, and on it the
 -- lower number"
 pub data Before (m q n p : ℕ) : Type 0 where
-  lower-group : group m < group n → Before m q n p
-  earlier-place : group m ≡ group n → q < p → Before m q n p
-  lower-rank : group m ≡ group n → q ≡ p → rank m < rank n → Before m q n p
+  lower_group : group m < group n → Before m q n p
+  earlier_place : group m ≡ group n → q < p → Before m q n p
+  lower_rank : group m ≡ group n → q ≡ p → rank m < rank n → Before m q n p
 
 -- of the lines that hold, line n at the place p comes first
 pub record Decides (Line : ℕ → ℕ → Type 0) (n p : ℕ) : Type 0 where

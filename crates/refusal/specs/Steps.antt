@@ -10,8 +10,8 @@ pub data Step (A : Type 0) : Type 0 where
   stop : ℕ → ℕ → Step A
 
 -- the step that ends in a refusal
-abbrev pub refusalStep : {A : Type 0} → Refusal → Step A
-refusalStep r = stop (number_of r.reason) r.place
+abbrev pub refusal_step : {A : Type 0} → Refusal → Step A
+refusal_step r = stop (number_of r.reason) r.place
 
 infixl 20 ◌>>=◌
 abbrev pub ◌>>=◌ : {A B : Type 0} → Step A → (A → Step B) → Step B

@@ -4,4 +4,4 @@ pub mod Operation
 pub mod Refusals
 pub mod Reporting
 pub mod Steps
-pub mod Contracts
+pub mod Operations

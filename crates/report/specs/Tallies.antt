@@ -2,7 +2,7 @@
 -- Assumes nothing.
 use Rattle.std.specs.Prelude.{ℕ, zero, suc, ◌+◌, cond, List, [], ◌∷◌, eqb, length}
 use Rattle.card.specs.Card.{Entry}
-use Rattle.judge.specs.Sets.{valuesAt}
+use Rattle.judge.specs.Sets.{values_at}
 use Rattle.report.specs.declared.Tally.{Tally}
 
 -- a row by its two counts
@@ -10,16 +10,16 @@ abbrev pub tally : ℕ → ℕ → Tally
 tally c v = record { cards = c; values = v }
 
 -- "the number of cards in the run that have it", the parameter with the index i: cards are given by their entries
-unfoldable pub cardsWith : ℕ → List (List Entry) → ℕ
-cardsWith i [] = 0
-cardsWith i (es ∷ cs) = cond (eqb (length (valuesAt i es)) 0) (cardsWith i cs) (suc (cardsWith i cs))
+unfoldable pub cards_with : ℕ → List (List Entry) → ℕ
+cards_with i [] = 0
+cards_with i (es ∷ cs) = cond (eqb (length (values_at i es)) 0) (cards_with i cs) (suc (cards_with i cs))
 
 -- "and of values under it": repeats kept
-unfoldable pub valuesUnder : ℕ → List (List Entry) → ℕ
-valuesUnder i [] = 0
-valuesUnder i (es ∷ cs) = length (valuesAt i es) + valuesUnder i cs
+unfoldable pub values_under : ℕ → List (List Entry) → ℕ
+values_under i [] = 0
+values_under i (es ∷ cs) = length (values_at i es) + values_under i cs
 
 -- "one per parameter in sheet order": n rows, from that of the parameter with the index i on
 unfoldable pub tallies : List (List Entry) → (i n : ℕ) → List Tally
 tallies cs i zero = []
-tallies cs i (suc n) = tally (cardsWith i cs) (valuesUnder i cs) ∷ tallies cs (suc i) n
+tallies cs i (suc n) = tally (cards_with i cs) (values_under i cs) ∷ tallies cs (suc i) n

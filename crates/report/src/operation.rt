@@ -1,5 +1,5 @@
 // The report, with all that is promised of it. A slice holds bytes, so that nothing is asked of the caller.
-ghost use Rattle.report.specs.Contracts.{Reports};
+ghost use Rattle.report.specs.Operations.{Reports};
 
 use crate::plan::{answer, plan_of, rows_of, steps_of};
 use crate::rows::raise_all;

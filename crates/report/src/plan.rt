@@ -1,6 +1,6 @@
 // What a report will do, decided before the first row is written.
 ghost use Rattle.std.specs.Prelude.{◌≡◌};
-ghost use Rattle.report.specs.Contracts.{Plans};
+ghost use Rattle.report.specs.Operations.{Plans};
 
 use crate::Reported;
 use refusal::{Reason, Refusal};

@@ -1,7 +1,7 @@
 // The rows are raised in steps, one row at each: the first pass over them clears them, and then there is one pass for each card.
 ghost use Rattle.std.specs.Prelude.{◌≡◌, ℕ, ◌<◌, ◌≤◌, ◌%◌};
-ghost use Rattle.card.specs.Card.{readCard};
-ghost use Rattle.report.specs.Steps.{raise, stepIndex, stepTally, stepped, countValue, ValuesOf, Small, Raisable, Ready};
+ghost use Rattle.card.specs.Card.{read_card};
+ghost use Rattle.report.specs.Steps.{raise, step_index, step_tally, stepped, count_value, ValuesOf, Small, Raisable, Ready};
 
 use crate::Tally;
 use block::Validity;
@@ -9,7 +9,7 @@ use block::Validity;
 // One value more, where it is under the parameter.
 fn count_value(values: u32, same: bool) -> u32
     requires { values ≤ 64 }
-    ensures { result ≡ countValue values same }
+    ensures { result ≡ count_value values same }
 {
     if same {
         return values + 1;
@@ -19,7 +19,7 @@ fn count_value(values: u32, same: bool) -> u32
 
 // How many values a well-formed card has under a parameter.
 fn values_of(card: &[u8], index: usize) -> u32
-    requires { readCard card.now ≡ Validity.WellFormed }
+    requires { read_card card.now ≡ Validity.WellFormed }
     ensures { ValuesOf card.now index result }
 {
     let mut at = card::FIRST_ENTRY;
@@ -50,7 +50,7 @@ fn raised_by(values: u32, row: Tally) -> Tally
 
 // The row that step j is about, of n.
 fn index_of(n: usize, j: usize) -> usize
-    ensures { result ≡ stepIndex n j }
+    ensures { result ≡ step_index n j }
 {
     if n == 0 {
         return j;
@@ -61,7 +61,7 @@ fn index_of(n: usize, j: usize) -> usize
 // What step j makes of its row.
 fn raised(cards: &[u8], n: usize, j: usize, row: Tally) -> Tally
     requires { Raisable cards.now n j row }
-    ensures { result ≡ stepTally cards.now n j row }
+    ensures { result ≡ step_tally cards.now n j row }
 {
     if j < n {
         return Tally {

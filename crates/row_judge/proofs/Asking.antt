@@ -14,101 +14,101 @@ use Rattle.syntax.specs.declared.Connective.{Connective}
 use Rattle.rows.specs.Cells.{row_of}
 use Rattle.rows.specs.declared.Probe.{Probe}
 use Rattle.rows.specs.declared.Row.{Row}
-use Rattle.rows.proofs.Cells.{test-index}
+use Rattle.rows.proofs.Cells.{test_index}
 use Rattle.block.specs.declared.Validity.TheVariants.{WellFormed}
-use Rattle.card.specs.Card.{entriesOf, readCard}
-use Rattle.judge.specs.Sets.{chosen_of, conformsTo}
+use Rattle.card.specs.Card.{entries_of, read_card}
+use Rattle.judge.specs.Sets.{chosen_of, conforms_to}
 use Rattle.judge.specs.declared.Chosen.{Chosen}
-use Rattle.card_reader.specs.Lists.{Lent, kindsIn, KeepsCard, BeginsAlike, ReadsCard}
+use Rattle.card_reader.specs.Lists.{Lent, kinds_in, KeepsCard, BeginsAlike, ReadsCard}
 use Rattle.card_reader.specs.Lending.{Lends, Keeps}
 use Rattle.card_reader.proofs.Lends.{kinds-alike}
 use Rattle.row_opener.specs.Opening.{Opens}
-use Rattle.row_judge.specs.Saying.{rowsSay, Whole, AllKept, Ready}
+use Rattle.row_judge.specs.Saying.{rows_say, Whole, AllKept, Ready}
 use Rattle.row_judge.specs.Asking.{KeepsTests, LentFor}
 
 pub record KeptTo (rows before cells : List ℕ) (spans : List ℤ) (i : ℕ) : Type 0 where
   pub lent : Lent cells spans
-  pub kinds-are : kindsIn cells ≡ kindsIn before
+  pub kinds_are : kinds_in cells ≡ kinds_in before
   pub each : (j : ℕ) → j < i → (p : Probe) → row_of (get_or rows j 0) ≡ Row.Test p → get_or cells (544 + p.index) 0 ≡ 0
 
 module _ (rows before : List ℕ) (spans : List ℤ) where
-  pub kept-start : Lent before spans → KeptTo rows before before spans 0
-  kept-start w = record { lent = w; kinds-are = refl; each = λ j z. absurd (omega (arith, z)) }
+  pub kept_start : Lent before spans → KeptTo rows before before spans 0
+  kept_start w = record { lent = w; kinds_are = refl; each = λ j z. absurd (omega (arith, z)) }
 
   module _ (cells : List ℕ) (i : ℕ) (inv : KeptTo rows before cells spans i) where
-    pub kept-end : length rows ≤ i → KeepsTests rows before cells spans
-    kept-end z = record { lent = inv.lent; kinds-are = inv.kinds-are; all-kept = record { each = λ j l. inv.each j (omega (arith, z, l)) } }
+    pub kept_end : length rows ≤ i → KeepsTests rows before cells spans
+    kept_end z = record { lent = inv.lent; kinds_are = inv.kinds_are; all_kept = record { each = λ j l. inv.each j (omega (arith, z, l)) } }
 
     module _ (r : Row) (e : r ≡ row_of (get_or rows i 0)) where
       -- a test
       pub kept_test : (p : Probe) (after : List ℕ) → r ≡ Row.Test p → Keeps p.index cells after spans → KeptTo rows before after spans (i + 1)
       kept_test p after h k =
-          record { lent = k.lent; kinds-are = k.kinds-are ∙ inv.kinds-are; each = λ j z q y. by_place j z q y (eqb j i) refl }
+          record { lent = k.lent; kinds_are = k.kinds_are ∙ inv.kinds_are; each = λ j z q y. by_place j z q y (eqb j i) refl }
         where
           by_place : (j : ℕ) → j < i + 1 → (q : Probe) → row_of (get_or rows j 0) ≡ Row.Test q → (t : Bool) → eqb j i ≡ t → get_or after (544 + q.index) 0 ≡ 0
           by_place j z q y true t =
               let both : Row.Test p ≡ Row.Test q = sym h ∙ e ∙ ap (λ (n : ℕ). row_of (get_or rows n 0)) (sym (eqb-true j i t)) ∙ y in
               let same : p ≡ q = cc in
               subst (λ (x : Probe). get_or after (544 + x.index) 0 ≡ 0) same k.own
-          by_place j z q y false t = k.others q.index (test-index (get_or rows j 0) (Row.Test q) q (sym y) refl) (inv.each j (omega (arith, z, eqb-false j i t)) q y)
+          by_place j z q y false t = k.others q.index (test_index (get_or rows j 0) (Row.Test q) q (sym y) refl) (inv.each j (omega (arith, z, eqb-false j i t)) q y)
 
       -- a row that is none
-      kept-none : ((p : Probe) → r ≡ Row.Test p → ⊥) → KeptTo rows before cells spans (i + 1)
-      kept-none n =
-          record { lent = inv.lent; kinds-are = inv.kinds-are; each = λ j z q y. by_place j z q y (eqb j i) refl }
+      kept_none : ((p : Probe) → r ≡ Row.Test p → ⊥) → KeptTo rows before cells spans (i + 1)
+      kept_none n =
+          record { lent = inv.lent; kinds_are = inv.kinds_are; each = λ j z q y. by_place j z q y (eqb j i) refl }
         where
           by_place : (j : ℕ) → j < i + 1 → (q : Probe) → row_of (get_or rows j 0) ≡ Row.Test q → (t : Bool) → eqb j i ≡ t → get_or cells (544 + q.index) 0 ≡ 0
           by_place j z q y true t = absurd (n q (e ∙ ap (λ (m : ℕ). row_of (get_or rows m 0)) (sym (eqb-true j i t)) ∙ y))
           by_place j z q y false t = inv.each j (omega (arith, z, eqb-false j i t)) q y
 
-      pub kept-bracket : (n : ℕ) → r ≡ Row.Bracket n → KeptTo rows before cells spans (i + 1)
-      kept-bracket n h = kept-none (λ p k. let z : ◌≡◌ {A = ℕ} 0 1 = cc in omega arith)
+      pub kept_bracket : (n : ℕ) → r ≡ Row.Bracket n → KeptTo rows before cells spans (i + 1)
+      kept_bracket n h = kept_none (λ p k. let z : ◌≡◌ {A = ℕ} 0 1 = cc in omega arith)
 
-      pub kept-not : r ≡ Row.Not → KeptTo rows before cells spans (i + 1)
-      kept-not h = kept-none (λ p k. let z : ◌≡◌ {A = ℕ} 0 1 = cc in omega arith)
+      pub kept_not : r ≡ Row.Not → KeptTo rows before cells spans (i + 1)
+      kept_not h = kept_none (λ p k. let z : ◌≡◌ {A = ℕ} 0 1 = cc in omega arith)
 
-      pub kept-connect : (c : Connective) (n : ℕ) → r ≡ Row.Connect c n → KeptTo rows before cells spans (i + 1)
-      kept-connect c n h = kept-none (λ p k. let z : ◌≡◌ {A = ℕ} 0 1 = cc in omega arith)
+      pub kept_connect : (c : Connective) (n : ℕ) → r ≡ Row.Connect c n → KeptTo rows before cells spans (i + 1)
+      kept_connect c n h = kept_none (λ p k. let z : ◌≡◌ {A = ℕ} 0 1 = cc in omega arith)
 
-      pub kept-unknown : r ≡ Row.Unknown → KeptTo rows before cells spans (i + 1)
-      kept-unknown h = kept-none (λ p k. let z : ◌≡◌ {A = ℕ} 0 1 = cc in omega arith)
+      pub kept_unknown : r ≡ Row.Unknown → KeptTo rows before cells spans (i + 1)
+      kept_unknown h = kept_none (λ p k. let z : ◌≡◌ {A = ℕ} 0 1 = cc in omega arith)
 
 -- ---- the lists of a run
 
-pub lent-for : (kinds rows before after : List ℕ) (spans : List ℤ) → Lends kinds before spans → KeepsTests rows before after spans → LentFor kinds rows after spans
-lent-for kinds rows before after spans l k = record { lent = k.lent; kinds-are = k.kinds-are ∙ l.kinds-are; all-kept = k.all-kept }
+pub lent_for : (kinds rows before after : List ℕ) (spans : List ℤ) → Lends kinds before spans → KeepsTests rows before after spans → LentFor kinds rows after spans
+lent_for kinds rows before after spans l k = record { lent = k.lent; kinds_are = k.kinds_are ∙ l.kinds_are; all_kept = k.all_kept }
 
 -- so they stay from card to card
 pub lent-on : (kinds rows before cells : List ℕ) (spans₀ spans : List ℤ) → LentFor kinds rows before spans₀ → Lent cells spans → BeginsAlike before cells → LentFor kinds rows cells spans
 lent-on kinds rows before cells spans₀ spans l w a =
     record {
       lent = w;
-      kinds-are = kinds-alike before cells l.lent.size a ∙ l.kinds-are;
-      all-kept = record { each = λ j z p y. a.same (544 + p.index) (omega arith) ∙ l.all-kept.each j z p y };
+      kinds_are = kinds-alike before cells l.lent.size a ∙ l.kinds_are;
+      all_kept = record { each = λ j z p y. a.same (544 + p.index) (omega arith) ∙ l.all_kept.each j z p y };
     }
 
 -- rows that were opened are ready for a card of which all is kept
 pub lent-ready : (kinds xs rows card cells : List ℕ) (spans : List ℤ) → LentFor kinds rows cells spans → (values : List ℕ) (ends : List ℤ) → length xs ≤ 1024 → Whole rows → Opens kinds xs rows values ends (length rows)
-    → readCard card ≡ WellFormed → KeepsCard card cells spans → Ready xs rows values ends card cells spans
+    → read_card card ≡ WellFormed → KeepsCard card cells spans → Ready xs rows values ends card cells spans
 lent-ready kinds xs rows card cells spans l values ends h e o f k =
     record {
       short = h;
       whole = e;
-      opens = subst (λ (n : List ℕ). Opens n xs rows values ends (length rows)) (sym l.kinds-are) o;
-      well-formed = f;
+      opens = subst (λ (n : List ℕ). Opens n xs rows values ends (length rows)) (sym l.kinds_are) o;
+      well_formed = f;
       keeps = k;
-      all-kept = l.all-kept;
+      all_kept = l.all_kept;
     }
 
-pub read-conforming : (kinds card before cells : List ℕ) (spans : List ℤ) (r : Bool) → ReadsCard kinds card before cells spans r → conformsTo kinds (entriesOf card) ≡ true → r ≡ true
-read-conforming kinds card before cells spans r w h = w.answer ∙ h
+pub read_conforming : (kinds card before cells : List ℕ) (spans : List ℤ) (r : Bool) → ReadsCard kinds card before cells spans r → conforms_to kinds (entries_of card) ≡ true → r ≡ true
+read_conforming kinds card before cells spans r w h = w.answer ∙ h
 
 module _ (kinds xs rows card before cells : List ℕ) (spans₀ spans : List ℤ) (r : Bool) (l : LentFor kinds rows before spans₀) (w : ReadsCard kinds card before cells spans r) where
   read-lent : LentFor kinds rows cells spans
   read-lent = lent-on kinds rows before cells spans₀ spans l w.lent w.begins
 
-  pub read-ready : (values : List ℕ) (ends : List ℤ) → length xs ≤ 1024 → Whole rows → Opens kinds xs rows values ends (length rows) → readCard card ≡ WellFormed → r ≡ true → Ready xs rows values ends card cells spans
+  pub read-ready : (values : List ℕ) (ends : List ℤ) → length xs ≤ 1024 → Whole rows → Opens kinds xs rows values ends (length rows) → read_card card ≡ WellFormed → r ≡ true → Ready xs rows values ends card cells spans
   read-ready values ends h e o f y = lent-ready kinds xs rows card cells spans read-lent values ends h e o f (w.keeps y)
 
-  pub read-says : (k : Chosen) (t : Bool) → t ≡ rowsSay (kindsIn cells) xs (chosen_of k (entriesOf card)) rows → t ≡ rowsSay kinds xs (chosen_of k (entriesOf card)) rows
-  read-says k t e = e ∙ ap (λ (n : List ℕ). rowsSay n xs (chosen_of k (entriesOf card)) rows) read-lent.kinds-are
+  pub read-says : (k : Chosen) (t : Bool) → t ≡ rows_say (kinds_in cells) xs (chosen_of k (entries_of card)) rows → t ≡ rows_say kinds xs (chosen_of k (entries_of card)) rows
+  read-says k t e = e ∙ ap (λ (n : List ℕ). rows_say n xs (chosen_of k (entries_of card)) rows) read-lent.kinds_are

@@ -2,7 +2,7 @@
 -- What rows say with a verdict in hand is `tell`. The rows of an expression bring its verdict into the hand, whatever was in it before
 -- (`tell-encode`, by induction on the expression); the loop keeps that what is left decides (`Telling`), with a law for each row. The
 -- verdict of a test after brackets, by the set of the entries that are kept, is found from whether there is an entry that counts and of
--- whose occurrence the rows in the brackets say yes (`each-is`, from `entry-is`, by induction on the entries).
+-- whose occurrence the rows in the brackets say yes (`each_is`, from `entry_is`, by induction on the entries).
 -- Assumes nothing.
 use Prim.Native.Nat.{ℕ, zero, suc, ◌+◌, ◌*◌, ◌-◌, ◌/◌, ◌≤◌, ◌<◌}
 use native.Mathlib.Omega.{arith}
@@ -16,112 +16,112 @@ use lib.ListN.{length, get_or, take, drop, length-take, length-drop}
 use lib.Seq.{get_or-take, get_or-drop, take_all, take-append_seam, drop-cons, drop-drop, drop-length}
 use Rattle.base.specs.Parts.{part}
 use Rattle.base.proofs.Parts.{part_length}
-use Rattle.base.proofs.Tests.{and-true, and-false, both_ways}
+use Rattle.base.proofs.Tests.{and_true, and_false, both_ways}
 use Rattle.block.specs.declared.Validity.TheVariants.{WellFormed}
-use Rattle.card.specs.Card.{Entry, entriesOf, readCard}
+use Rattle.card.specs.Card.{Entry, entries_of, read_card}
 use Rattle.syntax.specs.Placed.{PlacedValue}
 use Rattle.syntax.specs.declared.Connective.{Connective}
 use Rattle.syntax.specs.Scan.{value_at, contents, decode, Decoded}
 use Rattle.syntax.specs.declared.RawValue.{RawValue}
 use Rattle.syntax.specs.declared.FoundValue.{FoundValue}
 use Rattle.syntax.proofs.Places.{value-at-placed}
-use Rattle.kind.specs.Table.{meaningOf}
-use Rattle.kind.specs.Readable.{isTrue}
+use Rattle.kind.specs.Table.{meaning_of}
+use Rattle.kind.specs.Readable.{is_true}
 use Rattle.kind.specs.declared.Readings.{Readings}
 use Rattle.kind.specs.declared.Meaning.{Meaning}
-use Rattle.judge.specs.Sets.{valuesAt, counts, chosen_of, ofOccurrence, keep}
-use Rattle.judge.specs.Verdicts.{someValue, textCounts, someSays, says_of, joined}
+use Rattle.judge.specs.Sets.{values_at, counts, chosen_of, of_occurrence, keep}
+use Rattle.judge.specs.Verdicts.{some_value, text_counts, some_says, says_of, joined}
 use Rattle.judge.specs.declared.Chosen.{Chosen}
-use Rattle.judge.specs.Once.{readingsFor}
-use Rattle.judge.proofs.Meaning.{says_some, says-by-some}
-use Rattle.judge.proofs.Occurrences.{chosen-one, occurrence-whole}
+use Rattle.judge.specs.Once.{readings_for}
+use Rattle.judge.proofs.Meaning.{says_some, says_by_some}
+use Rattle.judge.proofs.Occurrences.{chosen_one, occurrence_whole}
 use Rattle.rows.specs.Expression.{Expression, probing, choosing, joining, negating}
-use Rattle.rows.specs.Cells.{probeOf, row_of, cell_of, encode, Writable, writable-test, writable-bracket, writable-join, writable-not, stated}
-use Rattle.rows.specs.Shapes.{valueIn}
+use Rattle.rows.specs.Cells.{probe_of, row_of, cell_of, encode, Writable, writable_test, writable_bracket, writable_join, writable_not, stated}
+use Rattle.rows.specs.Shapes.{value_in}
 use Rattle.rows.specs.declared.Probe.{Probe}
 use Rattle.rows.specs.declared.Row.{Row}
-use Rattle.rows.proofs.Cells.{row-test, row-bracket, row-not, row-connect, test-index, cell-probe}
-use Rattle.rows.proofs.Stating.{stated-encode, stated-are}
-use Rattle.card_reader.specs.Lists.{kindsIn, entryCell, noEntry, IsKept, KeepsCard}
-use Rattle.card_reader.specs.Listed.{entryCounts, someBefore, OnChain, FirstFrom}
-use Rattle.card_reader.proofs.Chains.{before-cons, chain-begins, chain-all, chain-holds, chain-room, chain-byte, chain-less, chain-on, chain-step, some_first}
-use Rattle.row_opener.specs.Opening.{openedValue, openedBy, openedFor, openedIn, openedRow, value_of, Known, openedAt}
+use Rattle.rows.proofs.Cells.{row_test, row_bracket, row_not, row_connect, test_index, cell_probe}
+use Rattle.rows.proofs.Stating.{stated-encode, stated_are}
+use Rattle.card_reader.specs.Lists.{kinds_in, entry_cell, no_entry, IsKept, KeepsCard}
+use Rattle.card_reader.specs.Listed.{entry_counts, some_before, OnChain, FirstFrom}
+use Rattle.card_reader.proofs.Chains.{before_cons, chain_begins, chain_all, chain_holds, chain_room, chain_byte, chain_less, chain_on, chain_step, some_first}
+use Rattle.row_opener.specs.Opening.{opened_value, opened_by, opened_for, opened_in, opened_row, value_of, Known, opened_at}
 use Rattle.row_opener.specs.declared.Opened.{Opened}
-use Rattle.row_opener.proofs.Opening.{opens-second}
-use Rattle.row_judge.specs.Saying.{probeSaysBy, probeSays, expressionSays, statedSays, rowsSay, Whole, AllKept, Ready, Bracketed, decides, skipped, someEntry, occurrenceSays, probeSaysEachBy, probeSaysEach, bracketSays}
+use Rattle.row_opener.proofs.Opening.{opens_second}
+use Rattle.row_judge.specs.Saying.{probe_says_by, probe_says, expression_says, stated_says, rows_say, Whole, AllKept, Ready, Bracketed, decides, skipped, some_entry, occurrence_says, probe_says_each_by, probe_says_each, bracket_says}
 
 -- ---- entry by entry is by the set of the entries that are kept
 
 module _ (says kept : ℕ → Bool) (k : Chosen) (same : (o : ℕ) → counts k o ≡ true → says o ≡ kept o) (i : ℕ) (m : Meaning) (v : List ℕ) where
-  entry-is : (es : List Entry) → someEntry says k i m v es ≡ someValue (textCounts m v) (valuesAt i (keep (λ e. kept e.occurrence) (chosen_of k es)))
-  unfolding someEntry chosen_of keep valuesAt someValue
-  entry-is [] = refl
-  entry-is (e ∷ es) = go (counts k e.occurrence) refl (entry-is es)
+  entry_is : (es : List Entry) → some_entry says k i m v es ≡ some_value (text_counts m v) (values_at i (keep (λ e. kept e.occurrence) (chosen_of k es)))
+  unfolding some_entry chosen_of keep values_at some_value
+  entry_is [] = refl
+  entry_is (e ∷ es) = go (counts k e.occurrence) refl (entry_is es)
     where
-      go : (t : Bool) → counts k e.occurrence ≡ t → someEntry says k i m v es ≡ someValue (textCounts m v) (valuesAt i (keep (λ e. kept e.occurrence) (chosen_of k es)))
-          → someEntry says k i m v (e ∷ es) ≡ someValue (textCounts m v) (valuesAt i (keep (λ e. kept e.occurrence) (chosen_of k (e ∷ es))))
+      go : (t : Bool) → counts k e.occurrence ≡ t → some_entry says k i m v es ≡ some_value (text_counts m v) (values_at i (keep (λ e. kept e.occurrence) (chosen_of k es)))
+          → some_entry says k i m v (e ∷ es) ≡ some_value (text_counts m v) (values_at i (keep (λ e. kept e.occurrence) (chosen_of k (e ∷ es))))
       go false a r = rw (a, r)
       go true a r = by (eqb e.index i) (kept e.occurrence) refl refl
         where
-          by : (u w : Bool) → eqb e.index i ≡ u → kept e.occurrence ≡ w → someEntry says k i m v (e ∷ es) ≡ someValue (textCounts m v) (valuesAt i (keep (λ e. kept e.occurrence) (chosen_of k (e ∷ es))))
-          by true true b d = rw (a, d, b, same e.occurrence a ∙ d, r, and-true (textCounts m v e.text))
-          by true false b d = rw (a, d, b, same e.occurrence a ∙ d, r, and-false (textCounts m v e.text))
+          by : (u w : Bool) → eqb e.index i ≡ u → kept e.occurrence ≡ w → some_entry says k i m v (e ∷ es) ≡ some_value (text_counts m v) (values_at i (keep (λ e. kept e.occurrence) (chosen_of k (e ∷ es))))
+          by true true b d = rw (a, d, b, same e.occurrence a ∙ d, r, and_true (text_counts m v e.text))
+          by true false b d = rw (a, d, b, same e.occurrence a ∙ d, r, and_false (text_counts m v e.text))
           by false true b d = rw (a, d, b, r)
           by false false b d = rw (a, d, b, r)
 
 -- rows say what their expression says
-rows_are : (kinds xs : List ℕ) (e : Expression) (cs : List ℕ) (es : List Entry) → stated cs ≡ some e → rowsSay kinds xs es cs ≡ expressionSays kinds xs es e
-unfolding rowsSay
-rows_are kinds xs e cs es h = ap (statedSays kinds xs es) h
+rows_are : (kinds xs : List ℕ) (e : Expression) (cs : List ℕ) (es : List Entry) → stated cs ≡ some e → rows_say kinds xs es cs ≡ expression_says kinds xs es e
+unfolding rows_say
+rows_are kinds xs e cs es h = ap (stated_says kinds xs es) h
 
 module _ (kinds xs : List ℕ) (k : Chosen) (all : List Entry) (p : Probe) where
   -- the test of what is kept, from some entry that counts
-  each-is : (says kept : ℕ → Bool) → ((o : ℕ) → counts k o ≡ true → says o ≡ kept o) → (kind : ℕ) (v : RawValue)
-      → someSays (meaningOf p.operator kind) (isTrue (valueIn xs v)) (someEntry says k p.index (meaningOf p.operator kind) (valueIn xs v) all)
-      ≡ says_of (meaningOf p.operator kind) (valueIn xs v) (valuesAt p.index (keep (λ e. kept e.occurrence) (chosen_of k all)))
-  each-is says kept same kind v =
-      let m : Meaning = meaningOf p.operator kind in
-      ap (someSays m (isTrue (valueIn xs v))) (entry-is says kept k same p.index m (valueIn xs v) all) ∙ sym (says_some m (valueIn xs v) (valuesAt p.index (keep (λ e. kept e.occurrence) (chosen_of k all))))
+  each_is : (says kept : ℕ → Bool) → ((o : ℕ) → counts k o ≡ true → says o ≡ kept o) → (kind : ℕ) (v : RawValue)
+      → some_says (meaning_of p.operator kind) (is_true (value_in xs v)) (some_entry says k p.index (meaning_of p.operator kind) (value_in xs v) all)
+      ≡ says_of (meaning_of p.operator kind) (value_in xs v) (values_at p.index (keep (λ e. kept e.occurrence) (chosen_of k all)))
+  each_is says kept same kind v =
+      let m : Meaning = meaning_of p.operator kind in
+      ap (some_says m (is_true (value_in xs v))) (entry_is says kept k same p.index m (value_in xs v) all) ∙ sym (says_some m (value_in xs v) (values_at p.index (keep (λ e. kept e.occurrence) (chosen_of k all))))
 
-  bracket-is : (e : Expression) (cs : List ℕ) → stated cs ≡ some e → probeSaysEach kinds xs cs p k all ≡ expressionSays kinds xs (chosen_of k all) (choosing e p)
-  unfolding probeSaysEach probeSays expressionSays
-  bracket-is e cs h = by_value (value_at xs p.position)
+  bracket_is : (e : Expression) (cs : List ℕ) → stated cs ≡ some e → probe_says_each kinds xs cs p k all ≡ expression_says kinds xs (chosen_of k all) (choosing e p)
+  unfolding probe_says_each probe_says expression_says
+  bracket_is e cs h = by_value (value_at xs p.position)
     where
       kept : ℕ → Bool
-      kept o = expressionSays kinds xs (ofOccurrence o (chosen_of k all)) e
+      kept o = expression_says kinds xs (of_occurrence o (chosen_of k all)) e
 
-      same : (o : ℕ) → counts k o ≡ true → occurrenceSays kinds xs all cs o ≡ kept o
-      same o c = rows_are kinds xs e cs (ofOccurrence o all) h ∙ ap (λ (l : List Entry). expressionSays kinds xs l e) (sym (occurrence-whole k o all c))
+      same : (o : ℕ) → counts k o ≡ true → occurrence_says kinds xs all cs o ≡ kept o
+      same o c = rows_are kinds xs e cs (of_occurrence o all) h ∙ ap (λ (l : List Entry). expression_says kinds xs l e) (sym (occurrence_whole k o all c))
 
-      by_value : (f : FoundValue) → probeSaysEachBy f (get_or kinds p.index 0) kinds xs cs p k all ≡ probeSaysBy f (get_or kinds p.index 0) xs p (keep (λ n. kept n.occurrence) (chosen_of k all))
-      by_value (FoundValue.Value v) = each-is (occurrenceSays kinds xs all cs) kept same (get_or kinds p.index 0) v
+      by_value : (f : FoundValue) → probe_says_each_by f (get_or kinds p.index 0) kinds xs cs p k all ≡ probe_says_by f (get_or kinds p.index 0) xs p (keep (λ n. kept n.occurrence) (chosen_of k all))
+      by_value (FoundValue.Value v) = each_is (occurrence_says kinds xs all cs) kept same (get_or kinds p.index 0) v
       by_value FoundValue.Nothing = refl
 
 -- ---- entry by entry from the last to the first
 
 -- an entry's text counts, and its occurrence says yes
-abbrev pub saysToo : (ℕ → Bool) → Chosen → Meaning → List ℕ → Entry → Bool
-saysToo says k m v x = entryCounts k m v x && says x.occurrence
+abbrev pub says_too : (ℕ → Bool) → Chosen → Meaning → List ℕ → Entry → Bool
+says_too says k m v x = entry_counts k m v x && says x.occurrence
 
 module _ (says : ℕ → Bool) (k : Chosen) (i : ℕ) (m : Meaning) (v : List ℕ) where
-  entries-cons : (x : Entry) (es : List Entry) (a b : Bool) → counts k x.occurrence ≡ a → eqb x.index i ≡ b
-      → someEntry says k i m v (x ∷ es) ≡ ((eqb x.index i && saysToo says k m v x) || someEntry says k i m v es)
-  unfolding someEntry entryCounts
-  entries-cons x es true true p q = rw (p, q)
-  entries-cons x es true false p q = rw (p, q)
-  entries-cons x es false true p q = rw (p, q)
-  entries-cons x es false false p q = rw (p, q)
+  entries_cons : (x : Entry) (es : List Entry) (a b : Bool) → counts k x.occurrence ≡ a → eqb x.index i ≡ b
+      → some_entry says k i m v (x ∷ es) ≡ ((eqb x.index i && says_too says k m v x) || some_entry says k i m v es)
+  unfolding some_entry entry_counts
+  entries_cons x es true true p q = rw (p, q)
+  entries_cons x es true false p q = rw (p, q)
+  entries_cons x es false true p q = rw (p, q)
+  entries_cons x es false false p q = rw (p, q)
 
-  entries-before : (es : List Entry) → someBefore (saysToo says k m v) i es (length es) ≡ someEntry says k i m v es
-  unfolding someBefore someEntry
-  entries-before [] = refl
-  entries-before (x ∷ es) =
-      before-cons (saysToo says k m v) i x es (length es)
-      ∙ ap (λ (b : Bool). (eqb x.index i && saysToo says k m v x) || b) (entries-before es)
-      ∙ sym (entries-cons x es (counts k x.occurrence) (eqb x.index i) refl refl)
+  entries_before : (es : List Entry) → some_before (says_too says k m v) i es (length es) ≡ some_entry says k i m v es
+  unfolding some_before some_entry
+  entries_before [] = refl
+  entries_before (x ∷ es) =
+      before_cons (says_too says k m v) i x es (length es)
+      ∙ ap (λ (b : Bool). (eqb x.index i && says_too says k m v x) || b) (entries_before es)
+      ∙ sym (entries_cons x es (counts k x.occurrence) (eqb x.index i) refl refl)
 
   -- only entries that count can meet it
-  counts-first : (x : Entry) → entryCounts k m v x ≡ false → saysToo says k m v x ≡ false
+  counts-first : (x : Entry) → entry_counts k m v x ≡ false → says_too says k m v x ≡ false
   counts-first x h = rw h
 
 -- ---- the loop over the entries of a chain that count
@@ -130,85 +130,85 @@ module _ (says : ℕ → Bool) (k : Chosen) (i : ℕ) (m : Meaning) (v : List �
 pub record Choosing (says : ℕ → Bool) (k : Chosen) (i : ℕ) (m : Meaning) (v card cells : List ℕ) (spans : List ℤ) (answer : Bool) (n : ℕ) : Type 0 where
   pub keeps : KeepsCard card cells spans
   pub on : OnChain card cells i n
-  pub counts-here : (e : ℕ) → n ≡ e + 1 → entryCounts k m v (get_or (entriesOf card) e noEntry) ≡ true
-  pub rest : someBefore (saysToo says k m v) i (entriesOf card) n ≡ answer
+  pub counts_here : (e : ℕ) → n ≡ e + 1 → entry_counts k m v (get_or (entries_of card) e no_entry) ≡ true
+  pub rest : some_before (says_too says k m v) i (entries_of card) n ≡ answer
 
 module _ (says : ℕ → Bool) (k : Chosen) (i : ℕ) (m : Meaning) (v card cells : List ℕ) (spans : List ℤ) where
-  pub choosing-start : KeepsCard card cells spans → (from r : ℕ) → i < 32 → IsKept cells i → from ≡ get_or cells i 0 → FirstFrom (entryCounts k m v) card cells i from r
-      → Choosing says k i m v card cells spans (someEntry says k i m v (entriesOf card)) r
-  choosing-start h from r l kept e f =
+  pub choosing_start : KeepsCard card cells spans → (from r : ℕ) → i < 32 → IsKept cells i → from ≡ get_or cells i 0 → FirstFrom (entry_counts k m v) card cells i from r
+      → Choosing says k i m v card cells spans (some_entry says k i m v (entries_of card)) r
+  choosing_start h from r l kept e f =
       record {
         keeps = h;
         on = f.on;
-        counts-here = f.counts;
+        counts_here = f.counts;
         rest =
-            sym (f.passed (saysToo says k m v) (counts-first says k i m v)) ∙ sym (chain-all card cells spans h i (saysToo says k m v) from l kept e)
-            ∙ entries-before says k i m v (entriesOf card);
+            sym (f.passed (says_too says k m v) (counts-first says k i m v)) ∙ sym (chain_all card cells spans h i (says_too says k m v) from l kept e)
+            ∙ entries_before says k i m v (entries_of card);
       }
 
   module _ (answer : Bool) (n : ℕ) (inv : Choosing says k i m v card cells spans answer n) (l : 0 < n) where
     h : KeepsCard card cells spans
     h = inv.keeps
 
-    pub choosing-room : n - 1 < 64
-    choosing-room = chain-room card cells spans h i n inv.on l
+    pub choosing_room : n - 1 < 64
+    choosing_room = chain_room card cells spans h i n inv.on l
 
-    pub choosing-byte : get_or cells (entryCell (n - 1) + 1) 0 < 256
-    choosing-byte = chain-byte card cells spans h i n inv.on l
+    pub choosing_byte : get_or cells (entry_cell (n - 1) + 1) 0 < 256
+    choosing_byte = chain_byte card cells spans h i n inv.on l
 
-    module _ (o : ℕ) (oe : o ≡ get_or cells (entryCell (n - 1) + 1) 0) (r : Bool) (y : r ≡ says o) where
-      here-is : saysToo says k m v (get_or (entriesOf card) (n - 1) noEntry) ≡ r
-      here-is =
-          let own : o ≡ (get_or (entriesOf card) (n - 1) noEntry).occurrence = oe ∙ (chain-holds card cells spans h i n inv.on l).occurrence in
-          let there : entryCounts k m v (get_or (entriesOf card) (n - 1) noEntry) ≡ true = inv.counts-here (n - 1) (omega (arith, l)) in
-          ap (λ (b : Bool). b && says (get_or (entriesOf card) (n - 1) noEntry).occurrence) there ∙ sym (y ∙ ap says own)
+    module _ (o : ℕ) (oe : o ≡ get_or cells (entry_cell (n - 1) + 1) 0) (r : Bool) (y : r ≡ says o) where
+      here_is : says_too says k m v (get_or (entries_of card) (n - 1) no_entry) ≡ r
+      here_is =
+          let own : o ≡ (get_or (entries_of card) (n - 1) no_entry).occurrence = oe ∙ (chain_holds card cells spans h i n inv.on l).occurrence in
+          let there : entry_counts k m v (get_or (entries_of card) (n - 1) no_entry) ≡ true = inv.counts_here (n - 1) (omega (arith, l)) in
+          ap (λ (b : Bool). b && says (get_or (entries_of card) (n - 1) no_entry).occurrence) there ∙ sym (y ∙ ap says own)
 
-      module _ (b : ℕ) (be : b ≡ get_or cells (entryCell (n - 1)) 0) where
-        step : answer ≡ (r || someBefore (saysToo says k m v) i (entriesOf card) b)
-        step = sym inv.rest ∙ chain-step card cells spans h i n inv.on l b be (saysToo says k m v) ∙ ap (λ (x : Bool). x || someBefore (saysToo says k m v) i (entriesOf card) b) here-is
+      module _ (b : ℕ) (be : b ≡ get_or cells (entry_cell (n - 1)) 0) where
+        step : answer ≡ (r || some_before (says_too says k m v) i (entries_of card) b)
+        step = sym inv.rest ∙ chain_step card cells spans h i n inv.on l b be (says_too says k m v) ∙ ap (λ (x : Bool). x || some_before (says_too says k m v) i (entries_of card) b) here_is
 
-        pub choosing-next : (q : ℕ) → FirstFrom (entryCounts k m v) card cells i b q → r ≡ false → Choosing says k i m v card cells spans answer q
-        choosing-next q f z =
+        pub choosing_next : (q : ℕ) → FirstFrom (entry_counts k m v) card cells i b q → r ≡ false → Choosing says k i m v card cells spans answer q
+        choosing_next q f z =
             record {
               keeps = h;
               on = f.on;
-              counts-here = f.counts;
-              rest = sym (f.passed (saysToo says k m v) (counts-first says k i m v)) ∙ sym (step ∙ ap (λ (x : Bool). x || someBefore (saysToo says k m v) i (entriesOf card) b) z);
+              counts_here = f.counts;
+              rest = sym (f.passed (says_too says k m v) (counts-first says k i m v)) ∙ sym (step ∙ ap (λ (x : Bool). x || some_before (says_too says k m v) i (entries_of card) b) z);
             }
 
-      pub choosing-yes : r ≡ true → true ≡ answer
-      choosing-yes z =
-          let b : ℕ = get_or cells (entryCell (n - 1)) 0 in
-          sym (step b refl ∙ ap (λ (x : Bool). x || someBefore (saysToo says k m v) i (entriesOf card) b) z)
+      pub choosing_yes : r ≡ true → true ≡ answer
+      choosing_yes z =
+          let b : ℕ = get_or cells (entry_cell (n - 1)) 0 in
+          sym (step b refl ∙ ap (λ (x : Bool). x || some_before (says_too says k m v) i (entries_of card) b) z)
 
-  pub choosing-end : (answer : Bool) (n : ℕ) → Choosing says k i m v card cells spans answer n → n ≤ 0 → false ≡ answer
-  unfolding someBefore
-  choosing-end answer n inv z = let e : n ≡ 0 = omega (arith, z) in rw e at inv.rest
+  pub choosing_end : (answer : Bool) (n : ℕ) → Choosing says k i m v card cells spans answer n → n ≤ 0 → false ≡ answer
+  unfolding some_before
+  choosing_end answer n inv z = let e : n ≡ 0 = omega (arith, z) in rw e at inv.rest
 
 -- what the rows behind a test's say of an occurrence
-unfoldable pub inBrackets : List ℕ → List ℕ → List ℕ → List Entry → ℕ → Bool
-inBrackets kinds xs rows all o = occurrenceSays kinds xs all (take (length rows - 1) (drop 1 rows)) o
+unfoldable pub in_brackets : List ℕ → List ℕ → List ℕ → List Entry → ℕ → Bool
+in_brackets kinds xs rows all o = occurrence_says kinds xs all (take (length rows - 1) (drop 1 rows)) o
 
-pub occurrence-says : (kinds xs rows : List ℕ) (all : List Entry) (o : ℕ) (r : Bool) → r ≡ rowsSay kinds xs (chosen_of (record { all = false; occurrence = o }) all) (take (length rows - 1) (drop 1 rows)) → r ≡ inBrackets kinds xs rows all o
-unfolding inBrackets
-occurrence-says kinds xs rows all o r e = e ∙ ap (λ (l : List Entry). rowsSay kinds xs l (take (length rows - 1) (drop 1 rows))) (chosen-one o all)
+pub occurrence_says_lem : (kinds xs rows : List ℕ) (all : List Entry) (o : ℕ) (r : Bool) → r ≡ rows_say kinds xs (chosen_of (record { all = false; occurrence = o }) all) (take (length rows - 1) (drop 1 rows)) → r ≡ in_brackets kinds xs rows all o
+unfolding in_brackets
+occurrence_says_lem kinds xs rows all o r e = e ∙ ap (λ (l : List Entry). rows_say kinds xs l (take (length rows - 1) (drop 1 rows))) (chosen_one o all)
 
-module _ (kinds xs : List ℕ) (p : Probe) (o : Opened) (e : o ≡ openedFor kinds xs p) where
+module _ (kinds xs : List ℕ) (p : Probe) (o : Opened) (e : o ≡ opened_for kinds xs p) where
   -- what is opened of a value that there is
   record Told (m : Meaning) : Type 0 where
     known : Known xs m o
     value : RawValue
     found : value_at xs p.position ≡ FoundValue.Value value
-    same : value_of xs o ≡ valueIn xs value
-    truth : o.truth ≡ isTrue (valueIn xs value)
+    same : value_of xs o ≡ value_in xs value
+    truth : o.truth ≡ is_true (value_in xs value)
 
-  told : o.found ≡ true → Told (meaningOf p.operator (get_or kinds p.index 0))
-  unfolding openedFor openedValue value_of
+  told : o.found ≡ true → Told (meaning_of p.operator (get_or kinds p.index 0))
+  unfolding opened_for opened_value value_of
   told h = by_value (value_at xs p.position) refl
     where
-      by_value : (f : FoundValue) → value_at xs p.position ≡ f → Told (meaningOf p.operator (get_or kinds p.index 0))
+      by_value : (f : FoundValue) → value_at xs p.position ≡ f → Told (meaning_of p.operator (get_or kinds p.index 0))
       by_value (FoundValue.Value v) i =
-          let is : o ≡ openedValue (meaningOf p.operator (get_or kinds p.index 0)) v (valueIn xs v) = e ∙ ap (openedBy xs (meaningOf p.operator (get_or kinds p.index 0))) i in
+          let is : o ≡ opened_value (meaning_of p.operator (get_or kinds p.index 0)) v (value_in xs v) = e ∙ ap (opened_by xs (meaning_of p.operator (get_or kinds p.index 0))) i in
           let q : PlacedValue xs v = value-at-placed xs p.position (value_at xs p.position) v refl i in
           record {
             known = record { order = rw is q.order; within = rw is q.within; read = rw is };
@@ -218,62 +218,62 @@ module _ (kinds xs : List ℕ) (p : Probe) (o : Opened) (e : o ≡ openedFor kin
             truth = rw is;
           }
       by_value FoundValue.Nothing i =
-          let none : false ≡ true = sym (ap (λ (q : Opened). q.found) (e ∙ ap (openedBy xs (meaningOf p.operator (get_or kinds p.index 0))) i)) ∙ h in
+          let none : false ≡ true = sym (ap (λ (q : Opened). q.found) (e ∙ ap (opened_by xs (meaning_of p.operator (get_or kinds p.index 0))) i)) ∙ h in
           absurd (let z : ◌≡◌ {A = ℕ} 0 1 = cc in omega arith)
 
-  pub probe-known : (m : Meaning) (kind : ℕ) → o.found ≡ true → kind ≡ get_or kinds p.index 0 → m ≡ meaningOf p.operator kind → Known xs m o
-  probe-known m kind h i j = subst (λ (n : Meaning). Known xs n o) (sym (j ∙ ap (meaningOf p.operator) i)) (told h).known
+  pub probe_known : (m : Meaning) (kind : ℕ) → o.found ≡ true → kind ≡ get_or kinds p.index 0 → m ≡ meaning_of p.operator kind → Known xs m o
+  probe_known m kind h i j = subst (λ (n : Meaning). Known xs n o) (sym (j ∙ ap (meaning_of p.operator) i)) (told h).known
 
   -- where none is opened there is none
   none_told : o.found ≡ false → value_at xs p.position ≡ FoundValue.Nothing
-  unfolding openedFor openedValue
+  unfolding opened_for opened_value
   none_told h = by_value (value_at xs p.position) refl
     where
       by_value : (f : FoundValue) → value_at xs p.position ≡ f → f ≡ FoundValue.Nothing
       by_value (FoundValue.Value v) i =
-          let some : true ≡ false = sym (ap (λ (q : Opened). q.found) (e ∙ ap (openedBy xs (meaningOf p.operator (get_or kinds p.index 0))) i)) ∙ h in
+          let some : true ≡ false = sym (ap (λ (q : Opened). q.found) (e ∙ ap (opened_by xs (meaning_of p.operator (get_or kinds p.index 0))) i)) ∙ h in
           absurd (let z : ◌≡◌ {A = ℕ} 0 1 = cc in omega arith)
       by_value FoundValue.Nothing i = refl
 
   -- a test without brackets
   module _ (es : List Entry) where
-    pub plain_closed : o.found ≡ false → false ≡ probeSays kinds xs p es
-    unfolding probeSays
+    pub plain_closed : o.found ≡ false → false ≡ probe_says kinds xs p es
+    unfolding probe_says
     plain_closed h = rw (none_told h)
 
-    pub plain-opened : (m : Meaning) (kind : ℕ) (s r : Bool) → o.found ≡ true → kind ≡ get_or kinds p.index 0 → m ≡ meaningOf p.operator kind
-        → s ≡ someValue (textCounts m (value_of xs o)) (valuesAt p.index es) → r ≡ someSays m o.truth s → r ≡ probeSays kinds xs p es
-    unfolding probeSays
+    pub plain-opened : (m : Meaning) (kind : ℕ) (s r : Bool) → o.found ≡ true → kind ≡ get_or kinds p.index 0 → m ≡ meaning_of p.operator kind
+        → s ≡ some_value (text_counts m (value_of xs o)) (values_at p.index es) → r ≡ some_says m o.truth s → r ≡ probe_says kinds xs p es
+    unfolding probe_says
     plain-opened m kind s r h i j q y =
-        let is : m ≡ meaningOf p.operator (get_or kinds p.index 0) = j ∙ ap (meaningOf p.operator) i in
+        let is : m ≡ meaning_of p.operator (get_or kinds p.index 0) = j ∙ ap (meaning_of p.operator) i in
         let w = told h in
-        rw w.found (says-by-some m (value_of xs o) (valuesAt p.index es) o.truth s r q (w.truth ∙ ap isTrue (sym w.same)) y ∙ ap₂ (λ (n : Meaning) (v : List ℕ). says_of n v (valuesAt p.index es)) is w.same)
+        rw w.found (says_by_some m (value_of xs o) (values_at p.index es) o.truth s r q (w.truth ∙ ap is_true (sym w.same)) y ∙ ap₂ (λ (n : Meaning) (v : List ℕ). says_of n v (values_at p.index es)) is w.same)
 
   -- a test after brackets
   module _ (inner : List ℕ) (k : Chosen) (all : List Entry) where
-    pub probe-closed : o.found ≡ false → false ≡ probeSaysEach kinds xs inner p k all
-    unfolding probeSaysEach
-    probe-closed h = rw (none_told h)
+    pub probe_closed : o.found ≡ false → false ≡ probe_says_each kinds xs inner p k all
+    unfolding probe_says_each
+    probe_closed h = rw (none_told h)
 
-    pub probe-opened : (m : Meaning) (kind : ℕ) (s r : Bool) → o.found ≡ true → kind ≡ get_or kinds p.index 0 → m ≡ meaningOf p.operator kind
-        → s ≡ someEntry (occurrenceSays kinds xs all inner) k p.index m (value_of xs o) all → r ≡ someSays m o.truth s → r ≡ probeSaysEach kinds xs inner p k all
-    unfolding probeSaysEach
-    probe-opened m kind s r h i j q y =
-        let is : m ≡ meaningOf p.operator (get_or kinds p.index 0) = j ∙ ap (meaningOf p.operator) i in
+    pub probe_opened : (m : Meaning) (kind : ℕ) (s r : Bool) → o.found ≡ true → kind ≡ get_or kinds p.index 0 → m ≡ meaning_of p.operator kind
+        → s ≡ some_entry (occurrence_says kinds xs all inner) k p.index m (value_of xs o) all → r ≡ some_says m o.truth s → r ≡ probe_says_each kinds xs inner p k all
+    unfolding probe_says_each
+    probe_opened m kind s r h i j q y =
+        let is : m ≡ meaning_of p.operator (get_or kinds p.index 0) = j ∙ ap (meaning_of p.operator) i in
         let w = told h in
-        rw w.found (y ∙ ap₂ (λ (a b : Bool). someSays m a b) w.truth (q ∙ ap (λ (v : List ℕ). someEntry (occurrenceSays kinds xs all inner) k p.index m v all) w.same) ∙ ap (λ (n : Meaning). someSays n (isTrue (valueIn xs w.value)) (someEntry (occurrenceSays kinds xs all inner) k p.index n (valueIn xs w.value) all)) is)
+        rw w.found (y ∙ ap₂ (λ (a b : Bool). some_says m a b) w.truth (q ∙ ap (λ (v : List ℕ). some_entry (occurrence_says kinds xs all inner) k p.index m v all) w.same) ∙ ap (λ (n : Meaning). some_says n (is_true (value_in xs w.value)) (some_entry (occurrence_says kinds xs all inner) k p.index n (value_in xs w.value) all)) is)
 
 -- ---- a value that was opened
 
 -- the first entry that counts for a value is that for the same value
-first-same : (k : Chosen) (m : Meaning) (card cells : List ℕ) (i from r : ℕ) {v w : List ℕ} → v ≡ w → FirstFrom (entryCounts k m v) card cells i from r → FirstFrom (entryCounts k m w) card cells i from r
-first-same k m card cells i from r e f = subst (λ (x : List ℕ). FirstFrom (entryCounts k m x) card cells i from r) e f
+first-same : (k : Chosen) (m : Meaning) (card cells : List ℕ) (i from r : ℕ) {v w : List ℕ} → v ≡ w → FirstFrom (entry_counts k m v) card cells i from r → FirstFrom (entry_counts k m w) card cells i from r
+first-same k m card cells i from r e f = subst (λ (x : List ℕ). FirstFrom (entry_counts k m x) card cells i from r) e f
 
 module _ (raw out : List ℕ) (n : ℕ) (d : Decoded raw out n) where
-  pub decoded-read : (m : Meaning) (w : Readings) → w ≡ readingsFor m (decode false raw) → w ≡ readingsFor m (take n out)
-  decoded-read m w e = e ∙ ap (readingsFor m) (sym d.is)
+  pub decoded-read : (m : Meaning) (w : Readings) → w ≡ readings_for m (decode false raw) → w ≡ readings_for m (take n out)
+  decoded-read m w e = e ∙ ap (readings_for m) (sym d.is)
 
-  pub decoded-first : (k : Chosen) (m : Meaning) (card cells : List ℕ) (i from r : ℕ) → FirstFrom (entryCounts k m (take n out)) card cells i from r → FirstFrom (entryCounts k m (decode false raw)) card cells i from r
+  pub decoded-first : (k : Chosen) (m : Meaning) (card cells : List ℕ) (i from r : ℕ) → FirstFrom (entry_counts k m (take n out)) card cells i from r → FirstFrom (entry_counts k m (decode false raw)) card cells i from r
   decoded-first k m card cells i from r f = first-same k m card cells i from r d.is f
 
 module _ (xs : List ℕ) (m : Meaning) (o : Opened) (w : Known xs m o) where
@@ -281,89 +281,89 @@ module _ (xs : List ℕ) (m : Meaning) (o : Opened) (w : Known xs m o) where
   unfolding value_of
   escaped-value h = ap (λ (b : Bool). contents b (part xs o.start o.end)) (sym h)
 
-  plain_value : o.escaped ≡ false → part xs o.start o.end ≡ value_of xs o
+  plain_value_lem : o.escaped ≡ false → part xs o.start o.end ≡ value_of xs o
   unfolding value_of
-  plain_value h = ap (λ (b : Bool). contents b (part xs o.start o.end)) (sym h)
+  plain_value_lem h = ap (λ (b : Bool). contents b (part xs o.start o.end)) (sym h)
 
-  pub escaped-read : o.escaped ≡ true → o.readings ≡ readingsFor m (decode false (part xs o.start o.end))
-  escaped-read h = w.read ∙ ap (readingsFor m) (sym (escaped-value h))
+  pub escaped-read : o.escaped ≡ true → o.readings ≡ readings_for m (decode false (part xs o.start o.end))
+  escaped-read h = w.read ∙ ap (readings_for m) (sym (escaped-value h))
 
-  pub plain-read : o.escaped ≡ false → o.readings ≡ readingsFor m (part xs o.start o.end)
-  plain-read h = w.read ∙ ap (readingsFor m) (sym (plain_value h))
+  pub plain-read : o.escaped ≡ false → o.readings ≡ readings_for m (part xs o.start o.end)
+  plain-read h = w.read ∙ ap (readings_for m) (sym (plain_value_lem h))
 
   module _ (k : Chosen) (card cells : List ℕ) (i from r : ℕ) where
-    pub escaped-first : o.escaped ≡ true → FirstFrom (entryCounts k m (decode false (part xs o.start o.end))) card cells i from r → FirstFrom (entryCounts k m (value_of xs o)) card cells i from r
+    pub escaped-first : o.escaped ≡ true → FirstFrom (entry_counts k m (decode false (part xs o.start o.end))) card cells i from r → FirstFrom (entry_counts k m (value_of xs o)) card cells i from r
     escaped-first h f = first-same k m card cells i from r (escaped-value h) f
 
-    pub plain-first : o.escaped ≡ false → FirstFrom (entryCounts k m (part xs o.start o.end)) card cells i from r → FirstFrom (entryCounts k m (value_of xs o)) card cells i from r
-    plain-first h f = first-same k m card cells i from r (plain_value h) f
+    pub plain-first : o.escaped ≡ false → FirstFrom (entry_counts k m (part xs o.start o.end)) card cells i from r → FirstFrom (entry_counts k m (value_of xs o)) card cells i from r
+    plain-first h f = first-same k m card cells i from r (plain_value_lem h) f
 
 -- ---- a test without brackets, by the lists of the card
 
 module _ (card cells : List ℕ) (spans : List ℤ) (h : KeepsCard card cells spans) (i : ℕ) (l : i < 32) (z : get_or cells (544 + i) 0 ≡ 0) where
-  is-kept : IsKept cells i
-  is-kept = h.kept i l z
+  is_kept : IsKept cells i
+  is_kept = h.kept i l z
 
-  pub test-chain : readCard card ≡ WellFormed → (from : ℕ) → from ≡ get_or cells i 0 → OnChain card cells i from
-  test-chain w from e = chain-begins card cells spans h i from w l is-kept e
+  pub test_chain : read_card card ≡ WellFormed → (from : ℕ) → from ≡ get_or cells i 0 → OnChain card cells i from
+  test_chain w from e = chain_begins card cells spans h i from w l is_kept e
 
-  pub test-opened : (xs : List ℕ) (p : Probe) (o : Opened) → o ≡ openedFor (kindsIn cells) xs p → p.index ≡ i → (k : Chosen) (m : Meaning) (kind from first : ℕ) (r : Bool) → o.found ≡ true → kind ≡ get_or (kindsIn cells) i 0
-      → m ≡ meaningOf p.operator kind → from ≡ get_or cells i 0 → FirstFrom (entryCounts k m (value_of xs o)) card cells i from first → r ≡ someSays m o.truth (ltb 0 first)
-      → r ≡ probeSays (kindsIn cells) xs p (chosen_of k (entriesOf card))
-  test-opened xs p o e same k m kind from first r f ke me fe c y =
-      plain-opened (kindsIn cells) xs p o e (chosen_of k (entriesOf card)) m kind (ltb 0 first) r f (ke ∙ ap (λ (n : ℕ). get_or (kindsIn cells) n 0) (sym same)) me
-      (some_first card cells spans h i l is-kept k m (value_of xs o) from first fe c ∙ ap (λ (n : ℕ). someValue (textCounts m (value_of xs o)) (valuesAt n (chosen_of k (entriesOf card)))) (sym same)) y
+  pub test_opened : (xs : List ℕ) (p : Probe) (o : Opened) → o ≡ opened_for (kinds_in cells) xs p → p.index ≡ i → (k : Chosen) (m : Meaning) (kind from first : ℕ) (r : Bool) → o.found ≡ true → kind ≡ get_or (kinds_in cells) i 0
+      → m ≡ meaning_of p.operator kind → from ≡ get_or cells i 0 → FirstFrom (entry_counts k m (value_of xs o)) card cells i from first → r ≡ some_says m o.truth (ltb 0 first)
+      → r ≡ probe_says (kinds_in cells) xs p (chosen_of k (entries_of card))
+  test_opened xs p o e same k m kind from first r f ke me fe c y =
+      plain-opened (kinds_in cells) xs p o e (chosen_of k (entries_of card)) m kind (ltb 0 first) r f (ke ∙ ap (λ (n : ℕ). get_or (kinds_in cells) n 0) (sym same)) me
+      (some_first card cells spans h i l is_kept k m (value_of xs o) from first fe c ∙ ap (λ (n : ℕ). some_value (text_counts m (value_of xs o)) (values_at n (chosen_of k (entries_of card)))) (sym same)) y
 
 -- ---- rows, from left to right with a verdict in hand
 
-decided-so : (c : Connective) (a b : Bool) → decides c a ≡ true → a ≡ joined c a b
-decided-so Connective.And true b h = both_ways h refl
-decided-so Connective.And false b h = refl
-decided-so Connective.Or true b h = refl
-decided-so Connective.Or false b h = both_ways h refl
+decided_so : (c : Connective) (a b : Bool) → decides c a ≡ true → a ≡ joined c a b
+decided_so Connective.And true b h = both_ways h refl
+decided_so Connective.And false b h = refl
+decided_so Connective.Or true b h = refl
+decided_so Connective.Or false b h = both_ways h refl
 
-decided-not : (c : Connective) (a b : Bool) → decides c a ≡ false → b ≡ joined c a b
-decided-not Connective.And true b h = refl
-decided-not Connective.And false b h = both_ways refl h
-decided-not Connective.Or true b h = both_ways refl h
-decided-not Connective.Or false b h = refl
+decided_not : (c : Connective) (a b : Bool) → decides c a ≡ false → b ≡ joined c a b
+decided_not Connective.And true b h = refl
+decided_not Connective.And false b h = both_ways refl h
+decided_not Connective.Or true b h = both_ways refl h
+decided_not Connective.Or false b h = refl
 
-abbrev whenStated : Option Expression → Option Bool → Option Bool
-whenStated none then = none
-whenStated (some e) then = then
+abbrev when_stated : Option Expression → Option Bool → Option Bool
+when_stated none then = none
+when_stated (some e) then = then
 
 module _ (kinds xs : List ℕ) (k : Chosen) (all : List Entry) where
   -- brackets with n rows in them, by the row of the test
-  abbrev tellTest : (ℕ → Bool → Option Bool) → ℕ → List ℕ → Row → Option Bool
-  tellTest go n cs (Row.Test p) = whenStated (stated (take n cs)) (go n (probeSaysEach kinds xs (take n cs) p k all))
-  tellTest go n cs (Row.Bracket m) = none
-  tellTest go n cs Row.Not = none
-  tellTest go n cs (Row.Connect c m) = none
-  tellTest go n cs Row.Unknown = none
+  abbrev tell_test : (ℕ → Bool → Option Bool) → ℕ → List ℕ → Row → Option Bool
+  tell_test go n cs (Row.Test p) = when_stated (stated (take n cs)) (go n (probe_says_each kinds xs (take n cs) p k all))
+  tell_test go n cs (Row.Bracket m) = none
+  tell_test go n cs Row.Not = none
+  tell_test go n cs (Row.Connect c m) = none
+  tell_test go n cs Row.Unknown = none
 
-  abbrev tellBrackets : (ℕ → Bool → Option Bool) → ℕ → List ℕ → Option Bool
-  tellBrackets go n [] = none
-  tellBrackets go n (c ∷ cs) = tellTest (λ m u. go (suc m) u) n cs (row_of c)
+  abbrev tell_brackets : (ℕ → Bool → Option Bool) → ℕ → List ℕ → Option Bool
+  tell_brackets go n [] = none
+  tell_brackets go n (c ∷ cs) = tell_test (λ m u. go (suc m) u) n cs (row_of c)
 
-  abbrev tellRow : (ℕ → Bool → Option Bool) → Bool → List ℕ → Row → Option Bool
-  tellRow go v cs (Row.Test p) = go 0 (probeSays kinds xs p (chosen_of k all))
-  tellRow go v cs (Row.Bracket n) = tellBrackets go n cs
-  tellRow go v cs Row.Not = go 0 (not v)
-  tellRow go v cs (Row.Connect c n) = go (skipped c v n) v
-  tellRow go v cs Row.Unknown = none
+  abbrev tell_row : (ℕ → Bool → Option Bool) → Bool → List ℕ → Row → Option Bool
+  tell_row go v cs (Row.Test p) = go 0 (probe_says kinds xs p (chosen_of k all))
+  tell_row go v cs (Row.Bracket n) = tell_brackets go n cs
+  tell_row go v cs Row.Not = go 0 (not v)
+  tell_row go v cs (Row.Connect c n) = go (skipped c v n) v
+  tell_row go v cs Row.Unknown = none
 
   -- the verdict in hand, and all rows behind the next n
   unfoldable pub tell : ℕ → Bool → List ℕ → Option Bool
   tell zero v [] = some v
   tell (suc n) v [] = none
-  tell zero v (c ∷ cs) = tellRow (λ n u. tell n u cs) v cs (row_of c)
+  tell zero v (c ∷ cs) = tell_row (λ n u. tell n u cs) v cs (row_of c)
   tell (suc n) v (c ∷ cs) = tell n v cs
 
-  tell-skip : (n : ℕ) (v : Bool) (cs : List ℕ) (r : Bool) → tell n v cs ≡ some r → (n ≤ length cs) × (tell 0 v (drop n cs) ≡ some r)
+  tell_skip : (n : ℕ) (v : Bool) (cs : List ℕ) (r : Bool) → tell n v cs ≡ some r → (n ≤ length cs) × (tell 0 v (drop n cs) ≡ some r)
   unfolding tell
-  tell-skip zero v cs r h = (omega arith, h)
-  tell-skip (suc n) v [] r h = absurd (none-ne-some _ h)
-  tell-skip (suc n) v (c ∷ cs) r h = let t = tell-skip n v cs r h in (omega (arith, t.0), t.1)
+  tell_skip zero v cs r h = (omega arith, h)
+  tell_skip (suc n) v [] r h = absurd (none-ne-some _ h)
+  tell_skip (suc n) v (c ∷ cs) r h = let t = tell_skip n v cs r h in (omega (arith, t.0), t.1)
 
   tell-part : (l : List ℕ) (v : Bool) (cs : List ℕ) → tell (length l) v (l ++ cs) ≡ tell 0 v cs
   unfolding tell
@@ -371,33 +371,33 @@ module _ (kinds xs : List ℕ) (k : Chosen) (all : List Entry) where
   tell-part (c ∷ l) v cs = tell-part l v cs
 
   -- the rows of an expression say what it says
-  tell-encode : (e : Expression) → Writable e → (v : Bool) (cs : List ℕ) → tell 0 v (encode e ++ cs) ≡ tell 0 (expressionSays kinds xs (chosen_of k all) e) cs
-  unfolding tell encode expressionSays
-  tell-encode (probing p) (writable-test s) v cs = ap (tellRow (λ n u. tell n u cs) v cs) (row-test p s)
-  tell-encode (choosing e p) (writable-bracket w s) v cs =
+  tell-encode : (e : Expression) → Writable e → (v : Bool) (cs : List ℕ) → tell 0 v (encode e ++ cs) ≡ tell 0 (expression_says kinds xs (chosen_of k all) e) cs
+  unfolding tell encode expression_says
+  tell-encode (probing p) (writable_test s) v cs = ap (tell_row (λ n u. tell n u cs) v cs) (row_test p s)
+  tell-encode (choosing e p) (writable_bracket w s) v cs =
       let n : ℕ = length (encode e) in
       let c : ℕ = cell_of (Row.Test p) in
-      let part-is : take n (encode e ++ cs) ≡ encode e = take-append_seam (encode e) cs in
-      ap (tellRow (λ m u. tell m u (c ∷ (encode e ++ cs))) v (c ∷ (encode e ++ cs))) (row-bracket n)
-      ∙ ap (tellTest (λ m u. tell m u (encode e ++ cs)) n (encode e ++ cs)) (row-test p s)
-      ∙ ap (λ (l : List ℕ). whenStated (stated l) (tell n (probeSaysEach kinds xs l p k all) (encode e ++ cs))) part-is
-      ∙ ap (λ (o : Option Expression). whenStated o (tell n (probeSaysEach kinds xs (encode e) p k all) (encode e ++ cs))) (stated-encode e w)
-      ∙ tell-part (encode e) (probeSaysEach kinds xs (encode e) p k all) cs
-      ∙ ap (λ (u : Bool). tell 0 u cs) (bracket-is kinds xs k all p e (encode e) (stated-encode e w))
-  tell-encode (negating e) (writable-not w) v cs =
-      let a : Bool = expressionSays kinds xs (chosen_of k all) e in
-      ap (tell 0 v) (append_assoc (encode e) (cell_of Row.Not ∷ []) cs) ∙ tell-encode e w v (cell_of Row.Not ∷ cs) ∙ ap (tellRow (λ n u. tell n u cs) a cs) row-not
-  tell-encode (joining o e f) (writable-join w x) v cs =
+      let part_is : take n (encode e ++ cs) ≡ encode e = take-append_seam (encode e) cs in
+      ap (tell_row (λ m u. tell m u (c ∷ (encode e ++ cs))) v (c ∷ (encode e ++ cs))) (row_bracket n)
+      ∙ ap (tell_test (λ m u. tell m u (encode e ++ cs)) n (encode e ++ cs)) (row_test p s)
+      ∙ ap (λ (l : List ℕ). when_stated (stated l) (tell n (probe_says_each kinds xs l p k all) (encode e ++ cs))) part_is
+      ∙ ap (λ (o : Option Expression). when_stated o (tell n (probe_says_each kinds xs (encode e) p k all) (encode e ++ cs))) (stated-encode e w)
+      ∙ tell-part (encode e) (probe_says_each kinds xs (encode e) p k all) cs
+      ∙ ap (λ (u : Bool). tell 0 u cs) (bracket_is kinds xs k all p e (encode e) (stated-encode e w))
+  tell-encode (negating e) (writable_not w) v cs =
+      let a : Bool = expression_says kinds xs (chosen_of k all) e in
+      ap (tell 0 v) (append_assoc (encode e) (cell_of Row.Not ∷ []) cs) ∙ tell-encode e w v (cell_of Row.Not ∷ cs) ∙ ap (tell_row (λ n u. tell n u cs) a cs) row_not
+  tell-encode (joining o e f) (writable_join w x) v cs =
       let n : ℕ = length (encode f) in
       let c : ℕ = cell_of (Row.Connect o n) in
-      let a : Bool = expressionSays kinds xs (chosen_of k all) e in
-      let b : Bool = expressionSays kinds xs (chosen_of k all) f in
-      ap (tell 0 v) (append_assoc (encode e) (c ∷ encode f) cs) ∙ tell-encode e w v (c ∷ (encode f ++ cs)) ∙ ap (tellRow (λ m u. tell m u (encode f ++ cs)) a (encode f ++ cs)) (row-connect o n)
-      ∙ by-verdict a b (decides o a) refl (tell-encode f x a cs)
+      let a : Bool = expression_says kinds xs (chosen_of k all) e in
+      let b : Bool = expression_says kinds xs (chosen_of k all) f in
+      ap (tell 0 v) (append_assoc (encode e) (c ∷ encode f) cs) ∙ tell-encode e w v (c ∷ (encode f ++ cs)) ∙ ap (tell_row (λ m u. tell m u (encode f ++ cs)) a (encode f ++ cs)) (row_connect o n)
+      ∙ by_verdict a b (decides o a) refl (tell-encode f x a cs)
     where
-      by-verdict : (a b t : Bool) → decides o a ≡ t → tell 0 a (encode f ++ cs) ≡ tell 0 b cs → tell (cond (decides o a) (length (encode f)) 0) a (encode f ++ cs) ≡ tell 0 (joined o a b) cs
-      by-verdict a b true h i = ap (λ (t : Bool). tell (cond t (length (encode f)) 0) a (encode f ++ cs)) h ∙ tell-part (encode f) a cs ∙ ap (λ (u : Bool). tell 0 u cs) (decided-so o a b h)
-      by-verdict a b false h i = ap (λ (t : Bool). tell (cond t (length (encode f)) 0) a (encode f ++ cs)) h ∙ i ∙ ap (λ (u : Bool). tell 0 u cs) (decided-not o a b h)
+      by_verdict : (a b t : Bool) → decides o a ≡ t → tell 0 a (encode f ++ cs) ≡ tell 0 b cs → tell (cond (decides o a) (length (encode f)) 0) a (encode f ++ cs) ≡ tell 0 (joined o a b) cs
+      by_verdict a b true h i = ap (λ (t : Bool). tell (cond t (length (encode f)) 0) a (encode f ++ cs)) h ∙ tell-part (encode f) a cs ∙ ap (λ (u : Bool). tell 0 u cs) (decided_so o a b h)
+      by_verdict a b false h i = ap (λ (t : Bool). tell (cond t (length (encode f)) 0) a (encode f ++ cs)) h ∙ i ∙ ap (λ (u : Bool). tell 0 u cs) (decided_not o a b h)
 
   -- brackets that are told of
   record ToldOf (n : ℕ) (cs : List ℕ) (r : Bool) : Type 0 where
@@ -408,27 +408,27 @@ module _ (kinds xs : List ℕ) (k : Chosen) (all : List Entry) where
     row : row_of first ≡ Row.Test probe
     expression : Expression
     states : stated (take n rest) ≡ some expression
-    goes : tell n (probeSaysEach kinds xs (take n rest) probe k all) rest ≡ some r
+    goes : tell n (probe_says_each kinds xs (take n rest) probe k all) rest ≡ some r
 
-  told_of : (n : ℕ) (cs : List ℕ) (r : Bool) → tellBrackets (λ m u. tell m u cs) n cs ≡ some r → ToldOf n cs r
+  told_of : (n : ℕ) (cs : List ℕ) (r : Bool) → tell_brackets (λ m u. tell m u cs) n cs ≡ some r → ToldOf n cs r
   unfolding tell
   told_of n [] r h = absurd (none-ne-some _ h)
   told_of n (c ∷ cs) r h = by_row (row_of c) refl h
     where
-      by_row : (q : Row) → row_of c ≡ q → tellTest (λ m u. tell m u cs) n cs q ≡ some r → ToldOf n (c ∷ cs) r
-      by_row (Row.Test p) i g = by-stated (stated (take n cs)) refl g
+      by_row : (q : Row) → row_of c ≡ q → tell_test (λ m u. tell m u cs) n cs q ≡ some r → ToldOf n (c ∷ cs) r
+      by_row (Row.Test p) i g = by_stated (stated (take n cs)) refl g
         where
-          by-stated : (o : Option Expression) → stated (take n cs) ≡ o → whenStated o (tell n (probeSaysEach kinds xs (take n cs) p k all) cs) ≡ some r → ToldOf n (c ∷ cs) r
-          by-stated none j g = absurd (none-ne-some _ g)
-          by-stated (some e) j g = record { first = c; rest = cs; are = refl; probe = p; row = i; expression = e; states = j; goes = g }
+          by_stated : (o : Option Expression) → stated (take n cs) ≡ o → when_stated o (tell n (probe_says_each kinds xs (take n cs) p k all) cs) ≡ some r → ToldOf n (c ∷ cs) r
+          by_stated none j g = absurd (none-ne-some _ g)
+          by_stated (some e) j g = record { first = c; rest = cs; are = refl; probe = p; row = i; expression = e; states = j; goes = g }
       by_row (Row.Bracket m) i g = absurd (none-ne-some _ g)
       by_row Row.Not i g = absurd (none-ne-some _ g)
       by_row (Row.Connect o m) i g = absurd (none-ne-some _ g)
       by_row Row.Unknown i g = absurd (none-ne-some _ g)
 
 -- the parameters that a part of the rows asks about
-kept-part : {rows cells : List ℕ} → AllKept rows cells → (m e : ℕ) → e ≤ length rows → AllKept (part rows m e) cells
-kept-part {rows} {cells} w m e h =
+kept_part : {rows cells : List ℕ} → AllKept rows cells → (m e : ℕ) → e ≤ length rows → AllKept (part rows m e) cells
+kept_part {rows} {cells} w m e h =
     record {
       each = λ j l p r.
           let z : j < e - m = omega (arith, l, length-take (e - m) (drop m rows)) in
@@ -445,94 +445,94 @@ inner_of : (x : ℕ) (l cs : List ℕ) → cs ≡ x ∷ l → take (length cs - 
 inner_of x l cs h = ap (λ (c : List ℕ). take (length c - 1) (drop 1 c)) h ∙ take_all (length (x ∷ l) - 1) l (omega arith)
 
 module _ (kinds xs rows : List ℕ) (k : Chosen) (all : List Entry) where
-  pub telling-start : Whole rows → Telling kinds xs rows k all (rowsSay kinds xs (chosen_of k all) rows) 0 false
+  pub telling_start : Whole rows → Telling kinds xs rows k all (rows_say kinds xs (chosen_of k all) rows) 0 false
   unfolding tell
-  telling-start w =
+  telling_start w =
       let e : Expression = w.expression in
-      let c = stated-are rows e w.states in
-      let says : rowsSay kinds xs (chosen_of k all) rows ≡ expressionSays kinds xs (chosen_of k all) e = rows_are kinds xs e rows (chosen_of k all) w.states in
+      let c = stated_are rows e w.states in
+      let says : rows_say kinds xs (chosen_of k all) rows ≡ expression_says kinds xs (chosen_of k all) e = rows_are kinds xs e rows (chosen_of k all) w.states in
       record {
         within = omega arith;
         rest = ap (tell kinds xs k all 0 false) (c.are ∙ sym (append-nil (encode e))) ∙ tell-encode kinds xs k all e c.writable false [] ∙ ap some (sym says);
       }
 
   module _ (r : Bool) (at : ℕ) (v : Bool) (s : Telling kinds xs rows k all r at v) where
-    pub telling-end : length rows ≤ at → v ≡ r
+    pub telling_end : length rows ≤ at → v ≡ r
     unfolding tell
-    telling-end h =
+    telling_end h =
         let n : at ≡ length rows = omega (arith, h, s.within) in
         let none_left : drop at rows ≡ [] = ap (λ (m : ℕ). drop m rows) n ∙ drop-length rows in
         some-injective _ _ (sym (ap (tell kinds xs k all 0 v) none_left) ∙ s.rest)
 
     module _ (l : at < length rows) (q : Row) (e : q ≡ row_of (get_or rows at 0)) where
-      next : tellRow kinds xs k all (λ n u. tell kinds xs k all n u (drop (suc at) rows)) v (drop (suc at) rows) q ≡ some r
+      next : tell_row kinds xs k all (λ n u. tell kinds xs k all n u (drop (suc at) rows)) v (drop (suc at) rows) q ≡ some r
       unfolding tell
-      next = ap (tellRow kinds xs k all (λ n u. tell kinds xs k all n u (drop (suc at) rows)) v (drop (suc at) rows)) e ∙ sym (ap (tell kinds xs k all 0 v) (drop-cons rows at 0 l)) ∙ s.rest
+      next = ap (tell_row kinds xs k all (λ n u. tell kinds xs k all n u (drop (suc at) rows)) v (drop (suc at) rows)) e ∙ sym (ap (tell kinds xs k all 0 v) (drop-cons rows at 0 l)) ∙ s.rest
 
-      by_row : (p : Row) → q ≡ p → tellRow kinds xs k all (λ n u. tell kinds xs k all n u (drop (suc at) rows)) v (drop (suc at) rows) p ≡ some r
-      by_row p j = ap (tellRow kinds xs k all (λ n u. tell kinds xs k all n u (drop (suc at) rows)) v (drop (suc at) rows)) (sym j) ∙ next
+      by_row : (p : Row) → q ≡ p → tell_row kinds xs k all (λ n u. tell kinds xs k all n u (drop (suc at) rows)) v (drop (suc at) rows) p ≡ some r
+      by_row p j = ap (tell_row kinds xs k all (λ n u. tell kinds xs k all n u (drop (suc at) rows)) v (drop (suc at) rows)) (sym j) ∙ next
 
       go_on : (n : ℕ) (u : Bool) → tell kinds xs k all n u (drop (suc at) rows) ≡ some r → (m : ℕ) → suc at + n ≡ m → Telling kinds xs rows k all r m u
       go_on n u h m i =
-          let t = tell-skip kinds xs k all n u (drop (suc at) rows) r h in
+          let t = tell_skip kinds xs k all n u (drop (suc at) rows) r h in
           record {
             within = omega (arith, i, l, t.0, length-drop (suc at) rows);
             rest = ap (tell kinds xs k all 0 u) (sym (drop-drop n (suc at) rows ∙ ap (λ (j : ℕ). drop j rows) i)) ∙ t.1;
           }
 
-      pub step-test : (p : Probe) (u : Bool) → q ≡ Row.Test p → u ≡ probeSays kinds xs p (chosen_of k all) → Telling kinds xs rows k all r (at + 1) u
-      step-test p u j h = go_on 0 u (ap (λ (x : Bool). tell kinds xs k all 0 x (drop (suc at) rows)) h ∙ by_row (Row.Test p) j) (at + 1) (omega arith)
+      pub step_test : (p : Probe) (u : Bool) → q ≡ Row.Test p → u ≡ probe_says kinds xs p (chosen_of k all) → Telling kinds xs rows k all r (at + 1) u
+      step_test p u j h = go_on 0 u (ap (λ (x : Bool). tell kinds xs k all 0 x (drop (suc at) rows)) h ∙ by_row (Row.Test p) j) (at + 1) (omega arith)
 
-      pub step-not : q ≡ Row.Not → Telling kinds xs rows k all r (at + 1) (not v)
-      step-not j = go_on 0 (not v) (by_row Row.Not j) (at + 1) (omega arith)
+      pub step_not : q ≡ Row.Not → Telling kinds xs rows k all r (at + 1) (not v)
+      step_not j = go_on 0 (not v) (by_row Row.Not j) (at + 1) (omega arith)
 
-      pub step-connect : (c : Connective) (n m : ℕ) → q ≡ Row.Connect c n → m ≡ skipped c v n → Telling kinds xs rows k all r (at + 1 + m) v
-      step-connect c n m j h = go_on m v (ap (λ (x : ℕ). tell kinds xs k all x v (drop (suc at) rows)) h ∙ by_row (Row.Connect c n) j) (at + 1 + m) (omega arith)
+      pub step_connect : (c : Connective) (n m : ℕ) → q ≡ Row.Connect c n → m ≡ skipped c v n → Telling kinds xs rows k all r (at + 1 + m) v
+      step_connect c n m j h = go_on m v (ap (λ (x : ℕ). tell kinds xs k all x v (drop (suc at) rows)) h ∙ by_row (Row.Connect c n) j) (at + 1 + m) (omega arith)
 
-      pub step-unknown : q ≡ Row.Unknown → false ≡ r
-      step-unknown j = absurd (none-ne-some _ (by_row Row.Unknown j))
+      pub step_unknown : q ≡ Row.Unknown → false ≡ r
+      step_unknown j = absurd (none-ne-some _ (by_row Row.Unknown j))
 
       module _ (n : ℕ) (j : q ≡ Row.Bracket n) where
         brackets : ToldOf kinds xs k all n (drop (suc at) rows) r
         brackets = told_of kinds xs k all n (drop (suc at) rows) r (by_row (Row.Bracket n) j)
 
-        pub bracket-room : at + 1 + n + 1 ≤ length rows
-        bracket-room =
-            let t = tell-skip kinds xs k all n (probeSaysEach kinds xs (take n brackets.rest) brackets.probe k all) brackets.rest r brackets.goes in
+        pub bracket_room : at + 1 + n + 1 ≤ length rows
+        bracket_room =
+            let t = tell_skip kinds xs k all n (probe_says_each kinds xs (take n brackets.rest) brackets.probe k all) brackets.rest r brackets.goes in
             omega (arith, l, t.0, ap length brackets.are, length-drop (suc at) rows)
 
-        abbrev part-rows : List ℕ
-        part-rows = part rows (at + 1) (at + 1 + n + 1)
+        abbrev part_rows : List ℕ
+        part_rows = part rows (at + 1) (at + 1 + n + 1)
 
-        part-are : part-rows ≡ brackets.first ∷ take n brackets.rest
-        part-are =
+        part_are : part_rows ≡ brackets.first ∷ take n brackets.rest
+        part_are =
             let size : at + 1 + n + 1 - (at + 1) ≡ suc n = omega arith in
             let from : at + 1 ≡ suc at = omega arith in
             ap₂ (λ (a b : ℕ). take a (drop b rows)) size from ∙ ap (take (suc n)) brackets.are
 
-        pub part-size : length part-rows ≡ n + 1
-        part-size = part_length rows (at + 1) (at + 1 + n + 1) bracket-room ∙ (omega arith)
+        pub part-size : length part_rows ≡ n + 1
+        part-size = part_length rows (at + 1) (at + 1 + n + 1) bracket_room ∙ (omega arith)
 
-        pub bracket-ready : {values : List ℕ} {ends : List ℤ} {card cells : List ℕ} {spans : List ℤ} → Ready xs rows values ends card cells spans
-            → Bracketed xs part-rows (take (length values - 2 * (at + 1)) (drop (2 * (at + 1)) values)) (take (length ends - 2 * (at + 1)) (drop (2 * (at + 1)) ends)) card cells spans
-        bracket-ready w =
+        pub bracket_ready : {values : List ℕ} {ends : List ℤ} {card cells : List ℕ} {spans : List ℤ} → Ready xs rows values ends card cells spans
+            → Bracketed xs part_rows (take (length values - 2 * (at + 1)) (drop (2 * (at + 1)) values)) (take (length ends - 2 * (at + 1)) (drop (2 * (at + 1)) ends)) card cells spans
+        bracket_ready w =
             record {
               short = w.short;
-              some-row = omega (arith, part-size);
+              some_row = omega (arith, part-size);
               test = brackets.probe;
-              row = ap (λ (c : List ℕ). row_of (get_or c 0 0)) part-are ∙ brackets.row;
-              whole = record { expression = brackets.expression; states = ap stated (inner_of brackets.first (take n brackets.rest) part-rows part-are) ∙ brackets.states };
-              opens = opens-second w.opens (at + 1) (at + 1 + n + 1) (omega arith) bracket-room;
-              well-formed = w.well-formed;
+              row = ap (λ (c : List ℕ). row_of (get_or c 0 0)) part_are ∙ brackets.row;
+              whole = record { expression = brackets.expression; states = ap stated (inner_of brackets.first (take n brackets.rest) part_rows part_are) ∙ brackets.states };
+              opens = opens_second w.opens (at + 1) (at + 1 + n + 1) (omega arith) bracket_room;
+              well_formed = w.well_formed;
               keeps = w.keeps;
-              all-kept = kept-part w.all-kept (at + 1) (at + 1 + n + 1) bracket-room;
+              all_kept = kept_part w.all_kept (at + 1) (at + 1 + n + 1) bracket_room;
             }
 
-        pub step-bracket : (u : Bool) → u ≡ bracketSays kinds xs part-rows k all → Telling kinds xs rows k all r (at + 1 + n + 1) u
+        pub step_bracket : (u : Bool) → u ≡ bracket_says kinds xs part_rows k all → Telling kinds xs rows k all r (at + 1 + n + 1) u
         unfolding tell
-        step-bracket u h =
-            let probe-is : probeOf (get_or part-rows 0 0 / 8) ≡ brackets.probe = cell-probe (get_or part-rows 0 0) brackets.probe (ap (λ (c : List ℕ). row_of (get_or c 0 0)) part-are ∙ brackets.row) in
-            let says : u ≡ probeSaysEach kinds xs (take n brackets.rest) brackets.probe k all = h ∙ ap₂ (λ (c : List ℕ) (p : Probe). probeSaysEach kinds xs c p k all) (inner_of brackets.first (take n brackets.rest) part-rows part-are) probe-is in
+        step_bracket u h =
+            let probe_is : probe_of (get_or part_rows 0 0 / 8) ≡ brackets.probe = cell_probe (get_or part_rows 0 0) brackets.probe (ap (λ (c : List ℕ). row_of (get_or c 0 0)) part_are ∙ brackets.row) in
+            let says : u ≡ probe_says_each kinds xs (take n brackets.rest) brackets.probe k all = h ∙ ap₂ (λ (c : List ℕ) (p : Probe). probe_says_each kinds xs c p k all) (inner_of brackets.first (take n brackets.rest) part_rows part_are) probe_is in
             go_on (suc n) u (ap (tell kinds xs k all (suc n) u) brackets.are ∙ ap (λ (x : Bool). tell kinds xs k all n x brackets.rest) says ∙ brackets.goes) (at + 1 + n + 1) (omega arith)
 
 -- ---- rows that are ready, and a test after brackets
@@ -541,74 +541,74 @@ module _ {xs rows values : List ℕ} {ends : List ℤ} {card cells : List ℕ} {
   pub ready-value : 2 * at + 1 < length values
   ready-value = omega (arith, l, w.opens.room)
 
-  pub ready-end : 2 * at + 1 < length ends
-  ready-end = omega (arith, l, w.opens.ends-room)
+  pub ready_end : 2 * at + 1 < length ends
+  ready_end = omega (arith, l, w.opens.ends_room)
 
   module _ (r : Row) (e : r ≡ row_of (get_or rows at 0)) (p : Probe) (j : r ≡ Row.Test p) where
-    pub ready-test : (o : Opened) → o ≡ openedAt values ends at → o ≡ openedFor (kindsIn cells) xs p
-    unfolding openedRow
-    ready-test o h = h ∙ w.opens.each at l ∙ ap (openedIn (kindsIn cells) xs) (sym e ∙ j)
+    pub ready_test : (o : Opened) → o ≡ opened_at values ends at → o ≡ opened_for (kinds_in cells) xs p
+    unfolding opened_row
+    ready_test o h = h ∙ w.opens.each at l ∙ ap (opened_in (kinds_in cells) xs) (sym e ∙ j)
 
-    pub ready-kept : get_or cells (544 + p.index) 0 ≡ 0
-    ready-kept = w.all-kept.each at l p (sym e ∙ j)
+    pub ready_kept : get_or cells (544 + p.index) 0 ≡ 0
+    ready_kept = w.all_kept.each at l p (sym e ∙ j)
 
 module _ {xs rows values : List ℕ} {ends : List ℤ} {card cells : List ℕ} {spans : List ℤ} (w : Bracketed xs rows values ends card cells spans) where
-  pub bracketed-value : 1 < length values
-  bracketed-value = omega (arith, w.some-row, w.opens.room)
+  pub bracketed_value : 1 < length values
+  bracketed_value = omega (arith, w.some_row, w.opens.room)
 
-  pub bracketed-end : 1 < length ends
-  bracketed-end = omega (arith, w.some-row, w.opens.ends-room)
+  pub bracketed_end : 1 < length ends
+  bracketed_end = omega (arith, w.some_row, w.opens.ends_room)
 
-  pub bracketed-inner : Ready xs (take (length rows - 1) (drop 1 rows)) (take (length values - 2) (drop 2 values)) (take (length ends - 2) (drop 2 ends)) card cells spans
-  bracketed-inner =
+  pub bracketed_inner : Ready xs (take (length rows - 1) (drop 1 rows)) (take (length values - 2) (drop 2 values)) (take (length ends - 2) (drop 2 ends)) card cells spans
+  bracketed_inner =
       record {
         short = w.short;
         whole = w.whole;
-        opens = opens-second w.opens 1 (length rows) w.some-row (omega arith);
-        well-formed = w.well-formed;
+        opens = opens_second w.opens 1 (length rows) w.some_row (omega arith);
+        well_formed = w.well_formed;
         keeps = w.keeps;
-        all-kept = kept-part w.all-kept 1 (length rows) (omega arith);
+        all_kept = kept_part w.all_kept 1 (length rows) (omega arith);
       }
 
-  module _ (p : Probe) (i : p ≡ probeOf (get_or rows 0 0 / 8)) where
-    test-is : w.test ≡ p
-    test-is = sym (i ∙ cell-probe (get_or rows 0 0) w.test w.row)
+  module _ (p : Probe) (i : p ≡ probe_of (get_or rows 0 0 / 8)) where
+    test_is : w.test ≡ p
+    test_is = sym (i ∙ cell_probe (get_or rows 0 0) w.test w.row)
 
-    pub bracketed-index : p.index < 32
-    bracketed-index = test-index (get_or rows 0 0) (Row.Test p) p (sym (w.row ∙ ap Row.Test test-is)) refl
+    pub bracketed_index : p.index < 32
+    bracketed_index = test_index (get_or rows 0 0) (Row.Test p) p (sym (w.row ∙ ap Row.Test test_is)) refl
 
-    bracketed-kept : IsKept cells p.index
-    bracketed-kept = w.keeps.kept p.index bracketed-index (w.all-kept.each 0 (omega (arith, w.some-row)) p (w.row ∙ ap Row.Test test-is))
+    bracketed_kept : IsKept cells p.index
+    bracketed_kept = w.keeps.kept p.index bracketed_index (w.all_kept.each 0 (omega (arith, w.some_row)) p (w.row ∙ ap Row.Test test_is))
 
-    pub bracketed-chain : (from : ℕ) → from ≡ get_or cells p.index 0 → OnChain card cells p.index from
-    bracketed-chain from e = chain-begins card cells spans w.keeps p.index from w.well-formed bracketed-index bracketed-kept e
+    pub bracketed_chain : (from : ℕ) → from ≡ get_or cells p.index 0 → OnChain card cells p.index from
+    bracketed_chain from e = chain_begins card cells spans w.keeps p.index from w.well_formed bracketed_index bracketed_kept e
 
-    module _ (o : Opened) (h : o ≡ openedAt values ends 0) where
-      opened-is : o ≡ openedFor (kindsIn cells) xs p
-      unfolding openedRow
-      opened-is = h ∙ w.opens.each 0 (omega (arith, w.some-row)) ∙ ap (openedIn (kindsIn cells) xs) (w.row ∙ ap Row.Test test-is)
+    module _ (o : Opened) (h : o ≡ opened_at values ends 0) where
+      opened_is : o ≡ opened_for (kinds_in cells) xs p
+      unfolding opened_row
+      opened_is = h ∙ w.opens.each 0 (omega (arith, w.some_row)) ∙ ap (opened_in (kinds_in cells) xs) (w.row ∙ ap Row.Test test_is)
 
-      abbrev inner-rows : List ℕ
-      inner-rows = take (length rows - 1) (drop 1 rows)
+      abbrev inner_rows : List ℕ
+      inner_rows = take (length rows - 1) (drop 1 rows)
 
-      pub bracket-closed : (k : Chosen) → o.found ≡ false → false ≡ bracketSays (kindsIn cells) xs rows k (entriesOf card)
-      bracket-closed k f = probe-closed (kindsIn cells) xs p o opened-is inner-rows k (entriesOf card) f ∙ ap (λ (x : Probe). probeSaysEach (kindsIn cells) xs inner-rows x k (entriesOf card)) i
+      pub bracket_closed : (k : Chosen) → o.found ≡ false → false ≡ bracket_says (kinds_in cells) xs rows k (entries_of card)
+      bracket_closed k f = probe_closed (kinds_in cells) xs p o opened_is inner_rows k (entries_of card) f ∙ ap (λ (x : Probe). probe_says_each (kinds_in cells) xs inner_rows x k (entries_of card)) i
 
-      module _ (k : Chosen) (m : Meaning) (kind : ℕ) (f : o.found ≡ true) (a : kind ≡ get_or (kindsIn cells) p.index 0) (b : m ≡ meaningOf p.operator kind) where
-        pub bracket-known : Known xs m o
-        bracket-known = probe-known (kindsIn cells) xs p o opened-is m kind f a b
+      module _ (k : Chosen) (m : Meaning) (kind : ℕ) (f : o.found ≡ true) (a : kind ≡ get_or (kinds_in cells) p.index 0) (b : m ≡ meaning_of p.operator kind) where
+        pub bracket_known : Known xs m o
+        bracket_known = probe_known (kinds_in cells) xs p o opened_is m kind f a b
 
         -- the answer that the loop over the entries looks for
-        abbrev bracket-some : Bool
-        bracket-some = someEntry (inBrackets (kindsIn cells) xs rows (entriesOf card)) k p.index m (value_of xs o) (entriesOf card)
+        abbrev bracket_some : Bool
+        bracket_some = some_entry (in_brackets (kinds_in cells) xs rows (entries_of card)) k p.index m (value_of xs o) (entries_of card)
 
-        pub bracket-start : (from r : ℕ) → from ≡ get_or cells p.index 0 → FirstFrom (entryCounts k m (value_of xs o)) card cells p.index from r
-            → Choosing (inBrackets (kindsIn cells) xs rows (entriesOf card)) k p.index m (value_of xs o) card cells spans bracket-some r
-        bracket-start from r e c = choosing-start (inBrackets (kindsIn cells) xs rows (entriesOf card)) k p.index m (value_of xs o) card cells spans w.keeps from r bracketed-index bracketed-kept e c
+        pub bracket_start : (from r : ℕ) → from ≡ get_or cells p.index 0 → FirstFrom (entry_counts k m (value_of xs o)) card cells p.index from r
+            → Choosing (in_brackets (kinds_in cells) xs rows (entries_of card)) k p.index m (value_of xs o) card cells spans bracket_some r
+        bracket_start from r e c = choosing_start (in_brackets (kinds_in cells) xs rows (entries_of card)) k p.index m (value_of xs o) card cells spans w.keeps from r bracketed_index bracketed_kept e c
 
-        pub bracket-opened : (s r : Bool) → s ≡ bracket-some → r ≡ someSays m o.truth s → r ≡ bracketSays (kindsIn cells) xs rows k (entriesOf card)
-        unfolding inBrackets
-        bracket-opened s r q y = probe-opened (kindsIn cells) xs p o opened-is inner-rows k (entriesOf card) m kind s r f a b q y ∙ ap (λ (x : Probe). probeSaysEach (kindsIn cells) xs inner-rows x k (entriesOf card)) i
+        pub bracket_opened : (s r : Bool) → s ≡ bracket_some → r ≡ some_says m o.truth s → r ≡ bracket_says (kinds_in cells) xs rows k (entries_of card)
+        unfolding in_brackets
+        bracket_opened s r q y = probe_opened (kinds_in cells) xs p o opened_is inner_rows k (entries_of card) m kind s r f a b q y ∙ ap (λ (x : Probe). probe_says_each (kinds_in cells) xs inner_rows x k (entries_of card)) i
 
 -- ---- the loop of a test after brackets
 
@@ -616,61 +616,61 @@ module _ {xs rows values : List ℕ} {ends : List ℤ} {card cells : List ℕ} {
 pub record Brackets (xs rows values : List ℕ) (ends : List ℤ) (card cells : List ℕ) (spans : List ℤ) (k : Chosen) (i : ℕ) (m : Meaning) (o : Opened) (n : ℕ) : Type 0 where
   pub ready : Bracketed xs rows values ends card cells spans
   pub known : Known xs m o
-  pub choosing : Choosing (inBrackets (kindsIn cells) xs rows (entriesOf card)) k i m (value_of xs o) card cells spans (someEntry (inBrackets (kindsIn cells) xs rows (entriesOf card)) k i m (value_of xs o) (entriesOf card)) n
-  pub answers : (s r : Bool) → s ≡ someEntry (inBrackets (kindsIn cells) xs rows (entriesOf card)) k i m (value_of xs o) (entriesOf card) → r ≡ someSays m o.truth s → r ≡ bracketSays (kindsIn cells) xs rows k (entriesOf card)
+  pub choosing : Choosing (in_brackets (kinds_in cells) xs rows (entries_of card)) k i m (value_of xs o) card cells spans (some_entry (in_brackets (kinds_in cells) xs rows (entries_of card)) k i m (value_of xs o) (entries_of card)) n
+  pub answers : (s r : Bool) → s ≡ some_entry (in_brackets (kinds_in cells) xs rows (entries_of card)) k i m (value_of xs o) (entries_of card) → r ≡ some_says m o.truth s → r ≡ bracket_says (kinds_in cells) xs rows k (entries_of card)
 
 module _ (xs rows values : List ℕ) (ends : List ℤ) (card cells : List ℕ) (spans : List ℤ) (k : Chosen) (m : Meaning) (o : Opened) where
-  pub brackets-start : (p : Probe) (kind from r : ℕ) → Bracketed xs rows values ends card cells spans → p ≡ probeOf (get_or rows 0 0 / 8) → o ≡ openedAt values ends 0 → o.found ≡ true → kind ≡ get_or (kindsIn cells) p.index 0
-      → m ≡ meaningOf p.operator kind → from ≡ get_or cells p.index 0 → FirstFrom (entryCounts k m (value_of xs o)) card cells p.index from r → Brackets xs rows values ends card cells spans k p.index m o r
-  brackets-start p kind from r w i h f a b e c =
+  pub brackets_start : (p : Probe) (kind from r : ℕ) → Bracketed xs rows values ends card cells spans → p ≡ probe_of (get_or rows 0 0 / 8) → o ≡ opened_at values ends 0 → o.found ≡ true → kind ≡ get_or (kinds_in cells) p.index 0
+      → m ≡ meaning_of p.operator kind → from ≡ get_or cells p.index 0 → FirstFrom (entry_counts k m (value_of xs o)) card cells p.index from r → Brackets xs rows values ends card cells spans k p.index m o r
+  brackets_start p kind from r w i h f a b e c =
       record {
         ready = w;
-        known = bracket-known w p i o h k m kind f a b;
-        choosing = bracket-start w p i o h k m kind f a b from r e c;
-        answers = bracket-opened w p i o h k m kind f a b;
+        known = bracket_known w p i o h k m kind f a b;
+        choosing = bracket_start w p i o h k m kind f a b from r e c;
+        answers = bracket_opened w p i o h k m kind f a b;
       }
 
   module _ (i n : ℕ) (inv : Brackets xs rows values ends card cells spans k i m o n) where
-    pub brackets-end : (r : Bool) → n ≤ 0 → r ≡ someSays m o.truth false → r ≡ bracketSays (kindsIn cells) xs rows k (entriesOf card)
-    brackets-end r z y = inv.answers false r (choosing-end (inBrackets (kindsIn cells) xs rows (entriesOf card)) k i m (value_of xs o) card cells spans (someEntry (inBrackets (kindsIn cells) xs rows (entriesOf card)) k i m (value_of xs o) (entriesOf card)) n inv.choosing z) y
+    pub brackets_end : (r : Bool) → n ≤ 0 → r ≡ some_says m o.truth false → r ≡ bracket_says (kinds_in cells) xs rows k (entries_of card)
+    brackets_end r z y = inv.answers false r (choosing_end (in_brackets (kinds_in cells) xs rows (entries_of card)) k i m (value_of xs o) card cells spans (some_entry (in_brackets (kinds_in cells) xs rows (entries_of card)) k i m (value_of xs o) (entries_of card)) n inv.choosing z) y
 
     abbrev says : ℕ → Bool
-    says = inBrackets (kindsIn cells) xs rows (entriesOf card)
+    says = in_brackets (kinds_in cells) xs rows (entries_of card)
 
     abbrev answer : Bool
-    answer = someEntry says k i m (value_of xs o) (entriesOf card)
+    answer = some_entry says k i m (value_of xs o) (entries_of card)
 
     module _ (l : 0 < n) where
-      pub brackets-size : length cells ≡ 608
-      brackets-size = inv.ready.keeps.lent.size
+      pub brackets_size : length cells ≡ 608
+      brackets_size = inv.ready.keeps.lent.size
 
-      pub brackets-room : n - 1 < 64
-      brackets-room = choosing-room says k i m (value_of xs o) card cells spans answer n inv.choosing l
+      pub brackets_room : n - 1 < 64
+      brackets_room = choosing_room says k i m (value_of xs o) card cells spans answer n inv.choosing l
 
-      pub brackets-byte : get_or cells (entryCell (n - 1) + 1) 0 < 256
-      brackets-byte = choosing-byte says k i m (value_of xs o) card cells spans answer n inv.choosing l
+      pub brackets_byte : get_or cells (entry_cell (n - 1) + 1) 0 < 256
+      brackets_byte = choosing_byte says k i m (value_of xs o) card cells spans answer n inv.choosing l
 
-      module _ (b : ℕ) (be : b ≡ get_or cells (entryCell (n - 1)) 0) where
-        pub brackets-behind : OnChain card cells i b
-        brackets-behind = chain-on card cells spans inv.ready.keeps i n inv.choosing.on l b be
+      module _ (b : ℕ) (be : b ≡ get_or cells (entry_cell (n - 1)) 0) where
+        pub brackets_behind : OnChain card cells i b
+        brackets_behind = chain_on card cells spans inv.ready.keeps i n inv.choosing.on l b be
 
-        pub brackets-less : (a : ℕ) → FirstFrom (entryCounts k m (value_of xs o)) card cells i b a → a < n
-        brackets-less a f = omega (arith, f.less, chain-less card cells spans inv.ready.keeps i n inv.choosing.on l b be)
+        pub brackets_less : (a : ℕ) → FirstFrom (entry_counts k m (value_of xs o)) card cells i b a → a < n
+        brackets_less a f = omega (arith, f.less, chain_less card cells spans inv.ready.keeps i n inv.choosing.on l b be)
 
-      module _ (q : ℕ) (qe : q ≡ get_or cells (entryCell (n - 1) + 1) 0) (r : Bool)
-          (y : r ≡ rowsSay (kindsIn cells) xs (chosen_of (record { all = false; occurrence = q }) (entriesOf card)) (take (length rows - 1) (drop 1 rows))) where
+      module _ (q : ℕ) (qe : q ≡ get_or cells (entry_cell (n - 1) + 1) 0) (r : Bool)
+          (y : r ≡ rows_say (kinds_in cells) xs (chosen_of (record { all = false; occurrence = q }) (entries_of card)) (take (length rows - 1) (drop 1 rows))) where
         said : r ≡ says q
-        said = occurrence-says (kindsIn cells) xs rows (entriesOf card) q r y
+        said = occurrence_says_lem (kinds_in cells) xs rows (entries_of card) q r y
 
-        pub brackets-yes : (t : Bool) → r ≡ true → t ≡ someSays m o.truth true → t ≡ bracketSays (kindsIn cells) xs rows k (entriesOf card)
-        brackets-yes t z g = inv.answers true t (choosing-yes says k i m (value_of xs o) card cells spans answer n inv.choosing l q qe r said z) g
+        pub brackets_yes : (t : Bool) → r ≡ true → t ≡ some_says m o.truth true → t ≡ bracket_says (kinds_in cells) xs rows k (entries_of card)
+        brackets_yes t z g = inv.answers true t (choosing_yes says k i m (value_of xs o) card cells spans answer n inv.choosing l q qe r said z) g
 
-        module _ (b : ℕ) (be : b ≡ get_or cells (entryCell (n - 1)) 0) where
-          pub brackets-next : (a : ℕ) → FirstFrom (entryCounts k m (value_of xs o)) card cells i b a → r ≡ false → Brackets xs rows values ends card cells spans k i m o a
-          brackets-next a f z =
+        module _ (b : ℕ) (be : b ≡ get_or cells (entry_cell (n - 1)) 0) where
+          pub brackets_next : (a : ℕ) → FirstFrom (entry_counts k m (value_of xs o)) card cells i b a → r ≡ false → Brackets xs rows values ends card cells spans k i m o a
+          brackets_next a f z =
               record {
                 ready = inv.ready;
                 known = inv.known;
-                choosing = choosing-next says k i m (value_of xs o) card cells spans answer n inv.choosing l q qe r said b be a f z;
+                choosing = choosing_next says k i m (value_of xs o) card cells spans answer n inv.choosing l q qe r said b be a f z;
                 answers = inv.answers;
               }

@@ -1,9 +1,9 @@
 // Rows that are judged on one card alone.
 ghost use Rattle.std.specs.Prelude.{◌≡◌, true, ◌≤◌, length};
-ghost use Rattle.card.specs.Card.{entriesOf, readCard};
-ghost use Rattle.judge.specs.Sets.{chosen_of, conformsTo};
+ghost use Rattle.card.specs.Card.{entries_of, read_card};
+ghost use Rattle.judge.specs.Sets.{chosen_of, conforms_to};
 ghost use Rattle.row_opener.specs.Opening.{Opens};
-ghost use Rattle.row_judge.specs.Saying.{rowsSay, Whole};
+ghost use Rattle.row_judge.specs.Saying.{rows_say, Whole};
 
 use crate::asks::lend_for;
 use crate::says::rows_say;
@@ -26,9 +26,9 @@ fn say_opened(
     requires filter_len_bound { length filter.now ≤ 1024 }
     requires whole { Whole rows.now }
     requires opens { Opens kinds.now filter.now rows.now values.now ends.now (length rows.now) }
-    requires card_value { readCard card.now ≡ Validity.WellFormed }
-    requires card_value_2 { conformsTo kinds.now (entriesOf card.now) ≡ true }
-    ensures { result ≡ rowsSay kinds.now filter.now (chosen_of chosen (entriesOf card.now)) rows.now }
+    requires card_value { read_card card.now ≡ Validity.WellFormed }
+    requires card_value_2 { conforms_to kinds.now (entries_of card.now) ≡ true }
+    ensures { result ≡ rows_say kinds.now filter.now (chosen_of chosen (entries_of card.now)) rows.now }
 {
     let mut cells = [0u64; 608];
     let mut spans = [0i64; 128];
@@ -43,9 +43,9 @@ pub fn say_once(kinds: &[u8], filter: &[u8], rows: &[u32], card: &[u8], chosen: 
     requires filter_len_bound { length filter.now ≤ 1024 }
     requires whole { Whole rows.now }
     requires rows_len_bound { length rows.now ≤ 320 }
-    requires card_value { readCard card.now ≡ Validity.WellFormed }
-    requires card_value_2 { conformsTo kinds.now (entriesOf card.now) ≡ true }
-    ensures { result ≡ rowsSay kinds.now filter.now (chosen_of chosen (entriesOf card.now)) rows.now }
+    requires card_value { read_card card.now ≡ Validity.WellFormed }
+    requires card_value_2 { conforms_to kinds.now (entries_of card.now) ≡ true }
+    ensures { result ≡ rows_say kinds.now filter.now (chosen_of chosen (entries_of card.now)) rows.now }
 {
     let mut values = [0u64; 640];
     let mut ends = [0i64; 640];

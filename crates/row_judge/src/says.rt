@@ -2,14 +2,14 @@
 // and a join whose first part decides it leaves the rows of its second part out; else the second part's verdict is the join's. The rows in
 // a test's brackets are judged for each occurrence by itself. The card was read: a test goes along the entries of its own parameter.
 ghost use Rattle.std.specs.Prelude.{◌≡◌, false, ◌+◌, ◌≤◌, ◌<◌, length, get_or};
-ghost use Rattle.card.specs.Card.{entriesOf, readCard};
+ghost use Rattle.card.specs.Card.{entries_of, read_card};
 ghost use Rattle.syntax.specs.Scan.{decode as decoded};
-ghost use Rattle.judge.specs.Once.{readingsFor};
+ghost use Rattle.judge.specs.Once.{readings_for};
 ghost use Rattle.judge.specs.Sets.{chosen_of};
-ghost use Rattle.card_reader.specs.Lists.{kindsIn, KeepsCard};
-ghost use Rattle.card_reader.specs.Listed.{entryCounts, OnChain, FirstFrom};
-ghost use Rattle.row_judge.specs.Saying.{probeSays, rowsSay, Ready, Bracketed, skipped, bracketSays};
-ghost use Rattle.row_opener.specs.Opening.{Known, value_of, openedFor};
+ghost use Rattle.card_reader.specs.Lists.{kinds_in, KeepsCard};
+ghost use Rattle.card_reader.specs.Listed.{entry_counts, OnChain, FirstFrom};
+ghost use Rattle.row_judge.specs.Saying.{probe_says, rows_say, Ready, Bracketed, skipped, bracket_says};
+ghost use Rattle.row_opener.specs.Opening.{Known, value_of, opened_for};
 
 use crate::Asked;
 use block::Validity;
@@ -53,8 +53,8 @@ fn next_escaped(
     requires raw_len_bound { length raw.now ≤ 1024 }
     requires keeps_card { KeepsCard card.now cells.now spans.now }
     requires on_chain { OnChain card.now cells.now question.index from }
-    requires readings_value { question.readings ≡ readingsFor question.meaning (decoded false raw.now) }
-    ensures { FirstFrom (entryCounts chosen question.meaning (decoded false raw.now)) card.now cells.now question.index from result }
+    requires readings_value { question.readings ≡ readings_for question.meaning (decoded false raw.now) }
+    ensures { FirstFrom (entry_counts chosen question.meaning (decoded false raw.now)) card.now cells.now question.index from result }
 {
     let mut value = [0u8; 1024];
     let n = decode(raw, &mut value);
@@ -75,7 +75,7 @@ fn next_text(
     requires keeps_card { KeepsCard card.now cells.now spans.now }
     requires on_chain { OnChain card.now cells.now asked.index from }
     requires known { Known filter.now asked.meaning asked.opened }
-    ensures { FirstFrom (entryCounts chosen asked.meaning (value_of filter.now asked.opened)) card.now cells.now asked.index from result }
+    ensures { FirstFrom (entry_counts chosen asked.meaning (value_of filter.now asked.opened)) card.now cells.now asked.index from result }
 {
     let opened = asked.opened;
     let meaning = asked.meaning;
@@ -120,12 +120,12 @@ fn plain_says(
     opened: Opened,
 ) -> bool
     requires filter_len_bound { length filter.now ≤ 1024 }
-    requires card_value { readCard card.now ≡ Validity.WellFormed }
+    requires card_value { read_card card.now ≡ Validity.WellFormed }
     requires keeps_card { KeepsCard card.now cells.now spans.now }
     requires index_bound { probe.index < 32 }
     requires index_value { get_or cells.now (544 + probe.index) 0 ≡ 0 }
-    requires opened_value { opened ≡ openedFor (kindsIn cells.now) filter.now probe }
-    ensures { result ≡ probeSays (kindsIn cells.now) filter.now probe (chosen_of chosen (entriesOf card.now)) }
+    requires opened_value { opened ≡ opened_for (kinds_in cells.now) filter.now probe }
+    ensures { result ≡ probe_says (kinds_in cells.now) filter.now probe (chosen_of chosen (entries_of card.now)) }
 {
     let index = probe.index;
     if opened.found {
@@ -156,7 +156,7 @@ fn bracket_says(
     chosen: Chosen,
 ) -> bool
     requires { Bracketed filter.now rows.now values.now ends.now card.now cells.now spans.now }
-    ensures { result ≡ bracketSays (kindsIn cells.now) filter.now rows.now chosen (entriesOf card.now) }
+    ensures { result ≡ bracket_says (kinds_in cells.now) filter.now rows.now chosen (entries_of card.now) }
 {
     let probe = probe_of(rows[0] / 8);
     let index = probe.index;
@@ -209,7 +209,7 @@ pub fn rows_say(
     chosen: Chosen,
 ) -> bool
     requires { Ready filter.now rows.now values.now ends.now card.now cells.now spans.now }
-    ensures { result ≡ rowsSay (kindsIn cells.now) filter.now (chosen_of chosen (entriesOf card.now)) rows.now }
+    ensures { result ≡ rows_say (kinds_in cells.now) filter.now (chosen_of chosen (entries_of card.now)) rows.now }
 {
     let mut at = 0;
     let mut verdict = false;

@@ -13,5 +13,5 @@ pub record Sane (n : NumberReading) (d : DateReading) : Type 0 where
 
 pub record Small (o : Opened) : Type 0 where
   pub sane : Sane o.readings.number o.readings.date
-  pub start-most : o.start ≤ 1024
-  pub end-most : o.end ≤ 1024
+  pub start_most : o.start ≤ 1024
+  pub end_most : o.end ≤ 1024

@@ -1,8 +1,8 @@
 // Values opened once for many cards: what each reads to, and the cells that have it.
 ghost use Rattle.std.specs.Prelude.{◌≡◌, ◌+◌, ◌*◌, ◌≤◌, ◌<◌, length};
 ghost use Rattle.syntax.specs.Placed.{PlacedValue};
-ghost use Rattle.rows.specs.Shapes.{valueIn};
-ghost use Rattle.row_opener.specs.Opening.{closed, openedValue, openedFor, openedRow, dateMark, mark_of, digitsOf, start_of, end_of, span_of, numberFrom, dateFrom, openedFrom, openedAt, Opens};
+ghost use Rattle.rows.specs.Shapes.{value_in};
+ghost use Rattle.row_opener.specs.Opening.{closed, opened_value, opened_for, opened_row, date_mark, mark_of, digits_of, start_of, end_of, span_of, number_from, date_from, opened_from, opened_at, Opens};
 ghost use Rattle.row_opener.specs.Packing.{Sane, Small};
 
 use crate::Opened;
@@ -32,7 +32,7 @@ fn closed() -> Opened
 
 // Of a value of the text with these bytes.
 fn opened_value(meaning: Meaning, value: RawValue, bytes: &[u8]) -> Opened
-    ensures { result ≡ openedValue meaning value bytes.now }
+    ensures { result ≡ opened_value meaning value bytes.now }
 {
     Opened {
         found: true,
@@ -48,7 +48,7 @@ fn opened_value(meaning: Meaning, value: RawValue, bytes: &[u8]) -> Opened
 fn opened_text(meaning: Meaning, filter: &[u8], value: RawValue) -> Opened
     requires filter_len_bound { length filter.now ≤ 1024 }
     requires placed_value { PlacedValue filter.now value }
-    ensures { result ≡ openedValue meaning value (valueIn filter.now value) }
+    ensures { result ≡ opened_value meaning value (value_in filter.now value) }
 {
     let start = value.start;
     let end = value.end;
@@ -65,7 +65,7 @@ fn opened_probe(kinds: &[u8], filter: &[u8], probe: Probe) -> Opened
     requires kinds_len { length kinds.now ≡ 32 }
     requires filter_len_bound { length filter.now ≤ 1024 }
     requires index_bound { probe.index < 32 }
-    ensures { result ≡ openedFor kinds.now filter.now probe }
+    ensures { result ≡ opened_for kinds.now filter.now probe }
 {
     let index = probe.index as usize;
     let kind = kinds[index];
@@ -85,7 +85,7 @@ fn opened_probe(kinds: &[u8], filter: &[u8], probe: Probe) -> Opened
 fn opened_row(kinds: &[u8], filter: &[u8], cell: u32) -> Opened
     requires kinds_len { length kinds.now ≡ 32 }
     requires filter_len_bound { length filter.now ≤ 1024 }
-    ensures { result ≡ openedRow kinds.now filter.now cell }
+    ensures { result ≡ opened_row kinds.now filter.now cell }
 {
     match row_of(cell) {
         Row::Test(probe) => opened_probe(kinds, filter, probe),
@@ -100,7 +100,7 @@ fn opened_row(kinds: &[u8], filter: &[u8], cell: u32) -> Opened
 
 // The mark of a value that is no number: 10 for a date, and else 11.
 fn date_mark(date: DateReading) -> u32
-    ensures { (result ≡ dateMark date) × (result ≤ 11) }
+    ensures { (result ≡ date_mark date) × (result ≤ 11) }
 {
     match date {
         DateReading::Readable(_) => 10,
@@ -129,7 +129,7 @@ fn mark_of(number: NumberReading, date: DateReading) -> u32
 
 // A number's digits, and 0 where there is none.
 fn digits_of(number: NumberReading) -> u64
-    ensures { result ≡ digitsOf number }
+    ensures { result ≡ digits_of number }
 {
     match number {
         NumberReading::Number(n) => n.digits,
@@ -176,7 +176,7 @@ fn span_of(opened: Opened) -> u32
 
 // The number that a mark and digits stand for.
 fn number_from(mark: u64, digits: u64) -> NumberReading
-    ensures { result ≡ numberFrom mark digits }
+    ensures { result ≡ number_from mark digits }
 {
     if mark < 10 {
         return NumberReading::Number(Decimal {
@@ -189,7 +189,7 @@ fn number_from(mark: u64, digits: u64) -> NumberReading
 
 // The date that a mark and two ends stand for.
 fn date_from(mark: u64, start: i64, end: i64) -> DateReading
-    ensures { result ≡ dateFrom mark start end }
+    ensures { result ≡ date_from mark start end }
 {
     if mark == 10 {
         return DateReading::Readable(Date { start, end });
@@ -199,7 +199,7 @@ fn date_from(mark: u64, start: i64, end: i64) -> DateReading
 
 // What cells stand for.
 fn opened_from(span: u64, digits: u64, start: i64, end: i64) -> Opened
-    ensures { result ≡ openedFrom span digits start end }
+    ensures { result ≡ opened_from span digits start end }
 {
     let mark = span / 8 % 16;
     Opened {
@@ -219,7 +219,7 @@ fn opened_from(span: u64, digits: u64, start: i64, end: i64) -> Opened
 pub fn opened_at(values: &[u64], ends: &[i64], i: usize) -> Opened
     requires i_in_bounds { 2 * i + 1 < length values.now }
     requires i_in_bounds_2 { 2 * i + 1 < length ends.now }
-    ensures { result ≡ openedAt values.now ends.now i }
+    ensures { result ≡ opened_at values.now ends.now i }
 {
     let cell = 2 * i;
     opened_from(values[cell], values[cell + 1], ends[cell], ends[cell + 1])

@@ -1,12 +1,12 @@
 // Reading a filter: its rows are written, its tests are counted, and the first refusal among them is kept. A filter and an item call
 // each other, and the text left and the nesting left fall.
 ghost use Rattle.std.specs.Prelude.{◌≡◌, ◌+◌, ◌≤◌, ◌<◌, length};
-ghost use Rattle.sheet.specs.Sheet.{parametersOf, readSheet};
+ghost use Rattle.sheet.specs.Sheet.{parameters_of, read_sheet};
 ghost use Rattle.syntax.specs.Placed.{Placed};
 ghost use Rattle.syntax.specs.Scan.{test_of};
 ghost use Rattle.syntax.specs.Grammar.{round};
 ghost use Rattle.rows.specs.Cells.{number_of, cell_of};
-ghost use Rattle.row_writer.specs.Writing.{valuePlace, index_of, probeFor, Read};
+ghost use Rattle.row_writer.specs.Writing.{value_place, index_of, probe_for, Read};
 ghost use Rattle.row_writer.specs.Steps.{Room, Joinable, WroteTest, WroteNot, WroteClosed, WrotePair, WroteMember, WroteJoin, Inside, ChainedAt, WroteItem, WroteFilter, WroteRound, WroteChosen};
 
 use crate::{Outcome, Written};
@@ -36,7 +36,7 @@ fn value_place(filter: &[u8], test: RawTest) -> u32
     requires filter_len_bound { length filter.now ≤ 1024 }
     requires placed { Placed filter.now test }
     requires read { Read filter.now test }
-    ensures { (result ≡ valuePlace filter.now test.at) × (result ≤ 1024) }
+    ensures { (result ≡ value_place filter.now test.at) × (result ≤ 1024) }
 {
     let value = test.value;
     let quotes = value.next - value.end;
@@ -45,11 +45,11 @@ fn value_place(filter: &[u8], test: RawTest) -> u32
 
 // The number of a test of the filter, looked up in a bundle.
 fn test_number(sheet: &[u8], bundle: u8, filter: &[u8], test: RawTest) -> u32
-    requires sheet_value { readSheet sheet.now ≡ Validity.WellFormed }
+    requires sheet_value { read_sheet sheet.now ≡ Validity.WellFormed }
     requires filter_len_bound { length filter.now ≤ 1024 }
     requires placed { Placed filter.now test }
     requires read { Read filter.now test }
-    ensures { (result ≡ number_of (probeFor (parametersOf sheet.now) filter.now bundle (test_of filter.now test))) × (result ≤ 2000000) }
+    ensures { (result ≡ number_of (probe_for (parameters_of sheet.now) filter.now bundle (test_of filter.now test))) × (result ≤ 2000000) }
 {
     let index = index_of(test_found(sheet, bundle, filter, test));
     let place = value_place(filter, test);
@@ -66,12 +66,12 @@ fn write_test(
     rows: &mut [u32],
     row: usize,
 ) -> Written
-    requires sheet_value { readSheet sheet.now ≡ Validity.WellFormed }
+    requires sheet_value { read_sheet sheet.now ≡ Validity.WellFormed }
     requires filter_len_bound { length filter.now ≤ 1024 }
     requires placed { Placed filter.now test }
     requires read { Read filter.now test }
     requires row_in_bounds { row < length rows.old }
-    ensures { WroteTest (parametersOf sheet.now) bundle filter.now row test result rows.old rows.new }
+    ensures { WroteTest (parameters_of sheet.now) bundle filter.now row test result rows.old rows.new }
 {
     rows[row] = 8 * test_number(sheet, bundle, filter, test);
     let summary = test_summary(sheet, bundle, filter, test.at, test);
@@ -130,7 +130,7 @@ fn write_round(
     rows: &mut [u32],
     row: usize,
 ) -> Written
-    requires sheet_value { readSheet sheet.now ≡ Validity.WellFormed }
+    requires sheet_value { read_sheet sheet.now ≡ Validity.WellFormed }
     requires room { Room filter.now rows.old row spot.at }
     requires close_value { spot.close ≡ round }
     requires row_lt_at { row < spot.at }
@@ -154,10 +154,10 @@ fn bracket_cell(size: usize) -> u32
 
 // The spot in the square brackets of the bundle whose name begins at a spot and ends at `until`.
 fn inside_of(sheet: &[u8], filter: &[u8], spot: Spot, until: usize) -> Spot
-    requires sheet_value { readSheet sheet.now ≡ Validity.WellFormed }
+    requires sheet_value { read_sheet sheet.now ≡ Validity.WellFormed }
     requires at_le_until { spot.at ≤ until }
     requires until_in_bounds { until < length filter.now }
-    ensures { Inside (parametersOf sheet.now) filter.now spot until result }
+    ensures { Inside (parameters_of sheet.now) filter.now spot until result }
 {
     let at = spot.at;
     let bundle = sheet::enter(sheet, spot.bundle, &filter[at..until]);
@@ -181,14 +181,14 @@ fn write_pair(
     rows: &mut [u32],
     row: usize,
 ) -> Written
-    requires sheet_value { readSheet sheet.now ≡ Validity.WellFormed }
+    requires sheet_value { read_sheet sheet.now ≡ Validity.WellFormed }
     requires filter_len_bound { length filter.now ≤ 1024 }
     requires placed { Placed filter.now test }
     requires read { Read filter.now test }
     requires cells_in_bounds { row + inner.cells + 1 < length rows.old }
     requires cells_bound { inner.cells ≤ 1024 }
     requires tests_bound { inner.summary.tests < 1024 }
-    ensures { WrotePair (parametersOf sheet.now) bundle filter.now at test inner row result rows.old rows.new }
+    ensures { WrotePair (parameters_of sheet.now) bundle filter.now at test inner row result rows.old rows.new }
 {
     let cells = inner.cells;
     rows[row] = bracket_cell(cells);
@@ -217,13 +217,13 @@ fn write_member(
     rows: &mut [u32],
     row: usize,
 ) -> Written
-    requires sheet_value { readSheet sheet.now ≡ Validity.WellFormed }
+    requires sheet_value { read_sheet sheet.now ≡ Validity.WellFormed }
     requires filter_len_bound { length filter.now ≤ 1024 }
     requires end_in_bounds { end ≤ length filter.now }
     requires cells_in_bounds { row + inner.cells + 1 < length rows.old }
     requires cells_bound { inner.cells ≤ 1024 }
     requires tests_bound { inner.summary.tests < 1024 }
-    ensures { WroteMember (parametersOf sheet.now) bundle filter.now spot end inner row result rows.old rows.new }
+    ensures { WroteMember (parameters_of sheet.now) bundle filter.now spot end inner row result rows.old rows.new }
 {
     let member = read_member(filter, spot.close, end);
     let FoundTest::Test(test) = member else {
@@ -244,7 +244,7 @@ fn write_chosen(
     rows: &mut [u32],
     row: usize,
 ) -> Written
-    requires sheet_value { readSheet sheet.now ≡ Validity.WellFormed }
+    requires sheet_value { read_sheet sheet.now ≡ Validity.WellFormed }
     requires room { Room filter.now rows.old row spot.at }
     requires at_lt_until { spot.at < until }
     requires until_in_bounds { until < length filter.now }
@@ -262,7 +262,7 @@ fn write_chosen(
 // after its bundle's brackets. Its cells are written from a row on.
 #[cycle(write_chosen_write_filter_write_item_write_rest_write_round)]
 fn write_item(sheet: &[u8], filter: &[u8], spot: Spot, rows: &mut [u32], row: usize) -> Written
-    requires sheet_value { readSheet sheet.now ≡ Validity.WellFormed }
+    requires sheet_value { read_sheet sheet.now ≡ Validity.WellFormed }
     requires room { Room filter.now rows.old row spot.at }
     ensures { WroteItem sheet.now filter.now spot row result rows.old rows.new }
 {
@@ -345,7 +345,7 @@ fn write_rest(
     first_end: usize,
     first: Outcome,
 ) -> Written
-    requires sheet_value { readSheet sheet.now ≡ Validity.WellFormed }
+    requires sheet_value { read_sheet sheet.now ≡ Validity.WellFormed }
     requires chained_at { ChainedAt sheet.now filter.now spot row rows.old first_end first rows.old }
     ensures { WroteFilter sheet.now filter.now spot row result rows.old rows.new }
 {
@@ -389,7 +389,7 @@ pub fn write_filter(
     rows: &mut [u32],
     row: usize,
 ) -> Written
-    requires sheet_value { readSheet sheet.now ≡ Validity.WellFormed }
+    requires sheet_value { read_sheet sheet.now ≡ Validity.WellFormed }
     requires room { Room filter.now rows.old row spot.at }
     ensures { WroteFilter sheet.now filter.now spot row result rows.old rows.new }
 {

@@ -8,40 +8,40 @@ use lib.Dec.{eqb}
 use borrow.Author.Tests.{eq-eqb, ne_eqb, eqb-true}
 use Rattle.base.proofs.Tests.{cond-elim}
 use Rattle.syntax.specs.declared.Connective.{Connective}
-use Rattle.rows.specs.Cells.{number_of, probeOf, row_of, cell_of, Sayable}
+use Rattle.rows.specs.Cells.{number_of, probe_of, row_of, cell_of, Sayable}
 use Rattle.rows.specs.declared.Probe.{Probe}
 use Rattle.rows.specs.declared.Row.{Row}
 
 -- ---- as the code tells cells apart
 
 module _ (c : ℕ) where
-  pub cell-test : (p : Probe) → c % 8 ≡ 0 → p ≡ probeOf (c / 8) → Row.Test p ≡ row_of c
+  pub cell_test : (p : Probe) → c % 8 ≡ 0 → p ≡ probe_of (c / 8) → Row.Test p ≡ row_of c
   unfolding row_of
-  cell-test p h e = rw (eq-eqb (c % 8) 0 h, e)
+  cell_test p h e = rw (eq-eqb (c % 8) 0 h, e)
 
   module _ (a : c % 8 ≡ 0 → ⊥) where
-    pub cell-bracket : c % 8 ≡ 1 → Row.Bracket (c / 8) ≡ row_of c
+    pub cell_bracket : c % 8 ≡ 1 → Row.Bracket (c / 8) ≡ row_of c
     unfolding row_of
-    cell-bracket h = rw (ne_eqb (c % 8) 0 a, eq-eqb (c % 8) 1 h)
+    cell_bracket h = rw (ne_eqb (c % 8) 0 a, eq-eqb (c % 8) 1 h)
 
     module _ (b : c % 8 ≡ 1 → ⊥) where
-      pub cell-and : c % 8 ≡ 3 → Row.Connect Connective.And (c / 8) ≡ row_of c
+      pub cell_and : c % 8 ≡ 3 → Row.Connect Connective.And (c / 8) ≡ row_of c
       unfolding row_of
-      cell-and h = rw (ne_eqb (c % 8) 0 a, ne_eqb (c % 8) 1 b, eq-eqb (c % 8) 3 h)
+      cell_and h = rw (ne_eqb (c % 8) 0 a, ne_eqb (c % 8) 1 b, eq-eqb (c % 8) 3 h)
 
       module _ (d : c % 8 ≡ 3 → ⊥) where
-        pub cell-or : c % 8 ≡ 4 → Row.Connect Connective.Or (c / 8) ≡ row_of c
+        pub cell_or : c % 8 ≡ 4 → Row.Connect Connective.Or (c / 8) ≡ row_of c
         unfolding row_of
-        cell-or h = rw (ne_eqb (c % 8) 0 a, ne_eqb (c % 8) 1 b, ne_eqb (c % 8) 3 d, eq-eqb (c % 8) 4 h)
+        cell_or h = rw (ne_eqb (c % 8) 0 a, ne_eqb (c % 8) 1 b, ne_eqb (c % 8) 3 d, eq-eqb (c % 8) 4 h)
 
         module _ (e : c % 8 ≡ 4 → ⊥) where
-          pub cell-not : c ≡ 2 → Row.Not ≡ row_of c
+          pub cell_not : c ≡ 2 → Row.Not ≡ row_of c
           unfolding row_of
-          cell-not h = rw (ne_eqb (c % 8) 0 a, ne_eqb (c % 8) 1 b, ne_eqb (c % 8) 3 d, ne_eqb (c % 8) 4 e, eq-eqb c 2 h)
+          cell_not h = rw (ne_eqb (c % 8) 0 a, ne_eqb (c % 8) 1 b, ne_eqb (c % 8) 3 d, ne_eqb (c % 8) 4 e, eq-eqb c 2 h)
 
-          pub cell-unknown : (c ≡ 2 → ⊥) → Row.Unknown ≡ row_of c
+          pub cell_unknown : (c ≡ 2 → ⊥) → Row.Unknown ≡ row_of c
           unfolding row_of
-          cell-unknown h = rw (ne_eqb (c % 8) 0 a, ne_eqb (c % 8) 1 b, ne_eqb (c % 8) 3 d, ne_eqb (c % 8) 4 e, ne_eqb c 2 h)
+          cell_unknown h = rw (ne_eqb (c % 8) 0 a, ne_eqb (c % 8) 1 b, ne_eqb (c % 8) 3 d, ne_eqb (c % 8) 4 e, ne_eqb c 2 h)
 
 -- ---- what was written
 
@@ -51,60 +51,60 @@ made i k p = record { index = i; operator = k; position = p }
 made-same : {i k p j l q : ℕ} → i ≡ j → k ≡ l → p ≡ q → made i k p ≡ made j l q
 made-same a b c = rw (a, b, c)
 
-probe-same : (p q : Probe) → p.index ≡ q.index → p.operator ≡ q.operator → p.position ≡ q.position → p ≡ q
-probe-same p q a b c = made-same {i = p.index} {k = p.operator} {p = p.position} {j = q.index} {l = q.operator} {q = q.position} a b c
+probe_same : (p q : Probe) → p.index ≡ q.index → p.operator ≡ q.operator → p.position ≡ q.position → p ≡ q
+probe_same p q a b c = made-same {i = p.index} {k = p.operator} {p = p.position} {j = q.index} {l = q.operator} {q = q.position} a b c
 
-probe-number : (p : Probe) → Sayable p → probeOf (number_of p) ≡ p
-unfolding probeOf
-probe-number p s = probe-same (probeOf (number_of p)) p (omega (arith, s.index)) (omega (arith, s.index, s.operator)) (omega (arith, s.index, s.operator))
+probe_number : (p : Probe) → Sayable p → probe_of (number_of p) ≡ p
+unfolding probe_of
+probe_number p s = probe_same (probe_of (number_of p)) p (omega (arith, s.index)) (omega (arith, s.index, s.operator)) (omega (arith, s.index, s.operator))
 
-pub row-test : (p : Probe) → Sayable p → row_of (cell_of (Row.Test p)) ≡ Row.Test p
+pub row_test : (p : Probe) → Sayable p → row_of (cell_of (Row.Test p)) ≡ Row.Test p
 unfolding cell_of
-row-test p s =
+row_test p s =
     let n : (8 * number_of p) / 8 ≡ number_of p = omega arith in
-    sym (cell-test (8 * number_of p) p (omega arith) (sym (ap probeOf n ∙ probe-number p s)))
+    sym (cell_test (8 * number_of p) p (omega arith) (sym (ap probe_of n ∙ probe_number p s)))
 
-pub row-bracket : (n : ℕ) → row_of (cell_of (Row.Bracket n)) ≡ Row.Bracket n
+pub row_bracket : (n : ℕ) → row_of (cell_of (Row.Bracket n)) ≡ Row.Bracket n
 unfolding cell_of
-row-bracket n =
+row_bracket n =
     let s : (8 * n + 1) / 8 ≡ n = omega arith in
-    sym (cell-bracket (8 * n + 1) (λ z. omega (arith, z)) (omega arith)) ∙ ap Row.Bracket s
+    sym (cell_bracket (8 * n + 1) (λ z. omega (arith, z)) (omega arith)) ∙ ap Row.Bracket s
 
-pub row-not : row_of (cell_of Row.Not) ≡ Row.Not
+pub row_not : row_of (cell_of Row.Not) ≡ Row.Not
 unfolding row_of cell_of
-row-not = refl
+row_not = refl
 
-pub row-connect : (c : Connective) (n : ℕ) → row_of (cell_of (Row.Connect c n)) ≡ Row.Connect c n
+pub row_connect : (c : Connective) (n : ℕ) → row_of (cell_of (Row.Connect c n)) ≡ Row.Connect c n
 unfolding cell_of
-row-connect Connective.And n =
+row_connect Connective.And n =
     let s : (8 * n + 3) / 8 ≡ n = omega arith in
-    sym (cell-and (8 * n + 3) (λ z. omega (arith, z)) (λ z. omega (arith, z)) (omega arith)) ∙ ap (Row.Connect Connective.And) s
-row-connect Connective.Or n =
+    sym (cell_and (8 * n + 3) (λ z. omega (arith, z)) (λ z. omega (arith, z)) (omega arith)) ∙ ap (Row.Connect Connective.And) s
+row_connect Connective.Or n =
     let s : (8 * n + 4) / 8 ≡ n = omega arith in
-    sym (cell-or (8 * n + 4) (λ z. omega (arith, z)) (λ z. omega (arith, z)) (λ z. omega (arith, z)) (omega arith)) ∙ ap (Row.Connect Connective.Or) s
+    sym (cell_or (8 * n + 4) (λ z. omega (arith, z)) (λ z. omega (arith, z)) (λ z. omega (arith, z)) (omega arith)) ∙ ap (Row.Connect Connective.Or) s
 
 -- ---- what a cell says
 
-number-probe : (n : ℕ) → number_of (probeOf n) ≡ n
-unfolding probeOf
-number-probe n = omega arith
+number_probe : (n : ℕ) → number_of (probe_of n) ≡ n
+unfolding probe_of
+number_probe n = omega arith
 
-probe-sayable : (n : ℕ) → Sayable (probeOf n)
-unfolding probeOf
-probe-sayable n = record { index = omega arith; operator = omega arith }
+probe_sayable : (n : ℕ) → Sayable (probe_of n)
+unfolding probe_of
+probe_sayable n = record { index = omega arith; operator = omega arith }
 
 -- a cell that says something is the one that is written of it
 pub cell_row : (c : ℕ) → (row_of c ≡ Row.Unknown → ⊥) → cell_of (row_of c) ≡ c
 unfolding row_of cell_of
-cell_row c h = by-tag (eqb (c % 8) 0) (eqb (c % 8) 1) (eqb (c % 8) 3) (eqb (c % 8) 4) (eqb c 2) refl refl refl refl refl
+cell_row c h = by_tag (eqb (c % 8) 0) (eqb (c % 8) 1) (eqb (c % 8) 3) (eqb (c % 8) 4) (eqb c 2) refl refl refl refl refl
   where
-    by-tag : (a b d f g : Bool) → eqb (c % 8) 0 ≡ a → eqb (c % 8) 1 ≡ b → eqb (c % 8) 3 ≡ d → eqb (c % 8) 4 ≡ f → eqb c 2 ≡ g → cell_of (row_of c) ≡ c
-    by-tag true b d f g i j k l m = let z : c % 8 ≡ 0 = eqb-true (c % 8) 0 i in rw (i, number-probe (c / 8)) (omega (arith, z))
-    by-tag false true d f g i j k l m = let z : c % 8 ≡ 1 = eqb-true (c % 8) 1 j in rw (i, j) (omega (arith, z))
-    by-tag false false true f g i j k l m = let z : c % 8 ≡ 3 = eqb-true (c % 8) 3 k in rw (i, j, k) (omega (arith, z))
-    by-tag false false false true g i j k l m = let z : c % 8 ≡ 4 = eqb-true (c % 8) 4 l in rw (i, j, k, l) (omega (arith, z))
-    by-tag false false false false true i j k l m = let z : c ≡ 2 = eqb-true c 2 m in rw (i, j, k, l, m) (sym z)
-    by-tag false false false false false i j k l m = absurd (h (rw (i, j, k, l, m)))
+    by_tag : (a b d f g : Bool) → eqb (c % 8) 0 ≡ a → eqb (c % 8) 1 ≡ b → eqb (c % 8) 3 ≡ d → eqb (c % 8) 4 ≡ f → eqb c 2 ≡ g → cell_of (row_of c) ≡ c
+    by_tag true b d f g i j k l m = let z : c % 8 ≡ 0 = eqb-true (c % 8) 0 i in rw (i, number_probe (c / 8)) (omega (arith, z))
+    by_tag false true d f g i j k l m = let z : c % 8 ≡ 1 = eqb-true (c % 8) 1 j in rw (i, j) (omega (arith, z))
+    by_tag false false true f g i j k l m = let z : c % 8 ≡ 3 = eqb-true (c % 8) 3 k in rw (i, j, k) (omega (arith, z))
+    by_tag false false false true g i j k l m = let z : c % 8 ≡ 4 = eqb-true (c % 8) 4 l in rw (i, j, k, l) (omega (arith, z))
+    by_tag false false false false true i j k l m = let z : c ≡ 2 = eqb-true c 2 m in rw (i, j, k, l, m) (sym z)
+    by_tag false false false false false i j k l m = absurd (h (rw (i, j, k, l, m)))
 
 -- ---- what a row says can be written
 
@@ -115,25 +115,25 @@ RowSayable Row.Not = Unit {0}
 RowSayable (Row.Connect a n) = Unit {0}
 RowSayable Row.Unknown = Unit {0}
 
-pub row-sayable : (c : ℕ) → RowSayable (row_of c)
+pub row_sayable : (c : ℕ) → RowSayable (row_of c)
 unfolding row_of
-row-sayable c =
-    cond-elim RowSayable (eqb (c % 8) 0) (λ a. probe-sayable (c / 8))
+row_sayable c =
+    cond-elim RowSayable (eqb (c % 8) 0) (λ a. probe_sayable (c / 8))
     (λ a. cond-elim RowSayable (eqb (c % 8) 1) (λ b. tt)
     (λ b. cond-elim RowSayable (eqb (c % 8) 3) (λ d. tt) (λ d. cond-elim RowSayable (eqb (c % 8) 4) (λ f. tt) (λ f. cond-elim RowSayable (eqb c 2) (λ g. tt) (λ g. tt)))))
 
-pub test-index : (c : ℕ) (r : Row) (p : Probe) → r ≡ row_of c → r ≡ Row.Test p → p.index < 32
-test-index c r p e h = let s : Sayable p = rw (sym e ∙ h) at (row-sayable c) in s.index
+pub test_index : (c : ℕ) (r : Row) (p : Probe) → r ≡ row_of c → r ≡ Row.Test p → p.index < 32
+test_index c r p e h = let s : Sayable p = rw (sym e ∙ h) at (row_sayable c) in s.index
 
 -- the test of a cell that says one
-pub cell-probe : (c : ℕ) (p : Probe) → row_of c ≡ Row.Test p → probeOf (c / 8) ≡ p
+pub cell_probe : (c : ℕ) (p : Probe) → row_of c ≡ Row.Test p → probe_of (c / 8) ≡ p
 unfolding row_of
-cell-probe c p h = by-tag (eqb (c % 8) 0) (eqb (c % 8) 1) (eqb (c % 8) 3) (eqb (c % 8) 4) (eqb c 2) h
+cell_probe c p h = by_tag (eqb (c % 8) 0) (eqb (c % 8) 1) (eqb (c % 8) 3) (eqb (c % 8) 4) (eqb c 2) h
   where
-    by-tag : (a b d f g : Bool) → cond a (Row.Test (probeOf (c / 8))) (cond b (Row.Bracket (c / 8)) (cond d (Row.Connect Connective.And (c / 8)) (cond f (Row.Connect Connective.Or (c / 8)) (cond g Row.Not Row.Unknown)))) ≡ Row.Test p → probeOf (c / 8) ≡ p
-    by-tag true b d f g i = cc
-    by-tag false true d f g i = let z : ◌≡◌ {A = ℕ} 0 1 = cc in absurd (omega (arith, z))
-    by-tag false false true f g i = let z : ◌≡◌ {A = ℕ} 0 1 = cc in absurd (omega (arith, z))
-    by-tag false false false true g i = let z : ◌≡◌ {A = ℕ} 0 1 = cc in absurd (omega (arith, z))
-    by-tag false false false false true i = let z : ◌≡◌ {A = ℕ} 0 1 = cc in absurd (omega (arith, z))
-    by-tag false false false false false i = let z : ◌≡◌ {A = ℕ} 0 1 = cc in absurd (omega (arith, z))
+    by_tag : (a b d f g : Bool) → cond a (Row.Test (probe_of (c / 8))) (cond b (Row.Bracket (c / 8)) (cond d (Row.Connect Connective.And (c / 8)) (cond f (Row.Connect Connective.Or (c / 8)) (cond g Row.Not Row.Unknown)))) ≡ Row.Test p → probe_of (c / 8) ≡ p
+    by_tag true b d f g i = cc
+    by_tag false true d f g i = let z : ◌≡◌ {A = ℕ} 0 1 = cc in absurd (omega (arith, z))
+    by_tag false false true f g i = let z : ◌≡◌ {A = ℕ} 0 1 = cc in absurd (omega (arith, z))
+    by_tag false false false true g i = let z : ◌≡◌ {A = ℕ} 0 1 = cc in absurd (omega (arith, z))
+    by_tag false false false false true i = let z : ◌≡◌ {A = ℕ} 0 1 = cc in absurd (omega (arith, z))
+    by_tag false false false false false i = let z : ◌≡◌ {A = ℕ} 0 1 = cc in absurd (omega (arith, z))

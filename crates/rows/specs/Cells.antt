@@ -16,13 +16,13 @@ abbrev pub number_of : Probe → ℕ
 number_of p = p.index + 32 * (p.operator + 32 * p.position)
 
 -- the test that a number says, digit by digit: the index below 32, the operator below 32, the position
-unfoldable pub probeOf : ℕ → Probe
-probeOf n = record { index = n % 32; operator = n / 32 % 32; position = n / 32 / 32 }
+unfoldable pub probe_of : ℕ → Probe
+probe_of n = record { index = n % 32; operator = n / 32 % 32; position = n / 32 / 32 }
 
 -- what a cell says: eight times a test's number; 2 is not; eight times a number of rows, and 1 for brackets around them, 3 for and, 4 for or
 unfoldable pub row_of : ℕ → Row
 row_of c =
-    cond (eqb (c % 8) 0) (Row.Test (probeOf (c / 8)))
+    cond (eqb (c % 8) 0) (Row.Test (probe_of (c / 8)))
     (cond (eqb (c % 8) 1) (Row.Bracket (c / 8))
     (cond (eqb (c % 8) 3) (Row.Connect Connective.And (c / 8)) (cond (eqb (c % 8) 4) (Row.Connect Connective.Or (c / 8)) (cond (eqb c 2) Row.Not Row.Unknown))))
 
@@ -50,10 +50,10 @@ pub record Sayable (p : Probe) : Type 0 where
 
 -- an expression that cells can say
 pub data Writable : Expression → Type 0 where
-  writable-test : {p : Probe} → Sayable p → Writable (probing p)
-  writable-bracket : {e : Expression} {p : Probe} → Writable e → Sayable p → Writable (choosing e p)
-  writable-join : {c : Connective} {e f : Expression} → Writable e → Writable f → Writable (joining c e f)
-  writable-not : {e : Expression} → Writable e → Writable (negating e)
+  writable_test : {p : Probe} → Sayable p → Writable (probing p)
+  writable_bracket : {e : Expression} {p : Probe} → Writable e → Sayable p → Writable (choosing e p)
+  writable_join : {c : Connective} {e f : Expression} → Writable e → Writable f → Writable (joining c e f)
+  writable_not : {e : Expression} → Writable e → Writable (negating e)
 
 -- ---- the expression that cells state
 
@@ -63,49 +63,49 @@ and_then none then = none
 and_then (some e) then = then e
 
 -- a row behind the expression in hand, and the rows after it
-abbrev pub nextRow : (ℕ → Expression → Option Expression) → (List ℕ → Option Expression) → Expression → List ℕ → Row → Option Expression
-nextRow go inner e cs (Row.Test p) = none
-nextRow go inner e cs (Row.Bracket n) = none
-nextRow go inner e cs Row.Not = go 0 (negating e)
-nextRow go inner e cs (Row.Connect c n) = and_then (inner (take n cs)) (λ f. go n (joining c e f))
-nextRow go inner e cs Row.Unknown = none
+abbrev pub next_row : (ℕ → Expression → Option Expression) → (List ℕ → Option Expression) → Expression → List ℕ → Row → Option Expression
+next_row go inner e cs (Row.Test p) = none
+next_row go inner e cs (Row.Bracket n) = none
+next_row go inner e cs Row.Not = go 0 (negating e)
+next_row go inner e cs (Row.Connect c n) = and_then (inner (take n cs)) (λ f. go n (joining c e f))
+next_row go inner e cs Row.Unknown = none
 
 -- the expression in hand and all rows behind the next n
-unfoldable pub onFrom : (List ℕ → Option Expression) → ℕ → Expression → List ℕ → Option Expression
-onFrom inner zero e [] = some e
-onFrom inner (suc n) e [] = none
-onFrom inner zero e (c ∷ cs) = nextRow (λ n f. onFrom inner n f cs) inner e cs (row_of c)
-onFrom inner (suc n) e (c ∷ cs) = onFrom inner n e cs
+unfoldable pub on_from : (List ℕ → Option Expression) → ℕ → Expression → List ℕ → Option Expression
+on_from inner zero e [] = some e
+on_from inner (suc n) e [] = none
+on_from inner zero e (c ∷ cs) = next_row (λ n f. on_from inner n f cs) inner e cs (row_of c)
+on_from inner (suc n) e (c ∷ cs) = on_from inner n e cs
 
 -- brackets with n rows in them, by the row of the test
-abbrev pub afterBrackets : (List ℕ → Option Expression) → ℕ → List ℕ → Row → Option Expression
-afterBrackets inner n cs (Row.Test p) = and_then (inner (take n cs)) (λ e. onFrom inner n (choosing e p) cs)
-afterBrackets inner n cs (Row.Bracket m) = none
-afterBrackets inner n cs Row.Not = none
-afterBrackets inner n cs (Row.Connect c m) = none
-afterBrackets inner n cs Row.Unknown = none
+abbrev pub after_brackets : (List ℕ → Option Expression) → ℕ → List ℕ → Row → Option Expression
+after_brackets inner n cs (Row.Test p) = and_then (inner (take n cs)) (λ e. on_from inner n (choosing e p) cs)
+after_brackets inner n cs (Row.Bracket m) = none
+after_brackets inner n cs Row.Not = none
+after_brackets inner n cs (Row.Connect c m) = none
+after_brackets inner n cs Row.Unknown = none
 
-abbrev pub inBrackets : (List ℕ → Option Expression) → ℕ → List ℕ → Option Expression
-inBrackets inner n [] = none
-inBrackets inner n (c ∷ cs) = afterBrackets inner n cs (row_of c)
+abbrev pub in_brackets : (List ℕ → Option Expression) → ℕ → List ℕ → Option Expression
+in_brackets inner n [] = none
+in_brackets inner n (c ∷ cs) = after_brackets inner n cs (row_of c)
 
 -- by the first row
-abbrev pub byFirst : (List ℕ → Option Expression) → List ℕ → Row → Option Expression
-byFirst inner cs (Row.Test p) = onFrom inner 0 (probing p) cs
-byFirst inner cs (Row.Bracket n) = inBrackets inner n cs
-byFirst inner cs Row.Not = none
-byFirst inner cs (Row.Connect c n) = none
-byFirst inner cs Row.Unknown = none
+abbrev pub by_first : (List ℕ → Option Expression) → List ℕ → Row → Option Expression
+by_first inner cs (Row.Test p) = on_from inner 0 (probing p) cs
+by_first inner cs (Row.Bracket n) = in_brackets inner n cs
+by_first inner cs Row.Not = none
+by_first inner cs (Row.Connect c n) = none
+by_first inner cs Row.Unknown = none
 
-abbrev pub wholeBy : (List ℕ → Option Expression) → List ℕ → Option Expression
-wholeBy inner [] = none
-wholeBy inner (c ∷ cs) = byFirst inner cs (row_of c)
+abbrev pub whole_by : (List ℕ → Option Expression) → List ℕ → Option Expression
+whole_by inner [] = none
+whole_by inner (c ∷ cs) = by_first inner cs (row_of c)
 
 -- by parts nested at most k deep
-unfoldable pub statedIn : ℕ → List ℕ → Option Expression
-statedIn zero cs = none
-statedIn (suc k) cs = wholeBy (λ l. statedIn k l) cs
+unfoldable pub stated_in : ℕ → List ℕ → Option Expression
+stated_in zero cs = none
+stated_in (suc k) cs = whole_by (λ l. stated_in k l) cs
 
 -- the one whole expression, with nothing after it
 unfoldable pub stated : List ℕ → Option Expression
-stated cs = statedIn (length cs) cs
+stated cs = stated_in (length cs) cs

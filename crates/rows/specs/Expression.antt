@@ -13,8 +13,8 @@ pub data Expression : Type 0 where
   negating : Expression → Expression
 
 -- the number of its tests, those in brackets among them
-unfoldable pub testCount : Expression → ℕ
-testCount (probing p) = 1
-testCount (choosing e p) = suc (testCount e)
-testCount (joining c e f) = testCount e + testCount f
-testCount (negating e) = testCount e
+unfoldable pub test_count : Expression → ℕ
+test_count (probing p) = 1
+test_count (choosing e p) = suc (test_count e)
+test_count (joining c e f) = test_count e + test_count f
+test_count (negating e) = test_count e

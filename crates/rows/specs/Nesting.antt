@@ -9,15 +9,15 @@ use Rattle.rows.specs.declared.Shape.{Shape}
 mutual
   -- an item, with brackets nested at most d deep
   pub data NestsItem : ℕ → Expression → Type 0 where
-    nests-test : {d : ℕ} {p : Probe} → NestsItem d (probing p)
-    nests-bracketed : {d : ℕ} {e : Expression} {p : Probe} → Nests d e → NestsItem (suc d) (choosing e p)
-    nests-bracket : {d : ℕ} {e : Expression} → Nests d e → NestsItem (suc d) e
-    nests-not : {d : ℕ} {e : Expression} → Nests d e → NestsItem (suc d) (negating e)
+    nests_test : {d : ℕ} {p : Probe} → NestsItem d (probing p)
+    nests_bracketed : {d : ℕ} {e : Expression} {p : Probe} → Nests d e → NestsItem (suc d) (choosing e p)
+    nests_bracket : {d : ℕ} {e : Expression} → Nests d e → NestsItem (suc d) e
+    nests_not : {d : ℕ} {e : Expression} → Nests d e → NestsItem (suc d) (negating e)
 
   -- "one or more items joined by and or or"
   pub data Nests : ℕ → Expression → Type 0 where
-    nests-item : {d : ℕ} {e : Expression} → NestsItem d e → Nests d e
-    nests-more : {d : ℕ} {c : Connective} {e f : Expression} → Nests d e → NestsItem d f → Nests d (joining c e f)
+    nests_item : {d : ℕ} {e : Expression} → NestsItem d e → Nests d e
+    nests_more : {d : ℕ} {c : Connective} {e f : Expression} → Nests d e → NestsItem d f → Nests d (joining c e f)
 
 -- ---- as numbers
 
@@ -25,19 +25,19 @@ unfoldable pub larger : ℕ → ℕ → ℕ
 larger a b = cond (ltb a b) b a
 
 -- with one level more, for brackets or for not, and n tests
-abbrev pub deeperShape : Shape → ℕ → Shape
-deeperShape a n = record { tests = a.tests + n; chain = a.chain + 1; item = a.chain + 1 }
+abbrev pub deeper_shape : Shape → ℕ → Shape
+deeper_shape a n = record { tests = a.tests + n; chain = a.chain + 1; item = a.chain + 1 }
 
 -- of two that are joined: the second is an item, and the whole would need brackets to be one
-abbrev pub joinedShape : Shape → Shape → Shape
-joinedShape a b = record { tests = a.tests + b.tests; chain = larger a.chain b.item; item = larger a.chain b.item + 1 }
+abbrev pub joined_shape : Shape → Shape → Shape
+joined_shape a b = record { tests = a.tests + b.tests; chain = larger a.chain b.item; item = larger a.chain b.item + 1 }
 
 -- the number of tests, and the depth as a filter and as an item of one
 unfoldable pub shape_of : Expression → Shape
 shape_of (probing p) = record { tests = 1; chain = 0; item = 0 }
-shape_of (choosing e p) = deeperShape (shape_of e) 1
-shape_of (negating e) = deeperShape (shape_of e) 0
-shape_of (joining c e f) = joinedShape (shape_of e) (shape_of f)
+shape_of (choosing e p) = deeper_shape (shape_of e) 1
+shape_of (negating e) = deeper_shape (shape_of e) 0
+shape_of (joining c e f) = joined_shape (shape_of e) (shape_of f)
 
 -- ---- how deep parts stand in parts, where a second part is one, and what is in brackets
 

@@ -1,6 +1,6 @@
 // Cells: what each says.
 ghost use Rattle.std.specs.Prelude.{◌≡◌, ◌≤◌};
-ghost use Rattle.rows.specs.Cells.{probeOf, row_of};
+ghost use Rattle.rows.specs.Cells.{probe_of, row_of};
 ghost use Rattle.rows.specs.Shapes.{bit};
 
 use crate::{Probe, Row};
@@ -18,7 +18,7 @@ pub fn bit(fits: bool) -> u32
 
 // The test with this number.
 pub fn probe_of(number: u32) -> Probe
-    ensures { result ≡ probeOf number }
+    ensures { result ≡ probe_of number }
 {
     Probe {
         index: (number % 32) as u8,

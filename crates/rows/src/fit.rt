@@ -1,9 +1,9 @@
 // Tests of rows: whether each names a parameter with its operator, and a value that is one and readable.
 ghost use Rattle.std.specs.Prelude.{◌≡◌, ◌≤◌, ◌<◌, ◌&&◌, eqb, length, get_or};
 ghost use Rattle.syntax.specs.Placed.{PlacedValue};
-ghost use Rattle.kind.specs.Readable.{valueReadable};
+ghost use Rattle.kind.specs.Readable.{value_readable};
 ghost use Rattle.rows.specs.Cells.{row_of};
-ghost use Rattle.rows.specs.Shapes.{kindFits, valueIn, probeFits, memberBy};
+ghost use Rattle.rows.specs.Shapes.{kind_fits, value_in, probe_fits, member_by};
 
 use crate::cell::row_of;
 use crate::{Probe, Row};
@@ -14,7 +14,7 @@ use syntax::{FoundValue, RawValue};
 
 // Whether a parameter of this kind is there, is no bundle, and has the operator.
 fn kind_fits(operator: u8, kind: u8) -> bool
-    ensures { result ≡ kindFits operator kind }
+    ensures { result ≡ kind_fits operator kind }
 {
     if kind == 0 {
         return false;
@@ -32,7 +32,7 @@ fn kind_fits(operator: u8, kind: u8) -> bool
 fn value_fits(operator: u8, kind: u8, filter: &[u8], value: RawValue) -> bool
     requires filter_len_bound { length filter.now ≤ 1024 }
     requires placed_value { PlacedValue filter.now value }
-    ensures { result ≡ valueReadable operator kind (valueIn filter.now value) }
+    ensures { result ≡ value_readable operator kind (value_in filter.now value) }
 {
     let start = value.start;
     let end = value.end;
@@ -49,7 +49,7 @@ fn probe_fits(kinds: &[u8], filter: &[u8], probe: Probe) -> bool
     requires kinds_len { length kinds.now ≡ 32 }
     requires filter_len_bound { length filter.now ≤ 1024 }
     requires index_bound { probe.index < 32 }
-    ensures { result ≡ probeFits kinds.now filter.now probe }
+    ensures { result ≡ probe_fits kinds.now filter.now probe }
 {
     let index = probe.index as usize;
     let kind = kinds[index];
@@ -71,7 +71,7 @@ pub fn stands(kinds: &[u8], parents: &[u8], filter: &[u8], probe: Probe, scope: 
     requires parents_len { length parents.now ≡ 32 }
     requires filter_len_bound { length filter.now ≤ 1024 }
     requires index_bound { probe.index < 32 }
-    ensures { result ≡ (probeFits kinds.now filter.now probe && eqb (get_or parents.now probe.index 0) scope) }
+    ensures { result ≡ (probe_fits kinds.now filter.now probe && eqb (get_or parents.now probe.index 0) scope) }
 {
     let index = probe.index as usize;
     if probe_fits(kinds, filter, probe) {
@@ -85,7 +85,7 @@ pub fn member_of(kinds: &[u8], parents: &[u8], filter: &[u8], cell: u32) -> u8
     requires kinds_len { length kinds.now ≡ 32 }
     requires parents_len { length parents.now ≡ 32 }
     requires filter_len_bound { length filter.now ≤ 1024 }
-    ensures { result ≡ memberBy kinds.now parents.now filter.now (row_of cell) }
+    ensures { result ≡ member_by kinds.now parents.now filter.now (row_of cell) }
 {
     match row_of(cell) {
         Row::Test(probe) => {

@@ -1,9 +1,9 @@
 // The shape of what rows state. They are read from left to right with the shape of one expression in hand; a second part, and what is in
 // brackets, is read by itself. Calls within calls are counted, and no more are made than brackets within the limit ask for.
 ghost use Rattle.std.specs.Prelude.{◌≡◌, ◌≤◌, suc, length};
-ghost use Rattle.rows.specs.Cells.{statedIn};
-ghost use Rattle.rows.specs.Nesting.{larger, deeperShape, joinedShape};
-ghost use Rattle.rows.specs.Shapes.{fitsIn, shape_by, InHand, Began, BeganInBrackets};
+ghost use Rattle.rows.specs.Cells.{stated_in};
+ghost use Rattle.rows.specs.Nesting.{larger, deeper_shape, joined_shape};
+ghost use Rattle.rows.specs.Shapes.{fits_in, shape_by, InHand, Began, BeganInBrackets};
 
 use crate::cell::row_of;
 use crate::fit::{member_of, stands};
@@ -23,7 +23,7 @@ fn deeper(shape: Shape, tests: usize) -> Shape
     requires tests_bound { shape.tests ≤ 320 }
     requires chain_bound { shape.chain ≤ 320 }
     requires tests_bound_2 { tests ≤ 1 }
-    ensures { result ≡ deeperShape shape tests }
+    ensures { result ≡ deeper_shape shape tests }
 {
     Shape {
         tests: shape.tests + tests,
@@ -38,7 +38,7 @@ fn joined(first: Shape, second: Shape) -> Shape
     requires chain_bound { first.chain ≤ 320 }
     requires tests_bound_2 { second.tests ≤ 320 }
     requires item_bound { second.item ≤ 320 }
-    ensures { result ≡ joinedShape first second }
+    ensures { result ≡ joined_shape first second }
 {
     let chain = larger(first.chain, second.item);
     Shape {
@@ -139,7 +139,7 @@ fn shape_with(
     requires filter_len_bound { length filter.now ≤ 1024 }
     requires rows_len_bound { length rows.now ≤ 320 }
     requires in_hand { InHand kinds.now parents.now filter.now scope calls rows.now next first }
-    ensures { result ≡ shape_by (fitsIn kinds.now parents.now filter.now scope) (statedIn (suc calls) rows.now) }
+    ensures { result ≡ shape_by (fits_in kinds.now parents.now filter.now scope) (stated_in (suc calls) rows.now) }
 {
     let mut shape = first;
     let mut at = next;
@@ -194,7 +194,7 @@ pub fn shape_of(
     requires parents_len { length parents.now ≡ 32 }
     requires filter_len_bound { length filter.now ≤ 1024 }
     requires rows_len_bound { length rows.now ≤ 320 }
-    ensures { result ≡ shape_by (fitsIn kinds.now parents.now filter.now scope) (statedIn calls rows.now) }
+    ensures { result ≡ shape_by (fits_in kinds.now parents.now filter.now scope) (stated_in calls rows.now) }
 {
     if calls == 0 {
         return FoundShape::Nothing;

@@ -10,49 +10,49 @@ use borrow.Author.Tests.{eq-eqb, ne_eqb}
 use Rattle.base.specs.Bytes.{Byte, Bytes}
 use Rattle.base.specs.Parts.{padded}
 use Rattle.base.proofs.All.{all_take}
-use Rattle.refusal.specs.Answers.{refused, refusalAnswer}
+use Rattle.refusal.specs.Answers.{refused, refusal_answer}
 use Rattle.refusal.specs.declared.Reason.{Reason}
 use Rattle.block.specs.Words.{word, word_bytes}
-use Rattle.block.specs.Sum.{checkSum, sumFrom}
+use Rattle.block.specs.Sum.{check_sum, sum_from}
 use Rattle.block.specs.Seal.{seal, check}
 use Rattle.block.specs.declared.Integrity.TheVariants.{Sealed}
-use Rattle.block.proofs.Seal.{check-iff, seal-sealed}
+use Rattle.block.proofs.Seal.{check_iff, seal_sealed}
 use Rattle.sealing.specs.declared.Numbered.{Numbered}
-use Rattle.sealing.specs.Sealing.{numberedAnswer, sealAnswer, sealedBytes, recordAnswer}
+use Rattle.sealing.specs.Sealing.{numbered_answer, seal_answer, sealed_bytes, record_answer}
 
 -- ---- the answers' cases
 
-pub size-refused : numberedAnswer (Numbered.Refused (record { reason = Reason.CardSize; place = 0 })) ≡ refused 20 0
-unfolding numberedAnswer refusalAnswer
-size-refused = refl
+pub size_refused : numbered_answer (Numbered.Refused (record { reason = Reason.CardSize; place = 0 })) ≡ refused 20 0
+unfolding numbered_answer refusal_answer
+size_refused = refl
 
 four-joined : (p q r s : List ℕ) (x y z w : ℕ) → q ≡ p ++ (x ∷ []) → r ≡ q ++ (y ∷ []) → s ≡ r ++ (z ∷ []) → s ++ (w ∷ []) ≡ p ++ (x ∷ y ∷ z ∷ w ∷ [])
 four-joined p q r s x y z w eq er es = rw (es, er, eq, append_assoc, append_assoc, append_assoc) refl
 
 module _ (b : List ℕ) where
   module _ (n : length b ≡ 512 → ⊥) where
-    pub record-refused : (r : Numbered) → numberedAnswer r ≡ refused 20 0 → numberedAnswer r ≡ recordAnswer b
-    unfolding recordAnswer
-    record-refused r e = e ∙ rw (ne_eqb (length b) 512 n)
+    pub record_refused : (r : Numbered) → numbered_answer r ≡ refused 20 0 → numbered_answer r ≡ record_answer b
+    unfolding record_answer
+    record_refused r e = e ∙ rw (ne_eqb (length b) 512 n)
 
-    pub seal-refused : (r : Numbered) → numberedAnswer r ≡ refused 20 0 → numberedAnswer r ≡ sealAnswer b
-    unfolding sealAnswer
-    seal-refused r e = e ∙ rw (ne_eqb (length b) 512 n)
+    pub seal_refused : (r : Numbered) → numbered_answer r ≡ refused 20 0 → numbered_answer r ≡ seal_answer b
+    unfolding seal_answer
+    seal_refused r e = e ∙ rw (ne_eqb (length b) 512 n)
 
-    pub bytes-stay : b ≡ sealedBytes b
-    unfolding sealedBytes
-    bytes-stay = rw (ne_eqb (length b) 512 n)
+    pub bytes_stay : b ≡ sealed_bytes b
+    unfolding sealed_bytes
+    bytes_stay = rw (ne_eqb (length b) 512 n)
 
-    pub no-block-stays : sealedBytes b ≡ b
-    no-block-stays = sym bytes-stay
+    pub no_block-stays : sealed_bytes b ≡ b
+    no_block-stays = sym bytes_stay
 
   module _ (h : length b ≡ 512) where
-    pub record-read : (r : ℕ) → r ≡ word b 1 → numberedAnswer (Numbered.Number r) ≡ recordAnswer b
-    unfolding numberedAnswer recordAnswer
-    record-read r e = rw (eq-eqb (length b) 512 h, e)
+    pub record_read : (r : ℕ) → r ≡ word b 1 → numbered_answer (Numbered.Number r) ≡ record_answer b
+    unfolding numbered_answer record_answer
+    record_read r e = rw (eq-eqb (length b) 512 h, e)
 
-    pub sum_told : (s : ℕ) → s ≡ checkSum b → numberedAnswer (Numbered.Number s) ≡ sealAnswer b
-    unfolding numberedAnswer sealAnswer
+    pub sum_told : (s : ℕ) → s ≡ check_sum b → numbered_answer (Numbered.Number s) ≡ seal_answer b
+    unfolding numbered_answer seal_answer
     sum_told s e = rw (eq-eqb (length b) 512 h, e)
 
     -- ---- the four stores
@@ -83,18 +83,18 @@ module _ (b : List ℕ) where
     unfolding padded
     body-padded = rw body-length (append-nil (take 508 b))
 
-    pub sealed-written : (s : ℕ) (exit : List ℕ) → s ≡ checkSum b → exit ≡ take 508 b ++ word_bytes s → exit ≡ sealedBytes b
-    unfolding sealedBytes seal checkSum
-    sealed-written s exit e w = w ∙ rw (eq-eqb (length b) 512 h, body-padded, e)
+    pub sealed_written : (s : ℕ) (exit : List ℕ) → s ≡ check_sum b → exit ≡ take 508 b ++ word_bytes s → exit ≡ sealed_bytes b
+    unfolding sealed_bytes seal check_sum
+    sealed_written s exit e w = w ∙ rw (eq-eqb (length b) 512 h, body-padded, e)
 
     -- the first 508 bytes stay
-    pub seal-keeps : take 508 (sealedBytes b) ≡ take 508 b
-    unfolding sealedBytes seal
-    seal-keeps = rw (eq-eqb (length b) 512 h, body-padded) (take_at (take 508 b) (word_bytes (sumFrom 1 (take 508 b))) 508 body-length)
+    pub seal_keeps : take 508 (sealed_bytes b) ≡ take 508 b
+    unfolding sealed_bytes seal
+    seal_keeps = rw (eq-eqb (length b) 512 h, body-padded) (take_at (take 508 b) (word_bytes (sum_from 1 (take 508 b))) 508 body-length)
 
     -- a block that was sealed has the size and the check sum that every operation asks for
-    pub seal-passes : Bytes b → check (sealedBytes b) ≡ Sealed
-    unfolding sealedBytes
+    pub seal-passes : Bytes b → check (sealed_bytes b) ≡ Sealed
+    unfolding sealed_bytes
     seal-passes all =
         let room : length (take 508 b) ≤ 508 = omega (arith, body-length) in
-        rw (eq-eqb (length b) 512 h) ((check-iff (seal (take 508 b))).1 (seal-sealed (take 508 b) room (all_take Byte 508 all)))
+        rw (eq-eqb (length b) 512 h) ((check_iff (seal (take 508 b))).1 (seal_sealed (take 508 b) room (all_take Byte 508 all)))

@@ -3,7 +3,7 @@ ghost use Rattle.std.specs.Prelude.{◌≡◌, ◌++◌, ◌%◌, take};
 ghost use Rattle.refusal.specs.Answers.{refused};
 ghost use Rattle.block.specs.Seal.{HasSize};
 ghost use Rattle.block.specs.Words.{word_bytes};
-ghost use Rattle.sealing.specs.Sealing.{numberedAnswer, sealAnswer, sealedBytes, recordAnswer};
+ghost use Rattle.sealing.specs.Sealing.{numbered_answer, seal_answer, sealed_bytes, record_answer};
 
 use block::{check_sum, word};
 use refusal::{Reason, Refusal};
@@ -17,7 +17,7 @@ pub enum Numbered {
 
 // What is not 512 bytes is refused.
 fn wrong_size() -> Numbered
-    ensures { numberedAnswer result ≡ refused 20 0 }
+    ensures { numbered_answer result ≡ refused 20 0 }
 {
     Numbered::Refused(Refusal {
         reason: Reason::CardSize,
@@ -45,8 +45,8 @@ fn put_sum(block: &mut [u8], sum: u32)
 
 // Writes the check sum into a block, and answers it. What is no block stays as it is.
 pub fn seal(block: &mut [u8]) -> Numbered
-    ensures result_value { numberedAnswer result ≡ sealAnswer block.old }
-    ensures block_after { block.new ≡ sealedBytes block.old }
+    ensures result_value { numbered_answer result ≡ seal_answer block.old }
+    ensures block_after { block.new ≡ sealed_bytes block.old }
 {
     if block.len() != 512 {
         return wrong_size();
@@ -58,7 +58,7 @@ pub fn seal(block: &mut [u8]) -> Numbered
 
 // The record number of a card.
 pub fn record(card: &[u8]) -> Numbered
-    ensures { numberedAnswer result ≡ recordAnswer card.now }
+    ensures { numbered_answer result ≡ record_answer card.now }
 {
     if card.len() != 512 {
         return wrong_size();

@@ -2,7 +2,7 @@
 -- Assumes nothing.
 use Rattle.std.specs.Prelude.{ℕ, ◌≡◌}
 use mathlib.Core.List.{List, [], Memᴰ}
-use Rattle.base.specs.Kinds.{token, bundleKind}
+use Rattle.base.specs.Kinds.{token, bundle_kind}
 use Rattle.base.specs.Lists.{All}
 use Rattle.token.specs.Card.{Token}
 use Rattle.token.specs.Filter.{Form}
@@ -12,7 +12,7 @@ use Rattle.sheet.specs.Sheet.{Parameter}
 use Rattle.card.specs.Card.{Entry}
 use Rattle.syntax.specs.Tree.{name, Test}
 use Rattle.kind.specs.Rules.{ReadableInFilter, HasOperator}
-use Rattle.judge.specs.Sets.{valuesAt}
+use Rattle.judge.specs.Sets.{values_at}
 use Rattle.judge.specs.Rules.{Names, NotOnSheet, Says}
 use Rattle.query.specs.Spelling.{Alternative, Query}
 use Rattle.search.specs.Asking.{AskedBy}
@@ -21,22 +21,22 @@ use Rattle.search.specs.Asking.{AskedBy}
 
 -- what a parameter of the kind k can read: a token's text is one of the four forms, by its own split; any other's value as in a filter
 pub data ReadableAlternative (k : ℕ) (a : Alternative) : Type 0 where
-  readable-form : {f : Form} → k ≡ token → SplitSpells a.text a.split f → ReadableAlternative k a
-  readable-value : {o : ℕ} {v : List ℕ} → (k ≡ token → ⊥) → AskedBy k a.text o v → ReadableInFilter k v → ReadableAlternative k a
+  readable_form : {f : Form} → k ≡ token → SplitSpells a.text a.split f → ReadableAlternative k a
+  readable_value : {o : ℕ} {v : List ℕ} → (k ≡ token → ⊥) → AskedBy k a.text o v → ReadableInFilter k v → ReadableAlternative k a
 
 -- an alternative has no meaning on a card with the entries es: as a test; a bundle's name counts as one that is not on the sheet
 pub data LacksMeaning (ps : List Parameter) (es : List Entry) (a : Alternative) : Type 0 where
-  not-on-sheet : NotOnSheet ps (name a.name) → LacksMeaning ps es a
-  bundle-named : {i : ℕ} → Names ps (name a.name) i bundleKind → LacksMeaning ps es a
-  lacks-operator : {i k o : ℕ} {v : List ℕ} → Names ps (name a.name) i k → (valuesAt i es ≡ [] → ⊥) → AskedBy k a.text o v → (HasOperator k o → ⊥) → LacksMeaning ps es a
-  unreadable : {i k : ℕ} → Names ps (name a.name) i k → (valuesAt i es ≡ [] → ⊥) → (ReadableAlternative k a → ⊥) → LacksMeaning ps es a
+  not_on_sheet : NotOnSheet ps (name a.name) → LacksMeaning ps es a
+  bundle_named : {i : ℕ} → Names ps (name a.name) i bundle_kind → LacksMeaning ps es a
+  lacks_operator : {i k o : ℕ} {v : List ℕ} → Names ps (name a.name) i k → (values_at i es ≡ [] → ⊥) → AskedBy k a.text o v → (HasOperator k o → ⊥) → LacksMeaning ps es a
+  unreadable : {i k : ℕ} → Names ps (name a.name) i k → (values_at i es ≡ [] → ⊥) → (ReadableAlternative k a → ⊥) → LacksMeaning ps es a
 
 -- the line with the number holds for the alternative: "14 (bundles and members too), 16, 17"
 pub data AlternativeLine (ps : List Parameter) (a : Alternative) : ℕ → Type 0 where
-  line-14 : NotOnSheet ps (name a.name) → AlternativeLine ps a 14
-  line-14-bundle : {i : ℕ} → Names ps (name a.name) i bundleKind → AlternativeLine ps a 14
-  line-16 : {i k o : ℕ} {v : List ℕ} → Names ps (name a.name) i k → AskedBy k a.text o v → (HasOperator k o → ⊥) → AlternativeLine ps a 16
-  line-17 : {i k : ℕ} → Names ps (name a.name) i k → (ReadableAlternative k a → ⊥) → AlternativeLine ps a 17
+  line_14 : NotOnSheet ps (name a.name) → AlternativeLine ps a 14
+  line_14_bundle : {i : ℕ} → Names ps (name a.name) i bundle_kind → AlternativeLine ps a 14
+  line_16 : {i k o : ℕ} {v : List ℕ} → Names ps (name a.name) i k → AskedBy k a.text o v → (HasOperator k o → ⊥) → AlternativeLine ps a 16
+  line_17 : {i k : ℕ} → Names ps (name a.name) i k → (ReadableAlternative k a → ⊥) → AlternativeLine ps a 17
 
 -- ---- verdicts
 
@@ -47,10 +47,10 @@ test_of a o v = record { at = a.at; path = name a.name; operator = o; value = v 
 -- the alternative says yes of entries
 pub data AlternativeSays (ps : List Parameter) (es : List Entry) (a : Alternative) : Type 0 where
   -- "a token for 01's four forms without the short system names": of some token in the set
-  says-token : {i : ℕ} {x : List ℕ} {t : Token} {f : Form} → Names ps (name a.name) i token → Memᴰ x (valuesAt i es) → CardSpells x t
+  says_token : {i : ℕ} {x : List ℕ} {t : Token} {f : Form} → Names ps (name a.name) i token → Memᴰ x (values_at i es) → CardSpells x t
       → SplitSpells a.text a.split f → AsksBy Itself f t → AlternativeSays ps es a
   -- "its meaning is 01's": that of the test which it asks for
-  says-test : {i k o : ℕ} {v : List ℕ} → (k ≡ token → ⊥) → Names ps (name a.name) i k → AskedBy k a.text o v → Says ps 0 es (test_of a o v) → AlternativeSays ps es a
+  says_test : {i k o : ℕ} {v : List ℕ} → (k ≡ token → ⊥) → Names ps (name a.name) i k → AskedBy k a.text o v → Says ps 0 es (test_of a o v) → AlternativeSays ps es a
 
 -- "commas in the value give alternatives": some alternative of the pair says yes
 abbrev pub PairSays : List Parameter → List Entry → List Alternative → Type 0

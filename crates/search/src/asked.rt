@@ -2,7 +2,7 @@
 // a token for 01's four forms, a reference for sameness".
 ghost use Rattle.std.specs.Prelude.{◌≡◌};
 ghost use Rattle.base.specs.Lists.{member};
-ghost use Rattle.search.specs.Asking.{takesPrefix, prefixes, prefixed, asked_of, PrefixOf};
+ghost use Rattle.search.specs.Asking.{takes_prefix, prefixes, prefixed, asked_of, PrefixOf};
 
 use crate::Prefixed;
 use base::kind::{DATE, NUMBER, PERIOD, STRING, TOKEN};
@@ -12,7 +12,7 @@ use syntax::test::read_operator;
 
 // Whether texts of the kind take a prefix.
 fn takes_prefix(kind: u8) -> bool
-    ensures { result ≡ takesPrefix kind }
+    ensures { result ≡ takes_prefix kind }
 {
     if kind == NUMBER {
         return true;

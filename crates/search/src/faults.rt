@@ -1,11 +1,11 @@
 // What is decided of an alternative on a sheet, whatever the card.
 ghost use Rattle.std.specs.Prelude.{◌≡◌, cond, eqb, length};
-ghost use Rattle.base.specs.Kinds.{bundleKind};
-ghost use Rattle.sheet.specs.Sheet.{parametersOf, readSheet};
+ghost use Rattle.base.specs.Kinds.{bundle_kind};
+ghost use Rattle.sheet.specs.Sheet.{parameters_of, read_sheet};
 ghost use Rattle.sheet.specs.Find.{find};
 ghost use Rattle.refusal.specs.Decisions.{refuse};
-ghost use Rattle.search.specs.Meaning.{textFault, faultAt, alternativeFault, firstAlternativeFault};
-ghost use Rattle.query.specs.Rows.{alternativeIn, alternativesIn, RowWithin, RowsWithin};
+ghost use Rattle.search.specs.Meaning.{text_fault, fault_at, alternative_fault, first_alternative_fault};
+ghost use Rattle.query.specs.Rows.{alternative_in, alternatives_in, RowWithin, RowsWithin};
 
 use crate::asked::asked_of;
 use base::kind::{BUNDLE, TOKEN};
@@ -16,7 +16,7 @@ use sheet::Found;
 
 // What is decided of a text under a kind, at the place of its pair: 16 or 17.
 fn text_fault(kind: u8, split: usize, text: &[u8], place: usize) -> Decision
-    ensures { result ≡ textFault kind split text.now place }
+    ensures { result ≡ text_fault kind split text.now place }
 {
     if kind == TOKEN {
         if token::readable_at(text, split) {
@@ -31,7 +31,7 @@ fn text_fault(kind: u8, split: usize, text: &[u8], place: usize) -> Decision
 
 // The same at a parameter: "14 (bundles and members too)".
 fn parameter_fault(kind: u8, split: usize, text: &[u8], place: usize) -> Decision
-    ensures { result ≡ cond (eqb kind bundleKind) (refuse Reason.UnknownName place) (textFault kind split text.now place) }
+    ensures { result ≡ cond (eqb kind bundle_kind) (refuse Reason.UnknownName place) (text_fault kind split text.now place) }
 {
     if kind == BUNDLE {
         return refuse(Reason::UnknownName, place);
@@ -41,8 +41,8 @@ fn parameter_fault(kind: u8, split: usize, text: &[u8], place: usize) -> Decisio
 
 // The same under a name, on a well-formed sheet.
 fn fault_at(sheet: &[u8], name: &[u8], split: usize, text: &[u8], place: usize) -> Decision
-    requires { readSheet sheet.now ≡ Validity.WellFormed }
-    ensures { result ≡ faultAt (find 0 name.now (parametersOf sheet.now)) split text.now place }
+    requires { read_sheet sheet.now ≡ Validity.WellFormed }
+    ensures { result ≡ fault_at (find 0 name.now (parameters_of sheet.now)) split text.now place }
 {
     match sheet::find(sheet, 0, name) {
         Found::At { index: _, kind } => parameter_fault(kind, split, text, place),
@@ -52,9 +52,9 @@ fn fault_at(sheet: &[u8], name: &[u8], split: usize, text: &[u8], place: usize) 
 
 // What is decided of the alternative that a row keeps.
 fn row_fault(sheet: &[u8], bytes: &[u8], row: Row) -> Decision
-    requires sheet_value { readSheet sheet.now ≡ Validity.WellFormed }
+    requires sheet_value { read_sheet sheet.now ≡ Validity.WellFormed }
     requires row_within { RowWithin (length bytes.now) row }
-    ensures { result ≡ alternativeFault (parametersOf sheet.now) (alternativeIn bytes.now row) }
+    ensures { result ≡ alternative_fault (parameters_of sheet.now) (alternative_in bytes.now row) }
 {
     let name = row.name;
     let until = row.until;
@@ -71,9 +71,9 @@ fn row_fault(sheet: &[u8], bytes: &[u8], row: Row) -> Decision
 
 // What the first alternative of a query that is refused comes to: the first byte of its pair is its place.
 pub fn first_fault(sheet: &[u8], bytes: &[u8], rows: Rows) -> Decision
-    requires sheet_value { readSheet sheet.now ≡ Validity.WellFormed }
+    requires sheet_value { read_sheet sheet.now ≡ Validity.WellFormed }
     requires rows_within { RowsWithin (length bytes.now) rows }
-    ensures { result ≡ firstAlternativeFault (parametersOf sheet.now) (alternativesIn bytes.now rows) }
+    ensures { result ≡ first_alternative_fault (parameters_of sheet.now) (alternatives_in bytes.now rows) }
 {
     let mut i = 0;
     while i < rows.count {

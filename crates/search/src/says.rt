@@ -1,13 +1,13 @@
 // What a query says of a card: pairs, all to be met, each by some alternative.
 ghost use Rattle.std.specs.Prelude.{◌≡◌, not, ◌&&◌, ◌||◌, length};
-ghost use Rattle.token.specs.Match.{matchesAt};
-ghost use Rattle.sheet.specs.Sheet.{parametersOf, readSheet};
+ghost use Rattle.token.specs.Match.{matches_at};
+ghost use Rattle.sheet.specs.Sheet.{parameters_of, read_sheet};
 ghost use Rattle.sheet.specs.Find.{find};
-ghost use Rattle.card.specs.Card.{entriesOf, readCard};
-ghost use Rattle.judge.specs.Sets.{valuesAt};
-ghost use Rattle.judge.specs.Verdicts.{someValue};
-ghost use Rattle.search.specs.Meaning.{textSays, saysAt, alternativeSays};
-ghost use Rattle.query.specs.Rows.{alternativeIn, rowsSay, RowWithin, RowsWithin};
+ghost use Rattle.card.specs.Card.{entries_of, read_card};
+ghost use Rattle.judge.specs.Sets.{values_at};
+ghost use Rattle.judge.specs.Verdicts.{some_value};
+ghost use Rattle.search.specs.Meaning.{text_says, says_at, alternative_says};
+ghost use Rattle.query.specs.Rows.{alternative_in, rows_say, RowWithin, RowsWithin};
 
 use crate::asked::asked_of;
 use base::kind::TOKEN;
@@ -18,7 +18,7 @@ use sheet::Found;
 
 // Whether an entry's text belongs to a parameter and is a token that is asked for.
 fn entry_asked(under: bool, split: usize, asked: &[u8], text: &[u8]) -> bool
-    ensures { result ≡ (under && matchesAt text.now split asked.now) }
+    ensures { result ≡ (under && matches_at text.now split asked.now) }
 {
     if under {
         return token::matches_at(text, split, asked);
@@ -28,8 +28,8 @@ fn entry_asked(under: bool, split: usize, asked: &[u8], text: &[u8]) -> bool
 
 // Whether some text under a parameter is a token that is asked for.
 fn some_token(card: &[u8], index: u8, split: usize, asked: &[u8]) -> bool
-    requires { readCard card.now ≡ Validity.WellFormed }
-    ensures { result ≡ someValue (λ x. matchesAt x split asked.now) (valuesAt index (entriesOf card.now)) }
+    requires { read_card card.now ≡ Validity.WellFormed }
+    ensures { result ≡ some_value (λ x. matches_at x split asked.now) (values_at index (entries_of card.now)) }
 {
     let mut at = card::FIRST_ENTRY;
     let mut left = card::entry_count(card);
@@ -48,8 +48,8 @@ fn some_token(card: &[u8], index: u8, split: usize, asked: &[u8]) -> bool
 
 // What a text says of the texts under a parameter of a kind.
 fn text_says(card: &[u8], index: u8, kind: u8, split: usize, text: &[u8]) -> bool
-    requires { readCard card.now ≡ Validity.WellFormed }
-    ensures { result ≡ textSays kind split text.now (valuesAt index (entriesOf card.now)) }
+    requires { read_card card.now ≡ Validity.WellFormed }
+    ensures { result ≡ text_says kind split text.now (values_at index (entries_of card.now)) }
 {
     if kind == TOKEN {
         return some_token(card, index, split, text);
@@ -71,9 +71,9 @@ fn text_says(card: &[u8], index: u8, kind: u8, split: usize, text: &[u8]) -> boo
 
 // What a text under a name says of a well-formed card.
 fn says_at(sheet: &[u8], card: &[u8], name: &[u8], split: usize, text: &[u8]) -> bool
-    requires sheet_value { readSheet sheet.now ≡ Validity.WellFormed }
-    requires card_value { readCard card.now ≡ Validity.WellFormed }
-    ensures { result ≡ saysAt (find 0 name.now (parametersOf sheet.now)) split text.now (entriesOf card.now) }
+    requires sheet_value { read_sheet sheet.now ≡ Validity.WellFormed }
+    requires card_value { read_card card.now ≡ Validity.WellFormed }
+    ensures { result ≡ says_at (find 0 name.now (parameters_of sheet.now)) split text.now (entries_of card.now) }
 {
     match sheet::find(sheet, 0, name) {
         Found::At { index, kind } => text_says(card, index, kind, split, text),
@@ -83,10 +83,10 @@ fn says_at(sheet: &[u8], card: &[u8], name: &[u8], split: usize, text: &[u8]) ->
 
 // What the alternative that a row keeps says, or true where its pair is met already.
 fn row_says(met: bool, sheet: &[u8], card: &[u8], bytes: &[u8], row: Row) -> bool
-    requires sheet_value { readSheet sheet.now ≡ Validity.WellFormed }
-    requires card_value { readCard card.now ≡ Validity.WellFormed }
+    requires sheet_value { read_sheet sheet.now ≡ Validity.WellFormed }
+    requires card_value { read_card card.now ≡ Validity.WellFormed }
     requires row_within { RowWithin (length bytes.now) row }
-    ensures { result ≡ (met || alternativeSays (parametersOf sheet.now) (entriesOf card.now) (alternativeIn bytes.now row)) }
+    ensures { result ≡ (met || alternative_says (parameters_of sheet.now) (entries_of card.now) (alternative_in bytes.now row)) }
 {
     if met {
         return true;
@@ -126,10 +126,10 @@ fn carried(last: bool, said: bool) -> bool
 
 // What the query that rows keep says of a well-formed card.
 pub fn rows_say(sheet: &[u8], card: &[u8], bytes: &[u8], rows: Rows) -> bool
-    requires sheet_value { readSheet sheet.now ≡ Validity.WellFormed }
-    requires card_value { readCard card.now ≡ Validity.WellFormed }
+    requires sheet_value { read_sheet sheet.now ≡ Validity.WellFormed }
+    requires card_value { read_card card.now ≡ Validity.WellFormed }
     requires rows_within { RowsWithin (length bytes.now) rows }
-    ensures { result ≡ rowsSay (alternativeSays (parametersOf sheet.now) (entriesOf card.now)) bytes.now rows }
+    ensures { result ≡ rows_say (alternative_says (parameters_of sheet.now) (entries_of card.now)) bytes.now rows }
 {
     let mut i = 0;
     let mut met = false;

@@ -1,9 +1,9 @@
 -- Check and match by a search string, as the code comes to their answers: the rows ask what the string asks.
 -- A law for each way through the code: the sheet is refused, the text is refused, or it is accepted. Where it is accepted the rows keep the
--- query, so that checking and judging by the rows is checking and judging by the query (`rows-answer`, `same-says`). Where a count is
--- answered no step has stopped (`passed-tests`), so the string's question is that of the rows (`asks`), and match follows as it does for a
--- filter (`search-answered`). Where check refuses, the question stops with the same refusal (`question-stopped`). Select uses `asks` and
--- `question-stopped` in crate selecting.
+-- query, so that checking and judging by the rows is checking and judging by the query (`rows_answer_lem`, `same-says`). Where a count is
+-- answered no step has stopped (`passed_tests`), so the string's question is that of the rows (`asks`), and match follows as it does for a
+-- filter (`search_answered`). Where check refuses, the question stops with the same refusal (`question_stopped`). Select uses `asks` and
+-- `question_stopped` in crate selecting.
 -- Assumes nothing.
 use Prim.Native.Nat.{ℕ}
 use native.Mathlib.Omega.{arith}
@@ -12,166 +12,166 @@ use mathlib.Core.Bool.{Bool}
 use mathlib.Core.List.{List}
 use lib.ListN.{length}
 use Rattle.block.specs.declared.Validity.{Validity}
-use Rattle.sheet.specs.Sheet.{Parameter, parametersOf, readSheet}
+use Rattle.sheet.specs.Sheet.{Parameter, parameters_of, read_sheet}
 use Rattle.card.specs.Card.{Entry}
 use Rattle.refusal.specs.declared.Decision.{Decision}
-use Rattle.query.specs.Spelling.{Query, alternativesOf}
-use Rattle.search.specs.Meaning.{firstAlternativeFault, alternativeSays, querySays}
-use Rattle.query.specs.Rows.{RowsWithin, alternativesIn, rowsSay, AcceptsQuery, RowsOf}
+use Rattle.query.specs.Spelling.{Query, alternatives_of}
+use Rattle.search.specs.Meaning.{first_alternative_fault, alternative_says, query_says}
+use Rattle.query.specs.Rows.{RowsWithin, alternatives_in, rows_say, AcceptsQuery, RowsOf}
 use Rattle.query.specs.declared.QueryRead.{QueryRead}
 use Rattle.query.specs.declared.Rows.{Rows}
-use Rattle.query.proofs.Accepted.{accepted-rows, accepted-refused}
-use Rattle.refusal.specs.Answers.{Answer, count, refused, number_of, refusalAnswer}
+use Rattle.query.proofs.Accepted.{accepted_rows, accepted_refused}
+use Rattle.refusal.specs.Answers.{Answer, count, refused, number_of, refusal_answer}
 use Rattle.refusal.specs.Steps.{Step, found, stop, ◌>>=◌, answer}
 use Rattle.refusal.specs.declared.Refusal.{Refusal}
-use Rattle.answer.specs.Answers.{checkedAnswer, matchedAnswer}
-use Rattle.answer.specs.Operations.{decisionStep, sheetStep, acceptSheet}
-use Rattle.answer.specs.Passing.{summaryAnswer, cardVerdict}
-use Rattle.answer.specs.Searching.{alternativesStep, QueryInputs, acceptQueryInputs, checkSearchAnswer, questionOfQuery, searchQuestion, matchSearchAnswer}
-use Rattle.searching.specs.SearchPassing.{rowsAnswer, rowsQuestion, PassingRows, ReadsRows}
+use Rattle.answer.specs.Answers.{checked_answer, matched_answer}
+use Rattle.answer.specs.Operations.{decision_step, sheet_step, accept_sheet}
+use Rattle.answer.specs.Passing.{summary_answer, card_verdict}
+use Rattle.answer.specs.Searching.{alternatives_step, QueryInputs, accept_query_inputs, check_search_answer, question_of_query, search_question, match_search_answer}
+use Rattle.searching.specs.SearchPassing.{rows_answer, rows_question, PassingRows, ReadsRows}
 use Rattle.answer.specs.declared.Checked.{Checked}
 use Rattle.answer.specs.declared.Matched.{Matched}
 use Rattle.searching.specs.declared.SearchRead.{SearchRead}
-use Rattle.answer.proofs.Passing.{match-stopped}
-use Rattle.one_card.proofs.Judging.{match-answered}
-use Rattle.one_card.specs.OneCard.{verdictStep, verdictAnswer}
+use Rattle.answer.proofs.Passing.{match_stopped}
+use Rattle.one_card.proofs.Judging.{match_answered}
+use Rattle.one_card.specs.OneCard.{verdict_step, verdict_answer}
 use Rattle.one_card.specs.declared.CardVerdict.{CardVerdict}
 
-pub sheet-known : (sheet : List ℕ) (r : Validity) → r ≡ readSheet sheet → r ≡ Validity.WellFormed → readSheet sheet ≡ Validity.WellFormed
-sheet-known sheet r e h = sym e ∙ h
+pub sheet_known : (sheet : List ℕ) (r : Validity) → r ≡ read_sheet sheet → r ≡ Validity.WellFormed → read_sheet sheet ≡ Validity.WellFormed
+sheet_known sheet r e h = sym e ∙ h
 
 -- ---- a string that is refused: no count, so that nothing is asked of the rows
 
-no-tests : (c : Checked) (n k p : ℕ) → checkedAnswer c ≡ refused k p → c ≡ Checked.Tests n → ⊥
-unfolding checkedAnswer
-no-tests c n k p e h = let z : count n ≡ refused k p = ap checkedAnswer (sym h) ∙ e in let y : ◌≡◌ {A = ℕ} 0 1 = cc in omega arith
+no_tests : (c : Checked) (n k p : ℕ) → checked_answer c ≡ refused k p → c ≡ Checked.Tests n → ⊥
+unfolding checked_answer
+no_tests c n k p e h = let z : count n ≡ refused k p = ap checked_answer (sym h) ∙ e in let y : ◌≡◌ {A = ℕ} 0 1 = cc in omega arith
 
 module _ (sheet text bytes : List ℕ) (c : Checked) (rows : Rows) where
-  refuses : (k p : ℕ) → acceptQueryInputs sheet text ≡ stop k p → checkedAnswer c ≡ refused k p → ReadsRows sheet text bytes (record { checked = c; rows = rows })
+  refuses : (k p : ℕ) → accept_query_inputs sheet text ≡ stop k p → checked_answer c ≡ refused k p → ReadsRows sheet text bytes (record { checked = c; rows = rows })
   refuses k p e h =
-      let answered : checkedAnswer c ≡ checkSearchAnswer sheet text = h ∙ sym (unfold checkSearchAnswer in rw e) in
-      record { answers = answered; passes = λ n t. absurd (no-tests c n k p h t) }
+      let answered : checked_answer c ≡ check_search_answer sheet text = h ∙ sym (unfold check_search_answer in rw e) in
+      record { answers = answered; passes = λ n t. absurd (no_tests c n k p h t) }
 
   -- the sheet is refused
-  sheet-refuses : (r k : Validity) (n : ℕ) → ((ps : List Parameter) → sheetStep k ps ≡ stop n 0) → r ≡ readSheet sheet → r ≡ k → checkedAnswer c ≡ refused n 0
+  sheet_refuses : (r k : Validity) (n : ℕ) → ((ps : List Parameter) → sheet_step k ps ≡ stop n 0) → r ≡ read_sheet sheet → r ≡ k → checked_answer c ≡ refused n 0
       → ReadsRows sheet text bytes (record { checked = c; rows = rows })
-  sheet-refuses r k n t e i h = refuses n 0 (unfold acceptQueryInputs acceptSheet in rw (sym e ∙ i, t (parametersOf sheet))) h
+  sheet_refuses r k n t e i h = refuses n 0 (unfold accept_query_inputs accept_sheet in rw (sym e ∙ i, t (parameters_of sheet))) h
 
-  module _ (r : Validity) (e : r ≡ readSheet sheet) where
-    pub sheet-size : r ≡ Validity.WrongSize → checkedAnswer c ≡ refused 1 0 → ReadsRows sheet text bytes (record { checked = c; rows = rows })
-    sheet-size = sheet-refuses r Validity.WrongSize 1 (λ ps. refl) e
+  module _ (r : Validity) (e : r ≡ read_sheet sheet) where
+    pub sheet_size : r ≡ Validity.WrongSize → checked_answer c ≡ refused 1 0 → ReadsRows sheet text bytes (record { checked = c; rows = rows })
+    sheet_size = sheet_refuses r Validity.WrongSize 1 (λ ps. refl) e
 
-    pub sheet-sum : r ≡ Validity.WrongSum → checkedAnswer c ≡ refused 2 0 → ReadsRows sheet text bytes (record { checked = c; rows = rows })
-    sheet-sum = sheet-refuses r Validity.WrongSum 2 (λ ps. refl) e
+    pub sheet_sum : r ≡ Validity.WrongSum → checked_answer c ≡ refused 2 0 → ReadsRows sheet text bytes (record { checked = c; rows = rows })
+    sheet_sum = sheet_refuses r Validity.WrongSum 2 (λ ps. refl) e
 
-    pub sheet-layout : r ≡ Validity.WrongLayout → checkedAnswer c ≡ refused 3 0 → ReadsRows sheet text bytes (record { checked = c; rows = rows })
-    sheet-layout = sheet-refuses r Validity.WrongLayout 3 (λ ps. refl) e
+    pub sheet_layout_lem : r ≡ Validity.WrongLayout → checked_answer c ≡ refused 3 0 → ReadsRows sheet text bytes (record { checked = c; rows = rows })
+    sheet_layout_lem = sheet_refuses r Validity.WrongLayout 3 (λ ps. refl) e
 
 -- the string is refused, as the definition refuses it
-pub text-refuses : (sheet text bytes : List ℕ) (rows : Rows) → readSheet sheet ≡ Validity.WellFormed → (r : QueryRead) (x : Refusal) → AcceptsQuery text bytes r → r.decision ≡ Decision.Refused x
+pub text_refuses : (sheet text bytes : List ℕ) (rows : Rows) → read_sheet sheet ≡ Validity.WellFormed → (r : QueryRead) (x : Refusal) → AcceptsQuery text bytes r → r.decision ≡ Decision.Refused x
     → ReadsRows sheet text bytes (record { checked = Checked.Refused x; rows = rows })
-unfolding acceptQueryInputs acceptSheet checkedAnswer refusalAnswer
-text-refuses sheet text bytes rows w r x t o = refuses sheet text bytes (Checked.Refused x) rows (number_of x.reason) x.place (rw (w, accepted-refused x t o)) refl
+unfolding accept_query_inputs accept_sheet checked_answer refusal_answer
+text_refuses sheet text bytes rows w r x t o = refuses sheet text bytes (Checked.Refused x) rows (number_of x.reason) x.place (rw (w, accepted_refused x t o)) refl
 
 -- ---- a string that is accepted
 
-pub accepted-within : (text bytes : List ℕ) (r : QueryRead) → AcceptsQuery text bytes r → r.decision ≡ Decision.Passed → RowsWithin (length bytes) r.rows
-accepted-within text bytes r t o = (accepted-rows t o).1.within
+pub accepted_within : (text bytes : List ℕ) (r : QueryRead) → AcceptsQuery text bytes r → r.decision ≡ Decision.Passed → RowsWithin (length bytes) r.rows
+accepted_within text bytes r t o = (accepted_rows t o).1.within
 
-module _ (sheet text bytes : List ℕ) (w : readSheet sheet ≡ Validity.WellFormed) (rows : Rows) (q : Query) (of : RowsOf text bytes rows q) where
+module _ (sheet text bytes : List ℕ) (w : read_sheet sheet ≡ Validity.WellFormed) (rows : Rows) (q : Query) (of : RowsOf text bytes rows q) where
   abbrev ps : List Parameter
-  ps = parametersOf sheet
+  ps = parameters_of sheet
 
-  abbrev inputs-as : QueryInputs
-  inputs-as = record { parameters = ps; query = q }
+  abbrev inputs_as : QueryInputs
+  inputs_as = record { parameters = ps; query = q }
 
   abbrev ready_by : Step (Unit {0}) → Step QueryInputs
-  ready_by t = t >>= λ u. found inputs-as
+  ready_by t = t >>= λ u. found inputs_as
 
   abbrev counted : QueryInputs → Step Answer
-  counted p = found (count (length (alternativesOf p.query)))
+  counted p = found (count (length (alternatives_of p.query)))
 
-  ready : acceptQueryInputs sheet text ≡ ready_by (alternativesStep ps (alternativesOf q))
-  unfolding acceptQueryInputs acceptSheet
+  ready : accept_query_inputs sheet text ≡ ready_by (alternatives_step ps (alternatives_of q))
+  unfolding accept_query_inputs accept_sheet
   ready = rw (w, of.accepted)
 
-  rows-answer : checkSearchAnswer sheet text ≡ rowsAnswer ps bytes rows
-  unfolding checkSearchAnswer rowsAnswer summaryAnswer alternativesStep
-  rows-answer = rw (ready, of.alternatives, of.count) (by (decisionStep (firstAlternativeFault ps (alternativesOf q))))
+  rows_answer_lem : check_search_answer sheet text ≡ rows_answer ps bytes rows
+  unfolding check_search_answer rows_answer summary_answer alternatives_step
+  rows_answer_lem = rw (ready, of.alternatives, of.count) (by (decision_step (first_alternative_fault ps (alternatives_of q))))
     where
-      by : (t : Step (Unit {0})) → answer (ready_by t >>= counted) ≡ answer (t >>= λ u. found (count (length (alternativesOf q))))
+      by : (t : Step (Unit {0})) → answer (ready_by t >>= counted) ≡ answer (t >>= λ u. found (count (length (alternatives_of q))))
       by (found u) = refl
       by (stop n p) = refl
 
   -- what the rows say is what the query says
-  same-says : ◌≡◌ {A = List Entry → Bool} (λ es. querySays ps es q) (λ es. rowsSay (alternativeSays ps es) bytes rows)
-  unfolding querySays
-  same-says = fun_ext (λ es. sym (of.says (alternativeSays ps es)))
+  same-says : ◌≡◌ {A = List Entry → Bool} (λ es. query_says ps es q) (λ es. rows_say (alternative_says ps es) bytes rows)
+  unfolding query_says
+  same-says = fun_ext (λ es. sym (of.says (alternative_says ps es)))
 
-  passed-tests : (t : Step (Unit {0})) (c : Checked) (n : ℕ) → checkedAnswer c ≡ answer (ready_by t >>= counted) → c ≡ Checked.Tests n → ready_by t ≡ found inputs-as
-  passed-tests (found u) c n e h = refl
-  passed-tests (stop k p) c n e h = absurd (no-tests c n k p e h)
+  passed_tests : (t : Step (Unit {0})) (c : Checked) (n : ℕ) → checked_answer c ≡ answer (ready_by t >>= counted) → c ≡ Checked.Tests n → ready_by t ≡ found inputs_as
+  passed_tests (found u) c n e h = refl
+  passed_tests (stop k p) c n e h = absurd (no_tests c n k p e h)
 
-  check-by : checkSearchAnswer sheet text ≡ answer (ready_by (alternativesStep ps (alternativesOf q)) >>= counted)
-  unfolding checkSearchAnswer
-  check-by = rw ready
+  check_by : check_search_answer sheet text ≡ answer (ready_by (alternatives_step ps (alternatives_of q)) >>= counted)
+  unfolding check_search_answer
+  check_by = rw ready
 
-  question-by : acceptQueryInputs sheet text ≡ found inputs-as → searchQuestion sheet text ≡ found (questionOfQuery inputs-as)
-  unfolding searchQuestion
-  question-by e = rw e
+  question_by : accept_query_inputs sheet text ≡ found inputs_as → search_question sheet text ≡ found (question_of_query inputs_as)
+  unfolding search_question
+  question_by e = rw e
 
-  accepted-passes : (c : Checked) → checkedAnswer c ≡ checkSearchAnswer sheet text → (n : ℕ) → c ≡ Checked.Tests n → PassingRows sheet text bytes rows
-  accepted-passes c e n h =
-      let inputs-accepted : acceptQueryInputs sheet text ≡ found inputs-as =
-      ready ∙ passed-tests (alternativesStep ps (alternativesOf q)) c n (e ∙ check-by) h
+  accepted_passes : (c : Checked) → checked_answer c ≡ check_search_answer sheet text → (n : ℕ) → c ≡ Checked.Tests n → PassingRows sheet text bytes rows
+  accepted_passes c e n h =
+      let inputs_accepted : accept_query_inputs sheet text ≡ found inputs_as =
+      ready ∙ passed_tests (alternatives_step ps (alternatives_of q)) c n (e ∙ check_by) h
       in
       record {
-        sheet-well-formed = w;
+        sheet_well_formed = w;
         within = of.within;
-        asked = question-by inputs-accepted ∙ ap (λ (f : List Entry → Bool). found (record { parameters = ps; says = f })) same-says;
+        asked = question_by inputs_accepted ∙ ap (λ (f : List Entry → Bool). found (record { parameters = ps; says = f })) same-says;
       }
 
-pub rows-read : (sheet text bytes : List ℕ) → readSheet sheet ≡ Validity.WellFormed → (r : QueryRead) (c : Checked) → AcceptsQuery text bytes r → r.decision ≡ Decision.Passed
-    → checkedAnswer c ≡ rowsAnswer (parametersOf sheet) bytes r.rows → ReadsRows sheet text bytes (record { checked = c; rows = r.rows })
-rows-read sheet text bytes w r c t o e =
-    let (q, of) = accepted-rows t o in
-    let answered : checkedAnswer c ≡ checkSearchAnswer sheet text = e ∙ sym (rows-answer sheet text bytes w r.rows q of) in
-    record { answers = answered; passes = accepted-passes sheet text bytes w r.rows q of c answered }
+pub rows_read : (sheet text bytes : List ℕ) → read_sheet sheet ≡ Validity.WellFormed → (r : QueryRead) (c : Checked) → AcceptsQuery text bytes r → r.decision ≡ Decision.Passed
+    → checked_answer c ≡ rows_answer (parameters_of sheet) bytes r.rows → ReadsRows sheet text bytes (record { checked = c; rows = r.rows })
+rows_read sheet text bytes w r c t o e =
+    let (q, of) = accepted_rows t o in
+    let answered : checked_answer c ≡ check_search_answer sheet text = e ∙ sym (rows_answer_lem sheet text bytes w r.rows q of) in
+    record { answers = answered; passes = accepted_passes sheet text bytes w r.rows q of c answered }
 
-pub rows-checked : (ps : List Parameter) (bytes : List ℕ) (rows : Rows) (first : Decision) (c : Checked) → first ≡ firstAlternativeFault ps (alternativesIn bytes rows)
-    → checkedAnswer c ≡ summaryAnswer (record { tests = rows.count; first = first }) → checkedAnswer c ≡ rowsAnswer ps bytes rows
-unfolding rowsAnswer
-rows-checked ps bytes rows first c e h = h ∙ ap (λ (f : Decision). summaryAnswer (record { tests = rows.count; first = f })) e
+pub rows_checked : (ps : List Parameter) (bytes : List ℕ) (rows : Rows) (first : Decision) (c : Checked) → first ≡ first_alternative_fault ps (alternatives_in bytes rows)
+    → checked_answer c ≡ summary_answer (record { tests = rows.count; first = first }) → checked_answer c ≡ rows_answer ps bytes rows
+unfolding rows_answer
+rows_checked ps bytes rows first c e h = h ∙ ap (λ (f : Decision). summary_answer (record { tests = rows.count; first = f })) e
 
 -- ---- match
 
 module _ (sheet text bytes : List ℕ) (r : SearchRead) (read : ReadsRows sheet text bytes r) where
-  pub question-stopped : (f : Refusal) → r.checked ≡ Checked.Refused f → searchQuestion sheet text ≡ stop (number_of f.reason) f.place
-  question-stopped f h = (unfold searchQuestion in rw (stopped (acceptQueryInputs sheet text) refl))
+  pub question_stopped : (f : Refusal) → r.checked ≡ Checked.Refused f → search_question sheet text ≡ stop (number_of f.reason) f.place
+  question_stopped f h = (unfold search_question in rw (stopped (accept_query_inputs sheet text) refl))
     where
-      stopped : (s : Step QueryInputs) → acceptQueryInputs sheet text ≡ s → s ≡ stop (number_of f.reason) f.place
-      stopped (found p) e = absurd (let a : checkedAnswer (Checked.Refused f) ≡ count (length (alternativesOf p.query)) = sym (ap checkedAnswer h) ∙ read.answers ∙ (unfold checkSearchAnswer in rw e) in never a)
+      stopped : (s : Step QueryInputs) → accept_query_inputs sheet text ≡ s → s ≡ stop (number_of f.reason) f.place
+      stopped (found p) e = absurd (let a : checked_answer (Checked.Refused f) ≡ count (length (alternatives_of p.query)) = sym (ap checked_answer h) ∙ read.answers ∙ (unfold check_search_answer in rw e) in never a)
         where
-          never : {n : ℕ} → checkedAnswer (Checked.Refused f) ≡ count n → ⊥
-          never a = unfold checkedAnswer refusalAnswer in (let z : ◌≡◌ {A = ℕ} 0 1 = cc in omega arith)
-      stopped (stop n p) e = same (sym (ap checkedAnswer h) ∙ read.answers ∙ (unfold checkSearchAnswer in rw e))
+          never : {n : ℕ} → checked_answer (Checked.Refused f) ≡ count n → ⊥
+          never a = unfold checked_answer refusal_answer in (let z : ◌≡◌ {A = ℕ} 0 1 = cc in omega arith)
+      stopped (stop n p) e = same (sym (ap checked_answer h) ∙ read.answers ∙ (unfold check_search_answer in rw e))
         where
-          same : checkedAnswer (Checked.Refused f) ≡ refused n p → ◌≡◌ {A = Step QueryInputs} (stop n p) (stop (number_of f.reason) f.place)
-          same a = unfold checkedAnswer refusalAnswer in cc
+          same : checked_answer (Checked.Refused f) ≡ refused n p → ◌≡◌ {A = Step QueryInputs} (stop n p) (stop (number_of f.reason) f.place)
+          same a = unfold checked_answer refusal_answer in cc
 
-  pub search-refused : (card : List ℕ) (f : Refusal) → r.checked ≡ Checked.Refused f → matchedAnswer (Matched.Refused f) ≡ matchSearchAnswer sheet text card
-  search-refused card f h = match-stopped (searchQuestion sheet text) card f (question-stopped f h)
+  pub search_refused : (card : List ℕ) (f : Refusal) → r.checked ≡ Checked.Refused f → matched_answer (Matched.Refused f) ≡ match_search_answer sheet text card
+  search_refused card f h = match_stopped (search_question sheet text) card f (question_stopped f h)
 
   module _ (n : ℕ) (h : r.checked ≡ Checked.Tests n) where
-    pub passed-sheet : readSheet sheet ≡ Validity.WellFormed
-    passed-sheet = (read.passes n h).sheet-well-formed
+    pub passed_sheet : read_sheet sheet ≡ Validity.WellFormed
+    passed_sheet = (read.passes n h).sheet_well_formed
 
-    pub passed-within : RowsWithin (length bytes) r.rows
-    passed-within = (read.passes n h).within
+    pub passed_within : RowsWithin (length bytes) r.rows
+    passed_within = (read.passes n h).within
 
-    pub asks : searchQuestion sheet text ≡ found (rowsQuestion (parametersOf sheet) bytes r.rows)
+    pub asks : search_question sheet text ≡ found (rows_question (parameters_of sheet) bytes r.rows)
     asks = (read.passes n h).asked
 
-    pub search-answered : (card : List ℕ) (v : CardVerdict) → ((i : ℕ) → verdictStep v i ≡ cardVerdict (rowsQuestion (parametersOf sheet) bytes r.rows) i card) → (m : Matched) → matchedAnswer m ≡ verdictAnswer v
-        → matchedAnswer m ≡ matchSearchAnswer sheet text card
-    search-answered card = match-answered (searchQuestion sheet text) (rowsQuestion (parametersOf sheet) bytes r.rows) card asks
+    pub search_answered : (card : List ℕ) (v : CardVerdict) → ((i : ℕ) → verdict_step v i ≡ card_verdict (rows_question (parameters_of sheet) bytes r.rows) i card) → (m : Matched) → matched_answer m ≡ verdict_answer v
+        → matched_answer m ≡ match_search_answer sheet text card
+    search_answered card = match_answered (search_question sheet text) (rows_question (parameters_of sheet) bytes r.rows) card asks

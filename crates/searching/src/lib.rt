@@ -1,13 +1,13 @@
 // Check and match by a search string. Its alternatives are kept in rows over a buffer of decoded bytes, once for all cards.
 ghost use Rattle.std.specs.Prelude.{◌≡◌, ℕ, ◌≤◌, length};
-ghost use Rattle.sheet.specs.Sheet.{parametersOf, readSheet};
-ghost use Rattle.sheet.specs.Find.{kindsOf};
+ghost use Rattle.sheet.specs.Sheet.{parameters_of, read_sheet};
+ghost use Rattle.sheet.specs.Find.{kinds_of};
 ghost use Rattle.query.specs.Rows.{RowsWithin};
-ghost use Rattle.answer.specs.Answers.{checkedAnswer, matchedAnswer};
-ghost use Rattle.answer.specs.Passing.{cardVerdict};
-ghost use Rattle.one_card.specs.OneCard.{verdictStep};
-ghost use Rattle.answer.specs.Searching.{checkSearchAnswer, matchSearchAnswer};
-ghost use Rattle.searching.specs.SearchPassing.{rowsAnswer, rowsQuestion, ReadsRows};
+ghost use Rattle.answer.specs.Answers.{checked_answer, matched_answer};
+ghost use Rattle.answer.specs.Passing.{card_verdict};
+ghost use Rattle.one_card.specs.OneCard.{verdict_step};
+ghost use Rattle.answer.specs.Searching.{check_search_answer, match_search_answer};
+ghost use Rattle.searching.specs.SearchPassing.{rows_answer, rows_question, ReadsRows};
 
 use answer::{Checked, Matched};
 use block::Validity;
@@ -27,9 +27,9 @@ pub struct SearchRead {
 
 // The first refusal among the alternatives that rows keep, or their number.
 fn check_rows(sheet: &[u8], bytes: &[u8], rows: Rows) -> Checked
-    requires sheet_value { readSheet sheet.now ≡ Validity.WellFormed }
+    requires sheet_value { read_sheet sheet.now ≡ Validity.WellFormed }
     requires rows_within { RowsWithin (length bytes.now) rows }
-    ensures { checkedAnswer result ≡ rowsAnswer (parametersOf sheet.now) bytes.now rows }
+    ensures { checked_answer result ≡ rows_answer (parameters_of sheet.now) bytes.now rows }
 {
     let first = first_fault(sheet, bytes, rows);
     outcome(Summary {
@@ -40,7 +40,7 @@ fn check_rows(sheet: &[u8], bytes: &[u8], rows: Rows) -> Checked
 
 // A search string on a well-formed sheet.
 fn read_text(sheet: &[u8], text: &[u8], bytes: &mut [u8]) -> SearchRead
-    requires sheet_value { readSheet sheet.now ≡ Validity.WellFormed }
+    requires sheet_value { read_sheet sheet.now ≡ Validity.WellFormed }
     requires in_bounds { 1024 ≤ length bytes.old }
     ensures { ReadsRows sheet.now text.now bytes.new result }
 {
@@ -84,7 +84,7 @@ pub fn read_search(sheet: &[u8], text: &[u8], bytes: &mut [u8]) -> SearchRead
 
 // How many alternatives a search string has, where each has a meaning on every card that fits the sheet; or why not, and where.
 pub fn check_search(sheet: &[u8], text: &[u8]) -> Checked
-    ensures { checkedAnswer result ≡ checkSearchAnswer sheet.now text.now }
+    ensures { checked_answer result ≡ check_search_answer sheet.now text.now }
 {
     let mut bytes = [0u8; 1024];
     let read = read_search(sheet, text, &mut bytes);
@@ -99,10 +99,10 @@ pub fn judge_by_search(
     rows: Rows,
     card: &[u8],
 ) -> CardVerdict
-    requires sheet_value { readSheet sheet.now ≡ Validity.WellFormed }
-    requires kinds_value { kinds.now ≡ kindsOf (parametersOf sheet.now) }
+    requires sheet_value { read_sheet sheet.now ≡ Validity.WellFormed }
+    requires kinds_value { kinds.now ≡ kinds_of (parameters_of sheet.now) }
     requires rows_within { RowsWithin (length bytes.now) rows }
-    ensures { (i : ℕ) → verdictStep result i ≡ cardVerdict (rowsQuestion (parametersOf sheet.now) bytes.now rows) i card.now }
+    ensures { (i : ℕ) → verdict_step result i ≡ card_verdict (rows_question (parameters_of sheet.now) bytes.now rows) i card.now }
 {
     let accepted = accept_card(kinds, card);
     match accepted {
@@ -113,7 +113,7 @@ pub fn judge_by_search(
 
 // Whether a card matches a search string on a sheet, or why there is no answer, and where.
 pub fn match_search(sheet: &[u8], text: &[u8], card: &[u8]) -> Matched
-    ensures { matchedAnswer result ≡ matchSearchAnswer sheet.now text.now card.now }
+    ensures { matched_answer result ≡ match_search_answer sheet.now text.now card.now }
 {
     let mut bytes = [0u8; 1024];
     let read = read_search(sheet, text, &mut bytes);

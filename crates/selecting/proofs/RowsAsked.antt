@@ -9,135 +9,135 @@ use mathlib.Core.List.{List}
 use lib.ListN.{length, take}
 use Rattle.base.specs.Parts.{part}
 use Rattle.block.specs.declared.Validity.{Validity}
-use Rattle.sheet.specs.Sheet.{Parameter, parametersOf, readSheet}
-use Rattle.sheet.specs.Find.{kindsOf, parentsOf}
+use Rattle.sheet.specs.Sheet.{Parameter, parameters_of, read_sheet}
+use Rattle.sheet.specs.Find.{kinds_of, parents_of}
 use Rattle.sheet.specs.Encode.{WellFormedSheet}
-use Rattle.sheet.proofs.RoundTrip.{sheet-well-formed}
+use Rattle.sheet.proofs.RoundTrip.{sheet_well_formed}
 use Rattle.card.specs.Card.{Entry}
-use Rattle.syntax.specs.Tree.{testsOf}
+use Rattle.syntax.specs.Tree.{tests_of}
 use Rattle.syntax.specs.Grammar.{Spells}
-use Rattle.syntax.proofs.Spelling.{read-iff}
-use Rattle.judge.specs.Faults.{firstFault}
-use Rattle.judge.specs.Verdicts.{filterSays}
+use Rattle.syntax.proofs.Spelling.{read_iff}
+use Rattle.judge.specs.Faults.{first_fault}
+use Rattle.judge.specs.Verdicts.{filter_says}
 use Rattle.refusal.specs.declared.Decision.{Decision}
 use Rattle.rows.specs.Good.{Good}
-use Rattle.row_judge.specs.Saying.{rowsSay, Whole}
+use Rattle.row_judge.specs.Saying.{rows_say, Whole}
 use Rattle.rows.specs.Shapes.{good}
 use Rattle.rows.specs.Stated.{tree_of}
-use Rattle.rows.proofs.Good.{good-states, good-iff, good-few}
-use Rattle.row_judge.proofs.Meaning.{erase-says, good-whole, rows-mean}
-use Rattle.row_writer.proofs.Preparing.{prepared-good, prepared-states}
+use Rattle.rows.proofs.Good.{good_states, good_iff, good_few}
+use Rattle.row_judge.proofs.Meaning.{erase-says, good-whole, rows_mean}
+use Rattle.row_writer.proofs.Preparing.{prepared-good, prepared_states}
 use Rattle.query.specs.declared.Rows.{Rows}
 use Rattle.refusal.specs.Answers.{number_of}
 use Rattle.refusal.specs.Steps.{Step, found, stop, ◌>>=◌}
 use Rattle.refusal.specs.declared.Refusal.{Refusal}
-use Rattle.answer.specs.Operations.{testsStep, Inputs, acceptInputs, Question, filterQuestion}
+use Rattle.answer.specs.Operations.{tests_step, Inputs, accept_inputs, Question, filter_question}
 use Rattle.answer.specs.Passing.{Passing}
-use Rattle.answer.specs.Preparing.{rowCells, Fills}
+use Rattle.answer.specs.Preparing.{row_cells, Fills}
 use Rattle.selecting.specs.Selecting.{Selects}
-use Rattle.one_card.specs.OneCard.{cellsQuestion}
-use Rattle.selecting.specs.Asking.{askedSays, askedQuestion, Asks, asks-rows}
+use Rattle.one_card.specs.OneCard.{cells_question}
+use Rattle.selecting.specs.Asking.{asked_says, asked_question, Asks, asks_rows}
 use Rattle.answer.specs.declared.Prepared.{Prepared}
 use Rattle.answer.specs.declared.Selected.{Selected}
 use Rattle.selecting.specs.declared.Way.{Way}
-use Rattle.answer.proofs.Passing.{passing-inputs}
-use Rattle.answer.proofs.RowsAnswered.{step-passed}
-use Rattle.selecting.proofs.Selecting.{select-stopped}
+use Rattle.answer.proofs.Passing.{passing_inputs}
+use Rattle.answer.proofs.RowsAnswered.{step_passed}
+use Rattle.selecting.proofs.Selecting.{select_stopped}
 
 -- ---- the rows of a filter that check has passed
 
 module _ (sheet text : List ℕ) (p : Passing sheet text) where
   abbrev ps : List Parameter
-  ps = parametersOf sheet
+  ps = parameters_of sheet
 
   abbrev cells : List ℕ
-  cells = rowCells ps text p.tree
+  cells = row_cells ps text p.tree
 
   well : WellFormedSheet ps
-  well = sheet-well-formed sheet p.sheet-well-formed
+  well = sheet_well_formed sheet p.sheet_well_formed
 
   spells : Spells text p.tree
-  spells = (read-iff text p.tree).0 p.reads
+  spells = (read_iff text p.tree).0 p.reads
 
-  clean : firstFault ps 0 (testsOf p.tree) ≡ Decision.Passed
-  unfolding testsStep
-  clean = step-passed (firstFault ps 0 (testsOf p.tree)) p.meant
+  clean : first_fault ps 0 (tests_of p.tree) ≡ Decision.Passed
+  unfolding tests_step
+  clean = step_passed (first_fault ps 0 (tests_of p.tree)) p.meant
 
-  abbrev rows-good : Good ps text cells
-  rows-good = prepared-good ps well text p.tree spells clean
+  abbrev rows_good : Good ps text cells
+  rows_good = prepared-good ps well text p.tree spells clean
 
-  passes : good (kindsOf ps) (parentsOf ps) text cells ≡ true
-  passes = (good-iff ps well text cells).1 rows-good
+  passes : good (kinds_of ps) (parents_of ps) text cells ≡ true
+  passes = (good_iff ps well text cells).1 rows_good
 
   pub rows_whole : Whole cells
-  rows_whole = good-whole (kindsOf ps) (parentsOf ps) text cells passes
+  rows_whole = good-whole (kinds_of ps) (parents_of ps) text cells passes
 
   pub rows_short : length cells ≤ 320
-  rows_short = good-few (kindsOf ps) (parentsOf ps) text cells passes
+  rows_short = good_few (kinds_of ps) (parents_of ps) text cells passes
 
-  says_same : (es : List Entry) → filterSays ps 0 es p.tree ≡ rowsSay (kindsOf ps) text es cells
+  says_same : (es : List Entry) → filter_says ps 0 es p.tree ≡ rows_say (kinds_of ps) text es cells
   says_same es =
       sym (erase-says ps 0 es p.tree)
-      ∙ ap (filterSays ps 0 es) (sym (prepared-states ps well text p.tree spells clean))
-      ∙ erase-says ps 0 es (tree_of ps text rows-good.expression)
-      ∙ sym (rows-mean ps well text cells rows-good.expression passes (good-states ps well text rows-good) es)
+      ∙ ap (filter_says ps 0 es) (sym (prepared_states ps well text p.tree spells clean))
+      ∙ erase-says ps 0 es (tree_of ps text rows_good.expression)
+      ∙ sym (rows_mean ps well text cells rows_good.expression passes (good_states ps well text rows_good) es)
 
-  pub rows-ask : filterQuestion sheet text ≡ found (cellsQuestion ps text cells)
-  unfolding filterQuestion
-  rows-ask = rw p.inputs-accepted (ap (λ (f : List Entry → Bool). found (record { parameters = ps; says = f })) (fun_ext says_same))
+  pub rows_ask : filter_question sheet text ≡ found (cells_question ps text cells)
+  unfolding filter_question
+  rows_ask = rw p.inputs_accepted (ap (λ (f : List Entry → Bool). found (record { parameters = ps; says = f })) (fun_ext says_same))
 
 -- ---- as the code has filled them
 
 module _ (sheet text buffer : List ℕ) (r : Prepared) (e : Fills sheet text r buffer) where
   abbrev filling : Step Inputs → Step (List ℕ)
-  filling s = s >>= λ p. found (rowCells p.parameters text p.filter)
+  filling s = s >>= λ p. found (row_cells p.parameters text p.filter)
 
-  pub filled-refused : (cards list : List ℕ) (f : Refusal) → r ≡ Prepared.Refused f → Selects (filterQuestion sheet text) cards list (Selected.Refused f) list
-  filled-refused cards list f h = select-stopped (filterQuestion sheet text) cards list f (unfold filterQuestion in rw (by (acceptInputs sheet text) (sym e.rows ∙ rw h)))
+  pub filled_refused : (cards list : List ℕ) (f : Refusal) → r ≡ Prepared.Refused f → Selects (filter_question sheet text) cards list (Selected.Refused f) list
+  filled_refused cards list f h = select_stopped (filter_question sheet text) cards list f (unfold filter_question in rw (by (accept_inputs sheet text) (sym e.rows ∙ rw h)))
     where
       by : (s : Step Inputs) → filling s ≡ stop (number_of f.reason) f.place → s ≡ stop (number_of f.reason) f.place
       by (found p) g = absurd (let z : ◌≡◌ {A = ℕ} 0 1 = cc in omega arith)
       by (stop n q) g = cc
 
   module _ (n : ℕ) (h : r ≡ Prepared.Cells n) where
-    inputs : (p : Inputs) × ((acceptInputs sheet text ≡ found p) × (take n buffer ≡ rowCells p.parameters text p.filter))
-    inputs = by (acceptInputs sheet text) refl (sym e.rows ∙ rw h)
+    inputs : (p : Inputs) × ((accept_inputs sheet text ≡ found p) × (take n buffer ≡ row_cells p.parameters text p.filter))
+    inputs = by (accept_inputs sheet text) refl (sym e.rows ∙ rw h)
       where
-        by : (s : Step Inputs) → acceptInputs sheet text ≡ s → filling s ≡ found (take n buffer) → (p : Inputs) × ((acceptInputs sheet text ≡ found p) × (take n buffer ≡ rowCells p.parameters text p.filter))
+        by : (s : Step Inputs) → accept_inputs sheet text ≡ s → filling s ≡ found (take n buffer) → (p : Inputs) × ((accept_inputs sheet text ≡ found p) × (take n buffer ≡ row_cells p.parameters text p.filter))
         by (found p) i g = (p, (i, cc))
         by (stop m q) i g = absurd (let z : ◌≡◌ {A = ℕ} 0 1 = cc in omega arith)
 
     passed : Passing sheet text
-    passed = passing-inputs sheet text inputs.0 inputs.1.0
+    passed = passing_inputs sheet text inputs.0 inputs.1.0
 
-    filled-cells : part buffer 0 n ≡ rowCells (parametersOf sheet) text passed.tree
+    filled-cells : part buffer 0 n ≡ row_cells (parameters_of sheet) text passed.tree
     filled-cells =
-        let same : inputs.0 ≡ record { parameters = parametersOf sheet; filter = passed.tree } = inputs-same (sym inputs.1.0 ∙ passed.inputs-accepted) in
-        rw (sub-zero n) (inputs.1.1 ∙ ap (λ (p : Inputs). rowCells p.parameters text p.filter) same)
+        let same : inputs.0 ≡ record { parameters = parameters_of sheet; filter = passed.tree } = inputs_same (sym inputs.1.0 ∙ passed.inputs_accepted) in
+        rw (sub-zero n) (inputs.1.1 ∙ ap (λ (p : Inputs). row_cells p.parameters text p.filter) same)
       where
-        inputs-same : {a b : Inputs} → found a ≡ found b → a ≡ b
-        inputs-same i = cc
+        inputs_same : {a b : Inputs} → found a ≡ found b → a ≡ b
+        inputs_same i = cc
 
-    pub filled-room : n ≤ length buffer
-    filled-room = e.room n h
+    pub filled_room : n ≤ length buffer
+    filled_room = e.room n h
 
-    pub filled-sheet : readSheet sheet ≡ Validity.WellFormed
-    filled-sheet = passed.sheet-well-formed
+    pub filled_sheet : read_sheet sheet ≡ Validity.WellFormed
+    filled_sheet = passed.sheet_well_formed
 
-    pub filled-short : length text ≤ 1024
-    filled-short = passed.short
+    pub filled_short : length text ≤ 1024
+    filled_short = passed.short
 
-    pub filled-few : length (part buffer 0 n) ≤ 320
-    filled-few = subst (λ (cs : List ℕ). length cs ≤ 320) (sym filled-cells) (rows_short sheet text passed)
+    pub filled_few : length (part buffer 0 n) ≤ 320
+    filled_few = subst (λ (cs : List ℕ). length cs ≤ 320) (sym filled-cells) (rows_short sheet text passed)
 
     pub filled-asks : (rows : Rows) → Asks sheet text (part buffer 0 n) rows Way.Rows
-    filled-asks rows = asks-rows passed.short (subst Whole (sym filled-cells) (rows_whole sheet text passed))
+    filled-asks rows = asks_rows passed.short (subst Whole (sym filled-cells) (rows_whole sheet text passed))
 
-    pub filled-selects : (rows : Rows) (cards list : List ℕ) (s : Selected) (exit : List ℕ)
-        → Selects (found (askedQuestion Way.Rows (parametersOf sheet) text (part buffer 0 n) rows)) cards list s exit → Selects (filterQuestion sheet text) cards list s exit
-    unfolding askedSays
-    filled-selects rows cards list s exit g =
-        let same : filterQuestion sheet text ≡ found (cellsQuestion (parametersOf sheet) text (part buffer 0 n)) =
-        rows-ask sheet text passed ∙ ap (λ (cs : List ℕ). found (cellsQuestion (parametersOf sheet) text cs)) (sym filled-cells)
+    pub filled_selects : (rows : Rows) (cards list : List ℕ) (s : Selected) (exit : List ℕ)
+        → Selects (found (asked_question Way.Rows (parameters_of sheet) text (part buffer 0 n) rows)) cards list s exit → Selects (filter_question sheet text) cards list s exit
+    unfolding asked_says
+    filled_selects rows cards list s exit g =
+        let same : filter_question sheet text ≡ found (cells_question (parameters_of sheet) text (part buffer 0 n)) =
+        rows_ask sheet text passed ∙ ap (λ (cs : List ℕ). found (cells_question (parameters_of sheet) text cs)) (sym filled-cells)
         in
         subst (λ (a : Step Question). Selects a cards list s exit) (sym same) g

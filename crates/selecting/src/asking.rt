@@ -1,10 +1,10 @@
 // What is asked of a card, whichever way: by the rows of a filter, by a filter's text, or by a search string.
 ghost use Rattle.std.specs.Prelude.{◌≡◌, ℕ, ◌≤◌, length};
-ghost use Rattle.sheet.specs.Sheet.{parametersOf, readSheet};
-ghost use Rattle.sheet.specs.Find.{kindsOf};
-ghost use Rattle.answer.specs.Passing.{cardVerdict};
-ghost use Rattle.one_card.specs.OneCard.{verdictStep};
-ghost use Rattle.selecting.specs.Asking.{Asks, askedQuestion};
+ghost use Rattle.sheet.specs.Sheet.{parameters_of, read_sheet};
+ghost use Rattle.sheet.specs.Find.{kinds_of};
+ghost use Rattle.answer.specs.Passing.{card_verdict};
+ghost use Rattle.one_card.specs.OneCard.{verdict_step};
+ghost use Rattle.selecting.specs.Asking.{Asks, asked_question};
 
 use crate::{Asked, Way};
 use block::Validity;
@@ -22,12 +22,12 @@ pub fn judge_asked(
     search: Rows,
     card: &[u8],
 ) -> CardVerdict
-    requires sheet_value { readSheet sheet.now ≡ Validity.WellFormed }
+    requires sheet_value { read_sheet sheet.now ≡ Validity.WellFormed }
     requires kinds_len { length asked.kinds ≡ 32 }
-    requires kinds_value { asked.kinds ≡ kindsOf (parametersOf sheet.now) }
+    requires kinds_value { asked.kinds ≡ kinds_of (parameters_of sheet.now) }
     requires cells_len_bound { length cells.now ≤ 320 }
     requires asks { Asks sheet.now text.now cells.now search asked.way }
-    ensures { (i : ℕ) → verdictStep result i ≡ cardVerdict (askedQuestion asked.way (parametersOf sheet.now) text.now cells.now search) i card.now }
+    ensures { (i : ℕ) → verdict_step result i ≡ card_verdict (asked_question asked.way (parameters_of sheet.now) text.now cells.now search) i card.now }
 {
     let kinds = asked.kinds;
     let way = asked.way;

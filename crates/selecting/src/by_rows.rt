@@ -1,8 +1,8 @@
 // The cards of a run by the rows of a filter: the rows are opened once for all cards, and each card is read once.
 ghost use Rattle.std.specs.Prelude.{◌≡◌, ◌%◌, ◌/◌, ◌≤◌, length};
-ghost use Rattle.sheet.specs.Sheet.{parametersOf, readSheet};
+ghost use Rattle.sheet.specs.Sheet.{parameters_of, read_sheet};
 ghost use Rattle.row_judge.specs.Saying.{Whole};
-ghost use Rattle.one_card.specs.OneCard.{cellsQuestion};
+ghost use Rattle.one_card.specs.OneCard.{cells_question};
 ghost use Rattle.selecting.specs.Selecting.{Gathers};
 
 use answer::Selected;
@@ -20,14 +20,14 @@ pub fn gather_by_rows(
     cards: &[u8],
     buffer: &mut [u32],
 ) -> Selected
-    requires sheet_value { readSheet sheet.now ≡ Validity.WellFormed }
+    requires sheet_value { read_sheet sheet.now ≡ Validity.WellFormed }
     requires text_len_bound { length text.now ≤ 1024 }
     requires whole { Whole rows.now }
     requires rows_len_bound { length rows.now ≤ 320 }
     requires cards_len { length cards.now % 512 ≡ 0 }
     requires cards_in_bounds { length cards.now / 512 ≤ length buffer.old }
     requires buffer_len_bound { length buffer.old ≤ 128 }
-    ensures { Gathers (cellsQuestion (parametersOf sheet.now) text.now rows.now) cards.now result buffer.new }
+    ensures { Gathers (cells_question (parameters_of sheet.now) text.now rows.now) cards.now result buffer.new }
 {
     let kinds = sheet::kinds(sheet);
     let mut values = [0u64; 640];

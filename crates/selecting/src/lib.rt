@@ -3,11 +3,11 @@ mod asking;
 mod by_rows;
 
 ghost use Rattle.std.specs.Prelude.{◌≡◌, ◌%◌, ◌/◌, ◌≤◌, length};
-ghost use Rattle.sheet.specs.Sheet.{parametersOf, readSheet};
+ghost use Rattle.sheet.specs.Sheet.{parameters_of, read_sheet};
 ghost use Rattle.refusal.specs.Steps.{found};
-ghost use Rattle.answer.specs.Operations.{filterQuestion};
-ghost use Rattle.answer.specs.Searching.{searchQuestion};
-ghost use Rattle.selecting.specs.Asking.{Asks, askedQuestion};
+ghost use Rattle.answer.specs.Operations.{filter_question};
+ghost use Rattle.answer.specs.Searching.{search_question};
+ghost use Rattle.selecting.specs.Asking.{Asks, asked_question};
 ghost use Rattle.selecting.specs.Selecting.{Gathers, Selects};
 
 use answer::{Checked, Engine, Prepared, Selected, write};
@@ -46,14 +46,14 @@ fn gather(
     cards: &[u8],
     buffer: &mut [u32],
 ) -> Selected
-    requires sheet_value { readSheet sheet.now ≡ Validity.WellFormed }
+    requires sheet_value { read_sheet sheet.now ≡ Validity.WellFormed }
     requires text_len_bound { length text.now ≤ 1024 }
     requires cells_len_bound { length cells.now ≤ 320 }
     requires asks { Asks sheet.now text.now cells.now search way }
     requires cards_len { length cards.now % 512 ≡ 0 }
     requires cards_in_bounds { length cards.now / 512 ≤ length buffer.old }
     requires buffer_len_bound { length buffer.old ≤ 128 }
-    ensures { Gathers (askedQuestion way (parametersOf sheet.now) text.now cells.now search) cards.now result buffer.new }
+    ensures { Gathers (asked_question way (parameters_of sheet.now) text.now cells.now search) cards.now result buffer.new }
 {
     let kinds = sheet::kinds(sheet);
     let asked = Asked { way, kinds };
@@ -91,14 +91,14 @@ fn gather_asked(
     cards: &[u8],
     buffer: &mut [u32],
 ) -> Selected
-    requires sheet_value { readSheet sheet.now ≡ Validity.WellFormed }
+    requires sheet_value { read_sheet sheet.now ≡ Validity.WellFormed }
     requires text_len_bound { length text.now ≤ 1024 }
     requires cells_len_bound { length cells.now ≤ 320 }
     requires asks { Asks sheet.now text.now cells.now search way }
     requires cards_len { length cards.now % 512 ≡ 0 }
     requires cards_in_bounds { length cards.now / 512 ≤ length buffer.old }
     requires buffer_len_bound { length buffer.old ≤ 128 }
-    ensures { Gathers (askedQuestion way (parametersOf sheet.now) text.now cells.now search) cards.now result buffer.new }
+    ensures { Gathers (asked_question way (parameters_of sheet.now) text.now cells.now search) cards.now result buffer.new }
 {
     match way {
         Way::Rows => gather_by_rows(sheet, text, cells, cards, buffer),
@@ -117,11 +117,11 @@ pub fn select_cards(
     cards: &[u8],
     list: &mut [u32],
 ) -> Selected
-    requires sheet_value { readSheet sheet.now ≡ Validity.WellFormed }
+    requires sheet_value { read_sheet sheet.now ≡ Validity.WellFormed }
     requires text_len_bound { length text.now ≤ 1024 }
     requires cells_len_bound { length cells.now ≤ 320 }
     requires asks { Asks sheet.now text.now cells.now search way }
-    ensures { Selects (found (askedQuestion way (parametersOf sheet.now) text.now cells.now search)) cards.now list.old result list.new }
+    ensures { Selects (found (asked_question way (parameters_of sheet.now) text.now cells.now search)) cards.now list.old result list.new }
 {
     if cards.len() % 512 != 0 {
         return Selected::Refused(Refusal {
@@ -155,7 +155,7 @@ pub fn select_cards(
 
 // Select by the rows of the filter, which are written once for the run.
 fn select_by_rows(sheet: &[u8], filter: &[u8], cards: &[u8], list: &mut [u32]) -> Selected
-    ensures { Selects (filterQuestion sheet.now filter.now) cards.now list.old result list.new }
+    ensures { Selects (filter_question sheet.now filter.now) cards.now list.old result list.new }
 {
     let mut cells = [0u32; 1024];
     let filled = fill(sheet, filter, &mut cells);
@@ -177,7 +177,7 @@ fn select_by_rows(sheet: &[u8], filter: &[u8], cards: &[u8], list: &mut [u32]) -
 
 // Select by the filter's text, which is read again for each card.
 fn select_by_text(sheet: &[u8], filter: &[u8], cards: &[u8], list: &mut [u32]) -> Selected
-    ensures { Selects (filterQuestion sheet.now filter.now) cards.now list.old result list.new }
+    ensures { Selects (filter_question sheet.now filter.now) cards.now list.old result list.new }
 {
     let checked = check(sheet, filter);
     match checked {
@@ -198,7 +198,7 @@ pub fn select_by(
     cards: &[u8],
     list: &mut [u32],
 ) -> Selected
-    ensures { Selects (filterQuestion sheet.now filter.now) cards.now list.old result list.new }
+    ensures { Selects (filter_question sheet.now filter.now) cards.now list.old result list.new }
 {
     match engine {
         Engine::Rows => select_by_rows(sheet, filter, cards, list),
@@ -208,7 +208,7 @@ pub fn select_by(
 
 // Writes the record numbers of the cards that match into the list, as select by a filter does.
 pub fn select_search(sheet: &[u8], text: &[u8], cards: &[u8], list: &mut [u32]) -> Selected
-    ensures { Selects (searchQuestion sheet.now text.now) cards.now list.old result list.new }
+    ensures { Selects (search_question sheet.now text.now) cards.now list.old result list.new }
 {
     let mut bytes = [0u8; 1024];
     let read = read_search(sheet, text, &mut bytes);

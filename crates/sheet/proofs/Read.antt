@@ -8,86 +8,86 @@ use mathlib.Core.List.{List}
 use lib.ListN.{length, get_or}
 use Rattle.base.specs.Bytes.{Bytes}
 use Rattle.base.proofs.Tests.{and_left, and_right}
-use Rattle.block.specs.Items.{hasMarks, hasLayout, hasEither, items, Walk}
+use Rattle.block.specs.Items.{has_marks, has_layout, has_either, items, Walk}
 use Rattle.block.specs.declared.Validity.TheVariants.{WellFormed}
 use Rattle.block.proofs.Contents.{Held}
 use Rattle.block.proofs.Invariants.{Visited}
-use Rattle.block.proofs.Items.{either-own, either-form, layout-count, items-length, walk_start, visited-start}
-use Rattle.block.proofs.Readings.{reading-iff}
-use Rattle.sheet.specs.Sheet.{Parameter, parameter, parameterCount, parametersOf, areParameters, distinct, haveParents, areRight, sheetLayout, readSheet}
-use Rattle.sheet.specs.Encode.{sheetFirst}
+use Rattle.block.proofs.Items.{either_own, either_form, layout_count, items-length, walk_start, visited_start}
+use Rattle.block.proofs.Readings.{reading_iff}
+use Rattle.sheet.specs.Sheet.{Parameter, parameter, parameter_count, parameters_of, are_parameters, distinct, have_parents, are_right, sheet_layout, read_sheet}
+use Rattle.sheet.specs.Encode.{sheet_first}
 
 -- ---- what the tests decide
 
-module _ (b : List ℕ) (r : Bool) (e : r ≡ hasEither 0x50 0x51 1 32 b) where
-  pub layout-not : r ≡ false → false ≡ sheetLayout b
-  unfolding sheetLayout
-  layout-not f = rw (sym e ∙ f)
+module _ (b : List ℕ) (r : Bool) (e : r ≡ has_either 0x50 0x51 1 32 b) where
+  pub layout_not : r ≡ false → false ≡ sheet_layout b
+  unfolding sheet_layout
+  layout_not f = rw (sym e ∙ f)
 
   module _ (t : r ≡ true) where
     -- a walk over the parameters can start
-    pub layout-walk : length b ≡ 512 → Walk b 2 (get_or b 1 0)
-    layout-walk h = walk_start b (get_or b 0 0) 1 32 (either-own b 0x50 0x51 1 32 (sym e ∙ t)) h (omega arith)
+    pub layout_walk : length b ≡ 512 → Walk b 2 (get_or b 1 0)
+    layout_walk h = walk_start b (get_or b 0 0) 1 32 (either_own b 0x50 0x51 1 32 (sym e ∙ t)) h (omega arith)
 
-    pub layout-right : (w : Bool) → w ≡ hasMarks (get_or b 0 0) → (u : Bool) → u ≡ areRight w (items parameter (get_or b 1 0) b 2) → u ≡ sheetLayout b
-    unfolding sheetLayout parametersOf parameterCount
-    layout-right w i u k = rw (sym e ∙ t, ← i) k
+    pub layout_right : (w : Bool) → w ≡ has_marks (get_or b 0 0) → (u : Bool) → u ≡ are_right w (items parameter (get_or b 1 0) b 2) → u ≡ sheet_layout b
+    unfolding sheet_layout parameters_of parameter_count
+    layout_right w i u k = rw (sym e ∙ t, ← i) k
 
 -- ---- what a well-formed sheet has
 
-module _ (b : List ℕ) (h : readSheet b ≡ WellFormed) where
-  pub sheet-length : length b ≡ 512
-  unfolding readSheet
-  sheet-length = ((reading-iff b (sheetLayout b)).0 h).0.size
+module _ (b : List ℕ) (h : read_sheet b ≡ WellFormed) where
+  pub sheet_length : length b ≡ 512
+  unfolding read_sheet
+  sheet_length = ((reading_iff b (sheet_layout b)).0 h).0.size
 
-  pub sheet-layout : sheetLayout b ≡ true
-  unfolding readSheet
-  sheet-layout = ((reading-iff b (sheetLayout b)).0 h).1
+  pub sheet_layout_lem : sheet_layout b ≡ true
+  unfolding read_sheet
+  sheet_layout_lem = ((reading_iff b (sheet_layout b)).0 h).1
 
   abbrev marked : Bool
-  marked = hasMarks (get_or b 0 0)
+  marked = has_marks (get_or b 0 0)
 
-  either-layout : hasEither 0x50 0x51 1 32 b ≡ true
-  unfolding sheetLayout
-  either-layout = and_left (hasEither 0x50 0x51 1 32 b) (areRight marked (parametersOf b)) sheet-layout
+  either_layout : has_either 0x50 0x51 1 32 b ≡ true
+  unfolding sheet_layout
+  either_layout = and_left (has_either 0x50 0x51 1 32 b) (are_right marked (parameters_of b)) sheet_layout_lem
 
-  block-layout : hasLayout (get_or b 0 0) 1 32 b ≡ true
-  block-layout = either-own b 0x50 0x51 1 32 either-layout
+  block_layout : has_layout (get_or b 0 0) 1 32 b ≡ true
+  block_layout = either_own b 0x50 0x51 1 32 either_layout
 
   -- the form that the first byte tells
-  pub sheet-form : (w : Bool) × (get_or b 0 0 ≡ sheetFirst w)
-  sheet-form = either-form b 0x50 0x51 1 32 either-layout
+  pub sheet_form : (w : Bool) × (get_or b 0 0 ≡ sheet_first w)
+  sheet_form = either_form b 0x50 0x51 1 32 either_layout
 
-  sheet-right : areRight marked (parametersOf b) ≡ true
-  unfolding sheetLayout
-  sheet-right = and_right (hasEither 0x50 0x51 1 32 b) (areRight marked (parametersOf b)) sheet-layout
+  sheet_right : are_right marked (parameters_of b) ≡ true
+  unfolding sheet_layout
+  sheet_right = and_right (has_either 0x50 0x51 1 32 b) (are_right marked (parameters_of b)) sheet_layout_lem
 
-  pub sheet-parameters : areParameters (hasMarks (get_or b 0 0)) (parametersOf b) ≡ true
-  unfolding areRight
-  sheet-parameters = and_left (areParameters marked (parametersOf b)) (distinct (parametersOf b) && haveParents (parametersOf b) (parametersOf b)) sheet-right
+  pub sheet_parameters : are_parameters (has_marks (get_or b 0 0)) (parameters_of b) ≡ true
+  unfolding are_right
+  sheet_parameters = and_left (are_parameters marked (parameters_of b)) (distinct (parameters_of b) && have_parents (parameters_of b) (parameters_of b)) sheet_right
 
-  names-and-parents : (distinct (parametersOf b) && haveParents (parametersOf b) (parametersOf b)) ≡ true
-  unfolding areRight
-  names-and-parents = and_right (areParameters marked (parametersOf b)) (distinct (parametersOf b) && haveParents (parametersOf b) (parametersOf b)) sheet-right
+  names_and_parents : (distinct (parameters_of b) && have_parents (parameters_of b) (parameters_of b)) ≡ true
+  unfolding are_right
+  names_and_parents = and_right (are_parameters marked (parameters_of b)) (distinct (parameters_of b) && have_parents (parameters_of b) (parameters_of b)) sheet_right
 
-  pub sheet-names : distinct (parametersOf b) ≡ true
-  sheet-names = and_left (distinct (parametersOf b)) (haveParents (parametersOf b) (parametersOf b)) names-and-parents
+  pub sheet_names : distinct (parameters_of b) ≡ true
+  sheet_names = and_left (distinct (parameters_of b)) (have_parents (parameters_of b) (parameters_of b)) names_and_parents
 
-  pub sheet-parents : haveParents (parametersOf b) (parametersOf b) ≡ true
-  sheet-parents = and_right (distinct (parametersOf b)) (haveParents (parametersOf b) (parametersOf b)) names-and-parents
+  pub sheet_parents : have_parents (parameters_of b) (parameters_of b) ≡ true
+  sheet_parents = and_right (distinct (parameters_of b)) (have_parents (parameters_of b) (parameters_of b)) names_and_parents
 
-  pub sheet-count : length (parametersOf b) ≤ 32
-  unfolding parametersOf parameterCount
-  sheet-count = omega (arith, items-length parameter (get_or b 1 0) b 2, layout-count b (get_or b 0 0) 1 32 block-layout)
+  pub sheet_count : length (parameters_of b) ≤ 32
+  unfolding parameters_of parameter_count
+  sheet_count = omega (arith, items-length parameter (get_or b 1 0) b 2, layout_count b (get_or b 0 0) 1 32 block_layout)
 
-  pub sheet-held : Bytes b → Held parameter (get_or b 0 0) 1 32 b (parametersOf b)
-  unfolding readSheet parametersOf parameterCount
-  sheet-held bytes = record { bytes = bytes; sealed = ((reading-iff b (sheetLayout b)).0 h).0; layout = block-layout; same = refl }
+  pub sheet_held : Bytes b → Held parameter (get_or b 0 0) 1 32 b (parameters_of b)
+  unfolding read_sheet parameters_of parameter_count
+  sheet_held bytes = record { bytes = bytes; sealed = ((reading_iff b (sheet_layout b)).0 h).0; layout = block_layout; same = refl }
 
 -- n parameters are to come from the first on, as many as `parameter_count` answers
-pub parameters-start : {A : Type 0} (G : List Parameter → A) (b : List ℕ) (n : ℕ) (answer : A) → n ≡ parameterCount b → readSheet b ≡ WellFormed
-    → answer ≡ G (parametersOf b) → Visited parameter G answer b 2 n
-unfolding parametersOf parameterCount
-parameters-start G b n answer e h a =
-    let walk = subst (Walk b 2) (sym e) (walk_start b (get_or b 0 0) 1 32 (block-layout b h) (sheet-length b h) (omega arith)) in
-    visited-start parameter G b 2 n answer walk (a ∙ ap (λ (k : ℕ). G (items parameter k b 2)) (sym e))
+pub parameters_start : {A : Type 0} (G : List Parameter → A) (b : List ℕ) (n : ℕ) (answer : A) → n ≡ parameter_count b → read_sheet b ≡ WellFormed
+    → answer ≡ G (parameters_of b) → Visited parameter G answer b 2 n
+unfolding parameters_of parameter_count
+parameters_start G b n answer e h a =
+    let walk = subst (Walk b 2) (sym e) (walk_start b (get_or b 0 0) 1 32 (block_layout b h) (sheet_length b h) (omega arith)) in
+    visited_start parameter G b 2 n answer walk (a ∙ ap (λ (k : ℕ). G (items parameter k b 2)) (sym e))

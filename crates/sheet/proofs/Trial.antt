@@ -5,54 +5,54 @@ use mathlib.Core.Path.{◌≡◌, refl}
 use mathlib.Core.Bool.{true, false}
 use lib.Dec.{ltb}
 use borrow.Author.Tests.{ltb-true}
-use Rattle.base.specs.Digits.{isDigit}
+use Rattle.base.specs.Digits.{is_digit}
 use Rattle.base.specs.Lists.{every, equal}
 use Rattle.base.specs.Between.{between}
-use Rattle.base.specs.Names.{isLetter, isNameStart, isNamePart, isReserved, isName}
+use Rattle.base.specs.Names.{is_letter, is_name_start, is_name_part, is_reserved, is_name}
 use Rattle.base.proofs.All.{all_map}
-use Rattle.base.proofs.Lists.{every-all}
+use Rattle.base.proofs.Lists.{every_all}
 use Rattle.block.specs.Words.{word_bytes}
-use Rattle.block.specs.Sum.{sumFrom, checkSum}
+use Rattle.block.specs.Sum.{sum_from, check_sum}
 use Rattle.base.specs.Parts.{padded}
 use Rattle.block.specs.Seal.{check, seal}
-use Rattle.block.specs.Items.{zeros, hasMarks, length_at, next, markAt, textAt, laidOut, hasLayout, hasEither, items, join}
+use Rattle.block.specs.Items.{zeros, has_marks, length_at, next, mark_at, text_at, laid_out, has_layout, has_either, items, join}
 use Rattle.block.specs.Readings.{reading}
-use Rattle.sheet.specs.Sheet.{parameterCount, parametersOf, isKind, isParameter, areParameters, clashes, absent, distinct, kind_at, hasParent, haveParents, areRight, sheetLayout, readSheet}
-use Rattle.sheet.specs.Encode.{parameterBytes, sheetBody, encodeSheet, ReadsAsSheet}
-use Rattle.sheet.specs.Trial.{trialParameters, trialSheet, bundleParameters, bundleSheet, stayParameters, staySheet}
+use Rattle.sheet.specs.Sheet.{parameter_count, parameters_of, is_kind, is_parameter, are_parameters, clashes, absent, distinct, kind_at, has_parent, have_parents, are_right, sheet_layout, read_sheet}
+use Rattle.sheet.specs.Encode.{parameter_bytes, sheet_body, encode_sheet, ReadsAsSheet}
+use Rattle.sheet.specs.Trial.{trial_parameters, trial_sheet, bundle_parameters, bundle_sheet, stay_parameters, stay_sheet}
 
-pub trial-sheet-encoded : encodeSheet false trialParameters ≡ trialSheet
-unfolding trialParameters trialSheet encodeSheet sheetBody parameterBytes seal padded sumFrom word_bytes join
-trial-sheet-encoded = refl
+pub trial_sheet_encoded : encode_sheet false trial_parameters ≡ trial_sheet
+unfolding trial_parameters trial_sheet encode_sheet sheet_body parameter_bytes seal padded sum_from word_bytes join
+trial_sheet_encoded = refl
 
-pub trial-sheet-reads : ReadsAsSheet trialSheet false trialParameters
-unfolding trialParameters trialSheet readSheet reading check checkSum sumFrom sheetLayout hasEither hasLayout hasMarks parameterCount laidOut zeros every next length_at markAt parametersOf items textAt areRight areParameters isParameter isKind between isName isNameStart isLetter isNamePart isDigit isReserved equal distinct absent clashes haveParents hasParent
-trial-sheet-reads =
+pub trial_sheet_reads : ReadsAsSheet trial_sheet false trial_parameters
+unfolding trial_parameters trial_sheet read_sheet reading check check_sum sum_from sheet_layout has_either has_layout has_marks parameter_count laid_out zeros every next length_at mark_at parameters_of items text_at are_right are_parameters is_parameter is_kind between is_name is_name_start is_letter is_name_part is_digit is_reserved equal distinct absent clashes have_parents has_parent
+trial_sheet_reads =
     record {
       first = refl;
-      bytes = all_map (λ (x : ℕ). ltb-true x 256) (every-all (λ (x : ℕ). ltb x 256) trialSheet refl);
+      bytes = all_map (λ (x : ℕ). ltb-true x 256) (every_all (λ (x : ℕ). ltb x 256) trial_sheet refl);
       reading = refl;
       parameters = refl;
     }
 
 -- so is the sheet with bundles
 
-pub bundle-sheet-encoded : encodeSheet true bundleParameters ≡ bundleSheet
-unfolding bundleParameters bundleSheet encodeSheet sheetBody parameterBytes seal padded sumFrom word_bytes join
-bundle-sheet-encoded = refl
+pub bundle_sheet_encoded : encode_sheet true bundle_parameters ≡ bundle_sheet
+unfolding bundle_parameters bundle_sheet encode_sheet sheet_body parameter_bytes seal padded sum_from word_bytes join
+bundle_sheet_encoded = refl
 
-pub bundle-sheet-reads : ReadsAsSheet bundleSheet true bundleParameters
-unfolding bundleParameters bundleSheet readSheet reading check checkSum sumFrom sheetLayout hasEither hasLayout hasMarks parameterCount laidOut zeros every next length_at markAt parametersOf items textAt areRight areParameters isParameter isKind between isName isNameStart isLetter isNamePart isDigit isReserved equal distinct absent clashes haveParents hasParent kind_at
-bundle-sheet-reads =
+pub bundle_sheet_reads : ReadsAsSheet bundle_sheet true bundle_parameters
+unfolding bundle_parameters bundle_sheet read_sheet reading check check_sum sum_from sheet_layout has_either has_layout has_marks parameter_count laid_out zeros every next length_at mark_at parameters_of items text_at are_right are_parameters is_parameter is_kind between is_name is_name_start is_letter is_name_part is_digit is_reserved equal distinct absent clashes have_parents has_parent kind_at
+bundle_sheet_reads =
     record {
       first = refl;
-      bytes = all_map (λ (x : ℕ). ltb-true x 256) (every-all (λ (x : ℕ). ltb x 256) bundleSheet refl);
+      bytes = all_map (λ (x : ℕ). ltb-true x 256) (every_all (λ (x : ℕ). ltb x 256) bundle_sheet refl);
       reading = refl;
       parameters = refl;
     }
 
 -- and the sheet with periods
 
-pub stay-sheet-encoded : encodeSheet false stayParameters ≡ staySheet
-unfolding stayParameters staySheet encodeSheet sheetBody parameterBytes seal padded sumFrom word_bytes join
-stay-sheet-encoded = refl
+pub stay_sheet_encoded : encode_sheet false stay_parameters ≡ stay_sheet
+unfolding stay_parameters stay_sheet encode_sheet sheet_body parameter_bytes seal padded sum_from word_bytes join
+stay_sheet_encoded = refl

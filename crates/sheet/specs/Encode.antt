@@ -7,24 +7,24 @@ use Rattle.base.specs.Names.{Name}
 use Rattle.block.specs.Seal.{seal}
 use Rattle.block.specs.Items.{marks, join}
 use Rattle.block.specs.declared.Validity.TheVariants.{WellFormed}
-use Rattle.base.specs.Kinds.{string, period, bundleKind}
-use Rattle.sheet.specs.Sheet.{Parameter, parametersOf, readSheet}
+use Rattle.base.specs.Kinds.{string, period, bundle_kind}
+use Rattle.sheet.specs.Sheet.{Parameter, parameters_of, read_sheet}
 
 -- the first byte of a sheet without bundles, and of one with them (02)
-abbrev pub sheetFirst : Bool → ℕ
-sheetFirst marked = cond marked 0x51 0x50
+abbrev pub sheet_first : Bool → ℕ
+sheet_first marked = cond marked 0x51 0x50
 
 -- the kind, on a sheet with bundles the bundle, the length of the name, and the name
-unfoldable pub parameterBytes : Bool → Parameter → List ℕ
-parameterBytes marked p = p.kind ∷ (marks marked p.bundle ++ (length p.name ∷ p.name))
+unfoldable pub parameter_bytes : Bool → Parameter → List ℕ
+parameter_bytes marked p = p.kind ∷ (marks marked p.bundle ++ (length p.name ∷ p.name))
 
 -- what stands before the padding: the first byte, the number of parameters, the parameters
-unfoldable pub sheetBody : Bool → List Parameter → List ℕ
-sheetBody marked ps = sheetFirst marked ∷ length ps ∷ join (parameterBytes marked) ps
+unfoldable pub sheet_body : Bool → List Parameter → List ℕ
+sheet_body marked ps = sheet_first marked ∷ length ps ∷ join (parameter_bytes marked) ps
 
 -- the 512 bytes of a sheet
-unfoldable pub encodeSheet : Bool → List Parameter → List ℕ
-encodeSheet marked ps = seal (sheetBody marked ps)
+unfoldable pub encode_sheet : Bool → List Parameter → List ℕ
+encode_sheet marked ps = seal (sheet_body marked ps)
 
 -- a kind of values: string, number, date, token, reference or, by 02, period
 pub record ValueKind (k : ℕ) : Type 0 where
@@ -33,7 +33,7 @@ pub record ValueKind (k : ℕ) : Type 0 where
 
 -- a parameter that can be written: kind 1 to 6 or 7, and a name of 1 to 30 bytes
 pub record WellFormedParameter (p : Parameter) : Type 0 where
-  pub kind : ValueKind p.kind ⊎ (p.kind ≡ bundleKind)
+  pub kind : ValueKind p.kind ⊎ (p.kind ≡ bundle_kind)
   pub shortest : 1 ≤ length p.name
   pub longest : length p.name ≤ 30
   pub name : Name p.name
@@ -48,13 +48,13 @@ Absent c n = All (λ (p : Parameter). p.name ≡ n → MayShare p.bundle c)
 
 -- no two parameters have a name that they may not share
 pub data Distinct : List Parameter → Type 0 where
-  distinct-empty : Distinct []
+  distinct_empty : Distinct []
   distinct_cons : {p : Parameter} {ps : List Parameter} → Absent p.bundle p.name ps → Distinct ps → Distinct (p ∷ ps)
 
 -- 02: a parameter stands at the top, or in a bundle, and then is no bundle itself
 pub data HasParent (ps : List Parameter) (p : Parameter) : Type 0 where
   at_top : p.bundle ≡ 0 → HasParent ps p
-  in-bundle : {i : ℕ} {q : Parameter} → Listed ps i q → q.kind ≡ bundleKind → p.bundle ≡ i + 1 → (p.kind ≡ bundleKind → ⊥) → HasParent ps p
+  in_bundle : {i : ℕ} {q : Parameter} → Listed ps i q → q.kind ≡ bundle_kind → p.bundle ≡ i + 1 → (p.kind ≡ bundle_kind → ⊥) → HasParent ps p
 
 -- parameters that can be written: 0 to 32 of them
 pub record WellFormedSheet (ps : List Parameter) : Type 0 where
@@ -71,19 +71,19 @@ pub record PlainParameter (p : Parameter) : Type 0 where
 -- they can be written with bundles or without: they end at or before byte 507
 pub record SheetForm (marked : Bool) (ps : List Parameter) : Type 0 where
   pub plain : marked ≡ false → All PlainParameter ps
-  pub room : length (sheetBody marked ps) ≤ 508
+  pub room : length (sheet_body marked ps) ≤ 508
 
 -- the bytes are those of a sheet that can be written (01: a sound sheet)
 pub record SheetBlock (b : List ℕ) : Type 0 where
   pub marked : Bool
   pub parameters : List Parameter
-  pub well-formed : WellFormedSheet parameters
+  pub well_formed : WellFormedSheet parameters
   pub form : SheetForm marked parameters
-  pub encoded : b ≡ encodeSheet marked parameters
+  pub encoded : b ≡ encode_sheet marked parameters
 
 -- the bytes read as a sheet with or without bundles, with the parameters ps
 pub record ReadsAsSheet (b : List ℕ) (marked : Bool) (ps : List Parameter) : Type 0 where
-  pub first : get_or b 0 0 ≡ sheetFirst marked
+  pub first : get_or b 0 0 ≡ sheet_first marked
   pub bytes : Bytes b
-  pub reading : readSheet b ≡ WellFormed
-  pub parameters : parametersOf b ≡ ps
+  pub reading : read_sheet b ≡ WellFormed
+  pub parameters : parameters_of b ≡ ps

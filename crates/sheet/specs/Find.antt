@@ -2,20 +2,20 @@
 -- Assumes nothing.
 use Rattle.std.specs.Prelude.{ℕ, suc, ◌+◌, cond, ◌&&◌, eqb, List, [], ◌∷◌, map}
 use Rattle.base.specs.Lists.{equal}
-use Rattle.base.specs.Kinds.{bundleKind}
+use Rattle.base.specs.Kinds.{bundle_kind}
 use Rattle.base.specs.Parts.{padded}
 use Rattle.sheet.specs.Sheet.{Parameter}
 use Rattle.sheet.specs.declared.Found.{Found}
 use Rattle.sheet.specs.declared.Found.TheVariants.{At, Missing}
 
 -- index and kind of the first parameter with the name n in the bundle c, where the first of the list has the index i
-unfoldable pub findFrom : ℕ → ℕ → List ℕ → List Parameter → Found
-findFrom i c n [] = Missing
-findFrom i c n (p ∷ ps) = cond (eqb p.bundle c && equal p.name n) (At i p.kind) (findFrom (suc i) c n ps)
+unfoldable pub find_from : ℕ → ℕ → List ℕ → List Parameter → Found
+find_from i c n [] = Missing
+find_from i c n (p ∷ ps) = cond (eqb p.bundle c && equal p.name n) (At i p.kind) (find_from (suc i) c n ps)
 
 -- the same in a whole sheet; c is 0 at the top, and the place plus 1 of a bundle among its members
 unfoldable pub find : ℕ → List ℕ → List Parameter → Found
-find c n ps = findFrom 0 c n ps
+find c n ps = find_from 0 c n ps
 
 -- 02: where names are looked up inside what a name names: among a bundle's members, by its index plus 1, and else nowhere, where no
 -- parameter stands
@@ -24,7 +24,7 @@ nowhere = 255
 
 -- the bundle number by which members of a parameter that was found are looked up; nowhere, where it is no bundle
 abbrev pub inside : Found → ℕ
-inside (At i k) = cond (eqb k bundleKind) (i + 1) nowhere
+inside (At i k) = cond (eqb k bundle_kind) (i + 1) nowhere
 inside Missing = nowhere
 
 -- the bundle number of the bundle with the name n in the bundle c
@@ -36,9 +36,9 @@ unfoldable pub table_of : (Parameter → ℕ) → List Parameter → List ℕ
 table_of of ps = padded 32 (map of ps)
 
 -- the kinds by index
-abbrev pub kindsOf : List Parameter → List ℕ
-kindsOf = table_of (λ p. p.kind)
+abbrev pub kinds_of : List Parameter → List ℕ
+kinds_of = table_of (λ p. p.kind)
 
 -- the bundles by index: 0 for a parameter at the top, and else the place plus 1 of its bundle
-abbrev pub parentsOf : List Parameter → List ℕ
-parentsOf = table_of (λ p. p.bundle)
+abbrev pub parents_of : List Parameter → List ℕ
+parents_of = table_of (λ p. p.bundle)

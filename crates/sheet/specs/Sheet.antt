@@ -2,11 +2,11 @@
 -- Assumes nothing.
 use Rattle.std.specs.Prelude.{ℕ, zero, suc, ◌-◌, Bool, true, not, ◌&&◌, ◌||◌, List, [], ◌∷◌, leb, eqb, length, get_or}
 use Rattle.base.specs.Lists.{equal}
-use Rattle.base.specs.Kinds.{string, period, bundleKind}
+use Rattle.base.specs.Kinds.{string, period, bundle_kind}
 use Rattle.base.specs.Between.{between}
-use Rattle.base.specs.Names.{isName}
+use Rattle.base.specs.Names.{is_name}
 use Rattle.block.specs.Seal.{check}
-use Rattle.block.specs.Items.{hasMarks, hasEither, items, ItemStep}
+use Rattle.block.specs.Items.{has_marks, has_either, items, ItemStep}
 use Rattle.block.specs.Readings.{reading}
 use Rattle.block.specs.declared.Validity.{Validity}
 use Rattle.sheet.specs.declared.Parameter.{Parameter as Span}
@@ -23,25 +23,25 @@ abbrev pub parameter : ℕ → ℕ → List ℕ → Parameter
 parameter k b n = record { kind = k; bundle = b; name = n }
 
 -- "byte 1 the number of parameters"
-unfoldable pub parameterCount : List ℕ → ℕ
-parameterCount b = get_or b 1 0
+unfoldable pub parameter_count : List ℕ → ℕ
+parameter_count b = get_or b 1 0
 
 -- "from byte 2, for each: kind, name length, the name"; 02: "sheets with 0x51 as byte 0 have, after the kind, a byte" with the bundle
-unfoldable pub parametersOf : List ℕ → List Parameter
-parametersOf b = items parameter (parameterCount b) b 2
+unfoldable pub parameters_of : List ℕ → List Parameter
+parameters_of b = items parameter (parameter_count b) b 2
 
 -- the kind is 1 to 6 or, on a sheet with bundles, 7
-unfoldable pub isKind : Bool → ℕ → Bool
-isKind marked k = between string period k || (marked && eqb k bundleKind)
+unfoldable pub is_kind : Bool → ℕ → Bool
+is_kind marked k = between string period k || (marked && eqb k bundle_kind)
 
 -- the kind is right, and the name has at most 30 bytes and is a name, so that it is not empty
-unfoldable pub isParameter : Bool → Parameter → Bool
-isParameter marked p = isKind marked p.kind && (leb (length p.name) 30 && isName p.name)
+unfoldable pub is_parameter : Bool → Parameter → Bool
+is_parameter marked p = is_kind marked p.kind && (leb (length p.name) 30 && is_name p.name)
 
 -- each is a parameter
-unfoldable pub areParameters : Bool → List Parameter → Bool
-areParameters marked [] = true
-areParameters marked (p ∷ ps) = isParameter marked p && areParameters marked ps
+unfoldable pub are_parameters : Bool → List Parameter → Bool
+are_parameters marked [] = true
+are_parameters marked (p ∷ ps) = is_parameter marked p && are_parameters marked ps
 
 -- 02: "members of different bundles may share a name; no other two may": the same name in the bundles a and c is one too many
 unfoldable pub clashes : ℕ → ℕ → Bool → Bool
@@ -64,25 +64,25 @@ kind_at zero (p ∷ ps) = p.kind
 kind_at (suc i) (p ∷ ps) = kind_at i ps
 
 -- 02: "a parent that is not a bundle or a bundle in a bundle is 3"
-unfoldable pub hasParent : List Parameter → ℕ → ℕ → Bool
-hasParent ps k c = eqb c 0 || (not (eqb k bundleKind) && eqb (kind_at (c - 1) ps) bundleKind)
+unfoldable pub has_parent : List Parameter → ℕ → ℕ → Bool
+has_parent ps k c = eqb c 0 || (not (eqb k bundle_kind) && eqb (kind_at (c - 1) ps) bundle_kind)
 
 -- so it is with each of qs on the sheet with the parameters ps
-unfoldable pub haveParents : List Parameter → List Parameter → Bool
-haveParents ps [] = true
-haveParents ps (q ∷ qs) = hasParent ps q.kind q.bundle && haveParents ps qs
+unfoldable pub have_parents : List Parameter → List Parameter → Bool
+have_parents ps [] = true
+have_parents ps (q ∷ qs) = has_parent ps q.kind q.bundle && have_parents ps qs
 
 -- kinds, names and bundles are right
-unfoldable pub areRight : Bool → List Parameter → Bool
-areRight marked ps = areParameters marked ps && (distinct ps && haveParents ps ps)
+unfoldable pub are_right : Bool → List Parameter → Bool
+are_right marked ps = are_parameters marked ps && (distinct ps && have_parents ps ps)
 
 -- "byte 0 is 0x50" or 0x51, byte 1 says that 0 to 32 parameters follow it, and kinds, names and bundles are right
-unfoldable pub sheetLayout : List ℕ → Bool
-sheetLayout b = hasEither 0x50 0x51 1 32 b && areRight (hasMarks (get_or b 0 0)) (parametersOf b)
+unfoldable pub sheet_layout : List ℕ → Bool
+sheet_layout b = has_either 0x50 0x51 1 32 b && are_right (has_marks (get_or b 0 0)) (parameters_of b)
 
 -- what the bytes are, as a sheet
-unfoldable pub readSheet : List ℕ → Validity
-readSheet b = reading (check b) (sheetLayout b)
+unfoldable pub read_sheet : List ℕ → Validity
+read_sheet b = reading (check b) (sheet_layout b)
 
 -- r says where the parameter at `at` stands, with `left` parameters to come
 abbrev pub ParameterAt : List ℕ → (at left : ℕ) → Span → Type 0

@@ -6,8 +6,8 @@ use Rattle.base.specs.Ascii.{ascii}
 use Rattle.sheet.specs.Sheet.{Parameter, parameter}
 
 -- the parameters of document 01's trial sheet
-unfoldable pub trialParameters : List Parameter
-trialParameters =
+unfoldable pub trial_parameters : List Parameter
+trial_parameters =
     parameter 1 0 (ascii "title")
     ∷ parameter 3 0 (ascii "birthdate")
     ∷ parameter 4 0 (ascii "code")
@@ -16,8 +16,8 @@ trialParameters =
     ∷ []
 
 -- its 512 bytes: 5 parameters, 466 zeros and the check sum
-unfoldable pub trialSheet : List ℕ
-trialSheet =
+unfoldable pub trial_sheet : List ℕ
+trial_sheet =
     (0x50 ∷ 5 ∷ [])
     ++ (1 ∷ 5 ∷ ascii "title")
     ++ (3 ∷ 9 ∷ ascii "birthdate")
@@ -28,8 +28,8 @@ trialSheet =
     ++ (252 ∷ 39 ∷ 1 ∷ 0 ∷ [])
 
 -- a sheet with bundles: related with type and target, marriage with date and name; and title
-unfoldable pub bundleParameters : List Parameter
-bundleParameters =
+unfoldable pub bundle_parameters : List Parameter
+bundle_parameters =
     parameter 7 0 (ascii "related")
     ∷ parameter 4 1 (ascii "type")
     ∷ parameter 5 1 (ascii "target")
@@ -40,8 +40,8 @@ bundleParameters =
     ∷ []
 
 -- its 512 bytes: 7 parameters, 447 zeros and the check sum
-unfoldable pub bundleSheet : List ℕ
-bundleSheet =
+unfoldable pub bundle_sheet : List ℕ
+bundle_sheet =
     (0x51 ∷ 7 ∷ [])
     ++ (7 ∷ 0 ∷ 7 ∷ ascii "related")
     ++ (4 ∷ 1 ∷ 4 ∷ ascii "type")
@@ -54,8 +54,8 @@ bundleSheet =
     ++ (102 ∷ 15 ∷ 2 ∷ 0 ∷ [])
 
 -- a sheet with periods: stay, since and until; and title
-unfoldable pub stayParameters : List Parameter
-stayParameters =
+unfoldable pub stay_parameters : List Parameter
+stay_parameters =
     parameter 6 0 (ascii "stay")
     ∷ parameter 6 0 (ascii "since")
     ∷ parameter 6 0 (ascii "until")
@@ -63,8 +63,8 @@ stayParameters =
     ∷ []
 
 -- its 512 bytes: 4 parameters, 479 zeros and the check sum
-unfoldable pub staySheet : List ℕ
-staySheet =
+unfoldable pub stay_sheet : List ℕ
+stay_sheet =
     (0x50 ∷ 4 ∷ [])
     ++ (6 ∷ 4 ∷ ascii "stay")
     ++ (6 ∷ 5 ∷ ascii "since")

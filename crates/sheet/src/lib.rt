@@ -4,8 +4,8 @@
 ghost use Rattle.std.specs.Prelude.{◌≡◌, ◌&&◌, ◌<◌, eqb};
 ghost use Rattle.block.specs.Seal.{HasSize};
 ghost use Rattle.block.specs.Items.{items, Walk};
-ghost use Rattle.sheet.specs.Sheet.{parameter, parameterCount, parametersOf, isKind, isParameter, areParameters, clashes, absent, distinct, kind_at, hasParent, haveParents, areRight, sheetLayout, readSheet, ParameterAt};
-ghost use Rattle.sheet.specs.Find.{find, enter, kindsOf, parentsOf};
+ghost use Rattle.sheet.specs.Sheet.{parameter, parameter_count, parameters_of, is_kind, is_parameter, are_parameters, clashes, absent, distinct, kind_at, has_parent, have_parents, are_right, sheet_layout, read_sheet, ParameterAt};
+ghost use Rattle.sheet.specs.Find.{find, enter, kinds_of, parents_of};
 
 use base::equal;
 use base::kind::{BUNDLE, PERIOD, STRING};
@@ -46,7 +46,7 @@ fn parameter_at(sheet: &[u8], at: usize, left: u8) -> Parameter
 
 // Whether a kind is 1 to 6 or, on a sheet with bundles, 7.
 fn is_kind(marked: bool, kind: u8) -> bool
-    ensures { result ≡ isKind marked kind }
+    ensures { result ≡ is_kind marked kind }
 {
     if kind < STRING {
         return false;
@@ -62,7 +62,7 @@ fn is_kind(marked: bool, kind: u8) -> bool
 
 // Whether a kind is right, and a name has at most 30 bytes and is one by the rule.
 fn is_parameter(marked: bool, kind: u8, bundle: u8, name: &[u8]) -> bool
-    ensures { result ≡ isParameter marked (parameter kind bundle name.now) }
+    ensures { result ≡ is_parameter marked (parameter kind bundle name.now) }
 {
     if !is_kind(marked, kind) {
         return false;
@@ -76,7 +76,7 @@ fn is_parameter(marked: bool, kind: u8, bundle: u8, name: &[u8]) -> bool
 // Whether the kinds and the names of the `count` parameters are right.
 fn are_parameters(sheet: &[u8], marked: bool, count: u8) -> bool
     requires { Walk sheet.now 2 count }
-    ensures { result ≡ areParameters marked (items parameter count sheet.now 2) }
+    ensures { result ≡ are_parameters marked (items parameter count sheet.now 2) }
 {
     let mut at = 2;
     let mut left = count;
@@ -175,7 +175,7 @@ fn kind_at(sheet: &[u8], count: u8, index: u8) -> u8
 // Whether a parameter of this kind stands at the top, or is no bundle and stands in one.
 fn has_parent(sheet: &[u8], count: u8, kind: u8, bundle: u8) -> bool
     requires { Walk sheet.now 2 count }
-    ensures { result ≡ hasParent (items parameter count sheet.now 2) kind bundle }
+    ensures { result ≡ has_parent (items parameter count sheet.now 2) kind bundle }
 {
     if bundle == 0 {
         return true;
@@ -189,7 +189,7 @@ fn has_parent(sheet: &[u8], count: u8, kind: u8, bundle: u8) -> bool
 // Whether it is so with each of the `count` parameters.
 fn have_parents(sheet: &[u8], count: u8) -> bool
     requires { Walk sheet.now 2 count }
-    ensures { result ≡ haveParents (items parameter count sheet.now 2) (items parameter count sheet.now 2) }
+    ensures { result ≡ have_parents (items parameter count sheet.now 2) (items parameter count sheet.now 2) }
 {
     let mut at = 2;
     let mut left = count;
@@ -207,7 +207,7 @@ fn have_parents(sheet: &[u8], count: u8) -> bool
 // Whether kinds, names and bundles of the `count` parameters are right.
 fn are_right(sheet: &[u8], marked: bool, count: u8) -> bool
     requires { Walk sheet.now 2 count }
-    ensures { result ≡ areRight marked (items parameter count sheet.now 2) }
+    ensures { result ≡ are_right marked (items parameter count sheet.now 2) }
 {
     if !are_parameters(sheet, marked, count) {
         return false;
@@ -221,7 +221,7 @@ fn are_right(sheet: &[u8], marked: bool, count: u8) -> bool
 // Whether layout, kinds, names and bundles of 512 bytes are a sheet's.
 fn sheet_layout(sheet: &[u8]) -> bool
     requires { HasSize sheet.now }
-    ensures { result ≡ sheetLayout sheet.now }
+    ensures { result ≡ sheet_layout sheet.now }
 {
     if !block::has_either(sheet, 0x50, 0x51, 1, 32) {
         return false;
@@ -232,7 +232,7 @@ fn sheet_layout(sheet: &[u8]) -> bool
 // What any bytes are, as a sheet: well formed (01: sound), or one of the refusals 1, 2 and 3. "Byte 0 is 0x50" or, with bundles,
 // 0x51; "byte 1 the number of parameters, 0 to 32".
 pub fn read_sheet(sheet: &[u8]) -> Validity
-    ensures { result ≡ readSheet sheet.now }
+    ensures { result ≡ read_sheet sheet.now }
 {
     match block::check(sheet) {
         Integrity::WrongSize => Validity::WrongSize,
@@ -249,8 +249,8 @@ pub fn read_sheet(sheet: &[u8]) -> Validity
 
 // The number of parameters of a well-formed sheet.
 pub fn parameter_count(sheet: &[u8]) -> u8
-    requires { readSheet sheet.now ≡ Validity.WellFormed }
-    ensures { result ≡ parameterCount sheet.now }
+    requires { read_sheet sheet.now ≡ Validity.WellFormed }
+    ensures { result ≡ parameter_count sheet.now }
 {
     sheet[1]
 }
@@ -268,8 +268,8 @@ fn is_named(a: u8, c: u8, same: bool) -> bool
 // Index and kind of the parameter that has the name in a bundle (0 at the top, else the bundle's index plus 1), on a well-formed
 // sheet.
 pub fn find(sheet: &[u8], bundle: u8, name: &[u8]) -> Found
-    requires { readSheet sheet.now ≡ Validity.WellFormed }
-    ensures { result ≡ find bundle name.now (parametersOf sheet.now) }
+    requires { read_sheet sheet.now ≡ Validity.WellFormed }
+    ensures { result ≡ find bundle name.now (parameters_of sheet.now) }
 {
     let mut at = 2;
     let mut left = parameter_count(sheet);
@@ -294,8 +294,8 @@ pub fn find(sheet: &[u8], bundle: u8, name: &[u8]) -> Found
 
 // Where names are looked up inside what a name names: a bundle's index plus 1, or 255 where it names none.
 pub fn enter(sheet: &[u8], bundle: u8, name: &[u8]) -> u8
-    requires { readSheet sheet.now ≡ Validity.WellFormed }
-    ensures { result ≡ enter (parametersOf sheet.now) bundle name.now }
+    requires { read_sheet sheet.now ≡ Validity.WellFormed }
+    ensures { result ≡ enter (parameters_of sheet.now) bundle name.now }
 {
     match find(sheet, bundle, name) {
         Found::At { index, kind } => {
@@ -310,8 +310,8 @@ pub fn enter(sheet: &[u8], bundle: u8, name: &[u8]) -> u8
 
 // The kinds of a well-formed sheet's parameters by their index, and 0 past the last.
 pub fn kinds(sheet: &[u8]) -> [u8; 32]
-    requires { readSheet sheet.now ≡ Validity.WellFormed }
-    ensures { result ≡ kindsOf (parametersOf sheet.now) }
+    requires { read_sheet sheet.now ≡ Validity.WellFormed }
+    ensures { result ≡ kinds_of (parameters_of sheet.now) }
 {
     let mut kinds = [0u8; 32];
     let mut at = 2;
@@ -329,8 +329,8 @@ pub fn kinds(sheet: &[u8]) -> [u8; 32]
 
 // The bundles of a well-formed sheet's parameters by their index, each the bundle's index plus 1, and 0 at the top and past the last.
 pub fn parents(sheet: &[u8]) -> [u8; 32]
-    requires { readSheet sheet.now ≡ Validity.WellFormed }
-    ensures { result ≡ parentsOf (parametersOf sheet.now) }
+    requires { read_sheet sheet.now ≡ Validity.WellFormed }
+    ensures { result ≡ parents_of (parameters_of sheet.now) }
 {
     let mut parents = [0u8; 32];
     let mut at = 2;

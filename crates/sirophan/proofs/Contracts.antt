@@ -6,94 +6,94 @@ use mathlib.Core.List.{List}
 use lib.ListN.{length}
 use Rattle.base.proofs.All.{bytes_of}
 use Rattle.refusal.specs.Answers.{Answer}
-use Rattle.answer.specs.Answers.{checkedAnswer, matchedAnswer, selectedAnswer}
-use Rattle.answer.specs.Operations.{checkAnswer, filterQuestion, matchAnswer, selectAnswer}
+use Rattle.answer.specs.Answers.{checked_answer, matched_answer, selected_answer}
+use Rattle.answer.specs.Operations.{check_answer, filter_question, match_answer, select_answer}
 use Rattle.answer.specs.Refusals.{CheckLine, MatchLine, SelectLine}
 use Rattle.selecting.specs.Selecting.{Selects}
-use Rattle.answer.specs.Searching.{checkSearchAnswer, searchQuestion, matchSearchAnswer, selectSearchAnswer}
+use Rattle.answer.specs.Searching.{check_search_answer, search_question, match_search_answer, select_search_answer}
 use Rattle.answer.specs.SearchRefusals.{CheckSearchLine, MatchSearchLine, SelectSearchLine}
-use Rattle.sirophan.specs.Contracts.{RefusedBy, Checks, Matches, SelectsInto, ChecksSearch, MatchesSearch, SelectsSearchInto, PreparesInto, Judges}
+use Rattle.sirophan.specs.Operations.{RefusedBy, Checks, Matches, SelectsInto, ChecksSearch, MatchesSearch, SelectsSearchInto, PreparesInto, Judges}
 use Rattle.answer.specs.declared.Checked.{Checked}
 use Rattle.answer.specs.declared.Matched.{Matched}
 use Rattle.answer.specs.declared.Selected.{Selected}
 use Rattle.answer.specs.declared.Prepared.{Prepared}
-use Rattle.answer.specs.Preparing.{prepareAnswer, judgeAnswer, preparedAnswer, Prepares}
+use Rattle.answer.specs.Preparing.{prepare_answer, judge_answer, prepared_answer, Prepares}
 use Rattle.answer.specs.RowsRefusals.{PrepareLine, JudgeLine}
 use Rattle.answer.proofs.Slices.{Sliced}
-use Rattle.answer.proofs.CheckTable.{check-table}
-use Rattle.answer.proofs.MatchTable.{match-table}
-use Rattle.answer.proofs.SelectTable.{select-table}
-use Rattle.answer.proofs.SearchTable.{check-search-table, match-search-table, select-search-table}
-use Rattle.answer.proofs.RowsTable.{prepare-table, judge-table}
+use Rattle.answer.proofs.CheckTable.{check_table}
+use Rattle.answer.proofs.MatchTable.{match_table}
+use Rattle.answer.proofs.SelectTable.{select_table}
+use Rattle.answer.proofs.SearchTable.{check_search_table, match_search_table, select_search_table}
+use Rattle.answer.proofs.RowsTable.{prepare_table, judge_table}
 
 -- the table of a definition is that of an equal answer
-pub refused-by : (Line : ℕ → ℕ → Type 0) (a b : Answer) → a ≡ b → RefusedBy Line b → RefusedBy Line a
-refused-by Line a b e t n p = ((λ f. (t n p).0 (sym e ∙ f)), (λ d. e ∙ (t n p).1 d))
+pub refused_by : (Line : ℕ → ℕ → Type 0) (a b : Answer) → a ≡ b → RefusedBy Line b → RefusedBy Line a
+refused_by Line a b e t n p = ((λ f. (t n p).0 (sym e ∙ f)), (λ d. e ∙ (t n p).1 d))
 
-pub checks : (sheet text : List ℕ) (r : Checked) → checkedAnswer r ≡ checkAnswer sheet text → Sliced sheet → Checks sheet text r
+pub checks : (sheet text : List ℕ) (r : Checked) → checked_answer r ≡ check_answer sheet text → Sliced sheet → Checks sheet text r
 checks sheet text r e s =
-    record { answers = e; refuses = refused-by (CheckLine sheet text) (checkedAnswer r) (checkAnswer sheet text) e (check-table sheet text (bytes_of sheet s)) }
+    record { answers = e; refuses = refused_by (CheckLine sheet text) (checked_answer r) (check_answer sheet text) e (check_table sheet text (bytes_of sheet s)) }
 
-pub matches : (sheet text card : List ℕ) (r : Matched) → matchedAnswer r ≡ matchAnswer sheet text card → Sliced sheet → Sliced card → Matches sheet text card r
+pub matches : (sheet text card : List ℕ) (r : Matched) → matched_answer r ≡ match_answer sheet text card → Sliced sheet → Sliced card → Matches sheet text card r
 matches sheet text card r e s c =
     record {
       answers = e;
-      refuses = refused-by (MatchLine sheet text card) (matchedAnswer r) (matchAnswer sheet text card) e (match-table sheet text card (bytes_of sheet s) (bytes_of card c));
+      refuses = refused_by (MatchLine sheet text card) (matched_answer r) (match_answer sheet text card) e (match_table sheet text card (bytes_of sheet s) (bytes_of card c));
     }
 
-pub selects-into : (sheet text cards list : List ℕ) (r : Selected) (exit : List ℕ) → Selects (filterQuestion sheet text) cards list r exit → Sliced sheet → Sliced cards
+pub selects_into : (sheet text cards list : List ℕ) (r : Selected) (exit : List ℕ) → Selects (filter_question sheet text) cards list r exit → Sliced sheet → Sliced cards
     → SelectsInto sheet text cards list r exit
-selects-into sheet text cards list r exit h s c =
+selects_into sheet text cards list r exit h s c =
     record {
       answers = h.answers;
       cells = h.cells;
       refuses =
-          refused-by (SelectLine sheet text cards (length list)) (selectedAnswer r) (selectAnswer sheet text cards (length list)) h.answers
-          (select-table sheet text cards (length list) (bytes_of sheet s) (bytes_of cards c));
+          refused_by (SelectLine sheet text cards (length list)) (selected_answer r) (select_answer sheet text cards (length list)) h.answers
+          (select_table sheet text cards (length list) (bytes_of sheet s) (bytes_of cards c));
     }
 
 -- ---- by a search string
 
-pub checks-search : (sheet text : List ℕ) (r : Checked) → checkedAnswer r ≡ checkSearchAnswer sheet text → Sliced sheet → ChecksSearch sheet text r
-checks-search sheet text r e s =
+pub checks_search : (sheet text : List ℕ) (r : Checked) → checked_answer r ≡ check_search_answer sheet text → Sliced sheet → ChecksSearch sheet text r
+checks_search sheet text r e s =
     record {
       answers = e;
-      refuses = refused-by (CheckSearchLine sheet text) (checkedAnswer r) (checkSearchAnswer sheet text) e (check-search-table sheet text (bytes_of sheet s));
+      refuses = refused_by (CheckSearchLine sheet text) (checked_answer r) (check_search_answer sheet text) e (check_search_table sheet text (bytes_of sheet s));
     }
 
-pub matches-search : (sheet text card : List ℕ) (r : Matched) → matchedAnswer r ≡ matchSearchAnswer sheet text card → Sliced sheet → Sliced card → MatchesSearch sheet text card r
-matches-search sheet text card r e s c =
+pub matches_search : (sheet text card : List ℕ) (r : Matched) → matched_answer r ≡ match_search_answer sheet text card → Sliced sheet → Sliced card → MatchesSearch sheet text card r
+matches_search sheet text card r e s c =
     record {
       answers = e;
       refuses =
-          refused-by (MatchSearchLine sheet text card) (matchedAnswer r) (matchSearchAnswer sheet text card) e
-          (match-search-table sheet text card (bytes_of sheet s) (bytes_of card c));
+          refused_by (MatchSearchLine sheet text card) (matched_answer r) (match_search_answer sheet text card) e
+          (match_search_table sheet text card (bytes_of sheet s) (bytes_of card c));
     }
 
-pub selects-search-into : (sheet text cards list : List ℕ) (r : Selected) (exit : List ℕ) → Selects (searchQuestion sheet text) cards list r exit → Sliced sheet → Sliced cards
+pub selects_search_into : (sheet text cards list : List ℕ) (r : Selected) (exit : List ℕ) → Selects (search_question sheet text) cards list r exit → Sliced sheet → Sliced cards
     → SelectsSearchInto sheet text cards list r exit
-selects-search-into sheet text cards list r exit h s c =
+selects_search_into sheet text cards list r exit h s c =
     record {
       answers = h.answers;
       cells = h.cells;
       refuses =
-          refused-by (SelectSearchLine sheet text cards (length list)) (selectedAnswer r) (selectSearchAnswer sheet text cards (length list)) h.answers
-          (select-search-table sheet text cards (length list) (bytes_of sheet s) (bytes_of cards c));
+          refused_by (SelectSearchLine sheet text cards (length list)) (selected_answer r) (select_search_answer sheet text cards (length list)) h.answers
+          (select_search_table sheet text cards (length list) (bytes_of sheet s) (bytes_of cards c));
     }
 
 -- ---- by rows
 
-pub prepares-into : (sheet text list : List ℕ) (r : Prepared) (exit : List ℕ) → Prepares sheet text list r exit → Sliced sheet → PreparesInto sheet text list r exit
-prepares-into sheet text list r exit h s =
+pub prepares_into : (sheet text list : List ℕ) (r : Prepared) (exit : List ℕ) → Prepares sheet text list r exit → Sliced sheet → PreparesInto sheet text list r exit
+prepares_into sheet text list r exit h s =
     record {
       answers = h.answers;
       cells = h.cells;
-      refuses = refused-by (PrepareLine sheet text (length list)) (preparedAnswer r) (prepareAnswer sheet text (length list)) h.answers (prepare-table sheet text (length list) (bytes_of sheet s));
+      refuses = refused_by (PrepareLine sheet text (length list)) (prepared_answer r) (prepare_answer sheet text (length list)) h.answers (prepare_table sheet text (length list) (bytes_of sheet s));
     }
 
-pub judges : (sheet text cells card : List ℕ) (r : Matched) → matchedAnswer r ≡ judgeAnswer sheet text cells card → Sliced sheet → Sliced card → Judges sheet text cells card r
+pub judges : (sheet text cells card : List ℕ) (r : Matched) → matched_answer r ≡ judge_answer sheet text cells card → Sliced sheet → Sliced card → Judges sheet text cells card r
 judges sheet text cells card r e s c =
     record {
       answers = e;
-      refuses = refused-by (JudgeLine sheet text cells card) (matchedAnswer r) (judgeAnswer sheet text cells card) e (judge-table sheet text cells card (bytes_of sheet s) (bytes_of card c));
+      refuses = refused_by (JudgeLine sheet text cells card) (matched_answer r) (judge_answer sheet text cells card) e (judge_table sheet text cells card (bytes_of sheet s) (bytes_of card c));
     }

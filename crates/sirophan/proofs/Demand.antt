@@ -10,44 +10,44 @@ use Rattle.base.proofs.All.{all_head, all_right, all_map}
 use Rattle.sheet.specs.Sheet.{Parameter}
 use Rattle.sheet.specs.Encode.{SheetBlock}
 use Rattle.card.specs.Card.{Entry}
-use Rattle.syntax.specs.Tree.{Tree, testsOf}
+use Rattle.syntax.specs.Tree.{Tree, tests_of}
 use Rattle.syntax.specs.Grammar.{Spells}
-use Rattle.judge.specs.Verdicts.{filterSays}
-use Rattle.refusal.specs.Answers.{Answer, yesOrNo, count}
+use Rattle.judge.specs.Verdicts.{filter_says}
+use Rattle.refusal.specs.Answers.{Answer, yes_or_no, count}
 use Rattle.refusal.specs.Steps.{Step, found, stop, ◌>>=◌, answer}
-use Rattle.answer.specs.Operations.{testsStep, Inputs, acceptCard, checkAnswer, questionOf, filterQuestion, matchAnswer}
+use Rattle.answer.specs.Operations.{tests_step, Inputs, accept_card, check_answer, question_of, filter_question, match_answer}
 use Rattle.judge.specs.Rules.{Conforms, FilterSays}
 use Rattle.answer.specs.Verdicts.{Verdict}
-use Rattle.answer.specs.Demand.{TestRules, Meaningful, Demand, filterTests, MeetsDemand}
-use Rattle.answer.proofs.Verdicts.{verdict-by}
-use Rattle.refusal.proofs.Answers.{count-not-refused}
-use Rattle.answer.proofs.Cards.{conforms-size, conforms-bytes, conforms-accepted}
-use Rattle.answer.proofs.Outcomes.{TestsOutcome, all-mean, one-refused}
-use Rattle.answer.proofs.Inputs.{check-by, match_by, question-by, tests-outcome, inputs-accepted}
+use Rattle.answer.specs.Demand.{TestRules, Meaningful, Demand, filter_tests, MeetsDemand}
+use Rattle.answer.proofs.Verdicts.{verdict_by}
+use Rattle.refusal.proofs.Answers.{count_not_refused}
+use Rattle.answer.proofs.Cards.{conforms-size, conforms-bytes, conforms_accepted}
+use Rattle.answer.proofs.Outcomes.{TestsOutcome, all_mean, one_refused}
+use Rattle.answer.proofs.Inputs.{check_by, match_by_lem, question_by, tests_outcome, inputs_accepted}
 
 -- ---- over any kind of test: a check and a match that go by what the tests come to
 
 module _ {T : Type 0} (rules : TestRules T) (ts : List T) (Says : List Entry → Type 0) (says : List Entry → Bool) (check : Answer) (match : List ℕ → Answer) where
-  pub demand-by : {tests : Step (Unit {0})} → TestsOutcome rules ts tests
-      → (All (Meaningful rules) ts → (card : List ℕ) (es : List Entry) → Conforms rules.parameters card es → Verdict (Says es) (yesOrNo (says es)))
+  pub demand_by : {tests : Step (Unit {0})} → TestsOutcome rules ts tests
+      → (All (Meaningful rules) ts → (card : List ℕ) (es : List Entry) → Conforms rules.parameters card es → Verdict (Says es) (yes_or_no (says es)))
       → check ≡ answer (tests >>= λ u. found (count (length ts)))
-      → ((card : List ℕ) → match card ≡ answer (tests >>= λ u. acceptCard rules.parameters 0 card >>= λ c. found (yesOrNo (says c.entries))))
+      → ((card : List ℕ) → match card ≡ answer (tests >>= λ u. accept_card rules.parameters 0 card >>= λ c. found (yes_or_no (says c.entries))))
       → Demand rules ts Says check match
-  demand-by (all-mean m) verdict passed matched =
+  demand_by (all_mean m) verdict passed matched =
       record {
         passes = ((λ _. m), (λ _. passed));
         verdict = λ _ card es c.
-            let e : match card ≡ yesOrNo (says es) = matched card ∙ rw (conforms-accepted c 0) in
+            let e : match card ≡ yes_or_no (says es) = matched card ∙ rw (conforms_accepted c 0) in
             subst (λ (a : Answer). Verdict (Says es) a) (sym e) (verdict m card es c);
         refuses = λ n. absurd (n passed);
       }
-  demand-by (one-refused before t after n split m r) verdict failed matched =
+  demand_by (one_refused before t after n split m r) verdict failed matched =
       let senseless : All (Meaningful rules) ts → ⊥ =
       λ all. all_head (Meaningful rules) (all_right (Meaningful rules) before (subst (All (Meaningful rules)) split all)) r.card r.entries r.conforms r.lacks
       in
       record {
-        passes = ((λ p. absurd (count-not-refused (length ts) n (rules.place t) (sym p ∙ failed))), (λ all. absurd (senseless all)));
-        verdict = λ p. absurd (count-not-refused (length ts) n (rules.place t) (sym p ∙ failed));
+        passes = ((λ p. absurd (count_not_refused (length ts) n (rules.place t) (sym p ∙ failed))), (λ all. absurd (senseless all)));
+        verdict = λ p. absurd (count_not_refused (length ts) n (rules.place t) (sym p ∙ failed));
         refuses = λ _. record {
           before = before;
           test = t;
@@ -76,32 +76,32 @@ module _ (sheet text : List ℕ) (s : SheetBlock sheet) (f : Tree) (short : leng
   abbrev ready : Step (Unit {0}) → Step Inputs
   ready tests = tests >>= λ u. found (record { parameters = ps; filter = f })
 
-  check-tests : checkAnswer sheet text ≡ answer (testsStep ps (testsOf f) >>= λ u. found (count (length (testsOf f))))
-  check-tests = check-by sheet text (ready (testsStep ps (testsOf f))) (inputs-accepted sheet text s f short spells) ∙ by (testsStep ps (testsOf f))
+  check_tests : check_answer sheet text ≡ answer (tests_step ps (tests_of f) >>= λ u. found (count (length (tests_of f))))
+  check_tests = check_by sheet text (ready (tests_step ps (tests_of f))) (inputs_accepted sheet text s f short spells) ∙ by (tests_step ps (tests_of f))
     where
-      by : (tests : Step (Unit {0})) → answer (ready tests >>= λ p. found (count (length (testsOf p.filter)))) ≡ answer (tests >>= λ u. found (count (length (testsOf f))))
+      by : (tests : Step (Unit {0})) → answer (ready tests >>= λ p. found (count (length (tests_of p.filter)))) ≡ answer (tests >>= λ u. found (count (length (tests_of f))))
       by (found u) = refl
       by (stop n p) = refl
 
-  match-tests : (card : List ℕ) → matchAnswer sheet text card ≡ answer (testsStep ps (testsOf f) >>= λ u. acceptCard ps 0 card >>= λ c. found (yesOrNo (filterSays ps 0 c.entries f)))
-  match-tests card =
-      match_by (filterQuestion sheet text) (ready (testsStep ps (testsOf f)) >>= λ p. found (questionOf p))
-      (question-by sheet text (ready (testsStep ps (testsOf f))) (inputs-accepted sheet text s f short spells)) card
-      ∙ by (testsStep ps (testsOf f))
+  match_tests : (card : List ℕ) → match_answer sheet text card ≡ answer (tests_step ps (tests_of f) >>= λ u. accept_card ps 0 card >>= λ c. found (yes_or_no (filter_says ps 0 c.entries f)))
+  match_tests card =
+      match_by_lem (filter_question sheet text) (ready (tests_step ps (tests_of f)) >>= λ p. found (question_of p))
+      (question_by sheet text (ready (tests_step ps (tests_of f))) (inputs_accepted sheet text s f short spells)) card
+      ∙ by (tests_step ps (tests_of f))
     where
       by : (tests : Step (Unit {0}))
-          → answer ((ready tests >>= λ p. found (questionOf p)) >>= λ q. acceptCard q.parameters 0 card >>= λ c. found (yesOrNo (q.says c.entries)))
-          ≡ answer (tests >>= λ u. acceptCard ps 0 card >>= λ c. found (yesOrNo (filterSays ps 0 c.entries f)))
+          → answer ((ready tests >>= λ p. found (question_of p)) >>= λ q. accept_card q.parameters 0 card >>= λ c. found (yes_or_no (q.says c.entries)))
+          ≡ answer (tests >>= λ u. accept_card ps 0 card >>= λ c. found (yes_or_no (filter_says ps 0 c.entries f)))
       by (found u) = refl
       by (stop n p) = refl
 
-pub demand-met : MeetsDemand checkAnswer matchAnswer
-demand-met sheet text s f short spells =
-    demand-by (filterTests s.parameters) (testsOf f) (λ es. FilterSays s.parameters 0 es f) (λ es. filterSays s.parameters 0 es f) (checkAnswer sheet text) (matchAnswer sheet text)
-    (tests-outcome s.parameters s.well-formed (testsOf f)) (λ m card es c. verdict-by s.parameters s.well-formed es f (all_map (λ t k. k card es c) m))
-    (check-tests sheet text s f short spells) (match-tests sheet text s f short spells)
+pub demand_met : MeetsDemand check_answer match_answer
+demand_met sheet text s f short spells =
+    demand_by (filter_tests s.parameters) (tests_of f) (λ es. FilterSays s.parameters 0 es f) (λ es. filter_says s.parameters 0 es f) (check_answer sheet text) (match_answer sheet text)
+    (tests_outcome s.parameters s.well_formed (tests_of f)) (λ m card es c. verdict_by s.parameters s.well_formed es f (all_map (λ t k. k card es c) m))
+    (check_tests sheet text s f short spells) (match_tests sheet text s f short spells)
 
 -- where check passes, match answers the filter's yes or no on each conforming card
-pub match-verdict : (sheet text : List ℕ) (s : SheetBlock sheet) (f : Tree) → length text ≤ 1024 → Spells text f → checkAnswer sheet text ≡ count (length (testsOf f))
-    → (card : List ℕ) (es : List Entry) → Conforms s.parameters card es → Verdict (FilterSays s.parameters 0 es f) (matchAnswer sheet text card)
-match-verdict sheet text s f short spells = (demand-met sheet text s f short spells).verdict
+pub match_verdict : (sheet text : List ℕ) (s : SheetBlock sheet) (f : Tree) → length text ≤ 1024 → Spells text f → check_answer sheet text ≡ count (length (tests_of f))
+    → (card : List ℕ) (es : List Entry) → Conforms s.parameters card es → Verdict (FilterSays s.parameters 0 es f) (match_answer sheet text card)
+match_verdict sheet text s f short spells = (demand_met sheet text s f short spells).verdict

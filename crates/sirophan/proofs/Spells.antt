@@ -9,91 +9,91 @@ use mathlib.Core.List.{List, ◌++◌}
 use lib.Dec.{eqb, leb, ltb}
 use lib.ListN.{length, take, drop}
 use borrow.Author.Tests.{ne_eqb, le-ltb, le-leb}
-use Rattle.base.proofs.Lists.{length-zero}
+use Rattle.base.proofs.Lists.{length_zero}
 use Rattle.syntax.specs.Tree.{Tree}
 use Rattle.syntax.specs.Grammar.{Spells}
 use Rattle.syntax.specs.Reader.{read}
-use Rattle.syntax.proofs.Spelling.{read-iff, spells-not-empty}
+use Rattle.syntax.proofs.Spelling.{read_iff, spells_not_empty}
 use Rattle.plain.specs.Plain.{plain}
 use Rattle.spell.specs.Spelling as spell
 use Rattle.spell.specs.declared.Spelled.{Spelled}
 use Rattle.refusal.specs.declared.Reason.{Reason}
-use Rattle.refusal.specs.Answers.{count, refused, refusalAnswer}
+use Rattle.refusal.specs.Answers.{count, refused, refusal_answer}
 use Rattle.refusal.specs.Steps.{Step, found, stop, ◌>>=◌, answer}
-use Rattle.answer.specs.Answers.{spelledAnswer}
-use Rattle.answer.specs.Operations.{treeStep, acceptFilter}
+use Rattle.answer.specs.Answers.{spelled_answer}
+use Rattle.answer.specs.Operations.{tree_step, accept_filter}
 use Rattle.answer.specs.Refusals.{SpellLine}
-use Rattle.sirophan.specs.Contracts.{SpellsInto}
-use Rattle.sirophan.specs.Spelling.{acceptBuffer, spelling, spellAnswer, putInto, spellBytes, SpellAnswers}
-use Rattle.sirophan.proofs.Contracts.{refused-by}
-use Rattle.sirophan.proofs.SpellTable.{spell-table}
+use Rattle.sirophan.specs.Operations.{SpellsInto}
+use Rattle.sirophan.specs.Spelling.{accept_buffer, spelling, spell_answer, put_into, spell_bytes, SpellAnswers}
+use Rattle.sirophan.proofs.Contracts.{refused_by}
+use Rattle.sirophan.proofs.SpellTable.{spell_table}
 
 -- ---- the definition by steps, and the one that the code meets
 
 module _ (text : List ℕ) (from : ℕ) (buffer : List ℕ) where
-  room-answer : (w : List ℕ) → spelledAnswer (spell.placed w from (length buffer)) ≡ answer (acceptBuffer from (length buffer) w >>= λ s. found (count (length s)))
-  unfolding spell.placed acceptBuffer spelledAnswer refusalAnswer
-  room-answer w = go (leb (from + length w) (length buffer))
+  room_answer : (w : List ℕ) → spelled_answer (spell.placed w from (length buffer)) ≡ answer (accept_buffer from (length buffer) w >>= λ s. found (count (length s)))
+  unfolding spell.placed accept_buffer spelled_answer refusal_answer
+  room_answer w = go (leb (from + length w) (length buffer))
     where
-      go : (t : Bool) → spelledAnswer (cond t (Spelled.Length (length w)) (Spelled.Refused (record { reason = Reason.ShortBuffer; place = length w }))) ≡ answer (cond t (found w) (stop 32 (length w)) >>= λ s. found (count (length s)))
+      go : (t : Bool) → spelled_answer (cond t (Spelled.Length (length w)) (Spelled.Refused (record { reason = Reason.ShortBuffer; place = length w }))) ≡ answer (cond t (found w) (stop 32 (length w)) >>= λ s. found (count (length s)))
       go true = refl
       go false = refl
 
-  room-bytes : (w : List ℕ) → spell.put w from buffer ≡ putInto from buffer (acceptBuffer from (length buffer) w)
-  unfolding spell.put acceptBuffer
-  room-bytes w = go (leb (from + length w) (length buffer))
+  room_bytes : (w : List ℕ) → spell.put w from buffer ≡ put_into from buffer (accept_buffer from (length buffer) w)
+  unfolding spell.put accept_buffer
+  room_bytes w = go (leb (from + length w) (length buffer))
     where
-      go : (t : Bool) → cond t (take from buffer ++ (w ++ drop (from + length w) buffer)) buffer ≡ putInto from buffer (cond t (found w) (stop 32 (length w)))
+      go : (t : Bool) → cond t (take from buffer ++ (w ++ drop (from + length w) buffer)) buffer ≡ put_into from buffer (cond t (found w) (stop 32 (length w)))
       go true = refl
       go false = refl
 
-  tree-bytes : (o : Option Tree) → spell.treeBytes from buffer o ≡ putInto from buffer (treeStep text o >>= λ f. acceptBuffer from (length buffer) (plain f))
-  tree-bytes (some f) = room-bytes (plain f)
-  tree-bytes none = refl
+  tree_bytes_lem : (o : Option Tree) → spell.tree_bytes from buffer o ≡ put_into from buffer (tree_step text o >>= λ f. accept_buffer from (length buffer) (plain f))
+  tree_bytes_lem (some f) = room_bytes (plain f)
+  tree_bytes_lem none = refl
 
-  answer-is : spelledAnswer (spell.outcome text from (length buffer)) ≡ spellAnswer text from (length buffer)
-  unfolding spell.outcome spellAnswer spelling acceptFilter spelledAnswer refusalAnswer
-  answer-is = go (eqb (length text) 0 || ltb 1024 (length text)) (read text)
+  answer_is : spelled_answer (spell.outcome text from (length buffer)) ≡ spell_answer text from (length buffer)
+  unfolding spell.outcome spell_answer spelling accept_filter spelled_answer refusal_answer
+  answer_is = go (eqb (length text) 0 || ltb 1024 (length text)) (read text)
     where
-      go : (t : Bool) (o : Option Tree) → spelledAnswer (cond t spell.wrongSize (spell.treeOutcome text from (length buffer) o))
-          ≡ answer (cond t (stop 10 0) (treeStep text o) >>= (λ f. acceptBuffer from (length buffer) (plain f)) >>= λ w. found (count (length w)))
+      go : (t : Bool) (o : Option Tree) → spelled_answer (cond t spell.wrong_size (spell.tree_outcome text from (length buffer) o))
+          ≡ answer (cond t (stop 10 0) (tree_step text o) >>= (λ f. accept_buffer from (length buffer) (plain f)) >>= λ w. found (count (length w)))
       go true o = refl
-      go false (some f) = room-answer (plain f)
+      go false (some f) = room_answer (plain f)
       go false none = refl
 
-  bytes-are : spell.bytes text from buffer ≡ spellBytes text from buffer
-  unfolding spell.bytes spellBytes spelling acceptFilter
-  bytes-are = go (eqb (length text) 0 || ltb 1024 (length text)) (read text)
+  bytes_are : spell.bytes text from buffer ≡ spell_bytes text from buffer
+  unfolding spell.bytes spell_bytes spelling accept_filter
+  bytes_are = go (eqb (length text) 0 || ltb 1024 (length text)) (read text)
     where
-      go : (t : Bool) (o : Option Tree) → cond t buffer (spell.treeBytes from buffer o) ≡ putInto from buffer (cond t (stop 10 0) (treeStep text o) >>= λ f. acceptBuffer from (length buffer) (plain f))
+      go : (t : Bool) (o : Option Tree) → cond t buffer (spell.tree_bytes from buffer o) ≡ put_into from buffer (cond t (stop 10 0) (tree_step text o) >>= λ f. accept_buffer from (length buffer) (plain f))
       go true o = refl
-      go false o = tree-bytes o
+      go false o = tree_bytes_lem o
 
-  pub spells-into : (r : Spelled) (exit : List ℕ) → spell.SpellsInto text buffer from r exit → SpellsInto text from buffer r exit
-  spells-into r exit s =
-      let answered : spelledAnswer r ≡ spellAnswer text from (length buffer) = ap spelledAnswer s.answers ∙ answer-is in
+  pub spells_into : (r : Spelled) (exit : List ℕ) → spell.SpellsInto text buffer from r exit → SpellsInto text from buffer r exit
+  spells_into r exit s =
+      let answered : spelled_answer r ≡ spell_answer text from (length buffer) = ap spelled_answer s.answers ∙ answer_is in
       record {
         answers = answered;
-        bytes = s.bytes-are ∙ bytes-are;
-        refuses = refused-by (SpellLine text from (length buffer)) (spelledAnswer r) (spellAnswer text from (length buffer)) answered (spell-table text from (length buffer));
+        bytes = s.bytes_are ∙ bytes_are;
+        refuses = refused_by (SpellLine text from (length buffer)) (spelled_answer r) (spell_answer text from (length buffer)) answered (spell_table text from (length buffer));
       }
 
   -- ---- it answers, and a refusal keeps the buffer
 
-  pub spell-answered : (f : Tree) → length text ≤ 1024 → Spells text f → from + length (plain f) ≤ length buffer → SpellAnswers (plain f) text from buffer
-  unfolding spellAnswer spellBytes spelling acceptFilter acceptBuffer
-  spell-answered f short s h =
-      let some_bytes : length text ≡ 0 → ⊥ = (λ z. spells-not-empty f (rw (length-zero text z) at s)) in
+  pub spell_answered : (f : Tree) → length text ≤ 1024 → Spells text f → from + length (plain f) ≤ length buffer → SpellAnswers (plain f) text from buffer
+  unfolding spell_answer spell_bytes spelling accept_filter accept_buffer
+  spell_answered f short s h =
+      let some_bytes : length text ≡ 0 → ⊥ = (λ z. spells_not_empty f (rw (length_zero text z) at s)) in
       let fits : leb (from + length (plain f)) (length buffer) ≡ true = le-leb (from + length (plain f)) (length buffer) h in
       record {
-        counts = rw (ne_eqb (length text) 0 some_bytes, le-ltb 1024 (length text) short, (read-iff text f).1 s, fits);
-        writes = rw (ne_eqb (length text) 0 some_bytes, le-ltb 1024 (length text) short, (read-iff text f).1 s, fits);
+        counts = rw (ne_eqb (length text) 0 some_bytes, le-ltb 1024 (length text) short, (read_iff text f).1 s, fits);
+        writes = rw (ne_eqb (length text) 0 some_bytes, le-ltb 1024 (length text) short, (read_iff text f).1 s, fits);
       }
 
-  pub refusal-keeps-buffer : (n p : ℕ) → spellAnswer text from (length buffer) ≡ refused n p → spellBytes text from buffer ≡ buffer
-  unfolding spellAnswer spellBytes
-  refusal-keeps-buffer n p = go (spelling text from (length buffer))
+  pub refusal_keeps_buffer : (n p : ℕ) → spell_answer text from (length buffer) ≡ refused n p → spell_bytes text from buffer ≡ buffer
+  unfolding spell_answer spell_bytes
+  refusal_keeps_buffer n p = go (spelling text from (length buffer))
     where
-      go : (s : Step (List ℕ)) → answer (s >>= λ w. found (count (length w))) ≡ refused n p → putInto from buffer s ≡ buffer
+      go : (s : Step (List ℕ)) → answer (s >>= λ w. found (count (length w))) ≡ refused n p → put_into from buffer s ≡ buffer
       go (found w) e = absurd (let z : ◌≡◌ {A = ℕ} 0 1 = cc in omega arith)
       go (stop k q) e = refl

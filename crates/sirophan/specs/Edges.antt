@@ -7,8 +7,8 @@ use Rattle.refusal.specs.Answers.{yes, no, refused}
 use Rattle.sirophan.specs.Trial.{Row, row}
 
 -- the card's 512 bytes: the number 10, 11 entries, zeros and the check sum
-unfoldable pub edgeCard : List ℕ
-edgeCard =
+unfoldable pub edge_card : List ℕ
+edge_card =
     (0x43 ∷ 10 ∷ 0 ∷ 0 ∷ 0 ∷ 11 ∷ [])
     ++ (0 ∷ 8 ∷ 0x22 ∷ 0x5c ∷ 0x2f ∷ 0x08 ∷ 0x0c ∷ 0x0a ∷ 0x0d ∷ 0x09 ∷ [])
     ++ (0 ∷ 11 ∷ ascii "Ward book 4")
@@ -25,8 +25,8 @@ edgeCard =
     ++ (85 ∷ 36 ∷ 23 ∷ 0 ∷ [])
 
 -- each rule at its edge: touching spans, half units, each namespace, each escape, each operator's word
-unfoldable pub edgeRows : List Row
-edgeRows =
+unfoldable pub edge_rows : List Row
+edge_rows =
     row (ascii "title eq \"\\\"\\\\\\/\\b\\f\\n\\r\\t\"") yes
     ∷ row (ascii "title eq \"ward BOOK 4\"") yes
     -- 02: "a search for "STRÖM" misses "Ström""
@@ -101,12 +101,12 @@ edgeRows =
     ∷ []
 
 -- a card whose only text is empty, under title: the number 12, one entry, 500 zeros and the check sum
-unfoldable pub emptyCard : List ℕ
-emptyCard = (0x43 ∷ 12 ∷ 0 ∷ 0 ∷ 0 ∷ 1 ∷ []) ++ (0 ∷ 0 ∷ []) ++ replicate 500 0 ++ (97 ∷ 0 ∷ 0 ∷ 0 ∷ [])
+unfoldable pub empty_card : List ℕ
+empty_card = (0x43 ∷ 12 ∷ 0 ∷ 0 ∷ 0 ∷ 1 ∷ []) ++ (0 ∷ 0 ∷ []) ++ replicate 500 0 ++ (97 ∷ 0 ∷ 0 ∷ 0 ∷ [])
 
 -- an empty text is a text: the set is not empty
-unfoldable pub emptyRows : List Row
-emptyRows =
+unfoldable pub empty_rows : List Row
+empty_rows =
     row (ascii "title pr true") yes
     ∷ row (ascii "title pr false") no
     ∷ row (ascii "title eq \"\"") yes

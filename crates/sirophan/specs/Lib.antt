@@ -1,7 +1,7 @@
 -- What spell answers; then what the operations do on every input, and what the promises about them say.
 pub mod Spelling
 pub mod SameQuestion
-pub mod Contracts
+pub mod Operations
 pub mod Trial
 pub mod Edges
 pub mod Searches

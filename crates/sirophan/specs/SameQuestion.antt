@@ -10,8 +10,8 @@ use Rattle.syntax.specs.declared.Connective.{Connective}
 use Rattle.judge.specs.Rules.{Names}
 use Rattle.query.specs.Spelling.{Sign, TextIs, SplitAt, NoPlainBar, Alternative, Query}
 use Rattle.search.specs.Asking.{AskedBy}
-use Rattle.answer.specs.Operations.{checkAnswer, matchAnswer, selectAnswer, selectCells}
-use Rattle.answer.specs.Searching.{checkSearchAnswer, matchSearchAnswer, selectSearchAnswer, selectSearchCells}
+use Rattle.answer.specs.Operations.{check_answer, match_answer, select_answer, select_cells}
+use Rattle.answer.specs.Searching.{check_search_answer, match_search_answer, select_search_answer, select_search_cells}
 
 -- trees joined by a connective, however bracketed
 pub data Joined (c : Connective) : List Tree → Tree → Type 0 where
@@ -53,7 +53,7 @@ pub record SameQuestion (ps : List Parameter) (q : Query) (f : Tree) : Type 0 wh
 
 -- the search string is answered as the filter is
 pub record AnsweredAlike (sheet query text : List ℕ) : Type 0 where
-  pub check : checkSearchAnswer sheet query ≡ checkAnswer sheet text
-  pub match : (card : List ℕ) → matchSearchAnswer sheet query card ≡ matchAnswer sheet text card
-  pub select : (cards : List ℕ) (room : ℕ) → selectSearchAnswer sheet query cards room ≡ selectAnswer sheet text cards room
-  pub cells : (cards list : List ℕ) → selectSearchCells sheet query cards list ≡ selectCells sheet text cards list
+  pub check : check_search_answer sheet query ≡ check_answer sheet text
+  pub match : (card : List ℕ) → match_search_answer sheet query card ≡ match_answer sheet text card
+  pub select : (cards : List ℕ) (room : ℕ) → select_search_answer sheet query cards room ≡ select_answer sheet text cards room
+  pub cells : (cards list : List ℕ) → select_search_cells sheet query cards list ≡ select_cells sheet text cards list

@@ -4,8 +4,8 @@
 use Rattle.std.specs.Prelude.{ℕ, List, [], ◌∷◌, ◌++◌, replicate}
 use Prim.Native.Char.{code}
 use Rattle.base.specs.Ascii.{ascii}
-use Rattle.sheet.specs.Trial.{trialSheet, bundleSheet, staySheet}
-use Rattle.card.specs.Trial.{trialCard, bundleCard, stayCard}
+use Rattle.sheet.specs.Trial.{trial_sheet, bundle_sheet, stay_sheet}
+use Rattle.card.specs.Trial.{trial_card, bundle_card, stay_card}
 use Rattle.refusal.specs.Answers.{Answer, yes, no, refused}
 
 -- a search string, and what match gives on the sheet and the card
@@ -16,8 +16,8 @@ pub record SearchRow : Type 0 where
   pub gives : Answer
 
 -- the card's 512 bytes: the number 11, 9 entries, 450 zeros and the check sum
-unfoldable pub markedCard : List ℕ
-markedCard =
+unfoldable pub marked_card : List ℕ
+marked_card =
     (0x43 ∷ 11 ∷ 0 ∷ 0 ∷ 0 ∷ 9 ∷ [])
     ++ (0 ∷ 3 ∷ ascii "a,b")
     ++ (0 ∷ 2 ∷ ascii "$d")
@@ -33,19 +33,19 @@ markedCard =
 
 -- on each of the sheets and cards
 abbrev pub marked : List ℕ → Answer → SearchRow
-marked query gives = record { sheet = trialSheet; card = markedCard; query = query; gives = gives }
+marked query gives = record { sheet = trial_sheet; card = marked_card; query = query; gives = gives }
 
 abbrev pub trial : List ℕ → Answer → SearchRow
-trial query gives = record { sheet = trialSheet; card = trialCard; query = query; gives = gives }
+trial query gives = record { sheet = trial_sheet; card = trial_card; query = query; gives = gives }
 
 abbrev pub bundles : List ℕ → Answer → SearchRow
-bundles query gives = record { sheet = bundleSheet; card = bundleCard; query = query; gives = gives }
+bundles query gives = record { sheet = bundle_sheet; card = bundle_card; query = query; gives = gives }
 
 abbrev pub stays : List ℕ → Answer → SearchRow
-stays query gives = record { sheet = staySheet; card = stayCard; query = query; gives = gives }
+stays query gives = record { sheet = stay_sheet; card = stay_card; query = query; gives = gives }
 
-unfoldable pub searchRows : List SearchRow
-searchRows =
+unfoldable pub search_rows : List SearchRow
+search_rows =
     -- a comma behind a backslash is plain, another cuts
     marked (ascii "title=a\\,b") yes
     ∷ marked (ascii "title=x,a") yes

@@ -18,8 +18,8 @@ pub record StatesTest (xs : List ℕ) (q : Parameter) (p : Probe) (t : Test) : T
 -- the tree says what the expression says: each test is of the parameter that is listed at its index, a bracket is of that parameter's
 -- bundle, and joins and nots are the expression's
 pub data States (ps : List Parameter) (xs : List ℕ) : Expression → Tree → Type 0 where
-  states-test : {p : Probe} {q : Parameter} {t : Test} → Listed ps p.index q → StatesTest xs q p t → States ps xs (probing p) (test t)
-  states-bracket : {e : Expression} {p : Probe} {j at : ℕ} {q b : Parameter} {n : List ℕ} {f : Tree} {t : Test} → Listed ps p.index q → q.bundle ≡ suc j → Listed ps j b → n ≡ b.name
+  states_test : {p : Probe} {q : Parameter} {t : Test} → Listed ps p.index q → StatesTest xs q p t → States ps xs (probing p) (test t)
+  states_bracket : {e : Expression} {p : Probe} {j at : ℕ} {q b : Parameter} {n : List ℕ} {f : Tree} {t : Test} → Listed ps p.index q → q.bundle ≡ suc j → Listed ps j b → n ≡ b.name
       → StatesTest xs q p t → States ps xs e f → States ps xs (choosing e p) (bracketed at n f t)
-  states-join : {k : Connective} {e f : Expression} {g h : Tree} → States ps xs e g → States ps xs f h → States ps xs (joining k e f) (join k g h)
-  states-not : {e : Expression} {f : Tree} → States ps xs e f → States ps xs (negating e) (negation f)
+  states_join : {k : Connective} {e f : Expression} {g h : Tree} → States ps xs e g → States ps xs f h → States ps xs (joining k e f) (join k g h)
+  states_not : {e : Expression} {f : Tree} → States ps xs e f → States ps xs (negating e) (negation f)

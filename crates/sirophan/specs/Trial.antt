@@ -17,8 +17,8 @@ abbrev pub row : List ℕ → Answer → Row
 row filter gives = record { filter = filter; gives = gives }
 
 -- document 01's trial table, on its sheet and card
-unfoldable pub trialRows : List Row
-trialRows =
+unfoldable pub trial_rows : List Row
+trial_rows =
     row (ascii "title co \"BOOK\"") yes
     ∷ row (ascii "birthdate le 1974-06") yes
     ∷ row (ascii "birthdate lt 1974-06") no
@@ -37,8 +37,8 @@ trialRows =
 
 -- 02's brackets, on the sheet with bundles and card 8; the first two filters are the R4 page's
 
-unfoldable pub bundleRows : List Row
-bundleRows =
+unfoldable pub bundle_rows : List Row
+bundle_rows =
     row (ascii "related[type eq \"has-component\"].target re Observation/4") yes
     ∷ row (ascii "related[type eq \"has-component\"].target pr false") no
     ∷ row (ascii "related[type eq \"derived-from\"].target re Observation/3") no
@@ -60,8 +60,8 @@ bundleRows =
 
 -- 02's periods, on the sheet with periods and card 9: stay is 1974-06/1974, since is 1974/ and until is /1974-06
 
-unfoldable pub stayRows : List Row
-stayRows =
+unfoldable pub stay_rows : List Row
+stay_rows =
     row (ascii "stay eq 1974") yes
     ∷ row (ascii "stay eq 1974-06") no
     ∷ row (ascii "stay co 1974-12") yes
@@ -86,9 +86,9 @@ stayRows =
 -- ---- two filters that show which programs the demand on check and match shuts out
 
 -- a test that has a meaning on every card that conforms to the trial sheet
-unfoldable pub titleTest : Test
-titleTest = record { at = 0; path = name (ascii "title"); operator = co; value = ascii "BOOK" }
+unfoldable pub title_test : Test
+title_test = record { at = 0; path = name (ascii "title"); operator = co; value = ascii "BOOK" }
 
 -- a test that lacks one where there is a code
-unfoldable pub codeTest : Test
-codeTest = record { at = 0; path = name (ascii "code"); operator = gt; value = ascii "5" }
+unfoldable pub code_test : Test
+code_test = record { at = 0; path = name (ascii "code"); operator = gt; value = ascii "5" }

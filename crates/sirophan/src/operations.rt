@@ -1,6 +1,6 @@
 // The operations, with all that is promised of each: the answer of its definition, refused exactly where a line of the table of
 // refusals decides. A slice holds bytes, so that nothing is asked of the caller.
-ghost use Rattle.sirophan.specs.Contracts.{Checks, Matches, SelectsInto, SpellsInto, ChecksSearch, MatchesSearch, SelectsSearchInto, PreparesInto, Judges};
+ghost use Rattle.sirophan.specs.Operations.{Checks, Matches, SelectsInto, SpellsInto, ChecksSearch, MatchesSearch, SelectsSearchInto, PreparesInto, Judges};
 
 use answer::{Checked, Engine, Matched, Prepared, Selected};
 use spell::Spelled;

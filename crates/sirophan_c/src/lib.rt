@@ -1,16 +1,16 @@
 // The operations for C: include/sirophan.h declares them. No enum crosses to C, so a struct of numbers stands for an answer.
 ghost use Rattle.std.specs.Prelude.{◌≡◌, length};
-ghost use Rattle.answer.specs.Operations.{checkAnswer, matchAnswer, selectAnswer, selectCells};
-ghost use Rattle.sirophan.specs.Spelling.{spellAnswer, spellBytes};
-ghost use Rattle.answer.specs.Searching.{checkSearchAnswer, matchSearchAnswer, selectSearchAnswer, selectSearchCells};
-ghost use Rattle.answer.specs.Preparing.{prepareAnswer, prepareCells, judgeAnswer};
-ghost use Rattle.explain.specs.Operation.{explainAnswer, explainCells};
-ghost use Rattle.report.specs.Operation.{reportedAnswer};
-ghost use Rattle.sealing.specs.Sealing.{numberedAnswer, sealAnswer, sealedBytes, recordAnswer};
-ghost use Rattle.answers_c.specs.Answers.{cAnswer};
-ghost use Rattle.sirophan_c.specs.Answers.{cCounts};
-ghost use Rattle.sirophan_c.specs.Contracts.{TellsReport};
-ghost use Rattle.sirophan_c.specs.Engines.{engineOf};
+ghost use Rattle.answer.specs.Operations.{check_answer, match_answer, select_answer, select_cells};
+ghost use Rattle.sirophan.specs.Spelling.{spell_answer, spell_bytes};
+ghost use Rattle.answer.specs.Searching.{check_search_answer, match_search_answer, select_search_answer, select_search_cells};
+ghost use Rattle.answer.specs.Preparing.{prepare_answer, prepare_cells, judge_answer};
+ghost use Rattle.explain.specs.Operation.{explain_answer, explain_cells};
+ghost use Rattle.report.specs.Operation.{reported_answer};
+ghost use Rattle.sealing.specs.Sealing.{numbered_answer, seal_answer, sealed_bytes, record_answer};
+ghost use Rattle.answers_c.specs.Answers.{c_answer};
+ghost use Rattle.sirophan_c.specs.Answers.{c_counts};
+ghost use Rattle.sirophan_c.specs.Operations.{TellsReport};
+ghost use Rattle.sirophan_c.specs.Engines.{engine_of};
 
 use answers_c::{Answer, c_checked, c_matched, c_selected, refused};
 use refusal::number;
@@ -32,7 +32,7 @@ pub struct Counts {
 // How many tests the filter has, or a refusal.
 #[unsafe(no_mangle)]
 pub extern "C" fn sirophan_check(sheet: &[u8], filter: &[u8]) -> Answer
-    ensures { result ≡ cAnswer (checkAnswer sheet.now filter.now) }
+    ensures { result ≡ c_answer (check_answer sheet.now filter.now) }
 {
     let checked = sirophan::check(sheet, filter);
     c_checked(checked)
@@ -41,7 +41,7 @@ pub extern "C" fn sirophan_check(sheet: &[u8], filter: &[u8]) -> Answer
 // Whether the card matches the filter, or a refusal.
 #[unsafe(no_mangle)]
 pub extern "C" fn sirophan_match(sheet: &[u8], filter: &[u8], card: &[u8]) -> Answer
-    ensures { result ≡ cAnswer (matchAnswer sheet.now filter.now card.now) }
+    ensures { result ≡ c_answer (match_answer sheet.now filter.now card.now) }
 {
     let matched = sirophan::match_card(sheet, filter, card);
     c_matched(matched)
@@ -50,7 +50,7 @@ pub extern "C" fn sirophan_match(sheet: &[u8], filter: &[u8], card: &[u8]) -> An
 // The same by the filter's text, without rows.
 #[unsafe(no_mangle)]
 pub extern "C" fn sirophan_match_by_text(sheet: &[u8], filter: &[u8], card: &[u8]) -> Answer
-    ensures { result ≡ cAnswer (matchAnswer sheet.now filter.now card.now) }
+    ensures { result ≡ c_answer (match_answer sheet.now filter.now card.now) }
 {
     let matched = sirophan::match_by_text(sheet, filter, card);
     c_matched(matched)
@@ -64,8 +64,8 @@ pub extern "C" fn sirophan_select(
     cards: &[u8],
     list: &mut [u32],
 ) -> Answer
-    ensures value { result ≡ cAnswer (selectAnswer sheet.now filter.now cards.now (length list.old)) }
-    ensures list_after { list.new ≡ selectCells sheet.now filter.now cards.now list.old }
+    ensures value { result ≡ c_answer (select_answer sheet.now filter.now cards.now (length list.old)) }
+    ensures list_after { list.new ≡ select_cells sheet.now filter.now cards.now list.old }
 {
     let selected = sirophan::select(sheet, filter, cards, list);
     c_selected(selected)
@@ -73,7 +73,7 @@ pub extern "C" fn sirophan_select(
 
 // The engine of a number.
 fn engine_of(number: u32) -> Engine
-    ensures { result ≡ engineOf number }
+    ensures { result ≡ engine_of number }
 {
     if number == 1 {
         return Engine::Text;
@@ -90,8 +90,8 @@ pub extern "C" fn sirophan_select_by(
     cards: &[u8],
     list: &mut [u32],
 ) -> Answer
-    ensures value { result ≡ cAnswer (selectAnswer sheet.now filter.now cards.now (length list.old)) }
-    ensures list_after { list.new ≡ selectCells sheet.now filter.now cards.now list.old }
+    ensures value { result ≡ c_answer (select_answer sheet.now filter.now cards.now (length list.old)) }
+    ensures list_after { list.new ≡ select_cells sheet.now filter.now cards.now list.old }
 {
     let by = engine_of(engine);
     let selected = sirophan::select_by(by, sheet, filter, cards, list);
@@ -101,7 +101,7 @@ pub extern "C" fn sirophan_select_by(
 // How many alternatives the search string has, or a refusal.
 #[unsafe(no_mangle)]
 pub extern "C" fn sirophan_check_search(sheet: &[u8], text: &[u8]) -> Answer
-    ensures { result ≡ cAnswer (checkSearchAnswer sheet.now text.now) }
+    ensures { result ≡ c_answer (check_search_answer sheet.now text.now) }
 {
     let checked = sirophan::check_search(sheet, text);
     c_checked(checked)
@@ -110,7 +110,7 @@ pub extern "C" fn sirophan_check_search(sheet: &[u8], text: &[u8]) -> Answer
 // Whether the card matches the search string, or a refusal.
 #[unsafe(no_mangle)]
 pub extern "C" fn sirophan_match_search(sheet: &[u8], text: &[u8], card: &[u8]) -> Answer
-    ensures { result ≡ cAnswer (matchSearchAnswer sheet.now text.now card.now) }
+    ensures { result ≡ c_answer (match_search_answer sheet.now text.now card.now) }
 {
     let matched = sirophan::match_search(sheet, text, card);
     c_matched(matched)
@@ -124,8 +124,8 @@ pub extern "C" fn sirophan_select_search(
     cards: &[u8],
     list: &mut [u32],
 ) -> Answer
-    ensures value { result ≡ cAnswer (selectSearchAnswer sheet.now text.now cards.now (length list.old)) }
-    ensures list_after { list.new ≡ selectSearchCells sheet.now text.now cards.now list.old }
+    ensures value { result ≡ c_answer (select_search_answer sheet.now text.now cards.now (length list.old)) }
+    ensures list_after { list.new ≡ select_search_cells sheet.now text.now cards.now list.old }
 {
     let selected = sirophan::select_search(sheet, text, cards, list);
     c_selected(selected)
@@ -134,8 +134,8 @@ pub extern "C" fn sirophan_select_search(
 // The length of the filter's plain spelling, which stands in the buffer from the place on, or a refusal.
 #[unsafe(no_mangle)]
 pub extern "C" fn sirophan_spell(filter: &[u8], buffer: &mut [u8], from: usize) -> Answer
-    ensures value { result ≡ cAnswer (spellAnswer filter.now from (length buffer.old)) }
-    ensures buffer_after { buffer.new ≡ spellBytes filter.now from buffer.old }
+    ensures value { result ≡ c_answer (spell_answer filter.now from (length buffer.old)) }
+    ensures buffer_after { buffer.new ≡ spell_bytes filter.now from buffer.old }
 {
     let spelled = sirophan::spell(filter, buffer, from);
     match spelled {
@@ -150,8 +150,8 @@ pub extern "C" fn sirophan_spell(filter: &[u8], buffer: &mut [u8], from: usize) 
 // How many cells the rows of the filter fill, with the rows in the list from its first cell on, or a refusal.
 #[unsafe(no_mangle)]
 pub extern "C" fn sirophan_prepare(sheet: &[u8], filter: &[u8], list: &mut [u32]) -> Answer
-    ensures value { result ≡ cAnswer (prepareAnswer sheet.now filter.now (length list.old)) }
-    ensures list_after { list.new ≡ prepareCells sheet.now filter.now list.old }
+    ensures value { result ≡ c_answer (prepare_answer sheet.now filter.now (length list.old)) }
+    ensures list_after { list.new ≡ prepare_cells sheet.now filter.now list.old }
 {
     let prepared = sirophan::prepare(sheet, filter, list);
     match prepared {
@@ -166,7 +166,7 @@ pub extern "C" fn sirophan_prepare(sheet: &[u8], filter: &[u8], list: &mut [u32]
 // Whether the card matches what the rows state, or a refusal.
 #[unsafe(no_mangle)]
 pub extern "C" fn sirophan_judge(sheet: &[u8], filter: &[u8], rows: &[u32], card: &[u8]) -> Answer
-    ensures { result ≡ cAnswer (judgeAnswer sheet.now filter.now rows.now card.now) }
+    ensures { result ≡ c_answer (judge_answer sheet.now filter.now rows.now card.now) }
 {
     let judged = sirophan::judge(sheet, filter, rows, card);
     c_matched(judged)
@@ -180,8 +180,8 @@ pub extern "C" fn sirophan_explain(
     card: &[u8],
     cells: &mut [u8],
 ) -> Answer
-    ensures value { result ≡ cAnswer (explainAnswer sheet.now filter.now card.now (length cells.old)) }
-    ensures cells_after { cells.new ≡ explainCells sheet.now filter.now card.now cells.old }
+    ensures value { result ≡ c_answer (explain_answer sheet.now filter.now card.now (length cells.old)) }
+    ensures cells_after { cells.new ≡ explain_cells sheet.now filter.now card.now cells.old }
 {
     let explained = explain::explain(sheet, filter, card, cells);
     c_matched(explained)
@@ -189,7 +189,7 @@ pub extern "C" fn sirophan_explain(
 
 // A report's answer in numbers.
 fn c_reported(reported: Reported) -> Counts
-    ensures { result ≡ cCounts (reportedAnswer reported) }
+    ensures { result ≡ c_counts (reported_answer reported) }
 {
     match reported {
         Reported::Counts(yes, no) => Counts {
@@ -226,7 +226,7 @@ pub extern "C" fn sirophan_report(
 
 // A block's number in numbers.
 fn c_numbered(numbered: Numbered) -> Answer
-    ensures { result ≡ cAnswer (numberedAnswer numbered) }
+    ensures { result ≡ c_answer (numbered_answer numbered) }
 {
     match numbered {
         Numbered::Number(number) => Answer {
@@ -240,8 +240,8 @@ fn c_numbered(numbered: Numbered) -> Answer
 // The check sum of the block, which stands in its last four bytes, or a refusal.
 #[unsafe(no_mangle)]
 pub extern "C" fn sirophan_seal(block: &mut [u8]) -> Answer
-    ensures value { result ≡ cAnswer (sealAnswer block.old) }
-    ensures block_after { block.new ≡ sealedBytes block.old }
+    ensures value { result ≡ c_answer (seal_answer block.old) }
+    ensures block_after { block.new ≡ sealed_bytes block.old }
 {
     let sealed = sealing::seal(block);
     c_numbered(sealed)
@@ -250,7 +250,7 @@ pub extern "C" fn sirophan_seal(block: &mut [u8]) -> Answer
 // The record number of the card, or a refusal.
 #[unsafe(no_mangle)]
 pub extern "C" fn sirophan_record(card: &[u8]) -> Answer
-    ensures { result ≡ cAnswer (recordAnswer card.now) }
+    ensures { result ≡ c_answer (record_answer card.now) }
 {
     let numbered = sealing::record(card);
     c_numbered(numbered)

@@ -8,84 +8,84 @@ use lib.ListN.{length}
 use Rattle.base.specs.Ascii.{ascii}
 use Rattle.syntax.specs.declared.Connective.{Connective}
 use Rattle.syntax.specs.declared.RawTest.{RawTest}
-use Rattle.plain.specs.Plain.{connectiveText}
+use Rattle.plain.specs.Plain.{connective_text}
 use Rattle.base.specs.Writing.{Room, Puts}
-use Rattle.plain.specs.Writing.{testText}
-use Rattle.spell.specs.Walks.{choiceText, memberText}
-use Rattle.base.proofs.Writing.{lent, back, Wrote, wrote-end, first-room, first-within, last-room, last-wrote}
+use Rattle.plain.specs.Writing.{test_text}
+use Rattle.spell.specs.Walks.{choice_text, member_text}
+use Rattle.base.proofs.Writing.{lent, back, Wrote, wrote_end, first_room, first-within, last_room, last_wrote}
 
 -- ---- a name and "["
 
-module _ (n out : List ℕ) (h : Room (choiceText n) out) where
-  choice-parts : Room (n ++ ascii "[") out
-  unfolding choiceText
-  choice-parts = h
+module _ (n out : List ℕ) (h : Room (choice_text n) out) where
+  choice_parts : Room (n ++ ascii "[") out
+  unfolding choice_text
+  choice_parts = h
 
-  pub bundle-room : Room n out
-  bundle-room = first-room n (ascii "[") out choice-parts
+  pub bundle_room : Room n out
+  bundle_room = first_room n (ascii "[") out choice_parts
 
   module _ {out₁ : List ℕ} {k : ℕ} (p : Puts n out out₁ k) where
     pub bundle-within : k ≤ length out₁
-    bundle-within = first-within n (ascii "[") out choice-parts p
+    bundle-within = first-within n (ascii "[") out choice_parts p
 
-    pub square-room : Room (ascii "[") (lent out₁ k)
-    square-room = last-room n (ascii "[") out choice-parts p
+    pub square_room : Room (ascii "[") (lent out₁ k)
+    square_room = last_room n (ascii "[") out choice_parts p
 
     module _ {exit : List ℕ} {m : ℕ} (q : Puts (ascii "[") (lent out₁ k) exit m) where
-      choice-wrote : Wrote (choiceText n) [] out (back out₁ k exit) (k + m)
-      unfolding choiceText
-      choice-wrote = last-wrote n (ascii "[") out choice-parts p q
+      choice_wrote : Wrote (choice_text n) [] out (back out₁ k exit) (k + m)
+      unfolding choice_text
+      choice_wrote = last_wrote n (ascii "[") out choice_parts p q
 
-      pub choice-long : length (back out₁ k exit) ≡ length out
-      choice-long = choice-wrote.long
+      pub choice_long : length (back out₁ k exit) ≡ length out
+      choice_long = choice_wrote.long
 
-      pub choice-puts : Puts (choiceText n) out (back out₁ k exit) (k + m)
-      choice-puts = wrote-end choice-wrote refl
+      pub choice_puts : Puts (choice_text n) out (back out₁ k exit) (k + m)
+      choice_puts = wrote_end choice_wrote refl
 
 -- ---- "]." and a test
 
-module _ (xs : List ℕ) (t : RawTest) (out : List ℕ) (h : Room (memberText xs t) out) where
-  member-parts : Room (ascii "]." ++ testText xs t) out
-  unfolding memberText
-  member-parts = h
+module _ (xs : List ℕ) (t : RawTest) (out : List ℕ) (h : Room (member_text xs t) out) where
+  member_parts : Room (ascii "]." ++ test_text xs t) out
+  unfolding member_text
+  member_parts = h
 
-  pub dot-room : Room (ascii "].") out
-  dot-room = first-room (ascii "].") (testText xs t) out member-parts
+  pub dot_room : Room (ascii "].") out
+  dot_room = first_room (ascii "].") (test_text xs t) out member_parts
 
   module _ {out₁ : List ℕ} {k : ℕ} (p : Puts (ascii "].") out out₁ k) where
-    pub dot-within : k ≤ length out₁
-    dot-within = first-within (ascii "].") (testText xs t) out member-parts p
+    pub dot_within : k ≤ length out₁
+    dot_within = first-within (ascii "].") (test_text xs t) out member_parts p
 
-    pub member-room : Room (testText xs t) (lent out₁ k)
-    member-room = last-room (ascii "].") (testText xs t) out member-parts p
+    pub member_room : Room (test_text xs t) (lent out₁ k)
+    member_room = last_room (ascii "].") (test_text xs t) out member_parts p
 
-    module _ {exit : List ℕ} {m : ℕ} (q : Puts (testText xs t) (lent out₁ k) exit m) where
-      member-wrote : Wrote (memberText xs t) [] out (back out₁ k exit) (k + m)
-      unfolding memberText
-      member-wrote = last-wrote (ascii "].") (testText xs t) out member-parts p q
+    module _ {exit : List ℕ} {m : ℕ} (q : Puts (test_text xs t) (lent out₁ k) exit m) where
+      member_wrote : Wrote (member_text xs t) [] out (back out₁ k exit) (k + m)
+      unfolding member_text
+      member_wrote = last_wrote (ascii "].") (test_text xs t) out member_parts p q
 
       pub member-within : k + m ≤ length out
-      member-within = omega (arith, member-wrote.within, member-wrote.long)
+      member-within = omega (arith, member_wrote.within, member_wrote.long)
 
-      pub member-long : length (back out₁ k exit) ≡ length out
-      member-long = member-wrote.long
+      pub member_long : length (back out₁ k exit) ≡ length out
+      member_long = member_wrote.long
 
-      pub member-puts : Puts (memberText xs t) out (back out₁ k exit) (k + m)
-      member-puts = wrote-end member-wrote refl
+      pub member_puts : Puts (member_text xs t) out (back out₁ k exit) (k + m)
+      member_puts = wrote_end member_wrote refl
 
 -- ---- a connective
 
 module _ (a : Connective) where
   module _ (e : a ≡ Connective.And) where
-    pub and-room : {out : List ℕ} → Room (connectiveText a) out → Room (ascii " and ") out
-    and-room h = rw e at h
+    pub and_room : {out : List ℕ} → Room (connective_text a) out → Room (ascii " and ") out
+    and_room h = rw e at h
 
-    pub and-puts : {out exit : List ℕ} {n : ℕ} → Puts (ascii " and ") out exit n → Puts (connectiveText a) out exit n
-    and-puts p = rw e p
+    pub and_puts : {out exit : List ℕ} {n : ℕ} → Puts (ascii " and ") out exit n → Puts (connective_text a) out exit n
+    and_puts p = rw e p
 
   module _ (e : a ≡ Connective.Or) where
-    pub or-room : {out : List ℕ} → Room (connectiveText a) out → Room (ascii " or ") out
-    or-room h = rw e at h
+    pub or_room : {out : List ℕ} → Room (connective_text a) out → Room (ascii " or ") out
+    or_room h = rw e at h
 
-    pub or_puts : {out exit : List ℕ} {n : ℕ} → Puts (ascii " or ") out exit n → Puts (connectiveText a) out exit n
+    pub or_puts : {out exit : List ℕ} {n : ℕ} → Puts (ascii " or ") out exit n → Puts (connective_text a) out exit n
     or_puts p = rw e p

@@ -1,7 +1,7 @@
 -- Spelling a text: a filter is measured and then written where there is room; what is no filter is answered by its failure.
 -- The laws follow the operation: a text of the wrong size; a text that is no filter, for which crate place has the refusal; else a filter.
--- Its plain spelling is no longer than the text (`never-longer`), so a buffer of 1,024 bytes has room to measure it. It is then written
--- into the caller's part where that has room (`place-text`), and else it is refused, with the length as the place (`too_long`). Both times
+-- Its plain spelling is no longer than the text (`never_longer`), so a buffer of 1,024 bytes has room to measure it. It is then written
+-- into the caller's part where that has room (`place_text`), and else it is refused, with the length as the place (`too_long`). Both times
 -- the spelling of the one tree that the reader gives is written (`TextSpelt`), so the length measured is that of what is written then.
 -- Assumes nothing.
 use Prim.Native.Nat.{ℕ, ◌+◌, ◌-◌, ◌≤◌, ◌<◌}
@@ -17,92 +17,92 @@ use borrow.Author.Tests.{eq-eqb, ne_eqb, lt-ltb, le-ltb, le-leb, lt-leb, leb-tru
 use Rattle.base.specs.Runs.{RunEnd}
 use Rattle.base.proofs.Tests.{same_test}
 use Rattle.syntax.specs.Tree.{Tree}
-use Rattle.syntax.specs.Grammar.{Spells, round, deepest, mostTests}
-use Rattle.syntax.specs.Scan.{isSpace, skipAt}
-use Rattle.syntax.specs.Reader.{Parsed, parsed, unparsed, filterAt, whole, read}
-use Rattle.syntax.proofs.Whole.{whole-kept}
-use Rattle.syntax.proofs.Spelling.{read-iff}
+use Rattle.syntax.specs.Grammar.{Spells, round, deepest, most_tests}
+use Rattle.syntax.specs.Scan.{is_space, skip_at}
+use Rattle.syntax.specs.Reader.{Parsed, parsed, unparsed, filter_at, whole, read}
+use Rattle.syntax.proofs.Whole.{whole_kept}
+use Rattle.syntax.proofs.Spelling.{read_iff}
 use Rattle.place.specs.Machine.{found}
 use Rattle.refusal.specs.declared.Reason.{Reason}
 use Rattle.refusal.specs.declared.Refusal.{Refusal}
 use Rattle.place.specs.declared.Found.{Found}
-use Rattle.place.proofs.Whole.{found-filter, found-failed}
+use Rattle.place.proofs.Whole.{found_filter, found_failed}
 use Rattle.plain.specs.Plain.{plain}
 use Rattle.spell.specs.Walks.{RoomFor, Spelt}
-use Rattle.spell.specs.Spelling.{wrongSize, placed, outcome, put, bytes, SpellsInto, IsFilter, TextRoom, TextSpelt, TextLength, PlacedInto}
+use Rattle.spell.specs.Spelling.{wrong_size, placed, outcome, put, bytes, SpellsInto, IsFilter, TextRoom, TextSpelt, TextLength, PlacedInto}
 use Rattle.spell.specs.declared.Written.{Written}
 use Rattle.spell.specs.declared.Spelled.{Spelled}
-use Rattle.plain.proofs.Length.{never-longer}
+use Rattle.plain.proofs.Length.{never_longer}
 use Rattle.base.proofs.Writing.{lent, back}
-use Rattle.spell.proofs.Walking.{same-tree}
+use Rattle.spell.proofs.Walking.{same_tree}
 
 -- ---- the text's filter, from its first byte that is no space
 
-read-parsed : (xs : List ℕ) (f : Tree) → read xs ≡ some f → (q : ℕ) × (filterAt deepest xs round (skipAt xs 0) ≡ parsed q f)
+read_parsed : (xs : List ℕ) (f : Tree) → read xs ≡ some f → (q : ℕ) × (filter_at deepest xs round (skip_at xs 0) ≡ parsed q f)
 unfolding read
-read-parsed xs f e = go (filterAt deepest xs round (skipAt xs 0)) refl e
+read_parsed xs f e = go (filter_at deepest xs round (skip_at xs 0)) refl e
   where
-    go : (r : Parsed) → filterAt deepest xs round (skipAt xs 0) ≡ r → whole xs r ≡ some f → (q : ℕ) × (filterAt deepest xs round (skipAt xs 0) ≡ parsed q f)
-    go (parsed q g) k h = (q, k ∙ ap (parsed q) (whole-kept xs q g f h).same)
+    go : (r : Parsed) → filter_at deepest xs round (skip_at xs 0) ≡ r → whole xs r ≡ some f → (q : ℕ) × (filter_at deepest xs round (skip_at xs 0) ≡ parsed q f)
+    go (parsed q g) k h = (q, k ∙ ap (parsed q) (whole_kept xs q g f h).same)
     go unparsed k h = absurd (none-ne-some _ h)
 
-module _ (xs : List ℕ) (p : ℕ) (s : RunEnd isSpace xs 0 p) where
-  here : filterAt deepest xs round p ≡ filterAt deepest xs round (skipAt xs 0)
-  here = ap (filterAt deepest xs round) s.is
+module _ (xs : List ℕ) (p : ℕ) (s : RunEnd is_space xs 0 p) where
+  here : filter_at deepest xs round p ≡ filter_at deepest xs round (skip_at xs 0)
+  here = ap (filter_at deepest xs round) s.is
 
   module _ (out : List ℕ) (r : TextRoom xs out) where
-    pub text-room : RoomFor plain (filterAt deepest xs round p) out
-    text-room = let q = read-parsed xs r.tree r.reads in record { end = q.0; tree = r.tree; reads = here ∙ q.1; room = r.room }
+    pub text_room : RoomFor plain (filter_at deepest xs round p) out
+    text_room = let q = read_parsed xs r.tree r.reads in record { end = q.0; tree = r.tree; reads = here ∙ q.1; room = r.room }
 
-    pub text-spelt : {exit : List ℕ} {w : Written} → Spelt plain (filterAt deepest xs round p) out exit w → TextSpelt xs out exit w.length
-    text-spelt t =
-        let q = read-parsed xs r.tree r.reads in
-        let e : r.tree ≡ t.tree = same-tree (sym q.1 ∙ sym here ∙ t.reads) in
+    pub text_spelt : {exit : List ℕ} {w : Written} → Spelt plain (filter_at deepest xs round p) out exit w → TextSpelt xs out exit w.length
+    text_spelt t =
+        let q = read_parsed xs r.tree r.reads in
+        let e : r.tree ≡ t.tree = same_tree (sym q.1 ∙ sym here ∙ t.reads) in
         record { tree = t.tree; reads = r.reads ∙ ap some e; puts = t.puts }
 
 -- ---- measuring
 
 module _ (xs out : List ℕ) (l : length xs ≤ 1024) (f : IsFilter xs) (n : length out ≡ 1024) where
-  pub measure-room : TextRoom xs out
-  measure-room = record { tree = f.tree; reads = f.reads; room = record { fits = omega (arith, never-longer xs f.tree ((read-iff xs f.tree).0 f.reads)) } }
+  pub measure_room : TextRoom xs out
+  measure_room = record { tree = f.tree; reads = f.reads; room = record { fits = omega (arith, never_longer xs f.tree ((read_iff xs f.tree).0 f.reads)) } }
 
-pub measure-long : (xs out exit : List ℕ) (n : ℕ) → TextSpelt xs out exit n → TextLength xs n
-measure-long xs out exit n s = record { tree = s.tree; reads = s.reads; long = s.puts.long }
+pub measure_long : (xs out exit : List ℕ) (n : ℕ) → TextSpelt xs out exit n → TextLength xs n
+measure_long xs out exit n s = record { tree = s.tree; reads = s.reads; long = s.puts.long }
 
 -- ---- placing
 
-pub room-past : (size from n : ℕ) → size < from → false ≡ leb (from + n) size
-room-past size from n h = sym (lt-leb (from + n) size (omega arith))
+pub room_past : (size from n : ℕ) → size < from → false ≡ leb (from + n) size
+room_past size from n h = sym (lt-leb (from + n) size (omega arith))
 
-pub room-left : (size from n : ℕ) → from ≤ size → leb n (size - from) ≡ leb (from + n) size
-room-left size from n h = same_test (leb n (size - from)) (leb (from + n) size) (λ k. le-leb (from + n) size (omega (arith, leb-true n (size - from) k))) (λ k. le-leb n (size - from) (omega (arith, leb-true (from + n) size k)))
+pub room_left : (size from n : ℕ) → from ≤ size → leb n (size - from) ≡ leb (from + n) size
+room_left size from n h = same_test (leb n (size - from)) (leb (from + n) size) (λ k. le-leb (from + n) size (omega (arith, leb-true n (size - from) k))) (λ k. le-leb n (size - from) (omega (arith, leb-true (from + n) size k)))
 
 module _ (xs buffer : List ℕ) (from n : ℕ) (t : TextLength xs n) where
   too_long : length buffer < from + n → PlacedInto xs buffer from (Spelled.Refused (record { reason = Reason.ShortBuffer; place = n })) buffer
   unfolding placed put
   too_long h =
       let z : leb (from + length (plain t.tree)) (length buffer) ≡ false = lt-leb (from + length (plain t.tree)) (length buffer) (omega (arith, t.long)) in
-      record { tree = t.tree; reads = t.reads; answers = rw (z, t.long); bytes-are = rw z }
+      record { tree = t.tree; reads = t.reads; answers = rw (z, t.long); bytes_are = rw z }
 
-  pub place-past : (r : Bool) → r ≡ leb (from + n) (length buffer) → r ≡ false → PlacedInto xs buffer from (Spelled.Refused (record { reason = Reason.ShortBuffer; place = n })) buffer
-  place-past r e h = too_long (leb-false (from + n) (length buffer) (sym e ∙ h))
+  pub place_past : (r : Bool) → r ≡ leb (from + n) (length buffer) → r ≡ false → PlacedInto xs buffer from (Spelled.Refused (record { reason = Reason.ShortBuffer; place = n })) buffer
+  place_past r e h = too_long (leb-false (from + n) (length buffer) (sym e ∙ h))
 
   module _ (r : Bool) (e : r ≡ leb (from + n) (length buffer)) (g : r ≡ true) where
     room : from + n ≤ length buffer
     room = leb-true (from + n) (length buffer) (sym e ∙ g)
 
-    pub place-within : from ≤ length buffer
-    place-within = omega (arith, room)
+    pub place_within : from ≤ length buffer
+    place_within = omega (arith, room)
 
-    lent-long : length (lent buffer from) ≡ length buffer - from
-    lent-long = ap length (take_all (length buffer - from) (drop from buffer) (omega (arith, length-drop from buffer))) ∙ length-drop from buffer
+    lent_long : length (lent buffer from) ≡ length buffer - from
+    lent_long = ap length (take_all (length buffer - from) (drop from buffer) (omega (arith, length-drop from buffer))) ∙ length-drop from buffer
 
-    pub place-room : TextRoom xs (lent buffer from)
-    place-room = record { tree = t.tree; reads = t.reads; room = record { fits = omega (arith, lent-long, room, t.long) } }
+    pub place_room : TextRoom xs (lent buffer from)
+    place_room = record { tree = t.tree; reads = t.reads; room = record { fits = omega (arith, lent_long, room, t.long) } }
 
-    pub place-text : {exit : List ℕ} {m : ℕ} → TextSpelt xs (lent buffer from) exit m → PlacedInto xs buffer from (Spelled.Length m) (back buffer from exit)
+    pub place_text : {exit : List ℕ} {m : ℕ} → TextSpelt xs (lent buffer from) exit m → PlacedInto xs buffer from (Spelled.Length m) (back buffer from exit)
     unfolding placed put
-    place-text {exit} {m} s =
+    place_text {exit} {m} s =
         let same : t.tree ≡ s.tree = some-injective _ _ (sym t.reads ∙ s.reads) in
         let long : m ≡ length (plain s.tree) = s.puts.long in
         let fits : from + length (plain s.tree) ≤ length buffer = omega (arith, room, t.long, ap (λ (x : Tree). length (plain x)) same) in
@@ -114,42 +114,42 @@ module _ (xs buffer : List ℕ) (from n : ℕ) (t : TextLength xs n) where
           tree = s.tree;
           reads = s.reads;
           answers = rw (z, long);
-          bytes-are = rw (z, none_after, append-nil, s.puts.bytes, rest);
+          bytes_are = rw (z, none_after, append-nil, s.puts.bytes, rest);
         }
 
 -- ---- the whole
 
 module _ (text buffer : List ℕ) (from : ℕ) where
-  wrong_size : (eqb (length text) 0 || ltb 1024 (length text)) ≡ true → SpellsInto text buffer from wrongSize buffer
+  wrong_size_lem : (eqb (length text) 0 || ltb 1024 (length text)) ≡ true → SpellsInto text buffer from wrong_size buffer
   unfolding outcome bytes
-  wrong_size e = record { answers = rw e; bytes-are = rw e }
+  wrong_size_lem e = record { answers = rw e; bytes_are = rw e }
 
-  pub spell-empty : length text ≡ 0 → SpellsInto text buffer from wrongSize buffer
-  spell-empty h = wrong_size (rw (eq-eqb (length text) 0 h))
+  pub spell_empty : length text ≡ 0 → SpellsInto text buffer from wrong_size buffer
+  spell_empty h = wrong_size_lem (rw (eq-eqb (length text) 0 h))
 
   module _ (n : length text ≡ 0 → ⊥) where
-    pub spell-over : 1024 < length text → SpellsInto text buffer from wrongSize buffer
-    spell-over h = wrong_size (rw (ne_eqb (length text) 0 n, lt-ltb 1024 (length text) h))
+    pub spell_over : 1024 < length text → SpellsInto text buffer from wrong_size buffer
+    spell_over h = wrong_size_lem (rw (ne_eqb (length text) 0 n, lt-ltb 1024 (length text) h))
 
     module _ (l : length text ≤ 1024) where
-      right-size : (eqb (length text) 0 || ltb 1024 (length text)) ≡ false
-      right-size = rw (ne_eqb (length text) 0 n, le-ltb 1024 (length text) l)
+      right_size : (eqb (length text) 0 || ltb 1024 (length text)) ≡ false
+      right_size = rw (ne_eqb (length text) 0 n, le-ltb 1024 (length text) l)
 
-      module _ (r : Found) (e : r ≡ found deepest mostTests text) where
-        pub spell-failed : (p : Refusal) → r ≡ Found.Failed p → SpellsInto text buffer from (Spelled.Refused p) buffer
+      module _ (r : Found) (e : r ≡ found deepest most_tests text) where
+        pub spell_failed : (p : Refusal) → r ≡ Found.Failed p → SpellsInto text buffer from (Spelled.Refused p) buffer
         unfolding outcome bytes
-        spell-failed p h =
-            let w = found-failed text r e p h in
-            let m : read text ≡ none = not-read (read text) refl w.0 in
-            record { answers = rw (right-size, m) (ap (λ (x : Refusal). Spelled.Refused x) w.1); bytes-are = rw (right-size, m) }
+        spell_failed p h =
+            let w = found_failed text r e p h in
+            let m : read text ≡ none = not_read (read text) refl w.0 in
+            record { answers = rw (right_size, m) (ap (λ (x : Refusal). Spelled.Refused x) w.1); bytes_are = rw (right_size, m) }
           where
-            not-read : (o : Option Tree) → read text ≡ o → ((f : Tree) → Spells text f → ⊥) → read text ≡ none
-            not-read (some f) k z = absurd (z f ((read-iff text f).0 k))
-            not-read none k z = k
+            not_read : (o : Option Tree) → read text ≡ o → ((f : Tree) → Spells text f → ⊥) → read text ≡ none
+            not_read (some f) k z = absurd (z f ((read_iff text f).0 k))
+            not_read none k z = k
 
-      pub spell-placed : {o : Spelled} {exit : List ℕ} → PlacedInto text buffer from o exit → SpellsInto text buffer from o exit
+      pub spell_placed : {o : Spelled} {exit : List ℕ} → PlacedInto text buffer from o exit → SpellsInto text buffer from o exit
       unfolding outcome bytes
-      spell-placed p = record { answers = p.answers ∙ rw (right-size, p.reads); bytes-are = p.bytes-are ∙ rw (right-size, p.reads) }
+      spell_placed p = record { answers = p.answers ∙ rw (right_size, p.reads); bytes_are = p.bytes_are ∙ rw (right_size, p.reads) }
 
-pub found-is : (text : List ℕ) (r : Found) → r ≡ found deepest mostTests text → r ≡ Found.Filter → IsFilter text
-found-is text r e h = let s = found-filter text r e h in record { tree = s.0; reads = (read-iff text s.0).1 s.1 }
+pub found_is : (text : List ℕ) (r : Found) → r ≡ found deepest most_tests text → r ≡ Found.Filter → IsFilter text
+found_is text r e h = let s = found_filter text r e h in record { tree = s.0; reads = (read_iff text s.0).1 s.1 }

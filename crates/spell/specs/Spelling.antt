@@ -3,7 +3,7 @@
 use Rattle.std.specs.Prelude.{ℕ, ◌+◌, ◌≡◌, cond, ◌||◌, List, ◌++◌, eqb, leb, ltb, length, take, drop}
 use Rattle.std.proofs.Math.Option.{Option, none, some}
 use Rattle.syntax.specs.Tree.{Tree}
-use Rattle.syntax.specs.Grammar.{deepest, mostTests}
+use Rattle.syntax.specs.Grammar.{deepest, most_tests}
 use Rattle.syntax.specs.Reader.{read}
 use Rattle.refusal.specs.declared.Reason.{Reason}
 use Rattle.place.specs.Machine.{failure}
@@ -15,31 +15,31 @@ use Rattle.spell.specs.declared.Spelled.{Spelled}
 unfoldable pub placed : List ℕ → (from room : ℕ) → Spelled
 placed w from room = cond (leb (from + length w) room) (Spelled.Length (length w)) (Spelled.Refused (record { reason = Reason.ShortBuffer; place = length w }))
 
-abbrev pub wrongSize : Spelled
-wrongSize = Spelled.Refused (record { reason = Reason.FilterSize; place = 0 })
+abbrev pub wrong_size : Spelled
+wrong_size = Spelled.Refused (record { reason = Reason.FilterSize; place = 0 })
 
-abbrev pub treeOutcome : List ℕ → (from room : ℕ) → Option Tree → Spelled
-treeOutcome text from room (some f) = placed (plain f) from room
-treeOutcome text from room none = Spelled.Refused (failure deepest mostTests text)
+abbrev pub tree_outcome : List ℕ → (from room : ℕ) → Option Tree → Spelled
+tree_outcome text from room (some f) = placed (plain f) from room
+tree_outcome text from room none = Spelled.Refused (failure deepest most_tests text)
 
 unfoldable pub outcome : List ℕ → (from room : ℕ) → Spelled
-outcome text from room = cond (eqb (length text) 0 || ltb 1024 (length text)) wrongSize (treeOutcome text from room (read text))
+outcome text from room = cond (eqb (length text) 0 || ltb 1024 (length text)) wrong_size (tree_outcome text from room (read text))
 
 -- "the text is put into the buffer from the place the caller names, .. and all other bytes stay"; "buffer as given" where it has no room
 unfoldable pub put : List ℕ → ℕ → List ℕ → List ℕ
 put w from buffer = cond (leb (from + length w) (length buffer)) (take from buffer ++ (w ++ drop (from + length w) buffer)) buffer
 
-abbrev pub treeBytes : ℕ → List ℕ → Option Tree → List ℕ
-treeBytes from buffer (some f) = put (plain f) from buffer
-treeBytes from buffer none = buffer
+abbrev pub tree_bytes : ℕ → List ℕ → Option Tree → List ℕ
+tree_bytes from buffer (some f) = put (plain f) from buffer
+tree_bytes from buffer none = buffer
 
 unfoldable pub bytes : List ℕ → ℕ → List ℕ → List ℕ
-bytes text from buffer = cond (eqb (length text) 0 || ltb 1024 (length text)) buffer (treeBytes from buffer (read text))
+bytes text from buffer = cond (eqb (length text) 0 || ltb 1024 (length text)) buffer (tree_bytes from buffer (read text))
 
 -- what spelling does on every input
 pub record SpellsInto (text buffer : List ℕ) (from : ℕ) (r : Spelled) (exit : List ℕ) : Type 0 where
   pub answers : r ≡ outcome text from (length buffer)
-  pub bytes-are : exit ≡ bytes text from buffer
+  pub bytes_are : exit ≡ bytes text from buffer
 
 -- ---- the parts, for a text that is a filter
 
@@ -67,4 +67,4 @@ pub record PlacedInto (text buffer : List ℕ) (from : ℕ) (r : Spelled) (exit 
   pub tree : Tree
   pub reads : read text ≡ some tree
   pub answers : r ≡ placed (plain tree) from (length buffer)
-  pub bytes-are : exit ≡ put (plain tree) from buffer
+  pub bytes_are : exit ≡ put (plain tree) from buffer

@@ -6,9 +6,9 @@ use Rattle.syntax.specs.Tree.{Tree}
 use Rattle.syntax.specs.Reader.{Parsed, parsed}
 use Rattle.syntax.specs.declared.Connective.{Connective}
 use Rattle.syntax.specs.declared.RawTest.{RawTest}
-use Rattle.plain.specs.Plain.{connectiveText, isJoin, operand}
+use Rattle.plain.specs.Plain.{connective_text, is_join, operand}
 use Rattle.base.specs.Writing.{Room, Puts}
-use Rattle.plain.specs.Writing.{testText}
+use Rattle.plain.specs.Writing.{test_text}
 use Rattle.spell.specs.declared.Written.{Written}
 
 -- a tree was parsed, and the part has room for its text
@@ -23,15 +23,15 @@ pub record Spelt (text : Tree → List ℕ) (g : Parsed) (part exit : List ℕ) 
   pub tree : Tree
   pub reads : g ≡ parsed w.end tree
   pub puts : Puts (text tree) part exit w.length
-  pub join : w.join ≡ isJoin tree
+  pub join : w.join ≡ is_join tree
 
 -- a connective and what stands after it
 unfoldable pub joined : Connective → Tree → List ℕ
-joined c f = connectiveText c ++ operand f
+joined c f = connective_text c ++ operand f
 
 -- a name and the bracket after it; and what stands after a filter in square brackets
-unfoldable pub choiceText : List ℕ → List ℕ
-choiceText n = n ++ ascii "["
+unfoldable pub choice_text : List ℕ → List ℕ
+choice_text n = n ++ ascii "["
 
-unfoldable pub memberText : List ℕ → RawTest → List ℕ
-memberText xs t = ascii "]." ++ testText xs t
+unfoldable pub member_text : List ℕ → RawTest → List ℕ
+member_text xs t = ascii "]." ++ test_text xs t

@@ -2,10 +2,10 @@
 // that is known to be a filter.
 ghost use Rattle.std.specs.Prelude.{true, false, ◌≤◌, ◌<◌, length};
 ghost use Rattle.syntax.specs.Placed.{Placed};
-ghost use Rattle.syntax.specs.Reader.{item_at, filterAt, bracketAt, chosenAt};
-ghost use Rattle.plain.specs.Plain.{connectiveText, plain, operand};
+ghost use Rattle.syntax.specs.Reader.{item_at, filter_at, bracket_at, chosen_at};
+ghost use Rattle.plain.specs.Plain.{connective_text, plain, operand};
 ghost use Rattle.base.specs.Writing.{Room, Puts};
-ghost use Rattle.spell.specs.Walks.{RoomFor, Spelt, joined, choiceText, memberText};
+ghost use Rattle.spell.specs.Walks.{RoomFor, Spelt, joined, choice_text, member_text};
 
 use crate::{Spot, Written};
 use base::write_word;
@@ -17,8 +17,8 @@ use syntax::{
 
 // Writes a connective with a space on either side, and answers its length.
 fn write_connective(connective: Connective, out: &mut [u8]) -> usize
-    requires { Room (connectiveText connective) out.old }
-    ensures { Puts (connectiveText connective) out.old out.new result }
+    requires { Room (connective_text connective) out.old }
+    ensures { Puts (connective_text connective) out.old out.new result }
 {
     match connective {
         Connective::And => write_word(b" and ", out),
@@ -28,8 +28,8 @@ fn write_connective(connective: Connective, out: &mut [u8]) -> usize
 
 // Writes a name and the square bracket after it, and answers the length of both.
 fn write_choice(name: &[u8], out: &mut [u8]) -> usize
-    requires { Room (choiceText name.now) out.old }
-    ensures { Puts (choiceText name.now) out.old out.new result }
+    requires { Room (choice_text name.now) out.old }
+    ensures { Puts (choice_text name.now) out.old out.new result }
 {
     let end = write_word(name, out);
     end + write_word(b"[", &mut out[end..])
@@ -40,8 +40,8 @@ fn write_member(filter: &[u8], test: RawTest, out: &mut [u8]) -> usize
     requires filter_len_bound { length filter.now ≤ 1024 }
     requires placed { Placed filter.now test }
     requires operator_bound { test.operator < 19 }
-    requires room { Room (memberText filter.now test) out.old }
-    ensures { Puts (memberText filter.now test) out.old out.new result }
+    requires room { Room (member_text filter.now test) out.old }
+    ensures { Puts (member_text filter.now test) out.old out.new result }
 {
     let end = write_word(b"].", out);
     end + write_test(filter, test, &mut out[end..])
@@ -52,8 +52,8 @@ fn write_member(filter: &[u8], test: RawTest, out: &mut [u8]) -> usize
 fn write_not(filter: &[u8], at: usize, levels: usize, out: &mut [u8]) -> Written
     requires filter_len_bound { length filter.now ≤ 1024 }
     requires at_in_bounds { at ≤ length filter.now }
-    requires room_for { RoomFor plain (bracketAt levels filter.now true at) out.old }
-    ensures { Spelt plain (bracketAt levels filter.now true at) out.old out.new result }
+    requires room_for { RoomFor plain (bracket_at levels filter.now true at) out.old }
+    ensures { Spelt plain (bracket_at levels filter.now true at) out.old out.new result }
 {
     let start = write_word(b"not(", out);
     let inner = write_filter(
@@ -79,8 +79,8 @@ fn write_not(filter: &[u8], at: usize, levels: usize, out: &mut [u8]) -> Written
 fn write_round(filter: &[u8], at: usize, levels: usize, out: &mut [u8]) -> Written
     requires filter_len_bound { length filter.now ≤ 1024 }
     requires at_in_bounds { at ≤ length filter.now }
-    requires room_for { RoomFor plain (bracketAt levels filter.now false at) out.old }
-    ensures { Spelt plain (bracketAt levels filter.now false at) out.old out.new result }
+    requires room_for { RoomFor plain (bracket_at levels filter.now false at) out.old }
+    ensures { Spelt plain (bracket_at levels filter.now false at) out.old out.new result }
 {
     let inner = write_filter(
         filter,
@@ -104,8 +104,8 @@ fn write_chosen(filter: &[u8], spot: Spot, until: usize, out: &mut [u8]) -> Writ
     requires filter_len_bound { length filter.now ≤ 1024 }
     requires at_le_until { spot.at ≤ until }
     requires until_in_bounds { until < length filter.now }
-    requires room_for { RoomFor plain (chosenAt spot.levels filter.now spot.close spot.at until) out.old }
-    ensures { Spelt plain (chosenAt spot.levels filter.now spot.close spot.at until) out.old out.new result }
+    requires room_for { RoomFor plain (chosen_at spot.levels filter.now spot.close spot.at until) out.old }
+    ensures { Spelt plain (chosen_at spot.levels filter.now spot.close spot.at until) out.old out.new result }
 {
     let at = spot.at;
     let levels = spot.levels;
@@ -222,8 +222,8 @@ fn write_joined(filter: &[u8], connective: Connective, spot: Spot, out: &mut [u8
 pub fn write_filter(filter: &[u8], spot: Spot, out: &mut [u8]) -> Written
     requires filter_len_bound { length filter.now ≤ 1024 }
     requires at_in_bounds { spot.at ≤ length filter.now }
-    requires room_for { RoomFor plain (filterAt spot.levels filter.now spot.close spot.at) out.old }
-    ensures { Spelt plain (filterAt spot.levels filter.now spot.close spot.at) out.old out.new result }
+    requires room_for { RoomFor plain (filter_at spot.levels filter.now spot.close spot.at) out.old }
+    ensures { Spelt plain (filter_at spot.levels filter.now spot.close spot.at) out.old out.new result }
 {
     let at = spot.at;
     let levels = spot.levels;

@@ -17,20 +17,20 @@ use Rattle.syntax.specs.declared.Piece.{Piece}
 
 -- ---- a byte's piece
 
-pub piece-escaped : (pending : Bool) (b u : ℕ) → pending ≡ true → u ≡ unescaped b → Piece.Byte u ≡ piece_of pending b
+pub piece_escaped : (pending : Bool) (b u : ℕ) → pending ≡ true → u ≡ unescaped b → Piece.Byte u ≡ piece_of pending b
 unfolding piece_of
-piece-escaped pending b u p e = rw (p, e)
+piece_escaped pending b u p e = rw (p, e)
 
-pub piece-backslash : (pending : Bool) (b : ℕ) → pending ≡ false → b ≡ backslash → Piece.Backslash ≡ piece_of pending b
+pub piece_backslash : (pending : Bool) (b : ℕ) → pending ≡ false → b ≡ backslash → Piece.Backslash ≡ piece_of pending b
 unfolding piece_of
-piece-backslash pending b p e = rw (p, eq-eqb b backslash e)
+piece_backslash pending b p e = rw (p, eq-eqb b backslash e)
 
-pub piece-plain : (pending : Bool) (b : ℕ) → pending ≡ false → (b ≡ backslash → ⊥) → Piece.Byte b ≡ piece_of pending b
+pub piece_plain : (pending : Bool) (b : ℕ) → pending ≡ false → (b ≡ backslash → ⊥) → Piece.Byte b ≡ piece_of pending b
 unfolding piece_of
-piece-plain pending b p e = rw (p, ne_eqb b backslash e)
+piece_plain pending b p e = rw (p, ne_eqb b backslash e)
 
-never-byte : {X : Type 0} {b : ℕ} → Piece.Byte b ≡ Piece.Backslash → X
-never-byte h = let z : ◌≡◌ {A = ℕ} 0 1 = cc in absurd (omega arith)
+never_byte : {X : Type 0} {b : ℕ} → Piece.Byte b ≡ Piece.Backslash → X
+never_byte h = let z : ◌≡◌ {A = ℕ} 0 1 = cc in absurd (omega arith)
 
 byte-same : {b c : ℕ} → Piece.Byte b ≡ Piece.Byte c → b ≡ c
 byte-same h = cc
@@ -41,17 +41,17 @@ decode-byte true x b xs h = cons_same (byte-same h) refl
 decode-byte false x b xs h = go (eqb x backslash) h
   where
     go : (t : Bool) → cond t Piece.Backslash (Piece.Byte x) ≡ Piece.Byte b → cond t (decode true xs) (x ∷ decode false xs) ≡ b ∷ decode false xs
-    go true h = never-byte (sym h)
+    go true h = never_byte (sym h)
     go false h = cons_same (byte-same h) refl
 
 decode-backslash : (pending : Bool) (x : ℕ) (xs : List ℕ) → piece_of pending x ≡ Piece.Backslash → decode pending (x ∷ xs) ≡ decode true xs
 unfolding piece_of decode
-decode-backslash true x xs h = never-byte h
+decode-backslash true x xs h = never_byte h
 decode-backslash false x xs h = go (eqb x backslash) h
   where
     go : (t : Bool) → cond t Piece.Backslash (Piece.Byte x) ≡ Piece.Backslash → cond t (decode true xs) (x ∷ decode false xs) ≡ decode true xs
     go true h = refl
-    go false h = never-byte h
+    go false h = never_byte h
 
 -- ---- the loop
 
@@ -61,12 +61,12 @@ pub record Decoding (raw out : List ℕ) (i n : ℕ) (pending : Bool) : Type 0 w
   pub room : length raw ≤ length out
   pub whole : take n out ++ decode pending (drop i raw) ≡ decode false raw
 
-pub decoding-starts : (raw out : List ℕ) → length raw ≤ length out → Decoding raw out 0 0 false
-decoding-starts raw out h = record { within = omega arith; written = omega arith; room = h; whole = refl }
+pub decoding_starts : (raw out : List ℕ) → length raw ≤ length out → Decoding raw out 0 0 false
+decoding_starts raw out h = record { within = omega arith; written = omega arith; room = h; whole = refl }
 
 module _ (raw out : List ℕ) (i n : ℕ) (pending : Bool) (d : Decoding raw out i n pending) where
-  pub decoding-byte : (p : Piece) (b : ℕ) → p ≡ piece_of pending (get_or raw i 0) → p ≡ Piece.Byte b → i < length raw → Decoding raw (set out n b) (i + 1) (n + 1) false
-  decoding-byte p b e h k =
+  pub decoding_byte : (p : Piece) (b : ℕ) → p ≡ piece_of pending (get_or raw i 0) → p ≡ Piece.Byte b → i < length raw → Decoding raw (set out n b) (i + 1) (n + 1) false
+  decoding_byte p b e h k =
       let room : n < length out = omega (arith, d.written, d.room) in
       let next : decode pending (drop i raw) ≡ b ∷ decode false (drop (suc i) raw) = rw (drop-cons raw i 0 k) (decode-byte pending (get_or raw i 0) b (drop (suc i) raw) (sym e ∙ h)) in
       record {
@@ -76,8 +76,8 @@ module _ (raw out : List ℕ) (i n : ℕ) (pending : Bool) (d : Decoding raw out
         whole = rw (add-one n, add-one i, take-suc-set out n b room, append_assoc, ← next) d.whole;
       }
 
-  pub decoding-backslash : (p : Piece) → p ≡ piece_of pending (get_or raw i 0) → p ≡ Piece.Backslash → i < length raw → Decoding raw out (i + 1) n true
-  decoding-backslash p e h k =
+  pub decoding_backslash : (p : Piece) → p ≡ piece_of pending (get_or raw i 0) → p ≡ Piece.Backslash → i < length raw → Decoding raw out (i + 1) n true
+  decoding_backslash p e h k =
       let next : decode pending (drop i raw) ≡ decode true (drop (suc i) raw) = rw (drop-cons raw i 0 k) (decode-backslash pending (get_or raw i 0) (drop (suc i) raw) (sym e ∙ h)) in
       record {
         within = omega arith;
@@ -86,9 +86,9 @@ module _ (raw out : List ℕ) (i n : ℕ) (pending : Bool) (d : Decoding raw out
         whole = rw (add-one i, ← next) d.whole;
       }
 
-  pub decoding-ends : length raw ≤ i → Decoded raw out n
+  pub decoding_ends : length raw ≤ i → Decoded raw out n
   unfolding decode
-  decoding-ends h =
+  decoding_ends h =
       record {
         is = sym (append-nil (take n out)) ∙ (rw (drop_of_length-le raw h) at d.whole);
         few = omega (arith, d.written, d.within);

@@ -2,8 +2,8 @@
 -- Of each part: what the scan finds is derived (`-derived`, by the tests that the scan made); what is derived is found (`-found`, by the
 -- cases of the derivation), where no space stands at its end, or the closing byte is no space, so that skipping spaces stops just there;
 -- and the code, branch by branch, is the scan. What keeps the readings apart is here: where a bracket opens, no test and no name with a
--- square bracket begins (`open-no-test`, `open-no-choice`), where such a name begins, no test does (`choice-found`), and no connective
--- comes before a closing byte or the end of the text (`close-no-connective`, `end-no-connective`).
+-- square bracket begins (`open_no_test`, `open_no_choice`), where such a name begins, no test does (`choice_found`), and no connective
+-- comes before a closing byte or the end of the text (`close_no_connective`, `end_no_connective`).
 -- Assumes nothing.
 use Prim.Native.Nat.{ℕ, ◌+◌, ◌-◌, ◌≤◌}
 use Prim.Native.Char.{code}
@@ -16,14 +16,14 @@ use lib.ListN.{length, take, drop, length-drop, length-append}
 use lib.Seq.{drop-length}
 use borrow.Author.Tests.{eq-eqb, ne_eqb}
 use Rattle.base.specs.Ascii.{ascii}
-use Rattle.base.specs.Digits.{isDigit}
+use Rattle.base.specs.Digits.{is_digit}
 use Rattle.base.specs.Lists.{every, equal}
 use Rattle.base.specs.Between.{between}
-use Rattle.base.specs.Names.{isLetter, isNameStart, isNamePart, isReserved, isName}
-use Rattle.base.specs.Affixes.{hasPrefix}
-use Rattle.base.specs.Runs.{run, runEnd, RunEnd}
-use Rattle.syntax.specs.Grammar.{Stands, Spaces, no-space, space, connectiveWord, Connects, connects, Opens, opens, opens_not, Closes, closes, Chooses, chooses, square}
-use Rattle.syntax.specs.Scan.{isSpace, skipAt, has, nameEnd, testOperator, testAt, open_at, testOr, choiceAt, choiceOr, headAt, testIn, memberAt, memberAfter, connectiveAt, closeAt}
+use Rattle.base.specs.Names.{is_letter, is_name_start, is_name_part, is_reserved, is_name}
+use Rattle.base.specs.Affixes.{has_prefix}
+use Rattle.base.specs.Runs.{run, run_end, RunEnd}
+use Rattle.syntax.specs.Grammar.{Stands, Spaces, no_space, space, connective_word, Connects, connects, Opens, opens, opens_not, Closes, closes, Chooses, chooses, square}
+use Rattle.syntax.specs.Scan.{is_space, skip_at, has, name_end, test_operator, test_at, open_at, test_or, choice_at, choice_or, head_at, test_in, member_at, member_after, connective_at, close_at}
 use Rattle.syntax.specs.declared.RawTest.{RawTest}
 use Rattle.syntax.specs.declared.Head.{Head}
 use Rattle.syntax.specs.declared.FoundTest.{FoundTest}
@@ -31,12 +31,12 @@ use Rattle.syntax.specs.declared.FoundChoice.{FoundChoice}
 use Rattle.syntax.specs.declared.Connective.{Connective}
 use Rattle.syntax.specs.declared.FoundConnective.{FoundConnective}
 use Rattle.syntax.specs.declared.FoundClose.{FoundClose}
-use Rattle.syntax.proofs.Words.{taken-stands, has-stands, stands-has, stands-within, stands_after, NoSpaceAt, stands-no-space, end-no-space, skip-spaces, skip-gap, spaces-skip, gap-skip, spaces-rise, gap-rise}
+use Rattle.syntax.proofs.Words.{taken_stands, has_stands, stands_has, stands_within, stands_after, NoSpaceAt, stands_no_space, end_no_space, skip_spaces, skip_gap, spaces_skip, gap_skip, spaces_rise, gap_rise}
 use Rattle.base.proofs.Tests.{cond-elim}
 use Rattle.base.specs.Parts.{part}
-use Rattle.base.proofs.Names.{name-iff}
+use Rattle.base.proofs.Names.{name_iff}
 use Rattle.syntax.proofs.Values.{part_at}
-use Rattle.syntax.proofs.Tests.{gap-moves, name-end, name-end-part}
+use Rattle.syntax.proofs.Tests.{gap_moves, name_end_lem, name_end_part}
 
 -- ---- what is found is there
 
@@ -46,29 +46,29 @@ OpenDerived xs p (Head.Open q b) = Opens xs p q b
 OpenDerived xs p (Head.Choice e) = ⊥
 OpenDerived xs p Head.Nothing = Unit {0}
 
-pub open-derived : (xs : List ℕ) (p : ℕ) → OpenDerived xs p (open_at xs p)
+pub open_derived : (xs : List ℕ) (p : ℕ) → OpenDerived xs p (open_at xs p)
 unfolding open_at
-open-derived xs p =
-    cond-elim (OpenDerived xs p) (has xs p (ascii "(")) (λ e. opens (has-stands xs p (ascii "(") e) (skip-spaces xs (p + 1)))
+open_derived xs p =
+    cond-elim (OpenDerived xs p) (has xs p (ascii "(")) (λ e. opens (has_stands xs p (ascii "(") e) (skip_spaces xs (p + 1)))
     (λ n. cond-elim (OpenDerived xs p) (has xs p (ascii "not"))
-    (λ e. cond-elim (OpenDerived xs p) (has xs (skipAt xs (p + 3)) (ascii "("))
-    (λ f. opens_not (has-stands xs p (ascii "not") e) (skip-spaces xs (p + 3)) (has-stands xs (skipAt xs (p + 3)) (ascii "(") f) (skip-spaces xs (skipAt xs (p + 3) + 1)))
+    (λ e. cond-elim (OpenDerived xs p) (has xs (skip_at xs (p + 3)) (ascii "("))
+    (λ f. opens_not (has_stands xs p (ascii "not") e) (skip_spaces xs (p + 3)) (has_stands xs (skip_at xs (p + 3)) (ascii "(") f) (skip_spaces xs (skip_at xs (p + 3) + 1)))
     (λ f. tt))
     (λ e. tt))
 
 abbrev pub ChoiceDerived : List ℕ → ℕ → FoundChoice → Type 0
-ChoiceDerived xs p (FoundChoice.At e) = Chooses xs p (skipAt xs (e + 1)) (part xs p e)
+ChoiceDerived xs p (FoundChoice.At e) = Chooses xs p (skip_at xs (e + 1)) (part xs p e)
 ChoiceDerived xs p FoundChoice.Nothing = Unit {0}
 
-pub choice-derived : (xs : List ℕ) (p : ℕ) → ChoiceDerived xs p (choiceAt xs p)
-unfolding choiceAt
-choice-derived xs p =
-    let e : ℕ = nameEnd xs p in
-    let l : e ≡ p + length (part xs p e) = name-end-part xs p in
-    cond-elim (ChoiceDerived xs p) (isName (part xs p e))
+pub choice_derived : (xs : List ℕ) (p : ℕ) → ChoiceDerived xs p (choice_at xs p)
+unfolding choice_at
+choice_derived xs p =
+    let e : ℕ = name_end xs p in
+    let l : e ≡ p + length (part xs p e) = name_end_part xs p in
+    cond-elim (ChoiceDerived xs p) (is_name (part xs p e))
     (λ n. cond-elim (ChoiceDerived xs p) (has xs e (ascii "["))
-    (λ h. chooses (taken-stands xs p (e - p)) ((name-iff (part xs p e)).0 n) (subst (λ (m : ℕ). Stands xs m (ascii "[")) l (has-stands xs e (ascii "[") h))
-    (subst (λ (m : ℕ). Spaces xs (m + 1) (skipAt xs (e + 1))) l (skip-spaces xs (e + 1))))
+    (λ h. chooses (taken_stands xs p (e - p)) ((name_iff (part xs p e)).0 n) (subst (λ (m : ℕ). Stands xs m (ascii "[")) l (has_stands xs e (ascii "[") h))
+    (subst (λ (m : ℕ). Spaces xs (m + 1) (skip_at xs (e + 1))) l (skip_spaces xs (e + 1))))
     (λ _. tt))
     (λ _. tt)
 
@@ -76,108 +76,108 @@ abbrev pub ConnectiveDerived : List ℕ → ℕ → FoundConnective → Type 0
 ConnectiveDerived xs p (FoundConnective.Next q c) = Connects xs p q c
 ConnectiveDerived xs p FoundConnective.Nothing = Unit {0}
 
-pub connective-derived : (xs : List ℕ) (p : ℕ) → ConnectiveDerived xs p (connectiveAt xs p)
-unfolding connectiveAt
-connective-derived xs p =
-    let a : ℕ = skipAt xs p in
+pub connective_derived : (xs : List ℕ) (p : ℕ) → ConnectiveDerived xs p (connective_at xs p)
+unfolding connective_at
+connective_derived xs p =
+    let a : ℕ = skip_at xs p in
     cond-elim (ConnectiveDerived xs p) (eqb a p) (λ e. tt)
     (λ n. cond-elim (ConnectiveDerived xs p) (has xs a (ascii "and "))
-    (λ e. connects {c = Connective.And} (skip-gap xs p n) (has-stands xs a (ascii "and ") e) (skip-spaces xs (a + 4)))
+    (λ e. connects {c = Connective.And} (skip_gap xs p n) (has_stands xs a (ascii "and ") e) (skip_spaces xs (a + 4)))
     (λ m. cond-elim (ConnectiveDerived xs p) (has xs a (ascii "or "))
-    (λ e. connects {c = Connective.Or} (skip-gap xs p n) (has-stands xs a (ascii "or ") e) (skip-spaces xs (a + 3)))
+    (λ e. connects {c = Connective.Or} (skip_gap xs p n) (has_stands xs a (ascii "or ") e) (skip_spaces xs (a + 3)))
     (λ e. tt)))
 
 abbrev pub CloseDerived : List ℕ → ℕ → ℕ → FoundClose → Type 0
 CloseDerived xs close p (FoundClose.At q) = Closes xs close p q
 CloseDerived xs close p FoundClose.Nothing = Unit {0}
 
-pub close-derived : (xs : List ℕ) (close p : ℕ) → CloseDerived xs close p (closeAt xs close p)
-unfolding closeAt
-close-derived xs close p =
-    cond-elim (CloseDerived xs close p) (has xs (skipAt xs p) (close ∷ []))
-    (λ e. closes (skip-spaces xs p) (has-stands xs (skipAt xs p) (close ∷ []) e)) (λ e. tt)
+pub close_derived : (xs : List ℕ) (close p : ℕ) → CloseDerived xs close p (close_at xs close p)
+unfolding close_at
+close_derived xs close p =
+    cond-elim (CloseDerived xs close p) (has xs (skip_at xs p) (close ∷ []))
+    (λ e. closes (skip_spaces xs p) (has_stands xs (skip_at xs p) (close ∷ []) e)) (λ e. tt)
 
 -- ---- what is there is found
 
-pub open-found : {xs : List ℕ} {p q : ℕ} {b : Bool} → Opens xs p q b → NoSpaceAt xs q → open_at xs p ≡ Head.Open q b
-unfolding open_at hasPrefix
-open-found (opens s r) n = rw (s.1, spaces-skip r n)
-open-found {xs} (opens_not {a = a} s r m u) n =
-    rw (s.1, spaces-skip r (stands-no-space xs a _ [] m refl), m.1, spaces-skip u n)
+pub open_found : {xs : List ℕ} {p q : ℕ} {b : Bool} → Opens xs p q b → NoSpaceAt xs q → open_at xs p ≡ Head.Open q b
+unfolding open_at has_prefix
+open_found (opens s r) n = rw (s.1, spaces_skip r n)
+open_found {xs} (opens_not {a = a} s r m u) n =
+    rw (s.1, spaces_skip r (stands_no_space xs a _ [] m refl), m.1, spaces_skip u n)
 
 -- after "not" in front of a bracket no name goes on
-not-ends : {xs : List ℕ} {p a : ℕ} → Spaces xs p a → Stands xs a (ascii "(") → run isNamePart (drop p xs) ≡ 0
-unfolding run isNamePart isNameStart isLetter between isDigit
-not-ends no-space s = rw s.1
-not-ends (space m r) s = rw m.1
+not_ends_lem : {xs : List ℕ} {p a : ℕ} → Spaces xs p a → Stands xs a (ascii "(") → run is_name_part (drop p xs) ≡ 0
+unfolding run is_name_part is_name_start is_letter between is_digit
+not_ends_lem no_space s = rw s.1
+not_ends_lem (space m r) s = rw m.1
 
 -- where the bytes that could be a name are none, no test begins
-no_name : (xs : List ℕ) (close p n : ℕ) → run isNamePart (drop p xs) ≡ n → isName (take n (drop p xs)) ≡ false → testAt xs close p ≡ FoundTest.Nothing
-unfolding testAt runEnd
+no_name : (xs : List ℕ) (close p n : ℕ) → run is_name_part (drop p xs) ≡ n → is_name (take n (drop p xs)) ≡ false → test_at xs close p ≡ FoundTest.Nothing
+unfolding test_at run_end
 no_name xs close p n e f =
     let k : p + n - p ≡ n = omega arith in
     rw (e, k, f)
 
-pub open-no-test : {xs : List ℕ} {p q : ℕ} {b : Bool} → Opens xs p q b → (close : ℕ) → testAt xs close p ≡ FoundTest.Nothing
-unfolding run isNamePart isNameStart isLetter between isDigit isName isReserved equal every
-open-no-test {xs} (opens {p = p} s r) close = no_name xs close p 0 (rw s.1) refl
-open-no-test {xs} (opens_not {p = p} s r m n) close =
-    let z : run isNamePart s.0 ≡ 0 = ap (run isNamePart) (sym (stands_after xs p (ascii "not") s)) ∙ not-ends r m in
+pub open_no_test : {xs : List ℕ} {p q : ℕ} {b : Bool} → Opens xs p q b → (close : ℕ) → test_at xs close p ≡ FoundTest.Nothing
+unfolding run is_name_part is_name_start is_letter between is_digit is_name is_reserved equal every
+open_no_test {xs} (opens {p = p} s r) close = no_name xs close p 0 (rw s.1) refl
+open_no_test {xs} (opens_not {p = p} s r m n) close =
+    let z : run is_name_part s.0 ≡ 0 = ap (run is_name_part) (sym (stands_after xs p (ascii "not") s)) ∙ not_ends_lem r m in
     no_name xs close p 3 (rw (s.1, z)) (rw s.1)
 
 -- a name ends where "[" stands, and no test begins with it
 pub record ChoiceFound (xs : List ℕ) (close p q : ℕ) (n : List ℕ) : Type 0 where
-  pub no_test : testAt xs close p ≡ FoundTest.Nothing
-  pub found : choiceAt xs p ≡ FoundChoice.At (p + length n)
+  pub no_test : test_at xs close p ≡ FoundTest.Nothing
+  pub found : choice_at xs p ≡ FoundChoice.At (p + length n)
   pub name : part xs p (p + length n) ≡ n
-  pub from : skipAt xs (p + length n + 1) ≡ q
+  pub from : skip_at xs (p + length n + 1) ≡ q
 
-bracket-name-end : (xs : List ℕ) (p : ℕ) → Stands xs p (ascii "[") → run isNamePart (drop p xs) ≡ 0
-unfolding run isNamePart isNameStart isLetter between isDigit
-bracket-name-end xs p s = rw s.1
+bracket_name_end : (xs : List ℕ) (p : ℕ) → Stands xs p (ascii "[") → run is_name_part (drop p xs) ≡ 0
+unfolding run is_name_part is_name_start is_letter between is_digit
+bracket_name_end xs p s = rw s.1
 
-pub choice-found : {xs : List ℕ} {p q : ℕ} {n : List ℕ} → Chooses xs p q n → NoSpaceAt xs q → (close : ℕ) → ChoiceFound xs close p q n
-unfolding testAt testOperator choiceAt
-choice-found {xs} (chooses {p = p} {q = q} {n = n} s h b r) free close =
-    let e : nameEnd xs p ≡ p + length n = name-end xs p n s h (bracket-name-end xs (p + length n) b) in
+pub choice_found : {xs : List ℕ} {p q : ℕ} {n : List ℕ} → Chooses xs p q n → NoSpaceAt xs q → (close : ℕ) → ChoiceFound xs close p q n
+unfolding test_at test_operator choice_at
+choice_found {xs} (chooses {p = p} {q = q} {n = n} s h b r) free close =
+    let e : name_end xs p ≡ p + length n = name_end_lem xs p n s h (bracket_name_end xs (p + length n) b) in
     let m : part xs p (p + length n) ≡ n = part_at xs p (p + length n) n s.0 s.1 refl in
-    let k : skipAt xs (p + length n) ≡ p + length n = spaces-skip no-space (stands-no-space xs (p + length n) _ [] b refl) in
+    let k : skip_at xs (p + length n) ≡ p + length n = spaces_skip no_space (stands_no_space xs (p + length n) _ [] b refl) in
     record {
-      no_test = rw (e, m, (name-iff n).1 h, k, eq-eqb (p + length n) (p + length n) refl);
-      found = rw (e, m, (name-iff n).1 h, stands-has xs (p + length n) (ascii "[") b);
+      no_test = rw (e, m, (name_iff n).1 h, k, eq-eqb (p + length n) (p + length n) refl);
+      found = rw (e, m, (name_iff n).1 h, stands_has xs (p + length n) (ascii "[") b);
       name = m;
-      from = spaces-skip r free;
+      from = spaces_skip r free;
     }
 
-no-choice : (xs : List ℕ) (p n : ℕ) → run isNamePart (drop p xs) ≡ n → isName (take n (drop p xs)) ≡ false → choiceAt xs p ≡ FoundChoice.Nothing
-unfolding choiceAt runEnd
-no-choice xs p n e f =
+no_choice : (xs : List ℕ) (p n : ℕ) → run is_name_part (drop p xs) ≡ n → is_name (take n (drop p xs)) ≡ false → choice_at xs p ≡ FoundChoice.Nothing
+unfolding choice_at run_end
+no_choice xs p n e f =
     let k : p + n - p ≡ n = omega arith in
     rw (e, k, f)
 
-pub open-no-choice : {xs : List ℕ} {p q : ℕ} {b : Bool} → Opens xs p q b → choiceAt xs p ≡ FoundChoice.Nothing
-unfolding run isNamePart isNameStart isLetter between isDigit isName isReserved equal every
-open-no-choice {xs} (opens {p = p} s r) = no-choice xs p 0 (rw s.1) refl
-open-no-choice {xs} (opens_not {p = p} s r m n) =
-    let z : run isNamePart s.0 ≡ 0 = ap (run isNamePart) (sym (stands_after xs p (ascii "not") s)) ∙ not-ends r m in
-    no-choice xs p 3 (rw (s.1, z)) (rw s.1)
+pub open_no_choice : {xs : List ℕ} {p q : ℕ} {b : Bool} → Opens xs p q b → choice_at xs p ≡ FoundChoice.Nothing
+unfolding run is_name_part is_name_start is_letter between is_digit is_name is_reserved equal every
+open_no_choice {xs} (opens {p = p} s r) = no_choice xs p 0 (rw s.1) refl
+open_no_choice {xs} (opens_not {p = p} s r m n) =
+    let z : run is_name_part s.0 ≡ 0 = ap (run is_name_part) (sym (stands_after xs p (ascii "not") s)) ∙ not_ends_lem r m in
+    no_choice xs p 3 (rw (s.1, z)) (rw s.1)
 
-pub close-found : {xs : List ℕ} {close p q : ℕ} → Closes xs close p q → eqb close 0x20 ≡ false → closeAt xs close p ≡ FoundClose.At q
-unfolding closeAt
-close-found {xs} {close} (closes {a = a} r s) n =
-    rw (spaces-skip r (stands-no-space xs a close [] s n), stands-has xs a (close ∷ []) s)
+pub close_found : {xs : List ℕ} {close p q : ℕ} → Closes xs close p q → eqb close 0x20 ≡ false → close_at xs close p ≡ FoundClose.At q
+unfolding close_at
+close_found {xs} {close} (closes {a = a} r s) n =
+    rw (spaces_skip r (stands_no_space xs a close [] s n), stands_has xs a (close ∷ []) s)
 
-connective-no-space : (xs : List ℕ) (a : ℕ) (c : Connective) → Stands xs a (connectiveWord c) → NoSpaceAt xs a
-connective-no-space xs a Connective.And s = stands-no-space xs a (code "a") (ascii "nd ") s refl
-connective-no-space xs a Connective.Or s = stands-no-space xs a (code "o") (ascii "r ") s refl
+connective_no_space : (xs : List ℕ) (a : ℕ) (c : Connective) → Stands xs a (connective_word c) → NoSpaceAt xs a
+connective_no_space xs a Connective.And s = stands_no_space xs a (code "a") (ascii "nd ") s refl
+connective_no_space xs a Connective.Or s = stands_no_space xs a (code "o") (ascii "r ") s refl
 
-pub connective-found : {xs : List ℕ} {p q : ℕ} {c : Connective} → Connects xs p q c → NoSpaceAt xs q → connectiveAt xs p ≡ FoundConnective.Next q c
-unfolding connectiveAt hasPrefix
-connective-found {xs} (connects {p = p} {a = a} {q = q} {c = c} g s m) n = go c s m
+pub connective_found : {xs : List ℕ} {p q : ℕ} {c : Connective} → Connects xs p q c → NoSpaceAt xs q → connective_at xs p ≡ FoundConnective.Next q c
+unfolding connective_at has_prefix
+connective_found {xs} (connects {p = p} {a = a} {q = q} {c = c} g s m) n = go c s m
   where
-    go : (c : Connective) → Stands xs a (connectiveWord c) → Spaces xs (a + length (connectiveWord c)) q → connectiveAt xs p ≡ FoundConnective.Next q c
-    go Connective.And s m = rw (gap-skip g (connective-no-space xs a Connective.And s), gap-moves g, s.1, spaces-skip m n)
-    go Connective.Or s m = rw (gap-skip g (connective-no-space xs a Connective.Or s), gap-moves g, s.1, spaces-skip m n)
+    go : (c : Connective) → Stands xs a (connective_word c) → Spaces xs (a + length (connective_word c)) q → connective_at xs p ≡ FoundConnective.Next q c
+    go Connective.And s m = rw (gap_skip g (connective_no_space xs a Connective.And s), gap_moves g, s.1, spaces_skip m n)
+    go Connective.Or s m = rw (gap_skip g (connective_no_space xs a Connective.Or s), gap_moves g, s.1, spaces_skip m n)
 
 -- ---- no connective before a closing byte or the end
 
@@ -185,162 +185,162 @@ either_way : (b : Bool) (f : FoundConnective) → cond b f f ≡ f
 either_way true f = refl
 either_way false f = refl
 
-no-connective : {xs : List ℕ} {p a : ℕ} → Spaces xs p a → NoSpaceAt xs a → has xs a (ascii "and ") ≡ false → has xs a (ascii "or ") ≡ false → connectiveAt xs p ≡ FoundConnective.Nothing
-unfolding connectiveAt
-no-connective {xs} {p} {a} r n c d = rw (spaces-skip r n, c, d) (either_way (eqb a p) FoundConnective.Nothing)
+no_connective : {xs : List ℕ} {p a : ℕ} → Spaces xs p a → NoSpaceAt xs a → has xs a (ascii "and ") ≡ false → has xs a (ascii "or ") ≡ false → connective_at xs p ≡ FoundConnective.Nothing
+unfolding connective_at
+no_connective {xs} {p} {a} r n c d = rw (spaces_skip r n, c, d) (either_way (eqb a p) FoundConnective.Nothing)
 
-pub close-no-connective : {xs : List ℕ} {close p q : ℕ} → Closes xs close p q → eqb close 0x20 ≡ false → eqb close (code "a") ≡ false → eqb close (code "o") ≡ false → connectiveAt xs p ≡ FoundConnective.Nothing
-unfolding hasPrefix
-close-no-connective {xs} {close} (closes {a = a} r s) n m k = no-connective r (stands-no-space xs a close [] s n) (rw (s.1, m)) (rw (s.1, k))
+pub close_no_connective : {xs : List ℕ} {close p q : ℕ} → Closes xs close p q → eqb close 0x20 ≡ false → eqb close (code "a") ≡ false → eqb close (code "o") ≡ false → connective_at xs p ≡ FoundConnective.Nothing
+unfolding has_prefix
+close_no_connective {xs} {close} (closes {a = a} r s) n m k = no_connective r (stands_no_space xs a close [] s n) (rw (s.1, m)) (rw (s.1, k))
 
-pub end-no-connective : {xs : List ℕ} {p : ℕ} → Spaces xs p (length xs) → connectiveAt xs p ≡ FoundConnective.Nothing
-unfolding hasPrefix
-end-no-connective {xs} r = no-connective r (end-no-space xs) (rw (drop-length xs)) (rw (drop-length xs))
+pub end_no_connective : {xs : List ℕ} {p : ℕ} → Spaces xs p (length xs) → connective_at xs p ≡ FoundConnective.Nothing
+unfolding has_prefix
+end_no_connective {xs} r = no_connective r (end_no_space xs) (rw (drop-length xs)) (rw (drop-length xs))
 
 -- ---- positions rise, inside the text
 
-connective-within : (xs : List ℕ) (a : ℕ) (c : Connective) → Stands xs a (connectiveWord c) → a + length (connectiveWord c) ≤ length xs
-connective-within xs a Connective.And h = stands-within xs a (code "a") (ascii "nd ") h
-connective-within xs a Connective.Or h = stands-within xs a (code "o") (ascii "r ") h
+connective_within : (xs : List ℕ) (a : ℕ) (c : Connective) → Stands xs a (connective_word c) → a + length (connective_word c) ≤ length xs
+connective_within xs a Connective.And h = stands_within xs a (code "a") (ascii "nd ") h
+connective_within xs a Connective.Or h = stands_within xs a (code "o") (ascii "r ") h
 
-pub connects-rise : {xs : List ℕ} {p q : ℕ} {c : Connective} → Connects xs p q c → (p + 1 ≤ q) × (q ≤ length xs)
-connects-rise {xs} (connects {a = a} {c = c} g k m) =
-    let u = gap-rise g in let v = spaces-rise m in (omega arith, v.1 (connective-within xs a c k))
+pub connects_rise : {xs : List ℕ} {p q : ℕ} {c : Connective} → Connects xs p q c → (p + 1 ≤ q) × (q ≤ length xs)
+connects_rise {xs} (connects {a = a} {c = c} g k m) =
+    let u = gap_rise g in let v = spaces_rise m in (omega arith, v.1 (connective_within xs a c k))
 
-pub opens-rise : {xs : List ℕ} {p q : ℕ} {b : Bool} → Opens xs p q b → (p + 1 ≤ q) × (q ≤ length xs)
-opens-rise {xs} (opens {p = p} s r) = let u = spaces-rise r in (u.0, u.1 (stands-within xs p _ [] s))
-opens-rise {xs} (opens_not {p = p} {a = a} s r m n) =
-    let u = spaces-rise r in let v = spaces-rise n in (omega arith, v.1 (stands-within xs a _ [] m))
+pub opens_rise : {xs : List ℕ} {p q : ℕ} {b : Bool} → Opens xs p q b → (p + 1 ≤ q) × (q ≤ length xs)
+opens_rise {xs} (opens {p = p} s r) = let u = spaces_rise r in (u.0, u.1 (stands_within xs p _ [] s))
+opens_rise {xs} (opens_not {p = p} {a = a} s r m n) =
+    let u = spaces_rise r in let v = spaces_rise n in (omega arith, v.1 (stands_within xs a _ [] m))
 
-pub chooses-rise : {xs : List ℕ} {p q : ℕ} {n : List ℕ} → Chooses xs p q n → (p + 1 ≤ q) × (q ≤ length xs)
-chooses-rise {xs} (chooses {p = p} {n = n} s h b r) = let u = spaces-rise r in (omega arith, u.1 (stands-within xs (p + length n) _ [] b))
+pub chooses_rise : {xs : List ℕ} {p q : ℕ} {n : List ℕ} → Chooses xs p q n → (p + 1 ≤ q) × (q ≤ length xs)
+chooses_rise {xs} (chooses {p = p} {n = n} s h b r) = let u = spaces_rise r in (omega arith, u.1 (stands_within xs (p + length n) _ [] b))
 
-pub closes-rise : {xs : List ℕ} {close p q : ℕ} → Closes xs close p q → (p + 1 ≤ q) × (q ≤ length xs)
-closes-rise {xs} {close} (closes {a = a} r s) = let u = spaces-rise r in (omega arith, stands-within xs a close [] s)
+pub closes_rise : {xs : List ℕ} {close p q : ℕ} → Closes xs close p q → (p + 1 ≤ q) × (q ≤ length xs)
+closes_rise {xs} {close} (closes {a = a} r s) = let u = spaces_rise r in (omega arith, stands_within xs a close [] s)
 
 -- ---- as the code finds them
 
 -- a word that was found ends inside the text
 pub word-within : (xs : List ℕ) (p n : ℕ) (w : List ℕ) (r : Bool) → r ≡ has xs p w → r ≡ true → p ≤ length xs → n ≡ length w → p + n ≤ length xs
 word-within xs p n w r e h i k =
-    let s = has-stands xs p w (sym e ∙ h) in
+    let s = has_stands xs p w (sym e ∙ h) in
     omega (arith, ap length s.1, length-drop p xs, length-append w s.0)
 
 module _ (xs : List ℕ) (p : ℕ) (r : Bool) (e : r ≡ has xs p (ascii "(")) where
-  pub open-bracket : (q : ℕ) → r ≡ true → RunEnd isSpace xs (p + 1) q → Head.Open q false ≡ open_at xs p
+  pub open_bracket : (q : ℕ) → r ≡ true → RunEnd is_space xs (p + 1) q → Head.Open q false ≡ open_at xs p
   unfolding open_at
-  open-bracket q h s = rw (sym e ∙ h, s.is)
+  open_bracket q h s = rw (sym e ∙ h, s.is)
 
   module _ (n : r ≡ false) (t : Bool) (f : t ≡ has xs p (ascii "not")) where
-    pub open-nothing : t ≡ false → Head.Nothing ≡ open_at xs p
+    pub open_nothing : t ≡ false → Head.Nothing ≡ open_at xs p
     unfolding open_at
-    open-nothing h = rw (sym e ∙ n, sym f ∙ h)
+    open_nothing h = rw (sym e ∙ n, sym f ∙ h)
 
-    module _ (h : t ≡ true) (a : ℕ) (s : RunEnd isSpace xs (p + 3) a) (u : Bool) (g : u ≡ has xs a (ascii "(")) where
-      pub open-not : (q : ℕ) → u ≡ true → RunEnd isSpace xs (a + 1) q → Head.Open q true ≡ open_at xs p
+    module _ (h : t ≡ true) (a : ℕ) (s : RunEnd is_space xs (p + 3) a) (u : Bool) (g : u ≡ has xs a (ascii "(")) where
+      pub open_not : (q : ℕ) → u ≡ true → RunEnd is_space xs (a + 1) q → Head.Open q true ≡ open_at xs p
       unfolding open_at
-      open-not q i k = rw (sym e ∙ n, sym f ∙ h, ← s.is, sym g ∙ i, k.is)
+      open_not q i k = rw (sym e ∙ n, sym f ∙ h, ← s.is, sym g ∙ i, k.is)
 
-      pub open-not-nothing : u ≡ false → Head.Nothing ≡ open_at xs p
+      pub open_not_nothing : u ≡ false → Head.Nothing ≡ open_at xs p
       unfolding open_at
-      open-not-nothing i = rw (sym e ∙ n, sym f ∙ h, ← s.is, sym g ∙ i)
+      open_not_nothing i = rw (sym e ∙ n, sym f ∙ h, ← s.is, sym g ∙ i)
 
-module _ (xs : List ℕ) (close p : ℕ) (f : FoundTest) (e : f ≡ testAt xs close p) where
-  pub head-test : (r : RawTest) → f ≡ FoundTest.Test r → Head.Test r ≡ headAt xs close p
-  unfolding headAt
-  head-test r h = rw (sym e ∙ h)
+module _ (xs : List ℕ) (close p : ℕ) (f : FoundTest) (e : f ≡ test_at xs close p) where
+  pub head_test : (r : RawTest) → f ≡ FoundTest.Test r → Head.Test r ≡ head_at xs close p
+  unfolding head_at
+  head_test r h = rw (sym e ∙ h)
 
-  pub head-bracket : (o : Head) → f ≡ FoundTest.Nothing → o ≡ choiceOr (choiceAt xs p) (open_at xs p) → o ≡ headAt xs close p
-  unfolding headAt
-  head-bracket o h i = rw (sym e ∙ h) i
+  pub head_bracket : (o : Head) → f ≡ FoundTest.Nothing → o ≡ choice_or (choice_at xs p) (open_at xs p) → o ≡ head_at xs close p
+  unfolding head_at
+  head_bracket o h i = rw (sym e ∙ h) i
 
-module _ (xs : List ℕ) (p : ℕ) (f : FoundChoice) (e : f ≡ choiceAt xs p) where
-  pub bracket-choice : (until : ℕ) → f ≡ FoundChoice.At until → Head.Choice until ≡ choiceOr (choiceAt xs p) (open_at xs p)
-  bracket-choice until h = rw (sym e ∙ h)
+module _ (xs : List ℕ) (p : ℕ) (f : FoundChoice) (e : f ≡ choice_at xs p) where
+  pub bracket_choice : (until : ℕ) → f ≡ FoundChoice.At until → Head.Choice until ≡ choice_or (choice_at xs p) (open_at xs p)
+  bracket_choice until h = rw (sym e ∙ h)
 
-  pub bracket-open : (o : Head) → f ≡ FoundChoice.Nothing → o ≡ open_at xs p → o ≡ choiceOr (choiceAt xs p) (open_at xs p)
-  bracket-open o h i = rw (sym e ∙ h) i
+  pub bracket_open : (o : Head) → f ≡ FoundChoice.Nothing → o ≡ open_at xs p → o ≡ choice_or (choice_at xs p) (open_at xs p)
+  bracket_open o h i = rw (sym e ∙ h) i
 
 -- a name and "[", as the code finds them
-module _ (xs : List ℕ) (p e : ℕ) (s : RunEnd isNamePart xs p e) (r : Bool) (i : r ≡ isName (part xs p e)) where
-  pub choice-no-name : r ≡ false → FoundChoice.Nothing ≡ choiceAt xs p
-  unfolding choiceAt
-  choice-no-name h = rw (← s.is, sym i ∙ h)
+module _ (xs : List ℕ) (p e : ℕ) (s : RunEnd is_name_part xs p e) (r : Bool) (i : r ≡ is_name (part xs p e)) where
+  pub choice_no_name : r ≡ false → FoundChoice.Nothing ≡ choice_at xs p
+  unfolding choice_at
+  choice_no_name h = rw (← s.is, sym i ∙ h)
 
   module _ (h : r ≡ true) (t : Bool) (j : t ≡ has xs e (ascii "[")) where
-    pub choice-here : t ≡ true → FoundChoice.At e ≡ choiceAt xs p
-    unfolding choiceAt
-    choice-here k = rw (← s.is, sym i ∙ h, sym j ∙ k)
+    pub choice_here : t ≡ true → FoundChoice.At e ≡ choice_at xs p
+    unfolding choice_at
+    choice_here k = rw (← s.is, sym i ∙ h, sym j ∙ k)
 
-    pub choice-nothing : t ≡ false → FoundChoice.Nothing ≡ choiceAt xs p
-    unfolding choiceAt
-    choice-nothing k = rw (← s.is, sym i ∙ h, sym j ∙ k)
+    pub choice_nothing : t ≡ false → FoundChoice.Nothing ≡ choice_at xs p
+    unfolding choice_at
+    choice_nothing k = rw (← s.is, sym i ∙ h, sym j ∙ k)
 
 -- after the bracket, as the code finds it
-module _ (xs : List ℕ) (close p : ℕ) (f : FoundClose) (e : f ≡ closeAt xs square p) where
-  pub after-close : (m : ℕ) (t : FoundTest) → f ≡ FoundClose.At m → t ≡ memberAt xs close m → t ≡ memberAfter xs close p
-  unfolding memberAfter
-  after-close m t h i = rw (sym e ∙ h) i
+module _ (xs : List ℕ) (close p : ℕ) (f : FoundClose) (e : f ≡ close_at xs square p) where
+  pub after_close_lem : (m : ℕ) (t : FoundTest) → f ≡ FoundClose.At m → t ≡ member_at xs close m → t ≡ member_after xs close p
+  unfolding member_after
+  after_close_lem m t h i = rw (sym e ∙ h) i
 
-  pub after_nothing : f ≡ FoundClose.Nothing → FoundTest.Nothing ≡ memberAfter xs close p
-  unfolding memberAfter
+  pub after_nothing : f ≡ FoundClose.Nothing → FoundTest.Nothing ≡ member_after xs close p
+  unfolding member_after
   after_nothing h = rw (sym e ∙ h)
 
 -- a test is found exactly where an item begins with it
-pub in-test : (h : Head) (r : RawTest) → h ≡ Head.Test r → FoundTest.Test r ≡ testIn h
-in-test h r e = rw e
+pub in_test : (h : Head) (r : RawTest) → h ≡ Head.Test r → FoundTest.Test r ≡ test_in h
+in_test h r e = rw e
 
-opening-no-test : (xs : List ℕ) (p : ℕ) → testIn (open_at xs p) ≡ FoundTest.Nothing
-opening-no-test xs p = by (open_at xs p) (open-derived xs p)
+opening_no_test : (xs : List ℕ) (p : ℕ) → test_in (open_at xs p) ≡ FoundTest.Nothing
+opening_no_test xs p = by (open_at xs p) (open_derived xs p)
   where
-    by : (h : Head) → OpenDerived xs p h → testIn h ≡ FoundTest.Nothing
+    by : (h : Head) → OpenDerived xs p h → test_in h ≡ FoundTest.Nothing
     by (Head.Test r) d = absurd d
     by (Head.Open q b) d = refl
     by (Head.Choice e) d = refl
     by Head.Nothing d = refl
 
-test_in : (xs : List ℕ) (close p : ℕ) → testIn (headAt xs close p) ≡ testAt xs close p
-unfolding headAt
-test_in xs close p = by (testAt xs close p) (choiceAt xs p)
+test_in_lem : (xs : List ℕ) (close p : ℕ) → test_in (head_at xs close p) ≡ test_at xs close p
+unfolding head_at
+test_in_lem xs close p = by (test_at xs close p) (choice_at xs p)
   where
-    by : (t : FoundTest) (c : FoundChoice) → testIn (testOr t (choiceOr c (open_at xs p))) ≡ t
+    by : (t : FoundTest) (c : FoundChoice) → test_in (test_or t (choice_or c (open_at xs p))) ≡ t
     by (FoundTest.Test r) c = refl
     by FoundTest.Nothing (FoundChoice.At e) = refl
-    by FoundTest.Nothing FoundChoice.Nothing = opening-no-test xs p
+    by FoundTest.Nothing FoundChoice.Nothing = opening_no_test xs p
 
 module _ (xs : List ℕ) (close p : ℕ) (r : Bool) (e : r ≡ has xs p (ascii ".")) where
-  pub member-test : (h : Head) (t : FoundTest) → r ≡ true → h ≡ headAt xs close (p + 1) → t ≡ testIn h → t ≡ memberAt xs close p
-  unfolding memberAt
-  member-test h t y i k = rw (sym e ∙ y) (k ∙ ap testIn i ∙ test_in xs close (p + 1))
+  pub member_test : (h : Head) (t : FoundTest) → r ≡ true → h ≡ head_at xs close (p + 1) → t ≡ test_in h → t ≡ member_at xs close p
+  unfolding member_at
+  member_test h t y i k = rw (sym e ∙ y) (k ∙ ap test_in i ∙ test_in_lem xs close (p + 1))
 
-  pub member-nothing : r ≡ false → FoundTest.Nothing ≡ memberAt xs close p
-  unfolding memberAt
-  member-nothing h = rw (sym e ∙ h)
+  pub member_nothing : r ≡ false → FoundTest.Nothing ≡ member_at xs close p
+  unfolding member_at
+  member_nothing h = rw (sym e ∙ h)
 
-module _ (xs : List ℕ) (p a : ℕ) (s : RunEnd isSpace xs p a) where
-  pub connective-no-gap : a ≡ p → FoundConnective.Nothing ≡ connectiveAt xs p
-  unfolding connectiveAt
-  connective-no-gap h = rw (← s.is, eq-eqb a p h)
+module _ (xs : List ℕ) (p a : ℕ) (s : RunEnd is_space xs p a) where
+  pub connective_no_gap : a ≡ p → FoundConnective.Nothing ≡ connective_at xs p
+  unfolding connective_at
+  connective_no_gap h = rw (← s.is, eq-eqb a p h)
 
   module _ (n : a ≡ p → ⊥) (r : Bool) (e : r ≡ has xs a (ascii "and ")) where
-    pub connective-and : (q : ℕ) → r ≡ true → RunEnd isSpace xs (a + 4) q → FoundConnective.Next q Connective.And ≡ connectiveAt xs p
-    unfolding connectiveAt
-    connective-and q h k = rw (← s.is, ne_eqb a p n, sym e ∙ h, k.is)
+    pub connective_and : (q : ℕ) → r ≡ true → RunEnd is_space xs (a + 4) q → FoundConnective.Next q Connective.And ≡ connective_at xs p
+    unfolding connective_at
+    connective_and q h k = rw (← s.is, ne_eqb a p n, sym e ∙ h, k.is)
 
     module _ (h : r ≡ false) (t : Bool) (f : t ≡ has xs a (ascii "or ")) where
-      pub connective-or : (q : ℕ) → t ≡ true → RunEnd isSpace xs (a + 3) q → FoundConnective.Next q Connective.Or ≡ connectiveAt xs p
-      unfolding connectiveAt
-      connective-or q i k = rw (← s.is, ne_eqb a p n, sym e ∙ h, sym f ∙ i, k.is)
+      pub connective_or : (q : ℕ) → t ≡ true → RunEnd is_space xs (a + 3) q → FoundConnective.Next q Connective.Or ≡ connective_at xs p
+      unfolding connective_at
+      connective_or q i k = rw (← s.is, ne_eqb a p n, sym e ∙ h, sym f ∙ i, k.is)
 
-      pub connective-none : t ≡ false → FoundConnective.Nothing ≡ connectiveAt xs p
-      unfolding connectiveAt
-      connective-none i = rw (← s.is, ne_eqb a p n, sym e ∙ h, sym f ∙ i)
+      pub connective_none : t ≡ false → FoundConnective.Nothing ≡ connective_at xs p
+      unfolding connective_at
+      connective_none i = rw (← s.is, ne_eqb a p n, sym e ∙ h, sym f ∙ i)
 
-module _ (xs : List ℕ) (close p a : ℕ) (s : RunEnd isSpace xs p a) (r : Bool) (e : r ≡ has xs a (close ∷ [])) where
-  pub close-here : r ≡ true → FoundClose.At (a + 1) ≡ closeAt xs close p
-  unfolding closeAt
-  close-here h = rw (← s.is, sym e ∙ h)
+module _ (xs : List ℕ) (close p a : ℕ) (s : RunEnd is_space xs p a) (r : Bool) (e : r ≡ has xs a (close ∷ [])) where
+  pub close_here : r ≡ true → FoundClose.At (a + 1) ≡ close_at xs close p
+  unfolding close_at
+  close_here h = rw (← s.is, sym e ∙ h)
 
-  pub close-nothing : r ≡ false → FoundClose.Nothing ≡ closeAt xs close p
-  unfolding closeAt
-  close-nothing h = rw (← s.is, sym e ∙ h)
+  pub close_nothing : r ≡ false → FoundClose.Nothing ≡ close_at xs close p
+  unfolding close_at
+  close_nothing h = rw (← s.is, sym e ∙ h)

@@ -13,8 +13,8 @@ pub record Fold (A : Type 0) : Type 0 where
   pub negate : A → A
 
 -- the value of a tree
-unfoldable pub foldTree : {A : Type 0} → Fold A → Tree → A
-foldTree φ (test t) = φ.one t
-foldTree φ (bracketed p b f t) = φ.inside p b f (foldTree φ f) t
-foldTree φ (join c f g) = φ.both c (foldTree φ f) (foldTree φ g)
-foldTree φ (negation f) = φ.negate (foldTree φ f)
+unfoldable pub fold_tree : {A : Type 0} → Fold A → Tree → A
+fold_tree φ (test t) = φ.one t
+fold_tree φ (bracketed p b f t) = φ.inside p b f (fold_tree φ f) t
+fold_tree φ (join c f g) = φ.both c (fold_tree φ f) (fold_tree φ g)
+fold_tree φ (negation f) = φ.negate (fold_tree φ f)

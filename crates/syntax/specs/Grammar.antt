@@ -5,8 +5,8 @@ use Prim.Native.Char.{code}
 use Rattle.base.specs.Ascii.{ascii}
 use Rattle.base.specs.Lists.{All}
 use Rattle.base.specs.Names.{Name}
-use Rattle.base.specs.Operators.{operatorWords}
-use Rattle.syntax.specs.Tree.{name, Test, Tree, test, bracketed, join, negation, testsOf}
+use Rattle.base.specs.Operators.{operator_words}
+use Rattle.syntax.specs.Tree.{name, Test, Tree, test, bracketed, join, negation, tests_of}
 use Rattle.syntax.specs.Strings.{quote, is_bare, Quoted}
 use Rattle.syntax.specs.declared.Connective.{Connective}
 
@@ -18,7 +18,7 @@ Stands xs p word = (tail : List ℕ) × (drop p xs ≡ word ++ tail)
 
 -- "only the byte 0x20 is a space": none or more from p up to q
 pub data Spaces (xs : List ℕ) : ℕ → ℕ → Type 0 where
-  no-space : {p : ℕ} → Spaces xs p p
+  no_space : {p : ℕ} → Spaces xs p p
   space : {p q : ℕ} → Stands xs p (0x20 ∷ []) → Spaces xs (p + 1) q → Spaces xs p q
 
 -- one or more
@@ -35,15 +35,15 @@ pub data Value (xs : List ℕ) : ℕ → ℕ → List ℕ → Type 0 where
 -- "after a value comes a space, a ")" or the end": close is the byte that closes the bracket around the test
 pub data Follows (close : ℕ) : List ℕ → Type 0 where
   the_end : Follows close []
-  a-space : {xs : List ℕ} → Follows close (0x20 ∷ xs)
-  a-close : {xs : List ℕ} → Follows close (close ∷ xs)
+  a_space : {xs : List ℕ} → Follows close (0x20 ∷ xs)
+  a_close : {xs : List ℕ} → Follows close (close ∷ xs)
 
 -- ---- tests
 
 -- the k-th of the 19 operators stands at p; each has two letters
 pub record Operator (xs : List ℕ) (p k : ℕ) : Type 0 where
-  pub one_of : k < length operatorWords
-  pub stands : Stands xs p (get_or operatorWords k [])
+  pub one_of : k < length operator_words
+  pub stands : Stands xs p (get_or operator_words k [])
 
 -- "a test is a name, an operation word and a value, with at least one space between"
 pub data TestAt (xs : List ℕ) (close : ℕ) : ℕ → ℕ → Test → Type 0 where
@@ -53,13 +53,13 @@ pub data TestAt (xs : List ℕ) (close : ℕ) : ℕ → ℕ → Test → Type 0 
 -- ---- connectives and brackets
 
 -- the connective's bytes with the space that it wants after it
-abbrev pub connectiveWord : Connective → List ℕ
-connectiveWord Connective.And = ascii "and "
-connectiveWord Connective.Or = ascii "or "
+abbrev pub connective_word : Connective → List ℕ
+connective_word Connective.And = ascii "and "
+connective_word Connective.Or = ascii "or "
 
 -- "with at least one space on both sides of the joining word"
 pub data Connects (xs : List ℕ) : ℕ → ℕ → Connective → Type 0 where
-  connects : {p a q : ℕ} {c : Connective} → Gap xs p a → Stands xs a (connectiveWord c) → Spaces xs (a + length (connectiveWord c)) q → Connects xs p q c
+  connects : {p a q : ℕ} {c : Connective} → Gap xs p a → Stands xs a (connective_word c) → Spaces xs (a + length (connective_word c)) q → Connects xs p q c
 
 -- "(", or "not" and "(", with the spaces that may stand inside the bracket and after not; true with not
 pub data Opens (xs : List ℕ) : ℕ → ℕ → Bool → Type 0 where
@@ -87,16 +87,16 @@ pub data Chooses (xs : List ℕ) : ℕ → ℕ → List ℕ → Type 0 where
 mutual
   -- "an item is a test, a filter in round brackets, or not followed by a filter in round brackets"
   pub data Item (xs : List ℕ) : (close d p q : ℕ) → Tree → Type 0 where
-    item-test : {close d p q : ℕ} {t : Test} → TestAt xs close p q t → Item xs close d p q (test t)
-    item-bracket : {close d p a b q : ℕ} {f : Tree} → Opens xs p a false → Filter xs round d a b f → Closes xs round b q → Item xs close (suc d) p q f
-    item-not : {close d p a b q : ℕ} {f : Tree} → Opens xs p a true → Filter xs round d a b f → Closes xs round b q → Item xs close (suc d) p q (negation f)
+    item_test : {close d p q : ℕ} {t : Test} → TestAt xs close p q t → Item xs close d p q (test t)
+    item_bracket : {close d p a b q : ℕ} {f : Tree} → Opens xs p a false → Filter xs round d a b f → Closes xs round b q → Item xs close (suc d) p q f
+    item_not : {close d p a b q : ℕ} {f : Tree} → Opens xs p a true → Filter xs round d a b f → Closes xs round b q → Item xs close (suc d) p q (negation f)
     -- 02: a test of a member of a bundle, `name[filter].name`: "spaces may stand just inside them but not just outside"
-    item-bracketed : {close d p a b m q : ℕ} {n : List ℕ} {f : Tree} {t : Test} → Chooses xs p a n → Filter xs square d a b f → Closes xs square b m
+    item_bracketed : {close d p a b m q : ℕ} {n : List ℕ} {f : Tree} {t : Test} → Chooses xs p a n → Filter xs square d a b f → Closes xs square b m
         → Stands xs m (ascii ".") → TestAt xs close (m + 1) q t → Item xs close (suc d) p q (bracketed p n f t)
 
   -- "one or more items joined by and or or", from left to right
   pub data Filter (xs : List ℕ) : (close d p q : ℕ) → Tree → Type 0 where
-    one-item : {close d p q : ℕ} {f : Tree} → Item xs close d p q f → Filter xs close d p q f
+    one_item : {close d p q : ℕ} {f : Tree} → Item xs close d p q f → Filter xs close d p q f
     one_more : {close d p m a q : ℕ} {c : Connective} {f g : Tree} → Filter xs close d p m f → Connects xs m a c → Item xs close d a q g → Filter xs close d p q (join c f g)
 
 -- the whole text is a filter with this tree, with brackets nested at most d deep and at most m tests; "spaces may stand at either
@@ -107,16 +107,16 @@ pub record Within (d m : ℕ) (xs : List ℕ) (f : Tree) : Type 0 where
   pub before : Spaces xs 0 from
   pub filter : Filter xs round d from to f
   pub after : Spaces xs to (length xs)
-  pub few : length (testsOf f) ≤ m
+  pub few : length (tests_of f) ≤ m
 
 -- "brackets nest at most 8 deep; a filter has at most 32 tests"
 abbrev pub deepest : ℕ
 deepest = 8
 
 -- "a filter has at most 32 tests"
-abbrev pub mostTests : ℕ
-mostTests = 32
+abbrev pub most_tests : ℕ
+most_tests = 32
 
 -- the text is a filter, within both limits
 abbrev pub Spells : List ℕ → Tree → Type 0
-Spells = Within deepest mostTests
+Spells = Within deepest most_tests

@@ -9,6 +9,6 @@ pub record PlacedValue (xs : List ℕ) (v : RawValue) : Type 0 where
   pub within : v.end ≤ length xs
 
 pub record Placed (xs : List ℕ) (r : RawTest) : Type 0 where
-  pub name-order : r.at ≤ r.until
-  pub name-within : r.until ≤ length xs
+  pub name_order : r.at ≤ r.until
+  pub name_within : r.until ≤ length xs
   pub value : PlacedValue xs r.value

@@ -3,12 +3,12 @@
 use Rattle.std.specs.Prelude.{ℕ, suc, ◌+◌, ◌≤◌, ◌≡◌, Bool, true, false, cond, ◌||◌, List, [], ◌∷◌, eqb, leb, ltb, length, get_or, take, drop}
 use Rattle.base.specs.Ascii.{ascii}
 use Rattle.base.specs.Lists.{equal}
-use Rattle.base.specs.Names.{isNamePart, isName}
+use Rattle.base.specs.Names.{is_name_part, is_name}
 use Rattle.base.specs.Parts.{part}
-use Rattle.base.specs.Affixes.{hasPrefix}
-use Rattle.base.specs.Runs.{runEnd}
-use Rattle.base.specs.Operators.{operatorWords}
-use Rattle.syntax.specs.Strings.{quote, backslash, is_bare, isEscape, unescaped}
+use Rattle.base.specs.Affixes.{has_prefix}
+use Rattle.base.specs.Runs.{run_end}
+use Rattle.base.specs.Operators.{operator_words}
+use Rattle.syntax.specs.Strings.{quote, backslash, is_bare, is_escape, unescaped}
 use Rattle.syntax.specs.Tree.{Test, name}
 use Rattle.syntax.specs.Grammar.{square}
 use Rattle.syntax.specs.declared.StringStep.{StringStep}
@@ -28,57 +28,57 @@ use Rattle.syntax.specs.declared.FoundClose.{FoundClose}
 -- ---- spaces and words
 
 -- "only the byte 0x20 is a space"
-abbrev pub isSpace : ℕ → Bool
-isSpace b = eqb b 0x20
+abbrev pub is_space : ℕ → Bool
+is_space b = eqb b 0x20
 
 -- the first position from p on where no space stands
-abbrev pub skipAt : List ℕ → ℕ → ℕ
-skipAt xs p = runEnd isSpace xs p
+abbrev pub skip_at : List ℕ → ℕ → ℕ
+skip_at xs p = run_end is_space xs p
 
 -- the word stands at p
 abbrev pub has : List ℕ → ℕ → List ℕ → Bool
-has xs p word = hasPrefix (drop p xs) word
+has xs p word = has_prefix (drop p xs) word
 
 -- ---- values
 
 -- what a byte does in a string, where pending says that a backslash stands before it
 unfoldable pub step_of : Bool → ℕ → StringStep
-step_of true b = cond (isEscape b) (StringStep.More false) StringStep.Wrong
+step_of true b = cond (is_escape b) (StringStep.More false) StringStep.Wrong
 step_of false b =
     cond (eqb b quote) StringStep.Close
     (cond (eqb b backslash) (StringStep.More true)
     (cond (leb 0x20 b) (StringStep.More false) StringStep.Wrong))
 
 -- goes on behind a byte of a string, or ends there
-abbrev pub onStep : StringStep → (Bool → FoundString) → ℕ → Bool → FoundString
-onStep (StringStep.More pending) next p escaped = next pending
-onStep StringStep.Close next p escaped = FoundString.Closed p escaped
-onStep StringStep.Wrong next p escaped = FoundString.Nothing
+abbrev pub on_step : StringStep → (Bool → FoundString) → ℕ → Bool → FoundString
+on_step (StringStep.More pending) next p escaped = next pending
+on_step StringStep.Close next p escaped = FoundString.Closed p escaped
+on_step StringStep.Wrong next p escaped = FoundString.Nothing
 
 -- the closing quote of a string of which the bytes from p on are given; escaped says that an escape came before
-unfoldable pub stringFrom : List ℕ → Bool → Bool → ℕ → FoundString
-stringFrom [] pending escaped p = FoundString.Nothing
-stringFrom (y ∷ ys) pending escaped p = onStep (step_of pending y) (λ k. stringFrom ys k (escaped || k) (p + 1)) p escaped
+unfoldable pub string_from : List ℕ → Bool → Bool → ℕ → FoundString
+string_from [] pending escaped p = FoundString.Nothing
+string_from (y ∷ ys) pending escaped p = on_step (step_of pending y) (λ k. string_from ys k (escaped || k) (p + 1)) p escaped
 
 -- the same from the position p of the text
-unfoldable pub stringAt : List ℕ → Bool → Bool → ℕ → FoundString
-stringAt xs pending escaped p = stringFrom (drop p xs) pending escaped p
+unfoldable pub string_at : List ℕ → Bool → Bool → ℕ → FoundString
+string_at xs pending escaped p = string_from (drop p xs) pending escaped p
 
 -- the string whose opening quote stands at p
-abbrev pub stringValue : ℕ → FoundString → FoundValue
-stringValue p (FoundString.Closed e escaped) = FoundValue.Value (record { start = p + 1; end = e; escaped = escaped; next = e + 1 })
-stringValue p FoundString.Nothing = FoundValue.Nothing
+abbrev pub string_value : ℕ → FoundString → FoundValue
+string_value p (FoundString.Closed e escaped) = FoundValue.Value (record { start = p + 1; end = e; escaped = escaped; next = e + 1 })
+string_value p FoundString.Nothing = FoundValue.Nothing
 
 -- the bare word from p up to e
-abbrev pub bareValue : ℕ → ℕ → FoundValue
-bareValue p e = FoundValue.Value (record { start = p; end = e; escaped = false; next = e })
+abbrev pub bare_value : ℕ → ℕ → FoundValue
+bare_value p e = FoundValue.Value (record { start = p; end = e; escaped = false; next = e })
 
 -- the value that begins at p: a string with its closing quote, or a bare word as long as it goes
 unfoldable pub value_at : List ℕ → ℕ → FoundValue
 value_at xs p =
     cond (ltb p (length xs))
-    (cond (eqb (get_or xs p 0) quote) (stringValue p (stringAt xs false false (p + 1)))
-    (cond (is_bare (get_or xs p 0)) (bareValue p (runEnd is_bare xs p)) FoundValue.Nothing))
+    (cond (eqb (get_or xs p 0) quote) (string_value p (string_at xs false false (p + 1)))
+    (cond (is_bare (get_or xs p 0)) (bare_value p (run_end is_bare xs p)) FoundValue.Nothing))
     FoundValue.Nothing
 
 -- what a byte between the quotes adds to the value
@@ -110,40 +110,40 @@ follows close (x ∷ xs) = eqb x 0x20 || eqb x close
 -- ---- tests
 
 -- the word's number among the words from the k-th on
-unfoldable pub findOperator : ℕ → List (List ℕ) → List ℕ → FoundOperator
-findOperator k [] w = FoundOperator.Nothing
-findOperator k (u ∷ us) w = cond (equal w u) (FoundOperator.Is k) (findOperator (suc k) us w)
+unfoldable pub find_operator : ℕ → List (List ℕ) → List ℕ → FoundOperator
+find_operator k [] w = FoundOperator.Nothing
+find_operator k (u ∷ us) w = cond (equal w u) (FoundOperator.Is k) (find_operator (suc k) us w)
 
-unfoldable pub operatorAt : List ℕ → ℕ → FoundOperator
-operatorAt xs p = findOperator 0 operatorWords (take 2 (drop p xs))
+unfoldable pub operator_at : List ℕ → ℕ → FoundOperator
+operator_at xs p = find_operator 0 operator_words (take 2 (drop p xs))
 
-abbrev pub withOperator : FoundOperator → (ℕ → FoundTest) → FoundTest
-withOperator (FoundOperator.Is k) next = next k
-withOperator FoundOperator.Nothing next = FoundTest.Nothing
+abbrev pub with_operator : FoundOperator → (ℕ → FoundTest) → FoundTest
+with_operator (FoundOperator.Is k) next = next k
+with_operator FoundOperator.Nothing next = FoundTest.Nothing
 
-abbrev pub withValue : FoundValue → (RawValue → FoundTest) → FoundTest
-withValue (FoundValue.Value v) next = next v
-withValue FoundValue.Nothing next = FoundTest.Nothing
+abbrev pub with_value : FoundValue → (RawValue → FoundTest) → FoundTest
+with_value (FoundValue.Value v) next = next v
+with_value FoundValue.Nothing next = FoundTest.Nothing
 
 -- a test at p whose name ends at e and whose operator k ends at o: the value, with spaces before it
-unfoldable pub testValue : List ℕ → ℕ → (p e k o : ℕ) → FoundTest
-testValue xs close p e k o =
-    cond (eqb (skipAt xs o) o) FoundTest.Nothing
-    (withValue (value_at xs (skipAt xs o)) λ v.
+unfoldable pub test_value : List ℕ → ℕ → (p e k o : ℕ) → FoundTest
+test_value xs close p e k o =
+    cond (eqb (skip_at xs o) o) FoundTest.Nothing
+    (with_value (value_at xs (skip_at xs o)) λ v.
     cond (follows close (drop v.next xs)) (FoundTest.Test (record { at = p; until = e; operator = k; value = v })) FoundTest.Nothing)
 
 -- a test at p whose name ends at e: the operator, with spaces before it, and the rest
-unfoldable pub testOperator : List ℕ → ℕ → (p e : ℕ) → FoundTest
-testOperator xs close p e =
-    cond (eqb (skipAt xs e) e) FoundTest.Nothing
-    (withOperator (operatorAt xs (skipAt xs e)) λ k. testValue xs close p e k (skipAt xs e + 2))
+unfoldable pub test_operator : List ℕ → ℕ → (p e : ℕ) → FoundTest
+test_operator xs close p e =
+    cond (eqb (skip_at xs e) e) FoundTest.Nothing
+    (with_operator (operator_at xs (skip_at xs e)) λ k. test_value xs close p e k (skip_at xs e + 2))
 
 -- where the name bytes from p on end
-abbrev pub nameEnd : List ℕ → ℕ → ℕ
-nameEnd xs p = runEnd isNamePart xs p
+abbrev pub name_end : List ℕ → ℕ → ℕ
+name_end xs p = run_end is_name_part xs p
 
-unfoldable pub testAt : List ℕ → ℕ → ℕ → FoundTest
-testAt xs close p = cond (isName (part xs p (nameEnd xs p))) (testOperator xs close p (nameEnd xs p)) FoundTest.Nothing
+unfoldable pub test_at : List ℕ → ℕ → ℕ → FoundTest
+test_at xs close p = cond (is_name (part xs p (name_end xs p))) (test_operator xs close p (name_end xs p)) FoundTest.Nothing
 
 -- the test that stands in the text
 abbrev pub test_of : List ℕ → RawTest → Test
@@ -159,55 +159,55 @@ test_of xs r =
 
 unfoldable pub open_at : List ℕ → ℕ → Head
 open_at xs p =
-    cond (has xs p (ascii "(")) (Head.Open (skipAt xs (p + 1)) false)
+    cond (has xs p (ascii "(")) (Head.Open (skip_at xs (p + 1)) false)
     (cond (has xs p (ascii "not"))
-    (cond (has xs (skipAt xs (p + 3)) (ascii "(")) (Head.Open (skipAt xs (skipAt xs (p + 3) + 1)) true) Head.Nothing)
+    (cond (has xs (skip_at xs (p + 3)) (ascii "(")) (Head.Open (skip_at xs (skip_at xs (p + 3) + 1)) true) Head.Nothing)
     Head.Nothing)
 
-abbrev pub testOr : FoundTest → Head → Head
-testOr (FoundTest.Test r) other = Head.Test r
-testOr FoundTest.Nothing other = other
+abbrev pub test_or : FoundTest → Head → Head
+test_or (FoundTest.Test r) other = Head.Test r
+test_or FoundTest.Nothing other = other
 
 -- a name and "[" at p
-unfoldable pub choiceAt : List ℕ → ℕ → FoundChoice
-choiceAt xs p =
-    cond (isName (part xs p (nameEnd xs p)))
-    (cond (has xs (nameEnd xs p) (ascii "[")) (FoundChoice.At (nameEnd xs p)) FoundChoice.Nothing)
+unfoldable pub choice_at : List ℕ → ℕ → FoundChoice
+choice_at xs p =
+    cond (is_name (part xs p (name_end xs p)))
+    (cond (has xs (name_end xs p) (ascii "[")) (FoundChoice.At (name_end xs p)) FoundChoice.Nothing)
     FoundChoice.Nothing
 
-abbrev pub choiceOr : FoundChoice → Head → Head
-choiceOr (FoundChoice.At e) other = Head.Choice e
-choiceOr FoundChoice.Nothing other = other
+abbrev pub choice_or : FoundChoice → Head → Head
+choice_or (FoundChoice.At e) other = Head.Choice e
+choice_or FoundChoice.Nothing other = other
 
 -- what an item begins with
-unfoldable pub headAt : List ℕ → ℕ → ℕ → Head
-headAt xs close p = testOr (testAt xs close p) (choiceOr (choiceAt xs p) (open_at xs p))
+unfoldable pub head_at : List ℕ → ℕ → ℕ → Head
+head_at xs close p = test_or (test_at xs close p) (choice_or (choice_at xs p) (open_at xs p))
 
 -- the test among what an item may begin with
-abbrev pub testIn : Head → FoundTest
-testIn (Head.Test r) = FoundTest.Test r
-testIn (Head.Open q negated) = FoundTest.Nothing
-testIn (Head.Choice e) = FoundTest.Nothing
-testIn Head.Nothing = FoundTest.Nothing
+abbrev pub test_in : Head → FoundTest
+test_in (Head.Test r) = FoundTest.Test r
+test_in (Head.Open q negated) = FoundTest.Nothing
+test_in (Head.Choice e) = FoundTest.Nothing
+test_in Head.Nothing = FoundTest.Nothing
 
 -- "." and a member's test at p, after the bracket
-unfoldable pub memberAt : List ℕ → ℕ → ℕ → FoundTest
-memberAt xs close p = cond (has xs p (ascii ".")) (testAt xs close (p + 1)) FoundTest.Nothing
+unfoldable pub member_at : List ℕ → ℕ → ℕ → FoundTest
+member_at xs close p = cond (has xs p (ascii ".")) (test_at xs close (p + 1)) FoundTest.Nothing
 
-unfoldable pub connectiveAt : List ℕ → ℕ → FoundConnective
-connectiveAt xs p =
-    cond (eqb (skipAt xs p) p) FoundConnective.Nothing
-    (cond (has xs (skipAt xs p) (ascii "and ")) (FoundConnective.Next (skipAt xs (skipAt xs p + 4)) Connective.And)
-    (cond (has xs (skipAt xs p) (ascii "or ")) (FoundConnective.Next (skipAt xs (skipAt xs p + 3)) Connective.Or)
+unfoldable pub connective_at : List ℕ → ℕ → FoundConnective
+connective_at xs p =
+    cond (eqb (skip_at xs p) p) FoundConnective.Nothing
+    (cond (has xs (skip_at xs p) (ascii "and ")) (FoundConnective.Next (skip_at xs (skip_at xs p + 4)) Connective.And)
+    (cond (has xs (skip_at xs p) (ascii "or ")) (FoundConnective.Next (skip_at xs (skip_at xs p + 3)) Connective.Or)
     FoundConnective.Nothing))
 
-unfoldable pub closeAt : List ℕ → ℕ → ℕ → FoundClose
-closeAt xs close p = cond (has xs (skipAt xs p) (close ∷ [])) (FoundClose.At (skipAt xs p + 1)) FoundClose.Nothing
+unfoldable pub close_at : List ℕ → ℕ → ℕ → FoundClose
+close_at xs close p = cond (has xs (skip_at xs p) (close ∷ [])) (FoundClose.At (skip_at xs p + 1)) FoundClose.Nothing
 
 -- the member's test after a filter in square brackets that ends at p
-abbrev pub afterClose : List ℕ → ℕ → FoundClose → FoundTest
-afterClose xs close (FoundClose.At m) = memberAt xs close m
-afterClose xs close FoundClose.Nothing = FoundTest.Nothing
+abbrev pub after_close : List ℕ → ℕ → FoundClose → FoundTest
+after_close xs close (FoundClose.At m) = member_at xs close m
+after_close xs close FoundClose.Nothing = FoundTest.Nothing
 
-unfoldable pub memberAfter : List ℕ → (close p : ℕ) → FoundTest
-memberAfter xs close p = afterClose xs close (closeAt xs square p)
+unfoldable pub member_after : List ℕ → (close p : ℕ) → FoundTest
+member_after xs close p = after_close xs close (close_at xs square p)

@@ -22,8 +22,8 @@ unfoldable pub is_plain : ℕ → Bool
 is_plain b = leb 0x20 b && (not (eqb b quote) && not (eqb b backslash))
 
 -- the byte may follow a backslash: it is one of the escapes below
-unfoldable pub isEscape : ℕ → Bool
-isEscape b = member b (quote ∷ code "/" ∷ backslash ∷ ascii "bfnrt")
+unfoldable pub is_escape : ℕ → Bool
+is_escape b = member b (quote ∷ code "/" ∷ backslash ∷ ascii "bfnrt")
 
 -- what a backslash and that byte stand for: backspace, form feed, line feed, carriage return, tab, or the byte itself
 unfoldable pub unescaped : ℕ → ℕ
@@ -33,17 +33,17 @@ unescaped b =
 
 -- "the JSON escapes \" \\ \/ \b \f \n \r \t", each with the byte that it stands for
 pub data Escape : ℕ → ℕ → Type 0 where
-  quotation-mark : Escape 0x22 0x22
-  reverse-solidus : Escape 0x5c 0x5c
+  quotation_mark : Escape 0x22 0x22
+  reverse_solidus : Escape 0x5c 0x5c
   solidus : Escape (code "/") 0x2f
   backspace : Escape (code "b") 0x08
-  form-feed : Escape (code "f") 0x0c
+  form_feed : Escape (code "f") 0x0c
   line-feed : Escape (code "n") 0x0a
-  carriage-return : Escape (code "r") 0x0d
+  carriage_return : Escape (code "r") 0x0d
   tabulation : Escape (code "t") 0x09
 
 -- what stands between the quotes, and the value that it writes
 pub data Quoted : List ℕ → List ℕ → Type 0 where
-  nothing-more : Quoted [] []
+  nothing_more : Quoted [] []
   plain : {b : ℕ} {s v : List ℕ} → is_plain b ≡ true → Quoted s v → Quoted (b ∷ s) (b ∷ v)
   escaped : {b u : ℕ} {s v : List ℕ} → Escape b u → Quoted s v → Quoted (backslash ∷ b ∷ s) (u ∷ v)

@@ -32,11 +32,11 @@ pub data Tree : Type 0 where
   negation : Tree → Tree
 
 -- the tests, in the order of their first bytes, each with its path from the top
-unfoldable pub testsOf : Tree → List Test
-testsOf (test t) = t ∷ []
-testsOf (bracketed p b f t) = map (under b) (moved p t ∷ testsOf f)
-testsOf (join c f g) = testsOf f ++ testsOf g
-testsOf (negation f) = testsOf f
+unfoldable pub tests_of : Tree → List Test
+tests_of (test t) = t ∷ []
+tests_of (bracketed p b f t) = map (under b) (moved p t ∷ tests_of f)
+tests_of (join c f g) = tests_of f ++ tests_of g
+tests_of (negation f) = tests_of f
 
 -- the tree with every position 0: "tests, decoded values, joins, nots and grouping"
 unfoldable pub erase : Tree → Tree
@@ -47,5 +47,5 @@ erase (negation f) = negation (erase f)
 
 -- the tests begin one after the other, from position p on and before q
 pub data Rising : ℕ → ℕ → List Test → Type 0 where
-  rising-end : {p q : ℕ} → p ≤ q → Rising p q []
-  rising-next : {p q : ℕ} {t : Test} {ts : List Test} → p ≤ t.at → Rising (t.at + 1) q ts → Rising p q (t ∷ ts)
+  rising_end : {p q : ℕ} → p ≤ q → Rising p q []
+  rising_next : {p q : ℕ} {t : Test} {ts : List Test} → p ≤ t.at → Rising (t.at + 1) q ts → Rising p q (t ∷ ts)

@@ -5,7 +5,7 @@ pub mod test;
 pub mod value;
 
 ghost use Rattle.std.specs.Prelude.{◌≡◌, ◌≤◌, length};
-ghost use Rattle.syntax.specs.Scan.{open_at, choiceAt, choiceOr, headAt, testIn, memberAt, memberAfter, connectiveAt, closeAt};
+ghost use Rattle.syntax.specs.Scan.{open_at, choice_at, choice_or, head_at, test_in, member_at, member_after, connective_at, close_at};
 
 use scan::{has, name_end, skip};
 use test::{is_name_run, read_test};
@@ -132,7 +132,7 @@ fn read_open(s: &[u8], at: usize) -> Head
 // A name and "[" at a position.
 fn read_choice(s: &[u8], at: usize) -> FoundChoice
     requires { at ≤ length s.now }
-    ensures { result ≡ choiceAt s.now at }
+    ensures { result ≡ choice_at s.now at }
 {
     let until = name_end(s, at);
     if is_name_run(s, at, until) {
@@ -147,7 +147,7 @@ fn read_choice(s: &[u8], at: usize) -> FoundChoice
 // A bracket that opens at a position, round or, after a name, square.
 fn read_bracket(s: &[u8], at: usize) -> Head
     requires { at ≤ length s.now }
-    ensures { result ≡ choiceOr (choiceAt s.now at) (open_at s.now at) }
+    ensures { result ≡ choice_or (choice_at s.now at) (open_at s.now at) }
 {
     match read_choice(s, at) {
         FoundChoice::At(until) => Head::Choice(until),
@@ -158,7 +158,7 @@ fn read_bracket(s: &[u8], at: usize) -> Head
 // What an item begins with at a position, where `close` closes the bracket around the item.
 pub fn read_head(s: &[u8], close: u8, at: usize) -> Head
     requires { at ≤ length s.now }
-    ensures { result ≡ headAt s.now close at }
+    ensures { result ≡ head_at s.now close at }
 {
     match read_test(s, close, at) {
         FoundTest::Test(test) => Head::Test(test),
@@ -168,7 +168,7 @@ pub fn read_head(s: &[u8], close: u8, at: usize) -> Head
 
 // The test that an item begins with, if it does.
 fn test_in(head: Head) -> FoundTest
-    ensures { result ≡ testIn head }
+    ensures { result ≡ test_in head }
 {
     match head {
         Head::Test(test) => FoundTest::Test(test),
@@ -182,7 +182,7 @@ fn test_in(head: Head) -> FoundTest
 // `read_test` has one caller and is compiled into it.
 fn read_dotted(s: &[u8], close: u8, at: usize) -> FoundTest
     requires { at ≤ length s.now }
-    ensures { result ≡ memberAt s.now close at }
+    ensures { result ≡ member_at s.now close at }
 {
     if has(s, at, b".") {
         return test_in(read_head(s, close, at + 1));
@@ -193,7 +193,7 @@ fn read_dotted(s: &[u8], close: u8, at: usize) -> FoundTest
 // The test of a member after a filter in square brackets that ends at a position, where `close` closes the bracket around it.
 pub fn read_member(s: &[u8], close: u8, at: usize) -> FoundTest
     requires { at ≤ length s.now }
-    ensures { result ≡ memberAfter s.now close at }
+    ensures { result ≡ member_after s.now close at }
 {
     match read_close(s, b']', at) {
         FoundClose::At(after) => read_dotted(s, close, after),
@@ -204,7 +204,7 @@ pub fn read_member(s: &[u8], close: u8, at: usize) -> FoundTest
 // The connective after an item that ends at a position, "with at least one space on both sides".
 pub fn read_connective(s: &[u8], at: usize) -> FoundConnective
     requires { at ≤ length s.now }
-    ensures { result ≡ connectiveAt s.now at }
+    ensures { result ≡ connective_at s.now at }
 {
     let word = skip(s, at);
     if word == at {
@@ -222,7 +222,7 @@ pub fn read_connective(s: &[u8], at: usize) -> FoundConnective
 // The byte that closes a bracket after a filter that ends at a position.
 pub fn read_close(s: &[u8], close: u8, at: usize) -> FoundClose
     requires { at ≤ length s.now }
-    ensures { result ≡ closeAt s.now close at }
+    ensures { result ≡ close_at s.now close at }
 {
     let end = skip(s, at);
     if has(s, end, &[close]) {

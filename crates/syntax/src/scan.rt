@@ -1,12 +1,12 @@
 // Spaces, words and runs of bytes.
 ghost use Rattle.std.specs.Prelude.{◌≡◌, ◌≤◌, length};
-ghost use Rattle.base.specs.Names.{isNamePart};
+ghost use Rattle.base.specs.Names.{is_name_part};
 ghost use Rattle.base.specs.Runs.{RunEnd};
-ghost use Rattle.syntax.specs.Scan.{isSpace, has};
+ghost use Rattle.syntax.specs.Scan.{is_space, has};
 
 // "Only the byte 0x20 is a space."
 pub fn is_space(b: u8) -> bool
-    ensures { result ≡ isSpace b }
+    ensures { result ≡ is_space b }
 {
     b == b' '
 }
@@ -14,7 +14,7 @@ pub fn is_space(b: u8) -> bool
 // The first position from `at` on where no space stands.
 pub fn skip(s: &[u8], at: usize) -> usize
     requires { at ≤ length s.now }
-    ensures { RunEnd isSpace s.now at result }
+    ensures { RunEnd is_space s.now at result }
 {
     let mut i = at;
     while i < s.len() {
@@ -30,7 +30,7 @@ pub fn skip(s: &[u8], at: usize) -> usize
 // The first position from `at` on where no byte of a name stands.
 pub fn name_end(s: &[u8], at: usize) -> usize
     requires { at ≤ length s.now }
-    ensures { RunEnd isNamePart s.now at result }
+    ensures { RunEnd is_name_part s.now at result }
 {
     let mut i = at;
     while i < s.len() {

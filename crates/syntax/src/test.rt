@@ -1,9 +1,9 @@
 // Tests: a name, an operator and a value, with at least one space between.
 ghost use Rattle.std.specs.Prelude.{◌≡◌, ◌&&◌, ◌+◌, ◌*◌, ◌≤◌, eqb, length, drop};
-ghost use Rattle.base.specs.Names.{isNamePart, isName};
+ghost use Rattle.base.specs.Names.{is_name_part, is_name};
 ghost use Rattle.base.specs.Parts.{part};
 ghost use Rattle.base.specs.Runs.{RunEnd};
-ghost use Rattle.syntax.specs.Scan.{follows, operatorAt, testValue, testOperator, testAt};
+ghost use Rattle.syntax.specs.Scan.{follows, operator_at, test_value, test_operator, test_at};
 
 use crate::scan::{name_end, skip};
 use crate::value::read_value;
@@ -29,7 +29,7 @@ fn same_letters(first: u8, second: u8, one: u8, two: u8) -> bool
 // come to.
 pub fn read_operator(s: &[u8], at: usize) -> FoundOperator
     requires { at ≤ length s.now }
-    ensures { result ≡ operatorAt s.now at }
+    ensures { result ≡ operator_at s.now at }
 {
     if s.len() - at < 2 {
         return FoundOperator::Nothing;
@@ -74,7 +74,7 @@ fn read_test_value(
     after: usize,
 ) -> FoundTest
     requires { after ≤ length s.now }
-    ensures { result ≡ testValue s.now close at until operator after }
+    ensures { result ≡ test_value s.now close at until operator after }
 {
     let start = skip(s, after);
     if start == after {
@@ -100,7 +100,7 @@ fn read_test_value(
 // The operator and the value of a test at `at` whose name ends at `until`.
 fn read_test_operator(s: &[u8], close: u8, at: usize, until: usize) -> FoundTest
     requires { until ≤ length s.now }
-    ensures { result ≡ testOperator s.now close at until }
+    ensures { result ≡ test_operator s.now close at until }
 {
     let word = skip(s, until);
     if word == until {
@@ -114,8 +114,8 @@ fn read_test_operator(s: &[u8], close: u8, at: usize, until: usize) -> FoundTest
 
 // Whether the bytes from `at` up to `until`, with each of which a name may go on, are a name.
 pub fn is_name_run(s: &[u8], at: usize, until: usize) -> bool
-    requires { RunEnd isNamePart s.now at until }
-    ensures { result ≡ isName (part s.now at until) }
+    requires { RunEnd is_name_part s.now at until }
+    ensures { result ≡ is_name (part s.now at until) }
 {
     if until == at {
         return false;
@@ -129,7 +129,7 @@ pub fn is_name_run(s: &[u8], at: usize, until: usize) -> bool
 // The test that begins at a position, where `close` closes the bracket around it.
 pub fn read_test(s: &[u8], close: u8, at: usize) -> FoundTest
     requires { at ≤ length s.now }
-    ensures { result ≡ testAt s.now close at }
+    ensures { result ≡ test_at s.now close at }
 {
     let until = name_end(s, at);
     if is_name_run(s, at, until) {

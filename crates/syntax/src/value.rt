@@ -1,8 +1,8 @@
 // Values: bare words, and strings with escapes.
 ghost use Rattle.std.specs.Prelude.{◌≡◌, false, ◌||◌, ◌+◌, ◌≤◌, length};
 ghost use Rattle.base.specs.Runs.{RunEnd};
-ghost use Rattle.syntax.specs.Strings.{is_bare, isEscape, unescaped};
-ghost use Rattle.syntax.specs.Scan.{step_of, stringAt, value_at, piece_of, Decoded};
+ghost use Rattle.syntax.specs.Strings.{is_bare, is_escape, unescaped};
+ghost use Rattle.syntax.specs.Scan.{step_of, string_at, value_at, piece_of, Decoded};
 
 use crate::{FoundString, FoundValue, Piece, RawValue, StringStep};
 
@@ -37,7 +37,7 @@ fn bare_end(s: &[u8], at: usize) -> usize
 
 // Whether a byte may follow a backslash: "the JSON escapes \" \\ \/ \b \f \n \r \t".
 fn is_escape(b: u8) -> bool
-    ensures { result ≡ isEscape b }
+    ensures { result ≡ is_escape b }
 {
     match b {
         b'"' | b'\\' | b'/' | b'b' | b'f' | b'n' | b'r' | b't' => true,
@@ -91,7 +91,7 @@ fn either(a: bool, b: bool) -> bool
 // The closing quote of a string whose first byte, after the opening quote, is at the position.
 fn read_string(s: &[u8], at: usize) -> FoundString
     requires { at ≤ length s.now }
-    ensures { result ≡ stringAt s.now false false at }
+    ensures { result ≡ string_at s.now false false at }
 {
     let mut i = at;
     let mut pending = false;

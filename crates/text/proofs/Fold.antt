@@ -5,22 +5,22 @@ use Prim.Native.Nat.{ℕ, zero, suc, ◌+◌, ◌-◌, ◌%◌, ◌≤◌, ◌<�
 use Prim.Native.Char.{code}
 use native.Mathlib.Numerals.{unary_clauses}
 use native.Mathlib.Omega.{arith}
-use mathlib.Core.Bool.{Bool, true, false, cond, not, ◌&&◌, ◌||◌, and-false}
+use mathlib.Core.Bool.{Bool, true, false, cond, not, ◌&&◌, ◌||◌, and_false}
 use mathlib.Core.List.{List, [], ◌∷◌}
 use lib.Dec.{eqb, leb}
 use lib.ListN.{length, get_or}
 use borrow.Author.Tests.{le-leb, lt-leb, leb-true, eqb-false, not-true}
 use Rattle.base.proofs.Tests.{and_left, and_right, answered}
-use Rattle.text.specs.Fold.{isCapital, lead, isAccented, foldByte, foldFrom, foldText}
+use Rattle.text.specs.Fold.{is_capital, lead, is_accented, fold_byte, fold_from, fold_text}
 
-foldFrom-length : (w : ℕ) (s : List ℕ) → length (foldFrom w s) ≡ length s
-unfolding foldFrom
-foldFrom-length w [] = refl
-foldFrom-length w (x ∷ s) = ap suc (foldFrom-length x s)
+fold_from-length : (w : ℕ) (s : List ℕ) → length (fold_from w s) ≡ length s
+unfolding fold_from
+fold_from-length w [] = refl
+fold_from-length w (x ∷ s) = ap suc (fold_from-length x s)
 
-pub foldText-length : (s : List ℕ) → length (foldText s) ≡ length s
-unfolding foldText
-foldText-length s = foldFrom-length 0 s
+pub fold_text-length : (s : List ℕ) → length (fold_text s) ≡ length s
+unfolding fold_text
+fold_text-length s = fold_from-length 0 s
 
 -- ---- folding keeps the last five bits of a byte
 
@@ -28,49 +28,49 @@ byte_low : (t : Bool) (x : ℕ) → cond t (x + 32) x % 32 ≡ x % 32
 byte_low true x = omega arith
 byte_low false x = refl
 
-from_low : (w : ℕ) (s : List ℕ) (i : ℕ) → get_or (foldFrom w s) i 0 % 32 ≡ get_or s i 0 % 32
-unfolding foldFrom foldByte
+from_low : (w : ℕ) (s : List ℕ) (i : ℕ) → get_or (fold_from w s) i 0 % 32 ≡ get_or s i 0 % 32
+unfolding fold_from fold_byte
 from_low w [] i = refl
-from_low w (x ∷ s) zero = byte_low (isCapital x || (eqb w lead && isAccented x)) x
+from_low w (x ∷ s) zero = byte_low (is_capital x || (eqb w lead && is_accented x)) x
 from_low w (x ∷ s) (suc i) = from_low x s i
 
-pub fold-low : (s : List ℕ) (i : ℕ) → get_or (foldText s) i 0 % 32 ≡ get_or s i 0 % 32
-unfolding foldText
-fold-low s i = from_low 0 s i
+pub fold_low : (s : List ℕ) (i : ℕ) → get_or (fold_text s) i 0 % 32 ≡ get_or s i 0 % 32
+unfolding fold_text
+fold_low s i = from_low 0 s i
 
 -- ---- `is_capital`, `is_accented`, `follows_lead`
 
 module _ (b : ℕ) where
-  pub capital-below : b < code "A" → leb (code "A") b ≡ isCapital b
-  unfolding isCapital
-  capital-below h = rw (lt-leb (code "A") b h)
+  pub capital_below : b < code "A" → leb (code "A") b ≡ is_capital b
+  unfolding is_capital
+  capital_below h = rw (lt-leb (code "A") b h)
 
-  pub capital-above : code "A" ≤ b → leb b (code "Z") ≡ isCapital b
-  unfolding isCapital
-  capital-above h = rw (le-leb (code "A") b h)
+  pub capital_above : code "A" ≤ b → leb b (code "Z") ≡ is_capital b
+  unfolding is_capital
+  capital_above h = rw (le-leb (code "A") b h)
 
-  pub accented-below : b < 128 → leb 128 b ≡ isAccented b
-  unfolding isAccented
-  accented-below h = rw (lt-leb 128 b h)
+  pub accented_below : b < 128 → leb 128 b ≡ is_accented b
+  unfolding is_accented
+  accented_below h = rw (lt-leb 128 b h)
 
-  pub accented-above : 128 ≤ b → 158 < b → leb b 158 ≡ isAccented b
-  unfolding isAccented
-  accented-above l h = rw (le-leb 128 b l, lt-leb b 158 h)
+  pub accented_above : 128 ≤ b → 158 < b → leb b 158 ≡ is_accented b
+  unfolding is_accented
+  accented_above l h = rw (le-leb 128 b l, lt-leb b 158 h)
 
-  pub accented-between : 128 ≤ b → b ≤ 158 → not (eqb b 151) ≡ isAccented b
-  unfolding isAccented
-  accented-between l h = rw (le-leb 128 b l, le-leb b 158 h)
+  pub accented_between : 128 ≤ b → b ≤ 158 → not (eqb b 151) ≡ is_accented b
+  unfolding is_accented
+  accented_between l h = rw (le-leb 128 b l, le-leb b 158 h)
 
-  pub capital-there : isCapital b ≡ true → (code "A" ≤ b) × (b ≤ code "Z")
-  unfolding isCapital
-  capital-there t = (
+  pub capital_there : is_capital b ≡ true → (code "A" ≤ b) × (b ≤ code "Z")
+  unfolding is_capital
+  capital_there t = (
     leb-true (code "A") b (and_left (leb (code "A") b) (leb b (code "Z")) t),
     leb-true b (code "Z") (and_right (leb (code "A") b) (leb b (code "Z")) t),
   )
 
-  pub accented-there : isAccented b ≡ true → (128 ≤ b) × (b ≤ 158) × (b ≡ 151 → ⊥)
-  unfolding isAccented
-  accented-there t =
+  pub accented_there : is_accented b ≡ true → (128 ≤ b) × (b ≤ 158) × (b ≡ 151 → ⊥)
+  unfolding is_accented
+  accented_there t =
       let rest = and_right (leb 128 b) (leb b 158 && not (eqb b 151)) t in (
         leb-true 128 b (and_left (leb 128 b) (leb b 158 && not (eqb b 151)) t),
         leb-true b 158 (and_left (leb b 158) (not (eqb b 151)) rest),
@@ -78,11 +78,11 @@ module _ (b : ℕ) where
       )
 
   module _ (q : Bool) (t : q ≡ true) where
-    pub capital-fits : q ≡ isCapital b → b + 32 < 256
-    capital-fits e = omega (arith, (capital-there (answered e t)).1)
+    pub capital_fits : q ≡ is_capital b → b + 32 < 256
+    capital_fits e = omega (arith, (capital_there (answered e t)).1)
 
-    pub accented-fits : q ≡ isAccented b → b + 32 < 256
-    accented-fits e = omega (arith, (accented-there (answered e t)).1)
+    pub accented_fits : q ≡ is_accented b → b + 32 < 256
+    accented_fits e = omega (arith, (accented_there (answered e t)).1)
 
 pub lead-first : (s : List ℕ) (i : ℕ) → i ≡ 0 → false ≡ eqb (get_or (0 ∷ s) i 0) lead
 lead-first s i e = rw e
@@ -93,27 +93,27 @@ lead-before s (suc i) n = simp unary_clauses refl
 
 -- ---- the byte at an index, by the byte of the text there and the one before it
 
-folded : (w : ℕ) (s : List ℕ) (i : ℕ) → i < length s → get_or (foldFrom w s) i 0 ≡ foldByte (get_or (w ∷ s) i 0) (get_or s i 0)
-unfolding foldFrom
+folded : (w : ℕ) (s : List ℕ) (i : ℕ) → i < length s → get_or (fold_from w s) i 0 ≡ fold_byte (get_or (w ∷ s) i 0) (get_or s i 0)
+unfolding fold_from
 folded w [] i h = absurd (omega arith)
 folded w (x ∷ s) zero h = refl
 folded w (x ∷ s) (suc i) h = folded x s i (omega arith)
 
-module _ (s : List ℕ) (i : ℕ) (h : i < length s) (c : Bool) (e : c ≡ isCapital (get_or s i 0)) where
-  pub folded-capital : c ≡ true → get_or s i 0 + 32 ≡ get_or (foldText s) i 0
-  unfolding foldText foldByte
-  folded-capital t = rw (folded 0 s i h, ← e, t)
+module _ (s : List ℕ) (i : ℕ) (h : i < length s) (c : Bool) (e : c ≡ is_capital (get_or s i 0)) where
+  pub folded_capital : c ≡ true → get_or s i 0 + 32 ≡ get_or (fold_text s) i 0
+  unfolding fold_text fold_byte
+  folded_capital t = rw (folded 0 s i h, ← e, t)
 
-  module _ (f : c ≡ false) (a : Bool) (ea : a ≡ isAccented (get_or s i 0)) where
-    pub folded-plain : a ≡ false → get_or s i 0 ≡ get_or (foldText s) i 0
-    unfolding foldText foldByte
-    folded-plain fa = rw (folded 0 s i h, ← e, f, ← ea, fa, and-false)
+  module _ (f : c ≡ false) (a : Bool) (ea : a ≡ is_accented (get_or s i 0)) where
+    pub folded_plain : a ≡ false → get_or s i 0 ≡ get_or (fold_text s) i 0
+    unfolding fold_text fold_byte
+    folded_plain fa = rw (folded 0 s i h, ← e, f, ← ea, fa, and_false)
 
     module _ (ta : a ≡ true) (b : Bool) (eb : b ≡ eqb (get_or (0 ∷ s) i 0) lead) where
-      pub folded-accented : b ≡ true → get_or s i 0 + 32 ≡ get_or (foldText s) i 0
-      unfolding foldText foldByte
-      folded-accented tb = rw (folded 0 s i h, ← e, f, ← ea, ta, ← eb, tb)
+      pub folded_accented : b ≡ true → get_or s i 0 + 32 ≡ get_or (fold_text s) i 0
+      unfolding fold_text fold_byte
+      folded_accented tb = rw (folded 0 s i h, ← e, f, ← ea, ta, ← eb, tb)
 
-      pub folded-alone : b ≡ false → get_or s i 0 ≡ get_or (foldText s) i 0
-      unfolding foldText foldByte
-      folded-alone fb = rw (folded 0 s i h, ← e, f, ← ea, ta, ← eb, fb)
+      pub folded_alone : b ≡ false → get_or s i 0 ≡ get_or (fold_text s) i 0
+      unfolding fold_text fold_byte
+      folded_alone fb = rw (folded 0 s i h, ← e, f, ← ea, ta, ← eb, fb)

@@ -5,24 +5,24 @@ use Prim.Native.Nat.{ℕ}
 use mathlib.Core.Bool.{true}
 use mathlib.Core.List.{List, ◌++◌}
 use mathlib.Core.Logic.{◌↔◌}
-use Rattle.base.proofs.Lists.{equal-same, equal-refl}
-use Rattle.text.specs.Fold.{foldText}
+use Rattle.base.proofs.Lists.{equal-same, equal_refl}
+use Rattle.text.specs.Fold.{fold_text}
 use Rattle.text.specs.Compare.{same, starts, ends, contains}
-use Rattle.base.proofs.Affixes.{prefix-rest, prefix-append, suffix-rest, suffix-append, infix-rest, infix-append}
+use Rattle.base.proofs.Affixes.{prefix_rest, prefix_append, suffix_rest, suffix_append, infix_rest, infix_append}
 
 module _ (a b : List ℕ) where
-  pub same-iff : (same a b ≡ true) ↔ (foldText a ≡ foldText b)
+  pub same_iff : (same a b ≡ true) ↔ (fold_text a ≡ fold_text b)
   unfolding same
-  same-iff = (equal-same (foldText a) (foldText b), λ e. rw e (equal-refl (foldText b)))
+  same_iff = (equal-same (fold_text a) (fold_text b), λ e. rw e (equal_refl (fold_text b)))
 
-  pub starts-iff : (starts a b ≡ true) ↔ ((q : List ℕ) × (foldText a ≡ foldText b ++ q))
+  pub starts_iff : (starts a b ≡ true) ↔ ((q : List ℕ) × (fold_text a ≡ fold_text b ++ q))
   unfolding starts
-  starts-iff = (prefix-rest (foldText a) (foldText b), λ w. rw w.1 (prefix-append (foldText b) w.0))
+  starts_iff = (prefix_rest (fold_text a) (fold_text b), λ w. rw w.1 (prefix_append (fold_text b) w.0))
 
-  pub ends-iff : (ends a b ≡ true) ↔ ((p : List ℕ) × (foldText a ≡ p ++ foldText b))
+  pub ends_iff : (ends a b ≡ true) ↔ ((p : List ℕ) × (fold_text a ≡ p ++ fold_text b))
   unfolding ends
-  ends-iff = (suffix-rest (foldText a) (foldText b), λ w. rw w.1 (suffix-append w.0 (foldText b)))
+  ends_iff = (suffix_rest (fold_text a) (fold_text b), λ w. rw w.1 (suffix_append w.0 (fold_text b)))
 
-  pub contains-iff : (contains a b ≡ true) ↔ ((p : List ℕ) × (q : List ℕ) × (foldText a ≡ p ++ (foldText b ++ q)))
+  pub contains_iff : (contains a b ≡ true) ↔ ((p : List ℕ) × (q : List ℕ) × (fold_text a ≡ p ++ (fold_text b ++ q)))
   unfolding contains
-  contains-iff = (infix-rest (foldText a) (foldText b), λ w. rw w.2 (infix-append w.0 (foldText b) w.1))
+  contains_iff = (infix_rest (fold_text a) (fold_text b), λ w. rw w.2 (infix_append w.0 (fold_text b) w.1))

@@ -1,20 +1,20 @@
 // Comparisons of texts that ignore the case of A to Z and of the letters U+00C0 to U+00DE.
 // All comparisons read a text folded, through `folded_at` alone.
 ghost use Rattle.std.specs.Prelude.{◌≡◌, ◌+◌, ◌≤◌, ◌<◌, ◌∷◌, eqb, length, get_or, drop};
-ghost use Rattle.text.specs.Fold.{isCapital, lead, isAccented, foldText};
-ghost use Rattle.base.specs.Affixes.{hasPrefix};
+ghost use Rattle.text.specs.Fold.{is_capital, lead, is_accented, fold_text};
+ghost use Rattle.base.specs.Affixes.{has_prefix};
 ghost use Rattle.text.specs.Compare.{same, starts, ends, contains};
 
 // Whether a byte is a capital of A to Z.
 fn is_capital(b: u8) -> bool
-    ensures { result ≡ isCapital b }
+    ensures { result ≡ is_capital b }
 {
     b'A' <= b && b <= b'Z'
 }
 
 // Whether a byte is the second of a capital from U+00C0 to U+00DE, if 0xC3 stands before it.
 fn is_accented(b: u8) -> bool
-    ensures { result ≡ isAccented b }
+    ensures { result ≡ is_accented b }
 {
     0x80 <= b && (b <= 0x9E && b != 0x97)
 }
@@ -33,7 +33,7 @@ fn follows_lead(s: &[u8], i: usize) -> bool
 // The byte at an index of the folded text. The byte before is looked at only where the byte can fold by it, which is seldom.
 fn folded_at(s: &[u8], i: usize) -> u8
     requires { i < length s.now }
-    ensures { result ≡ get_or (foldText s.now) i 0 }
+    ensures { result ≡ get_or (fold_text s.now) i 0 }
 {
     let b = s[i];
     if is_capital(b) {
@@ -51,7 +51,7 @@ fn folded_at(s: &[u8], i: usize) -> u8
 // Whether b stands in a from an index on.
 fn begins_at(a: &[u8], at: usize, b: &[u8]) -> bool
     requires { at + length b.now ≤ length a.now }
-    ensures { result ≡ hasPrefix (drop at (foldText a.now)) (foldText b.now) }
+    ensures { result ≡ has_prefix (drop at (fold_text a.now)) (fold_text b.now) }
 {
     let mut i = 0;
     while i < b.len() {
@@ -97,8 +97,8 @@ pub fn ends(a: &[u8], b: &[u8]) -> bool
 fn begins_by(a: &[u8], at: usize, b: &[u8], first: u8) -> bool
     requires b_in_bounds { at + length b.now ≤ length a.now }
     requires b_nonzero { 0 < length b.now }
-    requires first_value { first ≡ get_or (foldText b.now) 0 0 }
-    ensures { result ≡ hasPrefix (drop at (foldText a.now)) (foldText b.now) }
+    requires first_value { first ≡ get_or (fold_text b.now) 0 0 }
+    ensures { result ≡ has_prefix (drop at (fold_text a.now)) (fold_text b.now) }
 {
     if a[at] % 32 != first % 32 {
         return false;

@@ -1,9 +1,9 @@
 -- Judging: what is gathered is the filter's verdict.
--- Judging with every test needed is the definition, by induction on the tree (`judging-is`). An item that is not needed leaves the verdict
--- as it was, and by the cases of connective and verdict that is what joining it gives (`verdict-after`). For the test of a member the code
+-- Judging with every test needed is the definition, by induction on the tree (`judging_is`). An item that is not needed leaves the verdict
+-- as it was, and by the cases of connective and verdict that is what joining it gives (`verdict_after`). For the test of a member the code
 -- goes entry by entry, and asks the filter in square brackets of the entry's occurrence. The definition keeps the entries that this filter
 -- chooses, and then asks their texts. By induction on the entries both give the same (`chosen_is`), since an occurrence that counts has all
--- its entries among those that count (`occurrence-whole`). So the test says what the definition says (`member_is`).
+-- its entries among those that count (`occurrence_whole`). So the test says what the definition says (`member_is`).
 -- Assumes nothing.
 use Prim.Native.Nat.{ℕ}
 use native.Mathlib.Omega.{arith}
@@ -11,146 +11,146 @@ use mathlib.Core.Path.{◌≡◌, refl, ap, sym, ◌∙◌}
 use mathlib.Core.Bool.{Bool, true, false, cond, not, ◌&&◌, ◌||◌}
 use mathlib.Core.List.{List, [], ◌∷◌}
 use lib.Dec.{eqb}
-use Rattle.base.proofs.Tests.{and-true, and-false}
+use Rattle.base.proofs.Tests.{and_true, and_false}
 use Rattle.sheet.specs.Find.{enter}
 use Rattle.sheet.specs.declared.Found.{Found}
 use Rattle.syntax.specs.Reader.{Parsed, parsed, unparsed}
-use Rattle.kind.specs.Table.{meaningOf}
-use Rattle.kind.specs.Readable.{isTrue}
+use Rattle.kind.specs.Table.{meaning_of}
+use Rattle.kind.specs.Readable.{is_true}
 use Rattle.kind.specs.declared.Meaning.{Meaning}
-use Rattle.judge.specs.Sets.{lookup, valuesAt, counts, chosen_of, ofOccurrence, keep}
+use Rattle.judge.specs.Sets.{lookup, values_at, counts, chosen_of, of_occurrence, keep}
 use Rattle.judge.specs.declared.Chosen.{Chosen}
 use Rattle.judge.proofs.Meaning.{says_some}
-use Rattle.judge.proofs.Occurrences.{chosen-one, occurrence-whole}
+use Rattle.judge.proofs.Occurrences.{chosen_one, occurrence_whole}
 use Rattle.filter.specs.Walks.{answer_of}
-use Rattle.text_judge.specs.Members.{parsedSays, judgedSays, someChosen, memberAt, memberSays}
+use Rattle.text_judge.specs.Members.{parsed_says, judged_says, some_chosen, member_at, member_says}
 use Rattle.sheet.specs.Sheet.{Parameter}
 use Rattle.card.specs.Card.{Entry, entry}
 use Rattle.syntax.specs.Tree.{Test, Tree, test, bracketed, join, negation}
-use Rattle.syntax.specs.Fold.{foldTree}
+use Rattle.syntax.specs.Fold.{fold_tree}
 use Rattle.syntax.specs.declared.Connective.{Connective}
-use Rattle.judge.specs.Verdicts.{someValue, textCounts, someSays, saysAt, testSays, filterSays}
+use Rattle.judge.specs.Verdicts.{some_value, text_counts, some_says, says_at, test_says, filter_says}
 use Rattle.text_judge.specs.Folds.{undecided, judging}
 use Rattle.text_judge.specs.declared.Judged.{Judged}
 use Rattle.filter.proofs.Walk.{Cases}
 
 -- the two cases of an answer
-pub judged-cases : Cases Judged.Done Judged.Nothing
-judged-cases =
+pub judged_cases : Cases Judged.Done Judged.Nothing
+judged_cases =
     record {
       apart = λ q a h. let z : ◌≡◌ {A = ℕ} 0 1 = cc in omega arith;
       end = λ q p a b h. cc;
       value = λ q p a b h. cc;
     }
 
-pub judging-is : (ps : List Parameter) (c : ℕ) (es : List Entry) (f : Tree) → foldTree (judging true ps c es) f ≡ filterSays ps c es f
-unfolding foldTree filterSays judging
-judging-is ps c es (test t) = refl
-judging-is ps c es (bracketed p b f t) = refl
-judging-is ps c es (join k f g) = rw (judging-is ps c es f, judging-is ps c es g)
-judging-is ps c es (negation f) = rw (judging-is ps c es f)
+pub judging_is : (ps : List Parameter) (c : ℕ) (es : List Entry) (f : Tree) → fold_tree (judging true ps c es) f ≡ filter_says ps c es f
+unfolding fold_tree filter_says judging
+judging_is ps c es (test t) = refl
+judging_is ps c es (bracketed p b f t) = refl
+judging_is ps c es (join k f g) = rw (judging_is ps c es f, judging_is ps c es g)
+judging_is ps c es (negation f) = rw (judging_is ps c es f)
 
 -- the verdict after an item: the item's where it is needed, and else the one before it
 module _ (ps : List Parameter) (c : ℕ) (es : List Entry) where
-  pub verdict-after : (needed : Bool) (o : Connective) (a b v r : Bool) → r ≡ (needed && undecided o a) → v ≡ cond r b a → (f : Tree) → b ≡ foldTree (judging r ps c es) f → v ≡ (judging needed ps c es).both o a (foldTree (judging needed ps c es) f)
+  pub verdict_after : (needed : Bool) (o : Connective) (a b v r : Bool) → r ≡ (needed && undecided o a) → v ≡ cond r b a → (f : Tree) → b ≡ fold_tree (judging r ps c es) f → v ≡ (judging needed ps c es).both o a (fold_tree (judging needed ps c es) f)
   unfolding judging
-  verdict-after true Connective.And true b v r e h f s = rw (h, e, s, e)
-  verdict-after true Connective.And false b v r e h f s = rw (h, e)
-  verdict-after true Connective.Or true b v r e h f s = rw (h, e)
-  verdict-after true Connective.Or false b v r e h f s = rw (h, e, s, e)
-  verdict-after false o a b v r e h f s = rw (h, e)
+  verdict_after true Connective.And true b v r e h f s = rw (h, e, s, e)
+  verdict_after true Connective.And false b v r e h f s = rw (h, e)
+  verdict_after true Connective.Or true b v r e h f s = rw (h, e)
+  verdict_after true Connective.Or false b v r e h f s = rw (h, e, s, e)
+  verdict_after false o a b v r e h f s = rw (h, e)
 
 -- ---- the filter in square brackets
 
 -- judging what is in the brackets for one occurrence
-pub judged-occurrence : (ps : List Parameter) (c o : ℕ) (es : List Entry) (g : Parsed) (j : Judged) → j ≡ answer_of Judged.Done Judged.Nothing (judging true ps c (chosen_of (record { all = false; occurrence = o }) es)) g
-    → judgedSays j ≡ parsedSays ps c (ofOccurrence o es) g
+pub judged_occurrence : (ps : List Parameter) (c o : ℕ) (es : List Entry) (g : Parsed) (j : Judged) → j ≡ answer_of Judged.Done Judged.Nothing (judging true ps c (chosen_of (record { all = false; occurrence = o }) es)) g
+    → judged_says j ≡ parsed_says ps c (of_occurrence o es) g
 unfolding answer_of
-judged-occurrence ps c o es (parsed q f) j e = ap judgedSays e ∙ judging-is ps c (chosen_of (record { all = false; occurrence = o }) es) f ∙ ap (λ (l : List Entry). filterSays ps c l f) (chosen-one o es)
-judged-occurrence ps c o es unparsed j e = ap judgedSays e
+judged_occurrence ps c o es (parsed q f) j e = ap judged_says e ∙ judging_is ps c (chosen_of (record { all = false; occurrence = o }) es) f ∙ ap (λ (l : List Entry). filter_says ps c l f) (chosen_one o es)
+judged_occurrence ps c o es unparsed j e = ap judged_says e
 
 -- entry by entry is by the set of the entries that the filter chooses
 module _ (ps : List Parameter) (c : ℕ) (all : List Entry) (k : Chosen) (q : ℕ) (f : Tree) (i : ℕ) (m : Meaning) (v : List ℕ) where
   abbrev yes_of : Entry → Bool
-  yes_of e = filterSays ps c (ofOccurrence e.occurrence (chosen_of k all)) f
+  yes_of e = filter_says ps c (of_occurrence e.occurrence (chosen_of k all)) f
 
-  pub chosen_is : (es : List Entry) → someChosen ps c all k (parsed q f) i m v es ≡ someValue (textCounts m v) (valuesAt i (keep yes_of (chosen_of k es)))
-  unfolding someChosen chosen_of keep valuesAt someValue
+  pub chosen_is : (es : List Entry) → some_chosen ps c all k (parsed q f) i m v es ≡ some_value (text_counts m v) (values_at i (keep yes_of (chosen_of k es)))
+  unfolding some_chosen chosen_of keep values_at some_value
   chosen_is [] = refl
   chosen_is (e ∷ es) = go (counts k e.occurrence) (eqb e.index i) (yes_of e) refl refl refl (chosen_is es)
     where
-      go : (t u w : Bool) → counts k e.occurrence ≡ t → eqb e.index i ≡ u → yes_of e ≡ w → someChosen ps c all k (parsed q f) i m v es ≡ someValue (textCounts m v) (valuesAt i (keep yes_of (chosen_of k es)))
-          → someChosen ps c all k (parsed q f) i m v (e ∷ es) ≡ someValue (textCounts m v) (valuesAt i (keep yes_of (chosen_of k (e ∷ es))))
+      go : (t u w : Bool) → counts k e.occurrence ≡ t → eqb e.index i ≡ u → yes_of e ≡ w → some_chosen ps c all k (parsed q f) i m v es ≡ some_value (text_counts m v) (values_at i (keep yes_of (chosen_of k es)))
+          → some_chosen ps c all k (parsed q f) i m v (e ∷ es) ≡ some_value (text_counts m v) (values_at i (keep yes_of (chosen_of k (e ∷ es))))
       go false u w a b d r = rw (a, r)
       go true u w a b d r =
-          let same : filterSays ps c (ofOccurrence e.occurrence all) f ≡ w = ap (λ (l : List Entry). filterSays ps c l f) (sym (occurrence-whole k e.occurrence all a)) ∙ d in
+          let same : filter_says ps c (of_occurrence e.occurrence all) f ≡ w = ap (λ (l : List Entry). filter_says ps c l f) (sym (occurrence_whole k e.occurrence all a)) ∙ d in
           by u w b d same
         where
-          by : (u w : Bool) → eqb e.index i ≡ u → yes_of e ≡ w → filterSays ps c (ofOccurrence e.occurrence all) f ≡ w → someChosen ps c all k (parsed q f) i m v (e ∷ es) ≡ someValue (textCounts m v) (valuesAt i (keep yes_of (chosen_of k (e ∷ es))))
-          by true true b d s = rw (a, d, b, s, r, and-true (textCounts m v e.text))
-          by true false b d s = rw (a, d, b, s, r, and-false (textCounts m v e.text))
+          by : (u w : Bool) → eqb e.index i ≡ u → yes_of e ≡ w → filter_says ps c (of_occurrence e.occurrence all) f ≡ w → some_chosen ps c all k (parsed q f) i m v (e ∷ es) ≡ some_value (text_counts m v) (values_at i (keep yes_of (chosen_of k (e ∷ es))))
+          by true true b d s = rw (a, d, b, s, r, and_true (text_counts m v e.text))
+          by true false b d s = rw (a, d, b, s, r, and_false (text_counts m v e.text))
           by false true b d s = rw (a, d, b, r)
           by false false b d s = rw (a, d, b, r)
 
 -- so the test of a member says what the definition says
 pub member_is : (ps : List Parameter) (c : ℕ) (es : List Entry) (k : Chosen) (p : ℕ) (b : List ℕ) (q : ℕ) (f : Tree) (t : Test)
-    → memberSays ps (enter ps c b) es k (parsed q f) t ≡ filterSays ps c (chosen_of k es) (bracketed p b f t)
-unfolding memberSays filterSays foldTree testSays
+    → member_says ps (enter ps c b) es k (parsed q f) t ≡ filter_says ps c (chosen_of k es) (bracketed p b f t)
+unfolding member_says filter_says fold_tree test_says
 member_is ps c es k p b q f t = go (lookup ps (enter ps c b) t.path)
   where
     yes : Entry → Bool
-    yes e = filterSays ps (enter ps c b) (ofOccurrence e.occurrence (chosen_of k es)) f
+    yes e = filter_says ps (enter ps c b) (of_occurrence e.occurrence (chosen_of k es)) f
 
-    go : (o : Found) → memberAt o ps (enter ps c b) es k (parsed q f) t ≡ saysAt o t.operator t.value (keep yes (chosen_of k es))
-    go (Found.At i kind) = ap (someSays (meaningOf t.operator kind) (isTrue t.value)) (chosen_is ps (enter ps c b) es k q f i (meaningOf t.operator kind) t.value es) ∙ sym (says_some (meaningOf t.operator kind) t.value (valuesAt i (keep yes (chosen_of k es))))
+    go : (o : Found) → member_at o ps (enter ps c b) es k (parsed q f) t ≡ says_at o t.operator t.value (keep yes (chosen_of k es))
+    go (Found.At i kind) = ap (some_says (meaning_of t.operator kind) (is_true t.value)) (chosen_is ps (enter ps c b) es k q f i (meaning_of t.operator kind) t.value es) ∙ sym (says_some (meaning_of t.operator kind) t.value (values_at i (keep yes (chosen_of k es))))
     go Found.Missing = refl
 
 -- as the code judges one occurrence
-pub chosen-judged : (ps : List Parameter) (c o : ℕ) (es : List Entry) (g : Parsed) (j : Judged) (u r : Bool) → j ≡ answer_of Judged.Done Judged.Nothing (judging true ps c (chosen_of (record { all = false; occurrence = o }) es)) g
-    → r ≡ judgedSays j → u ≡ true → r ≡ (u && parsedSays ps c (ofOccurrence o es) g)
-chosen-judged ps c o es g j u r e h i = rw i (h ∙ judged-occurrence ps c o es g j e)
+pub chosen_judged : (ps : List Parameter) (c o : ℕ) (es : List Entry) (g : Parsed) (j : Judged) (u r : Bool) → j ≡ answer_of Judged.Done Judged.Nothing (judging true ps c (chosen_of (record { all = false; occurrence = o }) es)) g
+    → r ≡ judged_says j → u ≡ true → r ≡ (u && parsed_says ps c (of_occurrence o es) g)
+chosen_judged ps c o es g j u r e h i = rw i (h ∙ judged_occurrence ps c o es g j e)
 
 -- after not the opposite
-pub verdict-negated : (needed : Bool) (ps : List Parameter) (c : ℕ) (es : List Entry) (b a v : Bool) → v ≡ cond b (not a) a → v ≡ cond b ((judging needed ps c es).negate a) a
+pub verdict_negated : (needed : Bool) (ps : List Parameter) (c : ℕ) (es : List Entry) (b a v : Bool) → v ≡ cond b (not a) a → v ≡ cond b ((judging needed ps c es).negate a) a
 unfolding judging
-verdict-negated needed ps c es b a v e = e
+verdict_negated needed ps c es b a v e = e
 
 -- an entry at hand: it is chosen, or what is left decides
 module _ (ps : List Parameter) (c : ℕ) (all : List Entry) (k : Chosen) (g : Parsed) (i : ℕ) (m : Meaning) (v : List ℕ) (j o : ℕ) (x : List ℕ) (es : List Entry) (under n r : Bool)
-    (a : under ≡ (counts k o && eqb j i)) (b : n ≡ (under && textCounts m v x)) (d : r ≡ (n && parsedSays ps c (ofOccurrence o all) g)) where
-  chosen-step : someChosen ps c all k g i m v (entry j o x ∷ es) ≡ (r || someChosen ps c all k g i m v es)
-  unfolding someChosen
+    (a : under ≡ (counts k o && eqb j i)) (b : n ≡ (under && text_counts m v x)) (d : r ≡ (n && parsed_says ps c (of_occurrence o all) g)) where
+  chosen-step : some_chosen ps c all k g i m v (entry j o x ∷ es) ≡ (r || some_chosen ps c all k g i m v es)
+  unfolding some_chosen
   chosen-step =
-      let whole : r ≡ (((counts k o && eqb j i) && textCounts m v x) && parsedSays ps c (ofOccurrence o all) g) = d ∙ ap (λ (y : Bool). y && parsedSays ps c (ofOccurrence o all) g) (b ∙ ap (λ (y : Bool). y && textCounts m v x) a) in
-      ap (λ (y : Bool). y || someChosen ps c all k g i m v es) (sym whole)
+      let whole : r ≡ (((counts k o && eqb j i) && text_counts m v x) && parsed_says ps c (of_occurrence o all) g) = d ∙ ap (λ (y : Bool). y && parsed_says ps c (of_occurrence o all) g) (b ∙ ap (λ (y : Bool). y && text_counts m v x) a) in
+      ap (λ (y : Bool). y || some_chosen ps c all k g i m v es) (sym whole)
 
-  pub chosen-here : r ≡ true → true ≡ someChosen ps c all k g i m v (entry j o x ∷ es)
-  chosen-here h = sym (chosen-step ∙ ap (λ (y : Bool). y || someChosen ps c all k g i m v es) h)
+  pub chosen-here : r ≡ true → true ≡ some_chosen ps c all k g i m v (entry j o x ∷ es)
+  chosen-here h = sym (chosen-step ∙ ap (λ (y : Bool). y || some_chosen ps c all k g i m v es) h)
 
-  pub chosen-next : r ≡ false → someChosen ps c all k g i m v (entry j o x ∷ es) ≡ someChosen ps c all k g i m v es
-  chosen-next h = chosen-step ∙ ap (λ (y : Bool). y || someChosen ps c all k g i m v es) h
+  pub chosen-next : r ≡ false → some_chosen ps c all k g i m v (entry j o x ∷ es) ≡ some_chosen ps c all k g i m v es
+  chosen-next h = chosen-step ∙ ap (λ (y : Bool). y || some_chosen ps c all k g i m v es) h
 
-pub chosen-end : (ps : List Parameter) (c : ℕ) (all : List Entry) (k : Chosen) (g : Parsed) (i : ℕ) (m : Meaning) (v : List ℕ) → false ≡ someChosen ps c all k g i m v []
-unfolding someChosen
-chosen-end ps c all k g i m v = refl
+pub chosen_end : (ps : List Parameter) (c : ℕ) (all : List Entry) (k : Chosen) (g : Parsed) (i : ℕ) (m : Meaning) (v : List ℕ) → false ≡ some_chosen ps c all k g i m v []
+unfolding some_chosen
+chosen_end ps c all k g i m v = refl
 
 -- the test of a member, by what its path names
 module _ (ps : List Parameter) (c : ℕ) (es : List Entry) (k : Chosen) (g : Parsed) (t : Test) (n : Bool) (f : Found) (e : f ≡ lookup ps c t.path) where
-  pub member-found : (i kind : ℕ) (m : Meaning) (truth some r : Bool) → f ≡ Found.At i kind → m ≡ meaningOf t.operator kind → some ≡ someChosen ps c es k g i m t.value es → truth ≡ isTrue t.value → r ≡ someSays m truth some → n ≡ true
-      → r ≡ (n && memberSays ps c es k g t)
-  unfolding memberSays
+  pub member-found : (i kind : ℕ) (m : Meaning) (truth some r : Bool) → f ≡ Found.At i kind → m ≡ meaning_of t.operator kind → some ≡ some_chosen ps c es k g i m t.value es → truth ≡ is_true t.value → r ≡ some_says m truth some → n ≡ true
+      → r ≡ (n && member_says ps c es k g t)
+  unfolding member_says
   member-found i kind m truth some r h u s w z y =
       let at : lookup ps c t.path ≡ Found.At i kind = sym e ∙ h in
-      let chosen : some ≡ someChosen ps c es k g i (meaningOf t.operator kind) t.value es = s ∙ ap (λ (l : Meaning). someChosen ps c es k g i l t.value es) u in
+      let chosen : some ≡ some_chosen ps c es k g i (meaning_of t.operator kind) t.value es = s ∙ ap (λ (l : Meaning). some_chosen ps c es k g i l t.value es) u in
       rw (y, at) (z ∙ rw (u, w, chosen))
 
-  pub member-missing : f ≡ Found.Missing → n ≡ true → false ≡ (n && memberSays ps c es k g t)
-  unfolding memberSays
-  member-missing h y = rw (y, sym e ∙ h)
+  pub member_missing : f ≡ Found.Missing → n ≡ true → false ≡ (n && member_says ps c es k g t)
+  unfolding member_says
+  member_missing h y = rw (y, sym e ∙ h)
 
 -- as the code judges the test of a member after what was parsed in the brackets
-pub verdict-inside : (needed : Bool) (ps : List Parameter) (c : ℕ) (es : List Entry) (k : Chosen) (p : ℕ) (b : List ℕ) (i : ℕ) (g : Parsed) (t : Test) (v : Bool) → i ≡ enter ps c b → v ≡ (needed && memberSays ps i es k g t)
-    → (q : ℕ) (f : Tree) → g ≡ parsed q f → v ≡ (judging needed ps c (chosen_of k es)).inside p b f (foldTree (judging needed ps c (chosen_of k es)) f) t
+pub verdict_inside : (needed : Bool) (ps : List Parameter) (c : ℕ) (es : List Entry) (k : Chosen) (p : ℕ) (b : List ℕ) (i : ℕ) (g : Parsed) (t : Test) (v : Bool) → i ≡ enter ps c b → v ≡ (needed && member_says ps i es k g t)
+    → (q : ℕ) (f : Tree) → g ≡ parsed q f → v ≡ (judging needed ps c (chosen_of k es)).inside p b f (fold_tree (judging needed ps c (chosen_of k es)) f) t
 unfolding judging
-verdict-inside needed ps c es k p b i g t v e h q f r =
-    h ∙ ap (λ (x : Bool). needed && x) (ap (λ (x : ℕ). memberSays ps x es k g t) e ∙ ap (λ (x : Parsed). memberSays ps (enter ps c b) es k x t) r ∙ member_is ps c es k p b q f t)
+verdict_inside needed ps c es k p b i g t v e h q f r =
+    h ∙ ap (λ (x : Bool). needed && x) (ap (λ (x : ℕ). member_says ps x es k g t) e ∙ ap (λ (x : Parsed). member_says ps (enter ps c b) es k x t) r ∙ member_is ps c es k p b q f t)

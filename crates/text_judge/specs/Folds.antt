@@ -6,7 +6,7 @@ use Rattle.card.specs.Card.{Entry}
 use Rattle.syntax.specs.Tree.{bracketed}
 use Rattle.syntax.specs.Fold.{Fold}
 use Rattle.syntax.specs.declared.Connective.{Connective}
-use Rattle.judge.specs.Verdicts.{testSays, joined, filterSays}
+use Rattle.judge.specs.Verdicts.{test_says, joined, filter_says}
 
 -- whether a verdict that is joined to a can change it
 abbrev pub undecided : Connective → Bool → Bool
@@ -17,8 +17,8 @@ undecided Connective.Or a = not a
 unfoldable pub judging : (needed : Bool) → List Parameter → ℕ → List Entry → Fold Bool
 judging needed ps c es =
     record {
-      one = λ t. needed && testSays ps c es t;
-      inside = λ p b f a t. needed && filterSays ps c es (bracketed p b f t);
+      one = λ t. needed && test_says ps c es t;
+      inside = λ p b f a t. needed && filter_says ps c es (bracketed p b f t);
       both = λ o a b. cond needed (joined o a b) a;
       negate = not;
     }

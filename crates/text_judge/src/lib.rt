@@ -1,16 +1,16 @@
 // Judging a card by a filter's text. A test whose join is already decided is read and not judged: the verdict is the same, and
 // that the test has a meaning was for check to say, before any card.
 ghost use Rattle.std.specs.Prelude.{◌≡◌, cond, not, ◌&&◌, ◌≤◌, ◌<◌, length};
-ghost use Rattle.sheet.specs.Sheet.{parametersOf, readSheet};
-ghost use Rattle.card.specs.Card.{entriesOf, readCard};
+ghost use Rattle.sheet.specs.Sheet.{parameters_of, read_sheet};
+ghost use Rattle.card.specs.Card.{entries_of, read_card};
 ghost use Rattle.syntax.specs.Placed.{Placed};
 ghost use Rattle.syntax.specs.Scan.{test_of};
 ghost use Rattle.syntax.specs.Grammar.{round};
-ghost use Rattle.syntax.specs.Reader.{item_at, filterAt, bracketAt, chosenAt};
+ghost use Rattle.syntax.specs.Reader.{item_at, filter_at, bracket_at, chosen_at};
 ghost use Rattle.text_judge.specs.Folds.{undecided, judging};
-ghost use Rattle.judge.specs.Sets.{ofOccurrence, chosen_of};
-ghost use Rattle.judge.specs.Verdicts.{textCounts};
-ghost use Rattle.text_judge.specs.Members.{parsedSays, judgedSays, someChosen, memberSays};
+ghost use Rattle.judge.specs.Sets.{of_occurrence, chosen_of};
+ghost use Rattle.judge.specs.Verdicts.{text_counts};
+ghost use Rattle.text_judge.specs.Members.{parsed_says, judged_says, some_chosen, member_says};
 ghost use Rattle.filter.specs.Walks.{answer_of};
 
 use block::Validity;
@@ -68,11 +68,11 @@ fn test_verdict(
     filter: &[u8],
     test: RawTest,
 ) -> bool
-    requires sheet_value { readSheet sheet.now ≡ Validity.WellFormed }
-    requires card_value { readCard card.now ≡ Validity.WellFormed }
+    requires sheet_value { read_sheet sheet.now ≡ Validity.WellFormed }
+    requires card_value { read_card card.now ≡ Validity.WellFormed }
     requires filter_len_bound { length filter.now ≤ 1024 }
     requires placed { Placed filter.now test }
-    ensures { result ≡ (judging needed (parametersOf sheet.now) bundle (chosen_of chosen (entriesOf card.now))).one (test_of filter.now test) }
+    ensures { result ≡ (judging needed (parameters_of sheet.now) bundle (chosen_of chosen (entries_of card.now))).one (test_of filter.now test) }
 {
     if needed {
         return test_says(sheet, bundle, card, chosen, filter, test);
@@ -82,7 +82,7 @@ fn test_verdict(
 
 // What was judged says, and no where it is no filter.
 fn judged_says(judged: Judged) -> bool
-    ensures { result ≡ judgedSays judged }
+    ensures { result ≡ judged_says judged }
 {
     match judged {
         Judged::Done(_, says) => says,
@@ -94,7 +94,7 @@ fn judged_says(judged: Judged) -> bool
 fn entry_counts(under: bool, filter: &[u8], test: RawTest, meaning: Meaning, text: &[u8]) -> bool
     requires filter_len_bound { length filter.now ≤ 1024 }
     requires placed { Placed filter.now test }
-    ensures { result ≡ (under && textCounts meaning (test_of filter.now test).value text.now) }
+    ensures { result ≡ (under && text_counts meaning (test_of filter.now test).value text.now) }
 {
     if under {
         return member_counts(filter, test, meaning, text);
@@ -112,11 +112,11 @@ fn entry_chosen(
     occurrence: u8,
     spot: Spot,
 ) -> bool
-    requires sheet_value { readSheet sheet.now ≡ Validity.WellFormed }
-    requires card_value { readCard card.now ≡ Validity.WellFormed }
+    requires sheet_value { read_sheet sheet.now ≡ Validity.WellFormed }
+    requires card_value { read_card card.now ≡ Validity.WellFormed }
     requires filter_len_bound { length filter.now ≤ 1024 }
     requires at_in_bounds { spot.at ≤ length filter.now }
-    ensures { result ≡ (counts && parsedSays (parametersOf sheet.now) spot.bundle (ofOccurrence occurrence (entriesOf card.now)) (filterAt spot.levels filter.now spot.close spot.at)) }
+    ensures { result ≡ (counts && parsed_says (parameters_of sheet.now) spot.bundle (of_occurrence occurrence (entries_of card.now)) (filter_at spot.levels filter.now spot.close spot.at)) }
 {
     if counts {
         let chosen = Chosen {
@@ -141,12 +141,12 @@ fn some_chosen(
     meaning: Meaning,
     test: RawTest,
 ) -> bool
-    requires sheet_value { readSheet sheet.now ≡ Validity.WellFormed }
-    requires card_value { readCard card.now ≡ Validity.WellFormed }
+    requires sheet_value { read_sheet sheet.now ≡ Validity.WellFormed }
+    requires card_value { read_card card.now ≡ Validity.WellFormed }
     requires filter_len_bound { length filter.now ≤ 1024 }
     requires at_in_bounds { spot.at ≤ length filter.now }
     requires placed { Placed filter.now test }
-    ensures { result ≡ someChosen (parametersOf sheet.now) spot.bundle (entriesOf card.now) chosen (filterAt spot.levels filter.now spot.close spot.at) index meaning (test_of filter.now test).value (entriesOf card.now) }
+    ensures { result ≡ some_chosen (parameters_of sheet.now) spot.bundle (entries_of card.now) chosen (filter_at spot.levels filter.now spot.close spot.at) index meaning (test_of filter.now test).value (entries_of card.now) }
 {
     let mut at = card::FIRST_ENTRY;
     let mut left = card::entry_count(card);
@@ -176,12 +176,12 @@ fn member_verdict(
     spot: Spot,
     test: RawTest,
 ) -> bool
-    requires sheet_value { readSheet sheet.now ≡ Validity.WellFormed }
-    requires card_value { readCard card.now ≡ Validity.WellFormed }
+    requires sheet_value { read_sheet sheet.now ≡ Validity.WellFormed }
+    requires card_value { read_card card.now ≡ Validity.WellFormed }
     requires filter_len_bound { length filter.now ≤ 1024 }
     requires at_in_bounds { spot.at ≤ length filter.now }
     requires placed { Placed filter.now test }
-    ensures { result ≡ (needed && memberSays (parametersOf sheet.now) spot.bundle (entriesOf card.now) chosen (filterAt spot.levels filter.now spot.close spot.at) (test_of filter.now test)) }
+    ensures { result ≡ (needed && member_says (parameters_of sheet.now) spot.bundle (entries_of card.now) chosen (filter_at spot.levels filter.now spot.close spot.at) (test_of filter.now test)) }
 {
     if needed {
         match test_found(sheet, spot.bundle, filter, test) {
@@ -209,12 +209,12 @@ fn judge_round(
     filter: &[u8],
     spot: Spot,
 ) -> Judged
-    requires sheet_value { readSheet sheet.now ≡ Validity.WellFormed }
-    requires card_value { readCard card.now ≡ Validity.WellFormed }
+    requires sheet_value { read_sheet sheet.now ≡ Validity.WellFormed }
+    requires card_value { read_card card.now ≡ Validity.WellFormed }
     requires filter_len_bound { length filter.now ≤ 1024 }
     requires at_in_bounds { spot.at ≤ length filter.now }
     requires close_value { spot.close ≡ round }
-    ensures { result ≡ answer_of Judged.Done Judged.Nothing (judging needed (parametersOf sheet.now) spot.bundle (chosen_of chosen (entriesOf card.now))) (bracketAt spot.levels filter.now negate spot.at) }
+    ensures { result ≡ answer_of Judged.Done Judged.Nothing (judging needed (parameters_of sheet.now) spot.bundle (chosen_of chosen (entries_of card.now))) (bracket_at spot.levels filter.now negate spot.at) }
 {
     let inner = judge_filter(needed, sheet, card, chosen, filter, spot);
     let Judged::Done(end, says) = inner else {
@@ -239,12 +239,12 @@ fn judge_chosen(
     spot: Spot,
     until: usize,
 ) -> Judged
-    requires sheet_value { readSheet sheet.now ≡ Validity.WellFormed }
-    requires card_value { readCard card.now ≡ Validity.WellFormed }
+    requires sheet_value { read_sheet sheet.now ≡ Validity.WellFormed }
+    requires card_value { read_card card.now ≡ Validity.WellFormed }
     requires filter_len_bound { length filter.now ≤ 1024 }
     requires at_le_until { spot.at ≤ until }
     requires until_in_bounds { until < length filter.now }
-    ensures { result ≡ answer_of Judged.Done Judged.Nothing (judging needed (parametersOf sheet.now) spot.bundle (chosen_of chosen (entriesOf card.now))) (chosenAt spot.levels filter.now spot.close spot.at until) }
+    ensures { result ≡ answer_of Judged.Done Judged.Nothing (judging needed (parameters_of sheet.now) spot.bundle (chosen_of chosen (entries_of card.now))) (chosen_at spot.levels filter.now spot.close spot.at until) }
 {
     let at = spot.at;
     let levels = spot.levels;
@@ -278,11 +278,11 @@ fn judge_item(
     filter: &[u8],
     spot: Spot,
 ) -> Judged
-    requires sheet_value { readSheet sheet.now ≡ Validity.WellFormed }
-    requires card_value { readCard card.now ≡ Validity.WellFormed }
+    requires sheet_value { read_sheet sheet.now ≡ Validity.WellFormed }
+    requires card_value { read_card card.now ≡ Validity.WellFormed }
     requires filter_len_bound { length filter.now ≤ 1024 }
     requires at_in_bounds { spot.at ≤ length filter.now }
-    ensures { result ≡ answer_of Judged.Done Judged.Nothing (judging needed (parametersOf sheet.now) spot.bundle (chosen_of chosen (entriesOf card.now))) (item_at spot.levels filter.now spot.close spot.at) }
+    ensures { result ≡ answer_of Judged.Done Judged.Nothing (judging needed (parameters_of sheet.now) spot.bundle (chosen_of chosen (entries_of card.now))) (item_at spot.levels filter.now spot.close spot.at) }
 {
     let at = spot.at;
     let levels = spot.levels;
@@ -334,11 +334,11 @@ pub fn judge_filter(
     filter: &[u8],
     spot: Spot,
 ) -> Judged
-    requires sheet_value { readSheet sheet.now ≡ Validity.WellFormed }
-    requires card_value { readCard card.now ≡ Validity.WellFormed }
+    requires sheet_value { read_sheet sheet.now ≡ Validity.WellFormed }
+    requires card_value { read_card card.now ≡ Validity.WellFormed }
     requires filter_len_bound { length filter.now ≤ 1024 }
     requires at_in_bounds { spot.at ≤ length filter.now }
-    ensures { result ≡ answer_of Judged.Done Judged.Nothing (judging needed (parametersOf sheet.now) spot.bundle (chosen_of chosen (entriesOf card.now))) (filterAt spot.levels filter.now spot.close spot.at) }
+    ensures { result ≡ answer_of Judged.Done Judged.Nothing (judging needed (parameters_of sheet.now) spot.bundle (chosen_of chosen (entries_of card.now))) (filter_at spot.levels filter.now spot.close spot.at) }
 {
     let first = judge_item(needed, sheet, card, chosen, filter, spot);
     let Judged::Done(first_end, first_says) = first else {

@@ -6,32 +6,32 @@ use native.Mathlib.Omega.{arith}
 use mathlib.Core.List.{List, [], ◌∷◌}
 use mathlib.Core.Option.{some}
 use Rattle.base.specs.Split.{whole, parts}
-use Rattle.token.specs.Card.{tokenOf}
-use Rattle.token.specs.Filter.{any-system, system-code, no-system, any_code, splitForm}
+use Rattle.token.specs.Card.{token_of}
+use Rattle.token.specs.Filter.{any_system, system_code, no_system, any_code, split_form}
 use Rattle.token.specs.Spelling.{NotEmpty}
 
-pub tokenOf-some : (s c : List ℕ) → NotEmpty c → tokenOf s c ≡ some (record { system = s; code = c })
-unfolding tokenOf
-tokenOf-some s [] h = absurd (omega arith)
-tokenOf-some s (x ∷ c) h = refl
+pub token_of_some : (s c : List ℕ) → NotEmpty c → token_of s c ≡ some (record { system = s; code = c })
+unfolding token_of
+token_of_some s [] h = absurd (omega arith)
+token_of_some s (x ∷ c) h = refl
 
-pub splitForm-any-system : (c : List ℕ) → NotEmpty c → splitForm (whole c) ≡ some (any-system c)
-unfolding splitForm
-splitForm-any-system [] h = absurd (omega arith)
-splitForm-any-system (x ∷ c) h = refl
+pub split_form_any_system : (c : List ℕ) → NotEmpty c → split_form (whole c) ≡ some (any_system c)
+unfolding split_form
+split_form_any_system [] h = absurd (omega arith)
+split_form_any_system (x ∷ c) h = refl
 
-pub splitForm-system-code : (s c : List ℕ) → NotEmpty s → NotEmpty c → splitForm (parts s c) ≡ some (system-code s c)
-unfolding splitForm
-splitForm-system-code [] c h k = absurd (omega arith)
-splitForm-system-code (y ∷ s) [] h k = absurd (omega arith)
-splitForm-system-code (y ∷ s) (x ∷ c) h k = refl
+pub split_form_system_code : (s c : List ℕ) → NotEmpty s → NotEmpty c → split_form (parts s c) ≡ some (system_code s c)
+unfolding split_form
+split_form_system_code [] c h k = absurd (omega arith)
+split_form_system_code (y ∷ s) [] h k = absurd (omega arith)
+split_form_system_code (y ∷ s) (x ∷ c) h k = refl
 
-pub splitForm-no-system : (c : List ℕ) → NotEmpty c → splitForm (parts [] c) ≡ some (no-system c)
-unfolding splitForm
-splitForm-no-system [] h = absurd (omega arith)
-splitForm-no-system (x ∷ c) h = refl
+pub split_form_no_system : (c : List ℕ) → NotEmpty c → split_form (parts [] c) ≡ some (no_system c)
+unfolding split_form
+split_form_no_system [] h = absurd (omega arith)
+split_form_no_system (x ∷ c) h = refl
 
-pub splitForm-any-code : (s : List ℕ) → NotEmpty s → splitForm (parts s []) ≡ some (any_code s)
-unfolding splitForm
-splitForm-any-code [] h = absurd (omega arith)
-splitForm-any-code (y ∷ s) h = refl
+pub split_form_any_code : (s : List ℕ) → NotEmpty s → split_form (parts s []) ≡ some (any_code s)
+unfolding split_form
+split_form_any_code [] h = absurd (omega arith)
+split_form_any_code (y ∷ s) h = refl

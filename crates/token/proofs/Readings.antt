@@ -1,8 +1,8 @@
 -- What being readable, the forms and matching mean, by the spellings.
--- A text is cut at its first bar or has none (`split-cases`), and which form it spells depends on whether the parts are empty; so every
+-- A text is cut at its first bar or has none (`split_cases`), and which form it spells depends on whether the parts are empty; so every
 -- direction goes by these cases. A text of a search string comes with the index of its cut, and goes by whether that lies inside it
--- (`formAt-iff`). Unreadable in a filter are the empty text and a lone bar only (`filterUnreadable-iff`). A match means that the card
--- spells a token, that the other text spells a form, and that the form asks for the token (`meets-reads`): each of the two texts is read to
+-- (`form_at_iff`). Unreadable in a filter are the empty text and a lone bar only (`filter_unreadable_iff`). A match means that the card
+-- spells a token, that the other text spells a form, and that the form asks for the token (`meets_reads`): each of the two texts is read to
 -- one or to none.
 -- Assumes nothing.
 use mathlib.Core.Path.{◌≡◌, refl, sym, ap, ◌∙◌, subst}
@@ -15,174 +15,174 @@ use mathlib.Core.Logic.{◌⊎◌, inl, inr, ⊎_elim, ◌↔◌}
 use mathlib.Core.Option.{Option, none, some, some-injective, none-ne-some}
 use lib.Dec.{ltb}
 use lib.ListN.{length, get_or, take, drop}
-use lib.Seq.{split_at as seam, length-take-le}
+use lib.Seq.{split_at_lem as seam, length-take-le}
 use borrow.Author.Tests.{ltb-true, ltb-false}
-use Rattle.base.specs.Lists.{all-empty}
+use Rattle.base.specs.Lists.{all_empty}
 use Rattle.base.specs.Options.{is_some}
-use Rattle.base.proofs.Options.{isSome-iff}
+use Rattle.base.proofs.Options.{is_some_iff}
 use Rattle.base.proofs.Tests.{cond-elim}
 use Rattle.text.specs.Bar.{bar, NoBar}
 use Rattle.base.specs.Split.{Split, whole, parts}
-use Rattle.base.proofs.Split.{split-whole, split_at, split-cases}
-use Rattle.token.specs.Split.{splitAt}
-use Rattle.token.specs.Card.{Token, tokenOf, splitToken, cardToken, cardReadable}
-use Rattle.token.specs.Filter.{Form, splitForm, formAt, filterForm, filterReadable}
-use Rattle.token.specs.Match.{asks, meets, matches, matchesAt}
+use Rattle.base.proofs.Split.{split-whole, split_at_lem, split_cases}
+use Rattle.token.specs.Split.{split_at}
+use Rattle.token.specs.Card.{Token, token_of, split_token, card_token, card_readable}
+use Rattle.token.specs.Filter.{Form, split_form, form_at, filter_form, filter_readable}
+use Rattle.token.specs.Match.{asks, meets, matches, matches_at}
 use Rattle.token.specs.Rules.{StandsFor, Itself, AsksBy, Asks}
-use Rattle.token.specs.Spelling.{NotEmpty, CardSpells, spells-code, spells-token, FilterSpells, spells-any-system, spells-system-code, spells-no-system, spells-any-code, SplitSpells, split-any-system, split-system-code, split-no-system, split-any-code}
-use Rattle.token.proofs.Split.{splitAt-none, splitAt-there}
-use Rattle.token.proofs.Rules.{asks-iff, asks-itself}
-use Rattle.token.proofs.Forms.{tokenOf-some, splitForm-any-system, splitForm-system-code, splitForm-no-system, splitForm-any-code}
+use Rattle.token.specs.Spelling.{NotEmpty, CardSpells, spells_code, spells_token, FilterSpells, spells_any_system, spells_system_code, spells_no_system, spells_any_code, SplitSpells, split_any_system, split_system_code, split_no_system, split_any_code}
+use Rattle.token.proofs.Split.{split_at_none, split_at_there}
+use Rattle.token.proofs.Rules.{asks_iff, asks_itself}
+use Rattle.token.proofs.Forms.{token_of_some, split_form_any_system, split_form_system_code, split_form_no_system, split_form_any_code}
 
 -- ---- cards
 
-tokenOf-parts : (k : Token) (s c : List ℕ) → tokenOf s c ≡ some k → NotEmpty c × (record { system = s; code = c } ≡ k)
-unfolding tokenOf
-tokenOf-parts k s [] e = absurd (none-ne-some k e)
-tokenOf-parts k s (x ∷ c) e = (omega arith, some-injective _ k e)
+token_of_parts : (k : Token) (s c : List ℕ) → token_of s c ≡ some k → NotEmpty c × (record { system = s; code = c } ≡ k)
+unfolding token_of
+token_of_parts k s [] e = absurd (none-ne-some k e)
+token_of_parts k s (x ∷ c) e = (omega arith, some-injective _ k e)
 
-cardToken-spells : (k : Token) (t : List ℕ) → cardToken t ≡ some k → CardSpells t k
-unfolding cardToken splitToken
-cardToken-spells k =
-    split-cases bar (λ (t : List ℕ). cardToken t ≡ some k → CardSpells t k)
-    (λ c h e. let w = tokenOf-parts k [] c (rw (split-whole bar c h) at e) in subst (CardSpells c) w.1 (spells-code h w.0))
-    (λ s c h e. let w = tokenOf-parts k s c (rw (split_at bar s c h) at e) in subst (CardSpells (s ++ (bar ∷ c))) w.1 (spells-token h w.0))
+card_token_spells : (k : Token) (t : List ℕ) → card_token t ≡ some k → CardSpells t k
+unfolding card_token split_token
+card_token_spells k =
+    split_cases bar (λ (t : List ℕ). card_token t ≡ some k → CardSpells t k)
+    (λ c h e. let w = token_of_parts k [] c (rw (split-whole bar c h) at e) in subst (CardSpells c) w.1 (spells_code h w.0))
+    (λ s c h e. let w = token_of_parts k s c (rw (split_at_lem bar s c h) at e) in subst (CardSpells (s ++ (bar ∷ c))) w.1 (spells_token h w.0))
 
-spells-cardToken : {t : List ℕ} {k : Token} → CardSpells t k → cardToken t ≡ some k
-unfolding cardToken splitToken
-spells-cardToken (spells-code {c = c} h n) = rw (split-whole bar c h) (tokenOf-some [] c n)
-spells-cardToken (spells-token {s = s} {c = c} h n) = rw (split_at bar s c h) (tokenOf-some s c n)
+spells_card_token : {t : List ℕ} {k : Token} → CardSpells t k → card_token t ≡ some k
+unfolding card_token split_token
+spells_card_token (spells_code {c = c} h n) = rw (split-whole bar c h) (token_of_some [] c n)
+spells_card_token (spells_token {s = s} {c = c} h n) = rw (split_at_lem bar s c h) (token_of_some s c n)
 
-pub cardToken-iff : (t : List ℕ) (k : Token) → (cardToken t ≡ some k) ↔ CardSpells t k
-cardToken-iff t k = (cardToken-spells k t, spells-cardToken)
+pub card_token_iff : (t : List ℕ) (k : Token) → (card_token t ≡ some k) ↔ CardSpells t k
+card_token_iff t k = (card_token_spells k t, spells_card_token)
 
-pub cardReadable-iff : (t : List ℕ) → (cardReadable t ≡ true) ↔ ((k : Token) × CardSpells t k)
-unfolding cardReadable
-cardReadable-iff t = isSome-iff (CardSpells t) (cardToken t) (cardToken-iff t)
+pub card_readable_iff : (t : List ℕ) → (card_readable t ≡ true) ↔ ((k : Token) × CardSpells t k)
+unfolding card_readable
+card_readable_iff t = is_some_iff (CardSpells t) (card_token t) (card_token_iff t)
 
 -- ---- filters
 
-no-bar-spells : (f : Form) (c : List ℕ) → NoBar c → splitForm (whole c) ≡ some f → FilterSpells c f
-unfolding splitForm
-no-bar-spells f [] h e = absurd (none-ne-some f e)
-no-bar-spells f (x ∷ c) h e = subst (FilterSpells (x ∷ c)) (some-injective _ f e) (spells-any-system h (omega arith))
+no_bar_spells : (f : Form) (c : List ℕ) → NoBar c → split_form (whole c) ≡ some f → FilterSpells c f
+unfolding split_form
+no_bar_spells f [] h e = absurd (none-ne-some f e)
+no_bar_spells f (x ∷ c) h e = subst (FilterSpells (x ∷ c)) (some-injective _ f e) (spells_any_system h (omega arith))
 
-at-bar-spells : (f : Form) (s c : List ℕ) → NoBar s → splitForm (parts s c) ≡ some f → FilterSpells (s ++ (bar ∷ c)) f
-unfolding splitForm
-at-bar-spells f [] [] h e = absurd (none-ne-some f e)
-at-bar-spells f [] (x ∷ c) h e = subst (FilterSpells _) (some-injective _ f e) (spells-no-system (omega arith))
-at-bar-spells f (y ∷ s) [] h e = subst (FilterSpells _) (some-injective _ f e) (spells-any-code h (omega arith))
-at-bar-spells f (y ∷ s) (x ∷ c) h e = subst (FilterSpells _) (some-injective _ f e) (spells-system-code h (omega arith) (omega arith))
+at-bar_spells : (f : Form) (s c : List ℕ) → NoBar s → split_form (parts s c) ≡ some f → FilterSpells (s ++ (bar ∷ c)) f
+unfolding split_form
+at-bar_spells f [] [] h e = absurd (none-ne-some f e)
+at-bar_spells f [] (x ∷ c) h e = subst (FilterSpells _) (some-injective _ f e) (spells_no_system (omega arith))
+at-bar_spells f (y ∷ s) [] h e = subst (FilterSpells _) (some-injective _ f e) (spells_any_code h (omega arith))
+at-bar_spells f (y ∷ s) (x ∷ c) h e = subst (FilterSpells _) (some-injective _ f e) (spells_system_code h (omega arith) (omega arith))
 
-filterForm-spells : (f : Form) (t : List ℕ) → filterForm t ≡ some f → FilterSpells t f
-unfolding filterForm
-filterForm-spells f =
-    split-cases bar (λ (t : List ℕ). filterForm t ≡ some f → FilterSpells t f)
-    (λ c h e. no-bar-spells f c h (rw (split-whole bar c h) at e))
-    (λ s c h e. at-bar-spells f s c h (rw (split_at bar s c h) at e))
+filter_form_spells : (f : Form) (t : List ℕ) → filter_form t ≡ some f → FilterSpells t f
+unfolding filter_form
+filter_form_spells f =
+    split_cases bar (λ (t : List ℕ). filter_form t ≡ some f → FilterSpells t f)
+    (λ c h e. no_bar_spells f c h (rw (split-whole bar c h) at e))
+    (λ s c h e. at-bar_spells f s c h (rw (split_at_lem bar s c h) at e))
 
-spells-filterForm : {t : List ℕ} {f : Form} → FilterSpells t f → filterForm t ≡ some f
-unfolding filterForm
-spells-filterForm (spells-any-system {c = c} h n) = rw (split-whole bar c h) (splitForm-any-system c n)
-spells-filterForm (spells-system-code {s = s} {c = c} h m n) = rw (split_at bar s c h) (splitForm-system-code s c m n)
-spells-filterForm (spells-no-system {c = c} n) = rw (split_at bar [] c all-empty) (splitForm-no-system c n)
-spells-filterForm (spells-any-code {s = s} h m) = rw (split_at bar s [] h) (splitForm-any-code s m)
+spells_filter_form : {t : List ℕ} {f : Form} → FilterSpells t f → filter_form t ≡ some f
+unfolding filter_form
+spells_filter_form (spells_any_system {c = c} h n) = rw (split-whole bar c h) (split_form_any_system c n)
+spells_filter_form (spells_system_code {s = s} {c = c} h m n) = rw (split_at_lem bar s c h) (split_form_system_code s c m n)
+spells_filter_form (spells_no_system {c = c} n) = rw (split_at_lem bar [] c all_empty) (split_form_no_system c n)
+spells_filter_form (spells_any_code {s = s} h m) = rw (split_at_lem bar s [] h) (split_form_any_code s m)
 
-pub filterForm-iff : (t : List ℕ) (f : Form) → (filterForm t ≡ some f) ↔ FilterSpells t f
-filterForm-iff t f = (filterForm-spells f t, spells-filterForm)
+pub filter_form_iff : (t : List ℕ) (f : Form) → (filter_form t ≡ some f) ↔ FilterSpells t f
+filter_form_iff t f = (filter_form_spells f t, spells_filter_form)
 
-pub filterReadable-iff : (t : List ℕ) → (filterReadable t ≡ true) ↔ ((f : Form) × FilterSpells t f)
-unfolding filterReadable
-filterReadable-iff t = isSome-iff (FilterSpells t) (filterForm t) (filterForm-iff t)
+pub filter_readable_iff : (t : List ℕ) → (filter_readable t ≡ true) ↔ ((f : Form) × FilterSpells t f)
+unfolding filter_readable
+filter_readable_iff t = is_some_iff (FilterSpells t) (filter_form t) (filter_form_iff t)
 
 -- ---- a text that is split at an index of its own
 
-whole-spells : (c : List ℕ) (i : ℕ) (f : Form) → length c ≤ i → splitForm (whole c) ≡ some f → SplitSpells c i f
-unfolding splitForm
-whole-spells [] i f h e = absurd (none-ne-some f e)
-whole-spells (x ∷ c) i f h e = subst (SplitSpells (x ∷ c) i) (some-injective _ f e) (split-any-system h (omega arith))
+whole_spells : (c : List ℕ) (i : ℕ) (f : Form) → length c ≤ i → split_form (whole c) ≡ some f → SplitSpells c i f
+unfolding split_form
+whole_spells [] i f h e = absurd (none-ne-some f e)
+whole_spells (x ∷ c) i f h e = subst (SplitSpells (x ∷ c) i) (some-injective _ f e) (split_any_system h (omega arith))
 
-parts-spell : (s c : List ℕ) (b : ℕ) (f : Form) → splitForm (parts s c) ≡ some f → SplitSpells (s ++ (b ∷ c)) (length s) f
-unfolding splitForm
-parts-spell [] [] b f e = absurd (none-ne-some f e)
-parts-spell [] (x ∷ c) b f e = subst (SplitSpells (b ∷ x ∷ c) 0) (some-injective _ f e) (split-no-system b (omega arith))
-parts-spell (y ∷ s) [] b f e = subst (SplitSpells ((y ∷ s) ++ (b ∷ [])) (length (y ∷ s))) (some-injective _ f e) (split-any-code b (omega arith))
-parts-spell (y ∷ s) (x ∷ c) b f e =
-    subst (SplitSpells ((y ∷ s) ++ (b ∷ x ∷ c)) (length (y ∷ s))) (some-injective _ f e) (split-system-code b (omega arith) (omega arith))
+parts_spell : (s c : List ℕ) (b : ℕ) (f : Form) → split_form (parts s c) ≡ some f → SplitSpells (s ++ (b ∷ c)) (length s) f
+unfolding split_form
+parts_spell [] [] b f e = absurd (none-ne-some f e)
+parts_spell [] (x ∷ c) b f e = subst (SplitSpells (b ∷ x ∷ c) 0) (some-injective _ f e) (split_no_system b (omega arith))
+parts_spell (y ∷ s) [] b f e = subst (SplitSpells ((y ∷ s) ++ (b ∷ [])) (length (y ∷ s))) (some-injective _ f e) (split_any_code b (omega arith))
+parts_spell (y ∷ s) (x ∷ c) b f e =
+    subst (SplitSpells ((y ∷ s) ++ (b ∷ x ∷ c)) (length (y ∷ s))) (some-injective _ f e) (split_system_code b (omega arith) (omega arith))
 
-formAt-spells : (t : List ℕ) (i : ℕ) (f : Form) → formAt i t ≡ some f → SplitSpells t i f
-unfolding formAt splitAt
-formAt-spells t i f =
-    cond-elim (λ (d : Split). splitForm d ≡ some f → SplitSpells t i f) (ltb i (length t))
+form_at_spells : (t : List ℕ) (i : ℕ) (f : Form) → form_at i t ≡ some f → SplitSpells t i f
+unfolding form_at split_at
+form_at_spells t i f =
+    cond-elim (λ (d : Split). split_form d ≡ some f → SplitSpells t i f) (ltb i (length t))
     (λ h e.
     let l : i < length t = ltb-true i (length t) h in
     let all : t ≡ take i t ++ (get_or t i 0 ∷ drop (i + 1) t) = seam t i 0 l ∙ ap (λ (n : ℕ). take i t ++ (get_or t i 0 ∷ drop n t)) (sym (add-one i)) in
     let size : length (take i t) ≡ i = length-take-le i t (omega arith) in
     subst (λ (u : List ℕ). SplitSpells u i f) (sym all)
-    (subst (λ (n : ℕ). SplitSpells (take i t ++ (get_or t i 0 ∷ drop (i + 1) t)) n f) size (parts-spell (take i t) (drop (i + 1) t) (get_or t i 0) f e)))
-    (λ h e. whole-spells t i f (ltb-false i (length t) h) e)
+    (subst (λ (n : ℕ). SplitSpells (take i t ++ (get_or t i 0 ∷ drop (i + 1) t)) n f) size (parts_spell (take i t) (drop (i + 1) t) (get_or t i 0) f e)))
+    (λ h e. whole_spells t i f (ltb-false i (length t) h) e)
 
-spells-formAt : {t : List ℕ} {i : ℕ} {f : Form} → SplitSpells t i f → formAt i t ≡ some f
-unfolding formAt
-spells-formAt (split-any-system {c = c} {i = i} h n) = rw (splitAt-none c i h) (splitForm-any-system c n)
-spells-formAt (split-system-code {s = s} {c = c} b m n) = rw (splitAt-there s c b) (splitForm-system-code s c m n)
-spells-formAt (split-no-system {c = c} b n) = rw (splitAt-there [] c b) (splitForm-no-system c n)
-spells-formAt (split-any-code {s = s} b m) = rw (splitAt-there s [] b) (splitForm-any-code s m)
+spells_form_at : {t : List ℕ} {i : ℕ} {f : Form} → SplitSpells t i f → form_at i t ≡ some f
+unfolding form_at
+spells_form_at (split_any_system {c = c} {i = i} h n) = rw (split_at_none c i h) (split_form_any_system c n)
+spells_form_at (split_system_code {s = s} {c = c} b m n) = rw (split_at_there s c b) (split_form_system_code s c m n)
+spells_form_at (split_no_system {c = c} b n) = rw (split_at_there [] c b) (split_form_no_system c n)
+spells_form_at (split_any_code {s = s} b m) = rw (split_at_there s [] b) (split_form_any_code s m)
 
-pub formAt-iff : (t : List ℕ) (i : ℕ) (f : Form) → (formAt i t ≡ some f) ↔ SplitSpells t i f
-formAt-iff t i f = (formAt-spells t i f, spells-formAt)
+pub form_at_iff : (t : List ℕ) (i : ℕ) (f : Form) → (form_at i t ≡ some f) ↔ SplitSpells t i f
+form_at_iff t i f = (form_at_spells t i f, spells_form_at)
 
 -- ---- unreadable in a filter: an empty text and a lone bar, and nothing else
 
-no-bar-unreadable : (c : List ℕ) → is_some (splitForm (whole c)) ≡ false → (c ≡ []) ⊎ (c ≡ bar ∷ [])
-unfolding splitForm
-no-bar-unreadable [] h = inl refl
-no-bar-unreadable (x ∷ c) h = absurd (true≢false h)
+no_bar_unreadable : (c : List ℕ) → is_some (split_form (whole c)) ≡ false → (c ≡ []) ⊎ (c ≡ bar ∷ [])
+unfolding split_form
+no_bar_unreadable [] h = inl refl
+no_bar_unreadable (x ∷ c) h = absurd (true≢false h)
 
-at-bar-unreadable : (s c : List ℕ) → is_some (splitForm (parts s c)) ≡ false → (s ++ (bar ∷ c) ≡ []) ⊎ (s ++ (bar ∷ c) ≡ bar ∷ [])
-unfolding splitForm
-at-bar-unreadable [] [] h = inr refl
-at-bar-unreadable [] (x ∷ c) h = absurd (true≢false h)
-at-bar-unreadable (y ∷ s) [] h = absurd (true≢false h)
-at-bar-unreadable (y ∷ s) (x ∷ c) h = absurd (true≢false h)
+at-bar_unreadable : (s c : List ℕ) → is_some (split_form (parts s c)) ≡ false → (s ++ (bar ∷ c) ≡ []) ⊎ (s ++ (bar ∷ c) ≡ bar ∷ [])
+unfolding split_form
+at-bar_unreadable [] [] h = inr refl
+at-bar_unreadable [] (x ∷ c) h = absurd (true≢false h)
+at-bar_unreadable (y ∷ s) [] h = absurd (true≢false h)
+at-bar_unreadable (y ∷ s) (x ∷ c) h = absurd (true≢false h)
 
-empty-unreadable : filterReadable [] ≡ false
-unfolding filterReadable filterForm splitForm
-empty-unreadable = rw (split-whole bar [] all-empty)
+empty_unreadable : filter_readable [] ≡ false
+unfolding filter_readable filter_form split_form
+empty_unreadable = rw (split-whole bar [] all_empty)
 
-lone-unreadable : filterReadable (bar ∷ []) ≡ false
-unfolding filterReadable filterForm splitForm
-lone-unreadable = rw (split_at bar [] [] all-empty)
+lone_unreadable : filter_readable (bar ∷ []) ≡ false
+unfolding filter_readable filter_form split_form
+lone_unreadable = rw (split_at_lem bar [] [] all_empty)
 
-pub filterUnreadable-iff : (t : List ℕ) → (filterReadable t ≡ false) ↔ ((t ≡ []) ⊎ (t ≡ bar ∷ []))
-unfolding filterReadable filterForm
-filterUnreadable-iff t = (
-  split-cases bar (λ (u : List ℕ). filterReadable u ≡ false → (u ≡ []) ⊎ (u ≡ bar ∷ []))
-      (λ c h e. no-bar-unreadable c (rw (split-whole bar c h) at e))
-      (λ s c h e. at-bar-unreadable s c (rw (split_at bar s c h) at e))
+pub filter_unreadable_iff : (t : List ℕ) → (filter_readable t ≡ false) ↔ ((t ≡ []) ⊎ (t ≡ bar ∷ []))
+unfolding filter_readable filter_form
+filter_unreadable_iff t = (
+  split_cases bar (λ (u : List ℕ). filter_readable u ≡ false → (u ≡ []) ⊎ (u ≡ bar ∷ []))
+      (λ c h e. no_bar_unreadable c (rw (split-whole bar c h) at e))
+      (λ s c h e. at-bar_unreadable s c (rw (split_at_lem bar s c h) at e))
       t,
-  ⊎_elim (λ e. rw e empty-unreadable) (λ e. rw e lone-unreadable),
+  ⊎_elim (λ e. rw e empty_unreadable) (λ e. rw e lone_unreadable),
 )
 
 -- ---- matching: the card spells a token, what is asked a form, and the form asks for the token
 
 module _ (short : Bool) (Stands : List ℕ → List ℕ → Type 0) (asks-are : (f : Form) (k : Token) → (asks short f k ≡ true) ↔ AsksBy Stands f k) where
-  meets-reads : (card : List ℕ) (form : Option Form) (Spelled : Form → Type 0) → ((f : Form) → (form ≡ some f) ↔ Spelled f)
-      → (meets short (cardToken card) form ≡ true) ↔ ((k : Token) × (f : Form) × CardSpells card k × Spelled f × AsksBy Stands f k)
+  meets_reads : (card : List ℕ) (form : Option Form) (Spelled : Form → Type 0) → ((f : Form) → (form ≡ some f) ↔ Spelled f)
+      → (meets short (card_token card) form ≡ true) ↔ ((k : Token) × (f : Form) × CardSpells card k × Spelled f × AsksBy Stands f k)
   unfolding meets
-  meets-reads card form Spelled spelled =
-      (read (cardToken card) form refl refl, λ w. rw (spells-cardToken w.2, (spelled w.1).1 w.3) ((asks-are w.1 w.0).1 w.4))
+  meets_reads card form Spelled spelled =
+      (read (card_token card) form refl refl, λ w. rw (spells_card_token w.2, (spelled w.1).1 w.3) ((asks-are w.1 w.0).1 w.4))
     where
-      read : (o : Option Token) (p : Option Form) → cardToken card ≡ o → form ≡ p → meets short o p ≡ true → (k : Token) × (f : Form) × CardSpells card k × Spelled f × AsksBy Stands f k
+      read : (o : Option Token) (p : Option Form) → card_token card ≡ o → form ≡ p → meets short o p ≡ true → (k : Token) × (f : Form) × CardSpells card k × Spelled f × AsksBy Stands f k
       read none p e d h = absurd (false≢true h)
       read (some k) none e d h = absurd (false≢true h)
-      read (some k) (some f) e d h = (k, f, cardToken-spells k card e, (spelled f).0 d, (asks-are f k).0 h)
+      read (some k) (some f) e d h = (k, f, card_token_spells k card e, (spelled f).0 d, (asks-are f k).0 h)
 
-pub matches-iff : (card filter : List ℕ) → (matches card filter ≡ true) ↔ ((k : Token) × (f : Form) × CardSpells card k × FilterSpells filter f × Asks f k)
+pub matches_iff : (card filter : List ℕ) → (matches card filter ≡ true) ↔ ((k : Token) × (f : Form) × CardSpells card k × FilterSpells filter f × Asks f k)
 unfolding matches
-matches-iff card filter = meets-reads true StandsFor asks-iff card (filterForm filter) (FilterSpells filter) (filterForm-iff filter)
+matches_iff card filter = meets_reads true StandsFor asks_iff card (filter_form filter) (FilterSpells filter) (filter_form_iff filter)
 
 -- and without the short names, of a text that is split at the index i
-pub matchesAt-iff : (card : List ℕ) (i : ℕ) (text : List ℕ) → (matchesAt card i text ≡ true) ↔ ((k : Token) × (f : Form) × CardSpells card k × SplitSpells text i f × AsksBy Itself f k)
-unfolding matchesAt
-matchesAt-iff card i text = meets-reads false Itself asks-itself card (formAt i text) (SplitSpells text i) (formAt-iff text i)
+pub matches_at_iff : (card : List ℕ) (i : ℕ) (text : List ℕ) → (matches_at card i text ≡ true) ↔ ((k : Token) × (f : Form) × CardSpells card k × SplitSpells text i f × AsksBy Itself f k)
+unfolding matches_at
+matches_at_iff card i text = meets_reads false Itself asks_itself card (form_at i text) (SplitSpells text i) (form_at_iff text i)

@@ -9,35 +9,35 @@ use lib.Seq.{take-append_seam, drop-append-add}
 use borrow.Author.Tests.{lt-ltb, le-ltb}
 use Rattle.base.specs.Split.{first_of, whole, parts, split}
 use Rattle.base.proofs.Lists.{rest}
-use Rattle.base.proofs.Split.{split-whole, split_at, split-cases}
+use Rattle.base.proofs.Split.{split-whole, split_at_lem, split_cases}
 use Rattle.text.specs.Bar.{bar}
-use Rattle.text.specs.Fold.{foldText}
-use Rattle.text.proofs.Folded.{foldText-bar, foldText-noBar}
-use Rattle.token.specs.Split.{splitAt, foldParts}
+use Rattle.text.specs.Fold.{fold_text}
+use Rattle.text.proofs.Folded.{fold_text-bar, fold_text_no_bar}
+use Rattle.token.specs.Split.{split_at, fold_parts}
 
-pub split-folded : (t : List ℕ) → split bar (foldText t) ≡ foldParts (split bar t)
-unfolding foldParts
-split-folded =
-    split-cases bar (λ (t : List ℕ). split bar (foldText t) ≡ foldParts (split bar t))
-    (λ c h. rw (split-whole bar c h, split-whole bar (foldText c) (foldText-noBar h)))
-    (λ s c h. rw (split_at bar s c h, foldText-bar s c, split_at bar (foldText s) (foldText c) (foldText-noBar h)))
+pub split_folded : (t : List ℕ) → split bar (fold_text t) ≡ fold_parts (split bar t)
+unfolding fold_parts
+split_folded =
+    split_cases bar (λ (t : List ℕ). split bar (fold_text t) ≡ fold_parts (split bar t))
+    (λ c h. rw (split-whole bar c h, split-whole bar (fold_text c) (fold_text_no_bar h)))
+    (λ s c h. rw (split_at_lem bar s c h, fold_text-bar s c, split_at_lem bar (fold_text s) (fold_text c) (fold_text_no_bar h)))
 
 -- ---- at an index, with the parts as slices have them
 
 module _ (t : List ℕ) (i : ℕ) where
-  pub splitAt-none : length t ≤ i → splitAt i t ≡ whole t
-  unfolding splitAt
-  splitAt-none h = rw (le-ltb i (length t) h)
+  pub split_at_none : length t ≤ i → split_at i t ≡ whole t
+  unfolding split_at
+  split_at_none h = rw (le-ltb i (length t) h)
 
-  pub splitAt-parts : i < length t → splitAt i t ≡ parts (take i t) (take (length t - (i + 1)) (drop (i + 1) t))
-  unfolding splitAt
-  splitAt-parts h = rw (lt-ltb i (length t) h, rest t (i + 1))
+  pub split_at_parts : i < length t → split_at i t ≡ parts (take i t) (take (length t - (i + 1)) (drop (i + 1) t))
+  unfolding split_at
+  split_at_parts h = rw (lt-ltb i (length t) h, rest t (i + 1))
 
-pub splitAt-there : (s c : List ℕ) (b : ℕ) → splitAt (length s) (s ++ (b ∷ c)) ≡ parts s c
-unfolding splitAt
-splitAt-there s c b = rw (lt-ltb (length s) (length (s ++ (b ∷ c))) (omega (arith, length-append s (b ∷ c))), take-append_seam, drop-append-add)
+pub split_at_there : (s c : List ℕ) (b : ℕ) → split_at (length s) (s ++ (b ∷ c)) ≡ parts s c
+unfolding split_at
+split_at_there s c b = rw (lt-ltb (length s) (length (s ++ (b ∷ c))) (omega (arith, length-append s (b ∷ c))), take-append_seam, drop-append-add)
 
 -- the split at the first bar is one at its index
-pub splitAt-first : (t : List ℕ) → splitAt (first_of bar t) t ≡ split bar t
-unfolding splitAt split
-splitAt-first t = refl
+pub split_at-first : (t : List ℕ) → split_at (first_of bar t) t ≡ split bar t
+unfolding split_at split
+split_at-first t = refl

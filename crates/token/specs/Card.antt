@@ -12,19 +12,19 @@ pub record Token : Type 0 where
   pub code : List ℕ
 
 -- the token of a system and a code, if the code is not empty
-unfoldable pub tokenOf : List ℕ → List ℕ → Option Token
-tokenOf s [] = none
-tokenOf s (x ∷ c) = some (record { system = s; code = x ∷ c })
+unfoldable pub token_of : List ℕ → List ℕ → Option Token
+token_of s [] = none
+token_of s (x ∷ c) = some (record { system = s; code = x ∷ c })
 
 -- with no bar it is a code whose system is empty
-unfoldable pub splitToken : Split → Option Token
-splitToken (whole c) = tokenOf [] c
-splitToken (parts s c) = tokenOf s c
+unfoldable pub split_token : Split → Option Token
+split_token (whole c) = token_of [] c
+split_token (parts s c) = token_of s c
 
 -- the token that a card's text is, if it is one
-unfoldable pub cardToken : List ℕ → Option Token
-cardToken t = splitToken (split bar t)
+unfoldable pub card_token : List ℕ → Option Token
+card_token t = split_token (split bar t)
 
 -- 01: a readable text of a token on a card
-unfoldable pub cardReadable : List ℕ → Bool
-cardReadable t = is_some (cardToken t)
+unfoldable pub card_readable : List ℕ → Bool
+card_readable t = is_some (card_token t)

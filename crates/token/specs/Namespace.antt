@@ -10,8 +10,8 @@ pub record Short : Type 0 where
   pub namespace : List ℕ
 
 -- 01: the short names, with the namespaces below its table
-abbrev pub shortNames : List Short
-shortNames =
+abbrev pub short_names : List Short
+short_names =
     record { name = ascii "loinc"; namespace = ascii "http://loinc.org" }
     ∷ record { name = ascii "snomed"; namespace = ascii "http://snomed.info/sct" }
     ∷ record { name = ascii "rxnorm"; namespace = ascii "http://www.nlm.nih.gov/research/umls/rxnorm" }
@@ -24,10 +24,10 @@ stands_for [] s = s
 stands_for (row ∷ rows) s = cond (same s row.name) row.namespace (stands_for rows s)
 
 -- what a filter's system stands for
-unfoldable pub namespaceOf : List ℕ → List ℕ
-namespaceOf s = stands_for shortNames s
+unfoldable pub namespace_of : List ℕ → List ℕ
+namespace_of s = stands_for short_names s
 
 -- what a system asks for: its namespace where short names are meant, and else itself
-unfoldable pub systemOf : (short : Bool) → List ℕ → List ℕ
-systemOf true s = namespaceOf s
-systemOf false s = s
+unfoldable pub system_of : (short : Bool) → List ℕ → List ℕ
+system_of true s = namespace_of s
+system_of false s = s

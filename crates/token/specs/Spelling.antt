@@ -3,7 +3,7 @@
 use Rattle.std.specs.Prelude.{ℕ, ◌≤◌, ◌<◌, List, [], ◌∷◌, ◌++◌, length}
 use Rattle.text.specs.Bar.{bar, NoBar}
 use Rattle.token.specs.Card.{Token}
-use Rattle.token.specs.Filter.{Form, any-system, system-code, no-system, any_code}
+use Rattle.token.specs.Filter.{Form, any_system, system_code, no_system, any_code}
 
 -- the text has a byte
 abbrev pub NotEmpty : List ℕ → Type 0
@@ -11,19 +11,19 @@ NotEmpty s = 0 < length s
 
 -- code, or system|code with a system that may be empty
 pub data CardSpells : List ℕ → Token → Type 0 where
-  spells-code : {c : List ℕ} → NoBar c → NotEmpty c → CardSpells c (record { system = []; code = c })
-  spells-token : {s c : List ℕ} → NoBar s → NotEmpty c → CardSpells (s ++ (bar ∷ c)) (record { system = s; code = c })
+  spells_code : {c : List ℕ} → NoBar c → NotEmpty c → CardSpells c (record { system = []; code = c })
+  spells_token : {s c : List ℕ} → NoBar s → NotEmpty c → CardSpells (s ++ (bar ∷ c)) (record { system = s; code = c })
 
 -- code, system|code, |code, system|
 pub data FilterSpells : List ℕ → Form → Type 0 where
-  spells-any-system : {c : List ℕ} → NoBar c → NotEmpty c → FilterSpells c (any-system c)
-  spells-system-code : {s c : List ℕ} → NoBar s → NotEmpty s → NotEmpty c → FilterSpells (s ++ (bar ∷ c)) (system-code s c)
-  spells-no-system : {c : List ℕ} → NotEmpty c → FilterSpells (bar ∷ c) (no-system c)
-  spells-any-code : {s : List ℕ} → NoBar s → NotEmpty s → FilterSpells (s ++ (bar ∷ [])) (any_code s)
+  spells_any_system : {c : List ℕ} → NoBar c → NotEmpty c → FilterSpells c (any_system c)
+  spells_system_code : {s c : List ℕ} → NoBar s → NotEmpty s → NotEmpty c → FilterSpells (s ++ (bar ∷ c)) (system_code s c)
+  spells_no_system : {c : List ℕ} → NotEmpty c → FilterSpells (bar ∷ c) (no_system c)
+  spells_any_code : {s : List ℕ} → NoBar s → NotEmpty s → FilterSpells (s ++ (bar ∷ [])) (any_code s)
 
 -- the same of a text that is split at the index i, whatever bars it has besides
 pub data SplitSpells : List ℕ → ℕ → Form → Type 0 where
-  split-any-system : {c : List ℕ} {i : ℕ} → length c ≤ i → NotEmpty c → SplitSpells c i (any-system c)
-  split-system-code : {s c : List ℕ} (b : ℕ) → NotEmpty s → NotEmpty c → SplitSpells (s ++ (b ∷ c)) (length s) (system-code s c)
-  split-no-system : {c : List ℕ} (b : ℕ) → NotEmpty c → SplitSpells (b ∷ c) 0 (no-system c)
-  split-any-code : {s : List ℕ} (b : ℕ) → NotEmpty s → SplitSpells (s ++ (b ∷ [])) (length s) (any_code s)
+  split_any_system : {c : List ℕ} {i : ℕ} → length c ≤ i → NotEmpty c → SplitSpells c i (any_system c)
+  split_system_code : {s c : List ℕ} (b : ℕ) → NotEmpty s → NotEmpty c → SplitSpells (s ++ (b ∷ c)) (length s) (system_code s c)
+  split_no_system : {c : List ℕ} (b : ℕ) → NotEmpty c → SplitSpells (b ∷ c) 0 (no_system c)
+  split_any_code : {s : List ℕ} (b : ℕ) → NotEmpty s → SplitSpells (s ++ (b ∷ [])) (length s) (any_code s)

@@ -4,14 +4,14 @@ ghost use Rattle.std.specs.Prelude.{◌≡◌, true};
 ghost use Rattle.std.proofs.Math.Option.{some};
 ghost use Rattle.text.specs.Compare.{same};
 ghost use Rattle.base.specs.Split.{parts};
-ghost use Rattle.token.specs.Card.{tokenOf, cardToken, cardReadable};
-ghost use Rattle.token.specs.Filter.{splitForm, formAt, readableAt, filterReadable};
-ghost use Rattle.token.specs.Namespace.{namespaceOf, systemOf};
-ghost use Rattle.token.specs.Match.{meets, matches, matchesAt};
+ghost use Rattle.token.specs.Card.{token_of, card_token, card_readable};
+ghost use Rattle.token.specs.Filter.{split_form, form_at, readable_at, filter_readable};
+ghost use Rattle.token.specs.Namespace.{namespace_of, system_of};
+ghost use Rattle.token.specs.Match.{meets, matches, matches_at};
 
 // Whether the last byte of a text is no bar: then it ends in a code, wherever a bar stands.
 fn ends_in_code(s: &[u8]) -> bool
-    ensures { result ≡ true → true ≡ cardReadable s.now }
+    ensures { result ≡ true → true ≡ card_readable s.now }
 {
     if s.len() == 0 {
         return false;
@@ -22,7 +22,7 @@ fn ends_in_code(s: &[u8]) -> bool
 
 // Whether a card's text is a token: "system, perhaps empty, and code, not empty". A bar is sought only where one is last.
 pub fn card_readable(s: &[u8]) -> bool
-    ensures { result ≡ cardReadable s.now }
+    ensures { result ≡ card_readable s.now }
 {
     if ends_in_code(s) {
         return true;
@@ -36,7 +36,7 @@ pub fn card_readable(s: &[u8]) -> bool
 
 // Whether a filter's text is a token: "an empty text and a lone | are unreadable".
 pub fn filter_readable(s: &[u8]) -> bool
-    ensures { result ≡ filterReadable s.now }
+    ensures { result ≡ filter_readable s.now }
 {
     if s.len() == 0 {
         return false;
@@ -49,7 +49,7 @@ pub fn filter_readable(s: &[u8]) -> bool
 
 // Whether a text that is split at `bar`, or has no bar, is one of the four forms.
 pub fn readable_at(s: &[u8], bar: usize) -> bool
-    ensures { result ≡ readableAt bar s.now }
+    ensures { result ≡ readable_at bar s.now }
 {
     if bar < s.len() {
         return 1 < s.len();
@@ -59,7 +59,7 @@ pub fn readable_at(s: &[u8], bar: usize) -> bool
 
 // Whether a card's system is the one that a filter names: a short name stands for its namespace, any other for itself.
 fn namespace_matches(system: &[u8], asked: &[u8]) -> bool
-    ensures { result ≡ same system.now (namespaceOf asked.now) }
+    ensures { result ≡ same system.now (namespace_of asked.now) }
 {
     if text::same(asked, b"loinc") {
         return text::same(system, b"http://loinc.org");
@@ -78,7 +78,7 @@ fn namespace_matches(system: &[u8], asked: &[u8]) -> bool
 
 // Whether a card's system is the one that is asked for: where short names are meant, one stands for its namespace; any other for itself.
 fn system_matches(system: &[u8], asked: &[u8], short: bool) -> bool
-    ensures { result ≡ same system.now (systemOf short asked.now) }
+    ensures { result ≡ same system.now (system_of short asked.now) }
 {
     if short {
         return namespace_matches(system, asked);
@@ -88,7 +88,7 @@ fn system_matches(system: &[u8], asked: &[u8], short: bool) -> bool
 
 // Whether the token of a card's system and code is what a token with a bar asks for, by the parts before and after the bar.
 fn parts_match(system: &[u8], code: &[u8], before: &[u8], after: &[u8], short: bool) -> bool
-    ensures { result ≡ meets short (some (record { system = system.entry.now; code = code.now })) (splitForm (parts before.now after.now)) }
+    ensures { result ≡ meets short (some (record { system = system.entry.now; code = code.now })) (split_form (parts before.now after.now)) }
 {
     if before.len() == 0 {
         if after.len() == 0 {
@@ -110,7 +110,7 @@ fn parts_match(system: &[u8], code: &[u8], before: &[u8], after: &[u8], short: b
 
 // The same for a token that is split at `bar`, or has no bar.
 fn token_matches(system: &[u8], code: &[u8], asked: &[u8], bar: usize, short: bool) -> bool
-    ensures { result ≡ meets short (tokenOf system.now code.now) (formAt bar asked.now) }
+    ensures { result ≡ meets short (token_of system.now code.now) (form_at bar asked.now) }
 {
     if code.len() == 0 {
         return false;
@@ -128,7 +128,7 @@ fn token_matches(system: &[u8], code: &[u8], asked: &[u8], bar: usize, short: bo
 
 // The same for a card's text.
 fn split_matches(card: &[u8], asked: &[u8], bar: usize, short: bool) -> bool
-    ensures { result ≡ meets short (cardToken card.now) (formAt bar asked.now) }
+    ensures { result ≡ meets short (card_token card.now) (form_at bar asked.now) }
 {
     let split = base::first_of(card, b'|');
     if split < card.len() {
@@ -148,7 +148,7 @@ pub fn matches(card: &[u8], filter: &[u8]) -> bool
 
 // Whether a card's token is what a text asks for that is split at `bar`, its system taken as it is written.
 pub fn matches_at(card: &[u8], bar: usize, asked: &[u8]) -> bool
-    ensures { result ≡ matchesAt card.now bar asked.now }
+    ensures { result ≡ matches_at card.now bar asked.now }
 {
     split_matches(card, asked, bar, false)
 }

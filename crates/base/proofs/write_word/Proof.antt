@@ -1,7 +1,7 @@
 -- `base::write_word` meets its contract: the first bytes are the word's, the others as they were. Assumes nothing.
 use Prim.Native.Nat.{◌-◌}
 use lib.ListN.{length}
-use Rattle.base.proofs.Writing.{Writing, writing_start, writing-room, writing-next, writing-end}
+use Rattle.base.proofs.Writing.{Writing, writing_start, writing_room, writing_next, writing_end}
 use borrow.Author.Rules.{rules}
 use Rattle.base.proofs.write_word.Statement.{statement}
 use Rattle.base.proofs.write_word.Tie as tie
@@ -19,7 +19,7 @@ shared-slice-read-out : tie.Need-shared-slice-read-out invariant-loop decreases-
 shared-slice-read-out c = search rules
 
 slice-write-out : tie.Need-slice-write-out invariant-loop decreases-loop
-slice-write-out c = search (writing-room, rules)
+slice-write-out c = search (writing_room, rules)
 
 add-i : tie.Need-overflow-add-i invariant-loop decreases-loop
 add-i c = search rules
@@ -28,13 +28,13 @@ loop-less : tie.Need-loop-smaller invariant-loop decreases-loop
 loop-less c = search rules
 
 loop-again : tie.Need-loop-preserved invariant-loop decreases-loop
-loop-again c = search (writing-next, rules)
+loop-again c = search (writing_next, rules)
 
 same_length : tie.Need-same-length invariant-loop decreases-loop
 same_length c = search rules
 
 returns : tie.Need-returns invariant-loop decreases-loop
-returns c = search (writing-end, rules)
+returns c = search (writing_end, rules)
 
 pub write-word-spec : {M : Type 1} → statement M
 write-word-spec =

@@ -4,7 +4,7 @@ use borrow.Author.Rules.{rules}
 use lib.Dec.{eqb}
 use lib.ListN.{length}
 use Rattle.base.proofs.Invariants.{Counted}
-use Rattle.base.proofs.Loops.{counted_start, counted_next, counted-end}
+use Rattle.base.proofs.Loops.{counted_start, counted_next, counted_end}
 use Rattle.block.specs.Items.{zeros}
 use Rattle.block.proofs.zeros.Statement.{statement}
 use Rattle.block.proofs.zeros.Tie as tie
@@ -35,7 +35,7 @@ loop-again c = search (counted_next, rules)
 
 returns : tie.Need-returns invariant-loop decreases-loop
 unfolding zeros
-returns c = search (counted-end, rules)
+returns c = search (counted_end, rules)
 
 pub zeros-spec : {M : Type 1} → statement M
 zeros-spec =

@@ -2,7 +2,7 @@
 use borrow.Author.Rules.{rules}
 use mathlib.Core.Path.{refl, sym, ◌∙◌}
 use Rattle.block.specs.declared.Validity.{Validity}
-use Rattle.checking.proofs.Checking.{check-sheet, check-filter}
+use Rattle.checking.proofs.Checking.{check_sheet, check_filter}
 use Rattle.checking.proofs.check.Statement.{statement}
 use Rattle.checking.proofs.check.Tie as tie
 
@@ -34,16 +34,16 @@ refuse-requires-3 : tie.Need-refuse-requires-3
 refuse-requires-3 c κs = search rules
 
 returns : tie.Need-returns
-returns c = search (check-filter, rules)
+returns c = search (check_filter, rules)
 
 returns-2 : tie.Need-returns-2
-returns-2 c = check-sheet _ _ _ c.before.before.before.read-sheet.ensures _ Validity.WrongSize 1 (λ ps. refl) c.before.enum-told2.given.1 c.refuse.ensures
+returns-2 c = check_sheet _ _ _ c.before.before.before.read-sheet.ensures _ Validity.WrongSize 1 (λ ps. refl) c.before.enum-told2.given.1 c.refuse.ensures
 
 returns-3 : tie.Need-returns-3
-returns-3 c = check-sheet _ _ _ c.before.before.before.read-sheet.ensures _ Validity.WrongSum 2 (λ ps. refl) c.before.enum-told3.given.1 c.refuse2.ensures
+returns-3 c = check_sheet _ _ _ c.before.before.before.read-sheet.ensures _ Validity.WrongSum 2 (λ ps. refl) c.before.enum-told3.given.1 c.refuse2.ensures
 
 returns-4 : tie.Need-returns-4
-returns-4 c = check-sheet _ _ _ c.before.before.before.read-sheet.ensures _ Validity.WrongLayout 3 (λ ps. refl) c.before.enum-told4.given.1 c.refuse3.ensures
+returns-4 c = check_sheet _ _ _ c.before.before.before.read-sheet.ensures _ Validity.WrongLayout 3 (λ ps. refl) c.before.enum-told4.given.1 c.refuse3.ensures
 
 pub check-spec : {M : Type 1} → statement M
 check-spec =

@@ -1,7 +1,7 @@
 -- `matching::match_by_text` meets its contract: check first, then the card. Assumes nothing.
 use borrow.Author.Rules.{rules}
-use Rattle.answer.proofs.Passing.{passing, passing-sheet, match-refused}
-use Rattle.one_card.proofs.Judging.{filter-answered}
+use Rattle.answer.proofs.Passing.{passing, passing_sheet, match_refused}
+use Rattle.one_card.proofs.Judging.{filter_answered}
 use Rattle.matching.proofs.match_by_text.Statement.{statement}
 use Rattle.matching.proofs.match_by_text.Tie as tie
 
@@ -15,7 +15,7 @@ enum_told : tie.Need-enum-told
 enum_told c = search rules
 
 kinds-requires : tie.Need-kinds-requires
-kinds-requires c κs = search (passing-sheet, rules)
+kinds-requires c κs = search (passing_sheet, rules)
 
 slice-aggregate-judge-by-text : tie.Need-slice-aggregate-judge-by-text
 slice-aggregate-judge-by-text c = search rules
@@ -27,10 +27,10 @@ answered-requires : tie.Need-answered-requires
 answered-requires c κs = search rules
 
 returns : tie.Need-returns
-returns c = search (match-refused, rules)
+returns c = search (match_refused, rules)
 
 returns-2 : tie.Need-returns-2
-returns-2 c = search (filter-answered, passing, rules)
+returns-2 c = search (filter_answered, passing, rules)
 
 pub match-by-text-spec : {M : Type 1} → statement M
 match-by-text-spec =

@@ -3,14 +3,14 @@ use borrow.Author.Rules.{rules}
 use mathlib.Core.Path.{◌≡◌}
 use Prim.Native.Nat.{◌+◌, ◌-◌, ◌≤◌}
 use lib.ListN.{length, drop}
-use Rattle.base.specs.Digits.{isDigit}
+use Rattle.base.specs.Digits.{is_digit}
 use Rattle.base.specs.Runs.{run}
-use Rattle.base.proofs.Runs.{run_on, run-stops, run_ends}
+use Rattle.base.proofs.Runs.{run_on, run_stops, run_ends}
 use Rattle.number.proofs.digit_run.Statement.{statement}
 use Rattle.number.proofs.digit_run.Tie as tie
 
 abbrev invariant-loop : tie.invariant-loop
-invariant-loop s i₀ i = (i ≤ length s) × (run isDigit s ≡ i + run isDigit (drop i s))
+invariant-loop s i₀ i = (i ≤ length s) × (run is_digit s ≡ i + run is_digit (drop i s))
 
 abbrev decreases-loop : tie.decreases-loop
 decreases-loop s i₀ i = length s - i
@@ -34,7 +34,7 @@ loop-again : tie.Need-loop-preserved invariant-loop decreases-loop
 loop-again c = (search rules, search (run_on, rules))
 
 returns : tie.Need-returns invariant-loop decreases-loop
-returns c = (search (run-stops, rules), search rules)
+returns c = (search (run_stops, rules), search rules)
 
 returns-2 : tie.Need-returns-2 invariant-loop decreases-loop
 returns-2 c = (search (run_ends, rules), search rules)

@@ -1,6 +1,6 @@
 -- `number::inside` meets its contract: twice the billionths keep half a unit whole. Assumes nothing.
 use borrow.Author.Rules.{rules}
-use Rattle.number.proofs.Range.{inside_found, inside-below}
+use Rattle.number.proofs.Range.{inside_found, inside_below}
 use Rattle.number.proofs.inside.Statement.{statement}
 use Rattle.number.proofs.inside.Tie as tie
 
@@ -38,7 +38,7 @@ returns : tie.Need-returns
 returns c = search (inside_found, rules)
 
 returns-2 : tie.Need-returns-2
-returns-2 c = search (inside-below, rules)
+returns-2 c = search (inside_below, rules)
 
 pub inside-spec : {M : Type 1} → statement M
 inside-spec =

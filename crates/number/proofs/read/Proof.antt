@@ -2,7 +2,7 @@
 use borrow.Author.Rules.{rules}
 use native.Mathlib.Omega.{arith}
 use lib.ListN.{length-take}
-use Rattle.number.proofs.Texts.{read-no-digit, read-long, read_whole, read-no-point, read-point, whole-digits, whole-small}
+use Rattle.number.proofs.Texts.{read_no_digit, read_long, read_whole, read_no_point, read-point, whole-digits, whole_small}
 use Rattle.number.proofs.read.Statement.{statement}
 use Rattle.number.proofs.read.Tie as tie
 
@@ -10,10 +10,10 @@ digit-run-requires : tie.Need-digit-run-requires
 digit-run-requires c κs = search rules
 
 returns : tie.Need-returns
-returns c = search (read-no-digit, rules)
+returns c = search (read_no_digit, rules)
 
 returns-2 : tie.Need-returns-2
-returns-2 c = search (read-long, rules)
+returns-2 c = search (read_long, rules)
 
 slice-aggregate-value-from : tie.Need-slice-aggregate-value-from
 slice-aggregate-value-from c = simp length-take (omega arith)
@@ -28,7 +28,7 @@ shared-slice-read-if4 : tie.Need-shared-slice-read-if4
 shared-slice-read-if4 c = search rules
 
 returns-4 : tie.Need-returns-4
-returns-4 c = search (read-no-point, rules)
+returns-4 c = search (read_no_point, rules)
 
 add-after : tie.Need-overflow-add-after
 add-after c = search rules
@@ -43,7 +43,7 @@ part-read-fraction-end : tie.Need-slice-bounds-read-fraction-end
 part-read-fraction-end c = search rules
 
 read-fraction-requires : tie.Need-read-fraction-requires
-read-fraction-requires c κs = search (whole-small, rules)
+read-fraction-requires c κs = search (whole_small, rules)
 
 returns-5 : tie.Need-returns-5
 returns-5 c = search (read-point, rules)

@@ -1,26 +1,26 @@
 -- `number::read_fraction` meets its contract: each test is one of the definition's. Assumes nothing.
 use borrow.Author.Rules.{rules}
-use Rattle.number.proofs.Texts.{fraction-empty, fraction-long, fraction-no-digits, fraction-read, fraction-digits}
+use Rattle.number.proofs.Texts.{fraction_empty, fraction_long, fraction_no_digits, fraction_read, fraction_digits}
 use Rattle.number.proofs.read_fraction.Statement.{statement}
 use Rattle.number.proofs.read_fraction.Tie as tie
 
 returns : tie.Need-returns
-returns c = search (fraction-empty, rules)
+returns c = search (fraction_empty, rules)
 
 returns-2 : tie.Need-returns-2
-returns-2 c = search (fraction-long, rules)
+returns-2 c = search (fraction_long, rules)
 
 digit-run-requires : tie.Need-digit-run-requires
 digit-run-requires c κs = search rules
 
 returns-3 : tie.Need-returns-3
-returns-3 c = search (fraction-no-digits, rules)
+returns-3 c = search (fraction_no_digits, rules)
 
 value-from-requires : tie.Need-value-from-requires
-value-from-requires c κs = search (fraction-digits, rules)
+value-from-requires c κs = search (fraction_digits, rules)
 
 returns-4 : tie.Need-returns-4
-returns-4 c = search (fraction-read, rules)
+returns-4 c = search (fraction_read, rules)
 
 pub read-fraction-spec : {M : Type 1} → statement M
 read-fraction-spec =

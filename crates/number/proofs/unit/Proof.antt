@@ -9,7 +9,7 @@ use Rattle.base.proofs.Below.{passes_same}
 use Rattle.number.specs.declared.Decimal.{Decimal}
 use Rattle.number.specs.Value.{Bounded}
 use Rattle.number.specs.Billionths.{unit}
-use Rattle.number.proofs.Exact.{unit-small}
+use Rattle.number.proofs.Exact.{unit_small}
 use Rattle.number.proofs.unit.Statement.{statement}
 use Rattle.number.proofs.unit.Tie as tie
 
@@ -26,8 +26,8 @@ units =
 unit-found : (d : Decimal) → Bounded d → (get_or units d.decimals 0 ≡ unit d) × (get_or units d.decimals 0 ≤ 10 ^ 9)
 unfolding units unit
 unit-found d b =
-    let e : get_or units d.decimals 0 ≡ unit d = passes_same (λ (k : ℕ). get_or units k 0) (λ (k : ℕ). 10 ^ (9 - k)) 10 refl d.decimals (omega (arith, b.few-decimals)) in
-    (e, rw e (unit-small d b))
+    let e : get_or units d.decimals 0 ≡ unit d = passes_same (λ (k : ℕ). get_or units k 0) (λ (k : ℕ). 10 ^ (9 - k)) 10 refl d.decimals (omega (arith, b.few_decimals)) in
+    (e, rw e (unit_small d b))
 
 returns : tie.Need-returns
 unfolding units

@@ -2,7 +2,7 @@
 use borrow.Author.Rules.{rules}
 use Prim.Native.Nat.{◌-◌}
 use lib.ListN.{length}
-use Rattle.number.proofs.Digits.{Accumulated, value-starts, value-times-ten, value-digit-low, value_room, value-next, value-ends}
+use Rattle.number.proofs.Digits.{Accumulated, value-starts, value_times_ten, value-digit_low, value_room, value-next, value-ends}
 use Rattle.number.proofs.value_from.Statement.{statement}
 use Rattle.number.proofs.value_from.Tie as tie
 
@@ -16,7 +16,7 @@ loop-holds : tie.Need-loop-init invariant-loop decreases-loop
 loop-holds c = search (value-starts, rules)
 
 mul-value : tie.Need-overflow-mul-value invariant-loop decreases-loop
-mul-value c = search (value-times-ten, rules)
+mul-value c = search (value_times_ten, rules)
 
 shared-slice-read-wide : tie.Need-shared-slice-read-wide invariant-loop decreases-loop
 shared-slice-read-wide c = search rules
@@ -25,7 +25,7 @@ wide-requires : tie.Need-wide-requires invariant-loop decreases-loop
 wide-requires c κs = search rules
 
 sub-value : tie.Need-overflow-sub-value invariant-loop decreases-loop
-sub-value c = search (value-digit-low, rules)
+sub-value c = search (value-digit_low, rules)
 
 add-value : tie.Need-overflow-add-value invariant-loop decreases-loop
 add-value c = search (value_room, rules)

@@ -1,7 +1,7 @@
 -- `preparing::fill` meets its contract: the sheet first, then the filter. Assumes nothing.
 use borrow.Author.Rules.{rules}
 use mathlib.Core.Path.{sym, ◌∙◌}
-use Rattle.preparing.proofs.Filled.{fill-size, fill-sum, fill-layout, fill-right}
+use Rattle.preparing.proofs.Filled.{fill_size, fill_sum, fill_layout, fill_right}
 use Rattle.preparing.proofs.fill.Statement.{statement}
 use Rattle.preparing.proofs.fill.Tie as tie
 
@@ -36,16 +36,16 @@ same_length : tie.Need-same-length
 same_length c = search rules
 
 returns : tie.Need-returns
-returns c = search (fill-right, rules)
+returns c = search (fill_right, rules)
 
 returns-2 : tie.Need-returns-2
-returns-2 c = search (fill-size, rules)
+returns-2 c = search (fill_size, rules)
 
 returns-3 : tie.Need-returns-3
-returns-3 c = search (fill-sum, rules)
+returns-3 c = search (fill_sum, rules)
 
 returns-4 : tie.Need-returns-4
-returns-4 c = search (fill-layout, rules)
+returns-4 c = search (fill_layout, rules)
 
 pub fill_spec : {M : Type 1} → statement M
 fill_spec =

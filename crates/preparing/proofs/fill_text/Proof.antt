@@ -1,6 +1,6 @@
 -- `preparing::fill_text` meets its contract. Assumes nothing.
 use borrow.Author.Rules.{rules}
-use Rattle.preparing.proofs.Filled.{fill-room, fill-empty, fill-long, fill-nothing, fill-within, fill-trails, fill-many, fill_done, fill-fault}
+use Rattle.preparing.proofs.Filled.{fill_room, fill_empty, fill_long, fill_nothing, fill_within, fill_trails, fill_many, fill_done, fill_fault}
 use Rattle.preparing.proofs.fill_text.Statement.{statement}
 use Rattle.preparing.proofs.fill_text.Tie as tie
 
@@ -8,25 +8,25 @@ refuse-requires : tie.Need-refuse-requires
 refuse-requires c κs = search rules
 
 returns : tie.Need-returns
-returns c = search (fill-empty, rules)
+returns c = search (fill_empty, rules)
 
 refuse-requires-2 : tie.Need-refuse-requires-2
 refuse-requires-2 c κs = search rules
 
 returns-2 : tie.Need-returns-2
-returns-2 c = search (fill-long, rules)
+returns-2 c = search (fill_long, rules)
 
 top-requires : tie.Need-top-requires
 top-requires c κs = search rules
 
 write-filter-requires : tie.Need-write-filter-requires
-write-filter-requires c κs = (search rules, search (fill-room, rules))
+write-filter-requires c κs = (search rules, search (fill_room, rules))
 
 enum-known-written : tie.Need-enum-known-written
 enum-known-written c = search rules
 
 skip-requires : tie.Need-skip-requires
-skip-requires c κs = search (fill-within, rules)
+skip-requires c κs = search (fill_within, rules)
 
 no-filter-requires : tie.Need-no-filter-requires
 no-filter-requires c κs = search rules
@@ -35,7 +35,7 @@ same_length : tie.Need-same-length
 same_length c = search rules
 
 returns-3 : tie.Need-returns-3
-returns-3 c = search (fill-trails, rules)
+returns-3 c = search (fill_trails, rules)
 
 no-filter-requires-2 : tie.Need-no-filter-requires-2
 no-filter-requires-2 c κs = search rules
@@ -44,7 +44,7 @@ same-length-2 : tie.Need-same-length-2
 same-length-2 c = search rules
 
 returns-4 : tie.Need-returns-4
-returns-4 c = search (fill-many, rules)
+returns-4 c = search (fill_many, rules)
 
 outcome-requires : tie.Need-outcome-requires
 outcome-requires c κs = search rules
@@ -71,13 +71,13 @@ same-length-4 : tie.Need-same-length-4
 same-length-4 c = search rules
 
 returns-6 : tie.Need-returns-6
-returns-6 c = search (fill-fault, rules)
+returns-6 c = search (fill_fault, rules)
 
 same-length-5 : tie.Need-same-length-5
 same-length-5 c = search rules
 
 returns-7 : tie.Need-returns-7
-returns-7 c = search (fill-nothing, rules)
+returns-7 c = search (fill_nothing, rules)
 
 pub fill-text-spec : {M : Type 1} → statement M
 fill-text-spec =

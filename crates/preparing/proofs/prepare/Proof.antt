@@ -1,6 +1,6 @@
 -- `preparing::prepare` meets its contract: the room decides after all else. Assumes nothing.
 use borrow.Author.Rules.{rules}
-use Rattle.preparing.proofs.Filled.{prepare-refused, prepare-short, prepare-done}
+use Rattle.preparing.proofs.Filled.{prepare_refused, prepare_short, prepare_done}
 use Rattle.preparing.proofs.prepare.Statement.{statement}
 use Rattle.preparing.proofs.prepare.Tie as tie
 
@@ -14,7 +14,7 @@ enum-known-filled : tie.Need-enum-known-filled
 enum-known-filled c = search rules
 
 returns : tie.Need-returns
-returns c = search (prepare-short, rules)
+returns c = search (prepare_short, rules)
 
 sub-write : tie.Need-overflow-sub-write
 sub-write c = search rules
@@ -35,10 +35,10 @@ same_length : tie.Need-same-length
 same_length c = search rules
 
 returns-2 : tie.Need-returns-2
-returns-2 c = search (prepare-done, rules)
+returns-2 c = search (prepare_done, rules)
 
 returns-3 : tie.Need-returns-3
-returns-3 c = search (prepare-refused, rules)
+returns-3 c = search (prepare_refused, rules)
 
 pub prepare-spec : {M : Type 1} → statement M
 prepare-spec =

@@ -1,6 +1,6 @@
 -- `searching::check_rows` meets its contract: the first refusal and the number of rows are those of the alternatives. Assumes nothing.
 use borrow.Author.Rules.{rules}
-use Rattle.searching.proofs.SearchPassing.{rows-checked}
+use Rattle.searching.proofs.SearchPassing.{rows_checked}
 use Rattle.searching.proofs.check_rows.Statement.{statement}
 use Rattle.searching.proofs.check_rows.Tie as tie
 
@@ -11,7 +11,7 @@ outcome-requires : tie.Need-outcome-requires
 outcome-requires c κs = search rules
 
 returns : tie.Need-returns
-returns c = search (rows-checked, rules)
+returns c = search (rows_checked, rules)
 
 pub check-rows-spec : {M : Type 1} → statement M
 check-rows-spec = tie.close (tie.spec first-fault-requires outcome-requires returns)

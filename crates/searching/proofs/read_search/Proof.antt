@@ -1,6 +1,6 @@
 -- `searching::read_search` meets its contract: the sheet first, then the string. Assumes nothing.
 use borrow.Author.Rules.{rules}
-use Rattle.searching.proofs.SearchPassing.{sheet-known, sheet-size, sheet-sum, sheet-layout}
+use Rattle.searching.proofs.SearchPassing.{sheet_known, sheet_size, sheet_sum, sheet_layout_lem}
 use Rattle.searching.proofs.read_search.Statement.{statement}
 use Rattle.searching.proofs.read_search.Tie as tie
 
@@ -11,7 +11,7 @@ enum_told : tie.Need-enum-told
 enum_told c = search rules
 
 read-text-requires : tie.Need-read-text-requires
-read-text-requires c κs = search (sheet-known, rules)
+read-text-requires c κs = search (sheet_known, rules)
 
 enum-told-2 : tie.Need-enum-told-2
 enum-told-2 c = search rules
@@ -47,13 +47,13 @@ returns : tie.Need-returns
 returns c = search rules
 
 returns-2 : tie.Need-returns-2
-returns-2 c = search (sheet-size, rules)
+returns-2 c = search (sheet_size, rules)
 
 returns-3 : tie.Need-returns-3
-returns-3 c = search (sheet-sum, rules)
+returns-3 c = search (sheet_sum, rules)
 
 returns-4 : tie.Need-returns-4
-returns-4 c = search (sheet-layout, rules)
+returns-4 c = search (sheet_layout_lem, rules)
 
 pub read-search-spec : {M : Type 1} → statement M
 read-search-spec =

@@ -1,6 +1,6 @@
 -- `searching::read_text` meets its contract: the string is read into rows, or refused as the definition refuses it. Assumes nothing.
 use borrow.Author.Rules.{rules}
-use Rattle.searching.proofs.SearchPassing.{accepted-within, rows-read, text-refuses}
+use Rattle.searching.proofs.SearchPassing.{accepted_within, rows_read, text_refuses}
 use Rattle.searching.proofs.read_text.Statement.{statement}
 use Rattle.searching.proofs.read_text.Tie as tie
 
@@ -11,7 +11,7 @@ enum_told : tie.Need-enum-told
 enum_told c = search rules
 
 check-rows-requires : tie.Need-check-rows-requires
-check-rows-requires c κs = search (accepted-within, rules)
+check-rows-requires c κs = search (accepted_within, rules)
 
 enum-known-decision : tie.Need-enum-known-decision
 enum-known-decision c = search rules
@@ -20,13 +20,13 @@ same_length : tie.Need-same-length
 same_length c = search rules
 
 returns : tie.Need-returns
-returns c = search (rows-read, rules)
+returns c = search (rows_read, rules)
 
 same-length-2 : tie.Need-same-length-2
 same-length-2 c = search rules
 
 returns-2 : tie.Need-returns-2
-returns-2 c = search (text-refuses, rules)
+returns-2 c = search (text_refuses, rules)
 
 pub read-text-spec : {M : Type 1} → statement M
 read-text-spec =

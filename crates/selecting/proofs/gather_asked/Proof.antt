@@ -1,6 +1,6 @@
 -- `selecting::gather_asked` meets its contract. Assumes nothing.
 use borrow.Author.Rules.{rules}
-use Rattle.selecting.proofs.Asks.{asks-whole, asks-same, gathered-rows, gathered-same}
+use Rattle.selecting.proofs.Asks.{asks-whole, asks-same, gathered_rows, gathered_same}
 use Rattle.selecting.proofs.gather_asked.Statement.{statement}
 use Rattle.selecting.proofs.gather_asked.Tie as tie
 
@@ -26,19 +26,19 @@ same_length : tie.Need-same-length
 same_length c = search rules
 
 returns : tie.Need-returns
-returns c = search (gathered-rows, rules)
+returns c = search (gathered_rows, rules)
 
 same-length-2 : tie.Need-same-length-2
 same-length-2 c = search rules
 
 returns-2 : tie.Need-returns-2
-returns-2 c = search (gathered-same, rules)
+returns-2 c = search (gathered_same, rules)
 
 same-length-3 : tie.Need-same-length-3
 same-length-3 c = search rules
 
 returns-3 : tie.Need-returns-3
-returns-3 c = search (gathered-same, rules)
+returns-3 c = search (gathered_same, rules)
 
 pub gather-asked-spec : {M : Type 1} → statement M
 gather-asked-spec =

@@ -1,11 +1,11 @@
 -- `selecting::select_cards` meets its contract, by the laws of any question. Assumes nothing.
 use borrow.Author.Rules.{rules}
-use Rattle.selecting.proofs.Selecting.{found-parted, found-over, gathered-room, select-card-refused, select_short, select-writes}
+use Rattle.selecting.proofs.Selecting.{found_parted, found-over, gathered_room, select-card_refused, select_short, select_writes}
 use Rattle.selecting.proofs.select_cards.Statement.{statement}
 use Rattle.selecting.proofs.select_cards.Tie as tie
 
 returns : tie.Need-returns
-returns c = search (found-parted, rules)
+returns c = search (found_parted, rules)
 
 returns-2 : tie.Need-returns-2
 returns-2 c = search (found-over, rules)
@@ -29,7 +29,7 @@ part-write-start : tie.Need-slice-bounds-write-start
 part-write-start c = search rules
 
 part-write-end : tie.Need-slice-bounds-write-end
-part-write-end c = search (gathered-room, rules)
+part-write-end c = search (gathered_room, rules)
 
 write-requires : tie.Need-write-requires
 write-requires c κs = search rules
@@ -41,10 +41,10 @@ same_length : tie.Need-same-length
 same_length c = search rules
 
 returns-4 : tie.Need-returns-4
-returns-4 c = search (select-writes, rules)
+returns-4 c = search (select_writes, rules)
 
 returns-5 : tie.Need-returns-5
-returns-5 c = search (select-card-refused, rules)
+returns-5 c = search (select-card_refused, rules)
 
 pub select-cards-spec : {M : Type 1} → statement M
 select-cards-spec =

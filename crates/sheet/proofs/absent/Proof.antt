@@ -2,9 +2,9 @@
 use borrow.Author.Rules.{rules}
 use Rattle.block.specs.Items.{items}
 use Rattle.block.proofs.Invariants.{Visited}
-use Rattle.block.proofs.Items.{visited-start, visited-next, visited-decides, visited-end}
+use Rattle.block.proofs.Items.{visited_start, visited_next, visited_decides, visited_end}
 use Rattle.sheet.specs.Sheet.{parameter, absent}
-use Rattle.sheet.proofs.Parameters.{absent-next, absent-not, absent-end}
+use Rattle.sheet.proofs.Parameters.{absent-next, absent_not, absent_end}
 use Rattle.sheet.proofs.absent.Statement.{statement}
 use Rattle.sheet.proofs.absent.Tie as tie
 
@@ -15,7 +15,7 @@ abbrev decreases-loop : tie.decreases-loop
 decreases-loop sheet from count bundle name at₀ left₀ at left = left
 
 loop-holds : tie.Need-loop-init invariant-loop decreases-loop
-loop-holds c = search (visited-start, rules)
+loop-holds c = search (visited_start, rules)
 
 parameter-at-requires : tie.Need-parameter-at-requires invariant-loop decreases-loop
 parameter-at-requires c κs = search rules
@@ -36,7 +36,7 @@ clashes-requires : tie.Need-clashes-requires invariant-loop decreases-loop
 clashes-requires c κs = search rules
 
 returns : tie.Need-returns invariant-loop decreases-loop
-returns c = search (visited-decides, absent-not, rules)
+returns c = search (visited_decides, absent_not, rules)
 
 sub-left : tie.Need-overflow-sub-left invariant-loop decreases-loop
 sub-left c = search rules
@@ -45,10 +45,10 @@ loop-less : tie.Need-loop-smaller invariant-loop decreases-loop
 loop-less c = search rules
 
 loop-again : tie.Need-loop-preserved invariant-loop decreases-loop
-loop-again c = search (visited-next, absent-next, rules)
+loop-again c = search (visited_next, absent-next, rules)
 
 returns-2 : tie.Need-returns-2 invariant-loop decreases-loop
-returns-2 c = search (visited-end, absent-end, rules)
+returns-2 c = search (visited_end, absent_end, rules)
 
 pub absent-spec : {M : Type 1} → statement M
 absent-spec =

@@ -3,20 +3,20 @@ use borrow.Author.Tests.{not-true, not-false}
 use borrow.Author.Rules.{rules}
 use Rattle.block.specs.Items.{items}
 use Rattle.block.proofs.Invariants.{Visited}
-use Rattle.block.proofs.Items.{visited-start, visited-next, visited-decides, visited-end}
-use Rattle.sheet.specs.Sheet.{parameter, areParameters}
-use Rattle.sheet.proofs.Parameters.{are-next, are-not, are-end}
+use Rattle.block.proofs.Items.{visited_start, visited_next, visited_decides, visited_end}
+use Rattle.sheet.specs.Sheet.{parameter, are_parameters}
+use Rattle.sheet.proofs.Parameters.{are_next, are_not, are_end}
 use Rattle.sheet.proofs.are_parameters.Statement.{statement}
 use Rattle.sheet.proofs.are_parameters.Tie as tie
 
 abbrev invariant-loop : tie.invariant-loop
-invariant-loop sheet marked count at₀ left₀ at left = Visited parameter (areParameters marked) (areParameters marked (items parameter count sheet 2)) sheet at left
+invariant-loop sheet marked count at₀ left₀ at left = Visited parameter (are_parameters marked) (are_parameters marked (items parameter count sheet 2)) sheet at left
 
 abbrev decreases-loop : tie.decreases-loop
 decreases-loop sheet marked count at₀ left₀ at left = left
 
 loop-holds : tie.Need-loop-init invariant-loop decreases-loop
-loop-holds c = search (visited-start, rules)
+loop-holds c = search (visited_start, rules)
 
 parameter-at-requires : tie.Need-parameter-at-requires invariant-loop decreases-loop
 parameter-at-requires c κs = search rules
@@ -34,7 +34,7 @@ is-parameter-requires : tie.Need-is-parameter-requires invariant-loop decreases-
 is-parameter-requires c κs = search rules
 
 returns : tie.Need-returns invariant-loop decreases-loop
-returns c = search (visited-decides, are-not, not-true, rules)
+returns c = search (visited_decides, are_not, not-true, rules)
 
 sub-left : tie.Need-overflow-sub-left invariant-loop decreases-loop
 sub-left c = search rules
@@ -43,10 +43,10 @@ loop-less : tie.Need-loop-smaller invariant-loop decreases-loop
 loop-less c = search rules
 
 loop-again : tie.Need-loop-preserved invariant-loop decreases-loop
-loop-again c = search (visited-next, are-next, not-false, rules)
+loop-again c = search (visited_next, are_next, not-false, rules)
 
 returns-2 : tie.Need-returns-2 invariant-loop decreases-loop
-returns-2 c = search (visited-end, are-end, rules)
+returns-2 c = search (visited_end, are_end, rules)
 
 pub are-parameters-spec : {M : Type 1} → statement M
 are-parameters-spec =

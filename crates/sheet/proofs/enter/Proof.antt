@@ -1,6 +1,6 @@
 -- `sheet::enter` meets its contract. Assumes nothing.
 use borrow.Author.Rules.{rules}
-use Rattle.sheet.proofs.Listed.{find-below, enter-bundle, enter-other, enter-missing}
+use Rattle.sheet.proofs.Listed.{find_below, enter-bundle, enter_other, enter_missing}
 use Rattle.sheet.proofs.enter.Statement.{statement}
 use Rattle.sheet.proofs.enter.Tie as tie
 
@@ -11,7 +11,7 @@ enum-known-index : tie.Need-enum-known-index
 enum-known-index c = search rules
 
 add-result : tie.Need-overflow-add-result
-add-result c = search (find-below, rules)
+add-result c = search (find_below, rules)
 
 returns : tie.Need-returns
 returns c = search (enter-bundle, rules)
@@ -20,10 +20,10 @@ enum_told : tie.Need-enum-told
 enum_told c = search rules
 
 returns-2 : tie.Need-returns-2
-returns-2 c = search (enter-other, rules)
+returns-2 c = search (enter_other, rules)
 
 returns-3 : tie.Need-returns-3
-returns-3 c = search (enter-missing, rules)
+returns-3 c = search (enter_missing, rules)
 
 pub enter_spec : {M : Type 1} → statement M
 enter_spec =

@@ -2,16 +2,16 @@
 use Prim.Native.Nat.{◌+◌, ◌≤◌}
 use borrow.Author.Rules.{rules}
 use Rattle.block.proofs.Invariants.{Visited}
-use Rattle.block.proofs.Items.{visited-next, visited-decides, visited-end}
-use Rattle.sheet.specs.Sheet.{parameter, parametersOf}
-use Rattle.sheet.specs.Find.{findFrom, find}
-use Rattle.sheet.proofs.Read.{parameters-start}
-use Rattle.sheet.proofs.Search.{find-whole, find-next, find-here, find-end}
+use Rattle.block.proofs.Items.{visited_next, visited_decides, visited_end}
+use Rattle.sheet.specs.Sheet.{parameter, parameters_of}
+use Rattle.sheet.specs.Find.{find_from, find}
+use Rattle.sheet.proofs.Read.{parameters_start}
+use Rattle.sheet.proofs.Search.{find-whole, find-next, find-here, find_end}
 use Rattle.sheet.proofs.find.Statement.{statement}
 use Rattle.sheet.proofs.find.Tie as tie
 
 abbrev invariant-loop : tie.invariant-loop
-invariant-loop sheet bundle name at₀ left₀ index₀ at left index = (index + left ≤ 255) × Visited parameter (findFrom index bundle name) (find bundle name (parametersOf sheet)) sheet at left
+invariant-loop sheet bundle name at₀ left₀ index₀ at left index = (index + left ≤ 255) × Visited parameter (find_from index bundle name) (find bundle name (parameters_of sheet)) sheet at left
 
 abbrev decreases-loop : tie.decreases-loop
 decreases-loop sheet bundle name at₀ left₀ index₀ at left index = left
@@ -20,7 +20,7 @@ parameter-count-requires : tie.Need-parameter-count-requires invariant-loop decr
 parameter-count-requires c κs = search rules
 
 loop-holds : tie.Need-loop-init invariant-loop decreases-loop
-loop-holds c = search (parameters-start, find-whole, rules)
+loop-holds c = search (parameters_start, find-whole, rules)
 
 parameter-at-requires : tie.Need-parameter-at-requires invariant-loop decreases-loop
 parameter-at-requires c κs = search rules
@@ -41,7 +41,7 @@ is-named-requires : tie.Need-is-named-requires invariant-loop decreases-loop
 is-named-requires c κs = search rules
 
 returns : tie.Need-returns invariant-loop decreases-loop
-returns c = search (visited-decides, find-here, rules)
+returns c = search (visited_decides, find-here, rules)
 
 sub-left : tie.Need-overflow-sub-left invariant-loop decreases-loop
 sub-left c = search rules
@@ -53,10 +53,10 @@ loop-less : tie.Need-loop-smaller invariant-loop decreases-loop
 loop-less c = search rules
 
 loop-again : tie.Need-loop-preserved invariant-loop decreases-loop
-loop-again c = search (visited-next, find-next, rules)
+loop-again c = search (visited_next, find-next, rules)
 
 returns-2 : tie.Need-returns-2 invariant-loop decreases-loop
-returns-2 c = search (visited-end, find-end, rules)
+returns-2 c = search (visited_end, find_end, rules)
 
 pub find_spec : {M : Type 1} → statement M
 find_spec =

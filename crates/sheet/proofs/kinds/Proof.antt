@@ -1,6 +1,6 @@
 -- `sheet::kinds` meets its contract. The loop's invariant: the cells filled and the parameters to come make the table. Assumes nothing.
 use borrow.Author.Rules.{rules}
-use Rattle.sheet.proofs.Filling.{Filling, filling-start, filling-next, filling-end}
+use Rattle.sheet.proofs.Filling.{Filling, filling-start, filling-next, filling_end}
 use Rattle.sheet.proofs.kinds.Statement.{statement}
 use Rattle.sheet.proofs.kinds.Tie as tie
 
@@ -35,7 +35,7 @@ loop-again : tie.Need-loop-preserved invariant-loop decreases-loop
 loop-again c = search (filling-next, rules)
 
 returns : tie.Need-returns invariant-loop decreases-loop
-returns c = search (filling-end, rules)
+returns c = search (filling_end, rules)
 
 pub kinds-spec : {M : Type 1} → statement M
 kinds-spec =

@@ -1,8 +1,8 @@
 -- `sheet::read_sheet` meets its contract: the check answers, and then the layout. Assumes nothing.
 use borrow.Author.Rules.{rules}
 use Rattle.block.proofs.Seal.{check-length}
-use Rattle.block.proofs.Readings.{reading-size, reading-sum, reading-layout, reading-right}
-use Rattle.sheet.specs.Sheet.{readSheet}
+use Rattle.block.proofs.Readings.{reading-size, reading_sum, reading_layout, reading_right}
+use Rattle.sheet.specs.Sheet.{read_sheet}
 use Rattle.sheet.proofs.read_sheet.Statement.{statement}
 use Rattle.sheet.proofs.read_sheet.Tie as tie
 
@@ -22,20 +22,20 @@ sheet-layout-requires : tie.Need-sheet-layout-requires
 sheet-layout-requires c κs = search (check-length, rules)
 
 returns : tie.Need-returns
-unfolding readSheet
+unfolding read_sheet
 returns c = search (reading-size, rules)
 
 returns-2 : tie.Need-returns-2
-unfolding readSheet
-returns-2 c = search (reading-sum, rules)
+unfolding read_sheet
+returns-2 c = search (reading_sum, rules)
 
 returns-3 : tie.Need-returns-3
-unfolding readSheet
-returns-3 c = search (reading-right, rules)
+unfolding read_sheet
+returns-3 c = search (reading_right, rules)
 
 returns-4 : tie.Need-returns-4
-unfolding readSheet
-returns-4 c = search (reading-layout, rules)
+unfolding read_sheet
+returns-4 c = search (reading_layout, rules)
 
 pub read-sheet-spec : {M : Type 1} → statement M
 read-sheet-spec =

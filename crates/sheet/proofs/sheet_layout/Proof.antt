@@ -1,7 +1,7 @@
 -- `sheet::sheet_layout` meets its contract. Assumes nothing.
 use borrow.Author.Rules.{rules}
 use borrow.Author.Tests.{not-true, not-false}
-use Rattle.sheet.proofs.Read.{layout-not, layout-walk, layout-right}
+use Rattle.sheet.proofs.Read.{layout_not, layout_walk, layout_right}
 use Rattle.sheet.proofs.sheet_layout.Statement.{statement}
 use Rattle.sheet.proofs.sheet_layout.Tie as tie
 
@@ -9,7 +9,7 @@ has-either-requires : tie.Need-has-either-requires
 has-either-requires c κs = search rules
 
 returns : tie.Need-returns
-returns c = search (layout-not, not-true, rules)
+returns c = search (layout_not, not-true, rules)
 
 shared-slice-read-has-marks : tie.Need-shared-slice-read-has-marks
 shared-slice-read-has-marks c = search rules
@@ -21,10 +21,10 @@ shared-slice-read-are-right : tie.Need-shared-slice-read-are-right
 shared-slice-read-are-right c = search rules
 
 are-right-requires : tie.Need-are-right-requires
-are-right-requires c κs = search (layout-walk, not-false, rules)
+are-right-requires c κs = search (layout_walk, not-false, rules)
 
 returns-2 : tie.Need-returns-2
-returns-2 c = search (layout-right, not-false, rules)
+returns-2 c = search (layout_right, not-false, rules)
 
 pub sheet-layout-spec : {M : Type 1} → statement M
 sheet-layout-spec =

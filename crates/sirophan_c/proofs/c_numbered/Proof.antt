@@ -1,6 +1,6 @@
 -- `sirophan_c::c_numbered` meets its contract: each case by its two numbers. Assumes nothing.
 use borrow.Author.Rules.{rules}
-use Rattle.sirophan_c.proofs.Answers.{number-told, size-refusal-told}
+use Rattle.sirophan_c.proofs.Answers.{number_told, size_refusal_told}
 use Rattle.sirophan_c.proofs.c_numbered.Statement.{statement}
 use Rattle.sirophan_c.proofs.c_numbered.Tie as tie
 
@@ -17,10 +17,10 @@ refused-requires : tie.Need-refused-requires
 refused-requires c κs = search rules
 
 returns : tie.Need-returns
-returns c = search (number-told, rules)
+returns c = search (number_told, rules)
 
 returns-2 : tie.Need-returns-2
-returns-2 c = search (size-refusal-told, rules)
+returns-2 c = search (size_refusal_told, rules)
 
 pub c-numbered-spec : {M : Type 1} → statement M
 c-numbered-spec =

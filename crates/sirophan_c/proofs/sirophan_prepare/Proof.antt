@@ -1,6 +1,6 @@
 -- `sirophan_c::sirophan_prepare` meets its contract: each case of prepare's answer has its two numbers, and the cells are prepare's. Assumes nothing.
 use borrow.Author.Rules.{rules}
-use Rattle.sirophan_c.proofs.Answers.{cells_told, prepare-refusal-told}
+use Rattle.sirophan_c.proofs.Answers.{cells_told, prepare_refusal_told}
 use Rattle.sirophan_c.proofs.sirophan_prepare.Statement.{statement}
 use Rattle.sirophan_c.proofs.sirophan_prepare.Tie as tie
 
@@ -26,7 +26,7 @@ same-length-2 : tie.Need-same-length-2
 same-length-2 c = search rules
 
 returns-2 : tie.Need-returns-2
-returns-2 c = search (prepare-refusal-told, rules)
+returns-2 c = search (prepare_refusal_told, rules)
 
 pub sirophan-prepare-spec : {M : Type 1} → statement M
 sirophan-prepare-spec =

@@ -37,8 +37,8 @@ use denote.Triple.Statement.{Contract, Triple}
 use denote.Triple.Table.{entered, cited}
 use denote.Triple.Walked.{says, Stays, stay_none_slice, gave_slice, walk_of, Goes-none_slice, Goes-gave_slice, Walks, ends_at, walked, walk_Meets}
 use denote.Exit.{yes}
-use Rattle.report.specs.Operation.{reportedAnswer}
-use Rattle.report.specs.Contracts.{Reports}
+use Rattle.report.specs.Operation.{reported_answer}
+use Rattle.report.specs.Operations.{Reports}
 use Rattle.report.specs.declared.Tally.{Tally}
 use Rattle.report.specs.declared.Reported.{Reported}
 use Rattle.report.specs.contracts.Tally as T
@@ -49,9 +49,9 @@ use Rattle.report.proofs.report.Symbol as report-def
 use Rattle.report.proofs.report.Symbol.{name as #report}
 use Rattle.report.proofs.report.Met as report-thm
 use Rattle.sirophan_c.specs.declared.Counts.{Counts}
-use Rattle.sirophan_c.specs.Answers.{cCounts}
-use Rattle.sirophan_c.specs.Contracts.{TellsReport}
-use Rattle.sirophan_c.proofs.Answers.{tells-report}
+use Rattle.sirophan_c.specs.Answers.{c_counts}
+use Rattle.sirophan_c.specs.Operations.{TellsReport}
+use Rattle.sirophan_c.proofs.Answers.{tells_report}
 use Rattle.sirophan_c.specs.contracts.Counts as N
 use Rattle.sirophan_c.proofs.Counts.TheLaws as N'
 use Rattle.sirophan_c.specs.contracts.c_reported as told
@@ -73,8 +73,8 @@ module _ {M : Type 1} {𝓤 : Ura M} (𝓛 : Logic 𝓤) (mem : Memory → SProp
   abbrev Told : Contract 𝓤
   Told = triple_of 𝓛 told.signature (told.spec 𝓛 mem run)
 
-  told-said : (r : Reported) (c : Counts) → ent 𝓤 (ensured 𝓛 told.ended (told.clauses 𝓛 mem run) tt (r, tt) tt c) (fact 𝓤 (c ≡ cCounts (reportedAnswer r)))
-  told-said r c = ex_e 𝓤 _ (λ ws. snd∗ 𝓤 (sem 𝓛 (lasts told.ended tt (r, tt) ws)) (fact 𝓤 (c ≡ cCounts (reportedAnswer r))))
+  told-said : (r : Reported) (c : Counts) → ent 𝓤 (ensured 𝓛 told.ended (told.clauses 𝓛 mem run) tt (r, tt) tt c) (fact 𝓤 (c ≡ c_counts (reported_answer r)))
+  told-said r c = ex_e 𝓤 _ (λ ws. snd∗ 𝓤 (sem 𝓛 (lasts told.ended tt (r, tt) ws)) (fact 𝓤 (c ≡ c_counts (reported_answer r))))
 
 module _ {M : Type 1} {𝓤 : Ura M} (𝓛 : Logic 𝓤) (mem : Memory → SProp 𝓤) (run : Routine → Fun 𝓤) (κ₀ κ₁ κ₂ κ₃ : Lft) (q₀ q₁ q₂ q₃ : Share) (x₀ x₁ x₂ : Bor (List ℕ)) (x : Bor (List Tally)) where
   open 𝓛 use {H, A}
@@ -175,11 +175,11 @@ module _ {M : Type 1} {𝓤 : Ura M} (𝓛 : Logic 𝓤) (mem : Memory → SProp
         use1 𝓛 (raw ((Told 𝓛 mem run).pre (to-told r v))) (goes-told r v) $
         calls_at ! fm (Told 𝓛 mem run) known-told (to-told r v) (and_then ! (load ! (from ! (stop !)) (look ! 14 refl)) (no_more !)) (λ w.
         use1 𝓛 (later (some (λ (c : Counts). (‵ ftrue ⊛ ‵ ((N.the_row).own_val c (w ∷ []))) ⊛ raw (ensured 𝓛 told.ended (told.clauses 𝓛 mem run) tt (r, tt) tt c)))) (id⊢ 𝓤 _) $ await ! tt $ pick ! (λ c.
-        split ! $ move ! (1 ∷ []) $ use1 𝓛 (raw (fact 𝓤 (c ≡ cCounts (reportedAnswer r)))) (told-said 𝓛 mem run r c) $ heard ! (c ≡ cCounts (reportedAnswer r)) (λ e₂. split ! $ drop ! $
+        split ! $ move ! (1 ∷ []) $ use1 𝓛 (raw (fact 𝓤 (c ≡ c_counts (reported_answer r)))) (told-said 𝓛 mem run r c) $ heard ! (c ≡ c_counts (reported_answer r)) (λ e₂. split ! $ drop ! $
         peeks ! N.the_row (Is N.the_row) (shows 𝓛 N.the_row) c (w ∷ []) (λ is_c. land ! (from ! (stop !)) (init ! 24 refl ((LL.lawful N.the_type N'.the_laws 𝓛).typed c _ is_c).0) $
         returns ! (look ! 24 refl) $ forget ! 10 refl $ forget ! 12 refl $ forget ! 14 refl $ forget ! 16 refl $ forget ! 18 refl $ forget ! 20 refl $ forget ! 22 refl $ forget ! 24 refl $
         move ! (24 ∷ 25 ∷ []) $ free1 ! $ move ! (22 ∷ 23 ∷ []) $ free1 ! $ move ! (20 ∷ 21 ∷ []) $ free1 ! $ move ! (18 ∷ 19 ∷ []) $ free1 ! $ move ! (16 ∷ 17 ∷ []) $ free1 ! $ move ! (14 ∷ 15 ∷ []) $ free1 ! $ move ! (12 ∷ 13 ∷ []) $ free1 ! $ move ! (10 ∷ 11 ∷ []) $ free1 ! $ free0 ! $
-        keep ! (1 ∷ 9 ∷ 8 ∷ 7 ∷ 2 ∷ 0 ∷ []) $ by ! (exits c w zs.1.1.1.0 (tells-report _ _ _ ys r zs.1.1.1.0 c e₁ e₂) l)))))))))))))))))))
+        keep ! (1 ∷ 9 ∷ 8 ∷ 7 ∷ 2 ∷ 0 ∷ []) $ by ! (exits c w zs.1.1.1.0 (tells_report _ _ _ ys r zs.1.1.1.0 c e₁ e₂) l)))))))))))))))))))
 
 module _ {M : Type 1} {𝓤 : Ura M} (𝓛 : Logic 𝓤) (mem : Memory → SProp 𝓤) (run : Routine → Fun 𝓤) where
   open 𝓛 use {H}

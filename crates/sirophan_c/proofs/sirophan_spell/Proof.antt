@@ -1,6 +1,6 @@
 -- `sirophan_c::sirophan_spell` meets its contract: each case of spell's answer has its two numbers, and the bytes are spell's. Assumes nothing.
 use borrow.Author.Rules.{rules}
-use Rattle.sirophan_c.proofs.Answers.{length-told, spell-refusal-told}
+use Rattle.sirophan_c.proofs.Answers.{length_told, spell_refusal_told}
 use Rattle.sirophan_c.proofs.sirophan_spell.Statement.{statement}
 use Rattle.sirophan_c.proofs.sirophan_spell.Tie as tie
 
@@ -20,13 +20,13 @@ same_length : tie.Need-same-length
 same_length c = search rules
 
 returns : tie.Need-returns
-returns c = search (length-told, rules)
+returns c = search (length_told, rules)
 
 same-length-2 : tie.Need-same-length-2
 same-length-2 c = search rules
 
 returns-2 : tie.Need-returns-2
-returns-2 c = search (spell-refusal-told, rules)
+returns-2 c = search (spell_refusal_told, rules)
 
 pub sirophan-spell-spec : {M : Type 1} → statement M
 sirophan-spell-spec =

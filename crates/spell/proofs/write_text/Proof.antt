@@ -1,5 +1,5 @@
 -- `spell::write_text` meets its contract: the filter begins after the spaces. Assumes nothing.
-use Rattle.spell.proofs.Spelling.{text-room, text-spelt}
+use Rattle.spell.proofs.Spelling.{text_room, text_spelt}
 use borrow.Author.Rules.{rules}
 use Rattle.spell.proofs.write_text.Statement.{statement}
 use Rattle.spell.proofs.write_text.Tie as tie
@@ -8,13 +8,13 @@ skip-requires : tie.Need-skip-requires
 skip-requires c κs = search rules
 
 write-filter-requires : tie.Need-write-filter-requires
-write-filter-requires c κs = (search rules, (search rules, search (text-room, rules)))
+write-filter-requires c κs = (search rules, (search rules, search (text_room, rules)))
 
 same_length : tie.Need-same-length
 same_length c = search rules
 
 returns : tie.Need-returns
-returns c = search (text-spelt, rules)
+returns c = search (text_spelt, rules)
 
 pub write-text-spec : {M : Type 1} → statement M
 write-text-spec = tie.close (tie.spec skip-requires write-filter-requires same_length returns)

@@ -1,6 +1,6 @@
 -- `syntax::read_choice` meets its contract: the tests are those of the definition. Assumes nothing.
 use borrow.Author.Rules.{rules}
-use Rattle.syntax.proofs.Structure.{choice-here, choice-nothing, choice-no-name}
+use Rattle.syntax.proofs.Structure.{choice_here, choice_nothing, choice_no_name}
 use Rattle.syntax.proofs.read_choice.Statement.{statement}
 use Rattle.syntax.proofs.read_choice.Tie as tie
 
@@ -17,13 +17,13 @@ has-requires : tie.Need-has-requires
 has-requires c κs = search rules
 
 returns : tie.Need-returns
-returns c = search (choice-here, rules)
+returns c = search (choice_here, rules)
 
 returns-2 : tie.Need-returns-2
-returns-2 c = search (choice-nothing, rules)
+returns-2 c = search (choice_nothing, rules)
 
 returns-3 : tie.Need-returns-3
-returns-3 c = search (choice-no-name, rules)
+returns-3 c = search (choice_no_name, rules)
 
 pub read-choice-spec : {M : Type 1} → statement M
 read-choice-spec =

@@ -1,6 +1,6 @@
 -- `syntax::read_close` meets its contract: the test is that of the definition. Assumes nothing.
 use borrow.Author.Rules.{rules}
-use Rattle.syntax.proofs.Structure.{close-here, close-nothing}
+use Rattle.syntax.proofs.Structure.{close_here, close_nothing}
 use Rattle.syntax.proofs.read_close.Statement.{statement}
 use Rattle.syntax.proofs.read_close.Tie as tie
 
@@ -17,10 +17,10 @@ add-t9 : tie.Need-overflow-add-t9
 add-t9 c = search rules
 
 returns : tie.Need-returns
-returns c = search (close-here, rules)
+returns c = search (close_here, rules)
 
 returns-2 : tie.Need-returns-2
-returns-2 c = search (close-nothing, rules)
+returns-2 c = search (close_nothing, rules)
 
 pub read-close-spec : {M : Type 1} → statement M
 read-close-spec =

@@ -1,6 +1,6 @@
 -- `syntax::read_connective` meets its contract: the tests are those of the definition. Assumes nothing.
 use borrow.Author.Rules.{rules}
-use Rattle.syntax.proofs.Structure.{connective-no-gap, connective-and, connective-or, connective-none, word-within}
+use Rattle.syntax.proofs.Structure.{connective_no_gap, connective_and, connective_or, connective_none, word-within}
 use Rattle.syntax.proofs.read_connective.Statement.{statement}
 use Rattle.syntax.proofs.read_connective.Tie as tie
 
@@ -8,7 +8,7 @@ skip-requires : tie.Need-skip-requires
 skip-requires c κs = search rules
 
 returns : tie.Need-returns
-returns c = search (connective-no-gap, rules)
+returns c = search (connective_no_gap, rules)
 
 slice-aggregate-has : tie.Need-slice-aggregate-has
 slice-aggregate-has c = search rules
@@ -23,7 +23,7 @@ skip-requires-2 : tie.Need-skip-requires-2
 skip-requires-2 c κs = search (word-within, rules)
 
 returns-2 : tie.Need-returns-2
-returns-2 c = search (connective-and, rules)
+returns-2 c = search (connective_and, rules)
 
 slice-aggregate-has-2 : tie.Need-slice-aggregate-has-2
 slice-aggregate-has-2 c = search rules
@@ -38,10 +38,10 @@ skip-requires-3 : tie.Need-skip-requires-3
 skip-requires-3 c κs = search (word-within, rules)
 
 returns-3 : tie.Need-returns-3
-returns-3 c = search (connective-or, rules)
+returns-3 c = search (connective_or, rules)
 
 returns-4 : tie.Need-returns-4
-returns-4 c = search (connective-none, rules)
+returns-4 c = search (connective_none, rules)
 
 pub read-connective-spec : {M : Type 1} → statement M
 read-connective-spec =

@@ -1,6 +1,6 @@
 -- `syntax::read_dotted` meets its contract: the tests are those of the definition. Assumes nothing.
 use borrow.Author.Rules.{rules}
-use Rattle.syntax.proofs.Structure.{member-test, member-nothing, word-within}
+use Rattle.syntax.proofs.Structure.{member_test, member_nothing, word-within}
 use Rattle.syntax.proofs.read_dotted.Statement.{statement}
 use Rattle.syntax.proofs.read_dotted.Tie as tie
 
@@ -20,10 +20,10 @@ test-in-requires : tie.Need-test-in-requires
 test-in-requires c κs = search rules
 
 returns : tie.Need-returns
-returns c = search (member-test, rules)
+returns c = search (member_test, rules)
 
 returns-2 : tie.Need-returns-2
-returns-2 c = search (member-nothing, rules)
+returns-2 c = search (member_nothing, rules)
 
 pub read-dotted-spec : {M : Type 1} → statement M
 read-dotted-spec =

@@ -1,7 +1,7 @@
 -- `syntax::read_member` meets its contract. Assumes nothing.
 use borrow.Author.Rules.{rules}
-use Rattle.syntax.proofs.Structure.{after-close, after_nothing}
-use Rattle.syntax.proofs.Places.{close-within}
+use Rattle.syntax.proofs.Structure.{after_close_lem, after_nothing}
+use Rattle.syntax.proofs.Places.{close_within}
 use Rattle.syntax.proofs.read_member.Statement.{statement}
 use Rattle.syntax.proofs.read_member.Tie as tie
 
@@ -12,13 +12,13 @@ enum-known-after : tie.Need-enum-known-after
 enum-known-after c = search rules
 
 read-dotted-requires : tie.Need-read-dotted-requires
-read-dotted-requires c κs = search (close-within, rules)
+read-dotted-requires c κs = search (close_within, rules)
 
 enum_told : tie.Need-enum-told
 enum_told c = search rules
 
 returns : tie.Need-returns
-returns c = search (after-close, rules)
+returns c = search (after_close_lem, rules)
 
 returns-2 : tie.Need-returns-2
 returns-2 c = search (after_nothing, rules)

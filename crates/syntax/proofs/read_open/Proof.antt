@@ -1,7 +1,7 @@
 -- `syntax::read_open` meets its contract: the tests are those of the definition. Assumes nothing.
 use borrow.Author.Rules.{rules}
 use mathlib.Core.Path.{refl}
-use Rattle.syntax.proofs.Structure.{open-bracket, open-nothing, open-not, open-not-nothing, word-within}
+use Rattle.syntax.proofs.Structure.{open_bracket, open_nothing, open_not, open_not_nothing, word-within}
 use Rattle.syntax.proofs.read_open.Statement.{statement}
 use Rattle.syntax.proofs.read_open.Tie as tie
 
@@ -18,7 +18,7 @@ skip-requires : tie.Need-skip-requires
 skip-requires c κs = search (word-within, rules)
 
 returns : tie.Need-returns
-returns c = search (open-bracket, rules)
+returns c = search (open_bracket, rules)
 
 slice-aggregate-has-2 : tie.Need-slice-aggregate-has-2
 slice-aggregate-has-2 c = search rules
@@ -46,13 +46,13 @@ skip-requires-3 c κs =
     word-within _ _ _ _ _ c.before.has3.ensures c.if3.true c.before.before.before.skip2.ensures.within refl
 
 returns-2 : tie.Need-returns-2
-returns-2 c = search (open-not, rules)
+returns-2 c = search (open_not, rules)
 
 returns-3 : tie.Need-returns-3
-returns-3 c = search (open-not-nothing, rules)
+returns-3 c = search (open_not_nothing, rules)
 
 returns-4 : tie.Need-returns-4
-returns-4 c = search (open-nothing, rules)
+returns-4 c = search (open_nothing, rules)
 
 pub read-open-spec : {M : Type 1} → statement M
 read-open-spec =

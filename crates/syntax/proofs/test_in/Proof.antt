@@ -1,6 +1,6 @@
--- `syntax::test_in` meets its contract: each arm is a case of the definition. Assumes nothing.
+-- `syntax::test_in_lem` meets its contract: each arm is a case of the definition. Assumes nothing.
 use borrow.Author.Rules.{rules}
-use Rattle.syntax.proofs.Structure.{in-test}
+use Rattle.syntax.proofs.Structure.{in_test}
 use Rattle.syntax.proofs.test_in.Statement.{statement}
 use Rattle.syntax.proofs.test_in.Tie as tie
 
@@ -17,7 +17,7 @@ enum-told-3 : tie.Need-enum-told-3
 enum-told-3 c = search rules
 
 returns : tie.Need-returns
-returns c = search (in-test, rules)
+returns c = search (in_test, rules)
 
 returns-2 : tie.Need-returns-2
 returns-2 c = search rules

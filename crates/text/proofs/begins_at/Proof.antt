@@ -3,7 +3,7 @@ use borrow.Author.Rules.{rules}
 use Prim.Native.Nat.{◌-◌}
 use lib.ListN.{length}
 use Rattle.text.proofs.Invariants.{Compared}
-use Rattle.text.proofs.Compare.{compared-start, compared-differ, compared-next, compared-end}
+use Rattle.text.proofs.Compare.{compared_start, compared_differ, compared_next, compared_end}
 use Rattle.text.proofs.begins_at.Statement.{statement}
 use Rattle.text.proofs.begins_at.Tie as tie
 
@@ -14,7 +14,7 @@ abbrev decreases-loop : tie.decreases-loop
 decreases-loop a at b i₀ i = length b - i
 
 loop-holds : tie.Need-loop-init invariant-loop decreases-loop
-loop-holds c = search (compared-start, rules)
+loop-holds c = search (compared_start, rules)
 
 add-folded-at : tie.Need-overflow-add-folded-at invariant-loop decreases-loop
 add-folded-at c = search rules
@@ -26,7 +26,7 @@ folded-at-requires-2 : tie.Need-folded-at-requires-2 invariant-loop decreases-lo
 folded-at-requires-2 c κs = search rules
 
 returns : tie.Need-returns invariant-loop decreases-loop
-returns c = search (compared-differ, rules)
+returns c = search (compared_differ, rules)
 
 add-i : tie.Need-overflow-add-i invariant-loop decreases-loop
 add-i c = search rules
@@ -35,10 +35,10 @@ loop-less : tie.Need-loop-smaller invariant-loop decreases-loop
 loop-less c = search rules
 
 loop-again : tie.Need-loop-preserved invariant-loop decreases-loop
-loop-again c = search (compared-next, rules)
+loop-again c = search (compared_next, rules)
 
 returns-2 : tie.Need-returns-2 invariant-loop decreases-loop
-returns-2 c = search (compared-end, rules)
+returns-2 c = search (compared_end, rules)
 
 pub begins-at-spec : {M : Type 1} → statement M
 begins-at-spec =

@@ -1,7 +1,7 @@
 -- `text::begins_by` meets its contract: where the last five bits of the first bytes differ, b does not begin there. Assumes nothing.
 use borrow.Author.Rules.{rules}
 use mathlib.Core.Path.{refl}
-use Rattle.text.proofs.Compare.{begins-differ}
+use Rattle.text.proofs.Compare.{begins_differ}
 use Rattle.text.proofs.begins_by.Statement.{statement}
 use Rattle.text.proofs.begins_by.Tie as tie
 
@@ -9,7 +9,7 @@ shared-slice-read-if1 : tie.Need-shared-slice-read-if1
 shared-slice-read-if1 c = search rules
 
 returns : tie.Need-returns
-returns c = begins-differ _ _ _ _ _ c.before.before.before.before.requires.0 c.before.before.before.before.requires.1.0 refl c.before.before.before.before.requires.1.1 c.if1.true
+returns c = begins_differ _ _ _ _ _ c.before.before.before.before.requires.0 c.before.before.before.before.requires.1.0 refl c.before.before.before.before.requires.1.1 c.if1.true
 
 begins-at-requires : tie.Need-begins-at-requires
 begins-at-requires c κs = search rules

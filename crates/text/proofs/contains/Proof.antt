@@ -2,7 +2,7 @@
 use borrow.Author.Rules.{rules}
 use Prim.Native.Nat.{◌+◌, ◌-◌}
 use Rattle.text.proofs.Invariants.{Searched}
-use Rattle.text.proofs.Compare.{contains-empty, contains-short, searched-start, searched-found, searched-next, searched-end}
+use Rattle.text.proofs.Compare.{contains_empty, contains_short, searched_start, searched_found, searched_next, searched_end}
 use Rattle.text.proofs.contains.Statement.{statement}
 use Rattle.text.proofs.contains.Tie as tie
 
@@ -13,10 +13,10 @@ abbrev decreases-loop : tie.decreases-loop
 decreases-loop a b first last at₀ at = last + 1 - at
 
 returns : tie.Need-returns invariant-loop decreases-loop
-returns c = search (contains-empty, rules)
+returns c = search (contains_empty, rules)
 
 returns-2 : tie.Need-returns-2 invariant-loop decreases-loop
-returns-2 c = search (contains-short, rules)
+returns-2 c = search (contains_short, rules)
 
 folded-at-requires : tie.Need-folded-at-requires invariant-loop decreases-loop
 folded-at-requires c κs = search rules
@@ -25,13 +25,13 @@ sub-last : tie.Need-overflow-sub-last invariant-loop decreases-loop
 sub-last c = search rules
 
 loop-holds : tie.Need-loop-init invariant-loop decreases-loop
-loop-holds c = search (searched-start, rules)
+loop-holds c = search (searched_start, rules)
 
 begins-by-requires : tie.Need-begins-by-requires invariant-loop decreases-loop
 begins-by-requires c κs = search rules
 
 returns-3 : tie.Need-returns-3 invariant-loop decreases-loop
-returns-3 c = search (searched-found, rules)
+returns-3 c = search (searched_found, rules)
 
 add_at : tie.Need-overflow-add-at invariant-loop decreases-loop
 add_at c = search rules
@@ -40,10 +40,10 @@ loop-less : tie.Need-loop-smaller invariant-loop decreases-loop
 loop-less c = search rules
 
 loop-again : tie.Need-loop-preserved invariant-loop decreases-loop
-loop-again c = search (searched-next, rules)
+loop-again c = search (searched_next, rules)
 
 returns-4 : tie.Need-returns-4 invariant-loop decreases-loop
-returns-4 c = search (searched-end, rules)
+returns-4 c = search (searched_end, rules)
 
 pub contains-spec : {M : Type 1} → statement M
 contains-spec =

@@ -3,21 +3,21 @@
 use Prim.Native.Nat.{◌+◌, ◌*◌, ◌-◌}
 use native.Mathlib.Omega.{arith}
 use lib.ListN.{length}
-use Rattle.base.proofs.Tests.{and-fails}
-use Rattle.sheet.specs.Sheet.{parametersOf}
-use Rattle.card.specs.Card.{entry, entriesOf}
-use Rattle.syntax.proofs.Places.{test-in-place, head-open-ahead, head-choice-order, head-choice-within, member-in-place, connective-ahead}
+use Rattle.base.proofs.Tests.{and_fails}
+use Rattle.sheet.specs.Sheet.{parameters_of}
+use Rattle.card.specs.Card.{entry, entries_of}
+use Rattle.syntax.proofs.Places.{test_in_place, head_open_ahead, head_choice_order, head_choice_within, member_in_place, connective_ahead}
 use Rattle.text_judge.specs.Folds.{judging}
 use Rattle.text_judge.specs.declared.Judged.{Judged}
-use Rattle.filter.proofs.Walk.{Chain, item-test, item-nothing, item-deep, item-opened, choice-deep, item-chosen, round-no-filter, round-open, round-closed, chosen-no-filter, chosen-no-member, chosen-member, item-ahead, filter-within, filter-no-item, chain-starts, chain-ends, chain-no-item, chain-takes}
-use Rattle.text_judge.proofs.Judging.{judged-cases, verdict-after, verdict-negated, verdict-inside, chosen-judged, chosen-here, chosen-next, chosen-end, member-found, member-missing}
+use Rattle.filter.proofs.Walk.{Chain, item_test, item_nothing, item_deep, item-opened, choice_deep, item-chosen, round_no_filter, round_open, round-closed, chosen_no_filter, chosen_no_member, chosen-member, item_ahead, filter_within, filter_no_item, chain_starts, chain_ends, chain_no_item, chain_takes}
+use Rattle.text_judge.proofs.Judging.{judged_cases, verdict_after, verdict_negated, verdict_inside, chosen_judged, chosen-here, chosen-next, chosen_end, member-found, member_missing}
 use Rattle.block.proofs.Invariants.{Visited}
-use Rattle.card.proofs.Entries.{entries-start}
+use Rattle.card.proofs.Entries.{entries_start}
 use Rattle.syntax.specs.Scan.{test_of}
-use Rattle.syntax.specs.Reader.{filterAt}
+use Rattle.syntax.specs.Reader.{filter_at}
 use Rattle.judge.specs.Sets.{chosen_of}
-use Rattle.text_judge.specs.Members.{someChosen}
-use Rattle.block.proofs.Items.{visited-next, visited-decides, visited-end}
+use Rattle.text_judge.specs.Members.{some_chosen}
+use Rattle.block.proofs.Items.{visited_next, visited_decides, visited_end}
 use borrow.Author.Rules.{rules}
 use Prim.Native.Nat.{ℕ, ◌<◌}
 use borrow.Fn.Kinds.{In}
@@ -167,13 +167,13 @@ some-chosen-below t =
     and 3 some-chosen-kinds.ps (falls 3 some-chosen-kinds.ps ◌<◌ μ-some-chosen t) some-chosen.Pre
 
 abbrev judge-filter-Inv-loop : judge-filter-lts.invariant-loop
-judge-filter-Inv-loop needed sheet card chosen filter spot first-end first_says end₀ says₀ end says = Chain Judged.Done Judged.Nothing judged-cases (judging needed (parametersOf sheet) spot.bundle (chosen_of chosen (entriesOf card))) filter spot.close spot.levels spot.at end says
+judge-filter-Inv-loop needed sheet card chosen filter spot first-end first_says end₀ says₀ end says = Chain Judged.Done Judged.Nothing judged_cases (judging needed (parameters_of sheet) spot.bundle (chosen_of chosen (entries_of card))) filter spot.close spot.levels spot.at end says
 
 abbrev judge-filter-μ-loop : judge-filter-lts.decreases-loop
 judge-filter-μ-loop needed sheet card chosen filter spot first-end first_says end₀ says₀ end says = length filter - end
 
 abbrev some-chosen-Inv-loop : some-chosen-lts.invariant-loop
-some-chosen-Inv-loop sheet card chosen filter spot index meaning test at₀ left₀ at left = Visited entry (someChosen (parametersOf sheet) spot.bundle (entriesOf card) chosen (filterAt spot.levels filter spot.close spot.at) index meaning (test_of filter test).value) (someChosen (parametersOf sheet) spot.bundle (entriesOf card) chosen (filterAt spot.levels filter spot.close spot.at) index meaning (test_of filter test).value (entriesOf card)) card at left
+some-chosen-Inv-loop sheet card chosen filter spot index meaning test at₀ left₀ at left = Visited entry (some_chosen (parameters_of sheet) spot.bundle (entries_of card) chosen (filter_at spot.levels filter spot.close spot.at) index meaning (test_of filter test).value) (some_chosen (parameters_of sheet) spot.bundle (entries_of card) chosen (filter_at spot.levels filter spot.close spot.at) index meaning (test_of filter test).value (entries_of card)) card at left
 
 abbrev some-chosen-μ-loop : some-chosen-lts.decreases-loop
 some-chosen-μ-loop sheet card chosen filter spot index meaning test at₀ left₀ at left = left
@@ -195,8 +195,8 @@ pub +entry-chosen-judge-chosen-judge-filter-judge-item-judge-round-member-verdic
     entry-chosen.Post
     (λ c κs. search rules)  -- judge-filter-requires
     (λ c κs. search rules)  -- judged-says-requires
-    (λ c. search (chosen-judged, rules))  -- returns
-    (λ c. search (and-fails, rules)))  -- returns-2
+    (λ c. search (chosen_judged, rules))  -- returns
+    (λ c. search (and_fails, rules)))  -- returns-2
     (λ t. judge-chosen-lts.spec
     (skip-reads.Asked, skip-reads.Learnt, enter-reads.Asked, enter-reads.Learnt, judge-filter-below t, judge-filter.Post, read-member-reads.Asked, read-member-reads.Learnt, member-verdict-below t, member-verdict.Post)
     (judge-chosen-at t)
@@ -210,13 +210,13 @@ pub +entry-chosen-judge-chosen-judge-filter-judge-item-judge-round-member-verdic
     (λ c κs. search rules)  -- judge-filter-requires
     (λ c. search rules)  -- enum-known-inner
     (λ c. search rules)  -- enum_told
-    (λ c. search (chosen-no-filter, judged-cases, rules))  -- returns
-    (λ c κs. search (filter-within, judged-cases, rules))  -- read-member-requires
+    (λ c. search (chosen_no_filter, judged_cases, rules))  -- returns
+    (λ c κs. search (filter_within, judged_cases, rules))  -- read-member-requires
     (λ c. search rules)  -- enum-known-member
     (λ c. search rules)  -- enum-told-2
-    (λ c. search (chosen-no-member, judged-cases, rules))  -- returns-2
-    (λ c κs. let start = c.before.before.before.before.before.before.before.before.before.before.before.before.before.before in let s = c.before.before.before.before.before.before.before.before.before.before.skip.ensures in (omega (arith, start.requires.0, start.requires.1.1.1.1.0, start.requires.1.1.1.1.1, s.from, s.within), (search rules, (search rules, (search rules, (s.within, search (member-in-place, rules)))))))  -- member-verdict-requires
-    (λ c. chosen-member Judged.Done Judged.Nothing judged-cases (judging _ _ _ _) _ _ _ _ _ _ c.before.before.before.before.before.before.before.before.before.before.before.before.skip.ensures (judging _ _ _ _) _ c.before.before.before.before.before.before.before.before.before.judge-filter.ensures _ _ c.before.before.before.before.before.before.before.inner.given.1 _ c.before.before.before.before.before.read-member.ensures _ _ c.before.before.before.member.given.1 (λ g r s. verdict-inside _ _ _ _ _ _ _ _ _ _ _ c.before.before.before.before.before.before.before.before.before.before.enter.ensures c.before.member-verdict.ensures _ g r)))  -- returns-3
+    (λ c. search (chosen_no_member, judged_cases, rules))  -- returns-2
+    (λ c κs. let start = c.before.before.before.before.before.before.before.before.before.before.before.before.before.before in let s = c.before.before.before.before.before.before.before.before.before.before.skip.ensures in (omega (arith, start.requires.0, start.requires.1.1.1.1.0, start.requires.1.1.1.1.1, s.from, s.within), (search rules, (search rules, (search rules, (s.within, search (member_in_place, rules)))))))  -- member-verdict-requires
+    (λ c. chosen-member Judged.Done Judged.Nothing judged_cases (judging _ _ _ _) _ _ _ _ _ _ c.before.before.before.before.before.before.before.before.before.before.before.before.skip.ensures (judging _ _ _ _) _ c.before.before.before.before.before.before.before.before.before.judge-filter.ensures _ _ c.before.before.before.before.before.before.before.inner.given.1 _ c.before.before.before.before.before.read-member.ensures _ _ c.before.before.before.member.given.1 (λ g r s. verdict_inside _ _ _ _ _ _ _ _ _ _ _ c.before.before.before.before.before.before.before.before.before.before.enter.ensures c.before.member-verdict.ensures _ g r)))  -- returns-3
     (λ t. judge-filter-lts.spec
     (judge-item-below t, judge-item.Post, read-connective-reads.Asked, read-connective-reads.Learnt, item-needed-reads.Asked, item-needed-reads.Learnt, after-item-reads.Asked, after-item-reads.Learnt)
     (judge-filter-at t)
@@ -226,40 +226,40 @@ pub +entry-chosen-judge-chosen-judge-filter-judge-item-judge-round-member-verdic
     (λ c κs. search rules)  -- judge-item-requires
     (λ c. search rules)  -- enum-known-first
     (λ c. search rules)  -- enum_told
-    (λ c. search (filter-no-item, judged-cases, rules))  -- returns
-    (λ c. search (chain-starts, rules))  -- loop-holds
+    (λ c. search (filter_no_item, judged_cases, rules))  -- returns
+    (λ c. search (chain_starts, rules))  -- loop-holds
     (λ c κs. search rules)  -- read-connective-requires
     (λ c. search rules)  -- enum-known-found
     (λ c κs. search rules)  -- item-needed-requires
-    (λ c κs. let a = connective-ahead _ _ _ _ _ c.before.before.before.before.read-connective.ensures c.before.before.found.given.1 in (omega arith, (search rules, (search rules, (search rules, a.1)))))  -- judge-item-requires-2
+    (λ c κs. let a = connective_ahead _ _ _ _ _ c.before.before.before.before.read-connective.ensures c.before.before.found.given.1 in (omega arith, (search rules, (search rules, (search rules, a.1)))))  -- judge-item-requires-2
     (λ c. search rules)  -- enum-known-item
     (λ c κs. search rules)  -- after-item-requires
-    (λ c. let j = connective-ahead _ _ _ _ _ c.before.before.before.before.before.before.before.before.before.read-connective.ensures c.before.before.before.before.before.before.before.found.given.1 in let a = item-ahead Judged.Done Judged.Nothing judged-cases _ _ _ _ _ _ _ _ c.before.before.before.before.judge-item2.ensures c.before.before.item.given.1 in omega arith)  -- loop-less
-    (λ c. chain-takes Judged.Done Judged.Nothing judged-cases (judging _ _ _ _) _ _ _ _ _ _ c.before.before.before.before.before.before.before.before.before.before.loop.invariant _ c.before.before.before.before.before.before.before.before.before.read-connective.ensures _ _ c.before.before.before.before.before.before.before.found.given.1 (judging _ _ _ _) _ c.before.before.before.before.judge-item2.ensures _ _ _ c.before.before.item.given.1 (verdict-after _ _ _ _ _ _ _ _ _ c.before.before.before.before.before.item-needed.ensures c.after-item.ensures))  -- loop-again
+    (λ c. let j = connective_ahead _ _ _ _ _ c.before.before.before.before.before.before.before.before.before.read-connective.ensures c.before.before.before.before.before.before.before.found.given.1 in let a = item_ahead Judged.Done Judged.Nothing judged_cases _ _ _ _ _ _ _ _ c.before.before.before.before.judge-item2.ensures c.before.before.item.given.1 in omega arith)  -- loop-less
+    (λ c. chain_takes Judged.Done Judged.Nothing judged_cases (judging _ _ _ _) _ _ _ _ _ _ c.before.before.before.before.before.before.before.before.before.before.loop.invariant _ c.before.before.before.before.before.before.before.before.before.read-connective.ensures _ _ c.before.before.before.before.before.before.before.found.given.1 (judging _ _ _ _) _ c.before.before.before.before.judge-item2.ensures _ _ _ c.before.before.item.given.1 (verdict_after _ _ _ _ _ _ _ _ _ c.before.before.before.before.before.item-needed.ensures c.after-item.ensures))  -- loop-again
     (λ c. search rules)  -- enum-told-2
-    (λ c. search (chain-no-item, rules))  -- returns-2
+    (λ c. search (chain_no_item, rules))  -- returns-2
     (λ c. search rules)  -- enum-told-3
-    (λ c. chain-ends Judged.Done Judged.Nothing judged-cases _ _ _ _ _ _ _ c.before.before.before.loop.invariant _ c.before.before.read-connective.ensures c.enum-told3.given.1))  -- returns-3
+    (λ c. chain_ends Judged.Done Judged.Nothing judged_cases _ _ _ _ _ _ _ c.before.before.before.loop.invariant _ c.before.before.read-connective.ensures c.enum-told3.given.1))  -- returns-3
     (λ t. judge-item-lts.spec
     (read-head-reads.Asked, read-head-reads.Learnt, test-verdict-reads.Asked, test-verdict-reads.Learnt, judge-round-below t, judge-round.Post, judge-chosen-below t, judge-chosen.Post)
     (judge-item-at t)
     judge-item.Post
     (λ c κs. search rules)  -- read-head-requires
     (λ c. search rules)  -- enum-known-head
-    (λ c κs. (search rules, (search rules, (search rules, search (test-in-place, rules)))))  -- test-verdict-requires
+    (λ c κs. (search rules, (search rules, (search rules, search (test_in_place, rules)))))  -- test-verdict-requires
     (λ c. search rules)  -- enum-known-head-2
-    (λ c. search (item-deep, judged-cases, rules))  -- returns
+    (λ c. search (item_deep, judged_cases, rules))  -- returns
     (λ c. search rules)  -- sub-t22
-    (λ c κs. let a = head-open-ahead _ _ _ _ c.before.before.before.before.read_head.ensures (search rules) _ _ c.before.before.head2.given.1 in (omega arith, (search rules, (search rules, (search rules, (a.1, search rules))))))  -- judge-round-requires
+    (λ c κs. let a = head_open_ahead _ _ _ _ c.before.before.before.before.read_head.ensures (search rules) _ _ c.before.before.head2.given.1 in (omega arith, (search rules, (search rules, (search rules, (a.1, search rules))))))  -- judge-round-requires
     (λ c. search rules)  -- enum-known-head-3
-    (λ c. search (choice-deep, judged-cases, rules))  -- returns-2
+    (λ c. search (choice_deep, judged_cases, rules))  -- returns-2
     (λ c. search rules)  -- sub-t24
-    (λ c κs. (omega arith, (search rules, (search rules, (search rules, (search (head-choice-order, rules), search (head-choice-within, rules)))))))  -- judge-chosen-requires
+    (λ c κs. (omega arith, (search rules, (search rules, (search rules, (search (head_choice_order, rules), search (head_choice_within, rules)))))))  -- judge-chosen-requires
     (λ c. search rules)  -- enum_told
-    (λ c. item-test Judged.Done Judged.Nothing judged-cases (judging _ _ _ _) _ _ _ _ _ c.before.before.before.before.before.read_head.ensures _ _ c.before.before.before.head.given.1 c.before.test-verdict.ensures)  -- returns-3
-    (λ c. search (item-opened, judged-cases, rules))  -- returns-4
-    (λ c. search (item-chosen, judged-cases, rules))  -- returns-5
-    (λ c. search (item-nothing, judged-cases, rules)))  -- returns-6
+    (λ c. item_test Judged.Done Judged.Nothing judged_cases (judging _ _ _ _) _ _ _ _ _ c.before.before.before.before.before.read_head.ensures _ _ c.before.before.before.head.given.1 c.before.test-verdict.ensures)  -- returns-3
+    (λ c. search (item-opened, judged_cases, rules))  -- returns-4
+    (λ c. search (item-chosen, judged_cases, rules))  -- returns-5
+    (λ c. search (item_nothing, judged_cases, rules)))  -- returns-6
     (λ t. judge-round-lts.spec
     (judge-filter-below t, judge-filter.Post, read-close-reads.Asked, read-close-reads.Learnt, negated-if-reads.Asked, negated-if-reads.Learnt)
     (judge-round-at t)
@@ -267,13 +267,13 @@ pub +entry-chosen-judge-chosen-judge-filter-judge-item-judge-round-member-verdic
     (λ c κs. search rules)  -- judge-filter-requires
     (λ c. search rules)  -- enum-known-inner
     (λ c. search rules)  -- enum_told
-    (λ c. search (round-no-filter, judged-cases, rules))  -- returns
-    (λ c κs. search (filter-within, judged-cases, rules))  -- read-close-requires
+    (λ c. search (round_no_filter, judged_cases, rules))  -- returns
+    (λ c κs. search (filter_within, judged_cases, rules))  -- read-close-requires
     (λ c. search rules)  -- enum-known-closed
     (λ c. search rules)  -- enum-told-2
-    (λ c. search (round-open, judged-cases, rules))  -- returns-2
+    (λ c. search (round_open, judged_cases, rules))  -- returns-2
     (λ c κs. search rules)  -- negated-if-requires
-    (λ c. let start = c.before.before.before.before.before.before.before.before.before.before.before.before in round-closed Judged.Done Judged.Nothing judged-cases (judging _ _ _ _) _ _ _ _ start.requires.1.1.1.1.1 start.args.negate _ c.before.before.before.before.before.before.before.before.judge-filter.ensures _ _ c.before.before.before.before.before.before.inner.given.1 _ c.before.before.before.before.read-close.ensures _ _ c.before.before.closed.given.1 (verdict-negated _ _ _ _ start.args.negate _ _ c.negated-if.ensures)))  -- returns-3
+    (λ c. let start = c.before.before.before.before.before.before.before.before.before.before.before.before in round-closed Judged.Done Judged.Nothing judged_cases (judging _ _ _ _) _ _ _ _ start.requires.1.1.1.1.1 start.args.negate _ c.before.before.before.before.before.before.before.before.judge-filter.ensures _ _ c.before.before.before.before.before.before.inner.given.1 _ c.before.before.before.before.read-close.ensures _ _ c.before.before.closed.given.1 (verdict_negated _ _ _ _ start.args.negate _ _ c.negated-if.ensures)))  -- returns-3
     (λ t. member-verdict-lts.spec
     (test-found-reads.Asked, test-found-reads.Learnt, meaning-of-reads.Asked, meaning-of-reads.Learnt, some-chosen-below t, some-chosen.Post, member-truth-reads.Asked, member-truth-reads.Learnt, some-says-reads.Asked, some-says-reads.Learnt)
     (member-verdict-at t)
@@ -286,8 +286,8 @@ pub +entry-chosen-judge-chosen-judge-filter-judge-item-judge-round-member-verdic
     (λ c κs. search rules)  -- some-says-requires
     (λ c. member-found _ _ _ _ _ _ _ _ c.before.before.before.before.before.before.before.test-found.ensures _ _ _ _ _ _ c.before.before.before.before.before.index.given.1 c.before.before.before.meaning-of.ensures c.before.before.some-chosen.ensures c.before.member-truth.ensures c.some-says.ensures c.before.before.before.before.before.before.before.before.if1.true)  -- returns
     (λ c. search rules)  -- enum_told
-    (λ c. member-missing _ _ _ _ _ _ _ _ c.before.before.test-found.ensures c.enum_told.given.1 c.before.before.before.if1.true)  -- returns-2
-    (λ c. search (and-fails, rules)))  -- returns-3
+    (λ c. member_missing _ _ _ _ _ _ _ _ c.before.before.test-found.ensures c.enum_told.given.1 c.before.before.before.if1.true)  -- returns-2
+    (λ c. search (and_fails, rules)))  -- returns-3
     λ t. some-chosen-lts.spec
     (entry-count-reads.Asked, entry-count-reads.Learnt, entry-at-reads.Asked, entry-at-reads.Learnt, is-under-reads.Asked, is-under-reads.Learnt, entry-counts-reads.Asked, entry-counts-reads.Learnt, entry-chosen-below t, entry-chosen.Post)
     (some-chosen-at t)
@@ -295,7 +295,7 @@ pub +entry-chosen-judge-chosen-judge-filter-judge-item-judge-round-member-verdic
     some-chosen-Inv-loop
     some-chosen-μ-loop
     (λ c κs. search rules)  -- entry-count-requires
-    (λ c. search (entries-start, rules))  -- loop-holds
+    (λ c. search (entries_start, rules))  -- loop-holds
     (λ c κs. search rules)  -- entry-at-requires
     (λ c κs. search rules)  -- is-under-requires
     (λ c. search rules)  -- sub-entry-counts
@@ -303,8 +303,8 @@ pub +entry-chosen-judge-chosen-judge-filter-judge-item-judge-round-member-verdic
     (λ c. search rules)  -- part-entry-counts-end
     (λ c κs. search rules)  -- entry-counts-requires
     (λ c κs. (omega (arith, c.before.before.before.before.before.before.before.before.before.before.before.requires.0), (c.before.before.before.before.before.before.before.before.before.before.before.requires.1.0, (c.before.before.before.before.before.before.before.before.before.before.before.requires.1.1.0, (c.before.before.before.before.before.before.before.before.before.before.before.requires.1.1.1.0, c.before.before.before.before.before.before.before.before.before.before.before.requires.1.1.1.1.0)))))  -- entry-chosen-requires
-    (λ c. visited-decides _ _ _ _ _ _ c.before.before.before.before.before.before.before.before.loop.invariant _ _ _ _ c.before.before.before.before.before.before.entry_at.ensures _ (chosen-here _ _ _ _ _ _ _ _ _ _ _ _ _ _ _ c.before.before.before.before.is-under.ensures c.before.before.entry-counts.ensures c.before.entry-chosen.ensures c.if1.true))  -- returns
+    (λ c. visited_decides _ _ _ _ _ _ c.before.before.before.before.before.before.before.before.loop.invariant _ _ _ _ c.before.before.before.before.before.before.entry_at.ensures _ (chosen-here _ _ _ _ _ _ _ _ _ _ _ _ _ _ _ c.before.before.before.before.is-under.ensures c.before.before.entry-counts.ensures c.before.entry-chosen.ensures c.if1.true))  -- returns
     (λ c. search rules)  -- sub-left
     (λ c. search rules)  -- loop-less
-    (λ c. visited-next _ _ _ _ _ _ c.before.before.before.before.before.before.before.before.loop.invariant _ _ _ _ c.before.before.before.before.before.before.entry_at.ensures _ (chosen-next _ _ _ _ _ _ _ _ _ _ _ _ _ _ _ c.before.before.before.before.is-under.ensures c.before.before.entry-counts.ensures c.before.entry-chosen.ensures c.if1.false))  -- loop-again
-    (λ c. search (visited-end, chosen-end, rules))  -- returns-2
+    (λ c. visited_next _ _ _ _ _ _ c.before.before.before.before.before.before.before.before.loop.invariant _ _ _ _ c.before.before.before.before.before.before.entry_at.ensures _ (chosen-next _ _ _ _ _ _ _ _ _ _ _ _ _ _ _ c.before.before.before.before.is-under.ensures c.before.before.entry-counts.ensures c.before.entry-chosen.ensures c.if1.false))  -- loop-again
+    (λ c. search (visited_end, chosen_end, rules))  -- returns-2

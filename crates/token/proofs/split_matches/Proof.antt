@@ -2,7 +2,7 @@
 use borrow.Author.Rules.{rules}
 use native.Mathlib.Omega.{arith}
 use lib.ListN.{length-take}
-use Rattle.token.proofs.Match.{card-at-bar, card-no-bar}
+use Rattle.token.proofs.Match.{card-at-bar, card_no_bar}
 use Rattle.token.proofs.split_matches.Statement.{statement}
 use Rattle.token.proofs.split_matches.Tie as tie
 
@@ -37,7 +37,7 @@ token-matches-requires-2 : tie.Need-token-matches-requires-2
 token-matches-requires-2 c κs = search rules
 
 returns-2 : tie.Need-returns-2
-returns-2 c = search (card-no-bar, rules)
+returns-2 c = search (card_no_bar, rules)
 
 pub split-matches-spec : {M : Type 1} → statement M
 split-matches-spec =

@@ -2,12 +2,12 @@
 use borrow.Author.Rules.{rules}
 use native.Mathlib.Omega.{arith}
 use lib.ListN.{length-take}
-use Rattle.token.proofs.Match.{token-no-code, token-at-bar, token-empty, token-any-system}
+use Rattle.token.proofs.Match.{token_no_code, token-at-bar, token_empty, token_any_system}
 use Rattle.token.proofs.token_matches.Statement.{statement}
 use Rattle.token.proofs.token_matches.Tie as tie
 
 returns : tie.Need-returns
-returns c = search (token-no-code, rules)
+returns c = search (token_no_code, rules)
 
 add-after : tie.Need-overflow-add-after
 add-after c = search rules
@@ -31,13 +31,13 @@ returns-2 : tie.Need-returns-2
 returns-2 c = search (token-at-bar, rules)
 
 returns-3 : tie.Need-returns-3
-returns-3 c = search (token-empty, rules)
+returns-3 c = search (token_empty, rules)
 
 same-requires : tie.Need-same-requires
 same-requires c κs = search rules
 
 returns-4 : tie.Need-returns-4
-returns-4 c = search (token-any-system, rules)
+returns-4 c = search (token_any_system, rules)
 
 pub token-matches-spec : {M : Type 1} → statement M
 token-matches-spec =

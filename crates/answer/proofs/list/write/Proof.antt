@@ -2,7 +2,7 @@
 use borrow.Author.Rules.{rules}
 use Prim.Native.Nat.{◌-◌}
 use lib.ListN.{length}
-use Rattle.base.proofs.Writing.{Writing, writing-fits, writing-room, writing-next, writing-whole}
+use Rattle.base.proofs.Writing.{Writing, writing_fits, writing_room, writing_next, writing_whole}
 use Rattle.answer.proofs.list.write.Statement.{statement}
 use Rattle.answer.proofs.list.write.Tie as tie
 
@@ -13,7 +13,7 @@ abbrev decreases-loop : tie.decreases-loop
 decreases-loop numbers list₀ i₀ list i = length numbers - i
 
 loop-holds : tie.Need-loop-init invariant-loop decreases-loop
-loop-holds c = search (writing-fits, rules)
+loop-holds c = search (writing_fits, rules)
 
 mul-list : tie.Need-overflow-mul-list invariant-loop decreases-loop
 mul-list c = search rules
@@ -25,7 +25,7 @@ mul-list-2 : tie.Need-overflow-mul-list-2 invariant-loop decreases-loop
 mul-list-2 c = search rules
 
 slice-write-list : tie.Need-slice-write-list invariant-loop decreases-loop
-slice-write-list c = search (writing-room, rules)
+slice-write-list c = search (writing_room, rules)
 
 add-i : tie.Need-overflow-add-i invariant-loop decreases-loop
 add-i c = search rules
@@ -34,13 +34,13 @@ loop-less : tie.Need-loop-smaller invariant-loop decreases-loop
 loop-less c = search rules
 
 loop-again : tie.Need-loop-preserved invariant-loop decreases-loop
-loop-again c = search (writing-next, rules)
+loop-again c = search (writing_next, rules)
 
 same_length : tie.Need-same-length invariant-loop decreases-loop
 same_length c = search rules
 
 returns : tie.Need-returns invariant-loop decreases-loop
-returns c = search (writing-whole, rules)
+returns c = search (writing_whole, rules)
 
 pub write_spec : {M : Type 1} → statement M
 write_spec =

@@ -4,13 +4,13 @@ use mathlib.Core.Path.{sym, ◌∙◌}
 use borrow.Author.Rules.{rules}
 use lib.ListN.{length}
 use Rattle.base.proofs.Invariants.{Passed}
-use Rattle.base.specs.Names.{isNamePart}
-use Rattle.base.proofs.Loops.{passed_start, passed-next, passed-not, passed-end}
+use Rattle.base.specs.Names.{is_name_part}
+use Rattle.base.proofs.Loops.{passed_start, passed_next, passed_not, passed_end}
 use Rattle.base.proofs.name.all_name_parts.Statement.{statement}
 use Rattle.base.proofs.name.all_name_parts.Tie as tie
 
 abbrev invariant-loop : tie.invariant-loop
-invariant-loop s i₀ i = Passed isNamePart s i
+invariant-loop s i₀ i = Passed is_name_part s i
 
 abbrev decreases-loop : tie.decreases-loop
 decreases-loop s i₀ i = length s - i
@@ -31,13 +31,13 @@ loop-less : tie.Need-loop-smaller invariant-loop decreases-loop
 loop-less c = search rules
 
 loop-again : tie.Need-loop-preserved invariant-loop decreases-loop
-loop-again c = search (passed-next, sym c.before.is-name-part.ensures ∙ c.if1.true, rules)
+loop-again c = search (passed_next, sym c.before.is-name-part.ensures ∙ c.if1.true, rules)
 
 returns : tie.Need-returns invariant-loop decreases-loop
-returns c = search (passed-not, sym c.before.is-name-part.ensures ∙ c.if1.false, rules)
+returns c = search (passed_not, sym c.before.is-name-part.ensures ∙ c.if1.false, rules)
 
 returns-2 : tie.Need-returns-2 invariant-loop decreases-loop
-returns-2 c = search (passed-end, rules)
+returns-2 c = search (passed_end, rules)
 
 pub all-name-parts-spec : {M : Type 1} → statement M
 all-name-parts-spec =

@@ -1,7 +1,7 @@
 -- `base::name::is_letter` meets its contract: a capital, or else a small letter. Assumes nothing.
 use mathlib.Core.Path.{sym, ◌∙◌}
 use borrow.Author.Rules.{rules}
-use Rattle.base.specs.Names.{isLetter}
+use Rattle.base.specs.Names.{is_letter}
 use Rattle.base.proofs.name.is_letter.Statement.{statement}
 use Rattle.base.proofs.name.is_letter.Tie as tie
 
@@ -9,14 +9,14 @@ between-requires : tie.Need-between-requires
 between-requires c κs = search rules
 
 returns : tie.Need-returns
-unfolding isLetter
+unfolding is_letter
 returns c = rw (sym c.before.between.ensures ∙ c.if1.true)
 
 between-requires-2 : tie.Need-between-requires-2
 between-requires-2 c κs = search rules
 
 returns-2 : tie.Need-returns-2
-unfolding isLetter
+unfolding is_letter
 returns-2 c = rw (sym c.before.before.between.ensures ∙ c.before.if1.false) c.between2.ensures
 
 pub is-letter-spec : {M : Type 1} → statement M

@@ -1,12 +1,12 @@
 -- `base::name::is_name` meets its contract: the tests are those of the definition, in its order. Assumes nothing.
 use borrow.Author.Rules.{rules}
 use borrow.Author.Tests.{not-true, not-false}
-use Rattle.base.proofs.Names.{name-empty, name-start-not, name-part-not, name-not-reserved}
+use Rattle.base.proofs.Names.{name_empty, name-start_not, name-part_not, name_not_reserved}
 use Rattle.base.proofs.name.is_name.Statement.{statement}
 use Rattle.base.proofs.name.is_name.Tie as tie
 
 returns : tie.Need-returns
-returns c = search (name-empty, rules)
+returns c = search (name_empty, rules)
 
 shared-slice-read-is-name-start : tie.Need-shared-slice-read-is-name-start
 shared-slice-read-is-name-start c = search rules
@@ -15,7 +15,7 @@ is-name-start-requires : tie.Need-is-name-start-requires
 is-name-start-requires c κs = search rules
 
 returns-2 : tie.Need-returns-2
-returns-2 c = search (name-start-not, not-true, rules)
+returns-2 c = search (name-start_not, not-true, rules)
 
 sub-all-name-parts : tie.Need-overflow-sub-all-name-parts
 sub-all-name-parts c = search rules
@@ -30,13 +30,13 @@ all-name-parts-requires : tie.Need-all-name-parts-requires
 all-name-parts-requires c κs = search rules
 
 returns-3 : tie.Need-returns-3
-returns-3 c = search (name-part-not, not-true, not-false, rules)
+returns-3 c = search (name-part_not, not-true, not-false, rules)
 
 is-reserved-requires : tie.Need-is-reserved-requires
 is-reserved-requires c κs = search rules
 
 returns-4 : tie.Need-returns-4
-returns-4 c = search (name-not-reserved, not-false, rules)
+returns-4 c = search (name_not_reserved, not-false, rules)
 
 pub is-name-spec : {M : Type 1} → statement M
 is-name-spec =

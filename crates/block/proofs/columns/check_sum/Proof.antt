@@ -3,7 +3,7 @@
 use Prim.Native.Nat.{◌-◌}
 use borrow.Author.Rules.{rules}
 use Rattle.block.proofs.Invariants.{Summed}
-use Rattle.block.proofs.Sum.{whole-start, whole-next, whole-rest, whole-end}
+use Rattle.block.proofs.Sum.{whole-start, whole-next, whole_rest, whole_end}
 use Rattle.block.proofs.columns.check_sum.Statement.{statement}
 use Rattle.block.proofs.columns.check_sum.Tie as tie
 
@@ -50,10 +50,10 @@ last-four-requires : tie.Need-last-four-requires invariant-loop decreases-loop
 last-four-requires c κs = search rules
 
 sub-result : tie.Need-overflow-sub-result invariant-loop decreases-loop
-sub-result c = search (whole-rest, rules)
+sub-result c = search (whole_rest, rules)
 
 returns : tie.Need-returns invariant-loop decreases-loop
-returns c = search (whole-end, rules)
+returns c = search (whole_end, rules)
 
 pub check-sum-spec : {M : Type 1} → statement M
 check-sum-spec =

@@ -2,12 +2,12 @@
 use Prim.Native.Nat.{◌+◌, ◌*◌, ◌≤◌}
 use native.Mathlib.Omega.{arith}
 use borrow.Author.Rules.{rules}
-use Rattle.block.proofs.Sum.{product-most}
+use Rattle.block.proofs.Sum.{product_most}
 use Rattle.block.proofs.columns.column_total.Statement.{statement}
 use Rattle.block.proofs.columns.column_total.Tie as tie
 
 most : (c : tie.Start) → (c.args.j + 1) * c.args.sum ≤ 2097120
-most c = product-most (search rules) (search rules)
+most c = product_most (search rules) (search rules)
 
 mul-result : tie.Need-overflow-mul-result
 mul-result c = search rules

@@ -2,7 +2,7 @@
 use Prim.Native.Nat.{◌-◌}
 use borrow.Author.Rules.{rules}
 use Rattle.block.specs.Columns.{ColumnsTo}
-use Rattle.block.proofs.Sum.{columns-start, columns-next, columns-end}
+use Rattle.block.proofs.Sum.{columns_start, columns_next, columns_end}
 use Rattle.block.proofs.columns.columns_of.Statement.{statement}
 use Rattle.block.proofs.columns.columns_of.Tie as tie
 
@@ -13,7 +13,7 @@ abbrev decreases-loop : tie.decreases-loop
 decreases-loop block sums₀ rows₀ j₀ sums rows j = 32 - j
 
 loop-holds : tie.Need-loop-init invariant-loop decreases-loop
-loop-holds c = search (columns-start, rules)
+loop-holds c = search (columns_start, rules)
 
 column-at-requires : tie.Need-column-at-requires invariant-loop decreases-loop
 column-at-requires c κs = search rules
@@ -37,10 +37,10 @@ loop-less : tie.Need-loop-smaller invariant-loop decreases-loop
 loop-less c = search rules
 
 loop-again : tie.Need-loop-preserved invariant-loop decreases-loop
-loop-again c = search (columns-next, rules)
+loop-again c = search (columns_next, rules)
 
 returns : tie.Need-returns invariant-loop decreases-loop
-returns c = search (columns-end, rules)
+returns c = search (columns_end, rules)
 
 pub columns-of-spec : {M : Type 1} → statement M
 columns-of-spec =

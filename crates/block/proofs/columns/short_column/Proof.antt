@@ -1,6 +1,6 @@
 -- `block::columns::short_column` meets its contract. Assumes nothing.
 use borrow.Author.Rules.{rules}
-use Rattle.block.proofs.Sum.{short-column}
+use Rattle.block.proofs.Sum.{short_column}
 use Rattle.block.proofs.columns.short_column.Statement.{statement}
 use Rattle.block.proofs.columns.short_column.Tie as tie
 
@@ -59,7 +59,7 @@ add-t19 : tie.Need-overflow-add-t19
 add-t19 c = search rules
 
 returns : tie.Need-returns
-returns c = search (short-column, rules)
+returns c = search (short_column, rules)
 
 pub short-column-spec : {M : Type 1} → statement M
 short-column-spec =

@@ -2,7 +2,7 @@
 use borrow.Author.Rules.{rules}
 use Prim.Native.Nat.{◌-◌}
 use Rattle.block.proofs.Invariants.{Summed}
-use Rattle.block.proofs.Sum.{short-start, short-next, short-end}
+use Rattle.block.proofs.Sum.{short_start, short_next, short_end}
 use Rattle.block.proofs.columns.short_sum.Statement.{statement}
 use Rattle.block.proofs.columns.short_sum.Tie as tie
 
@@ -13,7 +13,7 @@ abbrev decreases-loop : tie.decreases-loop
 decreases-loop block total₀ j₀ total j = 32 - j
 
 loop-holds : tie.Need-loop-init invariant-loop decreases-loop
-loop-holds c = search (short-start, rules)
+loop-holds c = search (short_start, rules)
 
 short-column-requires : tie.Need-short-column-requires invariant-loop decreases-loop
 short-column-requires c κs = search rules
@@ -31,10 +31,10 @@ loop-less : tie.Need-loop-smaller invariant-loop decreases-loop
 loop-less c = search rules
 
 loop-again : tie.Need-loop-preserved invariant-loop decreases-loop
-loop-again c = search (short-next, rules)
+loop-again c = search (short_next, rules)
 
 returns : tie.Need-returns invariant-loop decreases-loop
-returns c = search (short-end, rules)
+returns c = search (short_end, rules)
 
 pub short-sum-spec : {M : Type 1} → statement M
 short-sum-spec =

@@ -1,6 +1,6 @@
 -- `card_reader::entries::read_entries` meets its contract: the lists have the entries so far, and those to come decide. Assumes nothing.
 use borrow.Author.Rules.{rules}
-use Rattle.card_reader.proofs.Reading.{Progress, progress_start, progress-room, progress-misfit, progress-next, progress-end}
+use Rattle.card_reader.proofs.Reading.{Progress, progress_start, progress_room, progress_misfit, progress_next, progress_end}
 use Rattle.card_reader.proofs.entries.read_entries.Statement.{statement}
 use Rattle.card_reader.proofs.entries.read_entries.Tie as tie
 
@@ -32,7 +32,7 @@ part-take-entry-end : tie.Need-slice-bounds-take-entry-end invariant-loop decrea
 part-take-entry-end c = search rules
 
 take-entry-requires : tie.Need-take-entry-requires invariant-loop decreases-loop
-take-entry-requires c κs = (search rules, (search rules, (search (progress-room, rules), search rules)))
+take-entry-requires c κs = (search rules, (search rules, (search (progress_room, rules), search rules)))
 
 sub-left : tie.Need-overflow-sub-left invariant-loop decreases-loop
 sub-left c = search rules
@@ -44,7 +44,7 @@ loop-less : tie.Need-loop-smaller invariant-loop decreases-loop
 loop-less c = search rules
 
 loop-again : tie.Need-loop-preserved invariant-loop decreases-loop
-loop-again c = search (progress-next, rules)
+loop-again c = search (progress_next, rules)
 
 same_length : tie.Need-same-length invariant-loop decreases-loop
 same_length c = search rules
@@ -53,7 +53,7 @@ same-length-2 : tie.Need-same-length-2 invariant-loop decreases-loop
 same-length-2 c = search rules
 
 returns : tie.Need-returns invariant-loop decreases-loop
-returns c = search (progress-misfit, rules)
+returns c = search (progress_misfit, rules)
 
 same-length-3 : tie.Need-same-length-3 invariant-loop decreases-loop
 same-length-3 c = search rules
@@ -62,7 +62,7 @@ same-length-4 : tie.Need-same-length-4 invariant-loop decreases-loop
 same-length-4 c = search rules
 
 returns-2 : tie.Need-returns-2 invariant-loop decreases-loop
-returns-2 c = search (progress-end, rules)
+returns-2 c = search (progress_end, rules)
 
 pub read-entries-spec : {M : Type 1} → statement M
 read-entries-spec =

@@ -1,7 +1,7 @@
 -- `card_reader::entries::take_entry` meets its contract. Assumes nothing.
 use borrow.Author.Rules.{rules}
 use borrow.Author.Tests.{not-true, not-false}
-use Rattle.card_reader.proofs.Reading.{takes-past, takes-over, takes-misfit, takes-stored}
+use Rattle.card_reader.proofs.Reading.{takes_past, takes_over, takes_misfit, takes_stored}
 use Rattle.card_reader.proofs.entries.take_entry.Statement.{statement}
 use Rattle.card_reader.proofs.entries.take_entry.Tie as tie
 
@@ -9,7 +9,7 @@ wide-requires : tie.Need-wide-requires
 wide-requires c κs = search rules
 
 returns : tie.Need-returns
-returns c = search (takes-past, rules)
+returns c = search (takes_past, rules)
 
 shared-slice-read-kind : tie.Need-shared-slice-read-kind
 shared-slice-read-kind c = search rules
@@ -24,13 +24,13 @@ card-readable-requires : tie.Need-card-readable-requires
 card-readable-requires c κs = search rules
 
 returns-2 : tie.Need-returns-2
-returns-2 c = search (takes-over, rules)
+returns-2 c = search (takes_over, rules)
 
 text-reading-requires : tie.Need-text-reading-requires
 text-reading-requires c κs = search rules
 
 returns-3 : tie.Need-returns-3
-returns-3 c = search (takes-misfit, not-true, rules)
+returns-3 c = search (takes_misfit, not-true, rules)
 
 store-entry-requires : tie.Need-store-entry-requires
 store-entry-requires c κs = search rules
@@ -42,7 +42,7 @@ same-length-2 : tie.Need-same-length-2
 same-length-2 c = search rules
 
 returns-4 : tie.Need-returns-4
-returns-4 c = search (takes-stored, not-false, rules)
+returns-4 c = search (takes_stored, not-false, rules)
 
 pub take-entry-spec : {M : Type 1} → statement M
 take-entry-spec =

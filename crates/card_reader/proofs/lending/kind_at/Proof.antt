@@ -1,6 +1,6 @@
 -- `card_reader::lending::kind_at` meets its contract. Assumes nothing.
 use borrow.Author.Rules.{rules}
-use Rattle.card_reader.proofs.Lends.{kind-byte, kind-is}
+use Rattle.card_reader.proofs.Lends.{kind_byte, kind_is}
 use Rattle.card_reader.proofs.lending.kind_at.Statement.{statement}
 use Rattle.card_reader.proofs.lending.kind_at.Tie as tie
 
@@ -17,10 +17,10 @@ shared-slice-read-result : tie.Need-shared-slice-read-result
 shared-slice-read-result c = search rules
 
 cast-result : tie.Need-overflow-cast-result
-cast-result c = search (kind-byte, rules)
+cast-result c = search (kind_byte, rules)
 
 returns : tie.Need-returns
-returns c = search (kind-is, rules)
+returns c = search (kind_is, rules)
 
 pub kind-at-spec : {M : Type 1} → statement M
 kind-at-spec =

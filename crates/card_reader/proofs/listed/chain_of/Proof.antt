@@ -1,6 +1,6 @@
 -- `card_reader::listed::chain_of` meets its contract. Assumes nothing.
 use borrow.Author.Rules.{rules}
-use Rattle.card_reader.proofs.Chains.{cell-is}
+use Rattle.card_reader.proofs.Chains.{cell_is}
 use Rattle.card_reader.proofs.listed.chain_of.Statement.{statement}
 use Rattle.card_reader.proofs.listed.chain_of.Tie as tie
 
@@ -14,7 +14,7 @@ shared-slice-read-result : tie.Need-shared-slice-read-result
 shared-slice-read-result c = search rules
 
 returns : tie.Need-returns
-returns c = search (cell-is, rules)
+returns c = search (cell_is, rules)
 
 pub chain-of-spec : {M : Type 1} → statement M
 chain-of-spec = tie.close (tie.spec wide-requires mul-result shared-slice-read-result returns)

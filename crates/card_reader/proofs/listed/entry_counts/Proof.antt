@@ -1,7 +1,7 @@
 -- `card_reader::listed::entry_counts` meets its contract. Assumes nothing.
 use borrow.Author.Rules.{rules}
-use Rattle.judge.proofs.Once.{once-kept}
-use Rattle.card_reader.proofs.Chains.{holds-serves, entry-not, entry-text}
+use Rattle.judge.proofs.Once.{once_kept}
+use Rattle.card_reader.proofs.Chains.{holds_serves, entry_not, entry_text}
 use Rattle.card_reader.proofs.listed.entry_counts.Statement.{statement}
 use Rattle.card_reader.proofs.listed.entry_counts.Tie as tie
 
@@ -54,13 +54,13 @@ part-reading-counts-end : tie.Need-slice-bounds-reading-counts-end
 part-reading-counts-end c = search rules
 
 reading-counts-requires : tie.Need-reading-counts-requires
-reading-counts-requires c κs = search (holds-serves, once-kept, rules)
+reading-counts-requires c κs = search (holds_serves, once_kept, rules)
 
 returns : tie.Need-returns
-returns c = search (entry-text, rules)
+returns c = search (entry_text, rules)
 
 returns-2 : tie.Need-returns-2
-returns-2 c = search (entry-not, rules)
+returns-2 c = search (entry_not, rules)
 
 pub entry-counts-spec : {M : Type 1} → statement M
 entry-counts-spec =

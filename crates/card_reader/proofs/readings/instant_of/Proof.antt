@@ -1,6 +1,6 @@
 -- `card_reader::readings::instant_of` meets its contract. Assumes nothing.
 use borrow.Author.Rules.{rules}
-use Rattle.card_reader.proofs.TextReadings.{instant-open, instant-known}
+use Rattle.card_reader.proofs.TextReadings.{instant_open, instant-known}
 use Rattle.card_reader.proofs.readings.instant_of.Statement.{statement}
 use Rattle.card_reader.proofs.readings.instant_of.Tie as tie
 
@@ -11,7 +11,7 @@ enum-known-end : tie.Need-enum-known-end
 enum-known-end c = search rules
 
 returns : tie.Need-returns
-returns c = search (instant-open, rules)
+returns c = search (instant_open, rules)
 
 returns-2 : tie.Need-returns-2
 returns-2 c = search (instant-known, rules)

@@ -1,6 +1,6 @@
 -- `card_reader::readings::open_bit` meets its contract. Assumes nothing.
 use borrow.Author.Rules.{rules}
-use Rattle.card_reader.proofs.TextReadings.{bit-open, bit-known}
+use Rattle.card_reader.proofs.TextReadings.{bit_open, bit-known}
 use Rattle.card_reader.proofs.readings.open_bit.Statement.{statement}
 use Rattle.card_reader.proofs.readings.open_bit.Tie as tie
 
@@ -11,7 +11,7 @@ enum-told-2 : tie.Need-enum-told-2
 enum-told-2 c = search rules
 
 returns : tie.Need-returns
-returns c = search (bit-open, rules)
+returns c = search (bit_open, rules)
 
 returns-2 : tie.Need-returns-2
 returns-2 c = search (bit-known, rules)

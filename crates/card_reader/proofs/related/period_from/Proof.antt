@@ -1,6 +1,6 @@
 -- `card_reader::related::period_from` meets its contract. Assumes nothing.
 use borrow.Author.Rules.{rules}
-use Rattle.card_reader.proofs.Relating.{period-is}
+use Rattle.card_reader.proofs.Relating.{period_is}
 use Rattle.card_reader.proofs.related.period_from.Statement.{statement}
 use Rattle.card_reader.proofs.related.period_from.Tie as tie
 
@@ -11,7 +11,7 @@ end-from-requires-2 : tie.Need-end-from-requires-2
 end-from-requires-2 c κs = search rules
 
 returns : tie.Need-returns
-returns c = search (period-is, rules)
+returns c = search (period_is, rules)
 
 pub period-from-spec : {M : Type 1} → statement M
 period-from-spec = tie.close (tie.spec end-from-requires end-from-requires-2 returns)

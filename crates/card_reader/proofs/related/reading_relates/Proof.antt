@@ -1,6 +1,6 @@
 -- `card_reader::related::reading_relates` meets its contract. Assumes nothing.
 use borrow.Author.Rules.{rules}
-use Rattle.card_reader.proofs.Relating.{serves-bounded, serves-number, serves-span, relates-again}
+use Rattle.card_reader.proofs.Relating.{serves_bounded, serves_number, serves_span, relates_again}
 use Rattle.card_reader.proofs.related.reading_relates.Statement.{statement}
 use Rattle.card_reader.proofs.related.reading_relates.Tie as tie
 
@@ -8,10 +8,10 @@ enum-known-relation : tie.Need-enum-known-relation
 enum-known-relation c = search rules
 
 number-relates-requires : tie.Need-number-relates-requires
-number-relates-requires c κs = search (serves-bounded, rules)
+number-relates-requires c κs = search (serves_bounded, rules)
 
 returns : tie.Need-returns
-returns c = search (serves-number, rules)
+returns c = search (serves_number, rules)
 
 relates-read-requires : tie.Need-relates-read-requires
 relates-read-requires c κs = search rules
@@ -23,7 +23,7 @@ span-relates-requires : tie.Need-span-relates-requires
 span-relates-requires c κs = search rules
 
 returns-2 : tie.Need-returns-2
-returns-2 c = search (serves-span, rules)
+returns-2 c = search (serves_span, rules)
 
 relates-read-requires-2 : tie.Need-relates-read-requires-2
 relates-read-requires-2 c κs = search rules
@@ -47,10 +47,10 @@ relates-read-requires-5 : tie.Need-relates-read-requires-5
 relates-read-requires-5 c κs = search rules
 
 returns-3 : tie.Need-returns-3
-returns-3 c = search (relates-again, rules)
+returns-3 c = search (relates_again, rules)
 
 returns-4 : tie.Need-returns-4
-returns-4 c = search (relates-again, rules)
+returns-4 c = search (relates_again, rules)
 
 returns-5 : tie.Need-returns-5
 returns-5 c = search rules

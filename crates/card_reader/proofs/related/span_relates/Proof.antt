@@ -1,6 +1,6 @@
 -- `card_reader::related::span_relates` meets its contract. Assumes nothing.
 use borrow.Author.Rules.{rules}
-use Rattle.card_reader.proofs.Relating.{span_none, span-relates}
+use Rattle.card_reader.proofs.Relating.{span_none, span_relates}
 use Rattle.card_reader.proofs.related.span_relates.Statement.{statement}
 use Rattle.card_reader.proofs.related.span_relates.Tie as tie
 
@@ -20,7 +20,7 @@ dates-relate-requires : tie.Need-dates-relate-requires
 dates-relate-requires c κs = search rules
 
 returns-2 : tie.Need-returns-2
-returns-2 c = search (span-relates, rules)
+returns-2 c = search (span_relates, rules)
 
 pub span-relates-spec : {M : Type 1} → statement M
 span-relates-spec =

@@ -1,6 +1,6 @@
 -- `card_reader::store::link` meets its contract. Assumes nothing.
 use borrow.Author.Rules.{rules}
-use Rattle.card_reader.proofs.Storing.{linked-put}
+use Rattle.card_reader.proofs.Storing.{linked_put}
 use Rattle.card_reader.proofs.store.link.Statement.{statement}
 use Rattle.card_reader.proofs.store.link.Tie as tie
 
@@ -29,7 +29,7 @@ same_length : tie.Need-same-length
 same_length c = search rules
 
 returns : tie.Need-returns
-returns c = search (linked-put, rules)
+returns c = search (linked_put, rules)
 
 pub link-spec : {M : Type 1} → statement M
 link-spec =

@@ -1,6 +1,6 @@
 -- `card_reader::store::span` meets its contract. Assumes nothing.
 use borrow.Author.Rules.{rules}
-use Rattle.card_reader.proofs.Storing.{spanned-put}
+use Rattle.card_reader.proofs.Storing.{spanned_put}
 use Rattle.card_reader.proofs.store.span.Statement.{statement}
 use Rattle.card_reader.proofs.store.span.Tie as tie
 
@@ -23,7 +23,7 @@ same_length : tie.Need-same-length
 same_length c = search rules
 
 returns : tie.Need-returns
-returns c = search (spanned-put, rules)
+returns c = search (spanned_put, rules)
 
 pub span-spec : {M : Type 1} → statement M
 span-spec =

@@ -1,6 +1,6 @@
 -- `card_reader::store::value` meets its contract. Assumes nothing.
 use borrow.Author.Rules.{rules}
-use Rattle.card_reader.proofs.Storing.{valued-put}
+use Rattle.card_reader.proofs.Storing.{valued_put}
 use Rattle.card_reader.proofs.store.value.Statement.{statement}
 use Rattle.card_reader.proofs.store.value.Tie as tie
 
@@ -32,7 +32,7 @@ same_length : tie.Need-same-length
 same_length c = search rules
 
 returns : tie.Need-returns
-returns c = search (valued-put, rules)
+returns c = search (valued_put, rules)
 
 pub value_spec : {M : Type 1} → statement M
 value_spec =

@@ -1,6 +1,6 @@
 -- `date::days::day_number` meets its contract: years, months and days are counted as the sums of the definition. Assumes nothing.
 use native.Mathlib.Omega.{arith}
-use Rattle.date.proofs.Calendar.{day-of-year, day-number-is}
+use Rattle.date.proofs.Calendar.{day_of_year, day_number_is}
 use borrow.Author.Rules.{rules}
 use Rattle.date.proofs.days.day_number.Statement.{statement}
 use Rattle.date.proofs.days.day_number.Tie as tie
@@ -24,16 +24,16 @@ days-before-month-requires : tie.Need-days-before-month-requires
 days-before-month-requires c κs = search rules
 
 add-result-3 : tie.Need-overflow-add-result-3
-add-result-3 c = omega (arith, day-of-year c.before.requires)
+add-result-3 c = omega (arith, day_of_year c.before.requires)
 
 sub-result-2 : tie.Need-overflow-sub-result-2
 sub-result-2 c = search rules
 
 add-result-4 : tie.Need-overflow-add-result-4
-add-result-4 c = omega (arith, day-of-year c.before.requires)
+add-result-4 c = omega (arith, day_of_year c.before.requires)
 
 returns : tie.Need-returns
-returns c = search (day-number-is, rules)
+returns c = search (day_number_is, rules)
 
 pub day-number-spec : {M : Type 1} → statement M
 day-number-spec =

@@ -1,19 +1,19 @@
 -- `date::days::leap_year` meets its contract: the tests are those of the definition. Assumes nothing.
 use borrow.Author.Tests.{eq-eqb, ne_eqb}
-use Rattle.date.specs.Calendar.{leapYear}
+use Rattle.date.specs.Calendar.{leap_year}
 use Rattle.date.proofs.days.leap_year.Statement.{statement}
 use Rattle.date.proofs.days.leap_year.Tie as tie
 
 returns : tie.Need-returns
-unfolding leapYear
+unfolding leap_year
 returns c = simp (eq-eqb _ _ c.before.if1.true, ne_eqb _ _ c.if2.true)
 
 returns-2 : tie.Need-returns-2
-unfolding leapYear
+unfolding leap_year
 returns-2 c = simp (eq-eqb _ _ c.before.if1.true, eq-eqb _ _ c.if2.false)
 
 returns-3 : tie.Need-returns-3
-unfolding leapYear
+unfolding leap_year
 returns-3 c = simp (ne_eqb _ _ c.if1.false)
 
 pub leap-year-spec : {M : Type 1} → statement M

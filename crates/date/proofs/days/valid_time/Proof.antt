@@ -1,19 +1,19 @@
 -- `date::days::valid_time` meets its contract: the tests are those of the definition. Assumes nothing.
 use borrow.Author.Tests.{le-leb, lt-leb}
-use Rattle.date.specs.Fields.{validTime}
+use Rattle.date.specs.Fields.{valid_time}
 use Rattle.date.proofs.days.valid_time.Statement.{statement}
 use Rattle.date.proofs.days.valid_time.Tie as tie
 
 returns : tie.Need-returns
-unfolding validTime
+unfolding valid_time
 returns c = rw (le-leb _ _ c.before.if1.true, le-leb _ _ c.if2.true)
 
 returns-2 : tie.Need-returns-2
-unfolding validTime
+unfolding valid_time
 returns-2 c = rw (le-leb _ _ c.before.if1.true, lt-leb _ _ c.if2.false)
 
 returns-3 : tie.Need-returns-3
-unfolding validTime
+unfolding valid_time
 returns-3 c = rw (lt-leb _ _ c.if1.false)
 
 pub valid-time-spec : {M : Type 1} → statement M

@@ -1,8 +1,8 @@
 -- `date::reader::read_day` meets its contract: a valid day. Assumes nothing.
 use Rattle.base.proofs.Tests.{answered}
-use Rattle.date.proofs.Fields.{day-says}
-use Rattle.date.proofs.Calendar.{day-small}
-use Rattle.date.proofs.Texts.{day-on, day-off}
+use Rattle.date.proofs.Fields.{day_says}
+use Rattle.date.proofs.Calendar.{day_small}
+use Rattle.date.proofs.Texts.{day_on, day_off}
 use borrow.Author.Rules.{rules}
 use Rattle.date.proofs.reader.read_day.Statement.{statement}
 use Rattle.date.proofs.reader.read_day.Tie as tie
@@ -20,16 +20,16 @@ valid-day-requires : tie.Need-valid-day-requires
 valid-day-requires c κs = search rules
 
 day-number-requires : tie.Need-day-number-requires
-day-number-requires c κs = search (day-says, answered, rules)
+day-number-requires c κs = search (day_says, answered, rules)
 
 days-from-requires : tie.Need-days-from-requires
-days-from-requires c κs = search (day-small, day-says, answered, rules)
+days-from-requires c κs = search (day_small, day_says, answered, rules)
 
 returns : tie.Need-returns
-returns c = search (day-on, rules)
+returns c = search (day_on, rules)
 
 returns-2 : tie.Need-returns-2
-returns-2 c = search (day-off, rules)
+returns-2 c = search (day_off, rules)
 
 pub read-day-spec : {M : Type 1} → statement M
 read-day-spec =

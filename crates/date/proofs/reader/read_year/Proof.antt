@@ -1,8 +1,8 @@
 -- `date::reader::read_year` meets its contract: a valid year, from its first day on. Assumes nothing.
 use Rattle.base.proofs.Tests.{answered}
-use Rattle.date.proofs.Fields.{year-says}
-use Rattle.date.proofs.Calendar.{year-starts, year-small}
-use Rattle.date.proofs.Texts.{year-on, year-off}
+use Rattle.date.proofs.Fields.{year_says}
+use Rattle.date.proofs.Calendar.{year_starts, year_small}
+use Rattle.date.proofs.Texts.{year_on, year_off}
 use borrow.Author.Rules.{rules}
 use Rattle.date.proofs.reader.read_year.Statement.{statement}
 use Rattle.date.proofs.reader.read_year.Tie as tie
@@ -14,19 +14,19 @@ valid-year-requires : tie.Need-valid-year-requires
 valid-year-requires c κs = search rules
 
 day-number-requires : tie.Need-day-number-requires
-day-number-requires c κs = search (year-starts, year-says, answered, rules)
+day-number-requires c κs = search (year_starts, year_says, answered, rules)
 
 year-length-requires : tie.Need-year-length-requires
 year-length-requires c κs = search rules
 
 days-from-requires : tie.Need-days-from-requires
-days-from-requires c κs = search (year-small, year-says, answered, rules)
+days-from-requires c κs = search (year_small, year_says, answered, rules)
 
 returns : tie.Need-returns
-returns c = search (year-on, rules)
+returns c = search (year_on, rules)
 
 returns-2 : tie.Need-returns-2
-returns-2 c = search (year-off, rules)
+returns-2 c = search (year_off, rules)
 
 pub read-year-spec : {M : Type 1} → statement M
 read-year-spec =

@@ -1,5 +1,5 @@
 -- `date::seconds::days_from` meets its contract: a day has 86400 seconds, and the numbers are small. Assumes nothing.
-use Rattle.date.specs.Spans.{daysFrom}
+use Rattle.date.specs.Spans.{days_from}
 use borrow.Author.Rules.{rules}
 use Rattle.date.proofs.seconds.days_from.Statement.{statement}
 use Rattle.date.proofs.seconds.days_from.Tie as tie
@@ -17,7 +17,7 @@ date-of-requires : tie.Need-date-of-requires
 date-of-requires c κs = search rules
 
 returns : tie.Need-returns
-unfolding daysFrom
+unfolding days_from
 returns c = search rules
 
 pub days-from-spec : {M : Type 1} → statement M

@@ -4,8 +4,8 @@
 use borrow.Author.Rules.{rules}
 use Prim.Native.Nat.{◌-◌}
 use lib.ListN.{length}
-use Rattle.deciding.proofs.Marking.{Marking, marking-start, marking-not, marking-room, marking-fits, marking-falls, marking-second, marking-join, marking-test}
-use Rattle.deciding.proofs.Marking.{marking-bracket, marking-unknown, marking-end}
+use Rattle.deciding.proofs.Marking.{Marking, marking_start, marking_not, marking_room, marking_fits, marking_falls, marking_second, marking_join, marking_test}
+use Rattle.deciding.proofs.Marking.{marking_bracket, marking_unknown, marking_end}
 use Prim.Native.Nat.{ℕ, ◌<◌}
 use borrow.Fn.Kinds.{In}
 use borrow.Fn.PlainCycle.{Measures, is, falls, and}
@@ -58,7 +58,7 @@ pub +mark-from-spec : {M : Type 1} → statement M
     (λ c κs. (search rules, search rules))  -- mark-from-after-first-requires
     (λ c κs. search rules)  -- mark-from-mark-at-requires
     (λ c. search rules)  -- mark-from-add-next
-    (λ c. search (marking-start, rules))  -- mark-from-loop-holds
+    (λ c. search (marking_start, rules))  -- mark-from-loop-holds
     (λ c. search rules)  -- mark-from-mul-row-of
     (λ c. search rules)  -- mark-from-shared-slice-read-row-of
     (λ c κs. search rules)  -- mark-from-row-of-requires
@@ -66,22 +66,22 @@ pub +mark-from-spec : {M : Type 1} → statement M
     (λ c κs. search rules)  -- mark-from-opposite-requires
     (λ c. search rules)  -- mark-from-add-at
     (λ c. search rules)  -- mark-from-loop-less
-    (λ c. search (marking-not, rules))  -- mark-from-loop-again
+    (λ c. search (marking_not, rules))  -- mark-from-loop-again
     (λ c. search rules)  -- mark-from-enum-known-connective
     (λ c. search rules)  -- mark-from-add-start
-    (λ c. search (marking-fits, rules))  -- mark-from-add-end
+    (λ c. search (marking_fits, rules))  -- mark-from-add-end
     (λ c. search rules)  -- mark-from-mul-mark-from
     (λ c. search rules)  -- mark-from-sub-mark-from
     (λ c. search rules)  -- mark-from-part-mark-from-start
-    (λ c. search (marking-room, rules))  -- mark-from-part-mark-from-end
-    (λ c κs. (search (marking-falls, rules), search (marking-second, rules)))  -- mark-from-mark-from-requires
+    (λ c. search (marking_room, rules))  -- mark-from-part-mark-from-end
+    (λ c κs. (search (marking_falls, rules), search (marking_second, rules)))  -- mark-from-mark-from-requires
     (λ c κs. search rules)  -- mark-from-join-marks-requires
     (λ c. search rules)  -- mark-from-loop-less-2
-    (λ c. search (marking-join, rules))  -- mark-from-loop-again-2
+    (λ c. search (marking_join, rules))  -- mark-from-loop-again-2
     (λ c. search rules)  -- mark-from-enum-told-2
-    (λ c. search (marking-test, rules))  -- mark-from-returns
+    (λ c. search (marking_test, rules))  -- mark-from-returns
     (λ c. search rules)  -- mark-from-enum-told-3
-    (λ c. search (marking-bracket, rules))  -- mark-from-returns-2
+    (λ c. search (marking_bracket, rules))  -- mark-from-returns-2
     (λ c. search rules)  -- mark-from-enum-told-4
-    (λ c. search (marking-unknown, rules))  -- mark-from-returns-3
-    (λ c. search (marking-end, rules))  -- mark-from-returns-4
+    (λ c. search (marking_unknown, rules))  -- mark-from-returns-3
+    (λ c. search (marking_end, rules))  -- mark-from-returns-4

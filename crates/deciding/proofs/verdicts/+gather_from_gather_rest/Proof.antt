@@ -5,9 +5,9 @@ use borrow.Author.Rules.{rules}
 use Prim.Native.Nat.{◌+◌, ◌*◌, ◌-◌}
 use native.Mathlib.Omega.{arith}
 use lib.ListN.{length, length-take}
-use Rattle.deciding.proofs.Telling.{Going, room-here, first-whole, first-few, gathering-start, gathered-size, gathered-from, begun-fits}
-use Rattle.deciding.proofs.Telling.{gathering-not, gathering-room, gathering-fits, gathering-falls, gathering-second, gathering-join, gathering-test}
-use Rattle.deciding.proofs.Telling.{gathering-bracket, gathering-unknown, gathering-end}
+use Rattle.deciding.proofs.Telling.{Going, room_here, first-whole, first_few, gathering_start, gathered_size, gathered_from, begun_fits}
+use Rattle.deciding.proofs.Telling.{gathering_not, gathering_room, gathering_fits, gathering_falls, gathering_second, gathering_join, gathering_test}
+use Rattle.deciding.proofs.Telling.{gathering_bracket, gathering_unknown, gathering_end}
 use Prim.Native.Nat.{ℕ, ◌<◌}
 use borrow.Fn.Kinds.{In}
 use borrow.Fn.PlainCycle.{Measures, is, falls, and}
@@ -64,18 +64,18 @@ pub +gather-from-gather-rest-spec : {M : Type 1} → statement M
     gather-from.Post
     (λ c κs. (search rules, search rules))  -- gather-from-after-first-requires
     (λ c. simp length-take (omega (arith, c.before.after_first.ensures.reading.within)))  -- gather-from-slice-aggregate-verdict
-    (λ c κs. (search rules, (search (first-whole, rules), search (first-few, rules))))  -- gather-from-verdict-requires
-    (λ c. search (room-here, rules))  -- gather-from-slice-write-marks
-    (λ c κs. (search rules, (search rules, search (gathering-start, rules))))  -- gather-from-gather-rest-requires
-    (λ c. search (gathered-size, rules))  -- gather-from-same-length
-    (λ c. search (gathered-from, rules)))  -- gather-from-returns
+    (λ c κs. (search rules, (search (first-whole, rules), search (first_few, rules))))  -- gather-from-verdict-requires
+    (λ c. search (room_here, rules))  -- gather-from-slice-write-marks
+    (λ c κs. (search rules, (search rules, search (gathering_start, rules))))  -- gather-from-gather-rest-requires
+    (λ c. search (gathered_size, rules))  -- gather-from-same-length
+    (λ c. search (gathered_from, rules)))  -- gather-from-returns
     λ t. gather-rest-lts.spec
     (row-of-reads.Asked, row-of-reads.Learnt, gather-from-below t, gather-from.Post)
     (gather-rest-at t)
     gather-rest.Post
     gather-rest-Inv-loop
     gather-rest-μ-loop
-    (λ c. search (begun-fits, rules))  -- gather-rest-add-next
+    (λ c. search (begun_fits, rules))  -- gather-rest-add-next
     (λ c. record { ready = search rules; gathering = search rules })  -- gather-rest-loop-holds
     (λ c. search rules)  -- gather-rest-mul-row-of
     (λ c. search rules)  -- gather-rest-shared-slice-read-row-of
@@ -83,25 +83,25 @@ pub +gather-from-gather-rest-spec : {M : Type 1} → statement M
     (λ c. search rules)  -- gather-rest-enum-told
     (λ c. search rules)  -- gather-rest-add-at
     (λ c. search rules)  -- gather-rest-loop-less
-    (λ c. record { ready = search rules; gathering = search (gathering-not, rules) })  -- gather-rest-loop-again
+    (λ c. record { ready = search rules; gathering = search (gathering_not, rules) })  -- gather-rest-loop-again
     (λ c. search rules)  -- gather-rest-enum-known-size
     (λ c. search rules)  -- gather-rest-add-start
-    (λ c. search (gathering-fits, rules))  -- gather-rest-add-end
+    (λ c. search (gathering_fits, rules))  -- gather-rest-add-end
     (λ c. search rules)  -- gather-rest-mul-gather-from
     (λ c. search rules)  -- gather-rest-sub-gather-from
     (λ c. search rules)  -- gather-rest-part-gather-from-start
-    (λ c. search (gathering-room, rules))  -- gather-rest-part-gather-from-end
-    (λ c κs. (search (gathering-falls, rules), (search rules, search (gathering-second, rules))))  -- gather-rest-gather-from-requires
+    (λ c. search (gathering_room, rules))  -- gather-rest-part-gather-from-end
+    (λ c κs. (search (gathering_falls, rules), (search rules, search (gathering_second, rules))))  -- gather-rest-gather-from-requires
     (λ c. search rules)  -- gather-rest-loop-less-2
-    (λ c. record { ready = search rules; gathering = search (gathering-join, rules) })  -- gather-rest-loop-again-2
+    (λ c. record { ready = search rules; gathering = search (gathering_join, rules) })  -- gather-rest-loop-again-2
     (λ c. search rules)  -- gather-rest-enum-told-2
     (λ c. search rules)  -- gather-rest-same-length
-    (λ c. search (gathering-test, rules))  -- gather-rest-returns
+    (λ c. search (gathering_test, rules))  -- gather-rest-returns
     (λ c. search rules)  -- gather-rest-enum-told-3
     (λ c. search rules)  -- gather-rest-same-length-2
-    (λ c. search (gathering-bracket, rules))  -- gather-rest-returns-2
+    (λ c. search (gathering_bracket, rules))  -- gather-rest-returns-2
     (λ c. search rules)  -- gather-rest-enum-told-4
     (λ c. search rules)  -- gather-rest-same-length-3
-    (λ c. search (gathering-unknown, rules))  -- gather-rest-returns-3
+    (λ c. search (gathering_unknown, rules))  -- gather-rest-returns-3
     (λ c. search rules)  -- gather-rest-same-length-4
-    (λ c. search (gathering-end, rules))  -- gather-rest-returns-4
+    (λ c. search (gathering_end, rules))  -- gather-rest-returns-4

@@ -3,12 +3,12 @@
 use Prim.Native.Nat.{◌+◌, ◌*◌, ◌-◌}
 use native.Mathlib.Omega.{arith}
 use lib.ListN.{length}
-use Rattle.sheet.specs.Sheet.{parametersOf}
-use Rattle.syntax.proofs.Places.{test-in-place, head-open-ahead, head-choice-order, head-choice-within, member-in-place, connective-ahead}
+use Rattle.sheet.specs.Sheet.{parameters_of}
+use Rattle.syntax.proofs.Places.{test_in_place, head_open_ahead, head_choice_order, head_choice_within, member_in_place, connective_ahead}
 use Rattle.filter.specs.Folds.{reading}
 use Rattle.filter.specs.declared.Walked.{Walked}
-use Rattle.filter.proofs.Walk.{Chain, item-test, item-nothing, item-deep, item-opened, choice-deep, item-chosen, round-no-filter, round-open, round-closed, chosen-no-filter, chosen-no-member, chosen-member, item-ahead, filter-within, filter-no-item, chain-starts, chain-ends, chain-no-item, chain-goes-on}
-use Rattle.filter.proofs.Reading.{walked-cases, tests-fit, member-fits, summary-negated, summary-inside}
+use Rattle.filter.proofs.Walk.{Chain, item_test, item_nothing, item_deep, item-opened, choice_deep, item-chosen, round_no_filter, round_open, round-closed, chosen_no_filter, chosen_no_member, chosen-member, item_ahead, filter_within, filter_no_item, chain_starts, chain_ends, chain_no_item, chain_goes_on}
+use Rattle.filter.proofs.Reading.{walked_cases, tests_fit, member-fits, summary_negated, summary_inside}
 use borrow.Author.Rules.{rules}
 use Prim.Native.Nat.{ℕ, ◌<◌}
 use borrow.Fn.Kinds.{In}
@@ -66,7 +66,7 @@ check-chosen-below t =
 
 abbrev check-filter-at : ℕ → In 2 check-filter-kinds.ps
 check-filter-at t =
-    and 2 check-filter-kinds.ps (is 2 check-filter-kinds.ps μ-check-filter t) check-filter.Pre
+    and 2 check-filter-kinds.ps (is 2 check-filter-kinds.ps μ-check-filter t) check_filter.Pre
 
 abbrev check-filter-below : ℕ → In 2 check-filter-kinds.ps
 check-filter-below t =
@@ -74,7 +74,7 @@ check-filter-below t =
     2
     check-filter-kinds.ps
     (falls 2 check-filter-kinds.ps ◌<◌ μ-check-filter t)
-    check-filter.Pre
+    check_filter.Pre
 
 abbrev check-item-at : ℕ → In 2 check-item-kinds.ps
 check-item-at t =
@@ -93,7 +93,7 @@ check-round-below t =
     and 2 check-round-kinds.ps (falls 2 check-round-kinds.ps ◌<◌ μ-check-round t) check-round.Pre
 
 abbrev check-filter-Inv-loop : check-filter-lts.invariant-loop
-check-filter-Inv-loop sheet filter spot first-end end₀ summary₀ end summary = Chain Walked.Done Walked.Nothing walked-cases (reading (parametersOf sheet) spot.bundle) filter spot.close spot.levels spot.at end summary
+check-filter-Inv-loop sheet filter spot first-end end₀ summary₀ end summary = Chain Walked.Done Walked.Nothing walked_cases (reading (parameters_of sheet) spot.bundle) filter spot.close spot.levels spot.at end summary
 
 abbrev check-filter-μ-loop : check-filter-lts.decreases-loop
 check-filter-μ-loop sheet filter spot first-end end₀ summary₀ end summary = length filter - end
@@ -101,7 +101,7 @@ check-filter-μ-loop sheet filter spot first-end end₀ summary₀ end summary =
 pub +check-chosen-check-filter-check-item-check-round-spec : {M : Type 1} → statement M
 +check-chosen-check-filter-check-item-check-round-spec =
     close μ-check-chosen μ-check-filter μ-check-item μ-check-round (λ t. check-chosen-lts.spec
-    (enter-reads.Asked, enter-reads.Learnt, skip-reads.Asked, skip-reads.Learnt, check-filter-below t, check-filter.Post, read-member-reads.Asked, read-member-reads.Learnt, test-summary-reads.Asked, test-summary-reads.Learnt, join-summaries-reads.Asked, join-summaries-reads.Learnt)
+    (enter-reads.Asked, enter-reads.Learnt, skip-reads.Asked, skip-reads.Learnt, check-filter-below t, check_filter.Post, read-member-reads.Asked, read-member-reads.Learnt, test-summary-reads.Asked, test-summary-reads.Learnt, join-summaries-reads.Asked, join-summaries-reads.Learnt)
     (check-chosen-at t)
     check-chosen.Post
     (λ c. search rules)  -- sub-enter
@@ -113,66 +113,66 @@ pub +check-chosen-check-filter-check-item-check-round-spec : {M : Type 1} → st
     (λ c κs. search rules)  -- check-filter-requires
     (λ c. search rules)  -- enum-known-inner
     (λ c. search rules)  -- enum-told
-    (λ c. search (chosen-no-filter, walked-cases, rules))  -- returns
-    (λ c κs. search (filter-within, walked-cases, rules))  -- read-member-requires
+    (λ c. search (chosen_no_filter, walked_cases, rules))  -- returns
+    (λ c κs. search (filter_within, walked_cases, rules))  -- read-member-requires
     (λ c. search rules)  -- enum-known-member
     (λ c. search rules)  -- enum-told-2
-    (λ c. search (chosen-no-member, walked-cases, rules))  -- returns-2
-    (λ c κs. (search rules, (search rules, search (member-in-place, rules))))  -- test-summary-requires
+    (λ c. search (chosen_no_member, walked_cases, rules))  -- returns-2
+    (λ c κs. (search rules, (search rules, search (member_in_place, rules))))  -- test-summary-requires
     (λ c κs. member-fits _ _ _ _ _ _ _ _ _ _ _ _ c.before.before.before.before.before.before.before.before.before.before.skip.ensures c.before.before.before.before.before.before.before.before.before.check-filter.ensures c.before.before.before.before.before.before.before.inner.given.1 c.before.test-summary.ensures c.before.before.before.before.before.before.before.before.before.before.before.before.before.before.before.requires.1.1.0)  -- join-summaries-requires
-    (λ c. chosen-member Walked.Done Walked.Nothing walked-cases (reading _ _) _ _ _ _ _ _ c.before.before.before.before.before.before.before.before.before.before.before.skip.ensures (reading _ _) _ c.before.before.before.before.before.before.before.before.before.before.check-filter.ensures _ _ c.before.before.before.before.before.before.before.before.inner.given.1 _ c.before.before.before.before.before.before.read-member.ensures _ _ c.before.before.before.before.member.given.1 (λ g r s. summary-inside _ _ _ _ _ _ _ _ _ c.before.before.before.before.before.before.before.before.before.before.before.before.enter.ensures c.before.before.test-summary.ensures c.join-summaries.ensures g s)))  -- returns-3
+    (λ c. chosen-member Walked.Done Walked.Nothing walked_cases (reading _ _) _ _ _ _ _ _ c.before.before.before.before.before.before.before.before.before.before.before.skip.ensures (reading _ _) _ c.before.before.before.before.before.before.before.before.before.before.check-filter.ensures _ _ c.before.before.before.before.before.before.before.before.inner.given.1 _ c.before.before.before.before.before.before.read-member.ensures _ _ c.before.before.before.before.member.given.1 (λ g r s. summary_inside _ _ _ _ _ _ _ _ _ c.before.before.before.before.before.before.before.before.before.before.before.before.enter.ensures c.before.before.test-summary.ensures c.join-summaries.ensures g s)))  -- returns-3
     (λ t. check-filter-lts.spec
     (check-item-below t, check-item.Post, read-connective-reads.Asked, read-connective-reads.Learnt, join-summaries-reads.Asked, join-summaries-reads.Learnt)
     (check-filter-at t)
-    check-filter.Post
+    check_filter.Post
     check-filter-Inv-loop
     check-filter-μ-loop
     (λ c κs. search rules)  -- check-item-requires
     (λ c. search rules)  -- enum-known-first
     (λ c. search rules)  -- enum-told
-    (λ c. search (filter-no-item, walked-cases, rules))  -- returns
-    (λ c. search (chain-starts, rules))  -- loop-holds
+    (λ c. search (filter_no_item, walked_cases, rules))  -- returns
+    (λ c. search (chain_starts, rules))  -- loop-holds
     (λ c κs. search rules)  -- read-connective-requires
     (λ c. search rules)  -- enum-known-connective
-    (λ c κs. let a = connective-ahead _ _ _ _ _ c.before.before.before.read-connective.ensures c.before.connective.given.1 in (omega arith, (search rules, (search rules, a.1))))  -- check-item-requires-2
+    (λ c κs. let a = connective_ahead _ _ _ _ _ c.before.before.before.read-connective.ensures c.before.connective.given.1 in (omega arith, (search rules, (search rules, a.1))))  -- check-item-requires-2
     (λ c. search rules)  -- enum-known-item
-    (λ c κs. search (tests-fit, rules))  -- join-summaries-requires
-    (λ c. let j = connective-ahead _ _ _ _ _ c.before.before.before.before.before.before.before.before.read-connective.ensures c.before.before.before.before.before.before.connective.given.1 in let a = item-ahead Walked.Done Walked.Nothing walked-cases (reading _ _) _ _ _ _ _ _ _ c.before.before.before.before.check-item2.ensures c.before.before.item.given.1 in omega arith)  -- loop-less
-    (λ c. chain-goes-on Walked.Done Walked.Nothing walked-cases (reading _ _) _ _ _ _ _ _ c.before.before.before.before.before.before.before.before.before.loop.invariant _ c.before.before.before.before.before.before.before.before.read-connective.ensures _ _ c.before.before.before.before.before.before.connective.given.1 _ c.before.before.before.before.check-item2.ensures _ _ _ c.before.before.item.given.1 c.join-summaries.ensures)  -- loop-again
+    (λ c κs. search (tests_fit, rules))  -- join-summaries-requires
+    (λ c. let j = connective_ahead _ _ _ _ _ c.before.before.before.before.before.before.before.before.read-connective.ensures c.before.before.before.before.before.before.connective.given.1 in let a = item_ahead Walked.Done Walked.Nothing walked_cases (reading _ _) _ _ _ _ _ _ _ c.before.before.before.before.check-item2.ensures c.before.before.item.given.1 in omega arith)  -- loop-less
+    (λ c. chain_goes_on Walked.Done Walked.Nothing walked_cases (reading _ _) _ _ _ _ _ _ c.before.before.before.before.before.before.before.before.before.loop.invariant _ c.before.before.before.before.before.before.before.before.read-connective.ensures _ _ c.before.before.before.before.before.before.connective.given.1 _ c.before.before.before.before.check-item2.ensures _ _ _ c.before.before.item.given.1 c.join-summaries.ensures)  -- loop-again
     (λ c. search rules)  -- enum-told-2
-    (λ c. search (chain-no-item, rules))  -- returns-2
+    (λ c. search (chain_no_item, rules))  -- returns-2
     (λ c. search rules)  -- enum-told-3
-    (λ c. chain-ends Walked.Done Walked.Nothing walked-cases (reading _ _) _ _ _ _ _ _ c.before.before.before.loop.invariant _ c.before.before.read-connective.ensures c.enum-told3.given.1))  -- returns-3
+    (λ c. chain_ends Walked.Done Walked.Nothing walked_cases (reading _ _) _ _ _ _ _ _ c.before.before.before.loop.invariant _ c.before.before.read-connective.ensures c.enum-told3.given.1))  -- returns-3
     (λ t. check-item-lts.spec
     (read-head-reads.Asked, read-head-reads.Learnt, test-summary-reads.Asked, test-summary-reads.Learnt, check-round-below t, check-round.Post, check-chosen-below t, check-chosen.Post)
     (check-item-at t)
     check-item.Post
     (λ c κs. search rules)  -- read-head-requires
     (λ c. search rules)  -- enum-known-head
-    (λ c κs. (search rules, (search rules, search (test-in-place, rules))))  -- test-summary-requires
+    (λ c κs. (search rules, (search rules, search (test_in_place, rules))))  -- test-summary-requires
     (λ c. search rules)  -- enum-known-head-2
-    (λ c. search (item-deep, walked-cases, rules))  -- returns
+    (λ c. search (item_deep, walked_cases, rules))  -- returns
     (λ c. search rules)  -- sub-t18
-    (λ c κs. let a = head-open-ahead _ _ _ _ c.before.before.before.before.read_head.ensures (search rules) _ _ c.before.before.head2.given.1 in (omega arith, (search rules, (search rules, (a.1, search rules)))))  -- check-round-requires
+    (λ c κs. let a = head_open_ahead _ _ _ _ c.before.before.before.before.read_head.ensures (search rules) _ _ c.before.before.head2.given.1 in (omega arith, (search rules, (search rules, (a.1, search rules)))))  -- check-round-requires
     (λ c. search rules)  -- enum-known-head-3
-    (λ c. search (choice-deep, walked-cases, rules))  -- returns-2
+    (λ c. search (choice_deep, walked_cases, rules))  -- returns-2
     (λ c. search rules)  -- sub-t20
-    (λ c κs. (omega arith, (search rules, (search rules, (search (head-choice-order, rules), search (head-choice-within, rules))))))  -- check-chosen-requires
+    (λ c κs. (omega arith, (search rules, (search rules, (search (head_choice_order, rules), search (head_choice_within, rules))))))  -- check-chosen-requires
     (λ c. search rules)  -- enum-told
-    (λ c. item-test Walked.Done Walked.Nothing walked-cases (reading _ _) _ _ _ _ _ c.before.before.before.before.before.read_head.ensures _ _ c.before.before.before.head.given.1 c.before.test-summary.ensures)  -- returns-3
-    (λ c. item-opened Walked.Done Walked.Nothing walked-cases (reading _ _) _ _ _ _ _ c.before.before.before.before.before.read_head.ensures _ _ c.before.before.before.head2.given.1 c.before.if1.false _ (c.check-round.ensures _))  -- returns-4
-    (λ c. search (item-chosen, walked-cases, rules))  -- returns-5
-    (λ c. search (item-nothing, walked-cases, rules)))  -- returns-6
+    (λ c. item_test Walked.Done Walked.Nothing walked_cases (reading _ _) _ _ _ _ _ c.before.before.before.before.before.read_head.ensures _ _ c.before.before.before.head.given.1 c.before.test-summary.ensures)  -- returns-3
+    (λ c. item-opened Walked.Done Walked.Nothing walked_cases (reading _ _) _ _ _ _ _ c.before.before.before.before.before.read_head.ensures _ _ c.before.before.before.head2.given.1 c.before.if1.false _ (c.check-round.ensures _))  -- returns-4
+    (λ c. search (item-chosen, walked_cases, rules))  -- returns-5
+    (λ c. search (item_nothing, walked_cases, rules)))  -- returns-6
     λ t. check-round-lts.spec
-    (check-filter-below t, check-filter.Post, read-close-reads.Asked, read-close-reads.Learnt)
+    (check-filter-below t, check_filter.Post, read-close-reads.Asked, read-close-reads.Learnt)
     (check-round-at t)
     check-round.Post
     (λ c κs. search rules)  -- check-filter-requires
     (λ c. search rules)  -- enum-known-inner
     (λ c. search rules)  -- enum-told
-    (λ c b. search (round-no-filter, walked-cases, rules))  -- returns
-    (λ c κs. search (filter-within, walked-cases, rules))  -- read-close-requires
+    (λ c b. search (round_no_filter, walked_cases, rules))  -- returns
+    (λ c κs. search (filter_within, walked_cases, rules))  -- read-close-requires
     (λ c. search rules)  -- enum-known-closed
     (λ c. search rules)  -- enum-told-2
-    (λ c b. search (round-open, walked-cases, rules))  -- returns-2
-    (λ c b. round-closed Walked.Done Walked.Nothing walked-cases (reading _ _) _ _ _ _ c.before.before.before.before.before.before.before.before.before.before.requires.1.1.1.1 b _ c.before.before.before.before.before.before.before.check-filter.ensures _ _ c.before.before.before.before.before.inner.given.1 _ c.before.before.before.read-close.ensures _ _ c.before.closed.given.1 (summary-negated b _))  -- returns-3
+    (λ c b. search (round_open, walked_cases, rules))  -- returns-2
+    (λ c b. round-closed Walked.Done Walked.Nothing walked_cases (reading _ _) _ _ _ _ c.before.before.before.before.before.before.before.before.before.before.requires.1.1.1.1 b _ c.before.before.before.before.before.before.before.check-filter.ensures _ _ c.before.before.before.before.before.inner.given.1 _ c.before.before.before.read-close.ensures _ _ c.before.closed.given.1 (summary_negated b _))  -- returns-3

@@ -1,6 +1,6 @@
 -- `judge::faults::fault_at` meets its contract: what the name is on the sheet decides. Assumes nothing.
 use borrow.Author.Rules.{rules}
-use Rattle.judge.proofs.Meaning.{fault-found, fault-missing}
+use Rattle.judge.proofs.Meaning.{fault_found, fault_missing}
 use Rattle.judge.proofs.faults.fault_at.Statement.{statement}
 use Rattle.judge.proofs.faults.fault_at.Tie as tie
 
@@ -17,10 +17,10 @@ refuse-requires : tie.Need-refuse-requires
 refuse-requires c κs = search rules
 
 returns : tie.Need-returns
-returns c = search (fault-found, rules)
+returns c = search (fault_found, rules)
 
 returns-2 : tie.Need-returns-2
-returns-2 c = search (fault-missing, rules)
+returns-2 c = search (fault_missing, rules)
 
 pub fault-at-spec : {M : Type 1} → statement M
 fault-at-spec =

@@ -2,7 +2,7 @@
 use borrow.Author.Rules.{rules}
 use native.Mathlib.Omega.{arith}
 use lib.ListN.{length-take}
-use Rattle.judge.proofs.Meaning.{truth-placed, value-escaped, value-plain}
+use Rattle.judge.proofs.Meaning.{truth_placed, value-escaped, value-plain}
 use Rattle.judge.proofs.placed.member_truth.Statement.{statement}
 use Rattle.judge.proofs.placed.member_truth.Tie as tie
 
@@ -31,7 +31,7 @@ is-true-requires : tie.Need-is-true-requires
 is-true-requires c κs = search rules
 
 returns : tie.Need-returns
-returns c = search (truth-placed, value-escaped, rules)
+returns c = search (truth_placed, value-escaped, rules)
 
 sub-is-true : tie.Need-overflow-sub-is-true
 sub-is-true c = search rules
@@ -46,7 +46,7 @@ is-true-requires-2 : tie.Need-is-true-requires-2
 is-true-requires-2 c κs = search rules
 
 returns-2 : tie.Need-returns-2
-returns-2 c = search (truth-placed, value-plain, rules)
+returns-2 c = search (truth_placed, value-plain, rules)
 
 pub member-truth-spec : {M : Type 1} → statement M
 member-truth-spec =

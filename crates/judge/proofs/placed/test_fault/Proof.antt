@@ -2,7 +2,7 @@
 use borrow.Author.Rules.{rules}
 use native.Mathlib.Omega.{arith}
 use lib.ListN.{length-take}
-use Rattle.judge.proofs.Meaning.{fault-placed, value-escaped, value-plain}
+use Rattle.judge.proofs.Meaning.{fault_placed, value-escaped, value-plain}
 use Rattle.judge.proofs.placed.test_fault.Statement.{statement}
 use Rattle.judge.proofs.placed.test_fault.Tie as tie
 
@@ -34,7 +34,7 @@ fault-at-requires : tie.Need-fault-at-requires
 fault-at-requires c κs = search rules
 
 returns : tie.Need-returns
-returns c = search (fault-placed, value-escaped, rules)
+returns c = search (fault_placed, value-escaped, rules)
 
 sub-fault-at : tie.Need-overflow-sub-fault-at
 sub-fault-at c = search rules
@@ -49,7 +49,7 @@ fault-at-requires-2 : tie.Need-fault-at-requires-2
 fault-at-requires-2 c κs = search rules
 
 returns-2 : tie.Need-returns-2
-returns-2 c = search (fault-placed, value-plain, rules)
+returns-2 c = search (fault_placed, value-plain, rules)
 
 pub test-fault-spec : {M : Type 1} → statement M
 test-fault-spec =

@@ -2,16 +2,16 @@
 use borrow.Author.Rules.{rules}
 use borrow.Author.Tests.{not-true, not-false}
 use Rattle.block.proofs.Invariants.{Visited}
-use Rattle.block.proofs.Items.{visited-next, visited-decides, visited-end}
-use Rattle.card.specs.Card.{entry, entriesOf}
-use Rattle.card.proofs.Entries.{entries-start}
-use Rattle.judge.specs.Sets.{conformsTo}
-use Rattle.judge.proofs.Entries.{conforms-next, conforms-not, conforms-end}
+use Rattle.block.proofs.Items.{visited_next, visited_decides, visited_end}
+use Rattle.card.specs.Card.{entry, entries_of}
+use Rattle.card.proofs.Entries.{entries_start}
+use Rattle.judge.specs.Sets.{conforms_to}
+use Rattle.judge.proofs.Entries.{conforms-next, conforms_not, conforms_end}
 use Rattle.judge.proofs.sets.conforms.Statement.{statement}
 use Rattle.judge.proofs.sets.conforms.Tie as tie
 
 abbrev invariant-loop : tie.invariant-loop
-invariant-loop kinds card at₀ left₀ at left = Visited entry (conformsTo kinds) (conformsTo kinds (entriesOf card)) card at left
+invariant-loop kinds card at₀ left₀ at left = Visited entry (conforms_to kinds) (conforms_to kinds (entries_of card)) card at left
 
 abbrev decreases-loop : tie.decreases-loop
 decreases-loop kinds card at₀ left₀ at left = left
@@ -20,7 +20,7 @@ entry-count-requires : tie.Need-entry-count-requires invariant-loop decreases-lo
 entry-count-requires c κs = search rules
 
 loop-holds : tie.Need-loop-init invariant-loop decreases-loop
-loop-holds c = search (entries-start, rules)
+loop-holds c = search (entries_start, rules)
 
 entry-at-requires : tie.Need-entry-at-requires invariant-loop decreases-loop
 entry-at-requires c κs = search rules
@@ -38,7 +38,7 @@ entry-conforms-requires : tie.Need-entry-conforms-requires invariant-loop decrea
 entry-conforms-requires c κs = search rules
 
 returns : tie.Need-returns invariant-loop decreases-loop
-returns c = search (visited-decides, conforms-not, not-true, rules)
+returns c = search (visited_decides, conforms_not, not-true, rules)
 
 sub-left : tie.Need-overflow-sub-left invariant-loop decreases-loop
 sub-left c = search rules
@@ -47,10 +47,10 @@ loop-less : tie.Need-loop-smaller invariant-loop decreases-loop
 loop-less c = search rules
 
 loop-again : tie.Need-loop-preserved invariant-loop decreases-loop
-loop-again c = search (visited-next, conforms-next, not-false, rules)
+loop-again c = search (visited_next, conforms-next, not-false, rules)
 
 returns-2 : tie.Need-returns-2 invariant-loop decreases-loop
-returns-2 c = search (visited-end, conforms-end, rules)
+returns-2 c = search (visited_end, conforms_end, rules)
 
 pub conforms-spec : {M : Type 1} → statement M
 conforms-spec =

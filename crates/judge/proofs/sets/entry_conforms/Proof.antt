@@ -1,6 +1,6 @@
 -- `judge::sets::entry_conforms` meets its contract: past the table there is no kind. Assumes nothing.
 use borrow.Author.Rules.{rules}
-use Rattle.judge.proofs.Entries.{past-readable}
+use Rattle.judge.proofs.Entries.{past_readable}
 use Rattle.judge.proofs.sets.entry_conforms.Statement.{statement}
 use Rattle.judge.proofs.sets.entry_conforms.Tie as tie
 
@@ -14,7 +14,7 @@ returns : tie.Need-returns
 returns c = search rules
 
 returns-2 : tie.Need-returns-2
-returns-2 c = search (past-readable, rules)
+returns-2 c = search (past_readable, rules)
 
 pub entry-conforms-spec : {M : Type 1} → statement M
 entry-conforms-spec =

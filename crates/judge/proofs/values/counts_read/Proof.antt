@@ -1,6 +1,6 @@
 -- `judge::values::counts_read` meets its contract: each arm is a case of the definition. Assumes nothing.
 use borrow.Author.Rules.{rules}
-use Rattle.judge.proofs.Once.{read-present, read-relates, read-differs, read-nothing}
+use Rattle.judge.proofs.Once.{read_present, read_relates, read-differs, read_nothing}
 use Rattle.judge.proofs.values.counts_read.Statement.{statement}
 use Rattle.judge.proofs.values.counts_read.Tie as tie
 
@@ -23,16 +23,16 @@ enum-told-2 : tie.Need-enum-told-2
 enum-told-2 c = search rules
 
 returns : tie.Need-returns
-returns c = search (read-present, rules)
+returns c = search (read_present, rules)
 
 returns-2 : tie.Need-returns-2
-returns-2 c = search (read-relates, rules)
+returns-2 c = search (read_relates, rules)
 
 returns-3 : tie.Need-returns-3
 returns-3 c = search (read-differs, rules)
 
 returns-4 : tie.Need-returns-4
-returns-4 c = search (read-nothing, rules)
+returns-4 c = search (read_nothing, rules)
 
 pub counts-read-spec : {M : Type 1} → statement M
 counts-read-spec =

@@ -1,6 +1,6 @@
 -- `judge::values::readings_for` meets its contract: each arm is a case of the definition. Assumes nothing.
 use borrow.Author.Rules.{rules}
-use Rattle.judge.specs.Once.{readingsFor}
+use Rattle.judge.specs.Once.{readings_for}
 use Rattle.judge.proofs.values.readings_for.Statement.{statement}
 use Rattle.judge.proofs.values.readings_for.Tie as tie
 
@@ -29,19 +29,19 @@ unread-requires-2 : tie.Need-unread-requires-2
 unread-requires-2 c κs = search rules
 
 returns : tie.Need-returns
-unfolding readingsFor
+unfolding readings_for
 returns c = cc
 
 returns-2 : tie.Need-returns-2
-unfolding readingsFor
+unfolding readings_for
 returns-2 c = cc
 
 returns-3 : tie.Need-returns-3
-unfolding readingsFor
+unfolding readings_for
 returns-3 c = cc
 
 returns-4 : tie.Need-returns-4
-unfolding readingsFor
+unfolding readings_for
 returns-4 c = cc
 
 pub readings-for-spec : {M : Type 1} → statement M

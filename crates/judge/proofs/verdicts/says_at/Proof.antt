@@ -1,6 +1,6 @@
 -- `judge::verdicts::says_at` meets its contract: what the name is on the sheet decides. Assumes nothing.
 use borrow.Author.Rules.{rules}
-use Rattle.judge.proofs.Meaning.{says-found, says-missing}
+use Rattle.judge.proofs.Meaning.{says-found, says_missing}
 use Rattle.judge.proofs.verdicts.says_at.Statement.{statement}
 use Rattle.judge.proofs.verdicts.says_at.Tie as tie
 
@@ -20,7 +20,7 @@ returns : tie.Need-returns
 returns c = search (says-found, rules)
 
 returns-2 : tie.Need-returns-2
-returns-2 c = search (says-missing, rules)
+returns-2 c = search (says_missing, rules)
 
 pub says-at-spec : {M : Type 1} → statement M
 says-at-spec =

@@ -1,7 +1,7 @@
 -- `judge::verdicts::says_of` meets its contract: whether some text counts tells what the test says. Assumes nothing.
 use borrow.Author.Rules.{rules}
-use Rattle.judge.proofs.Once.{not-given}
-use Rattle.judge.proofs.Meaning.{says-by-some}
+use Rattle.judge.proofs.Once.{not_given}
+use Rattle.judge.proofs.Meaning.{says_by_some}
 use Rattle.judge.proofs.verdicts.says_of.Statement.{statement}
 use Rattle.judge.proofs.verdicts.says_of.Tie as tie
 
@@ -9,7 +9,7 @@ unread-requires : tie.Need-unread-requires
 unread-requires c κs = search rules
 
 some-counts-requires : tie.Need-some-counts-requires
-some-counts-requires c κs = search (not-given, rules)
+some-counts-requires c κs = search (not_given, rules)
 
 is-true-requires : tie.Need-is-true-requires
 is-true-requires c κs = search rules
@@ -18,7 +18,7 @@ some-says-requires : tie.Need-some-says-requires
 some-says-requires c κs = search rules
 
 returns : tie.Need-returns
-returns c = search (says-by-some, rules)
+returns c = search (says_by_some, rules)
 
 pub says-of-spec : {M : Type 1} → statement M
 says-of-spec =

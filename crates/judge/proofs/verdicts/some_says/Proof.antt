@@ -1,6 +1,6 @@
 -- `judge::verdicts::some_says` meets its contract. Assumes nothing.
 use borrow.Author.Rules.{rules}
-use Rattle.judge.proofs.Meaning.{some-true, some-false, some-relates, some-differs, some-nothing}
+use Rattle.judge.proofs.Meaning.{some_true, some_false, some_relates, some_differs, some_nothing}
 use Rattle.judge.proofs.verdicts.some_says.Statement.{statement}
 use Rattle.judge.proofs.verdicts.some_says.Tie as tie
 
@@ -8,7 +8,7 @@ enum_told : tie.Need-enum-told
 enum_told c = search rules
 
 returns : tie.Need-returns
-returns c = search (some-true, rules)
+returns c = search (some_true, rules)
 
 enum-told-2 : tie.Need-enum-told-2
 enum-told-2 c = search rules
@@ -20,16 +20,16 @@ enum-told-4 : tie.Need-enum-told-4
 enum-told-4 c = search rules
 
 returns-2 : tie.Need-returns-2
-returns-2 c = search (some-false, rules)
+returns-2 c = search (some_false, rules)
 
 returns-3 : tie.Need-returns-3
-returns-3 c = search (some-relates, rules)
+returns-3 c = search (some_relates, rules)
 
 returns-4 : tie.Need-returns-4
-returns-4 c = search (some-differs, rules)
+returns-4 c = search (some_differs, rules)
 
 returns-5 : tie.Need-returns-5
-returns-5 c = search (some-nothing, rules)
+returns-5 c = search (some_nothing, rules)
 
 pub some-says-spec : {M : Type 1} → statement M
 some-says-spec =

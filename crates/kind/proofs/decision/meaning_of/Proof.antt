@@ -1,6 +1,6 @@
 -- `kind::decision::meaning_of` meets its contract: each arm is a kind's row. Assumes nothing.
 use borrow.Author.Rules.{rules}
-use Rattle.kind.proofs.Table.{present, of-string, of_number, of-date, of-token, of-reference, of-period, of_none}
+use Rattle.kind.proofs.Table.{present, of_string, of_number, of_date, of_token, of_reference, of_period, of_none}
 use Rattle.kind.proofs.decision.meaning_of.Statement.{statement}
 use Rattle.kind.proofs.decision.meaning_of.Tie as tie
 
@@ -26,22 +26,22 @@ date-meaning-requires-2 : tie.Need-date-meaning-requires-2
 date-meaning-requires-2 c κs = search rules
 
 returns-2 : tie.Need-returns-2
-returns-2 c = search (of-string, rules)
+returns-2 c = search (of_string, rules)
 
 returns-3 : tie.Need-returns-3
 returns-3 c = search (of_number, rules)
 
 returns-4 : tie.Need-returns-4
-returns-4 c = search (of-date, rules)
+returns-4 c = search (of_date, rules)
 
 returns-5 : tie.Need-returns-5
-returns-5 c = search (of-token, rules)
+returns-5 c = search (of_token, rules)
 
 returns-6 : tie.Need-returns-6
-returns-6 c = search (of-reference, rules)
+returns-6 c = search (of_reference, rules)
 
 returns-7 : tie.Need-returns-7
-returns-7 c = search (of-period, rules)
+returns-7 c = search (of_period, rules)
 
 returns-8 : tie.Need-returns-8
 returns-8 c = let n = c.match.rest in of_none _ _ c.before.if1.false n.0.0.0.0.0.1 n.0.0.0.0.1 n.0.0.0.1 n.0.0.1 n.0.1 n.1

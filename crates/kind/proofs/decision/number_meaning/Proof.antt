@@ -1,40 +1,40 @@
 -- `kind::decision::number_meaning` meets its contract: each arm is an operator of the row, computed. Assumes nothing.
 use mathlib.Core.Path.{ap, sym}
-use Rattle.kind.specs.Table.{numberRow, relationIn, rowMeaning}
-use Rattle.kind.proofs.Table.{number-rest}
+use Rattle.kind.specs.Table.{number_row, relation_in, row_meaning}
+use Rattle.kind.proofs.Table.{number_rest}
 use Rattle.kind.proofs.decision.number_meaning.Statement.{statement}
 use Rattle.kind.proofs.decision.number_meaning.Tie as tie
 
 returns : tie.Need-returns
-unfolding rowMeaning relationIn numberRow
-returns c = ap (rowMeaning numberRow) (sym c.match.keys1)
+unfolding row_meaning relation_in number_row
+returns c = ap (row_meaning number_row) (sym c.match.keys1)
 
 returns-2 : tie.Need-returns-2
-unfolding rowMeaning relationIn numberRow
-returns-2 c = ap (rowMeaning numberRow) (sym c.match.keys2)
+unfolding row_meaning relation_in number_row
+returns-2 c = ap (row_meaning number_row) (sym c.match.keys2)
 
 returns-3 : tie.Need-returns-3
-unfolding rowMeaning relationIn numberRow
-returns-3 c = ap (rowMeaning numberRow) (sym c.match.keys3)
+unfolding row_meaning relation_in number_row
+returns-3 c = ap (row_meaning number_row) (sym c.match.keys3)
 
 returns-4 : tie.Need-returns-4
-unfolding rowMeaning relationIn numberRow
-returns-4 c = ap (rowMeaning numberRow) (sym c.match.keys4)
+unfolding row_meaning relation_in number_row
+returns-4 c = ap (row_meaning number_row) (sym c.match.keys4)
 
 returns-5 : tie.Need-returns-5
-unfolding rowMeaning relationIn numberRow
-returns-5 c = ap (rowMeaning numberRow) (sym c.match.keys5)
+unfolding row_meaning relation_in number_row
+returns-5 c = ap (row_meaning number_row) (sym c.match.keys5)
 
 returns-6 : tie.Need-returns-6
-unfolding rowMeaning relationIn numberRow
-returns-6 c = ap (rowMeaning numberRow) (sym c.match.keys6)
+unfolding row_meaning relation_in number_row
+returns-6 c = ap (row_meaning number_row) (sym c.match.keys6)
 
 returns-7 : tie.Need-returns-7
-unfolding rowMeaning relationIn numberRow
-returns-7 c = ap (rowMeaning numberRow) (sym c.match.keys7)
+unfolding row_meaning relation_in number_row
+returns-7 c = ap (row_meaning number_row) (sym c.match.keys7)
 
 returns-8 : tie.Need-returns-8
-returns-8 c = let n = c.match.rest in number-rest _ n.0.0.0.0.0.0.1 n.0.0.0.0.0.1 n.0.0.0.0.1 n.0.0.0.1 n.0.0.1 n.0.1 n.1
+returns-8 c = let n = c.match.rest in number_rest _ n.0.0.0.0.0.0.1 n.0.0.0.0.0.1 n.0.0.0.0.1 n.0.0.0.1 n.0.0.1 n.0.1 n.1
 
 pub number-meaning-spec : {M : Type 1} → statement M
 number-meaning-spec = tie.close (tie.spec returns returns-2 returns-3 returns-4 returns-5 returns-6 returns-7 returns-8)

@@ -1,6 +1,6 @@
 -- `kind::readable::card_readable` meets its contract: each arm is a kind. Assumes nothing.
 use borrow.Author.Rules.{rules}
-use Rattle.kind.proofs.Texts.{string-readable, number-readable, date-readable, token-readable, reference-readable, period-readable, none-readable}
+use Rattle.kind.proofs.Texts.{string-readable, number-readable, date-readable, token-readable, reference-readable, period-readable, none_readable}
 use Rattle.kind.proofs.readable.card_readable.Statement.{statement}
 use Rattle.kind.proofs.readable.card_readable.Tie as tie
 
@@ -35,7 +35,7 @@ returns-6 : tie.Need-returns-6
 returns-6 c = search (period-readable, rules)
 
 returns-7 : tie.Need-returns-7
-returns-7 c = let n = c.match.rest in none-readable _ _ n.0.0.0.0.0.1 n.0.0.0.0.1 n.0.0.0.1 n.0.0.1 n.0.1 n.1
+returns-7 c = let n = c.match.rest in none_readable _ _ n.0.0.0.0.0.1 n.0.0.0.0.1 n.0.0.0.1 n.0.0.1 n.0.1 n.1
 
 pub card-readable-spec : {M : Type 1} → statement M
 card-readable-spec =

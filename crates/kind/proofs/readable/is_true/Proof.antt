@@ -1,6 +1,6 @@
 -- `kind::readable::is_true` meets its contract: it compares with the word. Assumes nothing.
 use borrow.Author.Rules.{rules}
-use Rattle.kind.specs.Readable.{isTrue}
+use Rattle.kind.specs.Readable.{is_true}
 use Rattle.kind.proofs.readable.is_true.Statement.{statement}
 use Rattle.kind.proofs.readable.is_true.Tie as tie
 
@@ -11,7 +11,7 @@ same-requires : tie.Need-same-requires
 same-requires c κs = search rules
 
 returns : tie.Need-returns
-unfolding isTrue
+unfolding is_true
 returns c = search rules
 
 pub is-true-spec : {M : Type 1} → statement M

@@ -1,6 +1,6 @@
 -- `kind::readable::value_readable` meets its contract: pr asks for true or false, other operators for the kind. Assumes nothing.
 use borrow.Author.Rules.{rules}
-use Rattle.kind.proofs.Texts.{present-true, present-false, value-readable}
+use Rattle.kind.proofs.Texts.{present_true, present_false, value-readable}
 use Rattle.kind.proofs.readable.value_readable.Statement.{statement}
 use Rattle.kind.proofs.readable.value_readable.Tie as tie
 
@@ -11,10 +11,10 @@ is-false-requires : tie.Need-is-false-requires
 is-false-requires c κs = search rules
 
 returns : tie.Need-returns
-returns c = search (present-true, rules)
+returns c = search (present_true, rules)
 
 returns-2 : tie.Need-returns-2
-returns-2 c = search (present-false, rules)
+returns-2 c = search (present_false, rules)
 
 filter-readable-requires : tie.Need-filter-readable-requires
 filter-readable-requires c κs = search rules

@@ -1,6 +1,6 @@
 -- `kind::relate::date_readings_relate` meets its contract: the text is read. Assumes nothing.
 use borrow.Author.Rules.{rules}
-use Rattle.kind.proofs.Values.{dates-unreadable, date-unreadable, dates-relate}
+use Rattle.kind.proofs.Values.{dates_unreadable, date_unreadable, dates-relate}
 use Rattle.kind.proofs.relate.date_readings_relate.Statement.{statement}
 use Rattle.kind.proofs.relate.date_readings_relate.Tie as tie
 
@@ -14,7 +14,7 @@ enum_told : tie.Need-enum-told
 enum_told c = search rules
 
 returns : tie.Need-returns
-returns c = search (dates-unreadable, rules)
+returns c = search (dates_unreadable, rules)
 
 enum-known-value : tie.Need-enum-known-value
 enum-known-value c = search rules
@@ -23,7 +23,7 @@ enum-told-2 : tie.Need-enum-told-2
 enum-told-2 c = search rules
 
 returns-2 : tie.Need-returns-2
-returns-2 c = search (date-unreadable, rules)
+returns-2 c = search (date_unreadable, rules)
 
 dates-relate-requires : tie.Need-dates-relate-requires
 dates-relate-requires c κs = search rules

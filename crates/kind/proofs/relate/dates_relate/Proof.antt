@@ -1,6 +1,6 @@
 -- `kind::relate::dates_relate` meets its contract: each arm is a case of the definition. Assumes nothing.
 use borrow.Author.Rules.{rules}
-use Rattle.kind.specs.Relations.{datesRelate}
+use Rattle.kind.specs.Relations.{dates_relate}
 use Rattle.kind.proofs.relate.dates_relate.Statement.{statement}
 use Rattle.kind.proofs.relate.dates_relate.Tie as tie
 
@@ -59,39 +59,39 @@ covers-requires : tie.Need-covers-requires
 covers-requires c κs = search rules
 
 returns : tie.Need-returns
-unfolding datesRelate
+unfolding dates_relate
 returns c = cc
 
 returns-2 : tie.Need-returns-2
-unfolding datesRelate
+unfolding dates_relate
 returns-2 c = cc
 
 returns-3 : tie.Need-returns-3
-unfolding datesRelate
+unfolding dates_relate
 returns-3 c = cc
 
 returns-4 : tie.Need-returns-4
-unfolding datesRelate
+unfolding dates_relate
 returns-4 c = cc
 
 returns-5 : tie.Need-returns-5
-unfolding datesRelate
+unfolding dates_relate
 returns-5 c = cc
 
 returns-6 : tie.Need-returns-6
-unfolding datesRelate
+unfolding dates_relate
 returns-6 c = cc
 
 returns-7 : tie.Need-returns-7
-unfolding datesRelate
+unfolding dates_relate
 returns-7 c = cc
 
 returns-8 : tie.Need-returns-8
-unfolding datesRelate
+unfolding dates_relate
 returns-8 c = cc
 
 returns-9 : tie.Need-returns-9
-unfolding datesRelate
+unfolding dates_relate
 returns-9 c = cc
 
 pub dates-relate-spec : {M : Type 1} → statement M

@@ -1,7 +1,7 @@
 -- `kind::relate::number_readings_relate` meets its contract: the text is read, and what is read keeps to the bounds. Assumes nothing.
 use borrow.Author.Rules.{rules}
-use Rattle.number.proofs.Spelling.{number-bounded}
-use Rattle.kind.proofs.Values.{numbers-unreadable, value-unreadable, numbers-relate}
+use Rattle.number.proofs.Spelling.{number_bounded}
+use Rattle.kind.proofs.Values.{numbers_unreadable, value_unreadable, numbers-relate}
 use Rattle.kind.proofs.relate.number_readings_relate.Statement.{statement}
 use Rattle.kind.proofs.relate.number_readings_relate.Tie as tie
 
@@ -15,7 +15,7 @@ enum_told : tie.Need-enum-told
 enum_told c = search rules
 
 returns : tie.Need-returns
-returns c = search (numbers-unreadable, rules)
+returns c = search (numbers_unreadable, rules)
 
 enum-known-value : tie.Need-enum-known-value
 enum-known-value c = search rules
@@ -24,10 +24,10 @@ enum-told-2 : tie.Need-enum-told-2
 enum-told-2 c = search rules
 
 returns-2 : tie.Need-returns-2
-returns-2 c = search (value-unreadable, rules)
+returns-2 c = search (value_unreadable, rules)
 
 numbers-relate-requires : tie.Need-numbers-relate-requires
-numbers-relate-requires c κs = (search (number-bounded, rules), search (c.before.before.before.before.before.before.before.before.requires.bounded, rules))
+numbers-relate-requires c κs = (search (number_bounded, rules), search (c.before.before.before.before.before.before.before.before.requires.bounded, rules))
 
 returns-3 : tie.Need-returns-3
 returns-3 c = search (numbers-relate, rules)

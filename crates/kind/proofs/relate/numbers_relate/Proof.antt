@@ -1,6 +1,6 @@
 -- `kind::relate::numbers_relate` meets its contract: each arm is a case of the definition. Assumes nothing.
 use borrow.Author.Rules.{rules}
-use Rattle.kind.specs.Relations.{numbersRelate}
+use Rattle.kind.specs.Relations.{numbers_relate}
 use Rattle.kind.proofs.relate.numbers_relate.Statement.{statement}
 use Rattle.kind.proofs.relate.numbers_relate.Tie as tie
 
@@ -41,27 +41,27 @@ covers-requires : tie.Need-covers-requires
 covers-requires c κs = search rules
 
 returns : tie.Need-returns
-unfolding numbersRelate
+unfolding numbers_relate
 returns c = cc
 
 returns-2 : tie.Need-returns-2
-unfolding numbersRelate
+unfolding numbers_relate
 returns-2 c = cc
 
 returns-3 : tie.Need-returns-3
-unfolding numbersRelate
+unfolding numbers_relate
 returns-3 c = cc
 
 returns-4 : tie.Need-returns-4
-unfolding numbersRelate
+unfolding numbers_relate
 returns-4 c = cc
 
 returns-5 : tie.Need-returns-5
-unfolding numbersRelate
+unfolding numbers_relate
 returns-5 c = cc
 
 returns-6 : tie.Need-returns-6
-unfolding numbersRelate
+unfolding numbers_relate
 returns-6 c = cc
 
 pub numbers-relate-spec : {M : Type 1} → statement M

@@ -1,6 +1,6 @@
 -- `kind::relate::readings_of` meets its contract: each arm is a case of the definition. Assumes nothing.
 use borrow.Author.Rules.{rules}
-use Rattle.kind.specs.Relations.{readingsOf}
+use Rattle.kind.specs.Relations.{readings_of}
 use Rattle.kind.proofs.relate.readings_of.Statement.{statement}
 use Rattle.kind.proofs.relate.readings_of.Tie as tie
 
@@ -35,23 +35,23 @@ unread-requires-3 : tie.Need-unread-requires-3
 unread-requires-3 c κs = search rules
 
 returns : tie.Need-returns
-unfolding readingsOf
+unfolding readings_of
 returns c = cc
 
 returns-2 : tie.Need-returns-2
-unfolding readingsOf
+unfolding readings_of
 returns-2 c = cc
 
 returns-3 : tie.Need-returns-3
-unfolding readingsOf
+unfolding readings_of
 returns-3 c = cc
 
 returns-4 : tie.Need-returns-4
-unfolding readingsOf
+unfolding readings_of
 returns-4 c = cc
 
 returns-5 : tie.Need-returns-5
-unfolding readingsOf
+unfolding readings_of
 returns-5 c = cc
 
 pub readings-of-spec : {M : Type 1} → statement M

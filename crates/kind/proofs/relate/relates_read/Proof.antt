@@ -1,7 +1,7 @@
 -- `kind::relate::relates_read` meets its contract: each arm is a case of the definition. Assumes nothing.
 use borrow.Author.Rules.{rules}
-use Rattle.kind.specs.Relations.{relatesRead}
-use Rattle.kind.proofs.Values.{dates-read}
+use Rattle.kind.specs.Relations.{relates_read}
+use Rattle.kind.proofs.Values.{dates_read}
 use Rattle.kind.proofs.relate.relates_read.Statement.{statement}
 use Rattle.kind.proofs.relate.relates_read.Tie as tie
 
@@ -36,22 +36,22 @@ same-requires : tie.Need-same-requires
 same-requires c κs = search rules
 
 returns : tie.Need-returns
-unfolding relatesRead
+unfolding relates_read
 returns c = cc
 
 returns-2 : tie.Need-returns-2
-unfolding relatesRead
+unfolding relates_read
 returns-2 c = cc
 
 returns-3 : tie.Need-returns-3
-returns-3 c = search (dates-read, rules)
+returns-3 c = search (dates_read, rules)
 
 returns-4 : tie.Need-returns-4
-unfolding relatesRead
+unfolding relates_read
 returns-4 c = cc
 
 returns-5 : tie.Need-returns-5
-unfolding relatesRead
+unfolding relates_read
 returns-5 c = cc
 
 pub relates-read-spec : {M : Type 1} → statement M

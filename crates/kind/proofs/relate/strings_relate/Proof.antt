@@ -1,6 +1,6 @@
 -- `kind::relate::strings_relate` meets its contract: each arm is a case of the definition. Assumes nothing.
 use borrow.Author.Rules.{rules}
-use Rattle.kind.specs.Relations.{stringsRelate}
+use Rattle.kind.specs.Relations.{strings_relate}
 use Rattle.kind.proofs.relate.strings_relate.Statement.{statement}
 use Rattle.kind.proofs.relate.strings_relate.Tie as tie
 
@@ -29,19 +29,19 @@ ends-requires : tie.Need-ends-requires
 ends-requires c κs = search rules
 
 returns : tie.Need-returns
-unfolding stringsRelate
+unfolding strings_relate
 returns c = cc
 
 returns-2 : tie.Need-returns-2
-unfolding stringsRelate
+unfolding strings_relate
 returns-2 c = cc
 
 returns-3 : tie.Need-returns-3
-unfolding stringsRelate
+unfolding strings_relate
 returns-3 c = cc
 
 returns-4 : tie.Need-returns-4
-unfolding stringsRelate
+unfolding strings_relate
 returns-4 c = cc
 
 pub strings-relate-spec : {M : Type 1} → statement M

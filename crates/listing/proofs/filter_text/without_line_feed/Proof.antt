@@ -1,11 +1,11 @@
 -- `listing::filter_text::without_line_feed` meets its contract. Assumes nothing.
 use borrow.Author.Rules.{rules}
-use Rattle.listing.proofs.FilterText.{feed-empty, feed-none, feed-dropped}
+use Rattle.listing.proofs.FilterText.{feed_empty, feed_none, feed_dropped}
 use Rattle.listing.proofs.filter_text.without_line_feed.Statement.{statement}
 use Rattle.listing.proofs.filter_text.without_line_feed.Tie as tie
 
 returns : tie.Need-returns
-returns c = search (feed-empty, rules)
+returns c = search (feed_empty, rules)
 
 sub-last : tie.Need-overflow-sub-last
 sub-last c = search rules
@@ -14,7 +14,7 @@ shared-slice-read-if2 : tie.Need-shared-slice-read-if2
 shared-slice-read-if2 c = search rules
 
 returns-2 : tie.Need-returns-2
-returns-2 c = search (feed-none, rules)
+returns-2 c = search (feed_none, rules)
 
 sub-result : tie.Need-overflow-sub-result
 sub-result c = search rules
@@ -26,7 +26,7 @@ part-result-end : tie.Need-slice-bounds-result-end
 part-result-end c = search rules
 
 returns-3 : tie.Need-returns-3
-returns-3 c = search (feed-dropped, rules)
+returns-3 c = search (feed_dropped, rules)
 
 pub without-line-feed-spec : {M : Type 1} → statement M
 without-line-feed-spec =

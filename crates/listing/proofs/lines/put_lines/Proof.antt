@@ -2,7 +2,7 @@
 use Prim.Native.Nat.{◌-◌}
 use native.Mathlib.Omega.{arith}
 use lib.ListN.{length}
-use Rattle.listing.proofs.Putting.{LinesPut, lines-begin, lines-within, lines_long, line-room, line-within, line-put, lines_end}
+use Rattle.listing.proofs.Putting.{LinesPut, lines_begin, lines-within, lines_long, line_room, line_within, line_put, lines_end}
 use borrow.Author.Rules.{rules}
 use Rattle.listing.proofs.lines.put_lines.Statement.{statement}
 use Rattle.listing.proofs.lines.put_lines.Tie as tie
@@ -14,7 +14,7 @@ abbrev decreases-loop : tie.decreases-loop
 decreases-loop numbers out₀ at₀ i₀ out at i = length numbers - i
 
 loop-holds : tie.Need-loop-init invariant-loop decreases-loop
-loop-holds c = lines-begin _ _ (λ i. omega (arith, c.before.shared-slice-known.given i)) (search rules)
+loop-holds c = lines_begin _ _ (λ i. omega (arith, c.before.shared-slice-known.given i)) (search rules)
 
 mul_wide : tie.Need-overflow-mul-wide invariant-loop decreases-loop
 mul_wide c = search rules
@@ -35,10 +35,10 @@ part-put-line-end : tie.Need-slice-bounds-put-line-end invariant-loop decreases-
 part-put-line-end c = search rules
 
 put-line-requires : tie.Need-put-line-requires invariant-loop decreases-loop
-put-line-requires c κs = search (line-room, rules)
+put-line-requires c κs = search (line_room, rules)
 
 add_at : tie.Need-overflow-add-at invariant-loop decreases-loop
-add_at c = record { fits = omega (arith, line-within c.before.before.before.before.before.before.before.loop.invariant (search rules) c.before.before.before.before.wide.ensures c.before.before.put-line.ensures) }
+add_at c = record { fits = omega (arith, line_within c.before.before.before.before.before.before.before.loop.invariant (search rules) c.before.before.before.before.wide.ensures c.before.before.put-line.ensures) }
 
 add-i : tie.Need-overflow-add-i invariant-loop decreases-loop
 add-i c = search rules
@@ -47,7 +47,7 @@ loop-less : tie.Need-loop-smaller invariant-loop decreases-loop
 loop-less c = search rules
 
 loop-again : tie.Need-loop-preserved invariant-loop decreases-loop
-loop-again c = search (line-put, rules)
+loop-again c = search (line_put, rules)
 
 same_length : tie.Need-same-length invariant-loop decreases-loop
 same_length c = search (lines_long, rules)

@@ -1,12 +1,12 @@
 -- `listing::lines::put_words` meets its contract: one word stands behind the other. Assumes nothing.
-use Rattle.base.proofs.Writing.{first-room, first-within, last-room}
-use Rattle.listing.proofs.Putting.{two-puts}
+use Rattle.base.proofs.Writing.{first_room, first-within, last_room}
+use Rattle.listing.proofs.Putting.{two_puts}
 use borrow.Author.Rules.{rules}
 use Rattle.listing.proofs.lines.put_words.Statement.{statement}
 use Rattle.listing.proofs.lines.put_words.Tie as tie
 
 write-word-requires : tie.Need-write-word-requires
-write-word-requires c κs = search (first-room, rules)
+write-word-requires c κs = search (first_room, rules)
 
 sub-write-word : tie.Need-overflow-sub-write-word
 sub-write-word c = search (first-within, rules)
@@ -18,7 +18,7 @@ part-write-word-end : tie.Need-slice-bounds-write-word-end
 part-write-word-end c = search rules
 
 write-word-requires-2 : tie.Need-write-word-requires-2
-write-word-requires-2 c κs = search (last-room, rules)
+write-word-requires-2 c κs = search (last_room, rules)
 
 add-result : tie.Need-overflow-add-result
 add-result c = search rules
@@ -27,7 +27,7 @@ same_length : tie.Need-same-length
 same_length c = search rules
 
 returns : tie.Need-returns
-returns c = search (two-puts, rules)
+returns c = search (two_puts, rules)
 
 pub put-words-spec : {M : Type 1} → statement M
 put-words-spec =

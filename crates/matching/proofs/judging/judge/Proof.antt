@@ -1,7 +1,7 @@
 -- `matching::judging::judge` meets its contract: the sheet first. Assumes nothing.
 use borrow.Author.Rules.{rules}
 use mathlib.Core.Path.{sym, ◌∙◌}
-use Rattle.matching.proofs.RowsJudged.{judge-size, judge-sum, judge-layout, judge-right}
+use Rattle.matching.proofs.RowsJudged.{judge_size, judge_sum, judge_layout, judge_right}
 use Rattle.matching.proofs.judging.judge.Statement.{statement}
 use Rattle.matching.proofs.judging.judge.Tie as tie
 
@@ -33,16 +33,16 @@ refuse-requires-3 : tie.Need-refuse-requires-3
 refuse-requires-3 c κs = search rules
 
 returns : tie.Need-returns
-returns c = search (judge-right, rules)
+returns c = search (judge_right, rules)
 
 returns-2 : tie.Need-returns-2
-returns-2 c = search (judge-size, rules)
+returns-2 c = search (judge_size, rules)
 
 returns-3 : tie.Need-returns-3
-returns-3 c = search (judge-sum, rules)
+returns-3 c = search (judge_sum, rules)
 
 returns-4 : tie.Need-returns-4
-returns-4 c = search (judge-layout, rules)
+returns-4 c = search (judge_layout, rules)
 
 pub judge-spec : {M : Type 1} → statement M
 judge-spec =

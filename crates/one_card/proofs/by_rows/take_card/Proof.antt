@@ -1,6 +1,6 @@
 -- `one_card::by_rows::take_card` meets its contract: what reading says of the card decides. Assumes nothing.
 use borrow.Author.Rules.{rules}
-use Rattle.one_card.proofs.Judging.{card-known, takes-size, takes-sum, takes-layout, takes-misfit, takes-conforming}
+use Rattle.one_card.proofs.Judging.{card-known, takes_size, takes_sum, takes_layout, takes_misfit, takes_conforming}
 use Rattle.one_card.proofs.by_rows.take_card.Statement.{statement}
 use Rattle.one_card.proofs.by_rows.take_card.Tie as tie
 
@@ -20,7 +20,7 @@ same-length-2 : tie.Need-same-length-2
 same-length-2 c = search rules
 
 returns : tie.Need-returns
-returns c = search (takes-conforming, rules)
+returns c = search (takes_conforming, rules)
 
 enum-told-2 : tie.Need-enum-told-2
 enum-told-2 c = search rules
@@ -38,16 +38,16 @@ same-length-4 : tie.Need-same-length-4
 same-length-4 c = search rules
 
 returns-2 : tie.Need-returns-2
-returns-2 c = search (takes-misfit, rules)
+returns-2 c = search (takes_misfit, rules)
 
 returns-3 : tie.Need-returns-3
-returns-3 c = search (takes-size, rules)
+returns-3 c = search (takes_size, rules)
 
 returns-4 : tie.Need-returns-4
-returns-4 c = search (takes-sum, rules)
+returns-4 c = search (takes_sum, rules)
 
 returns-5 : tie.Need-returns-5
-returns-5 c = search (takes-layout, rules)
+returns-5 c = search (takes_layout, rules)
 
 pub take-card-spec : {M : Type 1} → statement M
 take-card-spec =

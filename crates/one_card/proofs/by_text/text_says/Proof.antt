@@ -1,7 +1,7 @@
 -- `one_card::by_text::text_says` meets its contract. Assumes nothing.
 use borrow.Author.Rules.{rules}
 use Rattle.filter.proofs.Walk.{top_within}
-use Rattle.one_card.proofs.Judging.{says-done, says_nothing}
+use Rattle.one_card.proofs.Judging.{says_done, says_nothing}
 use Rattle.one_card.proofs.by_text.text_says.Statement.{statement}
 use Rattle.one_card.proofs.by_text.text_says.Tie as tie
 
@@ -18,7 +18,7 @@ enum_told : tie.Need-enum-told
 enum_told c = search rules
 
 returns : tie.Need-returns
-returns c = search (says-done, rules)
+returns c = search (says_done, rules)
 
 returns-2 : tie.Need-returns-2
 returns-2 c = search (says_nothing, rules)

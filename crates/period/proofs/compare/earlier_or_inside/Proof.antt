@@ -1,7 +1,7 @@
 -- `period::compare::earlier_or_inside` meets its contract: the two tests are those of the definition. Assumes nothing.
 use borrow.Author.Rules.{rules}
-use Rattle.base.proofs.Tests.{or-on, or_off}
-use Rattle.period.specs.Relations.{earlierOrInside}
+use Rattle.base.proofs.Tests.{or_on, or_off}
+use Rattle.period.specs.Relations.{earlier_or_inside}
 use Rattle.period.proofs.compare.earlier_or_inside.Statement.{statement}
 use Rattle.period.proofs.compare.earlier_or_inside.Tie as tie
 
@@ -12,11 +12,11 @@ inside-requires : tie.Need-inside-requires
 inside-requires c κs = search rules
 
 returns : tie.Need-returns
-unfolding earlierOrInside
-returns c = search (or-on, rules)
+unfolding earlier_or_inside
+returns c = search (or_on, rules)
 
 returns-2 : tie.Need-returns-2
-unfolding earlierOrInside
+unfolding earlier_or_inside
 returns-2 c = search (or_off, rules)
 
 pub earlier-or-inside-spec : {M : Type 1} → statement M

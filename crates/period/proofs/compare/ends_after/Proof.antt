@@ -1,6 +1,6 @@
 -- `period::compare::ends_after` meets its contract: a missing end lies behind every instant, and a known one is compared. Assumes nothing.
 use borrow.Author.Rules.{rules}
-use Rattle.period.proofs.Tests.{ends-after-open, ends-after-at}
+use Rattle.period.proofs.Tests.{ends-after_open, ends-after-at}
 use Rattle.period.proofs.compare.ends_after.Statement.{statement}
 use Rattle.period.proofs.compare.ends_after.Tie as tie
 
@@ -11,7 +11,7 @@ enum-known-end : tie.Need-enum-known-end
 enum-known-end c = search rules
 
 returns : tie.Need-returns
-returns c = search (ends-after-open, rules)
+returns c = search (ends-after_open, rules)
 
 returns-2 : tie.Need-returns-2
 returns-2 c = search (ends-after-at, rules)

@@ -1,6 +1,6 @@
 -- `period::compare::ends_no_earlier` meets its contract: a missing end lies behind every instant, and a known one is compared. Assumes nothing.
 use borrow.Author.Rules.{rules}
-use Rattle.period.proofs.Tests.{ends-no-earlier-open, ends-no-earlier-at}
+use Rattle.period.proofs.Tests.{ends_no_earlier_open, ends_no_earlier-at}
 use Rattle.period.proofs.compare.ends_no_earlier.Statement.{statement}
 use Rattle.period.proofs.compare.ends_no_earlier.Tie as tie
 
@@ -11,10 +11,10 @@ enum-known-end : tie.Need-enum-known-end
 enum-known-end c = search rules
 
 returns : tie.Need-returns
-returns c = search (ends-no-earlier-open, rules)
+returns c = search (ends_no_earlier_open, rules)
 
 returns-2 : tie.Need-returns-2
-returns-2 c = search (ends-no-earlier-at, rules)
+returns-2 c = search (ends_no_earlier-at, rules)
 
 pub ends-no-earlier-spec : {M : Type 1} → statement M
 ends-no-earlier-spec = tie.close (tie.spec enum_told enum-known-end returns returns-2)

@@ -1,6 +1,6 @@
 -- `period::compare::overlaps` meets its contract: the two tests are those of the definition. Assumes nothing.
 use borrow.Author.Rules.{rules}
-use Rattle.base.proofs.Tests.{and-on, and-off}
+use Rattle.base.proofs.Tests.{and_on, and_off}
 use Rattle.period.specs.Relations.{overlaps}
 use Rattle.period.proofs.compare.overlaps.Statement.{statement}
 use Rattle.period.proofs.compare.overlaps.Tie as tie
@@ -13,11 +13,11 @@ ends-after-start-requires c κs = search rules
 
 returns : tie.Need-returns
 unfolding overlaps
-returns c = search (and-on, rules)
+returns c = search (and_on, rules)
 
 returns-2 : tie.Need-returns-2
 unfolding overlaps
-returns-2 c = search (and-off, rules)
+returns-2 c = search (and_off, rules)
 
 pub overlaps-spec : {M : Type 1} → statement M
 overlaps-spec =

@@ -1,6 +1,6 @@
 -- `period::compare::starts_before` meets its contract: a missing start lies before every instant, and a known one is compared. Assumes nothing.
 use borrow.Author.Rules.{rules}
-use Rattle.period.proofs.Tests.{starts-before-open, starts-before-at}
+use Rattle.period.proofs.Tests.{starts-before_open, starts-before-at}
 use Rattle.period.proofs.compare.starts_before.Statement.{statement}
 use Rattle.period.proofs.compare.starts_before.Tie as tie
 
@@ -11,7 +11,7 @@ enum-known-start : tie.Need-enum-known-start
 enum-known-start c = search rules
 
 returns : tie.Need-returns
-returns c = search (starts-before-open, rules)
+returns c = search (starts-before_open, rules)
 
 returns-2 : tie.Need-returns-2
 returns-2 c = search (starts-before-at, rules)

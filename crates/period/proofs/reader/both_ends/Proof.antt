@@ -1,6 +1,6 @@
 -- `period::reader::both_ends` meets its contract: both are read. Assumes nothing.
 use borrow.Author.Rules.{rules}
-use Rattle.period.proofs.Texts.{first-unreadable, second-unreadable, both-readable}
+use Rattle.period.proofs.Texts.{first_unreadable, second_unreadable, both-readable}
 use Rattle.period.proofs.reader.both_ends.Statement.{statement}
 use Rattle.period.proofs.reader.both_ends.Tie as tie
 
@@ -14,7 +14,7 @@ enum_told : tie.Need-enum-told
 enum_told c = search rules
 
 returns : tie.Need-returns
-returns c = search (first-unreadable, rules)
+returns c = search (first_unreadable, rules)
 
 read-requires-2 : tie.Need-read-requires-2
 read-requires-2 c κs = search rules
@@ -26,7 +26,7 @@ enum-told-2 : tie.Need-enum-told-2
 enum-told-2 c = search rules
 
 returns-2 : tie.Need-returns-2
-returns-2 c = search (second-unreadable, rules)
+returns-2 c = search (second_unreadable, rules)
 
 from-to-requires : tie.Need-from-to-requires
 from-to-requires c κs = search rules

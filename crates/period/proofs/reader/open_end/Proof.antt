@@ -1,6 +1,6 @@
 -- `period::reader::open_end` meets its contract: the first is read. Assumes nothing.
 use borrow.Author.Rules.{rules}
-use Rattle.period.proofs.Texts.{end-unreadable, end-open}
+use Rattle.period.proofs.Texts.{end_unreadable, end_open}
 use Rattle.period.proofs.reader.open_end.Statement.{statement}
 use Rattle.period.proofs.reader.open_end.Tie as tie
 
@@ -14,10 +14,10 @@ enum_told : tie.Need-enum-told
 enum_told c = search rules
 
 returns : tie.Need-returns
-returns c = search (end-unreadable, rules)
+returns c = search (end_unreadable, rules)
 
 returns-2 : tie.Need-returns-2
-returns-2 c = search (end-open, rules)
+returns-2 c = search (end_open, rules)
 
 pub open-end-spec : {M : Type 1} → statement M
 open-end-spec = tie.close (tie.spec read-requires enum-known-a enum_told returns returns-2)

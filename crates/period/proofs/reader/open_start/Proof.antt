@@ -1,6 +1,6 @@
 -- `period::reader::open_start` meets its contract: the second is read. Assumes nothing.
 use borrow.Author.Rules.{rules}
-use Rattle.period.proofs.Texts.{start-unreadable, start-open}
+use Rattle.period.proofs.Texts.{start_unreadable, start_open}
 use Rattle.period.proofs.reader.open_start.Statement.{statement}
 use Rattle.period.proofs.reader.open_start.Tie as tie
 
@@ -14,10 +14,10 @@ enum_told : tie.Need-enum-told
 enum_told c = search rules
 
 returns : tie.Need-returns
-returns c = search (start-open, rules)
+returns c = search (start_open, rules)
 
 returns-2 : tie.Need-returns-2
-returns-2 c = search (start-unreadable, rules)
+returns-2 c = search (start_unreadable, rules)
 
 pub open-start-spec : {M : Type 1} → statement M
 open-start-spec = tie.close (tie.spec read-requires enum-known-b enum_told returns returns-2)

@@ -2,7 +2,7 @@
 use borrow.Author.Rules.{rules}
 use native.Mathlib.Omega.{arith}
 use lib.ListN.{length-take}
-use Rattle.period.proofs.Texts.{read-parts, read_whole}
+use Rattle.period.proofs.Texts.{read_parts_lem, read_whole}
 use Rattle.period.proofs.reader.read.Statement.{statement}
 use Rattle.period.proofs.reader.read.Tie as tie
 
@@ -28,7 +28,7 @@ read-parts-requires : tie.Need-read-parts-requires
 read-parts-requires c κs = search rules
 
 returns : tie.Need-returns
-returns c = search (read-parts, rules)
+returns c = search (read_parts_lem, rules)
 
 returns-2 : tie.Need-returns-2
 returns-2 c = search (read_whole, rules)

@@ -1,6 +1,6 @@
 -- `period::reader::read_span` meets its contract: a date is its period, and any other text is read as one. Assumes nothing.
 use borrow.Author.Rules.{rules}
-use Rattle.period.proofs.Texts.{span-date, span-period}
+use Rattle.period.proofs.Texts.{span_date, span_period}
 use Rattle.period.proofs.reader.read_span.Statement.{statement}
 use Rattle.period.proofs.reader.read_span.Tie as tie
 
@@ -20,10 +20,10 @@ read-requires-2 : tie.Need-read-requires-2
 read-requires-2 c κs = search rules
 
 returns : tie.Need-returns
-returns c = search (span-date, rules)
+returns c = search (span_date, rules)
 
 returns-2 : tie.Need-returns-2
-returns-2 c = search (span-period, rules)
+returns-2 c = search (span_period, rules)
 
 pub read-span-spec : {M : Type 1} → statement M
 read-span-spec =

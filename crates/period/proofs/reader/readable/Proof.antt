@@ -1,6 +1,6 @@
 -- `period::reader::readable` meets its contract: it tells the two readings apart. Assumes nothing.
 use borrow.Author.Rules.{rules}
-use Rattle.period.proofs.Texts.{readable-on, readable-off}
+use Rattle.period.proofs.Texts.{readable-on, readable_off}
 use Rattle.period.proofs.reader.readable.Statement.{statement}
 use Rattle.period.proofs.reader.readable.Tie as tie
 
@@ -17,7 +17,7 @@ returns : tie.Need-returns
 returns c = search (readable-on, rules)
 
 returns-2 : tie.Need-returns-2
-returns-2 c = search (readable-off, rules)
+returns-2 c = search (readable_off, rules)
 
 pub readable-spec : {M : Type 1} → statement M
 readable-spec = tie.close (tie.spec read-requires enum_told enum-told-2 returns returns-2)

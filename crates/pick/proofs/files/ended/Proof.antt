@@ -2,7 +2,7 @@
 use mir.ValLaws.{to_z-of_z}
 use mir.Syntax.{w64}
 use borrow.Author.Rules.{rules}
-use Rattle.pick.proofs.Bounds.{ended-failed, ended-bytes}
+use Rattle.pick.proofs.Bounds.{ended_failed, ended-bytes}
 use Rattle.pick.proofs.files.ended.Statement.{statement}
 use Rattle.pick.proofs.files.ended.Tie as tie
 
@@ -10,7 +10,7 @@ has-failed-requires : tie.Need-has-failed-requires
 has-failed-requires c κs = search rules
 
 returns : tie.Need-returns
-returns c = ended-failed _ _ _ _ c.before.has-failed.ensures (to_z-of_z w64 _ (search rules)) (search rules)
+returns c = ended_failed _ _ _ _ c.before.has-failed.ensures (to_z-of_z w64 _ (search rules)) (search rules)
 
 returns-2 : tie.Need-returns-2
 returns-2 c = ended-bytes _ _ _ _ c.before.has-failed.ensures (to_z-of_z w64 _ (search rules)) (search rules)

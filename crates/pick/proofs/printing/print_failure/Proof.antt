@@ -1,5 +1,5 @@
 -- `pick::printing::print_failure` meets its contract: the line has room in its buffer. Assumes nothing.
-use Rattle.listing.proofs.Putting.{failure-room, puts-within}
+use Rattle.listing.proofs.Putting.{failure_room, puts_within}
 use borrow.Author.Rules.{rules}
 use Rattle.pick.proofs.printing.print_failure.Statement.{statement}
 use Rattle.pick.proofs.printing.print_failure.Tie as tie
@@ -8,7 +8,7 @@ slice-aggregate-put-failure : tie.Need-slice-aggregate-put-failure
 slice-aggregate-put-failure c = search rules
 
 put-failure-requires : tie.Need-put-failure-requires
-put-failure-requires c κs = failure-room _ c.before.before.before.args.file.now c.before.before.before.args.done.now (search rules)
+put-failure-requires c κs = failure_room _ c.before.before.before.args.file.now c.before.before.before.args.done.now (search rules)
 
 sub-print : tie.Need-overflow-sub-print
 sub-print c = search rules
@@ -17,7 +17,7 @@ part-print-start : tie.Need-slice-bounds-print-start
 part-print-start c = search rules
 
 part-print-end : tie.Need-slice-bounds-print-end
-part-print-end c = search (puts-within, rules)
+part-print-end c = search (puts_within, rules)
 
 print-requires : tie.Need-print-requires
 print-requires c κs = search rules

@@ -5,16 +5,16 @@ use native.Mathlib.Omega.{arith}
 use mathlib.Core.Path.{◌≡◌}
 use lib.ListN.{length}
 use borrow.Author.Rules.{rules}
-use Rattle.listing.specs.Totals.{mostCards}
+use Rattle.listing.specs.Totals.{most_cards}
 use Rattle.pick.proofs.Bounds.{more_added}
 use Rattle.pick.proofs.runs.print_matches.Statement.{statement}
 use Rattle.pick.proofs.runs.print_matches.Tie as tie
 
 abbrev invariant-loop : tie.invariant-loop
-invariant-loop sheet filter fd buffer₀ totals₀ buffer totals = (length buffer ≡ 65536) × (totals.matches ≤ totals.cards) × (totals.cards < mostCards + 128)
+invariant-loop sheet filter fd buffer₀ totals₀ buffer totals = (length buffer ≡ 65536) × (totals.matches ≤ totals.cards) × (totals.cards < most_cards + 128)
 
 abbrev decreases-loop : tie.decreases-loop
-decreases-loop sheet filter fd buffer₀ totals₀ buffer totals = mostCards + 128 - totals.cards
+decreases-loop sheet filter fd buffer₀ totals₀ buffer totals = most_cards + 128 - totals.cards
 
 loop-holds : tie.Need-loop-init invariant-loop decreases-loop
 loop-holds c = search rules

@@ -1,7 +1,7 @@
 -- `pick::runs::print_run` meets its contract: the text stands within its buffer, and the turn is the run's.
 -- Assumes nothing.
-use Rattle.pick.proofs.Selecting.{run-added}
-use Rattle.listing.proofs.Putting.{puts-within}
+use Rattle.pick.proofs.Selecting.{run_added}
+use Rattle.listing.proofs.Putting.{puts_within}
 use borrow.Author.Rules.{rules}
 use Rattle.pick.proofs.runs.print_run.Statement.{statement}
 use Rattle.pick.proofs.runs.print_run.Tie as tie
@@ -19,7 +19,7 @@ part-print-start : tie.Need-slice-bounds-print-start
 part-print-start c = search rules
 
 part-print-end : tie.Need-slice-bounds-print-end
-part-print-end c = search (puts-within, rules)
+part-print-end c = search (puts_within, rules)
 
 print-requires : tie.Need-print-requires
 print-requires c κs = search rules
@@ -28,7 +28,7 @@ returns : tie.Need-returns
 returns c = search rules
 
 returns-2 : tie.Need-returns-2
-returns-2 c = search (run-added, rules)
+returns-2 c = search (run_added, rules)
 
 pub print-run-spec : {M : Type 1} → statement M
 print-run-spec =

@@ -1,8 +1,8 @@
 -- `pick::runs::put_run` meets its contract: select counts no more than the list holds and refuses a card at its index, and what it lists stands line by line.
 -- Assumes nothing.
 use native.Mathlib.Omega.{arith}
-use Rattle.pick.proofs.Selecting.{selected-count, selected-place, selected-run, refused-run}
-use Rattle.listing.proofs.Putting.{refusal-room}
+use Rattle.pick.proofs.Selecting.{selected_count, selected_place, selected_run, refused_run}
+use Rattle.listing.proofs.Putting.{refusal_room}
 use borrow.Author.Rules.{rules}
 use Rattle.pick.proofs.runs.put_run.Statement.{statement}
 use Rattle.pick.proofs.runs.put_run.Tie as tie
@@ -17,7 +17,7 @@ enum-known-selected : tie.Need-enum-known-selected
 enum-known-selected c = search rules
 
 add-run-requires : tie.Need-add-run-requires
-add-run-requires c κs = (search rules, (omega (arith, selected-count _ _ _ _ c.before.before.before.before.select.ensures _ c.before.selected.given.1), search rules))
+add-run-requires c κs = (search rules, (omega (arith, selected_count _ _ _ _ c.before.before.before.before.select.ensures _ c.before.selected.given.1), search rules))
 
 sub-put-listed : tie.Need-overflow-sub-put-listed
 sub-put-listed c = search rules
@@ -26,10 +26,10 @@ part-put-listed-start : tie.Need-slice-bounds-put-listed-start
 part-put-listed-start c = search rules
 
 part-put-listed-end : tie.Need-slice-bounds-put-listed-end
-part-put-listed-end c = omega (arith, selected-count _ _ _ _ c.before.before.before.before.before.before.select.ensures _ c.before.before.before.selected.given.1)
+part-put-listed-end c = omega (arith, selected_count _ _ _ _ c.before.before.before.before.before.before.select.ensures _ c.before.before.before.selected.given.1)
 
 put-listed-requires : tie.Need-put-listed-requires
-put-listed-requires c κs = (omega (arith, selected-count _ _ _ _ c.before.before.before.before.before.before.before.before.select.ensures _ c.before.before.before.before.before.selected.given.1), search rules)
+put-listed-requires c κs = (omega (arith, selected_count _ _ _ _ c.before.before.before.before.before.before.before.before.select.ensures _ c.before.before.before.before.before.selected.given.1), search rules)
 
 enum-known-selected-2 : tie.Need-enum-known-selected-2
 enum-known-selected-2 c = search rules
@@ -38,25 +38,25 @@ number-requires : tie.Need-number-requires
 number-requires c κs = search rules
 
 place-in-file-requires : tie.Need-place-in-file-requires
-place-in-file-requires c κs = (rw c.number.ensures (selected-place _ _ _ _ c.before.before.before.before.before.select.ensures _ c.before.before.selected2.given.1), search rules)
+place-in-file-requires c κs = (rw c.number.ensures (selected_place _ _ _ _ c.before.before.before.before.before.select.ensures _ c.before.before.selected2.given.1), search rules)
 
 wide-requires : tie.Need-wide-requires
 wide-requires c κs = search rules
 
 put-refusal-requires : tie.Need-put-refusal-requires
-put-refusal-requires c κs = refusal-room _ _ _ (search rules) (search rules) (search rules)
+put-refusal-requires c κs = refusal_room _ _ _ (search rules) (search rules) (search rules)
 
 same_length : tie.Need-same-length
 same_length c = search rules
 
 returns : tie.Need-returns
-returns c = selected-run _ _ _ _ c.before.before.before.before.before.before.before.before.before.before.before.select.ensures (search rules) _ c.before.before.before.before.before.before.before.before.selected.given.1 _ c.before.before.before.before.before.before.add-run.ensures _ c.before.before.put-listed.ensures
+returns c = selected_run _ _ _ _ c.before.before.before.before.before.before.before.before.before.before.before.select.ensures (search rules) _ c.before.before.before.before.before.before.before.before.selected.given.1 _ c.before.before.before.before.before.before.add-run.ensures _ c.before.before.put-listed.ensures
 
 same-length-2 : tie.Need-same-length-2
 same-length-2 c = search rules
 
 returns-2 : tie.Need-returns-2
-returns-2 c = refused-run _ _ _ _ c.before.before.before.before.before.before.before.before.before.before.before.select.ensures (search rules) _ _ c.before.before.before.before.before.before.before.before.selected2.given.1 c.before.before.before.before.before.before.number.ensures c.before.before.before.before.wide.ensures c.before.before.before.before.before.place-in-file.ensures c.before.before.put-refusal.ensures
+returns-2 c = refused_run _ _ _ _ c.before.before.before.before.before.before.before.before.before.before.before.select.ensures (search rules) _ _ c.before.before.before.before.before.before.before.before.selected2.given.1 c.before.before.before.before.before.before.number.ensures c.before.before.before.before.wide.ensures c.before.before.before.before.before.place-in-file.ensures c.before.before.put-refusal.ensures
 
 pub put-run-spec : {M : Type 1} → statement M
 put-run-spec =

@@ -1,5 +1,5 @@
 -- `place::step::advance` meets its contract: each answer is a case of the definition. Assumes nothing.
-use Rattle.place.proofs.Stepping.{by_mode, from-within, member-within}
+use Rattle.place.proofs.Stepping.{by_mode_lem, from-within, member-within}
 use borrow.Author.Rules.{rules}
 use Rattle.place.proofs.step.advance.Statement.{statement}
 use Rattle.place.proofs.step.advance.Tie as tie
@@ -116,58 +116,58 @@ member-byte-requires : tie.Need-member-byte-requires
 member-byte-requires c κs = search (member-within, rules)
 
 returns : tie.Need-returns
-returns c = search (by_mode, rules)
+returns c = search (by_mode_lem, rules)
 
 returns-2 : tie.Need-returns-2
-returns-2 c = search (by_mode, rules)
+returns-2 c = search (by_mode_lem, rules)
 
 returns-3 : tie.Need-returns-3
-returns-3 c = search (by_mode, rules)
+returns-3 c = search (by_mode_lem, rules)
 
 returns-4 : tie.Need-returns-4
-returns-4 c = search (by_mode, rules)
+returns-4 c = search (by_mode_lem, rules)
 
 returns-5 : tie.Need-returns-5
-returns-5 c = search (by_mode, rules)
+returns-5 c = search (by_mode_lem, rules)
 
 returns-6 : tie.Need-returns-6
-returns-6 c = search (by_mode, rules)
+returns-6 c = search (by_mode_lem, rules)
 
 returns-7 : tie.Need-returns-7
-returns-7 c = search (by_mode, rules)
+returns-7 c = search (by_mode_lem, rules)
 
 returns-8 : tie.Need-returns-8
-returns-8 c = search (by_mode, rules)
+returns-8 c = search (by_mode_lem, rules)
 
 returns-9 : tie.Need-returns-9
-returns-9 c = search (by_mode, rules)
+returns-9 c = search (by_mode_lem, rules)
 
 returns-10 : tie.Need-returns-10
-returns-10 c = search (by_mode, rules)
+returns-10 c = search (by_mode_lem, rules)
 
 returns-11 : tie.Need-returns-11
-returns-11 c = search (by_mode, rules)
+returns-11 c = search (by_mode_lem, rules)
 
 returns-12 : tie.Need-returns-12
-returns-12 c = search (by_mode, rules)
+returns-12 c = search (by_mode_lem, rules)
 
 returns-13 : tie.Need-returns-13
-returns-13 c = search (by_mode, rules)
+returns-13 c = search (by_mode_lem, rules)
 
 returns-14 : tie.Need-returns-14
-returns-14 c = search (by_mode, rules)
+returns-14 c = search (by_mode_lem, rules)
 
 returns-15 : tie.Need-returns-15
-returns-15 c = search (by_mode, rules)
+returns-15 c = search (by_mode_lem, rules)
 
 returns-16 : tie.Need-returns-16
-returns-16 c = search (by_mode, rules)
+returns-16 c = search (by_mode_lem, rules)
 
 returns-17 : tie.Need-returns-17
-returns-17 c = search (by_mode, rules)
+returns-17 c = search (by_mode_lem, rules)
 
 returns-18 : tie.Need-returns-18
-returns-18 c = search (by_mode, rules)
+returns-18 c = search (by_mode_lem, rules)
 
 pub advance-spec : {M : Type 1} → statement M
 advance-spec =

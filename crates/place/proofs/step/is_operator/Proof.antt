@@ -1,5 +1,5 @@
 -- `place::step::is_operator` meets its contract: each answer is a case of the definition. Assumes nothing.
-use Rattle.place.proofs.Stepping.{operator-is, operator-none}
+use Rattle.place.proofs.Stepping.{operator_is, operator_none}
 use borrow.Author.Rules.{rules}
 use Rattle.place.proofs.step.is_operator.Statement.{statement}
 use Rattle.place.proofs.step.is_operator.Tie as tie
@@ -17,10 +17,10 @@ enum-told-2 : tie.Need-enum-told-2
 enum-told-2 c = search rules
 
 returns : tie.Need-returns
-returns c = search (operator-is, rules)
+returns c = search (operator_is, rules)
 
 returns-2 : tie.Need-returns-2
-returns-2 c = search (operator-none, rules)
+returns-2 c = search (operator_none, rules)
 
 pub is-operator-spec : {M : Type 1} → statement M
 is-operator-spec =

@@ -1,5 +1,5 @@
 -- `place::step::quoted_byte` meets its contract: each answer is a case of the definition. Assumes nothing.
-use Rattle.place.proofs.Stepping.{quoted-more, quoted-close, quoted-wrong}
+use Rattle.place.proofs.Stepping.{quoted_more, quoted_close, quoted_wrong}
 use borrow.Author.Rules.{rules}
 use Rattle.place.proofs.step.quoted_byte.Statement.{statement}
 use Rattle.place.proofs.step.quoted_byte.Tie as tie
@@ -23,13 +23,13 @@ enum-told-2 : tie.Need-enum-told-2
 enum-told-2 c = search rules
 
 returns : tie.Need-returns
-returns c = search (quoted-more, quoted-close, quoted-wrong, rules)
+returns c = search (quoted_more, quoted_close, quoted_wrong, rules)
 
 returns-2 : tie.Need-returns-2
-returns-2 c = search (quoted-more, quoted-close, quoted-wrong, rules)
+returns-2 c = search (quoted_more, quoted_close, quoted_wrong, rules)
 
 returns-3 : tie.Need-returns-3
-returns-3 c = search (quoted-more, quoted-close, quoted-wrong, rules)
+returns-3 c = search (quoted_more, quoted_close, quoted_wrong, rules)
 
 pub quoted-byte-spec : {M : Type 1} → statement M
 quoted-byte-spec =

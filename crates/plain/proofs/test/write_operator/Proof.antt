@@ -1,9 +1,9 @@
 -- `plain::test::write_operator` meets its contract: the letters are those of the word with its number. Assumes nothing.
 use mathlib.Core.Path.{refl}
 use mathlib.Core.List.{flatten}
-use Rattle.base.specs.Operators.{operatorWords}
-use Rattle.syntax.proofs.Operators.{operatorLetters}
-use Rattle.plain.proofs.Tests.{operator-room, operator-puts}
+use Rattle.base.specs.Operators.{operator_words}
+use Rattle.syntax.proofs.Operators.{operator_letters}
+use Rattle.plain.proofs.Tests.{operator_room, operator_puts}
 use borrow.Author.Rules.{rules}
 use Rattle.plain.proofs.test.write_operator.Statement.{statement}
 use Rattle.plain.proofs.test.write_operator.Tie as tie
@@ -24,15 +24,15 @@ slice-aggregate-write-word : tie.Need-slice-aggregate-write-word
 slice-aggregate-write-word c = search rules
 
 write-word-requires : tie.Need-write-word-requires
-unfolding operatorLetters flatten operatorWords
-write-word-requires c κs = operator-room _ c.before.before.before.before.before.before.args.operator refl (search rules) (search rules)
+unfolding operator_letters flatten operator_words
+write-word-requires c κs = operator_room _ c.before.before.before.before.before.before.args.operator refl (search rules) (search rules)
 
 same_length : tie.Need-same-length
 same_length c = search rules
 
 returns : tie.Need-returns
-unfolding operatorLetters flatten operatorWords
-returns c = operator-puts _ c.before.before.before.before.before.before.before.before.before.args.operator refl (search rules) c.before.before.write_word.ensures
+unfolding operator_letters flatten operator_words
+returns c = operator_puts _ c.before.before.before.before.before.before.before.before.before.args.operator refl (search rules) c.before.before.write_word.ensures
 
 pub write-operator-spec : {M : Type 1} → statement M
 write-operator-spec =

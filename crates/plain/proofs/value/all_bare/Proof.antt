@@ -5,7 +5,7 @@ use borrow.Author.Rules.{rules}
 use lib.ListN.{length}
 use Rattle.base.proofs.Invariants.{Passed}
 use Rattle.syntax.specs.Strings.{is_bare}
-use Rattle.base.proofs.Loops.{passed_start, passed-next, passed-not, passed-end}
+use Rattle.base.proofs.Loops.{passed_start, passed_next, passed_not, passed_end}
 use Rattle.plain.proofs.value.all_bare.Statement.{statement}
 use Rattle.plain.proofs.value.all_bare.Tie as tie
 
@@ -31,13 +31,13 @@ loop-less : tie.Need-loop-smaller invariant-loop decreases-loop
 loop-less c = search rules
 
 loop-again : tie.Need-loop-preserved invariant-loop decreases-loop
-loop-again c = search (passed-next, sym c.before.is-bare.ensures ∙ c.if1.true, rules)
+loop-again c = search (passed_next, sym c.before.is-bare.ensures ∙ c.if1.true, rules)
 
 returns : tie.Need-returns invariant-loop decreases-loop
-returns c = search (passed-not, sym c.before.is-bare.ensures ∙ c.if1.false, rules)
+returns c = search (passed_not, sym c.before.is-bare.ensures ∙ c.if1.false, rules)
 
 returns-2 : tie.Need-returns-2 invariant-loop decreases-loop
-returns-2 c = search (passed-end, rules)
+returns-2 c = search (passed_end, rules)
 
 pub all-bare-spec : {M : Type 1} → statement M
 all-bare-spec =

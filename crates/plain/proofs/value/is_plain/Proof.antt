@@ -1,11 +1,11 @@
 -- `plain::value::is_plain` meets its contract: the tests are those of the definition. Assumes nothing.
 use borrow.Author.Rules.{rules}
-use Rattle.plain.proofs.Bytes.{plain-low, plain-quote, plain_other}
+use Rattle.plain.proofs.Bytes.{plain_low, plain-quote, plain_other}
 use Rattle.plain.proofs.value.is_plain.Statement.{statement}
 use Rattle.plain.proofs.value.is_plain.Tie as tie
 
 returns : tie.Need-returns
-returns c = search (plain-low, rules)
+returns c = search (plain_low, rules)
 
 returns-2 : tie.Need-returns-2
 returns-2 c = search (plain_other, rules)

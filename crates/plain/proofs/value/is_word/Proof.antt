@@ -1,11 +1,11 @@
 -- `plain::value::is_word` meets its contract: the tests are those of the definition. Assumes nothing.
-use Rattle.plain.proofs.Bytes.{word-empty, word-quoted, word-bare}
+use Rattle.plain.proofs.Bytes.{word_empty, word-quoted, word_bare}
 use borrow.Author.Rules.{rules}
 use Rattle.plain.proofs.value.is_word.Statement.{statement}
 use Rattle.plain.proofs.value.is_word.Tie as tie
 
 returns : tie.Need-returns
-returns c = search (word-empty, rules)
+returns c = search (word_empty, rules)
 
 shared-slice-read-if2 : tie.Need-shared-slice-read-if2
 shared-slice-read-if2 c = search rules
@@ -17,7 +17,7 @@ all-bare-requires : tie.Need-all-bare-requires
 all-bare-requires c κs = search rules
 
 returns-3 : tie.Need-returns-3
-returns-3 c = search (word-bare, rules)
+returns-3 c = search (word_bare, rules)
 
 pub is-word-spec : {M : Type 1} → statement M
 is-word-spec =

@@ -2,7 +2,7 @@
 use Prim.Native.Nat.{◌-◌}
 use native.Mathlib.Omega.{arith}
 use lib.ListN.{length}
-use Rattle.plain.proofs.Bytes.{Escaping, escaping-start, escaping-room, escaping-fits, escaping-next, escaping-end}
+use Rattle.plain.proofs.Bytes.{Escaping, escaping_start, escaping_room, escaping_fits, escaping_next, escaping_end}
 use borrow.Author.Rules.{rules}
 use Rattle.plain.proofs.value.write_escaped.Statement.{statement}
 use Rattle.plain.proofs.value.write_escaped.Tie as tie
@@ -14,7 +14,7 @@ abbrev decreases-loop : tie.decreases-loop
 decreases-loop value out₀ i₀ n₀ out i n = length value - i
 
 loop-holds : tie.Need-loop-init invariant-loop decreases-loop
-loop-holds c = search (escaping-start, rules)
+loop-holds c = search (escaping_start, rules)
 
 shared-slice-read-write-escaped-byte :
     tie.Need-shared-slice-read-write-escaped-byte invariant-loop decreases-loop
@@ -30,10 +30,10 @@ part-write-escaped-byte-end : tie.Need-slice-bounds-write-escaped-byte-end invar
 part-write-escaped-byte-end c = search rules
 
 write-escaped-byte-requires : tie.Need-write-escaped-byte-requires invariant-loop decreases-loop
-write-escaped-byte-requires c κs = search (escaping-room, rules)
+write-escaped-byte-requires c κs = search (escaping_room, rules)
 
 add-n : tie.Need-overflow-add-n invariant-loop decreases-loop
-add-n c = record { fits = omega (arith, escaping-fits c.before.before.before.before.before.before.loop.invariant (search rules) c.before.before.write-escaped-byte.ensures) }
+add-n c = record { fits = omega (arith, escaping_fits c.before.before.before.before.before.before.loop.invariant (search rules) c.before.before.write-escaped-byte.ensures) }
 
 add-i : tie.Need-overflow-add-i invariant-loop decreases-loop
 add-i c = search rules
@@ -42,13 +42,13 @@ loop-less : tie.Need-loop-smaller invariant-loop decreases-loop
 loop-less c = search rules
 
 loop-again : tie.Need-loop-preserved invariant-loop decreases-loop
-loop-again c = search (escaping-next, rules)
+loop-again c = search (escaping_next, rules)
 
 same_length : tie.Need-same-length invariant-loop decreases-loop
 same_length c = search rules
 
 returns : tie.Need-returns invariant-loop decreases-loop
-returns c = search (escaping-end, rules)
+returns c = search (escaping_end, rules)
 
 pub write-escaped-spec : {M : Type 1} → statement M
 write-escaped-spec =

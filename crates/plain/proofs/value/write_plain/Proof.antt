@@ -1,5 +1,5 @@
 -- `plain::value::write_plain` meets its contract: each branch writes its case of the definition. Assumes nothing.
-use Rattle.plain.proofs.Bytes.{word_room, puts_word, string-room, puts-string}
+use Rattle.plain.proofs.Bytes.{word_room, puts_word, string_room, puts_string}
 use borrow.Author.Rules.{rules}
 use Rattle.plain.proofs.value.write_plain.Statement.{statement}
 use Rattle.plain.proofs.value.write_plain.Tie as tie
@@ -17,13 +17,13 @@ returns : tie.Need-returns
 returns c = search (puts_word, rules)
 
 write-string-requires : tie.Need-write-string-requires
-write-string-requires c κs = search (string-room, rules)
+write-string-requires c κs = search (string_room, rules)
 
 same-length-2 : tie.Need-same-length-2
 same-length-2 c = search rules
 
 returns-2 : tie.Need-returns-2
-returns-2 c = search (puts-string, rules)
+returns-2 c = search (puts_string, rules)
 
 pub write-plain-spec : {M : Type 1} → statement M
 write-plain-spec =

@@ -1,6 +1,6 @@
 -- `plain::value::write_string` meets its contract: its three texts stand one after another. Assumes nothing.
 use native.Mathlib.Omega.{arith}
-use Rattle.plain.proofs.Bytes.{quote-room, quote-within, between-room, between-within, closing-room, string-within, string-long, string-puts}
+use Rattle.plain.proofs.Bytes.{quote_room, quote-within, between_room, between-within, closing_room, string-within, string_long, string_puts}
 use borrow.Author.Rules.{rules}
 use Rattle.plain.proofs.value.write_string.Statement.{statement}
 use Rattle.plain.proofs.value.write_string.Tie as tie
@@ -9,7 +9,7 @@ slice-aggregate-write-word : tie.Need-slice-aggregate-write-word
 slice-aggregate-write-word c = search rules
 
 write-word-requires : tie.Need-write-word-requires
-write-word-requires c κs = search (quote-room, rules)
+write-word-requires c κs = search (quote_room, rules)
 
 sub-write-escaped : tie.Need-overflow-sub-write-escaped
 sub-write-escaped c = search (quote-within, rules)
@@ -21,7 +21,7 @@ part-write-escaped-end : tie.Need-slice-bounds-write-escaped-end
 part-write-escaped-end c = search rules
 
 write-escaped-requires : tie.Need-write-escaped-requires
-write-escaped-requires c κs = search (between-room, rules)
+write-escaped-requires c κs = search (between_room, rules)
 
 add-end : tie.Need-overflow-add-end
 add-end c = record { fits = omega (arith, between-within _ _ (search rules) c.before.before.before.before.before.before.write_word.ensures c.before.before.write-escaped.ensures) }
@@ -39,16 +39,16 @@ part-write-word-end : tie.Need-slice-bounds-write-word-end
 part-write-word-end c = search rules
 
 write-word-requires-2 : tie.Need-write-word-requires-2
-write-word-requires-2 c κs = search (closing-room, rules)
+write-word-requires-2 c κs = search (closing_room, rules)
 
 add-result : tie.Need-overflow-add-result
 add-result c = record { fits = omega (arith, string-within _ _ (search rules) c.before.before.before.before.before.before.before.before.before.before.before.write_word.ensures c.before.before.before.before.before.before.before.write-escaped.ensures c.before.before.write-word2.ensures) }
 
 same_length : tie.Need-same-length
-same_length c = search (string-long, rules)
+same_length c = search (string_long, rules)
 
 returns : tie.Need-returns
-returns c = search (string-puts, rules)
+returns c = search (string_puts, rules)
 
 pub write-string-spec : {M : Type 1} → statement M
 write-string-spec =

@@ -3,7 +3,7 @@ use borrow.Author.Rules.{rules}
 use Prim.Native.Nat.{◌-◌}
 use mathlib.Core.Path.{◌≡◌, refl}
 use lib.ListN.{length}
-use Rattle.query.proofs.Units.{Decoding, decoding-starts, decoding-room, decoding-less, decoding-byte, decoding-bad, decoding-ends}
+use Rattle.query.proofs.Units.{Decoding, decoding_starts, decoding_room, decoding_less, decoding_byte, decoding_bad, decoding_ends}
 use Rattle.query.proofs.decode.decode.Statement.{statement}
 use Rattle.query.proofs.decode.decode.Tie as tie
 
@@ -14,7 +14,7 @@ abbrev decreases-loop : tie.decreases-loop
 decreases-loop raw out₀ i₀ n₀ out i n = length raw - i
 
 loop-holds : tie.Need-loop-init invariant-loop decreases-loop
-loop-holds c = (search (decoding-starts, rules), refl)
+loop-holds c = (search (decoding_starts, rules), refl)
 
 unit-at-requires : tie.Need-unit-at-requires invariant-loop decreases-loop
 unit-at-requires c κs = search rules
@@ -23,16 +23,16 @@ enum-known-b : tie.Need-enum-known-b invariant-loop decreases-loop
 enum-known-b c = search rules
 
 slice-write-out : tie.Need-slice-write-out invariant-loop decreases-loop
-slice-write-out c = search (decoding-room, rules)
+slice-write-out c = search (decoding_room, rules)
 
 add-n : tie.Need-overflow-add-n invariant-loop decreases-loop
 add-n c = search rules
 
 loop-less : tie.Need-loop-smaller invariant-loop decreases-loop
-loop-less c = search (decoding-less, rules)
+loop-less c = search (decoding_less, rules)
 
 loop-again : tie.Need-loop-preserved invariant-loop decreases-loop
-loop-again c = (search (decoding-byte, rules), search rules)
+loop-again c = (search (decoding_byte, rules), search rules)
 
 enum_told : tie.Need-enum-told invariant-loop decreases-loop
 enum_told c = search rules
@@ -41,13 +41,13 @@ same_length : tie.Need-same-length invariant-loop decreases-loop
 same_length c = search rules
 
 returns : tie.Need-returns invariant-loop decreases-loop
-returns c = search (decoding-bad, rules)
+returns c = search (decoding_bad, rules)
 
 same-length-2 : tie.Need-same-length-2 invariant-loop decreases-loop
 same-length-2 c = search rules
 
 returns-2 : tie.Need-returns-2 invariant-loop decreases-loop
-returns-2 c = search (decoding-ends, rules)
+returns-2 c = search (decoding_ends, rules)
 
 pub decode-spec : {M : Type 1} → statement M
 decode-spec =

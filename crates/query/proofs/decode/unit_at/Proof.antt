@@ -1,6 +1,6 @@
 -- `query::decode::unit_at` meets its contract: the tests are those of the definition. Assumes nothing.
 use borrow.Author.Rules.{rules}
-use Rattle.query.proofs.Units.{unit-short, unit-percent, unit-space, unit-plain}
+use Rattle.query.proofs.Units.{unit_short, unit-percent, unit_space, unit-plain}
 use Rattle.query.proofs.decode.unit_at.Statement.{statement}
 use Rattle.query.proofs.decode.unit_at.Tie as tie
 
@@ -11,7 +11,7 @@ sub-if2 : tie.Need-overflow-sub-if2
 sub-if2 c = search rules
 
 returns : tie.Need-returns
-returns c = search (unit-short, rules)
+returns c = search (unit_short, rules)
 
 add-hex-pair : tie.Need-overflow-add-hex-pair
 add-hex-pair c = search rules
@@ -38,7 +38,7 @@ add-t15 : tie.Need-overflow-add-t15
 add-t15 c = search rules
 
 returns-3 : tie.Need-returns-3
-returns-3 c = search (unit-space, rules)
+returns-3 c = search (unit_space, rules)
 
 add-t16 : tie.Need-overflow-add-t16
 add-t16 c = search rules

@@ -2,7 +2,7 @@
 use borrow.Author.Rules.{rules}
 use native.Mathlib.Omega.{arith}
 use lib.ListN.{length-take}
-use Rattle.query.proofs.Pairs.{front_fits, pair-uncut, pair-name-bad, pair-value-bad, pair_read}
+use Rattle.query.proofs.Pairs.{front_fits, pair_uncut, pair-name_bad, pair-value_bad, pair_read}
 use Rattle.query.proofs.pair.read_pair.Statement.{statement}
 use Rattle.query.proofs.pair.read_pair.Tie as tie
 
@@ -10,7 +10,7 @@ first-from-requires : tie.Need-first-from-requires
 first-from-requires c κs = search rules
 
 returns : tie.Need-returns
-returns c = search (pair-uncut, rules)
+returns c = search (pair_uncut, rules)
 
 slice-aggregate-decode : tie.Need-slice-aggregate-decode
 slice-aggregate-decode c = simp length-take (omega arith)
@@ -28,7 +28,7 @@ same_length : tie.Need-same-length
 same_length c = search rules
 
 returns-2 : tie.Need-returns-2
-returns-2 c = search (pair-name-bad, rules)
+returns-2 c = search (pair-name_bad, rules)
 
 add-decode : tie.Need-overflow-add-decode
 add-decode c = search rules
@@ -58,7 +58,7 @@ same-length-3 : tie.Need-same-length-3
 same-length-3 c = search rules
 
 returns-3 : tie.Need-returns-3
-returns-3 c = search (pair-value-bad, rules)
+returns-3 c = search (pair-value_bad, rules)
 
 same-length-4 : tie.Need-same-length-4
 same-length-4 c = search rules

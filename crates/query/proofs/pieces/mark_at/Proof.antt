@@ -1,6 +1,6 @@
 -- `query::pieces::mark_at` meets its contract: the tests are those of the definition. Assumes nothing.
 use borrow.Author.Rules.{rules}
-use Rattle.query.proofs.Gathering.{mark-last, mark-plain, mark-lone, mark-cut, mark-split, mark-byte}
+use Rattle.query.proofs.Gathering.{mark_last, mark-plain, mark_lone, mark_cut, mark-split, mark-byte}
 use Rattle.query.proofs.pieces.mark_at.Statement.{statement}
 use Rattle.query.proofs.pieces.mark_at.Tie as tie
 
@@ -14,7 +14,7 @@ add-t11 : tie.Need-overflow-add-t11
 add-t11 c = search rules
 
 returns : tie.Need-returns
-returns c = search (mark-last, rules)
+returns c = search (mark_last, rules)
 
 add-c : tie.Need-overflow-add-c
 add-c c = search rules
@@ -35,13 +35,13 @@ add-t9 : tie.Need-overflow-add-t9
 add-t9 c = search rules
 
 returns-3 : tie.Need-returns-3
-returns-3 c = search (mark-lone, rules)
+returns-3 c = search (mark_lone, rules)
 
 add-t16 : tie.Need-overflow-add-t16
 add-t16 c = search rules
 
 returns-4 : tie.Need-returns-4
-returns-4 c = search (mark-cut, rules)
+returns-4 c = search (mark_cut, rules)
 
 add-t17 : tie.Need-overflow-add-t17
 add-t17 c = search rules

@@ -1,6 +1,6 @@
 -- `query::query::accept_query` meets its contract: the tests are those of the definition. Assumes nothing.
 use borrow.Author.Rules.{rules}
-use Rattle.query.proofs.Accepting.{query-empty, query-long, query-refused, query-many, query-accepted}
+use Rattle.query.proofs.Accepting.{query_empty, query_long, query_refused, query_many, query_accepted}
 use Rattle.query.proofs.query.accept_query.Statement.{statement}
 use Rattle.query.proofs.query.accept_query.Tie as tie
 
@@ -11,7 +11,7 @@ refuse-requires : tie.Need-refuse-requires
 refuse-requires c κs = search rules
 
 returns : tie.Need-returns
-returns c = search (query-empty, rules)
+returns c = search (query_empty, rules)
 
 no-rows-requires-2 : tie.Need-no-rows-requires-2
 no-rows-requires-2 c κs = search rules
@@ -20,7 +20,7 @@ refuse-requires-2 : tie.Need-refuse-requires-2
 refuse-requires-2 c κs = search rules
 
 returns-2 : tie.Need-returns-2
-returns-2 c = search (query-long, rules)
+returns-2 c = search (query_long, rules)
 
 read-query-requires : tie.Need-read-query-requires
 read-query-requires c κs = search rules
@@ -32,7 +32,7 @@ same_length : tie.Need-same-length
 same_length c = search rules
 
 returns-3 : tie.Need-returns-3
-returns-3 c = search (query-refused, rules)
+returns-3 c = search (query_refused, rules)
 
 enum-told-2 : tie.Need-enum-told-2
 enum-told-2 c = search rules
@@ -44,13 +44,13 @@ same-length-2 : tie.Need-same-length-2
 same-length-2 c = search rules
 
 returns-4 : tie.Need-returns-4
-returns-4 c = search (query-many, rules)
+returns-4 c = search (query_many, rules)
 
 same-length-3 : tie.Need-same-length-3
 same-length-3 c = search rules
 
 returns-5 : tie.Need-returns-5
-returns-5 c = search (query-accepted, rules)
+returns-5 c = search (query_accepted, rules)
 
 pub accept-query-spec : {M : Type 1} → statement M
 accept-query-spec =

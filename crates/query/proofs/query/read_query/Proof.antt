@@ -4,7 +4,7 @@ use Prim.Native.Nat.{◌+◌, ◌-◌}
 use mathlib.Core.Path.{◌≡◌, refl}
 use mathlib.Core.Bool.{cond}
 use lib.ListN.{length}
-use Rattle.query.proofs.Passing.{Pass, pass-starts, pass-within, pass-less, pair-in-value, pass-used, pair-in-bytes, pass-bad, pass-until, pass-value, pass-count, pass-room, pass-few, pass-next, pass-ends}
+use Rattle.query.proofs.Passing.{Pass, pass-starts, pass-within, pass-less, pair_in_value, pass_used, pair_in_bytes, pass_bad, pass_until, pass-value, pass_count, pass_room, pass_few, pass-next, pass-ends}
 use Rattle.query.proofs.query.read_query.Statement.{statement}
 use Rattle.query.proofs.query.read_query.Tie as tie
 
@@ -33,10 +33,10 @@ part-read-pair-end : tie.Need-slice-bounds-read-pair-end invariant-loop decrease
 part-read-pair-end c = search rules
 
 sub-read-pair-2 : tie.Need-overflow-sub-read-pair-2 invariant-loop decreases-loop
-sub-read-pair-2 c = search (pass-used, rules)
+sub-read-pair-2 c = search (pass_used, rules)
 
 part-read-pair-start-2 : tie.Need-slice-bounds-read-pair-start-2 invariant-loop decreases-loop
-part-read-pair-start-2 c = search (pass-used, rules)
+part-read-pair-start-2 c = search (pass_used, rules)
 
 part-read-pair-end-2 : tie.Need-slice-bounds-read-pair-end-2 invariant-loop decreases-loop
 part-read-pair-end-2 c = search rules
@@ -45,7 +45,7 @@ slice-aggregate-read-pair : tie.Need-slice-aggregate-read-pair invariant-loop de
 slice-aggregate-read-pair c = search rules
 
 read-pair-requires : tie.Need-read-pair-requires invariant-loop decreases-loop
-read-pair-requires c κs = search (pair-in-value, pair-in-bytes, rules)
+read-pair-requires c κs = search (pair_in_value, pair_in_bytes, rules)
 
 enum-known-read : tie.Need-enum-known-read invariant-loop decreases-loop
 enum-known-read c = search rules
@@ -60,19 +60,19 @@ same_length : tie.Need-same-length invariant-loop decreases-loop
 same_length c = search rules
 
 returns : tie.Need-returns invariant-loop decreases-loop
-returns c = search (pass-bad, rules)
+returns c = search (pass_bad, rules)
 
 add-until : tie.Need-overflow-add-until invariant-loop decreases-loop
-add-until c = record { fits = search (pass-until, rules) }
+add-until c = record { fits = search (pass_until, rules) }
 
 array-share-prefix-value : tie.Need-array-share-prefix-value invariant-loop decreases-loop
 array-share-prefix-value c = search (pass-value, rules)
 
 slice-aggregate-keep-pair : tie.Need-slice-aggregate-keep-pair invariant-loop decreases-loop
-slice-aggregate-keep-pair c = search (pass-count, rules)
+slice-aggregate-keep-pair c = search (pass_count, rules)
 
 keep-pair-requires : tie.Need-keep-pair-requires invariant-loop decreases-loop
-keep-pair-requires c κs = (search (pass-room, rules), (search rules, (search rules, search (pass-few, rules))))
+keep-pair-requires c κs = (search (pass_room, rules), (search rules, (search rules, search (pass_few, rules))))
 
 add_at : tie.Need-overflow-add-at invariant-loop decreases-loop
 add_at c = search rules

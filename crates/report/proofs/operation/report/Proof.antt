@@ -41,8 +41,8 @@ use Rattle.report.specs.declared.plan.Plan.{Plan}
 use Rattle.report.specs.declared.Reported.{Reported}
 use Rattle.report.specs.declared.Tally.{Tally}
 use Rattle.report.specs.Steps.{stepped, Ready}
-use Rattle.report.specs.Contracts.{Plans, Reports}
-use Rattle.report.proofs.Contracts.{plan-ready, plan-reports}
+use Rattle.report.specs.Operations.{Plans, Reports}
+use Rattle.report.proofs.Contracts.{plan_ready, plan_reports}
 use Rattle.report.specs.contracts.Tally as T
 use Rattle.report.specs.contracts.plan.Plan as P
 use Rattle.report.proofs.plan.Plan.TheLaws as P'
@@ -240,7 +240,7 @@ module _ {M : Type 1} {𝓤 : Ura M} (𝓛 : Logic 𝓤) (mem : Memory → SProp
         split ! $ move ! (1 ∷ []) $ split ! $ move ! (1 ∷ []) $ split ! $
         move ! (4 ∷ []) $ use1 𝓛 (‵ Own₂ ⊛ ‵ Own₂) ((shr_slice_copy 𝓛 (named 2) κ₂ u8).twice x₂ (s₂ ∷ [])) $ split ! $
         move ! (8 ∷ 0 ∷ []) $ join ! $ move ! (2 ∷ 3 ∷ []) $ join ! $ move ! (7 ∷ 0 ∷ []) $ join ! $
-        use2 𝓛 (raw ((RaiseAll 𝓛 mem run).pre (to-raise c w m u))) (goes-raise c w m u is_c is_m (plan-ready _ _ _ ys p c m e₁ e₂ e₃)) $
+        use2 𝓛 (raw ((RaiseAll 𝓛 mem run).pre (to-raise c w m u))) (goes-raise c w m u is_c is_m (plan_ready _ _ _ ys p c m e₁ e₂ e₃)) $
         -- [what it asks; the cards; t₁; t₀; the filter; the sheet; _11; …]
         calls_at ! fm (RaiseAll 𝓛 mem run) known-raise (to-raise c w m u) (and_then ! (load ! (from ! (stop !)) (look ! 6 refl)) (and_then ! (load ! (from ! (stop !)) (look ! 22 refl)) (and_then ! (load ! (from ! (stop !)) (look ! 16 refl)) (and_then ! (load ! (from ! (stop !)) (look ! 14 refl)) (no_more !))))) (λ z.
         use1 𝓛 (later (some (λ (r : Unit {0}). ((‵ (flft κ₃ q₃) ⊛ (‵ (flft κ₂ q₂) ⊛ ‵ ftrue)) ⊛ ‵ (unit.own_val r (z ∷ []))) ⊛ raw (ensured 𝓛 raise-all.ended (raise-all.clauses 𝓛 mem run) (κ₃, (κ₂, tt)) (x, (x₂, (c, (m, tt)))) tt r)))) (id⊢ 𝓤 _) $ await ! tt $ pick ! (λ r₄.
@@ -255,7 +255,7 @@ module _ {M : Type 1} {𝓤 : Ura M} (𝓛 : Logic 𝓤) (mem : Memory → SProp
         split ! $ move ! (1 ∷ []) $ use1 𝓛 (raw (fact 𝓤 (r ≡ p.answer))) (answer-said 𝓛 mem run p r) $ heard ! (r ≡ p.answer) (λ e₅. split ! $ drop ! $
         peeks ! O.the_row (Is O.the_row) (shows 𝓛 O.the_row) r (v ∷ []) (λ is-r. land ! (from ! (stop !)) (init ! 31 refl ((EL.lawful O.the_type O'.the_laws 𝓛 tt).typed r _ is-r).0) $
         returns ! (look ! 31 refl) $ forget ! 9 refl $ forget ! 11 refl $ forget ! 13 refl $ forget ! 15 refl $ forget ! 17 refl $ forget ! 19 refl $ forget ! 21 refl $ forget ! 23 refl $ forget ! 25 refl $ forget ! 27 refl $ forget ! 29 refl $ forget ! 31 refl $ move ! (31 ∷ 32 ∷ []) $ free1 ! $ move ! (29 ∷ 30 ∷ []) $ free1 ! $ move ! (27 ∷ 28 ∷ []) $ free1 ! $ move ! (25 ∷ 26 ∷ []) $ free1 ! $ move ! (23 ∷ 24 ∷ []) $ free1 ! $ move ! (21 ∷ 22 ∷ []) $ free1 ! $ move ! (19 ∷ 20 ∷ []) $ free1 ! $ move ! (17 ∷ 18 ∷ []) $ free1 ! $ move ! (15 ∷ 16 ∷ []) $ free1 ! $ move ! (13 ∷ 14 ∷ []) $ free1 ! $ move ! (11 ∷ 12 ∷ []) $ free1 ! $ move ! (9 ∷ 10 ∷ []) $ free1 ! $ free0 ! $
-        keep ! (6 ∷ 5 ∷ 1 ∷ 8 ∷ 7 ∷ 4 ∷ 2 ∷ 0 ∷ []) $ by ! (exits r v zs.0 (plan-reports _ _ _ ys p c m r zs.0 e₁ e₂ e₃ e₄ e₅) l)))))))))))))))))))))))))))))))))))
+        keep ! (6 ∷ 5 ∷ 1 ∷ 8 ∷ 7 ∷ 4 ∷ 2 ∷ 0 ∷ []) $ by ! (exits r v zs.0 (plan_reports _ _ _ ys p c m r zs.0 e₁ e₂ e₃ e₄ e₅) l)))))))))))))))))))))))))))))))))))
 
 module _ {M : Type 1} {𝓤 : Ura M} (𝓛 : Logic 𝓤) (mem : Memory → SProp 𝓤) (run : Routine → Fun 𝓤) where
   open 𝓛 use {H}

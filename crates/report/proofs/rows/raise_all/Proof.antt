@@ -50,8 +50,8 @@ use denote.Triple.Walked.{says, needs, Stays, stay_none, stay_slice, stay_none_s
 use denote.Exit.{yes}
 use Rattle.report.specs.declared.Tally.{Tally}
 use Rattle.report.specs.Tallies.{tally}
-use Rattle.report.specs.Steps.{stepIndex, stepTally, stepped, Raisable, Ready}
-use Rattle.report.proofs.Steps.{length-stepped, stepped-none, stepped-more}
+use Rattle.report.specs.Steps.{step_index, step_tally, stepped, Raisable, Ready}
+use Rattle.report.proofs.Steps.{length-stepped, stepped_none, stepped_more}
 use Rattle.report.specs.contracts.Tally as T
 use Rattle.report.proofs.Tally.TheLaws as T'
 use Rattle.report.specs.contracts.rows.index_of as index_of
@@ -113,11 +113,11 @@ module _ {M : Type 1} {𝓤 : Ura M} (𝓛 : Logic 𝓤) (mem : Memory → SProp
   abbrev Raised : Contract 𝓤
   Raised = triple_of 𝓛 raised.signature (raised.spec 𝓛 mem run)
 
-  index-said : (n j r : ℕ) → ent 𝓤 (ensured 𝓛 index_of.ended (index_of.clauses 𝓛 mem run) tt (n, (j, tt)) tt r) (fact 𝓤 (r ≡ stepIndex n j))
-  index-said n j r = ex_e 𝓤 _ (λ ws. snd∗ 𝓤 (sem 𝓛 (lasts index_of.ended tt (n, (j, tt)) ws)) (fact 𝓤 (r ≡ stepIndex n j)))
+  index-said : (n j r : ℕ) → ent 𝓤 (ensured 𝓛 index_of.ended (index_of.clauses 𝓛 mem run) tt (n, (j, tt)) tt r) (fact 𝓤 (r ≡ step_index n j))
+  index-said n j r = ex_e 𝓤 _ (λ ws. snd∗ 𝓤 (sem 𝓛 (lasts index_of.ended tt (n, (j, tt)) ws)) (fact 𝓤 (r ≡ step_index n j)))
 
-  raised-said : (κ : Lft) (c : Bor (List ℕ)) (n j : ℕ) (h r : Tally) → ent 𝓤 (ensured 𝓛 raised.ended (raised.clauses 𝓛 mem run) (κ, tt) (c, (n, (j, (h, tt)))) tt r) (fact 𝓤 (r ≡ stepTally c.now n j h))
-  raised-said κ c n j h r = ex_e 𝓤 _ (λ ws. snd∗ 𝓤 (sem 𝓛 (lasts raised.ended (κ, tt) (c, (n, (j, (h, tt)))) ws)) (fact 𝓤 (r ≡ stepTally c.now n j h)))
+  raised-said : (κ : Lft) (c : Bor (List ℕ)) (n j : ℕ) (h r : Tally) → ent 𝓤 (ensured 𝓛 raised.ended (raised.clauses 𝓛 mem run) (κ, tt) (c, (n, (j, (h, tt)))) tt r) (fact 𝓤 (r ≡ step_tally c.now n j h))
+  raised-said κ c n j h r = ex_e 𝓤 _ (λ ws. snd∗ 𝓤 (sem 𝓛 (lasts raised.ended (κ, tt) (c, (n, (j, (h, tt)))) ws)) (fact 𝓤 (r ≡ step_tally c.now n j h)))
 
 module _ {M : Type 1} {𝓤 : Ura M} (𝓛 : Logic 𝓤) (mem : Memory → SProp 𝓤) (run : Routine → Fun 𝓤) (κ κ₁ : Lft) (q q₁ : Share) (b o : ℕ) (γ : GName) (ys : List Tally) (c : MutBor (List ℕ)) (n m : ℕ)
     (n-fits : n < 2 ^ 64) (m-fits : m < 2 ^ 64) (room : Room T.the_row (length ys)) (room₁ : Room u8 (length c.now)) (ok : (k : ℕ) → k < m → Ready c.now n k ys) where
@@ -149,13 +149,13 @@ module _ {M : Type 1} {𝓤 : Ura M} (𝓛 : Logic 𝓤) (mem : Memory → SProp
   zs j = stepped c.now n j ys
 
   abbrev at : ℕ → ℕ
-  at j = stepIndex n j
+  at j = step_index n j
 
   abbrev old : ℕ → Tally
   old j = get_or (zs j) (at j) (tally 0 0)
 
   abbrev new : ℕ → Tally
-  new j = stepTally c.now n j (old j)
+  new j = step_tally c.now n j (old j)
 
   same : (j : ℕ) → length (zs j) ≡ length ys
   same j = length-stepped c.now n j ys
@@ -264,7 +264,7 @@ module _ {M : Type 1} {𝓤 : Ura M} (𝓛 : Logic 𝓤) (mem : Memory → SProp
         move ! (1 ∷ []) $ split ! $ move ! (1 ∷ []) $ drop ! $ move ! (1 ∷ 3 ∷ 4 ∷ 5 ∷ 0 ∷ 2 ∷ []) $
         assigns_last ! (bin ! (load ! (from ! (stop !)) (look ! 20 refl)) (lit ! tt) (record { fits = fits (next less) })) (from ! (stop !)) (store ! 20 refl (tt, record { fits = fits (next less) })) $
         forget ! 6 refl $ forget ! 8 refl $ forget ! 10 refl $ forget ! 12 refl $ forget ! 14 refl $ forget ! 16 refl $ forget ! 18 refl $
-        rewrite ! 0 (λ (l : List Tally). ‵ (row T.the_row full_share l b o)) (sym (stepped-more c.now n j.0 ys)) refl $
+        rewrite ! 0 (λ (l : List Tally). ‵ (row T.the_row full_share l b o)) (sym (stepped_more c.now n j.0 ys)) refl $
         again ! Nearer At j (next less) (add-one-dec m j.0 (ltb→lt j.0 m less))))))))))))
         (λ over. jumps ! $ exec ! C Λ En body.t-3 (at_ret En Post) $
         rewrite ! 0 (λ (k : ℕ). ‵ (row T.the_row full_share (zs k) b o)) (le_antisymm j.1 (nltb→le j.0 m over)) refl $
@@ -314,7 +314,7 @@ module _ {M : Type 1} {𝓤 : Ura M} (𝓛 : Logic 𝓤) (mem : Memory → SProp
       move ! (6 ∷ []) $ fsplit ! $ move ! (6 ∷ []) $ split ! $
       -- [the cards' token; true; the cards; the numbers'; the rows; the open borrow; obs; auth; the rows' fact; _12; …]
       keep ! (4 ∷ 5 ∷ 6 ∷ 7 ∷ 0 ∷ 2 ∷ 9 ∷ 10 ∷ 11 ∷ 12 ∷ 13 ∷ 14 ∷ 15 ∷ 16 ∷ 17 ∷ 18 ∷ 19 ∷ 20 ∷ 21 ∷ 22 ∷ 23 ∷ 24 ∷ 25 ∷ 26 ∷ 27 ∷ 28 ∷ 29 ∷ 30 ∷ 31 ∷ 32 ∷ 33 ∷ 34 ∷ []) $
-      rewrite ! 0 (λ (l : List Tally). ‵ (row T.the_row full_share l b o)) (sym (stepped-none c.now n ys)) refl $ looped 𝓣 k₁ k₂ l₀ l₁ l₂ l₃ l₄ l₅ l₆ l₇ l₈ l₉ l₁₀ l₁₁ l₁₂)))))))))))))
+      rewrite ! 0 (λ (l : List Tally). ‵ (row T.the_row full_share l b o)) (sym (stepped_none c.now n ys)) refl $ looped 𝓣 k₁ k₂ l₀ l₁ l₂ l₃ l₄ l₅ l₆ l₇ l₈ l₉ l₁₀ l₁₁ l₁₂)))))))))))))
 
 module _ {M : Type 1} {𝓤 : Ura M} (𝓛 : Logic 𝓤) (mem : Memory → SProp 𝓤) (run : Routine → Fun 𝓤) where
   open 𝓛 use {H}

@@ -1,11 +1,11 @@
 -- `report::rows::raised` meets its contract: the first steps clear, the others raise by a card. Assumes nothing.
 use borrow.Author.Rules.{rules}
-use Rattle.report.proofs.Steps.{step-clears, step-raises, step-card, step-inside, step_fits, step-well-formed, step_row}
+use Rattle.report.proofs.Steps.{step_clears, step_raises, step-card, step-inside, step_fits, step_well_formed, step_row}
 use Rattle.report.proofs.rows.raised.Statement.{statement}
 use Rattle.report.proofs.rows.raised.Tie as tie
 
 returns : tie.Need-returns
-returns c = search (step-clears, rules)
+returns c = search (step_clears, rules)
 
 div-end : tie.Need-nonzero-div-end
 div-end c = search rules
@@ -29,13 +29,13 @@ rem-values-of : tie.Need-nonzero-rem-values-of
 rem-values-of c = search rules
 
 values-of-requires : tie.Need-values-of-requires
-values-of-requires c κs = search (step-well-formed, rules)
+values-of-requires c κs = search (step_well_formed, rules)
 
 raised-by-requires : tie.Need-raised-by-requires
 raised-by-requires c κs = search (step_row, rules)
 
 returns-2 : tie.Need-returns-2
-returns-2 c = search (step-raises, rules)
+returns-2 c = search (step_raises, rules)
 
 pub raised-spec : {M : Type 1} → statement M
 raised-spec =

@@ -2,8 +2,8 @@
 use borrow.Author.Rules.{rules}
 use Prim.Native.Nat.{◌-◌}
 use lib.ListN.{length}
-use Rattle.rows.proofs.Cells.{test-index}
-use Rattle.row_judge.proofs.Asking.{KeptTo, kept-start, kept_test, kept-bracket, kept-not, kept-connect, kept-unknown, kept-end}
+use Rattle.rows.proofs.Cells.{test_index}
+use Rattle.row_judge.proofs.Asking.{KeptTo, kept_start, kept_test, kept_bracket, kept_not, kept_connect, kept_unknown, kept_end}
 use Rattle.row_judge.proofs.asks.keep_tests.Statement.{statement}
 use Rattle.row_judge.proofs.asks.keep_tests.Tie as tie
 
@@ -14,7 +14,7 @@ abbrev decreases-loop : tie.decreases-loop
 decreases-loop rows cells₀ spans i₀ cells i = length rows - i
 
 loop-holds : tie.Need-loop-init invariant-loop decreases-loop
-loop-holds c = search (kept-start, rules)
+loop-holds c = search (kept_start, rules)
 
 mul-row-of : tie.Need-overflow-mul-row-of invariant-loop decreases-loop
 mul-row-of c = search rules
@@ -29,7 +29,7 @@ enum-known-probe : tie.Need-enum-known-probe invariant-loop decreases-loop
 enum-known-probe c = search rules
 
 keep-requires : tie.Need-keep-requires invariant-loop decreases-loop
-keep-requires c κs = search (test-index, rules)
+keep-requires c κs = search (test_index, rules)
 
 add-i : tie.Need-overflow-add-i invariant-loop decreases-loop
 add-i c = search rules
@@ -50,7 +50,7 @@ loop-less-2 : tie.Need-loop-smaller-2 invariant-loop decreases-loop
 loop-less-2 c = search rules
 
 loop-again-2 : tie.Need-loop-preserved-2 invariant-loop decreases-loop
-loop-again-2 c = search (kept-bracket, rules)
+loop-again-2 c = search (kept_bracket, rules)
 
 enum-told-2 : tie.Need-enum-told-2 invariant-loop decreases-loop
 enum-told-2 c = search rules
@@ -62,7 +62,7 @@ loop-less-3 : tie.Need-loop-smaller-3 invariant-loop decreases-loop
 loop-less-3 c = search rules
 
 loop-again-3 : tie.Need-loop-preserved-3 invariant-loop decreases-loop
-loop-again-3 c = search (kept-not, rules)
+loop-again-3 c = search (kept_not, rules)
 
 enum-told-3 : tie.Need-enum-told-3 invariant-loop decreases-loop
 enum-told-3 c = search rules
@@ -74,7 +74,7 @@ loop-less-4 : tie.Need-loop-smaller-4 invariant-loop decreases-loop
 loop-less-4 c = search rules
 
 loop-again-4 : tie.Need-loop-preserved-4 invariant-loop decreases-loop
-loop-again-4 c = search (kept-connect, rules)
+loop-again-4 c = search (kept_connect, rules)
 
 enum-told-4 : tie.Need-enum-told-4 invariant-loop decreases-loop
 enum-told-4 c = search rules
@@ -86,13 +86,13 @@ loop-less-5 : tie.Need-loop-smaller-5 invariant-loop decreases-loop
 loop-less-5 c = search rules
 
 loop-again-5 : tie.Need-loop-preserved-5 invariant-loop decreases-loop
-loop-again-5 c = search (kept-unknown, rules)
+loop-again-5 c = search (kept_unknown, rules)
 
 same_length : tie.Need-same-length invariant-loop decreases-loop
 same_length c = search rules
 
 returns : tie.Need-returns invariant-loop decreases-loop
-returns c = search (kept-end, rules)
+returns c = search (kept_end, rules)
 
 pub keep-tests-spec : {M : Type 1} → statement M
 keep-tests-spec =

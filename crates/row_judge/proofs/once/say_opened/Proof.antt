@@ -1,6 +1,6 @@
 -- `row_judge::once::say_opened` meets its contract: the card conforms, so that the lists have all that the rows ask about. Assumes nothing.
 use borrow.Author.Rules.{rules}
-use Rattle.row_judge.proofs.Asking.{read-ready, read-says, read-conforming}
+use Rattle.row_judge.proofs.Asking.{read-ready, read-says, read_conforming}
 use Rattle.row_judge.proofs.once.say_opened.Statement.{statement}
 use Rattle.row_judge.proofs.once.say_opened.Tie as tie
 
@@ -29,7 +29,7 @@ slice-aggregate-rows-say-2 : tie.Need-slice-aggregate-rows-say-2
 slice-aggregate-rows-say-2 c = search rules
 
 rows-say-requires : tie.Need-rows-say-requires
-rows-say-requires c κs = let start = c.before.before.before.before.before.before.before.before.before.before.before.before.before.before.before.before.requires in let read = c.before.before.before.before.read-entries.ensures in read-ready _ _ _ _ _ _ _ _ _ c.before.before.before.before.before.before.before.before.lend-for.ensures read _ _ (search (start, rules)) (search (start, rules)) (search (start, rules)) (search (start, rules)) (read-conforming _ _ _ _ _ _ read (search (start, rules)))
+rows-say-requires c κs = let start = c.before.before.before.before.before.before.before.before.before.before.before.before.before.before.before.before.requires in let read = c.before.before.before.before.read-entries.ensures in read-ready _ _ _ _ _ _ _ _ _ c.before.before.before.before.before.before.before.before.lend-for.ensures read _ _ (search (start, rules)) (search (start, rules)) (search (start, rules)) (search (start, rules)) (read_conforming _ _ _ _ _ _ read (search (start, rules)))
 
 returns : tie.Need-returns
 returns c = read-says _ _ _ _ _ _ _ _ _ c.before.before.before.before.before.before.before.before.before.lend-for.ensures c.before.before.before.before.before.read-entries.ensures _ _ c.rows-say.ensures

@@ -1,6 +1,6 @@
 -- `row_opener::store::mark_of` meets its contract. Assumes nothing.
 use borrow.Author.Rules.{rules}
-use Rattle.row_opener.proofs.Opening.{mark-number, mark-few, mark-date}
+use Rattle.row_opener.proofs.Opening.{mark-number, mark_few, mark-date}
 use Rattle.row_opener.proofs.store.mark_of.Statement.{statement}
 use Rattle.row_opener.proofs.store.mark_of.Tie as tie
 
@@ -8,7 +8,7 @@ enum-known-number : tie.Need-enum-known-number
 enum-known-number c = search rules
 
 decimal-mark-requires : tie.Need-decimal-mark-requires
-decimal-mark-requires c κs = search (mark-few, rules)
+decimal-mark-requires c κs = search (mark_few, rules)
 
 enum_told : tie.Need-enum-told
 enum_told c = search rules

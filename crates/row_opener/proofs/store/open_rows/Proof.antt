@@ -1,6 +1,6 @@
 -- `row_opener::store::open_rows` meets its contract: each turn writes the cells of a row. Assumes nothing.
 use borrow.Author.Rules.{rules}
-use Rattle.row_opener.proofs.Opening.{Opening, opening-start, opening-next, opening-end, opened-small, value_room, end-room}
+use Rattle.row_opener.proofs.Opening.{Opening, opening_start, opening_next, opening_end, opened_small, value_room, end_room}
 use Prim.Native.Nat.{◌-◌}
 use lib.ListN.{length}
 use Rattle.row_opener.proofs.store.open_rows.Statement.{statement}
@@ -13,7 +13,7 @@ abbrev decreases-loop : tie.decreases-loop
 decreases-loop kinds filter rows values₀ ends₀ i₀ values ends i = length rows - i
 
 loop-holds : tie.Need-loop-init invariant-loop decreases-loop
-loop-holds c = search (opening-start, rules)
+loop-holds c = search (opening_start, rules)
 
 mul-opened-row : tie.Need-overflow-mul-opened-row invariant-loop decreases-loop
 mul-opened-row c = search rules
@@ -28,7 +28,7 @@ mul-cell : tie.Need-overflow-mul-cell invariant-loop decreases-loop
 mul-cell c = search rules
 
 span-of-requires : tie.Need-span-of-requires invariant-loop decreases-loop
-span-of-requires c κs = search (opened-small, rules)
+span-of-requires c κs = search (opened_small, rules)
 
 cast-values : tie.Need-overflow-cast-values invariant-loop decreases-loop
 cast-values c = search rules
@@ -70,7 +70,7 @@ mul-t12 : tie.Need-overflow-mul-t12 invariant-loop decreases-loop
 mul-t12 c = search rules
 
 slice-set-from-ends-2 : tie.Need-slice-set-from-ends-2 invariant-loop decreases-loop
-slice-set-from-ends-2 c = search (end-room, rules)
+slice-set-from-ends-2 c = search (end_room, rules)
 
 add-i : tie.Need-overflow-add-i invariant-loop decreases-loop
 add-i c = search rules
@@ -79,7 +79,7 @@ loop-less : tie.Need-loop-smaller invariant-loop decreases-loop
 loop-less c = search rules
 
 loop-again : tie.Need-loop-preserved invariant-loop decreases-loop
-loop-again c = opening-next _ _ _ _ _ _ _ _ c.before.before.before.before.before.before.before.before.loop.invariant c.before.before.before.before.before.before.before.loop-test.true c.before.before.before.before.before.before.before.before.before.before.before.before.before.requires.1.0 _ _ _ _ _ c.before.before.before.before.before.opened-row.ensures c.before.before.before.Span-of.ensures c.before.before.digits_of.ensures c.before.start_of_lem.ensures c.end_of_lem.ensures _ _ (search rules) (search rules)
+loop-again c = opening_next _ _ _ _ _ _ _ _ c.before.before.before.before.before.before.before.before.loop.invariant c.before.before.before.before.before.before.before.loop-test.true c.before.before.before.before.before.before.before.before.before.before.before.before.before.requires.1.0 _ _ _ _ _ c.before.before.before.before.before.opened-row.ensures c.before.before.before.Span-of.ensures c.before.before.digits_of.ensures c.before.start_of_lem.ensures c.end_of_lem.ensures _ _ (search rules) (search rules)
 
 same_length : tie.Need-same-length invariant-loop decreases-loop
 same_length c = search rules
@@ -88,7 +88,7 @@ same-length-2 : tie.Need-same-length-2 invariant-loop decreases-loop
 same-length-2 c = search rules
 
 returns : tie.Need-returns invariant-loop decreases-loop
-returns c = search (opening-end, rules)
+returns c = search (opening_end, rules)
 
 pub open-rows-spec : {M : Type 1} → statement M
 open-rows-spec =

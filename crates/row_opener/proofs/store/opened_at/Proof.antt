@@ -1,6 +1,6 @@
 -- `row_opener::store::opened_at` meets its contract. Assumes nothing.
 use borrow.Author.Rules.{rules}
-use Rattle.row_opener.proofs.Opening.{at-is}
+use Rattle.row_opener.proofs.Opening.{at_is}
 use Rattle.row_opener.proofs.store.opened_at.Statement.{statement}
 use Rattle.row_opener.proofs.store.opened_at.Tie as tie
 
@@ -41,7 +41,7 @@ opened-from-requires : tie.Need-opened-from-requires
 opened-from-requires c κs = search rules
 
 returns : tie.Need-returns
-returns c = search (at-is, rules)
+returns c = search (at_is, rules)
 
 pub opened-at-spec : {M : Type 1} → statement M
 opened-at-spec =

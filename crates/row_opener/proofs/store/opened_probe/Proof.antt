@@ -2,7 +2,7 @@
 use borrow.Author.Rules.{rules}
 use borrow.Author.Tests.{not-false}
 use Rattle.syntax.proofs.Places.{value-at-placed}
-use Rattle.row_opener.proofs.Opening.{for-outside, for-nothing, for-value}
+use Rattle.row_opener.proofs.Opening.{for_outside, for_nothing, for_value}
 use Rattle.row_opener.proofs.store.opened_probe.Statement.{statement}
 use Rattle.row_opener.proofs.store.opened_probe.Tie as tie
 
@@ -16,7 +16,7 @@ closed-requires : tie.Need-closed-requires
 closed-requires c κs = search rules
 
 returns : tie.Need-returns
-returns c = search (for-outside, not-false, rules)
+returns c = search (for_outside, not-false, rules)
 
 read-value-requires : tie.Need-read-value-requires
 read-value-requires c κs = search rules
@@ -37,10 +37,10 @@ closed-requires-2 : tie.Need-closed-requires-2
 closed-requires-2 c κs = search rules
 
 returns-2 : tie.Need-returns-2
-returns-2 c = search (for-value, rules)
+returns-2 c = search (for_value, rules)
 
 returns-3 : tie.Need-returns-3
-returns-3 c = search (for-nothing, rules)
+returns-3 c = search (for_nothing, rules)
 
 pub opened-probe-spec : {M : Type 1} → statement M
 opened-probe-spec =

@@ -1,7 +1,7 @@
 -- `row_opener::store::opened_row` meets its contract: each row is a case of the definition. Assumes nothing.
 use borrow.Author.Rules.{rules}
-use Rattle.rows.proofs.Cells.{test-index}
-use Rattle.row_opener.proofs.Opening.{row-test, row-bracket, row-not, row-connect, row-unknown}
+use Rattle.rows.proofs.Cells.{test_index}
+use Rattle.row_opener.proofs.Opening.{row_test, row_bracket, row_not, row_connect, row_unknown}
 use Rattle.row_opener.proofs.store.opened_row.Statement.{statement}
 use Rattle.row_opener.proofs.store.opened_row.Tie as tie
 
@@ -12,7 +12,7 @@ enum-known-probe : tie.Need-enum-known-probe
 enum-known-probe c = search rules
 
 opened-probe-requires : tie.Need-opened-probe-requires
-opened-probe-requires c κs = search (test-index, rules)
+opened-probe-requires c κs = search (test_index, rules)
 
 enum_told : tie.Need-enum-told
 enum_told c = search rules
@@ -39,19 +39,19 @@ closed-requires-4 : tie.Need-closed-requires-4
 closed-requires-4 c κs = search rules
 
 returns : tie.Need-returns
-returns c = search (row-test, rules)
+returns c = search (row_test, rules)
 
 returns-2 : tie.Need-returns-2
-returns-2 c = search (row-bracket, rules)
+returns-2 c = search (row_bracket, rules)
 
 returns-3 : tie.Need-returns-3
-returns-3 c = search (row-not, rules)
+returns-3 c = search (row_not, rules)
 
 returns-4 : tie.Need-returns-4
-returns-4 c = search (row-connect, rules)
+returns-4 c = search (row_connect, rules)
 
 returns-5 : tie.Need-returns-5
-returns-5 c = search (row-unknown, rules)
+returns-5 c = search (row_unknown, rules)
 
 pub opened-row-spec : {M : Type 1} → statement M
 opened-row-spec =

@@ -3,7 +3,7 @@ use borrow.Author.Rules.{rules}
 use native.Mathlib.Omega.{arith}
 use lib.ListN.{length-take}
 use Rattle.judge.proofs.Meaning.{value-escaped, value-plain}
-use Rattle.row_opener.proofs.Opening.{text-placed}
+use Rattle.row_opener.proofs.Opening.{text_placed}
 use Rattle.row_opener.proofs.store.opened_text.Statement.{statement}
 use Rattle.row_opener.proofs.store.opened_text.Tie as tie
 
@@ -32,7 +32,7 @@ opened-value-requires : tie.Need-opened-value-requires
 opened-value-requires c κs = search rules
 
 returns : tie.Need-returns
-returns c = search (text-placed, value-escaped, rules)
+returns c = search (text_placed, value-escaped, rules)
 
 sub-opened-value : tie.Need-overflow-sub-opened-value
 sub-opened-value c = search rules
@@ -47,7 +47,7 @@ opened-value-requires-2 : tie.Need-opened-value-requires-2
 opened-value-requires-2 c κs = search rules
 
 returns-2 : tie.Need-returns-2
-returns-2 c = search (text-placed, value-plain, rules)
+returns-2 c = search (text_placed, value-plain, rules)
 
 pub opened-text-spec : {M : Type 1} → statement M
 opened-text-spec =

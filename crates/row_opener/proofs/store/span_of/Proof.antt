@@ -1,6 +1,6 @@
 -- `row_opener::store::span_of` meets its contract. Assumes nothing.
 use borrow.Author.Rules.{rules}
-use Rattle.row_opener.proofs.Opening.{span-is}
+use Rattle.row_opener.proofs.Opening.{span_is}
 use Rattle.row_opener.proofs.store.span_of.Statement.{statement}
 use Rattle.row_opener.proofs.store.span_of.Tie as tie
 
@@ -53,7 +53,7 @@ add-result-3 : tie.Need-overflow-add-result-3
 add-result-3 c = search rules
 
 returns : tie.Need-returns
-returns c = search (span-is, rules)
+returns c = search (span_is, rules)
 
 pub span-of-spec : {M : Type 1} → statement M
 span-of-spec =

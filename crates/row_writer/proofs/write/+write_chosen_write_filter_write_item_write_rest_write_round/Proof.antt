@@ -8,13 +8,13 @@
 use borrow.Author.Rules.{rules}
 use Prim.Native.Nat.{◌+◌, ◌*◌, ◌-◌}
 use lib.ListN.{length}
-use Rattle.syntax.proofs.Places.{test-in-place}
+use Rattle.syntax.proofs.Places.{test_in_place}
 use Rattle.row_writer.specs.Steps.{ChainedAt}
 use Rattle.row_writer.proofs.Numbers.{head_read}
-use Rattle.row_writer.proofs.Writing.{chain-ends, chain-falls, chain-less, chain-no-item, chain-room, chain-starts, chain-takes, chain-joins, choice-low}
-use Rattle.row_writer.proofs.Writing.{choice-within, chosen-cells, chosen-member, chosen-no-filter, chosen-room, chosen-tests, filter-no-item, filter-rest}
-use Rattle.row_writer.proofs.Writing.{filter-within, inside-less, inside-room, open-less, open-low, open-room, round-closed, round-no-filter, round_room}
-use Rattle.row_writer.proofs.Writing.{test-room, wrote-choice-deep, wrote-chosen, wrote-deep, wrote_nothing, wrote-opened, wrote-test}
+use Rattle.row_writer.proofs.Writing.{chain_ends, chain_falls, chain_less, chain_no_item, chain_room, chain_starts, chain_takes, chain_joins, choice_low}
+use Rattle.row_writer.proofs.Writing.{choice_within, chosen-cells, chosen-member, chosen_no_filter, chosen_room, chosen_tests, filter_no_item, filter_rest}
+use Rattle.row_writer.proofs.Writing.{filter_within, inside-less, inside_room, open_less, open_low, open_room, round-closed, round_no_filter, round_room}
+use Rattle.row_writer.proofs.Writing.{test_room, wrote_choice_deep, wrote_chosen, wrote_deep, wrote_nothing, wrote_opened, wrote_test}
 use Prim.Native.Nat.{ℕ, ◌<◌}
 use borrow.Fn.Kinds.{In}
 use borrow.Fn.PlainCycle.{Measures, is, falls, and}
@@ -136,18 +136,18 @@ pub +write-chosen-write-filter-write-item-write-rest-write-round-spec : {M : Typ
     write-chosen.Post
     (λ c κs. search rules)  -- write-chosen-inside-of-requires
     (λ c. search rules)  -- write-chosen-add-write-filter
-    (λ c κs. (search (inside-less, rules), (search rules, search (inside-room, rules))))  -- write-chosen-write-filter-requires
+    (λ c κs. (search (inside-less, rules), (search rules, search (inside_room, rules))))  -- write-chosen-write-filter-requires
     (λ c. search rules)  -- write-chosen-enum-known-inner
     (λ c. search rules)  -- write-chosen-enum-told
     (λ c. search rules)  -- write-chosen-same-length
-    (λ c. search (chosen-no-filter, rules))  -- write-chosen-returns
+    (λ c. search (chosen_no_filter, rules))  -- write-chosen-returns
     (λ c κs. (
       search rules,
       (
         search rules,
         (
-          search (filter-within, rules),
-          (search (chosen-room, rules), (search (chosen-cells, rules), search (chosen-tests, rules))),
+          search (filter_within, rules),
+          (search (chosen_room, rules), (search (chosen-cells, rules), search (chosen_tests, rules))),
         ),
       ),
     ))  -- write-chosen-write-member-requires
@@ -165,10 +165,10 @@ pub +write-chosen-write-filter-write-item-write-rest-write-round-spec : {M : Typ
     (λ c. search rules)  -- write-filter-enum-known-first
     (λ c. search rules)  -- write-filter-enum-told
     (λ c. search rules)  -- write-filter-same-length
-    (λ c. search (filter-no-item, rules))  -- write-filter-returns
-    (λ c κs. (search rules, (search rules, search (chain-starts, rules))))  -- write-filter-write-rest-requires
+    (λ c. search (filter_no_item, rules))  -- write-filter-returns
+    (λ c κs. (search rules, (search rules, search (chain_starts, rules))))  -- write-filter-write-rest-requires
     (λ c. search rules)  -- write-filter-same-length-2
-    (λ c. search (filter-rest, rules)))  -- write-filter-returns-2
+    (λ c. search (filter_rest, rules)))  -- write-filter-returns-2
     (λ t. write-item-lts.spec (
       read-head-reads.Asked,
       read-head-reads.Learnt,
@@ -183,22 +183,22 @@ pub +write-chosen-write-filter-write-item-write-rest-write-round-spec : {M : Typ
     write-item.Post
     (λ c κs. search rules)  -- write-item-read-head-requires
     (λ c. search rules)  -- write-item-enum-known-head
-    (λ c κs. (search rules, (search rules, (search (test-in-place, rules), (search (head_read, rules), search (test-room, rules))))))  -- write-item-write-test-requires
+    (λ c κs. (search rules, (search rules, (search (test_in_place, rules), (search (head_read, rules), search (test_room, rules))))))  -- write-item-write-test-requires
     (λ c. search rules)  -- write-item-enum-known-head-2
-    (λ c. search (wrote-deep, rules))  -- write-item-returns
+    (λ c. search (wrote_deep, rules))  -- write-item-returns
     (λ c. search rules)  -- write-item-sub-t21
-    (λ c κs. (search (open-less, rules), (search rules, (search (open-room, rules), (search rules, search (open-low, rules))))))  -- write-item-write-round-requires
+    (λ c κs. (search (open_less, rules), (search rules, (search (open_room, rules), (search rules, search (open_low, rules))))))  -- write-item-write-round-requires
     (λ c. search rules)  -- write-item-enum-known-head-3
-    (λ c. search (wrote-choice-deep, rules))  -- write-item-returns-2
+    (λ c. search (wrote_choice_deep, rules))  -- write-item-returns-2
     (λ c. search rules)  -- write-item-sub-t25
-    (λ c κs. (search rules, (search rules, (search rules, (search (choice-low, rules), search (choice-within, rules))))))  -- write-item-write-chosen-requires
+    (λ c κs. (search rules, (search rules, (search rules, (search (choice_low, rules), search (choice_within, rules))))))  -- write-item-write-chosen-requires
     (λ c. search rules)  -- write-item-enum-told
     (λ c. search rules)  -- write-item-same-length
-    (λ c. search (wrote-test, rules))  -- write-item-returns-3
+    (λ c. search (wrote_test, rules))  -- write-item-returns-3
     (λ c. search rules)  -- write-item-same-length-2
-    (λ c. search (wrote-opened, rules))  -- write-item-returns-4
+    (λ c. search (wrote_opened, rules))  -- write-item-returns-4
     (λ c. search rules)  -- write-item-same-length-3
-    (λ c. search (wrote-chosen, rules))  -- write-item-returns-5
+    (λ c. search (wrote_chosen, rules))  -- write-item-returns-5
     (λ c. search (wrote_nothing, rules)))  -- write-item-returns-6
     (λ t. write-rest-lts.spec (
       read-connective-reads.Asked,
@@ -217,17 +217,17 @@ pub +write-chosen-write-filter-write-item-write-rest-write-round-spec : {M : Typ
     (λ c. search rules)  -- write-rest-enum-known-found
     (λ c. search rules)  -- write-rest-add-next-row
     (λ c. search rules)  -- write-rest-add-next-row-2
-    (λ c κs. (search (chain-falls, rules), (search rules, search (chain-room, rules))))  -- write-rest-write-item-requires
+    (λ c κs. (search (chain_falls, rules), (search rules, search (chain_room, rules))))  -- write-rest-write-item-requires
     (λ c. search rules)  -- write-rest-enum-known-item
-    (λ c κs. search (chain-joins, rules))  -- write-rest-write-join-requires
-    (λ c. search (chain-less, rules))  -- write-rest-loop-less
-    (λ c. search (chain-takes, rules))  -- write-rest-loop-again
+    (λ c κs. search (chain_joins, rules))  -- write-rest-write-join-requires
+    (λ c. search (chain_less, rules))  -- write-rest-loop-less
+    (λ c. search (chain_takes, rules))  -- write-rest-loop-again
     (λ c. search rules)  -- write-rest-enum-told
     (λ c. search rules)  -- write-rest-same-length
-    (λ c. search (chain-no-item, rules))  -- write-rest-returns
+    (λ c. search (chain_no_item, rules))  -- write-rest-returns
     (λ c. search rules)  -- write-rest-enum-told-2
     (λ c. search rules)  -- write-rest-same-length-2
-    (λ c. search (chain-ends, rules)))  -- write-rest-returns-2
+    (λ c. search (chain_ends, rules)))  -- write-rest-returns-2
     λ t. write-round-lts.spec
     (write-filter-below t, write-filter.Post, close-round-reads.Asked, close-round-reads.Learnt)
     (write-round-at t)
@@ -236,7 +236,7 @@ pub +write-chosen-write-filter-write-item-write-rest-write-round-spec : {M : Typ
     (λ c. search rules)  -- write-round-enum-known-inner
     (λ c. search rules)  -- write-round-enum-told
     (λ c. search rules)  -- write-round-same-length
-    (λ c. search (round-no-filter, rules))  -- write-round-returns
-    (λ c κs. (search (filter-within, rules), search (round_room, rules)))  -- write-round-close-round-requires
+    (λ c. search (round_no_filter, rules))  -- write-round-returns
+    (λ c κs. (search (filter_within, rules), search (round_room, rules)))  -- write-round-close-round-requires
     (λ c. search rules)  -- write-round-same-length-2
     (λ c. search (round-closed, rules))  -- write-round-returns-2

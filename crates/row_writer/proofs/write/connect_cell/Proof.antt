@@ -1,6 +1,6 @@
 -- `row_writer::write::connect_cell` meets its contract. Assumes nothing.
 use borrow.Author.Rules.{rules}
-use Rattle.row_writer.proofs.Writing.{connect-and, connect-or}
+use Rattle.row_writer.proofs.Writing.{connect_and, connect_or}
 use Rattle.row_writer.proofs.write.connect_cell.Statement.{statement}
 use Rattle.row_writer.proofs.write.connect_cell.Tie as tie
 
@@ -26,10 +26,10 @@ add-result-2 : tie.Need-overflow-add-result-2
 add-result-2 c = search rules
 
 returns : tie.Need-returns
-returns c = search (connect-and, rules)
+returns c = search (connect_and, rules)
 
 returns-2 : tie.Need-returns-2
-returns-2 c = search (connect-or, rules)
+returns-2 c = search (connect_or, rules)
 
 pub connect-cell-spec : {M : Type 1} → statement M
 connect-cell-spec =

@@ -1,8 +1,8 @@
 -- `row_writer::write::write_member` meets its contract: a test was found behind the brackets, or none. Assumes nothing.
 use borrow.Author.Rules.{rules}
-use Rattle.syntax.proofs.Places.{member-in-place}
+use Rattle.syntax.proofs.Places.{member_in_place}
 use Rattle.row_writer.proofs.Numbers.{member-read}
-use Rattle.row_writer.proofs.Writing.{member-none, member-found}
+use Rattle.row_writer.proofs.Writing.{member_none, member-found}
 use Rattle.row_writer.proofs.write.write_member.Statement.{statement}
 use Rattle.row_writer.proofs.write.write_member.Tie as tie
 
@@ -16,10 +16,10 @@ enum_told : tie.Need-enum-told
 enum_told c = search rules
 
 returns : tie.Need-returns
-returns c = search (member-none, rules)
+returns c = search (member_none, rules)
 
 write-pair-requires : tie.Need-write-pair-requires
-write-pair-requires c κs = (search rules, (search rules, (search (member-in-place, rules), (search (member-read, rules), (search rules, (search rules, search rules))))))
+write-pair-requires c κs = (search rules, (search rules, (search (member_in_place, rules), (search (member-read, rules), (search rules, (search rules, search rules))))))
 
 same_length : tie.Need-same-length
 same_length c = search rules

@@ -1,6 +1,6 @@
 -- `row_writer::write::write_pair` meets its contract: the cell of the brackets, and behind it the test's. Assumes nothing.
 use borrow.Author.Rules.{rules}
-use Rattle.row_writer.proofs.Writing.{pair-written, second-room, one-test-more}
+use Rattle.row_writer.proofs.Writing.{pair-written, second_room, one_test_more}
 use Rattle.row_writer.proofs.write.write_pair.Statement.{statement}
 use Rattle.row_writer.proofs.write.write_pair.Tie as tie
 
@@ -26,13 +26,13 @@ mul-rows-3 : tie.Need-overflow-mul-rows-3
 mul-rows-3 c = search rules
 
 slice-write-rows-2 : tie.Need-slice-write-rows-2
-slice-write-rows-2 c = search (second-room, rules)
+slice-write-rows-2 c = search (second_room, rules)
 
 test-summary-requires : tie.Need-test-summary-requires
 test-summary-requires c κs = search rules
 
 join-summaries-requires : tie.Need-join-summaries-requires
-join-summaries-requires c κs = search (one-test-more, rules)
+join-summaries-requires c κs = search (one_test_more, rules)
 
 add-t14 : tie.Need-overflow-add-t14
 add-t14 c = search rules

@@ -1,6 +1,6 @@
 -- `row_writer::write::write_test` meets its contract: the cell is the test's number, and it is counted with its fault. Assumes nothing.
 use borrow.Author.Rules.{rules}
-use Rattle.row_writer.proofs.Writing.{test-written}
+use Rattle.row_writer.proofs.Writing.{test_written}
 use Rattle.row_writer.proofs.write.write_test.Statement.{statement}
 use Rattle.row_writer.proofs.write.write_test.Tie as tie
 
@@ -23,7 +23,7 @@ same_length : tie.Need-same-length
 same_length c = search rules
 
 returns : tie.Need-returns
-returns c = search (test-written, rules)
+returns c = search (test_written, rules)
 
 pub write-test-spec : {M : Type 1} → statement M
 write-test-spec =

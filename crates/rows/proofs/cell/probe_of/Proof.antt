@@ -1,6 +1,6 @@
 -- `rows::cell::probe_of` meets its contract: each part of the number is what the division leaves. Assumes nothing.
 use borrow.Author.Rules.{rules}
-use Rattle.rows.specs.Cells.{probeOf}
+use Rattle.rows.specs.Cells.{probe_of}
 use Rattle.rows.proofs.cell.probe_of.Statement.{statement}
 use Rattle.rows.proofs.cell.probe_of.Tie as tie
 
@@ -14,7 +14,7 @@ cast-t9 : tie.Need-overflow-cast-t9
 cast-t9 c = search rules
 
 returns : tie.Need-returns
-unfolding probeOf
+unfolding probe_of
 returns c = search rules
 
 pub probe-of-spec : {M : Type 1} → statement M

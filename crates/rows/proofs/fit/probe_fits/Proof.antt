@@ -1,7 +1,7 @@
 -- `rows::fit::probe_fits` meets its contract. Assumes nothing.
 use borrow.Author.Rules.{rules}
 use borrow.Author.Tests.{not-true, not-false}
-use Rattle.rows.proofs.Fitting.{probe-no-kind, probe-outside, probe-no-value, probe-value}
+use Rattle.rows.proofs.Fitting.{probe_no_kind, probe_outside, probe_no_value, probe_value}
 use Rattle.syntax.proofs.Places.{value-at-placed}
 use Rattle.rows.proofs.fit.probe_fits.Statement.{statement}
 use Rattle.rows.proofs.fit.probe_fits.Tie as tie
@@ -16,10 +16,10 @@ kind-fits-requires : tie.Need-kind-fits-requires
 kind-fits-requires c κs = search rules
 
 returns : tie.Need-returns
-returns c = search (probe-no-kind, not-true, rules)
+returns c = search (probe_no_kind, not-true, rules)
 
 returns-2 : tie.Need-returns-2
-returns-2 c = search (probe-outside, not-false, rules)
+returns-2 c = search (probe_outside, not-false, rules)
 
 read-value-requires : tie.Need-read-value-requires
 read-value-requires c κs = search rules
@@ -34,10 +34,10 @@ enum_told : tie.Need-enum-told
 enum_told c = search rules
 
 returns-3 : tie.Need-returns-3
-returns-3 c = search (probe-value, not-false, rules)
+returns-3 c = search (probe_value, not-false, rules)
 
 returns-4 : tie.Need-returns-4
-returns-4 c = search (probe-no-value, not-false, rules)
+returns-4 c = search (probe_no_value, not-false, rules)
 
 pub probe-fits-spec : {M : Type 1} → statement M
 probe-fits-spec =

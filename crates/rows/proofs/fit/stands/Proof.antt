@@ -1,6 +1,6 @@
 -- `rows::fit::stands` meets its contract. Assumes nothing.
 use borrow.Author.Rules.{rules}
-use Rattle.rows.proofs.Fitting.{stands-fits, stands-not}
+use Rattle.rows.proofs.Fitting.{stands_fits, stands_not}
 use Rattle.rows.proofs.fit.stands.Statement.{statement}
 use Rattle.rows.proofs.fit.stands.Tie as tie
 
@@ -14,10 +14,10 @@ shared-slice-read-result : tie.Need-shared-slice-read-result
 shared-slice-read-result c = search rules
 
 returns : tie.Need-returns
-returns c = search (stands-fits, rules)
+returns c = search (stands_fits, rules)
 
 returns-2 : tie.Need-returns-2
-returns-2 c = search (stands-not, rules)
+returns-2 c = search (stands_not, rules)
 
 pub stands-spec : {M : Type 1} → statement M
 stands-spec =

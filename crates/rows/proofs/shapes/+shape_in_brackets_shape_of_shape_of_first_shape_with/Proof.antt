@@ -4,9 +4,9 @@ use Prim.Native.Nat.{◌+◌, ◌*◌, ◌-◌}
 use native.Mathlib.Omega.{arith}
 use lib.ListN.{length}
 use Rattle.rows.specs.Shapes.{InHand}
-use Rattle.rows.proofs.Cells.{test-index}
-use Rattle.rows.proofs.Reading.{part-few, tests-few, levels-few, brackets-few, hand-few-tests, hand-few-levels, hand_end, hand-test, hand-bracket, hand-unknown, hand-not, hand-large, hand-nothing, hand-join}
-use Rattle.rows.proofs.Reading.{first-misfits, first_fits, first-inside, first-bracket, first-not, first-connect, first-unknown, brackets-short, brackets-large, brackets-no-member, brackets-nothing, brackets-found, no-calls, no_rows, began-hand, began-none, began-read}
+use Rattle.rows.proofs.Cells.{test_index}
+use Rattle.rows.proofs.Reading.{part_few, tests_few, levels_few, brackets_few, hand_few_tests, hand_few_levels, hand_end, hand_test, hand_bracket, hand_unknown, hand_not, hand_large, hand_nothing, hand_join}
+use Rattle.rows.proofs.Reading.{first_misfits, first_fits, first-inside, first_bracket, first_not, first_connect, first_unknown, brackets_short, brackets_large, brackets_no_member, brackets_nothing, brackets_found, no_calls, no_rows, began_hand, began_none, began_read}
 use borrow.Author.Rules.{rules}
 use Prim.Native.Nat.{ℕ, ◌<◌}
 use borrow.Fn.Kinds.{In}
@@ -117,22 +117,22 @@ pub +shape-in-brackets-shape-of-shape-of-first-shape-with-spec : {M : Type 1} �
     )
     (shape-in-brackets-at t)
     shape-in-brackets.Post
-    (λ c. search (brackets-short, rules))  -- shape-in-brackets-returns
+    (λ c. search (brackets_short, rules))  -- shape-in-brackets-returns
     (λ c. search rules)  -- shape-in-brackets-sub-if2
-    (λ c. search (brackets-large, rules))  -- shape-in-brackets-returns-2
+    (λ c. search (brackets_large, rules))  -- shape-in-brackets-returns-2
     (λ c. search rules)  -- shape-in-brackets-shared-slice-read-member-of
     (λ c κs. search rules)  -- shape-in-brackets-member-of-requires
-    (λ c. search (brackets-no-member, rules))  -- shape-in-brackets-returns-3
+    (λ c. search (brackets_no_member, rules))  -- shape-in-brackets-returns-3
     (λ c. search rules)  -- shape-in-brackets-add-end
     (λ c. search rules)  -- shape-in-brackets-sub-shape-of
     (λ c. search rules)  -- shape-in-brackets-part-shape-of-start
     (λ c. search rules)  -- shape-in-brackets-part-shape-of-end
-    (λ c κs. (omega arith, (search rules, (search rules, (search rules, search (part-few, rules))))))  -- shape-in-brackets-shape-of-requires
+    (λ c κs. (omega arith, (search rules, (search rules, (search rules, search (part_few, rules))))))  -- shape-in-brackets-shape-of-requires
     (λ c. search rules)  -- shape-in-brackets-enum-known-inner
-    (λ c κs. (search (tests-few, rules), (search (levels-few, rules), search rules)))  -- shape-in-brackets-deeper-requires
+    (λ c κs. (search (tests_few, rules), (search (levels_few, rules), search rules)))  -- shape-in-brackets-deeper-requires
     (λ c. search rules)  -- shape-in-brackets-enum-told
-    (λ c. search (brackets-found, rules))  -- shape-in-brackets-returns-4
-    (λ c. search (brackets-nothing, rules)))  -- shape-in-brackets-returns-5
+    (λ c. search (brackets_found, rules))  -- shape-in-brackets-returns-4
+    (λ c. search (brackets_nothing, rules)))  -- shape-in-brackets-returns-5
     (λ t. shape-of-lts.spec (
       shape-of-first-below t,
       shape-of-first.Post,
@@ -141,15 +141,15 @@ pub +shape-in-brackets-shape-of-shape-of-first-shape-with-spec : {M : Type 1} �
     )
     (shape-of-at t)
     shape_of.Post
-    (λ c. search (no-calls, rules))  -- shape-of-returns
+    (λ c. search (no_calls, rules))  -- shape-of-returns
     (λ c. search (no_rows, rules))  -- shape-of-returns-2
     (λ c. search rules)  -- shape-of-sub-inner
     (λ c κs. (omega arith, (search rules, (search rules, (search rules, (search rules, search rules))))))  -- shape-of-shape-of-first-requires
     (λ c. search rules)  -- shape-of-enum-known-first
-    (λ c κs. (omega arith, (search rules, (search rules, (search rules, (search rules, search (began-hand, rules)))))))  -- shape-of-shape-with-requires
+    (λ c κs. (omega arith, (search rules, (search rules, (search rules, (search rules, search (began_hand, rules)))))))  -- shape-of-shape-with-requires
     (λ c. search rules)  -- shape-of-enum-told
-    (λ c. search (began-read, rules))  -- shape-of-returns-3
-    (λ c. search (began-none, rules)))  -- shape-of-returns-4
+    (λ c. search (began_read, rules))  -- shape-of-returns-3
+    (λ c. search (began_none, rules)))  -- shape-of-returns-4
     (λ t. shape-of-first-lts.spec (
       row-of-reads.Asked,
       row-of-reads.Learnt,
@@ -163,7 +163,7 @@ pub +shape-in-brackets-shape-of-shape-of-first-shape-with-spec : {M : Type 1} �
     (λ c. search rules)  -- shape-of-first-shared-slice-read-row-of
     (λ c κs. search rules)  -- shape-of-first-row-of-requires
     (λ c. search rules)  -- shape-of-first-enum-known-probe
-    (λ c κs. (search rules, (search rules, (search rules, search (test-index, rules)))))  -- shape-of-first-stands-requires
+    (λ c κs. (search rules, (search rules, (search rules, search (test_index, rules)))))  -- shape-of-first-stands-requires
     (λ c. search (first_fits, rules))  -- shape-of-first-returns
     (λ c. search rules)  -- shape-of-first-enum-known-size
     (λ c. search (first-inside, rules))  -- shape-of-first-returns-2
@@ -171,11 +171,11 @@ pub +shape-in-brackets-shape-of-shape-of-first-shape-with-spec : {M : Type 1} �
     (λ c. search rules)  -- shape-of-first-enum-told
     (λ c. search rules)  -- shape-of-first-enum-told-2
     (λ c. search rules)  -- shape-of-first-enum-told-3
-    (λ c. search (first-misfits, rules))  -- shape-of-first-returns-3
-    (λ c. search (first-bracket, rules))  -- shape-of-first-returns-4
-    (λ c. search (first-not, rules))  -- shape-of-first-returns-5
-    (λ c. search (first-connect, rules))  -- shape-of-first-returns-6
-    (λ c. search (first-unknown, rules)))  -- shape-of-first-returns-7
+    (λ c. search (first_misfits, rules))  -- shape-of-first-returns-3
+    (λ c. search (first_bracket, rules))  -- shape-of-first-returns-4
+    (λ c. search (first_not, rules))  -- shape-of-first-returns-5
+    (λ c. search (first_connect, rules))  -- shape-of-first-returns-6
+    (λ c. search (first_unknown, rules)))  -- shape-of-first-returns-7
     λ t. shape-with-lts.spec (
       row-of-reads.Asked,
       row-of-reads.Learnt,
@@ -195,30 +195,30 @@ pub +shape-in-brackets-shape-of-shape-of-first-shape-with-spec : {M : Type 1} �
     (λ c. search rules)  -- shape-with-shared-slice-read-row-of
     (λ c κs. search rules)  -- shape-with-row-of-requires
     (λ c. search rules)  -- shape-with-enum-told
-    (λ c κs. (search (hand-few-tests, rules), (search (hand-few-levels, rules), search rules)))  -- shape-with-deeper-requires
+    (λ c κs. (search (hand_few_tests, rules), (search (hand_few_levels, rules), search rules)))  -- shape-with-deeper-requires
     (λ c. search rules)  -- shape-with-add-at
     (λ c. search rules)  -- shape-with-loop-less
-    (λ c. search (hand-not, rules))  -- shape-with-loop-again
+    (λ c. search (hand_not, rules))  -- shape-with-loop-again
     (λ c. search rules)  -- shape-with-enum-known-size
     (λ c. search rules)  -- shape-with-add-start
     (λ c. search rules)  -- shape-with-sub-if1
-    (λ c. search (hand-large, rules))  -- shape-with-returns
+    (λ c. search (hand_large, rules))  -- shape-with-returns
     (λ c. search rules)  -- shape-with-add-end
     (λ c. search rules)  -- shape-with-mul-part
     (λ c. search rules)  -- shape-with-sub-part
     (λ c. search rules)  -- shape-with-part-part-start
     (λ c. search rules)  -- shape-with-part-part-end
-    (λ c κs. (omega arith, (search rules, (search rules, (search rules, search (part-few, rules))))))  -- shape-with-shape-of-requires
+    (λ c κs. (omega arith, (search rules, (search rules, (search rules, search (part_few, rules))))))  -- shape-with-shape-of-requires
     (λ c. search rules)  -- shape-with-enum-known-second
-    (λ c κs. (search (hand-few-tests, rules), (search (hand-few-levels, rules), (search (tests-few, rules), search (brackets-few, rules)))))  -- shape-with-joined-requires
+    (λ c κs. (search (hand_few_tests, rules), (search (hand_few_levels, rules), (search (tests_few, rules), search (brackets_few, rules)))))  -- shape-with-joined-requires
     (λ c. search rules)  -- shape-with-loop-less-2
-    (λ c. search (hand-join, rules))  -- shape-with-loop-again-2
+    (λ c. search (hand_join, rules))  -- shape-with-loop-again-2
     (λ c. search rules)  -- shape-with-enum-told-2
-    (λ c. search (hand-nothing, rules))  -- shape-with-returns-2
+    (λ c. search (hand_nothing, rules))  -- shape-with-returns-2
     (λ c. search rules)  -- shape-with-enum-told-3
-    (λ c. search (hand-test, rules))  -- shape-with-returns-3
+    (λ c. search (hand_test, rules))  -- shape-with-returns-3
     (λ c. search rules)  -- shape-with-enum-told-4
-    (λ c. search (hand-bracket, rules))  -- shape-with-returns-4
+    (λ c. search (hand_bracket, rules))  -- shape-with-returns-4
     (λ c. search rules)  -- shape-with-enum-told-5
-    (λ c. search (hand-unknown, rules))  -- shape-with-returns-5
+    (λ c. search (hand_unknown, rules))  -- shape-with-returns-5
     (λ c. search (hand_end, rules))  -- shape-with-returns-6

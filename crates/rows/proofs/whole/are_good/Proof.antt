@@ -1,6 +1,6 @@
 -- `rows::whole::are_good` meets its contract. Assumes nothing.
 use borrow.Author.Rules.{rules}
-use Rattle.rows.proofs.Good.{too_many, none-good, many-good, few-good}
+use Rattle.rows.proofs.Good.{too_many, none_good, many_good, few_good}
 use Rattle.rows.proofs.whole.are_good.Statement.{statement}
 use Rattle.rows.proofs.whole.are_good.Tie as tie
 
@@ -14,16 +14,16 @@ enum-known-shape : tie.Need-enum-known-shape
 enum-known-shape c = search rules
 
 returns-2 : tie.Need-returns-2
-returns-2 c = search (many-good, rules)
+returns-2 c = search (many_good, rules)
 
 enum_told : tie.Need-enum-told
 enum_told c = search rules
 
 returns-3 : tie.Need-returns-3
-returns-3 c = search (few-good, rules)
+returns-3 c = search (few_good, rules)
 
 returns-4 : tie.Need-returns-4
-returns-4 c = search (none-good, rules)
+returns-4 c = search (none_good, rules)
 
 pub are-good-spec : {M : Type 1} → statement M
 are-good-spec =

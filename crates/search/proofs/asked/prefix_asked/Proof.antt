@@ -1,6 +1,6 @@
 -- `search::asked::prefix_asked` meets its contract: the operator read at the beginning is the prefix, if it is one. Assumes nothing.
 use borrow.Author.Rules.{rules}
-use Rattle.search.proofs.Prefixes.{prefix-is, other-operator, no-operator}
+use Rattle.search.proofs.Prefixes.{prefix_is, other_operator, no_operator}
 use Rattle.search.proofs.asked.prefix_asked.Statement.{statement}
 use Rattle.search.proofs.asked.prefix_asked.Tie as tie
 
@@ -14,16 +14,16 @@ is-prefix-requires : tie.Need-is-prefix-requires
 is-prefix-requires c κs = search rules
 
 returns : tie.Need-returns
-returns c = search (prefix-is, rules)
+returns c = search (prefix_is, rules)
 
 returns-2 : tie.Need-returns-2
-returns-2 c = search (other-operator, rules)
+returns-2 c = search (other_operator, rules)
 
 enum_told : tie.Need-enum-told
 enum_told c = search rules
 
 returns-3 : tie.Need-returns-3
-returns-3 c = search (no-operator, rules)
+returns-3 c = search (no_operator, rules)
 
 pub prefix-asked-spec : {M : Type 1} → statement M
 prefix-asked-spec =

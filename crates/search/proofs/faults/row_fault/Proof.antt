@@ -1,6 +1,6 @@
 -- `search::faults::row_fault` meets its contract: a row keeps the name and the text of its alternative. Assumes nothing.
 use borrow.Author.Rules.{rules}
-use Rattle.search.proofs.Judging.{row-faulted}
+use Rattle.search.proofs.Judging.{row_faulted}
 use Rattle.search.proofs.faults.row_fault.Statement.{statement}
 use Rattle.search.proofs.faults.row_fault.Tie as tie
 
@@ -26,7 +26,7 @@ fault-at-requires : tie.Need-fault-at-requires
 fault-at-requires c κs = search rules
 
 returns : tie.Need-returns
-returns c = search (row-faulted, rules)
+returns c = search (row_faulted, rules)
 
 pub row-fault-spec : {M : Type 1} → statement M
 row-fault-spec =

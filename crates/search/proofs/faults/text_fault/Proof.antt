@@ -1,6 +1,6 @@
 -- `search::faults::text_fault` meets its contract: the tests are those of the definition. Assumes nothing.
 use borrow.Author.Rules.{rules}
-use Rattle.search.proofs.Judging.{prefix-within, fault-asked, token-readable, token-unreadable}
+use Rattle.search.proofs.Judging.{prefix_within, fault_asked, token-readable, token_unreadable}
 use Rattle.search.proofs.faults.text_fault.Statement.{statement}
 use Rattle.search.proofs.faults.text_fault.Tie as tie
 
@@ -14,16 +14,16 @@ refuse-requires : tie.Need-refuse-requires
 refuse-requires c κs = search rules
 
 returns-2 : tie.Need-returns-2
-returns-2 c = search (token-unreadable, rules)
+returns-2 c = search (token_unreadable, rules)
 
 asked-of-requires : tie.Need-asked-of-requires
 asked-of-requires c κs = search rules
 
 sub-kind-fault : tie.Need-overflow-sub-kind-fault
-sub-kind-fault c = search (prefix-within, rules)
+sub-kind-fault c = search (prefix_within, rules)
 
 part-kind-fault-start : tie.Need-slice-bounds-kind-fault-start
-part-kind-fault-start c = search (prefix-within, rules)
+part-kind-fault-start c = search (prefix_within, rules)
 
 part-kind-fault-end : tie.Need-slice-bounds-kind-fault-end
 part-kind-fault-end c = search rules
@@ -32,7 +32,7 @@ kind-fault-requires : tie.Need-kind-fault-requires
 kind-fault-requires c κs = search rules
 
 returns-3 : tie.Need-returns-3
-returns-3 c = search (fault-asked, rules)
+returns-3 c = search (fault_asked, rules)
 
 pub text-fault-spec : {M : Type 1} → statement M
 text-fault-spec =

@@ -1,11 +1,11 @@
 -- `search::says::row_says` meets its contract: a row keeps the name and the text of its alternative. Assumes nothing.
 use borrow.Author.Rules.{rules}
-use Rattle.search.proofs.Judging.{row-met, row-said}
+use Rattle.search.proofs.Judging.{row_met, row_said}
 use Rattle.search.proofs.says.row_says.Statement.{statement}
 use Rattle.search.proofs.says.row_says.Tie as tie
 
 returns : tie.Need-returns
-returns c = search (row-met, rules)
+returns c = search (row_met, rules)
 
 sub-says-at : tie.Need-overflow-sub-says-at
 sub-says-at c = search rules
@@ -29,7 +29,7 @@ says-at-requires : tie.Need-says-at-requires
 says-at-requires c κs = search rules
 
 returns-2 : tie.Need-returns-2
-returns-2 c = search (row-said, rules)
+returns-2 c = search (row_said, rules)
 
 pub row-says-spec : {M : Type 1} → statement M
 row-says-spec =

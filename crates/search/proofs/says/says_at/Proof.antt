@@ -1,6 +1,6 @@
 -- `search::says::says_at` meets its contract: what the name is on the sheet decides. Assumes nothing.
 use borrow.Author.Rules.{rules}
-use Rattle.search.proofs.Judging.{says-found, says-missing}
+use Rattle.search.proofs.Judging.{says-found, says_missing}
 use Rattle.search.proofs.says.says_at.Statement.{statement}
 use Rattle.search.proofs.says.says_at.Tie as tie
 
@@ -20,7 +20,7 @@ returns : tie.Need-returns
 returns c = search (says-found, rules)
 
 returns-2 : tie.Need-returns-2
-returns-2 c = search (says-missing, rules)
+returns-2 c = search (says_missing, rules)
 
 pub says-at-spec : {M : Type 1} → statement M
 says-at-spec =

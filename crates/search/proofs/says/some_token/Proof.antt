@@ -1,15 +1,15 @@
 -- `search::says::some_token` meets its contract: the entries to come decide. Assumes nothing.
 use borrow.Author.Rules.{rules}
 use Rattle.block.proofs.Invariants.{Visited}
-use Rattle.block.proofs.Items.{visited-next, visited-decides, visited-end}
-use Rattle.card.specs.Card.{entry, entriesOf}
-use Rattle.card.proofs.Entries.{entries-start}
-use Rattle.search.proofs.Judging.{someAsked, asked_here, asked-next, asked-end}
+use Rattle.block.proofs.Items.{visited_next, visited_decides, visited_end}
+use Rattle.card.specs.Card.{entry, entries_of}
+use Rattle.card.proofs.Entries.{entries_start}
+use Rattle.search.proofs.Judging.{some_asked, asked_here, asked_next, asked_end}
 use Rattle.search.proofs.says.some_token.Statement.{statement}
 use Rattle.search.proofs.says.some_token.Tie as tie
 
 abbrev invariant-loop : tie.invariant-loop
-invariant-loop card index split asked at₀ left₀ at left = Visited entry (someAsked split asked index) (someAsked split asked index (entriesOf card)) card at left
+invariant-loop card index split asked at₀ left₀ at left = Visited entry (some_asked split asked index) (some_asked split asked index (entries_of card)) card at left
 
 abbrev decreases-loop : tie.decreases-loop
 decreases-loop card index split asked at₀ left₀ at left = left
@@ -18,7 +18,7 @@ entry-count-requires : tie.Need-entry-count-requires invariant-loop decreases-lo
 entry-count-requires c κs = search rules
 
 loop-holds : tie.Need-loop-init invariant-loop decreases-loop
-loop-holds c = search (entries-start, rules)
+loop-holds c = search (entries_start, rules)
 
 entry-at-requires : tie.Need-entry-at-requires invariant-loop decreases-loop
 entry-at-requires c κs = search rules
@@ -36,7 +36,7 @@ entry-asked-requires : tie.Need-entry-asked-requires invariant-loop decreases-lo
 entry-asked-requires c κs = search rules
 
 returns : tie.Need-returns invariant-loop decreases-loop
-returns c = search (visited-decides, asked_here, rules)
+returns c = search (visited_decides, asked_here, rules)
 
 sub-left : tie.Need-overflow-sub-left invariant-loop decreases-loop
 sub-left c = search rules
@@ -45,10 +45,10 @@ loop-less : tie.Need-loop-smaller invariant-loop decreases-loop
 loop-less c = search rules
 
 loop-again : tie.Need-loop-preserved invariant-loop decreases-loop
-loop-again c = search (visited-next, asked-next, rules)
+loop-again c = search (visited_next, asked_next, rules)
 
 returns-2 : tie.Need-returns-2 invariant-loop decreases-loop
-returns-2 c = search (visited-end, asked-end, rules)
+returns-2 c = search (visited_end, asked_end, rules)
 
 pub some-token-spec : {M : Type 1} → statement M
 some-token-spec =

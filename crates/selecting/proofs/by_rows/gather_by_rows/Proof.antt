@@ -2,8 +2,8 @@
 use borrow.Author.Rules.{rules}
 use Prim.Native.Nat.{◌-◌}
 use lib.ListN.{length}
-use Rattle.selecting.proofs.Gathering.{gathering-part, gathering-room, gathering-scaled, gathering-more, gathering-well-formed}
-use Rattle.selecting.proofs.ByRows.{Running, running-start, running-verdict, running-match, running-other, running-refused, running-end}
+use Rattle.selecting.proofs.Gathering.{gathering_part, gathering_room, gathering_scaled, gathering_more, gathering_well_formed}
+use Rattle.selecting.proofs.ByRows.{Running, running_start, running_verdict, running_match, running_other, running_refused, running_end}
 use Rattle.selecting.proofs.by_rows.gather_by_rows.Statement.{statement}
 use Rattle.selecting.proofs.by_rows.gather_by_rows.Tie as tie
 
@@ -41,10 +41,10 @@ lend-for-requires : tie.Need-lend-for-requires invariant-loop decreases-loop
 lend-for-requires c κs = search rules
 
 loop-holds : tie.Need-loop-init invariant-loop decreases-loop
-loop-holds c = search (running-start, rules)
+loop-holds c = search (running_start, rules)
 
 add-end : tie.Need-overflow-add-end invariant-loop decreases-loop
-add-end c = search (gathering-part, rules)
+add-end c = search (gathering_part, rules)
 
 sub-card : tie.Need-overflow-sub-card invariant-loop decreases-loop
 sub-card c = search rules
@@ -53,7 +53,7 @@ part-card-start : tie.Need-slice-bounds-card-start invariant-loop decreases-loop
 part-card-start c = search rules
 
 part-card-end : tie.Need-slice-bounds-card-end invariant-loop decreases-loop
-part-card-end c = search (gathering-part, rules)
+part-card-end c = search (gathering_part, rules)
 
 slice-aggregate-judge-by-rows : tie.Need-slice-aggregate-judge-by-rows invariant-loop decreases-loop
 slice-aggregate-judge-by-rows c = search rules
@@ -77,28 +77,28 @@ enum-known-verdict : tie.Need-enum-known-verdict invariant-loop decreases-loop
 enum-known-verdict c = search rules
 
 record-number-requires : tie.Need-record-number-requires invariant-loop decreases-loop
-record-number-requires c κs = search (gathering-well-formed, running-verdict, rules)
+record-number-requires c κs = search (gathering_well_formed, running_verdict, rules)
 
 mul-buffer : tie.Need-overflow-mul-buffer invariant-loop decreases-loop
-mul-buffer c = search (gathering-scaled, rules)
+mul-buffer c = search (gathering_scaled, rules)
 
 slice-write-buffer : tie.Need-slice-write-buffer invariant-loop decreases-loop
-slice-write-buffer c = search (gathering-room, rules)
+slice-write-buffer c = search (gathering_room, rules)
 
 add-count : tie.Need-overflow-add-count invariant-loop decreases-loop
-add-count c = search (gathering-more, rules)
+add-count c = search (gathering_more, rules)
 
 loop-less : tie.Need-loop-smaller invariant-loop decreases-loop
 loop-less c = search rules
 
 loop-again : tie.Need-loop-preserved invariant-loop decreases-loop
-loop-again c = search (running-match, rules)
+loop-again c = search (running_match, rules)
 
 loop-less-2 : tie.Need-loop-smaller-2 invariant-loop decreases-loop
 loop-less-2 c = search rules
 
 loop-again-2 : tie.Need-loop-preserved-2 invariant-loop decreases-loop
-loop-again-2 c = search (running-other, rules)
+loop-again-2 c = search (running_other, rules)
 
 enum-known-verdict-2 : tie.Need-enum-known-verdict-2 invariant-loop decreases-loop
 enum-known-verdict-2 c = search rules
@@ -107,13 +107,13 @@ same_length : tie.Need-same-length invariant-loop decreases-loop
 same_length c = search rules
 
 returns : tie.Need-returns invariant-loop decreases-loop
-returns c = search (running-refused, rules)
+returns c = search (running_refused, rules)
 
 same-length-2 : tie.Need-same-length-2 invariant-loop decreases-loop
 same-length-2 c = search rules
 
 returns-2 : tie.Need-returns-2 invariant-loop decreases-loop
-returns-2 c = search (running-end, rules)
+returns-2 c = search (running_end, rules)
 
 pub gather-by-rows-spec : {M : Type 1} → statement M
 gather-by-rows-spec =

@@ -1,5 +1,5 @@
 -- `sirophan::operations::spell` meets its contract: the table is that of the definition. Assumes nothing.
-use Rattle.sirophan.proofs.Spells.{spells-into}
+use Rattle.sirophan.proofs.Spells.{spells_into}
 use borrow.Author.Rules.{rules}
 use Rattle.sirophan.proofs.operations.spell.Statement.{statement}
 use Rattle.sirophan.proofs.operations.spell.Tie as tie
@@ -11,7 +11,7 @@ same_length : tie.Need-same-length
 same_length c = search rules
 
 returns : tie.Need-returns
-returns c = search (spells-into, rules)
+returns c = search (spells_into, rules)
 
 pub spell-spec : {M : Type 1} → statement M
 spell-spec = tie.close (tie.spec spell-requires same_length returns)

@@ -1,11 +1,11 @@
 -- `spell::walk::write_choice` meets its contract: its two texts stand one after the other. Assumes nothing.
-use Rattle.spell.proofs.Parts.{bundle-room, bundle-within, square-room, choice-long, choice-puts}
+use Rattle.spell.proofs.Parts.{bundle_room, bundle-within, square_room, choice_long, choice_puts}
 use borrow.Author.Rules.{rules}
 use Rattle.spell.proofs.walk.write_choice.Statement.{statement}
 use Rattle.spell.proofs.walk.write_choice.Tie as tie
 
 write-word-requires : tie.Need-write-word-requires
-write-word-requires c κs = search (bundle-room, rules)
+write-word-requires c κs = search (bundle_room, rules)
 
 slice-aggregate-write-word : tie.Need-slice-aggregate-write-word
 slice-aggregate-write-word c = search rules
@@ -20,16 +20,16 @@ part-write-word-end : tie.Need-slice-bounds-write-word-end
 part-write-word-end c = search rules
 
 write-word-requires-2 : tie.Need-write-word-requires-2
-write-word-requires-2 c κs = search (square-room, rules)
+write-word-requires-2 c κs = search (square_room, rules)
 
 add-result : tie.Need-overflow-add-result
 add-result c = search rules
 
 same_length : tie.Need-same-length
-same_length c = search (choice-long, rules)
+same_length c = search (choice_long, rules)
 
 returns : tie.Need-returns
-returns c = search (choice-puts, rules)
+returns c = search (choice_puts, rules)
 
 pub write-choice-spec : {M : Type 1} → statement M
 write-choice-spec =

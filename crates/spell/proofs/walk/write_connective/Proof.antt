@@ -1,5 +1,5 @@
 -- `spell::walk::write_connective` meets its contract: each branch writes its case of the definition. Assumes nothing.
-use Rattle.spell.proofs.Parts.{and-room, and-puts, or-room, or_puts}
+use Rattle.spell.proofs.Parts.{and_room, and_puts, or_room, or_puts}
 use borrow.Author.Rules.{rules}
 use Rattle.spell.proofs.walk.write_connective.Statement.{statement}
 use Rattle.spell.proofs.walk.write_connective.Tie as tie
@@ -11,7 +11,7 @@ slice-aggregate-write-word : tie.Need-slice-aggregate-write-word
 slice-aggregate-write-word c = search rules
 
 write-word-requires : tie.Need-write-word-requires
-write-word-requires c κs = search (and-room, rules)
+write-word-requires c κs = search (and_room, rules)
 
 enum-told-2 : tie.Need-enum-told-2
 enum-told-2 c = search rules
@@ -20,13 +20,13 @@ slice-aggregate-write-word-2 : tie.Need-slice-aggregate-write-word-2
 slice-aggregate-write-word-2 c = search rules
 
 write-word-requires-2 : tie.Need-write-word-requires-2
-write-word-requires-2 c κs = search (or-room, rules)
+write-word-requires-2 c κs = search (or_room, rules)
 
 same_length : tie.Need-same-length
 same_length c = search rules
 
 returns : tie.Need-returns
-returns c = search (and-puts, rules)
+returns c = search (and_puts, rules)
 
 same-length-2 : tie.Need-same-length-2
 same-length-2 c = search rules

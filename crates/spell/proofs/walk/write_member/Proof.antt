@@ -1,6 +1,6 @@
 -- `spell::walk::write_member` meets its contract: its two texts stand one after the other. Assumes nothing.
 use native.Mathlib.Omega.{arith}
-use Rattle.spell.proofs.Parts.{dot-room, dot-within, member-room, member-within, member-long, member-puts}
+use Rattle.spell.proofs.Parts.{dot_room, dot_within, member_room, member-within, member_long, member_puts}
 use borrow.Author.Rules.{rules}
 use Rattle.spell.proofs.walk.write_member.Statement.{statement}
 use Rattle.spell.proofs.walk.write_member.Tie as tie
@@ -9,28 +9,28 @@ slice-aggregate-write-word : tie.Need-slice-aggregate-write-word
 slice-aggregate-write-word c = search rules
 
 write-word-requires : tie.Need-write-word-requires
-write-word-requires c κs = search (dot-room, rules)
+write-word-requires c κs = search (dot_room, rules)
 
 sub-write-test : tie.Need-overflow-sub-write-test
-sub-write-test c = search (dot-within, rules)
+sub-write-test c = search (dot_within, rules)
 
 part-write-test-start : tie.Need-slice-bounds-write-test-start
-part-write-test-start c = search (dot-within, rules)
+part-write-test-start c = search (dot_within, rules)
 
 part-write-test-end : tie.Need-slice-bounds-write-test-end
 part-write-test-end c = search rules
 
 write-test-requires : tie.Need-write-test-requires
-write-test-requires c κs = (search rules, (search rules, (search rules, search (member-room, rules))))
+write-test-requires c κs = (search rules, (search rules, (search rules, search (member_room, rules))))
 
 add-result : tie.Need-overflow-add-result
 add-result c = record { fits = omega (arith, member-within c.before.before.before.before.before.before.before.before.before.before.before.args.filter.now c.before.before.before.before.before.before.before.before.before.before.before.args.test _ (search rules) c.before.before.before.before.before.before.write_word.ensures c.before.before.write-test.ensures) }
 
 same_length : tie.Need-same-length
-same_length c = search (member-long, rules)
+same_length c = search (member_long, rules)
 
 returns : tie.Need-returns
-returns c = search (member-puts, rules)
+returns c = search (member_puts, rules)
 
 pub write-member-spec : {M : Type 1} → statement M
 write-member-spec =

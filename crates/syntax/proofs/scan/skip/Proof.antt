@@ -2,19 +2,19 @@
 use borrow.Author.Rules.{rules}
 use Prim.Native.Nat.{◌-◌}
 use lib.ListN.{length}
-use Rattle.syntax.specs.Scan.{isSpace}
-use Rattle.base.proofs.Runs.{Scanned, scan-starts, scan-on, scan-stops, scan-ends}
+use Rattle.syntax.specs.Scan.{is_space}
+use Rattle.base.proofs.Runs.{Scanned, scan_starts, scan_on, scan_stops, scan_ends}
 use Rattle.syntax.proofs.scan.skip.Statement.{statement}
 use Rattle.syntax.proofs.scan.skip.Tie as tie
 
 abbrev invariant-loop : tie.invariant-loop
-invariant-loop s at i₀ i = Scanned isSpace s at i
+invariant-loop s at i₀ i = Scanned is_space s at i
 
 abbrev decreases-loop : tie.decreases-loop
 decreases-loop s at i₀ i = length s - i
 
 loop-holds : tie.Need-loop-init invariant-loop decreases-loop
-loop-holds c = search (scan-starts, rules)
+loop-holds c = search (scan_starts, rules)
 
 shared-slice-read-is-space : tie.Need-shared-slice-read-is-space invariant-loop decreases-loop
 shared-slice-read-is-space c = search rules
@@ -29,13 +29,13 @@ loop-less : tie.Need-loop-smaller invariant-loop decreases-loop
 loop-less c = search rules
 
 loop-again : tie.Need-loop-preserved invariant-loop decreases-loop
-loop-again c = search (scan-on, rules)
+loop-again c = search (scan_on, rules)
 
 returns : tie.Need-returns invariant-loop decreases-loop
-returns c = search (scan-stops, rules)
+returns c = search (scan_stops, rules)
 
 returns-2 : tie.Need-returns-2 invariant-loop decreases-loop
-returns-2 c = search (scan-ends, rules)
+returns-2 c = search (scan_ends, rules)
 
 pub skip-spec : {M : Type 1} → statement M
 skip-spec =

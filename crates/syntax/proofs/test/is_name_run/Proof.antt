@@ -1,12 +1,12 @@
 -- `syntax::test::is_name_run` meets its contract. Assumes nothing.
 use borrow.Author.Rules.{rules}
 use borrow.Author.Tests.{not-true, not-false}
-use Rattle.syntax.proofs.Tests.{run-empty, run_inside, run-start-not, run-name}
+use Rattle.syntax.proofs.Tests.{run_empty, run_inside, run-start_not, run-name}
 use Rattle.syntax.proofs.test.is_name_run.Statement.{statement}
 use Rattle.syntax.proofs.test.is_name_run.Tie as tie
 
 returns : tie.Need-returns
-returns c = search (run-empty, rules)
+returns c = search (run_empty, rules)
 
 shared-slice-read-is-name-start : tie.Need-shared-slice-read-is-name-start
 shared-slice-read-is-name-start c = search (run_inside, rules)
@@ -15,7 +15,7 @@ is-name-start-requires : tie.Need-is-name-start-requires
 is-name-start-requires c κs = search rules
 
 returns-2 : tie.Need-returns-2
-returns-2 c = search (run-start-not, not-true, rules)
+returns-2 c = search (run-start_not, not-true, rules)
 
 sub-is-reserved : tie.Need-overflow-sub-is-reserved
 sub-is-reserved c = search rules

@@ -3,8 +3,8 @@ use borrow.Author.Rules.{rules}
 use Prim.Native.Nat.{◌-◌}
 use mathlib.Core.Path.{refl}
 use mathlib.Core.List.{flatten}
-use Rattle.base.specs.Operators.{operatorWords}
-use Rattle.syntax.proofs.Operators.{operatorLetters, Trying, trying-starts, operator-short, trying-found, trying-next, trying-ends}
+use Rattle.base.specs.Operators.{operator_words}
+use Rattle.syntax.proofs.Operators.{operator_letters, Trying, trying_starts, operator_short, trying_found, trying_next, trying_ends}
 use Rattle.syntax.proofs.test.read_operator.Statement.{statement}
 use Rattle.syntax.proofs.test.read_operator.Tie as tie
 
@@ -18,7 +18,7 @@ sub-if1 : tie.Need-overflow-sub-if1 invariant-loop decreases-loop
 sub-if1 c = search rules
 
 returns : tie.Need-returns invariant-loop decreases-loop
-returns c = search (operator-short, rules)
+returns c = search (operator_short, rules)
 
 shared-slice-read-first : tie.Need-shared-slice-read-first invariant-loop decreases-loop
 shared-slice-read-first c = search rules
@@ -30,8 +30,8 @@ shared-slice-read-second : tie.Need-shared-slice-read-second invariant-loop decr
 shared-slice-read-second c = search rules
 
 loop-holds : tie.Need-loop-init invariant-loop decreases-loop
-unfolding operatorLetters flatten operatorWords
-loop-holds c = trying-starts _ _ _ refl
+unfolding operator_letters flatten operator_words
+loop-holds c = trying_starts _ _ _ refl
 
 cast-i : tie.Need-overflow-cast-i invariant-loop decreases-loop
 cast-i c = search rules
@@ -52,7 +52,7 @@ same-letters-requires : tie.Need-same-letters-requires invariant-loop decreases-
 same-letters-requires c κs = search rules
 
 returns-2 : tie.Need-returns-2 invariant-loop decreases-loop
-returns-2 c = search (trying-found, rules)
+returns-2 c = search (trying_found, rules)
 
 add-k : tie.Need-overflow-add-k invariant-loop decreases-loop
 add-k c = search rules
@@ -61,10 +61,10 @@ loop-less : tie.Need-loop-smaller invariant-loop decreases-loop
 loop-less c = search rules
 
 loop-again : tie.Need-loop-preserved invariant-loop decreases-loop
-loop-again c = search (trying-next, rules)
+loop-again c = search (trying_next, rules)
 
 returns-3 : tie.Need-returns-3 invariant-loop decreases-loop
-returns-3 c = search (trying-ends, rules)
+returns-3 c = search (trying_ends, rules)
 
 pub read-operator-spec : {M : Type 1} → statement M
 read-operator-spec =

@@ -3,7 +3,7 @@ use borrow.Author.Rules.{rules}
 use Prim.Native.Nat.{◌-◌}
 use mathlib.Core.Path.{◌≡◌, refl}
 use lib.ListN.{length}
-use Rattle.syntax.proofs.Decoding.{Decoding, decoding-starts, decoding-byte, decoding-backslash, decoding-ends}
+use Rattle.syntax.proofs.Decoding.{Decoding, decoding_starts, decoding_byte, decoding_backslash, decoding_ends}
 use Rattle.syntax.proofs.value.decode.Statement.{statement}
 use Rattle.syntax.proofs.value.decode.Tie as tie
 
@@ -14,7 +14,7 @@ abbrev decreases-loop : tie.decreases-loop
 decreases-loop raw out₀ i₀ n₀ pending₀ out i n pending = length raw - i
 
 loop-holds : tie.Need-loop-init invariant-loop decreases-loop
-loop-holds c = (search (decoding-starts, rules), refl)
+loop-holds c = (search (decoding_starts, rules), refl)
 
 shared-slice-read-piece : tie.Need-shared-slice-read-piece invariant-loop decreases-loop
 shared-slice-read-piece c = search rules
@@ -38,7 +38,7 @@ loop-less : tie.Need-loop-smaller invariant-loop decreases-loop
 loop-less c = search rules
 
 loop-again : tie.Need-loop-preserved invariant-loop decreases-loop
-loop-again c = (search (decoding-byte, rules), search rules)
+loop-again c = (search (decoding_byte, rules), search rules)
 
 enum_told : tie.Need-enum-told invariant-loop decreases-loop
 enum_told c = search rules
@@ -50,13 +50,13 @@ loop-less-2 : tie.Need-loop-smaller-2 invariant-loop decreases-loop
 loop-less-2 c = search rules
 
 loop-again-2 : tie.Need-loop-preserved-2 invariant-loop decreases-loop
-loop-again-2 c = (search (decoding-backslash, rules), search rules)
+loop-again-2 c = (search (decoding_backslash, rules), search rules)
 
 same_length : tie.Need-same-length invariant-loop decreases-loop
 same_length c = search rules
 
 returns : tie.Need-returns invariant-loop decreases-loop
-returns c = search (decoding-ends, rules)
+returns c = search (decoding_ends, rules)
 
 pub decode-spec : {M : Type 1} → statement M
 decode-spec =

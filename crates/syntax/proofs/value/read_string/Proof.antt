@@ -2,7 +2,7 @@
 use borrow.Author.Rules.{rules}
 use Prim.Native.Nat.{◌-◌}
 use lib.ListN.{length}
-use Rattle.syntax.proofs.Values.{Reading, string-starts, string-more, string-closes, string-wrong, string-open}
+use Rattle.syntax.proofs.Values.{Reading, string_starts, string_more, string_closes, string_wrong, string_open}
 use Rattle.syntax.proofs.value.read_string.Statement.{statement}
 use Rattle.syntax.proofs.value.read_string.Tie as tie
 
@@ -13,7 +13,7 @@ abbrev decreases-loop : tie.decreases-loop
 decreases-loop s at i₀ pending₀ escaped₀ i pending escaped = length s - i
 
 loop-holds : tie.Need-loop-init invariant-loop decreases-loop
-loop-holds c = search (string-starts, rules)
+loop-holds c = search (string_starts, rules)
 
 shared-slice-read-string-step : tie.Need-shared-slice-read-string-step invariant-loop decreases-loop
 shared-slice-read-string-step c = search rules
@@ -34,22 +34,22 @@ loop-less : tie.Need-loop-smaller invariant-loop decreases-loop
 loop-less c = search rules
 
 loop-again : tie.Need-loop-preserved invariant-loop decreases-loop
-loop-again c = search (string-more, rules)
+loop-again c = search (string_more, rules)
 
 enum_told : tie.Need-enum-told invariant-loop decreases-loop
 enum_told c = search rules
 
 returns : tie.Need-returns invariant-loop decreases-loop
-returns c = search (string-closes, rules)
+returns c = search (string_closes, rules)
 
 enum-told-2 : tie.Need-enum-told-2 invariant-loop decreases-loop
 enum-told-2 c = search rules
 
 returns-2 : tie.Need-returns-2 invariant-loop decreases-loop
-returns-2 c = search (string-wrong, rules)
+returns-2 c = search (string_wrong, rules)
 
 returns-3 : tie.Need-returns-3 invariant-loop decreases-loop
-returns-3 c = search (string-open, rules)
+returns-3 c = search (string_open, rules)
 
 pub read-string-spec : {M : Type 1} → statement M
 read-string-spec =

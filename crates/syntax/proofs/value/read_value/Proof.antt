@@ -1,12 +1,12 @@
 -- `syntax::value::read_value` meets its contract: the tests are those of the definition. Assumes nothing.
 use native.Mathlib.Omega.{arith}
 use borrow.Author.Rules.{rules}
-use Rattle.syntax.proofs.Values.{value-end, value-string, value-open, value-bare, value_none, string-within}
+use Rattle.syntax.proofs.Values.{value_end, value-string, value_open, value_bare, value_none, string-within}
 use Rattle.syntax.proofs.value.read_value.Statement.{statement}
 use Rattle.syntax.proofs.value.read_value.Tie as tie
 
 returns : tie.Need-returns
-returns c = search (value-end, rules)
+returns c = search (value_end, rules)
 
 shared-slice-read-b : tie.Need-shared-slice-read-b
 shared-slice-read-b c = search rules
@@ -31,7 +31,7 @@ enum_told : tie.Need-enum-told
 enum_told c = search rules
 
 returns-3 : tie.Need-returns-3
-returns-3 c = search (value-open, rules)
+returns-3 c = search (value_open, rules)
 
 is-bare-requires : tie.Need-is-bare-requires
 is-bare-requires c κs = search rules
@@ -40,7 +40,7 @@ bare-end-requires : tie.Need-bare-end-requires
 bare-end-requires c κs = search rules
 
 returns-4 : tie.Need-returns-4
-returns-4 c = search (value-bare, rules)
+returns-4 c = search (value_bare, rules)
 
 returns-5 : tie.Need-returns-5
 returns-5 c = search (value_none, rules)

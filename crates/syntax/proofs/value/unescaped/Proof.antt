@@ -1,7 +1,7 @@
 -- `syntax::value::unescaped` meets its contract: each arm is a case of the definition. Assumes nothing.
 use mathlib.Core.Path.{ap, sym}
 use Rattle.syntax.specs.Strings.{unescaped}
-use Rattle.syntax.proofs.Bytes.{unescaped-other}
+use Rattle.syntax.proofs.Bytes.{unescaped_other}
 use Rattle.syntax.proofs.value.unescaped.Statement.{statement}
 use Rattle.syntax.proofs.value.unescaped.Tie as tie
 
@@ -26,7 +26,7 @@ unfolding unescaped
 returns-5 c = ap unescaped (sym c.match.keys5)
 
 returns-6 : tie.Need-returns-6
-returns-6 c = let n = c.match.rest in unescaped-other _ n.0.0.0.0.1 n.0.0.0.1 n.0.0.1 n.0.1 n.1
+returns-6 c = let n = c.match.rest in unescaped_other _ n.0.0.0.0.1 n.0.0.0.1 n.0.0.1 n.0.1 n.1
 
 pub unescaped-spec : {M : Type 1} → statement M
 unescaped-spec = tie.close (tie.spec returns returns-2 returns-3 returns-4 returns-5 returns-6)
