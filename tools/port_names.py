@@ -121,6 +121,16 @@ def antt(text, table, keep=(), steps=False):
     return "\n".join(out)
 
 
+def foreign(text):
+    """The names that a file imports from the kit's library."""
+    own = "|".join(sorted(os.listdir("crates")))
+    names = set()
+    for m in re.finditer(r"^(?:ghost )?use ([^{\n]*)\{([^}]*)\}", text, re.M):
+        if not re.match(rf"Rattle\.(?:{own})\.", m.group(1)):
+            names |= {n.split(" as ")[0].strip() for n in m.group(2).split(",")}
+    return names
+
+
 def quoted(text, table):
     """A comment or a page: what stands between backticks, and words with a capital inside."""
     text = re.sub(r"(?<![\w`.-])[a-z][a-z0-9]*[A-Z]\w*(?![\w-])", lambda m: table.get(m.group(0), m.group(0)), text)
@@ -168,10 +178,10 @@ def main():
             for old, new in MOVED.items():
                 text = text.replace(f".specs.{old}.", f".specs.{new}.").replace(f"pub mod {old}\n", f"pub mod {new}\n")
             if re.search(r"/proofs/.+/", path):
-                own = set(re.findall(r"^([\w'-]+) :", text, re.M)) | set(re.findall(r"^(?:abbrev |pub )+([\w'+-]+) :", text, re.M))
+                own = foreign(text) | set(re.findall(r"^([\w'-]+) :", text, re.M)) | set(re.findall(r"^(?:abbrev |pub )+([\w'+-]+) :", text, re.M))
                 write(path, antt(text, table, own, True))
             else:
-                write(path, antt(text, table))
+                write(path, antt(text, table, foreign(text)))
         elif path.endswith((".rt", ".edit")):
             text = read(path)
             for old, new in MOVED.items():
