@@ -10,7 +10,7 @@ use native.Mathlib.Omega.{arith}
 use native.Mathlib.Numerals.{add-one}
 use native.Mathlib.Nat.{add-zero, zero-add}
 use mathlib.Core.Path.{◌≡◌, refl, sym, ap, subst, ◌∙◌}
-use mathlib.Core.Bool.{Bool, true, false, cond, ◌&&◌, ◌||◌, and_true, and_false}
+use mathlib.Core.Bool.{Bool, true, false, cond, ◌&&◌, ◌||◌, and-true, and-false}
 use mathlib.Core.List.{List, [], ◌∷◌, ◌++◌}
 use lib.Dec.{eqb, ltb}
 use lib.ListN.{length, get_or, take, drop, drop_of_length-le}
@@ -361,9 +361,9 @@ over_mode xs at (Mode.MemberName from) = refl
 
 over-digits : (k : List Bracket) (n : ℕ) (f : Phase) → over (state f k n) ≡ (item_over f && eqb (digits k) 1)
 unfolding digits
-over-digits [] n f = sym (and_true (item_over f))
-over-digits (round_open ∷ k) n f = sym (ap (λ (b : Bool). item_over f && b) (ne_eqb (2 * digits k) 1 (λ e. omega (arith, digits_some k))) ∙ and_false (item_over f))
-over-digits (square-open ∷ k) n f = sym (ap (λ (b : Bool). item_over f && b) (ne_eqb (2 * digits k + 1) 1 (λ e. omega (arith, digits_some k))) ∙ and_false (item_over f))
+over-digits [] n f = sym (and-true (item_over f))
+over-digits (round_open ∷ k) n f = sym (ap (λ (b : Bool). item_over f && b) (ne_eqb (2 * digits k) 1 (λ e. omega (arith, digits_some k))) ∙ and-false (item_over f))
+over-digits (square-open ∷ k) n f = sym (ap (λ (b : Bool). item_over f && b) (ne_eqb (2 * digits k + 1) 1 (λ e. omega (arith, digits_some k))) ∙ and-false (item_over f))
 
 -- as the code tests it
 pub over_not : (r : Reached) (t : Bool) → t ≡ coded.item_over r.mode → t ≡ false → false ≡ coded.over r
