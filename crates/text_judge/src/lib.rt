@@ -1,5 +1,7 @@
 // Judging a card by a filter's text. A test whose join is already decided is read and not judged: the verdict is the same, and
 // that the test has a meaning was for check to say, before any card.
+#![tactic(auto)]
+
 ghost use Rattle.std.specs.Prelude.{◌≡◌, cond, not, ◌&&◌, ◌≤◌, ◌<◌, length};
 ghost use Rattle.sheet.specs.Sheet.{parameters_of, read_sheet};
 ghost use Rattle.card.specs.Card.{entries_of, read_card};

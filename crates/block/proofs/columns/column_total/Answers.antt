@@ -1,0 +1,18 @@
+-- `block::columns::column_total` meets its contract: both products are small. Assumes nothing.
+use Prim.Native.Nat.{◌+◌, ◌*◌, ◌≤◌}
+use native.Mathlib.Omega.{arith}
+use borrow.Author.Rules.{rules}
+use Rattle.block.proofs.Sum.{product_most}
+use Rattle.block.proofs.columns.column_total.Goals as goal
+
+most : (c : tie.Start) → (c.args.j + 1) * c.args.sum ≤ 2097120
+most c = product_most (search rules) (search rules)
+
+pub overflow_mul-result-2 : goal.overflow_mul-result-2
+overflow_mul-result-2 c = omega (arith, most c)
+
+pub overflow_add-result-2 : goal.overflow_add-result-2
+overflow_add-result-2 c = omega (arith, most c)
+
+pub returns : goal.returns
+returns c = let p = most c in search rules
