@@ -150,7 +150,7 @@ def rt(text, table):
 
 
 def move_modules():
-    for path in sorted(glob.glob("crates/*/specs/*.antt") + glob.glob("crates/*/proofs/*.antt")):
+    for path in sorted(glob.glob("crates/*/specs/*.antt")):
         name = os.path.basename(path)[:-5]
         if name in MOVED:
             subprocess.run(["git", "mv", path, os.path.join(os.path.dirname(path), MOVED[name] + ".antt")], check=True)
@@ -176,7 +176,7 @@ def main():
         if path.endswith(".antt"):
             text = read(path)
             for old, new in MOVED.items():
-                text = text.replace(f".specs.{old}.", f".specs.{new}.").replace(f".proofs.{old}.", f".proofs.{new}.").replace(f"mod {old}\n", f"mod {new}\n")
+                text = text.replace(f".specs.{old}.", f".specs.{new}.").replace(f"pub mod {old}\n", f"pub mod {new}\n")
             if re.search(r"/proofs/.+/", path):
                 own = foreign(text) | set(re.findall(r"^([\w'-]+) :", text, re.M)) | set(re.findall(r"^(?:abbrev |pub )+([\w'+-]+) :", text, re.M))
                 write(path, antt(text, table, own, True))

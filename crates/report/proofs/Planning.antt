@@ -31,7 +31,7 @@ use Rattle.answer.specs.declared.Selected.{Selected}
 use Rattle.answer.proofs.Outcomes.{card_of}
 use Rattle.answer.proofs.Runs.{run-size, run-blocks}
 use Rattle.answer.proofs.Slices.{Sliced}
-use Rattle.sirophan.proofs.Operations.{refused_by}
+use Rattle.sirophan.proofs.Contracts.{refused_by}
 use Rattle.report.specs.Operation.{reported_answer, Survey, accept_rows, says, saying, reporting, report_answer, entries_in, report_rows}
 use Rattle.report.specs.Refusals.{ReportLine}
 use Rattle.report.specs.Operations.{Plans}

@@ -25,7 +25,7 @@ use Rattle.answer.specs.Operations.{tree_step, accept_filter}
 use Rattle.answer.specs.Refusals.{SpellLine}
 use Rattle.sirophan.specs.Operations.{SpellsInto}
 use Rattle.sirophan.specs.Spelling.{accept_buffer, spelling, spell_answer, put_into, spell_bytes, SpellAnswers}
-use Rattle.sirophan.proofs.Operations.{refused_by}
+use Rattle.sirophan.proofs.Contracts.{refused_by}
 use Rattle.sirophan.proofs.SpellTable.{spell_table}
 
 -- ---- the definition by steps, and the one that the code meets

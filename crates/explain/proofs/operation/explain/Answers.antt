@@ -1,7 +1,7 @@
 -- `explain::operation::explain` meets its contract: it is prepare, judge and the marks, and slices hold bytes. Assumes nothing.
 use native.Mathlib.Omega.{arith}
 use Rattle.explain.proofs.Explaining.{prepare_refuses, judge_refuses, judged_yes, judged_no}
-use Rattle.explain.proofs.Operations.{explains_into}
+use Rattle.explain.proofs.Contracts.{explains_into}
 use Rattle.explain.proofs.operation.explain.Goals as goal
 
 pub mark-requires : goal.mark-requires

@@ -42,7 +42,7 @@ use Rattle.report.specs.declared.Reported.{Reported}
 use Rattle.report.specs.declared.Tally.{Tally}
 use Rattle.report.specs.Steps.{stepped, Ready}
 use Rattle.report.specs.Operations.{Plans, Reports}
-use Rattle.report.proofs.Operations.{plan_ready, plan_reports}
+use Rattle.report.proofs.Contracts.{plan_ready, plan_reports}
 use Rattle.report.specs.contracts.Tally as T
 use Rattle.report.specs.contracts.plan.Plan as P
 use Rattle.report.proofs.plan.Plan.TheLaws as P'

@@ -1,6 +1,6 @@
 -- `sirophan::operations::check` meets its contract: the table is that of the definition, and slices hold bytes. Assumes nothing.
 use native.Mathlib.Omega.{arith}
-use Rattle.sirophan.proofs.Operations.{checks}
+use Rattle.sirophan.proofs.Contracts.{checks}
 use Rattle.sirophan.proofs.operations.check.Goals as goal
 
 pub returns : goal.returns

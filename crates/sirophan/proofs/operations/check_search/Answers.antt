@@ -1,6 +1,6 @@
 -- `sirophan::operations::check_search` meets its contract: the table is that of the definition, and slices hold bytes. Assumes nothing.
 use native.Mathlib.Omega.{arith}
-use Rattle.sirophan.proofs.Operations.{checks_search}
+use Rattle.sirophan.proofs.Contracts.{checks_search}
 use Rattle.sirophan.proofs.operations.check_search.Goals as goal
 
 pub returns : goal.returns

@@ -1,6 +1,6 @@
 -- `sirophan::operations::judge` meets its contract: the table is that of the definition, and slices hold bytes. Assumes nothing.
 use native.Mathlib.Omega.{arith}
-use Rattle.sirophan.proofs.Operations.{judges}
+use Rattle.sirophan.proofs.Contracts.{judges}
 use Rattle.sirophan.proofs.operations.judge.Goals as goal
 
 pub returns : goal.returns

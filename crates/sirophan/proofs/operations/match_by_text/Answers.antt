@@ -1,6 +1,6 @@
 -- `sirophan::operations::match_by_text` meets its contract, which is that of match_card. Assumes nothing.
 use native.Mathlib.Omega.{arith}
-use Rattle.sirophan.proofs.Operations.{matches}
+use Rattle.sirophan.proofs.Contracts.{matches}
 use Rattle.sirophan.proofs.operations.match_by_text.Goals as goal
 
 pub returns : goal.returns

@@ -1,6 +1,6 @@
 -- `sirophan::operations::match_card` meets its contract: the table is that of the definition, and slices hold bytes. Assumes nothing.
 use native.Mathlib.Omega.{arith}
-use Rattle.sirophan.proofs.Operations.{matches}
+use Rattle.sirophan.proofs.Contracts.{matches}
 use Rattle.sirophan.proofs.operations.match_card.Goals as goal
 
 pub returns : goal.returns

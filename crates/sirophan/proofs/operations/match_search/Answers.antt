@@ -1,6 +1,6 @@
 -- `sirophan::operations::match_search` meets its contract: the table is that of the definition, and slices hold bytes. Assumes nothing.
 use native.Mathlib.Omega.{arith}
-use Rattle.sirophan.proofs.Operations.{matches_search}
+use Rattle.sirophan.proofs.Contracts.{matches_search}
 use Rattle.sirophan.proofs.operations.match_search.Goals as goal
 
 pub returns : goal.returns

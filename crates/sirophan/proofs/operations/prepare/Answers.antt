@@ -1,6 +1,6 @@
 -- `sirophan::operations::prepare` meets its contract: the table is that of the definition, and slices hold bytes. Assumes nothing.
 use native.Mathlib.Omega.{arith}
-use Rattle.sirophan.proofs.Operations.{prepares_into}
+use Rattle.sirophan.proofs.Contracts.{prepares_into}
 use Rattle.sirophan.proofs.operations.prepare.Goals as goal
 
 pub returns : goal.returns

@@ -1,6 +1,6 @@
 -- `sirophan::operations::select_search` meets its contract: the table is that of the definition, and slices hold bytes. Assumes nothing.
 use native.Mathlib.Omega.{arith}
-use Rattle.sirophan.proofs.Operations.{selects_search_into}
+use Rattle.sirophan.proofs.Contracts.{selects_search_into}
 use Rattle.sirophan.proofs.operations.select_search.Goals as goal
 
 pub returns : goal.returns

@@ -7,7 +7,7 @@ use Rattle.base.proofs.All.{bytes_of}
 use Rattle.answer.specs.Answers.{matched_answer}
 use Rattle.answer.specs.declared.Matched.{Matched}
 use Rattle.answer.proofs.Slices.{Sliced}
-use Rattle.sirophan.proofs.Operations.{refused_by}
+use Rattle.sirophan.proofs.Contracts.{refused_by}
 use Rattle.explain.specs.Operation.{explain_answer}
 use Rattle.explain.specs.Refusals.{ExplainLine}
 use Rattle.explain.specs.Operations.{Marks, ExplainsInto}
