@@ -176,7 +176,8 @@ def main():
         if path.endswith(".antt"):
             text = read(path)
             for old, new in MOVED.items():
-                text = text.replace(f".specs.{old}.", f".specs.{new}.").replace(f"pub mod {old}\n", f"pub mod {new}\n")
+                text = text.replace(f".specs.{old}.", f".specs.{new}.")
+                text = text.replace(f"pub mod {old}\n", f"pub mod {new}\n") if path.endswith("specs/Lib.antt") else text
             if re.search(r"/proofs/.+/", path):
                 own = foreign(text) | set(re.findall(r"^([\w'-]+) :", text, re.M)) | set(re.findall(r"^(?:abbrev |pub )+([\w'+-]+) :", text, re.M))
                 write(path, antt(text, table, own, True))
