@@ -100,7 +100,11 @@ def code(text, table, keep=(), rust=False):
 def antt(text, table, keep=(), steps=False):
     """Code outside comments and quotations; in a comment what stands between backticks. With steps, what a generated record calls a step stays."""
     out = []
+    own = "|".join(sorted(os.listdir("crates")))
     for line in text.split("\n"):
+        if re.match(rf"use (?!Rattle\.(?:{own})\.)", line):
+            out.append(line)
+            continue
         at = line.find("--")
         while at > 0 and line[at - 1] not in " \t(":
             at = line.find("--", at + 2)
@@ -127,7 +131,7 @@ def foreign(text):
     names = set()
     for m in re.finditer(r"^(?:ghost )?use ([^{\n]*)\{([^}]*)\}", text, re.M):
         if not re.match(rf"Rattle\.(?:{own})\.", m.group(1)):
-            names |= {n.split(" as ")[0].strip() for n in m.group(2).split(",")}
+            names |= {n.strip() for n in m.group(2).split(",") if " as " not in n}
     return names
 
 

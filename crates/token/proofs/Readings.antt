@@ -23,7 +23,7 @@ use Rattle.base.proofs.Options.{is_some_iff}
 use Rattle.base.proofs.Tests.{cond-elim}
 use Rattle.text.specs.Bar.{bar, NoBar}
 use Rattle.base.specs.Split.{Split, whole, parts}
-use Rattle.base.proofs.Split.{split-whole, split_at, split_cases}
+use Rattle.base.proofs.Split.{split-whole, split_at_lem, split_cases}
 use Rattle.token.specs.Split.{split_at}
 use Rattle.token.specs.Card.{Token, token_of, split_token, card_token, card_readable}
 use Rattle.token.specs.Filter.{Form, split_form, form_at, filter_form, filter_readable}
@@ -46,12 +46,12 @@ unfolding card_token split_token
 card_token_spells k =
     split_cases bar (λ (t : List ℕ). card_token t ≡ some k → CardSpells t k)
     (λ c h e. let w = token_of_parts k [] c (rw (split-whole bar c h) at e) in subst (CardSpells c) w.1 (spells_code h w.0))
-    (λ s c h e. let w = token_of_parts k s c (rw (split_at bar s c h) at e) in subst (CardSpells (s ++ (bar ∷ c))) w.1 (spells_token h w.0))
+    (λ s c h e. let w = token_of_parts k s c (rw (split_at_lem bar s c h) at e) in subst (CardSpells (s ++ (bar ∷ c))) w.1 (spells_token h w.0))
 
 spells_card_token : {t : List ℕ} {k : Token} → CardSpells t k → card_token t ≡ some k
 unfolding card_token split_token
 spells_card_token (spells_code {c = c} h n) = rw (split-whole bar c h) (token_of_some [] c n)
-spells_card_token (spells_token {s = s} {c = c} h n) = rw (split_at bar s c h) (token_of_some s c n)
+spells_card_token (spells_token {s = s} {c = c} h n) = rw (split_at_lem bar s c h) (token_of_some s c n)
 
 pub card_token_iff : (t : List ℕ) (k : Token) → (card_token t ≡ some k) ↔ CardSpells t k
 card_token_iff t k = (card_token_spells k t, spells_card_token)
@@ -79,14 +79,14 @@ unfolding filter_form
 filter_form_spells f =
     split_cases bar (λ (t : List ℕ). filter_form t ≡ some f → FilterSpells t f)
     (λ c h e. no_bar_spells f c h (rw (split-whole bar c h) at e))
-    (λ s c h e. at-bar_spells f s c h (rw (split_at bar s c h) at e))
+    (λ s c h e. at-bar_spells f s c h (rw (split_at_lem bar s c h) at e))
 
 spells_filter_form : {t : List ℕ} {f : Form} → FilterSpells t f → filter_form t ≡ some f
 unfolding filter_form
 spells_filter_form (spells_any_system {c = c} h n) = rw (split-whole bar c h) (split_form_any_system c n)
-spells_filter_form (spells_system_code {s = s} {c = c} h m n) = rw (split_at bar s c h) (split_form_system_code s c m n)
-spells_filter_form (spells_no_system {c = c} n) = rw (split_at bar [] c all_empty) (split_form_no_system c n)
-spells_filter_form (spells_any_code {s = s} h m) = rw (split_at bar s [] h) (split_form_any_code s m)
+spells_filter_form (spells_system_code {s = s} {c = c} h m n) = rw (split_at_lem bar s c h) (split_form_system_code s c m n)
+spells_filter_form (spells_no_system {c = c} n) = rw (split_at_lem bar [] c all_empty) (split_form_no_system c n)
+spells_filter_form (spells_any_code {s = s} h m) = rw (split_at_lem bar s [] h) (split_form_any_code s m)
 
 pub filter_form_iff : (t : List ℕ) (f : Form) → (filter_form t ≡ some f) ↔ FilterSpells t f
 filter_form_iff t f = (filter_form_spells f t, spells_filter_form)
@@ -152,14 +152,14 @@ empty_unreadable = rw (split-whole bar [] all_empty)
 
 lone_unreadable : filter_readable (bar ∷ []) ≡ false
 unfolding filter_readable filter_form split_form
-lone_unreadable = rw (split_at bar [] [] all_empty)
+lone_unreadable = rw (split_at_lem bar [] [] all_empty)
 
 pub filter_unreadable_iff : (t : List ℕ) → (filter_readable t ≡ false) ↔ ((t ≡ []) ⊎ (t ≡ bar ∷ []))
 unfolding filter_readable filter_form
 filter_unreadable_iff t = (
   split_cases bar (λ (u : List ℕ). filter_readable u ≡ false → (u ≡ []) ⊎ (u ≡ bar ∷ []))
       (λ c h e. no_bar_unreadable c (rw (split-whole bar c h) at e))
-      (λ s c h e. at-bar_unreadable s c (rw (split_at bar s c h) at e))
+      (λ s c h e. at-bar_unreadable s c (rw (split_at_lem bar s c h) at e))
       t,
   ⊎_elim (λ e. rw e empty_unreadable) (λ e. rw e lone_unreadable),
 )

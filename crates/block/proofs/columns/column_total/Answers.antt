@@ -5,14 +5,11 @@ use borrow.Author.Rules.{rules}
 use Rattle.block.proofs.Sum.{product_most}
 use Rattle.block.proofs.columns.column_total.Goals as goal
 
-most : (c : tie.Start) → (c.args.j + 1) * c.args.sum ≤ 2097120
-most c = product_most (search rules) (search rules)
-
 pub overflow_mul-result-2 : goal.overflow_mul-result-2
-overflow_mul-result-2 c = omega (arith, most c)
+overflow_mul-result-2 c = let p : (c.args.j + 1) * c.args.sum ≤ 2097120 = product_most (search rules) (search rules) in omega (arith, p)
 
 pub overflow_add-result-2 : goal.overflow_add-result-2
-overflow_add-result-2 c = omega (arith, most c)
+overflow_add-result-2 c = let p : (c.args.j + 1) * c.args.sum ≤ 2097120 = product_most (search rules) (search rules) in omega (arith, p)
 
 pub returns : goal.returns
-returns c = let p = most c in search rules
+returns c = let p : (c.args.j + 1) * c.args.sum ≤ 2097120 = product_most (search rules) (search rules) in search rules

@@ -45,4 +45,4 @@ unfolding row_meaning relation_in date_row
 returns-in-13 c = ap (row_meaning date_row) (sym c.in-13.is)
 
 pub returns-in_default : goal.returns-in_default
-returns-in_default c = let n = c.in_default-own.rest in date_rest _ n.0.0.0.0.0.0.0.0.0.1 n.0.0.0.0.0.0.0.0.1 n.0.0.0.0.0.0.0.1 n.0.0.0.0.0.0.1 n.0.0.0.0.0.1 n.0.0.0.0.1 n.0.0.0.1 n.0.0.1 n.0.1 n.1
+returns-in_default c = let n = c.in_default.in_default-own.rest in date_rest _ n.0.0.0.0.0.0.0.0.0.1 n.0.0.0.0.0.0.0.0.1 n.0.0.0.0.0.0.0.1 n.0.0.0.0.0.0.1 n.0.0.0.0.0.1 n.0.0.0.0.1 n.0.0.0.1 n.0.0.1 n.0.1 n.1

@@ -25,4 +25,4 @@ pub returns-in-6 : goal.returns-in-6
 returns-in-6 c = search (of_period, rules)
 
 pub returns-in_default : goal.returns-in_default
-returns-in_default c = let n = c.in_default-own.rest in of_none _ _ c.if-operator-eq-PR.false n.0.0.0.0.0.1 n.0.0.0.0.1 n.0.0.0.1 n.0.0.1 n.0.1 n.1
+returns-in_default c = let n = c.in_default.in_default-own.rest in of_none _ _ c.if-operator-eq-PR.false n.0.0.0.0.0.1 n.0.0.0.0.1 n.0.0.0.1 n.0.0.1 n.0.1 n.1

@@ -9,4 +9,4 @@ unfolding row_meaning relation_in reference_row
 returns-in-18 c = ap (row_meaning reference_row) (sym c.in-18.is)
 
 pub returns-in_default : goal.returns-in_default
-returns-in_default c = let n = c.in_default-own.rest in reference_rest _ n.1
+returns-in_default c = let n = c.in_default.in_default-own.rest in reference_rest _ n.1

@@ -25,4 +25,4 @@ unfolding row_meaning relation_in string_row
 returns-in-4 c = ap (row_meaning string_row) (sym c.in-4.is)
 
 pub returns-in_default : goal.returns-in_default
-returns-in_default c = let n = c.in_default-own.rest in string_rest _ n.0.0.0.0.1 n.0.0.0.1 n.0.0.1 n.0.1 n.1
+returns-in_default c = let n = c.in_default.in_default-own.rest in string_rest _ n.0.0.0.0.1 n.0.0.0.1 n.0.0.1 n.0.1 n.1

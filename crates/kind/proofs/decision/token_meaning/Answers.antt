@@ -13,4 +13,4 @@ unfolding row_meaning relation_in token_row
 returns-in-1 c = ap (row_meaning token_row) (sym c.in-1.is)
 
 pub returns-in_default : goal.returns-in_default
-returns-in_default c = let n = c.in_default-own.rest in token_rest _ n.0.1 n.1
+returns-in_default c = let n = c.in_default.in_default-own.rest in token_rest _ n.0.1 n.1

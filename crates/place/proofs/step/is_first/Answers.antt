@@ -6,4 +6,4 @@ pub returns-in-101 : goal.returns-in-101
 returns-in-101 c = member_arm _ _ c.in-101.is
 
 pub returns-in_default : goal.returns-in_default
-returns-in_default c = member_rest _ _ c.in_default-own.rest.1
+returns-in_default c = member_rest _ _ c.in_default.in_default-own.rest.1

@@ -25,4 +25,4 @@ unfolding escape_of
 returns-in-9 c = ap escape_of (sym c.in-9.is)
 
 pub returns-in_default : goal.returns-in_default
-returns-in_default c = let n = c.in_default-own.rest in escape_other _ n.0.0.0.0.1 n.0.0.0.1 n.0.0.1 n.0.1 n.1
+returns-in_default c = let n = c.in_default.in_default-own.rest in escape_other _ n.0.0.0.0.1 n.0.0.0.1 n.0.0.1 n.0.1 n.1

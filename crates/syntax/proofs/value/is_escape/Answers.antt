@@ -9,4 +9,4 @@ returns-in-34 c = member_arm _ _ c.in-34.is
 
 pub returns-in_default : goal.returns-in_default
 unfolding is_escape
-returns-in_default c = member_rest _ _ c.in_default-own.rest.1
+returns-in_default c = member_rest _ _ c.in_default.in_default-own.rest.1

@@ -25,4 +25,4 @@ unfolding unescaped
 returns-in-116 c = ap unescaped (sym c.in-116.is)
 
 pub returns-in_default : goal.returns-in_default
-returns-in_default c = let n = c.in_default-own.rest in unescaped_other _ n.0.0.0.0.1 n.0.0.0.1 n.0.0.1 n.0.1 n.1
+returns-in_default c = let n = c.in_default.in_default-own.rest in unescaped_other _ n.0.0.0.0.1 n.0.0.0.1 n.0.0.1 n.0.1 n.1
