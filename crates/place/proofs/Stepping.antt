@@ -425,6 +425,9 @@ module _ (xs : List ℕ) (at : ℕ) (r : Reached) (a : Reaching xs at r) where
     reaching_on next f = go stepped (subst (λ (z : Outcome). To xs at z stepped) f to_step) one_on one_on-ends
       where
         go : (s : Progress) → To xs at (Outcome.Live next) s → failure deepest most_tests xs ≡ on_step s next_from at → is_filter deepest most_tests xs ≡ on_live s next_ends → Reaching xs (at + 1) next
+        go deep x3 z y = elim x3 [ ]
+        go many x4 z y = elim x4 [ ]
+        go wrong x5 z y = elim x5 [ ]
         go (live (state g k n)) (to_live u v w) z y =
             record {
               within = omega arith;
@@ -439,18 +442,27 @@ module _ (xs : List ℕ) (at : ℕ) (r : Reached) (a : Reaching xs at r) where
     reaching_deep f = go stepped (subst (λ (z : Outcome). To xs at z stepped) f to_step) one_on one_on-ends
       where
         go : (s : Progress) → To xs at Outcome.Deep s → failure deepest most_tests xs ≡ on_step s next_from at → is_filter deepest most_tests xs ≡ on_live s next_ends → Found.Failed (record { reason = Reason.TooDeep; place = at }) ≡ found deepest most_tests xs
+        go (live _) x4 z y = elim x4 [ ]
+        go many x4 z y = elim x4 [ ]
+        go wrong x5 z y = elim x5 [ ]
         go deep to_deep z y = failed xs (record { reason = Reason.TooDeep; place = at }) y (sym z)
 
     pub reaching_many : o ≡ Outcome.Many → Found.Failed (record { reason = Reason.TooMany; place = at }) ≡ found deepest most_tests xs
     reaching_many f = go stepped (subst (λ (z : Outcome). To xs at z stepped) f to_step) one_on one_on-ends
       where
         go : (s : Progress) → To xs at Outcome.Many s → failure deepest most_tests xs ≡ on_step s next_from at → is_filter deepest most_tests xs ≡ on_live s next_ends → Found.Failed (record { reason = Reason.TooMany; place = at }) ≡ found deepest most_tests xs
+        go (live _) x4 z y = elim x4 [ ]
+        go deep x4 z y = elim x4 [ ]
+        go wrong x5 z y = elim x5 [ ]
         go many to_many z y = failed xs (record { reason = Reason.TooMany; place = at }) y (sym z)
 
     pub reaching_wrong : o ≡ Outcome.Wrong → Found.Failed (record { reason = Reason.NoFilter; place = at }) ≡ found deepest most_tests xs
     reaching_wrong f = go stepped (subst (λ (z : Outcome). To xs at z stepped) f to_step) one_on one_on-ends
       where
         go : (s : Progress) → To xs at Outcome.Wrong s → failure deepest most_tests xs ≡ on_step s next_from at → is_filter deepest most_tests xs ≡ on_live s next_ends → Found.Failed (record { reason = Reason.NoFilter; place = at }) ≡ found deepest most_tests xs
+        go (live _) x4 z y = elim x4 [ ]
+        go deep x4 z y = elim x4 [ ]
+        go many x5 z y = elim x5 [ ]
         go wrong to_wrong z y = failed xs (record { reason = Reason.NoFilter; place = at }) y (sym z)
 
 -- ---- where a text that is a filter would fail: at its end

@@ -5,10 +5,6 @@ use Rattle.plain.proofs.Bytes.{escaping_start, escaping_room, escaping_fits, esc
 use borrow.Author.Rules.{rules}
 use Rattle.plain.proofs.value.write_escaped.Goals as goal
 
-shared-slice-read-write-escaped-byte :
-    tie.Need-shared-slice-read-write-escaped-byte invariant-loop decreases-loop
-shared-slice-read-write-escaped-byte c = search rules
-
 pub loop-i-init : goal.loop-i-init
 loop-i-init c = search (escaping_start, rules)
 
