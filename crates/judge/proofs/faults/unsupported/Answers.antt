@@ -4,7 +4,7 @@ use Rattle.judge.proofs.Meaning.{unsupported-ap, unsupported_low, unsupported_ra
 use Rattle.judge.proofs.faults.unsupported.Goals as goal
 
 pub returns-in_default : goal.returns-in_default
-returns-in_default c = unsupported_low _ c.in_default.rest.1 c.if-operator-lt14-own.true
+returns-in_default c = unsupported_low _ c.in_default.in_default-own.rest.1 c.in_default.if-operator-lt14-own.true
 
 pub returns-in_default-2 : goal.returns-in_default-2
 returns-in_default-2 c = search (unsupported_high, rules)
