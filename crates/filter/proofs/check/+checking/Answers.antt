@@ -4,8 +4,8 @@ use native.Mathlib.Omega.{arith}
 use Rattle.syntax.proofs.Places.{test_in_place, head_open_ahead, head_choice_order, head_choice_within, member_in_place, connective_ahead}
 use Rattle.filter.specs.Folds.{reading}
 use Rattle.filter.specs.declared.Walked.{Walked}
-use Rattle.filter.proofs.Walk.{item_test, item_nothing, item_deep, item-opened, choice_deep, item-chosen, chosen_no_filter, chosen_no_member, chosen-member, item_ahead, filter_within, filter_no_item, chain_starts, chain_ends, chain_no_item, chain_goes_on}
-use Rattle.filter.proofs.Reading.{walked_cases, tests_fit, member-fits, summary_inside}
+use Rattle.filter.proofs.Walk.{item_test, item_nothing, item_deep, item-opened, choice_deep, item-chosen, round_no_filter, round_open, round-closed, chosen_no_filter, chosen_no_member, chosen-member, item_ahead, filter_within, filter_no_item, chain_starts, chain_ends, chain_no_item, chain_goes_on}
+use Rattle.filter.proofs.Reading.{walked_cases, tests_fit, member-fits, summary_negated, summary_inside}
 use borrow.Author.Rules.{rules}
 use borrow.Fn.PlainCycle.{is}
 use Rattle.filter.proofs.check.+checking.Goals as goal
@@ -79,5 +79,14 @@ check_item-returns-else-levels-eq0-2 t c = search (item-chosen, walked_cases, ru
 pub check_item-returns-in-Nothing : goal.check_item-returns-in-Nothing
 check_item-returns-in-Nothing t c = search (item_nothing, walked_cases, rules)
 
+pub check_round-returns-in_default : goal.check_round-returns-in_default
+check_round-returns-in_default t c b = search (round_no_filter, walked_cases, rules)
+
 pub check_round-read_close-closed-requires : goal.check_round-read_close-closed-requires
 check_round-read_close-closed-requires t c = search (filter_within, walked_cases, rules)
+
+pub check_round-returns-in_default-closed : goal.check_round-returns-in_default-closed
+check_round-returns-in_default-closed t c b = search (round_open, walked_cases, rules)
+
+pub check_round-returns : goal.check_round-returns
+check_round-returns t c b = round-closed Walked.Done Walked.Nothing walked_cases (reading _ _) _ _ _ _ c.requires.close_value b _ c.check_filter-inner.ensures _ _ c.in-Done.is _ c.read_close-closed.ensures _ _ c.in-At.is (summary_negated b _)
