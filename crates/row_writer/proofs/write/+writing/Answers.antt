@@ -7,6 +7,7 @@ use Rattle.row_writer.proofs.Writing.{chain_ends, chain_falls, chain_less, chain
 use Rattle.row_writer.proofs.Writing.{choice_within, chosen-member, chosen_no_filter, filter_no_item, filter_rest}
 use Rattle.row_writer.proofs.Writing.{filter_within, inside-less, inside_room, open_less, open_low, open_room, round-closed, round_no_filter, round_room}
 use Rattle.row_writer.proofs.Writing.{test_room, wrote_choice_deep, wrote_chosen, wrote_deep, wrote_nothing, wrote_opened, wrote_test}
+use Rattle.row_writer.proofs.Writing.{chosen_room, chosen-cells, chosen_tests}
 use Rattle.row_writer.proofs.write.+writing.Goals as goal
 
 pub write_chosen-write_filter-inner-requires : goal.write_chosen-write_filter-inner-requires
@@ -89,3 +90,15 @@ write_round-close_round-requires-clause-cells_in_bounds t c = search (round_room
 
 pub write_round-returns : goal.write_round-returns
 write_round-returns t c = search (round-closed, rules)
+
+pub write_chosen-write_member-requires-clause-end_in_bounds : goal.write_chosen-write_member-requires-clause-end_in_bounds
+write_chosen-write_member-requires-clause-end_in_bounds t c = search (filter_within, rules)
+
+pub write_chosen-write_member-requires-clause-cells_in_bounds : goal.write_chosen-write_member-requires-clause-cells_in_bounds
+write_chosen-write_member-requires-clause-cells_in_bounds t c = search (chosen_room, rules)
+
+pub write_chosen-write_member-requires-clause-cells_bound : goal.write_chosen-write_member-requires-clause-cells_bound
+write_chosen-write_member-requires-clause-cells_bound t c = search (chosen-cells, rules)
+
+pub write_chosen-write_member-requires-clause-tests_bound : goal.write_chosen-write_member-requires-clause-tests_bound
+write_chosen-write_member-requires-clause-tests_bound t c = search (chosen_tests, rules)

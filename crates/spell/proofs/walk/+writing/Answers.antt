@@ -45,7 +45,7 @@ pub write_chosen-write_member-last-requires-clause-room : goal.write_chosen-writ
 write_chosen-write_member-last-requires-clause-room t c = chosen-member_room c.args.spot.levels c.args.filter.now c.args.spot.close c.args.spot.at c.args.until _ c.requires.room_for c.write_choice-start.ensures _ c.skip-next.ensures c.write_filter-inner.ensures _ c.read_member-member.ensures _ c.in-Test.is
 
 pub write_chosen-overflow_add-result : goal.write_chosen-overflow_add-result
-write_chosen-overflow_add-result t c = record { fits = omega (arith, chosen-fits c.args.spot.levels c.args.filter.now c.args.spot.close c.args.spot.at c.args.until _ c.requires.room_for c.write_choice-start.ensures _ c.skip-next.ensures c.write_filter-inner.ensures _ c.read_member-member.ensures _ c.in-Test.is c.write_member-last.ensures, c.before.before.before.before.before.before.before.before.before.before.before.before.before.before.before.before.before.before.before.before.before.before.well-formed) }
+write_chosen-overflow_add-result t c = record { fits = omega (arith, chosen-fits c.args.spot.levels c.args.filter.now c.args.spot.close c.args.spot.at c.args.until _ c.requires.room_for c.write_choice-start.ensures _ c.skip-next.ensures c.write_filter-inner.ensures _ c.read_member-member.ensures _ c.in-Test.is c.write_member-last.ensures, c.well_formed) }
 
 pub write_chosen-shape_of-out-in-Test : goal.write_chosen-shape_of-out-in-Test
 write_chosen-shape_of-out-in-Test t c = chosen_long c.args.spot.levels c.args.filter.now c.args.spot.close c.args.spot.at c.args.until _ c.requires.room_for c.write_choice-start.ensures _ c.skip-next.ensures c.write_filter-inner.ensures _ c.read_member-member.ensures _ c.in-Test.is c.write_member-last.ensures
