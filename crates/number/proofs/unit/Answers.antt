@@ -13,7 +13,7 @@ use Rattle.number.proofs.Exact.{unit_small}
 use Rattle.number.proofs.unit.Goals as goal
 
 units : List ℕ
-units  = 1000000000 ∷ 100000000 ∷ 10000000 ∷ 1000000 ∷ 100000 ∷ 10000 ∷ 1000 ∷ 100 ∷ 10 ∷ 1 ∷ []
+units = 1000000000 ∷ 100000000 ∷ 10000000 ∷ 1000000 ∷ 100000 ∷ 10000 ∷ 1000 ∷ 100 ∷ 10 ∷ 1 ∷ []
 
 unit-found : (d : Decimal) → Bounded d → (get_or units d.decimals 0 ≡ unit d) × (get_or units d.decimals 0 ≤ 10 ^ 9)
 unfolding units unit
