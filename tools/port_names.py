@@ -100,7 +100,11 @@ def code(text, table, keep=(), rust=False):
 def antt(text, table, keep=(), steps=False):
     """Code outside comments and quotations; in a comment what stands between backticks. With steps, what a generated record calls a step stays."""
     out = []
+    own = "|".join(sorted(os.listdir("crates")))
     for line in text.split("\n"):
+        if re.match(rf"use (?!Rattle\.(?:{own})\.)", line):
+            out.append(line)
+            continue
         at = line.find("--")
         while at > 0 and line[at - 1] not in " \t(":
             at = line.find("--", at + 2)
@@ -119,6 +123,16 @@ def antt(text, table, keep=(), steps=False):
                 pieces[k] = "".join(shut)
         out.append("".join(pieces) + quoted(said, table))
     return "\n".join(out)
+
+
+def foreign(text):
+    """The names that a file imports from the kit's library."""
+    own = "|".join(sorted(os.listdir("crates")))
+    names = set()
+    for m in re.finditer(r"^(?:ghost )?use ([^{\n]*)\{([^}]*)\}", text, re.M):
+        if not re.match(rf"Rattle\.(?:{own})\.", m.group(1)):
+            names |= {n.strip() for n in m.group(2).split(",") if " as " not in n}
+    return names
 
 
 def quoted(text, table):
@@ -166,12 +180,13 @@ def main():
         if path.endswith(".antt"):
             text = read(path)
             for old, new in MOVED.items():
-                text = text.replace(f".specs.{old}.", f".specs.{new}.").replace(f"pub mod {old}\n", f"pub mod {new}\n")
+                text = text.replace(f".specs.{old}.", f".specs.{new}.")
+                text = text.replace(f"pub mod {old}\n", f"pub mod {new}\n") if path.endswith("specs/Lib.antt") else text
             if re.search(r"/proofs/.+/", path):
-                own = set(re.findall(r"^([\w'-]+) :", text, re.M)) | set(re.findall(r"^(?:abbrev |pub )+([\w'+-]+) :", text, re.M))
+                own = foreign(text) | set(re.findall(r"^([\w'-]+) :", text, re.M)) | set(re.findall(r"^(?:abbrev |pub )+([\w'+-]+) :", text, re.M))
                 write(path, antt(text, table, own, True))
             else:
-                write(path, antt(text, table))
+                write(path, antt(text, table, foreign(text)))
         elif path.endswith((".rt", ".edit")):
             text = read(path)
             for old, new in MOVED.items():

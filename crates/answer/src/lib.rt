@@ -1,4 +1,6 @@
 // What the operations answer: the types of the answers here, their definitions and the laws about these in specs/ and proofs/.
+#![tactic(auto)]
+
 mod list;
 
 pub use list::write;

@@ -1,4 +1,6 @@
 // An answer as two numbers, for C. No enum crosses to C, so a struct of numbers stands for an answer.
+#![tactic(auto)]
+
 ghost use Rattle.std.specs.Prelude.{◌≡◌};
 ghost use Rattle.refusal.specs.Answers.{refusal_answer};
 ghost use Rattle.answer.specs.Answers.{checked_answer, matched_answer, selected_answer};

@@ -5,7 +5,7 @@ use Prim.Native.Nat.{ℕ, ◌+◌, ◌-◌, ◌≤◌, ◌<◌}
 use native.Mathlib.Nat.{le_of_suc-le-suc, not-suc-le-zero}
 use native.Mathlib.Numerals.{add-one}
 use native.Mathlib.Omega.{arith}
-use mathlib.Core.Bool.{Bool, true, false, ◌&&◌, and_false, or-true, true≢false, false≢true}
+use mathlib.Core.Bool.{Bool, true, false, ◌&&◌, and-false, or-true, true≢false, false≢true}
 use mathlib.Core.List.{List, [], ◌∷◌, ◌++◌}
 use mathlib.Core.Logic.{⊎_elim}
 use lib.Dec.{eqb}
@@ -37,7 +37,7 @@ pub prefix_short : (xs ys : List ℕ) → length xs < length ys → has_prefix x
 unfolding has_prefix
 prefix_short xs [] h = absurd (not-suc-le-zero h)
 prefix_short [] (y ∷ ys) h = refl
-prefix_short (x ∷ xs) (y ∷ ys) h = rw (prefix_short xs ys (le_of_suc-le-suc h)) (and_false (eqb x y))
+prefix_short (x ∷ xs) (y ∷ ys) h = rw (prefix_short xs ys (le_of_suc-le-suc h)) (and-false (eqb x y))
 
 pub prefix_equal : (xs ys : List ℕ) → length xs ≡ length ys → has_prefix xs ys ≡ equal xs ys
 unfolding has_prefix equal

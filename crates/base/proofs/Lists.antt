@@ -4,7 +4,7 @@ use mathlib.Core.Path.{◌≡◌, refl, ap, sym, ◌∙◌}
 use Prim.Native.Nat.{ℕ, suc, ◌+◌, ◌-◌, ◌<◌}
 use native.Mathlib.Numerals.{add-one}
 use native.Mathlib.Omega.{arith}
-use mathlib.Core.Bool.{Bool, true, false, false≢true, and_false}
+use mathlib.Core.Bool.{Bool, true, false, false≢true, and-false}
 use mathlib.Core.Logic.{◌⊎◌, inl, inr, ⊎_elim, ite}
 use mathlib.Core.List.{List, [], ◌∷◌, ◌++◌, map, filter}
 use lib.Dec.{eqb}
@@ -65,7 +65,7 @@ equal_lengths [] (y ∷ ys) n = refl
 equal_lengths (x ∷ xs) [] n = refl
 equal_lengths (x ∷ xs) (y ∷ ys) n =
     let t : false ≡ equal xs ys = equal_lengths xs ys (λ e. n (ap suc e)) in
-    rw (← t) (sym (and_false (eqb x y)))
+    rw (← t) (sym (and-false (eqb x y)))
 
 pub equal_not : (a b : List ℕ) → (a ≡ b → ⊥) → equal a b ≡ false
 equal_not a b n = ⊎_elim (λ t. absurd (n (equal-same a b t))) (λ f. f) (decided (equal a b))

@@ -4,7 +4,7 @@ use Prim.Native.Nat.{ℕ, ◌+◌, ◌≤◌, ◌<◌}
 use native.Mathlib.Numerals.{add-one}
 use native.Mathlib.Omega.{arith}
 use mathlib.Core.Path.{◌≡◌, refl, ap, sym, ◌∙◌}
-use mathlib.Core.Bool.{Bool, true, false, ◌&&◌, and_true, and_assoc}
+use mathlib.Core.Bool.{Bool, true, false, ◌&&◌, and-true, and_assoc}
 use mathlib.Core.List.{List}
 use lib.ListN.{length, drop, get_or, drop_of_length-le}
 use lib.Seq.{drop-cons}
@@ -52,7 +52,7 @@ module _ (p : ℕ → Bool) (s : List ℕ) where
 
     pub counted_end : length s ≤ i → all ≡ every p s
     unfolding every
-    counted_end h = sym (and_true all) ∙ ap (λ (l : List ℕ). all && every p l) (sym (drop_of_length-le s h)) ∙ inv.left
+    counted_end h = sym (and-true all) ∙ ap (λ (l : List ℕ). all && every p l) (sym (drop_of_length-le s h)) ∙ inv.left
 
 -- ---- two lists
 

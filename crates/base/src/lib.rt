@@ -1,5 +1,7 @@
 // What every layer uses: a byte as a number, whether it is a digit, whether two texts are the same, where a byte stands, writing a text
 // into a buffer, and names.
+#![tactic(auto)]
+
 pub mod kind;
 pub mod name;
 pub mod operator;

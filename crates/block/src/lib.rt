@@ -1,4 +1,6 @@
 // Blocks of 512 bytes, which sheets and cards are: the size, the check sum, numbers of four bytes, and the items that a block lists.
+#![tactic(auto)]
+
 mod columns;
 
 ghost use Rattle.std.specs.Prelude.{◌≡◌, ◌&&◌, ◌+◌, ◌≤◌, ◌<◌, eqb, length};

@@ -1,6 +1,8 @@
 // Cards: blocks of 512 bytes with a record number and entries, each a text under a parameter of the sheet. A reader asks
 // `read_card` first; the record number and the entries of a well-formed card are then at hand, the entries by a walk from
 // `FIRST_ENTRY` on with `entry_at`.
+#![tactic(auto)]
+
 ghost use Rattle.std.specs.Prelude.{◌≡◌, ◌<◌};
 ghost use Rattle.block.specs.Items.{Walk};
 ghost use Rattle.card.specs.Card.{record_number, entry_count, read_card, EntryAt};

@@ -5,6 +5,8 @@
 // a parameter has the last entry under it, counted from 1, or 0 for none; above 64 it says that nothing is kept of its entries. Those of an
 // entry have the entry before it under its parameter, in the same way, its occurrence, where its text starts and ends in the card, and what
 // the text reads to. `spans` has the two ends of a date or a period for each entry.
+#![tactic(auto)]
+
 mod entries;
 mod lending;
 mod listed;

@@ -1,4 +1,6 @@
 // Check: a sheet and a filter are read, and the first refusal in the order of the table decides.
+#![tactic(auto)]
+
 ghost use Rattle.std.specs.Prelude.{◌≡◌};
 ghost use Rattle.sheet.specs.Sheet.{parameters_of, read_sheet};
 ghost use Rattle.syntax.specs.Grammar.{deepest, most_tests};

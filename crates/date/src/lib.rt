@@ -1,5 +1,7 @@
 // Dates. A text reads to a span of whole seconds, or is unreadable. `days` has the calendar, `seconds` makes dates of
 // numbers of days and seconds, and `reader` reads the texts.
+#![tactic(auto)]
+
 mod days;
 mod reader;
 mod seconds;

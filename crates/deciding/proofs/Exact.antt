@@ -9,7 +9,7 @@ use Prim.Native.Nat.{ℕ, ◌+◌, ◌≤◌, ◌<◌}
 use native.Mathlib.Omega.{arith}
 use native.Mathlib.Nat.{le_refl}
 use mathlib.Core.Path.{◌≡◌, refl, ap, sym, ◌∙◌, subst}
-use mathlib.Core.Bool.{Bool, true, false, cond, not, ◌&&◌, ◌||◌, not_not}
+use mathlib.Core.Bool.{Bool, true, false, cond, not, ◌&&◌, ◌||◌, not-not}
 use lib.Dec.{ltb}
 use borrow.Author.Tests.{lt-ltb, le-ltb, ltb-true, ltb-false}
 use Rattle.base.proofs.Tests.{cond-elim}
@@ -86,8 +86,8 @@ parts Connective.Or a b {z} h =
       fits_left = fits-back p.fits_left;
       fits_right = fits-back p.fits_right;
       whole = sym (or_by_not (not p.left) (not p.right))
-          ∙ ap (λ (b : Bool). not b) (ap (λ (b : Bool). b && not (not p.right)) (not_not p.left) ∙ ap (λ (b : Bool). p.left && b) (not_not p.right) ∙ p.whole)
-          ∙ not_not z;
+          ∙ ap (λ (b : Bool). not b) (ap (λ (b : Bool). b && not (not p.right)) (not-not p.left) ∙ ap (λ (b : Bool). p.left && b) (not-not p.right) ∙ p.whole)
+          ∙ not-not z;
     }
 
 -- ---- three values are exact
@@ -141,7 +141,7 @@ comes (join c f g) m i {z} h =
     }
 comes (negation f) m i {z} h =
     let a = comes f m i (fits-back h) in
-    record { u = a.u; lies = a.lies; says = ap (λ (b : Bool). not b) a.says ∙ not_not z }
+    record { u = a.u; lies = a.lies; says = ap (λ (b : Bool). not b) a.says ∙ not-not z }
 
 -- ---- the test of sufficiency is that of the definition
 

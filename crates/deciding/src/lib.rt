@@ -1,4 +1,6 @@
 // Which tests decide what a filter says of a card: their verdicts, and those that can be spared, by marks over the filter's rows.
+#![tactic(auto)]
+
 mod marks;
 mod sparing;
 mod verdicts;

@@ -31,7 +31,7 @@ fn verdict(kinds: &[u8], filter: &[u8], rows: &[u32], card: &[u8]) -> u8
 
 // Marks what the tests say that follow the one in hand, which has the number `first` and ends before the row `first_end`, and answers the
 // number behind them.
-#[cycle(gather_from_gather_rest)]
+#[cycle(gathering)]
 fn gather_rest(
     kinds: &[u8],
     filter: &[u8],
@@ -74,7 +74,7 @@ fn gather_rest(
 
 // Marks what each test that the rows state says of a card that conforms, from the number `first` on, and answers the number behind them. A test
 // after brackets is judged with the rows in them.
-#[cycle(gather_from_gather_rest)]
+#[cycle(gathering)]
 fn gather_from(
     kinds: &[u8],
     filter: &[u8],

@@ -1,7 +1,7 @@
 -- Laws of explain, its table of refusals, and the promises.
 pub mod Explaining
 pub mod Table
-pub mod Operations
+pub mod Contracts
 pub mod Answered
 pub mod Trial
 pub mod Promises

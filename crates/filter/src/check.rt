@@ -52,7 +52,7 @@ pub fn join_summaries(a: Summary, b: Summary) -> Summary
 }
 
 // The filter in round brackets at a spot inside them, after not or without.
-#[cycle(check_chosen_check_filter_check_item_check_round)]
+#[cycle(checking)]
 fn check_round(sheet: &[u8], filter: &[u8], spot: Spot) -> Walked
     requires sheet_value { read_sheet sheet.now ≡ Validity.WellFormed }
     requires filter_len_bound { length filter.now ≤ 1024 }
@@ -73,7 +73,7 @@ fn check_round(sheet: &[u8], filter: &[u8], spot: Spot) -> Walked
 
 // The test of a member at a spot, after the filter in square brackets of the bundle whose name ends at `until`; the levels are those in
 // the brackets.
-#[cycle(check_chosen_check_filter_check_item_check_round)]
+#[cycle(checking)]
 fn check_chosen(sheet: &[u8], filter: &[u8], spot: Spot, until: usize) -> Walked
     requires sheet_value { read_sheet sheet.now ≡ Validity.WellFormed }
     requires filter_len_bound { length filter.now ≤ 1024 }
@@ -109,7 +109,7 @@ fn check_chosen(sheet: &[u8], filter: &[u8], spot: Spot, until: usize) -> Walked
 
 // The item at a spot: "a test, a filter in round brackets, or not followed by a filter in round brackets", or the test of a member
 // after its bundle's brackets.
-#[cycle(check_chosen_check_filter_check_item_check_round)]
+#[cycle(checking)]
 fn check_item(sheet: &[u8], filter: &[u8], spot: Spot) -> Walked
     requires sheet_value { read_sheet sheet.now ≡ Validity.WellFormed }
     requires filter_len_bound { length filter.now ≤ 1024 }
@@ -156,7 +156,7 @@ fn check_item(sheet: &[u8], filter: &[u8], spot: Spot) -> Walked
 }
 
 // The filter at a spot: "one or more items joined by and or or", from left to right.
-#[cycle(check_chosen_check_filter_check_item_check_round)]
+#[cycle(checking)]
 pub fn check_filter(sheet: &[u8], filter: &[u8], spot: Spot) -> Walked
     requires sheet_value { read_sheet sheet.now ≡ Validity.WellFormed }
     requires filter_len_bound { length filter.now ≤ 1024 }

@@ -1,4 +1,6 @@
 // Filters read on a sheet: a filter and an item call each other, and the text left and the nesting left fall.
+#![tactic(auto)]
+
 mod check;
 
 ghost use Rattle.std.specs.Prelude.{◌≡◌};

@@ -8,7 +8,7 @@
 use Prim.Native.Nat.{ℕ, ◌≤◌, ◌<◌}
 use native.Mathlib.Omega.{arith}
 use mathlib.Core.Path.{◌≡◌, refl, sym, ap, ap₂, ◌∙◌}
-use mathlib.Core.Bool.{Bool, true, false, cond, not, ◌||◌, not_not}
+use mathlib.Core.Bool.{Bool, true, false, cond, not, ◌||◌, not-not}
 use mathlib.Core.List.{List, [], ◌∷◌}
 use lib.Dec.{eqb, leb}
 use lib.ListN.{take}
@@ -192,7 +192,7 @@ says_some Meaning.Present v set = go set
     any_text_lem (x ∷ xs) = refl
 
     go : (set : List (List ℕ)) → cond (is_true v) (not (is_empty set)) (is_empty set) ≡ cond (is_true v) (some_value (text_counts Meaning.Present v) set) (not (some_value (text_counts Meaning.Present v) set))
-    go set = rw (any_text_lem set, not_not (is_empty set))
+    go set = rw (any_text_lem set, not-not (is_empty set))
 says_some (Meaning.Relates r) v set = refl
 says_some (Meaning.Differs r) v set = refl
 says_some Meaning.Nothing v set = sym (never set)

@@ -1,4 +1,6 @@
 // Tests judged on a sheet and on a card: a test's fault, whether a card conforms to a sheet, what a test says of a card.
+#![tactic(auto)]
+
 mod faults;
 mod placed;
 mod sets;

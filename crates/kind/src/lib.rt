@@ -1,5 +1,7 @@
 // Kinds of parameters: which relation an operator means for a kind, which texts are readable, and whether a card's text
 // stands in a relation to a filter's value.
+#![tactic(auto)]
+
 mod decision;
 mod readable;
 mod relate;

@@ -1,5 +1,7 @@
 // What `pick` prints, as bytes in a buffer: record numbers line by line, a refusal with its place in the file, the count over all runs, and
 // what cannot be done with a file; and the filter's text in its file. Reading and writing files is left to the program.
+#![tactic(auto)]
+
 mod filter_text;
 mod lines;
 mod runs;

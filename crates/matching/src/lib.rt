@@ -1,4 +1,6 @@
 // Match, which is prepare and judge after each other; judge; and match by the text, the second engine.
+#![tactic(auto)]
+
 mod judging;
 
 ghost use Rattle.std.specs.Prelude.{◌≡◌};

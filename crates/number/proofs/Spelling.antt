@@ -14,7 +14,7 @@ use mathlib.Core.List.{List, ◌∷◌, ◌++◌}
 use mathlib.Core.Logic.{◌↔◌}
 use lib.Dec.{leb, eqb, lit≤}
 use lib.ListN.{length, get_or, take, drop, length-append, length-take}
-use lib.Seq.{take-append_seam, drop-append-add, get_or-append_seam, split_at_lem, take-length}
+use lib.Seq.{take-append_seam, drop-append-add, get_or-append_seam, split_at, take-length}
 use borrow.Author.Tests.{leb-true, eqb-true, eqb-false}
 use Rattle.base.specs.Digits.{is_digit}
 use Rattle.base.specs.Runs.{run}
@@ -71,7 +71,7 @@ module _ (s : List ℕ) (d : Decimal) (one : 1 ≤ run is_digit s) (eight : run 
       let w : List ℕ = take (run is_digit s) s in
       let f : List ℕ = drop (run is_digit s + 1) s in
       fraction w f
-      (split_at_lem s (run is_digit s) 0 inside ∙ rw (point, add-one))
+      (split_at s (run is_digit s) 0 inside ∙ rw (point, add-one))
       (record { all = every_all is_digit w (run_take is_digit s); enough = rw whole_length one; few = rw whole_length eight })
       r.digits
       (r.value ∙ ap (λ (n : ℕ). record { digits = n; decimals = length f }) (sym (value-append 0 w f)))

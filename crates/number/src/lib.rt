@@ -1,5 +1,7 @@
 // Numbers: texts of 1 to 8 digits, perhaps with "." and 1 to 9 decimals, and their relations by exact value.
 // Every number that can be written is a whole count of billionths below ten to the seventeenth, which a u64 holds.
+#![tactic(auto)]
+
 ghost use Rattle.std.specs.Prelude.{◌≡◌, ◌^◌, ◌≤◌, ◌<◌, length};
 ghost use Rattle.base.specs.Digits.{is_digit};
 ghost use Rattle.base.specs.Runs.{run};

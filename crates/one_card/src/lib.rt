@@ -1,4 +1,6 @@
 // One card under a sheet: whether it is accepted, what is said of it by either engine, and the answer that this makes.
+#![tactic(auto)]
+
 mod by_rows;
 mod by_text;
 

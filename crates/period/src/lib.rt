@@ -1,5 +1,7 @@
 // Periods. A card's text reads to a period, whose ends may be missing, or is unreadable; a card's date is the period with
 // both ends known. A card's period and a filter's date stand in the relations that the filter's operations ask for.
+#![tactic(auto)]
+
 mod compare;
 mod reader;
 

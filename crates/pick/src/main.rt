@@ -1,5 +1,7 @@
 // pick: which cards of the archive in the current folder match its filter. It reads sheet.bin, filter.txt and cards.bin,
 // prints the record number of each matching card on a line, and last how many of the cards match, or why there is no answer.
+#![tactic(auto)]
+
 mod files;
 mod printing;
 mod runs;

@@ -10,7 +10,7 @@ use native.Mathlib.Omega.{arith}
 use native.Mathlib.Numerals.{add-one}
 use native.Mathlib.Nat.{add-zero, zero-add}
 use mathlib.Core.Path.{◌≡◌, refl, sym, ap, subst, ◌∙◌}
-use mathlib.Core.Bool.{Bool, true, false, cond, ◌&&◌, ◌||◌, and_true, and_false}
+use mathlib.Core.Bool.{Bool, true, false, cond, ◌&&◌, ◌||◌, and-true, and-false}
 use mathlib.Core.List.{List, [], ◌∷◌, ◌++◌}
 use lib.Dec.{eqb, ltb}
 use lib.ListN.{length, get_or, take, drop, drop_of_length-le}
@@ -361,9 +361,9 @@ over_mode xs at (Mode.MemberName from) = refl
 
 over-digits : (k : List Bracket) (n : ℕ) (f : Phase) → over (state f k n) ≡ (item_over f && eqb (digits k) 1)
 unfolding digits
-over-digits [] n f = sym (and_true (item_over f))
-over-digits (round_open ∷ k) n f = sym (ap (λ (b : Bool). item_over f && b) (ne_eqb (2 * digits k) 1 (λ e. omega (arith, digits_some k))) ∙ and_false (item_over f))
-over-digits (square-open ∷ k) n f = sym (ap (λ (b : Bool). item_over f && b) (ne_eqb (2 * digits k + 1) 1 (λ e. omega (arith, digits_some k))) ∙ and_false (item_over f))
+over-digits [] n f = sym (and-true (item_over f))
+over-digits (round_open ∷ k) n f = sym (ap (λ (b : Bool). item_over f && b) (ne_eqb (2 * digits k) 1 (λ e. omega (arith, digits_some k))) ∙ and-false (item_over f))
+over-digits (square-open ∷ k) n f = sym (ap (λ (b : Bool). item_over f && b) (ne_eqb (2 * digits k + 1) 1 (λ e. omega (arith, digits_some k))) ∙ and-false (item_over f))
 
 -- as the code tests it
 pub over_not : (r : Reached) (t : Bool) → t ≡ coded.item_over r.mode → t ≡ false → false ≡ coded.over r
@@ -425,6 +425,9 @@ module _ (xs : List ℕ) (at : ℕ) (r : Reached) (a : Reaching xs at r) where
     reaching_on next f = go stepped (subst (λ (z : Outcome). To xs at z stepped) f to_step) one_on one_on-ends
       where
         go : (s : Progress) → To xs at (Outcome.Live next) s → failure deepest most_tests xs ≡ on_step s next_from at → is_filter deepest most_tests xs ≡ on_live s next_ends → Reaching xs (at + 1) next
+        go deep x3 z y = elim x3 [ ]
+        go many x4 z y = elim x4 [ ]
+        go wrong x5 z y = elim x5 [ ]
         go (live (state g k n)) (to_live u v w) z y =
             record {
               within = omega arith;
@@ -439,18 +442,27 @@ module _ (xs : List ℕ) (at : ℕ) (r : Reached) (a : Reaching xs at r) where
     reaching_deep f = go stepped (subst (λ (z : Outcome). To xs at z stepped) f to_step) one_on one_on-ends
       where
         go : (s : Progress) → To xs at Outcome.Deep s → failure deepest most_tests xs ≡ on_step s next_from at → is_filter deepest most_tests xs ≡ on_live s next_ends → Found.Failed (record { reason = Reason.TooDeep; place = at }) ≡ found deepest most_tests xs
+        go (live _) x4 z y = elim x4 [ ]
+        go many x4 z y = elim x4 [ ]
+        go wrong x5 z y = elim x5 [ ]
         go deep to_deep z y = failed xs (record { reason = Reason.TooDeep; place = at }) y (sym z)
 
     pub reaching_many : o ≡ Outcome.Many → Found.Failed (record { reason = Reason.TooMany; place = at }) ≡ found deepest most_tests xs
     reaching_many f = go stepped (subst (λ (z : Outcome). To xs at z stepped) f to_step) one_on one_on-ends
       where
         go : (s : Progress) → To xs at Outcome.Many s → failure deepest most_tests xs ≡ on_step s next_from at → is_filter deepest most_tests xs ≡ on_live s next_ends → Found.Failed (record { reason = Reason.TooMany; place = at }) ≡ found deepest most_tests xs
+        go (live _) x4 z y = elim x4 [ ]
+        go deep x4 z y = elim x4 [ ]
+        go wrong x5 z y = elim x5 [ ]
         go many to_many z y = failed xs (record { reason = Reason.TooMany; place = at }) y (sym z)
 
     pub reaching_wrong : o ≡ Outcome.Wrong → Found.Failed (record { reason = Reason.NoFilter; place = at }) ≡ found deepest most_tests xs
     reaching_wrong f = go stepped (subst (λ (z : Outcome). To xs at z stepped) f to_step) one_on one_on-ends
       where
         go : (s : Progress) → To xs at Outcome.Wrong s → failure deepest most_tests xs ≡ on_step s next_from at → is_filter deepest most_tests xs ≡ on_live s next_ends → Found.Failed (record { reason = Reason.NoFilter; place = at }) ≡ found deepest most_tests xs
+        go (live _) x4 z y = elim x4 [ ]
+        go deep x4 z y = elim x4 [ ]
+        go many x5 z y = elim x5 [ ]
         go wrong to_wrong z y = failed xs (record { reason = Reason.NoFilter; place = at }) y (sym z)
 
 -- ---- where a text that is a filter would fail: at its end

@@ -64,7 +64,7 @@ module _ {d m : ℕ} {xs : List ℕ} where
   runs_walk {p = p} (rests {s = s}) h = subst (λ (q : ℕ). Walk d m xs p s q s) (sym (add-zero p)) stay
   runs_walk {p = p} (goes {b = b} {ws = ws} {t = t} {u = u} e r) h =
       let z : p + 1 + length ws ≡ p + length (b ∷ ws) = omega arith in
-      go (stands_first xs p b ws h) e (subst (λ (q : ℕ). Walk d m xs (p + 1) t q u) z (runs_walk r (stands_rest xs p b ws h)))
+      go (stands_first xs p b ws h) e (subst (λ (q : ℕ). Walk d m xs (p + 1) t q u) z (runs_walk {p = p + 1} r (stands_rest xs p b ws h)))
 
   -- a walk up to the end
   pub walk_runs : {p q : ℕ} {s t : State} → Walk d m xs p s q t → q ≡ length xs → Runs d m s (drop p xs) t

@@ -1,5 +1,7 @@
 // Where a text stops being the beginning of a filter, and why. The text is gone over byte by byte, for as long as some filter
 // within both limits begins with the bytes so far.
+#![tactic(auto)]
+
 mod step;
 
 ghost use Rattle.std.specs.Prelude.{◌≡◌};

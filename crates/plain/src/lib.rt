@@ -1,4 +1,6 @@
 // The plain spelling of a filter's values and tests, and of the brackets around a join.
+#![tactic(auto)]
+
 mod bracket;
 mod test;
 mod value;

@@ -31,6 +31,7 @@ no_percent h = not_hex h refl
     not_hex (hex_small {n = n} h) e = omega arith
 
 good-percent : {s v : List ℕ} → Encodes s v → BadPercent s → ⊥
+good-percent encodes_end x4 = elim x4 [ ]
 good-percent (encodes_byte n m h) (bad_here k) = m refl
 good-percent (encodes_byte n m h) (bad_later k) = good-percent h k
 good-percent (encodes_space h) (bad_later k) = good-percent h k

@@ -98,10 +98,10 @@ pairs_there (suc n) p xs q e = by_cut (pairs_there n) (cut_of ampersand xs) e
         subst (PairsAt p t) (sym z) (last_pair (pair_there p t a h i))
 
 pub pairs_back : {p : ℕ} {xs : List ℕ} {q : Query} → PairsAt p xs q → (n : ℕ) → length xs < n → read_pairs n p xs ≡ found q
-pairs_back h zero k = absurd (omega arith)
-pairs_back (last_pair {p = p} {s = s} h) (suc n) k = pairs_last n p s (pair-without h) ∙ rw (pair-back h)
-pairs_back (next_pair {p = p} {s = s} {xs = xs} h r) (suc n) k =
-    pairs_cut n p s xs (pair-without h) ∙ rw (pair-back h, pairs_back r n (omega (arith, k, cut_shorter ampersand s xs)))
+pairs_back {p = p} h zero k = absurd (omega arith)
+pairs_back {p = p} (last_pair {s = s} h) (suc n) k = pairs_last n p s (pair-without h) ∙ rw (pair-back h)
+pairs_back {p = p} (next_pair {s = s} {xs = xs} h r) (suc n) k =
+    pairs_cut n p s xs (pair-without h) ∙ rw (pair-back h, pairs_back {p = p + length s + 1} r n (omega (arith, k, cut_shorter ampersand s xs)))
 
 -- ---- the whole string
 

@@ -1,4 +1,6 @@
 // Search strings: pairs of a name and alternatives, read, decoded and kept in rows.
+#![tactic(auto)]
+
 mod decode;
 mod pair;
 mod pieces;

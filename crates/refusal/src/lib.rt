@@ -1,4 +1,6 @@
 // Refusals: why an operation gives no answer, and where, with the numbers of document 01's table.
+#![tactic(auto)]
+
 mod decide;
 mod numbers;
 

@@ -7,5 +7,5 @@ pub mod Table
 pub mod Planning
 pub mod Reporting
 pub mod Words
-pub mod Operations
+pub mod Contracts
 pub mod Promises

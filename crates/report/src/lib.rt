@@ -1,5 +1,7 @@
 // The report on a run of cards (02: the month-end sheet): how many cards say yes and how many no, and for each parameter how many cards
 // of the run have it and how many values stand under it.
+#![tactic(auto)]
+
 mod operation;
 mod plan;
 mod rows;

@@ -1,4 +1,6 @@
 // Rows that were opened, judged on cards without reading the filter again.
+#![tactic(auto)]
+
 mod asks;
 mod once;
 mod says;

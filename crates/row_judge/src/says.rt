@@ -144,7 +144,7 @@ fn plain_says(
 
 // What a test after brackets says of the entries that count: its row, and those in its brackets behind it. Some entry must count, and the rows
 // in the brackets say yes of its occurrence.
-#[cycle(bracket_says_rows_say)]
+#[cycle(saying)]
 fn bracket_says(
     filter: &[u8],
     rows: &[u32],
@@ -197,7 +197,7 @@ fn bracket_says(
 }
 
 // What rows that were opened say of the entries of a well-formed card that count.
-#[cycle(bracket_says_rows_say)]
+#[cycle(saying)]
 pub fn rows_say(
     filter: &[u8],
     rows: &[u32],

@@ -1,4 +1,6 @@
 // Rows opened once for many cards: what the value of each test reads to, in lists by row.
+#![tactic(auto)]
+
 mod store;
 
 use kind::Readings;

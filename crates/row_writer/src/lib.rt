@@ -1,4 +1,6 @@
 // The rows of a filter, written while the filter is read.
+#![tactic(auto)]
+
 mod write;
 
 use filter::Summary;

@@ -121,7 +121,7 @@ fn close_round(
 }
 
 // The filter in round brackets at a spot inside them, after not where `negate` says so. Its cells are written from a row on.
-#[cycle(write_chosen_write_filter_write_item_write_rest_write_round)]
+#[cycle(writing)]
 fn write_round(
     sheet: &[u8],
     filter: &[u8],
@@ -235,7 +235,7 @@ fn write_member(
 
 // The test of a member at a spot, after the filter in square brackets of the bundle whose name ends at `until`; the levels are those in
 // the brackets. The cells of both are written from a row on: those of the brackets and of the test are filled in afterwards.
-#[cycle(write_chosen_write_filter_write_item_write_rest_write_round)]
+#[cycle(writing)]
 fn write_chosen(
     sheet: &[u8],
     filter: &[u8],
@@ -260,7 +260,7 @@ fn write_chosen(
 
 // The item at a spot: "a test, a filter in round brackets, or not followed by a filter in round brackets", or the test of a member
 // after its bundle's brackets. Its cells are written from a row on.
-#[cycle(write_chosen_write_filter_write_item_write_rest_write_round)]
+#[cycle(writing)]
 fn write_item(sheet: &[u8], filter: &[u8], spot: Spot, rows: &mut [u32], row: usize) -> Written
     requires sheet_value { read_sheet sheet.now ≡ Validity.WellFormed }
     requires room { Room filter.now rows.old row spot.at }
@@ -335,7 +335,7 @@ fn write_join(
 
 // The items that follow the one in hand, which begins at a spot, ends at `end` and has its cells from a row on. A connective's cell is
 // filled in behind its item.
-#[cycle(write_chosen_write_filter_write_item_write_rest_write_round)]
+#[cycle(writing)]
 fn write_rest(
     sheet: &[u8],
     filter: &[u8],
@@ -381,7 +381,7 @@ fn write_rest(
 }
 
 // The filter at a spot: "one or more items joined by and or or", from left to right. Its cells are written from a row on.
-#[cycle(write_chosen_write_filter_write_item_write_rest_write_round)]
+#[cycle(writing)]
 pub fn write_filter(
     sheet: &[u8],
     filter: &[u8],

@@ -1,5 +1,7 @@
 // Rows: a filter that was read, as 32-bit cells to be read from left to right with one expression in hand. What each cell says, and
 // whether cells are the rows of a filter; they are tested before they are trusted.
+#![tactic(auto)]
+
 mod cell;
 mod fit;
 mod shapes;

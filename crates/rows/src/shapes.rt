@@ -49,7 +49,7 @@ fn joined(first: Shape, second: Shape) -> Shape
 }
 
 // Of the first test of rows, after brackets with so many rows in them.
-#[cycle(shape_in_brackets_shape_of_shape_of_first_shape_with)]
+#[cycle(shapes)]
 fn shape_in_brackets(
     kinds: &[u8],
     parents: &[u8],
@@ -82,7 +82,7 @@ fn shape_in_brackets(
 }
 
 // Of the first test of rows, with the brackets before it, in a scope.
-#[cycle(shape_in_brackets_shape_of_shape_of_first_shape_with)]
+#[cycle(shapes)]
 fn shape_of_first(
     kinds: &[u8],
     parents: &[u8],
@@ -123,7 +123,7 @@ fn shape_of_first(
 }
 
 // Of all rows, with the shape of those before the next in hand.
-#[cycle(shape_in_brackets_shape_of_shape_of_first_shape_with)]
+#[cycle(shapes)]
 fn shape_with(
     kinds: &[u8],
     parents: &[u8],
@@ -181,7 +181,7 @@ fn shape_with(
 }
 
 // Of what rows state in a scope, by at most so many calls within calls.
-#[cycle(shape_in_brackets_shape_of_shape_of_first_shape_with)]
+#[cycle(shapes)]
 pub fn shape_of(
     kinds: &[u8],
     parents: &[u8],

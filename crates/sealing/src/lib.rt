@@ -1,4 +1,6 @@
 // For programs that make blocks and read them: the check sum is written into a block, and the record number read from a card.
+#![tactic(auto)]
+
 ghost use Rattle.std.specs.Prelude.{◌≡◌, ◌++◌, ◌%◌, take};
 ghost use Rattle.refusal.specs.Answers.{refused};
 ghost use Rattle.block.specs.Seal.{HasSize};

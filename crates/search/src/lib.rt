@@ -1,4 +1,6 @@
 // What search strings ask: the faults of their alternatives on a sheet, and their verdicts on a card.
+#![tactic(auto)]
+
 mod asked;
 mod faults;
 mod says;

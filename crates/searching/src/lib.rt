@@ -1,4 +1,6 @@
 // Check and match by a search string. Its alternatives are kept in rows over a buffer of decoded bytes, once for all cards.
+#![tactic(auto)]
+
 ghost use Rattle.std.specs.Prelude.{◌≡◌, ℕ, ◌≤◌, length};
 ghost use Rattle.sheet.specs.Sheet.{parameters_of, read_sheet};
 ghost use Rattle.sheet.specs.Find.{kinds_of};

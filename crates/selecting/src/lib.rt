@@ -1,4 +1,6 @@
 // Select: the record numbers of the cards of a run that match.
+#![tactic(auto)]
+
 mod asking;
 mod by_rows;
 

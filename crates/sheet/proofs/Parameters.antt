@@ -6,7 +6,7 @@
 use Prim.Native.Nat.{ℕ, ◌-◌, ◌≤◌, ◌<◌}
 use native.Mathlib.Omega.{arith}
 use mathlib.Core.Path.{◌≡◌, refl, ap, sym, ◌∙◌}
-use mathlib.Core.Bool.{Bool, true, false, not, ◌&&◌, and_true, and_false, or-true}
+use mathlib.Core.Bool.{Bool, true, false, not, ◌&&◌, and-true, and-false, or-true}
 use mathlib.Core.Logic.{◌↔◌, ◌⊎◌, inl, inr, ⊎_elim}
 use mathlib.Core.List.{List, [], ◌∷◌}
 use lib.Dec.{leb, eqb}
@@ -33,15 +33,15 @@ module _ (w : Bool) (k : ℕ) where
 
   pub kind_bundle : k ≡ 7 → w ≡ is_kind w k
   unfolding is_kind between
-  kind_bundle e = rw (e, and_true w)
+  kind_bundle e = rw (e, and-true w)
 
   pub kind_low : k < 1 → false ≡ is_kind w k
   unfolding is_kind between
-  kind_low l = rw (lt-leb 1 k l, ne_eqb k 7 (λ e. omega arith), and_false w)
+  kind_low l = rw (lt-leb 1 k l, ne_eqb k 7 (λ e. omega arith), and-false w)
 
   pub kind_other : 1 ≤ k → 6 < k → (k ≡ 7 → ⊥) → false ≡ is_kind w k
   unfolding is_kind between
-  kind_other h l n = rw (le-leb 1 k h, lt-leb k 6 l, ne_eqb k 7 n, and_false w)
+  kind_other h l n = rw (le-leb 1 k h, lt-leb k 6 l, ne_eqb k 7 n, and-false w)
 
 -- what a kind's test and the name decide
 module _ (w : Bool) (k c : ℕ) (n : List ℕ) (t : Bool) (i : t ≡ is_kind w k) where

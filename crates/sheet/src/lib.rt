@@ -1,6 +1,8 @@
 // Parameter sheets: blocks of 512 bytes that list the parameters of a catalogue, each with its kind, its bundle and its name. A
 // reader asks `read_sheet` first; the parameters of a well-formed sheet are then found by name with `find`, and `kinds` gives their
 // kinds by index.
+#![tactic(auto)]
+
 ghost use Rattle.std.specs.Prelude.{◌≡◌, ◌&&◌, ◌<◌, eqb};
 ghost use Rattle.block.specs.Seal.{HasSize};
 ghost use Rattle.block.specs.Items.{items, Walk};

@@ -6,7 +6,7 @@ pub mod Impossible
 pub mod Bounds
 pub mod SearchDemand
 pub mod SameQuestion
-pub mod Operations
+pub mod Contracts
 pub mod SpellTable
 pub mod Spells
 pub mod Operators

@@ -11,7 +11,7 @@
 use Prim.Native.Nat.{ℕ, suc, ◌+◌, ◌≤◌, ◌<◌}
 use native.Mathlib.Omega.{arith}
 use mathlib.Core.Path.{◌≡◌, refl, ap, sym, ◌∙◌, subst, fun_ext}
-use mathlib.Core.Bool.{Bool, true, false, cond, ◌&&◌, ◌||◌, or_false}
+use mathlib.Core.Bool.{Bool, true, false, cond, ◌&&◌, ◌||◌, or-false}
 use mathlib.Core.Logic.{⊎_elim}
 use mathlib.Core.Option.{Option, none, some}
 use mathlib.Core.List.{List, [], ◌∷◌, ◌++◌, flatten, append_assoc, append-nil, Permᴰ}
@@ -136,7 +136,7 @@ module _ (ps : List Parameter) (es : List Entry) where
 
   or_joined : {fs : List Tree} {f : Tree} → Joined Connective.Or fs f → says f ≡ or_all says fs
   unfolding or_all filter_says fold_tree
-  or_joined (alone {f = f}) = sym (or_false (says f))
+  or_joined (alone {f = f}) = sym (or-false (says f))
   or_joined (joins {fs = fs} {gs = gs} {g = g} a b) = ap (λ (x : Bool). x || says g) (or_joined a) ∙ ap (λ (x : Bool). or_all says fs || x) (or_joined b) ∙ sym (or_append says fs gs)
 
   and_joined : {fs : List Tree} {f : Tree} → Joined Connective.And fs f → says f ≡ and_all says fs

@@ -1,5 +1,7 @@
 // Sirophan: which cards of an archive match a filter or a search string. It either has a meaning on every card that fits the sheet,
 // and is answered exactly, or is refused with a number and a place.
+#![tactic(auto)]
+
 mod operations;
 
 pub use answer::{Checked, Engine, Matched, Prepared, Selected};

@@ -1,4 +1,6 @@
 // The operations for C: include/sirophan.h declares them. No enum crosses to C, so a struct of numbers stands for an answer.
+#![tactic(auto)]
+
 ghost use Rattle.std.specs.Prelude.{◌≡◌, length};
 ghost use Rattle.answer.specs.Operations.{check_answer, match_answer, select_answer, select_cells};
 ghost use Rattle.sirophan.specs.Spelling.{spell_answer, spell_bytes};

@@ -1,4 +1,6 @@
 // The plain spelling of a filter, written into a buffer that the caller lends.
+#![tactic(auto)]
+
 mod walk;
 
 ghost use Rattle.std.specs.Prelude.{◌≡◌, ◌+◌, ◌≤◌, leb, length};

@@ -48,7 +48,7 @@ fn write_member(filter: &[u8], test: RawTest, out: &mut [u8]) -> usize
 }
 
 // Writes the filter in round brackets after not, which begins at a position inside them: "not(", the filter, ")".
-#[cycle(write_chosen_write_filter_write_item_write_joined_write_not_write_operand_write_round)]
+#[cycle(writing)]
 fn write_not(filter: &[u8], at: usize, levels: usize, out: &mut [u8]) -> Written
     requires filter_len_bound { length filter.now ≤ 1024 }
     requires at_in_bounds { at ≤ length filter.now }
@@ -75,7 +75,7 @@ fn write_not(filter: &[u8], at: usize, levels: usize, out: &mut [u8]) -> Written
 }
 
 // Writes the filter in round brackets, which begins at a position inside them; the brackets are left out.
-#[cycle(write_chosen_write_filter_write_item_write_joined_write_not_write_operand_write_round)]
+#[cycle(writing)]
 fn write_round(filter: &[u8], at: usize, levels: usize, out: &mut [u8]) -> Written
     requires filter_len_bound { length filter.now ≤ 1024 }
     requires at_in_bounds { at ≤ length filter.now }
@@ -99,7 +99,7 @@ fn write_round(filter: &[u8], at: usize, levels: usize, out: &mut [u8]) -> Writt
 }
 
 // Writes the test of a member at a spot, after the filter in square brackets of the bundle whose name ends at `until`.
-#[cycle(write_chosen_write_filter_write_item_write_joined_write_not_write_operand_write_round)]
+#[cycle(writing)]
 fn write_chosen(filter: &[u8], spot: Spot, until: usize, out: &mut [u8]) -> Written
     requires filter_len_bound { length filter.now ≤ 1024 }
     requires at_le_until { spot.at ≤ until }
@@ -139,7 +139,7 @@ fn write_chosen(filter: &[u8], spot: Spot, until: usize, out: &mut [u8]) -> Writ
 
 // Writes the item at a spot: "a test, a filter in round brackets, or not followed by a filter in round brackets", or the test of a
 // member after its bundle's brackets.
-#[cycle(write_chosen_write_filter_write_item_write_joined_write_not_write_operand_write_round)]
+#[cycle(writing)]
 fn write_item(filter: &[u8], spot: Spot, out: &mut [u8]) -> Written
     requires filter_len_bound { length filter.now ≤ 1024 }
     requires at_in_bounds { spot.at ≤ length filter.now }
@@ -185,7 +185,7 @@ fn write_item(filter: &[u8], spot: Spot, out: &mut [u8]) -> Written
 }
 
 // Writes the item at a spot as it stands after a connective: in brackets where it is a join.
-#[cycle(write_chosen_write_filter_write_item_write_joined_write_not_write_operand_write_round)]
+#[cycle(writing)]
 fn write_operand(filter: &[u8], spot: Spot, out: &mut [u8]) -> Written
     requires filter_len_bound { length filter.now ≤ 1024 }
     requires at_in_bounds { spot.at ≤ length filter.now }
@@ -201,7 +201,7 @@ fn write_operand(filter: &[u8], spot: Spot, out: &mut [u8]) -> Written
 }
 
 // Writes a connective and the item at a spot after it.
-#[cycle(write_chosen_write_filter_write_item_write_joined_write_not_write_operand_write_round)]
+#[cycle(writing)]
 fn write_joined(filter: &[u8], connective: Connective, spot: Spot, out: &mut [u8]) -> Written
     requires filter_len_bound { length filter.now ≤ 1024 }
     requires at_in_bounds { spot.at ≤ length filter.now }
@@ -218,7 +218,7 @@ fn write_joined(filter: &[u8], connective: Connective, spot: Spot, out: &mut [u8
 }
 
 // Writes the filter at a spot: "one or more items joined by and or or", from left to right.
-#[cycle(write_chosen_write_filter_write_item_write_joined_write_not_write_operand_write_round)]
+#[cycle(writing)]
 pub fn write_filter(filter: &[u8], spot: Spot, out: &mut [u8]) -> Written
     requires filter_len_bound { length filter.now ≤ 1024 }
     requires at_in_bounds { spot.at ≤ length filter.now }

@@ -9,7 +9,7 @@ use Prim.Native.Nat.{ℕ, suc, ◌+◌, ◌*◌, ◌-◌, ◌≤◌, ◌<◌}
 use native.Mathlib.Omega.{arith}
 use native.Mathlib.Numerals.{add-one}
 use mathlib.Core.Path.{◌≡◌, refl, sym, ap, subst, ◌∙◌}
-use mathlib.Core.Bool.{Bool, true, false, cond, not, ◌&&◌, and_true, false≢true, true≢false}
+use mathlib.Core.Bool.{Bool, true, false, cond, not, ◌&&◌, and-true, false≢true, true≢false}
 use mathlib.Core.List.{List, [], ◌∷◌, flatten}
 use lib.Dec.{eqb}
 use lib.ListN.{length, get_or, take, drop, length-drop, length-append, drop_of_length-le}
@@ -138,7 +138,7 @@ letters_decide : (words : List ℕ) → words ≡ operator_letters → (k : ℕ)
 unfolding equal
 letters_decide words e k h a b =
     let s = sym (equal-same (letters_of operator_letters k) (get_or operator_words k []) (each_spelt k h)) in
-    rw (s, e) (ap (λ (r : Bool). eqb a (get_or operator_letters (2 * k) 0) && r) (and_true (eqb b (get_or operator_letters (2 * k + 1) 0))))
+    rw (s, e) (ap (λ (r : Bool). eqb a (get_or operator_letters (2 * k) 0) && r) (and-true (eqb b (get_or operator_letters (2 * k + 1) 0))))
 
 -- the two bytes at a position
 pub two_bytes_lem : (xs : List ℕ) (p : ℕ) → 2 ≤ length xs - p → take 2 (drop p xs) ≡ get_or xs p 0 ∷ get_or xs (p + 1) 0 ∷ []

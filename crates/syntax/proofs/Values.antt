@@ -10,7 +10,7 @@ use native.Mathlib.Omega.{arith}
 use native.Mathlib.Nat.{add-zero, le_refl, le_of_eq}
 use native.Mathlib.Numerals.{add-one}
 use mathlib.Core.Path.{◌≡◌, refl, sym, ap, subst, ◌∙◌}
-use mathlib.Core.Bool.{Bool, true, false, ◌||◌, or-true, or_false, true≢false, false≢true}
+use mathlib.Core.Bool.{Bool, true, false, ◌||◌, or-true, or-false, true≢false, false≢true}
 use mathlib.Core.List.{List, [], ◌∷◌, ◌++◌, append_assoc}
 use mathlib.Core.Logic.{◌⊎◌, inl, inr, ⊎_elim}
 use lib.Dec.{eqb, leb, ltb}
@@ -169,7 +169,7 @@ string-ended (y ∷ ys) pending met p e found inv h = go pending inv (step_of pe
     go true inv _ (no_escape b) h next = never_closed h
     go false inv _ (ends_string b) h next = ended_here y ys p e found met b h
     go false inv _ (starts_escape b) h next = ended-backslash y ys p e found met b (next true true (λ t. refl) (rw (or-true met) at h))
-    go false inv _ (goes_on b) h next = ended-plain y ys p e found met b (next false met (λ t. absurd (false≢true t)) (rw (or_false met) at h))
+    go false inv _ (goes_on b) h next = ended-plain y ys p e found met b (next false met (λ t. absurd (false≢true t)) (rw (or-false met) at h))
     go false inv _ (too_low b) h next = never_closed h
 
 -- ---- a string is found
@@ -177,7 +177,7 @@ string-ended (y ∷ ys) pending met p e found inv h = go pending inv (step_of pe
 string-plain : (y : ℕ) (ys : List ℕ) (met : Bool) (p : ℕ) → is_plain y ≡ true → string_from (y ∷ ys) false met p ≡ string_from ys false met (p + 1)
 unfolding string_from step_of is_plain
 string-plain y ys met p h =
-    rw (apart is_plain y quote h refl, apart is_plain y backslash h refl, and_left (leb 0x20 y) _ h, or_false met)
+    rw (apart is_plain y quote h refl, apart is_plain y backslash h refl, and_left (leb 0x20 y) _ h, or-false met)
 
 string_escape : (y : ℕ) (ys : List ℕ) (met : Bool) (p : ℕ) → is_escape y ≡ true → string_from (backslash ∷ y ∷ ys) false met p ≡ string_from ys false true (p + 1 + 1)
 unfolding string_from step_of

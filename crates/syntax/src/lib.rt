@@ -1,5 +1,7 @@
 // The filter's text: what stands at a position, each answer with the positions of its parts.
 // Sheets, kinds and cards are no matter of this layer.
+#![tactic(auto)]
+
 pub mod scan;
 pub mod test;
 pub mod value;

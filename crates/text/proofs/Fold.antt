@@ -5,7 +5,7 @@ use Prim.Native.Nat.{ℕ, zero, suc, ◌+◌, ◌-◌, ◌%◌, ◌≤◌, ◌<�
 use Prim.Native.Char.{code}
 use native.Mathlib.Numerals.{unary_clauses}
 use native.Mathlib.Omega.{arith}
-use mathlib.Core.Bool.{Bool, true, false, cond, not, ◌&&◌, ◌||◌, and_false}
+use mathlib.Core.Bool.{Bool, true, false, cond, not, ◌&&◌, ◌||◌, and-false}
 use mathlib.Core.List.{List, [], ◌∷◌}
 use lib.Dec.{eqb, leb}
 use lib.ListN.{length, get_or}
@@ -107,7 +107,7 @@ module _ (s : List ℕ) (i : ℕ) (h : i < length s) (c : Bool) (e : c ≡ is_ca
   module _ (f : c ≡ false) (a : Bool) (ea : a ≡ is_accented (get_or s i 0)) where
     pub folded_plain : a ≡ false → get_or s i 0 ≡ get_or (fold_text s) i 0
     unfolding fold_text fold_byte
-    folded_plain fa = rw (folded 0 s i h, ← e, f, ← ea, fa, and_false)
+    folded_plain fa = rw (folded 0 s i h, ← e, f, ← ea, fa, and-false)
 
     module _ (ta : a ≡ true) (b : Bool) (eb : b ≡ eqb (get_or (0 ∷ s) i 0) lead) where
       pub folded_accented : b ≡ true → get_or s i 0 + 32 ≡ get_or (fold_text s) i 0

@@ -9,7 +9,7 @@ use mathlib.Core.Path.{◌≡◌, refl, ap, subst, ◌∙◌}
 use Prim.Native.Nat.{ℕ, ◌+◌, ◌≤◌, ◌<◌}
 use Prim.Native.Char.{code}
 use native.Mathlib.Omega.{arith}
-use mathlib.Core.Bool.{Bool, true, false, ◌&&◌, ◌||◌, false≢true, and_false}
+use mathlib.Core.Bool.{Bool, true, false, ◌&&◌, ◌||◌, false≢true, and-false}
 use mathlib.Core.List.{List, [], ◌∷◌, ◌++◌}
 use mathlib.Core.Logic.{◌↔◌, ⊎_elim}
 use lib.Dec.{eqb, leb}
@@ -141,7 +141,7 @@ fold_from_fresh w (x ∷ s) n = rw (ne_eqb w lead n)
 
 bar-stays : (w : ℕ) → fold_byte w bar ≡ bar
 unfolding fold_byte is_capital is_accented
-bar-stays w = rw (and_false (eqb w lead))
+bar-stays w = rw (and-false (eqb w lead))
 
 pub fold_text-bar : (s c : List ℕ) → fold_text (s ++ (bar ∷ c)) ≡ fold_text s ++ (bar ∷ fold_text c)
 unfolding fold_text fold_from

@@ -1,5 +1,7 @@
 // Comparisons of texts that ignore the case of A to Z and of the letters U+00C0 to U+00DE.
 // All comparisons read a text folded, through `folded_at` alone.
+#![tactic(auto)]
+
 ghost use Rattle.std.specs.Prelude.{◌≡◌, ◌+◌, ◌≤◌, ◌<◌, ◌∷◌, eqb, length, get_or, drop};
 ghost use Rattle.text.specs.Fold.{is_capital, lead, is_accented, fold_text};
 ghost use Rattle.base.specs.Affixes.{has_prefix};

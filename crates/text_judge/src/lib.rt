@@ -1,5 +1,7 @@
 // Judging a card by a filter's text. A test whose join is already decided is read and not judged: the verdict is the same, and
 // that the test has a meaning was for check to say, before any card.
+#![tactic(auto)]
+
 ghost use Rattle.std.specs.Prelude.{◌≡◌, cond, not, ◌&&◌, ◌≤◌, ◌<◌, length};
 ghost use Rattle.sheet.specs.Sheet.{parameters_of, read_sheet};
 ghost use Rattle.card.specs.Card.{entries_of, read_card};
@@ -103,7 +105,7 @@ fn entry_counts(under: bool, filter: &[u8], test: RawTest, meaning: Meaning, tex
 }
 
 // Whether an entry counts and the filter in the brackets says yes of its occurrence.
-#[cycle(entry_chosen_judge_chosen_judge_filter_judge_item_judge_round_member_verdict_some_chosen)]
+#[cycle(judging)]
 fn entry_chosen(
     counts: bool,
     sheet: &[u8],
@@ -130,7 +132,7 @@ fn entry_chosen(
 
 // Whether some entry under a parameter counts for the test of a member, and the filter in the brackets at a spot says yes of its
 // occurrence.
-#[cycle(entry_chosen_judge_chosen_judge_filter_judge_item_judge_round_member_verdict_some_chosen)]
+#[cycle(judging)]
 fn some_chosen(
     sheet: &[u8],
     card: &[u8],
@@ -166,7 +168,7 @@ fn some_chosen(
 }
 
 // What the test of a member after the brackets at a spot says.
-#[cycle(entry_chosen_judge_chosen_judge_filter_judge_item_judge_round_member_verdict_some_chosen)]
+#[cycle(judging)]
 fn member_verdict(
     needed: bool,
     sheet: &[u8],
@@ -199,7 +201,7 @@ fn member_verdict(
 }
 
 // The filter in round brackets at a spot inside them, after not where `negate` says so.
-#[cycle(entry_chosen_judge_chosen_judge_filter_judge_item_judge_round_member_verdict_some_chosen)]
+#[cycle(judging)]
 fn judge_round(
     needed: bool,
     negate: bool,
@@ -229,7 +231,7 @@ fn judge_round(
 
 // The test of a member at a spot, after the filter in square brackets of the bundle whose name ends at `until`; the levels are those in
 // the brackets.
-#[cycle(entry_chosen_judge_chosen_judge_filter_judge_item_judge_round_member_verdict_some_chosen)]
+#[cycle(judging)]
 fn judge_chosen(
     needed: bool,
     sheet: &[u8],
@@ -269,7 +271,7 @@ fn judge_chosen(
 }
 
 // The item at a spot.
-#[cycle(entry_chosen_judge_chosen_judge_filter_judge_item_judge_round_member_verdict_some_chosen)]
+#[cycle(judging)]
 fn judge_item(
     needed: bool,
     sheet: &[u8],
@@ -325,7 +327,7 @@ fn judge_item(
 
 // The filter at a spot, its items joined from left to right, and and or equal in rank. Where what it says is not needed, no test is
 // judged, and only where the filter ends is told.
-#[cycle(entry_chosen_judge_chosen_judge_filter_judge_item_judge_round_member_verdict_some_chosen)]
+#[cycle(judging)]
 pub fn judge_filter(
     needed: bool,
     sheet: &[u8],

@@ -1,5 +1,7 @@
 // Tokens: system and code on a card, and the four forms that are asked for, matched against each other.
 // A text is split at a bar, and the parts before and after it are handed on as slices.
+#![tactic(auto)]
+
 ghost use Rattle.std.specs.Prelude.{◌≡◌, true};
 ghost use Rattle.std.proofs.Math.Option.{some};
 ghost use Rattle.text.specs.Compare.{same};

@@ -1,4 +1,6 @@
 // Runs check, match and select, by filters and by search strings, on the cases of cases.bin, and prints a line for each: its label and what was answered.
+#![tactic(auto)]
+
 mod answers;
 mod ask;
 mod record;

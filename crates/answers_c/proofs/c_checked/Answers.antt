@@ -1,0 +1,10 @@
+-- `answers_c::c_checked` meets its contract: each case by its two numbers. Assumes nothing.
+use borrow.Author.Rules.{rules}
+use Rattle.answers_c.proofs.Answers.{tests_told, check_refusal_told}
+use Rattle.answers_c.proofs.c_checked.Goals as goal
+
+pub returns-in-Tests : goal.returns-in-Tests
+returns-in-Tests c = search (tests_told, rules)
+
+pub returns-in-Refused : goal.returns-in-Refused
+returns-in-Refused c = search (check_refusal_told, rules)

@@ -1,0 +1,11 @@
+-- `base::equal` meets its contract: slices of other lengths differ, and else what is left decides. Assumes nothing.
+use Prim.Native.Nat.{◌-◌}
+use lib.ListN.{length}
+use Rattle.base.proofs.Invariants.{Agreed}
+use Rattle.base.proofs.equal.Given as goal
+
+abbrev pub invariant-loop-i : goal.invariant-loop-i
+invariant-loop-i l = Agreed l.a l.b l.i
+
+abbrev pub decreases-loop-i : goal.decreases-loop-i
+decreases-loop-i l = length l.a - l.i

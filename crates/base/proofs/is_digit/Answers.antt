@@ -1,0 +1,12 @@
+-- `base::is_digit` meets its contract: the tests are those of the definition. Assumes nothing.
+use borrow.Author.Tests.{le-leb, lt-leb}
+use Rattle.base.specs.Digits.{is_digit}
+use Rattle.base.proofs.is_digit.Goals as goal
+
+pub returns-then-b-ge48 : goal.returns-then-b-ge48
+unfolding is_digit
+returns-then-b-ge48 c = rw (le-leb _ _ c.if-b-ge48.true)
+
+pub returns-else-b-ge48 : goal.returns-else-b-ge48
+unfolding is_digit
+returns-else-b-ge48 c = rw (lt-leb _ _ c.if-b-ge48.false)

@@ -1,0 +1,9 @@
+-- `card_reader::entries::read_entries` meets its contract: the lists have the entries so far, and those to come decide. Assumes nothing.
+use Rattle.card_reader.proofs.Reading.{Progress}
+use Rattle.card_reader.proofs.entries.read_entries.Given as goal
+
+abbrev pub invariant-loop-left : goal.invariant-loop-left
+invariant-loop-left l = Progress l.kinds l.card l.initial.cells l.cells l.spans l.at l.left l.e
+
+abbrev pub decreases-loop-left : goal.decreases-loop-left
+decreases-loop-left l = l.left

@@ -1,0 +1,10 @@
+-- `judge::faults::fault_at` meets its contract: what the name is on the sheet decides. Assumes nothing.
+use borrow.Author.Rules.{rules}
+use Rattle.judge.proofs.Meaning.{fault_found, fault_missing}
+use Rattle.judge.proofs.faults.fault_at.Goals as goal
+
+pub returns-in-At : goal.returns-in-At
+returns-in-At c = search (fault_found, rules)
+
+pub returns-in-Missing : goal.returns-in-Missing
+returns-in-Missing c = search (fault_missing, rules)

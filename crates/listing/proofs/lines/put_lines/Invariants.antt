@@ -1,0 +1,11 @@
+-- `listing::lines::put_lines` meets its contract: the lines of the numbers so far stand, and those of the others are to come. Assumes nothing.
+use Prim.Native.Nat.{◌-◌}
+use lib.ListN.{length}
+use Rattle.listing.proofs.Putting.{LinesPut}
+use Rattle.listing.proofs.lines.put_lines.Given as goal
+
+abbrev pub invariant-loop-i : goal.invariant-loop-i
+invariant-loop-i l = LinesPut l.numbers l.initial.out l.out l.at l.i
+
+abbrev pub decreases-loop-i : goal.decreases-loop-i
+decreases-loop-i l = length l.numbers - l.i

@@ -1,0 +1,17 @@
+-- `matching::match_by_text` meets its contract: check first, then the card. Assumes nothing.
+use borrow.Author.Rules.{rules}
+use Rattle.answer.proofs.Passing.{passing, passing_sheet, match_refused}
+use Rattle.one_card.proofs.Judging.{filter_answered}
+use Rattle.matching.proofs.match_by_text.Goals as goal
+
+pub kinds-kinds-requires : goal.kinds-kinds-requires
+kinds-kinds-requires c = search (passing_sheet, rules)
+
+pub judge_by_text-requires : goal.judge_by_text-requires
+judge_by_text-requires c = search (passing, rules)
+
+pub returns-in-Refused : goal.returns-in-Refused
+returns-in-Refused c = search (match_refused, rules)
+
+pub returns-in-Tests : goal.returns-in-Tests
+returns-in-Tests c = search (filter_answered, passing, rules)

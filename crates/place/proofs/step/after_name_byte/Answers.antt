@@ -1,0 +1,13 @@
+-- `place::step::after_name_byte` meets its contract: each answer is a case of the definition. Assumes nothing.
+use Rattle.place.proofs.Choices.{choices}
+use borrow.Author.Rules.{rules}
+use Rattle.place.proofs.step.after_name_byte.Goals as goal
+
+pub returns-then-is_space : goal.returns-then-is_space
+returns-then-is_space c = search (choices, rules)
+
+pub returns-then-begins_operator : goal.returns-then-begins_operator
+returns-then-begins_operator c = search (choices, rules)
+
+pub returns : goal.returns
+returns c = search (choices, rules)

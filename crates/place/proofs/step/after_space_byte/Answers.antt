@@ -1,0 +1,16 @@
+-- `place::step::after_space_byte` meets its contract: each answer is a case of the definition. Assumes nothing.
+use Rattle.place.proofs.Choices.{choices}
+use borrow.Author.Rules.{rules}
+use Rattle.place.proofs.step.after_space_byte.Goals as goal
+
+pub returns-then-is_space : goal.returns-then-is_space
+returns-then-is_space c = search (choices, rules)
+
+pub returns-then-is : goal.returns-then-is
+returns-then-is c = search (choices, rules)
+
+pub returns-then-is-2 : goal.returns-then-is-2
+returns-then-is-2 c = search (choices, rules)
+
+pub returns : goal.returns
+returns c = search (choices, rules)

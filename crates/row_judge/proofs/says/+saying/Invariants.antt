@@ -1,0 +1,19 @@
+-- `row_judge::says::rows_say` and `bracket_says` meet their contracts: rows are judged from left to right, and a test after brackets goes
+-- along the entries of its parameter that count, and judges the rows in the brackets for the occurrence of each. The measure is two for each
+-- row, with one more for the rows in brackets. The loop over the rows keeps `Telling`, that over the entries `Brackets`. Each member has the
+-- answers to its needs in the order of its code, each with the need's name. Assumes nothing.
+use Prim.Native.Nat.{◌+◌, ◌*◌, ◌-◌}
+use lib.ListN.{length}
+use Rattle.row_judge.proofs.says.+saying.Given as goal
+
+abbrev pub decreases-bracket_says : goal.decreases-bracket_says
+decreases-bracket_says l = 2 * (length l.rows.now - 1) + 1
+
+abbrev pub decreases-rows_say : goal.decreases-rows_say
+decreases-rows_say l = 2 * length l.rows.now
+
+abbrev pub decreases-bracket_says-loop-next : goal.decreases-bracket_says-loop-next
+decreases-bracket_says-loop-next l = l.next
+
+abbrev pub decreases-rows_say-loop-at : goal.decreases-rows_say-loop-at
+decreases-rows_say-loop-at l = length l.rows - l.at

@@ -1,0 +1,16 @@
+-- `row_judge::says::plain_says` meets its contract. Assumes nothing.
+use borrow.Author.Rules.{rules}
+use Rattle.row_judge.proofs.Saying.{probe_known, plain_closed, test_chain, test_opened}
+use Rattle.row_judge.proofs.says.plain_says.Goals as goal
+
+pub next_text-first-requires-clause-on_chain : goal.next_text-first-requires-clause-on_chain
+next_text-first-requires-clause-on_chain c = search (test_chain, rules)
+
+pub next_text-first-requires-clause-known : goal.next_text-first-requires-clause-known
+next_text-first-requires-clause-known c = search (probe_known, rules)
+
+pub returns-then-opened : goal.returns-then-opened
+returns-then-opened c = search (test_opened, rules)
+
+pub returns : goal.returns
+returns c = search (plain_closed, rules)

@@ -1,0 +1,13 @@
+-- `row_opener::store::mark_of` meets its contract. Assumes nothing.
+use borrow.Author.Rules.{rules}
+use Rattle.row_opener.proofs.Opening.{mark-number, mark_few, mark-date}
+use Rattle.row_opener.proofs.store.mark_of.Goals as goal
+
+pub decimal_mark-requires : goal.decimal_mark-requires
+decimal_mark-requires c = search (mark_few, rules)
+
+pub returns-in-Number : goal.returns-in-Number
+returns-in-Number c = search (mark-number, rules)
+
+pub returns-in-Unreadable : goal.returns-in-Unreadable
+returns-in-Unreadable c = search (mark-date, rules)

@@ -1,0 +1,16 @@
+-- `rows::fit::kind_fits` meets its contract. Assumes nothing.
+use borrow.Author.Rules.{rules}
+use Rattle.rows.proofs.Fitting.{kind_none, kind_bundle, kind_no_operator, kind_operator}
+use Rattle.rows.proofs.fit.kind_fits.Goals as goal
+
+pub returns-then-kind-eq0 : goal.returns-then-kind-eq0
+returns-then-kind-eq0 c = search (kind_none, rules)
+
+pub returns-then-kind-eq-BUNDLE : goal.returns-then-kind-eq-BUNDLE
+returns-then-kind-eq-BUNDLE c = search (kind_bundle, rules)
+
+pub returns-then-operator-ge19 : goal.returns-then-operator-ge19
+returns-then-operator-ge19 c = search (kind_no_operator, rules)
+
+pub returns : goal.returns
+returns c = search (kind_operator, rules)

@@ -1,0 +1,122 @@
+-- `rows::shapes::shape_of` and what it calls in a cycle meet their contracts: the calls that are left fall. The loop keeps `InHand`.
+use Prim.Native.Nat.{◌-◌}
+use native.Mathlib.Omega.{arith}
+use Rattle.rows.proofs.Cells.{test_index}
+use Rattle.rows.proofs.Reading.{part_few, tests_few, levels_few, brackets_few, hand_few_tests, hand_few_levels, hand_end, hand_test, hand_bracket, hand_unknown, hand_not, hand_large, hand_nothing, hand_join}
+use Rattle.rows.proofs.Reading.{first_misfits, first_fits, first-inside, first_bracket, first_not, first_connect, first_unknown, brackets_short, brackets_large, brackets_no_member, brackets_nothing, brackets_found, no_calls, no_rows, began_hand, began_none, began_read}
+use borrow.Author.Rules.{rules}
+use Rattle.rows.proofs.shapes.+shapes.Goals as goal
+
+pub shape_in_brackets-returns-then-rows-lt2 : goal.shape_in_brackets-returns-then-rows-lt2
+shape_in_brackets-returns-then-rows-lt2 t c = search (brackets_short, rules)
+
+pub shape_in_brackets-returns-then-size-rows : goal.shape_in_brackets-returns-then-size-rows
+shape_in_brackets-returns-then-size-rows t c = search (brackets_large, rules)
+
+pub shape_in_brackets-returns-then-bundle-eq0 : goal.shape_in_brackets-returns-then-bundle-eq0
+shape_in_brackets-returns-then-bundle-eq0 t c = search (brackets_no_member, rules)
+
+pub shape_in_brackets-shape_of-requires : goal.shape_in_brackets-shape_of-requires
+shape_in_brackets-shape_of-requires t c = (omega arith, (search rules, (search rules, (search rules, search (part_few, rules)))))
+
+pub shape_in_brackets-deeper-requires-clause-tests_bound : goal.shape_in_brackets-deeper-requires-clause-tests_bound
+shape_in_brackets-deeper-requires-clause-tests_bound t c = search (tests_few, rules)
+
+pub shape_in_brackets-deeper-requires-clause-chain_bound : goal.shape_in_brackets-deeper-requires-clause-chain_bound
+shape_in_brackets-deeper-requires-clause-chain_bound t c = search (levels_few, rules)
+
+pub shape_in_brackets-returns-in-Shape : goal.shape_in_brackets-returns-in-Shape
+shape_in_brackets-returns-in-Shape t c = search (brackets_found, rules)
+
+pub shape_in_brackets-returns-in-Nothing : goal.shape_in_brackets-returns-in-Nothing
+shape_in_brackets-returns-in-Nothing t c = search (brackets_nothing, rules)
+
+pub shape_of-returns-then-calls-eq0 : goal.shape_of-returns-then-calls-eq0
+shape_of-returns-then-calls-eq0 t c = search (no_calls, rules)
+
+pub shape_of-returns-then-rows-eq0 : goal.shape_of-returns-then-rows-eq0
+shape_of-returns-then-rows-eq0 t c = search (no_rows, rules)
+
+pub shape_of-shape_of_first-requires : goal.shape_of-shape_of_first-requires
+shape_of-shape_of_first-requires t c = (omega arith, (search rules, (search rules, (search rules, (search rules, search rules)))))
+
+pub shape_of-shape_with-requires : goal.shape_of-shape_with-requires
+shape_of-shape_with-requires t c = (omega arith, (search rules, (search rules, (search rules, (search rules, search (began_hand, rules))))))
+
+pub shape_of-returns-in-At : goal.shape_of-returns-in-At
+shape_of-returns-in-At t c = search (began_read, rules)
+
+pub shape_of-returns-in-Nothing : goal.shape_of-returns-in-Nothing
+shape_of-returns-in-Nothing t c = search (began_none, rules)
+
+pub shape_of_first-stands-requires-clause-index_bound : goal.shape_of_first-stands-requires-clause-index_bound
+shape_of_first-stands-requires-clause-index_bound t c = search (test_index, rules)
+
+pub shape_of_first-returns-then-stands : goal.shape_of_first-returns-then-stands
+shape_of_first-returns-then-stands t c = search (first_fits, rules)
+
+pub shape_of_first-returns-then-scope-gt0 : goal.shape_of_first-returns-then-scope-gt0
+shape_of_first-returns-then-scope-gt0 t c = search (first-inside, rules)
+
+pub shape_of_first-shape_in_brackets-requires : goal.shape_of_first-shape_in_brackets-requires
+shape_of_first-shape_in_brackets-requires t c = (omega arith, (search rules, (search rules, (search rules, search rules))))
+
+pub shape_of_first-returns-else-stands : goal.shape_of_first-returns-else-stands
+shape_of_first-returns-else-stands t c = search (first_misfits, rules)
+
+pub shape_of_first-returns-else-scope-gt0 : goal.shape_of_first-returns-else-scope-gt0
+shape_of_first-returns-else-scope-gt0 t c = search (first_bracket, rules)
+
+pub shape_of_first-returns-in-Not : goal.shape_of_first-returns-in-Not
+shape_of_first-returns-in-Not t c = search (first_not, rules)
+
+pub shape_of_first-returns-in-Connect : goal.shape_of_first-returns-in-Connect
+shape_of_first-returns-in-Connect t c = search (first_connect, rules)
+
+pub shape_of_first-returns-in-Unknown : goal.shape_of_first-returns-in-Unknown
+shape_of_first-returns-in-Unknown t c = search (first_unknown, rules)
+
+pub shape_with-deeper-shape-requires-clause-tests_bound : goal.shape_with-deeper-shape-requires-clause-tests_bound
+shape_with-deeper-shape-requires-clause-tests_bound t c = search (hand_few_tests, rules)
+
+pub shape_with-deeper-shape-requires-clause-chain_bound : goal.shape_with-deeper-shape-requires-clause-chain_bound
+shape_with-deeper-shape-requires-clause-chain_bound t c = search (hand_few_levels, rules)
+
+pub shape_with-loop-at-preserved-in-Not : goal.shape_with-loop-at-preserved-in-Not
+shape_with-loop-at-preserved-in-Not t c = search (hand_not, rules)
+
+pub shape_with-returns-then-size-rows : goal.shape_with-returns-then-size-rows
+shape_with-returns-then-size-rows t c = search (hand_large, rules)
+
+pub shape_with-shape_of-requires-in-Connect : goal.shape_with-shape_of-requires-in-Connect
+shape_with-shape_of-requires-in-Connect t c = (omega arith, (search rules, (search rules, (search rules, search (part_few, rules)))))
+
+pub shape_with-joined-shape-requires-clause-tests_bound : goal.shape_with-joined-shape-requires-clause-tests_bound
+shape_with-joined-shape-requires-clause-tests_bound t c = search (hand_few_tests, rules)
+
+pub shape_with-joined-shape-requires-clause-chain_bound : goal.shape_with-joined-shape-requires-clause-chain_bound
+shape_with-joined-shape-requires-clause-chain_bound t c = search (hand_few_levels, rules)
+
+pub shape_with-joined-shape-requires-clause-tests_bound_2 : goal.shape_with-joined-shape-requires-clause-tests_bound_2
+shape_with-joined-shape-requires-clause-tests_bound_2 t c = search (tests_few, rules)
+
+pub shape_with-joined-shape-requires-clause-item_bound : goal.shape_with-joined-shape-requires-clause-item_bound
+shape_with-joined-shape-requires-clause-item_bound t c = search (brackets_few, rules)
+
+pub shape_with-loop-at-preserved : goal.shape_with-loop-at-preserved
+shape_with-loop-at-preserved t c = search (hand_join, rules)
+
+pub shape_with-returns-in-Nothing : goal.shape_with-returns-in-Nothing
+shape_with-returns-in-Nothing t c = search (hand_nothing, rules)
+
+pub shape_with-returns-in-Test : goal.shape_with-returns-in-Test
+shape_with-returns-in-Test t c = search (hand_test, rules)
+
+pub shape_with-returns-in-Bracket : goal.shape_with-returns-in-Bracket
+shape_with-returns-in-Bracket t c = search (hand_bracket, rules)
+
+pub shape_with-returns-in-Unknown : goal.shape_with-returns-in-Unknown
+shape_with-returns-in-Unknown t c = search (hand_unknown, rules)
+
+pub shape_with-returns : goal.shape_with-returns
+shape_with-returns t c = search (hand_end, rules)

@@ -1,0 +1,13 @@
+-- `search::asked::prefix_asked` meets its contract: the operator read at the beginning is the prefix, if it is one. Assumes nothing.
+use borrow.Author.Rules.{rules}
+use Rattle.search.proofs.Prefixes.{prefix_is, other_operator, no_operator}
+use Rattle.search.proofs.asked.prefix_asked.Goals as goal
+
+pub returns-then-is_prefix : goal.returns-then-is_prefix
+returns-then-is_prefix c = search (prefix_is, rules)
+
+pub returns-in-Is : goal.returns-in-Is
+returns-in-Is c = search (other_operator, rules)
+
+pub returns : goal.returns
+returns c = search (no_operator, rules)

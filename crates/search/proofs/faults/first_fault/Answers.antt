@@ -1,0 +1,28 @@
+-- `search::faults::first_fault` meets its contract. The loop's invariant: the rows to come decide. Assumes nothing.
+use borrow.Author.Rules.{rules}
+use Rattle.search.proofs.Judging.{facing_starts, facing_row, facing_few, facing_fault, facing_next, facing_ends}
+use Rattle.search.proofs.faults.first_fault.Goals as goal
+
+pub loop-i-init : goal.loop-i-init
+loop-i-init c = search (facing_starts, rules)
+
+pub offset_bounds-rows-i : goal.offset_bounds-rows-i
+offset_bounds-rows-i c = search (facing_few, rules)
+
+pub bounds-rows-i : goal.bounds-rows-i
+bounds-rows-i c = search (facing_few, rules)
+
+pub row_fault-fault-requires : goal.row_fault-fault-requires
+row_fault-fault-requires c = search (facing_row, rules)
+
+pub returns-in-Refused : goal.returns-in-Refused
+returns-in-Refused c = search (facing_fault, rules)
+
+pub overflow_add-i : goal.overflow_add-i
+overflow_add-i c = search (facing_few, rules)
+
+pub loop-i-preserved : goal.loop-i-preserved
+loop-i-preserved c = search (facing_next, rules)
+
+pub returns : goal.returns
+returns c = search (facing_ends, rules)

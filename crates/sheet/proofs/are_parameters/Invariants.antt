@@ -1,0 +1,11 @@
+-- `sheet::are_parameters` meets its contract: the parameters to come decide. Assumes nothing.
+use Rattle.block.specs.Items.{items}
+use Rattle.block.proofs.Invariants.{Visited}
+use Rattle.sheet.specs.Sheet.{parameter, are_parameters}
+use Rattle.sheet.proofs.are_parameters.Given as goal
+
+abbrev pub invariant-loop-left : goal.invariant-loop-left
+invariant-loop-left l = Visited parameter (are_parameters l.marked) (are_parameters l.marked (items parameter l.count l.sheet 2)) l.sheet l.at l.left
+
+abbrev pub decreases-loop-left : goal.decreases-loop-left
+decreases-loop-left l = l.left

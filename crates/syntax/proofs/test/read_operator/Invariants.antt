@@ -1,0 +1,10 @@
+-- `syntax::test::read_operator` meets its contract. The loop's invariant: the words left to try decide. Assumes nothing.
+use Prim.Native.Nat.{◌-◌}
+use Rattle.syntax.proofs.Operators.{Trying}
+use Rattle.syntax.proofs.test.read_operator.Given as goal
+
+abbrev pub invariant-loop-k : goal.invariant-loop-k
+invariant-loop-k l = Trying l.words l.first l.second l.k
+
+abbrev pub decreases-loop-k : goal.decreases-loop-k
+decreases-loop-k l = 19 - l.k

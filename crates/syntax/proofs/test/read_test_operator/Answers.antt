@@ -1,0 +1,16 @@
+-- `syntax::test::read_test_operator` meets its contract: the tests are those of the definition. Assumes nothing.
+use borrow.Author.Rules.{rules}
+use Rattle.syntax.proofs.Tests.{operator_no_gap, test_no_operator, test_operator_lem, operator-within}
+use Rattle.syntax.proofs.test.read_test_operator.Goals as goal
+
+pub returns-then-word-until : goal.returns-then-word-until
+returns-then-word-until c = search (operator_no_gap, rules)
+
+pub read_test_value-requires : goal.read_test_value-requires
+read_test_value-requires c = search (operator-within, rules)
+
+pub returns-in-Is : goal.returns-in-Is
+returns-in-Is c = search (test_operator_lem, rules)
+
+pub returns-in-Nothing : goal.returns-in-Nothing
+returns-in-Nothing c = search (test_no_operator, rules)

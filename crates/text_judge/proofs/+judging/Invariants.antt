@@ -1,0 +1,49 @@
+-- `text_judge::judge_filter` and what it calls in a cycle meet their contracts: the text left falls, and each answers what judging
+-- gathers over the tree that the reader finds there. Assumes nothing.
+use Prim.Native.Nat.{◌+◌, ◌*◌, ◌-◌}
+use lib.ListN.{length}
+use Rattle.sheet.specs.Sheet.{parameters_of}
+use Rattle.card.specs.Card.{entry, entries_of}
+use Rattle.text_judge.specs.Folds.{judging}
+use Rattle.text_judge.specs.declared.Judged.{Judged}
+use Rattle.filter.proofs.Walk.{Chain}
+use Rattle.text_judge.proofs.Judging.{judged_cases}
+use Rattle.block.proofs.Invariants.{Visited}
+use Rattle.syntax.specs.Scan.{test_of}
+use Rattle.syntax.specs.Reader.{filter_at}
+use Rattle.judge.specs.Sets.{chosen_of}
+use Rattle.text_judge.specs.Members.{some_chosen}
+use Rattle.text_judge.proofs.+judging.Given as goal
+
+abbrev pub decreases-entry_chosen : goal.decreases-entry_chosen
+decreases-entry_chosen l = 8 * (length l.filter.now - l.spot.at) + 3
+
+abbrev pub decreases-judge_chosen : goal.decreases-judge_chosen
+decreases-judge_chosen l = 8 * (length l.filter.now - l.spot.at)
+
+abbrev pub decreases-judge_filter : goal.decreases-judge_filter
+decreases-judge_filter l = 8 * (length l.filter.now - l.spot.at) + 2
+
+abbrev pub decreases-judge_item : goal.decreases-judge_item
+decreases-judge_item l = 8 * (length l.filter.now - l.spot.at) + 1
+
+abbrev pub decreases-judge_round : goal.decreases-judge_round
+decreases-judge_round l = 8 * (length l.filter.now - l.spot.at) + 3
+
+abbrev pub decreases-member_verdict : goal.decreases-member_verdict
+decreases-member_verdict l = 8 * (length l.filter.now - l.spot.at) + 5
+
+abbrev pub decreases-some_chosen : goal.decreases-some_chosen
+decreases-some_chosen l = 8 * (length l.filter.now - l.spot.at) + 4
+
+abbrev pub invariant-judge_filter-loop-next : goal.invariant-judge_filter-loop-next
+invariant-judge_filter-loop-next l = Chain Judged.Done Judged.Nothing judged_cases (judging l.needed (parameters_of l.sheet) l.spot.bundle (chosen_of l.chosen (entries_of l.card))) l.filter l.spot.close l.spot.levels l.spot.at l.end l.says
+
+abbrev pub decreases-judge_filter-loop-next : goal.decreases-judge_filter-loop-next
+decreases-judge_filter-loop-next l = length l.filter - l.end
+
+abbrev pub invariant-some_chosen-loop-left : goal.invariant-some_chosen-loop-left
+invariant-some_chosen-loop-left l = Visited entry (some_chosen (parameters_of l.sheet) l.spot.bundle (entries_of l.card) l.chosen (filter_at l.spot.levels l.filter l.spot.close l.spot.at) l.index l.meaning (test_of l.filter l.test).value) (some_chosen (parameters_of l.sheet) l.spot.bundle (entries_of l.card) l.chosen (filter_at l.spot.levels l.filter l.spot.close l.spot.at) l.index l.meaning (test_of l.filter l.test).value (entries_of l.card)) l.card l.at l.left
+
+abbrev pub decreases-some_chosen-loop-left : goal.decreases-some_chosen-loop-left
+decreases-some_chosen-loop-left l = l.left
