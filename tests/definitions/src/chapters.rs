@@ -4,6 +4,7 @@ use crate::Fault;
 use crate::page::{listed, quoted, short};
 use crate::quote;
 use crate::repository::{Id, Repository, Target};
+use crate::source::PLACE;
 use std::collections::{BTreeMap, BTreeSet};
 use std::fmt::Write;
 
@@ -115,10 +116,11 @@ impl<'a> Chapters<'a> {
     }
 }
 
-/// All names with their chapters, in the order of the alphabet.
+/// All names with their chapters: operators, and then the others in the order of the alphabet.
 pub fn index(places: &Places) -> String {
     let mut names: Vec<_> = places.iter().collect();
-    names.sort_by_key(|(id, _)| (id.name.to_lowercase(), &id.name, &id.file));
+    let word = |id: &Id| id.name.trim_start_matches('«').to_lowercase();
+    names.sort_by_key(|(id, _)| (!id.name.contains(PLACE), word(id), &id.name, &id.file));
     let entry =
         |(id, (anchor, chapter)): (&&Id, &(String, String))| format!("{} [{chapter}](#{anchor})", quoted(&id.name));
     filled(&names.into_iter().map(entry).collect::<Vec<_>>(), ",") + ".\n"

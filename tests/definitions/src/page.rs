@@ -33,7 +33,7 @@ pub fn page(repository: &Repository, statements: &[&str], promises: &[Promise], 
         "\n## The statements\n\n\
          Under each demand, in the order of the files: what a statement's own text names, by crate and file, and how many definitions and\n\
          lines there are behind it. A computing twin is in italics, and does not count. With a statement's name behind it, as in\n\
-         `-p definitions -- check-refused`, the program prints all that is behind that one, by file.\n",
+         `-p definitions -- check_refused`, the program prints all that is behind that one, by file.\n",
     );
     let mut heading = None;
     for promise in promises {

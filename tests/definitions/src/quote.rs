@@ -69,16 +69,23 @@ impl<'a> Page<'a> {
         self.line(number).trim_start().starts_with(self.mark)
     }
 
+    /// A line such as `#[derive(Clone, Copy)]`, which stands between a type of the code and the comment over it.
+    fn is_attribute(&self, number: usize) -> bool {
+        self.line(number).starts_with("#[")
+    }
+
     /// The line with a number, which counts from 1.
     fn line(&self, number: usize) -> &'a str {
         number.checked_sub(1).and_then(|place| self.lines.get(place)).unwrap_or(&"")
     }
 
-    /// These lines, with the comments between them and over the first.
+    /// These lines, with the comments between them, and the comment and attributes over the first.
     fn around(&self, numbers: &BTreeSet<usize>) -> BTreeSet<usize> {
         let mut shown = numbers.clone();
         let first = numbers.first().copied().unwrap_or(0);
-        shown.extend((1..first).rev().take_while(|number| self.is_comment(*number) && !self.is_heading(*number)));
+        let is_over =
+            |number: &usize| self.is_attribute(*number) || (self.is_comment(*number) && !self.is_heading(*number));
+        shown.extend((1..first).rev().take_while(is_over));
         for (before, after) in numbers.iter().zip(numbers.iter().skip(1)) {
             if (before + 1..*after).all(|number| self.is_comment(number)) {
                 shown.extend(before + 1..*after);

@@ -30,6 +30,9 @@ const WORDS: [&str; 20] = [
     "omega",
 ];
 
+/// The libraries that come with the prover; what is called `Rattle.NAME..` otherwise is a crate of the repository.
+const LIBRARIES: [&str; 4] = ["core", "std", "std_alloc", "std_collections"];
+
 /// The types of the code that need no declaration.
 const PRIMITIVE: [&str; 11] = ["u8", "u16", "u32", "u64", "usize", "i8", "i16", "i32", "i64", "isize", "bool"];
 
@@ -161,7 +164,7 @@ impl Repository {
         if let Some((module, theirs)) = imported(source, name) {
             return self.lookup(&source.file, line, module, theirs).map(Some);
         }
-        // A name behind that of a module, or behind that of its type.
+        // A name behind that of a module, or behind that of its type; or that of a field behind a value.
         let Some((before, behind)) = name.split_once('.') else { return Ok(None) };
         if let Some(module) = source.modules.get(before) {
             return self.lookup(&source.file, line, module, behind).map(Some);
@@ -169,18 +172,15 @@ impl Repository {
         self.resolve(source, line, before)
     }
 
-    /// A name in a module, which is called `Rattle·CRATE.ROOM.FILE`, or `Rattle·CRATE·ROOM.ROOM.FILE` in its own crate;
-    /// it stands in a line of the file `from`.
+    /// A name in a module, which is called `Rattle.CRATE.ROOM.FILE`; it stands in a line of the file `from`.
     pub fn lookup(&self, from: &str, line: usize, module: &str, name: &str) -> Result<Target, Fault> {
         let fault = |what: String| Fault::new(from, line, what);
-        let Some(path) = module.strip_prefix("Rattle·") else {
-            return Ok(Target::Kit { module: module.into(), name: name.into() });
+        let parts: Vec<&str> = module.split('.').collect();
+        let (folder, room, within) = match parts.as_slice() {
+            ["Rattle", folder, room, within @ ..] if !LIBRARIES.contains(folder) => (folder, room, within),
+            ["Rattle"] | ["Rattle", _] => return Err(fault(format!("{module} is no module's name"))),
+            _ => return Ok(Target::Kit { module: module.into(), name: name.into() }),
         };
-        let parts: Vec<&str> = path.split('.').collect();
-        let [crate_and_room, room, within @ ..] = parts.as_slice() else {
-            return Err(fault(format!("{module} is no module's name")));
-        };
-        let folder = crate_and_room.split('·').next().unwrap_or_default();
         if let ["declared", declared @ ..] = within {
             return self.declared(folder, declared).ok_or_else(|| fault(format!("no code declares {module}")));
         }
@@ -188,15 +188,16 @@ impl Repository {
         let Some(theirs) = self.source(&file) else {
             return Err(fault(format!("{name} is in {module}, and {file} is no file of specifications")));
         };
-        match theirs.defines(name) {
+        // with the name of a field behind it, as `module.value.field`
+        match theirs.defines(name).or_else(|| theirs.defines(words::value(name))) {
             Some(definition) => Ok(own(&file, &definition.name)),
             None => Err(fault(format!("{file} does not define {name}"))),
         }
     }
 
-    /// A type of the code: `declared.TYPE`, or `declared.FILE.TYPE`, either with `.the-variants`.
+    /// A type of the code: `declared.TYPE`, or `declared.FILE.TYPE`, either with `.TheVariants`.
     fn declared(&self, folder: &str, declared: &[&str]) -> Option<Target> {
-        let declared = declared.strip_suffix(&["the-variants"]).unwrap_or(declared);
+        let declared = declared.strip_suffix(&["TheVariants"]).unwrap_or(declared);
         let (name, path) = declared.split_last()?;
         let path = if path.is_empty() { "lib".into() } else { path.join("/") };
         let file = format!("crates/{folder}/src/{path}.rt");
@@ -224,13 +225,16 @@ impl Repository {
         None
     }
 
-    /// The file of a type that a file of code names: its own, or that of the crate of `use CRATE::TYPE;`.
+    /// The file of a type that a file of code names: its own, or that of the crate of `use CRATE::TYPE;` or `use CRATE::{.., TYPE};`.
     fn type_file(&self, file: &str, name: &str) -> Option<String> {
         if self.type_of(file, name).is_some() {
             return Some(file.to_string());
         }
-        let end = format!("::{name};");
-        let folder = self.files.get(file)?.lines().find_map(|line| line.strip_prefix("use ")?.strip_suffix(&end))?;
+        let folder = self.files.get(file)?.lines().find_map(|line| {
+            let (folder, names) = line.strip_prefix("use ")?.strip_suffix(';')?.split_once("::")?;
+            let mut names = names.trim_matches(['{', '}']).split(", ");
+            names.any(|theirs| theirs == name).then_some(folder)
+        })?;
         let theirs = format!("crates/{folder}/src/lib.rt");
         self.type_of(&theirs, name)?;
         Some(theirs)

@@ -44,9 +44,12 @@ impl Definition {
     }
 }
 
-/// Whether a word stands for a name: itself, or a part of an operator's, as `≡` of `_≡_`.
+/// Stands in an operator's name for what the operator is applied to.
+pub const PLACE: char = '◌';
+
+/// Whether a word stands for a name: itself, or a part of an operator's, as `≡` of `◌≡◌`.
 pub fn is_called(name: &str, word: &str) -> bool {
-    name == word || (name.contains('_') && word != "_" && name.split('_').any(|part| part == word))
+    name == word || (name.contains(PLACE) && name.split(PLACE).any(|part| part == word))
 }
 
 impl Source {
@@ -57,12 +60,29 @@ impl Source {
         let mut heading = String::new();
         // How far the lines are indented that begin something: 0, or 2 behind `mutual`.
         let mut margin = 0;
+        // The first line of an import that goes on, with what was read of it.
+        let mut open: Option<(usize, String)> = None;
         for (line, number) in text.lines().zip(1..) {
             if let Some(words) = line.strip_prefix("-- ---- ") {
                 heading = words.into();
             }
             let code = without_comment(line).trim_end();
             if code.trim().is_empty() {
+                continue;
+            }
+            if let Some((first, import)) = open.take() {
+                if code != "}" && !code.starts_with(' ') {
+                    return Err(source.unread(first, &import));
+                }
+                let import = format!("{import} {}", code.trim_start());
+                match import.ends_with('}') {
+                    true => source.import(first, &import)?,
+                    false => open = Some((first, import)),
+                }
+                continue;
+            }
+            if code.starts_with("use ") && code.ends_with('{') {
+                open = Some((number, code.into()));
                 continue;
             }
             let indent = code.len() - code.trim_start().len();
@@ -76,6 +96,9 @@ impl Source {
             } else {
                 source.begins(number, code.trim_start(), &heading)?;
             }
+        }
+        if let Some((first, import)) = open {
+            return Err(source.unread(first, &import));
         }
         source.definitions.iter_mut().for_each(|definition| definition.constructors = constructors(definition));
         Ok(source)
@@ -107,13 +130,17 @@ impl Source {
         Ok(())
     }
 
+    fn unread(&self, number: usize, import: &str) -> Fault {
+        Fault::new(&self.file, number, format!("this import cannot be read: {import}"))
+    }
+
     /// `use MODULE.{a, b as c}` or `use MODULE as NAME`.
     fn import(&mut self, number: usize, code: &str) -> Result<(), Fault> {
-        let unread = || Fault::new(&self.file, number, format!("this import cannot be read: {code}"));
+        let unread = || self.unread(number, code);
         let what = code.strip_prefix("use ").ok_or_else(unread)?;
         if let Some((module, names)) = what.split_once(".{") {
             let names = names.strip_suffix('}').ok_or_else(unread)?;
-            for name in names.split(',').map(str::trim) {
+            for name in names.split(',').map(str::trim).filter(|name| !name.is_empty()) {
                 let (theirs, ours) = name.split_once(" as ").unwrap_or((name, name));
                 self.imports.insert(ours.into(), (module.into(), theirs.into()));
             }

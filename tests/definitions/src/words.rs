@@ -82,10 +82,15 @@ pub fn names(signature: &[(usize, String)], equations: &[(usize, String)]) -> Ve
     let named = found.iter().enumerate().filter(|(place, word)| is_name(&word.text) && !is_label(&found, *place));
     let named = named.map(|(_, word)| Word { text: word.text.trim_end_matches('.').into(), ..word.clone() });
     let each = named.filter(|word| seen.insert(word.text.clone()));
-    each.map(|word| (word.clone(), bound.contains(&word.text))).collect()
+    each.map(|word| (word.clone(), bound.contains(value(&word.text)))).collect()
 }
 
-/// Whether a word is a name, and no mark, number or field's name behind a value.
+/// A name without those of fields behind it: `t` of `t.path`.
+pub fn value(name: &str) -> &str {
+    name.split_once('.').map_or(name, |(value, _)| value)
+}
+
+/// Whether a word is a name, and no mark, number or field's name behind a value in brackets.
 fn is_name(word: &str) -> bool {
     !word.starts_with(|c: char| c.is_ascii_digit() || c == '.' || (c != '"' && ends_word(c)))
 }
