@@ -112,12 +112,12 @@ def antt(text, table, keep=(), steps=False):
         pieces = re.split(r'("(?:[^"\\]|\\.)*")', body)
         for k in range(0, len(pieces), 2):
             if not steps:
-                shut = re.split(r"(use Rattle\.[^{]*)", pieces[k])
+                shut = re.split(r"(use Rattle\.[^{ ]*)", pieces[k])
                 for j in range(0, len(shut), 2):
                     shut[j] = code(shut[j], table, keep)
                 pieces[k] = "".join(shut)
             else:
-                shut = re.split(r"((?<![\w-])(?:c|start|place|at-loop)(?:\.before)*\.[\w-]+|\btie\.[\w-]+|use Rattle\.[^{]*|\.[\w-]+(?=\.(?:ensures|true|false|invariant|given|new|result|requires)))", pieces[k])
+                shut = re.split(r"((?<![\w-])(?:c|start|place|at-loop)(?:\.before)*\.[\w-]+|\btie\.[\w-]+|use Rattle\.[^{ ]*|\.[\w-]+(?=\.(?:ensures|true|false|invariant|given|new|result|requires)))", pieces[k])
                 for j in range(0, len(shut), 2):
                     shut[j] = code(shut[j], table, keep)
                 pieces[k] = "".join(shut)

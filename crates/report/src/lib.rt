@@ -4,7 +4,7 @@
 
 mod operation;
 mod plan;
-mod rows;
+mod tallies;
 
 pub use operation::report;
 use refusal::Refusal;

@@ -2,7 +2,7 @@
 ghost use Rattle.report.specs.Operations.{Reports};
 
 use crate::plan::{answer, plan_of, rows_of, steps_of};
-use crate::rows::raise_all;
+use crate::tallies::raise_all;
 use crate::{Reported, Tally};
 
 // Counts the cards of a run that say yes and those that say no, and writes a row for each parameter, in sheet order; later rows stay,

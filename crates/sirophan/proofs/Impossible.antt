@@ -75,6 +75,7 @@ title_means = meaning (outcome_as title_test Decision.Passed faults_found.0)
     meaning (test_means m _) = m
 
 code_lacks : Meaningful (filter_tests trial_parameters) code_test → ⊥
+unfolding code_test
 code_lacks m = shown (outcome_as code_test (refuse Reason.NoMeaning code_test.at) faults_found.1)
   where
     shown : TestOutcome (filter_tests trial_parameters) code_test (stop 16 code_test.at) → ⊥

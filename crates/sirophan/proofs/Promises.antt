@@ -114,7 +114,7 @@ use Rattle.answer.specs.Searching.{check_search_answer, search_question, match_s
 use Rattle.answer.specs.SearchDemand.{MeetsSearchDemand}
 use Rattle.answer.specs.SearchRefusals.{CheckSearchLine, MatchSearchLine, SelectSearchLine}
 use Rattle.sirophan.specs.SameQuestion.{SameQuestion, AnsweredAlike}
-use Rattle.sirophan.proofs.SameQuestion as same-question
+use Rattle.sirophan.proofs.SameQuestion as same_question
 use Rattle.sirophan.proofs.SearchDemand as search-demand
 use Rattle.answer.proofs.SearchTable as search-lines
 use Rattle.sheet.specs.Find.{kinds_of, parents_of}
@@ -139,11 +139,11 @@ use Rattle.sirophan.proofs.Determinacy as determinacy
 use Rattle.sirophan.proofs.Impossible as impossible
 use Rattle.answer.proofs.Selection as selection
 use Rattle.sirophan.proofs.Bounds as bounds
-use Rattle.answer.proofs.CheckTable as check-table
-use Rattle.answer.proofs.MatchTable as match-table
-use Rattle.answer.proofs.SelectTable as select-table
+use Rattle.answer.proofs.CheckTable as check_table
+use Rattle.answer.proofs.MatchTable as match_table
+use Rattle.answer.proofs.SelectTable as select_table
 use Rattle.answer.proofs.Answered as answered
-use Rattle.sirophan.proofs.SpellTable as spell-table
+use Rattle.sirophan.proofs.SpellTable as spell_table
 use Rattle.sirophan.proofs.Spells as spell
 use Rattle.sirophan.proofs.Operators as words
 use Rattle.sirophan.proofs.Trial as trial

@@ -1,7 +1,7 @@
 -- `report::rows::values_of` meets its contract: those counted and those among the entries to come are all. Assumes nothing.
 use borrow.Author.Rules.{rules}
 use Rattle.report.proofs.Values.{counting_start, counting_within, counting_next, counting_end}
-use Rattle.report.proofs.rows.values_of.Goals as goal
+use Rattle.report.proofs.tallies.values_of.Goals as goal
 
 pub loop-left-init : goal.loop-left-init
 loop-left-init c = search (counting_start, rules)

@@ -1,6 +1,6 @@
 -- `report::rows::values_of` meets its contract: those counted and those among the entries to come are all. Assumes nothing.
 use Rattle.report.proofs.Values.{Counting}
-use Rattle.report.proofs.rows.values_of.Given as goal
+use Rattle.report.proofs.tallies.values_of.Given as goal
 
 abbrev pub invariant-loop-left : goal.invariant-loop-left
 invariant-loop-left l = Counting l.card l.index l.at l.left l.values

@@ -1,7 +1,7 @@
 -- `report::rows::raised` meets its contract: the first steps clear, the others raise by a card. Assumes nothing.
 use borrow.Author.Rules.{rules}
 use Rattle.report.proofs.Steps.{step_clears, step_raises, step-card, step_fits, step_well_formed, step_row}
-use Rattle.report.proofs.rows.raised.Goals as goal
+use Rattle.report.proofs.tallies.raised.Goals as goal
 
 pub returns-then-j-n : goal.returns-then-j-n
 returns-then-j-n c = search (step_clears, rules)
