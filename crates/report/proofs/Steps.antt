@@ -32,6 +32,13 @@ pub stepped_more : (cards : List ℕ) (n k : ℕ) (rows : List Tally)
 unfolding stepped
 stepped_more cards n k rows = ap (λ (j : ℕ). stepped cards n j rows) (one_more k)
 
+-- a step more over the rows after the first k
+pub stepped_next : (cards : List ℕ) (n k : ℕ) (rows : List Tally) (now : List Tally) (i : ℕ) (r : Tally)
+    → now ≡ stepped cards n k rows → i ≡ step_index n k → r ≡ step_tally cards n k (get_or now i (tally 0 0)) → set now i r ≡ stepped cards n (k + 1) rows
+stepped_next cards n k rows now i r e f g =
+    let more = stepped_more cards n k rows in
+    sym (rw (sym e, sym f, sym g) at more)
+
 pub index_none : (n j : ℕ) → n ≡ 0 → j ≡ step_index n j
 unfolding step_index
 index_none n j e = rw e (sym (mod-zero j))

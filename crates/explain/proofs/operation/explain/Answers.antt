@@ -1,6 +1,7 @@
 -- `explain::operation::explain` meets its contract: it is prepare, judge and the marks, and slices hold bytes. Assumes nothing.
+use borrow.Author.Rules.{rules}
 use native.Mathlib.Omega.{arith}
-use Rattle.explain.proofs.Explaining.{prepare_refuses, judge_refuses, judged_yes, judged_no}
+use Rattle.explain.proofs.Explaining.{filled_within, prepare_refuses, judge_refuses, judged_yes, judged_no}
 use Rattle.explain.proofs.Contracts.{explains_into}
 use Rattle.explain.proofs.operation.explain.Goals as goal
 
@@ -21,3 +22,6 @@ returns-in-Refused-matched c = explains_into _ _ _ _ _ _ (judge_refuses _ _ _ _ 
 
 pub returns-in-Refused : goal.returns-in-Refused
 returns-in-Refused c = explains_into _ _ _ _ _ _ (prepare_refuses _ _ _ _ _ c.prepare-prepared.ensures (λ i. omega (arith, c.shared_slice_known-1.given i)) _ _ c.in-Refused.is) (λ i. omega (arith, c.shared_slice_known-1.given i)) (λ i. omega (arith, c.shared_slice_known-3-1.given i))
+
+pub slice_bounds-judge-end : goal.slice_bounds-judge-end
+slice_bounds-judge-end c = let room = filled_within _ _ _ _ _ c.prepare-prepared.ensures _ c.in-Cells.is in search (room, rules)

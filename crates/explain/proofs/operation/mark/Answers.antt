@@ -1,5 +1,5 @@
 -- `explain::operation::mark` meets its contract. Assumes nothing.
-use Rattle.explain.proofs.Explaining.{mark_conforming, mark_tests, mark_few, mark_short, mark_room, mark_yes, mark_no}
+use Rattle.explain.proofs.Explaining.{mark_conforming, mark_tests, mark-part, mark_few, mark_short, mark_room, mark_yes, mark_no}
 use borrow.Author.Rules.{rules}
 use Rattle.explain.proofs.operation.mark.Goals as goal
 
@@ -23,3 +23,6 @@ returns-then-yes c = search (mark_yes, rules)
 
 pub returns : goal.returns
 returns c = search (mark_no, rules)
+
+pub slice_bounds-write_word-end : goal.slice_bounds-write_word-end
+slice_bounds-write_word-end c = search (mark-part, rules)

@@ -1,5 +1,5 @@
 -- The loop's invariant: the rows are those after the first j steps. Assumes nothing.
-use Rattle.std.proofs.Common.{◌≡◌, ◌≤◌, ◌-◌, ◌×◌}
+use Rattle.std.proofs.Common.{◌≡◌, ◌≤◌, ◌-◌}
 use Rattle.report.specs.Steps.{stepped}
 use Rattle.report.proofs.tallies.raise_all.Given as goal
 
