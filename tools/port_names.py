@@ -200,7 +200,7 @@ def main():
 
 def edit(text, table):
     """The texts of an edit; its first lines say in words what it does."""
-    return "\n".join(code(l, table, (), True) if l.startswith(("old:", "new:")) and '"' not in l else l for l in text.split("\n"))
+    return "\n".join(code(l, table, (), True).replace("\u2032", "'") if l.startswith(("old:", "new:")) and '"' not in l else l for l in text.split("\n"))
 
 
 if __name__ == "__main__":

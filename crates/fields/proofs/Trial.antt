@@ -94,6 +94,7 @@ conforming = (refl, refl, refl, refl)
 -- ---- the texts under the names
 
 all_at : {A : Type 0} {P : A → Type 0} {xs : List A} {x : A} → All P xs → Memᴰ x xs → P x
+all_at {A = A} {P = P} all_empty x6 = elim x6 [ ]
 all_at {P = P} (all_cons p h) (Memᴰ.head e) = subst P (sym e) p
 all_at (all_cons p h) (Memᴰ.tail m) = all_at h m
 
