@@ -6,7 +6,7 @@
 -- the text has bytes (`cells-within`), so they fit the list. The rows state the filter but for its positions, on which no verdict depends
 -- (`erase-says`), so judging them is judging the filter.
 -- Assumes nothing.
-use Prim.Native.Nat.{ℕ, ◌+◌, ◌≤◌, ◌<◌}
+use Prim.Native.Nat.{ℕ, ◌≤◌, ◌<◌}
 use native.Mathlib.Omega.{arith}
 use mathlib.Core.Path.{◌≡◌, refl, sym, ap, subst, ◌∙◌}
 use mathlib.Core.Logic.{◌⊎◌, inl, inr}

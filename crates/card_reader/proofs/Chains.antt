@@ -3,7 +3,7 @@
 -- (`before_last`), so a walk goes from each entry of the chain to the one behind it. Asked of all entries it is what a test asks
 -- (`before_all`).
 -- Assumes nothing.
-use Prim.Native.Nat.{ℕ, zero, suc, ◌+◌, ◌*◌, ◌-◌, ◌≤◌, ◌<◌}
+use Prim.Native.Nat.{ℕ, zero, suc, ◌+◌, ◌-◌, ◌≤◌, ◌<◌}
 use native.Mathlib.Nat.{eq-or-lt_of_le}
 use native.Mathlib.Numerals.{add-one}
 use native.Mathlib.Omega.{arith}
@@ -19,16 +19,15 @@ use Rattle.base.specs.Parts.{part}
 use Rattle.block.specs.declared.Validity.TheVariants.{WellFormed}
 use Rattle.block.proofs.Items.{items-length}
 use Rattle.card.specs.Card.{Entry, entry, entries_of, entry_count, read_card}
-use Rattle.kind.specs.Relations.{Kept}
 use Rattle.kind.specs.declared.Meaning.{Meaning}
 use Rattle.kind.specs.declared.Readings.{Readings}
 use Rattle.judge.specs.Once.{readings_for, counts_read}
 use Rattle.judge.specs.Sets.{values_at, counts, chosen_of, keep}
 use Rattle.judge.specs.Verdicts.{some_value, text_counts}
 use Rattle.judge.specs.declared.Chosen.{Chosen}
-use Rattle.judge.proofs.Once.{once_kept, once_counts}
+use Rattle.judge.proofs.Once.{once_counts}
 use Rattle.card_reader.specs.Readings.{Serves}
-use Rattle.card_reader.specs.Lists.{entry_cell, reading_at, no_entry, Holds, Last, IsKept, HoldsTo, KeepsCard}
+use Rattle.card_reader.specs.Lists.{entry_cell, reading_at, no_entry, Holds, Last, IsKept, KeepsCard}
 use Rattle.card_reader.specs.Listed.{entry_counts, some_before, OnChain, FirstFrom}
 use Rattle.card_reader.specs.declared.TextReading.{TextReading}
 use Rattle.card_reader.proofs.Reading.{card_few}

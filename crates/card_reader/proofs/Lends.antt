@@ -1,15 +1,14 @@
 -- The lists as they are lent for a run: how cards begin, and the kinds.
 -- Assumes nothing.
-use Prim.Native.Nat.{ℕ, ◌+◌, ◌-◌, ◌≤◌, ◌<◌}
-use native.Mathlib.Nat.{eq-or-lt_of_le}
+use Prim.Native.Nat.{ℕ, ◌+◌, ◌≤◌, ◌<◌}
 use native.Mathlib.Omega.{arith}
 use mathlib.Core.Path.{◌≡◌, refl, ap, sym, ◌∙◌, subst}
-use mathlib.Core.Logic.{◌⊎◌, inl, inr, ⊎_elim}
+use mathlib.Core.Logic.{◌⊎◌, inl, inr}
 use mathlib.Core.Bool.{Bool, true, false}
 use mathlib.Core.List.{List}
 use lib.Dec.{eqb}
 use lib.IntN.{ℤ}
-use lib.ListN.{length, get_or, set, take, drop, length-take, length-drop, length-set}
+use lib.ListN.{length, get_or, set, drop, length-take, length-drop, length-set}
 use lib.Seq.{get_or-set_same, get_or-set_other, get_or-drop, get_or-take, ext_get_or}
 use borrow.Author.Tests.{eqb-true, eqb-false}
 use Rattle.card_reader.specs.Lists.{Lent, kinds_in, BeginsAlike}

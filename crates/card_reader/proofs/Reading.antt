@@ -4,13 +4,13 @@
 -- begins at the last entry under its parameter; what stood there before stands behind it now (`Last`). Of a parameter whose entries are not
 -- kept nothing changes but the number of entries (`holds_more`).
 -- Assumes nothing.
-use Prim.Native.Nat.{ℕ, zero, suc, ◌+◌, ◌*◌, ◌-◌, ◌≤◌, ◌<◌}
+use Prim.Native.Nat.{ℕ, ◌+◌, ◌*◌, ◌-◌, ◌≤◌, ◌<◌}
 use native.Mathlib.Nat.{add-zero}
 use native.Mathlib.Omega.{arith}
 use mathlib.Core.Path.{◌≡◌, refl, ap, sym, ◌∙◌, subst}
-use mathlib.Core.Logic.{◌⊎◌, inl, inr, ⊎_elim}
+use mathlib.Core.Logic.{◌⊎◌, inl, ⊎_elim}
 use mathlib.Core.Bool.{Bool, true, false}
-use mathlib.Core.List.{List, [], ◌∷◌}
+use mathlib.Core.List.{List, ◌∷◌}
 use lib.Dec.{eqb}
 use lib.IntN.{ℤ, pos}
 use lib.ListN.{length, get_or, drop}
@@ -30,7 +30,7 @@ use Rattle.kind.specs.Readable.{card_readable}
 use Rattle.judge.specs.Sets.{conforms_to}
 use Rattle.judge.proofs.Entries.{past_readable, conforms-next, conforms_not, conforms_end}
 use Rattle.card_reader.specs.Readings.{Serves, ReadAs}
-use Rattle.card_reader.specs.Lists.{Lent, entry_cell, reading_at, no_entry, Holds, Last, IsKept, HoldsTo, KeepsCard, BeginsAlike, ReadsCard}
+use Rattle.card_reader.specs.Lists.{Lent, entry_cell, reading_at, no_entry, Holds, Last, IsKept, HoldsTo, BeginsAlike, ReadsCard}
 use Rattle.card_reader.specs.Storing.{Stored, Begun, Takes}
 use Rattle.card_reader.specs.declared.TextReading.{TextReading}
 use Rattle.card_reader.proofs.Storing.{stored_head, stored-behind, stored_others, stored_occurrence, stored-start, stored_end, stored_form, stored-value, stored-unit, stored-first, stored_last, stored_spans, stored_begins, stored_keeps, stored-lent, begun_lent, begun_begins}

@@ -22,7 +22,7 @@ use Rattle.period.specs.declared.PeriodReading.{PeriodReading}
 use Rattle.period.proofs.Spelling as spelling
 use Rattle.kind.specs.Readable.{card_readable}
 use Rattle.kind.specs.Table as table
-use Rattle.card_reader.specs.Readings.{open_bit, instant_of, end_from, period_from, decimal, Serves, ReadAs}
+use Rattle.card_reader.specs.Readings.{open_bit, instant_of, end_from, period_from, ReadAs}
 use Rattle.card_reader.specs.declared.TextReading.{TextReading}
 
 abbrev reading : Bool → ℕ → ℕ → ℕ → ℤ → ℤ → TextReading

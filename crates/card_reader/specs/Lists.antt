@@ -3,7 +3,6 @@
 use Rattle.std.specs.Prelude.{ℕ, ◌+◌, ◌*◌, ◌≤◌, ◌<◌, ◌≡◌, ◌⊎◌, Bool, true, List, [], ℤ, pos, length, get_or, take, drop}
 use Rattle.base.specs.Parts.{part}
 use Rattle.card.specs.Card.{Entry, entry, entries_of, entry_count}
-use Rattle.card.specs.declared.Entry.{Entry as Span}
 use Rattle.judge.specs.Sets.{conforms_to}
 use Rattle.card_reader.specs.Readings.{Serves}
 use Rattle.card_reader.specs.declared.TextReading.{TextReading}

@@ -32,7 +32,7 @@ use Rattle.answer.proofs.Cards.{conforms_accepted, conforms-bytes}
 use Rattle.answer.proofs.Inputs.{inputs_accepted, tests_outcome}
 use Rattle.answer.proofs.Outcomes.{TestsOutcome, all_mean, one_refused}
 use Rattle.answer.proofs.Verdicts.{verdict_spelled}
-use Rattle.deciding.specs.Deciding.{outer_tests, outer_count, verdicts, says_by, cells}
+use Rattle.deciding.specs.Deciding.{outer_tests, outer_count, verdicts, says_by}
 use Rattle.deciding.specs.Marks.{deciding, explanation}
 use Rattle.explain.specs.Operation.{Explanation, explanation_of, accept_marks, explaining, explain_answer, explain_cells}
 use Rattle.explain.specs.Refusals.{ExplainLine}

@@ -12,7 +12,7 @@ use mathlib.Core.Path.{◌≡◌, refl, sym, ap, subst, ◌∙◌}
 use mathlib.Core.Bool.{Bool, cond}
 use mathlib.Core.List.{List}
 use lib.ListN.{length}
-use Rattle.syntax.specs.Tree.{Test, Tree, join}
+use Rattle.syntax.specs.Tree.{Tree, join}
 use Rattle.syntax.specs.Grammar.{round, square, deepest, Item, Filter, one_item, one_more}
 use Rattle.syntax.specs.Scan.{is_space, test_of, head_at, member_after, connective_at, close_at}
 use Rattle.base.specs.Runs.{RunEnd}

@@ -18,7 +18,7 @@ use Rattle.base.specs.Operators.{operator_words}
 use Rattle.syntax.specs.Tree.{Test, Tree, join, negation, tests_of}
 use Rattle.syntax.specs.declared.Connective.{Connective}
 use Rattle.syntax.specs.Strings.{quote, backslash, is_bare, Quoted}
-use Rattle.syntax.specs.Grammar.{Stands, Spaces, space, Value, Operator, TestAt, Connects, Opens, opens, Closes, round, square, Chooses, Item, item_bracket, item_not, item_bracketed, Filter, one_item, one_more, Within}
+use Rattle.syntax.specs.Grammar.{Stands, Spaces, Value, Operator, TestAt, Connects, Opens, Closes, round, square, Chooses, Item, item_bracket, item_not, item_bracketed, Filter, one_item, one_more, Within}
 use Rattle.place.specs.Machine.{Phase, at_item, in_name, after_not, after-name, in_operator, after_operator, at_value, in_bare, in-string, after_item, after-space, in_connective, after_square, at_member, in_member, Bracket, round_open, square-open, close_of}
 use Rattle.place.proofs.Walking.{bracketed_count}
 

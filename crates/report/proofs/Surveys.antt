@@ -5,7 +5,7 @@
 -- has at most 128 cards (`room_enough`). What select counts is what says yes, and yes and no make up the run, both by induction on the cards
 -- (`saying-matches`, `saying-whole`).
 -- Assumes nothing.
-use Prim.Native.Nat.{ℕ, suc, ◌+◌, ◌-◌, ◌≤◌}
+use Prim.Native.Nat.{ℕ, suc, ◌+◌, ◌≤◌}
 use native.Mathlib.Omega.{arith}
 use mathlib.Core.Path.{◌≡◌, refl, ap, sym, ◌∙◌, subst}
 use mathlib.Core.Bool.{Bool, true, false, cond, not}

@@ -1,7 +1,6 @@
 -- The parameters that rows ask about are kept: those of the rows before i are, and so they stay. What was opened and read is then ready.
 -- Assumes nothing.
 use Prim.Native.Nat.{ℕ, ◌+◌, ◌≤◌, ◌<◌}
-use native.Mathlib.Nat.{eq-or-lt_of_le}
 use native.Mathlib.Omega.{arith}
 use mathlib.Core.Path.{◌≡◌, refl, ap, sym, ◌∙◌, subst}
 use mathlib.Core.Bool.{Bool, true, false}
@@ -23,7 +22,7 @@ use Rattle.card_reader.specs.Lists.{Lent, kinds_in, KeepsCard, BeginsAlike, Read
 use Rattle.card_reader.specs.Lending.{Lends, Keeps}
 use Rattle.card_reader.proofs.Lends.{kinds-alike}
 use Rattle.row_opener.specs.Opening.{Opens}
-use Rattle.row_judge.specs.Saying.{rows_say, Whole, AllKept, Ready}
+use Rattle.row_judge.specs.Saying.{rows_say, Whole, Ready}
 use Rattle.row_judge.specs.Asking.{KeepsTests, LentFor}
 
 pub record KeptTo (rows before cells : List ℕ) (spans : List ℤ) (i : ℕ) : Type 0 where

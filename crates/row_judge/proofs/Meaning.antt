@@ -17,7 +17,7 @@ use Rattle.sheet.specs.Encode.{WellFormedSheet}
 use Rattle.sheet.specs.declared.Found.{Found}
 use Rattle.sheet.proofs.Listed.{find_iff, table_listed}
 use Rattle.card.specs.Card.{Entry}
-use Rattle.syntax.specs.Tree.{Test, name, moved, under, tests_of, Tree, test, bracketed, join, negation, erase}
+use Rattle.syntax.specs.Tree.{Test, moved, under, tests_of, Tree, test, bracketed, join, negation, erase}
 use Rattle.syntax.specs.Fold.{fold_tree}
 use Rattle.syntax.specs.Scan.{value_at}
 use Rattle.judge.specs.Sets.{lookup, of_occurrence, keep}

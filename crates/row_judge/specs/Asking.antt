@@ -1,6 +1,6 @@
 -- The parameters that rows ask about.
 -- Assumes nothing.
-use Rattle.std.specs.Prelude.{ℕ, ◌+◌, ◌<◌, ◌≡◌, List, ℤ, length, get_or}
+use Rattle.std.specs.Prelude.{ℕ, ◌≡◌, List, ℤ}
 use Rattle.card_reader.specs.Lists.{Lent, kinds_in}
 use Rattle.row_judge.specs.Saying.{AllKept}
 

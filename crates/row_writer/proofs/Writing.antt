@@ -43,7 +43,6 @@ use Rattle.filter.proofs.Reading.{fault_append, reading_is, summary_inside}
 use Rattle.rows.specs.Cells.{number_of, cell_of, encode}
 use Rattle.row_writer.specs.Writing.{probe_for, prepared, cell_count, outcome_of, written_of, Wrote}
 use Rattle.row_writer.specs.Steps.{Room, Joinable, WroteTest, WroteNot, WroteClosed, no_close, closed, closed_not, WrotePair, WroteMember, no_member, a_member, WroteJoin, Inside, Chained}
-use Rattle.rows.specs.declared.Probe.{Probe}
 use Rattle.rows.specs.declared.Row.{Row}
 use Rattle.row_writer.specs.declared.Outcome.{Outcome}
 use Rattle.row_writer.specs.declared.Written.{Written}

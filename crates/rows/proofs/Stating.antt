@@ -3,7 +3,7 @@
 -- (`from-encode`), and from cells by induction on the bound (`in_cells`), with the rows behind an expression in hand by induction on them
 -- (`on-cells`). So the bound makes no difference, and rows state what their first row makes of what the parts behind it state (`stated-step`).
 -- Assumes nothing.
-use Prim.Native.Nat.{ℕ, zero, suc, ◌+◌, ◌≤◌}
+use Prim.Native.Nat.{ℕ, zero, suc, ◌≤◌}
 use native.Mathlib.Omega.{arith}
 use mathlib.Core.Path.{◌≡◌, refl, sym, ap, ap₂, subst, ◌∙◌}
 use mathlib.Core.Option.{Option, none, some, none-ne-some, some-injective}

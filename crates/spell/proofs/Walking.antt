@@ -17,7 +17,7 @@ use Rattle.base.specs.Operators.{operator_words}
 use Rattle.base.specs.Parts.{part}
 use Rattle.base.specs.Runs.{RunEnd}
 use Rattle.base.proofs.Tests.{cond-elim, cond-first}
-use Rattle.syntax.specs.Tree.{Test, Tree, test, bracketed, join, negation}
+use Rattle.syntax.specs.Tree.{Test, Tree, test, bracketed, negation}
 use Rattle.syntax.specs.Grammar.{TestAt, a_test, round, square}
 use Rattle.syntax.specs.Scan.{is_space, skip_at, has, test_of, test_at, test_or, choice_or, choice_at, open_at, head_at, member_at, member_after, after_close, close_at}
 use Rattle.syntax.specs.declared.Connective.{Connective}

@@ -13,7 +13,7 @@ use lib.ListN.{length}
 use Rattle.base.specs.Ascii.{ascii}
 use Rattle.base.specs.Parts.{part}
 use Rattle.base.proofs.Tests.{cond-elim}
-use Rattle.syntax.specs.Tree.{Test, Tree, join}
+use Rattle.syntax.specs.Tree.{Tree, join}
 use Rattle.syntax.specs.Grammar.{Stands, Spaces, TestAt, Opens, Closes, Chooses, round, square, Item, item_test, item_bracket, item_not, item_bracketed, Filter, one_item, one_more, deepest, Spells}
 use Rattle.syntax.specs.Scan.{skip_at, has, test_of, test_at, open_at, choice_at, choice_or, test_or, head_at, member_at, after_close, member_after, connective_at, close_at}
 use Rattle.syntax.specs.Reader.{Parsed, parsed, unparsed, close_bracket, in_bracket, member_by, in_choice, item_by, and_then, chain_by, chain_of, filter_of, item_at, filter_at, whole, read}

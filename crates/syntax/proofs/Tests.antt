@@ -27,7 +27,7 @@ use Rattle.base.proofs.Parts.{part_length, part_cons}
 use Rattle.base.proofs.Runs.{run-within, run_take, run_then}
 use Rattle.syntax.specs.Strings.{is_bare}
 use Rattle.syntax.specs.Tree.{Test}
-use Rattle.syntax.specs.Grammar.{Stands, Gap, gap, Value, Follows, the_end, a_space, a_close, Operator, TestAt, a_test}
+use Rattle.syntax.specs.Grammar.{Stands, Gap, gap, Follows, the_end, a_space, a_close, Operator, TestAt, a_test}
 use Rattle.syntax.specs.Scan.{is_space, skip_at, value_at, follows, operator_at, with_operator, with_value, test_value, test_operator, name_end, test_at, test_of}
 use Rattle.syntax.specs.declared.RawValue.{RawValue}
 use Rattle.syntax.specs.declared.FoundValue.{FoundValue}

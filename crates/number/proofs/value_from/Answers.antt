@@ -1,6 +1,5 @@
 -- `number::value_from` meets its contract. The loop's invariant: the digits left, written after the value so far, make the whole. Assumes nothing.
 use borrow.Author.Rules.{rules}
-use Prim.Native.Nat.{◌-◌}
 use Rattle.number.proofs.Digits.{value-starts, value_times_ten, value-digit_low, value_room, value-next, value-ends}
 use Rattle.number.proofs.value_from.Goals as goal
 

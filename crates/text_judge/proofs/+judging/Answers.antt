@@ -1,5 +1,4 @@
 -- `text_judge::judge_filter` and what it calls in a cycle meet their contracts: the text left falls, and each answers what judging
-use Prim.Native.Nat.{◌-◌}
 use native.Mathlib.Omega.{arith}
 use Rattle.base.proofs.Tests.{and_fails}
 use Rattle.syntax.proofs.Places.{test_in_place, head_open_ahead, head_choice_order, head_choice_within, member_in_place, connective_ahead}
@@ -10,7 +9,6 @@ use Rattle.text_judge.proofs.Judging.{judged_cases, verdict_after, verdict_negat
 use Rattle.card.proofs.Entries.{entries_start}
 use Rattle.block.proofs.Items.{visited_next, visited_decides, visited_end}
 use borrow.Author.Rules.{rules}
-use borrow.Fn.PlainCycle.{is}
 use Rattle.text_judge.proofs.+judging.Goals as goal
 
 pub entry_chosen-returns-then-counts : goal.entry_chosen-returns-then-counts

@@ -1,8 +1,6 @@
 -- `base::name::all_name_parts` meets its contract: what is left decides. Assumes nothing.
-use Prim.Native.Nat.{◌-◌}
 use mathlib.Core.Path.{sym, ◌∙◌}
 use borrow.Author.Rules.{rules}
-use Rattle.base.specs.Names.{is_name_part}
 use Rattle.base.proofs.Loops.{passed_start, passed_next, passed_not, passed_end}
 use Rattle.base.proofs.name.all_name_parts.Goals as goal
 

@@ -1,5 +1,4 @@
 -- `block::columns::check_sum` meets its contract: the total so far and the columns that are left are the sum over all 512 bytes.
-use Prim.Native.Nat.{◌-◌}
 use borrow.Author.Rules.{rules}
 use Rattle.block.proofs.Sum.{whole-start, whole-next, whole_rest, whole_end}
 use Rattle.block.proofs.columns.check_sum.Goals as goal

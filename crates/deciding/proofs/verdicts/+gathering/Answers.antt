@@ -1,6 +1,5 @@
 -- `deciding::verdicts::gather_from` and `gather_rest` meet their contracts. The loop keeps `Going`: the tests of the expression in hand before the row
 use borrow.Author.Rules.{rules}
-use Prim.Native.Nat.{◌-◌}
 use native.Mathlib.Omega.{arith}
 use lib.ListN.{length-take}
 use Rattle.deciding.proofs.Telling.{room_here, first-whole, first_few, gathering_start, gathered_size, gathered_from, begun_fits}

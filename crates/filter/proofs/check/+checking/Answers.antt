@@ -1,5 +1,4 @@
 -- `filter::check::check_filter` and what it calls in a cycle meet their contracts: the text left falls, and each answers what reading gathers
-use Prim.Native.Nat.{◌-◌}
 use native.Mathlib.Omega.{arith}
 use Rattle.syntax.proofs.Places.{test_in_place, head_open_ahead, head_choice_order, head_choice_within, member_in_place, connective_ahead}
 use Rattle.filter.specs.Folds.{reading}
@@ -7,7 +6,6 @@ use Rattle.filter.specs.declared.Walked.{Walked}
 use Rattle.filter.proofs.Walk.{item_test, item_nothing, item_deep, item-opened, choice_deep, item-chosen, round_no_filter, round_open, round-closed, chosen_no_filter, chosen_no_member, chosen-member, item_ahead, filter_within, filter_no_item, chain_starts, chain_ends, chain_no_item, chain_goes_on}
 use Rattle.filter.proofs.Reading.{walked_cases, tests_fit, member-fits, summary_negated, summary_inside}
 use borrow.Author.Rules.{rules}
-use borrow.Fn.PlainCycle.{is}
 use Rattle.filter.proofs.check.+checking.Goals as goal
 
 pub check_chosen-returns-in_default : goal.check_chosen-returns-in_default

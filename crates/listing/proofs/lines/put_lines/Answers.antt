@@ -1,5 +1,4 @@
 -- `listing::lines::put_lines` meets its contract: the lines of the numbers so far stand, and those of the others are to come. Assumes nothing.
-use Prim.Native.Nat.{◌-◌}
 use native.Mathlib.Omega.{arith}
 use Rattle.listing.proofs.Putting.{lines_begin, lines-within, lines_long, line_room, line_within, line_put, lines_end}
 use borrow.Author.Rules.{rules}

@@ -1,8 +1,6 @@
 -- `plain::value::all_bare` meets its contract: what is left decides. Assumes nothing.
-use Prim.Native.Nat.{◌-◌}
 use mathlib.Core.Path.{sym, ◌∙◌}
 use borrow.Author.Rules.{rules}
-use Rattle.syntax.specs.Strings.{is_bare}
 use Rattle.base.proofs.Loops.{passed_start, passed_next, passed_not, passed_end}
 use Rattle.plain.proofs.value.all_bare.Goals as goal
 

@@ -1,5 +1,4 @@
 -- `plain::value::write_escaped` meets its contract: what stands and what is left make the whole. Assumes nothing.
-use Prim.Native.Nat.{◌-◌}
 use native.Mathlib.Omega.{arith}
 use Rattle.plain.proofs.Bytes.{escaping_start, escaping_room, escaping_fits, escaping_next, escaping_end}
 use borrow.Author.Rules.{rules}

@@ -1,6 +1,5 @@
 -- `query::pieces::next_alternative` meets its contract. The loop's invariant: what was written and the signs that are left make the alternative. Assumes nothing.
 use borrow.Author.Rules.{rules}
-use Prim.Native.Nat.{◌-◌}
 use mathlib.Core.Path.{refl}
 use Rattle.query.proofs.Gathering.{gathering_starts, gathering_room, gathering_less, gathering_less-split, gathering_byte, gathering_split, gathering_cut, gathering_ends}
 use Rattle.query.proofs.pieces.next_alternative.Goals as goal

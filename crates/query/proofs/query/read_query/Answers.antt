@@ -1,6 +1,5 @@
 -- `query::query::read_query` meets its contract. The loop's invariant: the rows keep the pairs so far, and those that are left make the query. Assumes nothing.
 use borrow.Author.Rules.{rules}
-use Prim.Native.Nat.{◌-◌}
 use mathlib.Core.Path.{refl}
 use Rattle.query.proofs.Passing.{pass-starts, pass-within, pass-less, pair_in_value, pass_used, pair_in_bytes, pass_bad, pass_until, pass-value, pass_count, pass_room, pass_few, pass-next, pass-ends}
 use Rattle.query.proofs.query.read_query.Goals as goal

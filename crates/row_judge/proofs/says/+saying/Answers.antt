@@ -5,9 +5,7 @@ use native.Mathlib.Omega.{arith}
 use lib.ListN.{length, drop, length-drop}
 use lib.Seq.{length-take-le}
 use Rattle.rows.proofs.Cells.{test_index}
-use Rattle.row_judge.specs.Saying.{rows_say}
 use Rattle.row_judge.proofs.Saying.{brackets_start, brackets_end, brackets_size, brackets_room, brackets_byte, brackets_yes, brackets_behind, brackets_less, brackets_next, telling_start, telling_end, step_test, step_not, step_connect, step_unknown, bracket_room, part-size, bracket_ready, step_bracket, ready-value, ready_end, ready_test, ready_kept, bracketed_value, bracketed_end, bracketed_inner, bracketed_index, bracketed_chain, bracket_known, bracket_closed}
-use borrow.Fn.PlainCycle.{is}
 use Rattle.row_judge.proofs.says.+saying.Goals as goal
 
 pub bracket_says-opened_at-opened-requires : goal.bracket_says-opened_at-opened-requires

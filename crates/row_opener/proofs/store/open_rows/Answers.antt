@@ -1,7 +1,6 @@
 -- `row_opener::store::open_rows` meets its contract: each turn writes the cells of a row. Assumes nothing.
 use borrow.Author.Rules.{rules}
 use Rattle.row_opener.proofs.Opening.{opening_start, opening_next, opening_end, opened_small, value_room, end_room}
-use Prim.Native.Nat.{◌-◌}
 use Rattle.row_opener.proofs.store.open_rows.Goals as goal
 
 pub loop-i-init : goal.loop-i-init

@@ -1,6 +1,5 @@
 -- `row_writer::write::write_filter` and what it calls in a cycle meet their contracts: the text is read as the definition reads it, and each
 use borrow.Author.Rules.{rules}
-use Prim.Native.Nat.{◌-◌}
 use Rattle.syntax.proofs.Places.{test_in_place}
 use Rattle.row_writer.proofs.Numbers.{head_read}
 use Rattle.row_writer.proofs.Writing.{chain_ends, chain_falls, chain_less, chain_no_item, chain_room, chain_starts, chain_takes, chain_joins, choice_low}

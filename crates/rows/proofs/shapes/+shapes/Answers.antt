@@ -1,5 +1,4 @@
 -- `rows::shapes::shape_of` and what it calls in a cycle meet their contracts: the calls that are left fall. The loop keeps `InHand`.
-use Prim.Native.Nat.{◌-◌}
 use native.Mathlib.Omega.{arith}
 use Rattle.rows.proofs.Cells.{test_index}
 use Rattle.rows.proofs.Reading.{part_few, tests_few, levels_few, brackets_few, hand_few_tests, hand_few_levels, hand_end, hand_test, hand_bracket, hand_unknown, hand_not, hand_large, hand_nothing, hand_join}

@@ -1,6 +1,5 @@
 -- `search::says::rows_say` meets its contract. The loop's invariant: the rows to come decide, with what the pair at hand has said. Assumes nothing.
 use borrow.Author.Rules.{rules}
-use Prim.Native.Nat.{◌-◌}
 use Rattle.search.proofs.Judging.{saying-starts, saying-row, saying_few, saying_fails, saying-next, saying-ends}
 use Rattle.search.proofs.says.rows_say.Goals as goal
 

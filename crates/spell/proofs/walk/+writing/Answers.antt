@@ -1,11 +1,9 @@
 -- The cycle of `spell::walk::write_filter` and `write_item` meets its contracts: the text left falls, and each part's plain spelling is
-use Prim.Native.Nat.{◌-◌}
 use native.Mathlib.Omega.{arith}
 use Rattle.spell.proofs.Walking.{filter_within, round_room, round_spelt, not_room, not_within, not_inner, not_inner-within, not_close_room, not_long, not_fits, not_spelt, operand-item, bracket_within, bracket_room, operand_spelt, connective_room, connective_within, operand_room, joined-fits, joined_long, joined_spelt, member-operator, item_nothing, item-operator, item_test_room, item_test_spelt, item_open_deep, item_open_room, item_open_spelt, item_choice_deep, item_choice_room, item_choice_spelt, chosen_room, chosen-within, chosen-inner, chosen-inner-within, chosen_nothing, chosen-member_room, chosen_long, chosen-fits, chosen_spelt}
 use Rattle.spell.proofs.Chaining.{chained_item, chained_starts, chained_over, chained_within, chained_ends, chained_room, chained_fits, chained_ahead, chained_next}
 use Rattle.syntax.proofs.Places.{head_test_placed, head_open_ahead, head_choice_ahead, member_ahead, connective_ahead}
 use borrow.Author.Rules.{rules}
-use borrow.Fn.PlainCycle.{is}
 use Rattle.spell.proofs.walk.+writing.Goals as goal
 
 pub write_chosen-write_choice-start-requires : goal.write_chosen-write_choice-start-requires
