@@ -1,5 +1,5 @@
 -- `listing::filter_text::without_line_feed` meets its contract. Assumes nothing.
-use borrow.Author.Rules.{rules}
+use Rattle.std.proofs.Common.{rules}
 use Rattle.listing.proofs.FilterText.{feed_empty, feed_none, feed_dropped}
 use Rattle.listing.proofs.filter_text.without_line_feed.Goals as goal
 
