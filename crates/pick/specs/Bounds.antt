@@ -14,7 +14,7 @@ Fills (Filled.Bytes n) room = n ≤ room
 Fills Filled.Failed room = Unit {0}
 
 -- what a buffer has after a read that gave nothing more, by what that read answered: an error is a failure
-unfoldable pub ended_by : {E : Type 0} → ℕ → Result ℕ E → Filled
+abbrev pub ended_by : {E : Type 0} → ℕ → Result ℕ E → Filled
 ended_by at got = cond (is_err got) Filled.Failed (Filled.Bytes at)
 
 -- unless the output has ended, the run was full, its cards are added to the totals t, and as many matches as select counts among them
