@@ -33,6 +33,7 @@ struct RunText {
 }
 
 // Puts the count behind the last run, where the totals are those with it; behind a full run the output goes on.
+#[tactic(auto, unfolding(crate::specs::Runs::last_line))]
 fn end_run(totals: Totals, bytes: usize, out: &mut [u8]) -> RunText
     requires { Room (last_line bytes totals.matches totals.cards) out.old }
     ensures { EndPut totals bytes out.old out.new result }
