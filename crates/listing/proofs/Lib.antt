@@ -1,6 +1,4 @@
--- Laws of digits, lines, places, and the filter's text.
+-- Laws of digits and of lines.
 pub mod Decimal
 pub mod Examples
-pub mod FilterText
 pub mod Putting
-pub mod Places

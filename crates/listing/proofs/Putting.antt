@@ -9,8 +9,8 @@ use lib.ListN.{length, get_or, drop, length-append, drop_of_length-le}
 use lib.Seq.{drop-cons}
 use Rattle.base.specs.Ascii.{ascii}
 use Rattle.base.specs.Writing.{Room, Puts}
-use Rattle.base.proofs.Writing.{lent, back, Wrote, wrote_start, wrote_room, wrote_next, wrote_fits, wrote_end, last_wrote, second_wrote, third_wrote}
-use Rattle.listing.specs.Lines.{decimal, line_feed, labelled, number_line, lines, refusal_line, count_line, failure_line}
+use Rattle.base.proofs.Writing.{lent, back, Wrote, wrote_start, wrote_room, wrote_next, wrote_end, third_wrote}
+use Rattle.listing.specs.Lines.{decimal, line_feed, labelled, number_line, lines, refusal_line, count_line}
 use Rattle.listing.proofs.Decimal.{decimal-length}
 
 -- ---- room for the lines
@@ -33,33 +33,11 @@ module _ (out : List ℕ) where
   count_room matches cards h k l =
       record { fits = omega (arith, length-append (decimal matches) (labelled (ascii " of ") cards ++ line_feed), length-append (labelled (ascii " of ") cards) line_feed, decimal-length matches h, labelled-length (ascii " of ") cards k) }
 
-  pub failure_room : (file done : List ℕ) → length file + length done + 12 ≤ length out → Room (failure_line file done) out
-  failure_room file done h =
-      record { fits = omega (arith, length-append (file ++ ascii " cannot be ") (done ++ line_feed), length-append file (ascii " cannot be "), length-append done line_feed) }
+-- ---- three texts, one behind another
 
--- a text that stands is no longer than the buffer
-pub puts_within : {w part exit : List ℕ} {n : ℕ} → Puts w part exit n → n ≤ length exit
-puts_within {w} {part} {exit} {n} p = omega (arith, p.long, ap length p.bytes, length-append w (drop n part))
-
--- ---- two texts, and three: what stands when the last is put
-
-module _ (a b out : List ℕ) (h : Room (a ++ b) out) {out₁ : List ℕ} {n : ℕ} (p : Puts a out out₁ n) {exit : List ℕ} {k : ℕ} (q : Puts b (lent out₁ n) exit k) where
-  pub two-within : n + k ≤ length out
-  two-within = let w = last_wrote a b out h p q in omega (arith, w.within, w.long)
-
-  pub two_puts : Puts (a ++ b) out (back out₁ n exit) (n + k)
-  two_puts = wrote_end (last_wrote a b out h p q) refl
-
-module _ (a b c out : List ℕ) (h : Room (a ++ (b ++ c)) out) {out₁ : List ℕ} {n : ℕ} (p : Puts a out out₁ n) {exit : List ℕ} {k : ℕ} (q : Puts b (lent out₁ n) exit k) where
-  pub middle_within : n + k ≤ length (back out₁ n exit)
-  middle_within = omega (arith, (second_wrote a b c out h p q).within)
-
-  module _ {exit₂ : List ℕ} {m : ℕ} (r : Puts c (lent (back out₁ n exit) (n + k)) exit₂ m) where
-    pub three_within : n + k + m ≤ length out
-    three_within = let w = third_wrote a b c out h p q r in omega (arith, w.within, w.long)
-
-    pub three_puts : Puts (a ++ (b ++ c)) out (back (back out₁ n exit) (n + k) exit₂) (n + k + m)
-    three_puts = wrote_end (third_wrote a b c out h p q r) refl
+pub three_puts : (a b c out : List ℕ) → Room (a ++ (b ++ c)) out → {out₁ : List ℕ} {n : ℕ} → Puts a out out₁ n → {exit : List ℕ} {k : ℕ} → Puts b (lent out₁ n) exit k
+    → {exit₂ : List ℕ} {m : ℕ} → Puts c (lent (back out₁ n exit) (n + k)) exit₂ m → Puts (a ++ (b ++ c)) out (back (back out₁ n exit) (n + k) exit₂) (n + k + m)
+three_puts a b c out h p q r = wrote_end (third_wrote a b c out h p q r) refl
 
 -- ---- the numbers of a list: i lines stand, in `at` bytes
 
@@ -76,12 +54,6 @@ unfolding lines
 next_line ns i h = ap lines (drop-cons ns i 0 h) ∙ rw (add-one i)
 
 module _ {ns entry out : List ℕ} {at i : ℕ} (l : LinesPut ns entry out at i) where
-  pub lines-within : at ≤ length out
-  lines-within = omega (arith, l.wrote.within)
-
-  pub lines_long : length out ≡ length entry
-  lines_long = l.wrote.long
-
   module _ (h : i < length ns) {x : ℕ} (e : x ≡ get_or ns i 0) where
     next : lines (drop i ns) ≡ number_line x ++ lines (drop (i + 1) ns)
     next = next_line ns i h ∙ ap (λ (n : ℕ). number_line n ++ lines (drop (i + 1) ns)) (sym e)
@@ -89,12 +61,8 @@ module _ {ns entry out : List ℕ} {at i : ℕ} (l : LinesPut ns entry out at i)
     pub line_room : Room (number_line x) (lent out at)
     line_room = wrote_room l.wrote (number_line x) (lines (drop (i + 1) ns)) next
 
-    module _ {exit : List ℕ} {k : ℕ} (p : Puts (number_line x) (lent out at) exit k) where
-      pub line_within : at + k ≤ length out
-      line_within = wrote_fits l.wrote (number_line x) (lines (drop (i + 1) ns)) next p
-
-      pub line_put : LinesPut ns entry (back out at exit) (at + k) (i + 1)
-      line_put = record { few = omega arith; wrote = wrote_next l.wrote (number_line x) (lines (drop (i + 1) ns)) next p }
+    pub line_put : {exit : List ℕ} {k : ℕ} → Puts (number_line x) (lent out at) exit k → LinesPut ns entry (back out at exit) (at + k) (i + 1)
+    line_put p = record { few = omega arith; wrote = wrote_next l.wrote (number_line x) (lines (drop (i + 1) ns)) next p }
 
   pub lines_end : length ns ≤ i → Puts (lines ns) entry out at
   unfolding lines

@@ -3,6 +3,7 @@ ghost use Rattle.std.specs.Prelude.{◌≡◌};
 ghost use Rattle.listing.specs.FilterText.{without_line_feed};
 
 // A text without its last byte, where that is a line feed.
+#[tactic(auto, unfolding(crate::specs::FilterText::without_line_feed))]
 pub fn without_line_feed(text: &[u8]) -> &[u8]
     ensures { result.now ≡ without_line_feed text.now }
 {

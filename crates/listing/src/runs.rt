@@ -20,6 +20,7 @@ pub fn add_run(totals: Totals, count: usize, size: usize) -> Totals
 }
 
 // A refusal's place in the file: a card's index, the place of 21 to 23, counts over the runs before as well.
+#[tactic(auto, unfolding(crate::specs::Places::place_in_file))]
 pub fn place_in_file(number: u32, place: usize, cards_before: u64) -> u64
     requires place_bound { PlaceBound number place }
     requires cards_before_lt_most_cards { cards_before < most_cards }

@@ -1,3 +1,2 @@
 -- Laws that the program's proofs share.
-pub mod Bounds
 pub mod Selecting

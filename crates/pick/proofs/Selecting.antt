@@ -1,6 +1,6 @@
 -- What a run's selection comes to: its text, its turn, and how small its numbers are.
 -- Assumes nothing.
-use Prim.Native.Nat.{ℕ, ◌+◌, ◌^◌, ◌≤◌, ◌<◌}
+use Prim.Native.Nat.{ℕ, ◌^◌, ◌≤◌, ◌<◌}
 use native.Mathlib.Nat.{sub-zero}
 use native.Mathlib.Omega.{arith}
 use mathlib.Core.Path.{◌≡◌, refl, sym, ap, subst, ◌∙◌}
@@ -9,11 +9,9 @@ use mathlib.Core.List.{List, [], ◌++◌}
 use lib.Dec.{ltb}
 use lib.ListN.{length, get_or, take, drop, replicate, length-append}
 use lib.Seq.{take_at}
-use borrow.Author.Tests.{lt-ltb, le-ltb}
 use Rattle.base.specs.Parts.{part}
 use Rattle.base.specs.Writing.{Room, Puts}
-use Rattle.base.proofs.Writing.{lent, back}
-use Rattle.listing.proofs.Putting.{lines-length, count_room, two-within, two_puts}
+use Rattle.listing.proofs.Putting.{lines-length, count_room}
 use Rattle.refusal.specs.declared.Refusal.{Refusal}
 use Rattle.answer.specs.declared.Selected.{Selected}
 use Rattle.refusal.specs.Answers.{Answer, count, refused, number_of, refusal_answer, PlaceBound}
@@ -29,7 +27,7 @@ use Rattle.listing.specs.Places.{place_in_file}
 use Rattle.pick.specs.declared.runs.Turn.{Turn}
 use Rattle.pick.specs.declared.runs.RunText.{RunText}
 use Rattle.pick.specs.Bounds.{RunAdded, RunAdds}
-use Rattle.pick.specs.Runs.{EndPut, ListedPut, last_line, selection_text, run_text, TurnAfter, TurnOf, RunPut}
+use Rattle.pick.specs.Runs.{ListedPut, last_line, selection_text, run_text, TurnAfter, TurnOf, RunPut}
 
 -- the answer of a selection
 abbrev run_answer : Step (List ℕ) → Answer
@@ -55,29 +53,7 @@ stopped : (x : Step (List ℕ)) (k p : ℕ) → run_answer x ≡ refused k p →
 stopped (found ns) k p e = let z : ◌≡◌ {A = ℕ} 0 1 = cc in absurd (omega arith)
 stopped (stop k' p') k p e = cc
 
--- ---- the end of a run
-
-module _ (t : Totals) (size : ℕ) (entry : List ℕ) where
-  pub end_last : (exit : List ℕ) (n : ℕ) → size < 65536 → Puts (count_line t.matches t.cards) entry exit n → EndPut t size entry exit (record { size = n; turn = Turn.Ended })
-  unfolding last_line
-  end_last exit n h p = record { text = rw (lt-ltb size 65536 h) p; turn = h }
-
-  pub end_full : 65536 ≤ size → EndPut t size entry entry (record { size = 0; turn = Turn.More t })
-  unfolding last_line
-  end_full h = record { text = rw (le-ltb size 65536 h) (record { long = refl; bytes = refl }); turn = (h, refl) }
-
-  pub last_room : size < 65536 → Room (last_line size t.matches t.cards) entry → Room (count_line t.matches t.cards) entry
-  unfolding last_line
-  last_room h r = record { fits = rw (lt-ltb size 65536 h) at r.fits }
-
--- the numbers, and the end of the run behind them
-module _ (ns : List ℕ) (t : Totals) (size : ℕ) (out : List ℕ) (h : Room (lines ns ++ last_line size t.matches t.cards) out) {out₁ : List ℕ} {n : ℕ} (p : Puts (lines ns) out out₁ n)
-    {exit : List ℕ} {x : RunText} (q : EndPut t size (lent out₁ n) exit x) where
-  pub listed_within : n + x.size ≤ length out
-  listed_within = two-within (lines ns) (last_line size t.matches t.cards) out h p q.text
-
-  pub listed_puts : ListedPut ns t size out (back out₁ n exit) (record { size = n + x.size; turn = x.turn })
-  listed_puts = record { text = two_puts (lines ns) (last_line size t.matches t.cards) out h p q.text; turn = q.turn }
+-- ---- what a run comes to
 
 -- there is room for the numbers of a run and the count
 pub listed_room : (ns : List ℕ) (t : Totals) (size : ℕ) (out : List ℕ) → ((i : ℕ) → get_or ns i 0 < 2 ^ 64) → length ns ≤ 128 → t.matches < 2 ^ 64 → t.cards < 2 ^ 64 → 2752 ≤ length out

@@ -1,7 +1,6 @@
 -- How large the numbers are that the program's parts answer.
 -- Assumes nothing.
-use Rattle.std.specs.Prelude.{ℕ, ◌≤◌, ◌≡◌, cond, List, length, ℤ, pos}
-use Rattle.std.specs.Int.Signed.{lt_z}
+use Rattle.std.specs.Prelude.{ℕ, ◌≤◌, ◌≡◌, cond, List, length, Result, is_err}
 use Rattle.refusal.specs.Answers.{count}
 use Rattle.answer.specs.Operations.{select_answer}
 use Rattle.listing.specs.declared.Totals.{Totals}
@@ -14,9 +13,9 @@ abbrev pub Fills : Filled → ℕ → Type 0
 Fills (Filled.Bytes n) room = n ≤ room
 Fills Filled.Failed room = Unit {0}
 
--- what a buffer has after a read that gave nothing more, by what that read answered: less than 0 is a failure
-unfoldable pub ended_by : ℕ → ℤ → Filled
-ended_by at got = cond (lt_z got (pos 0)) Filled.Failed (Filled.Bytes at)
+-- what a buffer has after a read that gave nothing more, by what that read answered: an error is a failure
+abbrev pub ended_by : {E : Type 0} → ℕ → Result ℕ E → Filled
+ended_by at got = cond (is_err got) Filled.Failed (Filled.Bytes at)
 
 -- unless the output has ended, the run was full, its cards are added to the totals t, and as many matches as select counts among them
 abbrev pub RunAdded : (sheet filter cards : List ℕ) → Totals → Turn → Type 0

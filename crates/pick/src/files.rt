@@ -1,7 +1,9 @@
 // Reading files: a read that fails is told from the end of a file.
-ghost use Rattle.std.specs.Prelude.{◌≡◌, pos, length};
-ghost use Rattle.std.specs.Int.Signed.{lt_z};
+ghost use Rattle.std.specs.Prelude.{◌≡◌, is_err, length};
 ghost use Rattle.pick.specs.Bounds.{Fills, ended_by};
+
+use std::io;
+use std::io::Read;
 
 // What filling a buffer gives: how many bytes stand at its start, or that a read failed.
 #[derive(Clone, Copy)]
@@ -11,14 +13,14 @@ pub enum Filled {
 }
 
 // Whether a read failed.
-fn has_failed(got: isize) -> bool
-    ensures { result ≡ lt_z got (pos 0) }
+fn has_failed(got: io::Result<usize>) -> bool
+    ensures { result ≡ is_err got }
 {
-    got < 0
+    got.is_err()
 }
 
 // What a buffer has where a read gave nothing more: a read that fails is no end of the file.
-fn ended(at: usize, got: isize) -> Filled
+fn ended(at: usize, got: io::Result<usize>) -> Filled
     ensures { result ≡ ended_by at got }
 {
     if has_failed(got) {
@@ -28,13 +30,13 @@ fn ended(at: usize, got: isize) -> Filled
 }
 
 // Reads until the buffer is full or the file ends.
-pub fn fill(fd: i32, buffer: &mut [u8]) -> Filled
+pub fn fill<R: Read>(file: &mut R, buffer: &mut [u8]) -> Filled
     ensures { Fills result (length buffer.new) }
 {
     let mut at = 0;
     while at < buffer.len() {
-        let got = libc::read(fd, &mut buffer[at..]);
-        let n = io::count(got, &buffer[at..]);
+        let got = file.read(&mut buffer[at..]);
+        let n = got.unwrap_or(0);
         if n == 0 {
             return ended(at, got);
         }

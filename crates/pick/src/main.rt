@@ -13,51 +13,55 @@ use files::{Filled, fill};
 use listing::without_line_feed;
 use printing::{print_failure, print_usage};
 use runs::print_matches;
+use std::env::FillError;
+use std::fs;
+use std::rt::{Env, Files};
+
+// Whether the program was given an argument. Argument 0 is its name.
+fn has_arguments(rt: &impl Env) -> bool {
+    !matches!(rt.arg(1, &mut [0; 1]), Err(FillError::NotPresent))
+}
 
 // Reads a file into the buffer, as much as there is room for, or prints why that cannot be done.
-fn load(file: &[u8], buffer: &mut [u8]) -> Filled
+fn load(rt: &(impl Files + Print + Eprint), file: &str, buffer: &mut [u8]) -> Filled
     requires { length file.now ≤ 46 }
     ensures { Fills result (length buffer.new) }
 {
-    let fd = os::open_read(file);
-    if fd < 0 {
-        print_failure(file, b"opened");
+    let Ok(mut opened) = fs::open(rt, file) else {
+        print_failure(rt, file.as_bytes(), b"opened");
         return Filled::Failed;
-    }
-    let filled = fill(fd, buffer);
-    libc::close(fd);
+    };
+    let filled = fill(&mut opened, buffer);
     if let Filled::Failed = filled {
-        print_failure(file, b"read");
+        print_failure(rt, file.as_bytes(), b"read");
     }
     filled
 }
 
 // Prints what the filter selects from cards.bin.
-fn pick(sheet: &[u8], filter: &[u8]) {
-    let fd = os::open_read(b"cards.bin");
-    if fd < 0 {
-        print_failure(b"cards.bin", b"opened");
+fn pick(rt: &(impl Files + Print + Eprint), sheet: &[u8], filter: &[u8]) {
+    let Ok(mut cards) = fs::open(rt, "cards.bin") else {
+        print_failure(rt, b"cards.bin", b"opened");
         return;
-    }
-    let mut buffer = io::large_buffer();
-    print_matches(sheet, filter, fd, &mut buffer);
-    libc::close(fd);
+    };
+    let mut buffer = [0u8; 65536];
+    print_matches(rt, sheet, filter, &mut cards, &mut buffer);
 }
 
 // Each buffer has room for one byte more than its file may have, so that a file that is too long is refused and not cut.
-fn main() {
-    if os::arg_count() > 1 {
-        print_usage();
+fn main(rt: HostRuntime) {
+    if has_arguments(&rt) {
+        print_usage(&rt);
         return;
     }
     let mut sheet = [0u8; 513];
-    let Filled::Bytes(size) = load(b"sheet.bin", &mut sheet) else {
+    let Filled::Bytes(size) = load(&rt, "sheet.bin", &mut sheet) else {
         return;
     };
     let mut filter = [0u8; 1026];
-    let Filled::Bytes(length) = load(b"filter.txt", &mut filter) else {
+    let Filled::Bytes(length) = load(&rt, "filter.txt", &mut filter) else {
         return;
     };
     let text = without_line_feed(&filter[0..length]);
-    pick(&sheet[0..size], text);
+    pick(&rt, &sheet[0..size], text);
 }

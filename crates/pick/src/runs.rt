@@ -10,6 +10,7 @@ use crate::printing::{print, print_failure};
 use listing::{Totals, add_run, place_in_file, put_count, put_lines, put_refusal, wide};
 use refusal::number;
 use sirophan::{Selected, select};
+use std::io::Read;
 
 // The bytes of 128 cards. A run of fewer is the last, and may have none.
 const FULL_RUN: usize = 65536;
@@ -32,6 +33,7 @@ struct RunText {
 }
 
 // Puts the count behind the last run, where the totals are those with it; behind a full run the output goes on.
+#[tactic(auto, unfolding(crate::specs::Runs::last_line))]
 fn end_run(totals: Totals, bytes: usize, out: &mut [u8]) -> RunText
     requires { Room (last_line bytes totals.matches totals.cards) out.old }
     ensures { EndPut totals bytes out.old out.new result }
@@ -91,7 +93,13 @@ fn put_run(sheet: &[u8], filter: &[u8], cards: &[u8], totals: Totals, out: &mut 
 }
 
 // Prints what a run says; the output has ended, too, where that cannot be written. Each of 128 lines has at most 21 bytes, the count 64.
-fn print_run(sheet: &[u8], filter: &[u8], cards: &[u8], totals: Totals) -> Turn
+fn print_run(
+    rt: &(impl Print + Eprint),
+    sheet: &[u8],
+    filter: &[u8],
+    cards: &[u8],
+    totals: Totals,
+) -> Turn
     requires countable { Countable totals }
     requires cards_len_bound { length cards.now ≤ 65536 }
     ensures { RunAdds sheet.now filter.now cards.now totals result }
@@ -99,32 +107,45 @@ fn print_run(sheet: &[u8], filter: &[u8], cards: &[u8], totals: Totals) -> Turn
     let mut buffer = [0u8; 2752];
     let run = put_run(sheet, filter, cards, totals, &mut buffer);
     let size = run.size;
-    if !print(&buffer[0..size]) {
+    if !print(rt, &buffer[0..size]) {
         return Turn::Ended;
     }
     run.turn
 }
 
 // Reads the next run and prints what it says.
-fn next_run(sheet: &[u8], filter: &[u8], fd: i32, buffer: &mut [u8], totals: Totals) -> Turn
+fn next_run<R: Read>(
+    rt: &(impl Print + Eprint),
+    sheet: &[u8],
+    filter: &[u8],
+    file: &mut R,
+    buffer: &mut [u8],
+    totals: Totals,
+) -> Turn
     requires buffer_len { length buffer.old ≡ 65536 }
     requires countable { Countable totals }
     ensures { FullRunAdded totals result }
 {
-    let Filled::Bytes(size) = fill(fd, buffer) else {
-        print_failure(b"cards.bin", b"read");
+    let Filled::Bytes(size) = fill(file, buffer) else {
+        print_failure(rt, b"cards.bin", b"read");
         return Turn::Ended;
     };
-    print_run(sheet, filter, &buffer[0..size], totals)
+    print_run(rt, sheet, filter, &buffer[0..size], totals)
 }
 
 // Prints that there are more cards than can be counted.
-fn print_too_many() {
-    print_failure(b"cards.bin", b"counted");
+fn print_too_many(rt: &(impl Print + Eprint)) {
+    print_failure(rt, b"cards.bin", b"counted");
 }
 
 // Prints what the filter selects from the cards of a file, run by run.
-pub fn print_matches(sheet: &[u8], filter: &[u8], fd: i32, buffer: &mut [u8])
+pub fn print_matches<R: Read>(
+    rt: &(impl Print + Eprint),
+    sheet: &[u8],
+    filter: &[u8],
+    file: &mut R,
+    buffer: &mut [u8],
+)
     requires { length buffer.old ≡ 65536 }
 {
     let mut totals = Totals {
@@ -132,10 +153,10 @@ pub fn print_matches(sheet: &[u8], filter: &[u8], fd: i32, buffer: &mut [u8])
         cards: 0,
     };
     while totals.cards < MOST_CARDS {
-        let Turn::More(more) = next_run(sheet, filter, fd, buffer, totals) else {
+        let Turn::More(more) = next_run(rt, sheet, filter, file, buffer, totals) else {
             return;
         };
         totals = more;
     }
-    print_too_many();
+    print_too_many(rt);
 }

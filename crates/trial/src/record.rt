@@ -4,6 +4,7 @@ ghost use Rattle.std.specs.Prelude.{◌≤◌, length};
 
 use crate::ask::ask;
 use crate::write::write;
+use std::io::Read;
 
 // What a case asks, and where its parts end in the bytes that follow its numbers.
 #[derive(Clone, Copy)]
@@ -17,8 +18,8 @@ struct Head {
 }
 
 // Fills the space from the file; whether the file held enough for it.
-pub fn load(fd: i32, space: &mut [u8]) -> bool {
-    io::read_full(fd, space) == space.len()
+pub fn load<R: Read>(file: &mut R, space: &mut [u8]) -> bool {
+    file.read_exact(space).is_ok()
 }
 
 // The numbers of a case.
@@ -40,7 +41,7 @@ fn read_head(numbers: &[u8; 24]) -> Head
 }
 
 // Takes the bytes of a case apart and asks what it asks.
-fn answer(h: Head, bytes: &[u8]) -> bool
+fn answer(rt: &(impl Print + Eprint), h: Head, bytes: &[u8]) -> bool
     requires { (h.label ≤ h.sheet) × (h.sheet ≤ h.filter) × (h.filter ≤ h.cards) × (h.cards ≤ length bytes.now) }
 {
     let label = h.label;
@@ -48,6 +49,7 @@ fn answer(h: Head, bytes: &[u8]) -> bool
     let filter = h.filter;
     let cards = h.cards;
     ask(
+        rt,
         h.operation,
         h.cells,
         &bytes[0..label],
@@ -58,9 +60,9 @@ fn answer(h: Head, bytes: &[u8]) -> bool
 }
 
 // Reads a case and prints its line; whether there was one, no larger than the space, and the line was written.
-fn case(fd: i32, space: &mut [u8]) -> bool {
+fn case<R: Read>(rt: &(impl Print + Eprint), file: &mut R, space: &mut [u8]) -> bool {
     let mut numbers = [0u8; 24];
-    if !load(fd, &mut numbers) {
+    if !load(file, &mut numbers) {
         return false;
     }
     let h = read_head(&numbers);
@@ -68,23 +70,26 @@ fn case(fd: i32, space: &mut [u8]) -> bool {
     if end > space.len() {
         return false;
     }
-    if !load(fd, &mut space[0..end]) {
+    if !load(file, &mut space[0..end]) {
         return false;
     }
-    if !answer(h, space) {
+    if !answer(rt, h, space) {
         return false;
     }
-    write(b"\n")
+    write(rt, b"\n")
 }
 
 // Reads `count` cases and prints their lines; whether they were there and their lines written.
-pub fn cases(fd: i32, count: u32, space: &mut [u8]) -> bool {
-    let mut left = count;
-    while left > 0 {
-        if !case(fd, space) {
+pub fn cases<R: Read>(
+    rt: &(impl Print + Eprint),
+    file: &mut R,
+    count: u32,
+    space: &mut [u8],
+) -> bool {
+    for _ in 0..count {
+        if !case(rt, file, space) {
             return false;
         }
-        left -= 1;
     }
     true
 }

@@ -1,6 +1,5 @@
--- `listing::lines::put_lines` meets its contract: the lines of the numbers so far stand, and those of the others are to come. Assumes nothing.
-use Prim.Native.Nat.{◌-◌}
-use lib.ListN.{length}
+-- `listing::lines::put_lines` meets its contract: the lines before i stand in `at` bytes. Assumes nothing.
+use Rattle.std.proofs.Common.{◌-◌, length}
 use Rattle.listing.proofs.Putting.{LinesPut}
 use Rattle.listing.proofs.lines.put_lines.Given as goal
 

@@ -1,6 +1,6 @@
 -- `listing::lines::put_number` meets its contract: the digits are those of the definition. Assumes nothing.
+use Rattle.std.proofs.Common.{rules}
 use Rattle.listing.proofs.Decimal.{number_room, number_puts}
-use borrow.Author.Rules.{rules}
 use Rattle.listing.proofs.lines.put_number.Goals as goal
 
 pub write_word-requires : goal.write_word-requires
