@@ -135,7 +135,8 @@ pub fn check_sum_to(block: &[u8], end: usize) -> u32
     requires end_value { zeros (part block.now end 508) ≡ true }
     ensures { result ≡ check_sum block.now }
 {
-    if end <= 128 {
+    let short = end <= 128;
+    if short {
         return short_sum(block);
     }
     check_sum(block)

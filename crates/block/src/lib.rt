@@ -154,7 +154,8 @@ fn laid_out(block: &[u8], from: usize, count: u8) -> Layout
     while left > 0 {
         let item = item_at(block, at);
         let end = item.end;
-        if end > 508 {
+        let past = end > 508;
+        if past {
             return Layout::Wrong;
         }
         at = end;

@@ -43,6 +43,7 @@ fn no_filter(filter: &[u8]) -> Checked
 }
 
 // The filter on a well-formed sheet.
+#[tactic(auto, using(crate::proofs::Checking::text_many, crate::proofs::Checking::text_answered))]
 fn check_text(sheet: &[u8], filter: &[u8]) -> Checked
     requires { read_sheet sheet.now ≡ Validity.WellFormed }
     ensures { checked_answer result ≡ filter_answer (parameters_of sheet.now) filter.now }

@@ -9,6 +9,7 @@ use rows::{Row, row_of};
 use syntax::Connective;
 
 // The mark of two parts that are to hold both: a no decides, and else what is spared leaves it open.
+#[tactic(auto, using(crate::proofs::Leaves::both_first))]
 fn both(first: u8, second: u8) -> u8
     ensures { mark_of result ≡ both (mark_of first) (mark_of second) }
 {

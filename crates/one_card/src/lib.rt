@@ -30,6 +30,7 @@ pub enum CardVerdict {
 }
 
 // Reads a card; `kinds` are those of the sheet.
+#[tactic(auto, using(crate::proofs::Judging::accepts_conforming, crate::proofs::Judging::accepts_misfit))]
 pub fn accept_card(kinds: &[u8], card: &[u8]) -> CardAcceptance
     ensures { AcceptsCard kinds.now card.now result }
 {

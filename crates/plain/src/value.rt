@@ -42,6 +42,7 @@ fn is_word(value: &[u8]) -> bool
 }
 
 // Whether a byte may stand in a string as it is: "bytes from 0x20 up save double quote and backslash".
+#[tactic(auto, using(crate::proofs::Bytes::plain_low))]
 fn is_plain(b: u8) -> bool
     ensures { result ≡ is_plain b }
 {

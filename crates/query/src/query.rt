@@ -118,6 +118,7 @@ pub fn read_query(text: &[u8], bytes: &mut [u8]) -> QueryRead
 }
 
 // Reads a search string: 10, 50 and 51 in this order, or its alternatives.
+#[tactic(auto, using(crate::proofs::Accepting::query_many))]
 pub fn accept_query(text: &[u8], bytes: &mut [u8]) -> QueryRead
     requires { 1024 ≤ length bytes.old }
     ensures { AcceptsQuery text.now bytes.new result }

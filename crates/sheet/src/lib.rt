@@ -63,6 +63,7 @@ fn is_kind(marked: bool, kind: u8) -> bool
 }
 
 // Whether a kind is right, and a name has at most 30 bytes and is one by the rule.
+#[tactic(auto, using(crate::proofs::Parameters::name_long))]
 fn is_parameter(marked: bool, kind: u8, bundle: u8, name: &[u8]) -> bool
     ensures { result ≡ is_parameter marked (parameter kind bundle name.now) }
 {

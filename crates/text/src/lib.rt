@@ -15,6 +15,7 @@ fn is_capital(b: u8) -> bool
 }
 
 // Whether a byte is the second of a capital from U+00C0 to U+00DE, if 0xC3 stands before it.
+#[tactic(auto, using(crate::proofs::Fold::accented_between, crate::proofs::Fold::accented_above))]
 fn is_accented(b: u8) -> bool
     ensures { result ≡ is_accented b }
 {

@@ -36,9 +36,7 @@ fn print_unopened(rt: &impl Eprint, error: io::Error) {
     let _ = write!(buffer, "{error}");
     let size = buffer.position();
     let bytes = buffer.into_inner();
-    let Ok(text) = from_utf8(bytes.get(..size as usize).unwrap_or(&[])) else {
-        return;
-    };
+    let text = from_utf8(bytes.get(..size as usize).unwrap_or(&[])).unwrap_or("cannot be opened");
     let cause = match text.rsplit_once(" (os error ") {
         Some((cause, _)) => cause,
         None => text,

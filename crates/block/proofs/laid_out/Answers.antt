@@ -6,8 +6,8 @@ use Rattle.block.proofs.laid_out.Goals as goal
 pub loop-left-init : goal.loop-left-init
 loop-left-init c = search (laid_to_start, rules)
 
-pub returns-then-end-gt508 : goal.returns-then-end-gt508
-returns-then-end-gt508 c = search (laid_to_past, rules)
+pub returns-then-past : goal.returns-then-past
+returns-then-past c = search (laid_to_past, rules)
 
 pub loop-left-preserved : goal.loop-left-preserved
 loop-left-preserved c = search (laid_to_next, rules)

@@ -4,7 +4,7 @@ use Rattle.filter.specs.Folds.{reading}
 use Rattle.filter.specs.declared.Walked.{Walked}
 use Rattle.filter.proofs.Walk.{top_within, filter_ahead}
 use Rattle.filter.proofs.Reading.{walked_cases}
-use Rattle.checking.proofs.Checking.{text_empty, text_long, text_nothing, text_trails, text_many, text_answered}
+use Rattle.checking.proofs.Checking.{text_empty, text_long, text_nothing, text_trails}
 use Rattle.checking.proofs.check_text.Goals as goal
 
 pub returns-then-filter-eq0 : goal.returns-then-filter-eq0
@@ -21,12 +21,6 @@ skip-after-requires c = (filter_ahead Walked.Done Walked.Nothing walked_cases (r
 
 pub returns-then-after-filter : goal.returns-then-after-filter
 returns-then-after-filter c = search (text_trails, rules)
-
-pub returns-then-summary-gt32 : goal.returns-then-summary-gt32
-returns-then-summary-gt32 c = search (text_many, rules)
-
-pub returns-else-summary-gt32 : goal.returns-else-summary-gt32
-returns-else-summary-gt32 c = search (text_answered, rules)
 
 pub returns-in-Nothing : goal.returns-in-Nothing
 returns-in-Nothing c = search (text_nothing, rules)

@@ -1,16 +1,10 @@
 -- `one_card::accept_card` meets its contract: what reading says of the card decides. Assumes nothing.
 use borrow.Author.Rules.{rules}
-use Rattle.one_card.proofs.Judging.{accepts_size, accepts_sum, accepts_layout, card-known, accepts_misfit, accepts_conforming}
+use Rattle.one_card.proofs.Judging.{accepts_size, accepts_sum, accepts_layout, card-known}
 use Rattle.one_card.proofs.accept_card.Goals as goal
 
 pub conforms-requires : goal.conforms-requires
 conforms-requires c = search (card-known, rules)
-
-pub returns-then-conforms : goal.returns-then-conforms
-returns-then-conforms c = search (accepts_conforming, rules)
-
-pub returns-else-conforms : goal.returns-else-conforms
-returns-else-conforms c = search (accepts_misfit, rules)
 
 pub returns-in-WrongSize : goal.returns-in-WrongSize
 returns-in-WrongSize c = search (accepts_size, rules)

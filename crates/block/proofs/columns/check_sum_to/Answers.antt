@@ -3,5 +3,5 @@ use borrow.Author.Rules.{rules}
 use Rattle.block.proofs.Sum.{short_check_sum}
 use Rattle.block.proofs.columns.check_sum_to.Goals as goal
 
-pub returns-then-end-le128 : goal.returns-then-end-le128
-returns-then-end-le128 c = search (short_check_sum, rules)
+pub returns-then-short : goal.returns-then-short
+returns-then-short c = search (short_check_sum, rules)

@@ -1,10 +1,7 @@
 -- `deciding::marks::both` meets its contract. Assumes nothing.
-use Rattle.deciding.proofs.Leaves.{both_first, both-second, both_yes, both_open}
+use Rattle.deciding.proofs.Leaves.{both-second, both_yes, both_open}
 use borrow.Author.Rules.{rules}
 use Rattle.deciding.proofs.marks.both.Goals as goal
-
-pub returns-then-first-eq2 : goal.returns-then-first-eq2
-returns-then-first-eq2 c = search (both_first, rules)
 
 pub returns-then-second-eq2 : goal.returns-then-second-eq2
 returns-then-second-eq2 c = search (both-second, rules)

@@ -1,10 +1,7 @@
 -- `plain::value::is_plain` meets its contract: the tests are those of the definition. Assumes nothing.
 use borrow.Author.Rules.{rules}
-use Rattle.plain.proofs.Bytes.{plain_low, plain-quote, plain_other}
+use Rattle.plain.proofs.Bytes.{plain-quote, plain_other}
 use Rattle.plain.proofs.value.is_plain.Goals as goal
-
-pub returns-then-b-lt32 : goal.returns-then-b-lt32
-returns-then-b-lt32 c = search (plain_low, rules)
 
 pub returns-then-b-ne34 : goal.returns-then-b-ne34
 returns-then-b-ne34 c = search (plain_other, rules)

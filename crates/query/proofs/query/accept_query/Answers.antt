@@ -1,6 +1,6 @@
 -- `query::query::accept_query` meets its contract: the tests are those of the definition. Assumes nothing.
 use borrow.Author.Rules.{rules}
-use Rattle.query.proofs.Accepting.{query_empty, query_long, query_refused, query_many, query_accepted}
+use Rattle.query.proofs.Accepting.{query_empty, query_long, query_refused, query_accepted}
 use Rattle.query.proofs.query.accept_query.Goals as goal
 
 pub returns-then-text-eq0 : goal.returns-then-text-eq0
@@ -11,9 +11,6 @@ returns-then-text-gt1024 c = search (query_long, rules)
 
 pub returns-in-Refused : goal.returns-in-Refused
 returns-in-Refused c = search (query_refused, rules)
-
-pub returns-then-rows-gt32 : goal.returns-then-rows-gt32
-returns-then-rows-gt32 c = search (query_many, rules)
 
 pub returns : goal.returns
 returns c = search (query_accepted, rules)
