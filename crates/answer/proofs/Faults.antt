@@ -5,6 +5,7 @@
 -- or the card without entries where the path names nothing or a bundle. Where there is no fault, no line holds, and the test has a meaning
 -- on every card (`outcome_by`).
 -- Assumes nothing.
+use Rattle.std.specs.Prelude.{Result, ⊤}
 use Prim.Native.Nat.{ℕ, ◌≤◌, ◌<◌}
 use native.Mathlib.Omega.{arith}
 use mathlib.Core.Path.{◌≡◌, refl, subst}
@@ -24,7 +25,6 @@ use Rattle.kind.specs.Table.{has_meaning}
 use Rattle.kind.specs.Readable.{value_readable}
 use Rattle.judge.specs.Sets.{lookup}
 use Rattle.judge.specs.Faults.{unsupported, kind_fault, fault_at, test_fault}
-use Rattle.refusal.specs.declared.Decision.{Decision}
 use Rattle.answer.specs.Operations.{decision_step}
 use Rattle.kind.specs.Rules.{TrueOrFalse, ReadableValue, value_of_pr, value_of_kind, HasOperator}
 use Rattle.judge.specs.Rules.{Names, NotOnSheet, LacksMeaning, not_on_sheet, bare_bundle, neither, lacks_operator, unreadable}
@@ -35,6 +35,7 @@ use Rattle.kind.proofs.Rules.{value_iff, operator_iff}
 use Rattle.judge.proofs.Rules.{unsupported_lacks, names_iff, missing_iff}
 use Rattle.answer.proofs.Witnesses.{refused_at, refused_empty}
 use Rattle.answer.proofs.Outcomes.{Judged, judged_unknown, judged_bundle, judged_unsupported, judged_meaningless, judged_unreadable, judged_right, TestOutcome, test_means, test_refused}
+use Rattle.refusal.specs.declared.Refusal.{Refusal}
 
 -- a readable value of pr is true or false
 pr-readable : {kind k : ℕ} {v : List ℕ} → ReadableValue kind v k → k ≡ pr → (TrueOrFalse v → ⊥) → ⊥
@@ -82,7 +83,7 @@ module _ (ps : List Parameter) (w : WellFormedSheet ps) (t : Test) where
 
   -- ---- what a test comes to: a meaning on every conforming card, or a refusal
 
-  outcome_by : {d : Decision} → Judged ps t d → TestOutcome (filter_tests ps) t (decision_step d)
+  outcome_by : {d : Result ⊤ Refusal} → Judged ps t d → TestOutcome (filter_tests ps) t (decision_step d)
   unfolding rank
   outcome_by (judged_unknown u) =
       test_refused

@@ -4,6 +4,7 @@
 -- all have a meaning, or a first one is refused and those before it have one (`outcome-next`). No step is refused with a number above 18,
 -- and so neither is one step after another (`at_most_then`). So these refusals are apart from those of cards and lists (`question_number`).
 -- Assumes nothing.
+use Rattle.std.specs.Prelude.{Err, Ok, Result, ⊤}
 use Prim.Native.Nat.{ℕ, ◌≤◌}
 use native.Mathlib.Omega.{arith}
 use mathlib.Core.Path.{◌≡◌, refl, ap}
@@ -31,7 +32,6 @@ use Rattle.kind.specs.Table.{has_meaning}
 use Rattle.kind.specs.Readable.{value_readable}
 use Rattle.judge.specs.Sets.{lookup}
 use Rattle.judge.specs.Faults.{unsupported, kind_fault, fault_at, test_fault, first_fault}
-use Rattle.refusal.specs.declared.Decision.{Decision}
 use Rattle.refusal.specs.Decisions.{or_else}
 use Rattle.refusal.specs.Answers.{yes_or_no, count, number_of}
 use Rattle.refusal.specs.Steps.{Step, found, stop, ◌>>=◌, answer}
@@ -39,13 +39,14 @@ use Rattle.answer.specs.Operations.{sheet_step, accept_sheet, tree_step, accept_
 use Rattle.answer.specs.Demand.{TestRules, filter_tests}
 use Rattle.answer.proofs.Outcomes.{TestOutcome, test_means, test_refused, TestsOutcome, all_mean, one_refused, AtMost, found_at_most, stop_at_most}
 use Rattle.answer.proofs.Faults.{outcome}
+use Rattle.refusal.specs.declared.Refusal.{Refusal}
 
 -- ---- tests
 
 -- the first of two decisions, as a step
-pub step_or_else : (first rest : Decision) → decision_step (or_else first rest) ≡ (decision_step first >>= λ u. decision_step rest)
-step_or_else Decision.Passed rest = refl
-step_or_else (Decision.Refused r) rest = refl
+pub step_or_else : (first rest : Result ⊤ Refusal) → decision_step (or_else first rest) ≡ (decision_step first >>= λ u. decision_step rest)
+step_or_else (Ok tt) rest = refl
+step_or_else (Err r) rest = refl
 
 -- what one test comes to, and then those after it
 pub outcome-next : {T : Type 0} (rules : TestRules T) {t : T} {ts : List T} {first rest : Step (Unit {0})} → TestOutcome rules t first → TestsOutcome rules ts rest

@@ -1,5 +1,6 @@
 -- How the steps of the operations come out, in the rules' words: the cases that the proofs go by.
 -- Assumes nothing.
+use Rattle.std.specs.Prelude.{Ok, Result, ⊤}
 use Prim.Native.Nat.{ℕ, ◌+◌, ◌≤◌, ◌<◌}
 use mathlib.Core.Path.{◌≡◌}
 use mathlib.Core.Bool.{true, false}
@@ -15,7 +16,6 @@ use Rattle.card.specs.Card.{Entry, record_number, entries_of}
 use Rattle.syntax.specs.Tree.{Test}
 use Rattle.judge.specs.Faults.{unsupported}
 use Rattle.refusal.specs.declared.Reason.{Reason}
-use Rattle.refusal.specs.declared.Decision.{Decision}
 use Rattle.refusal.specs.Decisions.{refuse}
 use Rattle.refusal.specs.Answers.{Answer}
 use Rattle.refusal.specs.Steps.{Step, found, stop}
@@ -25,6 +25,7 @@ use Rattle.judge.specs.Rules.{Conforms, Names, NotOnSheet}
 use Rattle.answer.specs.Numbers.{Numbered}
 use Rattle.answer.specs.Demand.{TestRules, Meaningful}
 use Rattle.answer.specs.Selection.{matching_cards, matching_numbers, RefusesCard}
+use Rattle.refusal.specs.declared.Refusal.{Refusal}
 
 -- ---- blocks
 
@@ -38,14 +39,14 @@ pub data ReadsTo (b : List ℕ) (IsBlock : Type 0) : Validity → Type 0 where
 -- ---- tests
 
 -- what is decided of a test
-pub data Judged (ps : List Parameter) (t : Test) : Decision → Type 0 where
+pub data Judged (ps : List Parameter) (t : Test) : Result ⊤ Refusal → Type 0 where
   judged_unknown : NotOnSheet ps t.path → Judged ps t (refuse Reason.UnknownName t.at)
   judged_bundle : {i : ℕ} → Names ps t.path i bundle_kind → Judged ps t (refuse Reason.BareBundle t.at)
   judged_unsupported : {i k : ℕ} → (k ≡ bundle_kind → ⊥) → Names ps t.path i k → unsupported t.operator ≡ true → Judged ps t (refuse Reason.Unsupported t.at)
   judged_meaningless : {i k : ℕ} → (k ≡ bundle_kind → ⊥) → Names ps t.path i k → unsupported t.operator ≡ false → (HasOperator k t.operator → ⊥) → Judged ps t (refuse Reason.NoMeaning t.at)
   judged_unreadable : {i k : ℕ} → (k ≡ bundle_kind → ⊥) → Names ps t.path i k → unsupported t.operator ≡ false → HasOperator k t.operator
       → (ReadableValue k t.value t.operator → ⊥) → Judged ps t (refuse Reason.Unreadable t.at)
-  judged_right : {i k : ℕ} → (k ≡ bundle_kind → ⊥) → Names ps t.path i k → HasOperator k t.operator → ReadableValue k t.value t.operator → Judged ps t Decision.Passed
+  judged_right : {i k : ℕ} → (k ≡ bundle_kind → ⊥) → Names ps t.path i k → HasOperator k t.operator → ReadableValue k t.value t.operator → Judged ps t (Ok tt)
 
 -- the table gives the test the number n, and there is a conforming card on which it lacks a meaning
 pub record Refused {T : Type 0} (rules : TestRules T) (t : T) (n : ℕ) : Type 0 where

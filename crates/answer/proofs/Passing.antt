@@ -5,6 +5,7 @@
 -- laws are about cards: one that is accepted is well formed (`card_accepted`), and verdicts that agree on every card give one answer
 -- (`same-verdicts`).
 -- Assumes nothing.
+use Rattle.std.specs.Prelude.{Err, Ok, Result}
 use Prim.Native.Nat.{ℕ, ◌≤◌}
 use native.Mathlib.Omega.{arith}
 use mathlib.Core.Path.{◌≡◌, refl, sym, ap, ◌∙◌}
@@ -20,11 +21,8 @@ use Rattle.card.specs.Card.{record_number, entries_of, read_card}
 use Rattle.syntax.specs.Tree.{Tree, tests_of}
 use Rattle.syntax.specs.Reader.{read}
 use Rattle.judge.specs.Sets.{conforms}
-use Rattle.answer.specs.declared.Checked.{Checked}
-use Rattle.answer.specs.declared.Matched.{Matched}
 use Rattle.refusal.specs.declared.Refusal.{Refusal}
-use Rattle.refusal.specs.Answers.{count, refused, yes_or_no, number_of, refusal_answer}
-use Rattle.answer.specs.Answers.{checked_answer, matched_answer}
+use Rattle.refusal.specs.Answers.{count, refused, yes_or_no, number_of, refusal_answer, counted_answer, matched_answer}
 use Rattle.refusal.proofs.Steps.{bind_found}
 use Rattle.refusal.specs.Steps.{Step, found, stop, ◌>>=◌, answer}
 use Rattle.answer.specs.Operations.{tree_step, accept_filter, tests_step, accept_sheet, sheet_step, Inputs, accept_inputs, Card, card_step, accept_card, check_answer, Question, match_by, filter_question, match_answer}
@@ -68,16 +66,16 @@ passing_inputs b xs p is =
       inputs_accepted = is ∙ sym made ∙ ap (λ (qs : List Parameter). found (record { parameters = qs; filter = f })) (sym same);
     }
 
-pub passing : (b xs : List ℕ) (c : Checked) (n : ℕ) → checked_answer c ≡ check_answer b xs → c ≡ Checked.Tests n → Passing b xs
-unfolding checked_answer check_answer
+pub passing : (b xs : List ℕ) (c : Result ℕ Refusal) (n : ℕ) → counted_answer c ≡ check_answer b xs → c ≡ Ok n → Passing b xs
+unfolding counted_answer check_answer
 passing b xs c n e h =
-    let (p, is) = inputs_found (accept_inputs b xs) n (sym e ∙ ap checked_answer h) in
+    let (p, is) = inputs_found (accept_inputs b xs) n (sym e ∙ ap counted_answer h) in
     passing_inputs b xs p is
 
-pub passing_sheet : (b xs : List ℕ) (c : Checked) (n : ℕ) → checked_answer c ≡ check_answer b xs → c ≡ Checked.Tests n → read_sheet b ≡ Validity.WellFormed
+pub passing_sheet : (b xs : List ℕ) (c : Result ℕ Refusal) (n : ℕ) → counted_answer c ≡ check_answer b xs → c ≡ Ok n → read_sheet b ≡ Validity.WellFormed
 passing_sheet b xs c n e h = (passing b xs c n e h).sheet_well_formed
 
-pub passing_short : (b xs : List ℕ) (c : Checked) (n : ℕ) → checked_answer c ≡ check_answer b xs → c ≡ Checked.Tests n → length xs ≤ 1024
+pub passing_short : (b xs : List ℕ) (c : Result ℕ Refusal) (n : ℕ) → counted_answer c ≡ check_answer b xs → c ≡ Ok n → length xs ≤ 1024
 passing_short b xs c n e h = (passing b xs c n e h).short
 
 -- what a filter that check has passed asks
@@ -107,11 +105,11 @@ stopped : (s : Step Inputs) (n p : ℕ) → answer (s >>= λ q. found (count (le
 stopped (found q) n p h = cc
 stopped (stop m q) n p h = cc
 
-inputs_stopped : (b xs : List ℕ) (c : Checked) (r : Refusal) → checked_answer c ≡ check_answer b xs → c ≡ Checked.Refused r → accept_inputs b xs ≡ stop (number_of r.reason) r.place
-unfolding checked_answer refusal_answer check_answer
-inputs_stopped b xs c r e h = stopped (accept_inputs b xs) (number_of r.reason) r.place (sym e ∙ ap checked_answer h)
+inputs_stopped : (b xs : List ℕ) (c : Result ℕ Refusal) (r : Refusal) → counted_answer c ≡ check_answer b xs → c ≡ Err r → accept_inputs b xs ≡ stop (number_of r.reason) r.place
+unfolding counted_answer refusal_answer check_answer
+inputs_stopped b xs c r e h = stopped (accept_inputs b xs) (number_of r.reason) r.place (sym e ∙ ap counted_answer h)
 
-pub question_stopped : (b xs : List ℕ) (c : Checked) (r : Refusal) → checked_answer c ≡ check_answer b xs → c ≡ Checked.Refused r
+pub question_stopped : (b xs : List ℕ) (c : Result ℕ Refusal) (r : Refusal) → counted_answer c ≡ check_answer b xs → c ≡ Err r
     → filter_question b xs ≡ stop (number_of r.reason) r.place
 unfolding filter_question
 question_stopped b xs c r e h = rw (inputs_stopped b xs c r e h)
@@ -119,11 +117,11 @@ question_stopped b xs c r e h = rw (inputs_stopped b xs c r e h)
 -- ---- match
 
 -- the question is refused, and so is match
-pub match_stopped : (asked : Step Question) (card : List ℕ) (r : Refusal) → asked ≡ stop (number_of r.reason) r.place → matched_answer (Matched.Refused r) ≡ match_by asked card
+pub match_stopped : (asked : Step Question) (card : List ℕ) (r : Refusal) → asked ≡ stop (number_of r.reason) r.place → matched_answer (Err r) ≡ match_by asked card
 unfolding matched_answer refusal_answer match_by
 match_stopped asked card r e = rw e
 
-pub match_refused : (b xs card : List ℕ) (c : Checked) (r : Refusal) → checked_answer c ≡ check_answer b xs → c ≡ Checked.Refused r → matched_answer (Matched.Refused r) ≡ match_answer b xs card
+pub match_refused : (b xs card : List ℕ) (c : Result ℕ Refusal) (r : Refusal) → counted_answer c ≡ check_answer b xs → c ≡ Err r → matched_answer (Err r) ≡ match_answer b xs card
 match_refused b xs card c r e h = match_stopped (filter_question b xs) card r (question_stopped b xs c r e h)
 
 pub yes_or_no_after : (s : Step Card) (g : Card → Bool) → (s >>= λ c. found (yes_or_no (g c))) ≡ (s >>= λ c. found (g c)) >>= λ b. found (yes_or_no b)

@@ -6,6 +6,7 @@
 -- the text has bytes (`cells-within`), so they fit the list. The rows state the filter but for its positions, on which no verdict depends
 -- (`erase-says`), so judging them is judging the filter.
 -- Assumes nothing.
+use Rattle.std.specs.Prelude.{Err, Ok, Result, ⊤}
 use Prim.Native.Nat.{ℕ, ◌≤◌, ◌<◌}
 use native.Mathlib.Omega.{arith}
 use mathlib.Core.Path.{◌≡◌, refl, sym, ap, subst, ◌∙◌}
@@ -26,7 +27,6 @@ use Rattle.syntax.proofs.Complete.{filter_rise}
 use Rattle.judge.specs.Faults.{first_fault}
 use Rattle.judge.specs.Rules.{Conforms, FilterSays}
 use Rattle.judge.specs.Verdicts.{filter_says}
-use Rattle.refusal.specs.declared.Decision.{Decision}
 use Rattle.rows.specs.Good.{Good}
 use Rattle.rows.specs.Stated.{tree_of}
 use Rattle.rows.proofs.Good.{good_states, good_iff}
@@ -47,6 +47,7 @@ use Rattle.answer.proofs.CheckTable.{inputs_decided}
 use Rattle.answer.proofs.Inputs.{sheet_accepted, inputs_accepted, inputs_number, question_by, match_by_lem}
 use Rattle.answer.proofs.Passing.{same-verdicts}
 use Rattle.answer.proofs.RowsTable.{prepare_table}
+use Rattle.refusal.specs.declared.Refusal.{Refusal}
 
 -- ---- what was accepted
 
@@ -55,9 +56,9 @@ pub known_of : {A : Type 0} {Known : A → Type 0} {Line : ℕ → ℕ → Type 
 known_of {Known = Known} (none_holds {x = y} k h) x e = let same : y ≡ x = cc in (subst Known same k, h)
 known_of (one_decides d) x e = let z : ◌≡◌ {A = ℕ} 0 1 = cc in absurd (omega arith)
 
-pub step_passed : (d : Decision) → decision_step d ≡ found tt → d ≡ Decision.Passed
-step_passed Decision.Passed e = refl
-step_passed (Decision.Refused r) e = let z : ◌≡◌ {A = ℕ} 0 1 = cc in absurd (omega arith)
+pub step_passed : (d : Result ⊤ Refusal) → decision_step d ≡ found tt → d ≡ (Ok tt)
+step_passed (Ok tt) e = refl
+step_passed (Err r) e = let z : ◌≡◌ {A = ℕ} 0 1 = cc in absurd (omega arith)
 
 -- what is found where the room is enough
 found-cells : (room : ℕ) (cs ds : List ℕ) → accept_cells room cs ≡ found ds → ds ≡ cs
@@ -81,7 +82,7 @@ module _ (sheet text : List ℕ) (s : SheetBlock sheet) (f : Tree) (short : leng
   accepted_by : (t : Step (Unit {0})) → tests_step ps (tests_of f) ≡ t → accept_inputs sheet text ≡ (t >>= λ u. found both)
   accepted_by t e = inputs_accepted sheet text s f short spells ∙ ap (λ (q : Step (Unit {0})). q >>= λ u. found both) e
 
-  clean : tests_step ps (tests_of f) ≡ found tt → first_fault ps 0 (tests_of f) ≡ Decision.Passed
+  clean : tests_step ps (tests_of f) ≡ found tt → first_fault ps 0 (tests_of f) ≡ (Ok tt)
   unfolding tests_step
   clean e = step_passed (first_fault ps 0 (tests_of f)) e
 

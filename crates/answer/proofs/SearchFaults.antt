@@ -6,6 +6,7 @@
 -- parameter shows the lack (`refused_at`), or the one without entries where the name is unknown or a bundle's (`refused_empty`).
 -- `alternatives-outcome` is by induction on the list.
 -- Assumes nothing.
+use Rattle.std.specs.Prelude.{Ok, Result, ⊤}
 use Prim.Native.Nat.{ℕ, ◌≤◌, ◌<◌}
 use native.Mathlib.Omega.{arith}
 use mathlib.Core.Path.{◌≡◌, refl, ap, sym, subst}
@@ -35,7 +36,6 @@ use Rattle.judge.specs.Sets.{lookup}
 use Rattle.judge.specs.Faults.{kind_fault}
 use Rattle.judge.specs.Rules.{Names, NotOnSheet}
 use Rattle.refusal.specs.declared.Reason.{Reason}
-use Rattle.refusal.specs.declared.Decision.{Decision}
 use Rattle.refusal.specs.Decisions.{refuse}
 use Rattle.judge.proofs.Rules.{names_iff, names_kind, missing_iff}
 use Rattle.query.specs.Spelling.{Alternative}
@@ -51,6 +51,7 @@ use Rattle.answer.specs.SearchDemand.{search_tests}
 use Rattle.answer.proofs.Witnesses.{refused_at, refused_empty}
 use Rattle.answer.proofs.Outcomes.{TestOutcome, test_means, test_refused, TestsOutcome, all_mean}
 use Rattle.answer.proofs.Inputs.{step_or_else, outcome-next}
+use Rattle.refusal.specs.declared.Refusal.{Refusal}
 
 token-has : HasOperator token eq
 token-has = operator_of_row token_eq
@@ -60,13 +61,13 @@ abbrev Has : ℕ → Alternative → Type 0
 Has k a = (o : ℕ) (v : List ℕ) → AskedBy k a.text o v → HasOperator k o
 
 -- what is decided of an alternative
-data Judged (ps : List Parameter) (a : Alternative) : Decision → Type 0 where
+data Judged (ps : List Parameter) (a : Alternative) : Result ⊤ Refusal → Type 0 where
   judged_unknown : NotOnSheet ps (name a.name) → Judged ps a (refuse Reason.UnknownName a.at)
   judged_bundle : {i : ℕ} → Names ps (name a.name) i bundle_kind → Judged ps a (refuse Reason.UnknownName a.at)
   judged_meaningless : {i k o : ℕ} {v : List ℕ} → (k ≡ bundle_kind → ⊥) → Names ps (name a.name) i k → AskedBy k a.text o v → (HasOperator k o → ⊥)
       → Judged ps a (refuse Reason.NoMeaning a.at)
   judged_unreadable : {i k : ℕ} → (k ≡ bundle_kind → ⊥) → Names ps (name a.name) i k → Has k a → (ReadableAlternative k a → ⊥) → Judged ps a (refuse Reason.Unreadable a.at)
-  judged_right : {i k : ℕ} → (k ≡ bundle_kind → ⊥) → Names ps (name a.name) i k → Has k a → ReadableAlternative k a → Judged ps a Decision.Passed
+  judged_right : {i k : ℕ} → (k ≡ bundle_kind → ⊥) → Names ps (name a.name) i k → Has k a → ReadableAlternative k a → Judged ps a (Ok tt)
 
 module _ (ps : List Parameter) (w : WellFormedSheet ps) (a : Alternative) where
   -- ---- the fault
@@ -86,7 +87,7 @@ module _ (ps : List Parameter) (w : WellFormedSheet ps) (a : Alternative) where
       form_of (readable_form {f = f} e h) = (f, h)
       form_of (readable_value n h r) = absurd (n is)
 
-      judged_token : Judged ps a (cond (readable_at a.split a.text) Decision.Passed (refuse Reason.Unreadable a.at))
+      judged_token : Judged ps a (cond (readable_at a.split a.text) (Ok tt) (refuse Reason.Unreadable a.at))
       judged_token =
           cond-elim (Judged ps a) (readable_at a.split a.text)
           (λ h. judged_right z j form_has (readable_form is (reads.0 h).1))
@@ -160,7 +161,7 @@ module _ (ps : List Parameter) (w : WellFormedSheet ps) (a : Alternative) where
 
   -- ---- what an alternative comes to
 
-  outcome_by : {d : Decision} → Judged ps a d → TestOutcome (search_tests ps) a (decision_step d)
+  outcome_by : {d : Result ⊤ Refusal} → Judged ps a d → TestOutcome (search_tests ps) a (decision_step d)
   unfolding rank
   outcome_by (judged_unknown u) =
       test_refused (refused_empty (search_tests ps) a 14

@@ -1,5 +1,4 @@
 -- What the operations answer, in document 01's numbers, and how the answers come about; then the tables of refusals and demand 3.
-pub mod Answers
 pub mod Operations
 pub mod Passing
 pub mod Preparing

@@ -1,6 +1,6 @@
 -- Check, match and select over lists of bytes, as functions that compute: refusals in the order of document 01's table.
 -- Assumes nothing.
-use Rattle.std.specs.Prelude.{ℕ, zero, suc, ◌/◌, ◌%◌, Bool, true, false, cond, ◌&&◌, ◌||◌, List, [], ◌∷◌, ◌++◌, leb, eqb, ltb, length, take, drop}
+use Rattle.std.specs.Prelude.{ℕ, zero, suc, ◌/◌, ◌%◌, Bool, true, false, cond, ◌&&◌, ◌||◌, List, [], ◌∷◌, ◌++◌, leb, eqb, ltb, length, take, drop, Err, Ok, Result, ⊤}
 use Rattle.std.proofs.Math.Option.{Option, none, some}
 use Rattle.block.specs.declared.Validity.{Validity}
 use Rattle.sheet.specs.Sheet.{Parameter, parameters_of, read_sheet}
@@ -12,9 +12,9 @@ use Rattle.place.specs.Machine.{failure}
 use Rattle.judge.specs.Sets.{conforms}
 use Rattle.judge.specs.Faults.{first_fault}
 use Rattle.judge.specs.Verdicts.{filter_says}
-use Rattle.refusal.specs.declared.Decision.{Decision}
 use Rattle.refusal.specs.Answers.{Answer, yes_or_no, count}
 use Rattle.refusal.specs.Steps.{Step, found, stop, refusal_step, ◌>>=◌, answer}
+use Rattle.refusal.specs.declared.Refusal.{Refusal}
 
 -- ---- the sheet: 1, 2, 3
 
@@ -36,9 +36,9 @@ tree_step text none = refusal_step (failure deepest most_tests text)
 unfoldable pub accept_filter : List ℕ → Step Tree
 accept_filter text = cond (eqb (length text) 0 || ltb 1024 (length text)) (stop 10 0) (tree_step text (read text))
 
-abbrev pub decision_step : Decision → Step (Unit {0})
-decision_step Decision.Passed = found tt
-decision_step (Decision.Refused r) = refusal_step r
+abbrev pub decision_step : Result ⊤ Refusal → Step (Unit {0})
+decision_step (Ok tt) = found tt
+decision_step (Err r) = refusal_step r
 
 unfoldable pub tests_step : List Parameter → List Test → Step (Unit {0})
 tests_step ps ts = decision_step (first_fault ps 0 ts)

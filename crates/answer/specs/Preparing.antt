@@ -1,6 +1,6 @@
 -- Prepare and judge over lists of bytes and cells, as functions that compute: refusals in the order of document 02.
 -- Assumes nothing.
-use Rattle.std.specs.Prelude.{ℕ, ◌≤◌, ◌≡◌, cond, ◌||◌, List, leb, eqb, ltb, length, take}
+use Rattle.std.specs.Prelude.{ℕ, ◌≤◌, ◌≡◌, cond, ◌||◌, List, leb, eqb, ltb, length, take, Err, Ok, Result}
 use Rattle.std.proofs.Math.Option.{Option, none, some}
 use Rattle.sheet.specs.Sheet.{Parameter}
 use Rattle.sheet.specs.Find.{kinds_of, parents_of}
@@ -11,10 +11,10 @@ use Rattle.rows.specs.Cells.{encode, stated}
 use Rattle.rows.specs.Shapes.{good}
 use Rattle.rows.specs.Stated.{tree_of}
 use Rattle.row_writer.specs.Writing.{prepared}
-use Rattle.refusal.specs.Answers.{Answer, yes_or_no, count, number_of, refusal_answer}
+use Rattle.refusal.specs.Answers.{Answer, yes_or_no, count, number_of, refusal_answer, counted_answer}
 use Rattle.refusal.specs.Steps.{Step, found, stop, ◌>>=◌, answer}
 use Rattle.answer.specs.Operations.{accept_sheet, accept_filter, tests_step, accept_inputs, accept_card, written}
-use Rattle.answer.specs.declared.Prepared.{Prepared}
+use Rattle.refusal.specs.declared.Refusal.{Refusal}
 
 -- ---- prepare, into a list of `room` cells
 
@@ -72,14 +72,10 @@ judge_answer sheet text cs card = answer (do
 
 -- ---- what the parts of the code answer
 
-unfoldable pub prepared_answer : Prepared → Answer
-prepared_answer (Prepared.Cells n) = count n
-prepared_answer (Prepared.Refused r) = refusal_answer r
-
 -- what each case states of the cells in a buffer
-abbrev pub filled_step : Prepared → List ℕ → Step (List ℕ)
-filled_step (Prepared.Cells n) buffer = found (take n buffer)
-filled_step (Prepared.Refused r) buffer = stop (number_of r.reason) r.place
+abbrev pub filled_step : Result ℕ Refusal → List ℕ → Step (List ℕ)
+filled_step (Ok n) buffer = found (take n buffer)
+filled_step (Err r) buffer = stop (number_of r.reason) r.place
 
 -- the rows of a filter on a sheet with these parameters, or the first refusal
 unfoldable pub text_rows : List Parameter → List ℕ → Step (List ℕ)
@@ -88,15 +84,15 @@ text_rows ps text = do
   u ← tests_step ps (tests_of f)
   found (row_cells ps text f)
 
-pub record FillsText (ps : List Parameter) (text : List ℕ) (r : Prepared) (buffer : List ℕ) : Type 0 where
+pub record FillsText (ps : List Parameter) (text : List ℕ) (r : Result ℕ Refusal) (buffer : List ℕ) : Type 0 where
   pub rows : filled_step r buffer ≡ text_rows ps text
-  pub room : (n : ℕ) → r ≡ Prepared.Cells n → n ≤ length buffer
+  pub room : (n : ℕ) → r ≡ Ok n → n ≤ length buffer
 
-pub record Fills (sheet text : List ℕ) (r : Prepared) (buffer : List ℕ) : Type 0 where
+pub record Fills (sheet text : List ℕ) (r : Result ℕ Refusal) (buffer : List ℕ) : Type 0 where
   pub rows : filled_step r buffer ≡ (accept_inputs sheet text >>= λ p. found (row_cells p.parameters text p.filter))
-  pub room : (n : ℕ) → r ≡ Prepared.Cells n → n ≤ length buffer
+  pub room : (n : ℕ) → r ≡ Ok n → n ≤ length buffer
 
 -- what prepare does: the answer, and every cell of the list at exit
-pub record Prepares (sheet text list : List ℕ) (r : Prepared) (exit : List ℕ) : Type 0 where
-  pub answers : prepared_answer r ≡ prepare_answer sheet text (length list)
+pub record Prepares (sheet text list : List ℕ) (r : Result ℕ Refusal) (exit : List ℕ) : Type 0 where
+  pub answers : counted_answer r ≡ prepare_answer sheet text (length list)
   pub cells : exit ≡ prepare_cells sheet text list

@@ -2,11 +2,9 @@
 #![tactic(auto)]
 
 ghost use Rattle.std.specs.Prelude.{◌≡◌};
-ghost use Rattle.refusal.specs.Answers.{refusal_answer};
-ghost use Rattle.answer.specs.Answers.{checked_answer, matched_answer, selected_answer};
+ghost use Rattle.refusal.specs.Answers.{refusal_answer, counted_answer, matched_answer};
 ghost use Rattle.answers_c.specs.Answers.{c_answer};
 
-use answer::{Checked, Matched, Selected};
 use refusal::{Refusal, number};
 
 // The number of the refusal, 0 where there is none; and the count, 1 for yes and 0 for no, or the refusal's place.
@@ -29,44 +27,44 @@ pub fn refused(refusal: Refusal) -> Answer
 }
 
 // Check's answer in numbers.
-pub fn c_checked(checked: Checked) -> Answer
-    ensures { result ≡ c_answer (checked_answer checked) }
+pub fn c_checked(checked: Result<usize, Refusal>) -> Answer
+    ensures { result ≡ c_answer (counted_answer checked) }
 {
     match checked {
-        Checked::Tests(tests) => Answer {
+        Ok(tests) => Answer {
             refusal: 0,
             value: tests,
         },
-        Checked::Refused(refusal) => refused(refusal),
+        Err(refusal) => refused(refusal),
     }
 }
 
 // Match's answer in numbers.
-pub fn c_matched(matched: Matched) -> Answer
+pub fn c_matched(matched: Result<bool, Refusal>) -> Answer
     ensures { result ≡ c_answer (matched_answer matched) }
 {
     match matched {
-        Matched::Yes => Answer {
+        Ok(true) => Answer {
             refusal: 0,
             value: 1,
         },
-        Matched::No => Answer {
+        Ok(false) => Answer {
             refusal: 0,
             value: 0,
         },
-        Matched::Refused(refusal) => refused(refusal),
+        Err(refusal) => refused(refusal),
     }
 }
 
 // Select's answer in numbers.
-pub fn c_selected(selected: Selected) -> Answer
-    ensures { result ≡ c_answer (selected_answer selected) }
+pub fn c_selected(selected: Result<usize, Refusal>) -> Answer
+    ensures { result ≡ c_answer (counted_answer selected) }
 {
     match selected {
-        Selected::Count(count) => Answer {
+        Ok(count) => Answer {
             refusal: 0,
             value: count,
         },
-        Selected::Refused(refusal) => refused(refusal),
+        Err(refusal) => refused(refusal),
     }
 }

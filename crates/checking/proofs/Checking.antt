@@ -1,5 +1,6 @@
 -- Check, as the code comes to its answer.
 -- Assumes nothing.
+use Rattle.std.specs.Prelude.{Err, Ok, Result}
 use Prim.Native.Nat.{ℕ, ◌≤◌, ◌<◌}
 use native.Mathlib.Omega.{arith}
 use mathlib.Core.Path.{◌≡◌, refl, sym, ap, ◌∙◌}
@@ -16,7 +17,6 @@ use Rattle.syntax.specs.Grammar.{deepest, most_tests}
 use Rattle.syntax.specs.Reader.{parsed, filter_at, whole, read}
 use Rattle.syntax.proofs.Whole.{whole_trails, whole_many, whole_few}
 use Rattle.place.specs.Machine.{failure}
-use Rattle.refusal.specs.declared.Decision.{Decision}
 use Rattle.filter.specs.Folds.{summary_of, reading}
 use Rattle.filter.specs.Walks.{top_spot, answer_of}
 use Rattle.filter.specs.declared.Spot.{Spot}
@@ -26,9 +26,7 @@ use Rattle.filter.proofs.Walk.{top-bundle, top_read, WasFilter, was_filter, was_
 use Rattle.filter.proofs.Reading.{walked_cases, reading_is}
 use Rattle.refusal.specs.declared.Reason.{Reason}
 use Rattle.refusal.specs.declared.Refusal.{Refusal}
-use Rattle.answer.specs.declared.Checked.{Checked}
-use Rattle.refusal.specs.Answers.{Answer, count, refused, number_of, refusal_answer}
-use Rattle.answer.specs.Answers.{checked_answer}
+use Rattle.refusal.specs.Answers.{Answer, count, refused, number_of, refusal_answer, counted_answer}
 use Rattle.refusal.specs.Steps.{Step, found, stop, ◌>>=◌, answer}
 use Rattle.answer.specs.Operations.{accept_filter, decision_step, tests_step, sheet_step, accept_sheet, filter_answer, Inputs, accept_inputs, check_answer}
 use Rattle.answer.specs.Passing.{summary_answer}
@@ -36,40 +34,40 @@ use Rattle.answer.proofs.Inputs.{text_read}
 
 -- ---- the answer for a text that is a filter
 
-pub outcome_refused : (s : Summary) (r : Refusal) → s.first ≡ Decision.Refused r → checked_answer (Checked.Refused r) ≡ summary_answer s
-unfolding summary_answer checked_answer refusal_answer
+pub outcome_refused : (s : Summary) (r : Refusal) → s.first ≡ Err r → counted_answer (Err r) ≡ summary_answer s
+unfolding summary_answer counted_answer refusal_answer
 outcome_refused s r e = rw e
 
-pub outcome_tests : (s : Summary) → s.first ≡ Decision.Passed → checked_answer (Checked.Tests s.tests) ≡ summary_answer s
-unfolding summary_answer checked_answer
+pub outcome_tests : (s : Summary) → s.first ≡ (Ok tt) → counted_answer (Ok s.tests) ≡ summary_answer s
+unfolding summary_answer counted_answer
 outcome_tests s e = rw e
 
 -- ---- the answer for a text that is none
 
-pub failure-answered : (r f : Refusal) → f ≡ r → checked_answer (Checked.Refused f) ≡ refusal_answer r
-unfolding checked_answer
+pub failure-answered : (r f : Refusal) → f ≡ r → counted_answer (Err f) ≡ refusal_answer r
+unfolding counted_answer
 failure-answered r f e = rw e
 
 -- ---- the filter's text
 
-module _ (ps : List Parameter) (xs : List ℕ) (c : Checked) where
-  pub text_empty : length xs ≡ 0 → checked_answer c ≡ refused (number_of Reason.FilterSize) 0 → checked_answer c ≡ filter_answer ps xs
+module _ (ps : List Parameter) (xs : List ℕ) (c : Result ℕ Refusal) where
+  pub text_empty : length xs ≡ 0 → counted_answer c ≡ refused (number_of Reason.FilterSize) 0 → counted_answer c ≡ filter_answer ps xs
   unfolding filter_answer accept_filter
   text_empty h e = e ∙ rw (eq-eqb (length xs) 0 h)
 
-  pub text_long : 1024 < length xs → checked_answer c ≡ refused (number_of Reason.FilterSize) 0 → checked_answer c ≡ filter_answer ps xs
+  pub text_long : 1024 < length xs → counted_answer c ≡ refused (number_of Reason.FilterSize) 0 → counted_answer c ≡ filter_answer ps xs
   unfolding filter_answer accept_filter
   text_long h e =
       let n : length xs ≡ 0 → ⊥ = λ z. omega arith in
       e ∙ rw (ne_eqb (length xs) 0 n, lt-ltb 1024 (length xs) h)
 
 module _ (ps : List Parameter) (xs : List ℕ) (n : length xs ≡ 0 → ⊥) (l : length xs ≤ 1024) where
-  text_none : (c : Checked) → read xs ≡ none → checked_answer c ≡ refusal_answer (failure deepest most_tests xs) → checked_answer c ≡ filter_answer ps xs
+  text_none : (c : Result ℕ Refusal) → read xs ≡ none → counted_answer c ≡ refusal_answer (failure deepest most_tests xs) → counted_answer c ≡ filter_answer ps xs
   unfolding filter_answer refusal_answer
   text_none c e h = h ∙ rw (text_read xs n l none e)
 
   module _ (spot : Spot) (s : spot ≡ top_spot xs) (w : Walked) (e : w ≡ answer_of Walked.Done Walked.Nothing (reading ps spot.bundle) (filter_at spot.levels xs spot.close spot.at)) where
-    pub text_nothing : (c : Checked) → w ≡ Walked.Nothing → checked_answer c ≡ refusal_answer (failure deepest most_tests xs) → checked_answer c ≡ filter_answer ps xs
+    pub text_nothing : (c : Result ℕ Refusal) → w ≡ Walked.Nothing → counted_answer c ≡ refusal_answer (failure deepest most_tests xs) → counted_answer c ≡ filter_answer ps xs
     text_nothing c h = text_none c (top_read xs spot s ∙ ap (whole xs) (was_none Walked.Done Walked.Nothing walked_cases (reading ps spot.bundle) xs spot.close spot.levels spot.at w e h))
 
     module _ (end : ℕ) (a : Summary) (h : w ≡ Walked.Done end a) (after : ℕ) (t : RunEnd is_space xs end after) where
@@ -85,14 +83,14 @@ module _ (ps : List Parameter) (xs : List ℕ) (n : length xs ≡ 0 → ⊥) (l 
       read_whole : read xs ≡ whole xs (parsed end was.tree)
       read_whole = top_read xs spot s ∙ ap (whole xs) was.read
 
-      pub text_trails : (c : Checked) → (after ≡ length xs → ⊥) → checked_answer c ≡ refusal_answer (failure deepest most_tests xs) → checked_answer c ≡ filter_answer ps xs
+      pub text_trails : (c : Result ℕ Refusal) → (after ≡ length xs → ⊥) → counted_answer c ≡ refusal_answer (failure deepest most_tests xs) → counted_answer c ≡ filter_answer ps xs
       text_trails c k = text_none c (read_whole ∙ whole_trails xs end after t was.tree k)
 
       module _ (k : after ≡ length xs) where
-        pub text_many : (c : Checked) → 32 < a.tests → checked_answer c ≡ refusal_answer (failure deepest most_tests xs) → checked_answer c ≡ filter_answer ps xs
+        pub text_many : (c : Result ℕ Refusal) → 32 < a.tests → counted_answer c ≡ refusal_answer (failure deepest most_tests xs) → counted_answer c ≡ filter_answer ps xs
         text_many c m = text_none c (read_whole ∙ whole_many xs end after t was.tree k (omega (arith, tests_are)))
 
-        pub text_answered : (c : Checked) → a.tests ≤ 32 → checked_answer c ≡ summary_answer a → checked_answer c ≡ filter_answer ps xs
+        pub text_answered : (c : Result ℕ Refusal) → a.tests ≤ 32 → counted_answer c ≡ summary_answer a → counted_answer c ≡ filter_answer ps xs
         unfolding filter_answer summary_answer tests_step
         text_answered c m g =
             let r : read xs ≡ some was.tree = read_whole ∙ whole_few xs end after t was.tree k (omega (arith, tests_are)) in
@@ -115,11 +113,11 @@ count_filter : (ps : List Parameter) (t : Step Tree) → (t >>= λ f. tests_step
 count_filter ps (found f) = count_tests ps f (tests_step ps (tests_of f))
 count_filter ps (stop n p) = refl
 
-module _ (b xs : List ℕ) (r : Validity) (e : r ≡ read_sheet b) (c : Checked) where
-  pub check_sheet : (k : Validity) (n : ℕ) → ((ps : List Parameter) → sheet_step k ps ≡ stop n 0) → r ≡ k → checked_answer c ≡ refused n 0 → checked_answer c ≡ check_answer b xs
+module _ (b xs : List ℕ) (r : Validity) (e : r ≡ read_sheet b) (c : Result ℕ Refusal) where
+  pub check_sheet : (k : Validity) (n : ℕ) → ((ps : List Parameter) → sheet_step k ps ≡ stop n 0) → r ≡ k → counted_answer c ≡ refused n 0 → counted_answer c ≡ check_answer b xs
   unfolding check_answer accept_inputs accept_sheet
   check_sheet k n t i h = h ∙ rw (sym e ∙ i, t (parameters_of b))
 
-  pub check_filter : r ≡ Validity.WellFormed → checked_answer c ≡ filter_answer (parameters_of b) xs → checked_answer c ≡ check_answer b xs
+  pub check_filter : r ≡ Validity.WellFormed → counted_answer c ≡ filter_answer (parameters_of b) xs → counted_answer c ≡ check_answer b xs
   unfolding check_answer accept_inputs accept_sheet filter_answer
   check_filter h g = g ∙ rw (sym e ∙ h) (sym (ap answer (count_filter (parameters_of b) (accept_filter xs))))

@@ -5,48 +5,46 @@ ghost use Rattle.std.specs.Prelude.{◌≡◌};
 ghost use Rattle.sheet.specs.Sheet.{parameters_of, read_sheet};
 ghost use Rattle.syntax.specs.Grammar.{deepest, most_tests};
 ghost use Rattle.place.specs.Machine.{failure};
-ghost use Rattle.refusal.specs.Answers.{refused, number_of, refusal_answer};
-ghost use Rattle.answer.specs.Answers.{checked_answer};
+ghost use Rattle.refusal.specs.Answers.{refused, number_of, refusal_answer, counted_answer};
 ghost use Rattle.answer.specs.Passing.{summary_answer};
 ghost use Rattle.answer.specs.Operations.{filter_answer, check_answer};
 
-use answer::Checked;
 use block::Validity;
 use filter::{Summary, Walked, check_filter, top};
 use place::find_failure;
-use refusal::{Decision, Reason, Refusal};
+use refusal::{Reason, Refusal};
 use syntax::scan::skip;
 
 // A refusal as check's answer.
-pub fn refuse(reason: Reason, place: usize) -> Checked
-    ensures { checked_answer result ≡ refused (number_of reason) place }
+pub fn refuse(reason: Reason, place: usize) -> Result<usize, Refusal>
+    ensures { counted_answer result ≡ refused (number_of reason) place }
 {
-    Checked::Refused(Refusal { reason, place })
+    Err(Refusal { reason, place })
 }
 
 // The answer for a text that is a filter: the first refusal among its tests, or their number.
-pub fn outcome(summary: Summary) -> Checked
-    ensures { checked_answer result ≡ summary_answer summary }
+pub fn outcome(summary: Summary) -> Result<usize, Refusal>
+    ensures { counted_answer result ≡ summary_answer summary }
 {
     let first = summary.first;
     match first {
-        Decision::Passed => Checked::Tests(summary.tests),
-        Decision::Refused(refusal) => Checked::Refused(refusal),
+        Ok(()) => Ok(summary.tests),
+        Err(refusal) => Err(refusal),
     }
 }
 
 // The answer for a text that is no filter.
-fn no_filter(filter: &[u8]) -> Checked
-    ensures { checked_answer result ≡ refusal_answer (failure deepest most_tests filter.now) }
+fn no_filter(filter: &[u8]) -> Result<usize, Refusal>
+    ensures { counted_answer result ≡ refusal_answer (failure deepest most_tests filter.now) }
 {
-    Checked::Refused(find_failure(filter))
+    Err(find_failure(filter))
 }
 
 // The filter on a well-formed sheet.
 #[tactic(auto, using(crate::proofs::Checking::text_many, crate::proofs::Checking::text_answered))]
-fn check_text(sheet: &[u8], filter: &[u8]) -> Checked
+fn check_text(sheet: &[u8], filter: &[u8]) -> Result<usize, Refusal>
     requires { read_sheet sheet.now ≡ Validity.WellFormed }
-    ensures { checked_answer result ≡ filter_answer (parameters_of sheet.now) filter.now }
+    ensures { counted_answer result ≡ filter_answer (parameters_of sheet.now) filter.now }
 {
     if filter.len() == 0 {
         return refuse(Reason::FilterSize, 0);
@@ -72,8 +70,8 @@ fn check_text(sheet: &[u8], filter: &[u8]) -> Checked
 }
 
 // How many tests a filter has, where every test has a meaning on every card that fits the sheet; or why not, and where.
-pub fn check(sheet: &[u8], filter: &[u8]) -> Checked
-    ensures { checked_answer result ≡ check_answer sheet.now filter.now }
+pub fn check(sheet: &[u8], filter: &[u8]) -> Result<usize, Refusal>
+    ensures { counted_answer result ≡ check_answer sheet.now filter.now }
 {
     let reading = sheet::read_sheet(sheet);
     match reading {

@@ -1,19 +1,20 @@
 -- The code's answers are refused by the table: a slice holds bytes, which is all that the table asks.
 -- Assumes nothing.
+use Rattle.std.specs.Prelude.{Result}
 use Prim.Native.Nat.{ℕ}
 use mathlib.Core.List.{List}
 use lib.ListN.{length}
 use Rattle.base.proofs.All.{bytes_of}
-use Rattle.answer.specs.Answers.{matched_answer}
-use Rattle.answer.specs.declared.Matched.{Matched}
 use Rattle.answer.proofs.Slices.{Sliced}
 use Rattle.sirophan.proofs.Contracts.{refused_by}
 use Rattle.explain.specs.Operation.{explain_answer}
 use Rattle.explain.specs.Refusals.{ExplainLine}
 use Rattle.explain.specs.Operations.{Marks, ExplainsInto}
 use Rattle.explain.proofs.Table.{explain_table}
+use Rattle.refusal.specs.declared.Refusal.{Refusal}
+use Rattle.refusal.specs.Answers.{matched_answer}
 
-pub explains_into : (sheet text card list : List ℕ) (r : Matched) (exit : List ℕ) → Marks sheet text card list r exit → Sliced sheet → Sliced card → ExplainsInto sheet text card list r exit
+pub explains_into : (sheet text card list : List ℕ) (r : Result Bool Refusal) (exit : List ℕ) → Marks sheet text card list r exit → Sliced sheet → Sliced card → ExplainsInto sheet text card list r exit
 explains_into sheet text card list r exit h s c =
     record {
       answers = h.answers;

@@ -5,6 +5,7 @@
 -- (`filter_alike`). So what the code marks and then spares by the rows are the cells of the definition (`marks_are`). `mark_yes` and
 -- `mark_no` say so of the list, and `mark_short` is for a list that is too short.
 -- Assumes nothing.
+use Rattle.std.specs.Prelude.{Err, Ok, Result}
 use Prim.Native.Nat.{ℕ, ◌-◌, ◌≤◌, ◌<◌}
 use native.Mathlib.Omega.{arith}
 use native.Mathlib.Nat.{le_of_eq}
@@ -41,16 +42,13 @@ use Rattle.rows.proofs.Good.{good_few, good_states, good_iff}
 use Rattle.row_judge.proofs.Meaning.{good-whole}
 use Rattle.refusal.specs.declared.Reason.{Reason}
 use Rattle.refusal.specs.declared.Refusal.{Refusal}
-use Rattle.refusal.specs.Answers.{yes_or_no, count, refused, number_of, refusal_answer}
+use Rattle.refusal.specs.Answers.{yes_or_no, count, refused, number_of, refusal_answer, counted_answer, matched_answer}
 use Rattle.refusal.specs.Steps.{Step, found, stop, ◌>>=◌, answer}
-use Rattle.answer.specs.Answers.{matched_answer}
 use Rattle.answer.specs.Operations.{Inputs, accept_inputs, Card, accept_card, question_of, filter_question, match_answer, written}
-use Rattle.answer.specs.Preparing.{preparation, prepare_answer, prepare_cells, prepared_answer, judge_answer}
+use Rattle.answer.specs.Preparing.{preparation, prepare_answer, prepare_cells, judge_answer}
 use Rattle.answer.specs.Refusals.{CheckLine, line_10}
 use Rattle.sirophan.specs.Operations.{PreparesInto, Judges}
 use Rattle.answer.specs.RowsRefusals.{PreparesGood, MatchIs}
-use Rattle.answer.specs.declared.Matched.{Matched}
-use Rattle.answer.specs.declared.Prepared.{Prepared}
 use Rattle.answer.proofs.Slices.{Sliced}
 use Rattle.answer.proofs.CheckTable.{sheet_parameters, inputs_decided}
 use Rattle.answer.proofs.Inputs.{question_by, match_by_lem}
@@ -112,7 +110,7 @@ module _ (sheet text card : List ℕ) where
     cells_by_lem = rw e
 
   -- a refusal of match's
-  pub marks_refused : (list : List ℕ) (q : Refusal) → match_answer sheet text card ≡ refusal_answer q → Marks sheet text card list (Matched.Refused q) list
+  pub marks_refused : (list : List ℕ) (q : Refusal) → match_answer sheet text card ≡ refusal_answer q → Marks sheet text card list (Err q) list
   unfolding matched_answer refusal_answer
   marks_refused list q h =
       let s = stops_as_match (length list) (number_of q.reason) q.place h in
@@ -175,7 +173,7 @@ module _ (sheet text rows card : List ℕ) (says : Bool) (j : Judged sheet text 
     found_by : (room : ℕ) → explaining sheet text card room ≡ accept_marks room (outer_count f) (explanation_of (record { parameters = ps; filter = f }) (card_of card))
     found_by room = explaining_by sheet text card room (found (record { parameters = ps; filter = f })) j.inputs_accepted ∙ rw j.card_accepted
 
-    pub mark_short : (list : List ℕ) → length list < tests → Marks sheet text card list (Matched.Refused (record { reason = Reason.ShortMarks; place = tests })) list
+    pub mark_short : (list : List ℕ) → length list < tests → Marks sheet text card list (Err (record { reason = Reason.ShortMarks; place = tests })) list
     unfolding accept_marks matched_answer refusal_answer
     mark_short list l =
         let s : explaining sheet text card (length list) ≡ stop 33 tests = found_by (length list) ∙ rw (← counted, lt-leb tests (length list) l) in
@@ -205,20 +203,20 @@ module _ (sheet text rows card : List ℕ) (says : Bool) (j : Judged sheet text 
         unfolding accept_marks
         done = found_by (length list) ∙ rw (← counted, le-leb tests (length list) l)
 
-        marked : (r : Matched) → matched_answer r ≡ yes_or_no says → Marks sheet text card list r exit
+        marked : (r : Result Bool Refusal) → matched_answer r ≡ yes_or_no says → Marks sheet text card list r exit
         marked r h =
             record {
               answers = h ∙ ap yes_or_no j.verdict ∙ sym (answer_by sheet text card list (found (explanation_of (record { parameters = ps; filter = f }) (card_of card))) done);
               cells = w.bytes ∙ ap (λ (k : ℕ). part spared 0 tests ++ drop k list) w.long ∙ ap (λ (x : List ℕ). x ++ drop (length x) list) marks_are ∙ sym (cells_by_lem sheet text card list (found (explanation_of (record { parameters = ps; filter = f }) (card_of card))) done);
             }
 
-        pub mark_yes : says ≡ true → Marks sheet text card list Matched.Yes exit
+        pub mark_yes : says ≡ true → Marks sheet text card list (Ok true) exit
         unfolding matched_answer
-        mark_yes h = marked Matched.Yes (sym (ap yes_or_no h))
+        mark_yes h = marked (Ok true) (sym (ap yes_or_no h))
 
-        pub mark_no : says ≡ false → Marks sheet text card list Matched.No exit
+        pub mark_no : says ≡ false → Marks sheet text card list (Ok false) exit
         unfolding matched_answer
-        mark_no h = marked Matched.No (sym (ap yes_or_no h))
+        mark_no h = marked (Ok false) (sym (ap yes_or_no h))
 
 -- ---- what was accepted, where match answers yes or no
 
@@ -295,15 +293,15 @@ module _ (sheet text card list : List ℕ) (bytes : Bytes sheet) (n : ℕ) (rows
 -- ---- prepare and judge
 
 -- prepare has filled no more cells than there are
-pub filled_within : (sheet text list : List ℕ) (r : Prepared) (exit : List ℕ) → PreparesInto sheet text list r exit → (n : ℕ) → r ≡ Prepared.Cells n → n ≤ length exit
-unfolding prepared_answer prepare_answer prepare_cells
-filled_within sheet text list r exit p n i = by_step (preparation sheet text (length list)) (sym (ap prepared_answer i) ∙ p.answers) p.cells
+pub filled_within : (sheet text list : List ℕ) (r : Result ℕ Refusal) (exit : List ℕ) → PreparesInto sheet text list r exit → (n : ℕ) → r ≡ Ok n → n ≤ length exit
+unfolding counted_answer prepare_answer prepare_cells
+filled_within sheet text list r exit p n i = by_step (preparation sheet text (length list)) (sym (ap counted_answer i) ∙ p.answers) p.cells
   where
     by_step : (q : Step (List ℕ)) → count n ≡ answer (q >>= λ cs. found (count (length cs))) → exit ≡ written q list → n ≤ length exit
     by_step (found cs) e w = let same : n ≡ length cs = cc in omega (arith, same, ap length w, length-append cs (drop (length cs) list))
     by_step (stop m q) e w = let z : ◌≡◌ {A = ℕ} 0 1 = cc in absurd (omega arith)
 
-module _ (sheet text card : List ℕ) (prepared : Prepared) (exit : List ℕ) (p : PreparesInto sheet text (replicate 1024 0) prepared exit) (sliced : Sliced sheet) where
+module _ (sheet text card : List ℕ) (prepared : Result ℕ Refusal) (exit : List ℕ) (p : PreparesInto sheet text (replicate 1024 0) prepared exit) (sliced : Sliced sheet) where
   -- a list that is long enough for the rows of every filter
   abbrev list : List ℕ
   list = replicate 1024 0
@@ -311,14 +309,14 @@ module _ (sheet text card : List ℕ) (prepared : Prepared) (exit : List ℕ) (p
   is_match : MatchIs sheet text card list
   is_match = match_is sheet text card list (bytes_of sheet sliced) (le_of_eq (sym (length-replicate {A = ℕ} 1024 0)))
 
-  pub prepare_refuses : (cells : List ℕ) (q : Refusal) → prepared ≡ Prepared.Refused q → Marks sheet text card cells (Matched.Refused q) cells
-  unfolding prepared_answer refusal_answer
-  prepare_refuses cells q i = marks_refused sheet text card cells q (is_match.refused_alike (number_of q.reason) q.place (sym p.answers ∙ ap prepared_answer i))
+  pub prepare_refuses : (cells : List ℕ) (q : Refusal) → prepared ≡ Err q → Marks sheet text card cells (Err q) cells
+  unfolding counted_answer refusal_answer
+  prepare_refuses cells q i = marks_refused sheet text card cells q (is_match.refused_alike (number_of q.reason) q.place (sym p.answers ∙ ap counted_answer i))
 
-  module _ (n : ℕ) (i : prepared ≡ Prepared.Cells n) (r : Matched) (g : Judges sheet text (part exit 0 n) card r) where
+  module _ (n : ℕ) (i : prepared ≡ Ok n) (r : Result Bool Refusal) (g : Judges sheet text (part exit 0 n) card r) where
     counts-cells : prepare_answer sheet text (length list) ≡ count n
-    unfolding prepared_answer
-    counts-cells = sym p.answers ∙ ap prepared_answer i
+    unfolding counted_answer
+    counts-cells = sym p.answers ∙ ap counted_answer i
 
     filled : part exit 0 n ≡ take n (prepare_cells sheet text list)
     filled = let all : n - 0 ≡ n = omega arith in ap₂ (λ (k : ℕ) (l : List ℕ). take k l) all p.cells
@@ -326,7 +324,7 @@ module _ (sheet text card : List ℕ) (prepared : Prepared) (exit : List ℕ) (p
     as_match : matched_answer r ≡ match_answer sheet text card
     as_match = g.answers ∙ ap (λ (cs : List ℕ). judge_answer sheet text cs card) filled ∙ sym (is_match.judged n counts-cells)
 
-    pub judge_refuses : (cells : List ℕ) (q : Refusal) → r ≡ Matched.Refused q → Marks sheet text card cells (Matched.Refused q) cells
+    pub judge_refuses : (cells : List ℕ) (q : Refusal) → r ≡ Err q → Marks sheet text card cells (Err q) cells
     unfolding matched_answer
     judge_refuses cells q e = marks_refused sheet text card cells q (sym as_match ∙ ap matched_answer e)
 
@@ -338,10 +336,10 @@ module _ (sheet text card : List ℕ) (prepared : Prepared) (exit : List ℕ) (p
         by_inputs (found y) e =
             accepted_with sheet text card list (bytes_of sheet sliced) n (part exit 0 n) filled counts-cells y e says (sym (match_answer_by sheet text card (found y) e) ∙ sym as_match ∙ h)
 
-    pub judged_yes : r ≡ Matched.Yes → Judged sheet text (part exit 0 n) card true
+    pub judged_yes : r ≡ (Ok true) → Judged sheet text (part exit 0 n) card true
     unfolding matched_answer
     judged_yes e = judged true (ap matched_answer e)
 
-    pub judged_no : r ≡ Matched.No → Judged sheet text (part exit 0 n) card false
+    pub judged_no : r ≡ (Ok false) → Judged sheet text (part exit 0 n) card false
     unfolding matched_answer
     judged_no e = judged false (ap matched_answer e)

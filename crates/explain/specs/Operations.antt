@@ -1,7 +1,7 @@
 -- What the code of explain does on every input: the answer of its definition, refused where a line of the table decides, and every cell; and
 -- what its parts are handed.
 -- Assumes nothing.
-use Rattle.std.specs.Prelude.{ℕ, ◌≤◌, ◌≡◌, Bool, List, length}
+use Rattle.std.specs.Prelude.{ℕ, ◌≤◌, ◌≡◌, Bool, List, length, Result}
 use Rattle.block.specs.declared.Validity.{Validity}
 use Rattle.sheet.specs.Sheet.{parameters_of, read_sheet}
 use Rattle.card.specs.Card.{record_number, entries_of, read_card}
@@ -11,19 +11,19 @@ use Rattle.rows.specs.Good.{Good}
 use Rattle.row_judge.specs.Saying.{Whole}
 use Rattle.rows.specs.Stated.{tree_of}
 use Rattle.refusal.specs.Steps.{found}
-use Rattle.answer.specs.Answers.{matched_answer}
 use Rattle.sirophan.specs.Operations.{RefusedBy}
 use Rattle.answer.specs.Operations.{accept_inputs, accept_card}
-use Rattle.answer.specs.declared.Matched.{Matched}
 use Rattle.explain.specs.Operation.{explain_answer, explain_cells}
 use Rattle.explain.specs.Refusals.{ExplainLine}
+use Rattle.refusal.specs.declared.Refusal.{Refusal}
+use Rattle.refusal.specs.Answers.{matched_answer}
 
 -- the answer, and every cell of the list at exit
-pub record Marks (sheet text card list : List ℕ) (r : Matched) (exit : List ℕ) : Type 0 where
+pub record Marks (sheet text card list : List ℕ) (r : Result Bool Refusal) (exit : List ℕ) : Type 0 where
   pub answers : matched_answer r ≡ explain_answer sheet text card (length list)
   pub cells : exit ≡ explain_cells sheet text card list
 
-pub record ExplainsInto (sheet text card list : List ℕ) (r : Matched) (exit : List ℕ) : Type 0 where
+pub record ExplainsInto (sheet text card list : List ℕ) (r : Result Bool Refusal) (exit : List ℕ) : Type 0 where
   pub answers : matched_answer r ≡ explain_answer sheet text card (length list)
   pub cells : exit ≡ explain_cells sheet text card list
   pub refuses : RefusedBy (ExplainLine sheet text card (length list)) (matched_answer r)

@@ -4,7 +4,6 @@ ghost use Rattle.explain.specs.Operations.{Marks, ExplainsInto, Judged};
 use base::write_word;
 use deciding::{gather_verdicts, spare};
 use refusal::{Reason, Refusal};
-use sirophan::{Matched, Prepared};
 
 // Marks the tests that decide, for rows that state the filter and a card that conforms, of which the filter says `yes`.
 fn mark(
@@ -14,7 +13,7 @@ fn mark(
     card: &[u8],
     yes: bool,
     cells: &mut [u8],
-) -> Matched
+) -> Result<bool, Refusal>
     requires { Judged sheet.now filter.now rows.now card.now yes }
     ensures { Marks sheet.now filter.now card.now cells.old result cells.new }
 {
@@ -23,7 +22,7 @@ fn mark(
     let mut marks = [0u8; 32];
     let tests = gather_verdicts(&kinds, filter, rows, card, &mut marks);
     if tests > cells.len() {
-        return Matched::Refused(Refusal {
+        return Err(Refusal {
             reason: Reason::ShortMarks,
             place: tests,
         });
@@ -31,27 +30,27 @@ fn mark(
     spare(rows, tests, &mut marks);
     write_word(&marks[0..tests], cells);
     if yes {
-        return Matched::Yes;
+        return Ok(true);
     }
-    Matched::No
+    Ok(false)
 }
 
 // Whether a card matches a filter, and in the list a cell for each test: 0 spared, 1 decides by its yes, 2 decides by its no. Later cells
 // stay, and on a refusal all of them.
-pub fn explain(sheet: &[u8], filter: &[u8], card: &[u8], cells: &mut [u8]) -> Matched
+pub fn explain(sheet: &[u8], filter: &[u8], card: &[u8], cells: &mut [u8]) -> Result<bool, Refusal>
     ensures { ExplainsInto sheet.now filter.now card.now cells.old result cells.new }
 {
     let mut rows = [0u32; 1024];
     let prepared = sirophan::prepare(sheet, filter, &mut rows);
     match prepared {
-        Prepared::Cells(filled) => {
+        Ok(filled) => {
             let matched = sirophan::judge(sheet, filter, &rows[0..filled], card);
             match matched {
-                Matched::Yes => mark(sheet, filter, &rows[0..filled], card, true, cells),
-                Matched::No => mark(sheet, filter, &rows[0..filled], card, false, cells),
-                Matched::Refused(refusal) => Matched::Refused(refusal),
+                Ok(true) => mark(sheet, filter, &rows[0..filled], card, true, cells),
+                Ok(false) => mark(sheet, filter, &rows[0..filled], card, false, cells),
+                Err(refusal) => Err(refusal),
             }
         }
-        Prepared::Refused(refusal) => Matched::Refused(refusal),
+        Err(refusal) => Err(refusal),
     }
 }

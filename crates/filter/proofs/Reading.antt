@@ -1,5 +1,6 @@
 -- Reading: what is gathered is the number of tests and the first refusal, and it fits.
 -- Assumes nothing.
+use Rattle.std.specs.Prelude.{Result, ⊤}
 use Prim.Native.Nat.{ℕ, suc, ◌+◌, ◌≤◌}
 use native.Mathlib.Omega.{arith}
 use mathlib.Core.Path.{◌≡◌, refl, sym, ap, ap₂, ◌∙◌}
@@ -18,7 +19,6 @@ use Rattle.syntax.specs.declared.FoundConnective.{FoundConnective}
 use Rattle.syntax.proofs.Complete.{item_rise, filter_rise}
 use Rattle.syntax.proofs.Places.{connective_ahead}
 use Rattle.syntax.proofs.Spelling.{item_count, filter_count}
-use Rattle.refusal.specs.declared.Decision.{Decision}
 use Rattle.refusal.specs.Decisions.{or_else}
 use Rattle.refusal.proofs.Decisions.{or_else_passed, or_else_assoc}
 use Rattle.judge.specs.Faults.{test_fault, first_fault}
@@ -28,15 +28,16 @@ use Rattle.filter.specs.Walks.{answer_of}
 use Rattle.filter.specs.declared.Summary.{Summary}
 use Rattle.filter.specs.declared.Walked.{Walked}
 use Rattle.filter.proofs.Walk.{Cases, was_item, was_filter, Chain}
+use Rattle.refusal.specs.declared.Refusal.{Refusal}
 
 -- ---- as the code gathers
 
-pub summary_joined : (a b : Summary) (f : Decision) → f ≡ or_else a.first b.first → record { tests = a.tests + b.tests; first = f } ≡ join_summaries a b
-summary_joined a b f e = ap (λ (x : Decision). record { tests = a.tests + b.tests; first = x }) e
+pub summary_joined : (a b : Summary) (f : Result ⊤ Refusal) → f ≡ or_else a.first b.first → record { tests = a.tests + b.tests; first = f } ≡ join_summaries a b
+summary_joined a b f e = ap (λ (x : Result ⊤ Refusal). record { tests = a.tests + b.tests; first = x }) e
 
-pub summary_test : (ps : List Parameter) (c : ℕ) (t : Test) (f : Decision) → f ≡ test_fault ps c t → record { tests = 1; first = f } ≡ (reading ps c).one t
+pub summary_test : (ps : List Parameter) (c : ℕ) (t : Test) (f : Result ⊤ Refusal) → f ≡ test_fault ps c t → record { tests = 1; first = f } ≡ (reading ps c).one t
 unfolding first_fault
-summary_test ps c t f e = ap (λ (x : Decision). record { tests = 1; first = x }) (e ∙ sym (or_else_passed (test_fault ps c t)))
+summary_test ps c t f e = ap (λ (x : Result ⊤ Refusal). record { tests = 1; first = x }) (e ∙ sym (or_else_passed (test_fault ps c t)))
 
 -- the two cases of an answer
 pub walked_cases : Cases Walked.Done Walked.Nothing
@@ -80,7 +81,7 @@ summary_inside ps c b i p t o a s e h k f g =
     let inner : a ≡ summary_of ps i ts = g ∙ reading_is ps i f in
     let count : length (map (under b) (moved p t ∷ ts)) ≡ suc (length ts) = ap suc (length-map (under b) ts) in
     let faults : first_fault ps c (map (under b) (moved p t ∷ ts)) ≡ or_else (first_fault ps i (moved p t ∷ [])) (first_fault ps i ts) = fault_under ps c b (moved p t ∷ ts) ∙ ap (λ (x : ℕ). first_fault ps x (moved p t ∷ ts)) (sym e) ∙ fault_append ps i (moved p t ∷ []) ts in
-    k ∙ rw (h, inner) (sym (ap₂ (λ (n : ℕ) (x : Decision). record { tests = n; first = x }) (count ∙ omega arith) faults))
+    k ∙ rw (h, inner) (sym (ap₂ (λ (n : ℕ) (x : Result ⊤ Refusal). record { tests = n; first = x }) (count ∙ omega arith) faults))
 
 -- ---- there are no more tests than bytes, so that their sum fits
 

@@ -7,8 +7,8 @@ ghost use Rattle.std.specs.Prelude.{◌≡◌};
 ghost use Rattle.filter.specs.Walks.{top_spot};
 
 pub use check::{check_filter, join_summaries, test_summary};
-use refusal::Decision;
 use syntax::scan::skip;
+use refusal::Refusal;
 
 // A position in the filter's text, how many brackets may still open around it, the byte that closes the one around it, and where
 // names are looked up: 0 at the top of the sheet, or a bundle's index plus 1.
@@ -24,7 +24,7 @@ pub struct Spot {
 #[derive(Clone, Copy)]
 pub struct Summary {
     pub tests: usize,
-    pub first: Decision,
+    pub first: Result<(), Refusal>,
 }
 
 // Where a filter or an item that was read ends, and what was gathered; or that there is none.

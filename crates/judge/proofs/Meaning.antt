@@ -5,6 +5,7 @@
 -- operator into one form, whether some text of a set counts: by it tests are judged. It is by the cases of the meaning, and by induction
 -- on the set only where there is no meaning.
 -- Assumes nothing.
+use Rattle.std.specs.Prelude.{Ok, Result, ⊤}
 use Prim.Native.Nat.{ℕ, ◌≤◌, ◌<◌}
 use native.Mathlib.Omega.{arith}
 use mathlib.Core.Path.{◌≡◌, refl, sym, ap, ap₂, ◌∙◌}
@@ -33,8 +34,8 @@ use Rattle.judge.specs.Faults.{unsupported, kind_fault, fault_at, test_fault}
 use Rattle.judge.specs.Sets.{lookup, values_at}
 use Rattle.judge.specs.Verdicts.{is_empty, some_value, text_counts, some_says, says_of, says_at, test_says}
 use Rattle.refusal.specs.declared.Reason.{Reason}
-use Rattle.refusal.specs.declared.Decision.{Decision}
 use Rattle.refusal.specs.Decisions.{refuse}
+use Rattle.refusal.specs.declared.Refusal.{Refusal}
 
 -- ---- operators that are not supported
 
@@ -90,25 +91,25 @@ module _ (k kind : ℕ) (m : Meaning) (e : m ≡ meaning_of k kind) where
 -- ---- faults
 
 module _ (k kind : ℕ) (v : List ℕ) (p : ℕ) (u : Bool) (e : u ≡ unsupported k) where
-  pub fault_unsupported : (d : Decision) → u ≡ true → d ≡ refuse Reason.Unsupported p → d ≡ kind_fault k kind v p
+  pub fault_unsupported : (d : Result ⊤ Refusal) → u ≡ true → d ≡ refuse Reason.Unsupported p → d ≡ kind_fault k kind v p
   unfolding kind_fault
   fault_unsupported d h q = rw (sym e ∙ h) q
 
   module _ (h : u ≡ false) (m : Bool) (f : m ≡ has_meaning k kind) where
-    pub fault_meaning : (d : Decision) → m ≡ false → d ≡ refuse Reason.NoMeaning p → d ≡ kind_fault k kind v p
+    pub fault_meaning : (d : Result ⊤ Refusal) → m ≡ false → d ≡ refuse Reason.NoMeaning p → d ≡ kind_fault k kind v p
     unfolding kind_fault
     fault_meaning d i q = rw (sym e ∙ h, sym f ∙ i) q
 
     module _ (i : m ≡ true) (r : Bool) (g : r ≡ value_readable k kind v) where
-      pub fault_passed : r ≡ true → Decision.Passed ≡ kind_fault k kind v p
+      pub fault_passed : r ≡ true → (Ok tt) ≡ kind_fault k kind v p
       unfolding kind_fault
       fault_passed j = rw (sym e ∙ h, sym f ∙ i, sym g ∙ j)
 
-      pub fault_unreadable : (d : Decision) → r ≡ false → d ≡ refuse Reason.Unreadable p → d ≡ kind_fault k kind v p
+      pub fault_unreadable : (d : Result ⊤ Refusal) → r ≡ false → d ≡ refuse Reason.Unreadable p → d ≡ kind_fault k kind v p
       unfolding kind_fault
       fault_unreadable d j q = rw (sym e ∙ h, sym f ∙ i, sym g ∙ j) q
 
-module _ (k kind : ℕ) (v : List ℕ) (p : ℕ) (d : Decision) where
+module _ (k kind : ℕ) (v : List ℕ) (p : ℕ) (d : Result ⊤ Refusal) where
   pub fault_bundle : kind ≡ 7 → d ≡ refuse Reason.BareBundle p → d ≡ cond (eqb kind bundle_kind) (refuse Reason.BareBundle p) (kind_fault k kind v p)
   fault_bundle e q = rw e q
 
@@ -116,10 +117,10 @@ module _ (k kind : ℕ) (v : List ℕ) (p : ℕ) (d : Decision) where
   fault_kind n q = rw (ne_eqb kind 7 n) q
 
 module _ (found : Found) (k : ℕ) (v : List ℕ) where
-  pub fault_found : (p i kind : ℕ) (d : Decision) → found ≡ Found.At i kind → d ≡ cond (eqb kind bundle_kind) (refuse Reason.BareBundle p) (kind_fault k kind v p) → d ≡ fault_at found k v p
+  pub fault_found : (p i kind : ℕ) (d : Result ⊤ Refusal) → found ≡ Found.At i kind → d ≡ cond (eqb kind bundle_kind) (refuse Reason.BareBundle p) (kind_fault k kind v p) → d ≡ fault_at found k v p
   fault_found p i kind d h q = rw h q
 
-  pub fault_missing : (p : ℕ) (d : Decision) → found ≡ Found.Missing → d ≡ refuse Reason.UnknownName p → d ≡ fault_at found k v p
+  pub fault_missing : (p : ℕ) (d : Result ⊤ Refusal) → found ≡ Found.Missing → d ≡ refuse Reason.UnknownName p → d ≡ fault_at found k v p
   fault_missing p d h q = rw h q
 
   -- ---- verdicts
@@ -140,7 +141,7 @@ pub value-plain : (b : Bool) (raw : List ℕ) → b ≡ false → raw ≡ conten
 value-plain b raw e = rw e
 
 module _ (xs : List ℕ) (t : RawTest) (v : List ℕ) where
-  pub fault_placed : (ps : List Parameter) (c p : ℕ) (f : Found) (d : Decision) → d ≡ fault_at f t.operator v p → f ≡ lookup ps c (test_of xs t).path → v ≡ (test_of xs t).value → d ≡ test_fault ps c (moved p (test_of xs t))
+  pub fault_placed : (ps : List Parameter) (c p : ℕ) (f : Found) (d : Result ⊤ Refusal) → d ≡ fault_at f t.operator v p → f ≡ lookup ps c (test_of xs t).path → v ≡ (test_of xs t).value → d ≡ test_fault ps c (moved p (test_of xs t))
   unfolding test_fault
   fault_placed ps c p f d e g h = e ∙ rw (g, h)
 

@@ -8,7 +8,7 @@ ghost use Rattle.judge.specs.Faults.{unsupported, kind_fault, fault_at};
 use base::kind::BUNDLE;
 use base::operator::{AP, IN, NI, SB, SS};
 use kind::Meaning;
-use refusal::{Decision, Reason, refuse};
+use refusal::{Reason, Refusal, refuse};
 use sheet::Found;
 
 // "word is ap, ss, sb, in or ni".
@@ -34,7 +34,7 @@ pub fn has_meaning(operator: u8, kind: u8) -> bool
 }
 
 // What is decided of an operator and a value for a kind, at the place of their test: the lowest number.
-pub fn kind_fault(operator: u8, kind: u8, value: &[u8], place: usize) -> Decision
+pub fn kind_fault(operator: u8, kind: u8, value: &[u8], place: usize) -> Result<(), Refusal>
     ensures { result ≡ kind_fault operator kind value.now place }
 {
     if unsupported(operator) {
@@ -42,7 +42,7 @@ pub fn kind_fault(operator: u8, kind: u8, value: &[u8], place: usize) -> Decisio
     }
     if has_meaning(operator, kind) {
         if kind::value_readable(operator, kind, value) {
-            return Decision::Passed;
+            return Ok(());
         }
         return refuse(Reason::Unreadable, place);
     }
@@ -50,7 +50,7 @@ pub fn kind_fault(operator: u8, kind: u8, value: &[u8], place: usize) -> Decisio
 }
 
 // The same at a parameter: a bundle's is refused.
-fn parameter_fault(operator: u8, kind: u8, value: &[u8], place: usize) -> Decision
+fn parameter_fault(operator: u8, kind: u8, value: &[u8], place: usize) -> Result<(), Refusal>
     ensures { result ≡ cond (eqb kind bundle_kind) (refuse Reason.BareBundle place) (kind_fault operator kind value.now place) }
 {
     if kind == BUNDLE {
@@ -60,7 +60,7 @@ fn parameter_fault(operator: u8, kind: u8, value: &[u8], place: usize) -> Decisi
 }
 
 // The same at what the test's name is on the sheet.
-pub fn fault_at(found: Found, operator: u8, value: &[u8], place: usize) -> Decision
+pub fn fault_at(found: Found, operator: u8, value: &[u8], place: usize) -> Result<(), Refusal>
     ensures { result ≡ fault_at found operator value.now place }
 {
     match found {

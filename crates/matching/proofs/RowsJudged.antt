@@ -1,5 +1,6 @@
 -- Judge, as the code comes to its answer.
 -- Assumes nothing.
+use Rattle.std.specs.Prelude.{Result}
 use Prim.Native.Nat.{ℕ, ◌≤◌, ◌<◌}
 use native.Mathlib.Omega.{arith}
 use mathlib.Core.Path.{◌≡◌, refl, sym, ap, ap₂, ◌∙◌}
@@ -18,20 +19,18 @@ use Rattle.rows.specs.Stated.{tree_of}
 use Rattle.rows.proofs.Good.{good_few}
 use Rattle.row_judge.proofs.Meaning.{good-whole, rows_mean}
 use Rattle.refusal.specs.declared.Reason.{Reason}
-use Rattle.refusal.specs.Answers.{yes_or_no, refused, number_of}
+use Rattle.refusal.specs.Answers.{yes_or_no, refused, number_of, matched_answer}
 use Rattle.refusal.specs.Steps.{found, stop, ◌>>=◌, answer}
-use Rattle.answer.specs.Answers.{matched_answer}
 use Rattle.answer.specs.Operations.{sheet_step, accept_sheet, Card, accept_card}
 use Rattle.answer.specs.Passing.{card_verdict}
 use Rattle.one_card.specs.OneCard.{verdict_step, verdict_answer, cells_question}
 use Rattle.answer.specs.Preparing.{accept_size, accept_rows, rows_answer, judge_answer}
-use Rattle.one_card.specs.declared.CardVerdict.{CardVerdict}
 use Rattle.answer.proofs.Passing.{yes_or_no_after, same-verdicts}
-use Rattle.answer.specs.declared.Matched.{Matched}
+use Rattle.refusal.specs.declared.Refusal.{Refusal}
 
 -- ---- the text's size
 
-module _ (ps : List Parameter) (xs cs card : List ℕ) (r : Matched) where
+module _ (ps : List Parameter) (xs cs card : List ℕ) (r : Result Bool Refusal) where
   pub judge_empty : length xs ≡ 0 → matched_answer r ≡ refused (number_of Reason.FilterSize) 0 → matched_answer r ≡ rows_answer ps xs cs card
   unfolding rows_answer accept_size
   judge_empty z e = e ∙ rw (eq-eqb (length xs) 0 z)
@@ -56,7 +55,7 @@ module _ (b xs cs card : List ℕ) (ok : read_sheet b ≡ Validity.WellFormed) (
   unfolding accept_size
   sized = rw (ne_eqb (length xs) 0 n, le-ltb 1024 (length xs) l)
 
-  pub judge_bad : (r : Matched) → sound ≡ false → matched_answer r ≡ refused (number_of Reason.BadRows) 0 → matched_answer r ≡ rows_answer ps xs cs card
+  pub judge_bad : (r : Result Bool Refusal) → sound ≡ false → matched_answer r ≡ refused (number_of Reason.BadRows) 0 → matched_answer r ≡ rows_answer ps xs cs card
   unfolding rows_answer accept_rows
   judge_bad r h e = e ∙ rw (sized, sym tested ∙ h)
 
@@ -73,8 +72,8 @@ module _ (b xs cs card : List ℕ) (ok : read_sheet b ≡ Validity.WellFormed) (
     stated-answer = rw (sized, sym tested ∙ h, judge_whole.states)
 
     -- as the code has judged it
-    pub judge_verdict : (v : CardVerdict) → ((qs : List Parameter) → kinds ≡ kinds_of qs → (i : ℕ) → verdict_step v i ≡ card_verdict (cells_question qs xs cs) i card)
-        → (m : Matched) → matched_answer m ≡ verdict_answer v → matched_answer m ≡ rows_answer ps xs cs card
+    pub judge_verdict : (v : Result Bool Reason) → ((qs : List Parameter) → kinds ≡ kinds_of qs → (i : ℕ) → verdict_step v i ≡ card_verdict (cells_question qs xs cs) i card)
+        → (m : Result Bool Refusal) → matched_answer m ≡ verdict_answer v → matched_answer m ≡ rows_answer ps xs cs card
     judge_verdict v e m a =
         let verdict : verdict_answer v ≡ answer (accept_card ps 0 card >>= λ c. found (yes_or_no (rows_say (kinds_of ps) xs c.entries cs))) =
         (unfold verdict_answer card_verdict in (rw (e ps ek 0) (ap answer (sym (yes_or_no_after (accept_card ps 0 card) (λ c. rows_say (kinds_of ps) xs c.entries cs))))))
@@ -86,7 +85,7 @@ module _ (b xs cs card : List ℕ) (ok : read_sheet b ≡ Validity.WellFormed) (
 
 -- ---- the sheet
 
-module _ (b xs cs card : List ℕ) (k : Validity) (e : k ≡ read_sheet b) (r : Matched) where
+module _ (b xs cs card : List ℕ) (k : Validity) (e : k ≡ read_sheet b) (r : Result Bool Refusal) where
   judge_sheet : (j : Validity) (n : ℕ) → ((ps : List Parameter) → sheet_step j ps ≡ stop n 0) → k ≡ j → matched_answer r ≡ refused n 0 → matched_answer r ≡ judge_answer b xs cs card
   unfolding judge_answer accept_sheet
   judge_sheet j n t i h = h ∙ rw (sym e ∙ i, t (parameters_of b))

@@ -1,25 +1,23 @@
 // Judge: a card under a sheet and rows that are good for a filter's text.
 ghost use Rattle.std.specs.Prelude.{◌≡◌};
 ghost use Rattle.sheet.specs.Sheet.{parameters_of, read_sheet};
-ghost use Rattle.refusal.specs.Answers.{refused, number_of};
-ghost use Rattle.answer.specs.Answers.{matched_answer};
+ghost use Rattle.refusal.specs.Answers.{refused, number_of, matched_answer};
 ghost use Rattle.answer.specs.Preparing.{rows_answer, judge_answer};
 
-use answer::Matched;
 use block::Validity;
 use one_card::{answered, judge_once};
 use refusal::{Reason, Refusal};
 use rows::are_good;
 
 // A refusal at 0 as judge's answer.
-fn refuse(reason: Reason) -> Matched
+fn refuse(reason: Reason) -> Result<bool, Refusal>
     ensures { matched_answer result ≡ refused (number_of reason) 0 }
 {
-    Matched::Refused(Refusal { reason, place: 0 })
+    Err(Refusal { reason, place: 0 })
 }
 
 // The verdict of rows on a card, under a well-formed sheet.
-fn judge_rows(sheet: &[u8], filter: &[u8], rows: &[u32], card: &[u8]) -> Matched
+fn judge_rows(sheet: &[u8], filter: &[u8], rows: &[u32], card: &[u8]) -> Result<bool, Refusal>
     requires { read_sheet sheet.now ≡ Validity.WellFormed }
     ensures { matched_answer result ≡ rows_answer (parameters_of sheet.now) filter.now rows.now card.now }
 {
@@ -39,7 +37,7 @@ fn judge_rows(sheet: &[u8], filter: &[u8], rows: &[u32], card: &[u8]) -> Matched
 }
 
 // Whether a card matches what rows state on a sheet and a filter's text, or why there is no answer.
-pub fn judge(sheet: &[u8], filter: &[u8], rows: &[u32], card: &[u8]) -> Matched
+pub fn judge(sheet: &[u8], filter: &[u8], rows: &[u32], card: &[u8]) -> Result<bool, Refusal>
     ensures { matched_answer result ≡ judge_answer sheet.now filter.now rows.now card.now }
 {
     let reading = sheet::read_sheet(sheet);

@@ -5,6 +5,7 @@
 -- (`rows_says`). By the text, the tree that the walk reads is the one that check has read (`read-from`), so that the walk's answer is what
 -- the text says (`says_done`). The verdict gives match's answer (`match_answered`).
 -- Assumes nothing.
+use Rattle.std.specs.Prelude.{Err, Ok, Result, ⊤}
 use Prim.Native.Nat.{ℕ, ◌≤◌}
 use native.Mathlib.Omega.{arith}
 use mathlib.Core.Path.{◌≡◌, refl, sym, ap, ap₂, ◌∙◌}
@@ -34,17 +35,13 @@ use Rattle.row_opener.specs.Opening.{Opens}
 use Rattle.row_judge.specs.Saying.{rows_say, Whole, Ready}
 use Rattle.row_judge.specs.Asking.{LentFor}
 use Rattle.row_judge.proofs.Asking.{lent-on, lent-ready}
-use Rattle.refusal.specs.Answers.{number_of, yes_or_no, refusal_answer}
+use Rattle.refusal.specs.Answers.{number_of, yes_or_no, refusal_answer, matched_answer}
 use Rattle.refusal.specs.Steps.{found, stop, Step, ◌>>=◌, answer}
 use Rattle.refusal.specs.declared.Reason.{Reason}
 use Rattle.answer.specs.Operations.{Card, card_step, accept_card, Question, match_by, filter_question, match_answer}
 use Rattle.answer.specs.Passing.{Passing, text_says, text_question, card_verdict}
 use Rattle.one_card.specs.OneCard.{verdict_step, AcceptsCard, TakesCard, cells_question, verdict_answer}
-use Rattle.one_card.specs.declared.CardAcceptance.{CardAcceptance}
-use Rattle.one_card.specs.declared.CardVerdict.{CardVerdict}
 use Rattle.refusal.specs.declared.Refusal.{Refusal}
-use Rattle.answer.specs.Answers.{matched_answer}
-use Rattle.answer.specs.declared.Matched.{Matched}
 use Rattle.answer.proofs.Passing.{passing_asks, yes_or_no_after}
 
 -- ---- what the filter says
@@ -69,20 +66,20 @@ module _ (ps : List Parameter) (es : List Entry) (b xs : List ℕ) (p : Passing 
 -- ---- one card is accepted
 
 module _ (kinds b : List ℕ) (r : Validity) (e : r ≡ read_card b) where
-  accepted_refused : (k : Validity) (x : Reason) → ((fits : Bool) (c : Card) (i : ℕ) → card_step k fits c i ≡ stop (number_of x) i) → r ≡ k → AcceptsCard kinds b (CardAcceptance.Refused x)
+  accepted_refused : (k : Validity) (x : Reason) → ((fits : Bool) (c : Card) (i : ℕ) → card_step k fits c i ≡ stop (number_of x) i) → r ≡ k → AcceptsCard kinds b (Err x)
   accepted_refused k x t h =
       record {
         well_formed = λ z. absurd (let y : ◌≡◌ {A = ℕ} 0 1 = cc in omega arith);
         steps = λ ps l i. (unfold accept_card in rw (sym e ∙ h, t (conforms ps (entries_of b)) (record { number = record_number b; entries = entries_of b }) i));
       }
 
-  pub accepts_size : r ≡ Validity.WrongSize → AcceptsCard kinds b (CardAcceptance.Refused Reason.CardSize)
+  pub accepts_size : r ≡ Validity.WrongSize → AcceptsCard kinds b (Err Reason.CardSize)
   accepts_size = accepted_refused Validity.WrongSize Reason.CardSize (λ fits c i. refl)
 
-  pub accepts_sum : r ≡ Validity.WrongSum → AcceptsCard kinds b (CardAcceptance.Refused Reason.CardSum)
+  pub accepts_sum : r ≡ Validity.WrongSum → AcceptsCard kinds b (Err Reason.CardSum)
   accepts_sum = accepted_refused Validity.WrongSum Reason.CardSum (λ fits c i. refl)
 
-  pub accepts_layout : r ≡ Validity.WrongLayout → AcceptsCard kinds b (CardAcceptance.Refused Reason.CardLayout)
+  pub accepts_layout : r ≡ Validity.WrongLayout → AcceptsCard kinds b (Err Reason.CardLayout)
   accepts_layout = accepted_refused Validity.WrongLayout Reason.CardLayout (λ fits c i. refl)
 
   pub card-known : r ≡ Validity.WellFormed → read_card b ≡ Validity.WellFormed
@@ -92,14 +89,14 @@ module _ (kinds b : List ℕ) (r : Validity) (e : r ≡ read_card b) where
     fits : (ps : List Parameter) → kinds ≡ kinds_of ps → conforms ps (entries_of b) ≡ o
     fits ps l = sym (g ∙ ap (λ (k : List ℕ). conforms_to k (entries_of b)) l ∙ table_conforms ps (entries_of b))
 
-    pub accepts_misfit : o ≡ false → AcceptsCard kinds b (CardAcceptance.Refused Reason.CardMisfit)
+    pub accepts_misfit : o ≡ false → AcceptsCard kinds b (Err Reason.CardMisfit)
     accepts_misfit n =
         record {
           well_formed = λ z. absurd (let y : ◌≡◌ {A = ℕ} 0 1 = cc in omega arith);
           steps = λ ps l i. (unfold accept_card in rw (sym e ∙ h, fits ps l ∙ n));
         }
 
-    pub accepts_conforming : o ≡ true → AcceptsCard kinds b CardAcceptance.Conforming
+    pub accepts_conforming : o ≡ true → AcceptsCard kinds b (Ok tt)
     accepts_conforming y =
         record {
           well_formed = λ z. sym e ∙ h;
@@ -108,45 +105,45 @@ module _ (kinds b : List ℕ) (r : Validity) (e : r ≡ read_card b) where
 
 -- ---- and judged
 
-module _ (kinds b : List ℕ) (t : CardAcceptance) (e : AcceptsCard kinds b t) where
-  pub conforming_known : t ≡ CardAcceptance.Conforming → read_card b ≡ Validity.WellFormed
+module _ (kinds b : List ℕ) (t : Result ⊤ Reason) (e : AcceptsCard kinds b t) where
+  pub conforming_known : t ≡ (Ok tt) → read_card b ≡ Validity.WellFormed
   conforming_known h = e.well_formed h
 
   module _ (q : Question) (l : kinds ≡ kinds_of q.parameters) where
-    pub judged_says_lem : (v : Bool) → t ≡ CardAcceptance.Conforming → v ≡ q.says (entries_of b) → (i : ℕ) → found v ≡ card_verdict q i b
+    pub judged_says_lem : (v : Bool) → t ≡ (Ok tt) → v ≡ q.says (entries_of b) → (i : ℕ) → found v ≡ card_verdict q i b
     unfolding card_verdict
     judged_says_lem v h s i = rw (sym (e.steps q.parameters l i), h, s)
 
-    pub judged_refused : (x : Reason) → t ≡ CardAcceptance.Refused x → (i : ℕ) → stop (number_of x) i ≡ card_verdict q i b
+    pub judged_refused : (x : Reason) → t ≡ Err x → (i : ℕ) → stop (number_of x) i ≡ card_verdict q i b
     unfolding card_verdict
     judged_refused x h i = rw (sym (e.steps q.parameters l i), h)
 
   -- by rows, whatever the parameters of these kinds
   module _ (xs cs : List ℕ) where
-    pub rows_says : (v : Bool) → t ≡ CardAcceptance.Conforming → v ≡ rows_say kinds xs (chosen_of every (entries_of b)) cs
+    pub rows_says : (v : Bool) → t ≡ (Ok tt) → v ≡ rows_say kinds xs (chosen_of every (entries_of b)) cs
         → (ps : List Parameter) → kinds ≡ kinds_of ps → (i : ℕ) → found v ≡ card_verdict (cells_question ps xs cs) i b
     rows_says v h s ps l = judged_says_lem (cells_question ps xs cs) l v h (s ∙ ap₂ (λ (k : List ℕ) (es : List Entry). rows_say k xs es cs) l (chosen-every (entries_of b)))
 
-    pub rows_refused : (x : Reason) → t ≡ CardAcceptance.Refused x → (ps : List Parameter) → kinds ≡ kinds_of ps → (i : ℕ) → stop (number_of x) i ≡ card_verdict (cells_question ps xs cs) i b
+    pub rows_refused : (x : Reason) → t ≡ Err x → (ps : List Parameter) → kinds ≡ kinds_of ps → (i : ℕ) → stop (number_of x) i ≡ card_verdict (cells_question ps xs cs) i b
     rows_refused x h ps l = judged_refused (cells_question ps xs cs) l x h
 
 -- ---- and what it holds is kept
 
 module _ (kinds b : List ℕ) (r : Validity) (e : r ≡ read_card b) (cells : List ℕ) (spans : List ℤ) (l : Lent cells spans) where
-  takes_refused : (x : Reason) → AcceptsCard kinds b (CardAcceptance.Refused x) → TakesCard kinds b cells cells spans (CardAcceptance.Refused x)
+  takes_refused : (x : Reason) → AcceptsCard kinds b (Err x) → TakesCard kinds b cells cells spans (Err x)
   takes_refused x a = record { accepts = a; lent = l; begins = record { size = refl; same = λ _ _. refl }; keeps = λ z. absurd (let y : ◌≡◌ {A = ℕ} 0 1 = cc in omega arith) }
 
-  pub takes_size : r ≡ Validity.WrongSize → TakesCard kinds b cells cells spans (CardAcceptance.Refused Reason.CardSize)
+  pub takes_size : r ≡ Validity.WrongSize → TakesCard kinds b cells cells spans (Err Reason.CardSize)
   takes_size h = takes_refused Reason.CardSize (accepts_size kinds b r e h)
 
-  pub takes_sum : r ≡ Validity.WrongSum → TakesCard kinds b cells cells spans (CardAcceptance.Refused Reason.CardSum)
+  pub takes_sum : r ≡ Validity.WrongSum → TakesCard kinds b cells cells spans (Err Reason.CardSum)
   takes_sum h = takes_refused Reason.CardSum (accepts_sum kinds b r e h)
 
-  pub takes_layout : r ≡ Validity.WrongLayout → TakesCard kinds b cells cells spans (CardAcceptance.Refused Reason.CardLayout)
+  pub takes_layout : r ≡ Validity.WrongLayout → TakesCard kinds b cells cells spans (Err Reason.CardLayout)
   takes_layout h = takes_refused Reason.CardLayout (accepts_layout kinds b r e h)
 
 module _ (kinds b : List ℕ) (r : Validity) (e : r ≡ read_card b) (h : r ≡ Validity.WellFormed) (before cells : List ℕ) (spans : List ℤ) (o : Bool) (w : ReadsCard kinds b before cells spans o) where
-  pub takes_misfit : o ≡ false → TakesCard kinds b before cells spans (CardAcceptance.Refused Reason.CardMisfit)
+  pub takes_misfit : o ≡ false → TakesCard kinds b before cells spans (Err Reason.CardMisfit)
   takes_misfit n =
       record {
         accepts = accepts_misfit kinds b r e o w.answer h n;
@@ -155,53 +152,53 @@ module _ (kinds b : List ℕ) (r : Validity) (e : r ≡ read_card b) (h : r ≡ 
         keeps = λ z. absurd (let y : ◌≡◌ {A = ℕ} 0 1 = cc in omega arith);
       }
 
-  pub takes_conforming : o ≡ true → TakesCard kinds b before cells spans CardAcceptance.Conforming
+  pub takes_conforming : o ≡ true → TakesCard kinds b before cells spans (Ok tt)
   takes_conforming y = record { accepts = accepts_conforming kinds b r e o w.answer h y; lent = w.lent; begins = w.begins; keeps = λ _. w.keeps y }
 
-module _ (kinds xs rows b before cells : List ℕ) (spans₀ spans : List ℤ) (t : CardAcceptance) (l : LentFor kinds rows before spans₀) (w : TakesCard kinds b before cells spans t) where
+module _ (kinds xs rows b before cells : List ℕ) (spans₀ spans : List ℤ) (t : Result ⊤ Reason) (l : LentFor kinds rows before spans₀) (w : TakesCard kinds b before cells spans t) where
   -- the lists stay lent for the rows
   pub taken-lent : LentFor kinds rows cells spans
   taken-lent = lent-on kinds rows before cells spans₀ spans l w.lent w.begins
 
   -- rows that were opened are ready for the card
-  pub taken-ready : (values : List ℕ) (ends : List ℤ) → length xs ≤ 1024 → Whole rows → Opens kinds xs rows values ends (length rows) → t ≡ CardAcceptance.Conforming → Ready xs rows values ends b cells spans
+  pub taken-ready : (values : List ℕ) (ends : List ℤ) → length xs ≤ 1024 → Whole rows → Opens kinds xs rows values ends (length rows) → t ≡ (Ok tt) → Ready xs rows values ends b cells spans
   taken-ready values ends h e o c = lent-ready kinds xs rows b cells spans taken-lent values ends h e o (w.accepts.well_formed c) (w.keeps c)
 
-  pub taken-says : (v : Bool) → t ≡ CardAcceptance.Conforming → v ≡ rows_say (kinds_in cells) xs (chosen_of every (entries_of b)) rows
+  pub taken-says : (v : Bool) → t ≡ (Ok tt) → v ≡ rows_say (kinds_in cells) xs (chosen_of every (entries_of b)) rows
       → (ps : List Parameter) → kinds ≡ kinds_of ps → (i : ℕ) → found v ≡ card_verdict (cells_question ps xs rows) i b
   taken-says v c s = rows_says kinds b t w.accepts xs rows v c (s ∙ ap (λ (k : List ℕ). rows_say k xs (chosen_of every (entries_of b)) rows) taken-lent.kinds_are)
 
-  pub taken_refused : (x : Reason) → t ≡ CardAcceptance.Refused x → (ps : List Parameter) → kinds ≡ kinds_of ps → (i : ℕ) → stop (number_of x) i ≡ card_verdict (cells_question ps xs rows) i b
+  pub taken_refused : (x : Reason) → t ≡ Err x → (ps : List Parameter) → kinds ≡ kinds_of ps → (i : ℕ) → stop (number_of x) i ≡ card_verdict (cells_question ps xs rows) i b
   taken_refused x c = rows_refused kinds b t w.accepts xs rows x c
 
 -- ---- match
 
 -- what is asked is known, and so is the verdict on the card
-module _ (asked : Step Question) (q : Question) (card : List ℕ) (p : asked ≡ found q) (v : CardVerdict) (e : (i : ℕ) → verdict_step v i ≡ card_verdict q i card) where
+module _ (asked : Step Question) (q : Question) (card : List ℕ) (p : asked ≡ found q) (v : Result Bool Reason) (e : (i : ℕ) → verdict_step v i ≡ card_verdict q i card) where
   match_is : match_by asked card ≡ answer (verdict_step v 0 >>= λ y. found (yes_or_no y))
   unfolding match_by card_verdict
   match_is = rw (p, e 0) (ap answer (yes_or_no_after (accept_card q.parameters 0 card) (λ c. q.says c.entries)))
 
-  pub match_answered : (m : Matched) → matched_answer m ≡ verdict_answer v → matched_answer m ≡ match_by asked card
+  pub match_answered : (m : Result Bool Refusal) → matched_answer m ≡ verdict_answer v → matched_answer m ≡ match_by asked card
   unfolding verdict_answer
   match_answered m h = h ∙ sym match_is
 
 -- by a filter that check has passed
-pub filter_answered : (b xs card : List ℕ) → Passing b xs → (v : CardVerdict) → ((i : ℕ) → verdict_step v i ≡ card_verdict (text_question (parameters_of b) (read xs)) i card) → (m : Matched) → matched_answer m ≡ verdict_answer v
+pub filter_answered : (b xs card : List ℕ) → Passing b xs → (v : Result Bool Reason) → ((i : ℕ) → verdict_step v i ≡ card_verdict (text_question (parameters_of b) (read xs)) i card) → (m : Result Bool Refusal) → matched_answer m ≡ verdict_answer v
     → matched_answer m ≡ match_answer b xs card
 filter_answered b xs card p = match_answered (filter_question b xs) (text_question (parameters_of b) (read xs)) card (passing_asks b xs p)
 
 -- ---- a verdict as match's answer
 
-module _ (v : CardVerdict) where
-  pub verdict_yes : (y : Bool) → v ≡ CardVerdict.Says y → y ≡ true → matched_answer Matched.Yes ≡ verdict_answer v
+module _ (v : Result Bool Reason) where
+  pub verdict_yes : (y : Bool) → v ≡ Ok y → y ≡ true → matched_answer (Ok true) ≡ verdict_answer v
   unfolding matched_answer verdict_answer
   verdict_yes y h k = rw (h, k)
 
-  pub verdict_no : (y : Bool) → v ≡ CardVerdict.Says y → y ≡ false → matched_answer Matched.No ≡ verdict_answer v
+  pub verdict_no : (y : Bool) → v ≡ Ok y → y ≡ false → matched_answer (Ok false) ≡ verdict_answer v
   unfolding matched_answer verdict_answer
   verdict_no y h k = rw (h, k)
 
-  pub verdict_refused : (r : Refusal) → v ≡ CardVerdict.Refused r.reason → r.place ≡ 0 → matched_answer (Matched.Refused r) ≡ verdict_answer v
+  pub verdict_refused : (r : Refusal) → v ≡ Err r.reason → r.place ≡ 0 → matched_answer (Err r) ≡ verdict_answer v
   unfolding matched_answer refusal_answer verdict_answer
   verdict_refused r h z = rw (h, z)

@@ -1,6 +1,6 @@
 -- One card under a sheet: what the cases of the code's answers state of it, and what rows ask of it.
 -- Assumes nothing.
-use Rattle.std.specs.Prelude.{ℕ, ◌≡◌, Bool, List, ℤ}
+use Rattle.std.specs.Prelude.{ℕ, ◌≡◌, Bool, List, ℤ, Err, Ok, Result, ⊤}
 use Rattle.block.specs.declared.Validity.{Validity}
 use Rattle.sheet.specs.Sheet.{Parameter}
 use Rattle.sheet.specs.Find.{kinds_of}
@@ -10,37 +10,36 @@ use Rattle.row_judge.specs.Saying.{rows_say}
 use Rattle.refusal.specs.Answers.{Answer, yes_or_no, number_of}
 use Rattle.refusal.specs.Steps.{Step, found, stop, ◌>>=◌, answer}
 use Rattle.answer.specs.Operations.{Card, accept_card, Question}
-use Rattle.one_card.specs.declared.CardAcceptance.{CardAcceptance}
-use Rattle.one_card.specs.declared.CardVerdict.{CardVerdict}
+use Rattle.refusal.specs.declared.Reason.{Reason}
 
 -- ---- it is accepted
 
 -- what each case of the code's answer states of the card with the index i
-abbrev pub acceptance_step : CardAcceptance → List ℕ → ℕ → Step Card
-acceptance_step CardAcceptance.Conforming b i = found (record { number = record_number b; entries = entries_of b })
-acceptance_step (CardAcceptance.Refused r) b i = stop (number_of r) i
+abbrev pub acceptance_step : Result ⊤ Reason → List ℕ → ℕ → Step Card
+acceptance_step (Ok tt) b i = found (record { number = record_number b; entries = entries_of b })
+acceptance_step (Err r) b i = stop (number_of r) i
 
 -- what accepting a card answers, by the kinds of the sheet
-pub record AcceptsCard (kinds card : List ℕ) (r : CardAcceptance) : Type 0 where
-  pub well_formed : r ≡ CardAcceptance.Conforming → read_card card ≡ Validity.WellFormed
+pub record AcceptsCard (kinds card : List ℕ) (r : Result ⊤ Reason) : Type 0 where
+  pub well_formed : r ≡ (Ok tt) → read_card card ≡ Validity.WellFormed
   pub steps : (ps : List Parameter) → kinds ≡ kinds_of ps → (i : ℕ) → acceptance_step r card i ≡ accept_card ps i card
 
 -- the same, with what is kept of a card that is accepted in lists that were lent
-pub record TakesCard (kinds card before cells : List ℕ) (spans : List ℤ) (r : CardAcceptance) : Type 0 where
+pub record TakesCard (kinds card before cells : List ℕ) (spans : List ℤ) (r : Result ⊤ Reason) : Type 0 where
   pub accepts : AcceptsCard kinds card r
   pub lent : Lent cells spans
   pub begins : BeginsAlike before cells
-  pub keeps : r ≡ CardAcceptance.Conforming → KeepsCard card cells spans
+  pub keeps : r ≡ (Ok tt) → KeepsCard card cells spans
 
 -- ---- and judged
 
 -- what each case of the code's verdict states of the card with the index i
-abbrev pub verdict_step : CardVerdict → ℕ → Step Bool
-verdict_step (CardVerdict.Says b) i = found b
-verdict_step (CardVerdict.Refused r) i = stop (number_of r) i
+abbrev pub verdict_step : Result Bool Reason → ℕ → Step Bool
+verdict_step (Ok b) i = found b
+verdict_step (Err r) i = stop (number_of r) i
 
 -- the answer of match that a verdict makes
-unfoldable pub verdict_answer : CardVerdict → Answer
+unfoldable pub verdict_answer : Result Bool Reason → Answer
 verdict_answer v = answer (verdict_step v 0 >>= λ y. found (yes_or_no y))
 
 -- what rows ask over a text

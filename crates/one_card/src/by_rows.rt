@@ -10,7 +10,6 @@ ghost use Rattle.answer.specs.Passing.{card_verdict};
 ghost use Rattle.one_card.specs.OneCard.{verdict_step};
 ghost use Rattle.one_card.specs.OneCard.{cells_question, TakesCard};
 
-use crate::{CardAcceptance, CardVerdict};
 use block::Validity;
 use card_reader::read_entries;
 use judge::Chosen;
@@ -19,7 +18,7 @@ use row_judge::{lend_for, rows_say};
 use row_opener::open_rows;
 
 // Reads a card as accept_card does, and keeps what its entries read to; `kinds` are those of the sheet.
-fn take_card(kinds: &[u8], card: &[u8], cells: &mut [u64], spans: &mut [i64]) -> CardAcceptance
+fn take_card(kinds: &[u8], card: &[u8], cells: &mut [u64], spans: &mut [i64]) -> Result<(), Reason>
     requires kinds_len { length kinds.now ≡ 32 }
     requires lent { Lent cells.old spans.old }
     ensures { TakesCard kinds.now card.now cells.old cells.new spans.new result }
@@ -28,13 +27,13 @@ fn take_card(kinds: &[u8], card: &[u8], cells: &mut [u64], spans: &mut [i64]) ->
     match reading {
         Validity::WellFormed => {
             if read_entries(kinds, card, cells, spans) {
-                return CardAcceptance::Conforming;
+                return Ok(());
             }
-            CardAcceptance::Refused(Reason::CardMisfit)
+            Err(Reason::CardMisfit)
         }
-        Validity::WrongSize => CardAcceptance::Refused(Reason::CardSize),
-        Validity::WrongSum => CardAcceptance::Refused(Reason::CardSum),
-        Validity::WrongLayout => CardAcceptance::Refused(Reason::CardLayout),
+        Validity::WrongSize => Err(Reason::CardSize),
+        Validity::WrongSum => Err(Reason::CardSum),
+        Validity::WrongLayout => Err(Reason::CardLayout),
     }
 }
 
@@ -48,7 +47,7 @@ pub fn judge_by_rows(
     card: &[u8],
     cells: &mut [u64],
     spans: &mut [i64],
-) -> CardVerdict
+) -> Result<bool, Reason>
     requires kinds_len { length kinds.now ≡ 32 }
     requires filter_len_bound { length filter.now ≤ 1024 }
     requires whole { Whole rows.now }
@@ -59,14 +58,14 @@ pub fn judge_by_rows(
 {
     let accepted = take_card(kinds, card, cells, spans);
     match accepted {
-        CardAcceptance::Conforming => {
+        Ok(()) => {
             let every = Chosen {
                 all: true,
                 occurrence: 0,
             };
-            CardVerdict::Says(rows_say(filter, rows, values, ends, card, cells, spans, every))
+            Ok(rows_say(filter, rows, values, ends, card, cells, spans, every))
         }
-        CardAcceptance::Refused(reason) => CardVerdict::Refused(reason),
+        Err(reason) => Err(reason),
     }
 }
 
@@ -78,7 +77,7 @@ fn judge_opened(
     values: &[u64],
     ends: &[i64],
     card: &[u8],
-) -> CardVerdict
+) -> Result<bool, Reason>
     requires kinds_len { length kinds.now ≡ 32 }
     requires filter_len_bound { length filter.now ≤ 1024 }
     requires whole { Whole rows.now }
@@ -94,7 +93,7 @@ fn judge_opened(
 }
 
 // The same of a few rows that are opened for this card alone: their lists take less time to clear.
-fn judge_few(kinds: &[u8], filter: &[u8], rows: &[u32], card: &[u8]) -> CardVerdict
+fn judge_few(kinds: &[u8], filter: &[u8], rows: &[u32], card: &[u8]) -> Result<bool, Reason>
     requires kinds_len { length kinds.now ≡ 32 }
     requires filter_len_bound { length filter.now ≤ 1024 }
     requires whole { Whole rows.now }
@@ -108,7 +107,7 @@ fn judge_few(kinds: &[u8], filter: &[u8], rows: &[u32], card: &[u8]) -> CardVerd
 }
 
 // The same of rows that are opened for this card alone; good rows are that few.
-pub fn judge_once(kinds: &[u8], filter: &[u8], rows: &[u32], card: &[u8]) -> CardVerdict
+pub fn judge_once(kinds: &[u8], filter: &[u8], rows: &[u32], card: &[u8]) -> Result<bool, Reason>
     requires kinds_len { length kinds.now ≡ 32 }
     requires filter_len_bound { length filter.now ≤ 1024 }
     requires whole { Whole rows.now }

@@ -7,11 +7,12 @@ ghost use Rattle.syntax.specs.Reader.{read};
 ghost use Rattle.answer.specs.Passing.{Passing, text_says, text_question, card_verdict};
 ghost use Rattle.one_card.specs.OneCard.{verdict_step};
 
-use crate::{CardAcceptance, CardVerdict, accept_card};
+use crate::accept_card;
 use block::Validity;
 use filter::top;
 use judge::Chosen;
 use text_judge::{Judged, judge_filter};
+use refusal::Reason;
 
 // What a filter that check has passed says of a well-formed card.
 fn text_says(sheet: &[u8], filter: &[u8], card: &[u8]) -> bool
@@ -32,14 +33,14 @@ fn text_says(sheet: &[u8], filter: &[u8], card: &[u8]) -> bool
 }
 
 // The verdict of a filter's text on a card, or why the card is refused; `kinds` are those of the sheet.
-pub fn judge_by_text(sheet: &[u8], kinds: &[u8], filter: &[u8], card: &[u8]) -> CardVerdict
+pub fn judge_by_text(sheet: &[u8], kinds: &[u8], filter: &[u8], card: &[u8]) -> Result<bool, Reason>
     requires passing { Passing sheet.now filter.now }
     requires kinds_value { kinds.now ≡ kinds_of (parameters_of sheet.now) }
     ensures { (i : ℕ) → verdict_step result i ≡ card_verdict (text_question (parameters_of sheet.now) (read filter.now)) i card.now }
 {
     let accepted = accept_card(kinds, card);
     match accepted {
-        CardAcceptance::Conforming => CardVerdict::Says(text_says(sheet, filter, card)),
-        CardAcceptance::Refused(reason) => CardVerdict::Refused(reason),
+        Ok(()) => Ok(text_says(sheet, filter, card)),
+        Err(reason) => Err(reason),
     }
 }

@@ -1,5 +1,6 @@
 -- What a run's selection comes to: its text, its turn, and how small its numbers are.
 -- Assumes nothing.
+use Rattle.std.specs.Prelude.{Err, Ok, Result}
 use Prim.Native.Nat.{ℕ, ◌^◌, ◌≤◌, ◌<◌}
 use native.Mathlib.Nat.{sub-zero}
 use native.Mathlib.Omega.{arith}
@@ -13,10 +14,8 @@ use Rattle.base.specs.Parts.{part}
 use Rattle.base.specs.Writing.{Room, Puts}
 use Rattle.listing.proofs.Putting.{lines-length, count_room}
 use Rattle.refusal.specs.declared.Refusal.{Refusal}
-use Rattle.answer.specs.declared.Selected.{Selected}
-use Rattle.refusal.specs.Answers.{Answer, count, refused, number_of, refusal_answer, PlaceBound}
+use Rattle.refusal.specs.Answers.{Answer, count, refused, number_of, refusal_answer, PlaceBound, counted_answer}
 use Rattle.refusal.specs.Steps.{Step, found, stop, answer, ◌>>=◌}
-use Rattle.answer.specs.Answers.{selected_answer}
 use Rattle.sirophan.specs.Operations.{SelectsInto}
 use Rattle.answer.specs.Operations.{filter_question, selection, select_by, cells_by, written, select_answer}
 use Rattle.sirophan.proofs.Promises.{select_count_within, select_place_within}
@@ -98,20 +97,20 @@ turn_added sheet text cards most t (stop k p) e Turn.Ended a = a
 pub run_added : (sheet text cards : List ℕ) (t : Totals) {entry out : List ℕ} {r : RunText} → RunPut sheet text cards t entry out r → length cards ≤ 65536 → RunAdds sheet text cards t r.turn
 run_added sheet text cards t {r = r} p most = record { added = turn_added sheet text cards most t (selection (filter_question sheet text) cards 128) refl r.turn p.turn }
 
-module _ (sheet text cards list : List ℕ) {r : Selected} {exit : List ℕ} (s : SelectsInto sheet text cards list r exit) where
-  pub selected_count : (n : ℕ) → r ≡ Selected.Count n → n ≤ length list
-  unfolding selected_answer
+module _ (sheet text cards list : List ℕ) {r : Result ℕ Refusal} {exit : List ℕ} (s : SelectsInto sheet text cards list r exit) where
+  pub selected_count : (n : ℕ) → r ≡ Ok n → n ≤ length list
+  unfolding counted_answer
   selected_count n e = select_count_within sheet text cards list n (sym s.answers ∙ rw e)
 
-  pub selected_place : (x : Refusal) → r ≡ Selected.Refused x → PlaceBound (number_of x.reason) x.place
-  unfolding selected_answer refusal_answer
+  pub selected_place : (x : Refusal) → r ≡ Err x → PlaceBound (number_of x.reason) x.place
+  unfolding counted_answer refusal_answer
   selected_place x e = record { within = select_place_within sheet text cards list (number_of x.reason) x.place (sym s.answers ∙ rw e) }
 
   module _ (h : length list ≡ 128) (t : Totals) {entry out : List ℕ} where
     -- the part of the list that select filled, line by line
-    pub selected_run : {n : ℕ} → r ≡ Selected.Count n → (u : Totals) → Added t n (length cards) u → (x : RunText) → ListedPut (part exit 0 n) u (length cards) entry out x
+    pub selected_run : {n : ℕ} → r ≡ Ok n → (u : Totals) → Added t n (length cards) u → (x : RunText) → ListedPut (part exit 0 n) u (length cards) entry out x
         → RunPut sheet text cards t entry out x
-    unfolding selected_answer select_by cells_by
+    unfolding counted_answer select_by cells_by
     selected_run {n} e u a x p =
         let l : Listed (selection (filter_question sheet text) cards 128) n list = rw (← h) (listed (selection (filter_question sheet text) cards (length list)) n list (sym s.answers ∙ rw e)) in
         let cells : exit ≡ written (selection (filter_question sheet text) cards 128) list = rw (← h) s.cells in
@@ -119,9 +118,9 @@ module _ (sheet text cards list : List ℕ) {r : Selected} {exit : List ℕ} (s 
         run_listed sheet text cards t l.numbers l.finds u (rw l.many a) (rw (← same) p.text) x.turn p.turn
 
     -- the line of the refusal, with its place in the file
-    pub refused_run : (x : Refusal) → r ≡ Selected.Refused x → {k number place : ℕ} → k ≡ number_of x.reason → number ≡ k → place ≡ place_in_file k x.place t.cards
+    pub refused_run : (x : Refusal) → r ≡ Err x → {k number place : ℕ} → k ≡ number_of x.reason → number ≡ k → place ≡ place_in_file k x.place t.cards
         → {size : ℕ} → Puts (refusal_line number place) entry out size → RunPut sheet text cards t entry out (record { size = size; turn = Turn.Ended })
-    unfolding selected_answer refusal_answer select_by
+    unfolding counted_answer refusal_answer select_by
     refused_run x e {k} {number} {place} ek en ep p =
         let stops : selection (filter_question sheet text) cards 128 ≡ stop (number_of x.reason) x.place = rw (← h) (stopped (selection (filter_question sheet text) cards (length list)) (number_of x.reason) x.place (sym s.answers ∙ rw e)) in
         run_stopped sheet text cards t (number_of x.reason) x.place stops (rw (← ek, ← ep, ← en) p)

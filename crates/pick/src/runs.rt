@@ -9,7 +9,7 @@ use crate::files::{Filled, fill};
 use crate::printing::{print, print_failure};
 use listing::{Totals, add_run, place_in_file, put_count, put_lines, put_refusal, wide};
 use refusal::number;
-use sirophan::{Selected, select};
+use sirophan::select;
 use std::io::Read;
 
 // The bytes of 128 cards. A run of fewer is the last, and may have none.
@@ -75,11 +75,11 @@ fn put_run(sheet: &[u8], filter: &[u8], cards: &[u8], totals: Totals, out: &mut 
     let mut list = [0u32; 128];
     let selected = select(sheet, filter, cards, &mut list);
     match selected {
-        Selected::Count(count) => {
+        Ok(count) => {
             let more = add_run(totals, count, cards.len());
             put_listed(&list[0..count], more, cards.len(), out)
         }
-        Selected::Refused(refusal) => {
+        Err(refusal) => {
             let reason = refusal.reason;
             let number = number(reason);
             let place = place_in_file(number, refusal.place, totals.cards);

@@ -4,6 +4,7 @@
 -- (`advances`). That fewer than j brackets are open is that the number is below 2 to the j (`fewer`, by induction on j). The loop keeps
 -- `Reaching`: what the machine answers from the state reached over the bytes that are left is its answer to the whole text.
 -- Assumes nothing.
+use Rattle.std.specs.Prelude.{Err, Ok, Result, ⊤}
 use Prim.Native.Nat.{ℕ, zero, suc, ◌+◌, ◌-◌, ◌*◌, ◌/◌, ◌%◌, ◌≤◌, ◌<◌}
 use Prim.Native.Char.{code}
 use native.Mathlib.Omega.{arith}
@@ -29,14 +30,12 @@ use Rattle.syntax.specs.declared.StringStep.{StringStep}
 use Rattle.syntax.specs.declared.FoundOperator.{FoundOperator}
 use Rattle.place.specs.declared.Mode.{Mode}
 use Rattle.place.specs.declared.Reached.{Reached}
-use Rattle.place.specs.declared.Outcome.{Outcome}
 use Rattle.refusal.specs.declared.Reason.{Reason}
 use Rattle.refusal.specs.declared.Refusal.{Refusal}
-use Rattle.place.specs.declared.Found.{Found}
 use Rattle.place.specs.Machine.{Phase, Bracket, round_open, square-open, State, state, Progress, live, deep, many, wrong, some_word, begins_operator, is_operator, step, on_step, failure_from, start, failure, item_over, over, on_live, ends_from, is_filter, found}
 use Rattle.place.specs.Machine as machine
 use Rattle.place.specs.Code as coded
-use Rattle.place.specs.Code.{digits, full, on, opened, chosen, closed, joined, ended, not_step, name_ends, on_quoted, quoted, by_mode, advance, name_from, phase_of}
+use Rattle.place.specs.Code.{Outcome, digits, full, on, opened, chosen, closed, joined, ended, not_step, name_ends, on_quoted, quoted, by_mode, advance, name_from, phase_of}
 
 -- ---- leaves
 
@@ -82,7 +81,7 @@ module _ (pending : Bool) (b k n : ℕ) (f : StringStep) (e : f ≡ step_of pend
   pub quoted_close : f ≡ StringStep.Close → z ≡ on Mode.AfterItem k n → z ≡ quoted pending b k n
   quoted_close h i = rw (sym e ∙ h) i
 
-  pub quoted_wrong : f ≡ StringStep.Wrong → z ≡ Outcome.Wrong → z ≡ quoted pending b k n
+  pub quoted_wrong : f ≡ StringStep.Wrong → z ≡ Err Reason.NoFilter → z ≡ quoted pending b k n
   quoted_wrong h i = rw (sym e ∙ h) i
 
 pub by_mode_lem : (xs : List ℕ) (p : ℕ) (r : Reached) (z : Outcome) (m : Mode) → r.mode ≡ m → z ≡ by_mode xs p m r.brackets r.tests → z ≡ advance xs p r
@@ -146,10 +145,17 @@ fewer (suc j) (square-open ∷ k) =
 -- the answer at p stands for the machine's
 data To (xs : List ℕ) (p : ℕ) : Outcome → Progress → Type 0 where
   to_live : {r : Reached} {f : Phase} {k : List Bracket} {n : ℕ} → phase_of xs (p + 1) r.mode ≡ f → r.brackets ≡ digits k → r.tests ≡ n
-      → To xs p (Outcome.Live r) (live (state f k n))
-  to_deep : To xs p Outcome.Deep deep
-  to_many : To xs p Outcome.Many many
-  to_wrong : To xs p Outcome.Wrong wrong
+      → To xs p (Ok r) (live (state f k n))
+  to_deep : To xs p (Err Reason.TooDeep) deep
+  to_many : To xs p (Err Reason.TooMany) many
+  to_wrong : To xs p (Err Reason.NoFilter) wrong
+
+-- a refusal is the machine's, and no filter ends there
+stopped_place : {xs : List ℕ} {p : ℕ} {n : Reason} {s : Progress} (next : State → Refusal) (ends : State → Bool) → To xs p (Err n) s
+    → (on_step s next p ≡ record { reason = n; place = p }) × (on_live s ends ≡ false)
+stopped_place next ends to_deep = (refl, refl)
+stopped_place next ends to_many = (refl, refl)
+stopped_place next ends to_wrong = (refl, refl)
 
 both : {xs : List ℕ} {p : ℕ} (a : Bool) {b : Bool} → a ≡ b → {o q : Outcome} {u v : Progress} → To xs p o u → To xs p q v → To xs p (cond a o q) (cond b u v)
 both true h s t = rw (← h) s
@@ -209,7 +215,7 @@ module _ (xs : List ℕ) (p : ℕ) (i : p < length xs) (x : ℕ) (k : List Brack
   to_name_end = both (is_space byte) refl (same Mode.AfterName) (both (eqb byte (code "[")) refl to_chosen to_wrong)
 
   -- the one byte that may come
-  to_one : (c : Bool) (f : Mode) → To xs p (cond c (on f x n) Outcome.Wrong) (cond c (live (state (phase_of xs (p + 1) f) k n)) wrong)
+  to_one : (c : Bool) (f : Mode) → To xs p (cond c (on f x n) (Err Reason.NoFilter)) (cond c (live (state (phase_of xs (p + 1) f) k n)) wrong)
   to_one c f = both c refl (same f) to_wrong
 
   name_one : part xs p (p + 1) ≡ byte ∷ []
@@ -251,10 +257,8 @@ module _ (xs : List ℕ) (p : ℕ) (i : p < length xs) (x : ℕ) (k : List Brack
 -- ---- a name begins before the next position too
 
 abbrev Onward : ℕ → Outcome → Type 0
-Onward p (Outcome.Live r) = name_from r.mode ≤ p + 1
-Onward p Outcome.Deep = Unit {0}
-Onward p Outcome.Many = Unit {0}
-Onward p Outcome.Wrong = Unit {0}
+Onward p (Ok r) = name_from r.mode ≤ p + 1
+Onward p (Err reason) = Unit {0}
 
 module _ (p k n : ℕ) where
   none : 0 ≤ p + 1
@@ -267,7 +271,7 @@ module _ (p k n : ℕ) where
   on-chosen =
       cond-elim (Onward p) (ltb k full) (λ h. cond-elim (Onward p) (ltb n 32) (λ h. none) (λ h. tt)) (λ h. cond-elim (Onward p) (ltb n 32) (λ h. tt) (λ h. tt))
 
-  on_one : (c : Bool) (r : Reached) → name_from r.mode ≤ p + 1 → Onward p (cond c (Outcome.Live r) Outcome.Wrong)
+  on_one : (c : Bool) (r : Reached) → name_from r.mode ≤ p + 1 → Onward p (cond c (Ok r) (Err Reason.NoFilter))
   on_one c r h = cond-elim (Onward p) c (λ e. h) (λ e. tt)
 
   on-closed : (b : ℕ) → Onward p (closed b k n)
@@ -374,9 +378,9 @@ pub over_brackets : (r : Reached) (t : Bool) → t ≡ coded.item_over r.mode �
 unfolding coded.over
 over_brackets r t e h = rw (sym e ∙ h)
 
-failed : (xs : List ℕ) (f : Refusal) → is_filter deepest most_tests xs ≡ false → f ≡ failure deepest most_tests xs → Found.Failed f ≡ found deepest most_tests xs
+failed : (xs : List ℕ) (f : Refusal) → is_filter deepest most_tests xs ≡ false → f ≡ failure deepest most_tests xs → Err f ≡ found deepest most_tests xs
 unfolding found
-failed xs f n e = rw n (ap (λ (x : Refusal). Found.Failed x) e)
+failed xs f n e = rw n (ap (λ (x : Refusal). Err x) e)
 
 module _ (xs : List ℕ) (at : ℕ) (r : Reached) (a : Reaching xs at r) where
   module _ (h : length xs ≤ at) (t : Bool) (e : t ≡ coded.over r) where
@@ -386,11 +390,11 @@ module _ (xs : List ℕ) (at : ℕ) (r : Reached) (a : Reaching xs at r) where
         a.ends ∙ rw (drop_of_length-le xs h) (over-digits a.open_brackets r.tests (phase_of xs at r.mode))
         ∙ ap (λ (b : Bool). b && eqb (digits a.open_brackets) 1) (over_mode xs at r.mode) ∙ ap (λ (n : ℕ). coded.item_over r.mode && eqb n 1) (sym a.written) ∙ sym e
 
-    pub reaching_filter : t ≡ true → Found.Filter ≡ found deepest most_tests xs
+    pub reaching_filter : t ≡ true → Ok tt ≡ found deepest most_tests xs
     unfolding found
     reaching_filter i = rw (ends-here ∙ i)
 
-    pub reaching_ends : t ≡ false → Found.Failed (record { reason = Reason.NoFilter; place = at }) ≡ found deepest most_tests xs
+    pub reaching_ends : t ≡ false → Err (record { reason = Reason.NoFilter; place = at }) ≡ found deepest most_tests xs
     unfolding failure_from
     reaching_ends i = failed xs (record { reason = Reason.NoFilter; place = at }) (ends-here ∙ i) (sym (a.left ∙ rw (drop_of_length-le xs h)))
 
@@ -420,11 +424,11 @@ module _ (xs : List ℕ) (at : ℕ) (r : Reached) (a : Reaching xs at r) where
         ∙ ap (λ (l : List ℕ). ends_from deepest most_tests (state (phase_of xs at r.mode) a.open_brackets r.tests) l)
         (drop-cons xs at 0 h ∙ ap (λ (q : ℕ). get_or xs at 0 ∷ drop q xs) (sym (add-one at)))
 
-    pub reaching_on : (next : Reached) → o ≡ Outcome.Live next → Reaching xs (at + 1) next
+    pub reaching_on : (next : Reached) → o ≡ Ok next → Reaching xs (at + 1) next
     unfolding advance
     reaching_on next f = go stepped (subst (λ (z : Outcome). To xs at z stepped) f to_step) one_on one_on-ends
       where
-        go : (s : Progress) → To xs at (Outcome.Live next) s → failure deepest most_tests xs ≡ on_step s next_from at → is_filter deepest most_tests xs ≡ on_live s next_ends → Reaching xs (at + 1) next
+        go : (s : Progress) → To xs at (Ok next) s → failure deepest most_tests xs ≡ on_step s next_from at → is_filter deepest most_tests xs ≡ on_live s next_ends → Reaching xs (at + 1) next
         go deep x3 z y = elim x3 [ ]
         go many x4 z y = elim x4 [ ]
         go wrong x5 z y = elim x5 [ ]
@@ -438,32 +442,11 @@ module _ (xs : List ℕ) (at : ℕ) (r : Reached) (a : Reaching xs at r) where
               ends = y ∙ rw (u, w);
             }
 
-    pub reaching_deep : o ≡ Outcome.Deep → Found.Failed (record { reason = Reason.TooDeep; place = at }) ≡ found deepest most_tests xs
-    reaching_deep f = go stepped (subst (λ (z : Outcome). To xs at z stepped) f to_step) one_on one_on-ends
-      where
-        go : (s : Progress) → To xs at Outcome.Deep s → failure deepest most_tests xs ≡ on_step s next_from at → is_filter deepest most_tests xs ≡ on_live s next_ends → Found.Failed (record { reason = Reason.TooDeep; place = at }) ≡ found deepest most_tests xs
-        go (live _) x4 z y = elim x4 [ ]
-        go many x4 z y = elim x4 [ ]
-        go wrong x5 z y = elim x5 [ ]
-        go deep to_deep z y = failed xs (record { reason = Reason.TooDeep; place = at }) y (sym z)
-
-    pub reaching_many : o ≡ Outcome.Many → Found.Failed (record { reason = Reason.TooMany; place = at }) ≡ found deepest most_tests xs
-    reaching_many f = go stepped (subst (λ (z : Outcome). To xs at z stepped) f to_step) one_on one_on-ends
-      where
-        go : (s : Progress) → To xs at Outcome.Many s → failure deepest most_tests xs ≡ on_step s next_from at → is_filter deepest most_tests xs ≡ on_live s next_ends → Found.Failed (record { reason = Reason.TooMany; place = at }) ≡ found deepest most_tests xs
-        go (live _) x4 z y = elim x4 [ ]
-        go deep x4 z y = elim x4 [ ]
-        go wrong x5 z y = elim x5 [ ]
-        go many to_many z y = failed xs (record { reason = Reason.TooMany; place = at }) y (sym z)
-
-    pub reaching_wrong : o ≡ Outcome.Wrong → Found.Failed (record { reason = Reason.NoFilter; place = at }) ≡ found deepest most_tests xs
-    reaching_wrong f = go stepped (subst (λ (z : Outcome). To xs at z stepped) f to_step) one_on one_on-ends
-      where
-        go : (s : Progress) → To xs at Outcome.Wrong s → failure deepest most_tests xs ≡ on_step s next_from at → is_filter deepest most_tests xs ≡ on_live s next_ends → Found.Failed (record { reason = Reason.NoFilter; place = at }) ≡ found deepest most_tests xs
-        go (live _) x4 z y = elim x4 [ ]
-        go deep x4 z y = elim x4 [ ]
-        go many x5 z y = elim x5 [ ]
-        go wrong to_wrong z y = failed xs (record { reason = Reason.NoFilter; place = at }) y (sym z)
+    pub reaching_stops : (reason : Reason) → o ≡ Err reason → Err (record { reason = reason; place = at }) ≡ found deepest most_tests xs
+    reaching_stops reason f =
+        let q : (on_step stepped next_from at ≡ record { reason = reason; place = at }) × (on_live stepped next_ends ≡ false)
+            = stopped_place next_from next_ends (subst (λ (z : Outcome). To xs at z stepped) f to_step) in
+        failed xs (record { reason = reason; place = at }) (one_on-ends ∙ q.1) (sym (one_on ∙ q.0))
 
 -- ---- where a text that is a filter would fail: at its end
 
@@ -479,17 +462,17 @@ ends-failure d m s (y ∷ ys) p e = go (step d m s y) e (λ t. ends-failure d m 
     go many h on = both_ways h refl
     go wrong h on = both_ways h refl
 
-module _ (xs : List ℕ) (r : Found) (e : r ≡ found deepest most_tests xs) where
-  pub failure_filter : r ≡ Found.Filter → record { reason = Reason.NoFilter; place = length xs } ≡ failure deepest most_tests xs
+module _ (xs : List ℕ) (r : Result ⊤ Refusal) (e : r ≡ found deepest most_tests xs) where
+  pub failure_filter : r ≡ Ok tt → record { reason = Reason.NoFilter; place = length xs } ≡ failure deepest most_tests xs
   unfolding found failure is_filter
   failure_filter h =
-      let t : is_filter deepest most_tests xs ≡ true = (cond-first (is_filter deepest most_tests xs) Found.Filter (Found.Failed (failure deepest most_tests xs)) (λ z. let y : ◌≡◌ {A = ℕ} 0 1 = cc in omega arith) (sym e ∙ h)).0 in
+      let t : is_filter deepest most_tests xs ≡ true = (cond-first (is_filter deepest most_tests xs) (Ok tt) (Err (failure deepest most_tests xs)) (λ z. let y : ◌≡◌ {A = ℕ} 0 1 = cc in omega arith) (sym e ∙ h)).0 in
       ap (λ (n : ℕ). record { reason = Reason.NoFilter; place = n }) (sym (zero-add (length xs))) ∙ ends-failure deepest most_tests start xs 0 t
 
-  pub failure_failed : (f : Refusal) → r ≡ Found.Failed f → f ≡ failure deepest most_tests xs
+  pub failure_failed : (f : Refusal) → r ≡ Err f → f ≡ failure deepest most_tests xs
   unfolding found
   failure_failed f h = go (is_filter deepest most_tests xs) (sym e ∙ h)
     where
-      go : (t : Bool) → cond t Found.Filter (Found.Failed (failure deepest most_tests xs)) ≡ Found.Failed f → f ≡ failure deepest most_tests xs
+      go : (t : Bool) → cond t (Ok (tt {0})) (Err (failure deepest most_tests xs)) ≡ Err f → f ≡ failure deepest most_tests xs
       go true z = absurd (let y : ◌≡◌ {A = ℕ} 0 1 = cc in omega arith)
       go false z = cc

@@ -1,5 +1,6 @@
 -- A text is a filter exactly where the machine goes over all of it and may end there.
 -- Assumes nothing.
+use Rattle.std.specs.Prelude.{Err, Ok, Result, ⊤}
 use Prim.Native.Nat.{ℕ, ◌+◌, ◌≤◌}
 use native.Mathlib.Nat.{zero-add}
 use native.Mathlib.Omega.{arith}
@@ -13,7 +14,6 @@ use Rattle.syntax.specs.Tree.{Tree}
 use Rattle.syntax.specs.Grammar.{Within, Spells, deepest, most_tests}
 use Rattle.place.specs.Machine.{Phase, at_item, in_name, after_not, after-name, in_operator, after_operator, at_value, in_bare, in-string, after_item, after-space, in_connective, after_square, at_member, in_member, State, state, Progress, live, deep, many, wrong, step, start, item_over, over, on_live, ends_from, is_filter, failure, found}
 use Rattle.refusal.specs.declared.Refusal.{Refusal}
-use Rattle.place.specs.declared.Found.{Found}
 use Rattle.place.proofs.Steps.{ended_bare, ended_item}
 use Rattle.place.proofs.Walks.{Walk, Runs, rests, goes, runs_walk, walk_runs}
 use Rattle.place.proofs.Walking.{within_walks}
@@ -80,19 +80,19 @@ filter_iff xs = (
   λ s. let w = within_walks s.1 in runs_ends (walk_runs w.2 refl) ∙ w.1,
 )
 
-module _ (xs : List ℕ) (r : Found) (e : r ≡ found deepest most_tests xs) where
-  found_by : (t : Bool) → is_filter deepest most_tests xs ≡ t → r ≡ cond t Found.Filter (Found.Failed (failure deepest most_tests xs))
+module _ (xs : List ℕ) (r : Result ⊤ Refusal) (e : r ≡ found deepest most_tests xs) where
+  found_by : (t : Bool) → is_filter deepest most_tests xs ≡ t → r ≡ cond t (Ok tt) (Err (failure deepest most_tests xs))
   unfolding found
-  found_by t h = e ∙ ap (λ (b : Bool). cond b Found.Filter (Found.Failed (failure deepest most_tests xs))) h
+  found_by t h = e ∙ ap (λ (b : Bool). cond b (Ok tt) (Err (failure deepest most_tests xs))) h
 
-  pub found_filter : r ≡ Found.Filter → (f : Tree) × Spells xs f
+  pub found_filter : r ≡ (Ok tt) → (f : Tree) × Spells xs f
   found_filter h = go (is_filter deepest most_tests xs) refl
     where
       go : (t : Bool) → is_filter deepest most_tests xs ≡ t → (f : Tree) × Spells xs f
       go true k = (filter_iff xs).0 k
       go false k = absurd (let z = found_by false k in let y : ◌≡◌ {A = ℕ} 0 1 = cc in omega arith)
 
-  pub found_failed : (p : Refusal) → r ≡ Found.Failed p → ((f : Tree) → Spells xs f → ⊥) × (p ≡ failure deepest most_tests xs)
+  pub found_failed : (p : Refusal) → r ≡ Err p → ((f : Tree) → Spells xs f → ⊥) × (p ≡ failure deepest most_tests xs)
   found_failed p h = go (is_filter deepest most_tests xs) refl
     where
       go : (t : Bool) → is_filter deepest most_tests xs ≡ t → ((f : Tree) → Spells xs f → ⊥) × (p ≡ failure deepest most_tests xs)

@@ -1,6 +1,6 @@
 -- The machine as the code has it: a name is told by where it begins, and the open brackets are the binary digits of a number.
 -- Assumes nothing.
-use Rattle.std.specs.Prelude.{ℕ, ◌+◌, ◌*◌, ◌/◌, ◌%◌, Bool, true, false, cond, ◌&&◌, List, [], ◌∷◌, eqb, ltb, get_or}
+use Rattle.std.specs.Prelude.{ℕ, ◌+◌, ◌*◌, ◌/◌, ◌%◌, Bool, true, false, cond, ◌&&◌, List, [], ◌∷◌, eqb, ltb, get_or, Err, Ok, Result}
 use Prim.Native.Char.{code}
 use Rattle.base.specs.Ascii.{ascii}
 use Rattle.base.specs.Lists.{equal}
@@ -12,8 +12,8 @@ use Rattle.syntax.specs.Scan.{is_space, step_of}
 use Rattle.syntax.specs.declared.StringStep.{StringStep}
 use Rattle.place.specs.declared.Mode.{Mode}
 use Rattle.place.specs.declared.Reached.{Reached}
-use Rattle.place.specs.declared.Outcome.{Outcome}
 use Rattle.place.specs.Machine.{Phase, at_item, in_name, after_not, after-name, in_operator, after_operator, at_value, in_bare, in-string, after_item, after-space, in_connective, after_square, at_member, in_member, Bracket, round_open, square-open, begins_operator, is_operator}
+use Rattle.refusal.specs.declared.Reason.{Reason}
 
 -- ---- the open brackets: a 1, then a 0 for a round one and a 1 for a square one, from the outermost to the innermost
 
@@ -28,62 +28,66 @@ full = 256
 
 -- ---- the steps
 
+-- what a byte comes to: the text may go on with it, or only beyond the limit on nesting (TooDeep), or beyond that on tests (TooMany), or not at all (NoFilter)
+abbrev pub Outcome : Type 0
+Outcome = Result Reached Reason
+
 abbrev pub on : Mode → ℕ → ℕ → Outcome
-on f k n = Outcome.Live (record { mode = f; brackets = k; tests = n })
+on f k n = Ok (record { mode = f; brackets = k; tests = n })
 
 abbrev pub opened : ℕ → ℕ → Outcome
-opened k n = cond (ltb k full) (on Mode.Item (2 * k) n) Outcome.Deep
+opened k n = cond (ltb k full) (on Mode.Item (2 * k) n) (Err Reason.TooDeep)
 
 abbrev pub chosen : ℕ → ℕ → Outcome
-chosen k n = cond (ltb k full) (cond (ltb n 32) (on Mode.Item (2 * k + 1) (n + 1)) Outcome.Many) (cond (ltb n 32) Outcome.Deep Outcome.Wrong)
+chosen k n = cond (ltb k full) (cond (ltb n 32) (on Mode.Item (2 * k + 1) (n + 1)) (Err Reason.TooMany)) (cond (ltb n 32) (Err Reason.TooDeep) (Err Reason.NoFilter))
 
 abbrev pub closed_round : (b k n : ℕ) → Outcome
-closed_round b k n = cond (eqb b round) (on Mode.AfterItem (k / 2) n) Outcome.Wrong
+closed_round b k n = cond (eqb b round) (on Mode.AfterItem (k / 2) n) (Err Reason.NoFilter)
 
 abbrev pub closed_square : (b k n : ℕ) → Outcome
-closed_square b k n = cond (eqb b square) (on Mode.AfterSquare (k / 2) n) Outcome.Wrong
+closed_square b k n = cond (eqb b square) (on Mode.AfterSquare (k / 2) n) (Err Reason.NoFilter)
 
 abbrev pub closed : (b k n : ℕ) → Outcome
-closed b k n = cond (eqb k 1) Outcome.Wrong (cond (eqb (k % 2) 0) (closed_round b k n) (closed_square b k n))
+closed b k n = cond (eqb k 1) (Err Reason.NoFilter) (cond (eqb (k % 2) 0) (closed_round b k n) (closed_square b k n))
 
 abbrev pub joined : Mode → ℕ → ℕ → Outcome
-joined f k n = cond (ltb n 32) (on f k (n + 1)) Outcome.Many
+joined f k n = cond (ltb n 32) (on f k (n + 1)) (Err Reason.TooMany)
 
 abbrev pub ended : ℕ → ℕ → ℕ → Outcome
 ended b k n = cond (is_space b) (on Mode.AfterSpace k n) (closed b k n)
 
 abbrev pub item_step : ℕ → ℕ → ℕ → ℕ → Outcome
 item_step b p k n =
-    cond (is_space b) (on Mode.Item k n) (cond (eqb b (code "(")) (opened k n) (cond (is_name_start b) (on (Mode.Name p) k n) Outcome.Wrong))
+    cond (is_space b) (on Mode.Item k n) (cond (eqb b (code "(")) (opened k n) (cond (is_name_start b) (on (Mode.Name p) k n) (Err Reason.NoFilter)))
 
 abbrev pub not_step : ℕ → ℕ → ℕ → Outcome
-not_step b k n = cond (is_space b) (cond (ltb k full) (on Mode.AfterNot k n) Outcome.Deep) (cond (eqb b (code "(")) (opened k n) Outcome.Wrong)
+not_step b k n = cond (is_space b) (cond (ltb k full) (on Mode.AfterNot k n) (Err Reason.TooDeep)) (cond (eqb b (code "(")) (opened k n) (Err Reason.NoFilter))
 
 abbrev pub name_ends : ℕ → ℕ → ℕ → Outcome
-name_ends b k n = cond (is_space b) (on Mode.AfterName k n) (cond (eqb b (code "[")) (chosen k n) Outcome.Wrong)
+name_ends b k n = cond (is_space b) (on Mode.AfterName k n) (cond (eqb b (code "[")) (chosen k n) (Err Reason.NoFilter))
 
 abbrev pub name_step : List ℕ → ℕ → ℕ → ℕ → ℕ → Outcome
 name_step xs from p k n =
     cond (is_name_part (get_or xs p 0)) (on (Mode.Name from) k n)
     (cond (is_name (part xs from p)) (name_ends (get_or xs p 0) k n)
-    (cond (equal (part xs from p) (ascii "not")) (not_step (get_or xs p 0) k n) Outcome.Wrong))
+    (cond (equal (part xs from p) (ascii "not")) (not_step (get_or xs p 0) k n) (Err Reason.NoFilter)))
 
 abbrev pub member_step : List ℕ → ℕ → ℕ → ℕ → ℕ → Outcome
 member_step xs from p k n =
     cond (is_name_part (get_or xs p 0)) (on (Mode.MemberName from) k n)
-    (cond (is_name (part xs from p)) (cond (is_space (get_or xs p 0)) (on Mode.AfterName k n) Outcome.Wrong) Outcome.Wrong)
+    (cond (is_name (part xs from p)) (cond (is_space (get_or xs p 0)) (on Mode.AfterName k n) (Err Reason.NoFilter)) (Err Reason.NoFilter))
 
 abbrev pub member_start : ℕ → ℕ → ℕ → ℕ → Outcome
-member_start b p k n = cond (is_name_start b) (on (Mode.MemberName p) k n) Outcome.Wrong
+member_start b p k n = cond (is_name_start b) (on (Mode.MemberName p) k n) (Err Reason.NoFilter)
 
 abbrev pub after_name : ℕ → ℕ → ℕ → Outcome
-after_name b k n = cond (is_space b) (on Mode.AfterName k n) (cond (begins_operator b) (on (Mode.Letter b) k n) Outcome.Wrong)
+after_name b k n = cond (is_space b) (on Mode.AfterName k n) (cond (begins_operator b) (on (Mode.Letter b) k n) (Err Reason.NoFilter))
 
 abbrev pub letter : ℕ → ℕ → ℕ → ℕ → Outcome
-letter x b k n = cond (is_operator (x ∷ b ∷ [])) (on Mode.AfterOperator k n) Outcome.Wrong
+letter x b k n = cond (is_operator (x ∷ b ∷ [])) (on Mode.AfterOperator k n) (Err Reason.NoFilter)
 
 abbrev pub value_step : ℕ → ℕ → ℕ → Outcome
-value_step b k n = cond (is_space b) (on Mode.Value k n) (cond (eqb b quote) (on (Mode.Quoted false) k n) (cond (is_bare b) (on Mode.Bare k n) Outcome.Wrong))
+value_step b k n = cond (is_space b) (on Mode.Value k n) (cond (eqb b quote) (on (Mode.Quoted false) k n) (cond (is_bare b) (on Mode.Bare k n) (Err Reason.NoFilter)))
 
 abbrev pub bare_step : ℕ → ℕ → ℕ → Outcome
 bare_step b k n = cond (is_bare b) (on Mode.Bare k n) (ended b k n)
@@ -91,7 +95,7 @@ bare_step b k n = cond (is_bare b) (on Mode.Bare k n) (ended b k n)
 abbrev pub on_quoted : ℕ → ℕ → StringStep → Outcome
 on_quoted k n (StringStep.More pending) = on (Mode.Quoted pending) k n
 on_quoted k n StringStep.Close = on Mode.AfterItem k n
-on_quoted k n StringStep.Wrong = Outcome.Wrong
+on_quoted k n StringStep.Wrong = (Err Reason.NoFilter)
 
 abbrev pub quoted : Bool → ℕ → ℕ → ℕ → Outcome
 quoted pending b k n = on_quoted k n (step_of pending b)
@@ -103,7 +107,7 @@ after_space b k n =
     (cond (eqb b (code "o")) (joined Mode.AfterO k n) (closed b k n)))
 
 abbrev pub expect : ℕ → Mode → ℕ → ℕ → ℕ → Outcome
-expect want f b k n = cond (eqb b want) (on f k n) Outcome.Wrong
+expect want f b k n = cond (eqb b want) (on f k n) (Err Reason.NoFilter)
 
 abbrev pub by_mode : List ℕ → ℕ → Mode → ℕ → ℕ → Outcome
 by_mode xs p Mode.Item k n = item_step (get_or xs p 0) p k n

@@ -1,6 +1,6 @@
 -- The machine that goes over a text byte by byte for as long as it begins a filter within the limits.
 -- Assumes nothing.
-use Rattle.std.specs.Prelude.{ℕ, suc, ◌+◌, Bool, true, false, cond, ◌||◌, List, [], ◌∷◌, ◌++◌, eqb, ltb, length}
+use Rattle.std.specs.Prelude.{ℕ, suc, ◌+◌, Bool, true, false, cond, ◌||◌, List, [], ◌∷◌, ◌++◌, eqb, ltb, length, Err, Ok, Result, ⊤}
 use Prim.Native.Char.{code}
 use Rattle.base.specs.Ascii.{ascii}
 use Rattle.base.specs.Lists.{equal, member}
@@ -12,7 +12,6 @@ use Rattle.syntax.specs.Scan.{is_space, step_of}
 use Rattle.syntax.specs.declared.StringStep.{StringStep}
 use Rattle.refusal.specs.declared.Reason.{Reason}
 use Rattle.refusal.specs.declared.Refusal.{Refusal}
-use Rattle.place.specs.declared.Found.{Found}
 
 -- what the bytes so far end in
 pub data Phase : Type 0 where
@@ -201,5 +200,5 @@ unfoldable pub is_filter : (d m : ℕ) → List ℕ → Bool
 is_filter d m xs = ends_from d m start xs
 
 -- a filter, or where the text fails to be one
-unfoldable pub found : (d m : ℕ) → List ℕ → Found
-found d m xs = cond (is_filter d m xs) Found.Filter (Found.Failed (failure d m xs))
+unfoldable pub found : (d m : ℕ) → List ℕ → Result ⊤ Refusal
+found d m xs = cond (is_filter d m xs) (Ok tt) (Err (failure d m xs))

@@ -56,23 +56,6 @@ pub struct Reached {
     pub tests: usize,
 }
 
-// A filter may go on with the byte; or only beyond the limit on nesting, or beyond that on tests; or not at all.
-#[derive(Clone, Copy)]
-pub enum Outcome {
-    Live(Reached),
-    Deep,
-    Many,
-    Wrong,
-}
-
-// What a text is: a filter, or none, and where it fails to be one: by the length of its longest beginning that begins some filter
-// within both limits.
-#[derive(Clone, Copy)]
-pub enum Found {
-    Filter,
-    Failed(Refusal),
-}
-
 // Whether an item has ended, perhaps with a space.
 fn item_over(mode: Mode) -> bool
     ensures { result ≡ item_over mode }
@@ -111,7 +94,7 @@ fn is_over(reached: Reached) -> bool
 }
 
 // Whether a text is a filter, or where it stops being the beginning of one.
-pub fn find(s: &[u8]) -> Found
+pub fn find(s: &[u8]) -> Result<(), Refusal>
     ensures { result ≡ found deepest most_tests s.now }
 {
     let mut reached = Reached {
@@ -122,34 +105,19 @@ pub fn find(s: &[u8]) -> Found
     let mut at = 0;
     while at < s.len() {
         match advance(s, at, reached) {
-            Outcome::Live(next) => {
+            Ok(next) => {
                 reached = next;
                 at += 1;
             }
-            Outcome::Deep => {
-                return Found::Failed(Refusal {
-                    reason: Reason::TooDeep,
-                    place: at,
-                });
-            }
-            Outcome::Many => {
-                return Found::Failed(Refusal {
-                    reason: Reason::TooMany,
-                    place: at,
-                });
-            }
-            Outcome::Wrong => {
-                return Found::Failed(Refusal {
-                    reason: Reason::NoFilter,
-                    place: at,
-                });
+            Err(reason) => {
+                return Err(Refusal { reason, place: at });
             }
         }
     }
     if is_over(reached) {
-        return Found::Filter;
+        return Ok(());
     }
-    Found::Failed(Refusal {
+    Err(Refusal {
         reason: Reason::NoFilter,
         place: at,
     })
@@ -160,10 +128,10 @@ pub fn find_failure(s: &[u8]) -> Refusal
     ensures { result ≡ failure deepest most_tests s.now }
 {
     match find(s) {
-        Found::Filter => Refusal {
+        Ok(()) => Refusal {
             reason: Reason::NoFilter,
             place: s.len(),
         },
-        Found::Failed(failure) => failure,
+        Err(failure) => failure,
     }
 }

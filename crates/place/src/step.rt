@@ -5,8 +5,9 @@ ghost use Rattle.base.specs.Lists.{member};
 ghost use Rattle.place.specs.Machine.{begins_operator, is_operator};
 ghost use Rattle.place.specs.Code.{on, opened, chosen, closed_round, closed_square, closed, joined, ended, item_step, not_step, name_ends, name_step, member_start, member_step, after_name, letter, quoted, value_step, bare_step, after_space, expect, advance, name_from};
 
-use crate::{Mode, Outcome, Reached};
+use crate::{Mode, Reached};
 use base::name::{is_name, is_name_part, is_name_start};
+use refusal::Reason;
 use syntax::scan::is_space;
 use syntax::test::read_operator;
 use syntax::value::{is_bare, string_step};
@@ -19,11 +20,15 @@ fn is(b: u8, x: u8) -> bool
     b == x
 }
 
+// What a byte comes to: the text may go on with it, or only beyond the limit on nesting (TooDeep), or beyond that on tests (TooMany), or
+// not at all (NoFilter).
+type Outcome = Result<Reached, Reason>;
+
 // The text may go on in a mode.
 fn live(mode: Mode, brackets: usize, tests: usize) -> Outcome
     ensures { result ≡ on mode brackets tests }
 {
-    Outcome::Live(Reached {
+    Ok(Reached {
         mode,
         brackets,
         tests,
@@ -37,7 +42,7 @@ fn opens(brackets: usize, tests: usize) -> Outcome
     if brackets < 256 {
         return live(Mode::Item, 2 * brackets, tests);
     }
-    Outcome::Deep
+    Err(Reason::TooDeep)
 }
 
 // A square bracket opens: one test more is due, the first one in it. Where both limits are met, neither alone is the reason.
@@ -48,12 +53,12 @@ fn chooses(brackets: usize, tests: usize) -> Outcome
         if tests < 32 {
             return live(Mode::Item, 2 * brackets + 1, tests + 1);
         }
-        return Outcome::Many;
+        return Err(Reason::TooMany);
     }
     if tests < 32 {
-        return Outcome::Deep;
+        return Err(Reason::TooDeep);
     }
-    Outcome::Wrong
+    Err(Reason::NoFilter)
 }
 
 // A byte that may close the innermost bracket, which is a round one.
@@ -63,7 +68,7 @@ fn closes_round(b: u8, brackets: usize, tests: usize) -> Outcome
     if is(b, b')') {
         return live(Mode::AfterItem, brackets / 2, tests);
     }
-    Outcome::Wrong
+    Err(Reason::NoFilter)
 }
 
 // A square one.
@@ -73,7 +78,7 @@ fn closes_square(b: u8, brackets: usize, tests: usize) -> Outcome
     if is(b, b']') {
         return live(Mode::AfterSquare, brackets / 2, tests);
     }
-    Outcome::Wrong
+    Err(Reason::NoFilter)
 }
 
 // A byte that may close the innermost bracket, if one is open.
@@ -81,7 +86,7 @@ fn closes(b: u8, brackets: usize, tests: usize) -> Outcome
     ensures { result ≡ closed b brackets tests }
 {
     if brackets == 1 {
-        return Outcome::Wrong;
+        return Err(Reason::NoFilter);
     }
     if brackets % 2 == 0 {
         return closes_round(b, brackets, tests);
@@ -96,7 +101,7 @@ fn joins(mode: Mode, brackets: usize, tests: usize) -> Outcome
     if tests < 32 {
         return live(mode, brackets, tests + 1);
     }
-    Outcome::Many
+    Err(Reason::TooMany)
 }
 
 // The byte after a value or a round bracket.
@@ -122,7 +127,7 @@ fn item_byte(b: u8, at: usize, brackets: usize, tests: usize) -> Outcome
     if is_name_start(b) {
         return live(Mode::Name(at), brackets, tests);
     }
-    Outcome::Wrong
+    Err(Reason::NoFilter)
 }
 
 // The byte after not, or after not and spaces.
@@ -133,12 +138,12 @@ fn not_byte(b: u8, brackets: usize, tests: usize) -> Outcome
         if brackets < 256 {
             return live(Mode::AfterNot, brackets, tests);
         }
-        return Outcome::Deep;
+        return Err(Reason::TooDeep);
     }
     if is(b, b'(') {
         return opens(brackets, tests);
     }
-    Outcome::Wrong
+    Err(Reason::NoFilter)
 }
 
 // The byte after a name.
@@ -151,7 +156,7 @@ fn name_ends(b: u8, brackets: usize, tests: usize) -> Outcome
     if is(b, b'[') {
         return chooses(brackets, tests);
     }
-    Outcome::Wrong
+    Err(Reason::NoFilter)
 }
 
 // The byte after the bytes of a name, or of not, that begin at `from`.
@@ -170,7 +175,7 @@ fn name_byte(s: &[u8], from: usize, at: usize, brackets: usize, tests: usize) ->
     if base::equal(&s[from..at], b"not") {
         return not_byte(b, brackets, tests);
     }
-    Outcome::Wrong
+    Err(Reason::NoFilter)
 }
 
 // The first byte of a member's name.
@@ -180,7 +185,7 @@ fn member_start(b: u8, at: usize, brackets: usize, tests: usize) -> Outcome
     if is_name_start(b) {
         return live(Mode::MemberName(at), brackets, tests);
     }
-    Outcome::Wrong
+    Err(Reason::NoFilter)
 }
 
 // The byte after the bytes of a member's name that begin at `from`.
@@ -197,9 +202,9 @@ fn member_byte(s: &[u8], from: usize, at: usize, brackets: usize, tests: usize) 
         if is_space(b) {
             return live(Mode::AfterName, brackets, tests);
         }
-        return Outcome::Wrong;
+        return Err(Reason::NoFilter);
     }
-    Outcome::Wrong
+    Err(Reason::NoFilter)
 }
 
 // Whether a letter begins one of eq, ne, co, sw, ew, gt, ge, sa, eb, ss, sb, ni.
@@ -252,7 +257,7 @@ fn after_name_byte(b: u8, brackets: usize, tests: usize) -> Outcome
     if begins_operator(b) {
         return live(Mode::Letter(b), brackets, tests);
     }
-    Outcome::Wrong
+    Err(Reason::NoFilter)
 }
 
 // The byte after an operator's first letter.
@@ -262,7 +267,7 @@ fn letter_byte(first: u8, b: u8, brackets: usize, tests: usize) -> Outcome
     if is_operator(first, b) {
         return live(Mode::AfterOperator, brackets, tests);
     }
-    Outcome::Wrong
+    Err(Reason::NoFilter)
 }
 
 // The byte where a value is due.
@@ -278,7 +283,7 @@ fn value_byte(b: u8, brackets: usize, tests: usize) -> Outcome
     if is_bare(b) {
         return live(Mode::Bare, brackets, tests);
     }
-    Outcome::Wrong
+    Err(Reason::NoFilter)
 }
 
 // The byte in or after a bare word.
@@ -298,7 +303,7 @@ fn quoted_byte(pending: bool, b: u8, brackets: usize, tests: usize) -> Outcome
     match string_step(pending, b) {
         StringStep::More(next) => live(Mode::Quoted(next), brackets, tests),
         StringStep::Close => live(Mode::AfterItem, brackets, tests),
-        StringStep::Wrong => Outcome::Wrong,
+        StringStep::Wrong => Err(Reason::NoFilter),
     }
 }
 
@@ -325,7 +330,7 @@ fn expect(want: u8, mode: Mode, b: u8, brackets: usize, tests: usize) -> Outcome
     if is(b, want) {
         return live(mode, brackets, tests);
     }
-    Outcome::Wrong
+    Err(Reason::NoFilter)
 }
 
 // What the byte at a position does.

@@ -5,6 +5,7 @@
 -- refusal (`text_refused`, `fill_sheet`). The room is tested last of all (`preparation_is`), which leaves the laws of the list: refused
 -- before, too short, or filled (`prepare_refused`, `prepare_short`, `prepare_done`).
 -- Assumes nothing.
+use Rattle.std.specs.Prelude.{Err, Ok, Result, ⊤}
 use Prim.Native.Nat.{ℕ, ◌+◌, ◌-◌, ◌≤◌, ◌<◌}
 use native.Mathlib.Omega.{arith}
 use mathlib.Core.Path.{◌≡◌, refl, sym, ap, subst, ◌∙◌}
@@ -24,7 +25,6 @@ use Rattle.syntax.specs.Reader.{parsed, filter_at, whole, read}
 use Rattle.syntax.proofs.Whole.{whole_trails, whole_many, whole_few}
 use Rattle.place.specs.Machine.{failure}
 use Rattle.judge.specs.Faults.{first_fault}
-use Rattle.refusal.specs.declared.Decision.{Decision}
 use Rattle.filter.specs.declared.Summary.{Summary}
 use Rattle.filter.specs.declared.Spot.{Spot}
 use Rattle.filter.specs.Walks.{top_spot}
@@ -36,58 +36,55 @@ use Rattle.row_writer.specs.declared.Written.{Written}
 use Rattle.row_writer.proofs.Writing as writing
 use Rattle.refusal.specs.declared.Reason.{Reason}
 use Rattle.refusal.specs.declared.Refusal.{Refusal}
-use Rattle.refusal.specs.Answers.{Answer, count, refused, number_of, refusal_answer}
+use Rattle.refusal.specs.Answers.{Answer, count, refused, number_of, refusal_answer, counted_answer}
 use Rattle.refusal.specs.Steps.{Step, found, stop, refusal_step, ◌>>=◌, answer}
-use Rattle.answer.specs.Answers.{checked_answer}
 use Rattle.answer.specs.Operations.{accept_filter, decision_step, tests_step, sheet_step, accept_sheet, Inputs, accept_inputs, written}
 use Rattle.answer.specs.Passing.{summary_answer}
-use Rattle.answer.specs.Preparing.{row_cells, accept_cells, preparation, prepare_answer, prepare_cells, prepared_answer, filled_step, text_rows, FillsText, Fills, Prepares}
-use Rattle.answer.specs.declared.Checked.{Checked}
-use Rattle.answer.specs.declared.Prepared.{Prepared}
+use Rattle.answer.specs.Preparing.{row_cells, accept_cells, preparation, prepare_answer, prepare_cells, filled_step, text_rows, FillsText, Fills, Prepares}
 use Rattle.answer.proofs.Inputs.{text_read}
 
 -- ---- refusals
 
-pub failure-prepared : (xs : List ℕ) (r : Refusal) → r ≡ failure deepest most_tests xs → prepared_answer (Prepared.Refused r) ≡ refusal_answer (failure deepest most_tests xs)
-unfolding prepared_answer
+pub failure-prepared : (xs : List ℕ) (r : Refusal) → r ≡ failure deepest most_tests xs → counted_answer (Err r) ≡ refusal_answer (failure deepest most_tests xs)
+unfolding counted_answer
 failure-prepared xs r e = ap refusal_answer e
 
-refused_step : (r : Prepared) (buffer : List ℕ) (n p : ℕ) → prepared_answer r ≡ refused n p → filled_step r buffer ≡ stop n p
-unfolding prepared_answer refusal_answer
-refused_step (Prepared.Cells k) buffer n p e = let z : ◌≡◌ {A = ℕ} 0 1 = cc in absurd (omega arith)
-refused_step (Prepared.Refused r) buffer n p e =
+refused_step : (r : Result ℕ Refusal) (buffer : List ℕ) (n p : ℕ) → counted_answer r ≡ refused n p → filled_step r buffer ≡ stop n p
+unfolding counted_answer refusal_answer
+refused_step (Ok k) buffer n p e = let z : ◌≡◌ {A = ℕ} 0 1 = cc in absurd (omega arith)
+refused_step (Err r) buffer n p e =
     let number : number_of r.reason ≡ n = cc in
     let where-at : r.place ≡ p = cc in
     rw (number, where-at)
 
-refused_room : (r : Prepared) (n p : ℕ) → prepared_answer r ≡ refused n p → (k : ℕ) → r ≡ Prepared.Cells k → ⊥
-unfolding prepared_answer
+refused_room : (r : Result ℕ Refusal) (n p : ℕ) → counted_answer r ≡ refused n p → (k : ℕ) → r ≡ Ok k → ⊥
+unfolding counted_answer
 refused_room r n p e k h =
-    let c : count k ≡ refused n p = sym (ap prepared_answer h) ∙ e in
+    let c : count k ≡ refused n p = sym (ap counted_answer h) ∙ e in
     let z : ◌≡◌ {A = ℕ} 0 1 = cc in omega arith
 
-module _ (ps : List Parameter) (xs : List ℕ) (r : Prepared) (buffer : List ℕ) where
-  text_refused : (n p : ℕ) → prepared_answer r ≡ refused n p → text_rows ps xs ≡ stop n p → FillsText ps xs r buffer
+module _ (ps : List Parameter) (xs : List ℕ) (r : Result ℕ Refusal) (buffer : List ℕ) where
+  text_refused : (n p : ℕ) → counted_answer r ≡ refused n p → text_rows ps xs ≡ stop n p → FillsText ps xs r buffer
   text_refused n p e s = record { rows = refused_step r buffer n p e ∙ sym s; room = λ k i. absurd (refused_room r n p e k i) }
 
-  pub fill_empty : length xs ≡ 0 → prepared_answer r ≡ refused (number_of Reason.FilterSize) 0 → FillsText ps xs r buffer
+  pub fill_empty : length xs ≡ 0 → counted_answer r ≡ refused (number_of Reason.FilterSize) 0 → FillsText ps xs r buffer
   unfolding text_rows accept_filter
   fill_empty z e = text_refused 10 0 e (rw (eq-eqb (length xs) 0 z))
 
-  pub fill_long : 1024 < length xs → prepared_answer r ≡ refused (number_of Reason.FilterSize) 0 → FillsText ps xs r buffer
+  pub fill_long : 1024 < length xs → counted_answer r ≡ refused (number_of Reason.FilterSize) 0 → FillsText ps xs r buffer
   unfolding text_rows accept_filter
   fill_long l e =
       let n : length xs ≡ 0 → ⊥ = λ z. omega arith in
       text_refused 10 0 e (rw (ne_eqb (length xs) 0 n, lt-ltb 1024 (length xs) l))
 
 -- check's answer to a text that is a filter tells whether one of its tests is refused
-none_refused : (s : Summary) (c : Checked) (n : ℕ) → checked_answer c ≡ summary_answer s → c ≡ Checked.Tests n → decision_step s.first ≡ found tt
-unfolding checked_answer summary_answer
-none_refused s c n e i = by_first_lem s.first (sym (ap checked_answer i) ∙ e)
+none_refused : (s : Summary) (c : Result ℕ Refusal) (n : ℕ) → counted_answer c ≡ summary_answer s → c ≡ Ok n → decision_step s.first ≡ found tt
+unfolding counted_answer summary_answer
+none_refused s c n e i = by_first_lem s.first (sym (ap counted_answer i) ∙ e)
   where
-    by_first_lem : (d : Decision) → count n ≡ answer (decision_step d >>= λ u. found (count s.tests)) → decision_step d ≡ found tt
-    by_first_lem Decision.Passed h = refl
-    by_first_lem (Decision.Refused r) h = let z : ◌≡◌ {A = ℕ} 0 1 = cc in absurd (omega arith)
+    by_first_lem : (d : Result ⊤ Refusal) → count n ≡ answer (decision_step d >>= λ u. found (count s.tests)) → decision_step d ≡ found tt
+    by_first_lem (Ok tt) h = refl
+    by_first_lem (Err r) h = let z : ◌≡◌ {A = ℕ} 0 1 = cc in absurd (omega arith)
 
 -- an answer that is a refusal comes of a step that stopped there
 stopped_at : {A : Type 0} (q : Step A) (a : A → Answer) (n p : ℕ) → ((x : A) → a x ≡ refused n p → ⊥) → answer (q >>= λ x. found (a x)) ≡ refused n p → q ≡ stop n p
@@ -97,10 +94,10 @@ stopped_at (stop m o) a n p k e =
     let where-at : o ≡ p = cc in
     rw (number, where-at)
 
-one_refused : (s : Summary) (c : Checked) (r : Refusal) → checked_answer c ≡ summary_answer s → c ≡ Checked.Refused r → decision_step s.first ≡ refusal_step r
-unfolding checked_answer summary_answer refusal_answer
+one_refused : (s : Summary) (c : Result ℕ Refusal) (r : Refusal) → counted_answer c ≡ summary_answer s → c ≡ Err r → decision_step s.first ≡ refusal_step r
+unfolding counted_answer summary_answer refusal_answer
 one_refused s c r e i =
-    stopped_at (decision_step s.first) (λ u. count s.tests) (number_of r.reason) r.place (λ x y. let z : ◌≡◌ {A = ℕ} 0 1 = cc in omega arith) (sym e ∙ ap checked_answer i)
+    stopped_at (decision_step s.first) (λ u. count s.tests) (number_of r.reason) r.place (λ x y. let z : ◌≡◌ {A = ℕ} 0 1 = cc in omega arith) (sym e ∙ ap counted_answer i)
 
 -- ---- the text
 
@@ -108,7 +105,7 @@ pub fill_room : (xs rows : List ℕ) (spot : Spot) → spot ≡ top_spot xs → 
 fill_room xs rows spot s short size = record { short = short; size = size; low = omega arith; within = top_within xs spot s }
 
 module _ (ps : List Parameter) (xs : List ℕ) (n : length xs ≡ 0 → ⊥) (l : length xs ≤ 1024) where
-  no_tree : (r : Prepared) (buffer : List ℕ) → read xs ≡ none → prepared_answer r ≡ refusal_answer (failure deepest most_tests xs) → FillsText ps xs r buffer
+  no_tree : (r : Result ℕ Refusal) (buffer : List ℕ) → read xs ≡ none → counted_answer r ≡ refusal_answer (failure deepest most_tests xs) → FillsText ps xs r buffer
   unfolding text_rows refusal_answer
   no_tree r buffer e h =
       text_refused ps xs r buffer (number_of (failure deepest most_tests xs).reason) (failure deepest most_tests xs).place h (rw (text_read xs n l none e))
@@ -117,7 +114,7 @@ module _ (ps : List Parameter) (xs : List ℕ) (n : length xs ≡ 0 → ⊥) (l 
     at_top : Wrote ps 0 xs 0 (filter_at spot.levels xs spot.close spot.at) v before after
     at_top = subst (λ (c : ℕ). Wrote ps c xs 0 (filter_at spot.levels xs spot.close spot.at) v before after) (top-bundle xs spot s) w
 
-    pub fill_nothing : (r : Prepared) → v ≡ Written.Nothing → prepared_answer r ≡ refusal_answer (failure deepest most_tests xs) → FillsText ps xs r after
+    pub fill_nothing : (r : Result ℕ Refusal) → v ≡ Written.Nothing → counted_answer r ≡ refusal_answer (failure deepest most_tests xs) → FillsText ps xs r after
     fill_nothing r h = no_tree r after (top_read xs spot s ∙ ap (whole xs) (writing.was_none ps 0 xs 0 at_top h))
 
     module _ (end : ℕ) (a : Outcome) (h : v ≡ Written.Done end a) where
@@ -134,13 +131,13 @@ module _ (ps : List Parameter) (xs : List ℕ) (n : length xs ≡ 0 → ⊥) (l 
         read_whole : read xs ≡ whole xs (parsed end was.tree)
         read_whole = top_read xs spot s ∙ ap (whole xs) was.read
 
-        pub fill_trails : (r : Prepared) → (behind ≡ length xs → ⊥) → prepared_answer r ≡ refusal_answer (failure deepest most_tests xs) → FillsText ps xs r after
+        pub fill_trails : (r : Result ℕ Refusal) → (behind ≡ length xs → ⊥) → counted_answer r ≡ refusal_answer (failure deepest most_tests xs) → FillsText ps xs r after
         fill_trails r k = no_tree r after (read_whole ∙ whole_trails xs end behind t was.tree k)
 
         tests_are : a.summary.tests ≡ length (tests_of was.tree)
         tests_are = ap (λ (o : Outcome). o.summary.tests) was.value
 
-        pub fill_many : (r : Prepared) → behind ≡ length xs → 32 < a.summary.tests → prepared_answer r ≡ refusal_answer (failure deepest most_tests xs) → FillsText ps xs r after
+        pub fill_many : (r : Result ℕ Refusal) → behind ≡ length xs → 32 < a.summary.tests → counted_answer r ≡ refusal_answer (failure deepest most_tests xs) → FillsText ps xs r after
         fill_many r k m = no_tree r after (read_whole ∙ whole_many xs end behind t was.tree k (omega (arith, tests_are)))
 
         -- the text is a filter: its tests decide
@@ -152,7 +149,7 @@ module _ (ps : List Parameter) (xs : List ℕ) (n : length xs ≡ 0 → ⊥) (l 
               ap (λ (q : Step Tree). q >>= λ f. decision_step (first_fault ps 0 (tests_of f)) >>= λ u. found (row_cells ps xs f)) r
               ∙ ap (λ (o : Outcome). decision_step o.summary.first >>= λ u. found (row_cells ps xs was.tree)) (sym was.value)
 
-          pub fill_done : (c : Checked) (n : ℕ) → checked_answer c ≡ summary_answer a.summary → c ≡ Checked.Tests n → length before ≡ 1024 → FillsText ps xs (Prepared.Cells a.cells) after
+          pub fill_done : (c : Result ℕ Refusal) (n : ℕ) → counted_answer c ≡ summary_answer a.summary → c ≡ Ok n → length before ≡ 1024 → FillsText ps xs (Ok a.cells) after
           fill_done c n e i size =
               let clean : decision_step a.summary.first ≡ found tt = none_refused a.summary c n e i in
               let same : a.cells ≡ cell_count was.tree = ap (λ (o : Outcome). o.cells) was.value in
@@ -163,7 +160,7 @@ module _ (ps : List Parameter) (xs : List ℕ) (n : length xs ≡ 0 → ⊥) (l 
                 room = λ j g. let x : a.cells ≡ j = cc in omega (arith, takes.cells_fit, takes.within, w.size, size);
               }
 
-          pub fill_fault : (c : Checked) (r : Refusal) → checked_answer c ≡ summary_answer a.summary → c ≡ Checked.Refused r → FillsText ps xs (Prepared.Refused r) after
+          pub fill_fault : (c : Result ℕ Refusal) (r : Refusal) → counted_answer c ≡ summary_answer a.summary → c ≡ Err r → FillsText ps xs (Err r) after
           fill_fault c r e i =
               let fault : decision_step a.summary.first ≡ refusal_step r = one_refused a.summary c r e i in
               record {
@@ -183,19 +180,19 @@ rows_filter : (ps : List Parameter) (xs : List ℕ) (t : Step Tree)
 rows_filter ps xs (found f) = rows_tests ps xs f (tests_step ps (tests_of f))
 rows_filter ps xs (stop n p) = refl
 
-module _ (b xs : List ℕ) (k : Validity) (e : k ≡ read_sheet b) (r : Prepared) (buffer : List ℕ) where
-  fill_sheet : (j : Validity) (n : ℕ) → ((ps : List Parameter) → sheet_step j ps ≡ stop n 0) → k ≡ j → prepared_answer r ≡ refused n 0 → Fills b xs r buffer
+module _ (b xs : List ℕ) (k : Validity) (e : k ≡ read_sheet b) (r : Result ℕ Refusal) (buffer : List ℕ) where
+  fill_sheet : (j : Validity) (n : ℕ) → ((ps : List Parameter) → sheet_step j ps ≡ stop n 0) → k ≡ j → counted_answer r ≡ refused n 0 → Fills b xs r buffer
   unfolding accept_inputs accept_sheet
   fill_sheet j n t i h =
       record { rows = refused_step r buffer n 0 h ∙ sym (rw (sym e ∙ i, t (parameters_of b))); room = λ m q. absurd (refused_room r n 0 h m q) }
 
-  pub fill_size : k ≡ Validity.WrongSize → prepared_answer r ≡ refused (number_of Reason.SheetSize) 0 → Fills b xs r buffer
+  pub fill_size : k ≡ Validity.WrongSize → counted_answer r ≡ refused (number_of Reason.SheetSize) 0 → Fills b xs r buffer
   fill_size = fill_sheet Validity.WrongSize 1 (λ ps. refl)
 
-  pub fill_sum : k ≡ Validity.WrongSum → prepared_answer r ≡ refused (number_of Reason.SheetSum) 0 → Fills b xs r buffer
+  pub fill_sum : k ≡ Validity.WrongSum → counted_answer r ≡ refused (number_of Reason.SheetSum) 0 → Fills b xs r buffer
   fill_sum = fill_sheet Validity.WrongSum 2 (λ ps. refl)
 
-  pub fill_layout : k ≡ Validity.WrongLayout → prepared_answer r ≡ refused (number_of Reason.SheetLayout) 0 → Fills b xs r buffer
+  pub fill_layout : k ≡ Validity.WrongLayout → counted_answer r ≡ refused (number_of Reason.SheetLayout) 0 → Fills b xs r buffer
   fill_layout = fill_sheet Validity.WrongLayout 3 (λ ps. refl)
 
   pub fill_right : k ≡ Validity.WellFormed → FillsText (parameters_of b) xs r buffer → Fills b xs r buffer
@@ -209,32 +206,32 @@ rows_room : {A : Type 0} (t : Step A) (g : A → List ℕ) (room : ℕ) → (t >
 rows_room (found a) g room = refl
 rows_room (stop n p) g room = refl
 
-module _ (b xs list : List ℕ) (r : Prepared) (buffer : List ℕ) (f : Fills b xs r buffer) where
+module _ (b xs list : List ℕ) (r : Result ℕ Refusal) (buffer : List ℕ) (f : Fills b xs r buffer) where
   preparation_is : preparation b xs (length list) ≡ filled_step r buffer >>= λ cs. accept_cells (length list) cs
   unfolding preparation
   preparation_is = rows_room (accept_inputs b xs) (λ p. row_cells p.parameters xs p.filter) (length list) ∙ ap (λ (q : Step (List ℕ)). q >>= λ cs. accept_cells (length list) cs) (sym f.rows)
 
-  pub prepare_refused : (q : Refusal) → r ≡ Prepared.Refused q → Prepares b xs list (Prepared.Refused q) list
-  unfolding prepare_answer prepare_cells prepared_answer refusal_answer
+  pub prepare_refused : (q : Refusal) → r ≡ Err q → Prepares b xs list (Err q) list
+  unfolding prepare_answer prepare_cells counted_answer refusal_answer
   prepare_refused q i =
-      let s : preparation b xs (length list) ≡ stop (number_of q.reason) q.place = preparation_is ∙ ap (λ (x : Prepared). filled_step x buffer >>= λ cs. accept_cells (length list) cs) i in
+      let s : preparation b xs (length list) ≡ stop (number_of q.reason) q.place = preparation_is ∙ ap (λ (x : Result ℕ Refusal). filled_step x buffer >>= λ cs. accept_cells (length list) cs) i in
       record { answers = sym (ap (λ (x : Step (List ℕ)). answer (x >>= λ cs. found (count (length cs)))) s); cells = sym (ap (λ (x : Step (List ℕ)). written x list) s) }
 
-  module _ (n : ℕ) (i : r ≡ Prepared.Cells n) where
+  module _ (n : ℕ) (i : r ≡ Ok n) where
     taken-length : length (take n buffer) ≡ n
     taken-length = length-take-le n buffer (f.room n i)
 
     filled : preparation b xs (length list) ≡ accept_cells (length list) (take n buffer)
-    filled = preparation_is ∙ ap (λ (x : Prepared). filled_step x buffer >>= λ cs. accept_cells (length list) cs) i
+    filled = preparation_is ∙ ap (λ (x : Result ℕ Refusal). filled_step x buffer >>= λ cs. accept_cells (length list) cs) i
 
-    pub prepare_short : length list < n → Prepares b xs list (Prepared.Refused (record { reason = Reason.ShortCells; place = n })) list
-    unfolding prepare_answer prepare_cells prepared_answer refusal_answer accept_cells
+    pub prepare_short : length list < n → Prepares b xs list (Err (record { reason = Reason.ShortCells; place = n })) list
+    unfolding prepare_answer prepare_cells counted_answer refusal_answer accept_cells
     prepare_short l =
         let s : preparation b xs (length list) ≡ stop 34 n = filled ∙ rw (taken-length, lt-leb n (length list) l) in
         record { answers = sym (ap (λ (x : Step (List ℕ)). answer (x >>= λ cs. found (count (length cs)))) s); cells = sym (ap (λ (x : Step (List ℕ)). written x list) s) }
 
-    pub prepare_done : (exit : List ℕ) → n ≤ length list → exit ≡ part buffer 0 n ++ drop (length (part buffer 0 n)) list → Prepares b xs list (Prepared.Cells n) exit
-    unfolding prepare_answer prepare_cells prepared_answer accept_cells
+    pub prepare_done : (exit : List ℕ) → n ≤ length list → exit ≡ part buffer 0 n ++ drop (length (part buffer 0 n)) list → Prepares b xs list (Ok n) exit
+    unfolding prepare_answer prepare_cells counted_answer accept_cells
     prepare_done exit l e =
         let all : n - 0 ≡ n = omega arith in
         let whole_part : part buffer 0 n ≡ take n buffer = ap (λ (k : ℕ). take k buffer) all in

@@ -5,10 +5,10 @@ ghost use Rattle.std.specs.Prelude.{◌≡◌, length};
 ghost use Rattle.sheet.specs.Sheet.{parameters_of, read_sheet};
 ghost use Rattle.syntax.specs.Grammar.{deepest, most_tests};
 ghost use Rattle.place.specs.Machine.{failure};
-ghost use Rattle.refusal.specs.Answers.{refused, number_of, refusal_answer};
-ghost use Rattle.answer.specs.Preparing.{prepared_answer, FillsText, Fills, Prepares};
+ghost use Rattle.refusal.specs.Answers.{refused, number_of, refusal_answer, counted_answer};
+ghost use Rattle.answer.specs.Preparing.{FillsText, Fills, Prepares};
 
-use answer::{Checked, Prepared, write};
+use answer::write;
 use block::Validity;
 use checking::outcome;
 use filter::top;
@@ -18,21 +18,21 @@ use row_writer::{Outcome, Written, write_filter};
 use syntax::scan::skip;
 
 // A refusal as prepare's answer.
-fn refuse(reason: Reason, place: usize) -> Prepared
-    ensures { prepared_answer result ≡ refused (number_of reason) place }
+fn refuse(reason: Reason, place: usize) -> Result<usize, Refusal>
+    ensures { counted_answer result ≡ refused (number_of reason) place }
 {
-    Prepared::Refused(Refusal { reason, place })
+    Err(Refusal { reason, place })
 }
 
 // The answer for a text that is no filter.
-fn no_filter(filter: &[u8]) -> Prepared
-    ensures { prepared_answer result ≡ refusal_answer (failure deepest most_tests filter.now) }
+fn no_filter(filter: &[u8]) -> Result<usize, Refusal>
+    ensures { counted_answer result ≡ refusal_answer (failure deepest most_tests filter.now) }
 {
-    Prepared::Refused(find_failure(filter))
+    Err(find_failure(filter))
 }
 
 // Writes the rows of a filter on a well-formed sheet into a buffer, which has a cell for each byte of the longest filter.
-fn fill_text(sheet: &[u8], filter: &[u8], buffer: &mut [u32]) -> Prepared
+fn fill_text(sheet: &[u8], filter: &[u8], buffer: &mut [u32]) -> Result<usize, Refusal>
     requires sheet_value { read_sheet sheet.now ≡ Validity.WellFormed }
     requires buffer_len { length buffer.old ≡ 1024 }
     ensures { FillsText (parameters_of sheet.now) filter.now result buffer.new }
@@ -57,8 +57,8 @@ fn fill_text(sheet: &[u8], filter: &[u8], buffer: &mut [u32]) -> Prepared
             }
             let checked = outcome(summary);
             match checked {
-                Checked::Tests(_) => Prepared::Cells(gathered.cells),
-                Checked::Refused(refusal) => Prepared::Refused(refusal),
+                Ok(_) => Ok(gathered.cells),
+                Err(refusal) => Err(refusal),
             }
         }
         Written::Nothing => no_filter(filter),
@@ -66,7 +66,7 @@ fn fill_text(sheet: &[u8], filter: &[u8], buffer: &mut [u32]) -> Prepared
 }
 
 // The same on any sheet.
-pub fn fill(sheet: &[u8], filter: &[u8], buffer: &mut [u32]) -> Prepared
+pub fn fill(sheet: &[u8], filter: &[u8], buffer: &mut [u32]) -> Result<usize, Refusal>
     requires { length buffer.old ≡ 1024 }
     ensures { Fills sheet.now filter.now result buffer.new }
 {
@@ -81,23 +81,23 @@ pub fn fill(sheet: &[u8], filter: &[u8], buffer: &mut [u32]) -> Prepared
 
 // Writes the rows of a filter into the list, from its first cell, and answers how many cells they fill; or why there is no answer, and
 // where. Later cells stay, and on a refusal all of them.
-pub fn prepare(sheet: &[u8], filter: &[u8], list: &mut [u32]) -> Prepared
+pub fn prepare(sheet: &[u8], filter: &[u8], list: &mut [u32]) -> Result<usize, Refusal>
     ensures { Prepares sheet.now filter.now list.old result list.new }
 {
     // a refusal writes nothing, so the rows wait here until the last byte is read
     let mut buffer = [0u32; 1024];
     let filled = fill(sheet, filter, &mut buffer);
     match filled {
-        Prepared::Cells(cells) => {
+        Ok(cells) => {
             if cells > list.len() {
-                return Prepared::Refused(Refusal {
+                return Err(Refusal {
                     reason: Reason::ShortCells,
                     place: cells,
                 });
             }
             write(&buffer[0..cells], list);
-            Prepared::Cells(cells)
+            Ok(cells)
         }
-        Prepared::Refused(refusal) => Prepared::Refused(refusal),
+        Err(refusal) => Err(refusal),
     }
 }

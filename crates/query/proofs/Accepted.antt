@@ -1,5 +1,6 @@
 -- What a search string that was accepted leaves: rows that keep its query; and why one was not accepted.
 -- Assumes nothing.
+use Rattle.std.specs.Prelude.{Err, Ok}
 use Prim.Native.Nat.{ℕ}
 use native.Mathlib.Omega.{arith}
 use mathlib.Core.Path.{◌≡◌, refl, ap, ◌∙◌}
@@ -7,7 +8,6 @@ use mathlib.Core.Bool.{false}
 use mathlib.Core.List.{List, [], ◌∷◌, ◌++◌, map, flatten}
 use lib.ListN.{take}
 use Rattle.base.proofs.All.{all_map}
-use Rattle.refusal.specs.declared.Decision.{Decision}
 use Rattle.refusal.specs.declared.Refusal.{Refusal}
 use Rattle.refusal.specs.Steps.{refusal_step}
 use Rattle.query.specs.Spelling.{Alternative, Query, alternatives_of}
@@ -41,7 +41,7 @@ kept_alternatives bytes [] = refl
 kept_alternatives bytes (r ∷ rs) = ap (λ (l : List Alternative). alternative_in bytes r ∷ l) (kept_alternatives bytes rs)
 
 module _ {text bytes : List ℕ} where
-  pub accepted_rows : {r : QueryRead} → AcceptsQuery text bytes r → r.decision ≡ Decision.Passed → (q : Query) × RowsOf text bytes r.rows q
+  pub accepted_rows : {r : QueryRead} → AcceptsQuery text bytes r → r.decision ≡ (Ok tt) → (q : Query) × RowsOf text bytes r.rows q
   unfolding alternatives_in rows_say
   accepted_rows (accepted_query {q = q} {rows = rows} used u e few k) o = (
     q,
@@ -60,6 +60,6 @@ module _ {text bytes : List ℕ} where
   accepted_rows (accepted_none e) o = absurd (let z : ◌≡◌ {A = ℕ} 0 1 = cc in omega arith)
 
   -- why one was not accepted
-  pub accepted_refused : {r : QueryRead} (x : Refusal) → AcceptsQuery text bytes r → r.decision ≡ Decision.Refused x → accept_query text ≡ refusal_step x
+  pub accepted_refused : {r : QueryRead} (x : Refusal) → AcceptsQuery text bytes r → r.decision ≡ Err x → accept_query text ≡ refusal_step x
   accepted_refused x (accepted_none {r = y} e) o = let z : y ≡ x = cc in e ∙ ap (λ (w : Refusal). refusal_step w) z
   accepted_refused x (accepted_query used u e few k) o = absurd (let z : ◌≡◌ {A = ℕ} 0 1 = cc in omega arith)

@@ -1,5 +1,6 @@
 -- A search string that is accepted, from the pairs that were read.
 -- Assumes nothing.
+use Rattle.std.specs.Prelude.{Err, Ok, Result, ⊤}
 use Prim.Native.Nat.{ℕ, suc, ◌≤◌, ◌<◌}
 use native.Mathlib.Omega.{arith}
 use mathlib.Core.Path.{◌≡◌, refl, ap, ◌∙◌}
@@ -8,7 +9,6 @@ use mathlib.Core.List.{List, [], ◌∷◌, flatten}
 use lib.Dec.{leb}
 use lib.ListN.{length, length-append}
 use borrow.Author.Tests.{eq-eqb, ne_eqb, lt-ltb, le-ltb, le-leb, lt-leb}
-use Rattle.refusal.specs.declared.Decision.{Decision}
 use Rattle.refusal.specs.declared.Reason.{Reason}
 use Rattle.refusal.specs.declared.Refusal.{Refusal}
 use Rattle.refusal.specs.Decisions.{refuse}
@@ -32,16 +32,16 @@ keep-length (p ∷ q) = omega (arith, length-append (keep_pair p) (keep_all q), 
 
 module _ (text : List ℕ) where
   -- a refusal of the definition's
-  not_accepted : (bytes : List ℕ) (rows : Rows) (d : Decision) (r : Refusal) → d ≡ Decision.Refused r → accept_query text ≡ refusal_step r → AcceptsQuery text bytes (record { rows = rows; decision = d })
+  not_accepted : (bytes : List ℕ) (rows : Rows) (d : Result ⊤ Refusal) (r : Refusal) → d ≡ Err r → accept_query text ≡ refusal_step r → AcceptsQuery text bytes (record { rows = rows; decision = d })
   not_accepted bytes rows d r g e = rw g (accepted_none {r = r} e)
 
-  pub query_empty : (bytes : List ℕ) (rows : Rows) (d : Decision) → d ≡ refuse Reason.FilterSize 0 → length text ≡ 0 → AcceptsQuery text bytes (record { rows = rows; decision = d })
+  pub query_empty : (bytes : List ℕ) (rows : Rows) (d : Result ⊤ Refusal) → d ≡ refuse Reason.FilterSize 0 → length text ≡ 0 → AcceptsQuery text bytes (record { rows = rows; decision = d })
   query_empty bytes rows d g e = not_accepted bytes rows d (record { reason = Reason.FilterSize; place = 0 }) g (by_size e)
     where
       by_size : length text ≡ 0 → accept_query text ≡ stop 10 0
       by_size e = unfold accept_query in rw (eq-eqb (length text) 0 e)
 
-  pub query_long : (bytes : List ℕ) (rows : Rows) (d : Decision) → d ≡ refuse Reason.FilterSize 0 → 1024 < length text → AcceptsQuery text bytes (record { rows = rows; decision = d })
+  pub query_long : (bytes : List ℕ) (rows : Rows) (d : Result ⊤ Refusal) → d ≡ refuse Reason.FilterSize 0 → 1024 < length text → AcceptsQuery text bytes (record { rows = rows; decision = d })
   query_long bytes rows d g h = not_accepted bytes rows d (record { reason = Reason.FilterSize; place = 0 }) g (by_size h)
     where
       by_size : 1024 < length text → accept_query text ≡ stop 10 0
@@ -53,23 +53,23 @@ module _ (text : List ℕ) where
     sized = rw (ne_eqb (length text) 0 n, le-ltb 1024 (length text) h)
 
     module _ (r : QueryRead) (d : QueryOf text bytes r) where
-      pub query_refused : (x : Refusal) → r.decision ≡ Decision.Refused x → AcceptsQuery text bytes r
+      pub query_refused : (x : Refusal) → r.decision ≡ Err x → AcceptsQuery text bytes r
       query_refused x e = by_case d e
         where
-          by_case : {y : QueryRead} → QueryOf text bytes y → y.decision ≡ Decision.Refused x → AcceptsQuery text bytes y
+          by_case : {y : QueryRead} → QueryOf text bytes y → y.decision ≡ Err x → AcceptsQuery text bytes y
           by_case (query_of used u q k) e = absurd (let z : ◌≡◌ {A = ℕ} 0 1 = cc in omega arith)
           by_case (query_of_none {at = p} q) e = accepted_none {r = record { reason = Reason.NoPair; place = p }} (sized ∙ rw q)
 
-      pub query_many : (x : Decision) → x ≡ refuse Reason.ManyAlternatives 0 → r.decision ≡ Decision.Passed → 32 < r.rows.count → AcceptsQuery text bytes (record { rows = r.rows; decision = x })
+      pub query_many : (x : Result ⊤ Refusal) → x ≡ refuse Reason.ManyAlternatives 0 → r.decision ≡ (Ok tt) → 32 < r.rows.count → AcceptsQuery text bytes (record { rows = r.rows; decision = x })
       query_many x g e l = not_accepted bytes r.rows x (record { reason = Reason.ManyAlternatives; place = 0 }) g (by_case d e l)
         where
-          by_case : {y : QueryRead} → QueryOf text bytes y → y.decision ≡ Decision.Passed → 32 < y.rows.count → accept_query text ≡ stop 51 0
+          by_case : {y : QueryRead} → QueryOf text bytes y → y.decision ≡ (Ok tt) → 32 < y.rows.count → accept_query text ≡ stop 51 0
           by_case (query_of {q = q} used u z k) e l = sized ∙ rw (z, lt-leb (length (alternatives_of q)) 32 (omega (arith, l, k.count, keep-length q)))
           by_case (query_of_none q) e l = absurd (let z : ◌≡◌ {A = ℕ} 0 1 = cc in omega arith)
 
-      pub query_accepted : r.decision ≡ Decision.Passed → r.rows.count ≤ 32 → AcceptsQuery text bytes r
+      pub query_accepted : r.decision ≡ (Ok tt) → r.rows.count ≤ 32 → AcceptsQuery text bytes r
       query_accepted e l = by_case d e l
         where
-          by_case : {y : QueryRead} → QueryOf text bytes y → y.decision ≡ Decision.Passed → y.rows.count ≤ 32 → AcceptsQuery text bytes y
+          by_case : {y : QueryRead} → QueryOf text bytes y → y.decision ≡ (Ok tt) → y.rows.count ≤ 32 → AcceptsQuery text bytes y
           by_case (query_of {q = q} used u z k) e l = accepted_query {q = q} used u (sized ∙ rw (z, le-leb (length (alternatives_of q)) 32 (omega (arith, l, k.count, keep-length q)))) l k
           by_case (query_of_none q) e l = absurd (let z : ◌≡◌ {A = ℕ} 0 1 = cc in omega arith)

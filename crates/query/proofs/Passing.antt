@@ -4,6 +4,7 @@
 -- the next ampersand, which is the definition's own cut (`read_next`). Either it is no pair, and the definition stops there with 50
 -- (`pass_bad`), or its alternatives are kept (file Holding) and one pair more is done (`pass-next`).
 -- Assumes nothing.
+use Rattle.std.specs.Prelude.{Ok, Result, ⊤}
 use Prim.Native.Nat.{ℕ, zero, suc, ◌+◌, ◌-◌, ◌≤◌, ◌<◌}
 use native.Mathlib.Nat.{zero-add}
 use native.Mathlib.Omega.{arith}
@@ -18,7 +19,6 @@ use Rattle.base.specs.Lists.{all_empty}
 use Rattle.base.specs.Parts.{part}
 use Rattle.base.specs.Runs.{run, run_end, differs, RunEnd}
 use Rattle.base.proofs.Parts.{part_length}
-use Rattle.refusal.specs.declared.Decision.{Decision}
 use Rattle.refusal.specs.declared.Reason.{Reason}
 use Rattle.refusal.specs.Decisions.{refuse}
 use Rattle.refusal.specs.Steps.{Step, found, stop, ◌>>=◌}
@@ -30,6 +30,7 @@ use Rattle.query.specs.declared.PairRead.{PairRead}
 use Rattle.query.specs.declared.Rows.{Rows}
 use Rattle.query.specs.declared.Held.{Held}
 use Rattle.query.proofs.Holding.{keeps_on}
+use Rattle.refusal.specs.declared.Refusal.{Refusal}
 
 -- the pairs before what is left
 abbrev pub after : Query → Step Query → Step Query
@@ -114,7 +115,7 @@ pass-starts text bytes rows h s r =
     }
 
 module _ {text bytes₀ bytes : List ℕ} {rows : Rows} {used at : ℕ} {more : Bool} (h : Pass text bytes₀ bytes rows used at more) where
-  pub pass-ends : more ≡ false → length bytes ≡ length bytes₀ → QueryOf text bytes (record { rows = rows; decision = Decision.Passed })
+  pub pass-ends : more ≡ false → length bytes ≡ length bytes₀ → QueryOf text bytes (record { rows = rows; decision = (Ok tt) })
   pass-ends m long = query_of used (omega (arith, h.inside, h.room)) (h.all m) h.keeps
 
   module _ (m : more ≡ true) where
@@ -143,7 +144,7 @@ module _ {text bytes₀ bytes : List ℕ} {rows : Rows} {used at : ℕ} {more : 
         pair_in_bytes = omega (arith, size, e.within, h.behind, h.room, long, length-take-le (length bytes - used) (drop used bytes) (omega (arith, length-drop used bytes)))
 
       -- the part is no pair
-      pub pass_bad : (out value : List ℕ) (r : PairRead) → PairOf (part text at end) out value r → r ≡ PairRead.Bad → (bytes' : List ℕ) (d : Decision) → d ≡ refuse Reason.NoPair at → QueryOf text bytes' (record { rows = rows; decision = d })
+      pub pass_bad : (out value : List ℕ) (r : PairRead) → PairOf (part text at end) out value r → r ≡ PairRead.Bad → (bytes' : List ℕ) (d : Result ⊤ Refusal) → d ≡ refuse Reason.NoPair at → QueryOf text bytes' (record { rows = rows; decision = d })
       pass_bad out value r p k bytes' d g = rw g (by_case (subst (PairOf (part text at end) out value) k p))
         where
           by_fuel : (n : ℕ) → length text < at + n → read_pair at (part text at end) ≡ stop 50 at → read_pairs n at (drop at text) ≡ stop 50 at

@@ -1,10 +1,9 @@
 -- A query as the code keeps it: rows over a buffer of decoded bytes.
 -- Assumes nothing.
-use Rattle.std.specs.Prelude.{ℕ, suc, ◌+◌, ◌≤◌, ◌≡◌, Bool, true, false, cond, ◌&&◌, ◌||◌, List, [], ◌∷◌, ◌++◌, map, ltb, length, take, set}
+use Rattle.std.specs.Prelude.{ℕ, suc, ◌+◌, ◌≤◌, ◌≡◌, Bool, true, false, cond, ◌&&◌, ◌||◌, List, [], ◌∷◌, ◌++◌, map, ltb, length, take, set, Err, Ok}
 use Rattle.base.specs.Lists.{All}
 use Rattle.base.specs.Parts.{part}
 use Rattle.query.specs.Spelling.{Alternative, Query, alternatives_of}
-use Rattle.refusal.specs.declared.Decision.{Decision}
 use Rattle.refusal.specs.declared.Reason.{Reason}
 use Rattle.refusal.specs.declared.Refusal.{Refusal}
 use Rattle.refusal.specs.Decisions.{refuse}
@@ -68,13 +67,13 @@ pub record PairHeld (value : List ℕ) (at name until start : ℕ) (bytes₀ : L
 
 -- what `read_query` leaves: rows that keep the query, or the place of 50
 pub data QueryOf (text bytes : List ℕ) : QueryRead → Type 0 where
-  query_of : {q : Query} {rows : Rows} (used : ℕ) → used ≤ length bytes → read_pairs (suc (length text)) 0 text ≡ found q → Keeps rows bytes used (keep_all q) → QueryOf text bytes (record { rows = rows; decision = Decision.Passed })
+  query_of : {q : Query} {rows : Rows} (used : ℕ) → used ≤ length bytes → read_pairs (suc (length text)) 0 text ≡ found q → Keeps rows bytes used (keep_all q) → QueryOf text bytes (record { rows = rows; decision = (Ok tt) })
   query_of_none : {at : ℕ} {rows : Rows} → read_pairs (suc (length text)) 0 text ≡ stop 50 at → QueryOf text bytes (record { rows = rows; decision = refuse Reason.NoPair at })
 
 -- what `accept_query` leaves: the definition's query, kept in at most 32 rows, or its refusal
 pub data AcceptsQuery (text bytes : List ℕ) : QueryRead → Type 0 where
-  accepted_query : {q : Query} {rows : Rows} (used : ℕ) → used ≤ length bytes → accept_query text ≡ found q → rows.count ≤ 32 → Keeps rows bytes used (keep_all q) → AcceptsQuery text bytes (record { rows = rows; decision = Decision.Passed })
-  accepted_none : {rows : Rows} {r : Refusal} → accept_query text ≡ refusal_step r → AcceptsQuery text bytes (record { rows = rows; decision = Decision.Refused r })
+  accepted_query : {q : Query} {rows : Rows} (used : ℕ) → used ≤ length bytes → accept_query text ≡ found q → rows.count ≤ 32 → Keeps rows bytes used (keep_all q) → AcceptsQuery text bytes (record { rows = rows; decision = (Ok tt) })
+  accepted_none : {rows : Rows} {r : Refusal} → accept_query text ≡ refusal_step r → AcceptsQuery text bytes (record { rows = rows; decision = Err r })
 
 -- ---- rows that are kept, as they are judged
 

@@ -7,7 +7,7 @@ mod pieces;
 mod query;
 
 pub use query::{accept_query, no_rows};
-use refusal::Decision;
+use refusal::Refusal;
 
 // A byte that a name or a value stands for, and where the text goes on; or a bad %.
 #[derive(Clone, Copy)]
@@ -78,5 +78,5 @@ pub struct Held {
 #[derive(Clone, Copy)]
 pub struct QueryRead {
     pub rows: Rows,
-    pub decision: Decision,
+    pub decision: Result<(), Refusal>,
 }

@@ -5,7 +5,7 @@ ghost use Rattle.query.specs.Rows.{pushed, PairHeld, QueryOf, AcceptsQuery};
 use crate::pair::read_pair;
 use crate::pieces::next_alternative;
 use crate::{Held, PairRead, QueryRead, Row, Rows};
-use refusal::{Decision, Reason, refuse};
+use refusal::{Reason, refuse};
 
 // The rows with one more; beyond 32 they are only counted.
 fn push(q: Rows, row: Row) -> Rows
@@ -113,7 +113,7 @@ pub fn read_query(text: &[u8], bytes: &mut [u8]) -> QueryRead
     }
     QueryRead {
         rows,
-        decision: Decision::Passed,
+        decision: Ok(()),
     }
 }
 
@@ -138,7 +138,7 @@ pub fn accept_query(text: &[u8], bytes: &mut [u8]) -> QueryRead
     let read = read_query(text, bytes);
     let rows = read.rows;
     let decision = read.decision;
-    if let Decision::Refused(_) = decision {
+    if let Err(_) = decision {
         return read;
     }
     if rows.count > 32 {

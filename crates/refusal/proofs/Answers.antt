@@ -1,12 +1,11 @@
--- Laws of answers: counts and verdicts are no refusals, whether an answer is a given count is decided, and reasons have their numbers.
+-- Laws of answers: counts and verdicts are no refusals, and whether an answer is a given count is decided.
 -- Assumes nothing.
 use Prim.Native.Nat.{ℕ}
 use native.Mathlib.Decide.{ℕ_discrete}
 use native.Mathlib.Omega.{arith}
-use mathlib.Core.Path.{◌≡◌, ap, sym}
+use mathlib.Core.Path.{◌≡◌, ap}
 use mathlib.Core.Bool.{Bool, true, false}
-use Rattle.refusal.specs.declared.Reason.{Reason}
-use Rattle.refusal.specs.Answers.{Answer, yes_or_no, count, counts, refused, number_of}
+use Rattle.refusal.specs.Answers.{Answer, yes_or_no, count, counts, refused}
 use Rattle.refusal.proofs.Deciding.{NotRefused}
 
 pub count_not_refused : (m : ℕ) → NotRefused (count m)
@@ -29,7 +28,3 @@ is_count (count m) n = same (ℕ_discrete m n)
     same : Dec (m ≡ n) → Dec (count m ≡ count n)
     same (yes e) = yes (ap count e)
     same (no e) = no (λ h. let z : m ≡ n = cc in e z)
-
--- the number of a reason that is known
-pub number-known : {r k : Reason} → r ≡ k → number_of k ≡ number_of r
-number-known e = ap number_of (sym e)

@@ -1,6 +1,6 @@
 -- Answers as document 01 has them, and the numbers of refusal.
 -- Assumes nothing.
-use Rattle.std.specs.Prelude.{ℕ, ◌≤◌, ◌<◌, Bool, true, false}
+use Rattle.std.specs.Prelude.{ℕ, ◌≤◌, ◌<◌, Bool, true, false, Result, Ok, Err}
 use Rattle.refusal.specs.declared.Reason.{Reason}
 use Rattle.refusal.specs.declared.Refusal.{Refusal}
 
@@ -45,6 +45,16 @@ number_of Reason.ManyAlternatives = 51
 -- what is answered for a refusal: its number and its place
 unfoldable pub refusal_answer : Refusal → Answer
 refusal_answer r = refused (number_of r.reason) r.place
+
+-- what an operation answers that counts
+unfoldable pub counted_answer : Result ℕ Refusal → Answer
+counted_answer (Ok n) = count n
+counted_answer (Err r) = refusal_answer r
+
+-- what an operation answers that says yes or no
+unfoldable pub matched_answer : Result Bool Refusal → Answer
+matched_answer (Ok v) = yes_or_no v
+matched_answer (Err r) = refusal_answer r
 
 -- the place of the refusals 21 to 23 is the index of a card of the run
 pub record PlaceBound (number place : ℕ) : Type 0 where

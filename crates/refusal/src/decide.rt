@@ -1,22 +1,11 @@
-// Decisions: a refusal, and the first of two.
-ghost use Rattle.std.specs.Prelude.{◌≡◌};
-ghost use Rattle.refusal.specs.Decisions.{refuse, or_else};
+// A refusal as an answer.
+ghost use Rattle.std.specs.Prelude.{◌≡◌, Err};
 
-use crate::{Decision, Reason, Refusal};
+use crate::{Reason, Refusal};
 
-// The decision that refuses for a reason, at a place.
-pub fn refuse(reason: Reason, place: usize) -> Decision
-    ensures { result ≡ refuse reason place }
+// The refusal for a reason, at a place, as the answer of an operation.
+pub fn refuse<T>(reason: Reason, place: usize) -> Result<T, Refusal>
+    ensures { result ≡ Err (record { reason = reason; place = place }) }
 {
-    Decision::Refused(Refusal { reason, place })
-}
-
-// The first of two decisions, where it refuses, and else the second.
-pub fn or_else(a: Decision, b: Decision) -> Decision
-    ensures { result ≡ or_else a b }
-{
-    match a {
-        Decision::Passed => b,
-        Decision::Refused(_) => a,
-    }
+    Err(Refusal { reason, place })
 }

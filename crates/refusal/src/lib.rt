@@ -4,8 +4,7 @@
 mod decide;
 mod numbers;
 
-pub use decide::{or_else, refuse};
-pub use numbers::number;
+pub use decide::refuse;
 
 // Why an operation refuses, in the order of the numbers of refusal.
 #[derive(Clone, Copy)]
@@ -64,11 +63,4 @@ pub enum Reason {
 pub struct Refusal {
     pub reason: Reason,
     pub place: usize,
-}
-
-// What is decided of a test, a filter or a search string: it passes, or it is refused.
-#[derive(Clone, Copy)]
-pub enum Decision {
-    Passed,
-    Refused(Refusal),
 }

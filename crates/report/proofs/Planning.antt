@@ -4,6 +4,7 @@
 -- takes no step, so that the rows stay (`refused_plan`); any other takes the steps of file Passes, which leave the tallies of the run
 -- (`plan_counts`).
 -- Assumes nothing.
+use Rattle.std.specs.Prelude.{Err, Ok, Result}
 use Prim.Native.Nat.{ℕ, ◌+◌, ◌*◌, ◌-◌, ◌/◌, ◌≤◌, ◌<◌, ◌^◌}
 use native.Mathlib.Nat.{mul-le-mul}
 use native.Mathlib.Numerals.{add-one}
@@ -20,14 +21,12 @@ use Rattle.block.proofs.Items.{items-length}
 use Rattle.sheet.specs.Sheet.{parameter, parameter_count, parameters_of, read_sheet}
 use Rattle.sheet.proofs.Read.{sheet_count}
 use Rattle.card.specs.Card.{entries_of, read_card}
-use Rattle.refusal.specs.Answers.{counts, number_of, refusal_answer}
+use Rattle.refusal.specs.Answers.{counts, number_of, refusal_answer, counted_answer}
 use Rattle.refusal.specs.Steps.{found, stop}
 use Rattle.refusal.specs.declared.Reason.{Reason}
 use Rattle.refusal.specs.declared.Refusal.{Refusal}
-use Rattle.answer.specs.Answers.{selected_answer}
 use Rattle.answer.specs.Operations.{Card, blocks, select_answer}
 use Rattle.sirophan.specs.Operations.{RefusedBy, SelectsInto}
-use Rattle.answer.specs.declared.Selected.{Selected}
 use Rattle.answer.proofs.Outcomes.{card_of}
 use Rattle.answer.proofs.Runs.{run-size, run-blocks}
 use Rattle.answer.proofs.Slices.{Sliced}
@@ -77,21 +76,21 @@ module _ (sheet text cards : List ℕ) {y : ℕ} (c : Counted sheet text cards y
 
 -- ---- the plan
 
-module _ (sheet text cards list : List ℕ) (sel : Selected) (exit : List ℕ) (h : SelectsInto sheet text cards list sel exit) (long : length list ≡ 128) where
-  selected : selected_answer sel ≡ select_answer sheet text cards 128
-  selected = subst (λ (k : ℕ). selected_answer sel ≡ select_answer sheet text cards k) long h.answers
+module _ (sheet text cards list : List ℕ) (sel : Result ℕ Refusal) (exit : List ℕ) (h : SelectsInto sheet text cards list sel exit) (long : length list ≡ 128) where
+  selected : counted_answer sel ≡ select_answer sheet text cards 128
+  selected = subst (λ (k : ℕ). counted_answer sel ≡ select_answer sheet text cards k) long h.answers
 
-  counted : (y : ℕ) → sel ≡ Selected.Count y → Counted sheet text cards y
-  unfolding selected_answer
-  counted y e = survey-counted sheet text cards y (sym selected ∙ ap selected_answer e)
+  counted : (y : ℕ) → sel ≡ Ok y → Counted sheet text cards y
+  unfolding counted_answer
+  counted y e = survey-counted sheet text cards y (sym selected ∙ ap counted_answer e)
 
-  pub plan_sheet : (y : ℕ) → sel ≡ Selected.Count y → read_sheet sheet ≡ WellFormed
+  pub plan_sheet : (y : ℕ) → sel ≡ Ok y → read_sheet sheet ≡ WellFormed
   plan_sheet y e = counted_sheet sheet text cards (counted y e)
 
-  pub plan_within : (y : ℕ) → sel ≡ Selected.Count y → y ≤ length cards / 512
+  pub plan_within : (y : ℕ) → sel ≡ Ok y → y ≤ length cards / 512
   plan_within y e = omega (arith, counted-whole sheet text cards (counted y e))
 
-  pub plan_fits : (y n : ℕ) → sel ≡ Selected.Count y → n ≡ parameter_count sheet → n * (length cards / 512 + 1) < 2 ^ 64
+  pub plan_fits : (y n : ℕ) → sel ≡ Ok y → n ≡ parameter_count sheet → n * (length cards / 512 + 1) < 2 ^ 64
   plan_fits y n e k =
       let c = counted y e in
       let few : length cards / 512 + 1 ≤ 129 = omega (arith, counted_total sheet text cards c, c.found_as.run.few) in
@@ -119,12 +118,12 @@ module _ (sheet text cards list : List ℕ) (sel : Selected) (exit : List ℕ) (
           writes = λ rows l. rw (e, stops (length rows) l) (stepped_none cards 0 rows);
         }
 
-    pub plan_refused : (r : Refusal) → sel ≡ Selected.Refused r → p ≡ record { rows = 0; steps = 0; answer = Reported.Refused r } → Plans sheet text cards room p
-    unfolding selected_answer refusal_answer reporting
+    pub plan_refused : (r : Refusal) → sel ≡ Err r → p ≡ record { rows = 0; steps = 0; answer = Reported.Refused r } → Plans sheet text cards room p
+    unfolding counted_answer refusal_answer reporting
     plan_refused r e q =
-        refused_plan r q (λ k l. rw (survey_refused sheet text cards (number_of r.reason) r.place (sym selected ∙ ap selected_answer e)))
+        refused_plan r q (λ k l. rw (survey_refused sheet text cards (number_of r.reason) r.place (sym selected ∙ ap counted_answer e)))
 
-    module _ (y n : ℕ) (e : sel ≡ Selected.Count y) (k : n ≡ parameter_count sheet) where
+    module _ (y n : ℕ) (e : sel ≡ Ok y) (k : n ≡ parameter_count sheet) where
       rows_are : length (counted y e).survey_of.inputs.parameters ≡ n
       rows_are = counted_rows sheet text cards (counted y e) ∙ sym k
 

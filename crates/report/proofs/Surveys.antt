@@ -5,6 +5,7 @@
 -- has at most 128 cards (`room_enough`). What select counts is what says yes, and yes and no make up the run, both by induction on the cards
 -- (`saying-matches`, `saying-whole`).
 -- Assumes nothing.
+use Rattle.std.specs.Prelude.{Ok}
 use Prim.Native.Nat.{ℕ, suc, ◌+◌, ◌≤◌}
 use native.Mathlib.Omega.{arith}
 use mathlib.Core.Path.{◌≡◌, refl, ap, sym, ◌∙◌, subst}
@@ -18,13 +19,11 @@ use Rattle.block.specs.declared.Validity.TheVariants.{WellFormed}
 use Rattle.sheet.specs.Sheet.{parameters_of, read_sheet}
 use Rattle.card.specs.Card.{read_card}
 use Rattle.syntax.specs.Tree.{tests_of}
-use Rattle.refusal.specs.Answers.{count, refused}
+use Rattle.refusal.specs.Answers.{count, refused, counted_answer}
 use Rattle.refusal.specs.Steps.{Step, found, stop, ◌>>=◌, answer}
-use Rattle.answer.specs.Answers.{checked_answer}
 use Rattle.answer.specs.Operations.{check_answer, Inputs, accept_inputs, Card, question_of, filter_question, accept_run, accept_cards, matching, accept_room, selection, select_by, select_answer}
 use Rattle.answer.specs.Passing.{Passing}
 use Rattle.answer.specs.Selection.{Run}
-use Rattle.answer.specs.declared.Checked.{Checked}
 use Rattle.answer.proofs.Outcomes.{card_of, Accepted, CardsOutcome, all_accepted, one_stopped}
 use Rattle.answer.proofs.Passing.{passing, card_accepted}
 use Rattle.answer.proofs.Runs.{run_iff}
@@ -146,12 +145,12 @@ module _ (sheet text cards : List ℕ) where
   -- ---- the sheet and the cards of a survey
 
   module _ (s : Survey) (f : Found s) where
-    checked : checked_answer (Checked.Tests (length (tests_of s.inputs.filter))) ≡ check_answer sheet text
-    unfolding checked_answer check_answer
+    checked : counted_answer (Ok (length (tests_of s.inputs.filter))) ≡ check_answer sheet text
+    unfolding counted_answer check_answer
     checked = rw f.inputs_accepted
 
     passes : Passing sheet text
-    passes = passing sheet text (Checked.Tests (length (tests_of s.inputs.filter))) (length (tests_of s.inputs.filter)) checked refl
+    passes = passing sheet text (Ok (length (tests_of s.inputs.filter))) (length (tests_of s.inputs.filter)) checked refl
 
     pub found_sheet : read_sheet sheet ≡ WellFormed
     found_sheet = passes.sheet_well_formed

@@ -4,7 +4,6 @@ ghost use Rattle.report.specs.Operations.{Plans};
 
 use crate::Reported;
 use refusal::{Reason, Refusal};
-use sirophan::Selected;
 
 // How many rows there are, how many steps raise them (none on a refusal), and what the report answers.
 #[derive(Clone, Copy)]
@@ -33,7 +32,7 @@ pub fn plan_of(sheet: &[u8], filter: &[u8], cards: &[u8], room: usize) -> Plan
     let mut list = [0u32; 128];
     let selected = sirophan::select(sheet, filter, cards, &mut list);
     match selected {
-        Selected::Count(yes) => {
+        Ok(yes) => {
             let n = sheet::parameter_count(sheet) as usize;
             if n > room {
                 return refuse(Refusal {
@@ -48,7 +47,7 @@ pub fn plan_of(sheet: &[u8], filter: &[u8], cards: &[u8], room: usize) -> Plan
                 answer: Reported::Counts(yes, total - yes),
             }
         }
-        Selected::Refused(refusal) => refuse(refusal),
+        Err(refusal) => refuse(refusal),
     }
 }
 

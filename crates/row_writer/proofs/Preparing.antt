@@ -3,6 +3,7 @@
 -- reads its value, so its row fits (`placed`). The rows of a filter fit, and the tree that they state is the filter's, with all positions set
 -- to 0 by `erase` (`prepared_filter`). Brackets nest as the grammar lets them (`nests_of`).
 -- Assumes nothing.
+use Rattle.std.specs.Prelude.{Err, Ok, Result, ⊤}
 use Prim.Native.Nat.{ℕ, suc, ◌+◌, ◌≤◌}
 use native.Mathlib.Omega.{arith}
 use mathlib.Core.Path.{◌≡◌, refl, sym, ap, ap₂, subst, ◌∙◌}
@@ -31,7 +32,6 @@ use Rattle.kind.specs.Table.{has_meaning}
 use Rattle.kind.specs.Readable.{value_readable}
 use Rattle.kind.proofs.Rules.{value_iff, operator_iff}
 use Rattle.judge.specs.Sets.{lookup}
-use Rattle.refusal.specs.declared.Decision.{Decision}
 use Rattle.refusal.specs.Decisions.{or_else}
 use Rattle.judge.specs.Faults.{unsupported, kind_fault, fault_at, test_fault, first_fault}
 use Rattle.judge.proofs.Rules.{entered, enters}
@@ -45,6 +45,7 @@ use Rattle.rows.specs.Stated.{name_at, value_by, test_for, bundle_for, tree_of}
 use Rattle.row_writer.proofs.Numbers.{found-read}
 use Rattle.rows.proofs.Values.{found_from}
 use Rattle.rows.proofs.Naming.{name_listed, bundle-name, bundle-at-top}
+use Rattle.refusal.specs.declared.Refusal.{Refusal}
 
 -- ---- tests without a fault
 
@@ -57,36 +58,36 @@ record Clean (ps : List Parameter) (c : ℕ) (t : Test) : Type 0 where
   means : has_meaning t.operator kind ≡ true
   readable : value_readable t.operator kind t.value ≡ true
 
-kind_clean : (k kind : ℕ) (v : List ℕ) (p : ℕ) → kind_fault k kind v p ≡ Decision.Passed → (has_meaning k kind ≡ true) × (value_readable k kind v ≡ true)
+kind_clean : (k kind : ℕ) (v : List ℕ) (p : ℕ) → kind_fault k kind v p ≡ (Ok tt) → (has_meaning k kind ≡ true) × (value_readable k kind v ≡ true)
 unfolding kind_fault
 kind_clean k kind v p =
-    cond-elim (λ f. f ≡ Decision.Passed → (has_meaning k kind ≡ true) × (value_readable k kind v ≡ true)) (unsupported k)
+    cond-elim (λ f. f ≡ (Ok tt) → (has_meaning k kind ≡ true) × (value_readable k kind v ≡ true)) (unsupported k)
     (λ a e. let z : ◌≡◌ {A = ℕ} 0 1 = cc in absurd (omega arith))
-    (λ a. cond-elim (λ f. f ≡ Decision.Passed → (has_meaning k kind ≡ true) × (value_readable k kind v ≡ true)) (has_meaning k kind)
-    (λ b. cond-elim (λ f. f ≡ Decision.Passed → (has_meaning k kind ≡ true) × (value_readable k kind v ≡ true)) (value_readable k kind v)
+    (λ a. cond-elim (λ f. f ≡ (Ok tt) → (has_meaning k kind ≡ true) × (value_readable k kind v ≡ true)) (has_meaning k kind)
+    (λ b. cond-elim (λ f. f ≡ (Ok tt) → (has_meaning k kind ≡ true) × (value_readable k kind v ≡ true)) (value_readable k kind v)
     (λ c e. (b, c)) (λ c e. let z : ◌≡◌ {A = ℕ} 0 1 = cc in absurd (omega arith)))
     (λ b e. let z : ◌≡◌ {A = ℕ} 0 1 = cc in absurd (omega arith)))
 
-clean_of : (ps : List Parameter) (c : ℕ) (t : Test) → test_fault ps c t ≡ Decision.Passed → Clean ps c t
+clean_of : (ps : List Parameter) (c : ℕ) (t : Test) → test_fault ps c t ≡ (Ok tt) → Clean ps c t
 unfolding test_fault
 clean_of ps c t h = by_found (lookup ps c t.path) refl h
   where
-    by_found : (o : Found) → lookup ps c t.path ≡ o → fault_at o t.operator t.value t.at ≡ Decision.Passed → Clean ps c t
+    by_found : (o : Found) → lookup ps c t.path ≡ o → fault_at o t.operator t.value t.at ≡ (Ok tt) → Clean ps c t
     by_found Found.Missing e g = let z : ◌≡◌ {A = ℕ} 0 1 = cc in absurd (omega arith)
     by_found (Found.At i kind) e g =
-        cond-elim (λ f. f ≡ Decision.Passed → Clean ps c t) (eqb kind bundle_kind) (λ b y. let z : ◌≡◌ {A = ℕ} 0 1 = cc in absurd (omega arith))
+        cond-elim (λ f. f ≡ (Ok tt) → Clean ps c t) (eqb kind bundle_kind) (λ b y. let z : ◌≡◌ {A = ℕ} 0 1 = cc in absurd (omega arith))
         (λ b y. let k = kind_clean t.operator kind t.value t.at y in
         record { index = i; kind = kind; found = e; no_bundle = eqb-false kind bundle_kind b; means = k.0; readable = k.1 }) g
 
 -- where none is refused, each is clean
-clean_all : (ps : List Parameter) (c : ℕ) (ts : List Test) → first_fault ps c ts ≡ Decision.Passed → All (Clean ps c) ts
+clean_all : (ps : List Parameter) (c : ℕ) (ts : List Test) → first_fault ps c ts ≡ (Ok tt) → All (Clean ps c) ts
 unfolding first_fault
 clean_all ps c [] h = all_empty
 clean_all ps c (t ∷ ts) h = by_fault (test_fault ps c t) refl h (clean_all ps c ts)
   where
-    by_fault : (f : Decision) → test_fault ps c t ≡ f → or_else f (first_fault ps c ts) ≡ Decision.Passed → (first_fault ps c ts ≡ Decision.Passed → All (Clean ps c) ts) → All (Clean ps c) (t ∷ ts)
-    by_fault Decision.Passed e g again = all_cons (clean_of ps c t e) (again g)
-    by_fault (Decision.Refused r) e g again = let z : ◌≡◌ {A = ℕ} 0 1 = cc in absurd (omega arith)
+    by_fault : (f : Result ⊤ Refusal) → test_fault ps c t ≡ f → or_else f (first_fault ps c ts) ≡ (Ok tt) → (first_fault ps c ts ≡ (Ok tt) → All (Clean ps c) ts) → All (Clean ps c) (t ∷ ts)
+    by_fault (Ok tt) e g again = all_cons (clean_of ps c t e) (again g)
+    by_fault (Err r) e g again = let z : ◌≡◌ {A = ℕ} 0 1 = cc in absurd (omega arith)
 
 -- wherever it stands, and inside brackets, where names are looked up in the bundle
 clean_moved : {ps : List Parameter} {c p : ℕ} {t : Test} → Clean ps c (moved p t) → Clean ps c t
@@ -217,7 +218,7 @@ module _ (ps : List Parameter) (w : WellFormedSheet ps) (xs : List ℕ) where
   tests_counted c (join k f g) = ap₂ ◌+◌ (tests_counted c f) (tests_counted c g) ∙ sym (length-append (tests_of f) (tests_of g))
   tests_counted c (negation f) = tests_counted c f
 
-  module _ (f : Tree) (s : Spells xs f) (n : first_fault ps 0 (tests_of f) ≡ Decision.Passed) where
+  module _ (f : Tree) (s : Spells xs f) (n : first_fault ps 0 (tests_of f) ≡ (Ok tt)) where
     whole : Prepared-tree 0 f
     whole = prepared_filter s.filter round_not_bare (clean_all ps 0 (tests_of f) n)
 

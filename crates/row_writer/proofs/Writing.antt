@@ -6,6 +6,7 @@
 -- (`chain_takes`). An item takes at least as many bytes as it has cells (`item-cells`, by induction on its derivation), and this bounds
 -- every sum. `Room` says so of what is left of the list and the text at each step.
 -- Assumes nothing.
+use Rattle.std.specs.Prelude.{Result, ⊤}
 use Prim.Native.Nat.{ℕ, suc, ◌+◌, ◌*◌, ◌-◌, ◌≤◌, ◌<◌}
 use native.Mathlib.Omega.{arith}
 use native.Mathlib.Numerals.{add-one}
@@ -36,7 +37,6 @@ use Rattle.syntax.proofs.Spelling.{item_count, filter_count}
 use Rattle.syntax.proofs.Tests.{test_rise}
 use Rattle.syntax.specs.Fold.{fold_tree}
 use Rattle.filter.specs.Folds.{join_summaries, summary_of, reading}
-use Rattle.refusal.specs.declared.Decision.{Decision}
 use Rattle.filter.specs.declared.Summary.{Summary}
 use Rattle.filter.specs.declared.Spot.{Spot}
 use Rattle.filter.proofs.Reading.{fault_append, reading_is, summary_inside}
@@ -46,6 +46,7 @@ use Rattle.row_writer.specs.Steps.{Room, Joinable, WroteTest, WroteNot, WroteClo
 use Rattle.rows.specs.declared.Row.{Row}
 use Rattle.row_writer.specs.declared.Outcome.{Outcome}
 use Rattle.row_writer.specs.declared.Written.{Written}
+use Rattle.refusal.specs.declared.Refusal.{Refusal}
 
 -- ---- a row takes at least a byte of the text
 
@@ -329,7 +330,7 @@ module _ (xs : List ℕ) (close d p : ℕ) where
 -- ---- an item
 
 summary_joined : (ps : List Parameter) (c : ℕ) (ts us : List Test) → join_summaries (summary_of ps c ts) (summary_of ps c us) ≡ summary_of ps c (ts ++ us)
-summary_joined ps c ts us = sym (ap₂ (λ (n : ℕ) (f : Decision). record { tests = n; first = f }) (length-append ts us) (fault_append ps c ts us))
+summary_joined ps c ts us = sym (ap₂ (λ (n : ℕ) (f : Result ⊤ Refusal). record { tests = n; first = f }) (length-append ts us) (fault_append ps c ts us))
 
 outcome-same : (ps : List Parameter) (c : ℕ) (f : Tree) (s : Summary) (k : ℕ) → s ≡ summary_of ps c (tests_of f) → k ≡ cell_count f → record { summary = s; cells = k } ≡ outcome_of ps c f
 outcome-same ps c f s k e h = rw (e, h)

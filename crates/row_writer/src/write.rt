@@ -9,7 +9,7 @@ ghost use Rattle.rows.specs.Cells.{number_of, cell_of};
 ghost use Rattle.row_writer.specs.Writing.{value_place, index_of, probe_for, Read};
 ghost use Rattle.row_writer.specs.Steps.{Room, Joinable, WroteTest, WroteNot, WroteClosed, WrotePair, WroteMember, WroteJoin, Inside, ChainedAt, WroteItem, WroteFilter, WroteRound, WroteChosen};
 
-use crate::{Outcome, Written};
+use crate::Written;
 use block::Validity;
 use filter::{Spot, Summary, join_summaries, test_summary};
 use judge::test_found;
@@ -20,6 +20,8 @@ use syntax::{
     Connective, FoundClose, FoundConnective, FoundTest, Head, RawTest, RawValue, read_close,
     read_connective, read_head, read_member,
 };
+use refusal::Reason;
+use place::Reached;
 
 // The index of what a test names, and 0 where it names nothing.
 fn index_of(found: Found) -> u32
@@ -80,7 +82,7 @@ fn write_test(
 }
 
 // The row of not, behind the rows of a filter that was read up to its bracket.
-fn write_not(end: usize, inner: Outcome, rows: &mut [u32], row: usize) -> Written
+fn write_not(end: usize, inner: Result<Reached, Reason>, rows: &mut [u32], row: usize) -> Written
     requires { row + inner.cells < length rows.old }
     ensures { WroteNot end inner row result rows.old rows.new }
 {
@@ -102,7 +104,7 @@ fn close_round(
     filter: &[u8],
     end: usize,
     negate: bool,
-    inner: Outcome,
+    inner: Result<Reached, Reason>,
     rows: &mut [u32],
     row: usize,
 ) -> Written
@@ -177,7 +179,7 @@ fn write_pair(
     bundle: u8,
     at: usize,
     test: RawTest,
-    inner: Outcome,
+    inner: Result<Reached, Reason>,
     rows: &mut [u32],
     row: usize,
 ) -> Written
@@ -213,7 +215,7 @@ fn write_member(
     spot: Spot,
     bundle: u8,
     end: usize,
-    inner: Outcome,
+    inner: Result<Reached, Reason>,
     rows: &mut [u32],
     row: usize,
 ) -> Written
@@ -316,11 +318,11 @@ fn connect_cell(connective: Connective, size: usize) -> u32
 // The row of a connective between the rows of its parts, of which the first begin at a row, and what both parts gather.
 fn write_join(
     connective: Connective,
-    first: Outcome,
-    second: Outcome,
+    first: Result<Reached, Reason>,
+    second: Result<Reached, Reason>,
     rows: &mut [u32],
     row: usize,
-) -> Outcome
+) -> Result<Reached, Reason>
     requires { Joinable rows.old row first second }
     ensures { WroteJoin connective first second row result rows.old rows.new }
 {
@@ -343,7 +345,7 @@ fn write_rest(
     rows: &mut [u32],
     row: usize,
     first_end: usize,
-    first: Outcome,
+    first: Result<Reached, Reason>,
 ) -> Written
     requires sheet_value { read_sheet sheet.now ≡ Validity.WellFormed }
     requires chained_at { ChainedAt sheet.now filter.now spot row rows.old first_end first rows.old }

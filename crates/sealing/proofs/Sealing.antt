@@ -1,5 +1,6 @@
 -- Laws of the answers' cases, of the four stores, and of what is sealed: it passes the check, and only its last four bytes are new.
 -- Assumes nothing.
+use Rattle.std.specs.Prelude.{Err, Ok, Result}
 use Prim.Native.Nat.{ℕ, ◌/◌, ◌%◌, ◌≤◌}
 use native.Mathlib.Omega.{arith}
 use mathlib.Core.Path.{◌≡◌, refl, sym, ◌∙◌}
@@ -10,20 +11,20 @@ use borrow.Author.Tests.{eq-eqb, ne_eqb}
 use Rattle.base.specs.Bytes.{Byte, Bytes}
 use Rattle.base.specs.Parts.{padded}
 use Rattle.base.proofs.All.{all_take}
-use Rattle.refusal.specs.Answers.{refused, refusal_answer}
+use Rattle.refusal.specs.Answers.{refused, refusal_answer, counted_answer}
 use Rattle.refusal.specs.declared.Reason.{Reason}
 use Rattle.block.specs.Words.{word, word_bytes}
 use Rattle.block.specs.Sum.{check_sum, sum_from}
 use Rattle.block.specs.Seal.{seal, check}
 use Rattle.block.specs.declared.Integrity.TheVariants.{Sealed}
 use Rattle.block.proofs.Seal.{check_iff, seal_sealed}
-use Rattle.sealing.specs.declared.Numbered.{Numbered}
-use Rattle.sealing.specs.Sealing.{numbered_answer, seal_answer, sealed_bytes, record_answer}
+use Rattle.sealing.specs.Sealing.{seal_answer, sealed_bytes, record_answer}
+use Rattle.refusal.specs.declared.Refusal.{Refusal}
 
 -- ---- the answers' cases
 
-pub size_refused : numbered_answer (Numbered.Refused (record { reason = Reason.CardSize; place = 0 })) ≡ refused 20 0
-unfolding numbered_answer refusal_answer
+pub size_refused : counted_answer (Err (record { reason = Reason.CardSize; place = 0 })) ≡ refused 20 0
+unfolding counted_answer refusal_answer
 size_refused = refl
 
 four-joined : (p q r s : List ℕ) (x y z w : ℕ) → q ≡ p ++ (x ∷ []) → r ≡ q ++ (y ∷ []) → s ≡ r ++ (z ∷ []) → s ++ (w ∷ []) ≡ p ++ (x ∷ y ∷ z ∷ w ∷ [])
@@ -31,11 +32,11 @@ four-joined p q r s x y z w eq er es = rw (es, er, eq, append_assoc, append_asso
 
 module _ (b : List ℕ) where
   module _ (n : length b ≡ 512 → ⊥) where
-    pub record_refused : (r : Numbered) → numbered_answer r ≡ refused 20 0 → numbered_answer r ≡ record_answer b
+    pub record_refused : (r : Result ℕ Refusal) → counted_answer r ≡ refused 20 0 → counted_answer r ≡ record_answer b
     unfolding record_answer
     record_refused r e = e ∙ rw (ne_eqb (length b) 512 n)
 
-    pub seal_refused : (r : Numbered) → numbered_answer r ≡ refused 20 0 → numbered_answer r ≡ seal_answer b
+    pub seal_refused : (r : Result ℕ Refusal) → counted_answer r ≡ refused 20 0 → counted_answer r ≡ seal_answer b
     unfolding seal_answer
     seal_refused r e = e ∙ rw (ne_eqb (length b) 512 n)
 
@@ -47,12 +48,12 @@ module _ (b : List ℕ) where
     no_block-stays = sym bytes_stay
 
   module _ (h : length b ≡ 512) where
-    pub record_read : (r : ℕ) → r ≡ word b 1 → numbered_answer (Numbered.Number r) ≡ record_answer b
-    unfolding numbered_answer record_answer
+    pub record_read : (r : ℕ) → r ≡ word b 1 → counted_answer (Ok r) ≡ record_answer b
+    unfolding counted_answer record_answer
     record_read r e = rw (eq-eqb (length b) 512 h, e)
 
-    pub sum_told : (s : ℕ) → s ≡ check_sum b → numbered_answer (Numbered.Number s) ≡ seal_answer b
-    unfolding numbered_answer seal_answer
+    pub sum_told : (s : ℕ) → s ≡ check_sum b → counted_answer (Ok s) ≡ seal_answer b
+    unfolding counted_answer seal_answer
     sum_told s e = rw (eq-eqb (length b) 512 h, e)
 
     -- ---- the four stores

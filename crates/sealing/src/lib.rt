@@ -2,26 +2,19 @@
 #![tactic(auto)]
 
 ghost use Rattle.std.specs.Prelude.{◌≡◌, ◌++◌, ◌%◌, take};
-ghost use Rattle.refusal.specs.Answers.{refused};
+ghost use Rattle.refusal.specs.Answers.{refused, counted_answer};
 ghost use Rattle.block.specs.Seal.{HasSize};
 ghost use Rattle.block.specs.Words.{word_bytes};
-ghost use Rattle.sealing.specs.Sealing.{numbered_answer, seal_answer, sealed_bytes, record_answer};
+ghost use Rattle.sealing.specs.Sealing.{seal_answer, sealed_bytes, record_answer};
 
 use block::{check_sum, word};
 use refusal::{Reason, Refusal};
 
-// A block's check sum or a card's record number, or a refusal.
-#[derive(Clone, Copy)]
-pub enum Numbered {
-    Number(u32),
-    Refused(Refusal),
-}
-
 // What is not 512 bytes is refused.
-fn wrong_size() -> Numbered
-    ensures { numbered_answer result ≡ refused 20 0 }
+fn wrong_size() -> Result<u32, Refusal>
+    ensures { counted_answer result ≡ refused 20 0 }
 {
-    Numbered::Refused(Refusal {
+    Err(Refusal {
         reason: Reason::CardSize,
         place: 0,
     })
@@ -46,8 +39,8 @@ fn put_sum(block: &mut [u8], sum: u32)
 }
 
 // Writes the check sum into a block, and answers it. What is no block stays as it is.
-pub fn seal(block: &mut [u8]) -> Numbered
-    ensures result_value { numbered_answer result ≡ seal_answer block.old }
+pub fn seal(block: &mut [u8]) -> Result<u32, Refusal>
+    ensures result_value { counted_answer result ≡ seal_answer block.old }
     ensures block_after { block.new ≡ sealed_bytes block.old }
 {
     if block.len() != 512 {
@@ -55,15 +48,15 @@ pub fn seal(block: &mut [u8]) -> Numbered
     }
     let sum = check_sum(block);
     put_sum(block, sum);
-    Numbered::Number(sum)
+    Ok(sum)
 }
 
 // The record number of a card.
-pub fn record(card: &[u8]) -> Numbered
-    ensures { numbered_answer result ≡ record_answer card.now }
+pub fn record(card: &[u8]) -> Result<u32, Refusal>
+    ensures { counted_answer result ≡ record_answer card.now }
 {
     if card.len() != 512 {
         return wrong_size();
     }
-    Numbered::Number(word(card, 1))
+    Ok(word(card, 1))
 }

@@ -5,6 +5,7 @@
 -- i-th had a fault, so the first fault of the rows left is the first of all. `Saying`: the verdict is that of the rows left, with whether
 -- the pair at hand is met so far; at the last row of a pair it is no where the pair is not met, and else the next pair begins unmet.
 -- Assumes nothing.
+use Rattle.std.specs.Prelude.{Err, Ok, Result, ⊤}
 use Prim.Native.Nat.{ℕ, suc, ◌+◌, ◌-◌, ◌≤◌, ◌<◌}
 use native.Mathlib.Numerals.{add-one}
 use native.Mathlib.Omega.{arith}
@@ -32,7 +33,6 @@ use Rattle.judge.specs.Sets.{lookup, values_at, chosen_of}
 use Rattle.judge.specs.Faults.{kind_fault}
 use Rattle.judge.specs.Verdicts.{some_value, says_of}
 use Rattle.refusal.specs.declared.Reason.{Reason}
-use Rattle.refusal.specs.declared.Decision.{Decision}
 use Rattle.refusal.specs.declared.Refusal.{Refusal}
 use Rattle.refusal.specs.Decisions.{refuse, or_else}
 use Rattle.judge.proofs.Entries.{every, chosen-every}
@@ -54,7 +54,7 @@ module _ (kind : ℕ) (text : List ℕ) (r : Prefixed) (p : PrefixOf (asked_of k
   value_is = rest text r.skip ∙ p.value
 
   module _ (split : ℕ) (other : kind ≡ 4 → ⊥) where
-    pub fault_asked : (at : ℕ) (f : Decision) → f ≡ kind_fault r.operator kind (take (length text - r.skip) (drop r.skip text)) at → f ≡ text_fault kind split text at
+    pub fault_asked : (at : ℕ) (f : Result ⊤ Refusal) → f ≡ kind_fault r.operator kind (take (length text - r.skip) (drop r.skip text)) at → f ≡ text_fault kind split text at
     unfolding text_fault
     fault_asked at f e = e ∙ rw (ne_eqb kind token other, value_is, p.operator)
 
@@ -66,11 +66,11 @@ module _ (kind : ℕ) (text : List ℕ) (r : Prefixed) (p : PrefixOf (asked_of k
 -- ---- the fault of an alternative
 
 module _ (kind split : ℕ) (text : List ℕ) (p : ℕ) where
-  pub token-readable : (t : Bool) → kind ≡ 4 → t ≡ readable_at split text → t ≡ true → Decision.Passed ≡ text_fault kind split text p
+  pub token-readable : (t : Bool) → kind ≡ 4 → t ≡ readable_at split text → t ≡ true → (Ok tt) ≡ text_fault kind split text p
   unfolding text_fault
   token-readable t k e h = rw (eq-eqb kind token k, sym e ∙ h)
 
-  module _ (f : Decision) where
+  module _ (f : Result ⊤ Refusal) where
     pub token_unreadable : (t : Bool) → kind ≡ 4 → t ≡ readable_at split text → t ≡ false → f ≡ refuse Reason.Unreadable p → f ≡ text_fault kind split text p
     unfolding text_fault
     token_unreadable t k e h g = g ∙ rw (eq-eqb kind token k, sym e ∙ h)
@@ -82,10 +82,10 @@ module _ (kind split : ℕ) (text : List ℕ) (p : ℕ) where
     at_kind k e = e ∙ rw (ne_eqb kind bundle_kind k)
 
 module _ (split : ℕ) (text : List ℕ) (o : Found) (there : Found) (e : o ≡ there) where
-  pub fault_found : (p i kind : ℕ) (f : Decision) → o ≡ Found.At i kind → f ≡ cond (eqb kind bundle_kind) (refuse Reason.UnknownName p) (text_fault kind split text p) → f ≡ fault_at there split text p
+  pub fault_found : (p i kind : ℕ) (f : Result ⊤ Refusal) → o ≡ Found.At i kind → f ≡ cond (eqb kind bundle_kind) (refuse Reason.UnknownName p) (text_fault kind split text p) → f ≡ fault_at there split text p
   fault_found p i kind f h g = g ∙ rw (sym e ∙ h)
 
-  pub fault_missing : (p : ℕ) (f : Decision) → o ≡ Found.Missing → f ≡ refuse Reason.UnknownName p → f ≡ fault_at there split text p
+  pub fault_missing : (p : ℕ) (f : Result ⊤ Refusal) → o ≡ Found.Missing → f ≡ refuse Reason.UnknownName p → f ≡ fault_at there split text p
   fault_missing p f h g = g ∙ rw (sym e ∙ h)
 
   pub says-found : (es : List Entry) (i kind : ℕ) (b : Bool) → o ≡ Found.At i kind → b ≡ text_says kind split text (values_at i es) → b ≡ says_at there split text es
@@ -95,7 +95,7 @@ module _ (split : ℕ) (text : List ℕ) (o : Found) (there : Found) (e : o ≡ 
   says_missing es h = rw (sym e ∙ h)
 
 module _ (ps : List Parameter) (bytes : List ℕ) (row : Row) where
-  pub row_faulted : (f : Decision) → f ≡ fault_at (find 0 (part bytes row.name row.until) ps) row.split (part bytes row.text row.end) row.at → f ≡ alternative_fault ps (alternative_in bytes row)
+  pub row_faulted : (f : Result ⊤ Refusal) → f ≡ fault_at (find 0 (part bytes row.name row.until) ps) row.split (part bytes row.text row.end) row.at → f ≡ alternative_fault ps (alternative_in bytes row)
   unfolding alternative_fault kept_in lookup
   row_faulted f e = e
 
@@ -194,23 +194,23 @@ module _ {n : ℕ} {ps : List Parameter} {bytes : List ℕ} {rows : Rows} {i : �
   pub facing_few : i < rows.count → i < 32
   facing_few h = row_few g.within i h
 
-  module _ (h : i < rows.count) (f : Decision) (e : f ≡ alternative_fault ps (alternative_in bytes (row_at rows i))) where
-    abbrev later_fault : Decision
+  module _ (h : i < rows.count) (f : Result ⊤ Refusal) (e : f ≡ alternative_fault ps (alternative_in bytes (row_at rows i))) where
+    abbrev later_fault : Result ⊤ Refusal
     later_fault = first_alternative_fault ps (map (alternative_in bytes) (rows_from rows (i + 1)))
 
     split-left : first_alternative_fault ps (alternatives_in bytes rows) ≡ or_else f later_fault
     unfolding first_alternative_fault
     split-left =
         g.left ∙ ap (λ (l : List Row). first_alternative_fault ps (map (alternative_in bytes) l)) (from_next g.within i h)
-        ∙ ap (λ (x : Decision). or_else x later_fault) (sym e)
+        ∙ ap (λ (x : Result ⊤ Refusal). or_else x later_fault) (sym e)
 
-    pub facing_fault : (r : Refusal) → f ≡ Decision.Refused r → f ≡ first_alternative_fault ps (alternatives_in bytes rows)
-    facing_fault r k = sym (split-left ∙ ap (λ (x : Decision). or_else x later_fault) k ∙ sym k)
+    pub facing_fault : (r : Refusal) → f ≡ Err r → f ≡ first_alternative_fault ps (alternatives_in bytes rows)
+    facing_fault r k = sym (split-left ∙ ap (λ (x : Result ⊤ Refusal). or_else x later_fault) k ∙ sym k)
 
-    pub facing_next : f ≡ Decision.Passed → Facing n ps bytes rows (i + 1)
-    facing_next k = record { within = g.within; left = split-left ∙ ap (λ (x : Decision). or_else x later_fault) k }
+    pub facing_next : f ≡ (Ok tt) → Facing n ps bytes rows (i + 1)
+    facing_next k = record { within = g.within; left = split-left ∙ ap (λ (x : Result ⊤ Refusal). or_else x later_fault) k }
 
-  pub facing_ends : rows.count ≤ i → Decision.Passed ≡ first_alternative_fault ps (alternatives_in bytes rows)
+  pub facing_ends : rows.count ≤ i → (Ok tt) ≡ first_alternative_fault ps (alternatives_in bytes rows)
   unfolding first_alternative_fault
   facing_ends h = sym (g.left ∙ ap (λ (l : List Row). first_alternative_fault ps (map (alternative_in bytes) l)) (from_end g.within i h))
 

@@ -11,16 +11,16 @@ use crate::asked::asked_of;
 use base::kind::{BUNDLE, TOKEN};
 use block::Validity;
 use query::{Row, Rows};
-use refusal::{Decision, Reason, refuse};
+use refusal::{Reason, Refusal, refuse};
 use sheet::Found;
 
 // What is decided of a text under a kind, at the place of its pair: 16 or 17.
-fn text_fault(kind: u8, split: usize, text: &[u8], place: usize) -> Decision
+fn text_fault(kind: u8, split: usize, text: &[u8], place: usize) -> Result<(), Refusal>
     ensures { result ≡ text_fault kind split text.now place }
 {
     if kind == TOKEN {
         if token::readable_at(text, split) {
-            return Decision::Passed;
+            return Ok(());
         }
         return refuse(Reason::Unreadable, place);
     }
@@ -30,7 +30,7 @@ fn text_fault(kind: u8, split: usize, text: &[u8], place: usize) -> Decision
 }
 
 // The same at a parameter: "14 (bundles and members too)".
-fn parameter_fault(kind: u8, split: usize, text: &[u8], place: usize) -> Decision
+fn parameter_fault(kind: u8, split: usize, text: &[u8], place: usize) -> Result<(), Refusal>
     ensures { result ≡ cond (eqb kind bundle_kind) (refuse Reason.UnknownName place) (text_fault kind split text.now place) }
 {
     if kind == BUNDLE {
@@ -40,7 +40,7 @@ fn parameter_fault(kind: u8, split: usize, text: &[u8], place: usize) -> Decisio
 }
 
 // The same under a name, on a well-formed sheet.
-fn fault_at(sheet: &[u8], name: &[u8], split: usize, text: &[u8], place: usize) -> Decision
+fn fault_at(sheet: &[u8], name: &[u8], split: usize, text: &[u8], place: usize) -> Result<(), Refusal>
     requires { read_sheet sheet.now ≡ Validity.WellFormed }
     ensures { result ≡ fault_at (find 0 name.now (parameters_of sheet.now)) split text.now place }
 {
@@ -51,7 +51,7 @@ fn fault_at(sheet: &[u8], name: &[u8], split: usize, text: &[u8], place: usize) 
 }
 
 // What is decided of the alternative that a row keeps.
-fn row_fault(sheet: &[u8], bytes: &[u8], row: Row) -> Decision
+fn row_fault(sheet: &[u8], bytes: &[u8], row: Row) -> Result<(), Refusal>
     requires sheet_value { read_sheet sheet.now ≡ Validity.WellFormed }
     requires row_within { RowWithin (length bytes.now) row }
     ensures { result ≡ alternative_fault (parameters_of sheet.now) (alternative_in bytes.now row) }
@@ -70,7 +70,7 @@ fn row_fault(sheet: &[u8], bytes: &[u8], row: Row) -> Decision
 }
 
 // What the first alternative of a query that is refused comes to: the first byte of its pair is its place.
-pub fn first_fault(sheet: &[u8], bytes: &[u8], rows: Rows) -> Decision
+pub fn first_fault(sheet: &[u8], bytes: &[u8], rows: Rows) -> Result<(), Refusal>
     requires sheet_value { read_sheet sheet.now ≡ Validity.WellFormed }
     requires rows_within { RowsWithin (length bytes.now) rows }
     ensures { result ≡ first_alternative_fault (parameters_of sheet.now) (alternatives_in bytes.now rows) }
@@ -79,10 +79,10 @@ pub fn first_fault(sheet: &[u8], bytes: &[u8], rows: Rows) -> Decision
     while i < rows.count {
         let row = rows.rows[i];
         let fault = row_fault(sheet, bytes, row);
-        if let Decision::Refused(_) = fault {
+        if let Err(_) = fault {
             return fault;
         }
         i += 1;
     }
-    Decision::Passed
+    Ok(())
 }

@@ -5,6 +5,7 @@
 -- filter (`search_answered`). Where check refuses, the question stops with the same refusal (`question_stopped`). Select uses `asks` and
 -- `question_stopped` in crate selecting.
 -- Assumes nothing.
+use Rattle.std.specs.Prelude.{Err, Ok, Result, ⊤}
 use Prim.Native.Nat.{ℕ}
 use native.Mathlib.Omega.{arith}
 use mathlib.Core.Path.{◌≡◌, refl, ap, sym, ◌∙◌, fun_ext}
@@ -14,68 +15,64 @@ use lib.ListN.{length}
 use Rattle.block.specs.declared.Validity.{Validity}
 use Rattle.sheet.specs.Sheet.{Parameter, parameters_of, read_sheet}
 use Rattle.card.specs.Card.{Entry}
-use Rattle.refusal.specs.declared.Decision.{Decision}
 use Rattle.query.specs.Spelling.{Query, alternatives_of}
 use Rattle.search.specs.Meaning.{first_alternative_fault, alternative_says, query_says}
 use Rattle.query.specs.Rows.{RowsWithin, alternatives_in, rows_say, AcceptsQuery, RowsOf}
 use Rattle.query.specs.declared.QueryRead.{QueryRead}
 use Rattle.query.specs.declared.Rows.{Rows}
 use Rattle.query.proofs.Accepted.{accepted_rows, accepted_refused}
-use Rattle.refusal.specs.Answers.{Answer, count, refused, number_of, refusal_answer}
+use Rattle.refusal.specs.Answers.{Answer, count, refused, number_of, refusal_answer, counted_answer, matched_answer}
 use Rattle.refusal.specs.Steps.{Step, found, stop, ◌>>=◌, answer}
 use Rattle.refusal.specs.declared.Refusal.{Refusal}
-use Rattle.answer.specs.Answers.{checked_answer, matched_answer}
 use Rattle.answer.specs.Operations.{decision_step, sheet_step, accept_sheet}
 use Rattle.answer.specs.Passing.{summary_answer, card_verdict}
 use Rattle.answer.specs.Searching.{alternatives_step, QueryInputs, accept_query_inputs, check_search_answer, question_of_query, search_question, match_search_answer}
 use Rattle.searching.specs.SearchPassing.{rows_answer, rows_question, PassingRows, ReadsRows}
-use Rattle.answer.specs.declared.Checked.{Checked}
-use Rattle.answer.specs.declared.Matched.{Matched}
 use Rattle.searching.specs.declared.SearchRead.{SearchRead}
 use Rattle.answer.proofs.Passing.{match_stopped}
 use Rattle.one_card.proofs.Judging.{match_answered}
 use Rattle.one_card.specs.OneCard.{verdict_step, verdict_answer}
-use Rattle.one_card.specs.declared.CardVerdict.{CardVerdict}
+use Rattle.refusal.specs.declared.Reason.{Reason}
 
 pub sheet_known : (sheet : List ℕ) (r : Validity) → r ≡ read_sheet sheet → r ≡ Validity.WellFormed → read_sheet sheet ≡ Validity.WellFormed
 sheet_known sheet r e h = sym e ∙ h
 
 -- ---- a string that is refused: no count, so that nothing is asked of the rows
 
-no_tests : (c : Checked) (n k p : ℕ) → checked_answer c ≡ refused k p → c ≡ Checked.Tests n → ⊥
-unfolding checked_answer
-no_tests c n k p e h = let z : count n ≡ refused k p = ap checked_answer (sym h) ∙ e in let y : ◌≡◌ {A = ℕ} 0 1 = cc in omega arith
+no_tests : (c : Result ℕ Refusal) (n k p : ℕ) → counted_answer c ≡ refused k p → c ≡ Ok n → ⊥
+unfolding counted_answer
+no_tests c n k p e h = let z : count n ≡ refused k p = ap counted_answer (sym h) ∙ e in let y : ◌≡◌ {A = ℕ} 0 1 = cc in omega arith
 
-module _ (sheet text bytes : List ℕ) (c : Checked) (rows : Rows) where
-  refuses : (k p : ℕ) → accept_query_inputs sheet text ≡ stop k p → checked_answer c ≡ refused k p → ReadsRows sheet text bytes (record { checked = c; rows = rows })
+module _ (sheet text bytes : List ℕ) (c : Result ℕ Refusal) (rows : Rows) where
+  refuses : (k p : ℕ) → accept_query_inputs sheet text ≡ stop k p → counted_answer c ≡ refused k p → ReadsRows sheet text bytes (record { checked = c; rows = rows })
   refuses k p e h =
-      let answered : checked_answer c ≡ check_search_answer sheet text = h ∙ sym (unfold check_search_answer in rw e) in
+      let answered : counted_answer c ≡ check_search_answer sheet text = h ∙ sym (unfold check_search_answer in rw e) in
       record { answers = answered; passes = λ n t. absurd (no_tests c n k p h t) }
 
   -- the sheet is refused
-  sheet_refuses : (r k : Validity) (n : ℕ) → ((ps : List Parameter) → sheet_step k ps ≡ stop n 0) → r ≡ read_sheet sheet → r ≡ k → checked_answer c ≡ refused n 0
+  sheet_refuses : (r k : Validity) (n : ℕ) → ((ps : List Parameter) → sheet_step k ps ≡ stop n 0) → r ≡ read_sheet sheet → r ≡ k → counted_answer c ≡ refused n 0
       → ReadsRows sheet text bytes (record { checked = c; rows = rows })
   sheet_refuses r k n t e i h = refuses n 0 (unfold accept_query_inputs accept_sheet in rw (sym e ∙ i, t (parameters_of sheet))) h
 
   module _ (r : Validity) (e : r ≡ read_sheet sheet) where
-    pub sheet_size : r ≡ Validity.WrongSize → checked_answer c ≡ refused 1 0 → ReadsRows sheet text bytes (record { checked = c; rows = rows })
+    pub sheet_size : r ≡ Validity.WrongSize → counted_answer c ≡ refused 1 0 → ReadsRows sheet text bytes (record { checked = c; rows = rows })
     sheet_size = sheet_refuses r Validity.WrongSize 1 (λ ps. refl) e
 
-    pub sheet_sum : r ≡ Validity.WrongSum → checked_answer c ≡ refused 2 0 → ReadsRows sheet text bytes (record { checked = c; rows = rows })
+    pub sheet_sum : r ≡ Validity.WrongSum → counted_answer c ≡ refused 2 0 → ReadsRows sheet text bytes (record { checked = c; rows = rows })
     sheet_sum = sheet_refuses r Validity.WrongSum 2 (λ ps. refl) e
 
-    pub sheet_layout_lem : r ≡ Validity.WrongLayout → checked_answer c ≡ refused 3 0 → ReadsRows sheet text bytes (record { checked = c; rows = rows })
+    pub sheet_layout_lem : r ≡ Validity.WrongLayout → counted_answer c ≡ refused 3 0 → ReadsRows sheet text bytes (record { checked = c; rows = rows })
     sheet_layout_lem = sheet_refuses r Validity.WrongLayout 3 (λ ps. refl) e
 
 -- the string is refused, as the definition refuses it
-pub text_refuses : (sheet text bytes : List ℕ) (rows : Rows) → read_sheet sheet ≡ Validity.WellFormed → (r : QueryRead) (x : Refusal) → AcceptsQuery text bytes r → r.decision ≡ Decision.Refused x
-    → ReadsRows sheet text bytes (record { checked = Checked.Refused x; rows = rows })
-unfolding accept_query_inputs accept_sheet checked_answer refusal_answer
-text_refuses sheet text bytes rows w r x t o = refuses sheet text bytes (Checked.Refused x) rows (number_of x.reason) x.place (rw (w, accepted_refused x t o)) refl
+pub text_refuses : (sheet text bytes : List ℕ) (rows : Rows) → read_sheet sheet ≡ Validity.WellFormed → (r : QueryRead) (x : Refusal) → AcceptsQuery text bytes r → r.decision ≡ Err x
+    → ReadsRows sheet text bytes (record { checked = Err x; rows = rows })
+unfolding accept_query_inputs accept_sheet counted_answer refusal_answer
+text_refuses sheet text bytes rows w r x t o = refuses sheet text bytes (Err x) rows (number_of x.reason) x.place (rw (w, accepted_refused x t o)) refl
 
 -- ---- a string that is accepted
 
-pub accepted_within : (text bytes : List ℕ) (r : QueryRead) → AcceptsQuery text bytes r → r.decision ≡ Decision.Passed → RowsWithin (length bytes) r.rows
+pub accepted_within : (text bytes : List ℕ) (r : QueryRead) → AcceptsQuery text bytes r → r.decision ≡ (Ok tt) → RowsWithin (length bytes) r.rows
 accepted_within text bytes r t o = (accepted_rows t o).1.within
 
 module _ (sheet text bytes : List ℕ) (w : read_sheet sheet ≡ Validity.WellFormed) (rows : Rows) (q : Query) (of : RowsOf text bytes rows q) where
@@ -108,7 +105,7 @@ module _ (sheet text bytes : List ℕ) (w : read_sheet sheet ≡ Validity.WellFo
   unfolding query_says
   same-says = fun_ext (λ es. sym (of.says (alternative_says ps es)))
 
-  passed_tests : (t : Step (Unit {0})) (c : Checked) (n : ℕ) → checked_answer c ≡ answer (ready_by t >>= counted) → c ≡ Checked.Tests n → ready_by t ≡ found inputs_as
+  passed_tests : (t : Step (Unit {0})) (c : Result ℕ Refusal) (n : ℕ) → counted_answer c ≡ answer (ready_by t >>= counted) → c ≡ Ok n → ready_by t ≡ found inputs_as
   passed_tests (found u) c n e h = refl
   passed_tests (stop k p) c n e h = absurd (no_tests c n k p e h)
 
@@ -120,7 +117,7 @@ module _ (sheet text bytes : List ℕ) (w : read_sheet sheet ≡ Validity.WellFo
   unfolding search_question
   question_by e = rw e
 
-  accepted_passes : (c : Checked) → checked_answer c ≡ check_search_answer sheet text → (n : ℕ) → c ≡ Checked.Tests n → PassingRows sheet text bytes rows
+  accepted_passes : (c : Result ℕ Refusal) → counted_answer c ≡ check_search_answer sheet text → (n : ℕ) → c ≡ Ok n → PassingRows sheet text bytes rows
   accepted_passes c e n h =
       let inputs_accepted : accept_query_inputs sheet text ≡ found inputs_as =
       ready ∙ passed_tests (alternatives_step ps (alternatives_of q)) c n (e ∙ check_by) h
@@ -131,38 +128,38 @@ module _ (sheet text bytes : List ℕ) (w : read_sheet sheet ≡ Validity.WellFo
         asked = question_by inputs_accepted ∙ ap (λ (f : List Entry → Bool). found (record { parameters = ps; says = f })) same-says;
       }
 
-pub rows_read : (sheet text bytes : List ℕ) → read_sheet sheet ≡ Validity.WellFormed → (r : QueryRead) (c : Checked) → AcceptsQuery text bytes r → r.decision ≡ Decision.Passed
-    → checked_answer c ≡ rows_answer (parameters_of sheet) bytes r.rows → ReadsRows sheet text bytes (record { checked = c; rows = r.rows })
+pub rows_read : (sheet text bytes : List ℕ) → read_sheet sheet ≡ Validity.WellFormed → (r : QueryRead) (c : Result ℕ Refusal) → AcceptsQuery text bytes r → r.decision ≡ (Ok tt)
+    → counted_answer c ≡ rows_answer (parameters_of sheet) bytes r.rows → ReadsRows sheet text bytes (record { checked = c; rows = r.rows })
 rows_read sheet text bytes w r c t o e =
     let (q, of) = accepted_rows t o in
-    let answered : checked_answer c ≡ check_search_answer sheet text = e ∙ sym (rows_answer_lem sheet text bytes w r.rows q of) in
+    let answered : counted_answer c ≡ check_search_answer sheet text = e ∙ sym (rows_answer_lem sheet text bytes w r.rows q of) in
     record { answers = answered; passes = accepted_passes sheet text bytes w r.rows q of c answered }
 
-pub rows_checked : (ps : List Parameter) (bytes : List ℕ) (rows : Rows) (first : Decision) (c : Checked) → first ≡ first_alternative_fault ps (alternatives_in bytes rows)
-    → checked_answer c ≡ summary_answer (record { tests = rows.count; first = first }) → checked_answer c ≡ rows_answer ps bytes rows
+pub rows_checked : (ps : List Parameter) (bytes : List ℕ) (rows : Rows) (first : Result ⊤ Refusal) (c : Result ℕ Refusal) → first ≡ first_alternative_fault ps (alternatives_in bytes rows)
+    → counted_answer c ≡ summary_answer (record { tests = rows.count; first = first }) → counted_answer c ≡ rows_answer ps bytes rows
 unfolding rows_answer
-rows_checked ps bytes rows first c e h = h ∙ ap (λ (f : Decision). summary_answer (record { tests = rows.count; first = f })) e
+rows_checked ps bytes rows first c e h = h ∙ ap (λ (f : Result ⊤ Refusal). summary_answer (record { tests = rows.count; first = f })) e
 
 -- ---- match
 
 module _ (sheet text bytes : List ℕ) (r : SearchRead) (read : ReadsRows sheet text bytes r) where
-  pub question_stopped : (f : Refusal) → r.checked ≡ Checked.Refused f → search_question sheet text ≡ stop (number_of f.reason) f.place
+  pub question_stopped : (f : Refusal) → r.checked ≡ Err f → search_question sheet text ≡ stop (number_of f.reason) f.place
   question_stopped f h = (unfold search_question in rw (stopped (accept_query_inputs sheet text) refl))
     where
       stopped : (s : Step QueryInputs) → accept_query_inputs sheet text ≡ s → s ≡ stop (number_of f.reason) f.place
-      stopped (found p) e = absurd (let a : checked_answer (Checked.Refused f) ≡ count (length (alternatives_of p.query)) = sym (ap checked_answer h) ∙ read.answers ∙ (unfold check_search_answer in rw e) in never a)
+      stopped (found p) e = absurd (let a : counted_answer (Err f) ≡ count (length (alternatives_of p.query)) = sym (ap counted_answer h) ∙ read.answers ∙ (unfold check_search_answer in rw e) in never a)
         where
-          never : {n : ℕ} → checked_answer (Checked.Refused f) ≡ count n → ⊥
-          never a = unfold checked_answer refusal_answer in (let z : ◌≡◌ {A = ℕ} 0 1 = cc in omega arith)
-      stopped (stop n p) e = same (sym (ap checked_answer h) ∙ read.answers ∙ (unfold check_search_answer in rw e))
+          never : {n : ℕ} → counted_answer (Err f) ≡ count n → ⊥
+          never a = unfold counted_answer refusal_answer in (let z : ◌≡◌ {A = ℕ} 0 1 = cc in omega arith)
+      stopped (stop n p) e = same (sym (ap counted_answer h) ∙ read.answers ∙ (unfold check_search_answer in rw e))
         where
-          same : checked_answer (Checked.Refused f) ≡ refused n p → ◌≡◌ {A = Step QueryInputs} (stop n p) (stop (number_of f.reason) f.place)
-          same a = unfold checked_answer refusal_answer in cc
+          same : counted_answer (Err f) ≡ refused n p → ◌≡◌ {A = Step QueryInputs} (stop n p) (stop (number_of f.reason) f.place)
+          same a = unfold counted_answer refusal_answer in cc
 
-  pub search_refused : (card : List ℕ) (f : Refusal) → r.checked ≡ Checked.Refused f → matched_answer (Matched.Refused f) ≡ match_search_answer sheet text card
+  pub search_refused : (card : List ℕ) (f : Refusal) → r.checked ≡ Err f → matched_answer (Err f) ≡ match_search_answer sheet text card
   search_refused card f h = match_stopped (search_question sheet text) card f (question_stopped f h)
 
-  module _ (n : ℕ) (h : r.checked ≡ Checked.Tests n) where
+  module _ (n : ℕ) (h : r.checked ≡ Ok n) where
     pub passed_sheet : read_sheet sheet ≡ Validity.WellFormed
     passed_sheet = (read.passes n h).sheet_well_formed
 
@@ -172,6 +169,6 @@ module _ (sheet text bytes : List ℕ) (r : SearchRead) (read : ReadsRows sheet 
     pub asks : search_question sheet text ≡ found (rows_question (parameters_of sheet) bytes r.rows)
     asks = (read.passes n h).asked
 
-    pub search_answered : (card : List ℕ) (v : CardVerdict) → ((i : ℕ) → verdict_step v i ≡ card_verdict (rows_question (parameters_of sheet) bytes r.rows) i card) → (m : Matched) → matched_answer m ≡ verdict_answer v
+    pub search_answered : (card : List ℕ) (v : Result Bool Reason) → ((i : ℕ) → verdict_step v i ≡ card_verdict (rows_question (parameters_of sheet) bytes r.rows) i card) → (m : Result Bool Refusal) → matched_answer m ≡ verdict_answer v
         → matched_answer m ≡ match_search_answer sheet text card
     search_answered card = match_answered (search_question sheet text) (rows_question (parameters_of sheet) bytes r.rows) card asks

@@ -1,18 +1,16 @@
 -- What the parts of the code for search strings answer: a string read into rows, and what the rows ask.
 -- Assumes nothing.
-use Rattle.std.specs.Prelude.{ℕ, ◌≡◌, List, length}
+use Rattle.std.specs.Prelude.{ℕ, ◌≡◌, List, length, Ok}
 use Rattle.block.specs.declared.Validity.{Validity}
 use Rattle.sheet.specs.Sheet.{Parameter, parameters_of, read_sheet}
 use Rattle.search.specs.Meaning.{first_alternative_fault, alternative_says}
 use Rattle.query.specs.Rows.{RowsWithin, alternatives_in, rows_say}
 use Rattle.query.specs.declared.Rows.{Rows}
-use Rattle.refusal.specs.Answers.{Answer}
+use Rattle.refusal.specs.Answers.{Answer, counted_answer}
 use Rattle.refusal.specs.Steps.{found}
-use Rattle.answer.specs.Answers.{checked_answer}
 use Rattle.answer.specs.Operations.{Question}
 use Rattle.answer.specs.Passing.{summary_answer}
 use Rattle.answer.specs.Searching.{check_search_answer, search_question}
-use Rattle.answer.specs.declared.Checked.{Checked}
 use Rattle.searching.specs.declared.SearchRead.{SearchRead}
 
 -- what check answers to a string whose query the rows keep
@@ -31,5 +29,5 @@ pub record PassingRows (sheet text bytes : List ℕ) (rows : Rows) : Type 0 wher
 
 -- what reading a string does: the answer of check and, where it passes, the rows
 pub record ReadsRows (sheet text bytes : List ℕ) (r : SearchRead) : Type 0 where
-  pub answers : checked_answer r.checked ≡ check_search_answer sheet text
-  pub passes : (n : ℕ) → r.checked ≡ Checked.Tests n → PassingRows sheet text bytes r.rows
+  pub answers : counted_answer r.checked ≡ check_search_answer sheet text
+  pub passes : (n : ℕ) → r.checked ≡ Ok n → PassingRows sheet text bytes r.rows

@@ -5,33 +5,32 @@ ghost use Rattle.std.specs.Prelude.{◌≡◌, ℕ, ◌≤◌, length};
 ghost use Rattle.sheet.specs.Sheet.{parameters_of, read_sheet};
 ghost use Rattle.sheet.specs.Find.{kinds_of};
 ghost use Rattle.query.specs.Rows.{RowsWithin};
-ghost use Rattle.answer.specs.Answers.{checked_answer, matched_answer};
 ghost use Rattle.answer.specs.Passing.{card_verdict};
 ghost use Rattle.one_card.specs.OneCard.{verdict_step};
 ghost use Rattle.answer.specs.Searching.{check_search_answer, match_search_answer};
 ghost use Rattle.searching.specs.SearchPassing.{rows_answer, rows_question, ReadsRows};
+ghost use Rattle.refusal.specs.Answers.{counted_answer, matched_answer};
 
-use answer::{Checked, Matched};
 use block::Validity;
 use checking::{outcome, refuse};
 use filter::Summary;
-use one_card::{CardAcceptance, CardVerdict, accept_card, answered};
+use one_card::{accept_card, answered};
 use query::{Rows, accept_query, no_rows};
-use refusal::{Decision, Reason};
+use refusal::{Reason, Refusal};
 use search::{first_fault, rows_say};
 
 // What check answers to a search string, and the rows of one that it passes.
 #[derive(Clone, Copy)]
 pub struct SearchRead {
-    pub checked: Checked,
+    pub checked: Result<usize, Refusal>,
     pub rows: Rows,
 }
 
 // The first refusal among the alternatives that rows keep, or their number.
-fn check_rows(sheet: &[u8], bytes: &[u8], rows: Rows) -> Checked
+fn check_rows(sheet: &[u8], bytes: &[u8], rows: Rows) -> Result<usize, Refusal>
     requires sheet_value { read_sheet sheet.now ≡ Validity.WellFormed }
     requires rows_within { RowsWithin (length bytes.now) rows }
-    ensures { checked_answer result ≡ rows_answer (parameters_of sheet.now) bytes.now rows }
+    ensures { counted_answer result ≡ rows_answer (parameters_of sheet.now) bytes.now rows }
 {
     let first = first_fault(sheet, bytes, rows);
     outcome(Summary {
@@ -50,12 +49,12 @@ fn read_text(sheet: &[u8], text: &[u8], bytes: &mut [u8]) -> SearchRead
     let rows = accepted.rows;
     let decision = accepted.decision;
     match decision {
-        Decision::Passed => SearchRead {
+        Ok(()) => SearchRead {
             checked: check_rows(sheet, bytes, rows),
             rows,
         },
-        Decision::Refused(refusal) => SearchRead {
-            checked: Checked::Refused(refusal),
+        Err(refusal) => SearchRead {
+            checked: Err(refusal),
             rows,
         },
     }
@@ -85,8 +84,8 @@ pub fn read_search(sheet: &[u8], text: &[u8], bytes: &mut [u8]) -> SearchRead
 }
 
 // How many alternatives a search string has, where each has a meaning on every card that fits the sheet; or why not, and where.
-pub fn check_search(sheet: &[u8], text: &[u8]) -> Checked
-    ensures { checked_answer result ≡ check_search_answer sheet.now text.now }
+pub fn check_search(sheet: &[u8], text: &[u8]) -> Result<usize, Refusal>
+    ensures { counted_answer result ≡ check_search_answer sheet.now text.now }
 {
     let mut bytes = [0u8; 1024];
     let read = read_search(sheet, text, &mut bytes);
@@ -100,7 +99,7 @@ pub fn judge_by_search(
     bytes: &[u8],
     rows: Rows,
     card: &[u8],
-) -> CardVerdict
+) -> Result<bool, Reason>
     requires sheet_value { read_sheet sheet.now ≡ Validity.WellFormed }
     requires kinds_value { kinds.now ≡ kinds_of (parameters_of sheet.now) }
     requires rows_within { RowsWithin (length bytes.now) rows }
@@ -108,13 +107,13 @@ pub fn judge_by_search(
 {
     let accepted = accept_card(kinds, card);
     match accepted {
-        CardAcceptance::Conforming => CardVerdict::Says(rows_say(sheet, card, bytes, rows)),
-        CardAcceptance::Refused(reason) => CardVerdict::Refused(reason),
+        Ok(()) => Ok(rows_say(sheet, card, bytes, rows)),
+        Err(reason) => Err(reason),
     }
 }
 
 // Whether a card matches a search string on a sheet, or why there is no answer, and where.
-pub fn match_search(sheet: &[u8], text: &[u8], card: &[u8]) -> Matched
+pub fn match_search(sheet: &[u8], text: &[u8], card: &[u8]) -> Result<bool, Refusal>
     ensures { matched_answer result ≡ match_search_answer sheet.now text.now card.now }
 {
     let mut bytes = [0u8; 1024];
@@ -122,8 +121,8 @@ pub fn match_search(sheet: &[u8], text: &[u8], card: &[u8]) -> Matched
     let rows = read.rows;
     let checked = read.checked;
     match checked {
-        Checked::Refused(refusal) => Matched::Refused(refusal),
-        Checked::Tests(_) => {
+        Err(refusal) => Err(refusal),
+        Ok(_) => {
             let kinds = sheet::kinds(sheet);
             answered(judge_by_search(sheet, &kinds, &bytes, rows, card))
         }

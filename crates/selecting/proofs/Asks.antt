@@ -1,5 +1,6 @@
 -- What is asked of a card, whichever way, as the code comes to its verdict.
 -- Assumes nothing.
+use Rattle.std.specs.Prelude.{Result}
 use Prim.Native.Nat.{ℕ, ◌≤◌}
 use native.Mathlib.Omega.{arith}
 use mathlib.Core.Path.{◌≡◌, subst}
@@ -17,8 +18,8 @@ use Rattle.searching.specs.SearchPassing.{rows_question}
 use Rattle.selecting.specs.Asking.{asked_says, asked_question, Asks, asks_rows, asks_text, asks_search}
 use Rattle.selecting.specs.Selecting.{Gathers}
 use Rattle.selecting.specs.declared.Way.{Way}
-use Rattle.answer.specs.declared.Selected.{Selected}
-use Rattle.one_card.specs.declared.CardVerdict.{CardVerdict}
+use Rattle.refusal.specs.declared.Refusal.{Refusal}
+use Rattle.refusal.specs.declared.Reason.{Reason}
 
 -- ---- what the code knows
 
@@ -45,7 +46,7 @@ module _ (b xs cs : List ℕ) (rows : Rows) where
 
 -- ---- the verdict
 
-module _ (ps : List Parameter) (xs cs : List ℕ) (rows : Rows) (a : Way) (v : CardVerdict) (b : List ℕ) where
+module _ (ps : List Parameter) (xs cs : List ℕ) (rows : Rows) (a : Way) (v : Result Bool Reason) (b : List ℕ) where
   pub asked_rows : a ≡ Way.Rows → (kinds : List ℕ) → kinds ≡ kinds_of ps → ((qs : List Parameter) → kinds ≡ kinds_of qs → (i : ℕ) → verdict_step v i ≡ card_verdict (cells_question qs xs cs) i b)
       → (i : ℕ) → verdict_step v i ≡ card_verdict (asked_question a ps xs cs rows) i b
   unfolding asked_says
@@ -61,7 +62,7 @@ module _ (ps : List Parameter) (xs cs : List ℕ) (rows : Rows) (a : Way) (v : C
 
 -- ---- the way is known
 
-module _ (text cells : List ℕ) (rows : Rows) (way : Way) (ps : List Parameter) (cards : List ℕ) (r : Selected) (buffer : List ℕ) where
+module _ (text cells : List ℕ) (rows : Rows) (way : Way) (ps : List Parameter) (cards : List ℕ) (r : Result ℕ Refusal) (buffer : List ℕ) where
   pub gathered_rows : way ≡ Way.Rows → Gathers (cells_question ps text cells) cards r buffer → Gathers (asked_question way ps text cells rows) cards r buffer
   unfolding asked_says
   gathered_rows h g = rw h g

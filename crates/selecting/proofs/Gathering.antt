@@ -4,6 +4,7 @@
 -- stays, and where it is refused the loop and the run both stop at its index. A position is its card's index times 512. There are no more
 -- numbers than cards seen (`few`), so the buffer has room. A card with a verdict is well formed (`judged_well_formed`).
 -- Assumes nothing.
+use Rattle.std.specs.Prelude.{Err, Ok, Result}
 use Prim.Native.Nat.{ℕ, suc, ◌+◌, ◌-◌, ◌*◌, ◌/◌, ◌%◌, ◌≤◌, ◌<◌, zero-le}
 use native.Mathlib.Nat.{sub-zero}
 use native.Mathlib.Numerals.{add-one}
@@ -18,9 +19,7 @@ use lib.Seq.{take-suc-set, drop-drop}
 use Rattle.base.specs.Parts.{part}
 use Rattle.block.specs.declared.Validity.{Validity}
 use Rattle.card.specs.Card.{record_number, read_card}
-use Rattle.one_card.specs.declared.CardVerdict.{CardVerdict}
 use Rattle.refusal.specs.declared.Refusal.{Refusal}
-use Rattle.answer.specs.declared.Selected.{Selected}
 use Rattle.refusal.specs.Steps.{Step, found, stop, ◌>>=◌}
 use Rattle.answer.specs.Operations.{Question, blocks, accept_card}
 use Rattle.answer.specs.Passing.{card_verdict}
@@ -28,6 +27,7 @@ use Rattle.one_card.specs.OneCard.{verdict_step}
 use Rattle.selecting.specs.Selecting.{run_numbers, Gathers}
 use Rattle.refusal.proofs.Steps.{bind_found}
 use Rattle.answer.proofs.Passing.{card_accepted}
+use Rattle.refusal.specs.declared.Reason.{Reason}
 
 -- ---- a card that has a verdict is well formed
 
@@ -97,10 +97,10 @@ module _ (q : Question) (cards : List ℕ) where
     pub gathering_more : at < length cards → Fits w64 (count + 1)
     gathering_more h = record { fits = omega (arith, gathering_room h, g.short) }
 
-    pub gathering_well_formed : (b : List ℕ) (v : CardVerdict) → ((i : ℕ) → verdict_step v i ≡ card_verdict q i b) → (y : Bool) → v ≡ CardVerdict.Says y → read_card b ≡ Validity.WellFormed
-    gathering_well_formed b v e y s = judged_well_formed q b y (sym (e 0) ∙ ap (λ (w : CardVerdict). verdict_step w 0) s)
+    pub gathering_well_formed : (b : List ℕ) (v : Result Bool Reason) → ((i : ℕ) → verdict_step v i ≡ card_verdict q i b) → (y : Bool) → v ≡ Ok y → read_card b ≡ Validity.WellFormed
+    gathering_well_formed b v e y s = judged_well_formed q b y (sym (e 0) ∙ ap (λ (w : Result Bool Reason). verdict_step w 0) s)
 
-    module _ (h : at < length cards) (v : CardVerdict) (e : (i : ℕ) → verdict_step v i ≡ card_verdict q i (part cards at (at + 512))) where
+    module _ (h : at < length cards) (v : Result Bool Reason) (e : (i : ℕ) → verdict_step v i ≡ card_verdict q i (part cards at (at + 512))) where
       abbrev later : Step (List ℕ)
       later = run_numbers q (suc g.index) (blocks (g.total - suc g.index) (drop (at + 512) cards))
 
@@ -129,15 +129,15 @@ module _ (q : Question) (cards : List ℕ) where
             rest = rest;
           }
 
-      pub gathering_match : (y : Bool) (x : ℕ) → v ≡ CardVerdict.Says y → y ≡ true → x ≡ record_number (part cards at (at + 512)) → Gathering q cards entry (set buffer count x) (at + 512) (count + 1)
+      pub gathering_match : (y : Bool) (x : ℕ) → v ≡ Ok y → y ≡ true → x ≡ record_number (part cards at (at + 512)) → Gathering q cards entry (set buffer count x) (at + 512) (count + 1)
       gathering_match y x s t r =
           next (set buffer count x) (count + 1) (length-set buffer count x) (omega (arith, g.few))
           (split ∙ rw (s, t, ← r, add-one count, take-suc-set buffer count x (gathering_room h)) (onto_more (take count buffer) x later))
 
-      pub gathering_other : (y : Bool) → v ≡ CardVerdict.Says y → y ≡ false → Gathering q cards entry buffer (at + 512) count
+      pub gathering_other : (y : Bool) → v ≡ Ok y → y ≡ false → Gathering q cards entry buffer (at + 512) count
       gathering_other y s t = next buffer count refl (omega (arith, g.few)) (split ∙ rw (s, t, onto_same later))
 
-      pub gathering_refused : (r : Refusal) → v ≡ CardVerdict.Refused r.reason → r.place ≡ at / 512 → Gathers q cards (Selected.Refused r) buffer
+      pub gathering_refused : (r : Refusal) → v ≡ Err r.reason → r.place ≡ at / 512 → Gathers q cards (Err r) buffer
       gathering_refused r s t =
           let i : at / 512 ≡ g.index = omega (arith, g.at_index) in
           let n : length cards / 512 ≡ g.total = omega (arith, g.size) in
@@ -146,7 +146,7 @@ module _ (q : Question) (cards : List ℕ) where
             room = λ k z. absurd (let z : ◌≡◌ {A = ℕ} 0 1 = cc in omega arith);
           }
 
-    pub gathering_end : length cards ≤ at → Gathers q cards (Selected.Count count) buffer
+    pub gathering_end : length cards ≤ at → Gathers q cards (Ok count) buffer
     unfolding run_numbers blocks
     gathering_end h =
         let d : g.total - g.index ≡ 0 = omega (arith, g.at_index, g.size) in

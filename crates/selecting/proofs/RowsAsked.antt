@@ -1,5 +1,6 @@
 -- The rows of a filter that check passes ask what the filter asks: select by rows.
 -- Assumes nothing.
+use Rattle.std.specs.Prelude.{Ok, Err, Result}
 use Prim.Native.Nat.{ℕ, ◌≤◌}
 use native.Mathlib.Nat.{sub-zero}
 use native.Mathlib.Omega.{arith}
@@ -19,7 +20,6 @@ use Rattle.syntax.specs.Grammar.{Spells}
 use Rattle.syntax.proofs.Spelling.{read_iff}
 use Rattle.judge.specs.Faults.{first_fault}
 use Rattle.judge.specs.Verdicts.{filter_says}
-use Rattle.refusal.specs.declared.Decision.{Decision}
 use Rattle.rows.specs.Good.{Good}
 use Rattle.row_judge.specs.Saying.{rows_say, Whole}
 use Rattle.rows.specs.Shapes.{good}
@@ -37,8 +37,6 @@ use Rattle.answer.specs.Preparing.{row_cells, Fills}
 use Rattle.selecting.specs.Selecting.{Selects}
 use Rattle.one_card.specs.OneCard.{cells_question}
 use Rattle.selecting.specs.Asking.{asked_says, asked_question, Asks, asks_rows}
-use Rattle.answer.specs.declared.Prepared.{Prepared}
-use Rattle.answer.specs.declared.Selected.{Selected}
 use Rattle.selecting.specs.declared.Way.{Way}
 use Rattle.answer.proofs.Passing.{passing_inputs}
 use Rattle.answer.proofs.RowsAnswered.{step_passed}
@@ -59,7 +57,7 @@ module _ (sheet text : List ℕ) (p : Passing sheet text) where
   spells : Spells text p.tree
   spells = (read_iff text p.tree).0 p.reads
 
-  clean : first_fault ps 0 (tests_of p.tree) ≡ Decision.Passed
+  clean : first_fault ps 0 (tests_of p.tree) ≡ (Ok tt)
   unfolding tests_step
   clean = step_passed (first_fault ps 0 (tests_of p.tree)) p.meant
 
@@ -88,18 +86,18 @@ module _ (sheet text : List ℕ) (p : Passing sheet text) where
 
 -- ---- as the code has filled them
 
-module _ (sheet text buffer : List ℕ) (r : Prepared) (e : Fills sheet text r buffer) where
+module _ (sheet text buffer : List ℕ) (r : Result ℕ Refusal) (e : Fills sheet text r buffer) where
   abbrev filling : Step Inputs → Step (List ℕ)
   filling s = s >>= λ p. found (row_cells p.parameters text p.filter)
 
-  pub filled_refused : (cards list : List ℕ) (f : Refusal) → r ≡ Prepared.Refused f → Selects (filter_question sheet text) cards list (Selected.Refused f) list
+  pub filled_refused : (cards list : List ℕ) (f : Refusal) → r ≡ Err f → Selects (filter_question sheet text) cards list (Err f) list
   filled_refused cards list f h = select_stopped (filter_question sheet text) cards list f (unfold filter_question in rw (by (accept_inputs sheet text) (sym e.rows ∙ rw h)))
     where
       by : (s : Step Inputs) → filling s ≡ stop (number_of f.reason) f.place → s ≡ stop (number_of f.reason) f.place
       by (found p) g = absurd (let z : ◌≡◌ {A = ℕ} 0 1 = cc in omega arith)
       by (stop n q) g = cc
 
-  module _ (n : ℕ) (h : r ≡ Prepared.Cells n) where
+  module _ (n : ℕ) (h : r ≡ Ok n) where
     inputs : (p : Inputs) × ((accept_inputs sheet text ≡ found p) × (take n buffer ≡ row_cells p.parameters text p.filter))
     inputs = by (accept_inputs sheet text) refl (sym e.rows ∙ rw h)
       where
@@ -133,7 +131,7 @@ module _ (sheet text buffer : List ℕ) (r : Prepared) (e : Fills sheet text r b
     pub filled-asks : (rows : Rows) → Asks sheet text (part buffer 0 n) rows Way.Rows
     filled-asks rows = asks_rows passed.short (subst Whole (sym filled-cells) (rows_whole sheet text passed))
 
-    pub filled_selects : (rows : Rows) (cards list : List ℕ) (s : Selected) (exit : List ℕ)
+    pub filled_selects : (rows : Rows) (cards list : List ℕ) (s : Result ℕ Refusal) (exit : List ℕ)
         → Selects (found (asked_question Way.Rows (parameters_of sheet) text (part buffer 0 n) rows)) cards list s exit → Selects (filter_question sheet text) cards list s exit
     unfolding asked_says
     filled_selects rows cards list s exit g =

@@ -1,5 +1,6 @@
 -- Select, as the code comes to its answer.
 -- Assumes nothing.
+use Rattle.std.specs.Prelude.{Err, Result, Ok}
 use Prim.Native.Nat.{ℕ, suc, ◌%◌, ◌≤◌, ◌<◌}
 use native.Mathlib.Nat.{sub-zero}
 use mathlib.Core.Path.{◌≡◌, refl, sym, ap, subst, ◌∙◌}
@@ -10,12 +11,9 @@ use lib.Seq.{length-take-le}
 use borrow.Author.Tests.{eq-eqb, ne_eqb, le-leb, lt-leb}
 use Rattle.base.specs.Parts.{part}
 use Rattle.card.specs.Card.{record_number}
-use Rattle.answer.specs.declared.Checked.{Checked}
 use Rattle.refusal.specs.declared.Reason.{Reason}
 use Rattle.refusal.specs.declared.Refusal.{Refusal}
-use Rattle.answer.specs.declared.Selected.{Selected}
-use Rattle.refusal.specs.Answers.{number_of, refusal_answer}
-use Rattle.answer.specs.Answers.{checked_answer, selected_answer}
+use Rattle.refusal.specs.Answers.{number_of, refusal_answer, counted_answer}
 use Rattle.refusal.specs.Steps.{Step, found, stop, ◌>>=◌}
 use Rattle.answer.specs.Operations.{check_answer, Card, accept_card, Question, filter_question, accept_run, accept_cards, matching, accept_room, selection, select_by, cells_by}
 use Rattle.answer.specs.Passing.{Passing, card_verdict}
@@ -51,22 +49,22 @@ after : {A B : Type 0} (s : Step A) (g h : A → Step B) → ((a : A) → g a �
 after (found a) g h e = e a
 after (stop n p) g h e = refl
 
-pub gathered_room : {q : Question} {cards buffer : List ℕ} {r : Selected} (n : ℕ) → Gathers q cards r buffer → r ≡ Selected.Count n → n ≤ length buffer
+pub gathered_room : {q : Question} {cards buffer : List ℕ} {r : Result ℕ Refusal} (n : ℕ) → Gathers q cards r buffer → r ≡ Ok n → n ≤ length buffer
 gathered_room n g h = g.room n h
 
 -- ---- what select does, by the selection
 
 module _ (asked : Step Question) (cards list : List ℕ) where
-  selects_stop : (r : Refusal) → selection asked cards (length list) ≡ stop (number_of r.reason) r.place → Selects asked cards list (Selected.Refused r) list
-  unfolding selected_answer refusal_answer select_by cells_by
+  selects_stop : (r : Refusal) → selection asked cards (length list) ≡ stop (number_of r.reason) r.place → Selects asked cards list (Err r) list
+  unfolding counted_answer refusal_answer select_by cells_by
   selects_stop r e = record { answers = rw e; cells = rw e }
 
-  selects_found : (ns : List ℕ) → selection asked cards (length list) ≡ found ns → Selects asked cards list (Selected.Count (length ns)) (ns ++ drop (length ns) list)
-  unfolding selected_answer select_by cells_by
+  selects_found : (ns : List ℕ) → selection asked cards (length list) ≡ found ns → Selects asked cards list (Ok (length ns)) (ns ++ drop (length ns) list)
+  unfolding counted_answer select_by cells_by
   selects_found ns e = record { answers = rw e; cells = rw e }
 
   -- the question is refused
-  pub select_stopped : (r : Refusal) → asked ≡ stop (number_of r.reason) r.place → Selects asked cards list (Selected.Refused r) list
+  pub select_stopped : (r : Refusal) → asked ≡ stop (number_of r.reason) r.place → Selects asked cards list (Err r) list
   unfolding selection
   select_stopped r e = selects_stop r (rw e)
 
@@ -78,39 +76,39 @@ module _ (asked : Step Question) (cards list : List ℕ) where
         (after (accept_run cards) _ _
         (λ bs. room_after q room (accept_cards q.parameters 0 bs) ∙ ap (λ (s : Step (List ℕ)). s >>= accept_room room) (sym (run-numbers q 0 bs))))
 
-    pub select_parted : (r : Refusal) → (length cards % 512 ≡ 0 → ⊥) → r.reason ≡ Reason.CardSize → r.place ≡ 0 → Selects asked cards list (Selected.Refused r) list
+    pub select_parted : (r : Refusal) → (length cards % 512 ≡ 0 → ⊥) → r.reason ≡ Reason.CardSize → r.place ≡ 0 → Selects asked cards list (Err r) list
     unfolding accept_run
     select_parted r h n z = selects_stop r (selection_is (length list) ∙ rw (ne_eqb (length cards % 512) 0 h, n, z))
 
-    pub select-over : (r : Refusal) → length cards % 512 ≡ 0 → 65536 < length cards → r.reason ≡ Reason.CardSize → r.place ≡ 0 → Selects asked cards list (Selected.Refused r) list
+    pub select-over : (r : Refusal) → length cards % 512 ≡ 0 → 65536 < length cards → r.reason ≡ Reason.CardSize → r.place ≡ 0 → Selects asked cards list (Err r) list
     unfolding accept_run
     select-over r w h n z = selects_stop r (selection_is (length list) ∙ rw (eq-eqb (length cards % 512) 0 w, lt-leb (length cards) 65536 h, n, z))
 
-    module _ (whole : length cards % 512 ≡ 0) (few : length cards ≤ 65536) (g : Selected) (buffer : List ℕ) (e : Gathers q cards g buffer) where
+    module _ (whole : length cards % 512 ≡ 0) (few : length cards ≤ 65536) (g : Result ℕ Refusal) (buffer : List ℕ) (e : Gathers q cards g buffer) where
       gathered : selection asked cards (length list) ≡ gathered_step g buffer >>= accept_room (length list)
       unfolding accept_run
       gathered = selection_is (length list) ∙ rw (eq-eqb (length cards % 512) 0 whole, le-leb (length cards) 65536 few, e.numbers)
 
-      pub select-card_refused : (r : Refusal) → g ≡ Selected.Refused r → Selects asked cards list (Selected.Refused r) list
+      pub select-card_refused : (r : Refusal) → g ≡ Err r → Selects asked cards list (Err r) list
       select-card_refused r h = selects_stop r (gathered ∙ rw h)
 
-      module _ (n : ℕ) (h : g ≡ Selected.Count n) where
+      module _ (n : ℕ) (h : g ≡ Ok n) where
         size : length (take n buffer) ≡ n
         size = length-take-le n buffer (e.room n h)
 
-        pub select_short : (r : Refusal) → length list < n → r.reason ≡ Reason.ShortList → r.place ≡ n → Selects asked cards list (Selected.Refused r) list
+        pub select_short : (r : Refusal) → length list < n → r.reason ≡ Reason.ShortList → r.place ≡ n → Selects asked cards list (Err r) list
         unfolding accept_room
         select_short r k s z = selects_stop r (gathered ∙ rw (h, size, lt-leb n (length list) k, s, z))
 
-        pub select_writes : (exit : List ℕ) → n ≤ length list → exit ≡ part buffer 0 n ++ drop (length (part buffer 0 n)) list → Selects asked cards list (Selected.Count n) exit
+        pub select_writes : (exit : List ℕ) → n ≤ length list → exit ≡ part buffer 0 n ++ drop (length (part buffer 0 n)) list → Selects asked cards list (Ok n) exit
         unfolding accept_room
         select_writes exit k w =
             let q : part buffer 0 n ≡ take n buffer = rw (sub-zero n) in
             rw (w, q, size) (rw size at (selects_found (take n buffer) (gathered ∙ rw (h, size, le-leb n (length list) k))))
 
 -- check has refused a filter
-pub select_refused : (sheet text cards list : List ℕ) (c : Checked) (r : Refusal) → checked_answer c ≡ check_answer sheet text → c ≡ Checked.Refused r
-    → Selects (filter_question sheet text) cards list (Selected.Refused r) list
+pub select_refused : (sheet text cards list : List ℕ) (c : Result ℕ Refusal) (r : Refusal) → counted_answer c ≡ check_answer sheet text → c ≡ Err r
+    → Selects (filter_question sheet text) cards list (Err r) list
 select_refused sheet text cards list c r e h = select_stopped (filter_question sheet text) cards list r (question_stopped sheet text c r e h)
 
 -- check has passed it, and its text asks
@@ -118,14 +116,14 @@ module _ (sheet text : List ℕ) (p : Passing sheet text) (cells : List ℕ) (ro
   pub text_asks : Asks sheet text cells rows Way.Text
   text_asks = asks_text p
 
-  pub text_selects : (cards list : List ℕ) (s : Selected) (exit : List ℕ) → Selects (found (asked_question Way.Text (parameters_of sheet) text cells rows)) cards list s exit → Selects (filter_question sheet text) cards list s exit
+  pub text_selects : (cards list : List ℕ) (s : Result ℕ Refusal) (exit : List ℕ) → Selects (found (asked_question Way.Text (parameters_of sheet) text cells rows)) cards list s exit → Selects (filter_question sheet text) cards list s exit
   unfolding asked_says
   text_selects cards list s exit g = subst (λ (a : Step Question). Selects a cards list s exit) (sym (passing_asks sheet text p)) g
 
 -- of a question that is found already
 module _ (q : Question) (cards list : List ℕ) (r : Refusal) where
-  pub found_parted : (length cards % 512 ≡ 0 → ⊥) → r.reason ≡ Reason.CardSize → r.place ≡ 0 → Selects (found q) cards list (Selected.Refused r) list
+  pub found_parted : (length cards % 512 ≡ 0 → ⊥) → r.reason ≡ Reason.CardSize → r.place ≡ 0 → Selects (found q) cards list (Err r) list
   found_parted = select_parted (found q) cards list q refl r
 
-  pub found-over : length cards % 512 ≡ 0 → 65536 < length cards → r.reason ≡ Reason.CardSize → r.place ≡ 0 → Selects (found q) cards list (Selected.Refused r) list
+  pub found-over : length cards % 512 ≡ 0 → 65536 < length cards → r.reason ≡ Reason.CardSize → r.place ≡ 0 → Selects (found q) cards list (Err r) list
   found-over = select-over (found q) cards list q refl r

@@ -8,9 +8,10 @@ ghost use Rattle.selecting.specs.Asking.{Asks, asked_question};
 
 use crate::{Asked, Way};
 use block::Validity;
-use one_card::{CardVerdict, judge_by_text, judge_once};
+use one_card::{judge_by_text, judge_once};
 use query::Rows;
 use searching::judge_by_search;
+use refusal::Reason;
 
 // The verdict on a card, or why it is refused: by the rows of the text's filter in the cells, by the text as a filter's, or by the rows of a search
 // string over the text.
@@ -21,7 +22,7 @@ pub fn judge_asked(
     cells: &[u32],
     search: Rows,
     card: &[u8],
-) -> CardVerdict
+) -> Result<bool, Reason>
     requires sheet_value { read_sheet sheet.now ≡ Validity.WellFormed }
     requires kinds_len { length asked.kinds ≡ 32 }
     requires kinds_value { asked.kinds ≡ kinds_of (parameters_of sheet.now) }

@@ -5,9 +5,8 @@ ghost use Rattle.row_judge.specs.Saying.{Whole};
 ghost use Rattle.one_card.specs.OneCard.{cells_question};
 ghost use Rattle.selecting.specs.Selecting.{Gathers};
 
-use answer::Selected;
 use block::Validity;
-use one_card::{CardVerdict, judge_by_rows};
+use one_card::judge_by_rows;
 use refusal::Refusal;
 use row_judge::lend_for;
 use row_opener::open_rows;
@@ -19,7 +18,7 @@ pub fn gather_by_rows(
     rows: &[u32],
     cards: &[u8],
     buffer: &mut [u32],
-) -> Selected
+) -> Result<usize, Refusal>
     requires sheet_value { read_sheet sheet.now ≡ Validity.WellFormed }
     requires text_len_bound { length text.now ≤ 1024 }
     requires whole { Whole rows.now }
@@ -45,20 +44,20 @@ pub fn gather_by_rows(
             &kinds, text, rows, &values, &ends, card, &mut cells, &mut spans,
         );
         match verdict {
-            CardVerdict::Says(yes) => {
+            Ok(yes) => {
                 if yes {
                     buffer[count] = card::record_number(card);
                     count += 1;
                 }
                 at = end;
             }
-            CardVerdict::Refused(reason) => {
-                return Selected::Refused(Refusal {
+            Err(reason) => {
+                return Err(Refusal {
                     reason,
                     place: at / 512,
                 });
             }
         }
     }
-    Selected::Count(count)
+    Ok(count)
 }

@@ -12,12 +12,11 @@ ghost use Rattle.answer.specs.Searching.{search_question};
 ghost use Rattle.selecting.specs.Asking.{Asks, asked_question};
 ghost use Rattle.selecting.specs.Selecting.{Gathers, Selects};
 
-use answer::{Checked, Engine, Prepared, Selected, write};
+use answer::{Engine, write};
 use asking::judge_asked;
 use block::Validity;
 use by_rows::gather_by_rows;
 use checking::check;
-use one_card::CardVerdict;
 use preparing::fill;
 use query::{Rows, no_rows};
 use refusal::{Reason, Refusal};
@@ -47,7 +46,7 @@ fn gather(
     search: Rows,
     cards: &[u8],
     buffer: &mut [u32],
-) -> Selected
+) -> Result<usize, Refusal>
     requires sheet_value { read_sheet sheet.now ≡ Validity.WellFormed }
     requires text_len_bound { length text.now ≤ 1024 }
     requires cells_len_bound { length cells.now ≤ 320 }
@@ -65,22 +64,22 @@ fn gather(
         let end = at + 512;
         let card = &cards[at..end];
         match judge_asked(asked, sheet, text, cells, search, card) {
-            CardVerdict::Says(yes) => {
+            Ok(yes) => {
                 if yes {
                     buffer[count] = card::record_number(card);
                     count += 1;
                 }
                 at = end;
             }
-            CardVerdict::Refused(reason) => {
-                return Selected::Refused(Refusal {
+            Err(reason) => {
+                return Err(Refusal {
                     reason,
                     place: at / 512,
                 });
             }
         }
     }
-    Selected::Count(count)
+    Ok(count)
 }
 
 // The same, by rows in the way that opens them once for all cards.
@@ -92,7 +91,7 @@ fn gather_asked(
     search: Rows,
     cards: &[u8],
     buffer: &mut [u32],
-) -> Selected
+) -> Result<usize, Refusal>
     requires sheet_value { read_sheet sheet.now ≡ Validity.WellFormed }
     requires text_len_bound { length text.now ≤ 1024 }
     requires cells_len_bound { length cells.now ≤ 320 }
@@ -118,7 +117,7 @@ pub fn select_cards(
     search: Rows,
     cards: &[u8],
     list: &mut [u32],
-) -> Selected
+) -> Result<usize, Refusal>
     requires sheet_value { read_sheet sheet.now ≡ Validity.WellFormed }
     requires text_len_bound { length text.now ≤ 1024 }
     requires cells_len_bound { length cells.now ≤ 320 }
@@ -126,13 +125,13 @@ pub fn select_cards(
     ensures { Selects (found (asked_question way (parameters_of sheet.now) text.now cells.now search)) cards.now list.old result list.new }
 {
     if cards.len() % 512 != 0 {
-        return Selected::Refused(Refusal {
+        return Err(Refusal {
             reason: Reason::CardSize,
             place: 0,
         });
     }
     if cards.len() > 65536 {
-        return Selected::Refused(Refusal {
+        return Err(Refusal {
             reason: Reason::CardSize,
             place: 0,
         });
@@ -141,28 +140,28 @@ pub fn select_cards(
     let mut buffer = [0u32; 128];
     let gathered = gather_asked(way, sheet, text, cells, search, cards, &mut buffer);
     match gathered {
-        Selected::Count(matches) => {
+        Ok(matches) => {
             if matches > list.len() {
-                return Selected::Refused(Refusal {
+                return Err(Refusal {
                     reason: Reason::ShortList,
                     place: matches,
                 });
             }
             write(&buffer[0..matches], list);
-            Selected::Count(matches)
+            Ok(matches)
         }
-        Selected::Refused(refusal) => Selected::Refused(refusal),
+        Err(refusal) => Err(refusal),
     }
 }
 
 // Select by the rows of the filter, which are written once for the run.
-fn select_by_rows(sheet: &[u8], filter: &[u8], cards: &[u8], list: &mut [u32]) -> Selected
+fn select_by_rows(sheet: &[u8], filter: &[u8], cards: &[u8], list: &mut [u32]) -> Result<usize, Refusal>
     ensures { Selects (filter_question sheet.now filter.now) cards.now list.old result list.new }
 {
     let mut cells = [0u32; 1024];
     let filled = fill(sheet, filter, &mut cells);
     match filled {
-        Prepared::Cells(n) => {
+        Ok(n) => {
             select_cards(
                 Way::Rows,
                 sheet,
@@ -173,21 +172,21 @@ fn select_by_rows(sheet: &[u8], filter: &[u8], cards: &[u8], list: &mut [u32]) -
                 list,
             )
         }
-        Prepared::Refused(refusal) => Selected::Refused(refusal),
+        Err(refusal) => Err(refusal),
     }
 }
 
 // Select by the filter's text, which is read again for each card.
-fn select_by_text(sheet: &[u8], filter: &[u8], cards: &[u8], list: &mut [u32]) -> Selected
+fn select_by_text(sheet: &[u8], filter: &[u8], cards: &[u8], list: &mut [u32]) -> Result<usize, Refusal>
     ensures { Selects (filter_question sheet.now filter.now) cards.now list.old result list.new }
 {
     let checked = check(sheet, filter);
     match checked {
-        Checked::Tests(_) => {
+        Ok(_) => {
             let none = [0u32; 0];
             select_cards(Way::Text, sheet, filter, &none, no_rows(), cards, list)
         }
-        Checked::Refused(refusal) => Selected::Refused(refusal),
+        Err(refusal) => Err(refusal),
     }
 }
 
@@ -199,7 +198,7 @@ pub fn select_by(
     filter: &[u8],
     cards: &[u8],
     list: &mut [u32],
-) -> Selected
+) -> Result<usize, Refusal>
     ensures { Selects (filter_question sheet.now filter.now) cards.now list.old result list.new }
 {
     match engine {
@@ -209,7 +208,7 @@ pub fn select_by(
 }
 
 // Writes the record numbers of the cards that match into the list, as select by a filter does.
-pub fn select_search(sheet: &[u8], text: &[u8], cards: &[u8], list: &mut [u32]) -> Selected
+pub fn select_search(sheet: &[u8], text: &[u8], cards: &[u8], list: &mut [u32]) -> Result<usize, Refusal>
     ensures { Selects (search_question sheet.now text.now) cards.now list.old result list.new }
 {
     let mut bytes = [0u8; 1024];
@@ -217,10 +216,10 @@ pub fn select_search(sheet: &[u8], text: &[u8], cards: &[u8], list: &mut [u32]) 
     let rows = read.rows;
     let checked = read.checked;
     match checked {
-        Checked::Tests(_) => {
+        Ok(_) => {
             let none = [0u32; 0];
             select_cards(Way::Search, sheet, &bytes, &none, rows, cards, list)
         }
-        Checked::Refused(refusal) => Selected::Refused(refusal),
+        Err(refusal) => Err(refusal),
     }
 }

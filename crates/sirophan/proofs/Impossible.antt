@@ -1,5 +1,6 @@
 -- Programs that the demand on check and match shuts out, shown on the trial sheet.
 -- Assumes nothing.
+use Rattle.std.specs.Prelude.{Ok, Result, ⊤}
 use Prim.Native.Nat.{ℕ}
 use native.Mathlib.Omega.{arith}
 use mathlib.Core.Path.{◌≡◌, refl, subst}
@@ -33,7 +34,6 @@ use Rattle.kind.specs.Readable.{filter_readable, value_readable}
 use Rattle.judge.specs.Sets.{lookup, values_at}
 use Rattle.judge.specs.Faults.{unsupported, kind_fault, test_fault}
 use Rattle.refusal.specs.declared.Reason.{Reason}
-use Rattle.refusal.specs.declared.Decision.{Decision}
 use Rattle.refusal.specs.Decisions.{refuse}
 use Rattle.refusal.specs.Answers.{Answer, yes, no, count, refused}
 use Rattle.refusal.specs.Steps.{found, stop}
@@ -45,6 +45,7 @@ use Rattle.sirophan.specs.Trial.{title_test, code_test}
 use Rattle.answer.proofs.Cards.{empty_conforms}
 use Rattle.answer.proofs.Outcomes.{TestOutcome, test_means, test_refused}
 use Rattle.answer.proofs.Faults.{outcome}
+use Rattle.refusal.specs.declared.Refusal.{Refusal}
 
 -- ---- the two filters
 
@@ -58,18 +59,18 @@ title_spelled = (read_iff (ascii "title co \"BOOK\"") (test title_test)).0 trees
 pub code_spelled : Spells (ascii "code gt 5") (test code_test)
 code_spelled = (read_iff (ascii "code gt 5") (test code_test)).0 trees_read.1
 
-faults_found : (test_fault trial_parameters 0 title_test ≡ Decision.Passed) × (test_fault trial_parameters 0 code_test ≡ (refuse Reason.NoMeaning code_test.at))
+faults_found : (test_fault trial_parameters 0 title_test ≡ (Ok tt)) × (test_fault trial_parameters 0 code_test ≡ (refuse Reason.NoMeaning code_test.at))
 unfolding title_test code_test trial_parameters test_fault kind_fault lookup find find_from equal unsupported member has_meaning meaning_of row_meaning relation_in row kinds of_kind string_row token_row value_readable filter_readable
 faults_found = (refl, refl)
 
 trial_well_formed : WellFormedSheet trial_parameters
 trial_well_formed = ((sheet_reads_iff trial_sheet false trial_parameters).0 trial_sheet_reads).0
 
-outcome_as : (t : Test) (d : Decision) → test_fault trial_parameters 0 t ≡ d → TestOutcome (filter_tests trial_parameters) t (decision_step d)
-outcome_as t d e = subst (λ (k : Decision). TestOutcome (filter_tests trial_parameters) t (decision_step k)) e (outcome trial_parameters trial_well_formed t)
+outcome_as : (t : Test) (d : Result ⊤ Refusal) → test_fault trial_parameters 0 t ≡ d → TestOutcome (filter_tests trial_parameters) t (decision_step d)
+outcome_as t d e = subst (λ (k : Result ⊤ Refusal). TestOutcome (filter_tests trial_parameters) t (decision_step k)) e (outcome trial_parameters trial_well_formed t)
 
 title_means : Meaningful (filter_tests trial_parameters) title_test
-title_means = meaning (outcome_as title_test Decision.Passed faults_found.0)
+title_means = meaning (outcome_as title_test (Ok tt) faults_found.0)
   where
     meaning : TestOutcome (filter_tests trial_parameters) title_test (found tt) → Meaningful (filter_tests trial_parameters) title_test
     meaning (test_means m _) = m

@@ -1,6 +1,7 @@
 -- The promises, grouped by the letter's demands; each is proved where its one line says. The contracts of check, match_card and select say
 -- that the code answers as check_answer, match_answer and select_answer do, and leaves the list as select_cells says, and those of match_by_text
 -- and select_by the same; that of spell, that it answers as spell_answer does, and leaves the buffer as spell_bytes says. Assumes nothing.
+use Rattle.std.specs.Prelude.{Result}
 use Prim.Native.Nat.{ℕ, ◌+◌, ◌*◌, ◌-◌, ◌≤◌, ◌<◌}
 use Prim.Native.Char.{code}
 use mathlib.Core.Path.{◌≡◌, sym, ◌∙◌}
@@ -84,12 +85,9 @@ use Rattle.kind.specs.Relations.{dates_relate, relates_to}
 use Rattle.kind.specs.Table.{has_meaning}
 use Rattle.kind.specs.declared.Relation.{Relation}
 use Rattle.refusal.proofs.Order as order
-use Rattle.refusal.specs.Answers.{Answer, yes, no, count, refused}
+use Rattle.refusal.specs.Answers.{Answer, yes, no, count, refused, counted_answer, matched_answer}
 use Rattle.kind.specs.declared.DateRelation.{DateRelation}
-use Rattle.answer.specs.Answers.{matched_answer, selected_answer}
 use Rattle.sirophan.specs.Operations.{Matches, SelectsInto}
-use Rattle.answer.specs.declared.Matched.{Matched}
-use Rattle.answer.specs.declared.Selected.{Selected}
 use Rattle.answer.specs.Operations.{check_answer, filter_question, match_answer, select_answer, select_cells}
 use Rattle.kind.specs.Rules.{ReadableOnCard, ReadableValue, HasOperator, DatesRelate, date_inside, RelatesTo}
 use Rattle.judge.specs.Rules.{Conforms, FilterSays}
@@ -156,6 +154,7 @@ use Rattle.sirophan.specs.Stating.{States}
 use Rattle.sirophan.proofs.Stating as states
 use Rattle.sirophan.specs.Limits.{SpelledBy}
 use Rattle.sirophan.proofs.Limits as limits
+use Rattle.refusal.specs.declared.Refusal.{Refusal}
 
 -- ---- demand 1: an answer or a refusal, and a refusal writes nothing
 
@@ -359,11 +358,11 @@ select-number-within = any-list.select-number
 
 -- match_card goes by rows and match_by_text by the filter's text, and both have match's contract: on every input they give the same answer,
 -- refusals and places included; select_by has select's contract for either engine, and so gives the same answer and leaves the same list
-pub engines_match_alike : (sheet text card : List ℕ) (by_rows by-text : Matched) → Matches sheet text card by_rows → Matches sheet text card by-text → matched_answer by_rows ≡ matched_answer by-text
+pub engines_match_alike : (sheet text card : List ℕ) (by_rows by-text : Result Bool Refusal) → Matches sheet text card by_rows → Matches sheet text card by-text → matched_answer by_rows ≡ matched_answer by-text
 engines_match_alike sheet text card by_rows by-text r t = r.answers ∙ sym t.answers
 
-pub engines_select-alike : (sheet text cards list : List ℕ) (by_rows by-text : Selected) (rows-exit text-exit : List ℕ) → SelectsInto sheet text cards list by_rows rows-exit
-    → SelectsInto sheet text cards list by-text text-exit → (selected_answer by_rows ≡ selected_answer by-text) × (rows-exit ≡ text-exit)
+pub engines_select-alike : (sheet text cards list : List ℕ) (by_rows by-text : Result ℕ Refusal) (rows-exit text-exit : List ℕ) → SelectsInto sheet text cards list by_rows rows-exit
+    → SelectsInto sheet text cards list by-text text-exit → (counted_answer by_rows ≡ counted_answer by-text) × (rows-exit ≡ text-exit)
 engines_select-alike sheet text cards list by_rows by-text rows-exit text-exit r t = (r.answers ∙ sym t.answers, r.cells ∙ sym t.cells)
 
 -- ---- demand 3: what check passes and what it refuses

@@ -8,6 +8,7 @@
 -- many alternatives as tests (`pairs_alike`). Then both ask one question (`one_question`), and what match and select answer is a function
 -- of it.
 -- Assumes nothing.
+use Rattle.std.specs.Prelude.{Ok}
 use Prim.Native.Nat.{ℕ, suc, ◌+◌, ◌≤◌, ◌<◌}
 use native.Mathlib.Omega.{arith}
 use mathlib.Core.Path.{◌≡◌, refl, ap, sym, ◌∙◌, subst, fun_ext}
@@ -59,10 +60,8 @@ use Rattle.query.specs.Met.{pair_met, query_met}
 use Rattle.search.specs.Meaning.{text_says, alternative_says, query_says}
 use Rattle.search.specs.Rules.{ReadableAlternative, readable_form, readable_value, LacksMeaning, not_on_sheet, bundle_named, lacks_operator, unreadable}
 use Rattle.search.proofs.Asking.{asked_is, token-asks, never_pr}
-use Rattle.refusal.specs.Answers.{count}
+use Rattle.refusal.specs.Answers.{count, counted_answer}
 use Rattle.refusal.specs.Steps.{Step, found, ◌>>=◌}
-use Rattle.answer.specs.declared.Checked.{Checked}
-use Rattle.answer.specs.Answers.{checked_answer}
 use Rattle.answer.specs.Operations.{Question, match_by, select_by, cells_by, check_answer, question_of, filter_question}
 use Rattle.answer.specs.Searching.{question_of_query, search_question}
 use Rattle.answer.specs.Demand.{TestRules, Meaningful, filter_tests}
@@ -387,7 +386,7 @@ module _ (sheet text query : List ℕ) (s : SheetBlock sheet) (f : Tree) (q : Qu
   ps = s.parameters
 
   short : length text ≤ 1024
-  short = (passing sheet text (Checked.Tests (length (tests_of f))) (length (tests_of f)) (unfold checked_answer in sym passes) refl).short
+  short = (passing sheet text (Ok (length (tests_of f))) (length (tests_of f)) (unfold counted_answer in sym passes) refl).short
 
   tests_mean : All (Meaningful (filter_tests ps)) (tests_of f)
   tests_mean = (demand_met sheet text s f short spells).passes.0 passes

@@ -1,5 +1,6 @@
 -- Spell answers as its definition does: the numbers are those of the table, and the bytes are put where the definition puts them.
 -- Assumes nothing.
+use Rattle.std.specs.Prelude.{Err, Ok, Result}
 use Prim.Native.Nat.{ℕ, ◌+◌, ◌≤◌}
 use native.Mathlib.Omega.{arith}
 use mathlib.Core.Path.{◌≡◌, refl, ap, ◌∙◌}
@@ -16,26 +17,25 @@ use Rattle.syntax.specs.Reader.{read}
 use Rattle.syntax.proofs.Spelling.{read_iff, spells_not_empty}
 use Rattle.plain.specs.Plain.{plain}
 use Rattle.spell.specs.Spelling as spell
-use Rattle.spell.specs.declared.Spelled.{Spelled}
 use Rattle.refusal.specs.declared.Reason.{Reason}
-use Rattle.refusal.specs.Answers.{count, refused, refusal_answer}
+use Rattle.refusal.specs.Answers.{count, refused, refusal_answer, counted_answer}
 use Rattle.refusal.specs.Steps.{Step, found, stop, ◌>>=◌, answer}
-use Rattle.answer.specs.Answers.{spelled_answer}
 use Rattle.answer.specs.Operations.{tree_step, accept_filter}
 use Rattle.answer.specs.Refusals.{SpellLine}
 use Rattle.sirophan.specs.Operations.{SpellsInto}
 use Rattle.sirophan.specs.Spelling.{accept_buffer, spelling, spell_answer, put_into, spell_bytes, SpellAnswers}
 use Rattle.sirophan.proofs.Contracts.{refused_by}
 use Rattle.sirophan.proofs.SpellTable.{spell_table}
+use Rattle.refusal.specs.declared.Refusal.{Refusal}
 
 -- ---- the definition by steps, and the one that the code meets
 
 module _ (text : List ℕ) (from : ℕ) (buffer : List ℕ) where
-  room_answer : (w : List ℕ) → spelled_answer (spell.placed w from (length buffer)) ≡ answer (accept_buffer from (length buffer) w >>= λ s. found (count (length s)))
-  unfolding spell.placed accept_buffer spelled_answer refusal_answer
+  room_answer : (w : List ℕ) → counted_answer (spell.placed w from (length buffer)) ≡ answer (accept_buffer from (length buffer) w >>= λ s. found (count (length s)))
+  unfolding spell.placed accept_buffer counted_answer refusal_answer
   room_answer w = go (leb (from + length w) (length buffer))
     where
-      go : (t : Bool) → spelled_answer (cond t (Spelled.Length (length w)) (Spelled.Refused (record { reason = Reason.ShortBuffer; place = length w }))) ≡ answer (cond t (found w) (stop 32 (length w)) >>= λ s. found (count (length s)))
+      go : (t : Bool) → counted_answer (cond t (Ok (length w)) (Err (record { reason = Reason.ShortBuffer; place = length w }))) ≡ answer (cond t (found w) (stop 32 (length w)) >>= λ s. found (count (length s)))
       go true = refl
       go false = refl
 
@@ -51,11 +51,11 @@ module _ (text : List ℕ) (from : ℕ) (buffer : List ℕ) where
   tree_bytes_lem (some f) = room_bytes (plain f)
   tree_bytes_lem none = refl
 
-  answer_is : spelled_answer (spell.outcome text from (length buffer)) ≡ spell_answer text from (length buffer)
-  unfolding spell.outcome spell_answer spelling accept_filter spelled_answer refusal_answer
+  answer_is : counted_answer (spell.outcome text from (length buffer)) ≡ spell_answer text from (length buffer)
+  unfolding spell.outcome spell_answer spelling accept_filter counted_answer refusal_answer
   answer_is = go (eqb (length text) 0 || ltb 1024 (length text)) (read text)
     where
-      go : (t : Bool) (o : Option Tree) → spelled_answer (cond t spell.wrong_size (spell.tree_outcome text from (length buffer) o))
+      go : (t : Bool) (o : Option Tree) → counted_answer (cond t spell.wrong_size (spell.tree_outcome text from (length buffer) o))
           ≡ answer (cond t (stop 10 0) (tree_step text o) >>= (λ f. accept_buffer from (length buffer) (plain f)) >>= λ w. found (count (length w)))
       go true o = refl
       go false (some f) = room_answer (plain f)
@@ -69,13 +69,13 @@ module _ (text : List ℕ) (from : ℕ) (buffer : List ℕ) where
       go true o = refl
       go false o = tree_bytes_lem o
 
-  pub spells_into : (r : Spelled) (exit : List ℕ) → spell.SpellsInto text buffer from r exit → SpellsInto text from buffer r exit
+  pub spells_into : (r : Result ℕ Refusal) (exit : List ℕ) → spell.SpellsInto text buffer from r exit → SpellsInto text from buffer r exit
   spells_into r exit s =
-      let answered : spelled_answer r ≡ spell_answer text from (length buffer) = ap spelled_answer s.answers ∙ answer_is in
+      let answered : counted_answer r ≡ spell_answer text from (length buffer) = ap counted_answer s.answers ∙ answer_is in
       record {
         answers = answered;
         bytes = s.bytes_are ∙ bytes_are;
-        refuses = refused_by (SpellLine text from (length buffer)) (spelled_answer r) (spell_answer text from (length buffer)) answered (spell_table text from (length buffer));
+        refuses = refused_by (SpellLine text from (length buffer)) (counted_answer r) (spell_answer text from (length buffer)) answered (spell_table text from (length buffer));
       }
 
   -- ---- it answers, and a refusal keeps the buffer

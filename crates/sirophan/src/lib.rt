@@ -4,9 +4,8 @@
 
 mod operations;
 
-pub use answer::{Checked, Engine, Matched, Prepared, Selected};
+pub use answer::Engine;
 pub use operations::{
     check, check_search, judge, match_by_text, match_card, match_search, prepare, select,
     select_by, select_search, spell,
 };
-pub use spell::Spelled;

@@ -1,24 +1,16 @@
 -- What an operation gave, told by its two numbers, and each case of a report's answer by its four.
 -- Assumes nothing.
+use Rattle.std.specs.Prelude.{Result, Err, Ok}
 use Prim.Native.Nat.{ℕ}
 use mathlib.Core.Path.{◌≡◌, sym, ap, ◌∙◌}
 use mathlib.Core.List.{List}
 use Rattle.refusal.specs.Answers as paper
-use Rattle.refusal.specs.Answers.{number_of, refusal_answer}
-use Rattle.answer.specs.Answers.{checked_answer, matched_answer, selected_answer, spelled_answer}
+use Rattle.refusal.specs.Answers.{number_of, refusal_answer, counted_answer, matched_answer}
 use Rattle.refusal.specs.declared.Refusal.{Refusal}
-use Rattle.answer.specs.declared.Checked.{Checked}
-use Rattle.answer.specs.declared.Matched.{Matched}
-use Rattle.answer.specs.declared.Selected.{Selected}
-use Rattle.spell.specs.declared.Spelled.{Spelled}
 use Rattle.report.specs.Operation.{reported_answer}
 use Rattle.report.specs.Operations.{Reports}
 use Rattle.report.specs.declared.Tally.{Tally}
 use Rattle.report.specs.declared.Reported.{Reported}
-use Rattle.sealing.specs.Sealing.{numbered_answer}
-use Rattle.sealing.specs.declared.Numbered.{Numbered}
-use Rattle.answer.specs.declared.Prepared.{Prepared}
-use Rattle.answer.specs.Preparing.{prepared_answer}
 use Rattle.answers_c.specs.declared.Answer.{Answer}
 use Rattle.answers_c.specs.Answers.{answer, c_answer}
 use Rattle.sirophan_c.specs.declared.Counts.{Counts}
@@ -31,43 +23,43 @@ case_told of e h = ap c_answer (ap of (sym h) ∙ e)
 
 module _ (a : paper.Answer) where
   -- what an operation gave, told by its numbers
-  pub check_told : (c : Checked) (t : Answer) → checked_answer c ≡ a → t ≡ c_answer (checked_answer c) → t ≡ c_answer a
+  pub check_told : (c : Result ℕ Refusal) (t : Answer) → counted_answer c ≡ a → t ≡ c_answer (counted_answer c) → t ≡ c_answer a
   check_told c t e o = o ∙ ap c_answer e
 
-  pub match_told : (m : Matched) (t : Answer) → matched_answer m ≡ a → t ≡ c_answer (matched_answer m) → t ≡ c_answer a
+  pub match_told : (m : Result Bool Refusal) (t : Answer) → matched_answer m ≡ a → t ≡ c_answer (matched_answer m) → t ≡ c_answer a
   match_told m t e o = o ∙ ap c_answer e
 
-  pub select_told : (s : Selected) (t : Answer) → selected_answer s ≡ a → t ≡ c_answer (selected_answer s) → t ≡ c_answer a
+  pub select_told : (s : Result ℕ Refusal) (t : Answer) → counted_answer s ≡ a → t ≡ c_answer (counted_answer s) → t ≡ c_answer a
   select_told s t e o = o ∙ ap c_answer e
 
-  pub numbered_told : (n : Numbered) (t : Answer) → numbered_answer n ≡ a → t ≡ c_answer (numbered_answer n) → t ≡ c_answer a
+  pub numbered_told : (n : Result ℕ Refusal) (t : Answer) → counted_answer n ≡ a → t ≡ c_answer (counted_answer n) → t ≡ c_answer a
   numbered_told n t e o = o ∙ ap c_answer e
 
-  module _ (s : Spelled) (e : spelled_answer s ≡ a) where
-    pub length_told : (n : ℕ) → s ≡ Spelled.Length n → answer 0 n ≡ c_answer a
-    unfolding c_answer spelled_answer
-    length_told n = case_told spelled_answer e
+  module _ (s : Result ℕ Refusal) (e : counted_answer s ≡ a) where
+    pub length_told : (n : ℕ) → s ≡ Ok n → answer 0 n ≡ c_answer a
+    unfolding c_answer counted_answer
+    length_told n = case_told counted_answer e
 
-    pub spell_refusal_told : (r : Refusal) (t : Answer) → s ≡ Spelled.Refused r → t ≡ c_answer (refusal_answer r) → t ≡ c_answer a
-    unfolding spelled_answer
-    spell_refusal_told r t h o = o ∙ case_told spelled_answer e h
+    pub spell_refusal_told : (r : Refusal) (t : Answer) → s ≡ Err r → t ≡ c_answer (refusal_answer r) → t ≡ c_answer a
+    unfolding counted_answer
+    spell_refusal_told r t h o = o ∙ case_told counted_answer e h
 
-  module _ (p : Prepared) (e : prepared_answer p ≡ a) where
-    pub cells_told : (n : ℕ) → p ≡ Prepared.Cells n → answer 0 n ≡ c_answer a
-    unfolding c_answer prepared_answer
-    cells_told n = case_told prepared_answer e
+  module _ (p : Result ℕ Refusal) (e : counted_answer p ≡ a) where
+    pub cells_told : (n : ℕ) → p ≡ Ok n → answer 0 n ≡ c_answer a
+    unfolding c_answer counted_answer
+    cells_told n = case_told counted_answer e
 
-    pub prepare_refusal_told : (r : Refusal) (t : Answer) → p ≡ Prepared.Refused r → t ≡ c_answer (refusal_answer r) → t ≡ c_answer a
-    unfolding prepared_answer
-    prepare_refusal_told r t h o = o ∙ case_told prepared_answer e h
+    pub prepare_refusal_told : (r : Refusal) (t : Answer) → p ≡ Err r → t ≡ c_answer (refusal_answer r) → t ≡ c_answer a
+    unfolding counted_answer
+    prepare_refusal_told r t h o = o ∙ case_told counted_answer e h
 
-module _ (n : Numbered) where
-  pub number_told : (k : ℕ) → n ≡ Numbered.Number k → answer 0 k ≡ c_answer (numbered_answer n)
-  unfolding c_answer numbered_answer
+module _ (n : Result ℕ Refusal) where
+  pub number_told : (k : ℕ) → n ≡ Ok k → answer 0 k ≡ c_answer (counted_answer n)
+  unfolding c_answer counted_answer
   number_told k h = rw h
 
-  pub size_refusal_told : (r : Refusal) (t : Answer) → n ≡ Numbered.Refused r → t ≡ c_answer (refusal_answer r) → t ≡ c_answer (numbered_answer n)
-  unfolding numbered_answer
+  pub size_refusal_told : (r : Refusal) (t : Answer) → n ≡ Err r → t ≡ c_answer (refusal_answer r) → t ≡ c_answer (counted_answer n)
+  unfolding counted_answer
   size_refusal_told r t h o = rw h o
 
 module _ (r : Reported) where

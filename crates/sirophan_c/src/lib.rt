@@ -8,18 +8,17 @@ ghost use Rattle.answer.specs.Searching.{check_search_answer, match_search_answe
 ghost use Rattle.answer.specs.Preparing.{prepare_answer, prepare_cells, judge_answer};
 ghost use Rattle.explain.specs.Operation.{explain_answer, explain_cells};
 ghost use Rattle.report.specs.Operation.{reported_answer};
-ghost use Rattle.sealing.specs.Sealing.{numbered_answer, seal_answer, sealed_bytes, record_answer};
+ghost use Rattle.sealing.specs.Sealing.{seal_answer, sealed_bytes, record_answer};
 ghost use Rattle.answers_c.specs.Answers.{c_answer};
 ghost use Rattle.sirophan_c.specs.Answers.{c_counts};
 ghost use Rattle.sirophan_c.specs.Operations.{TellsReport};
 ghost use Rattle.sirophan_c.specs.Engines.{engine_of};
+ghost use Rattle.refusal.specs.Answers.{counted_answer};
 
 use answers_c::{Answer, c_checked, c_matched, c_selected, refused};
-use refusal::number;
+use refusal::{Refusal, number};
 use report::{Reported, Tally};
-use sealing::Numbered;
-use sirophan::{Engine, Prepared};
-use spell::Spelled;
+use sirophan::Engine;
 
 // What a report answers: the number of the refusal, 0 where there is none, and its place; and how many cards say yes, and how many no.
 #[repr(C)]
@@ -141,11 +140,11 @@ pub extern "C" fn sirophan_spell(filter: &[u8], buffer: &mut [u8], from: usize) 
 {
     let spelled = sirophan::spell(filter, buffer, from);
     match spelled {
-        Spelled::Length(length) => Answer {
+        Ok(length) => Answer {
             refusal: 0,
             value: length,
         },
-        Spelled::Refused(refusal) => refused(refusal),
+        Err(refusal) => refused(refusal),
     }
 }
 
@@ -157,11 +156,11 @@ pub extern "C" fn sirophan_prepare(sheet: &[u8], filter: &[u8], list: &mut [u32]
 {
     let prepared = sirophan::prepare(sheet, filter, list);
     match prepared {
-        Prepared::Cells(cells) => Answer {
+        Ok(cells) => Answer {
             refusal: 0,
             value: cells,
         },
-        Prepared::Refused(refusal) => refused(refusal),
+        Err(refusal) => refused(refusal),
     }
 }
 
@@ -227,15 +226,15 @@ pub extern "C" fn sirophan_report(
 }
 
 // A block's number in numbers.
-fn c_numbered(numbered: Numbered) -> Answer
-    ensures { result ≡ c_answer (numbered_answer numbered) }
+fn c_numbered(numbered: Result<u32, Refusal>) -> Answer
+    ensures { result ≡ c_answer (counted_answer numbered) }
 {
     match numbered {
-        Numbered::Number(number) => Answer {
+        Ok(number) => Answer {
             refusal: 0,
             value: number as usize,
         },
-        Numbered::Refused(refusal) => refused(refusal),
+        Err(refusal) => refused(refusal),
     }
 }
 

@@ -4,6 +4,7 @@
 -- into the caller's part where that has room (`place_text`), and else it is refused, with the length as the place (`too_long`). Both times
 -- the spelling of the one tree that the reader gives is written (`TextSpelt`), so the length measured is that of what is written then.
 -- Assumes nothing.
+use Rattle.std.specs.Prelude.{Err, Ok, Result, ⊤}
 use Prim.Native.Nat.{ℕ, ◌+◌, ◌-◌, ◌≤◌, ◌<◌}
 use native.Mathlib.Omega.{arith}
 use mathlib.Core.Path.{◌≡◌, refl, sym, ap, ◌∙◌}
@@ -25,13 +26,11 @@ use Rattle.syntax.proofs.Spelling.{read_iff}
 use Rattle.place.specs.Machine.{found}
 use Rattle.refusal.specs.declared.Reason.{Reason}
 use Rattle.refusal.specs.declared.Refusal.{Refusal}
-use Rattle.place.specs.declared.Found.{Found}
 use Rattle.place.proofs.Whole.{found_filter, found_failed}
 use Rattle.plain.specs.Plain.{plain}
 use Rattle.spell.specs.Walks.{RoomFor, Spelt}
 use Rattle.spell.specs.Spelling.{wrong_size, placed, outcome, put, bytes, SpellsInto, IsFilter, TextRoom, TextSpelt, TextLength, PlacedInto}
 use Rattle.spell.specs.declared.Written.{Written}
-use Rattle.spell.specs.declared.Spelled.{Spelled}
 use Rattle.plain.proofs.Length.{never_longer}
 use Rattle.base.proofs.Writing.{lent, back}
 use Rattle.spell.proofs.Walking.{same_tree}
@@ -78,13 +77,13 @@ pub room_left : (size from n : ℕ) → from ≤ size → leb n (size - from) �
 room_left size from n h = same_test (leb n (size - from)) (leb (from + n) size) (λ k. le-leb (from + n) size (omega (arith, leb-true n (size - from) k))) (λ k. le-leb n (size - from) (omega (arith, leb-true (from + n) size k)))
 
 module _ (xs buffer : List ℕ) (from n : ℕ) (t : TextLength xs n) where
-  too_long : length buffer < from + n → PlacedInto xs buffer from (Spelled.Refused (record { reason = Reason.ShortBuffer; place = n })) buffer
+  too_long : length buffer < from + n → PlacedInto xs buffer from (Err (record { reason = Reason.ShortBuffer; place = n })) buffer
   unfolding placed put
   too_long h =
       let z : leb (from + length (plain t.tree)) (length buffer) ≡ false = lt-leb (from + length (plain t.tree)) (length buffer) (omega (arith, t.long)) in
       record { tree = t.tree; reads = t.reads; answers = rw (z, t.long); bytes_are = rw z }
 
-  pub place_past : (r : Bool) → r ≡ leb (from + n) (length buffer) → r ≡ false → PlacedInto xs buffer from (Spelled.Refused (record { reason = Reason.ShortBuffer; place = n })) buffer
+  pub place_past : (r : Bool) → r ≡ leb (from + n) (length buffer) → r ≡ false → PlacedInto xs buffer from (Err (record { reason = Reason.ShortBuffer; place = n })) buffer
   place_past r e h = too_long (leb-false (from + n) (length buffer) (sym e ∙ h))
 
   module _ (r : Bool) (e : r ≡ leb (from + n) (length buffer)) (g : r ≡ true) where
@@ -100,7 +99,7 @@ module _ (xs buffer : List ℕ) (from n : ℕ) (t : TextLength xs n) where
     pub place_room : TextRoom xs (lent buffer from)
     place_room = record { tree = t.tree; reads = t.reads; room = record { fits = omega (arith, lent_long, room, t.long) } }
 
-    pub place_text : {exit : List ℕ} {m : ℕ} → TextSpelt xs (lent buffer from) exit m → PlacedInto xs buffer from (Spelled.Length m) (back buffer from exit)
+    pub place_text : {exit : List ℕ} {m : ℕ} → TextSpelt xs (lent buffer from) exit m → PlacedInto xs buffer from (Ok m) (back buffer from exit)
     unfolding placed put
     place_text {exit} {m} s =
         let same : t.tree ≡ s.tree = some-injective _ _ (sym t.reads ∙ s.reads) in
@@ -135,21 +134,21 @@ module _ (text buffer : List ℕ) (from : ℕ) where
       right_size : (eqb (length text) 0 || ltb 1024 (length text)) ≡ false
       right_size = rw (ne_eqb (length text) 0 n, le-ltb 1024 (length text) l)
 
-      module _ (r : Found) (e : r ≡ found deepest most_tests text) where
-        pub spell_failed : (p : Refusal) → r ≡ Found.Failed p → SpellsInto text buffer from (Spelled.Refused p) buffer
+      module _ (r : Result ⊤ Refusal) (e : r ≡ found deepest most_tests text) where
+        pub spell_failed : (p : Refusal) → r ≡ Err p → SpellsInto text buffer from (Err p) buffer
         unfolding outcome bytes
         spell_failed p h =
             let w = found_failed text r e p h in
             let m : read text ≡ none = not_read (read text) refl w.0 in
-            record { answers = rw (right_size, m) (ap (λ (x : Refusal). Spelled.Refused x) w.1); bytes_are = rw (right_size, m) }
+            record { answers = rw (right_size, m) (ap (λ (x : Refusal). Err x) w.1); bytes_are = rw (right_size, m) }
           where
             not_read : (o : Option Tree) → read text ≡ o → ((f : Tree) → Spells text f → ⊥) → read text ≡ none
             not_read (some f) k z = absurd (z f ((read_iff text f).0 k))
             not_read none k z = k
 
-      pub spell_placed : {o : Spelled} {exit : List ℕ} → PlacedInto text buffer from o exit → SpellsInto text buffer from o exit
+      pub spell_placed : {o : Result ℕ Refusal} {exit : List ℕ} → PlacedInto text buffer from o exit → SpellsInto text buffer from o exit
       unfolding outcome bytes
       spell_placed p = record { answers = p.answers ∙ rw (right_size, p.reads); bytes_are = p.bytes_are ∙ rw (right_size, p.reads) }
 
-pub found_is : (text : List ℕ) (r : Found) → r ≡ found deepest most_tests text → r ≡ Found.Filter → IsFilter text
+pub found_is : (text : List ℕ) (r : Result ⊤ Refusal) → r ≡ found deepest most_tests text → r ≡ (Ok tt) → IsFilter text
 found_is text r e h = let s = found_filter text r e h in record { tree = s.0; reads = (read_iff text s.0).1 s.1 }

@@ -6,7 +6,7 @@ mod walk;
 ghost use Rattle.std.specs.Prelude.{◌≡◌, ◌+◌, ◌≤◌, leb, length};
 ghost use Rattle.spell.specs.Spelling.{SpellsInto, IsFilter, TextRoom, TextSpelt, TextLength, PlacedInto};
 
-use place::{Found, find};
+use place::find;
 use refusal::{Reason, Refusal};
 use syntax::scan::skip;
 use walk::write_filter;
@@ -25,13 +25,6 @@ pub struct Written {
     pub end: usize,
     pub length: usize,
     pub join: bool,
-}
-
-// What spell answers: the length of the plain spelling that it has written into the buffer, or a refusal.
-#[derive(Clone, Copy)]
-pub enum Spelled {
-    Length(usize),
-    Refused(Refusal),
 }
 
 // Writes the plain spelling of a filter, and answers its length.
@@ -74,7 +67,7 @@ fn has_room(size: usize, from: usize, length: usize) -> bool
 }
 
 // Writes the plain spelling of a filter into the buffer from a place on, if there is room.
-fn place_text(filter: &[u8], buffer: &mut [u8], from: usize) -> Spelled
+fn place_text(filter: &[u8], buffer: &mut [u8], from: usize) -> Result<usize, Refusal>
     requires filter_len_bound { length filter.now ≤ 1024 }
     requires filter { IsFilter filter.now }
     ensures { PlacedInto filter.now buffer.old from result buffer.new }
@@ -82,9 +75,9 @@ fn place_text(filter: &[u8], buffer: &mut [u8], from: usize) -> Spelled
     let length = measure(filter);
     if has_room(buffer.len(), from, length) {
         let written = write_text(filter, &mut buffer[from..]);
-        return Spelled::Length(written);
+        return Ok(written);
     }
-    Spelled::Refused(Refusal {
+    Err(Refusal {
         reason: Reason::ShortBuffer,
         place: length,
     })
@@ -92,24 +85,21 @@ fn place_text(filter: &[u8], buffer: &mut [u8], from: usize) -> Spelled
 
 // Writes the plain spelling of a filter into the buffer from a place on, and answers its length; or why not, and then the buffer is as
 // it was.
-pub fn spell(filter: &[u8], buffer: &mut [u8], from: usize) -> Spelled
+pub fn spell(filter: &[u8], buffer: &mut [u8], from: usize) -> Result<usize, Refusal>
     ensures { SpellsInto filter.now buffer.old from result buffer.new }
 {
     if filter.len() == 0 {
-        return Spelled::Refused(Refusal {
+        return Err(Refusal {
             reason: Reason::FilterSize,
             place: 0,
         });
     }
     if filter.len() > 1024 {
-        return Spelled::Refused(Refusal {
+        return Err(Refusal {
             reason: Reason::FilterSize,
             place: 0,
         });
     }
-    let found = find(filter);
-    match found {
-        Found::Filter => place_text(filter, buffer, from),
-        Found::Failed(failure) => Spelled::Refused(failure),
-    }
+    find(filter)?;
+    place_text(filter, buffer, from)
 }

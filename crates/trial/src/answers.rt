@@ -1,7 +1,6 @@
 // Answers in words. Each function answers whether they were written.
 use crate::write::{labelled, write};
 use refusal::Refusal;
-use sirophan::{Checked, Matched, Selected};
 
 // A refusal: its number and its place.
 fn refused(rt: &(impl Print + Eprint), r: Refusal) -> bool {
@@ -10,27 +9,27 @@ fn refused(rt: &(impl Print + Eprint), r: Refusal) -> bool {
 }
 
 // What check answered.
-pub fn checked(rt: &(impl Print + Eprint), c: Checked) -> bool {
+pub fn checked(rt: &(impl Print + Eprint), c: Result<usize, Refusal>) -> bool {
     match c {
-        Checked::Tests(n) => labelled(rt, b"tests ", n as u64),
-        Checked::Refused(r) => refused(rt, r),
+        Ok(n) => labelled(rt, b"tests ", n as u64),
+        Err(r) => refused(rt, r),
     }
 }
 
 // What match answered.
-pub fn matched(rt: &(impl Print + Eprint), m: Matched) -> bool {
+pub fn matched(rt: &(impl Print + Eprint), m: Result<bool, Refusal>) -> bool {
     match m {
-        Matched::Yes => write(rt, b"yes"),
-        Matched::No => write(rt, b"no"),
-        Matched::Refused(r) => refused(rt, r),
+        Ok(true) => write(rt, b"yes"),
+        Ok(false) => write(rt, b"no"),
+        Err(r) => refused(rt, r),
     }
 }
 
 // What select answered.
-pub fn selected(rt: &(impl Print + Eprint), s: Selected) -> bool {
+pub fn selected(rt: &(impl Print + Eprint), s: Result<usize, Refusal>) -> bool {
     match s {
-        Selected::Count(n) => labelled(rt, b"count ", n as u64),
-        Selected::Refused(r) => refused(rt, r),
+        Ok(n) => labelled(rt, b"count ", n as u64),
+        Err(r) => refused(rt, r),
     }
 }
 

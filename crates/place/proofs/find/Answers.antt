@@ -1,5 +1,5 @@
 -- `place::find` meets its contract: each answer is a case of the definition. Assumes nothing.
-use Rattle.place.proofs.Stepping.{reaching_starts, reaching_filter, reaching_ends, reaching_on, reaching_deep, reaching_many, reaching_wrong}
+use Rattle.place.proofs.Stepping.{reaching_starts, reaching_filter, reaching_ends, reaching_on, reaching_stops}
 use borrow.Author.Rules.{rules}
 use Rattle.place.proofs.find.Goals as goal
 
@@ -9,14 +9,8 @@ loop-at-init c = search (reaching_starts, rules)
 pub loop-at-preserved : goal.loop-at-preserved
 loop-at-preserved c = search (reaching_on, rules)
 
-pub returns-in-Deep : goal.returns-in-Deep
-returns-in-Deep c = search (reaching_deep, rules)
-
-pub returns-in-Many : goal.returns-in-Many
-returns-in-Many c = search (reaching_many, rules)
-
-pub returns-in-Wrong : goal.returns-in-Wrong
-returns-in-Wrong c = search (reaching_wrong, rules)
+pub returns-in-Err : goal.returns-in-Err
+returns-in-Err c = search (reaching_stops, rules)
 
 pub returns-then-is_over : goal.returns-then-is_over
 returns-then-is_over c = search (reaching_filter, rules)

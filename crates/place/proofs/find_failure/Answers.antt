@@ -3,8 +3,8 @@ use Rattle.place.proofs.Stepping.{failure_filter, failure_failed}
 use borrow.Author.Rules.{rules}
 use Rattle.place.proofs.find_failure.Goals as goal
 
-pub returns-in-Filter : goal.returns-in-Filter
-returns-in-Filter c = search (failure_filter, rules)
+pub returns-in-Ok : goal.returns-in-Ok
+returns-in-Ok c = search (failure_filter, rules)
 
-pub returns-in-Failed : goal.returns-in-Failed
-returns-in-Failed c = search (failure_failed, rules)
+pub returns-in-Err : goal.returns-in-Err
+returns-in-Err c = search (failure_failed, rules)

@@ -1,4 +1,5 @@
 -- `spell::spell` meets its contract: each answer is a case of the definition. Assumes nothing.
+use Rattle.std.proofs.lemmas.Result.{err_from_is_err_and}
 use Rattle.spell.proofs.Spelling.{spell_empty, spell_over, spell_failed, spell_placed, found_is}
 use borrow.Author.Rules.{rules}
 use Rattle.spell.proofs.spell.Goals as goal
@@ -12,8 +13,8 @@ returns-then-filter-gt1024 c = search (spell_over, rules)
 pub place_text-requires-clause-filter : goal.place_text-requires-clause-filter
 place_text-requires-clause-filter c = search (found_is, rules)
 
-pub returns-in-Filter : goal.returns-in-Filter
-returns-in-Filter c = search (spell_placed, rules)
+pub returns-in_err-find : goal.returns-in_err-find
+returns-in_err-find c = let p = err_from_is_err_and c.from_residual.result c.from_residual.ensures.1 in rw (p.1, p.2) (search (spell_failed, c.in_err-find.was, rules))
 
-pub returns-in-Failed : goal.returns-in-Failed
-returns-in-Failed c = search (spell_failed, rules)
+pub returns : goal.returns
+returns c = search (spell_placed, c.in_ok-find.was, rules)
