@@ -12,7 +12,6 @@ ghost use Rattle.filter.specs.Walks.{answer_of};
 use crate::{Spot, Summary, Walked};
 use block::Validity;
 use judge::test_fault;
-use refusal::or_else;
 use syntax::scan::skip;
 use syntax::{
     FoundClose, FoundConnective, FoundTest, Head, RawTest, read_close, read_connective, read_head,
@@ -43,11 +42,9 @@ pub fn join_summaries(a: Summary, b: Summary) -> Summary
     requires { a.tests + b.tests ≤ 1024 }
     ensures { result ≡ join_summaries a b }
 {
-    let one = a.first;
-    let two = b.first;
     Summary {
         tests: a.tests + b.tests,
-        first: or_else(one, two),
+        first: a.first.and(b.first),
     }
 }
 

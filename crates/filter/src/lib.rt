@@ -7,8 +7,8 @@ ghost use Rattle.std.specs.Prelude.{◌≡◌};
 ghost use Rattle.filter.specs.Walks.{top_spot};
 
 pub use check::{check_filter, join_summaries, test_summary};
-use syntax::scan::skip;
 use refusal::Refusal;
+use syntax::scan::skip;
 
 // A position in the filter's text, how many brackets may still open around it, the byte that closes the one around it, and where
 // names are looked up: 0 at the top of the sheet, or a bundle's index plus 1.

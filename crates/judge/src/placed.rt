@@ -16,10 +16,10 @@ use crate::values::text_counts;
 use crate::verdicts::says_at;
 use block::Validity;
 use kind::Meaning;
+use refusal::Refusal;
 use sheet::Found;
 use syntax::RawTest;
 use syntax::value::decode;
-use refusal::Refusal;
 
 // The parameter that a test of the filter names, on a well-formed sheet, looked up in a bundle.
 pub fn test_found(sheet: &[u8], bundle: u8, filter: &[u8], test: RawTest) -> Found
@@ -33,7 +33,13 @@ pub fn test_found(sheet: &[u8], bundle: u8, filter: &[u8], test: RawTest) -> Fou
 }
 
 // What is decided of a test of the filter on a well-formed sheet; its place is given.
-pub fn test_fault(sheet: &[u8], bundle: u8, filter: &[u8], place: usize, test: RawTest) -> Result<(), Refusal>
+pub fn test_fault(
+    sheet: &[u8],
+    bundle: u8,
+    filter: &[u8],
+    place: usize,
+    test: RawTest,
+) -> Result<(), Refusal>
     requires sheet_value { read_sheet sheet.now ≡ Validity.WellFormed }
     requires filter_len_bound { length filter.now ≤ 1024 }
     requires placed { Placed filter.now test }

@@ -9,7 +9,7 @@ ghost use Rattle.rows.specs.Cells.{number_of, cell_of};
 ghost use Rattle.row_writer.specs.Writing.{value_place, index_of, probe_for, Read};
 ghost use Rattle.row_writer.specs.Steps.{Room, Joinable, WroteTest, WroteNot, WroteClosed, WrotePair, WroteMember, WroteJoin, Inside, ChainedAt, WroteItem, WroteFilter, WroteRound, WroteChosen};
 
-use crate::Written;
+use crate::{Outcome, Written};
 use block::Validity;
 use filter::{Spot, Summary, join_summaries, test_summary};
 use judge::test_found;
@@ -20,8 +20,6 @@ use syntax::{
     Connective, FoundClose, FoundConnective, FoundTest, Head, RawTest, RawValue, read_close,
     read_connective, read_head, read_member,
 };
-use refusal::Reason;
-use place::Reached;
 
 // The index of what a test names, and 0 where it names nothing.
 fn index_of(found: Found) -> u32
@@ -82,7 +80,7 @@ fn write_test(
 }
 
 // The row of not, behind the rows of a filter that was read up to its bracket.
-fn write_not(end: usize, inner: Result<Reached, Reason>, rows: &mut [u32], row: usize) -> Written
+fn write_not(end: usize, inner: Outcome, rows: &mut [u32], row: usize) -> Written
     requires { row + inner.cells < length rows.old }
     ensures { WroteNot end inner row result rows.old rows.new }
 {
@@ -104,7 +102,7 @@ fn close_round(
     filter: &[u8],
     end: usize,
     negate: bool,
-    inner: Result<Reached, Reason>,
+    inner: Outcome,
     rows: &mut [u32],
     row: usize,
 ) -> Written
@@ -179,7 +177,7 @@ fn write_pair(
     bundle: u8,
     at: usize,
     test: RawTest,
-    inner: Result<Reached, Reason>,
+    inner: Outcome,
     rows: &mut [u32],
     row: usize,
 ) -> Written
@@ -215,7 +213,7 @@ fn write_member(
     spot: Spot,
     bundle: u8,
     end: usize,
-    inner: Result<Reached, Reason>,
+    inner: Outcome,
     rows: &mut [u32],
     row: usize,
 ) -> Written
@@ -318,11 +316,11 @@ fn connect_cell(connective: Connective, size: usize) -> u32
 // The row of a connective between the rows of its parts, of which the first begin at a row, and what both parts gather.
 fn write_join(
     connective: Connective,
-    first: Result<Reached, Reason>,
-    second: Result<Reached, Reason>,
+    first: Outcome,
+    second: Outcome,
     rows: &mut [u32],
     row: usize,
-) -> Result<Reached, Reason>
+) -> Outcome
     requires { Joinable rows.old row first second }
     ensures { WroteJoin connective first second row result rows.old rows.new }
 {
@@ -345,7 +343,7 @@ fn write_rest(
     rows: &mut [u32],
     row: usize,
     first_end: usize,
-    first: Result<Reached, Reason>,
+    first: Outcome,
 ) -> Written
     requires sheet_value { read_sheet sheet.now ≡ Validity.WellFormed }
     requires chained_at { ChainedAt sheet.now filter.now spot row rows.old first_end first rows.old }

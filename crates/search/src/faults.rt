@@ -40,7 +40,13 @@ fn parameter_fault(kind: u8, split: usize, text: &[u8], place: usize) -> Result<
 }
 
 // The same under a name, on a well-formed sheet.
-fn fault_at(sheet: &[u8], name: &[u8], split: usize, text: &[u8], place: usize) -> Result<(), Refusal>
+fn fault_at(
+    sheet: &[u8],
+    name: &[u8],
+    split: usize,
+    text: &[u8],
+    place: usize,
+) -> Result<(), Refusal>
     requires { read_sheet sheet.now ≡ Validity.WellFormed }
     ensures { result ≡ fault_at (find 0 name.now (parameters_of sheet.now)) split text.now place }
 {
@@ -78,10 +84,7 @@ pub fn first_fault(sheet: &[u8], bytes: &[u8], rows: Rows) -> Result<(), Refusal
     let mut i = 0;
     while i < rows.count {
         let row = rows.rows[i];
-        let fault = row_fault(sheet, bytes, row);
-        if let Err(_) = fault {
-            return fault;
-        }
+        row_fault(sheet, bytes, row)?;
         i += 1;
     }
     Ok(())

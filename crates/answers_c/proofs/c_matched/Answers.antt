@@ -9,5 +9,5 @@ returns-in-Yes c = search (yes_told, rules)
 pub returns-in-No : goal.returns-in-No
 returns-in-No c = search (no_told, rules)
 
-pub returns-in-Refused : goal.returns-in-Refused
-returns-in-Refused c = search (match_refusal_told, rules)
+pub returns-in-Err : goal.returns-in-Err
+returns-in-Err c = search (match_refusal_told, rules)

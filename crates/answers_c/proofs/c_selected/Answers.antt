@@ -3,8 +3,8 @@ use borrow.Author.Rules.{rules}
 use Rattle.answers_c.proofs.Answers.{count_told, select_refusal_told}
 use Rattle.answers_c.proofs.c_selected.Goals as goal
 
-pub returns-in-Count : goal.returns-in-Count
-returns-in-Count c = search (count_told, rules)
+pub returns-in-Ok : goal.returns-in-Ok
+returns-in-Ok c = search (count_told, rules)
 
-pub returns-in-Refused : goal.returns-in-Refused
-returns-in-Refused c = search (select_refusal_told, rules)
+pub returns-in-Err : goal.returns-in-Err
+returns-in-Err c = search (select_refusal_told, rules)

@@ -3,8 +3,8 @@ use borrow.Author.Rules.{rules}
 use Rattle.checking.proofs.Checking.{outcome_refused, outcome_tests}
 use Rattle.checking.proofs.outcome.Goals as goal
 
-pub returns-in-Passed : goal.returns-in-Passed
-returns-in-Passed c = search (outcome_tests, rules)
+pub returns-in-Ok : goal.returns-in-Ok
+returns-in-Ok c = search (outcome_tests, rules)
 
-pub returns-in-Refused : goal.returns-in-Refused
-returns-in-Refused c = search (outcome_refused, rules)
+pub returns-in-Err : goal.returns-in-Err
+returns-in-Err c = search (outcome_refused, rules)

@@ -10,8 +10,8 @@ kinds-kinds-requires c = search (passing_sheet, rules)
 pub judge_by_text-requires : goal.judge_by_text-requires
 judge_by_text-requires c = search (passing, rules)
 
-pub returns-in-Refused : goal.returns-in-Refused
-returns-in-Refused c = search (match_refused, rules)
+pub returns-in-Err : goal.returns-in-Err
+returns-in-Err c = search (match_refused, rules)
 
-pub returns-in-Tests : goal.returns-in-Tests
-returns-in-Tests c = search (filter_answered, passing, rules)
+pub returns-in-Ok : goal.returns-in-Ok
+returns-in-Ok c = search (filter_answered, passing, rules)

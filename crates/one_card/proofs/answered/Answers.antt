@@ -9,5 +9,5 @@ returns-then-yes c = search (verdict_yes, rules)
 pub returns-else-yes : goal.returns-else-yes
 returns-else-yes c = search (verdict_no, rules)
 
-pub returns-in-Refused : goal.returns-in-Refused
-returns-in-Refused c = search (verdict_refused, rules)
+pub returns-in-Err : goal.returns-in-Err
+returns-in-Err c = search (verdict_refused, rules)

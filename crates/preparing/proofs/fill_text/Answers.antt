@@ -21,11 +21,11 @@ returns-then-after-filter c = search (fill_trails, rules)
 pub returns-then-summary-gt32 : goal.returns-then-summary-gt32
 returns-then-summary-gt32 c = search (fill_many, rules)
 
-pub returns-in-Tests : goal.returns-in-Tests
-returns-in-Tests c = search (fill_done, rules)
+pub returns-in-Ok : goal.returns-in-Ok
+returns-in-Ok c = search (fill_done, rules)
 
-pub returns-in-Refused : goal.returns-in-Refused
-returns-in-Refused c = search (fill_fault, rules)
+pub returns-in-Err : goal.returns-in-Err
+returns-in-Err c = search (fill_fault, rules)
 
 pub returns-in-Nothing : goal.returns-in-Nothing
 returns-in-Nothing c = search (fill_nothing, rules)

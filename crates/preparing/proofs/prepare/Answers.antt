@@ -9,5 +9,5 @@ returns-then-cells-list c = search (prepare_short, rules)
 pub returns-else-cells-list : goal.returns-else-cells-list
 returns-else-cells-list c = search (prepare_done, rules)
 
-pub returns-in-Refused : goal.returns-in-Refused
-returns-in-Refused c = search (prepare_refused, rules)
+pub returns-in-Err : goal.returns-in-Err
+returns-in-Err c = search (prepare_refused, rules)

@@ -6,8 +6,8 @@ use Rattle.searching.proofs.judge_by_search.Goals as goal
 pub rows_say-requires : goal.rows_say-requires
 rows_say-requires c = search (conforming_known, rules)
 
-pub returns-in-Conforming : goal.returns-in-Conforming
-returns-in-Conforming c = search (judged_says_lem, rules)
+pub returns-in-Ok : goal.returns-in-Ok
+returns-in-Ok c = search (judged_says_lem, rules)
 
-pub returns-in-Refused : goal.returns-in-Refused
-returns-in-Refused c = search (judged_refused, rules)
+pub returns-in-Err : goal.returns-in-Err
+returns-in-Err c = search (judged_refused, rules)

@@ -9,8 +9,8 @@ kinds-kinds-requires c = search (passed_sheet, rules)
 pub judge_by_search-requires : goal.judge_by_search-requires
 judge_by_search-requires c = search (passed_sheet, passed_within, rules)
 
-pub returns-in-Refused : goal.returns-in-Refused
-returns-in-Refused c = search (search_refused, rules)
+pub returns-in-Err : goal.returns-in-Err
+returns-in-Err c = search (search_refused, rules)
 
-pub returns-in-Tests : goal.returns-in-Tests
-returns-in-Tests c = search (search_answered, rules)
+pub returns-in-Ok : goal.returns-in-Ok
+returns-in-Ok c = search (search_answered, rules)

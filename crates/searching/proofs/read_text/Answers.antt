@@ -6,8 +6,8 @@ use Rattle.searching.proofs.read_text.Goals as goal
 pub check_rows-requires : goal.check_rows-requires
 check_rows-requires c = search (accepted_within, rules)
 
-pub returns-in-Passed : goal.returns-in-Passed
-returns-in-Passed c = search (rows_read, rules)
+pub returns-in-Ok : goal.returns-in-Ok
+returns-in-Ok c = search (rows_read, rules)
 
-pub returns-in-Refused : goal.returns-in-Refused
-returns-in-Refused c = search (text_refuses, rules)
+pub returns-in-Err : goal.returns-in-Err
+returns-in-Err c = search (text_refuses, rules)

@@ -27,8 +27,8 @@ loop-at-preserved-then-yes c = search (gathering_match, rules)
 pub loop-at-preserved : goal.loop-at-preserved
 loop-at-preserved c = search (gathering_other, rules)
 
-pub returns-in-Refused : goal.returns-in-Refused
-returns-in-Refused c = search (gathering_refused, rules)
+pub returns-in-Err : goal.returns-in-Err
+returns-in-Err c = search (gathering_refused, rules)
 
 pub returns : goal.returns
 returns c = search (gathering_end, rules)

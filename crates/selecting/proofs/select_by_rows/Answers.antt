@@ -15,8 +15,8 @@ select_cards-requires-clause-cells_len_bound c = search (filled_few, rules)
 pub select_cards-requires-clause-asks : goal.select_cards-requires-clause-asks
 select_cards-requires-clause-asks c = search (filled-asks, rules)
 
-pub returns-in-Cells : goal.returns-in-Cells
-returns-in-Cells c = search (filled_selects, rules)
+pub returns-in-Ok : goal.returns-in-Ok
+returns-in-Ok c = search (filled_selects, rules)
 
-pub returns-in-Refused : goal.returns-in-Refused
-returns-in-Refused c = search (filled_refused, rules)
+pub returns-in-Err : goal.returns-in-Err
+returns-in-Err c = search (filled_refused, rules)

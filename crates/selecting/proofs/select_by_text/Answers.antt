@@ -13,8 +13,8 @@ select_cards-requires-clause-text_len_bound c = search (passing_short, rules)
 pub select_cards-requires-clause-asks : goal.select_cards-requires-clause-asks
 select_cards-requires-clause-asks c = search (text_asks, passing, rules)
 
-pub returns-in-Tests : goal.returns-in-Tests
-returns-in-Tests c = search (text_selects, passing, rules)
+pub returns-in-Ok : goal.returns-in-Ok
+returns-in-Ok c = search (text_selects, passing, rules)
 
-pub returns-in-Refused : goal.returns-in-Refused
-returns-in-Refused c = search (select_refused, rules)
+pub returns-in-Err : goal.returns-in-Err
+returns-in-Err c = search (select_refused, rules)

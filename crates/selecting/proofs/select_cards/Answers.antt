@@ -15,5 +15,5 @@ returns-then-matches-list c = search (select_short, rules)
 pub returns-else-matches-list : goal.returns-else-matches-list
 returns-else-matches-list c = search (select_writes, rules)
 
-pub returns-in-Refused : goal.returns-in-Refused
-returns-in-Refused c = search (select-card_refused, rules)
+pub returns-in-Err : goal.returns-in-Err
+returns-in-Err c = search (select-card_refused, rules)

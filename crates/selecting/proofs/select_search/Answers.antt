@@ -10,8 +10,8 @@ select_cards-requires-clause-sheet_value c = search (passed_sheet, rules)
 pub select_cards-requires-clause-asks : goal.select_cards-requires-clause-asks
 select_cards-requires-clause-asks c = search (search_asks, rules)
 
-pub returns-in-Tests : goal.returns-in-Tests
-returns-in-Tests c = search (search_selects, rules)
+pub returns-in-Ok : goal.returns-in-Ok
+returns-in-Ok c = search (search_selects, rules)
 
-pub returns-in-Refused : goal.returns-in-Refused
-returns-in-Refused c = search (select_search_refused, rules)
+pub returns-in-Err : goal.returns-in-Err
+returns-in-Err c = search (select_search_refused, rules)

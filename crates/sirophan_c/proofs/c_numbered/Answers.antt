@@ -6,5 +6,5 @@ use Rattle.sirophan_c.proofs.c_numbered.Goals as goal
 pub returns-in-Number : goal.returns-in-Number
 returns-in-Number c = search (number_told, rules)
 
-pub returns-in-Refused : goal.returns-in-Refused
-returns-in-Refused c = search (size_refusal_told, rules)
+pub returns-in-Err : goal.returns-in-Err
+returns-in-Err c = search (size_refusal_told, rules)

@@ -6,5 +6,5 @@ use Rattle.sirophan_c.proofs.c_reported.Goals as goal
 pub returns-in-Counts : goal.returns-in-Counts
 returns-in-Counts c = search (counts_told, rules)
 
-pub returns-in-Refused : goal.returns-in-Refused
-returns-in-Refused c = search (report_refusal_told, rules)
+pub returns-in-Err : goal.returns-in-Err
+returns-in-Err c = search (report_refusal_told, rules)

@@ -3,8 +3,8 @@ use borrow.Author.Rules.{rules}
 use Rattle.sirophan_c.proofs.Answers.{cells_told, prepare_refusal_told}
 use Rattle.sirophan_c.proofs.sirophan_prepare.Goals as goal
 
-pub returns-in-Cells : goal.returns-in-Cells
-returns-in-Cells c = search (cells_told, rules)
+pub returns-in-Ok : goal.returns-in-Ok
+returns-in-Ok c = search (cells_told, rules)
 
-pub returns-in-Refused : goal.returns-in-Refused
-returns-in-Refused c = search (prepare_refusal_told, rules)
+pub returns-in-Err : goal.returns-in-Err
+returns-in-Err c = search (prepare_refusal_told, rules)

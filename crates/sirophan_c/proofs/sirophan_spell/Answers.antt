@@ -3,8 +3,8 @@ use borrow.Author.Rules.{rules}
 use Rattle.sirophan_c.proofs.Answers.{length_told, spell_refusal_told}
 use Rattle.sirophan_c.proofs.sirophan_spell.Goals as goal
 
-pub returns-in-Length : goal.returns-in-Length
-returns-in-Length c = search (length_told, rules)
+pub returns-in-Ok : goal.returns-in-Ok
+returns-in-Ok c = search (length_told, rules)
 
-pub returns-in-Refused : goal.returns-in-Refused
-returns-in-Refused c = search (spell_refusal_told, rules)
+pub returns-in-Err : goal.returns-in-Err
+returns-in-Err c = search (spell_refusal_told, rules)

@@ -6,10 +6,10 @@ use Rattle.explain.proofs.Contracts.{explains_into}
 use Rattle.explain.proofs.operation.explain.Goals as goal
 
 pub mark-requires : goal.mark-requires
-mark-requires c = judged_yes _ _ _ _ _ c.prepare-prepared.ensures (λ i. omega (arith, c.shared_slice_known-1.given i)) _ c.in-Cells.is _ c.judge-matched.ensures c.in-Yes.is
+mark-requires c = judged_yes _ _ _ _ _ c.prepare-prepared.ensures (λ i. omega (arith, c.shared_slice_known-1.given i)) _ c.in-Ok.is _ c.judge-matched.ensures c.in-Yes.is
 
 pub mark-requires-in-No : goal.mark-requires-in-No
-mark-requires-in-No c = judged_no _ _ _ _ _ c.prepare-prepared.ensures (λ i. omega (arith, c.shared_slice_known-1.given i)) _ c.in-Cells.is _ c.judge-matched.ensures c.in-No.is
+mark-requires-in-No c = judged_no _ _ _ _ _ c.prepare-prepared.ensures (λ i. omega (arith, c.shared_slice_known-1.given i)) _ c.in-Ok.is _ c.judge-matched.ensures c.in-No.is
 
 pub returns-in-Yes : goal.returns-in-Yes
 returns-in-Yes c = explains_into _ _ _ _ _ _ c.mark.ensures (λ i. omega (arith, c.shared_slice_known-1.given i)) (λ i. omega (arith, c.shared_slice_known-3-1.given i))
@@ -17,11 +17,11 @@ returns-in-Yes c = explains_into _ _ _ _ _ _ c.mark.ensures (λ i. omega (arith,
 pub returns-in-No : goal.returns-in-No
 returns-in-No c = explains_into _ _ _ _ _ _ c.mark-in-No.ensures (λ i. omega (arith, c.shared_slice_known-1.given i)) (λ i. omega (arith, c.shared_slice_known-3-1.given i))
 
-pub returns-in-Refused-matched : goal.returns-in-Refused-matched
-returns-in-Refused-matched c = explains_into _ _ _ _ _ _ (judge_refuses _ _ _ _ _ c.prepare-prepared.ensures (λ i. omega (arith, c.shared_slice_known-1.given i)) _ c.in-Cells.is _ c.judge-matched.ensures _ _ c.in-Refused-matched.is) (λ i. omega (arith, c.shared_slice_known-1.given i)) (λ i. omega (arith, c.shared_slice_known-3-1.given i))
+pub returns-in-Err-matched : goal.returns-in-Err-matched
+returns-in-Err-matched c = explains_into _ _ _ _ _ _ (judge_refuses _ _ _ _ _ c.prepare-prepared.ensures (λ i. omega (arith, c.shared_slice_known-1.given i)) _ c.in-Ok.is _ c.judge-matched.ensures _ _ c.in-Err-matched.is) (λ i. omega (arith, c.shared_slice_known-1.given i)) (λ i. omega (arith, c.shared_slice_known-3-1.given i))
 
-pub returns-in-Refused : goal.returns-in-Refused
-returns-in-Refused c = explains_into _ _ _ _ _ _ (prepare_refuses _ _ _ _ _ c.prepare-prepared.ensures (λ i. omega (arith, c.shared_slice_known-1.given i)) _ _ c.in-Refused.is) (λ i. omega (arith, c.shared_slice_known-1.given i)) (λ i. omega (arith, c.shared_slice_known-3-1.given i))
+pub returns-in-Err : goal.returns-in-Err
+returns-in-Err c = explains_into _ _ _ _ _ _ (prepare_refuses _ _ _ _ _ c.prepare-prepared.ensures (λ i. omega (arith, c.shared_slice_known-1.given i)) _ _ c.in-Err.is) (λ i. omega (arith, c.shared_slice_known-1.given i)) (λ i. omega (arith, c.shared_slice_known-3-1.given i))
 
 pub slice_bounds-judge-end : goal.slice_bounds-judge-end
-slice_bounds-judge-end c = let room = filled_within _ _ _ _ _ c.prepare-prepared.ensures _ c.in-Cells.is in search (room, rules)
+slice_bounds-judge-end c = let room = filled_within _ _ _ _ _ c.prepare-prepared.ensures _ c.in-Ok.is in search (room, rules)

@@ -6,8 +6,8 @@ use Rattle.one_card.proofs.by_text.judge_by_text.Goals as goal
 pub text_says-requires : goal.text_says-requires
 text_says-requires c = search (conforming_known, rules)
 
-pub returns-in-Conforming : goal.returns-in-Conforming
-returns-in-Conforming c = search (judged_says_lem, rules)
+pub returns-in-Ok : goal.returns-in-Ok
+returns-in-Ok c = search (judged_says_lem, rules)
 
-pub returns-in-Refused : goal.returns-in-Refused
-returns-in-Refused c = search (judged_refused, rules)
+pub returns-in-Err : goal.returns-in-Err
+returns-in-Err c = search (judged_refused, rules)

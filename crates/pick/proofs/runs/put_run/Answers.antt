@@ -6,20 +6,20 @@ use Rattle.pick.proofs.Selecting.{selected_count, selected_place, selected_run, 
 use Rattle.pick.proofs.runs.put_run.Goals as goal
 
 pub add_run-more-requires-clause-count_bound : goal.add_run-more-requires-clause-count_bound
-add_run-more-requires-clause-count_bound c = omega (arith, selected_count _ _ _ _ c.select-selected.ensures _ c.in-Count.is)
+add_run-more-requires-clause-count_bound c = omega (arith, selected_count _ _ _ _ c.select-selected.ensures _ c.in-Ok.is)
 
 pub slice_bounds-put_listed-end : goal.slice_bounds-put_listed-end
-slice_bounds-put_listed-end c = omega (arith, selected_count _ _ _ _ c.select-selected.ensures _ c.in-Count.is)
+slice_bounds-put_listed-end c = omega (arith, selected_count _ _ _ _ c.select-selected.ensures _ c.in-Ok.is)
 
 pub place_in_file-place-requires-clause-place_bound :
     goal.place_in_file-place-requires-clause-place_bound
-place_in_file-place-requires-clause-place_bound c = rw c.number-number.ensures (selected_place _ _ _ _ c.select-selected.ensures _ c.in-Refused.is)
+place_in_file-place-requires-clause-place_bound c = rw c.number-number.ensures (selected_place _ _ _ _ c.select-selected.ensures _ c.in-Err.is)
 
 pub put_refusal-size-requires : goal.put_refusal-size-requires
 put_refusal-size-requires c = search (refusal_room, rules)
 
-pub returns-in-Count : goal.returns-in-Count
-returns-in-Count c = selected_run _ _ _ _ c.select-selected.ensures (search rules) _ c.in-Count.is _ c.add_run-more.ensures _ c.put_listed.ensures
+pub returns-in-Ok : goal.returns-in-Ok
+returns-in-Ok c = selected_run _ _ _ _ c.select-selected.ensures (search rules) _ c.in-Ok.is _ c.add_run-more.ensures _ c.put_listed.ensures
 
-pub returns-in-Refused : goal.returns-in-Refused
-returns-in-Refused c = refused_run _ _ _ _ c.select-selected.ensures (search rules) _ _ c.in-Refused.is c.number-number.ensures c.wide.ensures c.place_in_file-place.ensures c.put_refusal-size.ensures
+pub returns-in-Err : goal.returns-in-Err
+returns-in-Err c = refused_run _ _ _ _ c.select-selected.ensures (search rules) _ _ c.in-Err.is c.number-number.ensures c.wide.ensures c.place_in_file-place.ensures c.put_refusal-size.ensures

@@ -9,8 +9,8 @@ returns-then-text-eq0 c = search (query_empty, rules)
 pub returns-then-text-gt1024 : goal.returns-then-text-gt1024
 returns-then-text-gt1024 c = search (query_long, rules)
 
-pub returns-in-Refused : goal.returns-in-Refused
-returns-in-Refused c = search (query_refused, rules)
+pub returns-in-Err : goal.returns-in-Err
+returns-in-Err c = search (query_refused, rules)
 
 pub returns : goal.returns
 returns c = search (query_accepted, rules)

@@ -19,5 +19,5 @@ overflow_sub-result c = search (plan_within, rules)
 pub returns-else-n-room : goal.returns-else-n-room
 returns-else-n-room c = search (plan_counts _ _ _ _ _ _ c.select-selected.ensures (search rules) (λ i. omega (arith, c.shared_slice_known-1.given i)) (λ i. omega (arith, c.shared_slice_known-3-1.given i)), rules)
 
-pub returns-in-Refused : goal.returns-in-Refused
-returns-in-Refused c = search (plan_refused _ _ _ _ _ _ c.select-selected.ensures (search rules) (λ i. omega (arith, c.shared_slice_known-1.given i)) (λ i. omega (arith, c.shared_slice_known-3-1.given i)), rules)
+pub returns-in-Err : goal.returns-in-Err
+returns-in-Err c = search (plan_refused _ _ _ _ _ _ c.select-selected.ensures (search rules) (λ i. omega (arith, c.shared_slice_known-1.given i)) (λ i. omega (arith, c.shared_slice_known-3-1.given i)), rules)

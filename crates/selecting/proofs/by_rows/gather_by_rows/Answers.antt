@@ -28,8 +28,8 @@ loop-at-preserved-then-yes c = search (running_match, rules)
 pub loop-at-preserved : goal.loop-at-preserved
 loop-at-preserved c = search (running_other, rules)
 
-pub returns-in-Refused : goal.returns-in-Refused
-returns-in-Refused c = search (running_refused, rules)
+pub returns-in-Err : goal.returns-in-Err
+returns-in-Err c = search (running_refused, rules)
 
 pub returns : goal.returns
 returns c = search (running_end, rules)
