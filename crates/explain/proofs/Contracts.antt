@@ -1,6 +1,6 @@
 -- The code's answers are refused by the table: a slice holds bytes, which is all that the table asks.
 -- Assumes nothing.
-use Rattle.std.specs.Prelude.{Result}
+use Rattle.std.specs.Prelude.{Result, Bool}
 use Prim.Native.Nat.{ℕ}
 use mathlib.Core.List.{List}
 use lib.ListN.{length}

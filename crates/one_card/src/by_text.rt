@@ -11,8 +11,8 @@ use crate::accept_card;
 use block::Validity;
 use filter::top;
 use judge::Chosen;
-use text_judge::{Judged, judge_filter};
 use refusal::Reason;
+use text_judge::{Judged, judge_filter};
 
 // What a filter that check has passed says of a well-formed card.
 fn text_says(sheet: &[u8], filter: &[u8], card: &[u8]) -> bool

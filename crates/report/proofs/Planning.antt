@@ -34,7 +34,7 @@ use Rattle.sirophan.proofs.Contracts.{refused_by}
 use Rattle.report.specs.Operation.{reported_answer, Survey, accept_rows, says, saying, reporting, report_answer, entries_in, report_rows}
 use Rattle.report.specs.Refusals.{ReportLine}
 use Rattle.report.specs.Operations.{Plans}
-use Rattle.report.specs.declared.Reported.{Reported}
+use Rattle.report.specs.declared.Verdicts.{Verdicts}
 use Rattle.report.specs.declared.plan.Plan.{Plan}
 use Rattle.report.proofs.Steps.{stepped_none}
 use Rattle.report.proofs.Passes.{stepped_cards, steps_ready}
@@ -106,7 +106,7 @@ module _ (sheet text cards list : List ℕ) (sel : Result ℕ Refusal) (exit : L
         (report_table sheet text cards room (bytes_of sheet sheet-bytes) (bytes_of cards bytes))
 
     -- a refusal takes no step
-    refused_plan : (r : Refusal) → p ≡ record { rows = 0; steps = 0; answer = Reported.Refused r } → ((k : ℕ) → k ≡ room → reporting sheet text cards k ≡ stop (number_of r.reason) r.place)
+    refused_plan : (r : Refusal) → p ≡ record { rows = 0; steps = 0; answer = Err r } → ((k : ℕ) → k ≡ room → reporting sheet text cards k ≡ stop (number_of r.reason) r.place)
         → Plans sheet text cards room p
     unfolding reported_answer refusal_answer report_answer report_rows
     refused_plan r e stops =
@@ -118,7 +118,7 @@ module _ (sheet text cards list : List ℕ) (sel : Result ℕ Refusal) (exit : L
           writes = λ rows l. rw (e, stops (length rows) l) (stepped_none cards 0 rows);
         }
 
-    pub plan_refused : (r : Refusal) → sel ≡ Err r → p ≡ record { rows = 0; steps = 0; answer = Reported.Refused r } → Plans sheet text cards room p
+    pub plan_refused : (r : Refusal) → sel ≡ Err r → p ≡ record { rows = 0; steps = 0; answer = Err r } → Plans sheet text cards room p
     unfolding counted_answer refusal_answer reporting
     plan_refused r e q =
         refused_plan r q (λ k l. rw (survey_refused sheet text cards (number_of r.reason) r.place (sym selected ∙ ap counted_answer e)))
@@ -127,7 +127,7 @@ module _ (sheet text cards list : List ℕ) (sel : Result ℕ Refusal) (exit : L
       rows_are : length (counted y e).survey_of.inputs.parameters ≡ n
       rows_are = counted_rows sheet text cards (counted y e) ∙ sym k
 
-      pub plan_short : room < n → (r : Refusal) → r.reason ≡ Reason.ShortRows → r.place ≡ n → p ≡ record { rows = 0; steps = 0; answer = Reported.Refused r } → Plans sheet text cards room p
+      pub plan_short : room < n → (r : Refusal) → r.reason ≡ Reason.ShortRows → r.place ≡ n → p ≡ record { rows = 0; steps = 0; answer = Err r } → Plans sheet text cards room p
       unfolding reporting accept_rows
       plan_short l r why where-at q = refused_plan r q (λ m z. rw ((counted y e).finds, rows_are, z, lt-leb n room l, why, where-at))
 
@@ -135,7 +135,7 @@ module _ (sheet text cards list : List ℕ) (sel : Result ℕ Refusal) (exit : L
       unfolding reporting accept_rows
       found_so l m z = rw ((counted y e).finds, rows_are, z, le-leb n room l)
 
-      pub plan_counts : n ≤ room → p ≡ record { rows = n; steps = n * (length cards / 512 + 1); answer = Reported.Counts y (length cards / 512 - y) } → Plans sheet text cards room p
+      pub plan_counts : n ≤ room → p ≡ record { rows = n; steps = n * (length cards / 512 + 1); answer = Ok (record { yes = y; no = length cards / 512 - y }) } → Plans sheet text cards room p
       unfolding reported_answer report_answer report_rows
       plan_counts l q =
           let c = counted y e in

@@ -1,6 +1,6 @@
 -- The report over lists of bytes, as functions that compute: refusals in the order of the table, those of select without 30, and 31 last.
 -- Assumes nothing.
-use Rattle.std.specs.Prelude.{ℕ, suc, Bool, cond, not, List, [], ◌∷◌, ◌++◌, map, leb, length, drop}
+use Rattle.std.specs.Prelude.{ℕ, suc, Bool, cond, not, List, [], ◌∷◌, ◌++◌, map, leb, length, drop, Result, Ok, Err}
 use Rattle.card.specs.Card.{Entry}
 use Rattle.judge.specs.Verdicts.{filter_says}
 use Rattle.refusal.specs.Answers.{Answer, counts, refusal_answer}
@@ -8,12 +8,13 @@ use Rattle.refusal.specs.Steps.{Step, found, stop, ◌>>=◌, answer}
 use Rattle.answer.specs.Operations.{Inputs, accept_inputs, Card, accept_run, accept_cards}
 use Rattle.report.specs.Tallies.{tallies}
 use Rattle.report.specs.declared.Tally.{Tally}
-use Rattle.report.specs.declared.Reported.{Reported}
+use Rattle.report.specs.declared.Verdicts.{Verdicts}
+use Rattle.refusal.specs.declared.Refusal.{Refusal}
 
 -- the answer of the papers that each case of the code's enum gives
-unfoldable pub reported_answer : Reported → Answer
-reported_answer (Reported.Counts y n) = counts y n
-reported_answer (Reported.Refused r) = refusal_answer r
+unfoldable pub reported_answer : Result Verdicts Refusal → Answer
+reported_answer (Ok v) = counts v.yes v.no
+reported_answer (Err r) = refusal_answer r
 
 -- a sheet and a filter that check passes, and a run of cards that conform
 pub record Survey : Type 0 where

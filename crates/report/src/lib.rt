@@ -7,7 +7,6 @@ mod plan;
 mod tallies;
 
 pub use operation::report;
-use refusal::Refusal;
 
 // A row of the report, for one parameter: the cards of the run that have it, and the values under it.
 #[repr(C)]
@@ -17,9 +16,9 @@ pub struct Tally {
     pub values: u32,
 }
 
-// What a report answers: how many cards say yes and how many no, or a refusal.
+// What a report answers: how many cards of the run say yes and how many no.
 #[derive(Clone, Copy)]
-pub enum Reported {
-    Counts(usize, usize),
-    Refused(Refusal),
+pub struct Verdicts {
+    pub yes: usize,
+    pub no: usize,
 }

@@ -1,8 +1,8 @@
 // What a report will do, decided before the first row is written.
-ghost use Rattle.std.specs.Prelude.{◌≡◌};
+ghost use Rattle.std.specs.Prelude.{◌≡◌, Err};
 ghost use Rattle.report.specs.Operations.{Plans};
 
-use crate::Reported;
+use crate::Verdicts;
 use refusal::{Reason, Refusal};
 
 // How many rows there are, how many steps raise them (none on a refusal), and what the report answers.
@@ -10,17 +10,17 @@ use refusal::{Reason, Refusal};
 pub struct Plan {
     pub rows: usize,
     pub steps: usize,
-    pub answer: Reported,
+    pub answer: Result<Verdicts, Refusal>,
 }
 
 // A refusal writes no row.
 fn refuse(refusal: Refusal) -> Plan
-    ensures { result ≡ record { rows = 0; steps = 0; answer = Reported.Refused refusal } }
+    ensures { result ≡ record { rows = 0; steps = 0; answer = Err refusal } }
 {
     Plan {
         rows: 0,
         steps: 0,
-        answer: Reported::Refused(refusal),
+        answer: Err(refusal),
     }
 }
 
@@ -44,7 +44,10 @@ pub fn plan_of(sheet: &[u8], filter: &[u8], cards: &[u8], room: usize) -> Plan
             Plan {
                 rows: n,
                 steps: n * (total + 1),
-                answer: Reported::Counts(yes, total - yes),
+                answer: Ok(Verdicts {
+                    yes,
+                    no: total - yes,
+                }),
             }
         }
         Err(refusal) => refuse(refusal),
@@ -66,7 +69,7 @@ pub fn steps_of(p: Plan) -> usize
 }
 
 // What it answers.
-pub fn answer(p: Plan) -> Reported
+pub fn answer(p: Plan) -> Result<Verdicts, Refusal>
     ensures { result ≡ p.answer }
 {
     p.answer

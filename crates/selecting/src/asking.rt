@@ -10,8 +10,8 @@ use crate::{Asked, Way};
 use block::Validity;
 use one_card::{judge_by_text, judge_once};
 use query::Rows;
-use searching::judge_by_search;
 use refusal::Reason;
+use searching::judge_by_search;
 
 // The verdict on a card, or why it is refused: by the rows of the text's filter in the cells, by the text as a filter's, or by the rows of a search
 // string over the text.

@@ -155,7 +155,12 @@ pub fn select_cards(
 }
 
 // Select by the rows of the filter, which are written once for the run.
-fn select_by_rows(sheet: &[u8], filter: &[u8], cards: &[u8], list: &mut [u32]) -> Result<usize, Refusal>
+fn select_by_rows(
+    sheet: &[u8],
+    filter: &[u8],
+    cards: &[u8],
+    list: &mut [u32],
+) -> Result<usize, Refusal>
     ensures { Selects (filter_question sheet.now filter.now) cards.now list.old result list.new }
 {
     let mut cells = [0u32; 1024];
@@ -177,7 +182,12 @@ fn select_by_rows(sheet: &[u8], filter: &[u8], cards: &[u8], list: &mut [u32]) -
 }
 
 // Select by the filter's text, which is read again for each card.
-fn select_by_text(sheet: &[u8], filter: &[u8], cards: &[u8], list: &mut [u32]) -> Result<usize, Refusal>
+fn select_by_text(
+    sheet: &[u8],
+    filter: &[u8],
+    cards: &[u8],
+    list: &mut [u32],
+) -> Result<usize, Refusal>
     ensures { Selects (filter_question sheet.now filter.now) cards.now list.old result list.new }
 {
     let checked = check(sheet, filter);
@@ -208,7 +218,12 @@ pub fn select_by(
 }
 
 // Writes the record numbers of the cards that match into the list, as select by a filter does.
-pub fn select_search(sheet: &[u8], text: &[u8], cards: &[u8], list: &mut [u32]) -> Result<usize, Refusal>
+pub fn select_search(
+    sheet: &[u8],
+    text: &[u8],
+    cards: &[u8],
+    list: &mut [u32],
+) -> Result<usize, Refusal>
     ensures { Selects (search_question sheet.now text.now) cards.now list.old result list.new }
 {
     let mut bytes = [0u8; 1024];

@@ -1,6 +1,6 @@
 -- What the code of the operations does on every input: the answer of its definition, and of a refusal that a line of the table decides.
 -- Assumes nothing.
-use Rattle.std.specs.Prelude.{ℕ, ◌≡◌, ◌↔◌, List, length, Result}
+use Rattle.std.specs.Prelude.{ℕ, ◌≡◌, ◌↔◌, List, length, Result, Bool}
 use Rattle.refusal.specs.Answers.{Answer, refused, counted_answer, matched_answer}
 use Rattle.answer.specs.Operations.{check_answer, match_answer, select_answer, select_cells}
 use Rattle.sirophan.specs.Spelling.{spell_answer, spell_bytes}

@@ -68,7 +68,12 @@ pub fn match_search(sheet: &[u8], text: &[u8], card: &[u8]) -> Result<bool, Refu
 }
 
 // Writes the record numbers of the cards of a run that match a search string into the list, in card order, and answers how many they are.
-pub fn select_search(sheet: &[u8], text: &[u8], cards: &[u8], list: &mut [u32]) -> Result<usize, Refusal>
+pub fn select_search(
+    sheet: &[u8],
+    text: &[u8],
+    cards: &[u8],
+    list: &mut [u32],
+) -> Result<usize, Refusal>
     ensures { SelectsSearchInto sheet.now text.now cards.now list.old result list.new }
 {
     selecting::select_search(sheet, text, cards, list)

@@ -1,6 +1,6 @@
 -- What an operation gave, told by its two numbers, and each case of a report's answer by its four.
 -- Assumes nothing.
-use Rattle.std.specs.Prelude.{Result, Err, Ok}
+use Rattle.std.specs.Prelude.{Result, Err, Ok, Bool}
 use Prim.Native.Nat.{ℕ}
 use mathlib.Core.Path.{◌≡◌, sym, ap, ◌∙◌}
 use mathlib.Core.List.{List}
@@ -10,7 +10,7 @@ use Rattle.refusal.specs.declared.Refusal.{Refusal}
 use Rattle.report.specs.Operation.{reported_answer}
 use Rattle.report.specs.Operations.{Reports}
 use Rattle.report.specs.declared.Tally.{Tally}
-use Rattle.report.specs.declared.Reported.{Reported}
+use Rattle.report.specs.declared.Verdicts.{Verdicts}
 use Rattle.answers_c.specs.declared.Answer.{Answer}
 use Rattle.answers_c.specs.Answers.{answer, c_answer}
 use Rattle.sirophan_c.specs.declared.Counts.{Counts}
@@ -62,16 +62,16 @@ module _ (n : Result ℕ Refusal) where
   unfolding counted_answer
   size_refusal_told r t h o = rw h o
 
-module _ (r : Reported) where
-  pub counts_told : (y n : ℕ) → r ≡ Reported.Counts y n → counts_of 0 0 y n ≡ c_counts (reported_answer r)
+module _ (r : Result Verdicts Refusal) where
+  pub counts_told : (y n : ℕ) → r ≡ Ok (record { yes = y; no = n }) → counts_of 0 0 y n ≡ c_counts (reported_answer r)
   unfolding c_counts reported_answer
   counts_told y n h = rw h
 
-  pub report_refusal_told : (f : Refusal) (n : ℕ) → r ≡ Reported.Refused f → n ≡ number_of f.reason → counts_of n f.place 0 0 ≡ c_counts (reported_answer r)
+  pub report_refusal_told : (f : Refusal) (n : ℕ) → r ≡ Err f → n ≡ number_of f.reason → counts_of n f.place 0 0 ≡ c_counts (reported_answer r)
   unfolding c_counts reported_answer refusal_answer
   report_refusal_told f n h e = rw (h, e)
 
 -- what the report for C does, from what the report does
-pub tells_report : (sheet text cards : List ℕ) (rows : List Tally) (r : Reported) (exit : List Tally) (c : Counts) → Reports sheet text cards rows r exit → c ≡ c_counts (reported_answer r)
+pub tells_report : (sheet text cards : List ℕ) (rows : List Tally) (r : Result Verdicts Refusal) (exit : List Tally) (c : Counts) → Reports sheet text cards rows r exit → c ≡ c_counts (reported_answer r)
     → TellsReport sheet text cards rows c exit
 tells_report sheet text cards rows r exit c h e = record { tells = e ∙ ap c_counts h.answers; tallies = h.tallies }

@@ -13,11 +13,10 @@ ghost use Rattle.answers_c.specs.Answers.{c_answer};
 ghost use Rattle.sirophan_c.specs.Answers.{c_counts};
 ghost use Rattle.sirophan_c.specs.Operations.{TellsReport};
 ghost use Rattle.sirophan_c.specs.Engines.{engine_of};
-ghost use Rattle.refusal.specs.Answers.{counted_answer};
 
-use answers_c::{Answer, c_checked, c_matched, c_selected, refused};
-use refusal::{Refusal, number};
-use report::{Reported, Tally};
+use answers_c::Answer;
+use refusal::Refusal;
+use report::{Tally, Verdicts};
 use sirophan::Engine;
 
 // What a report answers: the number of the refusal, 0 where there is none, and its place; and how many cards say yes, and how many no.
@@ -35,8 +34,7 @@ pub struct Counts {
 pub extern "C" fn sirophan_check(sheet: &[u8], filter: &[u8]) -> Answer
     ensures { result ≡ c_answer (check_answer sheet.now filter.now) }
 {
-    let checked = sirophan::check(sheet, filter);
-    c_checked(checked)
+    Answer::from(sirophan::check(sheet, filter))
 }
 
 // Whether the card matches the filter, or a refusal.
@@ -44,8 +42,7 @@ pub extern "C" fn sirophan_check(sheet: &[u8], filter: &[u8]) -> Answer
 pub extern "C" fn sirophan_match(sheet: &[u8], filter: &[u8], card: &[u8]) -> Answer
     ensures { result ≡ c_answer (match_answer sheet.now filter.now card.now) }
 {
-    let matched = sirophan::match_card(sheet, filter, card);
-    c_matched(matched)
+    Answer::from(sirophan::match_card(sheet, filter, card))
 }
 
 // The same by the filter's text, without rows.
@@ -53,8 +50,7 @@ pub extern "C" fn sirophan_match(sheet: &[u8], filter: &[u8], card: &[u8]) -> An
 pub extern "C" fn sirophan_match_by_text(sheet: &[u8], filter: &[u8], card: &[u8]) -> Answer
     ensures { result ≡ c_answer (match_answer sheet.now filter.now card.now) }
 {
-    let matched = sirophan::match_by_text(sheet, filter, card);
-    c_matched(matched)
+    Answer::from(sirophan::match_by_text(sheet, filter, card))
 }
 
 // How many cards of the run match the filter, with their record numbers in the list from its first cell on, or a refusal.
@@ -68,8 +64,7 @@ pub extern "C" fn sirophan_select(
     ensures value { result ≡ c_answer (select_answer sheet.now filter.now cards.now (length list.old)) }
     ensures list_after { list.new ≡ select_cells sheet.now filter.now cards.now list.old }
 {
-    let selected = sirophan::select(sheet, filter, cards, list);
-    c_selected(selected)
+    Answer::from(sirophan::select(sheet, filter, cards, list))
 }
 
 // The engine of a number.
@@ -95,8 +90,7 @@ pub extern "C" fn sirophan_select_by(
     ensures list_after { list.new ≡ select_cells sheet.now filter.now cards.now list.old }
 {
     let by = engine_of(engine);
-    let selected = sirophan::select_by(by, sheet, filter, cards, list);
-    c_selected(selected)
+    Answer::from(sirophan::select_by(by, sheet, filter, cards, list))
 }
 
 // How many alternatives the search string has, or a refusal.
@@ -104,8 +98,7 @@ pub extern "C" fn sirophan_select_by(
 pub extern "C" fn sirophan_check_search(sheet: &[u8], text: &[u8]) -> Answer
     ensures { result ≡ c_answer (check_search_answer sheet.now text.now) }
 {
-    let checked = sirophan::check_search(sheet, text);
-    c_checked(checked)
+    Answer::from(sirophan::check_search(sheet, text))
 }
 
 // Whether the card matches the search string, or a refusal.
@@ -113,8 +106,7 @@ pub extern "C" fn sirophan_check_search(sheet: &[u8], text: &[u8]) -> Answer
 pub extern "C" fn sirophan_match_search(sheet: &[u8], text: &[u8], card: &[u8]) -> Answer
     ensures { result ≡ c_answer (match_search_answer sheet.now text.now card.now) }
 {
-    let matched = sirophan::match_search(sheet, text, card);
-    c_matched(matched)
+    Answer::from(sirophan::match_search(sheet, text, card))
 }
 
 // How many cards of the run match the search string, with their record numbers in the list from its first cell on, or a refusal.
@@ -128,8 +120,7 @@ pub extern "C" fn sirophan_select_search(
     ensures value { result ≡ c_answer (select_search_answer sheet.now text.now cards.now (length list.old)) }
     ensures list_after { list.new ≡ select_search_cells sheet.now text.now cards.now list.old }
 {
-    let selected = sirophan::select_search(sheet, text, cards, list);
-    c_selected(selected)
+    Answer::from(sirophan::select_search(sheet, text, cards, list))
 }
 
 // The length of the filter's plain spelling, which stands in the buffer from the place on, or a refusal.
@@ -138,14 +129,7 @@ pub extern "C" fn sirophan_spell(filter: &[u8], buffer: &mut [u8], from: usize) 
     ensures value { result ≡ c_answer (spell_answer filter.now from (length buffer.old)) }
     ensures buffer_after { buffer.new ≡ spell_bytes filter.now from buffer.old }
 {
-    let spelled = sirophan::spell(filter, buffer, from);
-    match spelled {
-        Ok(length) => Answer {
-            refusal: 0,
-            value: length,
-        },
-        Err(refusal) => refused(refusal),
-    }
+    Answer::from(sirophan::spell(filter, buffer, from))
 }
 
 // How many cells the rows of the filter fill, with the rows in the list from its first cell on, or a refusal.
@@ -154,14 +138,7 @@ pub extern "C" fn sirophan_prepare(sheet: &[u8], filter: &[u8], list: &mut [u32]
     ensures value { result ≡ c_answer (prepare_answer sheet.now filter.now (length list.old)) }
     ensures list_after { list.new ≡ prepare_cells sheet.now filter.now list.old }
 {
-    let prepared = sirophan::prepare(sheet, filter, list);
-    match prepared {
-        Ok(cells) => Answer {
-            refusal: 0,
-            value: cells,
-        },
-        Err(refusal) => refused(refusal),
-    }
+    Answer::from(sirophan::prepare(sheet, filter, list))
 }
 
 // Whether the card matches what the rows state, or a refusal.
@@ -169,8 +146,7 @@ pub extern "C" fn sirophan_prepare(sheet: &[u8], filter: &[u8], list: &mut [u32]
 pub extern "C" fn sirophan_judge(sheet: &[u8], filter: &[u8], rows: &[u32], card: &[u8]) -> Answer
     ensures { result ≡ c_answer (judge_answer sheet.now filter.now rows.now card.now) }
 {
-    let judged = sirophan::judge(sheet, filter, rows, card);
-    c_matched(judged)
+    Answer::from(sirophan::judge(sheet, filter, rows, card))
 }
 
 // Whether the card matches the filter, with a cell for each test in the cells from the first on, or a refusal.
@@ -184,29 +160,27 @@ pub extern "C" fn sirophan_explain(
     ensures value { result ≡ c_answer (explain_answer sheet.now filter.now card.now (length cells.old)) }
     ensures cells_after { cells.new ≡ explain_cells sheet.now filter.now card.now cells.old }
 {
-    let explained = explain::explain(sheet, filter, card, cells);
-    c_matched(explained)
+    Answer::from(explain::explain(sheet, filter, card, cells))
 }
 
-// A report's answer in numbers.
-fn c_reported(reported: Reported) -> Counts
-    ensures { result ≡ c_counts (reported_answer reported) }
-{
-    match reported {
-        Reported::Counts(yes, no) => Counts {
-            refusal: 0,
-            place: 0,
-            yes,
-            no,
-        },
-        Reported::Refused(refusal) => {
-            let reason = refusal.reason;
-            Counts {
-                refusal: number(reason),
+// The answer of a report.
+impl From<Result<Verdicts, Refusal>> for Counts {
+    ghost from_gives = { λ reported counts. counts ≡ c_counts (reported_answer reported) };
+
+    fn from(reported: Result<Verdicts, Refusal>) -> Counts {
+        match reported {
+            Ok(verdicts) => Counts {
+                refusal: 0,
+                place: 0,
+                yes: verdicts.yes,
+                no: verdicts.no,
+            },
+            Err(refusal) => Counts {
+                refusal: u32::from(refusal.reason),
                 place: refusal.place,
                 yes: 0,
                 no: 0,
-            }
+            },
         }
     }
 }
@@ -221,21 +195,7 @@ pub extern "C" fn sirophan_report(
 ) -> Counts
     ensures { TellsReport sheet.now filter.now cards.now rows.old result rows.new }
 {
-    let reported = report::report(sheet, filter, cards, rows);
-    c_reported(reported)
-}
-
-// A block's number in numbers.
-fn c_numbered(numbered: Result<u32, Refusal>) -> Answer
-    ensures { result ≡ c_answer (counted_answer numbered) }
-{
-    match numbered {
-        Ok(number) => Answer {
-            refusal: 0,
-            value: number as usize,
-        },
-        Err(refusal) => refused(refusal),
-    }
+    Counts::from(report::report(sheet, filter, cards, rows))
 }
 
 // The check sum of the block, which stands in its last four bytes, or a refusal.
@@ -244,8 +204,7 @@ pub extern "C" fn sirophan_seal(block: &mut [u8]) -> Answer
     ensures value { result ≡ c_answer (seal_answer block.old) }
     ensures block_after { block.new ≡ sealed_bytes block.old }
 {
-    let sealed = sealing::seal(block);
-    c_numbered(sealed)
+    Answer::from(sealing::seal(block))
 }
 
 // The record number of the card, or a refusal.
@@ -253,6 +212,5 @@ pub extern "C" fn sirophan_seal(block: &mut [u8]) -> Answer
 pub extern "C" fn sirophan_record(card: &[u8]) -> Answer
     ensures { result ≡ c_answer (record_answer card.now) }
 {
-    let numbered = sealing::record(card);
-    c_numbered(numbered)
+    Answer::from(sealing::record(card))
 }
