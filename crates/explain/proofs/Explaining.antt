@@ -2,8 +2,8 @@
 -- The definition is a chain of steps, and the laws follow it. What match refuses stops explain with the same number and place
 -- (`stops_as_match`). Else it is known what was accepted (`Judged`, by `accepted_with`): the sheet's parameters, the filter, good rows that state
 -- it, and the card. The rows' expression has the verdicts of the filter's outer tests (`filter_verdicts`) and is marked as the filter is
--- (`filter_alike`). So what the code marks and then spares by the rows are the cells of the definition (`marks_are`). `mark_yes` and
--- `mark_no` say so of the list, and `mark_short` is for a list that is too short.
+-- (`filter_alike`). So what the code marks and then spares by the rows are the cells of the definition (`marks_are`). `mark_says`
+-- says so of the list, and `mark_short` is for a list that is too short.
 -- Assumes nothing.
 use Rattle.std.specs.Prelude.{Err, Ok, Result}
 use Prim.Native.Nat.{ℕ, ◌-◌, ◌≤◌, ◌<◌}
@@ -210,13 +210,9 @@ module _ (sheet text rows card : List ℕ) (says : Bool) (j : Judged sheet text 
               cells = w.bytes ∙ ap (λ (k : ℕ). part spared 0 tests ++ drop k list) w.long ∙ ap (λ (x : List ℕ). x ++ drop (length x) list) marks_are ∙ sym (cells_by_lem sheet text card list (found (explanation_of (record { parameters = ps; filter = f }) (card_of card))) done);
             }
 
-        pub mark_yes : says ≡ true → Marks sheet text card list (Ok true) exit
+        pub mark_says : Marks sheet text card list (Ok says) exit
         unfolding matched_answer
-        mark_yes h = marked (Ok true) (sym (ap yes_or_no h))
-
-        pub mark_no : says ≡ false → Marks sheet text card list (Ok false) exit
-        unfolding matched_answer
-        mark_no h = marked (Ok false) (sym (ap yes_or_no h))
+        mark_says = marked (Ok says) refl
 
 -- ---- what was accepted, where match answers yes or no
 
@@ -336,10 +332,6 @@ module _ (sheet text card : List ℕ) (prepared : Result ℕ Refusal) (exit : Li
         by_inputs (found y) e =
             accepted_with sheet text card list (bytes_of sheet sliced) n (part exit 0 n) filled counts-cells y e says (sym (match_answer_by sheet text card (found y) e) ∙ sym as_match ∙ h)
 
-    pub judged_yes : r ≡ (Ok true) → Judged sheet text (part exit 0 n) card true
+    pub judged_says : (says : Bool) → r ≡ Ok says → Judged sheet text (part exit 0 n) card says
     unfolding matched_answer
-    judged_yes e = judged true (ap matched_answer e)
-
-    pub judged_no : r ≡ (Ok false) → Judged sheet text (part exit 0 n) card false
-    unfolding matched_answer
-    judged_no e = judged false (ap matched_answer e)
+    judged_says says e = judged says (ap matched_answer e)

@@ -29,10 +29,7 @@ fn mark(
     }
     spare(rows, tests, &mut marks);
     write_word(&marks[0..tests], cells);
-    if yes {
-        return Ok(true);
-    }
-    Ok(false)
+    Ok(yes)
 }
 
 // Whether a card matches a filter, and in the list a cell for each test: 0 spared, 1 decides by its yes, 2 decides by its no. Later cells
@@ -41,16 +38,7 @@ pub fn explain(sheet: &[u8], filter: &[u8], card: &[u8], cells: &mut [u8]) -> Re
     ensures { ExplainsInto sheet.now filter.now card.now cells.old result cells.new }
 {
     let mut rows = [0u32; 1024];
-    let prepared = sirophan::prepare(sheet, filter, &mut rows);
-    match prepared {
-        Ok(filled) => {
-            let matched = sirophan::judge(sheet, filter, &rows[0..filled], card);
-            match matched {
-                Ok(true) => mark(sheet, filter, &rows[0..filled], card, true, cells),
-                Ok(false) => mark(sheet, filter, &rows[0..filled], card, false, cells),
-                Err(refusal) => Err(refusal),
-            }
-        }
-        Err(refusal) => Err(refusal),
-    }
+    let filled = sirophan::prepare(sheet, filter, &mut rows)?;
+    let yes = sirophan::judge(sheet, filter, &rows[0..filled], card)?;
+    mark(sheet, filter, &rows[0..filled], card, yes, cells)
 }

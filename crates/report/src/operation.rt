@@ -8,7 +8,12 @@ use refusal::Refusal;
 
 // Counts the cards of a run that say yes and those that say no, and writes a row for each parameter, in sheet order; later rows stay,
 // and on a refusal all of them.
-pub fn report(sheet: &[u8], filter: &[u8], cards: &[u8], rows: &mut [Tally]) -> Result<Verdicts, Refusal>
+pub fn report(
+    sheet: &[u8],
+    filter: &[u8],
+    cards: &[u8],
+    rows: &mut [Tally],
+) -> Result<Verdicts, Refusal>
     ensures { Reports sheet.now filter.now cards.now rows.old result rows.new }
 {
     let p = plan_of(sheet, filter, cards, rows.len());

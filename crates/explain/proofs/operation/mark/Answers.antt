@@ -1,5 +1,5 @@
 -- `explain::operation::mark` meets its contract. Assumes nothing.
-use Rattle.explain.proofs.Explaining.{mark_conforming, mark_tests, mark-part, mark_few, mark_short, mark_room, mark_yes, mark_no}
+use Rattle.explain.proofs.Explaining.{mark_conforming, mark_tests, mark-part, mark_few, mark_short, mark_room, mark_says}
 use borrow.Author.Rules.{rules}
 use Rattle.explain.proofs.operation.mark.Goals as goal
 
@@ -18,11 +18,8 @@ spare-requires-clause-tests_bound c = search (mark_few, rules)
 pub write_word-requires : goal.write_word-requires
 write_word-requires c = search (mark_room, rules)
 
-pub returns-then-yes : goal.returns-then-yes
-returns-then-yes c = search (mark_yes, rules)
-
 pub returns : goal.returns
-returns c = search (mark_no, rules)
+returns c = search (mark_says, rules)
 
 pub slice_bounds-write_word-end : goal.slice_bounds-write_word-end
 slice_bounds-write_word-end c = search (mark-part, rules)
