@@ -1,6 +1,6 @@
 -- What a run's selection comes to: its text, its turn, and how small its numbers are.
 -- Assumes nothing.
-use Rattle.std.specs.Prelude.{Err, Ok, Result}
+use Rattle.std.specs.Prelude.{Err, Ok, Result, Option, Some, None}
 use Prim.Native.Nat.{ℕ, ◌^◌, ◌≤◌, ◌<◌}
 use native.Mathlib.Nat.{sub-zero}
 use native.Mathlib.Omega.{arith}
@@ -23,7 +23,6 @@ use Rattle.listing.specs.declared.Totals.{Totals}
 use Rattle.listing.specs.Totals.{Added}
 use Rattle.listing.specs.Lines.{lines, refusal_line, count_line}
 use Rattle.listing.specs.Places.{place_in_file}
-use Rattle.pick.specs.declared.runs.Turn.{Turn}
 use Rattle.pick.specs.declared.runs.RunText.{RunText}
 use Rattle.pick.specs.Bounds.{RunAdded, RunAdds}
 use Rattle.pick.specs.Runs.{ListedPut, last_line, selection_text, run_text, TurnAfter, TurnOf, RunPut}
@@ -68,31 +67,31 @@ listed_room ns t size out h few m c l =
 -- what a run comes to, by what its selection is
 module _ (sheet text cards : List ℕ) (t : Totals) {entry out : List ℕ} {size : ℕ} where
   pub run_listed : (ns : List ℕ) → selection (filter_question sheet text) cards 128 ≡ found ns → (u : Totals) → Added t (length ns) (length cards) u
-      → Puts (lines ns ++ last_line (length cards) u.matches u.cards) entry out size → (turn : Turn) → TurnOf (length cards) u turn
+      → Puts (lines ns ++ last_line (length cards) u.matches u.cards) entry out size → (turn : Option Totals) → TurnOf (length cards) u turn
       → RunPut sheet text cards t entry out (record { size = size; turn = turn })
   unfolding run_text selection_text
   run_listed ns e u a p turn o = record { text = rw (e, ← a.matches, ← a.cards) p; turn = rw e (after turn o) }
     where
-      after : (turn : Turn) → TurnOf (length cards) u turn → TurnAfter (found ns) (length cards) t turn
-      after (Turn.More v) (l, same) = (l, subst (λ (x : Totals). Added t (length ns) (length cards) x) (sym same) a)
-      after Turn.Ended l = l
+      after : (turn : Option Totals) → TurnOf (length cards) u turn → TurnAfter (found ns) (length cards) t turn
+      after (Some v) (l, same) = (l, subst (λ (x : Totals). Added t (length ns) (length cards) x) (sym same) a)
+      after None l = l
 
   pub run_stopped : (k p : ℕ) → selection (filter_question sheet text) cards 128 ≡ stop k p → Puts (refusal_line k (place_in_file k p t.cards)) entry out size
-      → RunPut sheet text cards t entry out (record { size = size; turn = Turn.Ended })
+      → RunPut sheet text cards t entry out (record { size = size; turn = None })
   unfolding run_text selection_text
   run_stopped k p e q = record { text = rw e q; turn = rw e tt }
 
 -- unless the output has ended, the run is added with the count that select answers
-turn_added : (sheet text cards : List ℕ) → length cards ≤ 65536 → (t : Totals) (x : Step (List ℕ)) → selection (filter_question sheet text) cards 128 ≡ x → (turn : Turn)
+turn_added : (sheet text cards : List ℕ) → length cards ≤ 65536 → (t : Totals) (x : Step (List ℕ)) → selection (filter_question sheet text) cards 128 ≡ x → (turn : Option Totals)
     → TurnAfter x (length cards) t turn → RunAdded sheet text cards t turn
 unfolding select_by
-turn_added sheet text cards most t (found ns) e (Turn.More u) (l, a) =
+turn_added sheet text cards most t (found ns) e (Some u) (l, a) =
     let room : List ℕ = replicate 128 0 in
     let few : select_answer sheet text cards (length room) ≡ count (length ns) → length ns ≤ length room = select_count_within sheet text cards room (length ns) in
     (length ns, ap run_answer e, omega (arith, few (ap run_answer e)), omega (arith, l), a)
-turn_added sheet text cards most t (found ns) e Turn.Ended a = tt
-turn_added sheet text cards most t (stop k p) e (Turn.More u) a = absurd a
-turn_added sheet text cards most t (stop k p) e Turn.Ended a = a
+turn_added sheet text cards most t (found ns) e None a = tt
+turn_added sheet text cards most t (stop k p) e (Some u) a = absurd a
+turn_added sheet text cards most t (stop k p) e None a = a
 
 pub run_added : (sheet text cards : List ℕ) (t : Totals) {entry out : List ℕ} {r : RunText} → RunPut sheet text cards t entry out r → length cards ≤ 65536 → RunAdds sheet text cards t r.turn
 run_added sheet text cards t {r = r} p most = record { added = turn_added sheet text cards most t (selection (filter_question sheet text) cards 128) refl r.turn p.turn }
@@ -119,7 +118,7 @@ module _ (sheet text cards list : List ℕ) {r : Result ℕ Refusal} {exit : Lis
 
     -- the line of the refusal, with its place in the file
     pub refused_run : (x : Refusal) → r ≡ Err x → {k number place : ℕ} → k ≡ number_of x.reason → number ≡ k → place ≡ place_in_file k x.place t.cards
-        → {size : ℕ} → Puts (refusal_line number place) entry out size → RunPut sheet text cards t entry out (record { size = size; turn = Turn.Ended })
+        → {size : ℕ} → Puts (refusal_line number place) entry out size → RunPut sheet text cards t entry out (record { size = size; turn = None })
     unfolding counted_answer refusal_answer select_by
     refused_run x e {k} {number} {place} ek en ep p =
         let stops : selection (filter_question sheet text) cards 128 ≡ stop (number_of x.reason) x.place = rw (← h) (stopped (selection (filter_question sheet text) cards (length list)) (number_of x.reason) x.place (sym s.answers ∙ rw e)) in

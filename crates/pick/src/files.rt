@@ -5,13 +5,6 @@ ghost use Rattle.pick.specs.Bounds.{Fills, ended_by};
 use std::io;
 use std::io::Read;
 
-// What filling a buffer gives: how many bytes stand at its start, or that a read failed.
-#[derive(Clone, Copy)]
-pub enum Filled {
-    Bytes(usize),
-    Failed,
-}
-
 // Whether a read failed.
 fn has_failed(got: io::Result<usize>) -> bool
     ensures { result ≡ is_err got }
@@ -20,17 +13,17 @@ fn has_failed(got: io::Result<usize>) -> bool
 }
 
 // What a buffer has where a read gave nothing more: a read that fails is no end of the file.
-fn ended(at: usize, got: io::Result<usize>) -> Filled
+fn ended(at: usize, got: io::Result<usize>) -> Option<usize>
     ensures { result ≡ ended_by at got }
 {
     if has_failed(got) {
-        return Filled::Failed;
+        return None;
     }
-    Filled::Bytes(at)
+    Some(at)
 }
 
-// Reads until the buffer is full or the file ends.
-pub fn fill<R: Read>(file: &mut R, buffer: &mut [u8]) -> Filled
+// Reads until the buffer is full or the file ends, and answers how many bytes stand at its start; none, where a read failed.
+pub fn fill<R: Read>(file: &mut R, buffer: &mut [u8]) -> Option<usize>
     ensures { Fills result (length buffer.new) }
 {
     let mut at = 0;
@@ -42,5 +35,5 @@ pub fn fill<R: Read>(file: &mut R, buffer: &mut [u8]) -> Filled
         }
         at += n;
     }
-    Filled::Bytes(at)
+    Some(at)
 }

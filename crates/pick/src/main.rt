@@ -9,7 +9,7 @@ mod runs;
 ghost use Rattle.std.specs.Prelude.{◌≤◌, length};
 ghost use Rattle.pick.specs.Bounds.{Fills};
 
-use files::{Filled, fill};
+use files::fill;
 use listing::without_line_feed;
 use printing::{print_failure, print_usage};
 use runs::print_matches;
@@ -23,16 +23,16 @@ fn has_arguments(rt: &impl Env) -> bool {
 }
 
 // Reads a file into the buffer, as much as there is room for, or prints why that cannot be done.
-fn load(rt: &(impl Files + Print + Eprint), file: &str, buffer: &mut [u8]) -> Filled
+fn load(rt: &(impl Files + Print + Eprint), file: &str, buffer: &mut [u8]) -> Option<usize>
     requires { length file.now ≤ 46 }
     ensures { Fills result (length buffer.new) }
 {
     let Ok(mut opened) = fs::open(rt, file) else {
         print_failure(rt, file.as_bytes(), b"opened");
-        return Filled::Failed;
+        return None;
     };
     let filled = fill(&mut opened, buffer);
-    if let Filled::Failed = filled {
+    if filled.is_none() {
         print_failure(rt, file.as_bytes(), b"read");
     }
     filled
@@ -55,11 +55,11 @@ fn main(rt: HostRuntime) {
         return;
     }
     let mut sheet = [0u8; 513];
-    let Filled::Bytes(size) = load(&rt, "sheet.bin", &mut sheet) else {
+    let Some(size) = load(&rt, "sheet.bin", &mut sheet) else {
         return;
     };
     let mut filter = [0u8; 1026];
-    let Filled::Bytes(length) = load(&rt, "filter.txt", &mut filter) else {
+    let Some(length) = load(&rt, "filter.txt", &mut filter) else {
         return;
     };
     let text = without_line_feed(&filter[0..length]);

@@ -5,10 +5,9 @@ ghost use Rattle.listing.specs.Totals.{Countable};
 ghost use Rattle.pick.specs.Bounds.{RunAdds, FullRunAdded};
 ghost use Rattle.pick.specs.Runs.{last_line, EndPut, ListedPut, RunPut};
 
-use crate::files::{Filled, fill};
+use crate::files::fill;
 use crate::printing::{print, print_failure};
 use listing::{Totals, add_run, place_in_file, put_count, put_lines, put_refusal, wide};
-use refusal::number;
 use sirophan::select;
 use std::io::Read;
 
@@ -18,18 +17,11 @@ const FULL_RUN: usize = 65536;
 // No file has so many cards: its size would be 2^63 bytes.
 const MOST_CARDS: u64 = 1 << 54;
 
-// What a run leads to: the totals with it, or the end of the output.
-#[derive(Clone, Copy)]
-enum Turn {
-    More(Totals),
-    Ended,
-}
-
-// What a run's text takes of a buffer, and what the run leads to.
+// What a run's text takes of a buffer, and the totals with the run where the output goes on.
 #[derive(Clone, Copy)]
 struct RunText {
     size: usize,
-    turn: Turn,
+    turn: Option<Totals>,
 }
 
 // Puts the count behind the last run, where the totals are those with it; behind a full run the output goes on.
@@ -41,12 +33,12 @@ fn end_run(totals: Totals, bytes: usize, out: &mut [u8]) -> RunText
     if bytes < FULL_RUN {
         return RunText {
             size: put_count(totals.matches, totals.cards, out),
-            turn: Turn::Ended,
+            turn: None,
         };
     }
     RunText {
         size: 0,
-        turn: Turn::More(totals),
+        turn: Some(totals),
     }
 }
 
@@ -80,26 +72,22 @@ fn put_run(sheet: &[u8], filter: &[u8], cards: &[u8], totals: Totals, out: &mut 
             put_listed(&list[0..count], more, cards.len(), out)
         }
         Err(refusal) => {
-            let reason = refusal.reason;
-            let number = number(reason);
+            let number = u32::from(refusal.reason);
             let place = place_in_file(number, refusal.place, totals.cards);
             let size = put_refusal(wide(number), place, out);
-            RunText {
-                size,
-                turn: Turn::Ended,
-            }
+            RunText { size, turn: None }
         }
     }
 }
 
-// Prints what a run says; the output has ended, too, where that cannot be written. Each of 128 lines has at most 21 bytes, the count 64.
+// Prints what a run says, and answers the totals with it where the output goes on; it ends, too, where that cannot be written. Each of 128 lines has at most 21 bytes, the count 64.
 fn print_run(
     rt: &(impl Print + Eprint),
     sheet: &[u8],
     filter: &[u8],
     cards: &[u8],
     totals: Totals,
-) -> Turn
+) -> Option<Totals>
     requires countable { Countable totals }
     requires cards_len_bound { length cards.now ≤ 65536 }
     ensures { RunAdds sheet.now filter.now cards.now totals result }
@@ -108,7 +96,7 @@ fn print_run(
     let run = put_run(sheet, filter, cards, totals, &mut buffer);
     let size = run.size;
     if !print(rt, &buffer[0..size]) {
-        return Turn::Ended;
+        return None;
     }
     run.turn
 }
@@ -121,14 +109,14 @@ fn next_run<R: Read>(
     file: &mut R,
     buffer: &mut [u8],
     totals: Totals,
-) -> Turn
+) -> Option<Totals>
     requires buffer_len { length buffer.old ≡ 65536 }
     requires countable { Countable totals }
     ensures { FullRunAdded totals result }
 {
-    let Filled::Bytes(size) = fill(file, buffer) else {
+    let Some(size) = fill(file, buffer) else {
         print_failure(rt, b"cards.bin", b"read");
-        return Turn::Ended;
+        return None;
     };
     print_run(rt, sheet, filter, &buffer[0..size], totals)
 }
@@ -153,7 +141,7 @@ pub fn print_matches<R: Read>(
         cards: 0,
     };
     while totals.cards < MOST_CARDS {
-        let Turn::More(more) = next_run(rt, sheet, filter, file, buffer, totals) else {
+        let Some(more) = next_run(rt, sheet, filter, file, buffer, totals) else {
             return;
         };
         totals = more;

@@ -68,6 +68,7 @@ pub extern "C" fn sirophan_select(
 }
 
 // The engine of a number.
+#[tactic(auto, unfolding(crate::specs::Engines::engine_of))]
 fn engine_of(number: u32) -> Engine
     ensures { result ≡ engine_of number }
 {
@@ -167,6 +168,7 @@ pub extern "C" fn sirophan_explain(
 impl From<Result<Verdicts, Refusal>> for Counts {
     ghost from_gives = { λ reported counts. counts ≡ c_counts (reported_answer reported) };
 
+    #[tactic(auto, unfolding(crate::specs::Answers::c_counts, report::specs::Operation::reported_answer, refusal::specs::Answers::refusal_answer))]
     fn from(reported: Result<Verdicts, Refusal>) -> Counts {
         match reported {
             Ok(verdicts) => Counts {

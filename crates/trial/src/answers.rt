@@ -4,8 +4,7 @@ use refusal::Refusal;
 
 // A refusal: its number and its place.
 fn refused(rt: &(impl Print + Eprint), r: Refusal) -> bool {
-    let reason = r.reason;
-    labelled(rt, b"", refusal::number(reason) as u64) && labelled(rt, b" at ", r.place as u64)
+    labelled(rt, b"", u64::from(u32::from(r.reason))) && labelled(rt, b" at ", r.place as u64)
 }
 
 // What check answered.

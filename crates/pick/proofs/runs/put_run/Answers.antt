@@ -13,7 +13,7 @@ slice_bounds-put_listed-end c = omega (arith, selected_count _ _ _ _ c.select-se
 
 pub place_in_file-place-requires-clause-place_bound :
     goal.place_in_file-place-requires-clause-place_bound
-place_in_file-place-requires-clause-place_bound c = rw c.number-number.ensures (selected_place _ _ _ _ c.select-selected.ensures _ c.in-Err.is)
+place_in_file-place-requires-clause-place_bound c = rw c.from-number.ensures (selected_place _ _ _ _ c.select-selected.ensures _ c.in-Err.is)
 
 pub put_refusal-size-requires : goal.put_refusal-size-requires
 put_refusal-size-requires c = search (refusal_room, rules)
@@ -22,4 +22,4 @@ pub returns-in-Ok : goal.returns-in-Ok
 returns-in-Ok c = selected_run _ _ _ _ c.select-selected.ensures (search rules) _ c.in-Ok.is _ c.add_run-more.ensures _ c.put_listed.ensures
 
 pub returns-in-Err : goal.returns-in-Err
-returns-in-Err c = refused_run _ _ _ _ c.select-selected.ensures (search rules) _ _ c.in-Err.is c.number-number.ensures c.wide.ensures c.place_in_file-place.ensures c.put_refusal-size.ensures
+returns-in-Err c = refused_run _ _ _ _ c.select-selected.ensures (search rules) _ _ c.in-Err.is c.from-number.ensures c.wide.ensures c.place_in_file-place.ensures c.put_refusal-size.ensures

@@ -1,3 +1,0 @@
--- The laws that the proofs of the exported operations cite.
-mod Answers
-mod Engines
