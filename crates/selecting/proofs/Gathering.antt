@@ -37,6 +37,11 @@ judged_well_formed q b y h =
     let (c, t, says) = bind_found (accept_card q.parameters 0 b) (λ c. found (q.says c.entries)) y h in
     (card_accepted q.parameters 0 b c t).0
 
+-- ---- the next card is asked what the first was
+
+pub asked_alike : (q first : Question) (b : List ℕ) (v : Result Bool Reason) → q ≡ first → ((i : ℕ) → verdict_step v i ≡ card_verdict q i b) → (i : ℕ) → verdict_step v i ≡ card_verdict first i b
+asked_alike q first b v h e i = e i ∙ ap (λ (w : Question). card_verdict w i b) h
+
 -- ---- the loop
 
 -- numbers, and then those that are found

@@ -36,8 +36,6 @@ use Rattle.answer.specs.Passing.{Passing}
 use Rattle.answer.specs.Preparing.{row_cells, Fills}
 use Rattle.selecting.specs.Selecting.{Selects}
 use Rattle.one_card.specs.OneCard.{cells_question}
-use Rattle.selecting.specs.Asking.{asked_says, asked_question, Asks, asks_rows}
-use Rattle.selecting.specs.declared.Way.{Way}
 use Rattle.answer.proofs.Passing.{passing_inputs}
 use Rattle.answer.proofs.RowsAnswered.{step_passed}
 use Rattle.selecting.proofs.Selecting.{select_stopped}
@@ -128,14 +126,13 @@ module _ (sheet text buffer : List ℕ) (r : Result ℕ Refusal) (e : Fills shee
     pub filled_few : length (part buffer 0 n) ≤ 320
     filled_few = subst (λ (cs : List ℕ). length cs ≤ 320) (sym filled-cells) (rows_short sheet text passed)
 
-    pub filled-asks : (rows : Rows) → Asks sheet text (part buffer 0 n) rows Way.Rows
-    filled-asks rows = asks_rows passed.short (subst Whole (sym filled-cells) (rows_whole sheet text passed))
+    pub filled_whole : Whole (part buffer 0 n)
+    filled_whole = subst Whole (sym filled-cells) (rows_whole sheet text passed)
 
-    pub filled_selects : (rows : Rows) (cards list : List ℕ) (s : Result ℕ Refusal) (exit : List ℕ)
-        → Selects (found (asked_question Way.Rows (parameters_of sheet) text (part buffer 0 n) rows)) cards list s exit → Selects (filter_question sheet text) cards list s exit
-    unfolding asked_says
-    filled_selects rows cards list s exit g =
+    pub filled_selects : (b t cs cards list : List ℕ) (s : Result ℕ Refusal) (exit : List ℕ) → b ≡ sheet → t ≡ text → cs ≡ part buffer 0 n
+        → Selects (found (cells_question (parameters_of b) t cs)) cards list s exit → Selects (filter_question sheet text) cards list s exit
+    filled_selects b t cs cards list s exit e f h g =
         let same : filter_question sheet text ≡ found (cells_question (parameters_of sheet) text (part buffer 0 n)) =
         rows_ask sheet text passed ∙ ap (λ (cs : List ℕ). found (cells_question (parameters_of sheet) text cs)) (sym filled-cells)
         in
-        subst (λ (a : Step Question). Selects a cards list s exit) (sym same) g
+        subst (λ (a : Step Question). Selects a cards list s exit) (sym same) (rw (← e, ← f, ← h) g)

@@ -16,10 +16,8 @@ use Rattle.refusal.specs.declared.Refusal.{Refusal}
 use Rattle.refusal.specs.Answers.{number_of, refusal_answer, counted_answer}
 use Rattle.refusal.specs.Steps.{Step, found, stop, ◌>>=◌}
 use Rattle.answer.specs.Operations.{check_answer, Card, accept_card, Question, filter_question, accept_run, accept_cards, matching, accept_room, selection, select_by, cells_by}
-use Rattle.answer.specs.Passing.{Passing, card_verdict}
-use Rattle.selecting.specs.Asking.{asked_says, asked_question, Asks, asks_text}
-use Rattle.selecting.specs.declared.Way.{Way}
-use Rattle.query.specs.declared.Rows.{Rows}
+use Rattle.answer.specs.Passing.{Passing, card_verdict, text_question}
+use Rattle.syntax.specs.Reader.{read}
 use Rattle.sheet.specs.Sheet.{parameters_of}
 use Rattle.selecting.specs.Selecting.{run_numbers, gathered_step, Gathers, Selects}
 use Rattle.answer.proofs.Passing.{card_accepted, question_stopped, passing_asks}
@@ -112,13 +110,9 @@ pub select_refused : (sheet text cards list : List ℕ) (c : Result ℕ Refusal)
 select_refused sheet text cards list c r e h = select_stopped (filter_question sheet text) cards list r (question_stopped sheet text c r e h)
 
 -- check has passed it, and its text asks
-module _ (sheet text : List ℕ) (p : Passing sheet text) (cells : List ℕ) (rows : Rows) where
-  pub text_asks : Asks sheet text cells rows Way.Text
-  text_asks = asks_text p
-
-  pub text_selects : (cards list : List ℕ) (s : Result ℕ Refusal) (exit : List ℕ) → Selects (found (asked_question Way.Text (parameters_of sheet) text cells rows)) cards list s exit → Selects (filter_question sheet text) cards list s exit
-  unfolding asked_says
-  text_selects cards list s exit g = subst (λ (a : Step Question). Selects a cards list s exit) (sym (passing_asks sheet text p)) g
+pub text_selects : (sheet text : List ℕ) → Passing sheet text → (b t cards list : List ℕ) (s : Result ℕ Refusal) (exit : List ℕ) → b ≡ sheet → t ≡ text
+    → Selects (found (text_question (parameters_of b) (read t))) cards list s exit → Selects (filter_question sheet text) cards list s exit
+text_selects sheet text p b t cards list s exit e f g = subst (λ (a : Step Question). Selects a cards list s exit) (sym (passing_asks sheet text p)) (rw (← e, ← f) g)
 
 -- of a question that is found already
 module _ (q : Question) (cards list : List ℕ) (r : Refusal) where

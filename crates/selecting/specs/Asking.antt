@@ -1,30 +1,32 @@
--- What is asked of cards, whichever way.
+-- What holds of a question to the cards of a run, so that each can be judged: the kinds are those of the sheet, and check has passed it.
 -- Assumes nothing.
-use Rattle.std.specs.Prelude.{ℕ, ◌≤◌, Bool, List, length}
-use Rattle.sheet.specs.Sheet.{Parameter}
+use Rattle.std.specs.Prelude.{ℕ, ◌≡◌, ◌≤◌, List, ℤ, length}
+use Rattle.block.specs.declared.Validity.{Validity}
+use Rattle.sheet.specs.Sheet.{parameters_of, read_sheet}
 use Rattle.sheet.specs.Find.{kinds_of}
-use Rattle.card.specs.Card.{Entry}
-use Rattle.syntax.specs.Reader.{read}
-use Rattle.row_judge.specs.Saying.{rows_say, Whole}
-use Rattle.search.specs.Meaning.{alternative_says}
-use Rattle.query.specs.Rows as search
+use Rattle.row_judge.specs.Saying.{Whole}
+use Rattle.row_judge.specs.Asking.{LentFor}
+use Rattle.row_opener.specs.Opening.{Opens}
 use Rattle.query.specs.Rows.{RowsWithin}
 use Rattle.query.specs.declared.Rows.{Rows}
-use Rattle.answer.specs.Operations.{Question}
-use Rattle.answer.specs.Passing.{Passing, text_says}
-use Rattle.selecting.specs.declared.Way.{Way}
+use Rattle.answer.specs.Passing.{Passing}
 
--- what is said of entries: by the rows in the cells, by the text as a filter's, or by the rows of a search string over the text
-unfoldable pub asked_says : Way → List Parameter → (text cells : List ℕ) → Rows → List Entry → Bool
-asked_says Way.Rows ps text cells rows es = rows_say (kinds_of ps) text es cells
-asked_says Way.Text ps text cells rows es = text_says ps es (read text)
-asked_says Way.Search ps text cells rows es = search.rows_say (alternative_says ps es) text rows
+-- by the rows of a filter: they were opened, and the lists are lent for them
+pub record RowsReady (sheet kinds text rows values : List ℕ) (ends : List ℤ) (cells : List ℕ) (spans : List ℤ) : Type 0 where
+  pub kinds_are : kinds ≡ kinds_of (parameters_of sheet)
+  pub all_kinds : length kinds ≡ 32
+  pub short : length text ≤ 1024
+  pub whole : Whole rows
+  pub opens : Opens kinds text rows values ends (length rows)
+  pub lent : LentFor kinds rows cells spans
 
-abbrev pub asked_question : Way → List Parameter → (text cells : List ℕ) → Rows → Question
-asked_question way ps text cells rows = record { parameters = ps; says = λ es. asked_says way ps text cells rows es }
+-- by a filter's text
+pub record TextReady (sheet kinds filter : List ℕ) : Type 0 where
+  pub kinds_are : kinds ≡ kinds_of (parameters_of sheet)
+  pub passing : Passing sheet filter
 
--- what the code knows of what it is asked by
-pub data Asks (sheet text cells : List ℕ) (rows : Rows) : Way → Type 0 where
-  asks_rows : length text ≤ 1024 → Whole cells → Asks sheet text cells rows Way.Rows
-  asks_text : Passing sheet text → Asks sheet text cells rows Way.Text
-  asks_search : RowsWithin (length text) rows → Asks sheet text cells rows Way.Search
+-- by the rows of a search string over its decoded bytes
+pub record SearchReady (sheet kinds bytes : List ℕ) (rows : Rows) : Type 0 where
+  pub kinds_are : kinds ≡ kinds_of (parameters_of sheet)
+  pub well_formed : read_sheet sheet ≡ Validity.WellFormed
+  pub within : RowsWithin (length bytes) rows

@@ -1,40 +1,164 @@
-// What is asked of a card, whichever way: by the rows of a filter, by a filter's text, or by a search string.
+// What is asked of each card of a run: by the rows of a filter, by a filter's text, or by the rows of a search string.
 ghost use Rattle.std.specs.Prelude.{◌≡◌, ℕ, ◌≤◌, length};
 ghost use Rattle.sheet.specs.Sheet.{parameters_of, read_sheet};
-ghost use Rattle.sheet.specs.Find.{kinds_of};
-ghost use Rattle.answer.specs.Passing.{card_verdict};
-ghost use Rattle.one_card.specs.OneCard.{verdict_step};
-ghost use Rattle.selecting.specs.Asking.{Asks, asked_question};
+ghost use Rattle.syntax.specs.Reader.{read};
+ghost use Rattle.query.specs.Rows.{RowsWithin};
+ghost use Rattle.row_judge.specs.Saying.{Whole};
+ghost use Rattle.answer.specs.Operations.{Question};
+ghost use Rattle.answer.specs.Passing.{Passing, text_question, card_verdict};
+ghost use Rattle.one_card.specs.OneCard.{verdict_step, cells_question};
+ghost use Rattle.searching.specs.SearchPassing.{rows_question};
+ghost use Rattle.selecting.specs.Asking.{RowsReady, TextReady, SearchReady};
 
-use crate::{Asked, Way};
 use block::Validity;
-use one_card::{judge_by_text, judge_once};
+use one_card::{judge_by_rows, judge_by_text};
 use query::Rows;
 use refusal::Reason;
+use row_judge::lend_for;
+use row_opener::open_rows;
 use searching::judge_by_search;
 
-// The verdict on a card, or why it is refused: by the rows of the text's filter in the cells, by the text as a filter's, or by the rows of a search
-// string over the text.
-pub fn judge_asked(
-    asked: Asked,
-    sheet: &[u8],
-    text: &[u8],
-    cells: &[u32],
-    search: Rows,
-    card: &[u8],
-) -> Result<bool, Reason>
-    requires sheet_value { read_sheet sheet.now ≡ Validity.WellFormed }
-    requires kinds_len { length asked.kinds ≡ 32 }
-    requires kinds_value { asked.kinds ≡ kinds_of (parameters_of sheet.now) }
-    requires cells_len_bound { length cells.now ≤ 320 }
-    requires asks { Asks sheet.now text.now cells.now search asked.way }
-    ensures { (i : ℕ) → verdict_step result i ≡ card_verdict (asked_question asked.way (parameters_of sheet.now) text.now cells.now search) i card.now }
-{
-    let kinds = asked.kinds;
-    let way = asked.way;
-    match way {
-        Way::Rows => judge_once(&kinds, text, cells, card),
-        Way::Text => judge_by_text(sheet, &kinds, text, card),
-        Way::Search => judge_by_search(sheet, &kinds, text, search, card),
+// A question to the cards of a run.
+pub trait Asking {
+    // What must hold of it so that a card can be judged, and what it asks.
+    ghost ready: { Self → Type 0 };
+
+    ghost question: { Self → Question };
+
+    // The verdict on a card, or why it is refused; the next card is asked the same.
+    fn verdict(&mut self, card: &[u8]) -> Result<bool, Reason>
+        requires { ready self.old }
+        ensures ready { ready self.new }
+        ensures says { (i : ℕ) → verdict_step result i ≡ card_verdict (question self.old) i card.now }
+        ensures same { question self.new ≡ question self.old };
+}
+
+// By the rows of a filter: they are opened once for all cards, and the lists are lent for them.
+#[derive(Drop)]
+pub struct ByRows<'a> {
+    sheet: &'a [u8],
+    kinds: [u8; 32],
+    text: &'a [u8],
+    rows: &'a [u32],
+    values: [u64; 640],
+    ends: [i64; 640],
+    cells: [u64; 608],
+    spans: [i64; 128],
+}
+
+impl<'a> ByRows<'a> {
+    pub fn new(sheet: &'a [u8], text: &'a [u8], rows: &'a [u32]) -> Self
+        requires sheet_value { read_sheet sheet.now ≡ Validity.WellFormed }
+        requires text_len_bound { length text.now ≤ 1024 }
+        requires whole { Whole rows.now }
+        requires rows_len_bound { length rows.now ≤ 320 }
+        ensures ready { RowsReady sheet.now result.kinds text.now rows.now result.values result.ends result.cells result.spans }
+        ensures parts { (result.sheet.now ≡ sheet.now) × (result.text.now ≡ text.now) × (result.rows.now ≡ rows.now) }
+    {
+        let kinds = sheet::kinds(sheet);
+        let mut values = [0u64; 640];
+        let mut ends = [0i64; 640];
+        open_rows(&kinds, text, rows, &mut values, &mut ends);
+        let mut cells = [0u64; 608];
+        let spans = [0i64; 128];
+        lend_for(&kinds, rows, &mut cells, &spans);
+        ByRows {
+            sheet,
+            kinds,
+            text,
+            rows,
+            values,
+            ends,
+            cells,
+            spans,
+        }
+    }
+}
+
+impl<'a> Asking for ByRows<'a> {
+    ghost ready = { λ asked. RowsReady asked.sheet.now asked.kinds asked.text.now asked.rows.now asked.values asked.ends asked.cells asked.spans };
+
+    ghost question = { λ asked. cells_question (parameters_of asked.sheet.now) asked.text.now asked.rows.now };
+
+    fn verdict(&mut self, card: &[u8]) -> Result<bool, Reason> {
+        judge_by_rows(
+            &self.kinds,
+            self.text,
+            self.rows,
+            &self.values,
+            &self.ends,
+            card,
+            &mut self.cells,
+            &mut self.spans,
+        )
+    }
+}
+
+// By a filter's text, which is read again for each card.
+#[derive(Drop)]
+pub struct ByText<'a> {
+    sheet: &'a [u8],
+    kinds: [u8; 32],
+    filter: &'a [u8],
+}
+
+impl<'a> ByText<'a> {
+    pub fn new(sheet: &'a [u8], filter: &'a [u8]) -> Self
+        requires { Passing sheet.now filter.now }
+        ensures ready { TextReady sheet.now result.kinds filter.now }
+        ensures parts { (result.sheet.now ≡ sheet.now) × (result.filter.now ≡ filter.now) }
+    {
+        let kinds = sheet::kinds(sheet);
+        ByText {
+            sheet,
+            kinds,
+            filter,
+        }
+    }
+}
+
+impl<'a> Asking for ByText<'a> {
+    ghost ready = { λ asked. TextReady asked.sheet.now asked.kinds asked.filter.now };
+
+    ghost question = { λ asked. text_question (parameters_of asked.sheet.now) (read asked.filter.now) };
+
+    fn verdict(&mut self, card: &[u8]) -> Result<bool, Reason> {
+        judge_by_text(self.sheet, &self.kinds, self.filter, card)
+    }
+}
+
+// By the rows of a search string over its decoded bytes.
+#[derive(Drop)]
+pub struct BySearch<'a> {
+    sheet: &'a [u8],
+    kinds: [u8; 32],
+    bytes: &'a [u8],
+    rows: Rows,
+}
+
+impl<'a> BySearch<'a> {
+    pub fn new(sheet: &'a [u8], bytes: &'a [u8], rows: Rows) -> Self
+        requires sheet_value { read_sheet sheet.now ≡ Validity.WellFormed }
+        requires rows_within { RowsWithin (length bytes.now) rows }
+        ensures ready { SearchReady sheet.now result.kinds bytes.now rows }
+        ensures parts { (result.sheet.now ≡ sheet.now) × (result.bytes.now ≡ bytes.now) × (result.rows ≡ rows) }
+    {
+        let kinds = sheet::kinds(sheet);
+        BySearch {
+            sheet,
+            kinds,
+            bytes,
+            rows,
+        }
+    }
+}
+
+impl<'a> Asking for BySearch<'a> {
+    ghost ready = { λ asked. SearchReady asked.sheet.now asked.kinds asked.bytes.now asked.rows };
+
+    ghost question = { λ asked. rows_question (parameters_of asked.sheet.now) asked.bytes.now asked.rows };
+
+    fn verdict(&mut self, card: &[u8]) -> Result<bool, Reason> {
+        judge_by_search(self.sheet, &self.kinds, self.bytes, self.rows, card)
     }
 }

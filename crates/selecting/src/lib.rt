@@ -2,68 +2,34 @@
 #![tactic(auto)]
 
 mod asking;
-mod by_rows;
 
 ghost use Rattle.std.specs.Prelude.{◌≡◌, ◌%◌, ◌/◌, ◌≤◌, length};
-ghost use Rattle.sheet.specs.Sheet.{parameters_of, read_sheet};
 ghost use Rattle.refusal.specs.Steps.{found};
 ghost use Rattle.answer.specs.Operations.{filter_question};
 ghost use Rattle.answer.specs.Searching.{search_question};
-ghost use Rattle.selecting.specs.Asking.{Asks, asked_question};
 ghost use Rattle.selecting.specs.Selecting.{Gathers, Selects};
 
 use answer::{Engine, write};
-use asking::judge_asked;
-use block::Validity;
-use by_rows::gather_by_rows;
+use asking::{Asking, ByRows, BySearch, ByText};
 use checking::check;
 use preparing::fill;
-use query::{Rows, no_rows};
 use refusal::{Reason, Refusal};
 use searching::read_search;
 
-// What is asked of a card: the rows of a filter, a filter's text, or the rows of a search string.
-#[derive(Clone, Copy)]
-pub enum Way {
-    Rows,
-    Text,
-    Search,
-}
-
-// What each card is asked by, for a run: in which way, and the kinds of the sheet.
-#[derive(Clone, Copy)]
-pub struct Asked {
-    pub way: Way,
-    pub kinds: [u8; 32],
-}
-
-// Gathers the record numbers of the cards that match in the buffer, until a card is refused. The kinds of the sheet are read once for all cards.
-fn gather(
-    way: Way,
-    sheet: &[u8],
-    text: &[u8],
-    cells: &[u32],
-    search: Rows,
-    cards: &[u8],
-    buffer: &mut [u32],
-) -> Result<usize, Refusal>
-    requires sheet_value { read_sheet sheet.now ≡ Validity.WellFormed }
-    requires text_len_bound { length text.now ≤ 1024 }
-    requires cells_len_bound { length cells.now ≤ 320 }
-    requires asks { Asks sheet.now text.now cells.now search way }
+// Gathers the record numbers of the cards that match in the buffer, until a card is refused.
+fn gather<A: Asking>(asking: &mut A, cards: &[u8], buffer: &mut [u32]) -> Result<usize, Refusal>
+    requires ready { A.ready asking.old }
     requires cards_len { length cards.now % 512 ≡ 0 }
     requires cards_in_bounds { length cards.now / 512 ≤ length buffer.old }
     requires buffer_len_bound { length buffer.old ≤ 128 }
-    ensures { Gathers (asked_question way (parameters_of sheet.now) text.now cells.now search) cards.now result buffer.new }
+    ensures { Gathers (A.question asking.old) cards.now result buffer.new }
 {
-    let kinds = sheet::kinds(sheet);
-    let asked = Asked { way, kinds };
     let mut at = 0;
     let mut count = 0;
     while at < cards.len() {
         let end = at + 512;
         let card = &cards[at..end];
-        match judge_asked(asked, sheet, text, cells, search, card) {
+        match asking.verdict(card) {
             Ok(yes) => {
                 if yes {
                     buffer[count] = card::record_number(card);
@@ -82,47 +48,10 @@ fn gather(
     Ok(count)
 }
 
-// The same, by rows in the way that opens them once for all cards.
-fn gather_asked(
-    way: Way,
-    sheet: &[u8],
-    text: &[u8],
-    cells: &[u32],
-    search: Rows,
-    cards: &[u8],
-    buffer: &mut [u32],
-) -> Result<usize, Refusal>
-    requires sheet_value { read_sheet sheet.now ≡ Validity.WellFormed }
-    requires text_len_bound { length text.now ≤ 1024 }
-    requires cells_len_bound { length cells.now ≤ 320 }
-    requires asks { Asks sheet.now text.now cells.now search way }
-    requires cards_len { length cards.now % 512 ≡ 0 }
-    requires cards_in_bounds { length cards.now / 512 ≤ length buffer.old }
-    requires buffer_len_bound { length buffer.old ≤ 128 }
-    ensures { Gathers (asked_question way (parameters_of sheet.now) text.now cells.now search) cards.now result buffer.new }
-{
-    match way {
-        Way::Rows => gather_by_rows(sheet, text, cells, cards, buffer),
-        Way::Text => gather(Way::Text, sheet, text, cells, search, cards, buffer),
-        Way::Search => gather(Way::Search, sheet, text, cells, search, cards, buffer),
-    }
-}
-
-// Selects from the cards under a sheet and a question that check has passed.
-pub fn select_cards(
-    way: Way,
-    sheet: &[u8],
-    text: &[u8],
-    cells: &[u32],
-    search: Rows,
-    cards: &[u8],
-    list: &mut [u32],
-) -> Result<usize, Refusal>
-    requires sheet_value { read_sheet sheet.now ≡ Validity.WellFormed }
-    requires text_len_bound { length text.now ≤ 1024 }
-    requires cells_len_bound { length cells.now ≤ 320 }
-    requires asks { Asks sheet.now text.now cells.now search way }
-    ensures { Selects (found (asked_question way (parameters_of sheet.now) text.now cells.now search)) cards.now list.old result list.new }
+// Selects from the cards under a question that check has passed.
+fn select_cards<A: Asking>(asking: &mut A, cards: &[u8], list: &mut [u32]) -> Result<usize, Refusal>
+    requires { A.ready asking.old }
+    ensures { Selects (found (A.question asking.old)) cards.now list.old result list.new }
 {
     if cards.len() % 512 != 0 {
         return Err(Refusal {
@@ -138,7 +67,7 @@ pub fn select_cards(
     }
     // a refusal writes nothing, so the numbers wait here until the last card is judged
     let mut buffer = [0u32; 128];
-    let gathered = gather_asked(way, sheet, text, cells, search, cards, &mut buffer);
+    let gathered = gather(asking, cards, &mut buffer);
     match gathered {
         Ok(matches) => {
             if matches > list.len() {
@@ -167,15 +96,8 @@ fn select_by_rows(
     let filled = fill(sheet, filter, &mut cells);
     match filled {
         Ok(n) => {
-            select_cards(
-                Way::Rows,
-                sheet,
-                filter,
-                &cells[0..n],
-                no_rows(),
-                cards,
-                list,
-            )
+            let mut asking = ByRows::new(sheet, filter, &cells[0..n]);
+            select_cards(&mut asking, cards, list)
         }
         Err(refusal) => Err(refusal),
     }
@@ -193,8 +115,8 @@ fn select_by_text(
     let checked = check(sheet, filter);
     match checked {
         Ok(_) => {
-            let none = [0u32; 0];
-            select_cards(Way::Text, sheet, filter, &none, no_rows(), cards, list)
+            let mut asking = ByText::new(sheet, filter);
+            select_cards(&mut asking, cards, list)
         }
         Err(refusal) => Err(refusal),
     }
@@ -232,8 +154,8 @@ pub fn select_search(
     let checked = read.checked;
     match checked {
         Ok(_) => {
-            let none = [0u32; 0];
-            select_cards(Way::Search, sheet, &bytes, &none, rows, cards, list)
+            let mut asking = BySearch::new(sheet, &bytes, rows);
+            select_cards(&mut asking, cards, list)
         }
         Err(refusal) => Err(refusal),
     }
