@@ -6,6 +6,7 @@ ghost use Rattle.judge.specs.Once.{counts_read};
 ghost use Rattle.card_reader.specs.Readings.{end_from, period_from, decimal, Serves};
 
 use crate::TextReading;
+use date::Date;
 use kind::{
     DateRelation, Meaning, NumberRelation, Readings, Relation, dates_relate, numbers_relate,
     relates_read,
