@@ -51,7 +51,13 @@ fn number_relates(relation: NumberRelation, digits: u64, unit: u64, value: Optio
 }
 
 // A card's span and what a filter's value reads to.
-fn span_relates(relation: DateRelation, unit: u64, start: i64, end: i64, value: Option<Date>) -> bool
+fn span_relates(
+    relation: DateRelation,
+    unit: u64,
+    start: i64,
+    end: i64,
+    value: Option<Date>,
+) -> bool
     ensures { result ≡ date_readings_relate relation (Some (period_from unit start end)) value }
 {
     let Some(f) = value else {

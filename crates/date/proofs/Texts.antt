@@ -26,7 +26,7 @@ use Rattle.date.specs.Calendar.{leap_year, year_length, month_length, day_number
 use Rattle.date.specs.Fields.{valid_year, valid_month, valid_day, valid_time, valid_zone, ValidOffset}
 use Rattle.date.specs.Spans.{days_from, second_of_day, second_from, year_date, month_date, day_date, second_date}
 use Rattle.date.specs.Marks.{hyphen, colon, plus, letter_t, letter_z}
-use Rattle.date.specs.Texts.{digit_of, pair, two_at, four_at, field_at, signed, zone_at, read_year, read_month, read_day, read_local, zoned, read, readable}
+use Rattle.date.specs.Texts.{digit_of, pair, two_at, four_at, field_at, signed, zone_at, read_year, read_month, read_day, read_local, zoned, read}
 use Rattle.date.specs.declared.Date.{Date}
 use Rattle.date.proofs.Fields.{zone_says}
 use Rattle.date.proofs.Spans.{offset_back}

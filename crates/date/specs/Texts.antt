@@ -1,6 +1,6 @@
 -- What a text reads to, computed. `Spelling` says the same by the writers, and a theorem that the two agree.
 -- Assumes nothing.
-use Rattle.std.specs.Prelude.{ℕ, ◌+◌, ◌*◌, ◌-◌, Bool, true, false, cond, List, eqb, ltb, length, get_or, ℤ, pos, neg_ℤ, Option, Some, None, is_some}
+use Rattle.std.specs.Prelude.{ℕ, ◌+◌, ◌*◌, ◌-◌, Bool, cond, List, eqb, ltb, length, get_or, ℤ, pos, neg_ℤ, Option, Some, None, is_some}
 use Rattle.base.specs.Digits.{is_digit}
 use Rattle.date.specs.Fields.{valid_year, valid_month, valid_day, valid_time, valid_zone}
 use Rattle.date.specs.Spans.{year_date, month_date, day_date, second_date}

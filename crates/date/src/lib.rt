@@ -14,4 +14,3 @@ pub struct Date {
     pub start: i64,
     pub end: i64,
 }
-

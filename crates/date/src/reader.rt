@@ -101,10 +101,7 @@ fn read_year(s: &[u8]) -> Option<Date>
 {
     let y = four_at(s, 0);
     if days::valid_year(y) {
-        return Some(seconds::days_from(
-            days::day_number(y, 1, 1),
-            days::year_length(y),
-        ));
+        return Some(seconds::days_from(days::day_number(y, 1, 1), days::year_length(y)));
     }
     None
 }
@@ -117,10 +114,7 @@ fn read_month(s: &[u8]) -> Option<Date>
     let y = four_at(s, 0);
     let m = field_at(s, 4, b'-');
     if days::valid_month(y, m) {
-        return Some(seconds::days_from(
-            days::day_number(y, m, 1),
-            days::month_length(y, m),
-        ));
+        return Some(seconds::days_from(days::day_number(y, m, 1), days::month_length(y, m)));
     }
     None
 }

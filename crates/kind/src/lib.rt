@@ -6,12 +6,11 @@ mod decision;
 mod readable;
 mod relate;
 
+use date::Date;
 pub use decision::meaning_of;
+use number::Decimal;
 pub use readable::{card_readable, is_true, value_readable};
 pub use relate::{dates_relate, numbers_relate, readings_of, relates_read, unread};
-
-use date::Date;
-use number::Decimal;
 
 // The relations of strings: same, holds it somewhere, at the start, at the end.
 #[derive(Clone, Copy)]

@@ -1,10 +1,9 @@
 -- Laws of reading: what each test on a text's digits comes to.
 -- Assumes nothing.
-use Rattle.std.specs.Prelude.{Option, Some, None, is_some}
+use Rattle.std.specs.Prelude.{Option, Some, None}
 use mathlib.Core.Path.{◌≡◌, sym, ap, ◌∙◌}
 use Prim.Native.Nat.{ℕ, ◌+◌, ◌-◌, ◌^◌, ◌≤◌, ◌<◌}
 use native.Mathlib.Omega.{arith}
-use mathlib.Core.Bool.{true, false}
 use mathlib.Core.List.{List}
 use lib.Seq.{take_all}
 use native.Mathlib.Nat.{le_of_eq}
@@ -14,7 +13,7 @@ use Rattle.base.specs.Digits.{is_digit}
 use Rattle.base.specs.Runs.{run}
 use Rattle.base.proofs.Lists.{rest}
 use Rattle.number.specs.declared.Decimal.{Decimal}
-use Rattle.number.specs.Reading.{point, DigitText, value_from, read_fraction, read, readable}
+use Rattle.number.specs.Reading.{point, DigitText, value_from, read_fraction, read}
 use Rattle.base.proofs.Runs.{run-whole, run_take}
 use Rattle.number.proofs.Digits.{value_short}
 

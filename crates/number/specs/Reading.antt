@@ -1,7 +1,7 @@
 -- What a text reads to, computed: the digits before a point, the point, the digits after it.
 -- Assumes nothing.
 use Prim.Native.Char.{code}
-use Rattle.std.specs.Prelude.{ℕ, ◌+◌, ◌*◌, ◌-◌, ◌≤◌, ◌≡◌, Bool, true, false, cond, List, [], ◌∷◌, eqb, leb, length, get_or, take, drop, Option, Some, None, is_some}
+use Rattle.std.specs.Prelude.{ℕ, ◌+◌, ◌*◌, ◌-◌, ◌≤◌, ◌≡◌, Bool, true, cond, List, [], ◌∷◌, eqb, leb, length, get_or, take, drop, Option, Some, None, is_some}
 use Rattle.base.specs.Digits.{is_digit}
 use Rattle.base.specs.Lists.{every}
 use Rattle.base.specs.Runs.{run}

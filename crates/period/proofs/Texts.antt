@@ -16,7 +16,7 @@ use Rattle.base.specs.Split.{first_of}
 use Rattle.base.proofs.Split.{split_none, split_parts}
 use Rattle.date.specs.declared.Date.{Date}
 use Rattle.date.specs.Texts as texts
-use Rattle.period.specs.Texts.{slash, period, known, from_to, both_ends, open_end, open_start, read_parts, read, readable, span_or, read_span}
+use Rattle.period.specs.Texts.{slash, period, known, from_to, both_ends, open_end, open_start, read_parts, read, span_or, read_span}
 use Rattle.period.specs.declared.Period.{Period}
 
 -- ---- ends

@@ -1,6 +1,6 @@
 -- Which texts spell which period.
 -- Assumes nothing.
-use Rattle.std.specs.Prelude.{ℕ, List, [], ◌∷◌, ◌++◌, ◌<ℤ◌, Option, Some, None}
+use Rattle.std.specs.Prelude.{ℕ, List, [], ◌∷◌, ◌++◌, ◌<ℤ◌, Some, None}
 use Rattle.date.specs.declared.Date.{Date}
 use Rattle.date.specs.Spelling as dates
 use Rattle.period.specs.Texts.{slash, period, known}

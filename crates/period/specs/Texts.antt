@@ -1,6 +1,6 @@
 -- What a card's text reads to, computed. `Spelling` says the same by the writers, and a theorem that the two agree.
 -- Assumes nothing.
-use Rattle.std.specs.Prelude.{ℕ, Bool, true, false, cond, List, eqb, length, Option, Some, None, is_some, ℤ}
+use Rattle.std.specs.Prelude.{ℕ, Bool, cond, List, eqb, length, Option, Some, None, is_some, ℤ}
 use Prim.Native.Char.{code}
 use Rattle.std.specs.Int.Signed.{lt_z}
 use Rattle.base.specs.Split.{Split, whole, parts, split}

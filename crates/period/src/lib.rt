@@ -18,4 +18,3 @@ pub struct Period {
     pub start: Option<i64>,
     pub end: Option<i64>,
 }
-
