@@ -1,7 +1,7 @@
 -- The promises, grouped by the letter's demands; each is proved where its one line says. The contracts of check, match_card and select say
 -- that the code answers as check_answer, match_answer and select_answer do, and leaves the list as select_cells says, and those of match_by_text
 -- and select_by the same; that of spell, that it answers as spell_answer does, and leaves the buffer as spell_bytes says. Assumes nothing.
-use Rattle.std.specs.Prelude.{Option, Some, None}
+use Rattle.std.specs.Prelude.{Some, None}
 use Prim.Native.Nat.{ℕ, ◌+◌, ◌*◌, ◌-◌, ◌≤◌, ◌<◌}
 use Prim.Native.Char.{code}
 use mathlib.Core.Path.{◌≡◌, sym, ◌∙◌}
