@@ -71,7 +71,7 @@ reads_conforms ps b bytes r h =
 -- ---- a text for each kind
 
 witness_reads : passes (λ k. card_readable (k + 1) (witness_text (k + 1))) period ≡ true
-unfolding card_readable kinds of_kind witness_text numbers.readable numbers.read run is_digit dates.readable dates.is_date dates.read dates.read_year dates.four_at dates.two_at dates.pair dates.digit_of between tokens.card_readable tokens.card_token tokens.split_token tokens.token_of split periods.readable periods.is_period periods.read periods.read_parts periods.open_end
+unfolding card_readable kinds of_kind witness_text numbers.readable numbers.read run is_digit dates.readable dates.read dates.read_year dates.four_at dates.two_at dates.pair dates.digit_of between tokens.card_readable tokens.card_token tokens.split_token tokens.token_of split periods.readable periods.read periods.read_parts periods.open_end
 witness_reads = refl
 
 witness_readable : (kind : ℕ) → ValueKind kind → ReadableOnCard kind (witness_text kind)

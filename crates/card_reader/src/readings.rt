@@ -5,9 +5,6 @@ ghost use Rattle.card_reader.specs.Readings.{open_bit, instant_of, ReadAs};
 
 use crate::TextReading;
 use base::kind::{DATE, NUMBER, PERIOD};
-use date::DateReading;
-use number::NumberReading;
-use period::{End, PeriodReading};
 
 // Of a text whose bytes are compared.
 fn plain_reading(fits: bool) -> TextReading
@@ -28,7 +25,7 @@ fn number_reading(text: &[u8]) -> TextReading
     ensures { ReadAs number text.now result }
 {
     match number::read(text) {
-        NumberReading::Number(n) => TextReading {
+        Some(n) => TextReading {
             fits: true,
             form: 1,
             value: n.digits,
@@ -36,7 +33,7 @@ fn number_reading(text: &[u8]) -> TextReading
             start: 0,
             end: 0,
         },
-        NumberReading::Unreadable => plain_reading(false),
+        None => plain_reading(false),
     }
 }
 
@@ -45,7 +42,7 @@ fn date_reading(text: &[u8]) -> TextReading
     ensures { ReadAs date text.now result }
 {
     match date::read(text) {
-        DateReading::Readable(d) => TextReading {
+        Some(d) => TextReading {
             fits: true,
             form: 2,
             value: 0,
@@ -53,27 +50,27 @@ fn date_reading(text: &[u8]) -> TextReading
             start: d.start,
             end: d.end,
         },
-        DateReading::Unreadable => plain_reading(false),
+        None => plain_reading(false),
     }
 }
 
 // 1 where an end is missing.
-fn open_bit(end: End) -> u64
+fn open_bit(end: Option<i64>) -> u64
     ensures { (result ≡ open_bit end) × (result ≤ 1) }
 {
     match end {
-        End::Open => 1,
-        End::At(_) => 0,
+        None => 1,
+        Some(_) => 0,
     }
 }
 
 // The instant of an end, and 0 where it is missing.
-fn instant_of(end: End) -> i64
+fn instant_of(end: Option<i64>) -> i64
     ensures { result ≡ instant_of end }
 {
     match end {
-        End::Open => 0,
-        End::At(t) => t,
+        None => 0,
+        Some(t) => t,
     }
 }
 
@@ -82,7 +79,7 @@ fn period_reading(text: &[u8]) -> TextReading
     ensures { ReadAs period text.now result }
 {
     match period::read(text) {
-        PeriodReading::Readable(p) => {
+        Some(p) => {
             let start = p.start;
             let end = p.end;
             TextReading {
@@ -94,7 +91,7 @@ fn period_reading(text: &[u8]) -> TextReading
                 end: instant_of(end),
             }
         }
-        PeriodReading::Unreadable => plain_reading(false),
+        None => plain_reading(false),
     }
 }
 

@@ -1,29 +1,27 @@
 // Whether what a text of a card reads to stands in a relation to a filter's value: no number, date or period is read again.
-ghost use Rattle.std.specs.Prelude.{◌≡◌};
+ghost use Rattle.std.specs.Prelude.{◌≡◌, Some, None};
 ghost use Rattle.number.specs.Value.{Bounded};
-ghost use Rattle.number.specs.declared.NumberReading as number-reading;
-ghost use Rattle.period.specs.declared.PeriodReading as period-reading;
 ghost use Rattle.kind.specs.Relations.{Kept, number_readings_relate, date_readings_relate, relates_read};
 ghost use Rattle.judge.specs.Once.{counts_read};
 ghost use Rattle.card_reader.specs.Readings.{end_from, period_from, decimal, Serves};
 
 use crate::TextReading;
-use date::DateReading;
+use date::Date;
 use kind::{
     DateRelation, Meaning, NumberRelation, Readings, Relation, dates_relate, numbers_relate,
     relates_read,
 };
-use number::{Decimal, NumberReading};
-use period::{End, Period};
+use number::Decimal;
+use period::Period;
 
 // An end from its numbers.
-fn end_from(missing: bool, t: i64) -> End
+fn end_from(missing: bool, t: i64) -> Option<i64>
     ensures { result ≡ end_from missing t }
 {
     if missing {
-        return End::Open;
+        return None;
     }
-    End::At(t)
+    Some(t)
 }
 
 // A period from its numbers.
@@ -37,12 +35,12 @@ fn period_from(unit: u64, start: i64, end: i64) -> Period
 }
 
 // A card's number and what a filter's value reads to.
-fn number_relates(relation: NumberRelation, digits: u64, unit: u64, value: NumberReading) -> bool
+fn number_relates(relation: NumberRelation, digits: u64, unit: u64, value: Option<Decimal>) -> bool
     requires bounded { Bounded (decimal digits unit) }
     requires kept { Kept value }
-    ensures { result ≡ number_readings_relate relation (number-reading.NumberReading.Number (decimal digits unit)) value }
+    ensures { result ≡ number_readings_relate relation (Some (decimal digits unit)) value }
 {
-    let NumberReading::Number(f) = value else {
+    let Some(f) = value else {
         return false;
     };
     let i = Decimal {
@@ -53,10 +51,16 @@ fn number_relates(relation: NumberRelation, digits: u64, unit: u64, value: Numbe
 }
 
 // A card's span and what a filter's value reads to.
-fn span_relates(relation: DateRelation, unit: u64, start: i64, end: i64, value: DateReading) -> bool
-    ensures { result ≡ date_readings_relate relation (period-reading.PeriodReading.Readable (period_from unit start end)) value }
+fn span_relates(
+    relation: DateRelation,
+    unit: u64,
+    start: i64,
+    end: i64,
+    value: Option<Date>,
+) -> bool
+    ensures { result ≡ date_readings_relate relation (Some (period_from unit start end)) value }
 {
-    let DateReading::Readable(f) = value else {
+    let Some(f) = value else {
         return false;
     };
     dates_relate(relation, period_from(unit, start, end), f)

@@ -1,5 +1,6 @@
 -- What holds of every date that is read: it starts before it ends, and both ends are far from the ends of an i64.
 -- Assumes nothing.
+use Rattle.std.specs.Prelude.{Some}
 use Prim.Native.Nat.{ℕ, ◌+◌, ◌*◌, ◌^◌, ◌≤◌, ◌<◌}
 use mathlib.Core.Path.{◌≡◌, refl}
 use mathlib.Core.List.{List}
@@ -15,7 +16,6 @@ use Rattle.date.specs.Texts.{read}
 use Rattle.date.specs.Instants.{InRange}
 use Rattle.date.specs.Spelling.{SpellsZone, spells_utc, spells_east, spells_west, Spells, spells_year, spells_month, spells_day, spells_second}
 use Rattle.date.specs.declared.Date.{Date}
-use Rattle.date.specs.declared.DateReading.TheVariants.{Readable}
 use Rattle.date.proofs.Calendar.{day_bound, day_small, month_first, month_small, year_small}
 use Rattle.date.proofs.Fields.{time_bound}
 use Rattle.date.proofs.Spans.{instant_mag, instant_order}
@@ -51,9 +51,9 @@ spells_proper (spells_month v) = days_proper _ _ (month_first v) (month_small v 
 spells_proper (spells_day v) = days_proper _ _ (lit≤ tt) (day_small v refl)
 spells_proper (spells_second v t z) = second_proper _ v t (spells_offset z)
 
-pub read_proper : (s : List ℕ) {d : Date} → read s ≡ Readable d → Proper d
+pub read_proper : (s : List ℕ) {d : Date} → read s ≡ Some d → Proper d
 read_proper s e = spells_proper (reads_spells s e)
 
 -- its start is one of its instants
-pub read_first : (s : List ℕ) {d : Date} → read s ≡ Readable d → InRange d d.start
+pub read_first : (s : List ℕ) {d : Date} → read s ≡ Some d → InRange d d.start
 read_first s {d} e = record { from = ≤ℤ_refl d.start; before = (lt_z_iff d.start d.end).0 (read_proper s e).order }

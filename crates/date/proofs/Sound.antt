@@ -5,6 +5,7 @@
 -- has a zone behind its 19 bytes, which is Z or a sign with hours and minutes (`zone_spelled`). `reads_spells` goes by the length, as the
 -- reader does.
 -- Assumes nothing.
+use Rattle.std.specs.Prelude.{Option, Some, None}
 use Prim.Native.Nat.{ℕ, ◌+◌, ◌*◌, ◌≤◌, ◌<◌}
 use mathlib.Core.Bool.{cond}
 use mathlib.Core.Path.{◌≡◌, refl, sym, ap, ◌∙◌, subst₂}
@@ -24,20 +25,16 @@ use Rattle.date.specs.Marks.{hyphen, colon, plus, letter_t, letter_z}
 use Rattle.date.specs.Texts.{two_at, four_at, field_at, signed, zone_at, read_year, read_month, read_day, read_local, zoned, read}
 use Rattle.date.specs.Spelling.{two, year_text, month_text, day_text, local_text, signed_text, SpellsZone, spells_utc, spells_east, spells_west, Spells, spells_year, spells_month, spells_day, spells_second}
 use Rattle.date.specs.declared.Date.{Date}
-use Rattle.date.specs.declared.DateReading.{DateReading}
-use Rattle.date.specs.declared.DateReading.TheVariants.{Readable}
-use Rattle.date.specs.declared.reader.Zone.{Zone}
-use Rattle.date.specs.declared.reader.Zone.TheVariants.{Offset}
 use Rattle.date.proofs.Calendar.{day_below}
 use Rattle.date.proofs.Fields.{year_says, month_says, day_says, time_says, zone_says}
 use Rattle.date.proofs.Positions.{two-part, field_part, four-part}
 
 -- ---- a refusal is no value
 
-no_date : {d : Date} → DateReading.Unreadable ≡ Readable d → ⊥
+no_date : {d : Date} → None ≡ Some d → ⊥
 no_date e = let z : ◌≡◌ {A = ℕ} 0 1 = cc in omega arith
 
-no_offset : {z : ℤ} → Zone.Unreadable ≡ Offset z → ⊥
+no_offset : {z : ℤ} → None ≡ Some z → ⊥
 no_offset e = let z : ◌≡◌ {A = ℕ} 0 1 = cc in omega arith
 
 -- ---- the text as far as its fields are numbers
@@ -79,15 +76,15 @@ begins_local s l v t =
 
 -- ---- a zone
 
-offset_same : {x z : ℤ} → Offset x ≡ Offset z → x ≡ z
+offset_same : {x z : ℤ} → Some x ≡ Some z → x ≡ z
 offset_same e = cc
 
-zone_written : {text rest : List ℕ} {x z : ℤ} → rest ≡ text → Offset x ≡ Offset z → SpellsZone text x → SpellsZone rest z
+zone_written : {text rest : List ℕ} {x z : ℤ} → rest ≡ text → Some x ≡ Some z → SpellsZone text x → SpellsZone rest z
 zone_written e f h = subst₂ SpellsZone (sym e) (offset_same f) h
 
-utc_spelled : (s : List ℕ) {z : ℤ} → length s ≡ 20 → cond (eqb (get_or s 19 0) letter_z) (Offset (pos 0)) Zone.Unreadable ≡ Offset z → SpellsZone (drop 19 s) z
+utc_spelled : (s : List ℕ) {z : ℤ} → length s ≡ 20 → cond (eqb (get_or s 19 0) letter_z) (Some (pos 0)) None ≡ Some z → SpellsZone (drop 19 s) z
 utc_spelled s l e =
-    let p : _ = cond-first (eqb (get_or s 19 0) letter_z) (Offset (pos 0)) Zone.Unreadable no_offset e in
+    let p : _ = cond-first (eqb (get_or s 19 0) letter_z) (Some (pos 0)) None no_offset e in
     let text : drop 19 s ≡ letter_z ∷ [] =
     drop-next s 19 (omega arith) ∙ cons_same (eqb-true (get_or s 19 0) letter_z p.0) (drop_of_length-le s (le_of_eq l)) in
     zone_written text p.1 spells_utc
@@ -103,64 +100,64 @@ signed_part s sign e l v =
     (field_part s 22 colon (omega arith) (omega arith)
     ∙ ap (λ (r : List ℕ). (colon ∷ two (field_at s 22 colon)) ++ r) (drop_of_length-le s (le_of_eq l))))
 
-signed_spelled : (s : List ℕ) {z : ℤ} → length s ≡ 25 → signed (get_or s 19 0) (two_at s 20) (field_at s 22 colon) ≡ Offset z → SpellsZone (drop 19 s) z
+signed_spelled : (s : List ℕ) {z : ℤ} → length s ≡ 25 → signed (get_or s 19 0) (two_at s 20) (field_at s 22 colon) ≡ Some z → SpellsZone (drop 19 s) z
 unfolding signed
 signed_spelled s l e =
     let sign : ℕ = get_or s 19 0 in
     let minutes : ℕ = two_at s 20 * 60 + field_at s 22 colon in
-    let west : Zone = cond (eqb sign hyphen) (Offset (neg_ℤ (pos minutes))) Zone.Unreadable in
-    let p : _ = cond-first (valid_zone (two_at s 20) (field_at s 22 colon)) (cond (eqb sign plus) (Offset (pos minutes)) west) Zone.Unreadable no_offset e in
+    let west : (Option ℤ) = cond (eqb sign hyphen) (Some (neg_ℤ (pos minutes))) None in
+    let p : _ = cond-first (valid_zone (two_at s 20) (field_at s 22 colon)) (cond (eqb sign plus) (Some (pos minutes)) west) None no_offset e in
     let v : ValidZone (two_at s 20) (field_at s 22 colon) = zone_says p.0 in
     ⊎_elim
     (λ q. zone_written (signed_part s plus (eqb-true sign plus q.0) l v) q.1 (spells_east v))
-    (λ q. let r : _ = cond-first (eqb sign hyphen) (Offset (neg_ℤ (pos minutes))) Zone.Unreadable no_offset q.1 in
+    (λ q. let r : _ = cond-first (eqb sign hyphen) (Some (neg_ℤ (pos minutes))) None no_offset q.1 in
     zone_written (signed_part s hyphen (eqb-true sign hyphen r.0) l v) r.1 (spells_west v))
-    (cond_either (eqb sign plus) (Offset (pos minutes)) west p.1)
+    (cond_either (eqb sign plus) (Some (pos minutes)) west p.1)
 
-zone_spelled : (s : List ℕ) {z : ℤ} → zone_at s 19 ≡ Offset z → SpellsZone (drop 19 s) z
+zone_spelled : (s : List ℕ) {z : ℤ} → zone_at s 19 ≡ Some z → SpellsZone (drop 19 s) z
 unfolding zone_at
 zone_spelled s e =
-    let zone : Zone = signed (get_or s 19 0) (two_at s 20) (field_at s 22 colon) in
+    let zone : (Option ℤ) = signed (get_or s 19 0) (two_at s 20) (field_at s 22 colon) in
     ⊎_elim (λ p. utc_spelled s (eqb-true (length s) 20 p.0) p.1)
-    (λ p. let q : _ = cond-first (eqb (length s) 25) zone Zone.Unreadable no_offset p.1 in
+    (λ p. let q : _ = cond-first (eqb (length s) 25) zone None no_offset p.1 in
     signed_spelled s (eqb-true (length s) 25 q.0) q.1)
     (cond_either (eqb (length s) 20) _ _ e)
 
 -- ---- each spelling
 
-pub date-same : {x d : Date} → Readable x ≡ Readable d → x ≡ d
+pub date-same : {x d : Date} → Some x ≡ Some d → x ≡ d
 date-same e = cc
 
-spelled : {s text : List ℕ} {x d : Date} → s ≡ text → Readable x ≡ Readable d → Spells text x → Spells s d
+spelled : {s text : List ℕ} {x d : Date} → s ≡ text → Some x ≡ Some d → Spells text x → Spells s d
 spelled e f h = subst₂ Spells (sym e) (date-same f) h
 
-year_spelled : (s : List ℕ) {d : Date} → length s ≡ 4 → read_year s ≡ Readable d → Spells s d
+year_spelled : (s : List ℕ) {d : Date} → length s ≡ 4 → read_year s ≡ Some d → Spells s d
 unfolding read_year
 year_spelled s l e =
-    let p : _ = cond-first (valid_year (four_at s 0)) (Readable (year_date (four_at s 0))) DateReading.Unreadable no_date e in
+    let p : _ = cond-first (valid_year (four_at s 0)) (Some (year_date (four_at s 0))) None no_date e in
     let v : ValidYear (four_at s 0) = year_says p.0 in
     spelled (begins_whole l (begins_year s (omega arith) v)) p.1 (spells_year v)
 
-month_spelled : (s : List ℕ) {d : Date} → length s ≡ 7 → read_month s ≡ Readable d → Spells s d
+month_spelled : (s : List ℕ) {d : Date} → length s ≡ 7 → read_month s ≡ Some d → Spells s d
 unfolding read_month
 month_spelled s l e =
     let y : ℕ = four_at s 0 in
     let m : ℕ = field_at s 4 hyphen in
-    let p : _ = cond-first (valid_month y m) (Readable (month_date y m)) DateReading.Unreadable no_date e in
+    let p : _ = cond-first (valid_month y m) (Some (month_date y m)) None no_date e in
     let v : ValidMonth y m = month_says p.0 in
     spelled (begins_whole l (begins_month s (omega arith) v)) p.1 (spells_month v)
 
-day_spelled : (s : List ℕ) {d : Date} → length s ≡ 10 → read_day s ≡ Readable d → Spells s d
+day_spelled : (s : List ℕ) {d : Date} → length s ≡ 10 → read_day s ≡ Some d → Spells s d
 unfolding read_day
 day_spelled s l e =
     let y : ℕ = four_at s 0 in
     let m : ℕ = field_at s 4 hyphen in
     let d : ℕ = field_at s 7 hyphen in
-    let p : _ = cond-first (valid_day y m d) (Readable (day_date y m d)) DateReading.Unreadable no_date e in
+    let p : _ = cond-first (valid_day y m d) (Some (day_date y m d)) None no_date e in
     let v : ValidDay y m d = day_says p.0 in
     spelled (begins_whole l (begins_day s (omega arith) v)) p.1 (spells_day v)
 
-second_spelled : (s : List ℕ) {z : ℤ} {x : Date} → 20 ≤ length s → SpellsZone (drop 19 s) z → read_local s z ≡ Readable x → Spells s x
+second_spelled : (s : List ℕ) {z : ℤ} {x : Date} → 20 ≤ length s → SpellsZone (drop 19 s) z → read_local s z ≡ Some x → Spells s x
 unfolding read_local
 second_spelled s {z} l zone e =
     let y : ℕ = four_at s 0 in
@@ -169,18 +166,18 @@ second_spelled s {z} l zone e =
     let hour : ℕ = field_at s 10 letter_t in
     let minute : ℕ = field_at s 13 colon in
     let second : ℕ = field_at s 16 colon in
-    let p : _ = cond-first (valid_day y m d) (cond (valid_time hour minute second) (Readable (second_date y m d hour minute second z)) DateReading.Unreadable) DateReading.Unreadable no_date e in
-    let q : _ = cond-first (valid_time hour minute second) (Readable (second_date y m d hour minute second z)) DateReading.Unreadable no_date p.1 in
+    let p : _ = cond-first (valid_day y m d) (cond (valid_time hour minute second) (Some (second_date y m d hour minute second z)) None) None no_date e in
+    let q : _ = cond-first (valid_time hour minute second) (Some (second_date y m d hour minute second z)) None no_date p.1 in
     let v : ValidDay y m d = day_says p.0 in
     let t : ValidTime hour minute second = time_says q.0 in
     spelled (begins_local s (omega arith) v t).split q.1 (spells_second v t zone)
 
-zoned_spelled : (s : List ℕ) {d : Date} → 20 ≤ length s → (r : Zone) → zone_at s 19 ≡ r → zoned s r ≡ Readable d → Spells s d
+zoned_spelled : (s : List ℕ) {d : Date} → 20 ≤ length s → (r : Option ℤ) → zone_at s 19 ≡ r → zoned s r ≡ Some d → Spells s d
 unfolding zoned
-zoned_spelled s l (Offset z) e f = second_spelled s l (zone_spelled s e) f
-zoned_spelled s l Zone.Unreadable e f = absurd (no_date f)
+zoned_spelled s l (Some z) e f = second_spelled s l (zone_spelled s e) f
+zoned_spelled s l None e f = absurd (no_date f)
 
-long_spelled : (s : List ℕ) {d : Date} → cond (ltb (length s) 20) DateReading.Unreadable (zoned s (zone_at s 19)) ≡ Readable d → Spells s d
+long_spelled : (s : List ℕ) {d : Date} → cond (ltb (length s) 20) None (zoned s (zone_at s 19)) ≡ Some d → Spells s d
 long_spelled s e =
     ⊎_elim
     (λ p. absurd (no_date p.1))
@@ -189,7 +186,7 @@ long_spelled s e =
 
 -- ---- every text
 
-pub reads_spells : (s : List ℕ) {d : Date} → read s ≡ Readable d → Spells s d
+pub reads_spells : (s : List ℕ) {d : Date} → read s ≡ Some d → Spells s d
 unfolding read
 reads_spells s e =
     ⊎_elim (λ p. year_spelled s (eqb-true (length s) 4 p.0) p.1)

@@ -4,6 +4,7 @@
 -- digits read to at most 100 (`two_most`), and an offset that was read is at most 840 minutes either way (`zone_within`, by the cases of
 -- the reading).
 -- Assumes nothing.
+use Rattle.std.specs.Prelude.{Option, Some, None}
 use Prim.Native.Nat.{ℕ, ◌+◌, ◌*◌, ◌-◌, ◌≤◌, ◌<◌}
 use mathlib.Core.Bool.{Bool, true, false}
 use mathlib.Core.Path.{◌≡◌, refl, sym, ap, ◌∙◌, subst}
@@ -25,12 +26,8 @@ use Rattle.date.specs.Calendar.{leap_year, year_length, month_length, day_number
 use Rattle.date.specs.Fields.{valid_year, valid_month, valid_day, valid_time, valid_zone, ValidOffset}
 use Rattle.date.specs.Spans.{days_from, second_of_day, second_from, year_date, month_date, day_date, second_date}
 use Rattle.date.specs.Marks.{hyphen, colon, plus, letter_t, letter_z}
-use Rattle.date.specs.Texts.{digit_of, pair, two_at, four_at, field_at, signed, zone_at, read_year, read_month, read_day, read_local, zoned, read, is_date, readable}
+use Rattle.date.specs.Texts.{digit_of, pair, two_at, four_at, field_at, signed, zone_at, read_year, read_month, read_day, read_local, zoned, read}
 use Rattle.date.specs.declared.Date.{Date}
-use Rattle.date.specs.declared.DateReading.{DateReading}
-use Rattle.date.specs.declared.DateReading.TheVariants.{Readable}
-use Rattle.date.specs.declared.reader.Zone.{Zone}
-use Rattle.date.specs.declared.reader.Zone.TheVariants.{Offset}
 use Rattle.date.proofs.Fields.{zone_says}
 use Rattle.date.proofs.Spans.{offset_back}
 
@@ -117,12 +114,12 @@ field_most s at mark e =
 -- ---- the zone
 
 module _ (sign h m : ℕ) where
-  pub signed_minute : 59 < m → Zone.Unreadable ≡ signed sign h m
+  pub signed_minute : 59 < m → None ≡ signed sign h m
   unfolding signed valid_zone
   signed_minute p = rw (lt-leb m 59 p)
 
   module _ (p : m ≤ 59) where
-    pub signed_most : 840 < h * 60 + m → Zone.Unreadable ≡ signed sign h m
+    pub signed_most : 840 < h * 60 + m → None ≡ signed sign h m
     unfolding signed valid_zone
     signed_most q = rw (le-leb m 59 p, lt-leb (h * 60 + m) 840 q)
 
@@ -133,48 +130,48 @@ module _ (sign h m : ℕ) where
       pub west_fits : SFits w64 (pos 0 -ℤ to_z w64 (h * 60 + m))
       west_fits = rw minutes_read (record { sfits = omega (arith, mag_less (pos 0) (pos (h * 60 + m)) {h = 1} {k = 841} (lit< tt) (omega arith)) })
 
-      pub signed_east : sign ≡ plus → Offset (to_z w64 (h * 60 + m)) ≡ signed sign h m
+      pub signed_east : sign ≡ plus → Some (to_z w64 (h * 60 + m)) ≡ signed sign h m
       unfolding signed valid_zone
       signed_east e = rw (le-leb m 59 p, le-leb (h * 60 + m) 840 q, eq-eqb sign plus e, minutes_read)
 
       module _ (e : sign ≡ plus → ⊥) where
-        pub signed_west : sign ≡ hyphen → Offset (to_z w64 (of_z w64 (pos 0 -ℤ to_z w64 (h * 60 + m)))) ≡ signed sign h m
+        pub signed_west : sign ≡ hyphen → Some (to_z w64 (of_z w64 (pos 0 -ℤ to_z w64 (h * 60 + m)))) ≡ signed sign h m
         unfolding signed valid_zone
         signed_west f =
             let back : to_z w64 (of_z w64 (pos 0 -ℤ to_z w64 (h * 60 + m))) ≡ neg_ℤ (pos (h * 60 + m)) =
             to_z-of_z w64 _ west_fits ∙ ap (λ (x : ℤ). pos 0 -ℤ x) minutes_read ∙ +ℤ_idl (neg_ℤ (pos (h * 60 + m))) in
-            rw (le-leb m 59 p, le-leb (h * 60 + m) 840 q, ne_eqb sign plus e, eq-eqb sign hyphen f) (ap Offset back)
+            rw (le-leb m 59 p, le-leb (h * 60 + m) 840 q, ne_eqb sign plus e, eq-eqb sign hyphen f) (ap Some back)
 
-        pub signed_neither : (sign ≡ hyphen → ⊥) → Zone.Unreadable ≡ signed sign h m
+        pub signed_neither : (sign ≡ hyphen → ⊥) → None ≡ signed sign h m
         unfolding signed valid_zone
         signed_neither f =
             rw (le-leb m 59 p, le-leb (h * 60 + m) 840 q, ne_eqb sign plus e, ne_eqb sign hyphen f)
 
 module _ (s : List ℕ) (at : ℕ) where
   module _ (h : length s ≡ at + 1) where
-    pub zone_utc : get_or s at 0 ≡ letter_z → Offset (pos 0) ≡ zone_at s at
+    pub zone_utc : get_or s at 0 ≡ letter_z → Some (pos 0) ≡ zone_at s at
     unfolding zone_at
     zone_utc e = rw (eq-eqb _ _ h, eq-eqb _ _ e)
 
-    pub zone_letter : (get_or s at 0 ≡ letter_z → ⊥) → Zone.Unreadable ≡ zone_at s at
+    pub zone_letter : (get_or s at 0 ≡ letter_z → ⊥) → None ≡ zone_at s at
     unfolding zone_at
     zone_letter e = rw (eq-eqb _ _ h, ne_eqb _ _ e)
 
   module _ (h : length s ≡ at + 1 → ⊥) where
-    pub zone_signed : {a b : ℕ} {z : Zone} → length s ≡ at + 6 → a ≡ two_at s (at + 1) → b ≡ field_at s (at + 3) colon → z ≡ signed (get_or s at 0) a b → z ≡ zone_at s at
+    pub zone_signed : {a b : ℕ} {z : Option ℤ} → length s ≡ at + 6 → a ≡ two_at s (at + 1) → b ≡ field_at s (at + 3) colon → z ≡ signed (get_or s at 0) a b → z ≡ zone_at s at
     unfolding zone_at
     zone_signed k e f g = rw (ne_eqb _ _ h, eq-eqb _ _ k, ← e, ← f) g
 
-    pub zone_length : (length s ≡ at + 6 → ⊥) → Zone.Unreadable ≡ zone_at s at
+    pub zone_length : (length s ≡ at + 6 → ⊥) → None ≡ zone_at s at
     unfolding zone_at
     zone_length k = rw (ne_eqb _ _ h, ne_eqb _ _ k)
 
 -- an offset that was read is at most 840 minutes either way
-data Within : Zone → Type 0 where
-  within_offset : {z : ℤ} → ValidOffset z → Within (Offset z)
-  within_none : Within Zone.Unreadable
+data Within : Option ℤ → Type 0 where
+  within_offset : {z : ℤ} → ValidOffset z → Within (Some z)
+  within_none : Within None
 
-within_bound : {z : ℤ} → Within (Offset z) → ValidOffset z
+within_bound : {z : ℤ} → Within (Some z) → ValidOffset z
 within_bound (within_offset p) = p
 
 signed-within : (sign h m : ℕ) → Within (signed sign h m)
@@ -194,7 +191,7 @@ zone_within s at =
     (λ e. cond-elim Within (eqb (get_or s at 0) letter_z) (λ f. within_offset (lit≤ tt)) (λ f. within_none))
     (λ e. cond-elim Within (eqb (length s) (at + 6)) (λ f. signed-within (get_or s at 0) (two_at s (at + 1)) (field_at s (at + 3) colon)) (λ f. within_none))
 
-module _ (s : List ℕ) (at : ℕ) {r : Zone} {z : ℤ} (e : r ≡ zone_at s at) (f : r ≡ Offset z) where
+module _ (s : List ℕ) (at : ℕ) {r : Option ℤ} {z : ℤ} (e : r ≡ zone_at s at) (f : r ≡ Some z) where
   zone_small : ValidOffset z
   zone_small = within_bound (subst Within (sym e ∙ f) (zone_within s at))
 
@@ -207,86 +204,77 @@ module _ (s : List ℕ) (at : ℕ) {r : Zone} {z : ℤ} (e : r ≡ zone_at s at)
 -- ---- the spellings
 
 module _ (s : List ℕ) {y : ℕ} {p : Bool} (e : y ≡ four_at s 0) (f : p ≡ valid_year y) where
-  pub year_on : {first count : ℕ} {d : Date} → p ≡ true → first ≡ day_number y 1 1 → count ≡ year_length y → d ≡ days_from first count → Readable d ≡ read_year s
+  pub year_on : {first count : ℕ} {d : Date} → p ≡ true → first ≡ day_number y 1 1 → count ≡ year_length y → d ≡ days_from first count → Some d ≡ read_year s
   unfolding read_year year_date
-  year_on t a b g = rw (← e, ← f, t, ← a, ← b) (ap Readable g)
+  year_on t a b g = rw (← e, ← f, t, ← a, ← b) (ap Some g)
 
-  pub year_off : p ≡ false → DateReading.Unreadable ≡ read_year s
+  pub year_off : p ≡ false → None ≡ read_year s
   unfolding read_year
   year_off t = rw (← e, ← f, t)
 
 module _ (s : List ℕ) {y m : ℕ} {p : Bool} (e : y ≡ four_at s 0) (i : m ≡ field_at s 4 hyphen) (f : p ≡ valid_month y m) where
-  pub month_on : {first count : ℕ} {d : Date} → p ≡ true → first ≡ day_number y m 1 → count ≡ month_length (leap_year y) m → d ≡ days_from first count → Readable d ≡ read_month s
+  pub month_on : {first count : ℕ} {d : Date} → p ≡ true → first ≡ day_number y m 1 → count ≡ month_length (leap_year y) m → d ≡ days_from first count → Some d ≡ read_month s
   unfolding read_month month_date
-  month_on t a b g = rw (← e, ← i, ← f, t, ← a, ← b) (ap Readable g)
+  month_on t a b g = rw (← e, ← i, ← f, t, ← a, ← b) (ap Some g)
 
-  pub month_off : p ≡ false → DateReading.Unreadable ≡ read_month s
+  pub month_off : p ≡ false → None ≡ read_month s
   unfolding read_month
   month_off t = rw (← e, ← i, ← f, t)
 
 module _ (s : List ℕ) {y m d : ℕ} {p : Bool} (e : y ≡ four_at s 0) (i : m ≡ field_at s 4 hyphen) (j : d ≡ field_at s 7 hyphen) (f : p ≡ valid_day y m d) where
-  pub day_on : {first : ℕ} {x : Date} → p ≡ true → first ≡ day_number y m d → x ≡ days_from first 1 → Readable x ≡ read_day s
+  pub day_on : {first : ℕ} {x : Date} → p ≡ true → first ≡ day_number y m d → x ≡ days_from first 1 → Some x ≡ read_day s
   unfolding read_day day_date
-  day_on t a g = rw (← e, ← i, ← j, ← f, t, ← a) (ap Readable g)
+  day_on t a g = rw (← e, ← i, ← j, ← f, t, ← a) (ap Some g)
 
-  pub day_off : p ≡ false → DateReading.Unreadable ≡ read_day s
+  pub day_off : p ≡ false → None ≡ read_day s
   unfolding read_day
   day_off t = rw (← e, ← i, ← j, ← f, t)
 
-  pub local_day : (offset : ℤ) → p ≡ false → DateReading.Unreadable ≡ read_local s offset
+  pub local_day : (offset : ℤ) → p ≡ false → None ≡ read_local s offset
   unfolding read_local
   local_day offset t = rw (← e, ← i, ← j, ← f, t)
 
   module _ {hour minute second : ℕ} {q : Bool} (t : p ≡ true) (a : hour ≡ field_at s 10 letter_t) (b : minute ≡ field_at s 13 colon) (c : second ≡ field_at s 16 colon) (g : q ≡ valid_time hour minute second) where
-    pub local_time : (offset : ℤ) → q ≡ false → DateReading.Unreadable ≡ read_local s offset
+    pub local_time : (offset : ℤ) → q ≡ false → None ≡ read_local s offset
     unfolding read_local
     local_time offset u = rw (← e, ← i, ← j, ← f, t, ← a, ← b, ← c, ← g, u)
 
-    pub local_on : {first from : ℕ} {x : Date} {offset : ℤ} → q ≡ true → first ≡ day_number y m d → from ≡ second_of_day hour minute second → x ≡ second_from first from (to_z w64 (of_z w64 offset)) → SFits w64 offset → Readable x ≡ read_local s offset
+    pub local_on : {first from : ℕ} {x : Date} {offset : ℤ} → q ≡ true → first ≡ day_number y m d → from ≡ second_of_day hour minute second → x ≡ second_from first from (to_z w64 (of_z w64 offset)) → SFits w64 offset → Some x ≡ read_local s offset
     unfolding read_local second_date
     local_on {offset = offset} u k l h fits =
-        rw (← e, ← i, ← j, ← f, t, ← a, ← b, ← c, ← g, u, ← k, ← l, ← to_z-of_z w64 offset fits) (ap Readable h)
+        rw (← e, ← i, ← j, ← f, t, ← a, ← b, ← c, ← g, u, ← k, ← l, ← to_z-of_z w64 offset fits) (ap Some h)
 
 -- ---- a text
 
 module _ (s : List ℕ) where
-  pub read_year_lem : {r : DateReading} → length s ≡ 4 → r ≡ read_year s → r ≡ read s
+  pub read_year_lem : {r : Option Date} → length s ≡ 4 → r ≡ read_year s → r ≡ read s
   unfolding read
   read_year_lem h e = rw (eq-eqb _ _ h) e
 
   module _ (not4 : length s ≡ 4 → ⊥) where
-    pub read_month_lem : {r : DateReading} → length s ≡ 7 → r ≡ read_month s → r ≡ read s
+    pub read_month_lem : {r : Option Date} → length s ≡ 7 → r ≡ read_month s → r ≡ read s
     unfolding read
     read_month_lem h e = rw (ne_eqb _ _ not4, eq-eqb _ _ h) e
 
     module _ (not7 : length s ≡ 7 → ⊥) where
-      pub read_day_lem : {r : DateReading} → length s ≡ 10 → r ≡ read_day s → r ≡ read s
+      pub read_day_lem : {r : Option Date} → length s ≡ 10 → r ≡ read_day s → r ≡ read s
       unfolding read
       read_day_lem h e = rw (ne_eqb _ _ not4, ne_eqb _ _ not7, eq-eqb _ _ h) e
 
       module _ (not10 : length s ≡ 10 → ⊥) where
-        pub read_short : length s < 20 → DateReading.Unreadable ≡ read s
+        pub read_short : length s < 20 → None ≡ read s
         unfolding read
         read_short h = rw (ne_eqb _ _ not4, ne_eqb _ _ not7, ne_eqb _ _ not10, lt-ltb _ _ h)
 
-        module _ {zone : Zone} (h : 20 ≤ length s) (e : zone ≡ zone_at s 19) where
+        module _ {zone : Option ℤ} (h : 20 ≤ length s) (e : zone ≡ zone_at s 19) where
           pub read_long : zoned s zone ≡ read s
           unfolding read
           read_long = rw (ne_eqb _ _ not4, ne_eqb _ _ not7, ne_eqb _ _ not10, le-ltb _ _ h, ← e)
 
-          pub read-second : {r : DateReading} {z : ℤ} → zone ≡ Offset z → r ≡ read_local s (to_z w64 (of_z w64 z)) → r ≡ read s
+          pub read-second : {r : Option Date} {z : ℤ} → zone ≡ Some z → r ≡ read_local s (to_z w64 (of_z w64 z)) → r ≡ read s
           unfolding zoned
           read-second f g = g ∙ ap (read_local s) (zone_back s 19 e f) ∙ ap (zoned s) (sym f) ∙ read_long
 
-          pub read_no_zone : zone ≡ Zone.Unreadable → DateReading.Unreadable ≡ read s
+          pub read_no_zone : zone ≡ None → None ≡ read s
           unfolding zoned
           read_no_zone f = ap (zoned s) (sym f) ∙ read_long
-
-module _ (s : List ℕ) {r : DateReading} (e : r ≡ read s) where
-  pub readable-on : {d : Date} → r ≡ Readable d → true ≡ readable s
-  unfolding readable is_date
-  readable-on f = rw (← e, f)
-
-  pub readable_off : r ≡ DateReading.Unreadable → false ≡ readable s
-  unfolding readable is_date
-  readable_off f = rw (← e, f)

@@ -1,14 +1,11 @@
 -- What a text reads to, computed. `Spelling` says the same by the writers, and a theorem that the two agree.
 -- Assumes nothing.
-use Rattle.std.specs.Prelude.{ℕ, ◌+◌, ◌*◌, ◌-◌, Bool, true, false, cond, List, eqb, ltb, length, get_or, ℤ, pos, neg_ℤ}
+use Rattle.std.specs.Prelude.{ℕ, ◌+◌, ◌*◌, ◌-◌, Bool, cond, List, eqb, ltb, length, get_or, ℤ, pos, neg_ℤ, Option, Some, None, is_some}
 use Rattle.base.specs.Digits.{is_digit}
 use Rattle.date.specs.Fields.{valid_year, valid_month, valid_day, valid_time, valid_zone}
 use Rattle.date.specs.Spans.{year_date, month_date, day_date, second_date}
 use Rattle.date.specs.Marks.{hyphen, colon, plus, letter_t, letter_z}
-use Rattle.date.specs.declared.DateReading.{DateReading}
-use Rattle.date.specs.declared.DateReading.TheVariants.{Readable}
-use Rattle.date.specs.declared.reader.Zone.{Zone}
-use Rattle.date.specs.declared.reader.Zone.TheVariants.{Offset}
+use Rattle.date.specs.declared.Date.{Date}
 
 -- ---- fields
 
@@ -35,65 +32,60 @@ field_at s at mark = cond (eqb (get_or s at 0) mark) (two_at s (at + 1)) 100
 -- ---- the zone
 
 -- the signed offset of a sign, hours and minutes: + is east, - west
-unfoldable pub signed : ℕ → ℕ → ℕ → Zone
+unfoldable pub signed : ℕ → ℕ → ℕ → Option ℤ
 signed sign h m =
     cond (valid_zone h m)
-    (cond (eqb sign plus) (Offset (pos (h * 60 + m)))
-    (cond (eqb sign hyphen) (Offset (neg_ℤ (pos (h * 60 + m)))) Zone.Unreadable))
-    Zone.Unreadable
+    (cond (eqb sign plus) (Some (pos (h * 60 + m)))
+    (cond (eqb sign hyphen) (Some (neg_ℤ (pos (h * 60 + m)))) None))
+    None
 
 -- the zone from a position to the end: Z, or a sign and hh:mm
-unfoldable pub zone_at : List ℕ → ℕ → Zone
+unfoldable pub zone_at : List ℕ → ℕ → Option ℤ
 zone_at s at =
-    cond (eqb (length s) (at + 1)) (cond (eqb (get_or s at 0) letter_z) (Offset (pos 0)) Zone.Unreadable)
-    (cond (eqb (length s) (at + 6)) (signed (get_or s at 0) (two_at s (at + 1)) (field_at s (at + 3) colon)) Zone.Unreadable)
+    cond (eqb (length s) (at + 1)) (cond (eqb (get_or s at 0) letter_z) (Some (pos 0)) None)
+    (cond (eqb (length s) (at + 6)) (signed (get_or s at 0) (two_at s (at + 1)) (field_at s (at + 3) colon)) None)
 
 -- ---- the spellings
 
 -- YYYY
-unfoldable pub read_year : List ℕ → DateReading
-read_year s = cond (valid_year (four_at s 0)) (Readable (year_date (four_at s 0))) DateReading.Unreadable
+unfoldable pub read_year : List ℕ → Option Date
+read_year s = cond (valid_year (four_at s 0)) (Some (year_date (four_at s 0))) None
 
 -- YYYY-MM
-unfoldable pub read_month : List ℕ → DateReading
+unfoldable pub read_month : List ℕ → Option Date
 read_month s =
-    cond (valid_month (four_at s 0) (field_at s 4 hyphen)) (Readable (month_date (four_at s 0) (field_at s 4 hyphen))) DateReading.Unreadable
+    cond (valid_month (four_at s 0) (field_at s 4 hyphen)) (Some (month_date (four_at s 0) (field_at s 4 hyphen))) None
 
 -- YYYY-MM-DD
-unfoldable pub read_day : List ℕ → DateReading
+unfoldable pub read_day : List ℕ → Option Date
 read_day s =
     cond (valid_day (four_at s 0) (field_at s 4 hyphen) (field_at s 7 hyphen))
-    (Readable (day_date (four_at s 0) (field_at s 4 hyphen) (field_at s 7 hyphen)))
-    DateReading.Unreadable
+    (Some (day_date (four_at s 0) (field_at s 4 hyphen) (field_at s 7 hyphen)))
+    None
 
 -- YYYY-MM-DDThh:mm:ss, at a zone offset
-unfoldable pub read_local : List ℕ → ℤ → DateReading
+unfoldable pub read_local : List ℕ → ℤ → Option Date
 read_local s offset =
     cond (valid_day (four_at s 0) (field_at s 4 hyphen) (field_at s 7 hyphen))
     (cond (valid_time (field_at s 10 letter_t) (field_at s 13 colon) (field_at s 16 colon))
-    (Readable
+    (Some
     (second_date (four_at s 0) (field_at s 4 hyphen) (field_at s 7 hyphen) (field_at s 10 letter_t) (field_at s 13 colon) (field_at s 16 colon) offset))
-    DateReading.Unreadable)
-    DateReading.Unreadable
+    None)
+    None
 
 -- YYYY-MM-DDThh:mm:ss and its zone
-unfoldable pub zoned : List ℕ → Zone → DateReading
-zoned s (Offset offset) = read_local s offset
-zoned s Zone.Unreadable = DateReading.Unreadable
+unfoldable pub zoned : List ℕ → Option ℤ → Option Date
+zoned s (Some offset) = read_local s offset
+zoned s None = None
 
 -- a text, by its length
-unfoldable pub read : List ℕ → DateReading
+unfoldable pub read : List ℕ → Option Date
 read s =
     cond (eqb (length s) 4) (read_year s)
     (cond (eqb (length s) 7) (read_month s)
     (cond (eqb (length s) 10) (read_day s)
-    (cond (ltb (length s) 20) DateReading.Unreadable (zoned s (zone_at s 19)))))
-
--- the reading is a date
-unfoldable pub is_date : DateReading → Bool
-is_date (Readable d) = true
-is_date DateReading.Unreadable = false
+    (cond (ltb (length s) 20) None (zoned s (zone_at s 19)))))
 
 -- 01: readable
 unfoldable pub readable : List ℕ → Bool
-readable s = is_date (read s)
+readable s = is_some (read s)

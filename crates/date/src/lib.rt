@@ -14,10 +14,3 @@ pub struct Date {
     pub start: i64,
     pub end: i64,
 }
-
-// What a text reads to: a date, where it is readable as one.
-#[derive(Clone, Copy)]
-pub enum DateReading {
-    Readable(Date),
-    Unreadable,
-}

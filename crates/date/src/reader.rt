@@ -4,14 +4,7 @@ ghost use Rattle.std.specs.Prelude.{◌≡◌, ◌+◌, ◌≤◌, length};
 ghost use Rattle.date.specs.Fields.{ValidOffset};
 ghost use Rattle.date.specs.Texts.{digit_of, pair, two_at, four_at, field_at, signed, zone_at, read_year, read_month, read_day, read_local, read, readable};
 
-use crate::{DateReading, days, seconds};
-
-// What the end of a text reads to: the zone's offset in minutes, negative west of UTC.
-#[derive(Clone, Copy)]
-enum Zone {
-    Offset(i64),
-    Unreadable,
-}
+use crate::{Date, days, seconds};
 
 // The number that a digit writes; 10 where the byte is no digit.
 fn digit_of(b: u8) -> u64
@@ -64,9 +57,9 @@ fn field_at(s: &[u8], at: usize, mark: u8) -> u64
     100
 }
 
-// The offset of "a zone of +hh:mm or -hh:mm, at most 14:00 either way, minutes 00 to 59". Its sign is made here, and
-// nowhere else.
-fn signed(sign: u8, h: u64, m: u64) -> Zone
+// The offset in minutes, negative west of UTC, of "a zone of +hh:mm or -hh:mm, at most 14:00 either way, minutes 00 to
+// 59". Its sign is made here, and nowhere else.
+fn signed(sign: u8, h: u64, m: u64) -> Option<i64>
     requires { (h ≤ 100) × (m ≤ 100) }
     ensures { result ≡ signed sign h m }
 {
@@ -74,66 +67,60 @@ fn signed(sign: u8, h: u64, m: u64) -> Zone
         let minutes = h * 60 + m;
         if minutes <= 840 {
             if sign == b'+' {
-                return Zone::Offset(minutes as i64);
+                return Some(minutes as i64);
             }
             if sign == b'-' {
-                return Zone::Offset(-(minutes as i64));
+                return Some(-(minutes as i64));
             }
         }
     }
-    Zone::Unreadable
+    None
 }
 
-// The zone from a position to the end of the text: "Z or a zone".
-fn zone_at(s: &[u8], at: usize) -> Zone
+// The offset of the zone from a position to the end of the text: "Z or a zone".
+fn zone_at(s: &[u8], at: usize) -> Option<i64>
     requires { at + 1 ≤ length s.now }
     ensures { result ≡ zone_at s.now at }
 {
     if s.len() == at + 1 {
         if s[at] == b'Z' {
-            return Zone::Offset(0);
+            return Some(0);
         }
-        return Zone::Unreadable;
+        return None;
     }
     if s.len() == at + 6 {
         return signed(s[at], two_at(s, at + 1), field_at(s, at + 3, b':'));
     }
-    Zone::Unreadable
+    None
 }
 
 // YYYY: the year.
-fn read_year(s: &[u8]) -> DateReading
+fn read_year(s: &[u8]) -> Option<Date>
     requires { 4 ≤ length s.now }
     ensures { result ≡ read_year s.now }
 {
     let y = four_at(s, 0);
     if days::valid_year(y) {
-        return DateReading::Readable(seconds::days_from(
-            days::day_number(y, 1, 1),
-            days::year_length(y),
-        ));
+        return Some(seconds::days_from(days::day_number(y, 1, 1), days::year_length(y)));
     }
-    DateReading::Unreadable
+    None
 }
 
 // YYYY-MM: the month.
-fn read_month(s: &[u8]) -> DateReading
+fn read_month(s: &[u8]) -> Option<Date>
     requires { 7 ≤ length s.now }
     ensures { result ≡ read_month s.now }
 {
     let y = four_at(s, 0);
     let m = field_at(s, 4, b'-');
     if days::valid_month(y, m) {
-        return DateReading::Readable(seconds::days_from(
-            days::day_number(y, m, 1),
-            days::month_length(y, m),
-        ));
+        return Some(seconds::days_from(days::day_number(y, m, 1), days::month_length(y, m)));
     }
-    DateReading::Unreadable
+    None
 }
 
 // YYYY-MM-DD: the day.
-fn read_day(s: &[u8]) -> DateReading
+fn read_day(s: &[u8]) -> Option<Date>
     requires { 10 ≤ length s.now }
     ensures { result ≡ read_day s.now }
 {
@@ -141,13 +128,13 @@ fn read_day(s: &[u8]) -> DateReading
     let m = field_at(s, 4, b'-');
     let d = field_at(s, 7, b'-');
     if days::valid_day(y, m, d) {
-        return DateReading::Readable(seconds::days_from(days::day_number(y, m, d), 1));
+        return Some(seconds::days_from(days::day_number(y, m, d), 1));
     }
-    DateReading::Unreadable
+    None
 }
 
 // YYYY-MM-DDThh:mm:ss: the second, at a zone offset.
-fn read_local(s: &[u8], offset: i64) -> DateReading
+fn read_local(s: &[u8], offset: i64) -> Option<Date>
     requires in_bounds { 19 ≤ length s.now }
     requires valid_offset { ValidOffset offset }
     ensures { result ≡ read_local s.now offset }
@@ -160,18 +147,18 @@ fn read_local(s: &[u8], offset: i64) -> DateReading
         let minute = field_at(s, 13, b':');
         let second = field_at(s, 16, b':');
         if days::valid_time(hour, minute, second) {
-            return DateReading::Readable(seconds::second_from(
+            return Some(seconds::second_from(
                 days::day_number(y, m, d),
                 seconds::second_of_day(hour, minute, second),
                 offset,
             ));
         }
     }
-    DateReading::Unreadable
+    None
 }
 
 // What a text reads to: "YYYY, YYYY-MM, YYYY-MM-DD, or YYYY-MM-DDThh:mm:ss with Z or a zone".
-pub fn read(s: &[u8]) -> DateReading
+pub fn read(s: &[u8]) -> Option<Date>
     ensures { result ≡ read s.now }
 {
     if s.len() == 4 {
@@ -184,20 +171,16 @@ pub fn read(s: &[u8]) -> DateReading
         return read_day(s);
     }
     if s.len() < 20 {
-        return DateReading::Unreadable;
+        return None;
     }
-    match zone_at(s, 19) {
-        Zone::Offset(offset) => read_local(s, offset),
-        Zone::Unreadable => DateReading::Unreadable,
-    }
+    let offset = zone_at(s, 19)?;
+    read_local(s, offset)
 }
 
 // Whether a text reads to a date.
+#[tactic(auto, unfolding(crate::specs::Texts::readable))]
 pub fn readable(s: &[u8]) -> bool
     ensures { result ≡ readable s.now }
 {
-    match read(s) {
-        DateReading::Readable(_) => true,
-        DateReading::Unreadable => false,
-    }
+    read(s).is_some()
 }

@@ -61,7 +61,7 @@ abbrev left : Row → List ℕ
 left r = explain_cells trial_sheet r.filter trial_card lent
 
 computed : (map answered explain_rows ≡ map (λ (r : Row). r.gives) explain_rows) × (map left explain_rows ≡ map (λ (r : Row). r.leaves) explain_rows)
-unfolding trial_sheet trial_card accept_card accept_inputs machine.failure machine.failure_from machine.step machine.begins_operator machine.is_operator machine.some_word tests_step accept_filter accept_sheet filter_says fold_tree test_says says_of is_empty some_value first_fault test_fault kind_fault unsupported conforms entry_conforms values_at lookup relates_to dates_relate numbers_relate strings_relate kind.value_readable kind.is_true kind.filter_readable kind.card_readable table.has_meaning table.meaning_of table.row_meaning table.relation_in table.row table.token_row table.date_row table.number_row table.string_row read filter_at item_at filter_of chain_of close_at connective_at head_at choice_at member_after member_at open_at test_at test_operator test_value operator_at find_operator follows value_at string_at string_from step_of is_bare tests_of read_card entries_of entry_count find find_from read_sheet sheet_layout are_right have_parents has_parent kind_at distinct absent clashes are_parameters is_parameter is_kind parameters_of parameter_count reading items has_either has_layout laid_out text_at mark_at next length_at has_marks zeros block.check check_sum sum_from token.matches token.meets token.asks system_of namespace_of stands_for forms.filter_readable forms.filter_form forms.split_form tokens.card_readable tokens.card_token tokens.split_token tokens.token_of split dates.readable dates.is_date dates.read dates.read_year dates.read_month dates.field_at dates.four_at dates.two_at dates.pair dates.digit_of spans.month_date spans.year_date spans.days_from spans.date_of spans.instant spans.epoch calendar.day_number calendar.days_of_years calendar.days_before_month calendar.month_length calendar.year_length calendar.leap_year fields.valid_month billionths.inside billionths.billionths billionths.unit number.greater number.at_least number.covers number.half_unit number.exact_value number.plus number.is_at_most number.is_less numbers.readable numbers.read numbers.read_fraction numbers.value_from texts.same texts.contains fold_text fold_byte run_end run operator_words is_name is_reserved is_name_part is_name_start is_letter between is_digit has_infix has_prefix member equal every of_occurrence keep enter kind.is_false table.reference_row table.kinds table.of_kind fold_from is_capital is_accented decode unescaped is_escape texts.starts texts.ends has_suffix number.less number.at_most explain_rows explain_answer explain_cells explaining accept_marks explanation deciding spare_below suffices mark_by outer_tests outer_count says_by cells
+unfolding trial_sheet trial_card accept_card accept_inputs machine.failure machine.failure_from machine.step machine.begins_operator machine.is_operator machine.some_word tests_step accept_filter accept_sheet filter_says fold_tree test_says says_of is_empty some_value first_fault test_fault kind_fault unsupported conforms entry_conforms values_at lookup relates_to dates_relate numbers_relate strings_relate kind.value_readable kind.is_true kind.filter_readable kind.card_readable table.has_meaning table.meaning_of table.row_meaning table.relation_in table.row table.token_row table.date_row table.number_row table.string_row read filter_at item_at filter_of chain_of close_at connective_at head_at choice_at member_after member_at open_at test_at test_operator test_value operator_at find_operator follows value_at string_at string_from step_of is_bare tests_of read_card entries_of entry_count find find_from read_sheet sheet_layout are_right have_parents has_parent kind_at distinct absent clashes are_parameters is_parameter is_kind parameters_of parameter_count reading items has_either has_layout laid_out text_at mark_at next length_at has_marks zeros block.check check_sum sum_from token.matches token.meets token.asks system_of namespace_of stands_for forms.filter_readable forms.filter_form forms.split_form tokens.card_readable tokens.card_token tokens.split_token tokens.token_of split dates.readable dates.read dates.read_year dates.read_month dates.field_at dates.four_at dates.two_at dates.pair dates.digit_of spans.month_date spans.year_date spans.days_from spans.date_of spans.instant spans.epoch calendar.day_number calendar.days_of_years calendar.days_before_month calendar.month_length calendar.year_length calendar.leap_year fields.valid_month billionths.inside billionths.billionths billionths.unit number.greater number.at_least number.covers number.half_unit number.exact_value number.plus number.is_at_most number.is_less numbers.readable numbers.read numbers.read_fraction numbers.value_from texts.same texts.contains fold_text fold_byte run_end run operator_words is_name is_reserved is_name_part is_name_start is_letter between is_digit has_infix has_prefix member equal every of_occurrence keep enter kind.is_false table.reference_row table.kinds table.of_kind fold_from is_capital is_accented decode unescaped is_escape texts.starts texts.ends has_suffix number.less number.at_most explain_rows explain_answer explain_cells explaining accept_marks explanation deciding spare_below suffices mark_by outer_tests outer_count says_by cells
 computed = (refl, refl)
 
 pub answered_rows : All (λ (r : Row). explain_answer trial_sheet r.filter trial_card (length lent) ≡ r.gives) explain_rows

@@ -88,7 +88,7 @@ relation_card_reads =
 
 conforming : (conforms trial_parameters trial_entries ≡ true) × (conforms trial_parameters date_entries ≡ true)
     × (conforms bundle_parameters bundle_entries ≡ true) × (conforms bundle_parameters relation_entries ≡ true)
-unfolding trial_parameters trial_entries date_entries bundle_parameters bundle_entries relation_entries conforms entry_conforms kind_at card_readable kinds of_kind numbers.readable numbers.read run is_digit dates.readable dates.is_date dates.read dates.read_year dates.four_at dates.two_at dates.pair dates.digit_of between tokens.card_readable tokens.card_token tokens.split_token tokens.token_of split dates.read_month date-fields.valid_month dates.field_at numbers.read_fraction
+unfolding trial_parameters trial_entries date_entries bundle_parameters bundle_entries relation_entries conforms entry_conforms kind_at card_readable kinds of_kind numbers.readable numbers.read run is_digit dates.readable dates.read dates.read_year dates.four_at dates.two_at dates.pair dates.digit_of between tokens.card_readable tokens.card_token tokens.split_token tokens.token_of split dates.read_month date-fields.valid_month dates.field_at numbers.read_fraction
 conforming = (refl, refl, refl, refl)
 
 -- ---- the texts under the names

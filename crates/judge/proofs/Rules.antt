@@ -5,6 +5,7 @@
 -- value of pr is true or false. The computed verdict does not test that: it takes every value that is not true for false. `PrSpelled` holds
 -- of a test that does not lack a meaning (`pr_spelled`).
 -- Assumes nothing.
+use Rattle.std.specs.Prelude.{Option, Some, None}
 use Prim.Native.Nat.{ℕ, zero, suc, ◌+◌, ◌≤◌}
 use native.Mathlib.Omega.{arith}
 use mathlib.Core.Path.{◌≡◌, refl, ap, sym, ◌∙◌, subst}
@@ -20,7 +21,6 @@ use Rattle.base.proofs.Tests.{or_either, or_left, or_right, decided, both_ways, 
 use Rattle.text.specs.Fold.{fold_text}
 use Rattle.kind.specs.Readable.{card_readable, is_true, is_false}
 use Rattle.kind.specs.Rules.{ReadableOnCard, TrueOrFalse, spells_true, spells_false}
-use mathlib.Core.Option.{Option, none, some}
 use Rattle.base.specs.Lists.{Listed, All, all_empty, all_cons, every}
 use Rattle.base.proofs.Lists.{every-member}
 use Rattle.base.proofs.All.{all_head, all_right, all_left}
@@ -173,8 +173,8 @@ module _ (ps : List Parameter) where
 -- what an operator means for a kind, by the kind's row
 pub data MeansFor (operator kind : ℕ) : Meaning → Type 0 where
   means_present : operator ≡ pr → MeansFor operator kind Meaning.Present
-  means_relation : {r : Relation} → relation_in (row kind) operator ≡ some r → MeansFor operator kind (Meaning.Relates r)
-  means_other : {r : Relation} → operator ≡ ne → relation_in (row kind) eq ≡ some r → MeansFor operator kind (Meaning.Differs r)
+  means_relation : {r : Relation} → relation_in (row kind) operator ≡ Some r → MeansFor operator kind (Meaning.Relates r)
+  means_other : {r : Relation} → operator ≡ ne → relation_in (row kind) eq ≡ Some r → MeansFor operator kind (Meaning.Differs r)
   means_nothing : MeansFor operator kind Meaning.Nothing
 
 -- ---- some text of a set
@@ -198,12 +198,12 @@ empty_iff (x ∷ xs) = ((λ h. absurd (false≢true h)), (λ e. absurd (cons≢n
 -- ---- what an operator means for a kind, by the kind's row
 
 meaning_relation : (op kind : ℕ) (o : Option Relation) → relation_in (row kind) op ≡ o → MeansFor op kind (meaning_by Meaning.Relates o)
-meaning_relation op kind (some r) e = means_relation e
-meaning_relation op kind none e = means_nothing
+meaning_relation op kind (Some r) e = means_relation e
+meaning_relation op kind None e = means_nothing
 
 meaning_other : (op kind : ℕ) → op ≡ ne → (o : Option Relation) → relation_in (row kind) eq ≡ o → MeansFor op kind (meaning_by Meaning.Differs o)
-meaning_other op kind n (some r) e = means_other n e
-meaning_other op kind n none e = means_nothing
+meaning_other op kind n (Some r) e = means_other n e
+meaning_other op kind n None e = means_nothing
 
 means_for : (op kind : ℕ) → MeansFor op kind (meaning_of op kind)
 unfolding meaning_of row_meaning
@@ -213,11 +213,11 @@ means_for op kind =
     (λ e. meaning_other op kind (eqb-true op ne e) (relation_in (row kind) eq) refl)
     (λ _. meaning_relation op kind (relation_in (row kind) op) refl))
 
-none_not_some : {A : Type 0} {x : A} {o : Option A} {X : Type 0} → o ≡ none → o ≡ some x → X
+none_not_some : {A : Type 0} {x : A} {o : Option A} {X : Type 0} → o ≡ None → o ≡ Some x → X
 none_not_some {X = X} p q = absurd (let z : ◌≡◌ {A = ℕ} 0 1 = cc in omega arith)
 
 -- the relation that the row gives an operator is what it means
-relation_means : (op kind : ℕ) (r : Relation) → relation_in (row kind) op ≡ some r → meaning_of op kind ≡ Meaning.Relates r
+relation_means : (op kind : ℕ) (r : Relation) → relation_in (row kind) op ≡ Some r → meaning_of op kind ≡ Meaning.Relates r
 unfolding meaning_of row_meaning
 relation_means op kind r e =
     let not-pr : op ≡ pr → ⊥ = λ h. none_not_some (ap (relation_in (row kind)) h ∙ pr_not_in_row kind) e in
@@ -228,7 +228,7 @@ present : (kind : ℕ) → meaning_of pr kind ≡ Meaning.Present
 unfolding meaning_of
 present kind = refl
 
-other_means : (kind : ℕ) (r : Relation) → relation_in (row kind) eq ≡ some r → meaning_of ne kind ≡ Meaning.Differs r
+other_means : (kind : ℕ) (r : Relation) → relation_in (row kind) eq ≡ Some r → meaning_of ne kind ≡ Meaning.Differs r
 unfolding meaning_of row_meaning
 other_means kind r e = rw e
 

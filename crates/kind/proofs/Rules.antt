@@ -5,6 +5,7 @@
 -- the lower crates, which ask that a number keeps to its bounds, that a period has an instant, and that a date's start is an instant of the
 -- date; what was read from a text is so (`relates_there`, `relates_back`).
 -- Assumes nothing.
+use Rattle.std.specs.Prelude.{Option, Some, None, is_some}
 use Prim.Native.Nat.{ℕ}
 use mathlib.Core.Path.{◌≡◌, refl, ap, sym, ◌∙◌, subst}
 use mathlib.Core.Bool.{Bool, true, false, not, ◌&&◌, ◌||◌, false≢true}
@@ -24,8 +25,6 @@ use Rattle.text.specs.Compare.{same}
 use Rattle.text.proofs.Readings.{same_iff, starts_iff, ends_iff, contains_iff}
 use Rattle.kind.specs.Readable.{card_readable, filter_readable, is_true, is_false, value_readable}
 use Rattle.kind.specs.Rules.{readable_string, readable_number, readable_date, readable_token, readable_reference, readable_period, ReadableOnCard, ReadableInFilter, TrueOrFalse, spells_true, spells_false, ReadableValue, value_of_pr, value_of_kind, HasDates, dates_of_date, dates_of_period, Row, string_eq, string_co, string_sw, string_ew, number_eq, number_gt, number_lt, number_ge, number_le, number_co, date_eq, date_gt, date_lt, date_ge, date_le, date_sa, date_eb, date_po, date_co, token_eq, reference_re, HasOperator, operator_of_row, operator_pr, operator_ne, RelatesTo, string_same, string_contains, string_starts, string_ends, NumbersRelate, number_inside, number_greater, number_less, number_at_least, number_at_most, number_covers, DatesRelate, date_inside, date_later, date_earlier, date_later_or_inside, date_earlier_or_inside, date_starts_after, date_ends_before, date_overlaps, date_covers, numbers-relate, dates-relate, tokens_relate, references_same}
-use mathlib.Core.Option.{Option, none, some, some-injective, none-ne-some}
-use Rattle.base.specs.Options.{is_some}
 use Rattle.kind.specs.Table.{RowEntry, string_row, number_row, date_row, token_row, reference_row, Kind, kinds, of_kind, row, relation_in, meaning_by, row_meaning, meaning_of, is_meaning, has_meaning}
 use Rattle.kind.specs.declared.Meaning.{Meaning}
 use Rattle.kind.specs.declared.Relation.{Relation}
@@ -48,12 +47,10 @@ use Rattle.period.specs.Instants.{Inhabited, Held, SomeAfter, SomeBefore}
 use Rattle.period.specs.Relations.{inside, later, earlier, later_or_inside, earlier_or_inside}
 use Rattle.period.specs.Texts as periods
 use Rattle.period.specs.declared.Period.{Period}
-use Rattle.period.specs.declared.PeriodReading.{PeriodReading}
 use Rattle.period.proofs.Relations as relations
 use Rattle.period.proofs.Spelling as period-spelling
 use Rattle.token.proofs.Readings as token-spelling
-use Rattle.number.specs.declared.NumberReading.{NumberReading}
-use Rattle.date.specs.declared.DateReading.{DateReading}
+use Rattle.std.proofs.lemmas.Option.{same_Some, none-some}
 
 -- ---- by kind
 
@@ -178,14 +175,14 @@ unfolding row
 by_row p = by_column [] (λ (x : Kind). x.operators) p
 
 -- an operator that a row has stands in the table, where each of the row does
-in_row : (n : ℕ) (us : List RowEntry) → All (λ (u : RowEntry). Row n u.operator u.relation) us → (k : ℕ) (r : Relation) → relation_in us k ≡ some r → Row n k r
+in_row : (n : ℕ) (us : List RowEntry) → All (λ (u : RowEntry). Row n u.operator u.relation) us → (k : ℕ) (r : Relation) → relation_in us k ≡ Some r → Row n k r
 unfolding relation_in
-in_row n [] all_empty k r e = absurd (none-ne-some r e)
+in_row n [] all_empty k r e = absurd (none-some r e)
 in_row n (u ∷ us) (all_cons h all) k r e =
     ⊎_elim
-    (λ c. let same : u.relation ≡ r = some-injective u.relation r c.1 in subst (Row n k) same (subst (λ (o : ℕ). Row n o u.relation) (sym (eqb-true k u.operator c.0)) h))
+    (λ c. let same : u.relation ≡ r = same_Some u.relation r c.1 in subst (Row n k) same (subst (λ (o : ℕ). Row n o u.relation) (sym (eqb-true k u.operator c.0)) h))
     (λ c. in_row n us all k r c.1)
-    (cond_either (eqb k u.operator) (some u.relation) (relation_in us k) e)
+    (cond_either (eqb k u.operator) (Some u.relation) (relation_in us k) e)
 
 -- the row of dates, for either kind that has it
 dates_in_row : {n : ℕ} → HasDates n → All (λ (u : RowEntry). Row n u.operator u.relation) date_row
@@ -199,10 +196,10 @@ unfolding row of_kind kinds
 dates_row dates_of_date = refl
 dates_row dates_of_period = refl
 
-row_there : (kind k : ℕ) (r : Relation) → relation_in (row kind) k ≡ some r → Row kind k r
+row_there : (kind k : ℕ) (r : Relation) → relation_in (row kind) k ≡ Some r → Row kind k r
 unfolding row kinds string_row number_row token_row reference_row
 row_there kind k r =
-    by_kind (λ n us. relation_in us k ≡ some r → Row n k r) [] (λ x. x.operators) (λ n. in_row n [] all_empty k r) kinds
+    by_kind (λ n us. relation_in us k ≡ Some r → Row n k r) [] (λ x. x.operators) (λ n. in_row n [] all_empty k r) kinds
     (all_cons (in_row string string_row (all_cons string_eq (all_cons string_co (all_cons string_sw (all_cons string_ew all_empty)))) k r)
     (all_cons (in_row number number_row (all_cons number_eq (all_cons number_gt (all_cons number_lt (all_cons number_ge (all_cons number_le (all_cons number_co all_empty)))))) k r)
     (all_cons (in_row date date_row (dates_in_row dates_of_date) k r)
@@ -211,7 +208,7 @@ row_there kind k r =
     (all_cons (in_row period date_row (dates_in_row dates_of_period) k r) all_empty))))))
     kind
 
-row_back : {kind k : ℕ} {r : Relation} → Row kind k r → relation_in (row kind) k ≡ some r
+row_back : {kind k : ℕ} {r : Relation} → Row kind k r → relation_in (row kind) k ≡ Some r
 unfolding relation_in row of_kind kinds string_row number_row date_row token_row reference_row
 row_back string_eq = refl
 row_back string_co = refl
@@ -236,32 +233,32 @@ row_back token_eq = refl
 row_back reference_re = refl
 
 -- the relation that a row gives an operator is that of the table
-pub row_iff : (kind k : ℕ) (r : Relation) → (relation_in (row kind) k ≡ some r) ↔ Row kind k r
+pub row_iff : (kind k : ℕ) (r : Relation) → (relation_in (row kind) k ≡ Some r) ↔ Row kind k r
 row_iff kind k r = (row_there kind k r, row_back)
 
 -- ---- operators
 
 meaning_by_some : (how : Relation → Meaning) → ((r : Relation) → is_meaning (how r) ≡ true) → (o : Option Relation) → is_meaning (meaning_by how o) ≡ is_some o
-meaning_by_some how h (some r) = h r
-meaning_by_some how h none = refl
+meaning_by_some how h (Some r) = h r
+meaning_by_some how h None = refl
 
 -- no row has ne or pr of its own
-absent : (o : Option Relation) → not (is_some o) ≡ true → o ≡ none
-absent none h = refl
-absent (some r) h = absurd (false≢true h)
+absent : (o : Option Relation) → not (is_some o) ≡ true → o ≡ None
+absent None h = refl
+absent (Some r) h = absurd (false≢true h)
 
-pub ne_not_in_row : (kind : ℕ) → relation_in (row kind) ne ≡ none
+pub ne_not_in_row : (kind : ℕ) → relation_in (row kind) ne ≡ None
 unfolding each_row kinds relation_in string_row number_row date_row token_row reference_row
 ne_not_in_row kind = absent (relation_in (row kind) ne) (by_row (λ us. not (is_some (relation_in us ne))) refl refl kind)
 
-pub pr_not_in_row : (kind : ℕ) → relation_in (row kind) pr ≡ none
+pub pr_not_in_row : (kind : ℕ) → relation_in (row kind) pr ≡ None
 unfolding each_row kinds relation_in string_row number_row date_row token_row reference_row
 pr_not_in_row kind = absent (relation_in (row kind) pr) (by_row (λ us. not (is_some (relation_in us pr))) refl refl kind)
 
 -- what is some relation is one
-some_is : (o : Option Relation) → is_some o ≡ true → (r : Relation) × (o ≡ some r)
-some_is (some r) h = (r, refl)
-some_is none h = absurd (false≢true h)
+some_is : (o : Option Relation) → is_some o ≡ true → (r : Relation) × (o ≡ Some r)
+some_is (Some r) h = (r, refl)
+some_is None h = absurd (false≢true h)
 
 module _ (kind : ℕ) where
   -- a relation that a row gives an operator
@@ -286,7 +283,7 @@ module _ (kind : ℕ) where
   operator-back (operator_of_row {k = k} {r = r} w) =
       cond-elim (λ (m : Meaning). is_meaning m ≡ true) (eqb k pr) (λ _. refl)
       (λ _. cond-elim (λ (m : Meaning). is_meaning m ≡ true) (eqb k ne)
-      (λ e. absurd (none-ne-some r (sym (ne_not_in_row kind) ∙ ap (relation_in (row kind)) (sym (eqb-true k ne e)) ∙ row_back w)))
+      (λ e. absurd (none-some r (sym (ne_not_in_row kind) ∙ ap (relation_in (row kind)) (sym (eqb-true k ne e)) ∙ row_back w)))
       (λ _. rw (row_back w)))
 
   pub operator_iff : (k : ℕ) → (has_meaning k kind ≡ true) ↔ HasOperator kind k
@@ -363,19 +360,19 @@ module _ (i : Period) (has : Inhabited i) (f : Date) (first : InRange f f.start)
 
 -- ---- a relation of two texts
 
-numbers_there : (r : NumberRelation) (x v : List ℕ) (a b : NumberReading) → numbers.read x ≡ a → numbers.read v ≡ b → number_readings_relate r a b ≡ true → RelatesTo (Relation.Numbers r) x v
-numbers_there r x v (NumberReading.Number i) (NumberReading.Number f) d e h =
+numbers_there : (r : NumberRelation) (x v : List ℕ) (a b : Option Decimal) → numbers.read x ≡ a → numbers.read v ≡ b → number_readings_relate r a b ≡ true → RelatesTo (Relation.Numbers r) x v
+numbers_there r x v (Some i) (Some f) d e h =
     numbers-relate ((number-spelling.read_iff x i).0 d) ((number-spelling.read_iff v f).0 e)
     (number_there i f (number-spelling.read_bounded x i d) (number-spelling.read_bounded v f e) r h)
-numbers_there r x v (NumberReading.Number i) NumberReading.Unreadable d e h = absurd (false≢true h)
-numbers_there r x v NumberReading.Unreadable b d e h = absurd (false≢true h)
+numbers_there r x v (Some i) None d e h = absurd (false≢true h)
+numbers_there r x v None b d e h = absurd (false≢true h)
 
-dates_there : (r : DateRelation) (x v : List ℕ) (a : PeriodReading) (b : DateReading) → periods.read_span x ≡ a → dates.read v ≡ b → date_readings_relate r a b ≡ true → RelatesTo (Relation.Dates r) x v
-dates_there r x v (PeriodReading.Readable i) (DateReading.Readable f) d e h =
+dates_there : (r : DateRelation) (x v : List ℕ) (a : Option Period) (b : Option Date) → periods.read_span x ≡ a → dates.read v ≡ b → date_readings_relate r a b ≡ true → RelatesTo (Relation.Dates r) x v
+dates_there r x v (Some i) (Some f) d e h =
     let s = (period-spelling.span_iff x i).0 d in
     dates-relate s ((date-spelling.read_iff v f).0 e) (date_there i (period-spelling.span_inhabited s) f (read_first v e) r h)
-dates_there r x v (PeriodReading.Readable i) DateReading.Unreadable d e h = absurd (false≢true h)
-dates_there r x v PeriodReading.Unreadable b d e h = absurd (false≢true h)
+dates_there r x v (Some i) None d e h = absurd (false≢true h)
+dates_there r x v None b d e h = absurd (false≢true h)
 
 module _ (x v : List ℕ) where
   relates_there : (r : Relation) → relates_to r x v ≡ true → RelatesTo r x v
@@ -396,12 +393,12 @@ relates_back (string_contains {x = x} {v = v} p q e) = (contains_iff x v).1 (p, 
 relates_back (string_starts {x = x} {v = v} q e) = (starts_iff x v).1 (q, e)
 relates_back (string_ends {x = x} {v = v} p e) = (ends_iff x v).1 (p, e)
 relates_back (numbers-relate {x = x} {v = v} {i = i} {f = f} a b h) =
-    let d : numbers.read x ≡ NumberReading.Number i = (number-spelling.read_iff x i).1 a in
-    let e : numbers.read v ≡ NumberReading.Number f = (number-spelling.read_iff v f).1 b in
+    let d : numbers.read x ≡ Some i = (number-spelling.read_iff x i).1 a in
+    let e : numbers.read v ≡ Some f = (number-spelling.read_iff v f).1 b in
     rw (d, e) (number-back i f (number-spelling.read_bounded x i d) (number-spelling.read_bounded v f e) h)
 relates_back (dates-relate {x = x} {v = v} {i = i} {f = f} a b h) =
-    let d : periods.read_span x ≡ PeriodReading.Readable i = (period-spelling.span_iff x i).1 a in
-    let e : dates.read v ≡ DateReading.Readable f = (date-spelling.read_iff v f).1 b in
+    let d : periods.read_span x ≡ Some i = (period-spelling.span_iff x i).1 a in
+    let e : dates.read v ≡ Some f = (date-spelling.read_iff v f).1 b in
     rw (d, e) (date-back i (period-spelling.span_inhabited a) f (read_first v e) h)
 relates_back (tokens_relate {x = x} {v = v} {i = i} {f = f} a b h) = (matches_iff x v).1 (i, f, a, b, h)
 relates_back (references_same {x = x} {v = v} e) = (same_iff x v).1 e

@@ -1,19 +1,16 @@
 -- Whether a card's text stands in a relation to a filter's value. Texts that are not readable stand in none.
 -- Assumes nothing.
-use Rattle.std.specs.Prelude.{ℕ, ◌≡◌, Bool, false, List}
+use Rattle.std.specs.Prelude.{ℕ, ◌≡◌, Bool, false, List, Option, Some, None}
 use Rattle.text.specs.Compare as texts
 use Rattle.number.specs.Value as number
 use Rattle.number.specs.Billionths as billionths
 use Rattle.number.specs.Reading as numbers
 use Rattle.number.specs.declared.Decimal.{Decimal}
-use Rattle.number.specs.declared.NumberReading.{NumberReading}
 use Rattle.date.specs.Texts as dates
 use Rattle.date.specs.declared.Date.{Date}
-use Rattle.date.specs.declared.DateReading.{DateReading}
 use Rattle.period.specs.Relations as period
 use Rattle.period.specs.Texts as periods
 use Rattle.period.specs.declared.Period.{Period}
-use Rattle.period.specs.declared.PeriodReading.{PeriodReading}
 use Rattle.token.specs.Match as tokens
 use Rattle.kind.specs.declared.StringRelation.{StringRelation}
 use Rattle.kind.specs.declared.NumberRelation.{NumberRelation}
@@ -37,10 +34,10 @@ numbers_relate NumberRelation.AtLeast i f = number.at_least i f
 numbers_relate NumberRelation.AtMost i f = number.at_most i f
 numbers_relate NumberRelation.Covers i f = number.covers i f
 
-abbrev pub number_readings_relate : NumberRelation → NumberReading → NumberReading → Bool
-number_readings_relate r (NumberReading.Number i) (NumberReading.Number f) = numbers_relate r i f
-number_readings_relate r (NumberReading.Number i) NumberReading.Unreadable = false
-number_readings_relate r NumberReading.Unreadable f = false
+abbrev pub number_readings_relate : NumberRelation → Option Decimal → Option Decimal → Bool
+number_readings_relate r (Some i) (Some f) = numbers_relate r i f
+number_readings_relate r (Some i) None = false
+number_readings_relate r None f = false
 
 -- i is the card's period, f the filter's date
 unfoldable pub dates_relate : DateRelation → Period → Date → Bool
@@ -54,10 +51,10 @@ dates_relate DateRelation.EndsBefore i f = period.ends_before i f
 dates_relate DateRelation.Overlaps i f = period.overlaps i f
 dates_relate DateRelation.Covers i f = period.covers i f
 
-abbrev pub date_readings_relate : DateRelation → PeriodReading → DateReading → Bool
-date_readings_relate r (PeriodReading.Readable i) (DateReading.Readable f) = dates_relate r i f
-date_readings_relate r (PeriodReading.Readable i) DateReading.Unreadable = false
-date_readings_relate r PeriodReading.Unreadable f = false
+abbrev pub date_readings_relate : DateRelation → Option Period → Option Date → Bool
+date_readings_relate r (Some i) (Some f) = dates_relate r i f
+date_readings_relate r (Some i) None = false
+date_readings_relate r None f = false
 
 -- i is the card's text, f the filter's value; a card's date and period are both spans
 unfoldable pub relates_to : Relation → List ℕ → List ℕ → Bool
@@ -70,18 +67,18 @@ relates_to Relation.References i f = texts.same i f
 -- ---- a value that is read once for many texts
 
 -- a number that was read keeps to its bounds
-pub record Kept (n : NumberReading) : Type 0 where
-  pub bounded : (d : Decimal) → n ≡ NumberReading.Number d → number.Bounded d
+pub record Kept (n : Option Decimal) : Type 0 where
+  pub bounded : (d : Decimal) → n ≡ Some d → number.Bounded d
 
 -- of a value whose bytes are compared
 abbrev pub unread : Readings
-unread = record { number = NumberReading.Unreadable; date = DateReading.Unreadable }
+unread = record { number = None; date = None }
 
 -- what a value reads to, where the relation compares what texts read to
 unfoldable pub readings_of : Relation → List ℕ → Readings
 readings_of (Relation.Strings r) f = unread
-readings_of (Relation.Numbers r) f = record { number = numbers.read f; date = DateReading.Unreadable }
-readings_of (Relation.Dates r) f = record { number = NumberReading.Unreadable; date = dates.read f }
+readings_of (Relation.Numbers r) f = record { number = numbers.read f; date = None }
+readings_of (Relation.Dates r) f = record { number = None; date = dates.read f }
 readings_of Relation.Tokens f = unread
 readings_of Relation.References f = unread
 

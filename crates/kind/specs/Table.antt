@@ -1,7 +1,6 @@
 -- The table of kinds: for each the texts that are readable, the operators with a meaning, and the relation that each asks for.
 -- Assumes nothing.
-use Rattle.std.specs.Prelude.{ℕ, Bool, true, false, cond, not, List, [], ◌∷◌, eqb, length}
-use Rattle.std.proofs.Math.Option.{Option, none, some}
+use Rattle.std.specs.Prelude.{ℕ, Bool, true, false, cond, not, List, [], ◌∷◌, eqb, length, Option, Some, None}
 use Rattle.base.specs.Ascii.{ascii}
 use Rattle.base.specs.Operators.{eq, ne, co, sw, ew, gt, lt, ge, le, sa, eb, pr, po, re}
 use Rattle.base.specs.Kinds.{string, number, date, token, reference, period}
@@ -92,13 +91,13 @@ row = of_kind [] (λ (x : Kind). x.operators) kinds
 
 -- the relation of an operator in a row, if it stands there
 unfoldable pub relation_in : List RowEntry → ℕ → Option Relation
-relation_in [] k = none
-relation_in (u ∷ us) k = cond (eqb k u.operator) (some u.relation) (relation_in us k)
+relation_in [] k = None
+relation_in (u ∷ us) k = cond (eqb k u.operator) (Some u.relation) (relation_in us k)
 
 -- the meaning that a relation gives, where the row has one
 abbrev pub meaning_by : (Relation → Meaning) → Option Relation → Meaning
-meaning_by how (some r) = how r
-meaning_by how none = Nothing
+meaning_by how (Some r) = how r
+meaning_by how None = Nothing
 
 -- a row has its operators, "and ne if the row has eq": "some text in the set is not eq"
 unfoldable pub row_meaning : List RowEntry → ℕ → Meaning

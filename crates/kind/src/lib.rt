@@ -6,9 +6,9 @@ mod decision;
 mod readable;
 mod relate;
 
-use date::DateReading;
+use date::Date;
 pub use decision::meaning_of;
-use number::NumberReading;
+use number::Decimal;
 pub use readable::{card_readable, is_true, value_readable};
 pub use relate::{dates_relate, numbers_relate, readings_of, relates_read, unread};
 
@@ -59,8 +59,8 @@ pub enum Relation {
 // What a filter's value reads to as a number and as a date, where a relation asks for that.
 #[derive(Clone, Copy)]
 pub struct Readings {
-    pub number: NumberReading,
-    pub date: DateReading,
+    pub number: Option<Decimal>,
+    pub date: Option<Date>,
 }
 
 // What an operator means for a kind: whether there is a text at all; that some text stands in the relation, or that

@@ -6,9 +6,9 @@ ghost use Rattle.number.specs.Reading as numbers;
 ghost use Rattle.period.specs.Texts as periods;
 
 use crate::{DateRelation, NumberRelation, Readings, Relation, StringRelation};
-use date::{Date, DateReading};
-use number::{Decimal, NumberReading};
-use period::{Period, PeriodReading};
+use date::Date;
+use number::Decimal;
+use period::Period;
 
 // A card's text and a filter's value, as they are written.
 fn strings_relate(relation: StringRelation, text: &[u8], value: &[u8]) -> bool
@@ -39,14 +39,14 @@ pub fn numbers_relate(relation: NumberRelation, i: Decimal, f: Decimal) -> bool
 }
 
 // A card's text and a filter's number that was read.
-fn number_readings_relate(relation: NumberRelation, text: &[u8], value: NumberReading) -> bool
+fn number_readings_relate(relation: NumberRelation, text: &[u8], value: Option<Decimal>) -> bool
     requires { Kept value }
     ensures { result ≡ number_readings_relate relation (numbers.read text.now) value }
 {
-    let NumberReading::Number(i) = number::read(text) else {
+    let Some(i) = number::read(text) else {
         return false;
     };
-    let NumberReading::Number(f) = value else {
+    let Some(f) = value else {
         return false;
     };
     numbers_relate(relation, i, f)
@@ -70,13 +70,13 @@ pub fn dates_relate(relation: DateRelation, i: Period, f: Date) -> bool
 }
 
 // A card's text and a filter's date that was read.
-fn date_readings_relate(relation: DateRelation, text: &[u8], value: DateReading) -> bool
+fn date_readings_relate(relation: DateRelation, text: &[u8], value: Option<Date>) -> bool
     ensures { result ≡ date_readings_relate relation (periods.read_span text.now) value }
 {
-    let PeriodReading::Readable(i) = period::read_span(text) else {
+    let Some(i) = period::read_span(text) else {
         return false;
     };
-    let DateReading::Readable(f) = value else {
+    let Some(f) = value else {
         return false;
     };
     dates_relate(relation, i, f)
@@ -87,8 +87,8 @@ pub fn unread() -> Readings
     ensures { result ≡ unread }
 {
     Readings {
-        number: NumberReading::Unreadable,
-        date: DateReading::Unreadable,
+        number: None,
+        date: None,
     }
 }
 
@@ -100,10 +100,10 @@ pub fn readings_of(relation: Relation, value: &[u8]) -> Readings
         Relation::Strings(_) => unread(),
         Relation::Numbers(_) => Readings {
             number: number::read(value),
-            date: DateReading::Unreadable,
+            date: None,
         },
         Relation::Dates(_) => Readings {
-            number: NumberReading::Unreadable,
+            number: None,
             date: date::read(value),
         },
         Relation::Tokens => unread(),

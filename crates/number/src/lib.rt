@@ -16,13 +16,6 @@ pub struct Decimal {
     pub decimals: usize,
 }
 
-// What a text reads to.
-#[derive(Clone, Copy)]
-pub enum NumberReading {
-    Number(Decimal),
-    Unreadable,
-}
-
 // How many digits the text begins with.
 fn digit_run(s: &[u8]) -> usize
     ensures { (result ≡ run is_digit s.now) × (result ≤ length s.now) }
@@ -54,58 +47,56 @@ fn value_from(before: u64, s: &[u8]) -> u64
 }
 
 // The decimals that a text writes after the whole part.
-fn read_fraction(whole: u64, f: &[u8]) -> NumberReading
+fn read_fraction(whole: u64, f: &[u8]) -> Option<Decimal>
     requires { whole < 10 ^ 8 }
     ensures { result ≡ read_fraction whole f.now }
 {
     if f.len() < 1 {
-        return NumberReading::Unreadable;
+        return None;
     }
     if f.len() > 9 {
-        return NumberReading::Unreadable;
+        return None;
     }
     if digit_run(f) < f.len() {
-        return NumberReading::Unreadable;
+        return None;
     }
-    NumberReading::Number(Decimal {
+    Some(Decimal {
         digits: value_from(whole, f),
         decimals: f.len(),
     })
 }
 
 // What a text reads to: "1 to 8 digits, then perhaps "." and 1 to 9 digits. No sign, no exponent."
-pub fn read(s: &[u8]) -> NumberReading
+pub fn read(s: &[u8]) -> Option<Decimal>
     ensures { result ≡ read s.now }
 {
     let run = digit_run(s);
     if run < 1 {
-        return NumberReading::Unreadable;
+        return None;
     }
     if run > 8 {
-        return NumberReading::Unreadable;
+        return None;
     }
     let whole = value_from(0, &s[..run]);
     if run == s.len() {
-        return NumberReading::Number(Decimal {
+        return Some(Decimal {
             digits: whole,
             decimals: 0,
         });
     }
     if s[run] != b'.' {
-        return NumberReading::Unreadable;
+        return None;
     }
     let after = run + 1;
     read_fraction(whole, &s[after..])
 }
 
 // Whether the text is readable as a number.
+#[tactic(auto, unfolding(crate::specs::Reading::readable))]
 pub fn readable(s: &[u8]) -> bool
     ensures { result ≡ readable s.now }
 {
-    match read(s) {
-        NumberReading::Number(_) => true,
-        NumberReading::Unreadable => false,
-    }
+    read(s).is_some()
 }
 
 // One unit of the last digit in billionths, by the count of decimals.

@@ -5,6 +5,7 @@
 -- ended within the date, its end would be an instant of the date and none of the period (`ends-within`). It is asked that the period has an
 -- instant, and that the date's start is one of the date's.
 -- Assumes nothing.
+use Rattle.std.specs.Prelude.{Option, Some, None}
 use Prim.Native.Nat.{zero, suc}
 use native.Mathlib.Omega.{arith}
 use mathlib.Core.Path.{◌≡◌, refl}
@@ -19,7 +20,6 @@ use Rattle.date.specs.declared.Date.{Date}
 use Rattle.date.specs.Instants.{InRange}
 use Rattle.period.specs.Instants.{From, from_open, from_known, Until, until_open, until_known, InPeriod, Inhabited, AfterAll, BeforeAll, Held, Holds, Meets, SomeAfter, SomeBefore, EveryAfter, EveryBefore}
 use Rattle.period.specs.Relations.{starts_before, starts_no_later, ends_after, ends_no_earlier, inside, later, earlier, starts_after, ends_before, overlaps, covers}
-use Rattle.period.specs.declared.End.{End}
 use Rattle.period.specs.declared.Period.{Period}
 
 -- ---- order
@@ -40,43 +40,43 @@ no_less a b n = ⊎_elim (λ e. absurd (n ((lt_z_iff a b).0 e))) (λ e. lt_z_fal
 -- ---- an end and an instant
 
 -- an end lies behind the instants before it
-until_there : (e : End) (t : ℤ) → ends_after e t ≡ true → Until e t
+until_there : (e : Option ℤ) (t : ℤ) → ends_after e t ≡ true → Until e t
 unfolding ends_after
-until_there End.Open t h = until_open
-until_there (End.At e) t h = until_known ((lt_z_iff t e).0 h)
+until_there None t h = until_open
+until_there (Some e) t h = until_known ((lt_z_iff t e).0 h)
 
-until_back : (e : End) (t u : ℤ) → u ≤ℤ t → Until e t → ends_after e u ≡ true
+until_back : (e : Option ℤ) (t u : ℤ) → u ≤ℤ t → Until e t → ends_after e u ≡ true
 unfolding ends_after
-until_back End.Open t u l until_open = refl
-until_back (End.At e) t u l (until_known h) = (lt_z_iff u e).1 (≤ℤ-<ℤ-trans l h)
+until_back None t u l until_open = refl
+until_back (Some e) t u l (until_known h) = (lt_z_iff u e).1 (≤ℤ-<ℤ-trans l h)
 
-until_down : (e : End) (t u : ℤ) → u ≤ℤ t → Until e t → Until e u
+until_down : (e : Option ℤ) (t u : ℤ) → u ≤ℤ t → Until e t → Until e u
 until_down e t u l h = until_there e u (until_back e t u l h)
 
 -- a start lies before what lies behind its instants
-from_back : (s : End) (t b : ℤ) → From s t → t <ℤ b → starts_before s b ≡ true
+from_back : (s : Option ℤ) (t b : ℤ) → From s t → t <ℤ b → starts_before s b ≡ true
 unfolding starts_before
-from_back End.Open t b from_open l = refl
-from_back (End.At s) t b (from_known h) l = (lt_z_iff s b).1 (≤ℤ-<ℤ-trans h l)
+from_back None t b from_open l = refl
+from_back (Some s) t b (from_known h) l = (lt_z_iff s b).1 (≤ℤ-<ℤ-trans h l)
 
-from_up : (s : End) (t u : ℤ) → From s t → t ≤ℤ u → From s u
-from_up End.Open t u from_open l = from_open
-from_up (End.At s) t u (from_known h) l = from_known (≤ℤ-trans h l)
+from_up : (s : Option ℤ) (t u : ℤ) → From s t → t ≤ℤ u → From s u
+from_up None t u from_open l = from_open
+from_up (Some s) t u (from_known h) l = from_known (≤ℤ-trans h l)
 
-from_there : (s : End) (t : ℤ) → starts_no_later s t ≡ true → From s t
+from_there : (s : Option ℤ) (t : ℤ) → starts_no_later s t ≡ true → From s t
 unfolding starts_no_later
-from_there End.Open t h = from_open
-from_there (End.At s) t h = from_known ((le_z_iff s t).0 h)
+from_there None t h = from_open
+from_there (Some s) t h = from_known ((le_z_iff s t).0 h)
 
-from_test : (s : End) (t : ℤ) → From s t → starts_no_later s t ≡ true
+from_test : (s : Option ℤ) (t : ℤ) → From s t → starts_no_later s t ≡ true
 unfolding starts_no_later
-from_test End.Open t from_open = refl
-from_test (End.At s) t (from_known h) = (le_z_iff s t).1 h
+from_test None t from_open = refl
+from_test (Some s) t (from_known h) = (le_z_iff s t).1 h
 
 -- before an end there is an instant that lies before another, too
-until_less : (e : End) (b : ℤ) → (t : ℤ) × Until e t × (t <ℤ b)
-until_less End.Open b = let y = less b in (y.0, until_open, y.1)
-until_less (End.At e) b =
+until_less : (e : Option ℤ) (b : ℤ) → (t : ℤ) × Until e t × (t <ℤ b)
+until_less None b = let y = less b in (y.0, until_open, y.1)
+until_less (Some e) b =
     ⊎_elim
     (λ h. let y = less e in (y.0, until_known y.1, <ℤ-≤ℤ_trans y.1 (<ℤ-≤ℤ ((lt_z_iff e b).0 h))))
     (λ h. let y = less b in (y.0, until_known (<ℤ-≤ℤ_trans y.1 (lt_z_false e b h)), y.1))
@@ -85,15 +85,15 @@ until_less (End.At e) b =
 -- ---- the two witnesses
 
 -- a period that starts before an instant has an instant before it
-start_witness : (s e : End) (b t : ℤ) → From s t → Until e t → starts_before s b ≡ true → (u : ℤ) × From s u × Until e u × (u <ℤ b)
+start_witness : (s e : Option ℤ) (b t : ℤ) → From s t → Until e t → starts_before s b ≡ true → (u : ℤ) × From s u × Until e u × (u <ℤ b)
 unfolding starts_before
-start_witness End.Open e b t from_open h l = let y = until_less e b in (y.0, from_open, y.1, y.2)
-start_witness (End.At s) e b t (from_known g) h l = (s, from_known (≤ℤ_refl s), until_down e t s g h, (lt_z_iff s b).0 l)
+start_witness None e b t from_open h l = let y = until_less e b in (y.0, from_open, y.1, y.2)
+start_witness (Some s) e b t (from_known g) h l = (s, from_known (≤ℤ_refl s), until_down e t s g h, (lt_z_iff s b).0 l)
 
 -- a period that ends after an instant has one at it or behind it: the instant itself, or else its own start
-end_witness : (s e : End) (b t : ℤ) → From s t → Until e t → ends_after e b ≡ true → (u : ℤ) × From s u × Until e u × (b ≤ℤ u)
-end_witness End.Open e b t from_open h l = (b, from_open, until_there e b l, ≤ℤ_refl b)
-end_witness (End.At s) e b t (from_known g) h l =
+end_witness : (s e : Option ℤ) (b t : ℤ) → From s t → Until e t → ends_after e b ≡ true → (u : ℤ) × From s u × Until e u × (b ≤ℤ u)
+end_witness None e b t from_open h l = (b, from_open, until_there e b l, ≤ℤ_refl b)
+end_witness (Some s) e b t (from_known g) h l =
     ⊎_elim
     (λ k. (b, from_known (<ℤ-≤ℤ ((lt_z_iff s b).0 k)), until_there e b l, ≤ℤ_refl b))
     (λ k. (s, from_known (≤ℤ_refl s), until_down e t s g h, lt_z_false s b k))
@@ -153,12 +153,12 @@ module _ (i : Period) (some : Inhabited i) (f : Date) (first : InRange f f.start
   )
 
   -- a period open at an end has instants beyond every date
-  pub open_never_held : (i.start ≡ End.Open) ⊎ (i.end ≡ End.Open) → Held i f → ⊥
+  pub open_never_held : (i.start ≡ None) ⊎ (i.end ≡ None) → Held i f → ⊥
   unfolding starts_before ends_after
   open_never_held o h =
       ⊎_elim
-      (λ (e : i.start ≡ End.Open). let w = starts_there f.start (rw e) in clash_ℤ w.2 (h w.0 w.1).from)
-      (λ (e : i.end ≡ End.Open). let w = ends_there f.end (rw e) in clash_ℤ (h w.0 w.1).before w.2)
+      (λ (e : i.start ≡ None). let w = starts_there f.start (rw e) in clash_ℤ w.2 (h w.0 w.1).from)
+      (λ (e : i.end ≡ None). let w = ends_there f.end (rw e) in clash_ℤ (h w.0 w.1).before w.2)
       o
 
   pub later_iff : (later i f ≡ true) ↔ SomeAfter i f
@@ -186,10 +186,10 @@ module _ (i : Period) (some : Inhabited i) (f : Date) (first : InRange f f.start
   )
 
   -- an instant of the period at the date's start or behind it, but before its end
-  common : (s e : End) (t : ℤ) → From s t → Until e t → starts_before s f.end ≡ true → ends_after e f.start ≡ true → (u : ℤ) × From s u × Until e u × InRange f u
+  common : (s e : Option ℤ) (t : ℤ) → From s t → Until e t → starts_before s f.end ≡ true → ends_after e f.start ≡ true → (u : ℤ) × From s u × Until e u × InRange f u
   unfolding starts_before
-  common End.Open e t g h l k = (f.start, from_open, until_there e f.start k, first)
-  common (End.At s) e t (from_known g) h l k =
+  common None e t g h l k = (f.start, from_open, until_there e f.start k, first)
+  common (Some s) e t (from_known g) h l k =
       ⊎_elim
       (λ m. (f.start, from_known (<ℤ-≤ℤ ((lt_z_iff s f.start).0 m)), until_there e f.start k, first))
       (λ m. (s, from_known (≤ℤ_refl s), until_down e t s g h, record { from = lt_z_false s f.start m; before = (lt_z_iff s f.end).0 l }))
@@ -207,19 +207,19 @@ module _ (i : Period) (some : Inhabited i) (f : Date) (first : InRange f f.start
   )
 
   -- the date ends no later than the period: else the period's end would be an instant of the date
-  ends-within : (e : End) → Until e f.start → ((t : ℤ) → InRange f t → Until e t) → ends_no_earlier e f.end ≡ true
+  ends-within : (e : Option ℤ) → Until e f.start → ((t : ℤ) → InRange f t → Until e t) → ends_no_earlier e f.end ≡ true
   unfolding ends_no_earlier
-  ends-within End.Open u h = refl
-  ends-within (End.At e) (until_known u) h =
+  ends-within None u h = refl
+  ends-within (Some e) (until_known u) h =
       (le_z_iff f.end e).1 (no_less e f.end (λ l. own_end (h e (record { from = <ℤ-≤ℤ u; before = l }))))
     where
-      own_end : Until (End.At e) e → ⊥
+      own_end : Until (Some e) e → ⊥
       own_end (until_known k) = <ℤ_irrefl k
 
-  ends-within-back : (e : End) (t : ℤ) → ends_no_earlier e f.end ≡ true → t <ℤ f.end → Until e t
+  ends-within-back : (e : Option ℤ) (t : ℤ) → ends_no_earlier e f.end ≡ true → t <ℤ f.end → Until e t
   unfolding ends_no_earlier
-  ends-within-back End.Open t h l = until_open
-  ends-within-back (End.At e) t h l = until_known (<ℤ-≤ℤ_trans l ((le_z_iff f.end e).0 h))
+  ends-within-back None t h l = until_open
+  ends-within-back (Some e) t h l = until_known (<ℤ-≤ℤ_trans l ((le_z_iff f.end e).0 h))
 
   pub covers_iff : (covers i f ≡ true) ↔ Holds i f
   unfolding covers

@@ -1,5 +1,6 @@
 -- Laws of the tests on ends and relations, as the code has them.
 -- Assumes nothing.
+use Rattle.std.specs.Prelude.{Option, Some, None}
 use mathlib.Core.Path.{◌≡◌, ap}
 use mathlib.Core.Bool.{Bool, true, false, not, ◌&&◌}
 use lib.IntN.{ℤ}
@@ -8,28 +9,27 @@ use mir.Syntax.{w64}
 use mir.Val.{SFits, to_z, of_z}
 use mir.ValLaws.{to_z-of_z}
 use Rattle.period.specs.Relations.{starts_before, starts_no_later, ends_after, ends_no_earlier}
-use Rattle.period.specs.declared.End.{End}
 
 -- ---- an end and an instant
 
-module _ (e : End) (t : ℤ) where
-  pub starts-before_open : e ≡ End.Open → true ≡ starts_before e t
+module _ (e : Option ℤ) (t : ℤ) where
+  pub starts-before_open : e ≡ None → true ≡ starts_before e t
   unfolding starts_before
   starts-before_open h = rw h
 
-  pub starts_no_later_open : e ≡ End.Open → true ≡ starts_no_later e t
+  pub starts_no_later_open : e ≡ None → true ≡ starts_no_later e t
   unfolding starts_no_later
   starts_no_later_open h = rw h
 
-  pub ends-after_open : e ≡ End.Open → true ≡ ends_after e t
+  pub ends-after_open : e ≡ None → true ≡ ends_after e t
   unfolding ends_after
   ends-after_open h = rw h
 
-  pub ends_no_earlier_open : e ≡ End.Open → true ≡ ends_no_earlier e t
+  pub ends_no_earlier_open : e ≡ None → true ≡ ends_no_earlier e t
   unfolding ends_no_earlier
   ends_no_earlier_open h = rw h
 
-  module _ (s : ℤ) (h : e ≡ End.At s) where
+  module _ (s : ℤ) (h : e ≡ Some s) where
     pub starts-before-at : lt_z s t ≡ starts_before e t
     unfolding starts_before
     starts-before-at = rw h
@@ -47,7 +47,7 @@ module _ (e : End) (t : ℤ) where
     ends_no_earlier-at = rw h
 
 -- the answers of the tests, at an instant that is read back from its bits
-module _ (e : End) (t : ℤ) (r : Bool) where
+module _ (e : Option ℤ) (t : ℤ) (r : Bool) where
   pub starts-before-back : r ≡ starts_before e (to_z w64 (of_z w64 t)) → SFits w64 t → r ≡ starts_before e t
   starts-before-back h f = rw (to_z-of_z w64 t f) at h
 

@@ -1,23 +1,22 @@
 -- A period as a set of instants, and what a card's period I and a filter's date F are to each other, by their instants alone. An
 -- instant is a second, counted from 1970-01-01T00:00:00Z; those of a date are its range (`InRange`).
 -- Assumes nothing.
-use Rattle.std.specs.Prelude.{ℤ, ◌≤ℤ◌, ◌<ℤ◌}
+use Rattle.std.specs.Prelude.{ℤ, ◌≤ℤ◌, ◌<ℤ◌, Option, Some, None, ℤ}
 use Rattle.date.specs.declared.Date.{Date}
 use Rattle.date.specs.Instants.{InRange}
-use Rattle.period.specs.declared.End.{End}
 use Rattle.period.specs.declared.Period.{Period}
 
 -- ---- the instants of a period
 
 -- 02: "a missing end lying beyond every date that can be written": every instant lies behind a missing start
-pub data From : End → ℤ → Type 0 where
-  from_open : {t : ℤ} → From End.Open t
-  from_known : {s t : ℤ} → s ≤ℤ t → From (End.At s) t
+pub data From : Option ℤ → ℤ → Type 0 where
+  from_open : {t : ℤ} → From None t
+  from_known : {s t : ℤ} → s ≤ℤ t → From (Some s) t
 
 -- and before a missing end
-pub data Until : End → ℤ → Type 0 where
-  until_open : {t : ℤ} → Until End.Open t
-  until_known : {e t : ℤ} → t <ℤ e → Until (End.At e) t
+pub data Until : Option ℤ → ℤ → Type 0 where
+  until_open : {t : ℤ} → Until None t
+  until_known : {e t : ℤ} → t <ℤ e → Until (Some e) t
 
 -- the instant t lies in the period: start in, end out
 pub record InPeriod (p : Period) (t : ℤ) : Type 0 where

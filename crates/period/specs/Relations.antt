@@ -1,33 +1,32 @@
 -- The relations of a card's period I and a filter's date F, as spans from start to end (01: i0 to i1, f0 to f1), computed. 02: "a missing
 -- end lying beyond every date that can be written".
 -- Assumes nothing.
-use Rattle.std.specs.Prelude.{Bool, true, not, ◌&&◌, ◌||◌, ℤ}
+use Rattle.std.specs.Prelude.{Bool, true, not, ◌&&◌, ◌||◌, ℤ, Option, Some, None}
 use Rattle.std.specs.Int.Signed.{lt_z, le_z}
 use Rattle.date.specs.declared.Date.{Date}
-use Rattle.period.specs.declared.End.{End}
 use Rattle.period.specs.declared.Period.{Period}
 
 -- ---- an end and an instant t
 
 -- the start lies before t
-unfoldable pub starts_before : End → ℤ → Bool
-starts_before End.Open t = true
-starts_before (End.At s) t = lt_z s t
+unfoldable pub starts_before : Option ℤ → ℤ → Bool
+starts_before None t = true
+starts_before (Some s) t = lt_z s t
 
 -- the start lies at t or before
-unfoldable pub starts_no_later : End → ℤ → Bool
-starts_no_later End.Open t = true
-starts_no_later (End.At s) t = le_z s t
+unfoldable pub starts_no_later : Option ℤ → ℤ → Bool
+starts_no_later None t = true
+starts_no_later (Some s) t = le_z s t
 
 -- the end lies behind t
-unfoldable pub ends_after : End → ℤ → Bool
-ends_after End.Open t = true
-ends_after (End.At e) t = lt_z t e
+unfoldable pub ends_after : Option ℤ → ℤ → Bool
+ends_after None t = true
+ends_after (Some e) t = lt_z t e
 
 -- the end lies at t or behind
-unfoldable pub ends_no_earlier : End → ℤ → Bool
-ends_no_earlier End.Open t = true
-ends_no_earlier (End.At e) t = le_z t e
+unfoldable pub ends_no_earlier : Option ℤ → ℤ → Bool
+ends_no_earlier None t = true
+ends_no_earlier (Some e) t = le_z t e
 
 -- ---- a period and a date
 

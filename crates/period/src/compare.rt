@@ -3,26 +3,26 @@
 ghost use Rattle.std.specs.Prelude.{◌≡◌};
 ghost use Rattle.period.specs.Relations.{starts_before, starts_no_later, ends_after, ends_no_earlier, inside, later, earlier, later_or_inside, earlier_or_inside, starts_after, ends_before, overlaps, covers};
 
-use crate::{End, Period};
+use crate::Period;
 use date::Date;
 
 // Whether a start lies before an instant; a missing one does.
-fn starts_before(start: End, t: i64) -> bool
+fn starts_before(start: Option<i64>, t: i64) -> bool
     ensures { result ≡ starts_before start t }
 {
     match start {
-        End::Open => true,
-        End::At(s) => s < t,
+        None => true,
+        Some(s) => s < t,
     }
 }
 
 // Whether an end lies behind an instant; a missing one does.
-fn ends_after(end: End, t: i64) -> bool
+fn ends_after(end: Option<i64>, t: i64) -> bool
     ensures { result ≡ ends_after end t }
 {
     match end {
-        End::Open => true,
-        End::At(e) => e > t,
+        None => true,
+        Some(e) => e > t,
     }
 }
 
@@ -106,8 +106,8 @@ fn starts_no_later(i: Period, f: Date) -> bool
 {
     let start = i.start;
     match start {
-        End::Open => true,
-        End::At(s) => s <= f.start,
+        None => true,
+        Some(s) => s <= f.start,
     }
 }
 
@@ -117,8 +117,8 @@ fn ends_no_earlier(i: Period, f: Date) -> bool
 {
     let end = i.end;
     match end {
-        End::Open => true,
-        End::At(e) => f.end <= e,
+        None => true,
+        Some(e) => f.end <= e,
     }
 }
 

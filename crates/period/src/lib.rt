@@ -11,24 +11,10 @@ pub use compare::{
 };
 pub use reader::{read, read_span, readable};
 
-// An end of a period: missing, or in seconds from 1970-01-01T00:00:00Z.
-#[derive(Clone, Copy)]
-pub enum End {
-    Open,
-    At(i64),
-}
-
-// A period: the seconds from `start` up to but without `end`. A missing start lies before every date that can be written,
-// a missing end behind it.
+// A period: the seconds from `start` up to but without `end`, counted from 1970-01-01T00:00:00Z. A missing end is None: a
+// missing start lies before every date that can be written, a missing end behind it.
 #[derive(Clone, Copy)]
 pub struct Period {
-    pub start: End,
-    pub end: End,
-}
-
-// What a text reads to: a period, where it is readable as one.
-#[derive(Clone, Copy)]
-pub enum PeriodReading {
-    Readable(Period),
-    Unreadable,
+    pub start: Option<i64>,
+    pub end: Option<i64>,
 }

@@ -4,16 +4,16 @@ ghost use Rattle.std.specs.Int.Signed.{lt_z};
 ghost use Rattle.date.specs.Texts as texts;
 ghost use Rattle.period.specs.Texts.{known, from_to, both_ends, open_end, open_start, read_parts, read, readable, read_span};
 
-use crate::{End, Period, PeriodReading};
-use date::{Date, DateReading};
+use crate::Period;
+use date::Date;
 
 // A card's date: the period with both ends known.
 fn known(d: Date) -> Period
     ensures { result ≡ known d }
 {
     Period {
-        start: End::At(d.start),
-        end: End::At(d.end),
+        start: Some(d.start),
+        end: Some(d.end),
     }
 }
 
@@ -25,59 +25,51 @@ fn in_order(a: Date, b: Date) -> bool
 }
 
 // "From the start of the first to the end of the second"; "a span that would not end after it starts is unreadable".
-fn from_to(a: Date, b: Date) -> PeriodReading
+fn from_to(a: Date, b: Date) -> Option<Period>
     ensures { result ≡ from_to a b }
 {
     if in_order(a, b) {
-        return PeriodReading::Readable(Period {
-            start: End::At(a.start),
-            end: End::At(b.end),
+        return Some(Period {
+            start: Some(a.start),
+            end: Some(b.end),
         });
     }
-    PeriodReading::Unreadable
+    None
 }
 
 // Two dates.
-fn both_ends(first: &[u8], second: &[u8]) -> PeriodReading
+fn both_ends(first: &[u8], second: &[u8]) -> Option<Period>
     ensures { result ≡ both_ends (texts.read first.now) (texts.read second.now) }
 {
-    let DateReading::Readable(a) = date::read(first) else {
-        return PeriodReading::Unreadable;
-    };
-    let DateReading::Readable(b) = date::read(second) else {
-        return PeriodReading::Unreadable;
-    };
+    let a = date::read(first)?;
+    let b = date::read(second)?;
     from_to(a, b)
 }
 
 // The first alone: the end is missing.
-fn open_end(first: &[u8]) -> PeriodReading
+fn open_end(first: &[u8]) -> Option<Period>
     ensures { result ≡ open_end (texts.read first.now) }
 {
-    let DateReading::Readable(a) = date::read(first) else {
-        return PeriodReading::Unreadable;
-    };
-    PeriodReading::Readable(Period {
-        start: End::At(a.start),
-        end: End::Open,
+    let a = date::read(first)?;
+    Some(Period {
+        start: Some(a.start),
+        end: None,
     })
 }
 
 // The second alone: the start is missing.
-fn open_start(second: &[u8]) -> PeriodReading
+fn open_start(second: &[u8]) -> Option<Period>
     ensures { result ≡ open_start (texts.read second.now) }
 {
-    match date::read(second) {
-        DateReading::Readable(b) => PeriodReading::Readable(Period {
-            start: End::Open,
-            end: End::At(b.end),
-        }),
-        DateReading::Unreadable => PeriodReading::Unreadable,
-    }
+    let b = date::read(second)?;
+    Some(Period {
+        start: None,
+        end: Some(b.end),
+    })
 }
 
 // What stands before the slash and behind it: "either one missing but not both", since no empty text is a date.
-fn read_parts(first: &[u8], second: &[u8]) -> PeriodReading
+fn read_parts(first: &[u8], second: &[u8]) -> Option<Period>
     ensures { result ≡ read_parts first.now second.now }
 {
     if first.len() == 0 {
@@ -90,7 +82,7 @@ fn read_parts(first: &[u8], second: &[u8]) -> PeriodReading
 }
 
 // What a text reads to: "two dates with a slash between". No date has a slash, so the first one is it.
-pub fn read(s: &[u8]) -> PeriodReading
+pub fn read(s: &[u8]) -> Option<Period>
     ensures { result ≡ read s.now }
 {
     let slash = base::first_of(s, b'/');
@@ -98,25 +90,23 @@ pub fn read(s: &[u8]) -> PeriodReading
         let after = slash + 1;
         return read_parts(&s[..slash], &s[after..]);
     }
-    PeriodReading::Unreadable
+    None
 }
 
 // Whether a text reads to a period.
+#[tactic(auto, unfolding(crate::specs::Texts::readable))]
 pub fn readable(s: &[u8]) -> bool
     ensures { result ≡ readable s.now }
 {
-    match read(s) {
-        PeriodReading::Readable(_) => true,
-        PeriodReading::Unreadable => false,
-    }
+    read(s).is_some()
 }
 
 // The span of a card's text, a date or a period.
-pub fn read_span(s: &[u8]) -> PeriodReading
+pub fn read_span(s: &[u8]) -> Option<Period>
     ensures { result ≡ read_span s.now }
 {
     match date::read(s) {
-        DateReading::Readable(d) => PeriodReading::Readable(known(d)),
-        DateReading::Unreadable => read(s),
+        Some(d) => Some(known(d)),
+        None => read(s),
     }
 }

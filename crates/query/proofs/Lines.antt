@@ -5,13 +5,13 @@
 -- is 10, since 50 and 51 are of a later group. Else 10 does not hold. Where a part is no pair 51 does not hold, and of the lines 50 the one
 -- with the lowest place is first. Where all parts are pairs only 51 can hold.
 -- Assumes nothing.
+use Rattle.std.specs.Prelude.{Option, Some, None}
 use Prim.Native.Nat.{ℕ, zero, suc, ◌+◌, ◌≤◌, ◌<◌}
 use native.Mathlib.Nat.{le_of_eq}
 use native.Mathlib.Omega.{arith}
 use mathlib.Core.Path.{◌≡◌, refl, ap, sym, ◌∙◌, subst}
 use mathlib.Core.Bool.{true, cond, ◌||◌}
 use mathlib.Core.Logic.{◌⊎◌, inl, inr, ⊎_elim}
-use mathlib.Core.Option.{Option, none, some}
 use mathlib.Core.List.{List, [], ◌∷◌, ◌++◌}
 use lib.Dec.{eqb, leb, ltb}
 use lib.ListN.{length}
@@ -83,9 +83,9 @@ pair-either : (p : ℕ) (s : List ℕ) → (read_pair p s ≡ stop 50 p) ⊎ ((a
 pair-either p s = by_cut (cut_of equals s)
   where
     of_parts : (x y : Option (List ℕ)) → (pair_of p x y ≡ stop 50 p) ⊎ ((a : List Alternative) × (pair_of p x y ≡ found a))
-    of_parts (some x) (some y) = inr (_, refl)
-    of_parts (some x) none = inl refl
-    of_parts none y = inl refl
+    of_parts (Some x) (Some y) = inr (_, refl)
+    of_parts (Some x) None = inl refl
+    of_parts None y = inl refl
 
     by_cut : {t : List ℕ} → Cut equals t → (read_pair p t ≡ stop 50 p) ⊎ ((a : List Alternative) × (read_pair p t ≡ found a))
     by_cut (cut_at m w h) = rw (pair_cut p m w h) (of_parts (decoded m) (decoded w))

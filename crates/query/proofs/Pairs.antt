@@ -1,5 +1,6 @@
 -- A pair, by where it is cut and what its parts decode to.
 -- Assumes nothing.
+use Rattle.std.specs.Prelude.{Option, Some, None}
 use Prim.Native.Nat.{ℕ, ◌+◌, ◌-◌, ◌≤◌, ◌<◌}
 use native.Mathlib.Omega.{arith}
 use mathlib.Core.Path.{◌≡◌, ◌∙◌, subst}
@@ -12,8 +13,6 @@ use Rattle.base.proofs.Lists.{rest}
 use Rattle.refusal.specs.Steps.{stop}
 use Rattle.query.specs.Reader.{decoded, pair_of, read_pair}
 use Rattle.query.specs.Scan.{DecodesTo, decodes_bytes, decodes_bad, PairOf, pair-of, pair_of_none}
-use Rattle.query.specs.declared.Decoded.{Decoded}
-use Rattle.query.specs.declared.PairRead.{PairRead}
 
 -- a part at the beginning fits where the whole does
 pub front_fits : (s out : List ℕ) (n : ℕ) → n ≤ length s → length s ≤ length out → length (take n s) ≤ length out
@@ -24,33 +23,33 @@ module _ (pair : List ℕ) (cut : ℕ) (e : RunEnd (differs 61) pair 0 cut) wher
   unfolding read_pair
   uncut h p = rw (← e.is, le-ltb cut (length pair) h)
 
-  pub pair_uncut : (name value : List ℕ) → length pair ≤ cut → PairOf pair name value PairRead.Bad
+  pub pair_uncut : (name value : List ℕ) → length pair ≤ cut → PairOf pair name value None
   pair_uncut name value h = pair_of_none (uncut h)
 
   by_parts : cut < length pair → (p : ℕ) → read_pair p pair ≡ pair_of p (decoded (take cut pair)) (decoded (drop (cut + 1) pair))
   unfolding read_pair
   by_parts h p = rw (← e.is, lt-ltb cut (length pair) h)
 
-  module _ (h : cut < length pair) (name : List ℕ) (r : Decoded) (d : DecodesTo (take cut pair) name r) where
-    pub pair-name_bad : (value : List ℕ) → r ≡ Decoded.Bad → PairOf pair name value PairRead.Bad
+  module _ (h : cut < length pair) (name : List ℕ) (r : Option ℕ) (d : DecodesTo (take cut pair) name r) where
+    pub pair-name_bad : (value : List ℕ) → r ≡ None → PairOf pair name value None
     pair-name_bad value k = by_case (subst (DecodesTo (take cut pair) name) k d)
       where
-        by_case : DecodesTo (take cut pair) name Decoded.Bad → PairOf pair name value PairRead.Bad
+        by_case : DecodesTo (take cut pair) name None → PairOf pair name value None
         by_case (decodes_bad z) = pair_of_none (λ p. by_parts h p ∙ rw z)
 
-    module _ (n : ℕ) (k : r ≡ Decoded.Bytes n) (value : List ℕ) (r' : Decoded) (d' : DecodesTo (take (length pair - (cut + 1)) (drop (cut + 1) pair)) value r') where
+    module _ (n : ℕ) (k : r ≡ Some n) (value : List ℕ) (r' : Option ℕ) (d' : DecodesTo (take (length pair - (cut + 1)) (drop (cut + 1) pair)) value r') where
       whole : DecodesTo (drop (cut + 1) pair) value r'
       whole = subst (λ (l : List ℕ). DecodesTo l value r') (rest pair (cut + 1)) d'
 
-      pub pair-value_bad : r' ≡ Decoded.Bad → PairOf pair name value PairRead.Bad
+      pub pair-value_bad : r' ≡ None → PairOf pair name value None
       pair-value_bad k' = by_case (subst (DecodesTo (take cut pair) name) k d) (subst (DecodesTo (drop (cut + 1) pair) value) k' whole)
         where
-          by_case : DecodesTo (take cut pair) name (Decoded.Bytes n) → DecodesTo (drop (cut + 1) pair) value Decoded.Bad → PairOf pair name value PairRead.Bad
+          by_case : DecodesTo (take cut pair) name (Some n) → DecodesTo (drop (cut + 1) pair) value None → PairOf pair name value None
           by_case (decodes_bytes x l) (decodes_bad z) = pair_of_none (λ p. by_parts h p ∙ rw (x, z))
 
-      pub pair_read : (m : ℕ) → r' ≡ Decoded.Bytes m → PairOf pair name value (PairRead.Lengths n m)
+      pub pair_read : (m : ℕ) → r' ≡ Some m → PairOf pair name value (Some (record { name = n; value = m }))
       pair_read m k' = by_case (subst (DecodesTo (take cut pair) name) k d) (subst (DecodesTo (drop (cut + 1) pair) value) k' whole)
         where
-          by_case : DecodesTo (take cut pair) name (Decoded.Bytes n) → DecodesTo (drop (cut + 1) pair) value (Decoded.Bytes m) → PairOf pair name value (PairRead.Lengths n m)
+          by_case : DecodesTo (take cut pair) name (Some n) → DecodesTo (drop (cut + 1) pair) value (Some m) → PairOf pair name value (Some (record { name = n; value = m }))
           by_case (decodes_bytes x l) (decodes_bytes y l') =
               pair-of {n = n} {m = m} (λ p. by_parts h p ∙ rw (x, y)) (omega (arith, l, l', length-take-le cut pair (omega arith), length-drop (cut + 1) pair))

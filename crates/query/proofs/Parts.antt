@@ -1,17 +1,19 @@
 -- A part between ampersands is no pair exactly where it has no "=" or a % that no two hex digits follow.
 -- Assumes nothing.
+use Rattle.std.specs.Prelude.{Option, Some, None}
 use Prim.Native.Nat.{ℕ, ◌<◌}
 use native.Mathlib.Omega.{arith}
-use mathlib.Core.Path.{◌≡◌, refl, ap, sym, subst}
+use mathlib.Core.Path.{◌≡◌, refl, ap, sym, subst, ◌∙◌}
 use mathlib.Core.Bool.{false}
 use mathlib.Core.Logic.{◌↔◌, ◌⊎◌, inl, inr, ⊎_elim}
 use mathlib.Core.List.{List, [], ◌∷◌, ◌++◌, head-eq_of_cons-eq, tail-eq_of_cons-eq}
-use lib.Dec.{eqb, ltb}
+use lib.Dec.{eqb}
 use lib.ListN.{length}
-use borrow.Author.Tests.{eqb-true, eqb-false, ltb-true, ltb-false}
+use borrow.Author.Tests.{eqb-true, eqb-false}
 use Rattle.base.proofs.Tests.{decided}
 use Rattle.base.specs.Split.{Without}
 use Rattle.query.specs.Spelling.{ampersand, equals, percent, plus, HexDigit, hex_digit, hex_capital, hex_small, Encodes, encodes_end, encodes_byte, encodes_space, encodes_percent, Alternative, PairAt, a_pair}
+use Rattle.std.proofs.lemmas.Option.{none-some}
 use Rattle.query.specs.Reader.{hex_value, signs_of}
 use Rattle.query.specs.Lines.{TwoHexDigits, two_hex_digits, BadPercent, bad_here, bad_later, BadPart, bad_percent, no_equals}
 use Rattle.query.proofs.Cuts.{Cut, cut_at, no_cut, cut_of, not_both}
@@ -52,9 +54,11 @@ decodes_byte b {s} n (decodes_to v h) =
 decodes_byte b n (decodes_not k) = decodes_not (bad_later k)
 
 hex_decided : (b : ℕ) → ((x : ℕ) × HexDigit b x) ⊎ ((x : ℕ) → HexDigit b x → ⊥)
-hex_decided b =
-    ⊎_elim (λ t. inl (hex_value b, digit_there b (hex_value b) refl (ltb-true (hex_value b) 16 t)))
-    (λ t. inr (λ x h. let d = digit-back h in let k = ltb-false (hex_value b) 16 t in omega (arith, d.0, d.1))) (decided (ltb (hex_value b) 16))
+hex_decided b = by_value (hex_value b) refl
+  where
+    by_value : (o : Option ℕ) → hex_value b ≡ o → ((x : ℕ) × HexDigit b x) ⊎ ((x : ℕ) → HexDigit b x → ⊥)
+    by_value (Some x) e = inl (x, digit_there b x e)
+    by_value None e = inr (λ x h. none-some x (sym e ∙ digit-back h))
 
 decodes_percent : (h l : ℕ) {s : List ℕ} → Decodes s → Decodes (percent ∷ h ∷ l ∷ s)
 decodes_percent h l {s} d = by_first_lem (hex_decided h) (hex_decided l) d

@@ -4,7 +4,7 @@
 -- the next ampersand, which is the definition's own cut (`read_next`). Either it is no pair, and the definition stops there with 50
 -- (`pass_bad`), or its alternatives are kept (file Holding) and one pair more is done (`pass-next`).
 -- Assumes nothing.
-use Rattle.std.specs.Prelude.{Ok, Result, ⊤}
+use Rattle.std.specs.Prelude.{Ok, Result, ⊤, Option, Some, None}
 use Prim.Native.Nat.{ℕ, zero, suc, ◌+◌, ◌-◌, ◌≤◌, ◌<◌}
 use native.Mathlib.Nat.{zero-add}
 use native.Mathlib.Omega.{arith}
@@ -26,7 +26,7 @@ use Rattle.query.specs.Spelling.{Alternative, Query}
 use Rattle.query.specs.Reader.{signs_of, read_pair, read_pairs, cut_signs, alternative}
 use Rattle.query.specs.Scan.{PairOf, pair-of, pair_of_none}
 use Rattle.query.specs.Rows.{Kept, keep_pair, keep_all, Keeps, PairHeld, QueryOf, query_of, query_of_none}
-use Rattle.query.specs.declared.PairRead.{PairRead}
+use Rattle.query.specs.declared.PairLengths.{PairLengths}
 use Rattle.query.specs.declared.Rows.{Rows}
 use Rattle.query.specs.declared.Held.{Held}
 use Rattle.query.proofs.Holding.{keeps_on}
@@ -144,45 +144,45 @@ module _ {text bytes₀ bytes : List ℕ} {rows : Rows} {used at : ℕ} {more : 
         pair_in_bytes = omega (arith, size, e.within, h.behind, h.room, long, length-take-le (length bytes - used) (drop used bytes) (omega (arith, length-drop used bytes)))
 
       -- the part is no pair
-      pub pass_bad : (out value : List ℕ) (r : PairRead) → PairOf (part text at end) out value r → r ≡ PairRead.Bad → (bytes' : List ℕ) (d : Result ⊤ Refusal) → d ≡ refuse Reason.NoPair at → QueryOf text bytes' (record { rows = rows; decision = d })
+      pub pass_bad : (out value : List ℕ) (r : Option PairLengths) → PairOf (part text at end) out value r → r ≡ None → (bytes' : List ℕ) (d : Result ⊤ Refusal) → d ≡ refuse Reason.NoPair at → QueryOf text bytes' (record { rows = rows; decision = d })
       pass_bad out value r p k bytes' d g = rw g (by_case (subst (PairOf (part text at end) out value) k p))
         where
           by_fuel : (n : ℕ) → length text < at + n → read_pair at (part text at end) ≡ stop 50 at → read_pairs n at (drop at text) ≡ stop 50 at
           by_fuel zero l z = absurd (let w : at ≤ length text = h.within m in omega arith)
           by_fuel (suc n) l z = read_next text at end e n ∙ rw z
 
-          by_case : PairOf (part text at end) out value PairRead.Bad → QueryOf text bytes' (record { rows = rows; decision = refuse Reason.NoPair at })
+          by_case : PairOf (part text at end) out value None → QueryOf text bytes' (record { rows = rows; decision = refuse Reason.NoPair at })
           by_case (pair_of_none z) = query_of_none (h.left m ∙ ap (after h.done) (by_fuel h.fuel (h.enough m) (z at)))
 
-      pub pass_until : (out value : List ℕ) (n k : ℕ) (r : PairRead) → PairOf (part text at end) out value r → r ≡ PairRead.Lengths n k → used + n < 18446744073709551616
-      pass_until out value n k r p is = by_case (subst (PairOf (part text at end) out value) is p)
+      pub pass_until : (out value : List ℕ) (sizes : PairLengths) (r : Option PairLengths) → PairOf (part text at end) out value r → r ≡ Some sizes → used + sizes.name < 18446744073709551616
+      pass_until out value sizes r p is = by_case (subst (PairOf (part text at end) out value) is p)
         where
-          by_case : PairOf (part text at end) out value (PairRead.Lengths n k) → used + n < 18446744073709551616
-          by_case (pair-of z l) = omega (arith, size, l, e.within, h.behind, h.short)
+          by_case : PairOf (part text at end) out value (Some sizes) → used + sizes.name < 18446744073709551616
+          by_case (pair-of z few) = omega (arith, size, few, e.within, h.behind, h.short)
 
-      module _ (long : length bytes ≡ length bytes₀) (out value : List ℕ) (n k : ℕ) (r : PairRead) (p : PairOf (part text at end) out value r) (is : r ≡ PairRead.Lengths n k) where
-        lengths : n + k < end - at
+      module _ (long : length bytes ≡ length bytes₀) (out value : List ℕ) (sizes : PairLengths) (r : Option PairLengths) (p : PairOf (part text at end) out value r) (is : r ≡ Some sizes) where
+        lengths : sizes.name + sizes.value < end - at
         lengths = by_case (subst (PairOf (part text at end) out value) is p)
           where
-            by_case : PairOf (part text at end) out value (PairRead.Lengths n k) → n + k < end - at
-            by_case (pair-of z l) = omega (arith, size, l)
+            by_case : PairOf (part text at end) out value (Some sizes) → sizes.name + sizes.value < end - at
+            by_case (pair-of z few) = omega (arith, size, few)
 
-        pub pass_count : length value ≡ 1024 → length (take k value) ≡ k
-        pass_count v = length-take-le k value (omega (arith, lengths, e.within, h.short))
+        pub pass_count : length value ≡ 1024 → length (take sizes.value value) ≡ sizes.value
+        pass_count v = length-take-le sizes.value value (omega (arith, lengths, e.within, h.short))
 
-        pub pass-value : length value ≡ 1024 → k ≤ length value
+        pub pass-value : length value ≡ 1024 → sizes.value ≤ length value
         pass-value v = omega (arith, lengths, e.within, h.short)
 
         abbrev named : List ℕ
         named = take used bytes ++ (out ++ drop (length bytes - used) (drop used bytes))
 
-        pub pass_room : length value ≡ 1024 → length out ≡ length (take (length bytes - used) (drop used bytes)) → length (take k value) + (used + n) ≤ length named
+        pub pass_room : length value ≡ 1024 → length out ≡ length (take (length bytes - used) (drop used bytes)) → length (take sizes.value value) + (used + sizes.name) ≤ length named
         pass_room v l =
             let rest = drop (length bytes - used) (drop used bytes) in
-            omega (arith, length-append (take used bytes) (out ++ rest), length-append out rest, l, length-take-le (length bytes - used) (drop used bytes) (omega (arith, length-drop used bytes)), length-take-le used bytes (pass_used long), length-drop used bytes, lengths, e.within, h.behind, h.room, long, length-take-le k value (pass-value v))
+            omega (arith, length-append (take used bytes) (out ++ rest), length-append out rest, l, length-take-le (length bytes - used) (drop used bytes) (omega (arith, length-drop used bytes)), length-take-le used bytes (pass_used long), length-drop used bytes, lengths, e.within, h.behind, h.room, long, length-take-le sizes.value value (pass-value v))
 
-        pub pass_few : length value ≡ 1024 → rows.count + length (take k value) < 4000
-        pass_few v = omega (arith, lengths, e.within, h.counted, h.within m, h.short, length-take-le k value (pass-value v))
+        pub pass_few : length value ≡ 1024 → rows.count + length (take sizes.value value) < 4000
+        pass_few v = omega (arith, lengths, e.within, h.counted, h.within m, h.short, length-take-le sizes.value value (pass-value v))
 
         width : length (take used bytes) ≡ used
         width = length-take-le used bytes (pass_used long)
@@ -193,25 +193,25 @@ module _ {text bytes₀ bytes : List ℕ} {rows : Rows} {used at : ℕ} {more : 
         nothing_more : drop (length bytes - used) (drop used bytes) ≡ []
         nothing_more = drop_of_length-le (drop used bytes) {i = length bytes - used} (omega (arith, length-drop used bytes))
 
-        name_there : part named used (used + n) ≡ take n out
+        name_there : part named used (used + sizes.name) ≡ take sizes.name out
         name_there =
-            let w : used + n - used ≡ n = omega arith in
+            let w : used + sizes.name - used ≡ sizes.name = omega arith in
             ap (λ (j : ℕ). take j (drop used named)) w
-            ∙ ap (λ (j : ℕ). take n (drop j named)) (sym width ∙ plus_zero (length (take used bytes)))
-            ∙ ap (take n) (drop-append-add (take used bytes) (out ++ drop (length bytes - used) (drop used bytes)) 0)
-            ∙ ap (λ (l : List ℕ). take n (out ++ l)) nothing_more ∙ ap (take n) (append-nil out)
+            ∙ ap (λ (j : ℕ). take sizes.name (drop j named)) (sym width ∙ plus_zero (length (take used bytes)))
+            ∙ ap (take sizes.name) (drop-append-add (take used bytes) (out ++ drop (length bytes - used) (drop used bytes)) 0)
+            ∙ ap (λ (l : List ℕ). take sizes.name (out ++ l)) nothing_more ∙ ap (take sizes.name) (append-nil out)
           where
             plus_zero : (j : ℕ) → j ≡ j + 0
             plus_zero j = omega arith
 
         abbrev alternatives : List Alternative
-        alternatives = map (alternative at (take n out)) (cut_signs (signs_of false (take k value)))
+        alternatives = map (alternative at (take sizes.name out)) (cut_signs (signs_of false (take sizes.value value)))
 
         read_here : read_pair at (part text at end) ≡ found alternatives
         read_here = by_case (subst (PairOf (part text at end) out value) is p)
           where
-            by_case : PairOf (part text at end) out value (PairRead.Lengths n k) → read_pair at (part text at end) ≡ found alternatives
-            by_case (pair-of z l) = z at
+            by_case : PairOf (part text at end) out value (Some sizes) → read_pair at (part text at end) ≡ found alternatives
+            by_case (pair-of z few) = z at
 
         read-on : (fuel : ℕ) → length text < at + fuel → (f : ℕ) × (fuel ≡ suc f)
         read-on zero l = absurd (let w : at ≤ length text = h.within m in omega arith)
@@ -224,24 +224,24 @@ module _ {text bytes₀ bytes : List ℕ} {rows : Rows} {used at : ℕ} {more : 
             h.left m ∙ ap (λ (f : ℕ). after h.done (read_pairs f at (drop at text))) (read-on h.fuel (h.enough m)).1
             ∙ ap (after h.done) step
 
-        pub pass-next : length value ≡ 1024 → (bytes' : List ℕ) (held : Held) → PairHeld (take k value) at used (used + n) (used + n) named rows bytes' held
+        pub pass-next : length value ≡ 1024 → (bytes' : List ℕ) (held : Held) → PairHeld (take sizes.value value) at used (used + sizes.name) (used + sizes.name) named rows bytes' held
             → Pass text bytes₀ bytes' held.rows held.used (end + 1) (ltb end (length text))
         pass-next v bytes' held p' =
             let f = (read-on h.fuel (h.enough m)).0 in
             let fe : h.fuel ≡ suc f = (read-on h.fuel (h.enough m)).1 in
-            let kept = p'.keeps (keep_all h.done) (keeps_on named (used + n) h.keeps same_front (omega arith)) in
+            let kept = p'.keeps (keep_all h.done) (keeps_on named (used + sizes.name) h.keeps same_front (omega arith)) in
             record {
               done = h.done ++ (alternatives ∷ []);
               fuel = f;
               keeps = subst (Keeps held.rows bytes' held.used) (sym (keep_more h.done alternatives))
-                  (subst (λ (l : List ℕ). Keeps held.rows bytes' held.used (keep_all h.done ++ keep_pair (map (alternative at l) (cut_signs (signs_of false (take k value)))))) name_there kept);
+                  (subst (λ (l : List ℕ). Keeps held.rows bytes' held.used (keep_all h.done ++ keep_pair (map (alternative at l) (cut_signs (signs_of false (take sizes.value value)))))) name_there kept);
               enough = λ t. omega (arith, e.from, h.enough m, fe);
               within = λ t. omega (arith, ltb-true end (length text) t);
               left = λ t. whole ∙ rw t (after_next h.done alternatives (read_pairs f (end + 1) (drop (end + 1) text)));
               all = λ t. whole ∙ rw t;
-              behind = omega (arith, p'.upper, lengths, h.behind, e.from, length-take-le k value (pass-value v));
-              inside = omega (arith, p'.upper, lengths, h.behind, e.within, length-take-le k value (pass-value v));
-              counted = omega (arith, p'.count, lengths, h.counted, e.from, length-take-le k value (pass-value v));
+              behind = omega (arith, p'.upper, lengths, h.behind, e.from, length-take-le sizes.value value (pass-value v));
+              inside = omega (arith, p'.upper, lengths, h.behind, e.within, length-take-le sizes.value value (pass-value v));
+              counted = omega (arith, p'.count, lengths, h.counted, e.from, length-take-le sizes.value value (pass-value v));
               short = h.short;
               room = h.room;
             }

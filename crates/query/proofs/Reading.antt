@@ -1,11 +1,11 @@
 -- The reader reads exactly what is spelled.
 -- Assumes nothing.
+use Rattle.std.specs.Prelude.{Option, Some, None}
 use Prim.Native.Nat.{ℕ, zero, suc, ◌+◌, ◌≤◌, ◌<◌}
 use native.Mathlib.Omega.{arith}
 use mathlib.Core.Path.{◌≡◌, refl, ap, sym, ◌∙◌, subst}
 use mathlib.Core.Bool.{Bool, true, false, cond, ◌||◌}
 use mathlib.Core.Logic.{◌↔◌}
-use mathlib.Core.Option.{Option, none, some}
 use mathlib.Core.List.{List, [], ◌∷◌, ◌++◌, map}
 use lib.Dec.{eqb, leb, ltb}
 use lib.ListN.{length}
@@ -38,10 +38,10 @@ unfolding read_pair
 pair-whole p s h = rw (whole_end equals s h, le-ltb (length s) (length s) (omega arith))
 
 pairs_of : (p : ℕ) (n u : Option (List ℕ)) (a : List Alternative) → pair_of p n u ≡ found a
-    → (m : List ℕ) × (v : List ℕ) × (n ≡ some m) × (u ≡ some v) × (a ≡ map (alternative p m) (cut_signs (signs_of false v)))
-pairs_of p (some m) (some v) a e = (m, v, refl, refl, cc)
-pairs_of p (some m) none a e = absurd (let z : ◌≡◌ {A = ℕ} 0 1 = cc in omega arith)
-pairs_of p none u a e = absurd (let z : ◌≡◌ {A = ℕ} 0 1 = cc in omega arith)
+    → (m : List ℕ) × (v : List ℕ) × (n ≡ Some m) × (u ≡ Some v) × (a ≡ map (alternative p m) (cut_signs (signs_of false v)))
+pairs_of p (Some m) (Some v) a e = (m, v, refl, refl, cc)
+pairs_of p (Some m) None a e = absurd (let z : ◌≡◌ {A = ℕ} 0 1 = cc in omega arith)
+pairs_of p None u a e = absurd (let z : ◌≡◌ {A = ℕ} 0 1 = cc in omega arith)
 
 pub without-left : (b : ℕ) (m w : List ℕ) → Without b (m ++ w) → Without b m
 without-left b [] w h = all_empty

@@ -1,8 +1,7 @@
 -- Search strings as they are read: a pair at a time, from left to right.
 -- Assumes nothing.
-use Rattle.std.specs.Prelude.{ℕ, zero, suc, ◌+◌, ◌*◌, ◌-◌, Bool, true, false, cond, ◌||◌, ◌&&◌, List, [], ◌∷◌, map, eqb, leb, ltb, length, drop, take}
+use Rattle.std.specs.Prelude.{ℕ, zero, suc, ◌+◌, ◌*◌, ◌-◌, Bool, true, false, cond, ◌||◌, List, [], ◌∷◌, map, eqb, leb, ltb, length, drop, take, Option, Some, None}
 use Prim.Native.Char.{code}
-use Rattle.std.proofs.Math.Option.{Option, none, some}
 use Rattle.base.specs.Lists.{member}
 use Rattle.base.specs.Digits.{is_digit}
 use Rattle.base.specs.Between.{between}
@@ -12,23 +11,29 @@ use Rattle.text.specs.Bar.{bar}
 use Rattle.refusal.specs.Steps.{Step, found, stop, ◌>>=◌}
 use Rattle.query.specs.Spelling.{ampersand, equals, percent, plus, comma, Sign, byte, cut, split, Alternative, Query, alternatives_of}
 
--- the value of a hex digit, or 16 where the byte is none
-unfoldable pub hex_value : ℕ → ℕ
+-- the value of a hex digit, where the byte is one
+unfoldable pub hex_value : ℕ → Option ℕ
 hex_value b =
-    cond (is_digit b) (b - code "0") (cond (between (code "A") (code "F") b) (b - code "A" + 10) (cond (between (code "a") (code "f") b) (b - code "a" + 10) 16))
+    cond (is_digit b) (Some (b - code "0")) (cond (between (code "A") (code "F") b) (Some (b - code "A" + 10)) (cond (between (code "a") (code "f") b) (Some (b - code "a" + 10)) None))
 
-abbrev pub prepend : ℕ → Option (List ℕ) → Option (List ℕ)
-prepend b (some v) = some (b ∷ v)
-prepend b none = none
+-- the byte of two hex digits
+abbrev pub hex_byte : Option ℕ → Option ℕ → Option ℕ
+hex_byte (Some h) (Some l) = Some (h * 16 + l)
+hex_byte (Some h) None = None
+hex_byte None l = None
+
+abbrev pub prepend : Option ℕ → Option (List ℕ) → Option (List ℕ)
+prepend (Some b) (Some v) = Some (b ∷ v)
+prepend (Some b) None = None
+prepend None v = None
 
 -- the bytes that a name or a value stands for; none where a % is bad
 unfoldable pub decoded : List ℕ → Option (List ℕ)
-decoded [] = some []
-decoded (b ∷ []) = cond (eqb b percent) none (some (cond (eqb b plus) 0x20 b ∷ []))
-decoded (b ∷ h ∷ []) = cond (eqb b percent) none (prepend (cond (eqb b plus) 0x20 b) (decoded (h ∷ [])))
+decoded [] = Some []
+decoded (b ∷ []) = cond (eqb b percent) None (Some (cond (eqb b plus) 0x20 b ∷ []))
+decoded (b ∷ h ∷ []) = cond (eqb b percent) None (prepend (Some (cond (eqb b plus) 0x20 b)) (decoded (h ∷ [])))
 decoded (b ∷ h ∷ l ∷ s) =
-    cond (eqb b percent) (cond (ltb (hex_value h) 16 && ltb (hex_value l) 16) (prepend (hex_value h * 16 + hex_value l) (decoded s)) none)
-    (prepend (cond (eqb b plus) 0x20 b) (decoded (h ∷ l ∷ s)))
+    cond (eqb b percent) (prepend (hex_byte (hex_value h) (hex_value l)) (decoded s)) (prepend (Some (cond (eqb b plus) 0x20 b)) (decoded (h ∷ l ∷ s)))
 
 -- whether a backslash makes the byte plain
 unfoldable pub is_special : ℕ → Bool
@@ -78,9 +83,9 @@ abbrev pub alternative : ℕ → List ℕ → List Sign → Alternative
 alternative p n w = record { at = p; name = n; text = text_of w; split = split_of w }
 
 abbrev pub pair_of : ℕ → Option (List ℕ) → Option (List ℕ) → Step (List Alternative)
-pair_of p (some n) (some u) = found (map (alternative p n) (cut_signs (signs_of false u)))
-pair_of p (some n) none = stop 50 p
-pair_of p none u = stop 50 p
+pair_of p (Some n) (Some u) = found (map (alternative p n) (cut_signs (signs_of false u)))
+pair_of p (Some n) None = stop 50 p
+pair_of p None u = stop 50 p
 
 -- 50: "a bad % or no "=" in a pair", place "the pair's first byte"
 unfoldable pub read_pair : ℕ → List ℕ → Step (List Alternative)

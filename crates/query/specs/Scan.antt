@@ -1,38 +1,31 @@
 -- What the reader's code answers: the byte at a position of a name or a value, what stands at a position of a decoded value, an alternative.
 -- Assumes nothing.
-use Rattle.std.specs.Prelude.{ℕ, ◌+◌, ◌*◌, ◌≤◌, ◌<◌, ◌≡◌, true, false, cond, List, [], ◌∷◌, map, eqb, ltb, length, get_or, take, drop}
-use Rattle.std.proofs.Math.Option.{none, some}
+use Rattle.std.specs.Prelude.{ℕ, ◌+◌, ◌≤◌, ◌<◌, ◌≡◌, true, false, cond, List, [], ◌∷◌, map, eqb, ltb, length, get_or, take, drop, Option, Some, None}
 use Rattle.text.specs.Bar.{bar}
 use Rattle.syntax.specs.Strings.{backslash}
 use Rattle.query.specs.Spelling.{percent, plus, comma, Sign, byte, cut, split}
 use Rattle.refusal.specs.Steps.{found, stop}
-use Rattle.query.specs.Reader.{hex_value, decoded, signs_of, read_pair, is_special, cut_signs, text_of, split_of, alternative}
-use Rattle.query.specs.declared.Read.{Read}
-use Rattle.query.specs.declared.Decoded.{Decoded}
+use Rattle.query.specs.Reader.{hex_value, hex_byte, decoded, signs_of, read_pair, is_special, cut_signs, text_of, split_of, alternative}
+use Rattle.query.specs.declared.DecodedByte.{DecodedByte}
 use Rattle.query.specs.declared.Mark.{Mark}
 use Rattle.query.specs.declared.Piece.{Piece}
-use Rattle.query.specs.declared.PairRead.{PairRead}
+use Rattle.query.specs.declared.PairLengths.{PairLengths}
 
 -- ---- decoding
 
--- r is a hex digit's value, or 16
-pub record HexValue (b r : ℕ) : Type 0 where
-  pub is : r ≡ hex_value b
-  pub most : r ≤ 16
+abbrev pub unit_of : Option ℕ → ℕ → Option DecodedByte
+unit_of (Some b) next = Some (record { byte = b; next = next })
+unit_of None next = None
 
-unfoldable pub hex_pair : ℕ → ℕ → ℕ → Read
-hex_pair h l next =
-    cond (ltb (hex_value h) 16) (cond (ltb (hex_value l) 16) (Read.Byte (hex_value h * 16 + hex_value l) next) Read.Bad) Read.Bad
-
-unfoldable pub unit_at : List ℕ → ℕ → Read
+unfoldable pub unit_at : List ℕ → ℕ → Option DecodedByte
 unit_at raw i =
-    cond (eqb (get_or raw i 0) percent) (cond (ltb (i + 2) (length raw)) (hex_pair (get_or raw (i + 1) 0) (get_or raw (i + 2) 0) (i + 3)) Read.Bad)
-    (cond (eqb (get_or raw i 0) plus) (Read.Byte 0x20 (i + 1)) (Read.Byte (get_or raw i 0) (i + 1)))
+    cond (eqb (get_or raw i 0) percent) (cond (ltb (i + 2) (length raw)) (unit_of (hex_byte (hex_value (get_or raw (i + 1) 0)) (hex_value (get_or raw (i + 2) 0))) (i + 3)) None)
+    (unit_of (Some (cond (eqb (get_or raw i 0) plus) 0x20 (get_or raw i 0))) (i + 1))
 
 -- what `decode` leaves: the first bytes of out are the decoded ones
-pub data DecodesTo (raw out : List ℕ) : Decoded → Type 0 where
-  decodes_bytes : {n : ℕ} → decoded raw ≡ some (take n out) → n ≤ length raw → DecodesTo raw out (Decoded.Bytes n)
-  decodes_bad : decoded raw ≡ none → DecodesTo raw out Decoded.Bad
+pub data DecodesTo (raw out : List ℕ) : Option ℕ → Type 0 where
+  decodes_bytes : {n : ℕ} → decoded raw ≡ Some (take n out) → n ≤ length raw → DecodesTo raw out (Some n)
+  decodes_bad : decoded raw ≡ None → DecodesTo raw out None
 
 -- ---- alternatives
 
@@ -72,6 +65,6 @@ pub record PieceOf (s : List ℕ) (at : ℕ) (out : List ℕ) (r : Piece) : Type
 -- ---- a pair
 
 -- what `read_pair` leaves, wherever the pair begins
-pub data PairOf (pair name value : List ℕ) : PairRead → Type 0 where
-  pair-of : {n m : ℕ} → ((p : ℕ) → read_pair p pair ≡ found (map (alternative p (take n name)) (cut_signs (signs_of false (take m value))))) → n + m < length pair → PairOf pair name value (PairRead.Lengths n m)
-  pair_of_none : ((p : ℕ) → read_pair p pair ≡ stop 50 p) → PairOf pair name value PairRead.Bad
+pub data PairOf (pair name value : List ℕ) : Option PairLengths → Type 0 where
+  pair-of : {n m : ℕ} → ((p : ℕ) → read_pair p pair ≡ found (map (alternative p (take n name)) (cut_signs (signs_of false (take m value))))) → n + m < length pair → PairOf pair name value (Some (record { name = n; value = m }))
+  pair_of_none : ((p : ℕ) → read_pair p pair ≡ stop 50 p) → PairOf pair name value None

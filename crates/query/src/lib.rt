@@ -9,18 +9,11 @@ mod query;
 pub use query::{accept_query, no_rows};
 use refusal::Refusal;
 
-// A byte that a name or a value stands for, and where the text goes on; or a bad %.
+// A byte that a name or a value stands for, and where the text goes on.
 #[derive(Clone, Copy)]
-pub enum Read {
-    Byte(u8, usize),
-    Bad,
-}
-
-// How many bytes a name or a value stands for; or a bad %.
-#[derive(Clone, Copy)]
-pub enum Decoded {
-    Bytes(usize),
-    Bad,
+pub struct DecodedByte {
+    pub byte: u8,
+    pub next: usize,
 }
 
 // What stands at a position of a decoded value, and where the value goes on: a byte, a comma that cuts, a bar that splits.
@@ -40,11 +33,11 @@ pub struct Piece {
     pub more: bool,
 }
 
-// How many bytes the name and the value of a pair stand for; or that there is no "=" or a bad %.
+// How many bytes the name and the value of a pair stand for.
 #[derive(Clone, Copy)]
-pub enum PairRead {
-    Lengths(usize, usize),
-    Bad,
+pub struct PairLengths {
+    pub name: usize,
+    pub value: usize,
 }
 
 // An alternative as it is kept: its pair's first byte, its name and its text in the buffer, where a token is split, and whether its pair ends with it.

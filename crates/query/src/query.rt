@@ -4,7 +4,7 @@ ghost use Rattle.query.specs.Rows.{pushed, PairHeld, QueryOf, AcceptsQuery};
 
 use crate::pair::read_pair;
 use crate::pieces::next_alternative;
-use crate::{Held, PairRead, QueryRead, Row, Rows};
+use crate::{Held, QueryRead, Row, Rows};
 use refusal::{Reason, refuse};
 
 // The rows with one more; beyond 32 they are only counted.
@@ -98,14 +98,14 @@ pub fn read_query(text: &[u8], bytes: &mut [u8]) -> QueryRead
     while more {
         let end = base::first_from(text, at, b'&');
         let read = read_pair(&text[at..end], &mut bytes[used..], &mut value);
-        let PairRead::Lengths(name_len, value_len) = read else {
+        let Some(lengths) = read else {
             return QueryRead {
                 rows,
                 decision: refuse(Reason::NoPair, at),
             };
         };
-        let until = used + name_len;
-        let held = keep_pair(&value[..value_len], at, used, until, until, bytes, rows);
+        let until = used + lengths.name;
+        let held = keep_pair(&value[..lengths.value], at, used, until, until, bytes, rows);
         rows = held.rows;
         used = held.used;
         more = end < text.len();

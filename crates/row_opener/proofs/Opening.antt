@@ -4,6 +4,7 @@
 -- places go into one number and come out again by division (`cells-back`). The loop over the rows keeps `Opening`: two lists have the cells
 -- of the rows so far (`Opens`), one row more at each turn (`opening_next`). Parts of rows are opened by parts of the lists.
 -- Assumes nothing.
+use Rattle.std.specs.Prelude.{Option, Some, None}
 use Prim.Native.Nat.{ℕ, ◌+◌, ◌*◌, ◌-◌, ◌/◌, ◌%◌, ◌≤◌, ◌<◌}
 use native.Mathlib.Omega.{arith}
 use mathlib.Core.Path.{◌≡◌, refl, sym, ap, ap₂, subst, ◌∙◌}
@@ -17,10 +18,8 @@ use Rattle.base.specs.Parts.{part}
 use Rattle.base.proofs.Parts.{part_length}
 use borrow.Author.Tests.{lt-ltb, le-ltb, eq-eqb, ne_eqb, eqb-true, eqb-false}
 use Rattle.number.specs.Reading as numbers
-use Rattle.number.specs.declared.NumberReading.{NumberReading}
 use Rattle.number.specs.declared.Decimal.{Decimal}
 use Rattle.number.proofs.Spelling.{number_bounded}
-use Rattle.date.specs.declared.DateReading.{DateReading}
 use Rattle.date.specs.declared.Date.{Date}
 use Rattle.syntax.specs.Placed.{PlacedValue}
 use Rattle.syntax.specs.Scan.{value_at}
@@ -45,29 +44,29 @@ use Rattle.row_opener.specs.declared.Opened.{Opened}
 
 -- ---- what a value reads to is small
 
-not_both : (a : Decimal) → NumberReading.Unreadable ≡ NumberReading.Number a → ⊥
+not_both : (a : Decimal) → None ≡ Some a → ⊥
 not_both a h = let z : ◌≡◌ {A = ℕ} 0 1 = cc in omega arith
 
-sane_unread : (d : DateReading) → Sane NumberReading.Unreadable d
+sane_unread : (d : Option Date) → Sane None d
 sane_unread d = record { decimals = λ a h. absurd (not_both a h); alone = λ a h. absurd (not_both a h) }
 
 sane_of : (r : Relation) (w : List ℕ) → Sane (readings_of r w).number (readings_of r w).date
 unfolding readings_of
-sane_of (Relation.Strings r) w = sane_unread DateReading.Unreadable
+sane_of (Relation.Strings r) w = sane_unread None
 sane_of (Relation.Numbers r) w = record { decimals = λ a h. (number_bounded w (numbers.read w) a refl h).few_decimals; alone = λ a h. refl }
 sane_of (Relation.Dates r) w = sane_unread (readings_of (Relation.Dates r) w).date
-sane_of Relation.Tokens w = sane_unread DateReading.Unreadable
-sane_of Relation.References w = sane_unread DateReading.Unreadable
+sane_of Relation.Tokens w = sane_unread None
+sane_of Relation.References w = sane_unread None
 
 sane_for : (m : Meaning) (w : List ℕ) → Sane (readings_for m w).number (readings_for m w).date
 unfolding readings_for
-sane_for Meaning.Present w = sane_unread DateReading.Unreadable
+sane_for Meaning.Present w = sane_unread None
 sane_for (Meaning.Relates r) w = sane_of r w
 sane_for (Meaning.Differs r) w = sane_of r w
-sane_for Meaning.Nothing w = sane_unread DateReading.Unreadable
+sane_for Meaning.Nothing w = sane_unread None
 
 closed_small : Small closed
-closed_small = record { sane = sane_unread DateReading.Unreadable; start_most = omega arith; end_most = omega arith }
+closed_small = record { sane = sane_unread None; start_most = omega arith; end_most = omega arith }
 
 for_small : (kinds xs : List ℕ) (p : Probe) → length xs ≤ 1024 → Small (opened_for kinds xs p)
 unfolding opened_for opened_value
@@ -95,22 +94,22 @@ opened_small kinds xs c o e l = subst Small (sym e) (row_small kinds xs c l)
 
 -- ---- cells stand for what was opened
 
-mark_most : (n : NumberReading) (d : DateReading) → Sane n d → mark_of n d ≤ 11
-mark_most (NumberReading.Number a) d s = omega (arith, s.decimals a refl)
-mark_most NumberReading.Unreadable (DateReading.Readable d) s = omega arith
-mark_most NumberReading.Unreadable DateReading.Unreadable s = omega arith
+mark_most : (n : Option Decimal) (d : Option Date) → Sane n d → mark_of n d ≤ 11
+mark_most (Some a) d s = omega (arith, s.decimals a refl)
+mark_most None (Some d) s = omega arith
+mark_most None None s = omega arith
 
-number-back : (n : NumberReading) (d : DateReading) → Sane n d → number_from (mark_of n d) (digits_of n) ≡ n
+number-back : (n : Option Decimal) (d : Option Date) → Sane n d → number_from (mark_of n d) (digits_of n) ≡ n
 unfolding number_from
-number-back (NumberReading.Number a) d s = rw (lt-ltb a.decimals 10 (omega (arith, s.decimals a refl)))
-number-back NumberReading.Unreadable (DateReading.Readable d) s = refl
-number-back NumberReading.Unreadable DateReading.Unreadable s = refl
+number-back (Some a) d s = rw (lt-ltb a.decimals 10 (omega (arith, s.decimals a refl)))
+number-back None (Some d) s = refl
+number-back None None s = refl
 
-date-back : (n : NumberReading) (d : DateReading) → Sane n d → date_from (mark_of n d) (start_of d) (end_of d) ≡ d
+date-back : (n : Option Decimal) (d : Option Date) → Sane n d → date_from (mark_of n d) (start_of d) (end_of d) ≡ d
 unfolding date_from
-date-back (NumberReading.Number a) d s = ap (λ (t : Bool). cond t (DateReading.Readable (record { start = start_of d; end = end_of d })) DateReading.Unreadable) (ne_eqb a.decimals 10 (λ z. omega (arith, s.decimals a refl, z))) ∙ sym (s.alone a refl)
-date-back NumberReading.Unreadable (DateReading.Readable d) s = refl
-date-back NumberReading.Unreadable DateReading.Unreadable s = refl
+date-back (Some a) d s = ap (λ (t : Bool). cond t (Some (record { start = start_of d; end = end_of d })) None) (ne_eqb a.decimals 10 (λ z. omega (arith, s.decimals a refl, z))) ∙ sym (s.alone a refl)
+date-back None (Some d) s = refl
+date-back None None s = refl
 
 bit_most : (b : Bool) → bit b ≤ 1
 bit_most true = omega arith
@@ -120,7 +119,7 @@ flag_back : (b : Bool) (n : ℕ) → n ≡ bit b → eqb n 1 ≡ b
 flag_back true n e = eq-eqb n 1 e
 flag_back false n e = ne_eqb n 1 (λ z. omega (arith, e, z))
 
-opened-same : {f g : Bool} {e h : Bool} {t u : Bool} {a b : ℕ} {c d : ℕ} {x y : NumberReading} {p q : DateReading} → f ≡ g → e ≡ h → t ≡ u → a ≡ b → c ≡ d → x ≡ y → p ≡ q
+opened-same : {f g : Bool} {e h : Bool} {t u : Bool} {a b : ℕ} {c d : ℕ} {x y : Option Decimal} {p q : Option Date} → f ≡ g → e ≡ h → t ≡ u → a ≡ b → c ≡ d → x ≡ y → p ≡ q
     → ◌≡◌ {A = Opened} (record { found = f; escaped = e; truth = t; start = a; end = c; readings = record { number = x; date = p } }) (record { found = g; escaped = h; truth = u; start = b; end = d; readings = record { number = y; date = q } })
 opened-same i j k l m n o = rw (i, j, k, l, m, n, o)
 
@@ -270,48 +269,48 @@ module _ (kinds xs : List ℕ) (c : ℕ) (r : Row) (e : r ≡ row_of c) (o : Ope
 
 -- ---- the functions that make cells of it, and it of cells
 
-pub mark-number : (n : NumberReading) (d : DateReading) (a : Decimal) (r : ℕ) → n ≡ NumberReading.Number a → (r ≡ a.decimals) × (r ≤ 11) → (r ≡ mark_of n d) × (r ≤ 11)
+pub mark-number : (n : Option Decimal) (d : Option Date) (a : Decimal) (r : ℕ) → n ≡ Some a → (r ≡ a.decimals) × (r ≤ 11) → (r ≡ mark_of n d) × (r ≤ 11)
 mark-number n d a r h e = (rw h e.0, e.1)
 
-pub mark_few : (n : NumberReading) (d : DateReading) (a : Decimal) → Sane n d → n ≡ NumberReading.Number a → a.decimals ≤ 9
+pub mark_few : (n : Option Decimal) (d : Option Date) (a : Decimal) → Sane n d → n ≡ Some a → a.decimals ≤ 9
 mark_few n d a s h = s.decimals a h
 
-pub mark-date : (n : NumberReading) (d : DateReading) (r : ℕ) → n ≡ NumberReading.Unreadable → (r ≡ date_mark d) × (r ≤ 11) → (r ≡ mark_of n d) × (r ≤ 11)
+pub mark-date : (n : Option Decimal) (d : Option Date) (r : ℕ) → n ≡ None → (r ≡ date_mark d) × (r ≤ 11) → (r ≡ mark_of n d) × (r ≤ 11)
 mark-date n d r h e = (rw h e.0, e.1)
 
 pub span_is : (o : Opened) (f e t m : ℕ) → f ≡ bit o.found → e ≡ bit o.escaped → t ≡ bit o.truth → m ≡ mark_of o.readings.number o.readings.date → f + 2 * (e + 2 * (t + 2 * (m + 16 * (o.start + 2048 * o.end)))) ≡ span_of o
 unfolding span_of
 span_is o f e t m a b c d = rw (a, b, c, d)
 
-pub number-known : (mark digits : ℕ) → mark < 10 → NumberReading.Number (record { digits = digits; decimals = mark }) ≡ number_from mark digits
+pub number-known : (mark digits : ℕ) → mark < 10 → Some (record { digits = digits; decimals = mark }) ≡ number_from mark digits
 unfolding number_from
 number-known mark digits h = rw (lt-ltb mark 10 h)
 
-pub number_none : (mark digits : ℕ) → 10 ≤ mark → NumberReading.Unreadable ≡ number_from mark digits
+pub number_none : (mark digits : ℕ) → 10 ≤ mark → None ≡ number_from mark digits
 unfolding number_from
 number_none mark digits h = rw (le-ltb mark 10 h)
 
-pub date-known : (mark : ℕ) (start end : ℤ) → mark ≡ 10 → DateReading.Readable (record { start = start; end = end }) ≡ date_from mark start end
+pub date-known : (mark : ℕ) (start end : ℤ) → mark ≡ 10 → Some (record { start = start; end = end }) ≡ date_from mark start end
 unfolding date_from
 date-known mark start end h = rw (eq-eqb mark 10 h)
 
-pub date_none : (mark : ℕ) (start end : ℤ) → (mark ≡ 10 → ⊥) → DateReading.Unreadable ≡ date_from mark start end
+pub date_none : (mark : ℕ) (start end : ℤ) → (mark ≡ 10 → ⊥) → None ≡ date_from mark start end
 unfolding date_from
 date_none mark start end h = rw (ne_eqb mark 10 h)
 
-pub start-known : (d : DateReading) (a : Date) → d ≡ DateReading.Readable a → a.start ≡ start_of d
+pub start-known : (d : Option Date) (a : Date) → d ≡ Some a → a.start ≡ start_of d
 start-known d a h = rw h
 
-pub start_none : (d : DateReading) → d ≡ DateReading.Unreadable → pos 0 ≡ start_of d
+pub start_none : (d : Option Date) → d ≡ None → pos 0 ≡ start_of d
 start_none d h = rw h
 
-pub end_known : (d : DateReading) (a : Date) → d ≡ DateReading.Readable a → a.end ≡ end_of d
+pub end_known : (d : Option Date) (a : Date) → d ≡ Some a → a.end ≡ end_of d
 end_known d a h = rw h
 
-pub end_none : (d : DateReading) → d ≡ DateReading.Unreadable → pos 0 ≡ end_of d
+pub end_none : (d : Option Date) → d ≡ None → pos 0 ≡ end_of d
 end_none d h = rw h
 
-pub from_is : (n digits : ℕ) (start end : ℤ) (x : NumberReading) (y : DateReading) (a b : ℤ) → x ≡ number_from (n / 8 % 16) digits → y ≡ date_from (n / 8 % 16) a b → a ≡ start → b ≡ end
+pub from_is : (n digits : ℕ) (start end : ℤ) (x : Option Decimal) (y : Option Date) (a b : ℤ) → x ≡ number_from (n / 8 % 16) digits → y ≡ date_from (n / 8 % 16) a b → a ≡ start → b ≡ end
     → ◌≡◌ {A = Opened} (record { found = eqb (n % 2) 1; escaped = eqb (n / 2 % 2) 1; truth = eqb (n / 4 % 2) 1; start = n / 128 % 2048; end = n / 128 / 2048; readings = record { number = x; date = y } }) (opened_from n digits start end)
 unfolding opened_from
 from_is n digits start end x y a b e h i j = rw (e, h ∙ ap₂ (date_from (n / 8 % 16)) i j)

@@ -1,9 +1,7 @@
 -- What the value of a test reads to, opened once for many cards, and the cells that have it.
 -- Assumes nothing.
-use Rattle.std.specs.Prelude.{ℕ, ◌+◌, ◌*◌, ◌/◌, ◌%◌, ◌≤◌, ◌<◌, ◌≡◌, true, false, cond, List, eqb, ltb, ℤ, pos, length, get_or}
+use Rattle.std.specs.Prelude.{ℕ, ◌+◌, ◌*◌, ◌/◌, ◌%◌, ◌≤◌, ◌<◌, ◌≡◌, true, false, cond, List, eqb, ltb, ℤ, pos, length, get_or, Option, Some, None}
 use Rattle.base.specs.Parts.{part}
-use Rattle.number.specs.declared.NumberReading.{NumberReading}
-use Rattle.date.specs.declared.DateReading.{DateReading}
 use Rattle.syntax.specs.Scan.{value_at, contents}
 use Rattle.syntax.specs.declared.RawValue.{RawValue}
 use Rattle.syntax.specs.declared.FoundValue.{FoundValue}
@@ -17,6 +15,8 @@ use Rattle.rows.specs.Shapes.{bit, value_in}
 use Rattle.rows.specs.declared.Probe.{Probe}
 use Rattle.rows.specs.declared.Row.{Row}
 use Rattle.row_opener.specs.declared.Opened.{Opened}
+use Rattle.number.specs.declared.Decimal.{Decimal}
+use Rattle.date.specs.declared.Date.{Date}
 
 -- ---- the value of a test
 
@@ -58,35 +58,35 @@ pub record Known (xs : List ℕ) (m : Meaning) (o : Opened) : Type 0 where
 -- ---- its cells: flags, a mark for what it reads to, and where it stands; a number's digits; a date's ends
 
 -- a number's count of decimals; 10 for a date, 11 for neither
-abbrev pub date_mark : DateReading → ℕ
-date_mark (DateReading.Readable d) = 10
-date_mark DateReading.Unreadable = 11
+abbrev pub date_mark : Option Date → ℕ
+date_mark (Some d) = 10
+date_mark None = 11
 
-abbrev pub mark_of : NumberReading → DateReading → ℕ
-mark_of (NumberReading.Number n) d = n.decimals
-mark_of NumberReading.Unreadable d = date_mark d
+abbrev pub mark_of : Option Decimal → Option Date → ℕ
+mark_of (Some n) d = n.decimals
+mark_of None d = date_mark d
 
-abbrev pub digits_of : NumberReading → ℕ
-digits_of (NumberReading.Number n) = n.digits
-digits_of NumberReading.Unreadable = 0
+abbrev pub digits_of : Option Decimal → ℕ
+digits_of (Some n) = n.digits
+digits_of None = 0
 
-abbrev pub start_of : DateReading → ℤ
-start_of (DateReading.Readable d) = d.start
-start_of DateReading.Unreadable = pos 0
+abbrev pub start_of : Option Date → ℤ
+start_of (Some d) = d.start
+start_of None = pos 0
 
-abbrev pub end_of : DateReading → ℤ
-end_of (DateReading.Readable d) = d.end
-end_of DateReading.Unreadable = pos 0
+abbrev pub end_of : Option Date → ℤ
+end_of (Some d) = d.end
+end_of None = pos 0
 
 unfoldable pub span_of : Opened → ℕ
 span_of o = bit o.found + 2 * (bit o.escaped + 2 * (bit o.truth + 2 * (mark_of o.readings.number o.readings.date + 16 * (o.start + 2048 * o.end))))
 
 -- what cells stand for
-unfoldable pub number_from : ℕ → ℕ → NumberReading
-number_from mark digits = cond (ltb mark 10) (NumberReading.Number (record { digits = digits; decimals = mark })) NumberReading.Unreadable
+unfoldable pub number_from : ℕ → ℕ → Option Decimal
+number_from mark digits = cond (ltb mark 10) (Some (record { digits = digits; decimals = mark })) None
 
-unfoldable pub date_from : ℕ → ℤ → ℤ → DateReading
-date_from mark start end = cond (eqb mark 10) (DateReading.Readable (record { start = start; end = end })) DateReading.Unreadable
+unfoldable pub date_from : ℕ → ℤ → ℤ → Option Date
+date_from mark start end = cond (eqb mark 10) (Some (record { start = start; end = end })) None
 
 unfoldable pub opened_from : ℕ → ℕ → ℤ → ℤ → Opened
 opened_from n digits start end =

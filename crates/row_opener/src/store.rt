@@ -6,10 +6,10 @@ ghost use Rattle.row_opener.specs.Opening.{closed, opened_value, opened_for, ope
 ghost use Rattle.row_opener.specs.Packing.{Sane, Small};
 
 use crate::Opened;
-use date::{Date, DateReading};
+use date::Date;
 use judge::readings_for;
 use kind::{Meaning, Readings};
-use number::{Decimal, NumberReading};
+use number::Decimal;
 use rows::{Probe, Row, bit, row_of};
 use syntax::value::{decode, read_value};
 use syntax::{FoundValue, RawValue};
@@ -99,12 +99,12 @@ fn opened_row(kinds: &[u8], filter: &[u8], cell: u32) -> Opened
 // ---- its cells
 
 // The mark of a value that is no number: 10 for a date, and else 11.
-fn date_mark(date: DateReading) -> u32
+fn date_mark(date: Option<Date>) -> u32
     ensures { (result ≡ date_mark date) × (result ≤ 11) }
 {
     match date {
-        DateReading::Readable(_) => 10,
-        DateReading::Unreadable => 11,
+        Some(_) => 10,
+        None => 11,
     }
 }
 
@@ -117,43 +117,43 @@ fn decimal_mark(decimals: usize) -> u32
 }
 
 // What a value reads to, as a mark from 0 to 11.
-fn mark_of(number: NumberReading, date: DateReading) -> u32
+fn mark_of(number: Option<Decimal>, date: Option<Date>) -> u32
     requires { Sane number date }
     ensures { (result ≡ mark_of number date) × (result ≤ 11) }
 {
     match number {
-        NumberReading::Number(n) => decimal_mark(n.decimals),
-        NumberReading::Unreadable => date_mark(date),
+        Some(n) => decimal_mark(n.decimals),
+        None => date_mark(date),
     }
 }
 
 // A number's digits, and 0 where there is none.
-fn digits_of(number: NumberReading) -> u64
+fn digits_of(number: Option<Decimal>) -> u64
     ensures { result ≡ digits_of number }
 {
     match number {
-        NumberReading::Number(n) => n.digits,
-        NumberReading::Unreadable => 0,
+        Some(n) => n.digits,
+        None => 0,
     }
 }
 
 // A date's start, and 0 where there is none.
-fn start_of(date: DateReading) -> i64
+fn start_of(date: Option<Date>) -> i64
     ensures { result ≡ start_of date }
 {
     match date {
-        DateReading::Readable(d) => d.start,
-        DateReading::Unreadable => 0,
+        Some(d) => d.start,
+        None => 0,
     }
 }
 
 // A date's end, and 0 where there is none.
-fn end_of(date: DateReading) -> i64
+fn end_of(date: Option<Date>) -> i64
     ensures { result ≡ end_of date }
 {
     match date {
-        DateReading::Readable(d) => d.end,
-        DateReading::Unreadable => 0,
+        Some(d) => d.end,
+        None => 0,
     }
 }
 
@@ -175,26 +175,26 @@ fn span_of(opened: Opened) -> u32
 }
 
 // The number that a mark and digits stand for.
-fn number_from(mark: u64, digits: u64) -> NumberReading
+fn number_from(mark: u64, digits: u64) -> Option<Decimal>
     ensures { result ≡ number_from mark digits }
 {
     if mark < 10 {
-        return NumberReading::Number(Decimal {
+        return Some(Decimal {
             digits,
             decimals: mark as usize,
         });
     }
-    NumberReading::Unreadable
+    None
 }
 
 // The date that a mark and two ends stand for.
-fn date_from(mark: u64, start: i64, end: i64) -> DateReading
+fn date_from(mark: u64, start: i64, end: i64) -> Option<Date>
     ensures { result ≡ date_from mark start end }
 {
     if mark == 10 {
-        return DateReading::Readable(Date { start, end });
+        return Some(Date { start, end });
     }
-    DateReading::Unreadable
+    None
 }
 
 // What cells stand for.

@@ -1,7 +1,7 @@
 -- The promises, grouped by the letter's demands; each is proved where its one line says. The contracts of check, match_card and select say
 -- that the code answers as check_answer, match_answer and select_answer do, and leaves the list as select_cells says, and those of match_by_text
 -- and select_by the same; that of spell, that it answers as spell_answer does, and leaves the buffer as spell_bytes says. Assumes nothing.
-use Rattle.std.specs.Prelude.{Result}
+use Rattle.std.specs.Prelude.{Result, Some, None}
 use Prim.Native.Nat.{ℕ, ◌+◌, ◌*◌, ◌-◌, ◌≤◌, ◌<◌}
 use Prim.Native.Char.{code}
 use mathlib.Core.Path.{◌≡◌, sym, ◌∙◌}
@@ -23,18 +23,15 @@ use Rattle.text.proofs.Readings as texts
 use Rattle.number.specs.Reading.{value_from}
 use Rattle.number.specs.Reading as numbers-text
 use Rattle.number.specs.Spelling as number-spelling
-use Rattle.number.specs.declared.NumberReading.{NumberReading}
 use Rattle.number.proofs.Spelling as number-reading
 use Rattle.date.specs.Texts as date-texts
 use Rattle.date.specs.Spelling as date-spelling
-use Rattle.date.specs.declared.DateReading.{DateReading}
 use Rattle.date.proofs.Spelling as date-reading
 use Rattle.date.specs.Spans.{year_date, month_date, day_date}
 use Rattle.date.specs.Succession.{next_month, next_day}
 use Rattle.date.proofs.Succession as succession
 use Rattle.period.specs.Texts as period-texts
 use Rattle.period.specs.Spelling as period-spelling
-use Rattle.period.specs.declared.PeriodReading.{PeriodReading}
 use Rattle.period.proofs.Spelling as period-reading
 use Rattle.token.specs.Card.{Token, card_token}
 use Rattle.token.specs.Filter.{Form, filter_form}
@@ -72,7 +69,6 @@ use Rattle.date.proofs.Calendar as calendar
 use Rattle.date.specs.Instants.{InRange}
 use Rattle.date.specs.declared.Date.{Date}
 use Rattle.period.specs.Instants.{Inhabited}
-use Rattle.period.specs.declared.End.{End}
 use Rattle.period.specs.declared.Period.{Period}
 use Rattle.period.proofs.Relations as periods
 use Rattle.number.specs.Value.{Bounded}
@@ -245,7 +241,7 @@ pub dates-relate : (i : Period) → Inhabited i → (f : Date) → InRange f f.s
 dates-relate = rules.date_iff
 
 -- 02: "a stay open at an end is never eq"
-pub open_never_eq : (i : Period) → Inhabited i → (f : Date) → InRange f f.start → (i.start ≡ End.Open) ⊎ (i.end ≡ End.Open) → DatesRelate i f DateRelation.Inside → ⊥
+pub open_never_eq : (i : Period) → Inhabited i → (f : Date) → InRange f f.start → (i.start ≡ None) ⊎ (i.end ≡ None) → DatesRelate i f DateRelation.Inside → ⊥
 open_never_eq i has f first h (date_inside held) = periods.open_never_held i has f first h held
 
 -- eq: the test of a card's number against a filter's passes exactly where every point of the card's range lies in the filter's; what is
@@ -559,16 +555,16 @@ pub text_contains : (a b : List ℕ) → (contains a b ≡ true) ↔ ((p : List 
 text_contains = texts.contains_iff
 
 -- numbers, dates and periods
-pub number_read : (s : List ℕ) (d : Decimal) → (numbers-text.read s ≡ NumberReading.Number d) ↔ number-spelling.Spells s d
+pub number_read : (s : List ℕ) (d : Decimal) → (numbers-text.read s ≡ Some d) ↔ number-spelling.Spells s d
 number_read = number-reading.read_iff
 
-pub date-read : (s : List ℕ) (d : Date) → (date-texts.read s ≡ DateReading.Readable d) ↔ date-spelling.Spells s d
+pub date-read : (s : List ℕ) (d : Date) → (date-texts.read s ≡ Some d) ↔ date-spelling.Spells s d
 date-read = date-reading.read_iff
 
 pub date_unique : {s : List ℕ} {d e : Date} → date-spelling.Spells s d → date-spelling.Spells s e → d ≡ e
 date_unique = date-reading.spells_unique
 
-pub period-read : (t : List ℕ) (p : Period) → (period-texts.read t ≡ PeriodReading.Readable p) ↔ period-spelling.Spells t p
+pub period-read : (t : List ℕ) (p : Period) → (period-texts.read t ≡ Some p) ↔ period-spelling.Spells t p
 period-read = period-reading.read_iff
 
 pub period_unique : {t : List ℕ} {p q : Period} → period-spelling.Spells t p → period-spelling.Spells t q → p ≡ q

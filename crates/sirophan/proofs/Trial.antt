@@ -61,7 +61,7 @@ abbrev stated : List Row → List Answer
 stated = map (λ (r : Row). r.gives)
 
 computed : (given trial_sheet trial_card trial_rows ≡ stated trial_rows) × (given bundle_sheet bundle_card bundle_rows ≡ stated bundle_rows) × (given stay_sheet stay_card stay_rows ≡ stated stay_rows) × (given trial_sheet edge_card edge_rows ≡ stated edge_rows) × (given trial_sheet empty_card empty_rows ≡ stated empty_rows)
-unfolding trial_rows trial_sheet trial_card match_by filter_question accept_card accept_inputs machine.failure machine.failure_from machine.step machine.begins_operator machine.is_operator machine.some_word tests_step accept_filter accept_sheet filter_says fold_tree test_says says_of is_empty some_value first_fault test_fault kind_fault unsupported conforms entry_conforms values_at lookup relates_to dates_relate numbers_relate strings_relate kind.value_readable kind.is_true kind.filter_readable kind.card_readable table.has_meaning table.meaning_of table.row_meaning table.relation_in table.row table.token_row table.date_row table.number_row table.string_row read filter_at item_at filter_of chain_of close_at connective_at head_at choice_at member_after member_at open_at test_at test_operator test_value operator_at find_operator follows value_at string_at string_from step_of is_bare tests_of read_card entries_of entry_count find find_from read_sheet sheet_layout are_right have_parents has_parent kind_at distinct absent clashes are_parameters is_parameter is_kind parameters_of parameter_count reading items has_either has_layout laid_out text_at mark_at next length_at has_marks zeros block.check check_sum sum_from token.matches token.meets token.asks system_of namespace_of stands_for forms.filter_readable forms.filter_form forms.split_form tokens.card_readable tokens.card_token tokens.split_token tokens.token_of split dates.readable dates.is_date dates.read dates.read_year dates.read_month dates.field_at dates.four_at dates.two_at dates.pair dates.digit_of spans.month_date spans.year_date spans.days_from spans.date_of spans.instant spans.epoch calendar.day_number calendar.days_of_years calendar.days_before_month calendar.month_length calendar.year_length calendar.leap_year fields.valid_month billionths.inside billionths.billionths billionths.unit number.greater number.at_least number.covers number.half_unit number.exact_value number.plus number.is_at_most number.is_less numbers.readable numbers.read numbers.read_fraction numbers.value_from texts.same texts.contains fold_text fold_byte run_end run operator_words is_name is_reserved is_name_part is_name_start is_letter between is_digit has_infix has_prefix member equal every bundle_rows bundle_sheet bundle_card of_occurrence keep enter kind.is_false table.reference_row table.kinds table.of_kind period.starts_before period.starts_no_later period.ends_after period.ends_no_earlier period.inside period.later_or_inside period.earlier_or_inside period.overlaps period.covers periods.readable periods.is_period periods.read_span periods.span_or periods.read periods.read_parts periods.open_start periods.open_end periods.both_ends periods.from_to periods.known stay_rows stay_sheet stay_card fold_from is_capital is_accented edge_rows edge_card decode unescaped is_escape texts.starts texts.ends has_suffix number.less number.at_most empty_rows empty_card
+unfolding trial_rows trial_sheet trial_card match_by filter_question accept_card accept_inputs machine.failure machine.failure_from machine.step machine.begins_operator machine.is_operator machine.some_word tests_step accept_filter accept_sheet filter_says fold_tree test_says says_of is_empty some_value first_fault test_fault kind_fault unsupported conforms entry_conforms values_at lookup relates_to dates_relate numbers_relate strings_relate kind.value_readable kind.is_true kind.filter_readable kind.card_readable table.has_meaning table.meaning_of table.row_meaning table.relation_in table.row table.token_row table.date_row table.number_row table.string_row read filter_at item_at filter_of chain_of close_at connective_at head_at choice_at member_after member_at open_at test_at test_operator test_value operator_at find_operator follows value_at string_at string_from step_of is_bare tests_of read_card entries_of entry_count find find_from read_sheet sheet_layout are_right have_parents has_parent kind_at distinct absent clashes are_parameters is_parameter is_kind parameters_of parameter_count reading items has_either has_layout laid_out text_at mark_at next length_at has_marks zeros block.check check_sum sum_from token.matches token.meets token.asks system_of namespace_of stands_for forms.filter_readable forms.filter_form forms.split_form tokens.card_readable tokens.card_token tokens.split_token tokens.token_of split dates.readable dates.read dates.read_year dates.read_month dates.field_at dates.four_at dates.two_at dates.pair dates.digit_of spans.month_date spans.year_date spans.days_from spans.date_of spans.instant spans.epoch calendar.day_number calendar.days_of_years calendar.days_before_month calendar.month_length calendar.year_length calendar.leap_year fields.valid_month billionths.inside billionths.billionths billionths.unit number.greater number.at_least number.covers number.half_unit number.exact_value number.plus number.is_at_most number.is_less numbers.readable numbers.read numbers.read_fraction numbers.value_from texts.same texts.contains fold_text fold_byte run_end run operator_words is_name is_reserved is_name_part is_name_start is_letter between is_digit has_infix has_prefix member equal every bundle_rows bundle_sheet bundle_card of_occurrence keep enter kind.is_false table.reference_row table.kinds table.of_kind period.starts_before period.starts_no_later period.ends_after period.ends_no_earlier period.inside period.later_or_inside period.earlier_or_inside period.overlaps period.covers periods.readable periods.read_span periods.span_or periods.read periods.read_parts periods.open_start periods.open_end periods.both_ends periods.from_to periods.known stay_rows stay_sheet stay_card fold_from is_capital is_accented edge_rows edge_card decode unescaped is_escape texts.starts texts.ends has_suffix number.less number.at_most empty_rows empty_card
 computed = (refl, refl, refl, refl, refl)
 
 -- each row of a table that is computed so gives what it says

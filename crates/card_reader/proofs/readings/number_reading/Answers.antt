@@ -3,8 +3,8 @@ use borrow.Author.Rules.{rules}
 use Rattle.card_reader.proofs.TextReadings.{number_read, number-unread}
 use Rattle.card_reader.proofs.readings.number_reading.Goals as goal
 
-pub returns-in-Number : goal.returns-in-Number
-returns-in-Number c = search (number_read, rules)
+pub returns-in-Some : goal.returns-in-Some
+returns-in-Some c = search (number_read, rules)
 
-pub returns-in-Unreadable : goal.returns-in-Unreadable
-returns-in-Unreadable c = search (number-unread, rules)
+pub returns-in-None : goal.returns-in-None
+returns-in-None c = search (number-unread, rules)

@@ -3,8 +3,8 @@ use borrow.Author.Rules.{rules}
 use Rattle.card_reader.proofs.TextReadings.{bit_open, bit-known}
 use Rattle.card_reader.proofs.readings.open_bit.Goals as goal
 
-pub returns-in-Open : goal.returns-in-Open
-returns-in-Open c = search (bit_open, rules)
+pub returns-in-None : goal.returns-in-None
+returns-in-None c = search (bit_open, rules)
 
-pub returns-in-At : goal.returns-in-At
-returns-in-At c = search (bit-known, rules)
+pub returns-in-Some : goal.returns-in-Some
+returns-in-Some c = search (bit-known, rules)

@@ -18,8 +18,8 @@ returns-then-s-lt20 c = search (read_short, rules)
 pub read_local-requires : goal.read_local-requires
 read_local-requires c = search (zone_bound, rules)
 
-pub returns-in-Offset : goal.returns-in-Offset
-returns-in-Offset c = search (read-second, rules)
+pub returns-in_err-offset : goal.returns-in_err-offset
+returns-in_err-offset c = search (read_no_zone, rules)
 
-pub returns-in-Unreadable : goal.returns-in-Unreadable
-returns-in-Unreadable c = search (read_no_zone, rules)
+pub returns : goal.returns
+returns c = search (read-second, rules)

@@ -3,8 +3,8 @@ use borrow.Author.Rules.{rules}
 use Rattle.period.proofs.Tests.{ends-after_open, ends-after-at}
 use Rattle.period.proofs.compare.ends_after.Goals as goal
 
-pub returns-in-Open : goal.returns-in-Open
-returns-in-Open c = search (ends-after_open, rules)
+pub returns-in-None : goal.returns-in-None
+returns-in-None c = search (ends-after_open, rules)
 
-pub returns-in-At : goal.returns-in-At
-returns-in-At c = search (ends-after-at, rules)
+pub returns-in-Some : goal.returns-in-Some
+returns-in-Some c = search (ends-after-at, rules)

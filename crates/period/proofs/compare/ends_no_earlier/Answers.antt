@@ -3,8 +3,8 @@ use borrow.Author.Rules.{rules}
 use Rattle.period.proofs.Tests.{ends_no_earlier_open, ends_no_earlier-at}
 use Rattle.period.proofs.compare.ends_no_earlier.Goals as goal
 
-pub returns-in-Open : goal.returns-in-Open
-returns-in-Open c = search (ends_no_earlier_open, rules)
+pub returns-in-None : goal.returns-in-None
+returns-in-None c = search (ends_no_earlier_open, rules)
 
-pub returns-in-At : goal.returns-in-At
-returns-in-At c = search (ends_no_earlier-at, rules)
+pub returns-in-Some : goal.returns-in-Some
+returns-in-Some c = search (ends_no_earlier-at, rules)

@@ -3,8 +3,8 @@ use borrow.Author.Rules.{rules}
 use Rattle.period.proofs.Texts.{start_unreadable, start_open}
 use Rattle.period.proofs.reader.open_start.Goals as goal
 
-pub returns-in-Readable : goal.returns-in-Readable
-returns-in-Readable c = search (start_open, rules)
+pub returns-in_err-b : goal.returns-in_err-b
+returns-in_err-b c = search (start_unreadable, rules)
 
-pub returns-in-Unreadable : goal.returns-in-Unreadable
-returns-in-Unreadable c = search (start_unreadable, rules)
+pub returns : goal.returns
+returns c = search (start_open, rules)

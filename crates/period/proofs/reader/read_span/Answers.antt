@@ -3,8 +3,8 @@ use borrow.Author.Rules.{rules}
 use Rattle.period.proofs.Texts.{span_date, span_period}
 use Rattle.period.proofs.reader.read_span.Goals as goal
 
-pub returns-in-Readable : goal.returns-in-Readable
-returns-in-Readable c = search (span_date, rules)
+pub returns-in-Some : goal.returns-in-Some
+returns-in-Some c = search (span_date, rules)
 
-pub returns-in-Unreadable : goal.returns-in-Unreadable
-returns-in-Unreadable c = search (span_period, rules)
+pub returns-in-None : goal.returns-in-None
+returns-in-None c = search (span_period, rules)

@@ -14,10 +14,10 @@ pub loop-i-smaller : goal.loop-i-smaller
 loop-i-smaller c = search (decoding_less, rules)
 
 pub loop-i-preserved : goal.loop-i-preserved
-loop-i-preserved c = (search (decoding_byte, rules), search rules)
+loop-i-preserved c = (decoding_byte _ _ _ _ c.loop-i.invariant.0 _ c.unit_at.ensures c.loop-i-test.true _ c.in_ok-unit.was, search rules)
 
-pub returns-in-Bad : goal.returns-in-Bad
-returns-in-Bad c = search (decoding_bad, rules)
+pub returns-in_err-unit : goal.returns-in_err-unit
+returns-in_err-unit c = search (decoding_bad, rules)
 
 pub returns : goal.returns
 returns c = search (decoding_ends, rules)

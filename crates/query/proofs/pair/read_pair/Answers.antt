@@ -11,14 +11,14 @@ returns-then-cut-pair c = search (pair_uncut, rules)
 pub slice_bounds-decode-end : goal.slice_bounds-decode-end
 slice_bounds-decode-end c = simp length-take (omega arith)
 
-pub decode-first-requires : goal.decode-first-requires
-decode-first-requires c = search (front_fits, rules)
+pub decode-requires : goal.decode-requires
+decode-requires c = search (front_fits, rules)
 
-pub returns-in_default : goal.returns-in_default
-returns-in_default c = search (pair-name_bad, rules)
+pub returns-in_err-name_len : goal.returns-in_err-name_len
+returns-in_err-name_len c = search (pair-name_bad, rules)
 
-pub returns-in_default-second : goal.returns-in_default-second
-returns-in_default-second c = search (pair-value_bad, rules)
+pub returns-in_err-value_len : goal.returns-in_err-value_len
+returns-in_err-value_len c = search (pair-value_bad, rules)
 
 pub returns : goal.returns
 returns c = search (pair_read, rules)

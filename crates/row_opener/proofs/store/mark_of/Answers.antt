@@ -6,8 +6,8 @@ use Rattle.row_opener.proofs.store.mark_of.Goals as goal
 pub decimal_mark-requires : goal.decimal_mark-requires
 decimal_mark-requires c = search (mark_few, rules)
 
-pub returns-in-Number : goal.returns-in-Number
-returns-in-Number c = search (mark-number, rules)
+pub returns-in-Some : goal.returns-in-Some
+returns-in-Some c = search (mark-number, rules)
 
-pub returns-in-Unreadable : goal.returns-in-Unreadable
-returns-in-Unreadable c = search (mark-date, rules)
+pub returns-in-None : goal.returns-in-None
+returns-in-None c = search (mark-date, rules)

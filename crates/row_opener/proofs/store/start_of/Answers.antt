@@ -3,8 +3,8 @@ use borrow.Author.Rules.{rules}
 use Rattle.row_opener.proofs.Opening.{start-known, start_none}
 use Rattle.row_opener.proofs.store.start_of.Goals as goal
 
-pub returns-in-Readable : goal.returns-in-Readable
-returns-in-Readable c = search (start-known, rules)
+pub returns-in-Some : goal.returns-in-Some
+returns-in-Some c = search (start-known, rules)
 
-pub returns-in-Unreadable : goal.returns-in-Unreadable
-returns-in-Unreadable c = search (start_none, rules)
+pub returns-in-None : goal.returns-in-None
+returns-in-None c = search (start_none, rules)
