@@ -1,4 +1,4 @@
--- A loop's start, turns and end, for a test of every element and for the comparison of two lists.
+-- A loop's start, turns and end, for a test of every element.
 -- Assumes nothing.
 use Prim.Native.Nat.{ℕ, ◌+◌, ◌≤◌, ◌<◌}
 use native.Mathlib.Numerals.{add-one}
@@ -8,9 +8,8 @@ use mathlib.Core.Bool.{Bool, true, false, ◌&&◌, and-true, and_assoc}
 use mathlib.Core.List.{List}
 use lib.ListN.{length, drop, get_or, drop_of_length-le}
 use lib.Seq.{drop-cons}
-use borrow.Author.Tests.{eq-eqb, ne_eqb}
-use Rattle.base.specs.Lists.{every, equal}
-use Rattle.base.proofs.Invariants.{Passed, Counted, Agreed}
+use Rattle.base.specs.Lists.{every}
+use Rattle.base.proofs.Invariants.{Passed, Counted}
 
 -- ---- a test of every element
 
@@ -53,30 +52,3 @@ module _ (p : ℕ → Bool) (s : List ℕ) where
     pub counted_end : length s ≤ i → all ≡ every p s
     unfolding every
     counted_end h = sym (and-true all) ∙ ap (λ (l : List ℕ). all && every p l) (sym (drop_of_length-le s h)) ∙ inv.left
-
--- ---- two lists
-
-module _ (a b : List ℕ) where
-  pub agreed_start : length a ≡ length b → Agreed a b 0
-  agreed_start e = record { within = omega arith; lengths = e; left = refl }
-
-  pub agreed_next : (i : ℕ) → Agreed a b i → i < length a → get_or a i 0 ≡ get_or b i 0 → Agreed a b (i + 1)
-  unfolding equal
-  agreed_next i inv h e =
-      let k : i < length b = omega (arith, inv.lengths) in
-      let left : equal (drop (i + 1) a) (drop (i + 1) b) ≡ equal (drop i a) (drop i b) = rw (add-one, drop-cons a i 0, drop-cons b i 0, eq-eqb _ _ e) in
-      record { within = omega arith; lengths = inv.lengths; left = left ∙ inv.left }
-
-  pub agreed_not : (i : ℕ) → Agreed a b i → i < length a → (get_or a i 0 ≡ get_or b i 0 → ⊥) → false ≡ equal a b
-  unfolding equal
-  agreed_not i inv h n =
-      let k : i < length b = omega (arith, inv.lengths) in
-      let left : false ≡ equal (drop i a) (drop i b) = rw (drop-cons a i 0, drop-cons b i 0, ne_eqb _ _ n) in
-      left ∙ inv.left
-
-  pub agreed_end : (i : ℕ) → Agreed a b i → length a ≤ i → true ≡ equal a b
-  unfolding equal
-  agreed_end i inv h =
-      let k : length b ≤ i = omega (arith, inv.lengths) in
-      let left : true ≡ equal (drop i a) (drop i b) = rw (drop_of_length-le a {i = i} h, drop_of_length-le b {i = i} k) in
-      left ∙ inv.left

@@ -50,23 +50,12 @@ pub struct Item {
     pub end: usize,
 }
 
-// The byte as a number of 32 bits.
-fn wide(b: u8) -> u32
-    ensures { (result ≡ b) × (result < 256) }
-{
-    b as u32
-}
-
 // The number that the four bytes from `at` hold, low byte first.
 pub fn word(block: &[u8], at: usize) -> u32
     requires { at + 4 ≤ length block.now }
     ensures { result ≡ word block.now at }
 {
-    let a = wide(block[at]);
-    let b = wide(block[at + 1]);
-    let c = wide(block[at + 2]);
-    let d = wide(block[at + 3]);
-    a + 256 * (b + 256 * (c + 256 * d))
+    u32::from_le_bytes([block[at], block[at + 1], block[at + 2], block[at + 3]])
 }
 
 // Whether a block has its size, and its bytes 508 to 511 its check sum.
@@ -113,13 +102,6 @@ pub fn has_marks(first: u8) -> bool
     first == 0x51
 }
 
-// The byte as a size.
-fn size(b: u8) -> usize
-    ensures { (result ≡ b) × (result < 256) }
-{
-    b as usize
-}
-
 // The item at `at`. No other function knows how an item begins.
 pub fn item_at(block: &[u8], at: usize) -> Item
     requires { at + 3 ≤ length block.now }
@@ -131,7 +113,7 @@ pub fn item_at(block: &[u8], at: usize) -> Item
             tag: block[at],
             mark: block[at + 1],
             start,
-            end: start + size(block[at + 2]),
+            end: start + usize::from(block[at + 2]),
         };
     }
     let start = at + 2;
@@ -139,7 +121,7 @@ pub fn item_at(block: &[u8], at: usize) -> Item
         tag: block[at],
         mark: 0,
         start,
-        end: start + size(block[at + 1]),
+        end: start + usize::from(block[at + 1]),
     }
 }
 
