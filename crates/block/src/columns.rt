@@ -30,9 +30,7 @@ fn column_at(block: &[u8], j: usize) -> Column
 {
     let mut sum: u16 = 0;
     let mut rows: u16 = 0;
-    let mut row: usize = 16;
-    while row > 0 {
-        row -= 1;
+    for row in (0..16).rev() {
         rows += sum;
         sum += u16::from(block[32 * row + j]);
     }
@@ -46,12 +44,10 @@ fn columns_of(block: &[u8]) -> Columns
 {
     let mut sums = [0u16; 32];
     let mut rows = [0u16; 32];
-    let mut j = 0;
-    while j < 32 {
+    for j in 0..32 {
         let column = column_at(block, j);
         sums[j] = column.sum;
         rows[j] = column.rows;
-        j += 1;
     }
     Columns { sums, rows }
 }
@@ -83,10 +79,8 @@ pub fn check_sum(block: &[u8]) -> u32
 {
     let columns = columns_of(block);
     let mut total: u32 = 0;
-    let mut j = 0;
-    while j < 32 {
+    for j in 0..32 {
         total += column_total(j, columns.sums[j], columns.rows[j]);
-        j += 1;
     }
     total - last_four(block)
 }
@@ -113,11 +107,9 @@ fn short_sum(block: &[u8]) -> u32
     ensures { result ≡ sum_from 1 (part block.now 0 128) }
 {
     let mut total: u32 = 0;
-    let mut j = 0;
-    while j < 32 {
+    for j in 0..32 {
         let column = short_column(block, j);
         total += column_total(j, column.sum, column.rows);
-        j += 1;
     }
     total
 }
