@@ -2,7 +2,7 @@
 -- Assumes nothing.
 use Prim.Native.Nat.{ℕ, ◌≤◌}
 use mathlib.Core.Path.{◌≡◌}
-use mathlib.Core.Bool.{Bool, ◌&&◌}
+use mathlib.Core.Bool.{Bool}
 use mathlib.Core.List.{List}
 use lib.ListN.{length, drop}
 use Rattle.base.specs.Lists.{every}
@@ -11,8 +11,3 @@ use Rattle.base.specs.Lists.{every}
 pub record Passed (p : ℕ → Bool) (s : List ℕ) (i : ℕ) : Type 0 where
   pub within : i ≤ length s
   pub left : every p (drop i s) ≡ every p s
-
--- `all` says whether the elements before i pass the test p
-pub record Counted (p : ℕ → Bool) (s : List ℕ) (all : Bool) (i : ℕ) : Type 0 where
-  pub within : i ≤ length s
-  pub left : (all && every p (drop i s)) ≡ every p s

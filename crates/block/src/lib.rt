@@ -71,25 +71,11 @@ pub fn check(block: &[u8]) -> Integrity
     Integrity::Sealed
 }
 
-// Whether `all` holds and the byte is zero.
-fn and_zero(all: bool, b: u8) -> bool
-    ensures { result ≡ (all && eqb b 0) }
-{
-    let zero = b == 0;
-    all && zero
-}
-
 // Whether every byte is zero. The loop goes on to the end, so that it takes many bytes a turn.
 fn zeros(s: &[u8]) -> bool
     ensures { result ≡ zeros s.now }
 {
-    let mut all = true;
-    let mut i = 0;
-    while i < s.len() {
-        all = and_zero(all, s[i]);
-        i += 1;
-    }
-    all
+    s.iter().fold(true, |all, b| all & (*b == 0))
 }
 
 // Whether the items of a block with this first byte have marks: 0x44 of a card, 0x51 of a sheet.
