@@ -3,9 +3,8 @@
 use mathlib.Core.Path.{◌≡◌, refl, sym, ap, ◌∙◌}
 use Prim.Native.Nat.{ℕ, zero, suc, ◌+◌, ◌-◌, ◌≤◌, ◌<◌}
 use native.Mathlib.Nat.{add-zero, le_of_suc-le-suc, not-suc-le-zero}
-use native.Mathlib.Numerals.{add-one}
 use native.Mathlib.Omega.{arith}
-use mathlib.Core.Bool.{Bool, true, false, ◌&&◌, and-false, or-true, true≢false, false≢true}
+use mathlib.Core.Bool.{Bool, true, false, ◌&&◌, and-false, or-true, false≢true}
 use mathlib.Core.List.{List, [], ◌∷◌, ◌++◌}
 use mathlib.Core.Logic.{⊎_elim}
 use lib.Dec.{eqb}
@@ -19,11 +18,6 @@ use Rattle.base.proofs.Lists.{drop-next, cons_same, equal-same, equal_refl, equa
 use Rattle.base.specs.Affixes.{has_prefix, has_suffix, has_infix}
 
 -- ---- prefixes
-
--- one element further, where the elements agree
-pub prefix_step : (xs ys : List ℕ) (i j : ℕ) → i < length xs → j < length ys → get_or xs i 0 ≡ get_or ys j 0 → has_prefix (drop i xs) (drop j ys) ≡ has_prefix (drop (i + 1) xs) (drop (j + 1) ys)
-unfolding has_prefix
-prefix_step xs ys i j hi hj e = rw (add-one i, add-one j, drop-cons xs i 0, drop-cons ys j 0, eq-eqb _ _ e)
 
 pub prefix_differ : (xs ys : List ℕ) (i j : ℕ) → i < length xs → j < length ys → (get_or xs i 0 ≡ get_or ys j 0 → ⊥) → has_prefix (drop i xs) (drop j ys) ≡ false
 unfolding has_prefix
@@ -53,11 +47,6 @@ unfolding has_prefix equal
 prefix_take xs [] h = refl
 prefix_take [] (y ∷ ys) h = absurd (not-suc-le-zero h)
 prefix_take (x ∷ xs) (y ∷ ys) h = ap (λ (t : Bool). eqb x y && t) (prefix_take xs ys (le_of_suc-le-suc h))
-
-pub prefix_fails : (xs ys : List ℕ) → has_prefix xs ys ≡ false → 0 < length ys
-unfolding has_prefix
-prefix_fails xs [] h = absurd (true≢false h)
-prefix_fails xs (y ∷ ys) h = omega arith
 
 pub prefix_rest : (xs ys : List ℕ) → has_prefix xs ys ≡ true → (q : List ℕ) × (xs ≡ ys ++ q)
 unfolding has_prefix

@@ -7,7 +7,7 @@ ghost use Rattle.pick.specs.Runs.{last_line, EndPut, ListedPut, RunPut};
 
 use crate::files::{Filled, fill};
 use crate::printing::{print, print_failure};
-use listing::{Totals, add_run, place_in_file, put_count, put_lines, put_refusal, wide};
+use listing::{Totals, add_run, place_in_file, put_count, put_lines, put_refusal};
 use refusal::number;
 use sirophan::{Selected, select};
 use std::io::Read;
@@ -83,7 +83,7 @@ fn put_run(sheet: &[u8], filter: &[u8], cards: &[u8], totals: Totals, out: &mut 
             let reason = refusal.reason;
             let number = number(reason);
             let place = place_in_file(number, refusal.place, totals.cards);
-            let size = put_refusal(wide(number), place, out);
+            let size = put_refusal(u64::from(number), place, out);
             RunText {
                 size,
                 turn: Turn::Ended,

@@ -22,4 +22,4 @@ pub returns-in-Count : goal.returns-in-Count
 returns-in-Count c = selected_run _ _ _ _ c.select-selected.ensures (search rules) _ c.in-Count.is _ c.add_run-more.ensures _ c.put_listed.ensures
 
 pub returns-in-Refused : goal.returns-in-Refused
-returns-in-Refused c = refused_run _ _ _ _ c.select-selected.ensures (search rules) _ _ c.in-Refused.is c.number-number.ensures c.wide.ensures c.place_in_file-place.ensures c.put_refusal-size.ensures
+returns-in-Refused c = refused_run _ _ _ _ c.select-selected.ensures (search rules) _ _ c.in-Refused.is c.number-number.ensures c.from.ensures c.place_in_file-place.ensures c.put_refusal-size.ensures
