@@ -33,13 +33,6 @@ pub enum Validity {
     WrongLayout,
 }
 
-// Where the items of a block end, and zeros follow to byte 507; or that they are not laid out so.
-#[derive(Clone, Copy)]
-pub enum Layout {
-    EndsAt(usize),
-    Wrong,
-}
-
 // An item: its first byte, its mark (0 in a block without marks), and where its text starts and ends. The next item starts
 // where the text ends.
 #[derive(Clone, Copy)]
@@ -79,13 +72,11 @@ fn zeros(s: &[u8]) -> bool
 }
 
 // Whether the items of a block with this first byte have marks: 0x44 of a card, 0x51 of a sheet.
+#[tactic(auto, unfolding(crate::specs::Items::has_marks))]
 pub fn has_marks(first: u8) -> bool
     ensures { result ≡ has_marks first }
 {
-    if first == 0x44 {
-        return true;
-    }
-    first == 0x51
+    matches!(first, 0x44 | 0x51)
 }
 
 // The item at `at`. No other function knows how an item begins.
@@ -112,56 +103,47 @@ pub fn item_at(block: &[u8], at: usize) -> Item
 }
 
 // Whether `count` items from `from` on end at or before byte 507, and the bytes from there to 507 are zero.
-fn laid_out(block: &[u8], from: usize, count: u8) -> Layout
+#[tactic(auto, using(crate::proofs::Items::laid_to_next, crate::proofs::Items::laid_to_end))]
+fn laid_out(block: &[u8], from: usize, count: u8) -> Option<usize>
     requires has_size { HasSize block.now }
     requires from_bound { from ≤ 508 }
     ensures { LaysOut block.now (laid_out count block.now from) result }
 {
     let mut at = from;
-    let mut left = count;
-    while left > 0 {
-        let item = item_at(block, at);
-        let end = item.end;
-        let past = end > 508;
+    for _ in 0..count {
+        at = item_at(block, at).end;
+        let past = at > 508;
         if past {
-            return Layout::Wrong;
+            return None;
         }
-        at = end;
-        left -= 1;
     }
-    if zeros(&block[at..508]) {
-        return Layout::EndsAt(at);
-    }
-    Layout::Wrong
+    zeros(&block[at..508]).then_some(at)
 }
 
 // Whether the first byte is `first`, the byte at `at` says how many items follow it, `most` or fewer, and they and the padding
 // are laid out.
-fn layout_from(block: &[u8], first: u8, at: usize, most: u8) -> Layout
+fn layout_from(block: &[u8], first: u8, at: usize, most: u8) -> Option<usize>
     requires has_size { HasSize block.now }
     requires at_bound { at < 508 }
     ensures { LaysOut block.now (has_layout first at most block.now) result }
 {
     if block[0] != first {
-        return Layout::Wrong;
+        return None;
     }
     let count = block[at];
     if count > most {
-        return Layout::Wrong;
+        return None;
     }
     laid_out(block, at + 1, count)
 }
 
 // The same with either of two first bytes.
-pub fn layout_of(block: &[u8], plain: u8, marked: u8, at: usize, most: u8) -> Layout
+pub fn layout_of(block: &[u8], plain: u8, marked: u8, at: usize, most: u8) -> Option<usize>
     requires has_size { HasSize block.now }
     requires at_bound { at < 508 }
     ensures { LaysOut block.now (has_either plain marked at most block.now) result }
 {
-    match layout_from(block, plain, at, most) {
-        Layout::EndsAt(end) => Layout::EndsAt(end),
-        Layout::Wrong => layout_from(block, marked, at, most),
-    }
+    layout_from(block, plain, at, most).or_else(|| layout_from(block, marked, at, most))
 }
 
 // Whether a block of 512 bytes has either layout.
@@ -170,10 +152,7 @@ pub fn has_either(block: &[u8], plain: u8, marked: u8, at: usize, most: u8) -> b
     requires at_bound { at < 508 }
     ensures { result ≡ has_either plain marked at most block.now }
 {
-    match layout_of(block, plain, marked, at, most) {
-        Layout::EndsAt(_) => true,
-        Layout::Wrong => false,
-    }
+    layout_of(block, plain, marked, at, most).is_some()
 }
 
 // What a block is: size, then check sum, then layout. The layout is looked at first, since the sum needs to go no further than the items.
@@ -185,13 +164,13 @@ pub fn read_block(block: &[u8], plain: u8, marked: u8, at: usize, most: u8) -> V
         return Validity::WrongSize;
     }
     match layout_of(block, plain, marked, at, most) {
-        Layout::EndsAt(end) => {
+        Some(end) => {
             if check_sum_to(block, end) != word(block, 508) {
                 return Validity::WrongSum;
             }
             Validity::WellFormed
         }
-        Layout::Wrong => {
+        None => {
             if check_sum(block) != word(block, 508) {
                 return Validity::WrongSum;
             }
