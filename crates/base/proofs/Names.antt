@@ -1,9 +1,9 @@
 -- Laws of names: what the code's tests decide, and the rule's words.
 -- Assumes nothing.
-use Prim.Native.Nat.{ℕ, ◌-◌, ◌≤◌, ◌<◌}
+use Prim.Native.Nat.{ℕ, ◌-◌, ◌≤◌}
 use native.Mathlib.Omega.{arith}
 use mathlib.Core.Path.{◌≡◌, refl, ap, sym, ◌∙◌, subst}
-use mathlib.Core.Bool.{true, false, not, ◌&&◌, ◌||◌, false≢true}
+use mathlib.Core.Bool.{Bool, true, false, not, ◌&&◌, ◌||◌, false≢true}
 use mathlib.Core.Logic.{◌↔◌, ⊎_elim}
 use mathlib.Core.List.{List, [], ◌∷◌}
 use lib.Dec.{eqb}
@@ -23,7 +23,7 @@ use Rattle.base.proofs.Lists.{rest, every_all, all_every, equal_not}
 
 -- ---- what the tests of a name decide
 
-pub name_empty : (n : List ℕ) → length n < 1 → is_name n ≡ false
+pub name_empty : (n : List ℕ) → length n ≡ 0 → false ≡ is_name n
 unfolding is_name
 name_empty [] h = refl
 name_empty (x ∷ xs) h = absurd (omega arith)
@@ -34,6 +34,16 @@ pub name_tests : (n : List ℕ) → 1 ≤ length n
 unfolding is_name
 name_tests [] h = absurd (omega arith)
 name_tests (x ∷ xs) h = rw (rest (x ∷ xs) 1)
+
+module _ (n : List ℕ) (h : length n ≡ 0 → ⊥) (r : Bool) (e : r ≡ is_name_start (get_or n 0 0)) where
+  longer : 1 ≤ length n
+  longer = omega (arith, h)
+
+  pub name-start_not : r ≡ false → false ≡ is_name n
+  name-start_not f = rw (name_tests n longer, sym e ∙ f)
+
+  pub name_not_reserved : r ≡ true → (s : Bool) → s ≡ every is_name_part (take (length n - 1) (drop 1 n)) → s ≡ true → (w : Bool) → w ≡ is_reserved n → not w ≡ is_name n
+  name_not_reserved t s d p w k = rw (name_tests n longer, sym e ∙ t, sym d ∙ p, k)
 
 -- ---- the rule's words
 

@@ -12,7 +12,6 @@ use base::kind::{BUNDLE, TOKEN};
 use block::Validity;
 use query::{Row, Rows};
 use refusal::{Decision, Reason, refuse};
-use sheet::Found;
 
 // What is decided of a text under a kind, at the place of its pair: 16 or 17.
 fn text_fault(kind: u8, split: usize, text: &[u8], place: usize) -> Decision
@@ -45,8 +44,8 @@ fn fault_at(sheet: &[u8], name: &[u8], split: usize, text: &[u8], place: usize) 
     ensures { result ≡ fault_at (find 0 name.now (parameters_of sheet.now)) split text.now place }
 {
     match sheet::find(sheet, 0, name) {
-        Found::At { index: _, kind } => parameter_fault(kind, split, text, place),
-        Found::Missing => refuse(Reason::UnknownName, place),
+        Some(found) => parameter_fault(found.kind, split, text, place),
+        None => refuse(Reason::UnknownName, place),
     }
 }
 
