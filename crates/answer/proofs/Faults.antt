@@ -5,7 +5,7 @@
 -- or the card without entries where the path names nothing or a bundle. Where there is no fault, no line holds, and the test has a meaning
 -- on every card (`outcome_by`).
 -- Assumes nothing.
-use Rattle.std.specs.Prelude.{Result, ⊤}
+use Rattle.std.specs.Prelude.{Result, ⊤, Option, None, Some}
 use Prim.Native.Nat.{ℕ, ◌≤◌, ◌<◌}
 use native.Mathlib.Omega.{arith}
 use mathlib.Core.Path.{◌≡◌, refl, subst}
@@ -18,6 +18,7 @@ use Rattle.sheet.specs.Sheet.{Parameter}
 use lib.Dec.{eqb}
 use borrow.Author.Tests.{eqb-true, eqb-false}
 use Rattle.sheet.specs.Encode.{WellFormedSheet}
+use Rattle.sheet.specs.Find.{found_at}
 use Rattle.sheet.specs.declared.Found.{Found}
 use Rattle.card.specs.Card.{Entry}
 use Rattle.syntax.specs.Tree.{Test}
@@ -45,19 +46,19 @@ pr-readable (value_of_kind m h) e n = m e
 module _ (ps : List Parameter) (w : WellFormedSheet ps) (t : Test) where
   -- ---- the fault
 
-  judged_at : (o : Found) → lookup ps 0 t.path ≡ o → Judged ps t (fault_at o t.operator t.value t.at)
+  judged_at : (o : Option Found) → lookup ps 0 t.path ≡ o → Judged ps t (fault_at o t.operator t.value t.at)
   unfolding kind_fault
-  judged_at Found.Missing e = judged_unknown ((missing_iff ps w t.path).0 e)
-  judged_at (Found.At i k) e =
-      let there = (names_iff ps w t.path i k).0 e in
-      cond-elim (Judged ps t) (eqb k bundle_kind) (λ b. judged_bundle (subst (λ (m : ℕ). Names ps t.path i m) (eqb-true k bundle_kind b) there))
-      (λ b. let v = eqb-false k bundle_kind b in
+  judged_at None e = judged_unknown ((missing_iff ps w t.path).0 e)
+  judged_at (Some found) e =
+      let there = (names_iff ps w t.path found.index found.kind).0 e in
+      cond-elim (Judged ps t) (eqb found.kind bundle_kind) (λ b. judged_bundle (subst (λ (m : ℕ). Names ps t.path found.index m) (eqb-true found.kind bundle_kind b) there))
+      (λ b. let v = eqb-false found.kind bundle_kind b in
       cond-elim (Judged ps t) (unsupported t.operator) (judged_unsupported v there)
-      (λ u. cond-elim (Judged ps t) (has_meaning t.operator k)
-      (λ m. cond-elim (Judged ps t) (value_readable t.operator k t.value)
-      (λ r. judged_right v there ((operator_iff k t.operator).0 m) ((value_iff k t.value t.operator).0 r))
-      (λ n. judged_unreadable v there u ((operator_iff k t.operator).0 m) (λ r. both_ways ((value_iff k t.value t.operator).1 r) n)))
-      (λ n. judged_meaningless v there u (λ h. both_ways ((operator_iff k t.operator).1 h) n))))
+      (λ u. cond-elim (Judged ps t) (has_meaning t.operator found.kind)
+      (λ m. cond-elim (Judged ps t) (value_readable t.operator found.kind t.value)
+      (λ r. judged_right v there ((operator_iff found.kind t.operator).0 m) ((value_iff found.kind t.value t.operator).0 r))
+      (λ n. judged_unreadable v there u ((operator_iff found.kind t.operator).0 m) (λ r. both_ways ((value_iff found.kind t.value t.operator).1 r) n)))
+      (λ n. judged_meaningless v there u (λ h. both_ways ((operator_iff found.kind t.operator).1 h) n))))
 
   judged : Judged ps t (test_fault ps 0 t)
   unfolding test_fault

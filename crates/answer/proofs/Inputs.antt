@@ -4,7 +4,7 @@
 -- all have a meaning, or a first one is refused and those before it have one (`outcome-next`). No step is refused with a number above 18,
 -- and so neither is one step after another (`at_most_then`). So these refusals are apart from those of cards and lists (`question_number`).
 -- Assumes nothing.
-use Rattle.std.specs.Prelude.{Err, Ok, Result, ⊤}
+use Rattle.std.specs.Prelude.{Err, Ok, Result, ⊤, Option as Maybe, None, Some}
 use Prim.Native.Nat.{ℕ, ◌≤◌}
 use native.Mathlib.Omega.{arith}
 use mathlib.Core.Path.{◌≡◌, refl, ap}
@@ -20,6 +20,7 @@ use Rattle.base.proofs.Tests.{cond-elim}
 use Rattle.block.specs.declared.Validity.{Validity}
 use Rattle.sheet.specs.Sheet.{Parameter, parameters_of, read_sheet}
 use Rattle.sheet.specs.Encode.{WellFormedSheet, SheetBlock}
+use Rattle.sheet.specs.Find.{found_at}
 use Rattle.sheet.specs.declared.Found.{Found}
 use Rattle.sheet.proofs.Sheets.{sheet_reads_iff}
 use Rattle.syntax.specs.Tree.{Test, Tree, tests_of}
@@ -134,10 +135,10 @@ kind_at_most k kind v p =
     (λ _. cond-elim (λ f. AtMost 18 (decision_step f)) (value_readable k kind v) (λ _. found_at_most) (λ _. stop_at_most 17 p (omega arith)))
     (λ _. stop_at_most 16 p (omega arith)))
 
-fault_at_most : (o : Found) (k : ℕ) (v : List ℕ) (p : ℕ) → AtMost 18 (decision_step (fault_at o k v p))
-fault_at_most Found.Missing k v p = stop_at_most 14 p (omega arith)
-fault_at_most (Found.At i kind) k v p =
-    cond-elim (λ f. AtMost 18 (decision_step f)) (eqb kind bundle_kind) (λ _. stop_at_most 18 p (omega arith)) (λ _. kind_at_most k kind v p)
+fault_at_most : (o : Maybe Found) (k : ℕ) (v : List ℕ) (p : ℕ) → AtMost 18 (decision_step (fault_at o k v p))
+fault_at_most None k v p = stop_at_most 14 p (omega arith)
+fault_at_most (Some found) k v p =
+    cond-elim (λ f. AtMost 18 (decision_step f)) (eqb found.kind bundle_kind) (λ _. stop_at_most 18 p (omega arith)) (λ _. kind_at_most k found.kind v p)
 
 tests_at_most : (ps : List Parameter) (ts : List Test) → AtMost 18 (tests_step ps ts)
 unfolding test_fault

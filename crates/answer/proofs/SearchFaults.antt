@@ -6,7 +6,7 @@
 -- parameter shows the lack (`refused_at`), or the one without entries where the name is unknown or a bundle's (`refused_empty`).
 -- `alternatives-outcome` is by induction on the list.
 -- Assumes nothing.
-use Rattle.std.specs.Prelude.{Ok, Result, ⊤}
+use Rattle.std.specs.Prelude.{Ok, Result, ⊤, Option, None, Some}
 use Prim.Native.Nat.{ℕ, ◌≤◌, ◌<◌}
 use native.Mathlib.Omega.{arith}
 use mathlib.Core.Path.{◌≡◌, refl, ap, sym, subst}
@@ -22,6 +22,7 @@ use Rattle.base.proofs.Options.{is_some_iff}
 use Rattle.base.proofs.Tests.{both_ways, cond-elim}
 use Rattle.sheet.specs.Sheet.{Parameter}
 use Rattle.sheet.specs.Encode.{ValueKind, WellFormedSheet}
+use Rattle.sheet.specs.Find.{found_at}
 use Rattle.sheet.specs.declared.Found.{Found}
 use Rattle.card.specs.Card.{Entry}
 use Rattle.syntax.specs.Tree.{name}
@@ -131,12 +132,12 @@ module _ (ps : List Parameter) (w : WellFormedSheet ps) (a : Alternative) where
     judged_kind v =
         cond-elim (Judged ps a) (eqb k token) (λ e. judged_token (eqb-true k token e)) (λ e. judged_value (eqb-false k token e) (asked_there k a.text v))
 
-  judged_at : (o : Found) → lookup ps 0 (name a.name) ≡ o → Judged ps a (fault_at o a.split a.text a.at)
-  judged_at Found.Missing e = judged_unknown ((missing_iff ps w (name a.name)).0 e)
-  judged_at (Found.At i k) e =
-      let there = (names_iff ps w (name a.name) i k).0 e in
-      cond-elim (Judged ps a) (eqb k bundle_kind) (λ b. judged_bundle (subst (λ (m : ℕ). Names ps (name a.name) i m) (eqb-true k bundle_kind b) there))
-      (λ b. let z = eqb-false k bundle_kind b in ⊎_elim (λ v. judged_kind i k z there v) (λ v. absurd (z v)) (names_kind ps w there))
+  judged_at : (o : Option Found) → lookup ps 0 (name a.name) ≡ o → Judged ps a (fault_at o a.split a.text a.at)
+  judged_at None e = judged_unknown ((missing_iff ps w (name a.name)).0 e)
+  judged_at (Some found) e =
+      let there = (names_iff ps w (name a.name) found.index found.kind).0 e in
+      cond-elim (Judged ps a) (eqb found.kind bundle_kind) (λ b. judged_bundle (subst (λ (m : ℕ). Names ps (name a.name) found.index m) (eqb-true found.kind bundle_kind b) there))
+      (λ b. let z = eqb-false found.kind bundle_kind b in ⊎_elim (λ v. judged_kind found.index found.kind z there v) (λ v. absurd (z v)) (names_kind ps w there))
 
   judged : Judged ps a (alternative_fault ps a)
   unfolding alternative_fault

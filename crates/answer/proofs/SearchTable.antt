@@ -6,6 +6,7 @@
 -- select are instances of those over any question. A search string is refused with none of the numbers of cards and lists
 -- (`search_number`).
 -- Assumes nothing.
+use Rattle.std.specs.Prelude.{Option, None, Some}
 use Prim.Native.Nat.{ℕ, ◌≤◌, ◌<◌}
 use native.Mathlib.Nat.{le_of_eq}
 use native.Mathlib.Omega.{arith}
@@ -21,6 +22,7 @@ use Rattle.base.proofs.Tests.{cond-elim}
 use Rattle.token.specs.Filter.{readable_at}
 use Rattle.sheet.specs.Sheet.{Parameter, parameters_of, read_sheet}
 use Rattle.sheet.specs.Encode.{SheetBlock, WellFormedSheet}
+use Rattle.sheet.specs.Find.{found_at}
 use Rattle.sheet.specs.declared.Found.{Found}
 use Rattle.syntax.specs.Tree.{name}
 use Rattle.query.specs.Spelling.{Alternative, Query, alternatives_of, SpellsQuery}
@@ -80,10 +82,10 @@ text_at_most kind split text p =
     (λ _. cond-elim (λ f. AtMost 18 (decision_step f)) (readable_at split text) (λ _. found_at_most) (λ _. stop_at_most 17 p (omega arith)))
     (λ _. kind_at_most (asked_of kind text).operator kind (asked_of kind text).value p)
 
-fault_at_most : (o : Found) (split : ℕ) (text : List ℕ) (p : ℕ) → AtMost 18 (decision_step (fault_at o split text p))
-fault_at_most Found.Missing split text p = stop_at_most 14 p (omega arith)
-fault_at_most (Found.At i kind) split text p =
-    cond-elim (λ f. AtMost 18 (decision_step f)) (eqb kind bundle_kind) (λ _. stop_at_most 14 p (omega arith)) (λ _. text_at_most kind split text p)
+fault_at_most : (o : Option Found) (split : ℕ) (text : List ℕ) (p : ℕ) → AtMost 18 (decision_step (fault_at o split text p))
+fault_at_most None split text p = stop_at_most 14 p (omega arith)
+fault_at_most (Some found) split text p =
+    cond-elim (λ f. AtMost 18 (decision_step f)) (eqb found.kind bundle_kind) (λ _. stop_at_most 14 p (omega arith)) (λ _. text_at_most found.kind split text p)
 
 alternatives-at_most : (ps : List Parameter) (list : List Alternative) → AtMost 18 (alternatives_step ps list)
 unfolding alternative_fault

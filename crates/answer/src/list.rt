@@ -6,9 +6,5 @@ pub fn write(numbers: &[u32], list: &mut [u32])
     requires { length numbers.now ≤ length list.old }
     ensures { list.new ≡ numbers.now ++ drop (length numbers.now) list.old }
 {
-    let mut i = 0;
-    while i < numbers.len() {
-        list[i] = numbers[i];
-        i += 1;
-    }
+    list[..numbers.len()].copy_from_slice(numbers);
 }

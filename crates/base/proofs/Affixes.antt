@@ -1,28 +1,23 @@
 -- Laws of prefixes, suffixes and infixes.
 -- Assumes nothing.
 use mathlib.Core.Path.{◌≡◌, refl, sym, ap, ◌∙◌}
-use Prim.Native.Nat.{ℕ, ◌+◌, ◌-◌, ◌≤◌, ◌<◌}
-use native.Mathlib.Nat.{le_of_suc-le-suc, not-suc-le-zero}
-use native.Mathlib.Numerals.{add-one}
+use Prim.Native.Nat.{ℕ, zero, suc, ◌+◌, ◌-◌, ◌≤◌, ◌<◌}
+use native.Mathlib.Nat.{add-zero, le_of_suc-le-suc, not-suc-le-zero}
 use native.Mathlib.Omega.{arith}
-use mathlib.Core.Bool.{Bool, true, false, ◌&&◌, and-false, or-true, true≢false, false≢true}
+use mathlib.Core.Bool.{Bool, true, false, ◌&&◌, and-false, or-true, false≢true}
 use mathlib.Core.List.{List, [], ◌∷◌, ◌++◌}
 use mathlib.Core.Logic.{⊎_elim}
 use lib.Dec.{eqb}
 use lib.ListN.{length, get_or, take, drop, length-append, length-drop, take-append-drop, drop_of_length-le}
-use lib.Seq.{drop-cons, drop_at}
+use lib.Seq.{drop-cons, drop_at, drop-drop}
 use borrow.Author.Tests.{eq-eqb, ne_eqb, eqb-true}
+use Rattle.std.specs.List.{list_all, list_any, range_with_len}
 use Rattle.base.specs.Lists.{equal}
-use Rattle.base.proofs.Tests.{and_left, and_right, or_either}
-use Rattle.base.proofs.Lists.{cons_same, equal-same, equal_refl, equal_not}
+use Rattle.base.proofs.Tests.{and_left, and_right, or_either, decided}
+use Rattle.base.proofs.Lists.{drop-next, cons_same, equal-same, equal_refl, equal_not}
 use Rattle.base.specs.Affixes.{has_prefix, has_suffix, has_infix}
 
 -- ---- prefixes
-
--- one element further, where the elements agree
-pub prefix_step : (xs ys : List ℕ) (i j : ℕ) → i < length xs → j < length ys → get_or xs i 0 ≡ get_or ys j 0 → has_prefix (drop i xs) (drop j ys) ≡ has_prefix (drop (i + 1) xs) (drop (j + 1) ys)
-unfolding has_prefix
-prefix_step xs ys i j hi hj e = rw (add-one i, add-one j, drop-cons xs i 0, drop-cons ys j 0, eq-eqb _ _ e)
 
 pub prefix_differ : (xs ys : List ℕ) (i j : ℕ) → i < length xs → j < length ys → (get_or xs i 0 ≡ get_or ys j 0 → ⊥) → has_prefix (drop i xs) (drop j ys) ≡ false
 unfolding has_prefix
@@ -53,11 +48,6 @@ prefix_take xs [] h = refl
 prefix_take [] (y ∷ ys) h = absurd (not-suc-le-zero h)
 prefix_take (x ∷ xs) (y ∷ ys) h = ap (λ (t : Bool). eqb x y && t) (prefix_take xs ys (le_of_suc-le-suc h))
 
-pub prefix_fails : (xs ys : List ℕ) → has_prefix xs ys ≡ false → 0 < length ys
-unfolding has_prefix
-prefix_fails xs [] h = absurd (true≢false h)
-prefix_fails xs (y ∷ ys) h = omega arith
-
 pub prefix_rest : (xs ys : List ℕ) → has_prefix xs ys ≡ true → (q : List ℕ) × (xs ≡ ys ++ q)
 unfolding has_prefix
 prefix_rest xs [] h = (xs, refl)
@@ -70,6 +60,20 @@ pub prefix_append : (ys q : List ℕ) → has_prefix (ys ++ q) ys ≡ true
 unfolding has_prefix
 prefix_append [] q = refl
 prefix_append (y ∷ ys) q = rw (eq-eqb y y refl) (prefix_append ys q)
+
+-- as `all` over the indices compares them: from the j-th element on
+module _ (xs ys : List ℕ) (at : ℕ) (fits : at + length ys ≤ length xs) where
+  all_from : (n j : ℕ) → j + n ≡ length ys → list_all (λ (i : ℕ). eqb (get_or xs (at + i) 0) (get_or ys i 0)) (range_with_len j n) ≡ has_prefix (drop (at + j) xs) (drop j ys)
+  unfolding has_prefix
+  all_from zero j e = sym (prefix_past (drop (at + j) xs) ys j (omega arith))
+  all_from (suc n) j e =
+      let left : at + j < length xs = omega arith in
+      let right : j < length ys = omega arith in
+      let next : at + j + 1 ≡ at + (j + 1) = omega arith in
+      rw (drop-next xs (at + j) left, drop-next ys j right, next) (ap (λ (t : Bool). eqb (get_or xs (at + j) 0) (get_or ys j 0) && t) (all_from n (j + 1) (omega arith)))
+
+  pub prefix_all : list_all (λ (i : ℕ). eqb (get_or xs (at + i) 0) (get_or ys i 0)) (range_with_len 0 (length ys)) ≡ has_prefix (drop at xs) ys
+  prefix_all = rw add-zero at (all_from (length ys) 0 (omega arith))
 
 -- ---- suffixes
 
@@ -113,6 +117,19 @@ pub infix_short : (xs ys : List ℕ) → length xs < length ys → has_infix xs 
 unfolding has_infix
 infix_short [] ys h = prefix_short [] ys h
 infix_short (x ∷ xs) ys h = rw (prefix_short (x ∷ xs) ys h) (infix_short xs ys (omega arith))
+
+-- as `any` over the places where ys has room tries them: from the place i on
+module _ (xs ys : List ℕ) (some : 0 < length ys) where
+  any_from : (n i : ℕ) → i + n + length ys ≡ length xs + 1 → list_any (λ (at : ℕ). has_prefix (drop at xs) ys) (range_with_len i n) ≡ has_infix (drop i xs) ys
+  any_from zero i e = sym (infix_short (drop i xs) ys (omega (arith, length-drop i xs)))
+  any_from (suc n) i e =
+      ⊎_elim
+      (λ (t : has_prefix (drop i xs) ys ≡ true). rw (t, infix_found (drop i xs) ys t))
+      (λ (f : has_prefix (drop i xs) ys ≡ false). rw (f, infix_next (drop i xs) ys f, drop-drop 1 i xs) (any_from n (i + 1) (omega arith)))
+      (decided (has_prefix (drop i xs) ys))
+
+  pub infix_any : length ys ≤ length xs → list_any (λ (at : ℕ). has_prefix (drop at xs) ys) (range_with_len 0 (length xs - length ys + 1)) ≡ has_infix xs ys
+  infix_any h = any_from (length xs - length ys + 1) 0 (omega arith)
 
 pub infix_rest : (xs ys : List ℕ) → has_infix xs ys ≡ true → (p : List ℕ) × (q : List ℕ) × (xs ≡ p ++ (ys ++ q))
 unfolding has_infix

@@ -2,23 +2,12 @@
 -- Assumes nothing.
 use Prim.Native.Nat.{ℕ, ◌≤◌}
 use mathlib.Core.Path.{◌≡◌}
-use mathlib.Core.Bool.{Bool, ◌&&◌}
+use mathlib.Core.Bool.{Bool}
 use mathlib.Core.List.{List}
 use lib.ListN.{length, drop}
-use Rattle.base.specs.Lists.{every, equal}
+use Rattle.base.specs.Lists.{every}
 
 -- the elements before i pass the test p
 pub record Passed (p : ℕ → Bool) (s : List ℕ) (i : ℕ) : Type 0 where
   pub within : i ≤ length s
   pub left : every p (drop i s) ≡ every p s
-
--- `all` says whether the elements before i pass the test p
-pub record Counted (p : ℕ → Bool) (s : List ℕ) (all : Bool) (i : ℕ) : Type 0 where
-  pub within : i ≤ length s
-  pub left : (all && every p (drop i s)) ≡ every p s
-
--- the lists are as long as each other and the same before i
-pub record Agreed (a b : List ℕ) (i : ℕ) : Type 0 where
-  pub within : i ≤ length a
-  pub lengths : length a ≡ length b
-  pub left : equal (drop i a) (drop i b) ≡ equal a b

@@ -4,14 +4,16 @@ use mathlib.Core.Path.{◌≡◌, refl, ap, sym, ◌∙◌}
 use Prim.Native.Nat.{ℕ, suc, ◌+◌, ◌-◌, ◌<◌}
 use native.Mathlib.Numerals.{add-one}
 use native.Mathlib.Omega.{arith}
-use mathlib.Core.Bool.{Bool, true, false, false≢true, and-false}
+use mathlib.Core.Bool.{Bool, true, false, ◌&&◌, false≢true}
 use mathlib.Core.Logic.{◌⊎◌, inl, inr, ⊎_elim, ite}
 use mathlib.Core.List.{List, [], ◌∷◌, ◌++◌, map, filter}
 use lib.Dec.{eqb}
+use lib.Pointwise.{pointwise}
 use lib.ListN.{length, get_or, take, drop, length-drop, drop_of_length-le, length-append}
 use lib.Seq.{take_all, drop-cons}
 use types.Run.{OneOf}
 use borrow.Author.Tests.{eq-eqb, ne_eqb, eqb-true}
+use Rattle.std.specs.List.{list_all}
 use Rattle.base.specs.Lists.{Listed, All, all_empty, all_cons, every, equal, member}
 use Rattle.base.proofs.Tests.{and_left, and_right, and_both, or_either, or_right, decided}
 
@@ -43,7 +45,21 @@ unfolding every
 all_every p [] h = refl
 all_every p (x ∷ xs) (all_cons e h) = and_both (p x) (every p xs) e (all_every p xs h)
 
+-- what `all` answers
+pub list_all_every : (p : ℕ → Bool) (l : List ℕ) → list_all p l ≡ every p l
+unfolding every
+list_all_every p [] = refl
+list_all_every p (x ∷ xs) = ap (λ (b : Bool). p x && b) (list_all_every p xs)
+
 -- ---- equality
+
+-- what `==` answers
+pub pointwise_equal : (a b : List ℕ) → pointwise eqb a b ≡ equal a b
+unfolding equal
+pointwise_equal [] [] = refl
+pointwise_equal [] (y ∷ ys) = refl
+pointwise_equal (x ∷ xs) [] = refl
+pointwise_equal (x ∷ xs) (y ∷ ys) = ap (λ (b : Bool). eqb x y && b) (pointwise_equal xs ys)
 
 pub equal-same : (a b : List ℕ) → equal a b ≡ true → a ≡ b
 unfolding equal
@@ -57,15 +73,6 @@ pub equal_refl : (a : List ℕ) → equal a a ≡ true
 unfolding equal
 equal_refl [] = refl
 equal_refl (x ∷ xs) = rw (eq-eqb x x refl) (equal_refl xs)
-
-pub equal_lengths : (a b : List ℕ) → (length a ≡ length b → ⊥) → false ≡ equal a b
-unfolding equal
-equal_lengths [] [] n = absurd (n refl)
-equal_lengths [] (y ∷ ys) n = refl
-equal_lengths (x ∷ xs) [] n = refl
-equal_lengths (x ∷ xs) (y ∷ ys) n =
-    let t : false ≡ equal xs ys = equal_lengths xs ys (λ e. n (ap suc e)) in
-    rw (← t) (sym (and-false (eqb x y)))
 
 pub equal_not : (a b : List ℕ) → (a ≡ b → ⊥) → equal a b ≡ false
 equal_not a b n = ⊎_elim (λ t. absurd (n (equal-same a b t))) (λ f. f) (decided (equal a b))

@@ -1,16 +1,16 @@
--- A loop's start, turns and end, for a test of every element and for the comparison of two lists.
+-- A loop's start, turns and end, for a test of every element.
 -- Assumes nothing.
 use Prim.Native.Nat.{ℕ, ◌+◌, ◌≤◌, ◌<◌}
 use native.Mathlib.Numerals.{add-one}
 use native.Mathlib.Omega.{arith}
 use mathlib.Core.Path.{◌≡◌, refl, ap, sym, ◌∙◌}
 use mathlib.Core.Bool.{Bool, true, false, ◌&&◌, and-true, and_assoc}
-use mathlib.Core.List.{List}
+use mathlib.Core.List.{List, [], ◌∷◌}
 use lib.ListN.{length, drop, get_or, drop_of_length-le}
 use lib.Seq.{drop-cons}
-use borrow.Author.Tests.{eq-eqb, ne_eqb}
-use Rattle.base.specs.Lists.{every, equal}
-use Rattle.base.proofs.Invariants.{Passed, Counted, Agreed}
+use Rattle.std.specs.List.{fold}
+use Rattle.base.specs.Lists.{every}
+use Rattle.base.proofs.Invariants.{Passed}
 
 -- ---- a test of every element
 
@@ -34,49 +34,9 @@ module _ (p : ℕ → Bool) (s : List ℕ) where
   unfolding every
   passed_end i inv h = ap (every p) (sym (drop_of_length-le s h)) ∙ inv.left
 
--- ---- the same, for a loop that goes on to the end
+-- ---- the same, by a fold that goes on to the end
 
-module _ (p : ℕ → Bool) (s : List ℕ) where
-  pub counted_start : Counted p s true 0
-  counted_start = record { within = omega arith; left = refl }
-
-  module _ (all : Bool) (i : ℕ) (inv : Counted p s all i) where
-    pub counted_next : (r : Bool) → i < length s → r ≡ (all && p (get_or s i 0)) → Counted p s r (i + 1)
-    unfolding every
-    counted_next r h e =
-        let left : (p (get_or s i 0) && every p (drop (i + 1) s)) ≡ every p (drop i s) = rw (add-one, drop-cons s i 0) in
-        record {
-          within = omega arith;
-          left = ap (λ (b : Bool). b && every p (drop (i + 1) s)) e ∙ and_assoc all (p (get_or s i 0)) (every p (drop (i + 1) s)) ∙ ap (λ (b : Bool). all && b) left ∙ inv.left;
-        }
-
-    pub counted_end : length s ≤ i → all ≡ every p s
-    unfolding every
-    counted_end h = sym (and-true all) ∙ ap (λ (l : List ℕ). all && every p l) (sym (drop_of_length-le s h)) ∙ inv.left
-
--- ---- two lists
-
-module _ (a b : List ℕ) where
-  pub agreed_start : length a ≡ length b → Agreed a b 0
-  agreed_start e = record { within = omega arith; lengths = e; left = refl }
-
-  pub agreed_next : (i : ℕ) → Agreed a b i → i < length a → get_or a i 0 ≡ get_or b i 0 → Agreed a b (i + 1)
-  unfolding equal
-  agreed_next i inv h e =
-      let k : i < length b = omega (arith, inv.lengths) in
-      let left : equal (drop (i + 1) a) (drop (i + 1) b) ≡ equal (drop i a) (drop i b) = rw (add-one, drop-cons a i 0, drop-cons b i 0, eq-eqb _ _ e) in
-      record { within = omega arith; lengths = inv.lengths; left = left ∙ inv.left }
-
-  pub agreed_not : (i : ℕ) → Agreed a b i → i < length a → (get_or a i 0 ≡ get_or b i 0 → ⊥) → false ≡ equal a b
-  unfolding equal
-  agreed_not i inv h n =
-      let k : i < length b = omega (arith, inv.lengths) in
-      let left : false ≡ equal (drop i a) (drop i b) = rw (drop-cons a i 0, drop-cons b i 0, ne_eqb _ _ n) in
-      left ∙ inv.left
-
-  pub agreed_end : (i : ℕ) → Agreed a b i → length a ≤ i → true ≡ equal a b
-  unfolding equal
-  agreed_end i inv h =
-      let k : length b ≤ i = omega (arith, inv.lengths) in
-      let left : true ≡ equal (drop i a) (drop i b) = rw (drop_of_length-le a {i = i} h, drop_of_length-le b {i = i} k) in
-      left ∙ inv.left
+pub fold_every : (p : ℕ → Bool) (all : Bool) (s : List ℕ) → fold (λ (a : Bool) (x : ℕ). a && p x) all s ≡ (all && every p s)
+unfolding every
+fold_every p all [] = sym (and-true all)
+fold_every p all (x ∷ xs) = fold_every p (all && p x) xs ∙ and_assoc all (p x) (every p xs)

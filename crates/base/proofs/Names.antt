@@ -21,22 +21,6 @@ use Rattle.base.proofs.All.{all_map}
 use Rattle.base.proofs.Digits.{digit_high}
 use Rattle.base.proofs.Lists.{rest, every_all, all_every, equal_not}
 
--- ---- reserved words
-
-module _ (n : List ℕ) (r : Bool) (e : r ≡ equal n (ascii "and")) where
-  pub reserved_and : r ≡ true → true ≡ is_reserved n
-  unfolding is_reserved
-  reserved_and t = rw (sym e ∙ t)
-
-  module _ (f : r ≡ false) (s : Bool) (d : s ≡ equal n (ascii "or")) where
-    pub reserved_or : s ≡ true → true ≡ is_reserved n
-    unfolding is_reserved
-    reserved_or t = rw (sym e ∙ f, sym d ∙ t)
-
-    pub reserved_not : s ≡ false → (t : Bool) → t ≡ equal n (ascii "not") → t ≡ is_reserved n
-    unfolding is_reserved
-    reserved_not g t k = rw (sym e ∙ f, sym d ∙ g) k
-
 -- ---- what the tests of a name decide
 
 pub name_empty : (n : List ℕ) → length n ≡ 0 → false ≡ is_name n
@@ -45,24 +29,21 @@ name_empty [] h = refl
 name_empty (x ∷ xs) h = absurd (omega arith)
 
 -- the tests on bytes that are not empty
-name_tests : (n : List ℕ) → (length n ≡ 0 → ⊥) → is_name n ≡ (is_name_start (get_or n 0 0) && (every is_name_part (drop 1 n) && not (is_reserved n)))
+pub name_tests : (n : List ℕ) → 1 ≤ length n
+    → is_name n ≡ (is_name_start (get_or n 0 0) && (every is_name_part (take (length n - 1) (drop 1 n)) && not (is_reserved n)))
 unfolding is_name
-name_tests [] h = absurd (h refl)
-name_tests (x ∷ xs) h = refl
+name_tests [] h = absurd (omega arith)
+name_tests (x ∷ xs) h = rw (rest (x ∷ xs) 1)
 
 module _ (n : List ℕ) (h : length n ≡ 0 → ⊥) (r : Bool) (e : r ≡ is_name_start (get_or n 0 0)) where
+  longer : 1 ≤ length n
+  longer = omega (arith, h)
+
   pub name-start_not : r ≡ false → false ≡ is_name n
-  name-start_not f = rw (name_tests n h, sym e ∙ f)
+  name-start_not f = rw (name_tests n longer, sym e ∙ f)
 
-  module _ (t : r ≡ true) (s : Bool) (d : s ≡ every is_name_part (take (length n - 1) (drop 1 n))) where
-    goes_on : every is_name_part (drop 1 n) ≡ s
-    goes_on = sym (d ∙ ap (every is_name_part) (rest n 1))
-
-    pub name-part_not : s ≡ false → false ≡ is_name n
-    name-part_not f = rw (name_tests n h, sym e ∙ t, goes_on ∙ f)
-
-    pub name_not_reserved : s ≡ true → (w : Bool) → w ≡ is_reserved n → not w ≡ is_name n
-    name_not_reserved p w k = rw (name_tests n h, sym e ∙ t, goes_on ∙ p, k)
+  pub name_not_reserved : r ≡ true → (s : Bool) → s ≡ every is_name_part (take (length n - 1) (drop 1 n)) → s ≡ true → (w : Bool) → w ≡ is_reserved n → not w ≡ is_name n
+  name_not_reserved t s d p w k = rw (name_tests n longer, sym e ∙ t, sym d ∙ p, k)
 
 -- ---- the rule's words
 

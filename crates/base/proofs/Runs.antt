@@ -5,12 +5,15 @@ use Prim.Native.Nat.{ℕ, suc, ◌+◌, ◌≤◌, ◌<◌}
 use native.Mathlib.Nat.{not-suc-le-zero}
 use native.Mathlib.Numerals.{add-one}
 use native.Mathlib.Omega.{arith}
-use mathlib.Core.Bool.{Bool, true, false}
+use mathlib.Core.Bool.{Bool, true, false, cond}
 use mathlib.Core.List.{List, [], ◌∷◌, ◌++◌}
 use mathlib.Core.Logic.{⊎_elim}
-use lib.ListN.{length, get_or, take, drop, drop_of_length-le}
+use lib.Dec.{eqb}
+use lib.ListN.{length, get_or, take, drop, length-drop, drop_of_length-le}
 use lib.Seq.{drop-cons}
-use borrow.Author.Tests.{eq-eqb, ne_eqb}
+use borrow.Author.Tests.{ltb-false}
+use Rattle.std.specs.Prelude.{Some, None}
+use Rattle.std.specs.List.{prefix_len, position}
 use Rattle.base.specs.Lists.{All, all_empty, all_cons, every}
 use Rattle.base.specs.Runs.{run, run_end, differs, RunEnd}
 use Rattle.base.proofs.Tests.{and_left, and_right, and_both, decided}
@@ -78,6 +81,37 @@ module _ (p : ℕ → Bool) where
   run_then [] t all_empty z = z
   run_then (x ∷ w) t (all_cons h all) z = rw h (ap suc (run_then w t all z))
 
+-- ---- what `position` answers, of what is left from an index on
+
+run_prefix : (p : ℕ → Bool) (s : List ℕ) → prefix_len p s ≡ run p s
+unfolding run
+run_prefix p [] = refl
+run_prefix p (x ∷ xs) = ap (λ (n : ℕ). cond (p x) n 0) (rw (run_prefix p xs) (omega arith))
+
+some_there : (t : Bool) (k n : ℕ) → Some n ≡ cond t (Some k) None → n ≡ k
+some_there true k n e = cc
+some_there false k n e = cc
+
+none_there : (t : Bool) (k : ℕ) → None ≡ cond t (Some k) None → t ≡ false
+none_there true k e = cc
+none_there false k e = refl
+
+module _ (x : ℕ) (s : List ℕ) (at : ℕ) (h : at ≤ length s) where
+  place_within : run (differs x) (drop at s) + at ≤ length s
+  place_within = omega (arith, run-within (differs x) (drop at s), length-drop at s)
+
+  pub place_found : (n : ℕ) → Some n ≡ position (λ (y : ℕ). eqb y x) (drop at s) → RunEnd (differs x) s at (at + n)
+  unfolding run_end
+  place_found n e =
+      let k : n ≡ run (differs x) (drop at s) = some_there _ _ _ e ∙ run_prefix (differs x) (drop at s) in
+      record { is = omega arith; from = omega arith; within = omega (arith, place_within) }
+
+  pub place_missing : None ≡ position (λ (y : ℕ). eqb y x) (drop at s) → RunEnd (differs x) s at (length s)
+  unfolding run_end
+  place_missing e =
+      let k : length (drop at s) ≤ run (differs x) (drop at s) = rw (← run_prefix (differs x) (drop at s)) (ltb-false _ _ (none_there _ _ e)) in
+      record { is = omega (arith, k, place_within, length-drop at s); from = h; within = omega arith }
+
 -- ---- a scan from an index on, which has come to i: what is left decides where it ends
 
 pub record Scanned (p : ℕ → Bool) (s : List ℕ) (at i : ℕ) : Type 0 where
@@ -107,11 +141,3 @@ module _ (p : ℕ → Bool) (s : List ℕ) (at : ℕ) where
     scan_ends h =
         let d : run p (drop i s) ≡ 0 = rw (drop_of_length-le s h) in
         record { is = omega arith; from = a.from; within = a.within }
-
--- a scan for x
-module _ (x : ℕ) (s : List ℕ) (at i : ℕ) (a : Scanned (differs x) s at i) (h : i < length s) where
-  pub scan_finds : get_or s i 0 ≡ x → RunEnd (differs x) s at i
-  scan_finds e = scan_stops (differs x) s at i a false (rw (eq-eqb _ _ e)) refl h
-
-  pub scan_passes : (get_or s i 0 ≡ x → ⊥) → Scanned (differs x) s at (i + 1)
-  scan_passes n = scan_on (differs x) s at i a true (rw (ne_eqb _ _ n)) refl h

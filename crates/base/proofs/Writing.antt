@@ -1,57 +1,15 @@
--- Writing into a part of a buffer: a word, byte by byte, and one text after another.
--- Two invariants carry it. `Writing`: after i bytes of a word the buffer has the word's first i bytes, and from i on what it had before; a
--- store at i keeps that (`writing_next`). `Wrote`: of a text that is put piece by piece, what stands and what is to come make the whole. So
--- a piece has room because the whole had (`wrote_room`), and putting it leaves the rest to come (`wrote_next`, by `puts_append`). The laws
--- of two and of three texts are instances of it.
+-- Writing into a part of a buffer, one text after another.
+-- An invariant carries it. `Wrote`: of a text that is put piece by piece, what stands and what is to come make the whole. So a piece has
+-- room because the whole had (`wrote_room`), and putting it leaves the rest to come (`wrote_next`, by `puts_append`). The laws of two and of
+-- three texts are instances of it.
 -- Assumes nothing.
-use Prim.Native.Nat.{ℕ, ◌+◌, ◌-◌, ◌≤◌, ◌<◌, zero-le}
-use native.Mathlib.Numerals.{add-one}
+use Prim.Native.Nat.{ℕ, ◌+◌, ◌-◌, ◌≤◌}
 use native.Mathlib.Omega.{arith}
 use mathlib.Core.Path.{◌≡◌, refl, sym, ap, ◌∙◌}
 use mathlib.Core.List.{List, [], ◌++◌, append_assoc, append-nil}
-use lib.ListN.{length, get_or, take, drop, set, length-set, length-append, length-drop, take-append-drop, drop_of_length-le}
-use lib.Seq.{take_all, take-suc, take-suc-set, drop-set-lt, drop-drop, drop_at, take_at, length-take-le}
+use lib.ListN.{length, take, drop, length-append, length-drop, drop_of_length-le}
+use lib.Seq.{take_all, drop-drop, drop_at, take_at, length-take-le}
 use Rattle.base.specs.Writing.{Room, Puts}
-
--- ---- a word, of which i bytes stand
-
-pub record Writing (word entry out : List ℕ) (i : ℕ) : Type 0 where
-  pub few : i ≤ length word
-  pub room : length word ≤ length entry
-  pub long : length out ≡ length entry
-  pub front : take i out ≡ take i word
-  pub rest : drop i out ≡ drop i entry
-
-pub writing_fits : (word out : List ℕ) → length word ≤ length out → Writing word out out 0
-writing_fits word out h = record { few = zero-le; room = h; long = refl; front = refl; rest = refl }
-
-pub writing_start : (word out : List ℕ) → Room word out → Writing word out out 0
-writing_start word out h = writing_fits word out h.fits
-
-module _ {word entry out : List ℕ} {i : ℕ} (w : Writing word entry out i) where
-  pub writing_room : i < length word → i < length out
-  writing_room h = omega (arith, w.long, w.room)
-
-  pub writing_next : i < length word → Writing word entry (set out i (get_or word i 0)) (i + 1)
-  writing_next h =
-      let l : i < length out = writing_room h in
-      record {
-        few = omega arith;
-        room = w.room;
-        long = length-set out i (get_or word i 0) ∙ w.long;
-        front = rw (add-one i, take-suc-set out i (get_or word i 0) l, take-suc word i 0 h, w.front);
-        rest = drop-set-lt (i + 1) out i (get_or word i 0) (omega arith) ∙ sym (drop-drop 1 i out) ∙ ap (drop 1) w.rest ∙ drop-drop 1 i entry;
-      }
-
-  pub writing_whole : length word ≤ i → out ≡ word ++ drop (length word) entry
-  writing_whole h =
-      let n : i ≡ length word = omega (arith, w.few) in
-      sym (take-append-drop i out) ∙ rw (w.front, w.rest, take_all i word h, n)
-
-  pub writing_end : length word ≤ i → Puts word entry out i
-  writing_end h =
-      let n : i ≡ length word = omega (arith, w.few) in
-      record { long = n; bytes = writing_whole h ∙ ap (λ (k : ℕ). word ++ drop k entry) (sym n) }
 
 -- ---- a text that is another's
 

@@ -1,4 +1,4 @@
-// What every layer uses: a byte as a number, whether it is a digit, whether two texts are the same, where a byte stands, writing a text
+// What every layer uses: whether a byte is a digit, whether two texts are the same, where a byte stands, writing a text
 // into a buffer, and names.
 #![tactic(auto)]
 
@@ -13,35 +13,20 @@ ghost use Rattle.base.specs.Runs.{differs, RunEnd};
 ghost use Rattle.base.specs.Split.{first_of};
 ghost use Rattle.base.specs.Writing.{Room, Puts};
 
-// The byte as a number.
-pub fn wide(b: u8) -> u64
-    ensures { (result ≡ b) × (result < 256) }
-{
-    b as u64
-}
-
 // Whether a byte is one of the digits 0 to 9.
+#[tactic(auto, unfolding(crate::specs::Digits::is_digit))]
 pub fn is_digit(b: u8) -> bool
     ensures { result ≡ is_digit b }
 {
-    48 <= b && b <= 57
+    b.is_ascii_digit()
 }
 
 // Whether two slices hold the same bytes.
+#[tactic(auto, using(crate::proofs::Lists::pointwise_equal))]
 pub fn equal(a: &[u8], b: &[u8]) -> bool
     ensures { result ≡ equal a.now b.now }
 {
-    if a.len() != b.len() {
-        return false;
-    }
-    let mut i = 0;
-    while i < a.len() {
-        if a[i] != b[i] {
-            return false;
-        }
-        i += 1;
-    }
-    true
+    a == b
 }
 
 // The first position from `from` on where the byte stands, or the end.
@@ -49,14 +34,10 @@ pub fn first_from(s: &[u8], from: usize, byte: u8) -> usize
     requires { from ≤ length s.now }
     ensures { RunEnd (differs byte) s.now from result }
 {
-    let mut i = from;
-    while i < s.len() {
-        if s[i] == byte {
-            return i;
-        }
-        i += 1;
+    match s[from..].iter().position(|b| *b == byte) {
+        Some(before) => from + before,
+        None => s.len(),
     }
-    i
 }
 
 // The first position where the byte stands, or the length where it does not.
@@ -71,10 +52,6 @@ pub fn write_word(word: &[u8], out: &mut [u8]) -> usize
     requires { Room word.now out.old }
     ensures { Puts word.now out.old out.new result }
 {
-    let mut i = 0;
-    while i < word.len() {
-        out[i] = word[i];
-        i += 1;
-    }
-    i
+    out[..word.len()].copy_from_slice(word);
+    word.len()
 }

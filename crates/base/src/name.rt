@@ -2,91 +2,56 @@
 // "-" or digits; it is not and, or, not". Case counts.
 ghost use Rattle.std.specs.Prelude.{◌≡◌};
 ghost use Rattle.base.specs.Lists.{every};
-ghost use Rattle.base.specs.Between.{between};
 ghost use Rattle.base.specs.Names.{is_letter, is_name_start, is_name_part, is_reserved, is_name};
 
-use crate::{equal, is_digit};
-
-// Whether a byte is one of those from `low` to `high`.
-fn between(low: u8, high: u8, b: u8) -> bool
-    ensures { result ≡ between low high b }
-{
-    low <= b && b <= high
-}
+use crate::is_digit;
 
 // Whether a byte is an ASCII letter.
+#[tactic(auto, unfolding(crate::specs::Names::is_letter, crate::specs::Between::between))]
 fn is_letter(b: u8) -> bool
     ensures { result ≡ is_letter b }
 {
-    if between(b'A', b'Z', b) {
-        return true;
-    }
-    between(b'a', b'z', b)
+    b.is_ascii_alphabetic()
 }
 
 // Whether a name may begin with the byte.
+#[tactic(auto, unfolding(crate::specs::Names::is_name_start))]
 pub fn is_name_start(b: u8) -> bool
     ensures { result ≡ is_name_start b }
 {
-    if b == b'_' {
-        return true;
-    }
-    is_letter(b)
+    b == b'_' || is_letter(b)
 }
 
 // Whether a name may go on with the byte.
+#[tactic(auto, unfolding(crate::specs::Names::is_name_part))]
 pub fn is_name_part(b: u8) -> bool
     ensures { result ≡ is_name_part b }
 {
-    if is_name_start(b) {
-        return true;
-    }
-    if b == b'-' {
-        return true;
-    }
-    is_digit(b)
+    is_name_start(b) || b == b'-' || is_digit(b)
 }
 
 // Whether a name may go on with each of the bytes.
 fn all_name_parts(s: &[u8]) -> bool
     ensures { result ≡ every is_name_part s.now }
 {
-    let mut i = 0;
-    while i < s.len() {
-        if is_name_part(s[i]) {
-            i += 1;
-        } else {
-            return false;
-        }
-    }
-    true
+    s.iter().all(|b| is_name_part(*b))
 }
 
 // Whether the bytes are one of the words and, or, not.
+#[tactic(auto, using(crate::proofs::Lists::pointwise_equal), unfolding(crate::specs::Names::is_reserved))]
 pub fn is_reserved(n: &[u8]) -> bool
     ensures { result ≡ is_reserved n.now }
 {
-    if equal(n, b"and") {
-        return true;
-    }
-    if equal(n, b"or") {
-        return true;
-    }
-    equal(n, b"not")
+    n == b"and".as_slice() || n == b"or".as_slice() || n == b"not".as_slice()
 }
 
 // Whether the bytes are a name.
+#[tactic(auto, using(crate::proofs::Names::name_empty, crate::proofs::Names::name_tests))]
 pub fn is_name(n: &[u8]) -> bool
     ensures { result ≡ is_name n.now }
 {
-    if n.len() == 0 {
-        return false;
+    match n {
+        [first, rest @ ..] => is_name_start(*first) && all_name_parts(rest) && !is_reserved(n),
+        [] => false,
     }
-    if !is_name_start(n[0]) {
-        return false;
-    }
-    if !all_name_parts(&n[1..]) {
-        return false;
-    }
-    !is_reserved(n)
 }

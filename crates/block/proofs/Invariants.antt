@@ -27,10 +27,10 @@ pub record Summed (b : List ℕ) (m total j : ℕ) : Type 0 where
   pub whole : total + columns_from b 0 j m ≡ sum_from 1 (part b 0 (32 * m))
   pub most : total ≤ 4194304 * j
 
--- the items before p are laid out up to p, and those that are left decide
-pub record LaidTo (b : List ℕ) (from count p left : ℕ) : Type 0 where
+-- `done` items are laid out up to p, and those that are left decide
+pub record LaidTo (b : List ℕ) (from count p done : ℕ) : Type 0 where
   pub within : p ≤ 508
-  pub rest : laid_out left b p ≡ laid_out count b from
+  pub rest : laid_out (count - done) b p ≡ laid_out count b from
 
 -- a loop over items, whose answer is what G says of those to come. A turn may change G, and not the answer.
 pub record Visited {X A : Type 0} (make : ℕ → ℕ → List ℕ → X) (G : List X → A) (answer : A) (b : List ℕ) (p left : ℕ) : Type 0 where

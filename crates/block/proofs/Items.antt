@@ -4,6 +4,7 @@
 -- answers something. `Walk` says that the items left are laid out from p on. The item at p then ends before byte 508 (`walk_within`), and
 -- the walk goes on behind it (`item-step`).
 -- Assumes nothing.
+use Rattle.std.specs.Prelude.{Option, Some, None, MatchOption}
 use Prim.Native.Nat.{ℕ, zero, suc, ◌+◌, ◌-◌, ◌≤◌, ◌<◌}
 use native.Mathlib.Omega.{arith}
 use mathlib.Core.Path.{◌≡◌, refl, ap, sym, ◌∙◌, subst}
@@ -12,21 +13,21 @@ use mathlib.Core.List.{List, [], ◌∷◌}
 use lib.Dec.{leb, eqb}
 use lib.ListN.{length, get_or}
 use borrow.Author.Tests.{eq-eqb, ne_eqb, eqb-true, le-leb, lt-leb, leb-true}
+use Rattle.std.specs.Bool.{then_some}
 use Rattle.base.specs.Parts.{part}
 use mathlib.Core.Logic.{⊎_elim}
 use Rattle.base.proofs.Tests.{and_left, and_right, or_either}
 use Rattle.block.specs.Items.{zeros, has_marks, length_at, next, mark_at, text_at, laid_out, has_layout, has_either, items, ItemAt, Walk, ItemStep, LaysOut}
 use Rattle.block.specs.declared.Item.{Item}
-use Rattle.block.specs.declared.Layout.{Layout}
 use Rattle.block.proofs.Invariants.{LaidTo, Visited}
 
 -- ---- what the functions that look at a layout answer
 
 module _ (b : List ℕ) (laid : Bool) where
-  pub lays_wrong : false ≡ laid → LaysOut b laid Layout.Wrong
+  pub lays_wrong : false ≡ laid → LaysOut b laid None
   lays_wrong h = record { wrong = λ _. sym h; right = λ e k. absurd (let z : ◌≡◌ {A = ℕ} 0 1 = cc in omega arith); zero = λ e k. absurd (let z : ◌≡◌ {A = ℕ} 0 1 = cc in omega arith) }
 
-  pub lays_right : (p : ℕ) → true ≡ laid → zeros (part b p 508) ≡ true → LaysOut b laid (Layout.EndsAt p)
+  pub lays_right : (p : ℕ) → true ≡ laid → zeros (part b p 508) ≡ true → LaysOut b laid (Some p)
   lays_right p h z =
       record {
         wrong = λ k. absurd (let z : ◌≡◌ {A = ℕ} 0 1 = cc in omega arith);
@@ -36,7 +37,6 @@ module _ (b : List ℕ) (laid : Bool) where
 
 -- ---- what the loop over the items keeps
 
--- some items are left
 laid_first : (k : ℕ) (b : List ℕ) (p : ℕ) → 0 < k → laid_out k b p ≡ (leb (next b p) 508 && laid_out (k - 1) b (next b p))
 unfolding laid_out
 laid_first k b p h = let e : k ≡ suc (k - 1) = omega arith in ap (λ (n : ℕ). laid_out n b p) e
@@ -46,41 +46,41 @@ unfolding laid_out
 laid_none k b p h = let e : k ≡ 0 = omega arith in ap (λ (n : ℕ). laid_out n b p) e
 
 module _ (b : List ℕ) (from count : ℕ) where
-  pub laid_to_start : from ≤ 508 → LaidTo b from count from count
-  laid_to_start h = record { within = h; rest = refl }
-
-  module _ (p left end : ℕ) (inv : LaidTo b from count p left) (l : 0 < left) (e : end ≡ next b p) where
-    pub laid_to_past : 508 < end → LaysOut b (laid_out count b from) Layout.Wrong
+  module _ (p done end : ℕ) (inv : LaidTo b from count p done) (l : done < count) (e : end ≡ next b p) where
+    pub laid_to_past : 508 < end → LaysOut b (laid_out count b from) None
     laid_to_past h =
         let k : 508 < next b p = omega arith in
-        let none : false ≡ laid_out left b p = rw (laid_first left b p l, lt-leb (next b p) 508 k) in
+        let none : false ≡ laid_out (count - done) b p = rw (laid_first (count - done) b p (omega arith), lt-leb (next b p) 508 k) in
         lays_wrong b _ (none ∙ inv.rest)
 
-    pub laid_to_next : end ≤ 508 → LaidTo b from count end (left - 1)
+    pub laid_to_next : end ≤ 508 → LaidTo b from count end (done + 1)
     laid_to_next h =
         let k : next b p ≤ 508 = omega arith in
-        let rest : laid_out (left - 1) b end ≡ laid_out left b p = rw (e, laid_first left b p l, le-leb (next b p) 508 k) in
+        let fewer : count - (done + 1) ≡ count - done - 1 = omega arith in
+        let rest : laid_out (count - (done + 1)) b end ≡ laid_out (count - done) b p = rw (fewer, e, laid_first (count - done) b p (omega arith), le-leb (next b p) 508 k) in
         record { within = h; rest = rest ∙ inv.rest }
 
-  module _ (p left : ℕ) (inv : LaidTo b from count p left) (l : left ≤ 0) (z : Bool) (e : z ≡ zeros (part b p 508)) where
+  -- the padding behind the last item decides
+  module _ (p done : ℕ) (inv : LaidTo b from count p done) (l : count ≤ done) (z : Bool) (e : z ≡ zeros (part b p 508)) where
     padding_decides : z ≡ laid_out count b from
-    padding_decides = e ∙ sym (laid_none left b p l) ∙ inv.rest
+    padding_decides = e ∙ sym (laid_none (count - done) b p (omega arith)) ∙ inv.rest
 
-    pub laid_to_end : z ≡ true → LaysOut b (laid_out count b from) (Layout.EndsAt p)
-    laid_to_end h = lays_right b _ p (sym h ∙ padding_decides) (sym e ∙ h)
-
-    pub laid_to_bytes : z ≡ false → LaysOut b (laid_out count b from) Layout.Wrong
-    laid_to_bytes h = lays_wrong b _ (sym h ∙ padding_decides)
+    pub laid_to_end : (r : Option ℕ) → r ≡ then_some z p → LaysOut b (laid_out count b from) r
+    laid_to_end r k = rw k (ends z refl)
+      where
+        ends : (t : Bool) → t ≡ z → LaysOut b (laid_out count b from) (then_some t p)
+        ends true h = lays_right b _ p (h ∙ padding_decides) (sym e ∙ sym h)
+        ends false h = lays_wrong b _ (h ∙ padding_decides)
 
 -- ---- what the tests of a layout decide, and what a layout has
 
 module _ (b : List ℕ) (first at most : ℕ) where
-  pub layout_first_not : (get_or b 0 0 ≡ first → ⊥) → LaysOut b (has_layout first at most b) Layout.Wrong
+  pub layout_first_not : (get_or b 0 0 ≡ first → ⊥) → LaysOut b (has_layout first at most b) None
   unfolding has_layout
   layout_first_not n = lays_wrong b _ (rw (ne_eqb (get_or b 0 0) first n))
 
   module _ (f : get_or b 0 0 ≡ first) where
-    pub layout_many : most < get_or b at 0 → LaysOut b (has_layout first at most b) Layout.Wrong
+    pub layout_many : most < get_or b at 0 → LaysOut b (has_layout first at most b) None
     unfolding has_layout
     layout_many n = lays_wrong b _ (rw (eq-eqb (get_or b 0 0) first f, lt-leb (get_or b at 0) most n))
 
@@ -88,7 +88,7 @@ module _ (b : List ℕ) (first at most : ℕ) where
     unfolding has_layout
     layout_items_decide n = rw (eq-eqb (get_or b 0 0) first f, le-leb (get_or b at 0) most n)
 
-    pub layout_laid : get_or b at 0 ≤ most → (r : Layout) → LaysOut b (laid_out (get_or b at 0) b (at + 1)) r → LaysOut b (has_layout first at most b) r
+    pub layout_laid : get_or b at 0 ≤ most → (r : Option ℕ) → LaysOut b (laid_out (get_or b at 0) b (at + 1)) r → LaysOut b (has_layout first at most b) r
     layout_laid n r e = subst (λ (laid : Bool). LaysOut b laid r) (layout_items_decide n) e
 
   module _ (h : has_layout first at most b ≡ true) where
@@ -110,24 +110,15 @@ module _ (b : List ℕ) (first at most : ℕ) where
     pub walk_start : length b ≡ 512 → at < 508 → Walk b (at + 1) (get_or b at 0)
     walk_start s l = record { size = s; within = omega arith; laid = layout_items }
 
--- either of two first bytes
-module _ (b : List ℕ) (plain marked at most : ℕ) (r : Layout) (l : LaysOut b (has_layout plain at most b) r) where
-  pub either-plain : (p : ℕ) → r ≡ Layout.EndsAt p → LaysOut b (has_either plain marked at most b) (Layout.EndsAt p)
-  unfolding has_either
-  either-plain p h = lays_right b _ p (rw (l.right p h)) (l.zero p h)
+-- either of two first bytes, the second where the first has no layout
+pub either_laid : (b : List ℕ) (plain marked at most : ℕ) (r t : Option ℕ) → LaysOut b (has_layout plain at most b) r
+    → MatchOption r (LaysOut b (has_layout marked at most b) t) (λ p. t ≡ Some p) → LaysOut b (has_either plain marked at most b) t
+unfolding has_either
+either_laid b plain marked at most None t l h = rw (l.wrong refl) h
+either_laid b plain marked at most (Some p) t l h = rw (h, l.right p refl) (lays_right b true p refl (l.zero p refl))
 
-  pub either-marked : (t : Layout) → r ≡ Layout.Wrong → LaysOut b (has_layout marked at most b) t → LaysOut b (has_either plain marked at most b) t
-  unfolding has_either
-  either-marked t h f = rw (l.wrong h) f
-
-module _ (b : List ℕ) (laid : Bool) (r : Layout) (l : LaysOut b laid r) where
-  pub laid_right : (p : ℕ) → r ≡ Layout.EndsAt p → true ≡ laid
-  laid_right p h = sym (l.right p h)
-
-  pub laid_wrong : r ≡ Layout.Wrong → false ≡ laid
-  laid_wrong h = sym (l.wrong h)
-
-  pub laid_zero : (p : ℕ) → r ≡ Layout.EndsAt p → zeros (part b p 508) ≡ true
+module _ (b : List ℕ) (laid : Bool) (r : Option ℕ) (l : LaysOut b laid r) where
+  pub laid_zero : (p : ℕ) → r ≡ Some p → zeros (part b p 508) ≡ true
   laid_zero p h = l.zero p h
 
 -- a block with either layout has that of its own first byte
@@ -167,14 +158,6 @@ module _ (b : List ℕ) (p : ℕ) (w : Bool) (e : w ≡ has_marks (get_or b 0 0)
       let k : has_marks (get_or b 0 0) ≡ false = sym e ∙ h in
       let z : p + 2 ≡ p + 1 + 1 = omega arith in
       record { tag = refl; mark = rw k; start = rw k z; end = rw (k, i) (ap (λ (n : ℕ). n + get_or b (p + 1) 0) z); ahead = omega arith; order = omega arith }
-
-pub marks-first : (first : ℕ) → first ≡ 0x44 → true ≡ has_marks first
-unfolding has_marks
-marks-first first h = rw h
-
-pub marks_other : (first : ℕ) → (first ≡ 0x44 → ⊥) → eqb first 0x51 ≡ has_marks first
-unfolding has_marks
-marks_other first h = rw (ne_eqb first 0x44 h)
 
 -- ---- a walk over the items of a block
 

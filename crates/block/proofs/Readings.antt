@@ -1,5 +1,6 @@
 -- Laws of what reading a block answers.
 -- Assumes nothing.
+use Rattle.std.specs.Prelude.{Option, Some, None}
 use Prim.Native.Nat.{ℕ}
 use native.Mathlib.Omega.{arith}
 use mathlib.Core.Path.{◌≡◌, refl, sym, ◌∙◌}
@@ -15,7 +16,6 @@ use Rattle.block.specs.Readings.{reading}
 use Rattle.block.specs.declared.Integrity.{Integrity}
 use Rattle.block.specs.declared.Integrity.TheVariants.{Sealed, WrongSize, WrongSum}
 use Rattle.block.specs.declared.Validity.TheVariants as answers
-use Rattle.block.specs.declared.Layout.{Layout}
 use Rattle.block.proofs.Seal.{check_iff, check-size_wrong, check_sum_wrong, check_right}
 
 -- ---- what a reader answers after the check, and after the layout
@@ -62,9 +62,9 @@ module _ (b : List ℕ) (h : length b ≡ 512) (s w : ℕ) (es : s ≡ check_sum
   pub block_sum : (s ≡ w → ⊥) → answers.WrongSum ≡ reading (check b) layout
   block_sum n = reading_sum (check b) (check b) refl layout (sym (check_sum_wrong b h s w es ew n))
 
-  module _ (k : s ≡ w) (r : Layout) (l : LaysOut b layout r) where
-    pub block_right : (p : ℕ) → r ≡ Layout.EndsAt p → answers.WellFormed ≡ reading (check b) layout
+  module _ (k : s ≡ w) (r : Option ℕ) (l : LaysOut b layout r) where
+    pub block_right : (p : ℕ) → r ≡ Some p → answers.WellFormed ≡ reading (check b) layout
     block_right p e = reading_right (check b) (check b) refl layout (sym (check_right b h s w es ew k)) layout refl (l.right p e)
 
-    pub block_wrong : r ≡ Layout.Wrong → answers.WrongLayout ≡ reading (check b) layout
+    pub block_wrong : r ≡ None → answers.WrongLayout ≡ reading (check b) layout
     block_wrong e = reading_layout (check b) (check b) refl layout (sym (check_right b h s w es ew k)) layout refl (l.wrong e)

@@ -1,12 +1,11 @@
 -- Items: what a block lists, a sheet its parameters and a card its entries. An item is a byte, in a block with marks
 -- a second byte, the length of a text, and the text.
 -- Assumes nothing.
-use Rattle.std.specs.Prelude.{ℕ, zero, suc, ◌+◌, ◌-◌, ◌≤◌, ◌<◌, ◌≡◌, Bool, true, false, cond, ◌&&◌, ◌||◌, List, [], ◌∷◌, ◌++◌, leb, eqb, length, get_or}
+use Rattle.std.specs.Prelude.{ℕ, zero, suc, ◌+◌, ◌-◌, ◌≤◌, ◌<◌, ◌≡◌, Bool, true, false, cond, ◌&&◌, ◌||◌, List, [], ◌∷◌, ◌++◌, leb, eqb, length, get_or, Option, Some, None}
 use Rattle.base.specs.Lists.{every}
 use Rattle.base.specs.Parts.{part}
 use Rattle.block.specs.Seal.{HasSize}
 use Rattle.block.specs.declared.Item.{Item}
-use Rattle.block.specs.declared.Layout.{Layout}
 
 -- ---- reading
 
@@ -53,10 +52,10 @@ unfoldable pub has_either : (plain marked at most : ℕ) → List ℕ → Bool
 has_either plain marked at most b = has_layout plain at most b || has_layout marked at most b
 
 -- r says whether a block with its size is laid out, and where its items end: zeros follow from there to byte 507
-pub record LaysOut (b : List ℕ) (laid : Bool) (r : Layout) : Type 0 where
-  pub wrong : r ≡ Layout.Wrong → laid ≡ false
-  pub right : (e : ℕ) → r ≡ Layout.EndsAt e → laid ≡ true
-  pub zero : (e : ℕ) → r ≡ Layout.EndsAt e → zeros (part b e 508) ≡ true
+pub record LaysOut (b : List ℕ) (laid : Bool) (r : Option ℕ) : Type 0 where
+  pub wrong : r ≡ None → laid ≡ false
+  pub right : (e : ℕ) → r ≡ Some e → laid ≡ true
+  pub zero : (e : ℕ) → r ≡ Some e → zeros (part b e 508) ≡ true
 
 -- the k items from p on, each made of its first byte, its mark and its text
 unfoldable pub items : {X : Type 0} → (ℕ → ℕ → List ℕ → X) → ℕ → List ℕ → ℕ → List X

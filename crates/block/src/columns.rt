@@ -21,13 +21,6 @@ struct Columns {
     rows: [u16; 32],
 }
 
-// The byte as a number of 16 bits.
-fn wide(b: u8) -> u16
-    ensures { (result ≡ b) × (result < 256) }
-{
-    b as u16
-}
-
 // The sums of the column `j`, from the last row to the first. Each row adds the bytes of all rows below it to `rows`, so that a byte
 // is added once for each row above it.
 fn column_at(block: &[u8], j: usize) -> Column
@@ -37,11 +30,9 @@ fn column_at(block: &[u8], j: usize) -> Column
 {
     let mut sum: u16 = 0;
     let mut rows: u16 = 0;
-    let mut row: usize = 16;
-    while row > 0 {
-        row -= 1;
+    for row in (0..16).rev() {
         rows += sum;
-        sum += wide(block[32 * row + j]);
+        sum += u16::from(block[32 * row + j]);
     }
     Column { sum, rows }
 }
@@ -53,12 +44,10 @@ fn columns_of(block: &[u8]) -> Columns
 {
     let mut sums = [0u16; 32];
     let mut rows = [0u16; 32];
-    let mut j = 0;
-    while j < 32 {
+    for j in 0..32 {
         let column = column_at(block, j);
         sums[j] = column.sum;
         rows[j] = column.rows;
-        j += 1;
     }
     Columns { sums, rows }
 }
@@ -76,10 +65,10 @@ fn last_four(block: &[u8]) -> u32
     requires { HasSize block.now }
     ensures { result ≡ last_four block.now }
 {
-    let a = crate::wide(block[508]);
-    let b = crate::wide(block[509]);
-    let c = crate::wide(block[510]);
-    let d = crate::wide(block[511]);
+    let a = u32::from(block[508]);
+    let b = u32::from(block[509]);
+    let c = u32::from(block[510]);
+    let d = u32::from(block[511]);
     509 * a + 510 * b + 511 * c + 512 * d
 }
 
@@ -90,10 +79,8 @@ pub fn check_sum(block: &[u8]) -> u32
 {
     let columns = columns_of(block);
     let mut total: u32 = 0;
-    let mut j = 0;
-    while j < 32 {
+    for j in 0..32 {
         total += column_total(j, columns.sums[j], columns.rows[j]);
-        j += 1;
     }
     total - last_four(block)
 }
@@ -104,10 +91,10 @@ fn short_column(block: &[u8], j: usize) -> Column
     requires j_bound { j < 32 }
     ensures { ColumnAt block.now 4 j result }
 {
-    let a = wide(block[j]);
-    let b = wide(block[j + 32]);
-    let c = wide(block[j + 64]);
-    let d = wide(block[j + 96]);
+    let a = u16::from(block[j]);
+    let b = u16::from(block[j + 32]);
+    let c = u16::from(block[j + 64]);
+    let d = u16::from(block[j + 96]);
     Column {
         sum: a + b + c + d,
         rows: b + 2 * c + 3 * d,
@@ -120,11 +107,9 @@ fn short_sum(block: &[u8]) -> u32
     ensures { result ≡ sum_from 1 (part block.now 0 128) }
 {
     let mut total: u32 = 0;
-    let mut j = 0;
-    while j < 32 {
+    for j in 0..32 {
         let column = short_column(block, j);
         total += column_total(j, column.sum, column.rows);
-        j += 1;
     }
     total
 }

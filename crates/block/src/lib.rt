@@ -33,13 +33,6 @@ pub enum Validity {
     WrongLayout,
 }
 
-// Where the items of a block end, and zeros follow to byte 507; or that they are not laid out so.
-#[derive(Clone, Copy)]
-pub enum Layout {
-    EndsAt(usize),
-    Wrong,
-}
-
 // An item: its first byte, its mark (0 in a block without marks), and where its text starts and ends. The next item starts
 // where the text ends.
 #[derive(Clone, Copy)]
@@ -50,23 +43,12 @@ pub struct Item {
     pub end: usize,
 }
 
-// The byte as a number of 32 bits.
-fn wide(b: u8) -> u32
-    ensures { (result ≡ b) × (result < 256) }
-{
-    b as u32
-}
-
 // The number that the four bytes from `at` hold, low byte first.
 pub fn word(block: &[u8], at: usize) -> u32
     requires { at + 4 ≤ length block.now }
     ensures { result ≡ word block.now at }
 {
-    let a = wide(block[at]);
-    let b = wide(block[at + 1]);
-    let c = wide(block[at + 2]);
-    let d = wide(block[at + 3]);
-    a + 256 * (b + 256 * (c + 256 * d))
+    u32::from_le_bytes([block[at], block[at + 1], block[at + 2], block[at + 3]])
 }
 
 // Whether a block has its size, and its bytes 508 to 511 its check sum.
@@ -82,42 +64,19 @@ pub fn check(block: &[u8]) -> Integrity
     Integrity::Sealed
 }
 
-// Whether `all` holds and the byte is zero.
-fn and_zero(all: bool, b: u8) -> bool
-    ensures { result ≡ (all && eqb b 0) }
-{
-    let zero = b == 0;
-    all && zero
-}
-
 // Whether every byte is zero. The loop goes on to the end, so that it takes many bytes a turn.
 fn zeros(s: &[u8]) -> bool
     ensures { result ≡ zeros s.now }
 {
-    let mut all = true;
-    let mut i = 0;
-    while i < s.len() {
-        all = and_zero(all, s[i]);
-        i += 1;
-    }
-    all
+    s.iter().fold(true, |all, b| all & (*b == 0))
 }
 
 // Whether the items of a block with this first byte have marks: 0x44 of a card, 0x51 of a sheet.
+#[tactic(auto, unfolding(crate::specs::Items::has_marks))]
 pub fn has_marks(first: u8) -> bool
     ensures { result ≡ has_marks first }
 {
-    if first == 0x44 {
-        return true;
-    }
-    first == 0x51
-}
-
-// The byte as a size.
-fn size(b: u8) -> usize
-    ensures { (result ≡ b) × (result < 256) }
-{
-    b as usize
+    matches!(first, 0x44 | 0x51)
 }
 
 // The item at `at`. No other function knows how an item begins.
@@ -131,7 +90,7 @@ pub fn item_at(block: &[u8], at: usize) -> Item
             tag: block[at],
             mark: block[at + 1],
             start,
-            end: start + size(block[at + 2]),
+            end: start + usize::from(block[at + 2]),
         };
     }
     let start = at + 2;
@@ -139,61 +98,52 @@ pub fn item_at(block: &[u8], at: usize) -> Item
         tag: block[at],
         mark: 0,
         start,
-        end: start + size(block[at + 1]),
+        end: start + usize::from(block[at + 1]),
     }
 }
 
 // Whether `count` items from `from` on end at or before byte 507, and the bytes from there to 507 are zero.
-fn laid_out(block: &[u8], from: usize, count: u8) -> Layout
+#[tactic(auto, using(crate::proofs::Items::laid_to_next, crate::proofs::Items::laid_to_end))]
+fn laid_out(block: &[u8], from: usize, count: u8) -> Option<usize>
     requires has_size { HasSize block.now }
     requires from_bound { from ≤ 508 }
     ensures { LaysOut block.now (laid_out count block.now from) result }
 {
     let mut at = from;
-    let mut left = count;
-    while left > 0 {
-        let item = item_at(block, at);
-        let end = item.end;
-        let past = end > 508;
+    for _ in 0..count {
+        at = item_at(block, at).end;
+        let past = at > 508;
         if past {
-            return Layout::Wrong;
+            return None;
         }
-        at = end;
-        left -= 1;
     }
-    if zeros(&block[at..508]) {
-        return Layout::EndsAt(at);
-    }
-    Layout::Wrong
+    zeros(&block[at..508]).then_some(at)
 }
 
 // Whether the first byte is `first`, the byte at `at` says how many items follow it, `most` or fewer, and they and the padding
 // are laid out.
-fn layout_from(block: &[u8], first: u8, at: usize, most: u8) -> Layout
+fn layout_from(block: &[u8], first: u8, at: usize, most: u8) -> Option<usize>
     requires has_size { HasSize block.now }
     requires at_bound { at < 508 }
     ensures { LaysOut block.now (has_layout first at most block.now) result }
 {
     if block[0] != first {
-        return Layout::Wrong;
+        return None;
     }
     let count = block[at];
     if count > most {
-        return Layout::Wrong;
+        return None;
     }
     laid_out(block, at + 1, count)
 }
 
 // The same with either of two first bytes.
-pub fn layout_of(block: &[u8], plain: u8, marked: u8, at: usize, most: u8) -> Layout
+pub fn layout_of(block: &[u8], plain: u8, marked: u8, at: usize, most: u8) -> Option<usize>
     requires has_size { HasSize block.now }
     requires at_bound { at < 508 }
     ensures { LaysOut block.now (has_either plain marked at most block.now) result }
 {
-    match layout_from(block, plain, at, most) {
-        Layout::EndsAt(end) => Layout::EndsAt(end),
-        Layout::Wrong => layout_from(block, marked, at, most),
-    }
+    layout_from(block, plain, at, most).or_else(|| layout_from(block, marked, at, most))
 }
 
 // Whether a block of 512 bytes has either layout.
@@ -202,10 +152,7 @@ pub fn has_either(block: &[u8], plain: u8, marked: u8, at: usize, most: u8) -> b
     requires at_bound { at < 508 }
     ensures { result ≡ has_either plain marked at most block.now }
 {
-    match layout_of(block, plain, marked, at, most) {
-        Layout::EndsAt(_) => true,
-        Layout::Wrong => false,
-    }
+    layout_of(block, plain, marked, at, most).is_some()
 }
 
 // What a block is: size, then check sum, then layout. The layout is looked at first, since the sum needs to go no further than the items.
@@ -217,13 +164,13 @@ pub fn read_block(block: &[u8], plain: u8, marked: u8, at: usize, most: u8) -> V
         return Validity::WrongSize;
     }
     match layout_of(block, plain, marked, at, most) {
-        Layout::EndsAt(end) => {
+        Some(end) => {
             if check_sum_to(block, end) != word(block, 508) {
                 return Validity::WrongSum;
             }
             Validity::WellFormed
         }
-        Layout::Wrong => {
+        None => {
             if check_sum(block) != word(block, 508) {
                 return Validity::WrongSum;
             }

@@ -11,7 +11,7 @@ fn digit_of(b: u8) -> u64
     ensures { result ≡ digit_of b }
 {
     if base::is_digit(b) {
-        return base::wide(b) - 48;
+        return u64::from(b) - 48;
     }
     10
 }

@@ -12,7 +12,7 @@ use Rattle.base.proofs.Tests.{and_left, and_right}
 use borrow.Author.Tests.{eq-eqb, eqb-true}
 use Rattle.sheet.specs.Sheet.{Parameter}
 use Rattle.sheet.specs.Encode.{WellFormedSheet}
-use Rattle.sheet.specs.declared.Found.{Found}
+use Rattle.sheet.specs.Find.{found_at}
 use Rattle.card.specs.Card.{Entry, entry}
 use Rattle.syntax.specs.Tree.{Path, name, member}
 use Rattle.judge.specs.Sets.{lookup, is_under, values_at, keep}
@@ -42,7 +42,7 @@ members_by xs ys t x =
 abbrev pub alike : (xs ys : List (List ℕ)) → Bool
 alike xs ys = within xs ys && within ys xs
 
-found-index : {i k j l : ℕ} → Found.At i k ≡ Found.At j l → i ≡ j
+found-index : {i k j l : ℕ} → found_at i k ≡ found_at j l → i ≡ j
 found-index e = cc
 
 -- each text under the parameter with the index i, with its occurrence before it
@@ -65,14 +65,14 @@ marks_there i es o x m =
     subst (λ (d : Entry). Memᴰ d es) (ap (λ (j : ℕ). entry j e.occurrence e.text) index ∙ ap₂ (λ (n : ℕ) (y : List ℕ). entry i n y) occurrence text) there
 
 module _ (ps : List Parameter) (w : WellFormedSheet ps) (es es' : List Entry) (i k : ℕ) where
-  pub name_by : (n : List ℕ) → lookup ps 0 (name n) ≡ Found.At i k → alike (values_at i es) (values_at i es') ≡ true → SameUnder ps es es' (name n)
+  pub name_by : (n : List ℕ) → lookup ps 0 (name n) ≡ found_at i k → alike (values_at i es) (values_at i es') ≡ true → SameUnder ps es es' (name n)
   name_by n e t =
       same_name (λ j l named x.
       let same : i ≡ j = found-index (sym e ∙ (names_iff ps w (name n) j l).1 named) in
       let h = members_by (values_at i es) (values_at i es') t x in
       rw (← same) ((λ held. values_there i es' x (h.0 (values_back i es held.0 x held.1))), (λ held. values_there i es x (h.1 (values_back i es' held.0 x held.1)))))
 
-  pub member_by_lem : (b : List ℕ) (path : Path) → lookup ps 0 (member b path) ≡ Found.At i k → alike (marks_at i es) (marks_at i es') ≡ true → SameUnder ps es es' (member b path)
+  pub member_by_lem : (b : List ℕ) (path : Path) → lookup ps 0 (member b path) ≡ found_at i k → alike (marks_at i es) (marks_at i es') ≡ true → SameUnder ps es es' (member b path)
   member_by_lem b path e t =
       same_member (λ j l named o x.
       let same : i ≡ j = found-index (sym e ∙ (names_iff ps w (member b path) j l).1 named) in

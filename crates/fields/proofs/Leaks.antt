@@ -20,9 +20,8 @@ use Rattle.base.proofs.All.{all_head}
 use Rattle.text.specs.Fold.{is_capital, fold_byte, fold_from, fold_text}
 use Rattle.sheet.specs.Sheet.{Parameter, parameter}
 use Rattle.sheet.specs.Encode.{WellFormedSheet}
-use Rattle.sheet.specs.Find.{find_from, find, enter}
+use Rattle.sheet.specs.Find.{found_at, find_from, find, enter}
 use Rattle.sheet.specs.Trial.{trial_parameters, trial_sheet, bundle_parameters, bundle_sheet}
-use Rattle.sheet.specs.declared.Found.{Found}
 use Rattle.sheet.proofs.Sheets.{sheet_reads_iff}
 use Rattle.sheet.proofs.Trial.{trial_sheet_reads, bundle_sheet_reads}
 use Rattle.card.specs.Card.{Entry}
@@ -42,7 +41,7 @@ abbrev presence : Path → List ℕ → Test
 presence path v = record { at = 0; path = path; operator = pr; value = v }
 
 -- on a card without entries it has a meaning, where its path names a parameter that is no bundle
-present_means : (ps : List Parameter) (w : WellFormedSheet ps) (path : Path) (v : List ℕ) (i k : ℕ) → lookup ps 0 path ≡ Found.At i k → (k ≡ bundle_kind → ⊥) → TrueOrFalse v
+present_means : (ps : List Parameter) (w : WellFormedSheet ps) (path : Path) (v : List ℕ) (i k : ℕ) → lookup ps 0 path ≡ found_at i k → (k ≡ bundle_kind → ⊥) → TrueOrFalse v
     → LacksMeaning ps [] (presence path v) → ⊥
 unfolding values_at
 present_means ps w path v i k e n s (not_on_sheet none) = none i k ((names_iff ps w path i k).0 e)
@@ -81,7 +80,7 @@ false_spelled : fold_text (ascii "false") ≡ ascii "false"
 unfolding fold_text fold_from fold_byte is_capital
 false_spelled = refl
 
-birthdate-found : (lookup trial_parameters 0 birthdate ≡ Found.At 1 date) × (alike (values_at 1 []) (values_at 1 titled) ≡ true)
+birthdate-found : (lookup trial_parameters 0 birthdate ≡ found_at 1 date) × (alike (values_at 1 []) (values_at 1 titled) ≡ true)
 unfolding trial_parameters lookup find find_from equal values_at within
 birthdate-found = (refl, refl)
 
@@ -121,7 +120,7 @@ typed = one_entry bundle_parameters bundle_well_formed 1 (parameter token 1 (asc
 abbrev target : Test
 target = presence (name (ascii "target")) (ascii "false")
 
-target_found : (lookup bundle_parameters 0 (member (ascii "related") (name (ascii "target"))) ≡ Found.At 2 reference) × (lookup bundle_parameters 1 (name (ascii "target")) ≡ Found.At 2 reference)
+target_found : (lookup bundle_parameters 0 (member (ascii "related") (name (ascii "target"))) ≡ found_at 2 reference) × (lookup bundle_parameters 1 (name (ascii "target")) ≡ found_at 2 reference)
     × (alike (marks_at 2 []) (marks_at 2 typed) ≡ true)
 unfolding bundle_parameters lookup find find_from enter equal keep within
 target_found = (refl, refl, refl)

@@ -34,9 +34,8 @@ use Rattle.block.specs.Items.{zeros, has_marks, length_at, next, mark_at, text_a
 use Rattle.block.specs.Readings.{reading}
 use Rattle.sheet.specs.Sheet.{Parameter, kind_at}
 use Rattle.sheet.specs.Encode.{SheetBlock, ReadsAsSheet}
-use Rattle.sheet.specs.Find.{find_from, find, enter}
+use Rattle.sheet.specs.Find.{found_at, find_from, find, enter}
 use Rattle.sheet.specs.Trial.{trial_parameters, trial_sheet, bundle_parameters, bundle_sheet}
-use Rattle.sheet.specs.declared.Found.{Found}
 use Rattle.sheet.proofs.Sheets.{sheet_reads_iff}
 use Rattle.sheet.proofs.Trial.{trial_sheet_reads, bundle_sheet_reads}
 use Rattle.card.specs.Card.{Entry, record_number, entry_count, entries_of, read_card}
@@ -109,7 +108,7 @@ trial_block = block_of trial_sheet false trial_parameters trial_sheet_reads
 abbrev bundle_block : SheetBlock bundle_sheet
 bundle_block = block_of bundle_sheet true bundle_parameters bundle_sheet_reads
 
-date-alike : (lookup trial_parameters 0 (name (ascii "birthdate")) ≡ Found.At 1 3) × (alike (values_at 1 trial_entries) (values_at 1 date_entries) ≡ true)
+date-alike : (lookup trial_parameters 0 (name (ascii "birthdate")) ≡ found_at 1 3) × (alike (values_at 1 trial_entries) (values_at 1 date_entries) ≡ true)
 unfolding trial_parameters trial_entries date_entries lookup find find_from equal values_at within some_value
 date-alike = (refl, refl)
 
@@ -122,8 +121,8 @@ date_answers =
 abbrev alike_under : ℕ → Bool
 alike_under i = alike (marks_at i bundle_entries) (marks_at i relation_entries)
 
-members_found : (lookup bundle_parameters 0 (member (ascii "related") (name (ascii "type"))) ≡ Found.At 1 4) × (lookup bundle_parameters 0 (member (ascii "related") (name (ascii "target"))) ≡ Found.At 2 5)
-    × (lookup bundle_parameters 0 (member (ascii "marriage") (name (ascii "date"))) ≡ Found.At 4 3)
+members_found : (lookup bundle_parameters 0 (member (ascii "related") (name (ascii "type"))) ≡ found_at 1 4) × (lookup bundle_parameters 0 (member (ascii "related") (name (ascii "target"))) ≡ found_at 2 5)
+    × (lookup bundle_parameters 0 (member (ascii "marriage") (name (ascii "date"))) ≡ found_at 4 3)
 unfolding bundle_parameters lookup find find_from enter equal
 members_found = (refl, refl, refl)
 
@@ -139,7 +138,7 @@ relation_answers =
     (all_cons (by 2 5 (ascii "related") (ascii "target") members_found.1 members_alike.1)
     (all_cons (by 4 3 (ascii "marriage") (ascii "date") members_found.2 members_alike.2) all_empty)))
   where
-    by : (i k : ℕ) (b n : List ℕ) → lookup bundle_parameters 0 (member b (name n)) ≡ Found.At i k → alike_under i ≡ true → SameUnder bundle_parameters bundle_entries relation_entries (member b (name n))
+    by : (i k : ℕ) (b n : List ℕ) → lookup bundle_parameters 0 (member b (name n)) ≡ found_at i k → alike_under i ≡ true → SameUnder bundle_parameters bundle_entries relation_entries (member b (name n))
     by i k b n = member_by_lem bundle_parameters bundle_block.well_formed bundle_entries relation_entries i k b (name n)
 
 -- ---- two rows of the trial tables, on the cards beside

@@ -1,6 +1,7 @@
 -- What a filter says of entries depends on the texts under the names it uses: a test on which texts there are, brackets on which
 -- occurrences say yes, and these on the texts in each.
 -- Assumes nothing.
+use Rattle.std.specs.Prelude.{Option, None, Some}
 use Prim.Native.Nat.{ℕ}
 use mathlib.Core.Path.{◌≡◌, refl, ap, ap₂, sym, ◌∙◌, subst}
 use mathlib.Core.Bool.{cond, not, ◌&&◌, ◌||◌}
@@ -12,7 +13,7 @@ use Rattle.base.proofs.All.{all_left, all_right, all_map}
 use Rattle.token.specs.Match.{matches_at}
 use Rattle.sheet.specs.Sheet.{Parameter}
 use Rattle.sheet.specs.Encode.{WellFormedSheet}
-use Rattle.sheet.specs.Find.{enter}
+use Rattle.sheet.specs.Find.{found_at, enter}
 use Rattle.sheet.specs.declared.Found.{Found}
 use Rattle.card.specs.Card.{Entry}
 use Rattle.syntax.specs.Tree.{Path, name, member, Test, under, Tree, test, bracketed, join, negation, tests_of}
@@ -40,14 +41,14 @@ parts_same P of xs ys h =
 
 module _ (ps : List Parameter) where
   data SameIn (c : ℕ) (es es' : List Entry) : Path → Type 0 where
-    in_name : {n : List ℕ} → ((i k : ℕ) → lookup ps c (name n) ≡ Found.At i k → SameTexts es es' i) → SameIn c es es' (name n)
-    in_member : {b : List ℕ} {path : Path} → ((i k : ℕ) → lookup ps c (member b path) ≡ Found.At i k → SameOccurrences es es' i) → SameIn c es es' (member b path)
+    in_name : {n : List ℕ} → ((i k : ℕ) → lookup ps c (name n) ≡ found_at i k → SameTexts es es' i) → SameIn c es es' (name n)
+    in_member : {b : List ℕ} {path : Path} → ((i k : ℕ) → lookup ps c (member b path) ≡ found_at i k → SameOccurrences es es' i) → SameIn c es es' (member b path)
 
-  same_texts : {c : ℕ} {es es' : List Entry} {path : Path} → SameIn c es es' path → (i k : ℕ) → lookup ps c path ≡ Found.At i k → SameTexts es es' i
+  same_texts : {c : ℕ} {es es' : List Entry} {path : Path} → SameIn c es es' path → (i k : ℕ) → lookup ps c path ≡ found_at i k → SameTexts es es' i
   same_texts (in_name h) i k e = h i k e
   same_texts (in_member h) i k e = texts_of (h i k e)
 
-  same-within : {c : ℕ} {es es' : List Entry} {b : List ℕ} {path : Path} → SameIn c es es' (member b path) → (i k : ℕ) → lookup ps (enter ps c b) path ≡ Found.At i k → SameOccurrences es es' i
+  same-within : {c : ℕ} {es es' : List Entry} {b : List ℕ} {path : Path} → SameIn c es es' (member b path) → (i k : ℕ) → lookup ps (enter ps c b) path ≡ found_at i k → SameOccurrences es es' i
   unfolding lookup
   same-within (in_member h) i k e = h i k e
 
@@ -64,11 +65,11 @@ module _ (ps : List Parameter) where
 
   -- ---- verdicts
 
-  found-same : (r : Found) (k : ℕ) (v : List ℕ) (es es' : List Entry) → ((i kind : ℕ) → r ≡ Found.At i kind → SameTexts es es' i) → says_at r k v es ≡ says_at r k v es'
-  found-same Found.Missing k v es es' h = refl
-  found-same (Found.At i kind) k v es es' h = says_same (meaning_of k kind) v (values_at i es) (values_at i es') (values_same i (h i kind refl))
+  found-same : (r : Option Found) (k : ℕ) (v : List ℕ) (es es' : List Entry) → ((i kind : ℕ) → r ≡ found_at i kind → SameTexts es es' i) → says_at r k v es ≡ says_at r k v es'
+  found-same None k v es es' h = refl
+  found-same (Some found) k v es es' h = says_same (meaning_of k found.kind) v (values_at found.index es) (values_at found.index es') (values_same found.index (h found.index found.kind refl))
 
-  test_same : (c : ℕ) (es es' : List Entry) (t : Test) → ((i kind : ℕ) → lookup ps c t.path ≡ Found.At i kind → SameTexts es es' i) → test_says ps c es t ≡ test_says ps c es' t
+  test_same : (c : ℕ) (es es' : List Entry) (t : Test) → ((i kind : ℕ) → lookup ps c t.path ≡ found_at i kind → SameTexts es es' i) → test_says ps c es t ≡ test_says ps c es' t
   unfolding test_says
   test_same c es es' t h = found-same (lookup ps c t.path) t.operator t.value es es' h
 
@@ -105,10 +106,10 @@ module _ (ps : List Parameter) where
         ap₂ (cond (eqb kind token)) (some_same (λ x. matches_at x split text) xs ys h)
         (says_same (meaning_of (asked_of kind text).operator kind) (asked_of kind text).value xs ys h)
 
-    alternative-found : (r : Found) (split : ℕ) (text : List ℕ) (es es' : List Entry) → ((i kind : ℕ) → r ≡ Found.At i kind → SameTexts es es' i)
+    alternative-found : (r : Option Found) (split : ℕ) (text : List ℕ) (es es' : List Entry) → ((i kind : ℕ) → r ≡ found_at i kind → SameTexts es es' i)
         → queries.says_at r split text es ≡ queries.says_at r split text es'
-    alternative-found Found.Missing split text es es' h = refl
-    alternative-found (Found.At i kind) split text es es' h = text_same kind split text (values_at i es) (values_at i es') (values_same i (h i kind refl))
+    alternative-found None split text es es' h = refl
+    alternative-found (Some found) split text es es' h = text_same found.kind split text (values_at found.index es) (values_at found.index es') (values_same found.index (h found.index found.kind refl))
 
     alternative-same : (es es' : List Entry) (a : Alternative) → SameUnder ps es es' (name a.name) → alternative_says ps es a ≡ alternative_says ps es' a
     unfolding alternative_says

@@ -5,7 +5,7 @@
 -- operator into one form, whether some text of a set counts: by it tests are judged. It is by the cases of the meaning, and by induction
 -- on the set only where there is no meaning.
 -- Assumes nothing.
-use Rattle.std.specs.Prelude.{Ok, Result, ⊤}
+use Rattle.std.specs.Prelude.{Ok, Result, ⊤, Option, None, Some}
 use Prim.Native.Nat.{ℕ, ◌≤◌, ◌<◌}
 use native.Mathlib.Omega.{arith}
 use mathlib.Core.Path.{◌≡◌, refl, sym, ap, ap₂, ◌∙◌}
@@ -116,19 +116,19 @@ module _ (k kind : ℕ) (v : List ℕ) (p : ℕ) (d : Result ⊤ Refusal) where
   pub fault_kind : (kind ≡ 7 → ⊥) → d ≡ kind_fault k kind v p → d ≡ cond (eqb kind bundle_kind) (refuse Reason.BareBundle p) (kind_fault k kind v p)
   fault_kind n q = rw (ne_eqb kind 7 n) q
 
-module _ (found : Found) (k : ℕ) (v : List ℕ) where
-  pub fault_found : (p i kind : ℕ) (d : Result ⊤ Refusal) → found ≡ Found.At i kind → d ≡ cond (eqb kind bundle_kind) (refuse Reason.BareBundle p) (kind_fault k kind v p) → d ≡ fault_at found k v p
-  fault_found p i kind d h q = rw h q
+module _ (found : Option Found) (k : ℕ) (v : List ℕ) where
+  pub fault_found : (p : ℕ) (x : Found) (d : Result ⊤ Refusal) → found ≡ Some x → d ≡ cond (eqb x.kind bundle_kind) (refuse Reason.BareBundle p) (kind_fault k x.kind v p) → d ≡ fault_at found k v p
+  fault_found p x d h q = rw h q
 
-  pub fault_missing : (p : ℕ) (d : Result ⊤ Refusal) → found ≡ Found.Missing → d ≡ refuse Reason.UnknownName p → d ≡ fault_at found k v p
+  pub fault_missing : (p : ℕ) (d : Result ⊤ Refusal) → found ≡ None → d ≡ refuse Reason.UnknownName p → d ≡ fault_at found k v p
   fault_missing p d h q = rw h q
 
   -- ---- verdicts
 
-  pub says-found : (es : List Entry) (i kind : ℕ) (m : Meaning) (r : Bool) → found ≡ Found.At i kind → m ≡ meaning_of k kind → r ≡ says_of m v (values_at i es) → r ≡ says_at found k v es
-  says-found es i kind m r h g s = rw (h, ← g) s
+  pub says-found : (es : List Entry) (x : Found) (m : Meaning) (r : Bool) → found ≡ Some x → m ≡ meaning_of k x.kind → r ≡ says_of m v (values_at x.index es) → r ≡ says_at found k v es
+  says-found es x m r h g s = rw (h, ← g) s
 
-  pub says_missing : (es : List Entry) → found ≡ Found.Missing → false ≡ says_at found k v es
+  pub says_missing : (es : List Entry) → found ≡ None → false ≡ says_at found k v es
   says_missing es h = rw h
 
 -- ---- tests as they stand in the text
@@ -141,12 +141,12 @@ pub value-plain : (b : Bool) (raw : List ℕ) → b ≡ false → raw ≡ conten
 value-plain b raw e = rw e
 
 module _ (xs : List ℕ) (t : RawTest) (v : List ℕ) where
-  pub fault_placed : (ps : List Parameter) (c p : ℕ) (f : Found) (d : Result ⊤ Refusal) → d ≡ fault_at f t.operator v p → f ≡ lookup ps c (test_of xs t).path → v ≡ (test_of xs t).value → d ≡ test_fault ps c (moved p (test_of xs t))
+  pub fault_placed : (ps : List Parameter) (c p : ℕ) (f : Option Found) (d : Result ⊤ Refusal) → d ≡ fault_at f t.operator v p → f ≡ lookup ps c (test_of xs t).path → v ≡ (test_of xs t).value → d ≡ test_fault ps c (moved p (test_of xs t))
   unfolding test_fault
   fault_placed ps c p f d e g h = e ∙ rw (g, h)
 
   module _ (r : Bool) where
-    pub says-placed : (ps : List Parameter) (c : ℕ) (es : List Entry) (f : Found) → r ≡ says_at f t.operator v es → f ≡ lookup ps c (test_of xs t).path → v ≡ (test_of xs t).value → r ≡ test_says ps c es (test_of xs t)
+    pub says-placed : (ps : List Parameter) (c : ℕ) (es : List Entry) (f : Option Found) → r ≡ says_at f t.operator v es → f ≡ lookup ps c (test_of xs t).path → v ≡ (test_of xs t).value → r ≡ test_says ps c es (test_of xs t)
     unfolding test_says
     says-placed ps c es f e g h = e ∙ rw (g, h)
 
@@ -158,7 +158,7 @@ module _ (xs : List ℕ) (t : RawTest) (v : List ℕ) where
 
 -- ---- the test of a member
 
-pub found_name : (ps : List Parameter) (c : ℕ) (xs : List ℕ) (t : RawTest) (r : Found) → r ≡ find c (part xs t.at t.until) ps → r ≡ lookup ps c (test_of xs t).path
+pub found_name : (ps : List Parameter) (c : ℕ) (xs : List ℕ) (t : RawTest) (r : Option Found) → r ≡ find c (part xs t.at t.until) ps → r ≡ lookup ps c (test_of xs t).path
 unfolding lookup
 found_name ps c xs t r e = e
 

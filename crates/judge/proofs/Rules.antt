@@ -5,7 +5,7 @@
 -- value of pr is true or false. The computed verdict does not test that: it takes every value that is not true for false. `PrSpelled` holds
 -- of a test that does not lack a meaning (`pr_spelled`).
 -- Assumes nothing.
-use Rattle.std.specs.Prelude.{Option, Some, None}
+use Rattle.std.specs.Prelude.{Option, Some, None, Option as Maybe}
 use Prim.Native.Nat.{ℕ, zero, suc, ◌+◌, ◌≤◌}
 use native.Mathlib.Omega.{arith}
 use mathlib.Core.Path.{◌≡◌, refl, ap, sym, ◌∙◌, subst}
@@ -27,7 +27,7 @@ use Rattle.base.proofs.All.{all_head, all_right, all_left}
 use Rattle.base.specs.Kinds.{bundle_kind}
 use Rattle.sheet.specs.Sheet.{Parameter, parameter, kind_at}
 use Rattle.sheet.specs.Encode.{ValueKind, WellFormedParameter, HasParent, at_top, in_bundle, WellFormedSheet}
-use Rattle.sheet.specs.Find.{find, nowhere, inside, enter}
+use Rattle.sheet.specs.Find.{found_at, find, nowhere, inside, enter}
 use Rattle.sheet.specs.declared.Found.{Found}
 use Rattle.sheet.proofs.Listed.{find_iff, at_listed, listed_kind}
 use Rattle.card.specs.Card.{Entry}
@@ -57,7 +57,7 @@ unsupported_lacks kind k h = not-true (has_meaning k kind) (every-member (λ o. 
 
 -- ---- names
 
-at-bundle : (ps : List Parameter) (c : ℕ) (n : List ℕ) (j : ℕ) → find c n ps ≡ Found.At j bundle_kind → enter ps c n ≡ suc j
+at-bundle : (ps : List Parameter) (c : ℕ) (n : List ℕ) (j : ℕ) → find c n ps ≡ found_at j bundle_kind → enter ps c n ≡ suc j
 unfolding enter
 at-bundle ps c n j e = rw e (omega arith)
 
@@ -74,37 +74,37 @@ module _ (ps : List Parameter) (w : WellFormedSheet ps) where
   never_nowhere (names {n = n} {i = i} {k = k} l) = let z = listed_within i k nowhere n l in omega arith
   never_nowhere (names_member {j = j} {b = b} l m) = let z = listed_within j bundle_kind nowhere b l in omega arith
 
-  names_there : (path : Path) (c i k : ℕ) → lookup ps c path ≡ Found.At i k → NamesIn ps c path i k
+  names_there : (path : Path) (c i k : ℕ) → lookup ps c path ≡ found_at i k → NamesIn ps c path i k
   unfolding lookup enter
   names_there (name n) c i k h = names ((find_iff c n ps w.names i k).0 h)
   names_there (member b path) c i k h = by (find c b ps) refl h (λ x g. names_there path x i k g)
     where
-      kinds : (j m : ℕ) → find c b ps ≡ Found.At j m → (t : Bool) → eqb m bundle_kind ≡ t → lookup ps (cond t (j + 1) nowhere) path ≡ Found.At i k
-          → ((x : ℕ) → lookup ps x path ≡ Found.At i k → NamesIn ps x path i k) → NamesIn ps c (member b path) i k
+      kinds : (j m : ℕ) → find c b ps ≡ found_at j m → (t : Bool) → eqb m bundle_kind ≡ t → lookup ps (cond t (j + 1) nowhere) path ≡ found_at i k
+          → ((x : ℕ) → lookup ps x path ≡ found_at i k → NamesIn ps x path i k) → NamesIn ps c (member b path) i k
       kinds j m e true f g again =
           let one : j + 1 ≡ suc j = omega arith in
-          names_member ((find_iff c b ps w.names j bundle_kind).0 (e ∙ ap (Found.At j) (eqb-true m bundle_kind f))) (again (suc j) (ap (λ (x : ℕ). lookup ps x path) (sym one) ∙ g))
+          names_member ((find_iff c b ps w.names j bundle_kind).0 (e ∙ ap (found_at j) (eqb-true m bundle_kind f))) (again (suc j) (ap (λ (x : ℕ). lookup ps x path) (sym one) ∙ g))
       kinds j m e false f g again = absurd (never_nowhere (again nowhere g))
 
-      by : (o : Found) → find c b ps ≡ o → lookup ps (inside o) path ≡ Found.At i k → ((x : ℕ) → lookup ps x path ≡ Found.At i k → NamesIn ps x path i k) → NamesIn ps c (member b path) i k
-      by Found.Missing e g again = absurd (never_nowhere (again nowhere g))
-      by (Found.At j m) e g again = kinds j m e (eqb m bundle_kind) refl g again
+      by : (o : Maybe Found) → find c b ps ≡ o → lookup ps (inside o) path ≡ found_at i k → ((x : ℕ) → lookup ps x path ≡ found_at i k → NamesIn ps x path i k) → NamesIn ps c (member b path) i k
+      by None e g again = absurd (never_nowhere (again nowhere g))
+      by (Some found) e g again = kinds found.index found.kind e (eqb found.kind bundle_kind) refl g again
 
-  names_back : {path : Path} {c i k : ℕ} → NamesIn ps c path i k → lookup ps c path ≡ Found.At i k
+  names_back : {path : Path} {c i k : ℕ} → NamesIn ps c path i k → lookup ps c path ≡ found_at i k
   unfolding lookup
   names_back (names {c = c} {n = n} {i = i} {k = k} l) = (find_iff c n ps w.names i k).1 l
   names_back (names_member {c = c} {j = j} {b = b} {path = path} l m) =
       ap (λ (x : ℕ). lookup ps x path) (at-bundle ps c b j ((find_iff c b ps w.names j bundle_kind).1 l)) ∙ names_back m
 
   -- a path is found exactly where it names a parameter
-  pub names_in_iff : (c : ℕ) (path : Path) (i k : ℕ) → (lookup ps c path ≡ Found.At i k) ↔ NamesIn ps c path i k
+  pub names_in_iff : (c : ℕ) (path : Path) (i k : ℕ) → (lookup ps c path ≡ found_at i k) ↔ NamesIn ps c path i k
   names_in_iff c path i k = (names_there path c i k, names_back)
 
-  pub names_iff : (path : Path) (i k : ℕ) → (lookup ps 0 path ≡ Found.At i k) ↔ Names ps path i k
+  pub names_iff : (path : Path) (i k : ℕ) → (lookup ps 0 path ≡ found_at i k) ↔ Names ps path i k
   names_iff path i k = (names_there path 0 i k, names_back)
 
   -- a name that paths go into is that of a bundle
-  pub entered : (c : ℕ) (b : List ℕ) (path : Path) (i k : ℕ) → lookup ps (enter ps c b) path ≡ Found.At i k → (j : ℕ) × Listed ps j (parameter bundle_kind c b)
+  pub entered : (c : ℕ) (b : List ℕ) (path : Path) (i k : ℕ) → lookup ps (enter ps c b) path ≡ found_at i k → (j : ℕ) × Listed ps j (parameter bundle_kind c b)
   unfolding lookup
   entered c b path i k e = by (names_there (member b path) c i k e)
     where
@@ -114,15 +114,15 @@ module _ (ps : List Parameter) (w : WellFormedSheet ps) where
   pub enters : (c : ℕ) (b : List ℕ) (j : ℕ) → Listed ps j (parameter bundle_kind c b) → enter ps c b ≡ suc j
   enters c b j l = at-bundle ps c b j ((find_iff c b ps w.names j bundle_kind).1 l)
 
-  missing_there : (path : Path) → lookup ps 0 path ≡ Found.Missing → NotOnSheet ps path
+  missing_there : (path : Path) → lookup ps 0 path ≡ None → NotOnSheet ps path
   missing_there path h i k m = let e = names_back m in let z : ◌≡◌ {A = ℕ} 0 1 = cc in omega arith
 
-  missing_back : (path : Path) (o : Found) → lookup ps 0 path ≡ o → NotOnSheet ps path → o ≡ Found.Missing
-  missing_back path (Found.At i k) e n = absurd (n i k (names_there path 0 i k e))
-  missing_back path Found.Missing e n = refl
+  missing_back : (path : Path) (o : Maybe Found) → lookup ps 0 path ≡ o → NotOnSheet ps path → o ≡ None
+  missing_back path (Some found) e n = absurd (n found.index found.kind (names_there path 0 found.index found.kind e))
+  missing_back path None e n = refl
 
   -- and missing exactly where it names none
-  pub missing_iff : (path : Path) → (lookup ps 0 path ≡ Found.Missing) ↔ NotOnSheet ps path
+  pub missing_iff : (path : Path) → (lookup ps 0 path ≡ None) ↔ NotOnSheet ps path
   missing_iff path = (missing_there path, (λ n. missing_back path (lookup ps 0 path) refl n))
 
 -- what a path names is listed
@@ -274,9 +274,9 @@ module _ (ps : List Parameter) (w : WellFormedSheet ps) (c : ℕ) (es : List Ent
       says_differs j n ((row_iff k eq r).0 e) x.1 (λ s. both_ways ((relates_iff r x.0 t.value).1 s) (not-true (relates_to r x.0 t.value) x.2))
   says_by_lem j means_nothing meaning h = absurd (false≢true h)
 
-  says_there : PrSpelled t → (o : Found) → lookup ps c t.path ≡ o → says_at o t.operator t.value es ≡ true → Says ps c es t
-  says_there meaning Found.Missing e h = absurd (false≢true h)
-  says_there meaning (Found.At i k) e h = says_by_lem ((names_in_iff ps w c t.path i k).0 e) (means_for t.operator k) meaning h
+  says_there : PrSpelled t → (o : Maybe Found) → lookup ps c t.path ≡ o → says_at o t.operator t.value es ≡ true → Says ps c es t
+  says_there meaning None e h = absurd (false≢true h)
+  says_there meaning (Some found) e h = says_by_lem ((names_in_iff ps w c t.path found.index found.kind).0 e) (means_for t.operator found.kind) meaning h
 
   -- what a test says at the parameter that its path names
   at-parameter : {i k : ℕ} (m : Meaning) → NamesIn ps c t.path i k → meaning_of t.operator k ≡ m → says_of m t.value (values_at i es) ≡ true → test_says ps c es t ≡ true
@@ -339,9 +339,9 @@ module _ (ps : List Parameter) (w : WellFormedSheet ps) where
     chosen_in x = keep (λ e. filter_says ps x (of_occurrence e.occurrence es) f) es
 
     -- the bundle that the name names
-    bundle_there : (o : Found) → lookup ps (enter ps c b) t.path ≡ o → says_at o t.operator t.value (chosen_in (enter ps c b)) ≡ true → (j : ℕ) × Listed ps j (parameter bundle_kind c b)
-    bundle_there Found.Missing e h = absurd (false≢true h)
-    bundle_there (Found.At i k) e h = entered ps w c b t.path i k e
+    bundle_there : (o : Maybe Found) → lookup ps (enter ps c b) t.path ≡ o → says_at o t.operator t.value (chosen_in (enter ps c b)) ≡ true → (j : ℕ) × Listed ps j (parameter bundle_kind c b)
+    bundle_there None e h = absurd (false≢true h)
+    bundle_there (Some found) e h = entered ps w c b t.path found.index found.kind e
 
     bundle_of : filter_says ps c es (bracketed p b f t) ≡ true → (j : ℕ) × Listed ps j (parameter bundle_kind c b)
     unfolding filter_says fold_tree test_says

@@ -1,6 +1,6 @@
 -- What is wrong with a test on a sheet, whatever the card: lines 14 to 17 of document 01's table.
 -- Assumes nothing.
-use Rattle.std.specs.Prelude.{ℕ, Bool, cond, List, [], ◌∷◌, eqb, Ok, Result, ⊤}
+use Rattle.std.specs.Prelude.{ℕ, Bool, cond, List, [], ◌∷◌, eqb, Ok, Result, ⊤, Option, None, Some}
 use Rattle.base.specs.Lists.{member}
 use Rattle.base.specs.Operators.{ap, ss, sb, «in», ni}
 use Rattle.base.specs.Kinds.{bundle_kind}
@@ -28,9 +28,9 @@ kind_fault k kind v p =
 
 -- the same at what the path names
 -- 02: 18 "for a bundle's name with no bracket"
-abbrev pub fault_at : Found → (operator : ℕ) → List ℕ → (place : ℕ) → Result ⊤ Refusal
-fault_at Found.Missing k v p = refuse Reason.UnknownName p
-fault_at (Found.At i kind) k v p = cond (eqb kind bundle_kind) (refuse Reason.BareBundle p) (kind_fault k kind v p)
+abbrev pub fault_at : Option Found → (operator : ℕ) → List ℕ → (place : ℕ) → Result ⊤ Refusal
+fault_at None k v p = refuse Reason.UnknownName p
+fault_at (Some found) k v p = cond (eqb found.kind bundle_kind) (refuse Reason.BareBundle p) (kind_fault k found.kind v p)
 
 -- of a test whose path is looked up in c: its place is its first byte
 unfoldable pub test_fault : List Parameter → ℕ → Test → Result ⊤ Refusal

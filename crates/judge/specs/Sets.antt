@@ -1,6 +1,6 @@
 -- Paths on a sheet, the texts of a card under them, and which cards conform to a sheet.
 -- Assumes nothing.
-use Rattle.std.specs.Prelude.{ℕ, Bool, true, cond, ◌&&◌, ◌||◌, List, [], ◌∷◌, eqb, get_or}
+use Rattle.std.specs.Prelude.{ℕ, Bool, true, cond, ◌&&◌, ◌||◌, List, [], ◌∷◌, eqb, get_or, Option}
 use Rattle.sheet.specs.Sheet.{Parameter, kind_at}
 use Rattle.sheet.specs.Find.{find, enter}
 use Rattle.sheet.specs.declared.Found.{Found}
@@ -10,7 +10,7 @@ use Rattle.kind.specs.Readable.{card_readable}
 use Rattle.judge.specs.declared.Chosen.{Chosen}
 
 -- index and kind of the parameter that a path names, looked up in c
-unfoldable pub lookup : List Parameter → ℕ → Path → Found
+unfoldable pub lookup : List Parameter → ℕ → Path → Option Found
 lookup ps c (name n) = find c n ps
 lookup ps c (member b path) = lookup ps (enter ps c b) path
 

@@ -1,6 +1,6 @@
 -- What a test and a filter say of a card.
 -- Assumes nothing.
-use Rattle.std.specs.Prelude.{ℕ, Bool, true, false, cond, not, ◌&&◌, ◌||◌, List, [], ◌∷◌}
+use Rattle.std.specs.Prelude.{ℕ, Bool, true, false, cond, not, ◌&&◌, ◌||◌, List, [], ◌∷◌, Option, None, Some}
 use Rattle.sheet.specs.Sheet.{Parameter}
 use Rattle.sheet.specs.declared.Found.{Found}
 use Rattle.card.specs.Card.{Entry}
@@ -55,9 +55,9 @@ some_says (Meaning.Differs r) truth some = some
 some_says Meaning.Nothing truth some = some
 
 -- an operator and a value at what the path names
-abbrev pub says_at : Found → ℕ → List ℕ → List Entry → Bool
-says_at Found.Missing k v es = false
-says_at (Found.At i kind) k v es = says_of (meaning_of k kind) v (values_at i es)
+abbrev pub says_at : Option Found → ℕ → List ℕ → List Entry → Bool
+says_at None k v es = false
+says_at (Some found) k v es = says_of (meaning_of k found.kind) v (values_at found.index es)
 
 -- of a test whose path is looked up in c
 unfoldable pub test_says : List Parameter → ℕ → List Entry → Test → Bool

@@ -22,7 +22,7 @@ use syntax::RawTest;
 use syntax::value::decode;
 
 // The parameter that a test of the filter names, on a well-formed sheet, looked up in a bundle.
-pub fn test_found(sheet: &[u8], bundle: u8, filter: &[u8], test: RawTest) -> Found
+pub fn test_found(sheet: &[u8], bundle: u8, filter: &[u8], test: RawTest) -> Option<Found>
     requires sheet_value { read_sheet sheet.now ≡ Validity.WellFormed }
     requires placed { Placed filter.now test }
     ensures { result ≡ lookup (parameters_of sheet.now) bundle (test_of filter.now test).path }

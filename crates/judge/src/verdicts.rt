@@ -20,19 +20,25 @@ pub fn says_of(card: &[u8], chosen: Chosen, index: u8, meaning: Meaning, value: 
 }
 
 // What a test with this operator and value says of a well-formed card, at what its name is on the sheet.
-pub fn says_at(found: Found, card: &[u8], chosen: Chosen, operator: u8, value: &[u8]) -> bool
+pub fn says_at(
+    found: Option<Found>,
+    card: &[u8],
+    chosen: Chosen,
+    operator: u8,
+    value: &[u8],
+) -> bool
     requires { read_card card.now ≡ Validity.WellFormed }
     ensures { result ≡ says_at found operator value.now (chosen_of chosen (entries_of card.now)) }
 {
     match found {
-        Found::At { index, kind } => says_of(
+        Some(found) => says_of(
             card,
             chosen,
-            index,
-            kind::meaning_of(operator, kind),
+            found.index,
+            kind::meaning_of(operator, found.kind),
             value,
         ),
-        Found::Missing => false,
+        None => false,
     }
 }
 

@@ -7,7 +7,7 @@ mod lines;
 mod runs;
 
 pub use filter_text::without_line_feed;
-pub use lines::{put_count, put_failure, put_lines, put_refusal, wide};
+pub use lines::{put_count, put_failure, put_lines, put_refusal};
 pub use runs::{add_run, place_in_file};
 
 // What the runs so far come to.

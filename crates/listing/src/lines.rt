@@ -33,13 +33,6 @@ fn put_words(first: &[u8], second: &[u8], out: &mut [u8]) -> usize
     end + write_word(second, &mut out[end..])
 }
 
-// A number of 32 bits as one of 64.
-pub fn wide(x: u32) -> u64
-    ensures { result ≡ x }
-{
-    x as u64
-}
-
 // Puts a number on a line.
 fn put_line(n: u64, out: &mut [u8]) -> usize
     requires { Room (number_line n) out.old }
@@ -55,10 +48,8 @@ pub fn put_lines(numbers: &[u32], out: &mut [u8]) -> usize
     ensures { Puts (lines numbers.now) out.old out.new result }
 {
     let mut at = 0;
-    let mut i = 0;
-    while i < numbers.len() {
-        at += put_line(wide(numbers[i]), &mut out[at..]);
-        i += 1;
+    for n in numbers {
+        at += put_line(u64::from(*n), &mut out[at..]);
     }
     at
 }

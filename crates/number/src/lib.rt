@@ -40,7 +40,7 @@ fn value_from(before: u64, s: &[u8]) -> u64
     let mut value = before;
     let mut i = 0;
     while i < s.len() {
-        value = value * 10 + (base::wide(s[i]) - 48);
+        value = value * 10 + (u64::from(s[i]) - 48);
         i += 1;
     }
     value

@@ -7,7 +7,7 @@ ghost use Rattle.pick.specs.Runs.{last_line, EndPut, ListedPut, RunPut};
 
 use crate::files::fill;
 use crate::printing::{print, print_failure};
-use listing::{Totals, add_run, place_in_file, put_count, put_lines, put_refusal, wide};
+use listing::{Totals, add_run, place_in_file, put_count, put_lines, put_refusal};
 use sirophan::select;
 use std::io::Read;
 
@@ -74,7 +74,7 @@ fn put_run(sheet: &[u8], filter: &[u8], cards: &[u8], totals: Totals, out: &mut 
         Err(refusal) => {
             let number = u32::from(refusal.reason);
             let place = place_in_file(number, refusal.place, totals.cards);
-            let size = put_refusal(wide(number), place, out);
+            let size = put_refusal(u64::from(number), place, out);
             RunText { size, turn: None }
         }
     }

@@ -12,9 +12,8 @@ use Rattle.base.specs.Kinds.{bundle_kind}
 use Rattle.base.proofs.Tests.{both_ways}
 use Rattle.base.proofs.All.{all_append}
 use Rattle.sheet.specs.Sheet.{Parameter, parameter}
-use Rattle.sheet.specs.Find.{find, enter, kinds_of, parents_of}
+use Rattle.sheet.specs.Find.{found_at, find, enter, kinds_of, parents_of}
 use Rattle.sheet.specs.Encode.{WellFormedSheet}
-use Rattle.sheet.specs.declared.Found.{Found}
 use Rattle.sheet.proofs.Listed.{find_iff, table_listed}
 use Rattle.card.specs.Card.{Entry}
 use Rattle.syntax.specs.Tree.{Test, moved, under, tests_of, Tree, test, bracketed, join, negation, erase}
@@ -47,7 +46,7 @@ module _ (ps : List Parameter) (w : WellFormedSheet ps) (xs : List ℕ) where
       let v = from_found f.from in
       let kind : get_or (kinds_of ps) p.index 0 ≡ q.kind = table_listed (λ r. r.kind) ps p.index q l in
       let there : Listed ps p.index (parameter q.kind c q.name) = subst (λ (x : ℕ). Listed ps p.index (parameter q.kind x q.name)) e l in
-      let at : find c (name_at p.index ps) ps ≡ Found.At p.index q.kind = ap (λ (n : List ℕ). find c n ps) (name_listed l) ∙ (find_iff c q.name ps w.names p.index q.kind).1 there in
+      let at : find c (name_at p.index ps) ps ≡ found_at p.index q.kind = ap (λ (n : List ℕ). find c n ps) (name_listed l) ∙ (find_iff c q.name ps w.names p.index q.kind).1 there in
       rw (kind, v.found, at)
 
   pub says_is : {c : ℕ} {e : Expression} → Fits ps xs c e → (es : List Entry) → expression_says (kinds_of ps) xs es e ≡ filter_says ps c es (tree_of ps xs e)

@@ -1,5 +1,6 @@
 -- The number of a test of the text: where its value begins is told from where it stands.
 -- Assumes nothing.
+use Rattle.std.specs.Prelude.{Option}
 use Prim.Native.Nat.{ℕ, ◌+◌, ◌*◌, ◌-◌, ◌≤◌}
 use native.Mathlib.Omega.{arith}
 use mathlib.Core.Path.{◌≡◌, refl, sym, ◌∙◌}
@@ -125,7 +126,7 @@ member-read xs close p f t e i = rw (sym e ∙ i) at (by_close (close_at xs squa
 
 -- ---- its number
 
-pub number_is : (ps : List Parameter) (xs : List ℕ) (c : ℕ) (t : RawTest) (f : Found) (i p : ℕ) → f ≡ lookup ps c (test_of xs t).path → i ≡ index_of f → p ≡ value_place xs t.at
+pub number_is : (ps : List Parameter) (xs : List ℕ) (c : ℕ) (t : RawTest) (f : Option Found) (i p : ℕ) → f ≡ lookup ps c (test_of xs t).path → i ≡ index_of f → p ≡ value_place xs t.at
     → i + 32 * (t.operator + 32 * p) ≡ number_of (probe_for ps xs c (test_of xs t))
 unfolding probe_for
 number_is ps xs c t f i p e h k = rw (h, k, e)

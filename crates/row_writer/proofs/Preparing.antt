@@ -3,7 +3,7 @@
 -- reads its value, so its row fits (`placed`). The rows of a filter fit, and the tree that they state is the filter's, with all positions set
 -- to 0 by `erase` (`prepared_filter`). Brackets nest as the grammar lets them (`nests_of`).
 -- Assumes nothing.
-use Rattle.std.specs.Prelude.{Err, Ok, Result, ⊤}
+use Rattle.std.specs.Prelude.{Err, Ok, Result, ⊤, Option, None, Some}
 use Prim.Native.Nat.{ℕ, suc, ◌+◌, ◌≤◌}
 use native.Mathlib.Omega.{arith}
 use mathlib.Core.Path.{◌≡◌, refl, sym, ap, ap₂, subst, ◌∙◌}
@@ -17,7 +17,7 @@ use Rattle.base.specs.Kinds.{bundle_kind}
 use Rattle.base.proofs.Tests.{cond-elim}
 use Rattle.base.proofs.All.{all_head, all_left, all_right}
 use Rattle.sheet.specs.Sheet.{Parameter, parameter}
-use Rattle.sheet.specs.Find.{find, enter, parents_of}
+use Rattle.sheet.specs.Find.{found_at, find, enter, parents_of}
 use Rattle.sheet.specs.Encode.{WellFormedSheet}
 use Rattle.sheet.specs.declared.Found.{Found}
 use Rattle.sheet.proofs.Listed.{find_iff, table_listed}
@@ -53,7 +53,7 @@ use Rattle.refusal.specs.declared.Refusal.{Refusal}
 record Clean (ps : List Parameter) (c : ℕ) (t : Test) : Type 0 where
   index : ℕ
   kind : ℕ
-  found : lookup ps c t.path ≡ Found.At index kind
+  found : lookup ps c t.path ≡ found_at index kind
   no_bundle : kind ≡ bundle_kind → ⊥
   means : has_meaning t.operator kind ≡ true
   readable : value_readable t.operator kind t.value ≡ true
@@ -72,12 +72,12 @@ clean_of : (ps : List Parameter) (c : ℕ) (t : Test) → test_fault ps c t ≡ 
 unfolding test_fault
 clean_of ps c t h = by_found (lookup ps c t.path) refl h
   where
-    by_found : (o : Found) → lookup ps c t.path ≡ o → fault_at o t.operator t.value t.at ≡ (Ok tt) → Clean ps c t
-    by_found Found.Missing e g = let z : ◌≡◌ {A = ℕ} 0 1 = cc in absurd (omega arith)
-    by_found (Found.At i kind) e g =
-        cond-elim (λ f. f ≡ (Ok tt) → Clean ps c t) (eqb kind bundle_kind) (λ b y. let z : ◌≡◌ {A = ℕ} 0 1 = cc in absurd (omega arith))
-        (λ b y. let k = kind_clean t.operator kind t.value t.at y in
-        record { index = i; kind = kind; found = e; no_bundle = eqb-false kind bundle_kind b; means = k.0; readable = k.1 }) g
+    by_found : (o : Option Found) → lookup ps c t.path ≡ o → fault_at o t.operator t.value t.at ≡ (Ok tt) → Clean ps c t
+    by_found None e g = let z : ◌≡◌ {A = ℕ} 0 1 = cc in absurd (omega arith)
+    by_found (Some found) e g =
+        cond-elim (λ f. f ≡ (Ok tt) → Clean ps c t) (eqb found.kind bundle_kind) (λ b y. let z : ◌≡◌ {A = ℕ} 0 1 = cc in absurd (omega arith))
+        (λ b y. let k = kind_clean t.operator found.kind t.value t.at y in
+        record { index = found.index; kind = found.kind; found = e; no_bundle = eqb-false found.kind bundle_kind b; means = k.0; readable = k.1 }) g
 
 -- where none is refused, each is clean
 clean_all : (ps : List Parameter) (c : ℕ) (ts : List Test) → first_fault ps c ts ≡ (Ok tt) → All (Clean ps c) ts

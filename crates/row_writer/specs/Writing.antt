@@ -1,6 +1,6 @@
 -- The expression that is prepared of a filter, and what is written of it: its cells, from a row on.
 -- Assumes nothing.
-use Rattle.std.specs.Prelude.{ℕ, suc, ◌+◌, ◌≡◌, List, ◌++◌, length, take}
+use Rattle.std.specs.Prelude.{ℕ, suc, ◌+◌, ◌≡◌, List, ◌++◌, length, take, Option, None, Some}
 use Rattle.sheet.specs.Sheet.{Parameter}
 use Rattle.sheet.specs.Find.{enter}
 use Rattle.sheet.specs.declared.Found.{Found}
@@ -22,9 +22,9 @@ abbrev pub value_place : List ℕ → ℕ → ℕ
 value_place xs p = skip_at xs (skip_at xs (name_end xs p) + 2)
 
 -- the index of what was found, and 0 where nothing was
-abbrev pub index_of : Found → ℕ
-index_of (Found.At i kind) = i
-index_of Found.Missing = 0
+abbrev pub index_of : Option Found → ℕ
+index_of (Some found) = found.index
+index_of None = 0
 
 -- a test of the text by index, operator and position, its path looked up in c
 unfoldable pub probe_for : List Parameter → List ℕ → ℕ → Test → Probe

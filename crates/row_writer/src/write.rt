@@ -22,13 +22,10 @@ use syntax::{
 };
 
 // The index of what a test names, and 0 where it names nothing.
-fn index_of(found: Found) -> u32
+fn index_of(found: Option<Found>) -> u32
     ensures { (result ≡ index_of found) × (result ≤ 255) }
 {
-    match found {
-        Found::At { index, kind: _ } => index as u32,
-        Found::Missing => 0,
-    }
+    found.map_or(0, |found| u32::from(found.index))
 }
 
 // Where the value of a test begins: a string's at its quote.

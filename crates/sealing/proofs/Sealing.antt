@@ -1,15 +1,18 @@
--- Laws of the answers' cases, of the four stores, and of what is sealed: it passes the check, and only its last four bytes are new.
+-- Laws of the answers' cases, of the four bytes in their place, and of what is sealed: it passes the check, and only its last four bytes are new.
 -- Assumes nothing.
 use Rattle.std.specs.Prelude.{Err, Ok, Result}
-use Prim.Native.Nat.{ℕ, ◌/◌, ◌%◌, ◌≤◌}
+use Prim.Native.Nat.{ℕ, ◌/◌, ◌%◌, ◌≤◌, ◌-◌}
 use native.Mathlib.Omega.{arith}
 use mathlib.Core.Path.{◌≡◌, refl, sym, ◌∙◌}
-use mathlib.Core.List.{List, [], ◌∷◌, ◌++◌, append_assoc, append-nil}
-use lib.ListN.{length, take, set, length-set}
-use lib.Seq.{take_all, take-suc-set, take_at, length-take-le}
+use mathlib.Core.List.{List, [], ◌++◌, append-nil}
+use lib.ListN.{length, take, drop, length-drop, drop_of_length-le}
+use lib.Seq.{take_at, length-take-le}
 use borrow.Author.Tests.{eq-eqb, ne_eqb}
+use mir.Syntax.{w32}
+use Rattle.std.specs.Int.{to_le_bytes}
 use Rattle.base.specs.Bytes.{Byte, Bytes}
 use Rattle.base.specs.Parts.{padded}
+use Rattle.base.proofs.Writing.{back}
 use Rattle.base.proofs.All.{all_take}
 use Rattle.refusal.specs.Answers.{refused, refusal_answer, counted_answer}
 use Rattle.refusal.specs.declared.Reason.{Reason}
@@ -27,8 +30,12 @@ pub size_refused : counted_answer (Err (record { reason = Reason.CardSize; place
 unfolding counted_answer refusal_answer
 size_refused = refl
 
-four-joined : (p q r s : List ℕ) (x y z w : ℕ) → q ≡ p ++ (x ∷ []) → r ≡ q ++ (y ∷ []) → s ≡ r ++ (z ∷ []) → s ++ (w ∷ []) ≡ p ++ (x ∷ y ∷ z ∷ w ∷ [])
-four-joined p q r s x y z w eq er es = rw (es, er, eq, append_assoc, append_assoc, append_assoc) refl
+bytes_same : (n : ℕ) → to_le_bytes w32 n ≡ word_bytes n
+unfolding word_bytes
+bytes_same n =
+    let two : n / 65536 ≡ n / 256 / 256 = omega arith in
+    let three : n / 16777216 ≡ n / 256 / 256 / 256 = omega arith in
+    rw (two, three)
 
 module _ (b : List ℕ) where
   module _ (n : length b ≡ 512 → ⊥) where
@@ -56,24 +63,11 @@ module _ (b : List ℕ) where
     unfolding counted_answer seal_answer
     sum_told s e = rw (eq-eqb (length b) 512 h, e)
 
-    -- ---- the four stores
-
-    pub four-stored : (n x y z w : ℕ) → x ≡ n % 256 → y ≡ n / 256 % 256 → z ≡ n / 256 / 256 % 256 → w ≡ n / 256 / 256 / 256 % 256 → set (set (set (set b 508 x) 509 y) 510 z) 511 w ≡ take 508 b ++ word_bytes n
-    unfolding word_bytes
-    four-stored n x y z w ex ey ez ew =
-        let s₁ = set b 508 x in
-        let s₂ = set s₁ 509 y in
-        let s₃ = set s₂ 510 z in
-        let s₄ = set s₃ 511 w in
-        let l₁ : length s₁ ≡ 512 = length-set b 508 x ∙ h in
-        let l₂ : length s₂ ≡ 512 = length-set s₁ 509 y ∙ l₁ in
-        let l₃ : length s₃ ≡ 512 = length-set s₂ 510 z ∙ l₂ in
-        let l₄ : length s₄ ≡ 512 = length-set s₃ 511 w ∙ l₃ in
-        let t₁ : take 509 s₁ ≡ take 508 b ++ (x ∷ []) = take-suc-set b 508 x (omega (arith, h)) in
-        let t₂ : take 510 s₂ ≡ take 509 s₁ ++ (y ∷ []) = take-suc-set s₁ 509 y (omega (arith, l₁)) in
-        let t₃ : take 511 s₃ ≡ take 510 s₂ ++ (z ∷ []) = take-suc-set s₂ 510 z (omega (arith, l₂)) in
-        let t₄ : take 512 s₄ ≡ take 511 s₃ ++ (w ∷ []) = take-suc-set s₃ 511 w (omega (arith, l₃)) in
-        sym (take_all 512 s₄ (omega (arith, l₄))) ∙ t₄ ∙ four-joined (take 508 b) (take 509 s₁) (take 510 s₂) (take 511 s₃) x y z w t₁ t₂ t₃ ∙ rw (ex, ey, ez, ew)
+    -- the four bytes in their place
+    pub four-stored : (n : ℕ) {four : List ℕ} → four ≡ to_le_bytes w32 n → back b 508 four ≡ take 508 b ++ word_bytes n
+    four-stored n {four} e =
+        let none : drop (length b - 508) (drop 508 b) ≡ [] = drop_of_length-le (drop 508 b) {i = length b - 508} (omega (arith, length-drop 508 b)) in
+        rw (none, append-nil, e, bytes_same n)
 
     -- ---- what is sealed
 

@@ -20,22 +20,12 @@ fn wrong_size() -> Result<u32, Refusal>
     })
 }
 
-// The low byte of a number.
-fn low(n: u32) -> u8
-    ensures { result ≡ n % 256 }
-{
-    (n % 256) as u8
-}
-
 // Writes a number into the last four bytes of a block, low byte first.
 fn put_sum(block: &mut [u8], sum: u32)
     requires { HasSize block.old }
     ensures { block.new ≡ take 508 block.old ++ word_bytes sum }
 {
-    block[508] = low(sum);
-    block[509] = low(sum / 256);
-    block[510] = low(sum / 256 / 256);
-    block[511] = low(sum / 256 / 256 / 256);
+    block[508..].copy_from_slice(&sum.to_le_bytes());
 }
 
 // Writes the check sum into a block, and answers it. What is no block stays as it is.

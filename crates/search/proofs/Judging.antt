@@ -5,7 +5,7 @@
 -- i-th had a fault, so the first fault of the rows left is the first of all. `Saying`: the verdict is that of the rows left, with whether
 -- the pair at hand is met so far; at the last row of a pair it is no where the pair is not met, and else the next pair begins unmet.
 -- Assumes nothing.
-use Rattle.std.specs.Prelude.{Err, Ok, Result, ⊤}
+use Rattle.std.specs.Prelude.{Err, Ok, Result, ⊤, Option, None, Some}
 use Prim.Native.Nat.{ℕ, suc, ◌+◌, ◌-◌, ◌≤◌, ◌<◌}
 use native.Mathlib.Numerals.{add-one}
 use native.Mathlib.Omega.{arith}
@@ -81,17 +81,17 @@ module _ (kind split : ℕ) (text : List ℕ) (p : ℕ) where
     pub at_kind : (kind ≡ 7 → ⊥) → f ≡ text_fault kind split text p → f ≡ cond (eqb kind bundle_kind) (refuse Reason.UnknownName p) (text_fault kind split text p)
     at_kind k e = e ∙ rw (ne_eqb kind bundle_kind k)
 
-module _ (split : ℕ) (text : List ℕ) (o : Found) (there : Found) (e : o ≡ there) where
-  pub fault_found : (p i kind : ℕ) (f : Result ⊤ Refusal) → o ≡ Found.At i kind → f ≡ cond (eqb kind bundle_kind) (refuse Reason.UnknownName p) (text_fault kind split text p) → f ≡ fault_at there split text p
-  fault_found p i kind f h g = g ∙ rw (sym e ∙ h)
+module _ (split : ℕ) (text : List ℕ) (o : Option Found) (there : Option Found) (e : o ≡ there) where
+  pub fault_found : (p : ℕ) (x : Found) (f : Result ⊤ Refusal) → o ≡ Some x → f ≡ cond (eqb x.kind bundle_kind) (refuse Reason.UnknownName p) (text_fault x.kind split text p) → f ≡ fault_at there split text p
+  fault_found p x f h g = g ∙ rw (sym e ∙ h)
 
-  pub fault_missing : (p : ℕ) (f : Result ⊤ Refusal) → o ≡ Found.Missing → f ≡ refuse Reason.UnknownName p → f ≡ fault_at there split text p
+  pub fault_missing : (p : ℕ) (f : Result ⊤ Refusal) → o ≡ None → f ≡ refuse Reason.UnknownName p → f ≡ fault_at there split text p
   fault_missing p f h g = g ∙ rw (sym e ∙ h)
 
-  pub says-found : (es : List Entry) (i kind : ℕ) (b : Bool) → o ≡ Found.At i kind → b ≡ text_says kind split text (values_at i es) → b ≡ says_at there split text es
-  says-found es i kind b h g = g ∙ rw (sym e ∙ h)
+  pub says-found : (es : List Entry) (x : Found) (b : Bool) → o ≡ Some x → b ≡ text_says x.kind split text (values_at x.index es) → b ≡ says_at there split text es
+  says-found es x b h g = g ∙ rw (sym e ∙ h)
 
-  pub says_missing : (es : List Entry) → o ≡ Found.Missing → false ≡ says_at there split text es
+  pub says_missing : (es : List Entry) → o ≡ None → false ≡ says_at there split text es
   says_missing es h = rw (sym e ∙ h)
 
 module _ (ps : List Parameter) (bytes : List ℕ) (row : Row) where

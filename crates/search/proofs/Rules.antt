@@ -1,5 +1,6 @@
 -- What is computed of a query is what the rules say of it.
 -- Assumes nothing.
+use Rattle.std.specs.Prelude.{Option, None, Some}
 use Prim.Native.Nat.{ℕ}
 use mathlib.Core.Path.{◌≡◌, refl, ap, sym, ◌∙◌, subst}
 use mathlib.Core.Bool.{Bool, true, false, false≢true, ◌&&◌}
@@ -15,6 +16,7 @@ use Rattle.token.specs.Match.{matches_at}
 use Rattle.token.proofs.Readings.{matches_at_iff}
 use Rattle.sheet.specs.Sheet.{Parameter}
 use Rattle.sheet.specs.Encode.{ValueKind, WellFormedSheet}
+use Rattle.sheet.specs.Find.{found_at}
 use Rattle.sheet.specs.declared.Found.{Found}
 use Rattle.card.specs.Card.{Entry}
 use Rattle.syntax.specs.Tree.{name}
@@ -37,7 +39,7 @@ unfolding asked_of takes_prefix meaning_of row_meaning row of_kind kinds relatio
 bundle_silent t set = refl
 
 module _ (ps : List Parameter) (w : WellFormedSheet ps) (es : List Entry) (a : Alternative) where
-  abbrev path_found : Found
+  abbrev path_found : Option Found
   path_found = lookup ps 0 (name a.name)
 
   -- ---- at the parameter that is named
@@ -49,11 +51,11 @@ module _ (ps : List Parameter) (w : WellFormedSheet ps) (es : List Entry) (a : A
       says_token j x.1 r.2 r.3 r.4
 
   -- the test that is asked, at the parameter that is named
-  test_at_lem : (i k o : ℕ) (v : List ℕ) → path_found ≡ Found.At i k → test_says ps 0 es (test_of a o v) ≡ says_of (meaning_of o k) v (values_at i es)
+  test_at_lem : (i k o : ℕ) (v : List ℕ) → path_found ≡ found_at i k → test_says ps 0 es (test_of a o v) ≡ says_of (meaning_of o k) v (values_at i es)
   unfolding test_says
-  test_at_lem i k o v e = ap (λ (f : Found). says_at f o v es) e
+  test_at_lem i k o v e = ap (λ (f : Option Found). says_at f o v es) e
 
-  test_there : (i k : ℕ) → (k ≡ token → ⊥) → Names ps (name a.name) i k → path_found ≡ Found.At i k → ValueKind k
+  test_there : (i k : ℕ) → (k ≡ token → ⊥) → Names ps (name a.name) i k → path_found ≡ found_at i k → ValueKind k
       → says_of (meaning_of (asked_of k a.text).operator k) (asked_of k a.text).value (values_at i es) ≡ true → AlternativeSays ps es a
   test_there i k other j e v h =
       let asked = asked_there k a.text v in
@@ -61,18 +63,18 @@ module _ (ps : List Parameter) (w : WellFormedSheet ps) (es : List Entry) (a : A
       let t = (asked_of k a.text).value in
       says_test other j asked ((says_iff ps w 0 es (test_of a o t) (λ p. absurd (never_pr asked p))).0 (test_at_lem i k o t e ∙ h))
 
-  says_there : (f : Found) → path_found ≡ f → text.says_at f a.split a.text es ≡ true → AlternativeSays ps es a
+  says_there : (f : Option Found) → path_found ≡ f → text.says_at f a.split a.text es ≡ true → AlternativeSays ps es a
   unfolding text_says
-  says_there Found.Missing e h = absurd (false≢true h)
-  says_there (Found.At i k) e h =
-      let j = (names_iff ps w (name a.name) i k).0 e in
+  says_there None e h = absurd (false≢true h)
+  says_there (Some found) e h =
+      let j = (names_iff ps w (name a.name) found.index found.kind).0 e in
       ⊎_elim
-      (λ t. token_there i (subst (λ (m : ℕ). Names ps (name a.name) i m) (eqb-true k token t) j) (rw t at h))
+      (λ t. token_there found.index (subst (λ (m : ℕ). Names ps (name a.name) found.index m) (eqb-true found.kind token t) j) (rw t at h))
       (λ t. ⊎_elim
-      (λ v. test_there i k (eqb-false k token t) j e v (rw t at h))
-      (λ b. absurd (both_ways (rw t at h) (ap (λ (m : ℕ). says_of (meaning_of (asked_of m a.text).operator m) (asked_of m a.text).value (values_at i es)) b ∙ bundle_silent a.text (values_at i es))))
+      (λ v. test_there found.index found.kind (eqb-false found.kind token t) j e v (rw t at h))
+      (λ b. absurd (both_ways (rw t at h) (ap (λ (m : ℕ). says_of (meaning_of (asked_of m a.text).operator m) (asked_of m a.text).value (values_at found.index es)) b ∙ bundle_silent a.text (values_at found.index es))))
       (names_kind ps w j))
-      (decided (eqb k token))
+      (decided (eqb found.kind token))
 
   says_back : AlternativeSays ps es a → alternative_says ps es a ≡ true
   unfolding alternative_says text_says

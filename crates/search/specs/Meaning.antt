@@ -1,6 +1,6 @@
 -- Search strings as they are judged: the fault of an alternative on a sheet, and what alternatives, pairs and queries say of a card.
 -- Assumes nothing.
-use Rattle.std.specs.Prelude.{ℕ, Bool, false, cond, List, [], ◌∷◌, eqb, Ok, Result, ⊤}
+use Rattle.std.specs.Prelude.{ℕ, Bool, false, cond, List, [], ◌∷◌, eqb, Ok, Result, ⊤, Option, None, Some}
 use Rattle.base.specs.Kinds.{token, bundle_kind}
 use Rattle.token.specs.Filter.{readable_at}
 use Rattle.token.specs.Match.{matches_at}
@@ -29,9 +29,9 @@ text_fault kind split text p =
     (kind_fault (asked_of kind text).operator kind (asked_of kind text).value p)
 
 -- "14 (bundles and members too)": a member's name is not found at the top
-abbrev pub fault_at : Found → (split : ℕ) → List ℕ → (place : ℕ) → Result ⊤ Refusal
-fault_at Found.Missing split text p = refuse Reason.UnknownName p
-fault_at (Found.At i kind) split text p = cond (eqb kind bundle_kind) (refuse Reason.UnknownName p) (text_fault kind split text p)
+abbrev pub fault_at : Option Found → (split : ℕ) → List ℕ → (place : ℕ) → Result ⊤ Refusal
+fault_at None split text p = refuse Reason.UnknownName p
+fault_at (Some found) split text p = cond (eqb found.kind bundle_kind) (refuse Reason.UnknownName p) (text_fault found.kind split text p)
 
 -- of an alternative: its place is the first byte of its pair
 unfoldable pub alternative_fault : List Parameter → Alternative → Result ⊤ Refusal
@@ -50,9 +50,9 @@ text_says kind split text set =
     cond (eqb kind token) (some_value (λ x. matches_at x split text) set)
     (says_of (meaning_of (asked_of kind text).operator kind) (asked_of kind text).value set)
 
-abbrev pub says_at : Found → (split : ℕ) → List ℕ → List Entry → Bool
-says_at Found.Missing split text es = false
-says_at (Found.At i kind) split text es = text_says kind split text (values_at i es)
+abbrev pub says_at : Option Found → (split : ℕ) → List ℕ → List Entry → Bool
+says_at None split text es = false
+says_at (Some found) split text es = text_says found.kind split text (values_at found.index es)
 
 unfoldable pub alternative_says : List Parameter → List Entry → Alternative → Bool
 alternative_says ps es a = says_at (lookup ps 0 (name a.name)) a.split a.text es

@@ -51,8 +51,8 @@ fn fault_at(
     ensures { result ≡ fault_at (find 0 name.now (parameters_of sheet.now)) split text.now place }
 {
     match sheet::find(sheet, 0, name) {
-        Found::At { index: _, kind } => parameter_fault(kind, split, text, place),
-        Found::Missing => refuse(Reason::UnknownName, place),
+        Some(found) => parameter_fault(found.kind, split, text, place),
+        None => refuse(Reason::UnknownName, place),
     }
 }
 

@@ -14,7 +14,6 @@ use base::kind::TOKEN;
 use block::Validity;
 use judge::Chosen;
 use query::{Row, Rows};
-use sheet::Found;
 
 // Whether an entry's text belongs to a parameter and is a token that is asked for.
 fn entry_asked(under: bool, split: usize, asked: &[u8], text: &[u8]) -> bool
@@ -76,8 +75,8 @@ fn says_at(sheet: &[u8], card: &[u8], name: &[u8], split: usize, text: &[u8]) ->
     ensures { result ≡ says_at (find 0 name.now (parameters_of sheet.now)) split text.now (entries_of card.now) }
 {
     match sheet::find(sheet, 0, name) {
-        Found::At { index, kind } => text_says(card, index, kind, split, text),
-        Found::Missing => false,
+        Some(found) => text_says(card, found.index, found.kind, split, text),
+        None => false,
     }
 }
 

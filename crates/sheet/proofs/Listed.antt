@@ -5,6 +5,7 @@
 -- parameter's kind is found at its index (`listed_kind`). A table of 32 cells is the list with zeros behind it, so its cells give the same
 -- (`table_kind`, `table_listed`).
 -- Assumes nothing.
+use Rattle.std.specs.Prelude.{Option, None, Some}
 use Prim.Native.Nat.{ℕ, zero, suc, ◌+◌, ◌-◌, ◌<◌}
 use native.Mathlib.Nat.{add-zero}
 use native.Mathlib.Omega.{arith}
@@ -24,15 +25,14 @@ use Rattle.base.specs.Parts.{padded}
 use Rattle.base.proofs.Lists.{listed_first, listed_later}
 use Rattle.sheet.specs.Sheet.{Parameter, parameter, kind_at, parameters_of, read_sheet}
 use Rattle.sheet.specs.Encode.{MayShare, Distinct, distinct_cons}
-use Rattle.sheet.specs.Find.{find_from, find, enter, table_of, kinds_of}
+use Rattle.sheet.specs.Find.{found_at, find_from, find, enter, table_of, kinds_of}
 use Rattle.sheet.specs.declared.Found.{Found}
-use Rattle.sheet.specs.declared.Found.TheVariants.{At, Missing}
 use Rattle.sheet.proofs.Read.{sheet_count}
 
 -- ---- what is found by name
 
-at_same : (i j k l : ℕ) → At i k ≡ At j l → (i ≡ j) × (k ≡ l)
-at_same i j k l e = (cc, cc)
+at_same : (i j k l : ℕ) → found_at i k ≡ found_at j l → (i ≡ j) × (k ≡ l)
+at_same i j k l e = let same : ◌≡◌ {A = Found} (record { index = i; kind = k }) (record { index = j; kind = l }) = cc in (ap (λ (f : Found). f.index) same, ap (λ (f : Found). f.kind) same)
 
 -- the test on a parameter, taken apart
 named_there : (p : Parameter) (c : ℕ) (n : List ℕ) → (eqb p.bundle c && equal p.name n) ≡ true → p ≡ parameter p.kind c n
@@ -40,14 +40,14 @@ named_there p c n e =
     ap₂ (λ (d : ℕ) (l : List ℕ). parameter p.kind d l) (eqb-true p.bundle c (and_left (eqb p.bundle c) (equal p.name n) e)) (equal-same p.name n (and_right (eqb p.bundle c) (equal p.name n) e))
 
 -- a name that is found is that of the parameter there
-found_listed : (j c : ℕ) (n : List ℕ) (ps : List Parameter) (i k : ℕ) → find_from j c n ps ≡ At i k → (m : ℕ) × (i ≡ j + m) × Listed ps m (parameter k c n)
+found_listed : (j c : ℕ) (n : List ℕ) (ps : List Parameter) (i k : ℕ) → find_from j c n ps ≡ found_at i k → (m : ℕ) × (i ≡ j + m) × Listed ps m (parameter k c n)
 unfolding find_from
 found_listed j c n [] i k h = absurd (let z : ◌≡◌ {A = ℕ} 0 1 = cc in omega arith)
 found_listed j c n (p ∷ ps) i k h =
     by_name (eqb p.bundle c && equal p.name n) refl h (found_listed (suc j) c n ps i k)
   where
-    by_name : (t : Bool) → (eqb p.bundle c && equal p.name n) ≡ t → cond t (At j p.kind) (find_from (suc j) c n ps) ≡ At i k
-        → (find_from (suc j) c n ps ≡ At i k → (m : ℕ) × (i ≡ suc j + m) × Listed ps m (parameter k c n)) → (m : ℕ) × (i ≡ j + m) × Listed (p ∷ ps) m (parameter k c n)
+    by_name : (t : Bool) → (eqb p.bundle c && equal p.name n) ≡ t → cond t (found_at j p.kind) (find_from (suc j) c n ps) ≡ found_at i k
+        → (find_from (suc j) c n ps ≡ found_at i k → (m : ℕ) × (i ≡ suc j + m) × Listed ps m (parameter k c n)) → (m : ℕ) × (i ≡ j + m) × Listed (p ∷ ps) m (parameter k c n)
     by_name true e g again =
         let index : i ≡ j + 0 = omega (arith, (at_same j i p.kind k g).0) in
         let same : p ≡ parameter k c n = named_there p c n e ∙ ap (λ (l : ℕ). parameter l c n) (at_same j i p.kind k g).1 in
@@ -67,12 +67,12 @@ named_not p c n d false u e f = rw e
 
 -- the first parameter with a name is found
 listed_found : (j c : ℕ) (n : List ℕ) (k : ℕ) (before after : List Parameter) → Unnamed c n before
-    → find_from j c n (before ++ (parameter k c n ∷ after)) ≡ At (j + length before) k
+    → find_from j c n (before ++ (parameter k c n ∷ after)) ≡ found_at (j + length before) k
 unfolding find_from
 listed_found j c n k [] after h = rw (eq-eqb c c refl, equal_refl n, add-zero j)
 listed_found j c n k (q ∷ before) after (all_cons d h) =
     let index : suc j + length before ≡ j + suc (length before) = omega arith in
-    rw (named_not q c n d (eqb q.bundle c) (equal q.name n) refl refl) (listed_found (suc j) c n k before after h ∙ ap (λ (m : ℕ). At m k) index)
+    rw (named_not q c n d (eqb q.bundle c) (equal q.name n) refl refl) (listed_found (suc j) c n k before after h ∙ ap (λ (m : ℕ). found_at m k) index)
 
 -- where no name is twice, none of the parameters before another has its name in its bundle
 distinct-before : (before : List Parameter) (p : Parameter) (after : List Parameter) → Distinct (before ++ (p ∷ after)) → Unnamed p.bundle p.name before
@@ -82,22 +82,22 @@ distinct-before (q ∷ before) p after (distinct_cons a d) =
     all_cons {x = q} (λ b e. (share (sym e)).2 (sym b)) (distinct-before before p after d)
 
 -- a name is found in a bundle exactly where its parameter stands
-pub find_iff : (c : ℕ) (n : List ℕ) (ps : List Parameter) → Distinct ps → (i k : ℕ) → (find c n ps ≡ At i k) ↔ Listed ps i (parameter k c n)
+pub find_iff : (c : ℕ) (n : List ℕ) (ps : List Parameter) → Distinct ps → (i k : ℕ) → (find c n ps ≡ found_at i k) ↔ Listed ps i (parameter k c n)
 unfolding find
 find_iff c n ps d i k = (there, back)
   where
-    there : find_from 0 c n ps ≡ At i k → Listed ps i (parameter k c n)
+    there : find_from 0 c n ps ≡ found_at i k → Listed ps i (parameter k c n)
     there h =
         let r = found_listed 0 c n ps i k h in
         let e : r.0 ≡ i = omega (arith, r.1) in
         subst (λ (m : ℕ). Listed ps m (parameter k c n)) e r.2
 
-    back : Listed ps i (parameter k c n) → find_from 0 c n ps ≡ At i k
+    back : Listed ps i (parameter k c n) → find_from 0 c n ps ≡ found_at i k
     back l =
         let e : 0 + length l.before ≡ i = omega (arith, l.index) in
         ap (find_from 0 c n) l.split
         ∙ listed_found 0 c n k l.before l.after (distinct-before l.before (parameter k c n) l.after (subst Distinct l.split d))
-        ∙ ap (λ (m : ℕ). At m k) e
+        ∙ ap (λ (m : ℕ). found_at m k) e
 
 -- ---- what is found by index
 
@@ -140,24 +140,24 @@ table_listed of ps i q l = ap₂ (λ (j : ℕ) (qs : List Parameter). get_or (ta
     go n (p ∷ before) = go n before
 
 -- an index that is found is below 32, so that it can be raised
-pub find_below : (b : List ℕ) → read_sheet b ≡ WellFormed → (c : ℕ) (n : List ℕ) (f : Found) → f ≡ find c n (parameters_of b) → (i k : ℕ) → f ≡ At i k → i + 1 < 256
+pub find_below : (b : List ℕ) → read_sheet b ≡ WellFormed → (c : ℕ) (n : List ℕ) (f : Option Found) → f ≡ find c n (parameters_of b) → (x : Found) → f ≡ Some x → x.index + 1 < 256
 unfolding find
-find_below b h c n f e i k g =
-    let r = found_listed 0 c n (parameters_of b) i k (sym e ∙ g) in
+find_below b h c n f e x g =
+    let r = found_listed 0 c n (parameters_of b) x.index x.kind (sym e ∙ g) in
     let l = r.2 in
-    omega (arith, sheet_count b h, ap length l.split, length-append l.before (parameter k c n ∷ l.after), l.index, r.1)
+    omega (arith, sheet_count b h, ap length l.split, length-append l.before (parameter x.kind c n ∷ l.after), l.index, r.1)
 
 -- ---- inside what a name names
 
-module _ (ps : List Parameter) (c : ℕ) (n : List ℕ) (f : Found) (e : f ≡ find c n ps) where
-  pub enter-bundle : (i k : ℕ) → f ≡ At i k → k ≡ 7 → i + 1 ≡ enter ps c n
+module _ (ps : List Parameter) (c : ℕ) (n : List ℕ) (f : Option Found) (e : f ≡ find c n ps) where
+  pub enter-bundle : (x : Found) → f ≡ Some x → x.kind ≡ 7 → x.index + 1 ≡ enter ps c n
   unfolding enter
-  enter-bundle i k h z = rw (sym e ∙ h, z)
+  enter-bundle x h z = rw (sym e ∙ h, z)
 
-  pub enter_other : (i k : ℕ) → f ≡ At i k → (k ≡ 7 → ⊥) → 255 ≡ enter ps c n
+  pub enter_other : (x : Found) → f ≡ Some x → (x.kind ≡ 7 → ⊥) → 255 ≡ enter ps c n
   unfolding enter
-  enter_other i k h z = rw (sym e ∙ h, ne_eqb k 7 z)
+  enter_other x h z = rw (sym e ∙ h, ne_eqb x.kind 7 z)
 
-  pub enter_missing : f ≡ Missing → 255 ≡ enter ps c n
+  pub enter_missing : f ≡ None → 255 ≡ enter ps c n
   unfolding enter
   enter_missing h = rw (sym e ∙ h)

@@ -1,5 +1,6 @@
 -- Laws of finding a parameter: what the next of a list decides.
 -- Assumes nothing.
+use Rattle.std.specs.Prelude.{None}
 use Prim.Native.Nat.{ℕ, suc, ◌+◌, ◌-◌}
 use native.Mathlib.Numerals.{add-one}
 use native.Mathlib.Omega.{arith}
@@ -10,8 +11,7 @@ use borrow.Author.Tests.{eq-eqb, ne_eqb}
 use mathlib.Core.List.{List, [], ◌∷◌}
 use Rattle.base.specs.Lists.{equal}
 use Rattle.sheet.specs.Sheet.{Parameter, parameter, kind_at}
-use Rattle.sheet.specs.Find.{find_from, find}
-use Rattle.sheet.specs.declared.Found.TheVariants.{At, Missing}
+use Rattle.sheet.specs.Find.{found_at, find_from, find}
 
 -- ---- by name
 
@@ -24,11 +24,11 @@ module _ (i c : ℕ) (n : List ℕ) (k d : ℕ) (m : List ℕ) (ps : List Parame
   unfolding find_from
   find-next f = rw (add-one i, ← j, sym e ∙ f)
 
-  pub find-here : r ≡ true → At i k ≡ find_from i c n (parameter k d m ∷ ps)
+  pub find-here : r ≡ true → found_at i k ≡ find_from i c n (parameter k d m ∷ ps)
   unfolding find_from
   find-here t = rw (← j, sym e ∙ t)
 
-pub find_end : (i c : ℕ) (n : List ℕ) → Missing ≡ find_from i c n []
+pub find_end : (i c : ℕ) (n : List ℕ) → None ≡ find_from i c n []
 unfolding find_from
 find_end i c n = refl
 

@@ -1,20 +1,23 @@
 -- How a parameter is found by its name, and the kinds by index.
 -- Assumes nothing.
-use Rattle.std.specs.Prelude.{ℕ, suc, ◌+◌, cond, ◌&&◌, eqb, List, [], ◌∷◌, map}
+use Rattle.std.specs.Prelude.{ℕ, suc, ◌+◌, cond, ◌&&◌, eqb, List, [], ◌∷◌, map, Option, None, Some}
 use Rattle.base.specs.Lists.{equal}
 use Rattle.base.specs.Kinds.{bundle_kind}
 use Rattle.base.specs.Parts.{padded}
 use Rattle.sheet.specs.Sheet.{Parameter}
 use Rattle.sheet.specs.declared.Found.{Found}
-use Rattle.sheet.specs.declared.Found.TheVariants.{At, Missing}
+
+-- a parameter that is found, by its index and kind
+abbrev pub found_at : (index kind : ℕ) → Option Found
+found_at i k = Some (record { index = i; kind = k })
 
 -- index and kind of the first parameter with the name n in the bundle c, where the first of the list has the index i
-unfoldable pub find_from : ℕ → ℕ → List ℕ → List Parameter → Found
-find_from i c n [] = Missing
-find_from i c n (p ∷ ps) = cond (eqb p.bundle c && equal p.name n) (At i p.kind) (find_from (suc i) c n ps)
+unfoldable pub find_from : ℕ → ℕ → List ℕ → List Parameter → Option Found
+find_from i c n [] = None
+find_from i c n (p ∷ ps) = cond (eqb p.bundle c && equal p.name n) (found_at i p.kind) (find_from (suc i) c n ps)
 
 -- the same in a whole sheet; c is 0 at the top, and the place plus 1 of a bundle among its members
-unfoldable pub find : ℕ → List ℕ → List Parameter → Found
+unfoldable pub find : ℕ → List ℕ → List Parameter → Option Found
 find c n ps = find_from 0 c n ps
 
 -- 02: where names are looked up inside what a name names: among a bundle's members, by its index plus 1, and else nowhere, where no
@@ -23,9 +26,9 @@ abbrev pub nowhere : ℕ
 nowhere = 255
 
 -- the bundle number by which members of a parameter that was found are looked up; nowhere, where it is no bundle
-abbrev pub inside : Found → ℕ
-inside (At i k) = cond (eqb k bundle_kind) (i + 1) nowhere
-inside Missing = nowhere
+abbrev pub inside : Option Found → ℕ
+inside (Some found) = cond (eqb found.kind bundle_kind) (found.index + 1) nowhere
+inside None = nowhere
 
 -- the bundle number of the bundle with the name n in the bundle c
 unfoldable pub enter : List Parameter → ℕ → List ℕ → ℕ

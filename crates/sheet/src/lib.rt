@@ -24,11 +24,11 @@ struct Parameter {
     end: usize,
 }
 
-// What a name is on a sheet: a parameter's, with its index and kind, or none's.
+// A parameter that is found by its name: its index and its kind.
 #[derive(Clone, Copy)]
-pub enum Found {
-    At { index: u8, kind: u8 },
-    Missing,
+pub struct Found {
+    pub index: u8,
+    pub kind: u8,
 }
 
 // The parameter at `at`, where `left` parameters are to come.
@@ -270,7 +270,7 @@ fn is_named(a: u8, c: u8, same: bool) -> bool
 
 // Index and kind of the parameter that has the name in a bundle (0 at the top, else the bundle's index plus 1), on a well-formed
 // sheet.
-pub fn find(sheet: &[u8], bundle: u8, name: &[u8]) -> Found
+pub fn find(sheet: &[u8], bundle: u8, name: &[u8]) -> Option<Found>
     requires { read_sheet sheet.now ≡ Validity.WellFormed }
     ensures { result ≡ find bundle name.now (parameters_of sheet.now) }
 {
@@ -283,16 +283,16 @@ pub fn find(sheet: &[u8], bundle: u8, name: &[u8]) -> Found
         let end = p.end;
         let same = equal(&sheet[start..end], name);
         if is_named(p.bundle, bundle, same) {
-            return Found::At {
+            return Some(Found {
                 index,
                 kind: p.kind,
-            };
+            });
         }
         at = end;
         left -= 1;
         index += 1;
     }
-    Found::Missing
+    None
 }
 
 // Where names are looked up inside what a name names: a bundle's index plus 1, or 255 where it names none.
@@ -301,13 +301,8 @@ pub fn enter(sheet: &[u8], bundle: u8, name: &[u8]) -> u8
     ensures { result ≡ enter (parameters_of sheet.now) bundle name.now }
 {
     match find(sheet, bundle, name) {
-        Found::At { index, kind } => {
-            if kind == BUNDLE {
-                return index + 1;
-            }
-            255
-        }
-        Found::Missing => 255,
+        Some(found) if found.kind == BUNDLE => found.index + 1,
+        _ => 255,
     }
 }
 

@@ -8,7 +8,7 @@
 -- many alternatives as tests (`pairs_alike`). Then both ask one question (`one_question`), and what match and select answer is a function
 -- of it.
 -- Assumes nothing.
-use Rattle.std.specs.Prelude.{Ok}
+use Rattle.std.specs.Prelude.{Ok, Option as Maybe}
 use Prim.Native.Nat.{ℕ, suc, ◌+◌, ◌≤◌, ◌<◌}
 use native.Mathlib.Omega.{arith}
 use mathlib.Core.Path.{◌≡◌, refl, ap, sym, ◌∙◌, subst, fun_ext}
@@ -38,6 +38,7 @@ use Rattle.token.proofs.Rules.{stands_namespace}
 use Rattle.token.proofs.Readings.{filter_form_iff, form_at_iff}
 use Rattle.sheet.specs.Sheet.{Parameter}
 use Rattle.sheet.specs.Encode.{SheetBlock, WellFormedSheet}
+use Rattle.sheet.specs.Find.{found_at}
 use Rattle.sheet.specs.declared.Found.{Found}
 use Rattle.card.specs.Card.{Entry}
 use Rattle.syntax.specs.Tree.{Path, name, Test, Tree, tests_of}
@@ -190,7 +191,7 @@ module _ (i : ℕ) (t : List ℕ) (first : i ≡ first_of bar t) where
 -- ---- an alternative says what its test says
 
 module _ (ps : List Parameter) (w : WellFormedSheet ps) (a : Alternative) (t : Test) (h : AsksAlike ps a t) where
-  place_found : lookup ps 0 (name a.name) ≡ Found.At h.index h.kind
+  place_found : lookup ps 0 (name a.name) ≡ found_at h.index h.kind
   place_found = (names_iff ps w (name a.name) h.index h.kind).1 h.names
 
   module _ (is : h.kind ≡ token) where
@@ -203,14 +204,14 @@ module _ (ps : List Parameter) (w : WellFormedSheet ps) (a : Alternative) (t : T
     literal : a.split < length a.text → namespace_of (take a.split a.text) ≡ take a.split a.text
     literal l = stands_namespace (take a.split a.text) (h.systems is l)
 
-  test_found : (es : List Entry) → test_says ps 0 es t ≡ says_at (Found.At h.index h.kind) t.operator t.value es
+  test_found : (es : List Entry) → test_says ps 0 es t ≡ says_at (found_at h.index h.kind) t.operator t.value es
   unfolding test_says
-  test_found es = ap (λ (o : Found). says_at o t.operator t.value es) (ap (lookup ps 0) h.path ∙ place_found)
+  test_found es = ap (λ (o : Maybe Found). says_at o t.operator t.value es) (ap (lookup ps 0) h.path ∙ place_found)
 
   same-says : (es : List Entry) → alternative_says ps es a ≡ test_says ps 0 es t
   unfolding alternative_says
   same-says es =
-      ap (λ (o : Found). search.says_at o a.split a.text es) place_found
+      ap (λ (o : Maybe Found). search.says_at o a.split a.text es) place_found
       ∙ ⊎_elim (λ e. by_token (eqb-true h.kind token e)) (λ e. by_other (eqb-false h.kind token e)) (decided (eqb h.kind token))
       ∙ sym (test_found es)
     where
@@ -233,7 +234,7 @@ module _ (ps : List Parameter) (w : WellFormedSheet ps) (a : Alternative) (t : T
   named : Names ps t.path h.index h.kind
   named = subst (λ (p : Path). Names ps p h.index h.kind) (sym h.path) h.names
 
-  same_place : {i k : ℕ} → Names ps (name a.name) i k → Found.At i k ≡ Found.At h.index h.kind
+  same_place : {i k : ℕ} → Names ps (name a.name) i k → found_at i k ≡ found_at h.index h.kind
   same_place {i} {k} j = sym ((names_iff ps w (name a.name) i k).1 j) ∙ place_found
 
   same_asked : {k o : ℕ} {v : List ℕ} → k ≡ h.kind → AskedBy k a.text o v → o ≡ t.operator

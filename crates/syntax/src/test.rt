@@ -9,13 +9,12 @@ use crate::scan::{name_end, skip};
 use crate::value::read_value;
 use crate::{FoundOperator, FoundTest, FoundValue, RawTest};
 use base::name::{is_name_start, is_reserved};
-use base::wide;
 
 // Two letters as one number.
 fn letters(first: u8, second: u8) -> u64
     ensures { result ≡ first * 256 + second }
 {
-    wide(first) * 256 + wide(second)
+    u64::from(first) * 256 + u64::from(second)
 }
 
 // Whether two letters are those of a word. They are compared as one number, which takes half the instructions.

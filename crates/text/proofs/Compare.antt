@@ -1,47 +1,26 @@
 -- Laws of the comparisons: what each turn and each answer of the code comes to.
 -- Assumes nothing.
-use mathlib.Core.Path.{◌≡◌, refl, sym, ap, ◌∙◌}
+use mathlib.Core.Path.{◌≡◌, sym, ap, ◌∙◌}
 use Prim.Native.Nat.{ℕ, ◌+◌, ◌-◌, ◌%◌, ◌≤◌, ◌<◌}
-use native.Mathlib.Nat.{add-zero, add_assoc}
 use native.Mathlib.Omega.{arith}
 use mathlib.Core.Bool.{Bool, true, false}
 use mathlib.Core.List.{List}
-use lib.ListN.{length, get_or, drop, length-drop}
-use lib.Seq.{drop-drop}
+use lib.Dec.{eqb}
+use lib.ListN.{length, get_or, drop}
+use Rattle.std.specs.List.{list_all, list_any, range_with_len}
 use Rattle.base.proofs.Lists.{equal_not}
 use Rattle.text.specs.Fold.{fold_text}
 use Rattle.base.specs.Affixes.{has_prefix}
 use Rattle.text.specs.Compare.{same, starts, ends, contains}
 use Rattle.text.proofs.Fold.{fold_text-length, fold_low}
-use Rattle.base.proofs.Affixes.{prefix_step, prefix_differ, prefix_past, prefix_short, prefix_equal, prefix_fails, suffix_short, suffix_prefix, infix_found, infix_next, infix_short}
-use Rattle.text.proofs.Invariants.{Compared, Searched}
+use Rattle.base.proofs.Affixes.{prefix_all, prefix_differ, prefix_past, prefix_short, prefix_equal, suffix_short, suffix_prefix, infix_found, infix_any, infix_short}
 
--- ---- `begins_at`: x and y are the folded bytes
+-- ---- `begins_at`: every byte of b, folded, stands where it should
 
-module _ (a b : List ℕ) (at : ℕ) where
-  pub compared_start : Compared a b at 0
-  compared_start = record { within = omega arith; left = rw add-zero }
-
-  module _ (i x y : ℕ) (inv : Compared a b at i) (fits : at + length b ≤ length a) (more : i < length b) (ex : x ≡ get_or (fold_text a) (at + i) 0) (ey : y ≡ get_or (fold_text b) i 0) where
-    in_a : at + i < length (fold_text a)
-    in_a = rw fold_text-length (omega arith)
-
-    in_b : i < length (fold_text b)
-    in_b = rw fold_text-length more
-
-    pub compared_differ : (x ≡ y → ⊥) → false ≡ has_prefix (drop at (fold_text a)) (fold_text b)
-    compared_differ ne =
-        sym (inv.left ∙ prefix_differ (fold_text a) (fold_text b) (at + i) i in_a in_b (λ e. ne (ex ∙ e ∙ sym ey)))
-
-    pub compared_next : x ≡ y → Compared a b at (i + 1)
-    compared_next e =
-        record {
-          within = omega arith;
-          left = rw (← add_assoc) (inv.left ∙ prefix_step (fold_text a) (fold_text b) (at + i) i in_a in_b (sym ex ∙ e ∙ ey));
-        }
-
-  pub compared_end : (i : ℕ) → Compared a b at i → length b ≤ i → true ≡ has_prefix (drop at (fold_text a)) (fold_text b)
-  compared_end i inv h = sym (inv.left ∙ prefix_past (drop (at + i) (fold_text a)) (fold_text b) i (rw fold_text-length h))
+pub begins_all : (a b : List ℕ) (at : ℕ) → at + length b ≤ length a
+    → list_all (λ (i : ℕ). eqb (get_or (fold_text a) (at + i) 0) (get_or (fold_text b) i 0)) (range_with_len 0 (length b)) ≡ has_prefix (drop at (fold_text a)) (fold_text b)
+begins_all a b at h =
+    rw fold_text-length at (prefix_all (fold_text a) (fold_text b) at (simp fold_text-length h))
 
 module _ (a b : List ℕ) where
   -- ---- `same`
@@ -75,8 +54,8 @@ module _ (a b : List ℕ) where
 
   pub begins_differ : (at v y : ℕ) → at + length b ≤ length a → 0 < length b → v ≡ get_or a at 0 → y ≡ get_or (fold_text b) 0 0 → (v % 32 ≡ y % 32 → ⊥) → false ≡ has_prefix (drop at (fold_text a)) (fold_text b)
   begins_differ at v y fits more ev ey h =
-      compared_differ a b at 0 (get_or (fold_text a) at 0) y (compared_start a b at) fits more (ap (λ (n : ℕ). get_or (fold_text a) n 0) (omega arith)) ey
-      (λ e. h (ap (λ (n : ℕ). n % 32) ev ∙ sym (fold_low a at) ∙ ap (λ (n : ℕ). n % 32) e))
+      sym (prefix_differ (fold_text a) (fold_text b) at 0 (rw fold_text-length (omega arith)) (rw fold_text-length more)
+      (λ e. h (ap (λ (n : ℕ). n % 32) ev ∙ sym (fold_low a at) ∙ ap (λ (n : ℕ). n % 32) (e ∙ sym ey))))
 
   -- ---- `contains`
 
@@ -88,26 +67,8 @@ module _ (a b : List ℕ) where
   unfolding contains
   contains_short h = sym (infix_short (fold_text a) (fold_text b) (simp fold_text-length h))
 
-  pub searched_start : length b ≤ length a → Searched a b (length a - length b) 0
+  pub contains_any : 0 < length b → length b ≤ length a
+      → list_any (λ (at : ℕ). has_prefix (drop at (fold_text a)) (fold_text b)) (range_with_len 0 (length a - length b + 1)) ≡ contains a b
   unfolding contains
-  searched_start h = record { fits = h; end = refl; within = omega arith; left = refl }
-
-  module _ (last at : ℕ) (inv : Searched a b last at) where
-    pub searched_found : (r : Bool) → r ≡ has_prefix (drop at (fold_text a)) (fold_text b) → r ≡ true → true ≡ contains a b
-    searched_found r e t = sym (inv.left ∙ infix_found (drop at (fold_text a)) (fold_text b) (sym e ∙ t))
-
-    pub searched_next : (r : Bool) → r ≡ has_prefix (drop at (fold_text a)) (fold_text b) → r ≡ false → at ≤ last → Searched a b last (at + 1)
-    searched_next r e f h =
-        let nonempty = prefix_fails (drop at (fold_text a)) (fold_text b) (sym e ∙ f) in
-        record {
-          fits = inv.fits;
-          end = inv.end;
-          within = omega (arith, fold_text-length b);
-          left =
-              rw (← drop-drop 1 at (fold_text a))
-              (inv.left ∙ infix_next (drop at (fold_text a)) (fold_text b) (sym e ∙ f));
-        }
-
-    pub searched_end : last < at → false ≡ contains a b
-    searched_end h =
-        sym (inv.left ∙ infix_short (drop at (fold_text a)) (fold_text b) (omega (arith, length-drop at (fold_text a), fold_text-length a, fold_text-length b)))
+  contains_any some h =
+      simp fold_text-length at (infix_any (fold_text a) (fold_text b) (simp fold_text-length some) (simp fold_text-length h))

@@ -1,16 +1,15 @@
 -- Laws of folding.
 -- Assumes nothing.
 use mathlib.Core.Path.{◌≡◌, refl, ap}
-use Prim.Native.Nat.{ℕ, zero, suc, ◌+◌, ◌-◌, ◌%◌, ◌≤◌, ◌<◌}
+use Prim.Native.Nat.{ℕ, zero, suc, ◌+◌, ◌%◌, ◌≤◌, ◌<◌}
 use Prim.Native.Char.{code}
-use native.Mathlib.Numerals.{unary_clauses}
 use native.Mathlib.Omega.{arith}
-use mathlib.Core.Bool.{Bool, true, false, cond, not, ◌&&◌, ◌||◌, and-false}
+use mathlib.Core.Bool.{Bool, true, false, cond, not, ◌&&◌, ◌||◌}
 use mathlib.Core.List.{List, [], ◌∷◌}
 use lib.Dec.{eqb, leb}
 use lib.ListN.{length, get_or}
-use borrow.Author.Tests.{le-leb, lt-leb, leb-true, eqb-false, not-true}
-use Rattle.base.proofs.Tests.{and_left, and_right, answered}
+use borrow.Author.Tests.{leb-true, eqb-false, not-true}
+use Rattle.base.proofs.Tests.{and_left, and_right}
 use Rattle.text.specs.Fold.{is_capital, lead, is_accented, fold_byte, fold_from, fold_text}
 
 fold_from-length : (w : ℕ) (s : List ℕ) → length (fold_from w s) ≡ length s
@@ -38,29 +37,9 @@ pub fold_low : (s : List ℕ) (i : ℕ) → get_or (fold_text s) i 0 % 32 ≡ ge
 unfolding fold_text
 fold_low s i = from_low 0 s i
 
--- ---- `is_capital`, `is_accented`, `follows_lead`
+-- ---- what folds
 
 module _ (b : ℕ) where
-  pub capital_below : b < code "A" → leb (code "A") b ≡ is_capital b
-  unfolding is_capital
-  capital_below h = rw (lt-leb (code "A") b h)
-
-  pub capital_above : code "A" ≤ b → leb b (code "Z") ≡ is_capital b
-  unfolding is_capital
-  capital_above h = rw (le-leb (code "A") b h)
-
-  pub accented_below : b < 128 → leb 128 b ≡ is_accented b
-  unfolding is_accented
-  accented_below h = rw (lt-leb 128 b h)
-
-  pub accented_above : 128 ≤ b → 158 < b → leb b 158 ≡ is_accented b
-  unfolding is_accented
-  accented_above l h = rw (le-leb 128 b l, lt-leb b 158 h)
-
-  pub accented_between : 128 ≤ b → b ≤ 158 → not (eqb b 151) ≡ is_accented b
-  unfolding is_accented
-  accented_between l h = rw (le-leb 128 b l, le-leb b 158 h)
-
   pub capital_there : is_capital b ≡ true → (code "A" ≤ b) × (b ≤ code "Z")
   unfolding is_capital
   capital_there t = (
@@ -77,19 +56,11 @@ module _ (b : ℕ) where
         eqb-false b 151 (not-true (eqb b 151) (and_right (leb b 158) (not (eqb b 151)) rest)),
       )
 
-  module _ (q : Bool) (t : q ≡ true) where
-    pub capital_fits : q ≡ is_capital b → b + 32 < 256
-    capital_fits e = omega (arith, (capital_there (answered e t)).1)
+  pub capital_most : is_capital b ≡ true → b ≤ 90
+  capital_most t = (capital_there t).1
 
-    pub accented_fits : q ≡ is_accented b → b + 32 < 256
-    accented_fits e = omega (arith, (accented_there (answered e t)).1)
-
-pub lead-first : (s : List ℕ) (i : ℕ) → i ≡ 0 → false ≡ eqb (get_or (0 ∷ s) i 0) lead
-lead-first s i e = rw e
-
-pub lead-before : (s : List ℕ) (i : ℕ) → (i ≡ 0 → ⊥) → eqb (get_or s (i - 1) 0) lead ≡ eqb (get_or (0 ∷ s) i 0) lead
-lead-before s zero n = absurd (n refl)
-lead-before s (suc i) n = simp unary_clauses refl
+  pub accented_most : is_accented b ≡ true → b ≤ 158
+  accented_most t = (accented_there t).1
 
 -- ---- the byte at an index, by the byte of the text there and the one before it
 
@@ -99,21 +70,7 @@ folded w [] i h = absurd (omega arith)
 folded w (x ∷ s) zero h = refl
 folded w (x ∷ s) (suc i) h = folded x s i (omega arith)
 
-module _ (s : List ℕ) (i : ℕ) (h : i < length s) (c : Bool) (e : c ≡ is_capital (get_or s i 0)) where
-  pub folded_capital : c ≡ true → get_or s i 0 + 32 ≡ get_or (fold_text s) i 0
-  unfolding fold_text fold_byte
-  folded_capital t = rw (folded 0 s i h, ← e, t)
-
-  module _ (f : c ≡ false) (a : Bool) (ea : a ≡ is_accented (get_or s i 0)) where
-    pub folded_plain : a ≡ false → get_or s i 0 ≡ get_or (fold_text s) i 0
-    unfolding fold_text fold_byte
-    folded_plain fa = rw (folded 0 s i h, ← e, f, ← ea, fa, and-false)
-
-    module _ (ta : a ≡ true) (b : Bool) (eb : b ≡ eqb (get_or (0 ∷ s) i 0) lead) where
-      pub folded_accented : b ≡ true → get_or s i 0 + 32 ≡ get_or (fold_text s) i 0
-      unfolding fold_text fold_byte
-      folded_accented tb = rw (folded 0 s i h, ← e, f, ← ea, ta, ← eb, tb)
-
-      pub folded_alone : b ≡ false → get_or s i 0 ≡ get_or (fold_text s) i 0
-      unfolding fold_text fold_byte
-      folded_alone fb = rw (folded 0 s i h, ← e, f, ← ea, ta, ← eb, fb)
+pub folded_is : (s : List ℕ) (i : ℕ) → i < length s
+    → get_or (fold_text s) i 0 ≡ cond (is_capital (get_or s i 0) || (eqb (get_or (0 ∷ s) i 0) lead && is_accented (get_or s i 0))) (get_or s i 0 + 32) (get_or s i 0)
+unfolding fold_text fold_byte
+folded_is s i h = folded 0 s i h

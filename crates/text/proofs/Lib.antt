@@ -2,5 +2,4 @@
 pub mod Fold
 pub mod Folded
 pub mod Readings
-mod Invariants
 mod Compare

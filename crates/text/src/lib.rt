@@ -8,18 +8,19 @@ ghost use Rattle.base.specs.Affixes.{has_prefix};
 ghost use Rattle.text.specs.Compare.{same, starts, ends, contains};
 
 // Whether a byte is a capital of A to Z.
+#[tactic(auto, unfolding(crate::specs::Fold::is_capital))]
 fn is_capital(b: u8) -> bool
     ensures { result ≡ is_capital b }
 {
-    b'A' <= b && b <= b'Z'
+    b.is_ascii_uppercase()
 }
 
 // Whether a byte is the second of a capital from U+00C0 to U+00DE, if 0xC3 stands before it.
-#[tactic(auto, using(crate::proofs::Fold::accented_between, crate::proofs::Fold::accented_above))]
+#[tactic(auto, unfolding(crate::specs::Fold::is_accented))]
 fn is_accented(b: u8) -> bool
     ensures { result ≡ is_accented b }
 {
-    0x80 <= b && (b <= 0x9E && b != 0x97)
+    matches!(b, 0x80..=0x9E) && b != 0x97
 }
 
 // Whether the byte straight before an index is 0xC3; no byte stands before the first.
@@ -27,28 +28,21 @@ fn follows_lead(s: &[u8], i: usize) -> bool
     requires { i < length s.now }
     ensures { result ≡ eqb (get_or (0 ∷ s.now) i 0) lead }
 {
-    if i == 0 {
-        return false;
-    }
-    s[i - 1] == 0xC3
+    i > 0 && s[i - 1] == 0xC3
 }
 
 // The byte at an index of the folded text. The byte before is looked at only where the byte can fold by it, which is seldom.
+#[tactic(auto, using(crate::proofs::Fold::folded_is, crate::proofs::Fold::capital_most, crate::proofs::Fold::accented_most))]
 fn folded_at(s: &[u8], i: usize) -> u8
     requires { i < length s.now }
     ensures { result ≡ get_or (fold_text s.now) i 0 }
 {
     let b = s[i];
-    if is_capital(b) {
-        return b + 32;
+    if is_capital(b) || (is_accented(b) && follows_lead(s, i)) {
+        b + 32
+    } else {
+        b
     }
-    if is_accented(b) {
-        if follows_lead(s, i) {
-            return b + 32;
-        }
-        return b;
-    }
-    b
 }
 
 // Whether b stands in a from an index on.
@@ -56,14 +50,7 @@ fn begins_at(a: &[u8], at: usize, b: &[u8]) -> bool
     requires { at + length b.now ≤ length a.now }
     ensures { result ≡ has_prefix (drop at (fold_text a.now)) (fold_text b.now) }
 {
-    let mut i = 0;
-    while i < b.len() {
-        if folded_at(a, at + i) != folded_at(b, i) {
-            return false;
-        }
-        i += 1;
-    }
-    true
+    (0..b.len()).all(|i| folded_at(a, at + i) == folded_at(b, i))
 }
 
 // Whether the two texts are the same.
@@ -113,20 +100,13 @@ fn begins_by(a: &[u8], at: usize, b: &[u8], first: u8) -> bool
 pub fn contains(a: &[u8], b: &[u8]) -> bool
     ensures { result ≡ contains a.now b.now }
 {
-    if b.len() == 0 {
+    if b.is_empty() {
         return true;
     }
     if a.len() < b.len() {
         return false;
     }
     let first = folded_at(b, 0);
-    let last = a.len() - b.len();
-    let mut at = 0;
-    while at <= last {
-        if begins_by(a, at, b, first) {
-            return true;
-        }
-        at += 1;
-    }
-    false
+    let places = a.len() - b.len() + 1;
+    (0..places).any(|at| begins_by(a, at, b, first))
 }

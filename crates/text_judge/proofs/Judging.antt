@@ -5,6 +5,7 @@
 -- chooses, and then asks their texts. By induction on the entries both give the same (`chosen_is`), since an occurrence that counts has all
 -- its entries among those that count (`occurrence_whole`). So the test says what the definition says (`member_is`).
 -- Assumes nothing.
+use Rattle.std.specs.Prelude.{Option, None, Some}
 use Prim.Native.Nat.{ℕ}
 use native.Mathlib.Omega.{arith}
 use mathlib.Core.Path.{◌≡◌, refl, ap, sym, ◌∙◌}
@@ -101,9 +102,9 @@ member_is ps c es k p b q f t = go (lookup ps (enter ps c b) t.path)
     yes : Entry → Bool
     yes e = filter_says ps (enter ps c b) (of_occurrence e.occurrence (chosen_of k es)) f
 
-    go : (o : Found) → member_at o ps (enter ps c b) es k (parsed q f) t ≡ says_at o t.operator t.value (keep yes (chosen_of k es))
-    go (Found.At i kind) = ap (some_says (meaning_of t.operator kind) (is_true t.value)) (chosen_is ps (enter ps c b) es k q f i (meaning_of t.operator kind) t.value es) ∙ sym (says_some (meaning_of t.operator kind) t.value (values_at i (keep yes (chosen_of k es))))
-    go Found.Missing = refl
+    go : (o : Option Found) → member_at o ps (enter ps c b) es k (parsed q f) t ≡ says_at o t.operator t.value (keep yes (chosen_of k es))
+    go (Some found) = ap (some_says (meaning_of t.operator found.kind) (is_true t.value)) (chosen_is ps (enter ps c b) es k q f found.index (meaning_of t.operator found.kind) t.value es) ∙ sym (says_some (meaning_of t.operator found.kind) t.value (values_at found.index (keep yes (chosen_of k es))))
+    go None = refl
 
 -- as the code judges one occurrence
 pub chosen_judged : (ps : List Parameter) (c o : ℕ) (es : List Entry) (g : Parsed) (j : Judged) (u r : Bool) → j ≡ answer_of Judged.Done Judged.Nothing (judging true ps c (chosen_of (record { all = false; occurrence = o }) es)) g
@@ -135,16 +136,16 @@ unfolding some_chosen
 chosen_end ps c all k g i m v = refl
 
 -- the test of a member, by what its path names
-module _ (ps : List Parameter) (c : ℕ) (es : List Entry) (k : Chosen) (g : Parsed) (t : Test) (n : Bool) (f : Found) (e : f ≡ lookup ps c t.path) where
-  pub member-found : (i kind : ℕ) (m : Meaning) (truth some r : Bool) → f ≡ Found.At i kind → m ≡ meaning_of t.operator kind → some ≡ some_chosen ps c es k g i m t.value es → truth ≡ is_true t.value → r ≡ some_says m truth some → n ≡ true
+module _ (ps : List Parameter) (c : ℕ) (es : List Entry) (k : Chosen) (g : Parsed) (t : Test) (n : Bool) (f : Option Found) (e : f ≡ lookup ps c t.path) where
+  pub member-found : (x : Found) (m : Meaning) (truth some r : Bool) → f ≡ Some x → m ≡ meaning_of t.operator x.kind → some ≡ some_chosen ps c es k g x.index m t.value es → truth ≡ is_true t.value → r ≡ some_says m truth some → n ≡ true
       → r ≡ (n && member_says ps c es k g t)
   unfolding member_says
-  member-found i kind m truth some r h u s w z y =
-      let at : lookup ps c t.path ≡ Found.At i kind = sym e ∙ h in
-      let chosen : some ≡ some_chosen ps c es k g i (meaning_of t.operator kind) t.value es = s ∙ ap (λ (l : Meaning). some_chosen ps c es k g i l t.value es) u in
+  member-found x m truth some r h u s w z y =
+      let at : lookup ps c t.path ≡ Some x = sym e ∙ h in
+      let chosen : some ≡ some_chosen ps c es k g x.index (meaning_of t.operator x.kind) t.value es = s ∙ ap (λ (l : Meaning). some_chosen ps c es k g x.index l t.value es) u in
       rw (y, at) (z ∙ rw (u, w, chosen))
 
-  pub member_missing : f ≡ Found.Missing → n ≡ true → false ≡ (n && member_says ps c es k g t)
+  pub member_missing : f ≡ None → n ≡ true → false ≡ (n && member_says ps c es k g t)
   unfolding member_says
   member_missing h y = rw (y, sym e ∙ h)
 

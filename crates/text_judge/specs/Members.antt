@@ -1,6 +1,6 @@
 -- What the test of a member says after its bundle's brackets, entry by entry, as the code goes.
 -- Assumes nothing.
-use Rattle.std.specs.Prelude.{ℕ, Bool, false, ◌&&◌, ◌||◌, List, [], ◌∷◌, eqb}
+use Rattle.std.specs.Prelude.{ℕ, Bool, false, ◌&&◌, ◌||◌, List, [], ◌∷◌, eqb, Option, None, Some}
 use Rattle.sheet.specs.Sheet.{Parameter}
 use Rattle.sheet.specs.declared.Found.{Found}
 use Rattle.card.specs.Card.{Entry}
@@ -31,9 +31,9 @@ some_chosen ps c all k g i m v (e ∷ es) =
     (((counts k e.occurrence && eqb e.index i) && text_counts m v e.text) && parsed_says ps c (of_occurrence e.occurrence all) g)
     || some_chosen ps c all k g i m v es
 
-abbrev pub member_at : Found → List Parameter → ℕ → List Entry → Chosen → Parsed → Test → Bool
-member_at (Found.At i kind) ps c es k g t = some_says (meaning_of t.operator kind) (is_true t.value) (some_chosen ps c es k g i (meaning_of t.operator kind) t.value es)
-member_at Found.Missing ps c es k g t = false
+abbrev pub member_at : Option Found → List Parameter → ℕ → List Entry → Chosen → Parsed → Test → Bool
+member_at (Some found) ps c es k g t = some_says (meaning_of t.operator found.kind) (is_true t.value) (some_chosen ps c es k g found.index (meaning_of t.operator found.kind) t.value es)
+member_at None ps c es k g t = false
 
 -- what the test says, where its path is looked up in c and g is what is in the brackets
 unfoldable pub member_says : List Parameter → ℕ → List Entry → Chosen → Parsed → Test → Bool

@@ -19,7 +19,6 @@ use block::Validity;
 use filter::Spot;
 use judge::{Chosen, is_under, member_counts, member_truth, some_says, test_found, test_says};
 use kind::Meaning;
-use sheet::Found;
 use syntax::scan::skip;
 use syntax::{
     Connective, FoundClose, FoundConnective, FoundTest, Head, RawTest, read_close, read_connective,
@@ -187,12 +186,21 @@ fn member_verdict(
 {
     if needed {
         match test_found(sheet, spot.bundle, filter, test) {
-            Found::At { index, kind } => {
-                let meaning = kind::meaning_of(test.operator, kind);
-                let some = some_chosen(sheet, card, chosen, filter, spot, index, meaning, test);
+            Some(found) => {
+                let meaning = kind::meaning_of(test.operator, found.kind);
+                let some = some_chosen(
+                    sheet,
+                    card,
+                    chosen,
+                    filter,
+                    spot,
+                    found.index,
+                    meaning,
+                    test,
+                );
                 return some_says(meaning, member_truth(filter, test), some);
             }
-            Found::Missing => {
+            None => {
                 return false;
             }
         }

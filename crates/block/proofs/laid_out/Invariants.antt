@@ -2,8 +2,5 @@
 use Rattle.block.proofs.Invariants.{LaidTo}
 use Rattle.block.proofs.laid_out.Given as goal
 
-abbrev pub invariant-loop-left : goal.invariant-loop-left
-invariant-loop-left l = LaidTo l.block l.from l.count l.at l.left
-
-abbrev pub decreases-loop-left : goal.decreases-loop-left
-decreases-loop-left l = l.left
+abbrev pub invariant-loop : goal.invariant-loop
+invariant-loop l = LaidTo l.block l.from l.count l.at l.counter

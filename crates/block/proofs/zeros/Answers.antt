@@ -1,15 +1,17 @@
--- `block::zeros` meets its contract: what is left decides, and what was found. Assumes nothing.
+-- `block::zeros` meets its contract: the fold joins the test of each byte. Assumes nothing.
+use mathlib.Core.Path.{◌∙◌}
+use Prim.Native.Nat.{ℕ}
+use mathlib.Core.Bool.{Bool, true, ◌&&◌}
+use lib.Dec.{eqb}
 use borrow.Author.Rules.{rules}
-use Rattle.base.proofs.Loops.{counted_start, counted_next, counted_end}
+use Rattle.std.proofs.lemmas.Iterator.{YieldsList-from_slice}
+use Rattle.std.proofs.lemmas.Iterator.Consumers.{fold_from_yields_List}
+use Rattle.base.proofs.Loops.{fold_every}
 use Rattle.block.specs.Items.{zeros}
 use Rattle.block.proofs.zeros.Goals as goal
 
-pub loop-i-init : goal.loop-i-init
-loop-i-init c = search (counted_start, rules)
-
-pub loop-i-preserved : goal.loop-i-preserved
-loop-i-preserved c = search (counted_next, rules)
-
 pub returns : goal.returns
 unfolding zeros
-returns c = search (counted_end, rules)
+returns c =
+    fold_from_yields_List _ (λ (all : Bool) (b : ℕ). all && eqb b 0) _ _ c.fold.ensures.ran (YieldsList-from_slice c.args.s.now c.iter.ensures.rest) (λ a x b q k. search rules)
+    ∙ fold_every (λ (b : ℕ). eqb b 0) true c.args.s.now

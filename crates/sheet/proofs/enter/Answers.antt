@@ -6,11 +6,11 @@ use Rattle.sheet.proofs.enter.Goals as goal
 pub overflow_add-result : goal.overflow_add-result
 overflow_add-result c = search (find_below, rules)
 
-pub returns-then-kind-eq-BUNDLE : goal.returns-then-kind-eq-BUNDLE
-returns-then-kind-eq-BUNDLE c = search (enter-bundle, rules)
+pub returns-in-Some : goal.returns-in-Some
+returns-in-Some c = search (enter-bundle, rules)
 
-pub returns-else-kind-eq-BUNDLE : goal.returns-else-kind-eq-BUNDLE
-returns-else-kind-eq-BUNDLE c = search (enter_other, rules)
+pub returns-in_default : goal.returns-in_default
+returns-in_default c = search (enter_other, rules)
 
-pub returns-in-Missing : goal.returns-in-Missing
-returns-in-Missing c = search (enter_missing, rules)
+pub returns-in_default-2 : goal.returns-in_default-2
+returns-in_default-2 c = search (enter_missing, rules)

@@ -1,22 +1,24 @@
--- `text::contains` meets its contract: b starts nowhere before the position, and nowhere past the last. Assumes nothing.
+-- `text::contains` meets its contract: b is tried at every place where it has room. Assumes nothing.
+use mathlib.Core.Path.{◌∙◌}
+use Prim.Native.Nat.{ℕ, ◌+◌, ◌-◌}
+use lib.ListN.{length, drop}
 use borrow.Author.Rules.{rules}
-use Rattle.text.proofs.Compare.{contains_empty, contains_short, searched_start, searched_found, searched_next, searched_end}
+use borrow.Author.Tests.{tests}
+use Rattle.std.proofs.lemmas.Iterator.{YieldsList-from_range}
+use Rattle.std.proofs.lemmas.Iterator.Search.{any_from_yields_List}
+use Rattle.base.specs.Affixes.{has_prefix}
+use Rattle.text.specs.Fold.{fold_text}
+use Rattle.text.proofs.Compare.{contains_empty, contains_short, contains_any}
 use Rattle.text.proofs.contains.Goals as goal
 
-pub returns-then-b-eq0 : goal.returns-then-b-eq0
-returns-then-b-eq0 c = search (contains_empty, rules)
+pub returns-then-is_empty : goal.returns-then-is_empty
+returns-then-is_empty c = search (contains_empty, rules, tests)
 
 pub returns-then-a-b : goal.returns-then-a-b
 returns-then-a-b c = search (contains_short, rules)
 
-pub loop-at-init : goal.loop-at-init
-loop-at-init c = search (searched_start, rules)
-
-pub returns-then-begins_by : goal.returns-then-begins_by
-returns-then-begins_by c = search (searched_found, rules)
-
-pub loop-at-preserved : goal.loop-at-preserved
-loop-at-preserved c = search (searched_next, rules)
-
 pub returns : goal.returns
-returns c = search (searched_end, rules)
+returns c =
+    any_from_yields_List (λ (at : ℕ). has_prefix (drop at (fold_text c.args.a.now)) (fold_text c.args.b.now)) _ _ _ c.any.ensures.ran
+    (YieldsList-from_range 0 (length c.args.a.now - length c.args.b.now + 1) (length c.args.a.now - length c.args.b.now + 1) (search rules) (search rules)) (λ x b q k. search (rules, tests))
+    ∙ contains_any _ _ (search (rules, tests)) c.if-a-b.false

@@ -92,11 +92,11 @@ judge_round-returns-in_default-closed t c = search (round_open, judged_cases, ru
 pub judge_round-returns : goal.judge_round-returns
 judge_round-returns t c = round-closed Judged.Done Judged.Nothing judged_cases (judging _ _ _ _) _ _ _ _ c.requires.close_value c.args.negate _ c.judge_filter-inner.ensures _ _ c.in-Done.is _ c.read_close-closed.ensures _ _ c.in-At.is (verdict_negated _ _ _ _ c.args.negate _ _ c.negated_if.ensures)
 
-pub member_verdict-returns-in-At : goal.member_verdict-returns-in-At
-member_verdict-returns-in-At t c = member-found _ _ _ _ _ _ _ _ c.test_found.ensures _ _ _ _ _ _ c.in-At.is c.meaning_of-meaning.ensures c.some_chosen-some.ensures c.member_truth.ensures c.some_says.ensures c.if-needed.true
+pub member_verdict-returns-in-Some : goal.member_verdict-returns-in-Some
+member_verdict-returns-in-Some t c = member-found _ _ _ _ _ _ _ _ c.test_found.ensures _ _ _ _ _ c.in-Some.is c.meaning_of-meaning.ensures c.some_chosen-some.ensures c.member_truth.ensures c.some_says.ensures c.if-needed.true
 
-pub member_verdict-returns-in-Missing : goal.member_verdict-returns-in-Missing
-member_verdict-returns-in-Missing t c = member_missing _ _ _ _ _ _ _ _ c.test_found.ensures c.in-Missing.is c.if-needed.true
+pub member_verdict-returns-in-None : goal.member_verdict-returns-in-None
+member_verdict-returns-in-None t c = member_missing _ _ _ _ _ _ _ _ c.test_found.ensures c.in-None.is c.if-needed.true
 
 pub member_verdict-returns : goal.member_verdict-returns
 member_verdict-returns t c = search (and_fails, rules)

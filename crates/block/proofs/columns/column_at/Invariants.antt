@@ -4,6 +4,3 @@ use Rattle.block.proofs.columns.column_at.Given as goal
 
 abbrev pub invariant-loop-row : goal.invariant-loop-row
 invariant-loop-row l = RowsSummed l.block l.j l.sum l.rows l.row
-
-abbrev pub decreases-loop-row : goal.decreases-loop-row
-decreases-loop-row l = l.row

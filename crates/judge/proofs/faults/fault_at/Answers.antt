@@ -3,8 +3,8 @@ use borrow.Author.Rules.{rules}
 use Rattle.judge.proofs.Meaning.{fault_found, fault_missing}
 use Rattle.judge.proofs.faults.fault_at.Goals as goal
 
-pub returns-in-At : goal.returns-in-At
-returns-in-At c = search (fault_found, rules)
+pub returns-in-Some : goal.returns-in-Some
+returns-in-Some c = search (fault_found, rules)
 
-pub returns-in-Missing : goal.returns-in-Missing
-returns-in-Missing c = search (fault_missing, rules)
+pub returns-in-None : goal.returns-in-None
+returns-in-None c = search (fault_missing, rules)

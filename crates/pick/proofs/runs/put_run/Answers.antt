@@ -22,4 +22,4 @@ pub returns-in-Ok : goal.returns-in-Ok
 returns-in-Ok c = selected_run _ _ _ _ c.select-selected.ensures (search rules) _ c.in-Ok.is _ c.add_run-more.ensures _ c.put_listed.ensures
 
 pub returns-in-Err : goal.returns-in-Err
-returns-in-Err c = refused_run _ _ _ _ c.select-selected.ensures (search rules) _ _ c.in-Err.is c.from-number.ensures c.wide.ensures c.place_in_file-place.ensures c.put_refusal-size.ensures
+returns-in-Err c = refused_run _ _ _ _ c.select-selected.ensures (search rules) _ _ c.in-Err.is c.from-number.ensures c.from.ensures c.place_in_file-place.ensures c.put_refusal-size.ensures

@@ -1,8 +1,0 @@
--- `block::and_zero` meets its contract: the tests are those of the definition. Assumes nothing.
-use Rattle.block.proofs.and_zero.Goals as goal
-
-pub returns-then-all : goal.returns-then-all
-returns-then-all c = rw c.if-all.true
-
-pub returns-else-all : goal.returns-else-all
-returns-else-all c = rw c.if-all.false
