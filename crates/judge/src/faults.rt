@@ -60,7 +60,12 @@ fn parameter_fault(operator: u8, kind: u8, value: &[u8], place: usize) -> Result
 }
 
 // The same at what the test's name is on the sheet.
-pub fn fault_at(found: Option<Found>, operator: u8, value: &[u8], place: usize) -> Result<(), Refusal>
+pub fn fault_at(
+    found: Option<Found>,
+    operator: u8,
+    value: &[u8],
+    place: usize,
+) -> Result<(), Refusal>
     ensures { result ≡ fault_at found operator value.now place }
 {
     match found {

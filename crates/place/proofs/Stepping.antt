@@ -445,7 +445,7 @@ module _ (xs : List ℕ) (at : ℕ) (r : Reached) (a : Reaching xs at r) where
     pub reaching_stops : (reason : Reason) → o ≡ Err reason → Err (record { reason = reason; place = at }) ≡ found deepest most_tests xs
     reaching_stops reason f =
         let q : (on_step stepped next_from at ≡ record { reason = reason; place = at }) × (on_live stepped next_ends ≡ false)
-            = stopped_place next_from next_ends (subst (λ (z : Outcome). To xs at z stepped) f to_step) in
+        = stopped_place next_from next_ends (subst (λ (z : Outcome). To xs at z stepped) f to_step) in
         failed xs (record { reason = reason; place = at }) (one_on-ends ∙ q.1) (sym (one_on ∙ q.0))
 
 -- ---- where a text that is a filter would fail: at its end

@@ -1,9 +1,9 @@
 -- What a search string that was accepted leaves: rows that keep its query; and why one was not accepted.
 -- Assumes nothing.
-use Rattle.std.specs.Prelude.{Err, Ok}
+use Rattle.std.specs.Prelude.{Err, Ok, Result}
 use Prim.Native.Nat.{ℕ}
 use native.Mathlib.Omega.{arith}
-use mathlib.Core.Path.{◌≡◌, refl, ap, ◌∙◌}
+use mathlib.Core.Path.{◌≡◌, refl, ap, ◌∙◌, subst}
 use mathlib.Core.Bool.{false}
 use mathlib.Core.List.{List, [], ◌∷◌, ◌++◌, map, flatten}
 use lib.ListN.{take}
@@ -13,7 +13,7 @@ use Rattle.refusal.specs.Steps.{refusal_step}
 use Rattle.query.specs.Spelling.{Alternative, Query, alternatives_of}
 use Rattle.query.specs.Reader.{accept_query}
 use Rattle.query.specs.Rows.{Kept, keep_pair, keep_all, kept_in, kept_says, RowWithin, alternative_in, alternatives_in, rows_say, AcceptsQuery, accepted_query, accepted_none, RowsOf}
-use Rattle.query.specs.declared.QueryRead.{QueryRead}
+use Rattle.query.specs.declared.Rows.{Rows}
 use Rattle.query.specs.declared.Row.{Row}
 use Rattle.query.proofs.Keeping.{kept_says_lem, map-append}
 use Rattle.query.proofs.Reading.{query_there}
@@ -41,9 +41,9 @@ kept_alternatives bytes [] = refl
 kept_alternatives bytes (r ∷ rs) = ap (λ (l : List Alternative). alternative_in bytes r ∷ l) (kept_alternatives bytes rs)
 
 module _ {text bytes : List ℕ} where
-  pub accepted_rows : {r : QueryRead} → AcceptsQuery text bytes r → r.decision ≡ (Ok tt) → (q : Query) × RowsOf text bytes r.rows q
+  pub accepted_rows : {r : Result Rows Refusal} (rows : Rows) → AcceptsQuery text bytes r → r ≡ Ok rows → (q : Query) × RowsOf text bytes rows q
   unfolding alternatives_in rows_say
-  accepted_rows (accepted_query {q = q} {rows = rows} used u e few k) o = (
+  accepted_rows v (accepted_query {q = q} {rows = rows} used u e few k) o = let same : rows ≡ v = cc in subst (λ (w : Rows). (q : Query) × RowsOf text bytes w q) same (
     q,
     record {
       accepted = e;
@@ -57,9 +57,9 @@ module _ {text bytes : List ℕ} where
       says = λ says. ap (kept_says says false) (k.kept few) ∙ kept_says_lem says (query_there text q e).pairs;
     },
   )
-  accepted_rows (accepted_none e) o = absurd (let z : ◌≡◌ {A = ℕ} 0 1 = cc in omega arith)
+  accepted_rows v (accepted_none e) o = absurd (let z : ◌≡◌ {A = ℕ} 0 1 = cc in omega arith)
 
   -- why one was not accepted
-  pub accepted_refused : {r : QueryRead} (x : Refusal) → AcceptsQuery text bytes r → r.decision ≡ Err x → accept_query text ≡ refusal_step x
+  pub accepted_refused : {r : Result Rows Refusal} (x : Refusal) → AcceptsQuery text bytes r → r ≡ Err x → accept_query text ≡ refusal_step x
   accepted_refused x (accepted_none {r = y} e) o = let z : y ≡ x = cc in e ∙ ap (λ (w : Refusal). refusal_step w) z
   accepted_refused x (accepted_query used u e few k) o = absurd (let z : ◌≡◌ {A = ℕ} 0 1 = cc in omega arith)

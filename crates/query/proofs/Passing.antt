@@ -4,7 +4,7 @@
 -- the next ampersand, which is the definition's own cut (`read_next`). Either it is no pair, and the definition stops there with 50
 -- (`pass_bad`), or its alternatives are kept (file Holding) and one pair more is done (`pass-next`).
 -- Assumes nothing.
-use Rattle.std.specs.Prelude.{Ok, Result, ⊤, Option, Some, None}
+use Rattle.std.specs.Prelude.{Ok, Result, ⊤, Option, Some, None, Err}
 use Prim.Native.Nat.{ℕ, zero, suc, ◌+◌, ◌-◌, ◌≤◌, ◌<◌}
 use native.Mathlib.Nat.{zero-add}
 use native.Mathlib.Omega.{arith}
@@ -20,7 +20,6 @@ use Rattle.base.specs.Parts.{part}
 use Rattle.base.specs.Runs.{run, run_end, differs, RunEnd}
 use Rattle.base.proofs.Parts.{part_length}
 use Rattle.refusal.specs.declared.Reason.{Reason}
-use Rattle.refusal.specs.Decisions.{refuse}
 use Rattle.refusal.specs.Steps.{Step, found, stop, ◌>>=◌}
 use Rattle.query.specs.Spelling.{Alternative, Query}
 use Rattle.query.specs.Reader.{signs_of, read_pair, read_pairs, cut_signs, alternative}
@@ -115,7 +114,7 @@ pass-starts text bytes rows h s r =
     }
 
 module _ {text bytes₀ bytes : List ℕ} {rows : Rows} {used at : ℕ} {more : Bool} (h : Pass text bytes₀ bytes rows used at more) where
-  pub pass-ends : more ≡ false → length bytes ≡ length bytes₀ → QueryOf text bytes (record { rows = rows; decision = (Ok tt) })
+  pub pass-ends : more ≡ false → length bytes ≡ length bytes₀ → QueryOf text bytes (Ok rows)
   pass-ends m long = query_of used (omega (arith, h.inside, h.room)) (h.all m) h.keeps
 
   module _ (m : more ≡ true) where
@@ -144,14 +143,14 @@ module _ {text bytes₀ bytes : List ℕ} {rows : Rows} {used at : ℕ} {more : 
         pair_in_bytes = omega (arith, size, e.within, h.behind, h.room, long, length-take-le (length bytes - used) (drop used bytes) (omega (arith, length-drop used bytes)))
 
       -- the part is no pair
-      pub pass_bad : (out value : List ℕ) (r : Option PairLengths) → PairOf (part text at end) out value r → r ≡ None → (bytes' : List ℕ) (d : Result ⊤ Refusal) → d ≡ refuse Reason.NoPair at → QueryOf text bytes' (record { rows = rows; decision = d })
-      pass_bad out value r p k bytes' d g = rw g (by_case (subst (PairOf (part text at end) out value) k p))
+      pub pass_bad : (out value : List ℕ) (r : Option PairLengths) → PairOf (part text at end) out value r → r ≡ None → (bytes' : List ℕ) → QueryOf text bytes' (Err (record { reason = Reason.NoPair; place = at }))
+      pass_bad out value r p k bytes' = by_case (subst (PairOf (part text at end) out value) k p)
         where
           by_fuel : (n : ℕ) → length text < at + n → read_pair at (part text at end) ≡ stop 50 at → read_pairs n at (drop at text) ≡ stop 50 at
           by_fuel zero l z = absurd (let w : at ≤ length text = h.within m in omega arith)
           by_fuel (suc n) l z = read_next text at end e n ∙ rw z
 
-          by_case : PairOf (part text at end) out value None → QueryOf text bytes' (record { rows = rows; decision = refuse Reason.NoPair at })
+          by_case : PairOf (part text at end) out value None → QueryOf text bytes' (Err (record { reason = Reason.NoPair; place = at }))
           by_case (pair_of_none z) = query_of_none (h.left m ∙ ap (after h.done) (by_fuel h.fuel (h.enough m) (z at)))
 
       pub pass_until : (out value : List ℕ) (sizes : PairLengths) (r : Option PairLengths) → PairOf (part text at end) out value r → r ≡ Some sizes → used + sizes.name < 18446744073709551616

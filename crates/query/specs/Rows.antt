@@ -1,16 +1,14 @@
 -- A query as the code keeps it: rows over a buffer of decoded bytes.
 -- Assumes nothing.
-use Rattle.std.specs.Prelude.{ℕ, suc, ◌+◌, ◌≤◌, ◌≡◌, Bool, true, false, cond, ◌&&◌, ◌||◌, List, [], ◌∷◌, ◌++◌, map, ltb, length, take, set, Err, Ok}
+use Rattle.std.specs.Prelude.{ℕ, suc, ◌+◌, ◌≤◌, ◌≡◌, Bool, true, false, cond, ◌&&◌, ◌||◌, List, [], ◌∷◌, ◌++◌, map, ltb, length, take, set, Err, Ok, Result}
 use Rattle.base.specs.Lists.{All}
 use Rattle.base.specs.Parts.{part}
 use Rattle.query.specs.Spelling.{Alternative, Query, alternatives_of}
 use Rattle.refusal.specs.declared.Reason.{Reason}
 use Rattle.refusal.specs.declared.Refusal.{Refusal}
-use Rattle.refusal.specs.Decisions.{refuse}
 use Rattle.refusal.specs.Steps.{found, stop, refusal_step}
 use Rattle.query.specs.Met.{query_met}
 use Rattle.query.specs.Reader.{signs_of, read_pairs, accept_query, alternative, cut_signs}
-use Rattle.query.specs.declared.QueryRead.{QueryRead}
 use Rattle.query.specs.declared.Held.{Held}
 use Rattle.query.specs.declared.Row.{Row}
 use Rattle.query.specs.declared.Rows.{Rows}
@@ -66,14 +64,14 @@ pub record PairHeld (value : List ℕ) (at name until start : ℕ) (bytes₀ : L
   pub count : r.rows.count ≤ entry.count + length value + 1
 
 -- what `read_query` leaves: rows that keep the query, or the place of 50
-pub data QueryOf (text bytes : List ℕ) : QueryRead → Type 0 where
-  query_of : {q : Query} {rows : Rows} (used : ℕ) → used ≤ length bytes → read_pairs (suc (length text)) 0 text ≡ found q → Keeps rows bytes used (keep_all q) → QueryOf text bytes (record { rows = rows; decision = (Ok tt) })
-  query_of_none : {at : ℕ} {rows : Rows} → read_pairs (suc (length text)) 0 text ≡ stop 50 at → QueryOf text bytes (record { rows = rows; decision = refuse Reason.NoPair at })
+pub data QueryOf (text bytes : List ℕ) : Result Rows Refusal → Type 0 where
+  query_of : {q : Query} {rows : Rows} (used : ℕ) → used ≤ length bytes → read_pairs (suc (length text)) 0 text ≡ found q → Keeps rows bytes used (keep_all q) → QueryOf text bytes (Ok rows)
+  query_of_none : {at : ℕ} → read_pairs (suc (length text)) 0 text ≡ stop 50 at → QueryOf text bytes (Err (record { reason = Reason.NoPair; place = at }))
 
 -- what `accept_query` leaves: the definition's query, kept in at most 32 rows, or its refusal
-pub data AcceptsQuery (text bytes : List ℕ) : QueryRead → Type 0 where
-  accepted_query : {q : Query} {rows : Rows} (used : ℕ) → used ≤ length bytes → accept_query text ≡ found q → rows.count ≤ 32 → Keeps rows bytes used (keep_all q) → AcceptsQuery text bytes (record { rows = rows; decision = (Ok tt) })
-  accepted_none : {rows : Rows} {r : Refusal} → accept_query text ≡ refusal_step r → AcceptsQuery text bytes (record { rows = rows; decision = Err r })
+pub data AcceptsQuery (text bytes : List ℕ) : Result Rows Refusal → Type 0 where
+  accepted_query : {q : Query} {rows : Rows} (used : ℕ) → used ≤ length bytes → accept_query text ≡ found q → rows.count ≤ 32 → Keeps rows bytes used (keep_all q) → AcceptsQuery text bytes (Ok rows)
+  accepted_none : {r : Refusal} → accept_query text ≡ refusal_step r → AcceptsQuery text bytes (Err r)
 
 -- ---- rows that are kept, as they are judged
 

@@ -7,7 +7,6 @@ mod pieces;
 mod query;
 
 pub use query::{accept_query, no_rows};
-use refusal::Refusal;
 
 // A byte that a name or a value stands for, and where the text goes on.
 #[derive(Clone, Copy)]
@@ -64,12 +63,4 @@ pub struct Rows {
 pub struct Held {
     pub rows: Rows,
     pub used: usize,
-}
-
-// The alternatives that were read, or why a search string is refused: 10 for its size, 50 with the place of the pair, 51 for too many
-// alternatives.
-#[derive(Clone, Copy)]
-pub struct QueryRead {
-    pub rows: Rows,
-    pub decision: Result<(), Refusal>,
 }

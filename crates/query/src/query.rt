@@ -4,8 +4,8 @@ ghost use Rattle.query.specs.Rows.{pushed, PairHeld, QueryOf, AcceptsQuery};
 
 use crate::pair::read_pair;
 use crate::pieces::next_alternative;
-use crate::{Held, QueryRead, Row, Rows};
-use refusal::{Reason, refuse};
+use crate::{Held, Row, Rows};
+use refusal::{Reason, Refusal};
 
 // The rows with one more; beyond 32 they are only counted.
 fn push(q: Rows, row: Row) -> Rows
@@ -83,9 +83,9 @@ pub fn no_rows() -> Rows
     }
 }
 
-// Reads the pairs of a search string: a row for each alternative, over the bytes that are written into the buffer; or where
+// Reads the pairs of a search string: a row for each alternative, over the bytes that are written into the buffer; or 50 where
 // the first pair begins that is none.
-pub fn read_query(text: &[u8], bytes: &mut [u8]) -> QueryRead
+pub fn read_query(text: &[u8], bytes: &mut [u8]) -> Result<Rows, Refusal>
     requires text_len_bound { length text.now ≤ 1024 }
     requires text_in_bounds { length text.now ≤ length bytes.old }
     ensures { QueryOf text.now bytes.new result }
@@ -99,10 +99,10 @@ pub fn read_query(text: &[u8], bytes: &mut [u8]) -> QueryRead
         let end = base::first_from(text, at, b'&');
         let read = read_pair(&text[at..end], &mut bytes[used..], &mut value);
         let Some(lengths) = read else {
-            return QueryRead {
-                rows,
-                decision: refuse(Reason::NoPair, at),
-            };
+            return Err(Refusal {
+                reason: Reason::NoPair,
+                place: at,
+            });
         };
         let until = used + lengths.name;
         let held = keep_pair(&value[..lengths.value], at, used, until, until, bytes, rows);
@@ -111,41 +111,33 @@ pub fn read_query(text: &[u8], bytes: &mut [u8]) -> QueryRead
         more = end < text.len();
         at = end + 1;
     }
-    QueryRead {
-        rows,
-        decision: Ok(()),
-    }
+    Ok(rows)
 }
 
-// Reads a search string: 10, 50 and 51 in this order, or its alternatives.
-#[tactic(auto, using(crate::proofs::Accepting::query_many))]
-pub fn accept_query(text: &[u8], bytes: &mut [u8]) -> QueryRead
+// Reads a search string: its alternatives, or 10, 50 or 51, in this order.
+pub fn accept_query(text: &[u8], bytes: &mut [u8]) -> Result<Rows, Refusal>
     requires { 1024 ≤ length bytes.old }
     ensures { AcceptsQuery text.now bytes.new result }
 {
     if text.len() == 0 {
-        return QueryRead {
-            rows: no_rows(),
-            decision: refuse(Reason::FilterSize, 0),
-        };
+        return Err(Refusal {
+            reason: Reason::FilterSize,
+            place: 0,
+        });
     }
     if text.len() > 1024 {
-        return QueryRead {
-            rows: no_rows(),
-            decision: refuse(Reason::FilterSize, 0),
-        };
+        return Err(Refusal {
+            reason: Reason::FilterSize,
+            place: 0,
+        });
     }
-    let read = read_query(text, bytes);
-    let rows = read.rows;
-    let decision = read.decision;
-    if let Err(_) = decision {
-        return read;
+    let rows = read_query(text, bytes)?;
+    let many = rows.count > 32;
+    if many {
+        return Err(Refusal {
+            reason: Reason::ManyAlternatives,
+            place: 0,
+        });
     }
-    if rows.count > 32 {
-        return QueryRead {
-            rows,
-            decision: refuse(Reason::ManyAlternatives, 0),
-        };
-    }
-    read
+    Ok(rows)
 }

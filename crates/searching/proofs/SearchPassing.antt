@@ -18,7 +18,6 @@ use Rattle.card.specs.Card.{Entry}
 use Rattle.query.specs.Spelling.{Query, alternatives_of}
 use Rattle.search.specs.Meaning.{first_alternative_fault, alternative_says, query_says}
 use Rattle.query.specs.Rows.{RowsWithin, alternatives_in, rows_say, AcceptsQuery, RowsOf}
-use Rattle.query.specs.declared.QueryRead.{QueryRead}
 use Rattle.query.specs.declared.Rows.{Rows}
 use Rattle.query.proofs.Accepted.{accepted_rows, accepted_refused}
 use Rattle.refusal.specs.Answers.{Answer, count, refused, number_of, refusal_answer, counted_answer, matched_answer}
@@ -27,8 +26,7 @@ use Rattle.refusal.specs.declared.Refusal.{Refusal}
 use Rattle.answer.specs.Operations.{decision_step, sheet_step, accept_sheet}
 use Rattle.answer.specs.Passing.{summary_answer, card_verdict}
 use Rattle.answer.specs.Searching.{alternatives_step, QueryInputs, accept_query_inputs, check_search_answer, question_of_query, search_question, match_search_answer}
-use Rattle.searching.specs.SearchPassing.{rows_answer, rows_question, PassingRows, ReadsRows}
-use Rattle.searching.specs.declared.SearchRead.{SearchRead}
+use Rattle.searching.specs.SearchPassing.{rows_answer, rows_question, PassingRows, rows_passed, counted_rows, PassesRows, ReadsRows}
 use Rattle.answer.proofs.Passing.{match_stopped}
 use Rattle.one_card.proofs.Judging.{match_answered}
 use Rattle.one_card.specs.OneCard.{verdict_step, verdict_answer}
@@ -43,37 +41,34 @@ no_tests : (c : Result ℕ Refusal) (n k p : ℕ) → counted_answer c ≡ refus
 unfolding counted_answer
 no_tests c n k p e h = let z : count n ≡ refused k p = ap counted_answer (sym h) ∙ e in let y : ◌≡◌ {A = ℕ} 0 1 = cc in omega arith
 
-module _ (sheet text bytes : List ℕ) (c : Result ℕ Refusal) (rows : Rows) where
-  refuses : (k p : ℕ) → accept_query_inputs sheet text ≡ stop k p → counted_answer c ≡ refused k p → ReadsRows sheet text bytes (record { checked = c; rows = rows })
-  refuses k p e h =
-      let answered : counted_answer c ≡ check_search_answer sheet text = h ∙ sym (unfold check_search_answer in rw e) in
-      record { answers = answered; passes = λ n t. absurd (no_tests c n k p h t) }
+module _ (sheet text bytes : List ℕ) where
+  refuses : (x : Refusal) → accept_query_inputs sheet text ≡ stop (number_of x.reason) x.place → ReadsRows sheet text bytes (Err x)
+  unfolding counted_answer refusal_answer
+  refuses x e = record { answers = sym (unfold check_search_answer in rw e); passes = λ rows t. absurd (let z : ◌≡◌ {A = ℕ} 0 1 = cc in omega arith) }
 
   -- the sheet is refused
-  sheet_refuses : (r k : Validity) (n : ℕ) → ((ps : List Parameter) → sheet_step k ps ≡ stop n 0) → r ≡ read_sheet sheet → r ≡ k → counted_answer c ≡ refused n 0
-      → ReadsRows sheet text bytes (record { checked = c; rows = rows })
-  sheet_refuses r k n t e i h = refuses n 0 (unfold accept_query_inputs accept_sheet in rw (sym e ∙ i, t (parameters_of sheet))) h
+  sheet_refuses : (r k : Validity) (x : Refusal) → ((ps : List Parameter) → sheet_step k ps ≡ stop (number_of x.reason) x.place) → r ≡ read_sheet sheet → r ≡ k → ReadsRows sheet text bytes (Err x)
+  sheet_refuses r k x t e i = refuses x (unfold accept_query_inputs accept_sheet in rw (sym e ∙ i, t (parameters_of sheet)))
 
   module _ (r : Validity) (e : r ≡ read_sheet sheet) where
-    pub sheet_size : r ≡ Validity.WrongSize → counted_answer c ≡ refused 1 0 → ReadsRows sheet text bytes (record { checked = c; rows = rows })
-    sheet_size = sheet_refuses r Validity.WrongSize 1 (λ ps. refl) e
+    pub sheet_size : r ≡ Validity.WrongSize → ReadsRows sheet text bytes (Err (record { reason = Reason.SheetSize; place = 0 }))
+    sheet_size = sheet_refuses r Validity.WrongSize (record { reason = Reason.SheetSize; place = 0 }) (λ ps. refl) e
 
-    pub sheet_sum : r ≡ Validity.WrongSum → counted_answer c ≡ refused 2 0 → ReadsRows sheet text bytes (record { checked = c; rows = rows })
-    sheet_sum = sheet_refuses r Validity.WrongSum 2 (λ ps. refl) e
+    pub sheet_sum : r ≡ Validity.WrongSum → ReadsRows sheet text bytes (Err (record { reason = Reason.SheetSum; place = 0 }))
+    sheet_sum = sheet_refuses r Validity.WrongSum (record { reason = Reason.SheetSum; place = 0 }) (λ ps. refl) e
 
-    pub sheet_layout_lem : r ≡ Validity.WrongLayout → counted_answer c ≡ refused 3 0 → ReadsRows sheet text bytes (record { checked = c; rows = rows })
-    sheet_layout_lem = sheet_refuses r Validity.WrongLayout 3 (λ ps. refl) e
+    pub sheet_layout_lem : r ≡ Validity.WrongLayout → ReadsRows sheet text bytes (Err (record { reason = Reason.SheetLayout; place = 0 }))
+    sheet_layout_lem = sheet_refuses r Validity.WrongLayout (record { reason = Reason.SheetLayout; place = 0 }) (λ ps. refl) e
 
 -- the string is refused, as the definition refuses it
-pub text_refuses : (sheet text bytes : List ℕ) (rows : Rows) → read_sheet sheet ≡ Validity.WellFormed → (r : QueryRead) (x : Refusal) → AcceptsQuery text bytes r → r.decision ≡ Err x
-    → ReadsRows sheet text bytes (record { checked = Err x; rows = rows })
-unfolding accept_query_inputs accept_sheet counted_answer refusal_answer
-text_refuses sheet text bytes rows w r x t o = refuses sheet text bytes (Err x) rows (number_of x.reason) x.place (rw (w, accepted_refused x t o)) refl
+pub text_refuses : (sheet text bytes : List ℕ) → read_sheet sheet ≡ Validity.WellFormed → (r : Result Rows Refusal) (x : Refusal) → AcceptsQuery text bytes r → r ≡ Err x → ReadsRows sheet text bytes (Err x)
+unfolding accept_query_inputs accept_sheet
+text_refuses sheet text bytes w r x t o = refuses sheet text bytes x (rw (w, accepted_refused x t o))
 
 -- ---- a string that is accepted
 
-pub accepted_within : (text bytes : List ℕ) (r : QueryRead) → AcceptsQuery text bytes r → r.decision ≡ (Ok tt) → RowsWithin (length bytes) r.rows
-accepted_within text bytes r t o = (accepted_rows t o).1.within
+pub accepted_within : (text bytes : List ℕ) (r : Result Rows Refusal) (rows : Rows) → AcceptsQuery text bytes r → r ≡ Ok rows → RowsWithin (length bytes) rows
+accepted_within text bytes r rows t o = (accepted_rows rows t o).1.within
 
 module _ (sheet text bytes : List ℕ) (w : read_sheet sheet ≡ Validity.WellFormed) (rows : Rows) (q : Query) (of : RowsOf text bytes rows q) where
   abbrev ps : List Parameter
@@ -128,47 +123,66 @@ module _ (sheet text bytes : List ℕ) (w : read_sheet sheet ≡ Validity.WellFo
         asked = question_by inputs_accepted ∙ ap (λ (f : List Entry → Bool). found (record { parameters = ps; says = f })) same-says;
       }
 
-pub rows_read : (sheet text bytes : List ℕ) → read_sheet sheet ≡ Validity.WellFormed → (r : QueryRead) (c : Result ℕ Refusal) → AcceptsQuery text bytes r → r.decision ≡ (Ok tt)
-    → counted_answer c ≡ rows_answer (parameters_of sheet) bytes r.rows → ReadsRows sheet text bytes (record { checked = c; rows = r.rows })
-rows_read sheet text bytes w r c t o e =
-    let (q, of) = accepted_rows t o in
-    let answered : counted_answer c ≡ check_search_answer sheet text = e ∙ sym (rows_answer_lem sheet text bytes w r.rows q of) in
-    record { answers = answered; passes = accepted_passes sheet text bytes w r.rows q of c answered }
+-- the answer of check, as the rows are passed
+passed_answer : (f : Result ⊤ Refusal) (rows : Rows) → counted_answer (counted_rows (rows_passed f rows)) ≡ summary_answer (record { tests = rows.count; first = f })
+unfolding counted_answer
+passed_answer (Ok tt) rows = refl
+passed_answer (Err r) rows = refl
 
-pub rows_checked : (ps : List Parameter) (bytes : List ℕ) (rows : Rows) (first : Result ⊤ Refusal) (c : Result ℕ Refusal) → first ≡ first_alternative_fault ps (alternatives_in bytes rows)
-    → counted_answer c ≡ summary_answer (record { tests = rows.count; first = first }) → counted_answer c ≡ rows_answer ps bytes rows
+passed_same : (f : Result ⊤ Refusal) (rows kept : Rows) → rows_passed f rows ≡ Ok kept → rows ≡ kept
+passed_same (Ok tt) rows kept e = cc
+passed_same (Err r) rows kept e = absurd (let z : ◌≡◌ {A = ℕ} 0 1 = cc in omega arith)
+
+pub rows_read : (sheet text bytes : List ℕ) → read_sheet sheet ≡ Validity.WellFormed → (r : Result Rows Refusal) (rows : Rows) → AcceptsQuery text bytes r → r ≡ Ok rows
+    → (s : Result Rows Refusal) → PassesRows (parameters_of sheet) bytes rows s → ReadsRows sheet text bytes s
 unfolding rows_answer
-rows_checked ps bytes rows first c e h = h ∙ ap (λ (f : Result ⊤ Refusal). summary_answer (record { tests = rows.count; first = f })) e
+rows_read sheet text bytes w r rows t o s e =
+    let (q, of) = accepted_rows rows t o in
+    let f : Result ⊤ Refusal = first_alternative_fault (parameters_of sheet) (alternatives_in bytes rows) in
+    let answered : counted_answer (counted_rows s) ≡ check_search_answer sheet text =
+        ap (λ (x : Result Rows Refusal). counted_answer (counted_rows x)) e ∙ passed_answer f rows ∙ sym (rows_answer_lem sheet text bytes w rows q of) in
+    record {
+      answers = answered;
+      passes = λ kept h.
+          subst (PassingRows sheet text bytes) (passed_same f rows kept (sym e ∙ h))
+          (accepted_passes sheet text bytes w rows q of (counted_rows s) answered kept.count (ap counted_rows h));
+    }
 
 -- ---- match
 
-module _ (sheet text bytes : List ℕ) (r : SearchRead) (read : ReadsRows sheet text bytes r) where
-  pub question_stopped : (f : Refusal) → r.checked ≡ Err f → search_question sheet text ≡ stop (number_of f.reason) f.place
+module _ (sheet text bytes : List ℕ) (r : Result Rows Refusal) (read : ReadsRows sheet text bytes r) where
+  pub question_stopped : (f : Refusal) → r ≡ Err f → search_question sheet text ≡ stop (number_of f.reason) f.place
   question_stopped f h = (unfold search_question in rw (stopped (accept_query_inputs sheet text) refl))
     where
       stopped : (s : Step QueryInputs) → accept_query_inputs sheet text ≡ s → s ≡ stop (number_of f.reason) f.place
-      stopped (found p) e = absurd (let a : counted_answer (Err f) ≡ count (length (alternatives_of p.query)) = sym (ap counted_answer h) ∙ read.answers ∙ (unfold check_search_answer in rw e) in never a)
+      stopped (found p) e = absurd (let a : counted_answer (Err f) ≡ count (length (alternatives_of p.query)) = sym (ap (λ (x : Result Rows Refusal). counted_answer (counted_rows x)) h) ∙ read.answers ∙ (unfold check_search_answer in rw e) in never a)
         where
           never : {n : ℕ} → counted_answer (Err f) ≡ count n → ⊥
           never a = unfold counted_answer refusal_answer in (let z : ◌≡◌ {A = ℕ} 0 1 = cc in omega arith)
-      stopped (stop n p) e = same (sym (ap counted_answer h) ∙ read.answers ∙ (unfold check_search_answer in rw e))
+      stopped (stop n p) e = same (sym (ap (λ (x : Result Rows Refusal). counted_answer (counted_rows x)) h) ∙ read.answers ∙ (unfold check_search_answer in rw e))
         where
           same : counted_answer (Err f) ≡ refused n p → ◌≡◌ {A = Step QueryInputs} (stop n p) (stop (number_of f.reason) f.place)
           same a = unfold counted_answer refusal_answer in cc
 
-  pub search_refused : (card : List ℕ) (f : Refusal) → r.checked ≡ Err f → matched_answer (Err f) ≡ match_search_answer sheet text card
+  pub search_refused : (card : List ℕ) (f : Refusal) → r ≡ Err f → matched_answer (Err f) ≡ match_search_answer sheet text card
   search_refused card f h = match_stopped (search_question sheet text) card f (question_stopped f h)
 
-  module _ (n : ℕ) (h : r.checked ≡ Ok n) where
+  pub rows_counted : (rows : Rows) → r ≡ Ok rows → counted_answer (Ok rows.count) ≡ check_search_answer sheet text
+  rows_counted rows h = sym (ap (λ (x : Result Rows Refusal). counted_answer (counted_rows x)) h) ∙ read.answers
+
+  pub rows_refused : (f : Refusal) → r ≡ Err f → counted_answer (Err f) ≡ check_search_answer sheet text
+  rows_refused f h = sym (ap (λ (x : Result Rows Refusal). counted_answer (counted_rows x)) h) ∙ read.answers
+
+  module _ (rows : Rows) (h : r ≡ Ok rows) where
     pub passed_sheet : read_sheet sheet ≡ Validity.WellFormed
-    passed_sheet = (read.passes n h).sheet_well_formed
+    passed_sheet = (read.passes rows h).sheet_well_formed
 
-    pub passed_within : RowsWithin (length bytes) r.rows
-    passed_within = (read.passes n h).within
+    pub passed_within : RowsWithin (length bytes) rows
+    passed_within = (read.passes rows h).within
 
-    pub asks : search_question sheet text ≡ found (rows_question (parameters_of sheet) bytes r.rows)
-    asks = (read.passes n h).asked
+    pub asks : search_question sheet text ≡ found (rows_question (parameters_of sheet) bytes rows)
+    asks = (read.passes rows h).asked
 
-    pub search_answered : (card : List ℕ) (v : Result Bool Reason) → ((i : ℕ) → verdict_step v i ≡ card_verdict (rows_question (parameters_of sheet) bytes r.rows) i card) → (m : Result Bool Refusal) → matched_answer m ≡ verdict_answer v
+    pub search_answered : (card : List ℕ) (v : Result Bool Reason) → ((i : ℕ) → verdict_step v i ≡ card_verdict (rows_question (parameters_of sheet) bytes rows) i card) → (m : Result Bool Refusal) → matched_answer m ≡ verdict_answer v
         → matched_answer m ≡ match_search_answer sheet text card
-    search_answered card = match_answered (search_question sheet text) (rows_question (parameters_of sheet) bytes r.rows) card asks
+    search_answered card = match_answered (search_question sheet text) (rows_question (parameters_of sheet) bytes rows) card asks

@@ -8,78 +8,55 @@ ghost use Rattle.query.specs.Rows.{RowsWithin};
 ghost use Rattle.answer.specs.Passing.{card_verdict};
 ghost use Rattle.one_card.specs.OneCard.{verdict_step};
 ghost use Rattle.answer.specs.Searching.{check_search_answer, match_search_answer};
-ghost use Rattle.searching.specs.SearchPassing.{rows_answer, rows_question, ReadsRows};
+ghost use Rattle.searching.specs.SearchPassing.{rows_question, PassesRows, ReadsRows};
 ghost use Rattle.refusal.specs.Answers.{counted_answer, matched_answer};
 
 use block::Validity;
-use checking::{outcome, refuse};
-use filter::Summary;
 use one_card::{accept_card, answered};
-use query::{Rows, accept_query, no_rows};
+use query::{Rows, accept_query};
 use refusal::{Reason, Refusal};
 use search::{first_fault, rows_say};
 
-// What check answers to a search string, and the rows of one that it passes.
-#[derive(Clone, Copy)]
-pub struct SearchRead {
-    pub checked: Result<usize, Refusal>,
-    pub rows: Rows,
-}
-
-// The first refusal among the alternatives that rows keep, or their number.
-fn check_rows(sheet: &[u8], bytes: &[u8], rows: Rows) -> Result<usize, Refusal>
+// Passes the rows of a search string on a well-formed sheet, where none of their alternatives is refused.
+fn check_rows(sheet: &[u8], bytes: &[u8], rows: Rows) -> Result<Rows, Refusal>
     requires sheet_value { read_sheet sheet.now ≡ Validity.WellFormed }
     requires rows_within { RowsWithin (length bytes.now) rows }
-    ensures { counted_answer result ≡ rows_answer (parameters_of sheet.now) bytes.now rows }
+    ensures { PassesRows (parameters_of sheet.now) bytes.now rows result }
 {
-    let first = first_fault(sheet, bytes, rows);
-    outcome(Summary {
-        tests: rows.count,
-        first,
-    })
+    first_fault(sheet, bytes, rows)?;
+    Ok(rows)
 }
 
 // A search string on a well-formed sheet.
-fn read_text(sheet: &[u8], text: &[u8], bytes: &mut [u8]) -> SearchRead
+fn read_text(sheet: &[u8], text: &[u8], bytes: &mut [u8]) -> Result<Rows, Refusal>
     requires sheet_value { read_sheet sheet.now ≡ Validity.WellFormed }
     requires in_bounds { 1024 ≤ length bytes.old }
     ensures { ReadsRows sheet.now text.now bytes.new result }
 {
-    let accepted = accept_query(text, bytes);
-    let rows = accepted.rows;
-    let decision = accepted.decision;
-    match decision {
-        Ok(()) => SearchRead {
-            checked: check_rows(sheet, bytes, rows),
-            rows,
-        },
-        Err(refusal) => SearchRead {
-            checked: Err(refusal),
-            rows,
-        },
-    }
+    let rows = accept_query(text, bytes)?;
+    check_rows(sheet, bytes, rows)
 }
 
-// Reads a sheet and a search string: what check answers, and the rows over the bytes that are written into the buffer.
-pub fn read_search(sheet: &[u8], text: &[u8], bytes: &mut [u8]) -> SearchRead
+// Reads a sheet and a search string: the rows, over the bytes that are written into the buffer, where check passes it; or its refusal.
+pub fn read_search(sheet: &[u8], text: &[u8], bytes: &mut [u8]) -> Result<Rows, Refusal>
     requires { 1024 ≤ length bytes.old }
     ensures { ReadsRows sheet.now text.now bytes.new result }
 {
     let reading = sheet::read_sheet(sheet);
     match reading {
         Validity::WellFormed => read_text(sheet, text, bytes),
-        Validity::WrongSize => SearchRead {
-            checked: refuse(Reason::SheetSize, 0),
-            rows: no_rows(),
-        },
-        Validity::WrongSum => SearchRead {
-            checked: refuse(Reason::SheetSum, 0),
-            rows: no_rows(),
-        },
-        Validity::WrongLayout => SearchRead {
-            checked: refuse(Reason::SheetLayout, 0),
-            rows: no_rows(),
-        },
+        Validity::WrongSize => Err(Refusal {
+            reason: Reason::SheetSize,
+            place: 0,
+        }),
+        Validity::WrongSum => Err(Refusal {
+            reason: Reason::SheetSum,
+            place: 0,
+        }),
+        Validity::WrongLayout => Err(Refusal {
+            reason: Reason::SheetLayout,
+            place: 0,
+        }),
     }
 }
 
@@ -88,8 +65,8 @@ pub fn check_search(sheet: &[u8], text: &[u8]) -> Result<usize, Refusal>
     ensures { counted_answer result ≡ check_search_answer sheet.now text.now }
 {
     let mut bytes = [0u8; 1024];
-    let read = read_search(sheet, text, &mut bytes);
-    read.checked
+    let read = read_search(sheet, text, &mut bytes)?;
+    Ok(read.count)
 }
 
 // The verdict on a card, or why it is refused; `kinds` are those of the sheet.
@@ -117,14 +94,7 @@ pub fn match_search(sheet: &[u8], text: &[u8], card: &[u8]) -> Result<bool, Refu
     ensures { matched_answer result ≡ match_search_answer sheet.now text.now card.now }
 {
     let mut bytes = [0u8; 1024];
-    let read = read_search(sheet, text, &mut bytes);
-    let rows = read.rows;
-    let checked = read.checked;
-    match checked {
-        Err(refusal) => Err(refusal),
-        Ok(_) => {
-            let kinds = sheet::kinds(sheet);
-            answered(judge_by_search(sheet, &kinds, &bytes, rows, card))
-        }
-    }
+    let rows = read_search(sheet, text, &mut bytes)?;
+    let kinds = sheet::kinds(sheet);
+    answered(judge_by_search(sheet, &kinds, &bytes, rows, card))
 }
