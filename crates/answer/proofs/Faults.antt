@@ -8,7 +8,7 @@
 use Rattle.std.specs.Prelude.{Result, ⊤, Option, None, Some}
 use Prim.Native.Nat.{ℕ, ◌≤◌, ◌<◌}
 use native.Mathlib.Omega.{arith}
-use mathlib.Core.Path.{◌≡◌, refl, subst}
+use mathlib.Core.Path.{◌≡◌, refl, subst, sym, ◌∙◌}
 use mathlib.Core.Bool.{false}
 use mathlib.Core.List.{List}
 use Rattle.base.specs.Operators.{pr}
@@ -18,7 +18,7 @@ use Rattle.sheet.specs.Sheet.{Parameter}
 use lib.Dec.{eqb}
 use borrow.Author.Tests.{eqb-true, eqb-false}
 use Rattle.sheet.specs.Encode.{WellFormedSheet}
-use Rattle.sheet.specs.Find.{found_at}
+use Rattle.sheet.proofs.Listed.{found_same}
 use Rattle.sheet.specs.declared.Found.{Found}
 use Rattle.card.specs.Card.{Entry}
 use Rattle.syntax.specs.Tree.{Test}
@@ -49,16 +49,16 @@ module _ (ps : List Parameter) (w : WellFormedSheet ps) (t : Test) where
   judged_at : (o : Option Found) → lookup ps 0 t.path ≡ o → Judged ps t (fault_at o t.operator t.value t.at)
   unfolding kind_fault
   judged_at None e = judged_unknown ((missing_iff ps w t.path).0 e)
-  judged_at (Some found) e =
-      let there = (names_iff ps w t.path found.index found.kind).0 e in
-      cond-elim (Judged ps t) (eqb found.kind bundle_kind) (λ b. judged_bundle (subst (λ (m : ℕ). Names ps t.path found.index m) (eqb-true found.kind bundle_kind b) there))
-      (λ b. let v = eqb-false found.kind bundle_kind b in
+  judged_at (Some named) e =
+      let there = (names_iff ps w t.path named.index named.kind).0 e in
+      cond-elim (Judged ps t) (eqb named.kind bundle_kind) (λ b. judged_bundle (subst (λ (m : ℕ). Names ps t.path named.index m) (eqb-true named.kind bundle_kind b) there))
+      (λ b. let v = eqb-false named.kind bundle_kind b in
       cond-elim (Judged ps t) (unsupported t.operator) (judged_unsupported v there)
-      (λ u. cond-elim (Judged ps t) (has_meaning t.operator found.kind)
-      (λ m. cond-elim (Judged ps t) (value_readable t.operator found.kind t.value)
-      (λ r. judged_right v there ((operator_iff found.kind t.operator).0 m) ((value_iff found.kind t.value t.operator).0 r))
-      (λ n. judged_unreadable v there u ((operator_iff found.kind t.operator).0 m) (λ r. both_ways ((value_iff found.kind t.value t.operator).1 r) n)))
-      (λ n. judged_meaningless v there u (λ h. both_ways ((operator_iff found.kind t.operator).1 h) n))))
+      (λ u. cond-elim (Judged ps t) (has_meaning t.operator named.kind)
+      (λ m. cond-elim (Judged ps t) (value_readable t.operator named.kind t.value)
+      (λ r. judged_right v there ((operator_iff named.kind t.operator).0 m) ((value_iff named.kind t.value t.operator).0 r))
+      (λ n. judged_unreadable v there u ((operator_iff named.kind t.operator).0 m) (λ r. both_ways ((value_iff named.kind t.value t.operator).1 r) n)))
+      (λ n. judged_meaningless v there u (λ h. both_ways ((operator_iff named.kind t.operator).1 h) n))))
 
   judged : Judged ps t (test_fault ps 0 t)
   unfolding test_fault
@@ -69,7 +69,7 @@ module _ (ps : List Parameter) (w : WellFormedSheet ps) (t : Test) where
   same_kind {i = i} {k = k} {i' = i'} {k' = k'} j j' =
       let e = (names_iff ps w t.path i k).1 j in
       let e' = (names_iff ps w t.path i' k').1 j' in
-      cc
+      (found_same (sym e ∙ e')).1
 
   -- ---- the table's number
 

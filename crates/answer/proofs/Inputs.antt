@@ -20,7 +20,6 @@ use Rattle.base.proofs.Tests.{cond-elim}
 use Rattle.block.specs.declared.Validity.{Validity}
 use Rattle.sheet.specs.Sheet.{Parameter, parameters_of, read_sheet}
 use Rattle.sheet.specs.Encode.{WellFormedSheet, SheetBlock}
-use Rattle.sheet.specs.Find.{found_at}
 use Rattle.sheet.specs.declared.Found.{Found}
 use Rattle.sheet.proofs.Sheets.{sheet_reads_iff}
 use Rattle.syntax.specs.Tree.{Test, Tree, tests_of}
@@ -137,8 +136,8 @@ kind_at_most k kind v p =
 
 fault_at_most : (o : Maybe Found) (k : ℕ) (v : List ℕ) (p : ℕ) → AtMost 18 (decision_step (fault_at o k v p))
 fault_at_most None k v p = stop_at_most 14 p (omega arith)
-fault_at_most (Some found) k v p =
-    cond-elim (λ f. AtMost 18 (decision_step f)) (eqb found.kind bundle_kind) (λ _. stop_at_most 18 p (omega arith)) (λ _. kind_at_most k found.kind v p)
+fault_at_most (Some named) k v p =
+    cond-elim (λ f. AtMost 18 (decision_step f)) (eqb named.kind bundle_kind) (λ _. stop_at_most 18 p (omega arith)) (λ _. kind_at_most k named.kind v p)
 
 tests_at_most : (ps : List Parameter) (ts : List Test) → AtMost 18 (tests_step ps ts)
 unfolding test_fault

@@ -9,7 +9,7 @@
 use Rattle.std.specs.Prelude.{Ok, Result, ⊤, Option, None, Some}
 use Prim.Native.Nat.{ℕ, ◌≤◌, ◌<◌}
 use native.Mathlib.Omega.{arith}
-use mathlib.Core.Path.{◌≡◌, refl, ap, sym, subst}
+use mathlib.Core.Path.{◌≡◌, refl, ap, sym, subst, ◌∙◌}
 use mathlib.Core.Bool.{true, cond}
 use mathlib.Core.Logic.{◌↔◌, ⊎_elim}
 use mathlib.Core.List.{List, [], ◌∷◌}
@@ -22,7 +22,7 @@ use Rattle.base.proofs.Options.{is_some_iff}
 use Rattle.base.proofs.Tests.{both_ways, cond-elim}
 use Rattle.sheet.specs.Sheet.{Parameter}
 use Rattle.sheet.specs.Encode.{ValueKind, WellFormedSheet}
-use Rattle.sheet.specs.Find.{found_at}
+use Rattle.sheet.proofs.Listed.{found_same}
 use Rattle.sheet.specs.declared.Found.{Found}
 use Rattle.card.specs.Card.{Entry}
 use Rattle.syntax.specs.Tree.{name}
@@ -134,10 +134,10 @@ module _ (ps : List Parameter) (w : WellFormedSheet ps) (a : Alternative) where
 
   judged_at : (o : Option Found) → lookup ps 0 (name a.name) ≡ o → Judged ps a (fault_at o a.split a.text a.at)
   judged_at None e = judged_unknown ((missing_iff ps w (name a.name)).0 e)
-  judged_at (Some found) e =
-      let there = (names_iff ps w (name a.name) found.index found.kind).0 e in
-      cond-elim (Judged ps a) (eqb found.kind bundle_kind) (λ b. judged_bundle (subst (λ (m : ℕ). Names ps (name a.name) found.index m) (eqb-true found.kind bundle_kind b) there))
-      (λ b. let z = eqb-false found.kind bundle_kind b in ⊎_elim (λ v. judged_kind found.index found.kind z there v) (λ v. absurd (z v)) (names_kind ps w there))
+  judged_at (Some named) e =
+      let there = (names_iff ps w (name a.name) named.index named.kind).0 e in
+      cond-elim (Judged ps a) (eqb named.kind bundle_kind) (λ b. judged_bundle (subst (λ (m : ℕ). Names ps (name a.name) named.index m) (eqb-true named.kind bundle_kind b) there))
+      (λ b. let z = eqb-false named.kind bundle_kind b in ⊎_elim (λ v. judged_kind named.index named.kind z there v) (λ v. absurd (z v)) (names_kind ps w there))
 
   judged : Judged ps a (alternative_fault ps a)
   unfolding alternative_fault
@@ -148,7 +148,7 @@ module _ (ps : List Parameter) (w : WellFormedSheet ps) (a : Alternative) where
   same_kind {i = i} {k = k} {i' = i'} {k' = k'} j j' =
       let e = (names_iff ps w (name a.name) i k).1 j in
       let e' = (names_iff ps w (name a.name) i' k').1 j' in
-      cc
+      (found_same (sym e ∙ e')).1
 
   -- ---- the table's number
 

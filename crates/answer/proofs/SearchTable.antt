@@ -22,7 +22,6 @@ use Rattle.base.proofs.Tests.{cond-elim}
 use Rattle.token.specs.Filter.{readable_at}
 use Rattle.sheet.specs.Sheet.{Parameter, parameters_of, read_sheet}
 use Rattle.sheet.specs.Encode.{SheetBlock, WellFormedSheet}
-use Rattle.sheet.specs.Find.{found_at}
 use Rattle.sheet.specs.declared.Found.{Found}
 use Rattle.syntax.specs.Tree.{name}
 use Rattle.query.specs.Spelling.{Alternative, Query, alternatives_of, SpellsQuery}
@@ -84,8 +83,8 @@ text_at_most kind split text p =
 
 fault_at_most : (o : Option Found) (split : ℕ) (text : List ℕ) (p : ℕ) → AtMost 18 (decision_step (fault_at o split text p))
 fault_at_most None split text p = stop_at_most 14 p (omega arith)
-fault_at_most (Some found) split text p =
-    cond-elim (λ f. AtMost 18 (decision_step f)) (eqb found.kind bundle_kind) (λ _. stop_at_most 14 p (omega arith)) (λ _. text_at_most found.kind split text p)
+fault_at_most (Some named) split text p =
+    cond-elim (λ f. AtMost 18 (decision_step f)) (eqb named.kind bundle_kind) (λ _. stop_at_most 14 p (omega arith)) (λ _. text_at_most named.kind split text p)
 
 alternatives-at_most : (ps : List Parameter) (list : List Alternative) → AtMost 18 (alternatives_step ps list)
 unfolding alternative_fault

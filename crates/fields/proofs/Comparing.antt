@@ -13,6 +13,7 @@ use borrow.Author.Tests.{eq-eqb, eqb-true}
 use Rattle.sheet.specs.Sheet.{Parameter}
 use Rattle.sheet.specs.Encode.{WellFormedSheet}
 use Rattle.sheet.specs.Find.{found_at}
+use Rattle.sheet.proofs.Listed.{found_same}
 use Rattle.card.specs.Card.{Entry, entry}
 use Rattle.syntax.specs.Tree.{Path, name, member}
 use Rattle.judge.specs.Sets.{lookup, is_under, values_at, keep}
@@ -43,7 +44,7 @@ abbrev pub alike : (xs ys : List (List ℕ)) → Bool
 alike xs ys = within xs ys && within ys xs
 
 found-index : {i k j l : ℕ} → found_at i k ≡ found_at j l → i ≡ j
-found-index e = cc
+found-index e = (found_same e).0
 
 -- each text under the parameter with the index i, with its occurrence before it
 abbrev marked : Entry → List ℕ

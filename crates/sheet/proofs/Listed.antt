@@ -31,8 +31,10 @@ use Rattle.sheet.proofs.Read.{sheet_count}
 
 -- ---- what is found by name
 
-at_same : (i j k l : ℕ) → found_at i k ≡ found_at j l → (i ≡ j) × (k ≡ l)
-at_same i j k l e = let same : ◌≡◌ {A = Found} (record { index = i; kind = k }) (record { index = j; kind = l }) = cc in (ap (λ (f : Found). f.index) same, ap (λ (f : Found). f.kind) same)
+-- one index and one kind are found
+pub found_same : {i j k l : ℕ} → found_at i k ≡ found_at j l → (i ≡ j) × (k ≡ l)
+found_same {i} {j} {k} {l} e =
+    let same : ◌≡◌ {A = Found} (record { index = i; kind = k }) (record { index = j; kind = l }) = cc in (ap (λ (f : Found). f.index) same, ap (λ (f : Found). f.kind) same)
 
 -- the test on a parameter, taken apart
 named_there : (p : Parameter) (c : ℕ) (n : List ℕ) → (eqb p.bundle c && equal p.name n) ≡ true → p ≡ parameter p.kind c n
@@ -49,8 +51,8 @@ found_listed j c n (p ∷ ps) i k h =
     by_name : (t : Bool) → (eqb p.bundle c && equal p.name n) ≡ t → cond t (found_at j p.kind) (find_from (suc j) c n ps) ≡ found_at i k
         → (find_from (suc j) c n ps ≡ found_at i k → (m : ℕ) × (i ≡ suc j + m) × Listed ps m (parameter k c n)) → (m : ℕ) × (i ≡ j + m) × Listed (p ∷ ps) m (parameter k c n)
     by_name true e g again =
-        let index : i ≡ j + 0 = omega (arith, (at_same j i p.kind k g).0) in
-        let same : p ≡ parameter k c n = named_there p c n e ∙ ap (λ (l : ℕ). parameter l c n) (at_same j i p.kind k g).1 in
+        let index : i ≡ j + 0 = omega (arith, (found_same g).0) in
+        let same : p ≡ parameter k c n = named_there p c n e ∙ ap (λ (l : ℕ). parameter l c n) (found_same g).1 in
         (0, index, subst (λ (q : Parameter). Listed (p ∷ ps) 0 q) same (listed_first p ps))
     by_name false e g again =
         let r = again g in

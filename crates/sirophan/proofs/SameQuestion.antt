@@ -39,6 +39,7 @@ use Rattle.token.proofs.Readings.{filter_form_iff, form_at_iff}
 use Rattle.sheet.specs.Sheet.{Parameter}
 use Rattle.sheet.specs.Encode.{SheetBlock, WellFormedSheet}
 use Rattle.sheet.specs.Find.{found_at}
+use Rattle.sheet.proofs.Listed.{found_same}
 use Rattle.sheet.specs.declared.Found.{Found}
 use Rattle.card.specs.Card.{Entry}
 use Rattle.syntax.specs.Tree.{Path, name, Test, Tree, tests_of}
@@ -263,18 +264,18 @@ module _ (ps : List Parameter) (w : WellFormedSheet ps) (a : Alternative) (t : T
   lacks_alike es (not_on_sheet n) = absurd (n h.index h.kind h.names)
   lacks_alike es (bundle_named {i = i} j) =
       let e = same_place j in
-      let kind : bundle_kind ≡ h.kind = cc in
+      let kind : bundle_kind ≡ h.kind = (found_same e).1 in
       tests.bare_bundle (subst (λ (m : ℕ). Names ps t.path h.index m) (sym kind) named)
   lacks_alike es (lacks_operator {i = i} {k = k} {o = o} j v asked n) =
       let e = same_place j in
-      let index : i ≡ h.index = cc in
-      let kind : k ≡ h.kind = cc in
+      let index : i ≡ h.index = (found_same e).0 in
+      let kind : k ≡ h.kind = (found_same e).1 in
       tests.lacks_operator named (subst (λ (m : ℕ). values_at m es ≡ [] → ⊥) index v)
       (λ has. n (subst (HasOperator k) (sym (same_asked kind asked)) (subst (λ (m : ℕ). HasOperator m t.operator) (sym kind) has)))
   lacks_alike es (unreadable {i = i} {k = k} j v n) =
       let e = same_place j in
-      let index : i ≡ h.index = cc in
-      let kind : k ≡ h.kind = cc in
+      let index : i ≡ h.index = (found_same e).0 in
+      let kind : k ≡ h.kind = (found_same e).1 in
       tests.unreadable named (subst (λ (m : ℕ). values_at m es ≡ [] → ⊥) index v) (λ r. n (subst (λ (m : ℕ). ReadableAlternative m a) (sym kind) (reads r)))
 
   meaning_alike : Meaningful (filter_tests ps) t → Meaningful (search_tests ps) a
