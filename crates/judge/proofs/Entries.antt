@@ -1,5 +1,6 @@
 -- Loops over a card's entries: what an entry at hand decides, and what is left to the entries to come.
 -- Assumes nothing.
+use Rattle.std.specs.Prelude.{None}
 use Prim.Native.Nat.{ℕ, ◌≤◌}
 use mathlib.Core.Path.{◌≡◌, refl, ap, sym, ◌∙◌}
 use mathlib.Core.Bool.{Bool, true, false, ◌&&◌, ◌||◌}
@@ -12,8 +13,7 @@ use Rattle.card.specs.Card.{Entry, entry}
 use Rattle.kind.specs.Readable.{card_readable}
 use Rattle.kind.specs.Table as table
 use Rattle.kind.specs.declared.Meaning.{Meaning}
-use Rattle.judge.specs.Sets.{values_at, counts, chosen_of, conforms_to, keep}
-use Rattle.judge.specs.declared.Chosen.{Chosen}
+use Rattle.judge.specs.Sets.{Chosen, values_at, counts, chosen_of, conforms_to, keep}
 use Rattle.judge.specs.Verdicts.{some_value, text_counts}
 
 -- ---- conforming
@@ -41,20 +41,9 @@ conforms_end kinds = refl
 
 -- ---- entries that count
 
-module _ (c : Chosen) (o : ℕ) (same : Bool) where
-  pub under_all : c.all ≡ true → same ≡ (counts c o && same)
-  under_all h = rw h
-
-  module _ (n : c.all ≡ false) where
-    pub under_one : o ≡ c.occurrence → same ≡ (counts c o && same)
-    under_one e = rw (n, eq-eqb o c.occurrence e)
-
-    pub under_other : (o ≡ c.occurrence → ⊥) → false ≡ (counts c o && same)
-    under_other e = rw (n, ne_eqb o c.occurrence e)
-
 -- all entries of a card
 abbrev pub every : Chosen
-every = record { all = true; occurrence = 0 }
+every = None
 
 pub chosen-every : (es : List Entry) → chosen_of every es ≡ es
 unfolding chosen_of keep

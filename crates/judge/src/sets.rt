@@ -46,13 +46,10 @@ pub fn conforms(kinds: &[u8], card: &[u8]) -> bool
 pub fn is_under(chosen: Chosen, occurrence: u8, same: bool) -> bool
     ensures { result ≡ (counts chosen occurrence && same) }
 {
-    if chosen.all {
-        return same;
+    match chosen {
+        Some(own) => occurrence == own && same,
+        None => same,
     }
-    if occurrence == chosen.occurrence {
-        return same;
-    }
-    false
 }
 
 // Whether some text under a parameter counts for a meaning and a value, among the entries that count; what the value reads to may be known.

@@ -60,10 +60,7 @@ pub fn judge_by_rows(
     let accepted = take_card(kinds, card, cells, spans);
     match accepted {
         CardAcceptance::Conforming => {
-            let every = Chosen {
-                all: true,
-                occurrence: 0,
-            };
+            let every: Chosen = None;
             CardVerdict::Says(rows_say(filter, rows, values, ends, card, cells, spans, every))
         }
         CardAcceptance::Refused(reason) => CardVerdict::Refused(reason),
